@@ -1,0 +1,5 @@
+pub mod Equality
+pub mod Errors
+pub mod Memory
+pub mod Outside
+pub mod Spelling

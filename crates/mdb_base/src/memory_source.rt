@@ -1,0 +1,69 @@
+//! A source in memory.
+
+ghost use Rattle.std.specs.Prelude.{◌≡◌, ◌<◌, ◌≤◌, length, take, Some};
+
+use crate::outside::{Failed, Source};
+
+/// A source that holds its bytes. Each read gives at most `piece` of them; the calls whose numbers, from 1, stand in
+/// `fails` take nothing and fail.
+#[derive(Drop)]
+pub struct MemSource {
+    held: Vec<u8>,
+    piece: usize,
+    fails: Vec<u64>,
+    at: usize,
+    calls: u64,
+    faults: u64,
+    ghost within: { at ≤ length held.items },
+    ghost some: { 0 < piece },
+}
+
+fn copy_front(into: &mut [u8], front: &[u8])
+    requires { length front.now ≤ length into.old }
+    ensures front { take (length front.now) into.new ≡ front.now }
+    ensures len { length into.new ≡ length into.old }
+{
+    let count = front.len();
+    into[..count].copy_from_slice(front);
+}
+
+impl MemSource {
+    ghost use Rattle.mdb_base.specs.Memory.{source_left, source_faults};
+
+    /// A source of these bytes, of which none is read yet.
+    pub fn new(held: Vec<u8>, piece: usize, fails: Vec<u64>) -> MemSource
+        requires { 0 < piece }
+        ensures left { source_left result ≡ Some held.items }
+        ensures faults { source_faults result ≡ 0 }
+    {
+        MemSource {
+            held,
+            piece,
+            fails,
+            at: 0,
+            calls: 0,
+            faults: 0,
+        }
+    }
+}
+
+impl Source for MemSource {
+    ghost use Rattle.mdb_base.specs.Memory.{source_left, source_faults};
+
+    ghost left = { source_left };
+
+    ghost faults = { source_faults };
+
+    fn read(&mut self, into: &mut [u8]) -> Result<usize, Failed> {
+        self.calls = self.calls.saturating_add(1);
+        if self.fails.contains(&self.calls) {
+            self.faults = self.faults.saturating_add(1);
+            return Err(Failed);
+        }
+        let rest = &self.held.as_slice()[self.at..];
+        let count = rest.len().min(into.len()).min(self.piece);
+        copy_front(into, &rest[..count]);
+        self.at += count;
+        Ok(count)
+    }
+}
