@@ -1,4 +1,5 @@
 pub mod Equality
+pub mod ErrorText
 pub mod Errors
 pub mod Memory
 pub mod Outside

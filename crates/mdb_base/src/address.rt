@@ -8,7 +8,7 @@ use std::alloc::AllocError;
 use std::fmt;
 
 /// A host, without brackets, and a port.
-#[derive(Debug, Drop)]
+#[derive(Debug, Drop, PartialEq, Eq, PartialOrd, Ord)]
 pub struct ServerAddress {
     pub host: Text,
     pub port: u16,

@@ -19,7 +19,7 @@ pub enum ErrorKind {
 }
 
 /// An error, with its labels and the topology version that came with it.
-#[derive(Debug, Drop)]
+#[derive(Debug, Drop, PartialEq, Eq)]
 pub struct Error {
     pub kind: ErrorKind,
     pub labels: Items<Text>,

@@ -4,7 +4,9 @@
 
 mod address;
 mod error;
+mod error_text;
 mod items;
+mod items_equality;
 mod memory_sink;
 mod memory_source;
 mod object_id;
@@ -13,6 +15,7 @@ mod out_of_memory;
 mod outside;
 mod streams;
 mod text;
+mod text_order;
 mod times;
 mod topology_version;
 
