@@ -11,6 +11,7 @@ mod memory_sink;
 mod memory_source;
 mod object_id;
 mod options;
+mod options_check;
 mod out_of_memory;
 mod outside;
 mod streams;
