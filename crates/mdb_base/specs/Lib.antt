@@ -1,3 +1,5 @@
+pub mod AddressReading
+pub mod AddressRule
 pub mod Equality
 pub mod ErrorText
 pub mod Errors

@@ -55,8 +55,8 @@ impl Clone for ServerAddress {
     }
 }
 
-// Whether a host stands in brackets.
-fn has_colon(host: &str) -> bool
+/// Whether a host stands in brackets.
+pub fn has_colon(host: &str) -> bool
     ensures { result ≡ list_any (λ b. b == 58) host.now }
 {
     host.as_bytes().iter().any(|b| *b == b':')

@@ -3,6 +3,8 @@
 #![tactic(auto)]
 
 mod address;
+mod address_parse;
+mod address_rule;
 mod error;
 mod error_text;
 mod items;
@@ -21,6 +23,7 @@ mod times;
 mod topology_version;
 
 pub use address::ServerAddress;
+pub use address_parse::AddressError;
 pub use error::{Error, ErrorKind};
 pub use items::Items;
 pub use memory_sink::MemSink;
