@@ -1,3 +1,4 @@
+pub mod Acknowledgment
 pub mod Equality
 pub mod Errors
 pub mod Memory

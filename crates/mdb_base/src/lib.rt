@@ -2,7 +2,9 @@
 //! the outside as sources and sinks.
 #![tactic(auto)]
 
+mod acknowledgment;
 mod address;
+mod document;
 mod error;
 mod items;
 mod memory_sink;
@@ -12,11 +14,16 @@ mod options;
 mod out_of_memory;
 mod outside;
 mod streams;
+mod tags;
 mod text;
 mod times;
 mod topology_version;
 
+pub use acknowledgment::{
+    AcknowledgedMessage, Acknowledgment, AcknowledgmentReceiver, AcknowledgmentSender,
+};
 pub use address::ServerAddress;
+pub use document::{Doc, Value};
 pub use error::{Error, ErrorKind};
 pub use items::Items;
 pub use memory_sink::MemSink;
@@ -26,6 +33,7 @@ pub use options::{BadOption, Options};
 pub use out_of_memory::OutOfMemory;
 pub use outside::{Failed, Sink, Source};
 pub use streams::{Reading, Writing};
+pub use tags::TagSet;
 pub use text::Text;
-pub use times::{Moment, Nanos};
+pub use times::{ClusterTime, DateTime, Moment, Nanos};
 pub use topology_version::TopologyVersion;
