@@ -1,4 +1,6 @@
 pub mod Acknowledgment
+pub mod Document
+pub mod DocumentCode
 pub mod Equality
 pub mod Errors
 pub mod Memory

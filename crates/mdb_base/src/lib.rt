@@ -5,7 +5,9 @@
 mod acknowledgment;
 mod address;
 mod document;
+mod document_copy;
 mod error;
+mod held_document;
 mod items;
 mod memory_sink;
 mod memory_source;
@@ -25,6 +27,7 @@ pub use acknowledgment::{
 pub use address::ServerAddress;
 pub use document::{Doc, Value};
 pub use error::{Error, ErrorKind};
+pub use held_document::Document;
 pub use items::Items;
 pub use memory_sink::MemSink;
 pub use memory_source::MemSource;
