@@ -1,6 +1,6 @@
 -- A document and a value, level by level.
-use Rattle.std.proofs.Common.{◌≡◌, List, [], ◌∷◌, map, rules, Vec, Global, String, string_bytes, refl, sym, ap, ◌∙◌}
-use Rattle.mdb_base.specs.Document.{Content, Field, doc_content, value_content, named, named_content, value_step, doc_step}
+use Rattle.std.proofs.Common.{◌≡◌, List, [], ◌∷◌, map, rules, Vec, Global, String, refl, ap}
+use Rattle.mdb_base.specs.Document.{doc_content, value_content, named, named_content}
 use Rattle.mdb_base.specs.declared.document.Value.{Value}
 use Rattle.mdb_base.specs.declared.document.Doc.{Doc, out-Doc, the_lemmas}
 use Rattle.mdb_base.specs.declared.document.Value.TheViews.{roll-Doc}

@@ -1,10 +1,10 @@
 -- A code of what a document says, by which proofs tell two documents apart: a tree of numbers that gives the document back.
-use Rattle.std.specs.Prelude.{◌≡◌, ℕ, zero, suc, ℤ, pos, negsuc, List, [], ◌∷◌, Bool, true, false, refl}
+use Rattle.std.specs.Prelude.{◌≡◌, ℕ, zero, suc, ℤ, pos, negsuc, List, [], ◌∷◌, true, false, refl}
 use Rattle.std.specs.Coded.{Coded, coded_list, coded×}
 use denote.Struct.Codes.{code_by, itself}
 use base.Stored.{Gv, gnil, gnum, gcons}
 use mathlib.Core.Path.{ap}
-use Rattle.mdb_base.specs.Document.{Content, int, boolean, text, list, id, date, nested, Contents, no_contents, content, Fields, no_fields, field, Field, fields_of, listed_fields}
+use Rattle.mdb_base.specs.Document.{Content, int, boolean, text, list, id, date, nested, Contents, no_contents, content, Fields, no_fields, field, Field}
 
 abbrev numbers_code : List ℕ → Gv
 numbers_code [] = gnil
