@@ -1,5 +1,8 @@
 pub mod AddressReading
 pub mod AddressRule
+pub mod Acknowledgment
+pub mod Document
+pub mod DocumentCode
 pub mod Equality
 pub mod ErrorText
 pub mod Errors

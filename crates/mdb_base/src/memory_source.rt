@@ -18,7 +18,8 @@ pub struct MemSource {
     ghost some: { 0 < piece },
 }
 
-fn copy_front(into: &mut [u8], front: &[u8])
+/// Copies the front to the beginning of what there is room for.
+pub fn copy_front(into: &mut [u8], front: &[u8])
     requires { length front.now ≤ length into.old }
     ensures front { take (length front.now) into.new ≡ front.now }
     ensures len { length into.new ≡ length into.old }

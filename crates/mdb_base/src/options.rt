@@ -1,10 +1,13 @@
 //! What a driver is opened with.
 
+ghost use Rattle.std.specs.Prelude.{◌≡◌};
+
 use crate::address::ServerAddress;
 use crate::items::Items;
 use crate::object_id::ObjectId;
 use crate::text::Text;
 use crate::times::Moment;
+use std::alloc::AllocError;
 
 /// The options of a driver. `None` means that the default holds.
 #[derive(Debug, Drop)]
@@ -25,6 +28,36 @@ pub struct Options {
     pub limit_pool: Option<u32>,
     pub limit_monitor: Option<u32>,
     pub topology_id: ObjectId,
+}
+
+impl Clone for Options {
+    ghost is_clone = { λ s t. t ≡ s };
+
+    fn clone(&self) -> Result<Options, AllocError> {
+        let seeds = self.seeds.clone()?;
+        let set_name = match &self.set_name {
+            Some(name) => Some(name.clone()?),
+            None => None,
+        };
+        Ok(Options {
+            seeds,
+            set_name,
+            direct: self.direct,
+            load_balanced: self.load_balanced,
+            max_pool_size: self.max_pool_size,
+            min_pool_size: self.min_pool_size,
+            max_connecting: self.max_connecting,
+            max_idle_time: self.max_idle_time,
+            heartbeat: self.heartbeat,
+            connect: self.connect,
+            streaming: self.streaming,
+            limit_id: self.limit_id,
+            limit_generation: self.limit_generation,
+            limit_pool: self.limit_pool,
+            limit_monitor: self.limit_monitor,
+            topology_id: self.topology_id,
+        })
+    }
 }
 
 /// The first rule of options that is broken.

@@ -21,3 +21,6 @@ pub use fact::Fact;
 pub use reasons::{
     ConnectionCheckoutFailedReason, ConnectionClosedReason, closed_reason_text, failed_reason_text,
 };
+
+#[cfg(test)]
+mod tests;

@@ -1,0 +1,67 @@
+//! A source and a sink that never fail and take no memory.
+
+ghost use Rattle.std.specs.Prelude.{◌≡◌, ◌≤◌, length, Some};
+
+use crate::memory_source::copy_front;
+use crate::outside::{Failed, Sink, Source};
+
+/// A source that holds its bytes, and gives as many as there is room for.
+#[derive(Drop)]
+pub struct PlainSource {
+    held: Vec<u8>,
+    at: usize,
+    ghost within: { at ≤ length held.items },
+}
+
+impl PlainSource {
+    ghost use Rattle.mdb_base.specs.Memory.{plain_left};
+
+    /// A source of these bytes, of which none is read yet.
+    pub fn new(held: Vec<u8>) -> PlainSource
+        ensures { plain_left result ≡ Some held.items }
+    {
+        PlainSource { held, at: 0 }
+    }
+}
+
+impl Source for PlainSource {
+    ghost use Rattle.mdb_base.specs.Memory.{plain_left};
+
+    ghost left = { plain_left };
+
+    ghost faults = { λ s. 0 };
+
+    fn read(&mut self, into: &mut [u8]) -> Result<usize, Failed> {
+        let rest = &self.held.as_slice()[self.at..];
+        let count = rest.len().min(into.len());
+        copy_front(into, &rest[..count]);
+        self.at += count;
+        Ok(count)
+    }
+}
+
+/// A sink that takes every piece whole and tells nothing.
+#[derive(Clone, Copy, Debug, Default, PartialEq, Eq)]
+pub struct NullSink;
+
+impl NullSink {
+    pub fn new() -> NullSink {
+        NullSink
+    }
+}
+
+impl Sink for NullSink {
+    ghost use Rattle.std.specs.Prelude.{None};
+
+    ghost held = { λ s. None };
+
+    ghost faults = { λ s. 0 };
+
+    fn write(&mut self, piece: &[u8]) -> Result<usize, Failed> {
+        Ok(piece.len())
+    }
+
+    fn flush(&mut self) -> Result<(), Failed> {
+        Ok(())
+    }
+}
