@@ -1,1 +1,4 @@
 pub mod Opening
+pub mod Legality
+pub mod Run
+pub mod Complete

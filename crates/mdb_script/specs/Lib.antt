@@ -1,2 +1,4 @@
 pub mod World
 pub mod Standing
+pub mod Runs
+pub mod Tool

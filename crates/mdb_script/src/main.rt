@@ -1,6 +1,57 @@
-//! Runs scripts of steps over connection pools.
+//! Runs scripts of steps over connection pools. The real source and sinks stand here; all else is a call with a contract.
 #![tactic(auto)]
 
+mod run;
+mod tool;
 mod world;
 
-fn main() {}
+#[cfg(test)]
+mod tests;
+
+use mdb_base::{Reading, Writing};
+use std::alloc::AllocError;
+use std::env;
+use std::process::ExitCode;
+use std::rt::Env;
+use tool::run_tool;
+
+// The words of the command line; where they can't be had, one word that is no command.
+fn words<R: Env + AllocGlobal>(rt: &R) -> Result<Vec<String>, AllocError> {
+    let mut words = Vec::new(rt.alloc());
+    match env::args(rt) {
+        Ok(args) => {
+            for word in args.skip(1) {
+                words.push(word)?;
+            }
+        }
+        Err(_) => words.push(String::from_str(rt.alloc(), "?")?)?,
+    }
+    Ok(words)
+}
+
+fn status<R: AllocGlobal>(rt: &R, words: &[String], host: &HostRuntime) -> Result<u8, AllocError> {
+    let mut texts = Vec::new(rt.alloc());
+    for word in words {
+        texts.push(word.as_str())?;
+    }
+    let mut source = Reading::new(host.stdin());
+    let mut sink = Writing::new(host.stdout());
+    let mut errors = Writing::new(host.stderr());
+    Ok(run_tool(
+        rt.alloc(),
+        texts.as_slice(),
+        &mut source,
+        &mut sink,
+        &mut errors,
+    ))
+}
+
+fn main(rt: HostRuntime) -> ExitCode {
+    match words(&rt) {
+        Ok(words) => match status(&rt, words.as_slice(), &rt) {
+            Ok(status) => ExitCode::from(status),
+            Err(_) => ExitCode::from(1),
+        },
+        Err(_) => ExitCode::from(1),
+    }
+}
