@@ -10,3 +10,4 @@ pub mod Memory
 pub mod OptionRules
 pub mod Outside
 pub mod Spelling
+pub mod Tags
