@@ -1,0 +1,21 @@
+//! The options of one pool.
+use mdb_base::Moment;
+
+/// The options of a pool. Sizes are at most 65,535, and the maximum and `max_connecting` at least 1.
+#[derive(Clone, Copy, Drop)]
+pub struct PoolOptions {
+    /// The most connections that callers make, 10 where it isn't named.
+    pub max_pool_size: Option<u32>,
+    /// The fewest connections that the pool keeps, 0 where it isn't named.
+    pub min_pool_size: Option<u32>,
+    /// How long a connection may be available, in milliseconds. 0, as no limit, closes none.
+    pub max_idle_time: Option<Moment>,
+    /// The most connections that are pending at a time, 2 where it isn't named.
+    pub max_connecting: Option<u32>,
+    /// The address is a load balancer's.
+    pub load_balanced: bool,
+    /// The greatest id of a connection.
+    pub limit_id: u32,
+    /// The greatest generation of the pool or of a service.
+    pub limit_generation: u64,
+}

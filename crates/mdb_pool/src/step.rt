@@ -1,0 +1,133 @@
+//! The steps that a driver and its pools take.
+ghost use Rattle.std.specs.Prelude.{◌≡◌, IfOk};
+
+use mdb_base::{Error, Moment, ObjectId, Options, ServerAddress};
+use std::alloc::AllocError;
+
+/// What establishing a connection found out.
+#[derive(Clone, Copy, Drop)]
+pub struct Established {
+    /// The greatest wire version of the server.
+    pub wire: i32,
+    /// The service behind the load balancer.
+    pub service_id: Option<ObjectId>,
+    /// The server's own number of the connection.
+    pub server_id: Option<i64>,
+}
+
+/// Whether establishing failed before the server's hello, or after it with the service that it named.
+#[derive(Clone, Copy, Drop)]
+pub enum FailedAt {
+    Pre,
+    Post(Option<ObjectId>),
+}
+
+/// How a connection was used by the party that returns it.
+#[derive(Clone, Copy, PartialEq, Eq, Drop)]
+pub enum Use {
+    Ok,
+    Errored,
+    /// The party was dropped in the middle of an operation.
+    Dropped,
+    /// More replies of the server were to come.
+    Streaming,
+}
+
+/// What a step does. Numbers are those of parties, pools and connections, in this order unless it is said otherwise.
+#[derive(Drop)]
+pub enum Act {
+    /// The driver is opened.
+    Open(Options),
+    /// A caller, by its number, asks for a connection to the address.
+    Request(u32, ServerAddress),
+    /// A request, by its number, that only fills the pool.
+    Warm(u32, ServerAddress),
+    /// The caller of a request asks how it stands.
+    Collect(u32),
+    /// A worker asks for a connection to establish.
+    Claim,
+    /// The caller of a request no longer wants its connection.
+    GiveUp(u32),
+    /// A pending connection was established.
+    Established(u32, u32, Established),
+    /// A pending connection failed.
+    Failed(u32, u32, FailedAt, Error),
+    /// A party returns its connection.
+    Return(u32, Use),
+    /// A party pins its connection.
+    Pin(u32),
+    /// One more pin of a pinned connection.
+    Replicate(u32, u32),
+    /// A new party takes a pinned connection.
+    Take(u32, u32, u32),
+    /// One pin less.
+    Unpin(u32, u32),
+    /// The pool of the address is maintained.
+    Maintain(ServerAddress),
+    /// A pool may be used.
+    Ready(u32),
+    /// The connections of a pool, or those of a service of it, become stale.
+    Clear(u32, Option<ObjectId>, Error),
+    /// A pool is closed for good.
+    Close(u32),
+}
+
+fn copy_of_options(options: &Options) -> Result<Options, AllocError>
+    ensures { IfOk result (λ copy. copy ≡ options.now) }
+{
+    let seeds = options.seeds.clone()?;
+    let set_name = match &options.set_name {
+        Some(name) => Some(name.clone()?),
+        None => None,
+    };
+    Ok(Options {
+        seeds,
+        set_name,
+        ..*options
+    })
+}
+
+impl Clone for Act {
+    ghost is_clone = { λ s t. t ≡ s };
+
+    fn clone(&self) -> Result<Act, AllocError> {
+        Ok(match self {
+            Act::Open(options) => Act::Open(copy_of_options(options)?),
+            Act::Request(request, address) => Act::Request(*request, address.clone()?),
+            Act::Warm(request, address) => Act::Warm(*request, address.clone()?),
+            Act::Collect(request) => Act::Collect(*request),
+            Act::Claim => Act::Claim,
+            Act::GiveUp(request) => Act::GiveUp(*request),
+            Act::Established(pool, id, made) => Act::Established(*pool, *id, *made),
+            Act::Failed(pool, id, at, error) => Act::Failed(*pool, *id, *at, error.clone()?),
+            Act::Return(party, used) => Act::Return(*party, *used),
+            Act::Pin(party) => Act::Pin(*party),
+            Act::Replicate(pool, id) => Act::Replicate(*pool, *id),
+            Act::Take(party, pool, id) => Act::Take(*party, *pool, *id),
+            Act::Unpin(pool, id) => Act::Unpin(*pool, *id),
+            Act::Maintain(address) => Act::Maintain(address.clone()?),
+            Act::Ready(pool) => Act::Ready(*pool),
+            Act::Clear(pool, service, error) => Act::Clear(*pool, *service, error.clone()?),
+            Act::Close(pool) => Act::Close(*pool),
+        })
+    }
+}
+
+/// One atomic step.
+#[derive(Drop)]
+pub struct Step {
+    pub moment: Moment,
+    pub act: Act,
+}
+
+impl Clone for Step {
+    ghost is_clone = { λ s t. t ≡ s };
+
+    fn clone(&self) -> Result<Step, AllocError> {
+        let act = self.act.clone()?;
+        Ok(Step {
+            moment: self.moment,
+            act,
+        })
+    }
+}
