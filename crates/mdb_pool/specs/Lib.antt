@@ -1,0 +1,14 @@
+pub mod History
+pub mod Connections
+pub mod Requests
+pub mod State
+pub mod Refusal
+pub mod Facts
+pub mod Serving
+pub mod Answer
+pub mod Legal
+pub mod Keyed
+pub mod Places
+pub mod Kept
+pub mod Changes
+pub mod Standing

@@ -1,12 +1,24 @@
 //! Pools of connections: their steps, replies and logs, and the core of one pool.
 #![tactic(auto)]
 
+mod changes;
+mod connection;
+mod establishing;
+mod finding;
 mod log;
 mod options;
+mod pool_core;
+mod queue;
 mod reply;
+mod request;
+mod requesting;
+mod returning;
 mod step;
+mod stepping;
+mod table;
 
 pub use log::{Entry, Log};
 pub use options::PoolOptions;
+pub use pool_core::PoolCore;
 pub use reply::{Refused, Reply, What};
 pub use step::{Act, Established, FailedAt, Step, Use};

@@ -1,0 +1,231 @@
+-- What an act does is the answer to its step.
+use Rattle.std.proofs.Common.{ℕ, ◌≡◌, ◌<◌, ◌≤◌, Bool, true, false, ◌||◌, List, [], ◌∷◌, ◌++◌, Option, Some, None, is_some, refl, sym, ◌∙◌, ap, subst, arith, if◌then◌else◌, append_assoc, append-nil, nat_lt}
+use Rattle.std.proofs.lemmas.Bool.Decides.{nat_tests}
+use Rattle.mdb_events.specs.declared.fact.Fact.{Fact}
+use Rattle.mdb_pool.specs.declared.step.Step.{Step}
+use Rattle.mdb_pool.specs.declared.step.Act.{Act}
+use Rattle.mdb_pool.specs.declared.reply.Refused.{Refused}
+use Rattle.mdb_pool.specs.declared.reply.Refused.TheVariants.{TimeBack}
+use Rattle.mdb_pool.specs.declared.reply.Reply.{Reply}
+use Rattle.mdb_pool.specs.declared.reply.Reply.TheVariants.{Pooled, Establishing, Waiting, Ended, Job, NoJob, Changed, Count, Done, Refused as RefusedBy}
+use Rattle.mdb_pool.specs.declared.connection.Connection.{Connection}
+use Rattle.mdb_pool.specs.declared.connection.Place.{Place}
+use Rattle.mdb_pool.specs.declared.request.Phase.{Phase}
+use Rattle.mdb_pool.specs.declared.connection.Place.TheVariants.{Pending, Available, Held}
+use Rattle.mdb_pool.specs.declared.request.Request.{Request}
+use Rattle.mdb_pool.specs.declared.request.Phase.TheVariants.{Queued, Given, Over, Ended as EndedPhase}
+use Rattle.mdb_pool.specs.declared.pool_core.PoolCore.{PoolCore}
+use Rattle.mdb_pool.specs.History.{Item, did, PoolItem, has_party, of_pool, with_facts, with_answer, after_facts, given}
+use Rattle.mdb_pool.specs.Connections.{has, pending_list, holding}
+use Rattle.mdb_pool.specs.Requests.{outcome_of, names_party, is_claimed}
+use Rattle.mdb_pool.specs.Refusal.{refusal_of}
+use Rattle.mdb_pool.specs.Facts.{act_facts}
+use Rattle.mdb_pool.specs.Answer.{all_facts, reply_of, answer, answered, with_act}
+use Rattle.mdb_pool.specs.Serving.{serving}
+use Rattle.mdb_pool.specs.Standing.{Matches, Fits, StandsFor, Serves, Accepts, Answers, SameHome}
+use Rattle.mdb_pool.specs.Kept.{connection_at, request_at, held_connection, outcome_now, is_pending_at, given_of, given_in, parties_of, if_held}
+use Rattle.mdb_pool.specs.Legal.{IsAccepted, IsFairAnswer, NoneLeftWaiting, IsServed, AllFirstCome, AllOwn}
+use Rattle.mdb_pool.specs.Places.{is_pending, is_held}
+use Rattle.mdb_pool.proofs.Tables.{has-where, passes, entry_at-key}
+use Rattle.mdb_pool.proofs.Found.{id_or}
+use Rattle.mdb_pool.proofs.Laws.{fair-append, serve-fair, own-append, serve-own, size}
+use Rattle.mdb_pool.proofs.Served.{serving-serves, served-settled}
+use Rattle.mdb_pool.proofs.Serving.{of_pool-with_facts, after-append}
+use Rattle.mdb_pool.proofs.Frame.{last-facts, acts-facts, open-facts, party-facts}
+
+pub with_answer-accepted : (step : Step) (reply : Reply) (facts : List Fact) (h : List Item) → IsAccepted reply → with_answer step reply facts h ≡ with_facts step.moment facts (did step reply ∷ h)
+with_answer-accepted step (Pooled p c) facts h i = refl
+with_answer-accepted step (Establishing p c) facts h i = refl
+with_answer-accepted step Waiting facts h i = refl
+with_answer-accepted step (Ended e) facts h i = refl
+with_answer-accepted step (Job p c) facts h i = refl
+with_answer-accepted step NoJob facts h i = refl
+with_answer-accepted step (Changed b) facts h i = refl
+with_answer-accepted step (Count n) facts h i = refl
+with_answer-accepted step Done facts h i = refl
+with_answer-accepted step (RefusedBy why) facts h i = absurd i
+
+fair-accepted : (p : ℕ) (h : List Item) (step : Step) (reply : Reply) (facts : List Fact) → IsAccepted reply → AllFirstCome p step.moment (with_act p h step) facts → IsFairAnswer p h step reply facts
+fair-accepted p h step (Pooled q c) facts i f = f
+fair-accepted p h step (Establishing q c) facts i f = f
+fair-accepted p h step Waiting facts i f = f
+fair-accepted p h step (Ended e) facts i f = f
+fair-accepted p h step (Job q c) facts i f = f
+fair-accepted p h step NoJob facts i f = f
+fair-accepted p h step (Changed b) facts i f = f
+fair-accepted p h step (Count n) facts i f = f
+fair-accepted p h step Done facts i f = f
+fair-accepted p h step (RefusedBy why) facts i f = absurd i
+
+-- a refused step leaves all as it was
+pub refuses : (s : PoolCore) (before : List Fact) (step : Step) (why : Refused) (h : List Item) → StandsFor s h → refusal_of s.pool s.options h step ≡ Some why → Answers s s before before step (RefusedBy why) h
+refuses s before step why h z e =
+    let a : answer s.pool s.address s.options h step ≡ answered s.pool s.address s.options h step (Some why) = ap (answered s.pool s.address s.options h step) e in
+    record {
+      reply_is = ap (λ k. k.reply) (sym a);
+      facts_are = sym (append-nil before) ∙ ap (λ k. before ++ k.facts) (sym a);
+      stands = subst (λ k. StandsFor s (with_answer step k.reply k.facts h)) (sym a) z;
+      fair = subst (λ k. IsFairAnswer s.pool h step k.reply k.facts) (sym a) refl;
+      none_left = subst (λ k. NoneLeftWaiting s.options (of_pool s.pool h) → NoneLeftWaiting s.options (of_pool s.pool (with_answer step k.reply k.facts h))) (sym a) (λ i. i);
+    }
+
+-- an accepted act makes some facts and leads to a state that is then served
+pub accepts : (s s1 t : PoolCore) (before f1 after : List Fact) (m : ℕ) (act : Act) (reply : Reply) (acts : List Fact) (xs ys : List PoolItem)
+    → act_facts s.pool s.address s.options m xs ys act ≡ acts
+    → f1 ≡ before ++ acts
+    → SameHome s s1
+    → Fits s1 (after_facts s.pool m acts ys)
+    → ((zs : List PoolItem) → Fits s1 zs → Serves s1 t m f1 after zs)
+    → ((claimed : ℕ → Bool) (zs : List PoolItem) → Matches t zs → reply ≡ reply_of s.pool claimed xs zs act)
+    → IsAccepted reply
+    → AllFirstCome s.pool m ys acts
+    → AllOwn s.pool m ys acts
+    → Accepts s t before after m act reply xs ys
+accepts s s1 t before f1 after m act reply acts xs ys facts_of f1_is home fits1 serves reply_is fine acts_fair acts_own =
+    let zs : List PoolItem = after_facts s.pool m acts ys in
+    let v : Serves s1 t m f1 after zs = serves zs fits1 in
+    let served : serving s1.pool s1.address s1.options m zs ≡ serving s.pool s.address s.options m zs = rw (home.pool, home.address, home.options) refl in
+    let all : all_facts s.pool s.address s.options m xs ys act ≡ acts ++ serving s.pool s.address s.options m zs = ap (λ f. f ++ serving s.pool s.address s.options m (after_facts s.pool m f ys)) facts_of in
+    let fits : Fits t (after_facts s.pool m (acts ++ serving s.pool s.address s.options m zs) ys) =
+    subst (Fits t) (sym (after-append s.pool m acts (serving s.pool s.address s.options m zs) ys)) (subst (λ p. Fits t (after_facts p m (serving s.pool s.address s.options m zs) zs)) home.pool (subst (λ k. Fits t (after_facts s1.pool m k zs)) served v.fits)) in
+    record {
+      facts_are = v.facts ∙ (ap (λ f. f ++ serving s1.pool s1.address s1.options m zs) f1_is ∙ (append_assoc before acts (serving s1.pool s1.address s1.options m zs) ∙ ap (λ f. before ++ f) (ap (λ f. acts ++ f) served ∙ sym all)));
+      reply_is = λ claimed. reply_is claimed (after_facts s.pool m (all_facts s.pool s.address s.options m xs ys act) ys) (subst (λ f. Fits t (after_facts s.pool m f ys)) (sym all) fits).matches;
+      accepted = fine;
+      fits = subst (λ f. Fits t (after_facts s.pool m f ys)) (sym all) fits;
+      fair = subst (AllFirstCome s.pool m ys) (sym all) (fair-append s.pool s.address s.options m acts (serving s.pool s.address s.options m zs) ys acts_fair (serve-fair s.pool s.address s.options m (size s.pool s.address s.options m zs) zs));
+      own = subst (AllOwn s.pool m ys) (sym all) (own-append s.pool s.address s.options m acts (serving s.pool s.address s.options m zs) ys acts_own (serve-own s.pool s.address s.options m (size s.pool s.address s.options m zs) zs));
+      served = subst (λ f. IsServed s.options (after_facts s.pool m f ys)) (sym all) (subst (IsServed s.options) (sym (after-append s.pool m acts (serving s.pool s.address s.options m zs) ys)) (serving-serves s.pool s.address s.options m zs));
+    }
+
+-- on a history of the pool's own an accepted act is the answer
+pub own-answers : (s t : PoolCore) (before after : List Fact) (step : Step) (reply : Reply) (ys : List PoolItem) (h : List Item) → StandsFor s h
+    → refusal_of s.pool s.options h step ≡ None
+    → with_act s.pool h step ≡ ys
+    → ((r : ℕ) → has_party ys r ≡ names_party step.act r || has_party (of_pool s.pool h) r)
+    → SameHome s t → t.last ≡ step.moment
+    → Accepts s t before after step.moment step.act reply (of_pool s.pool h) ys
+    → Answers s t before after step reply h
+own-answers s t before after step reply ys h z none same names home last_is v =
+    let p : ℕ = s.pool in
+    let m : ℕ = step.moment in
+    let facts : List Fact = all_facts p s.address s.options m (of_pool p h) ys step.act in
+    let k : List Item = with_facts m facts (did step reply ∷ h) in
+    let known : of_pool p k ≡ after_facts p m facts ys = of_pool-with_facts p m facts (did step reply ∷ h) ∙ ap (after_facts p m facts) same in
+    let e : answered p s.address s.options h step None ≡ record { reply = reply; facts = facts } = rw (same, ← v.reply_is (is_claimed h p)) refl in
+    let a : answer p s.address s.options h step ≡ record { reply = reply; facts = facts } = ap (answered p s.address s.options h step) none ∙ e in
+    let w : with_answer step reply facts h ≡ k = with_answer-accepted step reply facts h v.accepted in
+    let stands : StandsFor t k = record {
+      fits = subst (λ q. Fits t (of_pool q k)) (sym home.pool) (subst (Fits t) (sym known) v.fits);
+      last_is = last-facts m facts (did step reply ∷ h) ∙ sym last_is;
+      open_here = λ a. open-facts p m facts ys (did step reply ∷ h) a v.own ∙ (z.open_here a ∙ rw (home.address, home.pool) refl);
+      asked_once = λ r. acts-facts names_party m r facts (did step reply ∷ h) ∙ (ap (λ b. names_party step.act r || b) (z.asked_once r) ∙ (sym (names r) ∙ (sym (party-facts p m r facts ys) ∙ (ap (λ zs. has_party zs r) (sym known) ∙ ap (λ q. has_party (of_pool q k) r) (sym home.pool)))));
+    } in
+    record {
+      reply_is = ap (λ k. k.reply) (sym a);
+      facts_are = v.facts_are ∙ ap (λ k. before ++ k.facts) (sym a);
+      stands = subst (λ b. StandsFor t (with_answer step b.reply b.facts h)) (sym a) (subst (StandsFor t) (sym w) stands);
+      fair = subst (λ b. IsFairAnswer p h step b.reply b.facts) (sym a) (fair-accepted p h step reply facts v.accepted (subst (λ zs. AllFirstCome p m zs facts) (sym same) v.fair));
+      none_left = λ i. subst (λ b. NoneLeftWaiting s.options (of_pool p (with_answer step b.reply b.facts h))) (sym a) (subst (λ j. NoneLeftWaiting s.options (of_pool p j)) (sym w) (subst (NoneLeftWaiting s.options) (sym known) (served-settled s.options (after_facts p m facts ys) v.served s.address)));
+    }
+
+pub not-back : (n m : ℕ) → m ≤ n → nat_lt n m ≡ false
+not-back n m l = grind (arith, nat_tests)
+
+back : (n m : ℕ) → n < m → nat_lt n m ≡ true
+back n m l = grind (arith, nat_tests)
+
+at_pending : (o : Option Connection) → passes (λ (x : Connection). x.id) (λ x. is_pending x.place) o ≡ is_pending_at o
+at_pending None = refl
+at_pending (Some x) = refl
+
+-- what the state says of parties and connections
+module _ (s : PoolCore) (xs : List PoolItem) (z : Fits s xs) where
+  pub pending-is : (c : ℕ) → has c (pending_list xs) ≡ is_pending_at (connection_at s c)
+  pending-is c = rw z.matches.pending (has-where (λ (x : Connection). x.id) (λ x. is_pending x.place) c s.connections (z.matches.single c) ∙ at_pending (connection_at s c))
+
+  -- whoever is given a connection holds it, or it is pending
+  pub holding-is : (r : ℕ) → holding xs r ≡ id_or (held_connection s r) None
+  holding-is r = on (request_at s r) refl
+    where
+      at_place : (c : ℕ) (x : Connection) (p : Place) → connection_at s c ≡ Some x → x.place ≡ p → parties_of (connection_at s c) ≡ r ∷ [] → (if has c (pending_list xs) then None else Some c) ≡ id_or (if is_held x.place then Some x else None) None
+      at_place c x Pending e f t = let k : has c (pending_list xs) ≡ true = pending-is c ∙ (ap is_pending_at e ∙ ap is_pending f) in rw (k, f) refl
+      at_place c x Available e f t = let k : parties_of (Some x) ≡ [] = rw f refl in let v : parties_of (Some x) ≡ r ∷ [] = ap parties_of (sym e) ∙ t in cc
+      at_place c x Held e f t = let k : has c (pending_list xs) ≡ false = pending-is c ∙ (ap is_pending_at e ∙ ap is_pending f) in let v : x.id ≡ c = entry_at-key (λ (y : Connection). y.id) c x s.connections e in rw (k, f) (ap Some (sym v))
+
+      at_connection : (c : ℕ) (o : Option Connection) → connection_at s c ≡ o → parties_of (connection_at s c) ≡ r ∷ [] → (if has c (pending_list xs) then None else Some c) ≡ id_or (if_held o) None
+      at_connection c None e t = let v : parties_of None ≡ r ∷ [] = ap parties_of (sym e) ∙ t in cc
+      at_connection c (Some x) e t = at_place c x x.place e refl t
+
+      at_phase : (q : Request) (p : Phase) → request_at s r ≡ Some q → q.phase ≡ p → holding xs r ≡ id_or (held_connection s r) None
+      at_phase q Queued e f = rw (z.matches.given r, e, f) refl
+      at_phase q (Given c) e f = let t : parties_of (connection_at s c) ≡ r ∷ [] = z.matches.taken r c (ap given_of e ∙ ap given_in f) in rw (z.matches.given r, e, f) (at_connection c (connection_at s c) refl t)
+      at_phase q Over e f = rw (z.matches.given r, e, f) refl
+      at_phase q (EndedPhase end) e f = rw (z.matches.given r, e, f) refl
+
+      on : (o : Option Request) → request_at s r ≡ o → holding xs r ≡ id_or (held_connection s r) None
+      on None e = rw (z.matches.given r, e) refl
+      on (Some q) e = at_phase q q.phase e refl
+
+-- an act at an earlier moment is refused
+pub time-back : (s : PoolCore) (h : List Item) → StandsFor s h → (step : Step) → step.moment < s.last → refusal_of s.pool s.options h step ≡ Some (TimeBack s.last)
+time-back s h z step l = rw (z.last_is, back step.moment s.last l) refl
+
+pub refuses-back : (s : PoolCore) (facts : List Fact) (step : Step) (h : List Item) → StandsFor s h → step.moment < s.last → Answers s s facts facts step (RefusedBy (TimeBack s.last)) h
+refuses-back s facts step h z l = refuses s facts step (TimeBack s.last) h z (time-back s h z step l)
+
+-- what the request is told
+pub outcome-is : (s : PoolCore) (zs : List PoolItem) (m : Matches s zs) (r : ℕ) → outcome_of s.pool zs r ≡ outcome_now s r
+outcome-is s zs m r = on (given_of (request_at s r)) refl
+  where
+    pending-in : (c : ℕ) → has c (pending_list zs) ≡ is_pending_at (connection_at s c)
+    pending-in c = rw m.pending (has-where (λ (x : Connection). x.id) (λ x. is_pending x.place) c s.connections (m.single c) ∙ at_pending (connection_at s c))
+
+    on : (o : Option ℕ) → given_of (request_at s r) ≡ o → outcome_of s.pool zs r ≡ outcome_now s r
+    on None e = rw (m.no_end r, m.given r, e) refl
+    on (Some c) e = rw (m.no_end r, m.given r, e, pending-in c) refl
+
+pub outcome-accepted : (s : PoolCore) (r : ℕ) → IsAccepted (outcome_now s r)
+outcome-accepted s r = on (given_of (request_at s r)) refl
+  where
+    at_connection : (c : ℕ) (b : Bool) → given_of (request_at s r) ≡ Some c → is_pending_at (connection_at s c) ≡ b → IsAccepted (outcome_now s r)
+    at_connection c true e f = rw (e, f) tt
+    at_connection c false e f = rw (e, f) tt
+
+    on : (o : Option ℕ) → given_of (request_at s r) ≡ o → IsAccepted (outcome_now s r)
+    on None e = rw e tt
+    on (Some c) e = at_connection c (is_pending_at (connection_at s c)) e refl
+
+-- who holds a connection was given it
+holding-given : (xs : List PoolItem) (r : ℕ) → is_some (holding xs r) ≡ true → is_some (given xs r) ≡ true
+holding-given xs r e = on (given xs r) refl
+  where
+    on : (o : Option ℕ) → given xs r ≡ o → is_some (given xs r) ≡ true
+    on None f = let g : is_some (holding xs r) ≡ false = rw f refl in cc
+    on (Some c) f = rw f refl
+
+some-id : (o : Option Connection) → is_some (id_or o None) ≡ is_some o
+some-id None = refl
+some-id (Some x) = refl
+
+pub holds-is : (s : PoolCore) (xs : List PoolItem) → Fits s xs → (r : ℕ) → is_some (holding xs r) ≡ is_some (held_connection s r)
+holds-is s xs z r = ap is_some (holding-is s xs z r) ∙ some-id (held_connection s r)
+
+-- who holds a connection is known
+pub held-known : (s : PoolCore) (r : ℕ) → is_some (held_connection s r) ≡ true → is_some (request_at s r) ≡ true
+held-known s r e = on (request_at s r) refl
+  where
+    on : (o : Option Request) → request_at s r ≡ o → is_some (request_at s r) ≡ true
+    on None f = let k : is_some (held_connection s r) ≡ false = rw f refl in cc
+    on (Some q) f = rw f refl
+
+pub holds-given : (s : PoolCore) (xs : List PoolItem) → Fits s xs → (r : ℕ) → is_some (held_connection s r) ≡ true → is_some (given xs r) ≡ true
+holds-given s xs z r e = holding-given xs r (ap is_some (holding-is s xs z r) ∙ (some-id (held_connection s r) ∙ e))
+
+pub no-some : (o : Option Request) → is_some o ≡ false → o ≡ None
+no-some None f = refl
+no-some (Some q) f = cc
+
+pub no-holder : (o : Option Connection) → is_some o ≡ false → o ≡ None
+no-holder None f = refl
+no-holder (Some q) f = cc

@@ -1,0 +1,31 @@
+-- Each connection has one place.
+use Rattle.std.proofs.Common.{◌≡◌, ◌+◌, ◌≤◌, List, Option, Some, None, refl, arith}
+use Rattle.mdb_pool.specs.declared.connection.Connection.{Connection}
+use Rattle.mdb_pool.specs.declared.connection.Place.{Place}
+use Rattle.mdb_pool.specs.declared.connection.Place.TheVariants.{Pending, Available, Held}
+use Rattle.mdb_pool.specs.declared.pool_core.PoolCore.{PoolCore}
+use Rattle.mdb_pool.specs.History.{PoolItem}
+use Rattle.mdb_pool.specs.Connections.{has, live, pending, available, held, pinned, pending_list, available_list}
+use Rattle.mdb_pool.specs.Standing.{Matches}
+use Rattle.mdb_pool.specs.Kept.{connection_at}
+use Rattle.mdb_pool.specs.Legal.{OnePlace}
+use Rattle.mdb_pool.specs.Places.{is_pending, is_available}
+use Rattle.mdb_pool.proofs.Tables.{has-where, passes}
+
+pub one-place : (s : PoolCore) (xs : List PoolItem) → Matches s xs → OnePlace xs
+one-place s xs m c = on (connection_at s c) refl
+  where
+    is_p : has c (pending_list xs) ≡ passes (λ (x : Connection). x.id) (λ x. is_pending x.place) (connection_at s c)
+    is_p = rw m.pending (has-where (λ (x : Connection). x.id) (λ x. is_pending x.place) c s.connections (m.single c))
+
+    is_a : has c (available_list xs) ≡ passes (λ (x : Connection). x.id) (λ x. is_available x.place) (connection_at s c)
+    is_a = rw m.available (has-where (λ (x : Connection). x.id) (λ x. is_available x.place) c s.connections (m.single c))
+
+    at_place : (x : Connection) (p : Place) → connection_at s c ≡ Some x → x.place ≡ p → (pending xs c + available xs c + held xs c + pinned xs c ≡ live xs c) × (live xs c ≤ 1)
+    at_place x Pending e f = rw (is_p, is_a, m.live c, m.no_place c, e, f) (refl, omega arith)
+    at_place x Available e f = rw (is_p, is_a, m.parties c, m.live c, m.no_place c, e, f) (refl, omega arith)
+    at_place x Held e f = rw (is_p, is_a, m.parties c, m.live c, m.no_place c, e, f) (refl, omega arith)
+
+    on : (o : Option Connection) → connection_at s c ≡ o → (pending xs c + available xs c + held xs c + pinned xs c ≡ live xs c) × (live xs c ≤ 1)
+    on None e = rw (is_p, is_a, m.parties c, m.live c, m.no_place c, e) (refl, omega arith)
+    on (Some x) e = at_place x x.place e refl

@@ -1,0 +1,61 @@
+-- Steps one after another.
+use Rattle.std.proofs.Common.{ℕ, ◌≡◌, List, [], ◌∷◌, ◌++◌, map, refl, sym, ◌∙◌, ap, subst, append_assoc, append-nil}
+use Rattle.std.proofs.lemmas.List.Elements.{All-nil, All-push}
+use Rattle.mdb_pool.specs.declared.options.PoolOptions.{PoolOptions}
+use Rattle.mdb_pool.specs.declared.step.Step.{Step}
+use Rattle.mdb_pool.specs.declared.log.Entry.{Entry}
+use Rattle.mdb_pool.specs.declared.pool_core.PoolCore.{PoolCore}
+use Rattle.mdb_pool.specs.History.{Item, of_pool, with_answer, with_entries}
+use Rattle.mdb_pool.specs.Answer.{answer}
+use Rattle.mdb_pool.specs.Legal.{OnePlace, NoneLeftWaiting, IsFairAnswer, IsLegal}
+use Rattle.mdb_pool.specs.Standing.{StandsFor, SameHome, Logs, Runs}
+use Rattle.mdb_pool.proofs.Places.{one-place}
+
+pub with_entries-append : (es : List Entry) (e : Entry) (h : List Item) → with_entries (es ++ e ∷ []) h ≡ with_answer e.step e.reply e.facts (with_entries es h)
+with_entries-append [] e h = refl
+with_entries-append (d ∷ es) e h = with_entries-append es e (with_answer d.step d.reply d.facts h)
+
+-- one more legal entry
+legal-append : (p : ℕ) (o : PoolOptions) (es : List Entry) (e : Entry) (h : List Item) → IsLegal p o h es
+    → IsFairAnswer p (with_entries es h) e.step e.reply e.facts
+    → OnePlace (of_pool p (with_answer e.step e.reply e.facts (with_entries es h)))
+    → NoneLeftWaiting o (of_pool p (with_answer e.step e.reply e.facts (with_entries es h)))
+    → IsLegal p o h (es ++ e ∷ [])
+legal-append p o [] e h l fair place none_left = (fair, place, none_left, tt)
+legal-append p o (d ∷ es) e h l fair place none_left = (l.0, l.1, l.2, legal-append p o es e (with_answer d.step d.reply d.facts h) l.3 fair place none_left)
+
+map-append : (es : List Entry) (e : Entry) → map (λ d. d.step) (es ++ e ∷ []) ≡ map (λ d. d.step) es ++ e.step ∷ []
+map-append [] e = refl
+map-append (d ∷ es) e = ap (λ ss. d.step ∷ ss) (map-append es e)
+
+pub run-starts : (s : PoolCore) (log : List Entry) (seat : ℕ) (h : List Item) → StandsFor s h → NoneLeftWaiting s.options (of_pool s.pool h) → Runs s s log log seat [] h
+run-starts s log seat h z i = record {
+  entries = [];
+  logged = sym (append-nil log);
+  by_seat = All-nil (λ (d : Entry). d.seat ≡ seat);
+  in_order = refl;
+  legal = tt;
+  stands = z;
+  none_left = i;
+}
+
+pub run-more : (s t u : PoolCore) (before middle after : List Entry) (steps : List Step) (seat : ℕ) (step : Step) (h : List Item) → SameHome s t → SameHome t u → Runs s t before middle seat steps h → ((k : List Item) → StandsFor t k → Logs t u middle after seat step k) → Runs s u before after seat (steps ++ step ∷ []) h
+run-more s t u before middle after steps seat step h home next r logs =
+    let k : List Item = with_entries r.entries h in
+    let v : Logs t u middle after seat step k = logs k r.stands in
+    let e : Entry = record { seat = seat; step = step; reply = (answer t.pool t.address t.options k step).reply; facts = (answer t.pool t.address t.options k step).facts } in
+    let same : with_entries (r.entries ++ e ∷ []) h ≡ with_answer e.step e.reply e.facts k = with_entries-append r.entries e h in
+    let none_left_t : NoneLeftWaiting t.options (of_pool t.pool (with_answer e.step e.reply e.facts k)) = v.none_left r.none_left in
+    let place : OnePlace (of_pool u.pool (with_answer e.step e.reply e.facts k)) = one-place u (of_pool u.pool (with_answer e.step e.reply e.facts k)) v.stands.fits.matches in
+    record {
+      entries = r.entries ++ e ∷ [];
+      logged = v.entry ∙ (ap (λ es. es ++ e ∷ []) r.logged ∙ append_assoc before r.entries (e ∷ []));
+      by_seat = All-push (λ (d : Entry). d.seat ≡ seat) r.entries e r.by_seat refl;
+      in_order = map-append r.entries e ∙ ap (λ ss. ss ++ step ∷ []) r.in_order;
+      legal = legal-append s.pool s.options r.entries e h r.legal
+          (subst (λ p. IsFairAnswer p k e.step e.reply e.facts) home.pool v.fair)
+          (subst (λ p. OnePlace (of_pool p (with_answer e.step e.reply e.facts k))) (next.pool ∙ home.pool) place)
+          (subst (λ p. NoneLeftWaiting s.options (of_pool p (with_answer e.step e.reply e.facts k))) home.pool (subst (λ o. NoneLeftWaiting o (of_pool t.pool (with_answer e.step e.reply e.facts k))) home.options none_left_t));
+      stands = subst (StandsFor u) (sym same) v.stands;
+      none_left = subst (λ j. NoneLeftWaiting u.options (of_pool u.pool j)) (sym same) (subst (λ p. NoneLeftWaiting u.options (of_pool p (with_answer e.step e.reply e.facts k))) (sym next.pool) (subst (λ o. NoneLeftWaiting o (of_pool t.pool (with_answer e.step e.reply e.facts k))) (sym next.options) none_left_t));
+    }

@@ -1,0 +1,130 @@
+-- Lists of values that are named by a number.
+use Rattle.std.proofs.Common.{ℕ, ◌≡◌, ◌+◌, Bool, true, false, ◌==◌, List, [], ◌∷◌, ◌++◌, length, map, filter, find, Option, Some, None, is_some, refl, sym, ◌∙◌, ap, subst, ◌<◌, ◌≤◌, arith, if◌then◌else◌}
+use Rattle.std.specs.Prelude.{count_by}
+use Rattle.std.proofs.lemmas.Grind.{common_steps}
+use Rattle.mdb_pool.specs.Keyed.{entry_at, others, put}
+use Rattle.mdb_pool.specs.History.{without}
+use Rattle.mdb_pool.specs.Connections.{has, one_if}
+
+-- x is a member
+pub data In {T : Type 0} : T → List T → Type 0 where
+  here : {x : T} {xs : List T} → In x (x ∷ xs)
+  there : {x y : T} {xs : List T} → In x xs → In x (y ∷ xs)
+
+pub without-absent : (k : ℕ) (ks : List ℕ) → has k ks ≡ false → without k ks ≡ ks
+without-absent k [] e = refl
+without-absent k (j ∷ ks) e = grind (arith, common_steps, without-absent k ks)
+
+module _ {T : Type 0} (key : T → ℕ) where
+  pub entry_at-others : (k j : ℕ) (xs : List T) → entry_at key k (others key j xs) ≡ if j == k then None else entry_at key k xs
+  entry_at-others k j [] = grind arith
+  entry_at-others k j (x ∷ xs) = grind (arith, common_steps, entry_at-others k j xs)
+
+  pub entry_at-append : (k : ℕ) (xs : List T) (y : T) → entry_at key k (xs ++ y ∷ []) ≡ if is_some (entry_at key k xs) then entry_at key k xs else (if key y == k then Some y else None)
+  entry_at-append k [] y = refl
+  entry_at-append k (x ∷ xs) y = grind (arith, common_steps, entry_at-append k xs y)
+
+  pub filter-append : (p : T → Bool) (xs : List T) (y : T) → filter p (xs ++ y ∷ []) ≡ filter p xs ++ (if p y then (y ∷ []) else [])
+  filter-append p [] y = refl
+  filter-append p (x ∷ xs) y = grind (arith, common_steps, filter-append p xs y)
+
+  pub map-filter-others : (p : T → Bool) (k : ℕ) (xs : List T) → map key (filter p (others key k xs)) ≡ without k (map key (filter p xs))
+  map-filter-others p k [] = refl
+  map-filter-others p k (x ∷ xs) = grind (arith, common_steps, map-filter-others p k xs)
+
+  pub entry_at-put : (k : ℕ) (x : T) (xs : List T) → entry_at key k (put key x xs) ≡ if key x == k then Some x else entry_at key k xs
+  entry_at-put k x xs = grind (arith, common_steps, entry_at-append k (others key (key x) xs) x, entry_at-others k (key x) xs)
+
+  pub map-append : (xs : List T) (y : T) → map key (xs ++ y ∷ []) ≡ map key xs ++ key y ∷ []
+  map-append [] y = refl
+  map-append (x ∷ xs) y = ap (λ zs. key x ∷ zs) (map-append xs y)
+
+  pub where-put : (p : T → Bool) (x : T) (xs : List T) → map key (filter p (put key x xs)) ≡ without (key x) (map key (filter p xs)) ++ (if p x then (key x ∷ []) else [])
+  where-put p x xs = on (p x) refl
+    where
+      on : (b : Bool) → p x ≡ b → map key (filter p (put key x xs)) ≡ without (key x) (map key (filter p xs)) ++ (if p x then (key x ∷ []) else [])
+      on true e = grind (arith, common_steps, filter-append p (others key (key x) xs) x, map-filter-others p (key x) xs, map-append (filter p (others key (key x) xs)) x)
+      on false e = grind (arith, common_steps, filter-append p (others key (key x) xs) x, map-filter-others p (key x) xs)
+
+  -- how many have the number
+  abbrev pub named : ℕ → List T → ℕ
+  named k xs = count_by (λ x. key x == k) xs
+
+  pub named-others : (k j : ℕ) (xs : List T) → named k (others key j xs) ≡ if j == k then 0 else named k xs
+  named-others k j [] = grind arith
+  named-others k j (x ∷ xs) = grind (arith, common_steps, named-others k j xs)
+
+  pub named-append : (k : ℕ) (xs : List T) (y : T) → named k (xs ++ y ∷ []) ≡ named k xs + one_if (key y == k)
+  named-append k [] y = grind (arith, common_steps)
+  named-append k (x ∷ xs) y = grind (arith, common_steps, named-append k xs y)
+
+  pub named-put : (k : ℕ) (x : T) (xs : List T) → named k (put key x xs) ≡ if key x == k then 1 else named k xs
+  named-put k x xs = grind (arith, common_steps, named-append k (others key (key x) xs) x, named-others k (key x) xs)
+
+  pub length-others : (k : ℕ) (xs : List T) → length (others key k xs) + named k xs ≡ length xs
+  length-others k [] = refl
+  length-others k (x ∷ xs) = grind (arith, common_steps, length-others k xs)
+
+  pub length-put : (x : T) (xs : List T) → length (put key x xs) + named (key x) xs ≡ length xs + 1
+  length-put x xs = grind (arith, common_steps, length-others (key x) xs)
+
+  -- a number that none has is in no part of the list
+  pub has-none : (p : T → Bool) (k : ℕ) (xs : List T) → named k xs ≡ 0 → has k (map key (filter p xs)) ≡ false
+  has-none p k [] e = refl
+  has-none p k (x ∷ xs) e = grind (arith, common_steps, has-none p k xs)
+
+  abbrev pub passes : (T → Bool) → Option T → Bool
+  passes p None = false
+  passes p (Some x) = p x
+
+  pub has-where : (p : T → Bool) (k : ℕ) (xs : List T) → named k xs ≡ one_if (is_some (entry_at key k xs)) → has k (map key (filter p xs)) ≡ passes p (entry_at key k xs)
+  has-where p k [] e = refl
+  has-where p k (x ∷ xs) e = grind (arith, common_steps, has-where p k xs, has-none p k xs)
+
+  -- what is put fails the test: its number leaves the part, or was not there
+  pub where-put_out : (p : T → Bool) (x : T) (xs : List T) → p x ≡ false → map key (filter p (put key x xs)) ≡ without (key x) (map key (filter p xs))
+  where-put_out p x xs e = grind (arith, common_steps, where-put p x xs)
+
+  pub where-put_stay : (p : T → Bool) (x : T) (xs : List T) → p x ≡ false → named (key x) xs ≡ one_if (is_some (entry_at key (key x) xs)) → passes p (entry_at key (key x) xs) ≡ false → map key (filter p (put key x xs)) ≡ map key (filter p xs)
+  where-put_stay p x xs e single f = where-put_out p x xs e ∙ without-absent (key x) (map key (filter p xs)) (has-where p (key x) xs single ∙ f)
+
+  -- what is put passes the test, and its number was not there
+  pub where-put_in : (p : T → Bool) (x : T) (xs : List T) → p x ≡ true → named (key x) xs ≡ one_if (is_some (entry_at key (key x) xs)) → passes p (entry_at key (key x) xs) ≡ false → map key (filter p (put key x xs)) ≡ map key (filter p xs) ++ key x ∷ []
+  where-put_in p x xs e single f =
+      let g : without (key x) (map key (filter p xs)) ≡ map key (filter p xs) = without-absent (key x) (map key (filter p xs)) (has-where p (key x) xs single ∙ f) in
+      grind (arith, where-put p x xs, g)
+
+  pub length-where : (p : T → Bool) (xs : List T) → length (map key (filter p xs)) ≡ count_by p xs
+  length-where p [] = refl
+  length-where p (x ∷ xs) = grind (arith, common_steps, length-where p xs)
+
+  -- a member of a list in which its number stands once is what the number finds
+  pub named-member : (x : T) (xs : List T) → In x xs → 0 < named (key x) xs
+  named-member x [] i = elim i [ ]
+  named-member x (y ∷ ys) here = grind (arith, common_steps)
+  named-member x (y ∷ ys) (there i) = let e : 0 < named (key x) ys = named-member x ys i in grind (arith, common_steps)
+
+  pub member-at : (x : T) (xs : List T) → In x xs → named (key x) xs ≤ 1 → entry_at key (key x) xs ≡ Some x
+  member-at x [] i l = elim i [ ]
+  member-at x (y ∷ ys) here l = grind (arith, common_steps)
+  member-at x (y ∷ ys) (there i) l = let e : 0 < named (key x) ys = named-member x ys i in let f : named (key x) ys ≤ 1 → entry_at key (key x) ys ≡ Some x = member-at x ys i in grind (arith, common_steps)
+
+pub one_if-le : (b : Bool) → one_if b ≤ 1
+one_if-le true = omega arith
+one_if-le false = omega arith
+
+pub find-member : {T : Type 0} (p : T → Bool) (x : T) (xs : List T) → find p xs ≡ Some x → In x xs × (p x ≡ true)
+find-member p x [] e = cc
+find-member p x (y ∷ ys) e = on (p y) refl (find-member p x ys)
+  where
+    on : (b : Bool) → p y ≡ b → (find p ys ≡ Some x → In x ys × (p x ≡ true)) → In x (y ∷ ys) × (p x ≡ true)
+    on true f rest = let g : y ≡ x = grind arith in subst (λ z. In x (z ∷ ys) × (p x ≡ true)) (sym g) (here, rw (← g) f)
+    on false f rest = let g : find p ys ≡ Some x = grind arith in (there (rest g).0, (rest g).1)
+
+pub length-without : (k : ℕ) (ks : List ℕ) → length (without k ks) ≤ length ks
+length-without k [] = omega arith
+length-without k (j ∷ ks) = grind (arith, common_steps, length-without k ks)
+
+pub entry_at-key : {T : Type 0} (key : T → ℕ) (k : ℕ) (x : T) (xs : List T) → entry_at key k xs ≡ Some x → key x ≡ k
+entry_at-key key k x [] e = cc
+entry_at-key key k x (y ∷ ys) e = grind (arith, entry_at-key key k x ys)

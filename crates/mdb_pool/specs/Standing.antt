@@ -1,0 +1,122 @@
+-- When the state of a pool stands for a history.
+use Rattle.std.specs.Prelude.{ℕ, ◌≡◌, ◌<◌, Bool, true, false, if◌then◌else◌, ◌==◌, is_some, List, [], ◌∷◌, ◌++◌, length, map, count_by, Option, Some, None, ⊤, All}
+use Rattle.mdb_base.specs.declared.address.ServerAddress.{ServerAddress}
+use Rattle.mdb_base.specs.declared.object_id.ObjectId.{ObjectId}
+use Rattle.mdb_events.specs.declared.fact.Fact.{Fact}
+use Rattle.mdb_pool.specs.declared.step.Step.{Step}
+use Rattle.mdb_pool.specs.declared.log.Entry.{Entry}
+use Rattle.mdb_pool.specs.declared.step.Act.{Act}
+use Rattle.mdb_pool.specs.declared.step.Act.TheVariants.{Request as RequestAct, Established, Return}
+use Rattle.mdb_pool.specs.declared.step.Use.TheVariants.{Ok}
+use Rattle.mdb_pool.specs.declared.reply.Reply.{Reply}
+use Rattle.mdb_pool.specs.declared.pool_core.PoolCore.{PoolCore}
+use Rattle.mdb_base.specs.Equality.{same_address}
+use Rattle.mdb_pool.specs.Places.{is_pending, is_available, is_queued}
+use Rattle.mdb_pool.specs.History.{Item, PoolItem, open_pool, last_moment, given, has_party, of_pool, after_facts, with_answer, with_entries}
+use Rattle.mdb_pool.specs.Connections.{one_if, live, live_total, created_total, created_at, pending_list, parties, pins, is_pinned, granted_to, available_list, is_errored}
+use Rattle.mdb_pool.specs.Requests.{queued, is_warm, asked_at, end_of, names_party, some_act}
+use Rattle.mdb_pool.specs.State.{is_ready, state_of, generation_of, generation_before}
+use Rattle.mdb_pool.specs.Serving.{serving}
+use Rattle.mdb_pool.specs.Answer.{reply_of, all_facts, answer}
+use Rattle.mdb_pool.specs.Legal.{NoneLeftWaiting, AllFirstCome, IsFairAnswer, IsLegal, IsServed, AllOwn, IsAccepted}
+use Rattle.mdb_pool.specs.Kept.{connection_at, request_at, given_of, asked_at_of, ids_where, numbers_where, parties_of, party_of, created_at_of}
+use Rattle.mdb_base.specs.Equality.{same_address}
+
+-- The kept connections and requests are those of the pool's items.
+pub record Matches (s : PoolCore) (xs : List PoolItem) : Type 0 where
+  pub created : created_total xs ≡ s.created
+  pub live_all : live_total xs ≡ length s.connections
+  pub pending : pending_list xs ≡ ids_where is_pending s.connections
+  pub available : available_list xs ≡ ids_where is_available s.connections
+  pub queue : queued xs ≡ numbers_where is_queued s.requests
+  -- each connection
+  pub single : (c : ℕ) → count_by (λ x. x.id == c) s.connections ≡ one_if (is_some (connection_at s c))
+  pub unused : (c : ℕ) → s.created < c → connection_at s c ≡ None
+  pub live : (c : ℕ) → live xs c ≡ one_if (is_some (connection_at s c))
+  pub parties : (c : ℕ) → parties xs c ≡ parties_of (connection_at s c)
+  pub granted_to : (c : ℕ) → granted_to xs c ≡ party_of (connection_at s c)
+  pub created_at : (c : ℕ) → created_at xs c ≡ created_at_of (connection_at s c)
+  -- each request
+  pub given : (r : ℕ) → given xs r ≡ given_of (request_at s r)
+  pub single_request : (r : ℕ) → count_by (λ q. q.number == r) s.requests ≡ one_if (is_some (request_at s r))
+  pub asked_at : (r : ℕ) → asked_at xs r ≡ asked_at_of (request_at s r)
+  -- connections and requests know each other
+  pub taken : (r c : ℕ) → given_of (request_at s r) ≡ Some c → parties_of (connection_at s c) ≡ r ∷ []
+  pub owned : (c r : ℕ) → parties_of (connection_at s c) ≡ r ∷ [] → given_of (request_at s r) ≡ Some c
+  pub known : (c r : ℕ) → party_of (connection_at s c) ≡ Some r → is_some (request_at s r) ≡ true
+  -- what these acts never do
+  pub ready : state_of s.options xs ≡ is_ready
+  pub no_warm : (r : ℕ) → is_warm xs r ≡ false
+  pub no_end : (r : ℕ) → end_of xs r ≡ None
+  pub no_pin : (c : ℕ) → pins xs c ≡ 0
+  pub no_place : (c : ℕ) → is_pinned xs c ≡ false
+  pub no_error : (c : ℕ) → is_errored xs c ≡ false
+  pub no_clear : (t : Option ObjectId) → generation_of xs t ≡ 0
+  pub no_before : (c : ℕ) (t : Option ObjectId) → generation_before xs c t ≡ 0
+
+-- The state of a pool is that of the pool's items.
+pub record Fits (s : PoolCore) (xs : List PoolItem) : Type 0 where
+  pub matches : Matches s xs
+  pub asked : (r : ℕ) → has_party xs r ≡ is_some (request_at s r)
+  pub balanced : s.options.load_balanced ≡ true
+  pub no_idle : s.options.max_idle_time ≡ None
+
+-- The state of a pool stands for a history of its own.
+pub record StandsFor (s : PoolCore) (h : List Item) : Type 0 where
+  pub fits : Fits s (of_pool s.pool h)
+  pub last_is : last_moment h ≡ s.last
+  pub open_here : (a : ServerAddress) → open_pool h a ≡ if same_address s.address a then Some s.pool else None
+  pub asked_once : (r : ℕ) → some_act names_party h r ≡ has_party (of_pool s.pool h) r
+
+-- the number, the address and the options stay
+pub record SameHome (s t : PoolCore) : Type 0 where
+  pub pool : t.pool ≡ s.pool
+  pub address : t.address ≡ s.address
+  pub options : t.options ≡ s.options
+
+-- The acts that a pool takes so far: requests, established connections, and returns with the use Ok.
+abbrev pub IsBuilt : Act → Type 0
+IsBuilt (RequestAct r a) = ⊤
+IsBuilt (Established p c how) = ⊤
+IsBuilt (Return r used) = used ≡ Ok
+IsBuilt _ = ⊥
+
+-- the facts after the old ones are those of the serving, and the state then fits them too
+pub record Serves (s t : PoolCore) (m : ℕ) (before after : List Fact) (xs : List PoolItem) : Type 0 where
+  pub facts : after ≡ before ++ serving s.pool s.address s.options m xs
+  pub fits : Fits t (after_facts s.pool m (serving s.pool s.address s.options m xs) xs)
+
+-- an accepted act: xs is what the pool knew, and ys what it knows with the act; the reply and the facts are those of the definitions, and the state then fits them
+pub record Accepts (s t : PoolCore) (before after : List Fact) (m : ℕ) (act : Act) (reply : Reply) (xs ys : List PoolItem) : Type 0 where
+  pub facts_are : after ≡ before ++ all_facts s.pool s.address s.options m xs ys act
+  pub reply_is : (claimed : ℕ → Bool) → reply ≡ reply_of s.pool claimed xs (after_facts s.pool m (all_facts s.pool s.address s.options m xs ys act) ys) act
+  pub accepted : IsAccepted reply
+  pub fits : Fits t (after_facts s.pool m (all_facts s.pool s.address s.options m xs ys act) ys)
+  pub fair : AllFirstCome s.pool m ys (all_facts s.pool s.address s.options m xs ys act)
+  pub own : AllOwn s.pool m ys (all_facts s.pool s.address s.options m xs ys act)
+  pub served : IsServed s.options (after_facts s.pool m (all_facts s.pool s.address s.options m xs ys act) ys)
+
+-- the reply and the facts after the old ones are the answer, and the state then stands for the longer history
+pub record Answers (s t : PoolCore) (before after : List Fact) (step : Step) (reply : Reply) (h : List Item) : Type 0 where
+  pub reply_is : reply ≡ (answer s.pool s.address s.options h step).reply
+  pub facts_are : after ≡ before ++ (answer s.pool s.address s.options h step).facts
+  pub stands : StandsFor t (with_answer step (answer s.pool s.address s.options h step).reply (answer s.pool s.address s.options h step).facts h)
+  pub fair : IsFairAnswer s.pool h step (answer s.pool s.address s.options h step).reply (answer s.pool s.address s.options h step).facts
+  pub none_left : NoneLeftWaiting s.options (of_pool s.pool h) → NoneLeftWaiting s.options (of_pool s.pool (with_answer step (answer s.pool s.address s.options h step).reply (answer s.pool s.address s.options h step).facts h))
+
+-- the log has one entry more, with the answer to the step, and the state stands for the longer history
+pub record Logs (s t : PoolCore) (before after : List Entry) (seat : ℕ) (step : Step) (h : List Item) : Type 0 where
+  pub entry : after ≡ before ++ record { seat = seat; step = step; reply = (answer s.pool s.address s.options h step).reply; facts = (answer s.pool s.address s.options h step).facts } ∷ []
+  pub stands : StandsFor t (with_answer step (answer s.pool s.address s.options h step).reply (answer s.pool s.address s.options h step).facts h)
+  pub fair : IsFairAnswer s.pool h step (answer s.pool s.address s.options h step).reply (answer s.pool s.address s.options h step).facts
+  pub none_left : NoneLeftWaiting s.options (of_pool s.pool h) → NoneLeftWaiting s.options (of_pool s.pool (with_answer step (answer s.pool s.address s.options h step).reply (answer s.pool s.address s.options h step).facts h))
+
+-- the log has one entry more for each step, in order and by the seat; these entries are legal, and the state stands for them
+pub record Runs (s t : PoolCore) (before after : List Entry) (seat : ℕ) (steps : List Step) (h : List Item) : Type 0 where
+  pub entries : List Entry
+  pub logged : after ≡ before ++ entries
+  pub by_seat : All (λ entry. entry.seat ≡ seat) entries
+  pub in_order : map (λ entry. entry.step) entries ≡ steps
+  pub legal : IsLegal s.pool s.options h entries
+  pub stands : StandsFor t (with_entries entries h)
+  pub none_left : NoneLeftWaiting t.options (of_pool t.pool (with_entries entries h))

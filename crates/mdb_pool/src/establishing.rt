@@ -1,0 +1,82 @@
+//! A pending connection of a pool is established.
+ghost use Rattle.std.specs.Prelude.{◌≡◌, ◌≢◌, ◌++◌, ◌∷◌, ◌+◌, ◌-◌, ◌<◌, ◌≤◌, ◌^◌, [], OnOk, OnErr, IfOk, All, option_copied, IsSome, IsTrue, List, true, None, Option, ℕ, unwrap_or, length, nat_lt, ◌&&◌, is_some};
+
+use super::{Act, Established, PoolCore, Refused, Reply, Step};
+use mdb_base::{Moment, OutOfMemory};
+use mdb_events::Fact;
+use std::alloc::{AllocError, Global};
+
+impl PoolCore {
+    ghost use Rattle.mdb_pool.specs.Kept.{connection_at, is_pending_at};
+    ghost use Rattle.mdb_pool.specs.Standing.{SameHome, Fits, Accepts, StandsFor, Answers};
+    ghost use Rattle.mdb_pool.specs.History.{Item, PoolItem, established};
+    ghost use Rattle.mdb_pool.specs.declared.step.Act.TheVariants.{Established as EstablishedAct};
+
+    /// A pending connection is handed over. Whoever calls has tested the refusals.
+    pub fn accept_established(
+        &mut self,
+        alloc: Global,
+        facts: &mut Vec<Fact>,
+        moment: Moment,
+        id: u32,
+        made: Established,
+    ) -> Result<Reply, AllocError>
+        requires { is_pending_at (connection_at self.old id) ≡ true }
+        ensures home { OnOk result (SameHome self.old self.new) }
+        ensures last { OnOk result (self.new.last ≡ moment) }
+        ensures accepts { IfOk result (λ reply. (xs : List PoolItem) → Fits self.old xs → Accepts self.old self.new facts.old.items facts.new.items moment (EstablishedAct self.old.pool id made) reply xs (established id made.service_id moment ∷ xs)) }
+    {
+        let Some(connection) = self.connections.get(id).copied() else {
+            unreachable!()
+        };
+        self.establish(alloc, facts, moment, connection)?;
+        self.serve(alloc, facts, moment)?;
+        Ok(Reply::Done)
+    }
+
+    // Refuses the connection, or hands it over.
+    pub(super) fn try_established(
+        &mut self,
+        alloc: Global,
+        facts: &mut Vec<Fact>,
+        moment: Moment,
+        id: u32,
+        made: Established,
+    ) -> Result<Reply, AllocError>
+        ensures home { OnOk result (SameHome self.old self.new) }
+        ensures answers { IfOk result (λ reply. (h : List Item) → StandsFor self.old h → Answers self.old self.new facts.old.items facts.new.items (record { moment = moment; act = EstablishedAct self.old.pool id made }) reply h) }
+    {
+        if moment < self.last {
+            return Ok(Reply::Refused(Refused::TimeBack(self.last)));
+        }
+        if !self.is_pending(id) {
+            return Ok(Reply::Refused(Refused::NotPending));
+        }
+        if made.service_id.is_some() != self.options.load_balanced {
+            return Ok(Reply::Refused(Refused::WrongMode));
+        }
+        let reply = self.accept_established(alloc, facts, moment, id, made)?;
+        Ok(reply)
+    }
+
+    /// A pending connection was established. Refused as `TimeBack`, `NotPending`, or `WrongMode` where it names no service.
+    pub fn established(
+        &mut self,
+        alloc: Global,
+        facts: &mut Vec<Fact>,
+        moment: Moment,
+        id: u32,
+        made: Established,
+    ) -> Result<Reply, OutOfMemory>
+        ensures home { OnOk result (SameHome self.old self.new) }
+        ensures answers { IfOk result (λ reply. (h : List Item) → StandsFor self.old h → Answers self.old self.new facts.old.items facts.new.items (record { moment = moment; act = EstablishedAct self.old.pool id made }) reply h) }
+        ensures err_core { OnErr result (self.new ≡ self.old) }
+        ensures err_facts { OnErr result (facts.new.items ≡ facts.old.items) }
+    {
+        let step = Step {
+            moment,
+            act: Act::Established(self.pool, id, made),
+        };
+        self.attempt(alloc, facts, &step)
+    }
+}

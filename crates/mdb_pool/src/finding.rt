@@ -1,0 +1,86 @@
+//! What a pool finds among its connections and requests.
+ghost use Rattle.std.specs.Prelude.{◌≡◌, ◌≢◌, ◌++◌, ◌∷◌, ◌+◌, ◌-◌, ◌<◌, ◌≤◌, ◌^◌, [], OnOk, OnErr, IfOk, All, option_copied, IsSome, IsTrue, List, true, None, Option, ℕ, unwrap_or, length, nat_lt, ◌&&◌, is_some};
+
+use super::connection::{Connection, Place};
+use super::request::{Phase, Request};
+use super::{PoolCore, Reply};
+
+impl PoolCore {
+    ghost use Rattle.mdb_pool.specs.Kept.{first_queued, last_available, pending_count, has_room, held_connection, outcome_now};
+
+    pub(super) fn first_queued(&self) -> Option<&Request>
+        ensures { option_copied result ≡ first_queued self.now }
+    {
+        for q in self.requests.as_slice() {
+            if q.is_queued() {
+                return Some(q);
+            }
+        }
+        None
+    }
+
+    pub(super) fn last_available(&self) -> Option<Connection>
+        ensures { result ≡ last_available self.now }
+    {
+        let mut last = None;
+        for x in self.connections.as_slice() {
+            if x.is_available() {
+                last = Some(*x);
+            }
+        }
+        last
+    }
+
+    pub(super) fn pending_count(&self) -> usize
+        ensures { result ≡ pending_count self.now }
+    {
+        self.connections
+            .as_slice()
+            .iter()
+            .filter(|x| matches!(x.place, Place::Pending))
+            .count()
+    }
+
+    // A connection may be created for a caller.
+    pub(super) fn has_room(&self) -> bool
+        ensures { result ≡ has_room self.now }
+    {
+        self.created < self.options.limit_id
+            && self.connections.as_slice().len() < self.options.max_pool_size.unwrap_or(10) as usize
+            && self.pending_count() < self.options.max_connecting.unwrap_or(2) as usize
+    }
+
+    // The connection that the party holds.
+    pub(super) fn held_connection(&self, party: u32) -> Option<Connection>
+        ensures { result ≡ held_connection self.now party }
+    {
+        match self.requests.get(party) {
+            Some(request) => match request.phase {
+                Phase::Given(id) => match self.connections.get(id) {
+                    Some(connection) if connection.is_held() => Some(*connection),
+                    _ => None,
+                },
+                _ => None,
+            },
+            None => None,
+        }
+    }
+
+    // What the request is told.
+    pub(super) fn outcome(&self, request: u32) -> Reply
+        ensures { result ≡ outcome_now self.now request }
+    {
+        match self.requests.get(request) {
+            Some(request) => match request.phase {
+                Phase::Given(id) => match self.connections.get(id) {
+                    Some(connection) if connection.is_pending() => {
+                        Reply::Establishing(self.pool, id)
+                    }
+                    _ => Reply::Pooled(self.pool, id),
+                },
+                _ => Reply::Waiting,
+            },
+            None => Reply::Waiting,
+        }
+    }
+}

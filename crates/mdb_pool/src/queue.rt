@@ -1,0 +1,37 @@
+//! The serving of a pool's queue.
+ghost use Rattle.std.specs.Prelude.{◌≡◌, ◌≢◌, ◌++◌, ◌∷◌, ◌+◌, ◌-◌, ◌<◌, ◌≤◌, ◌^◌, [], OnOk, OnErr, IfOk, All, option_copied, IsSome, IsTrue, List, true, None, Option, ℕ, unwrap_or, length, nat_lt, ◌&&◌, is_some};
+
+use super::PoolCore;
+use super::table::Keyed;
+use mdb_base::Moment;
+use mdb_events::Fact;
+use std::alloc::{AllocError, Global};
+
+impl PoolCore {
+    ghost use Rattle.mdb_pool.specs.Standing.{SameHome, Fits, Serves};
+    ghost use Rattle.mdb_pool.specs.History.{PoolItem};
+
+    // Serves the queue until nothing more can be done.
+    pub(super) fn serve(
+        &mut self,
+        alloc: Global,
+        facts: &mut Vec<Fact>,
+        moment: Moment,
+    ) -> Result<(), AllocError>
+        ensures home { OnOk result (SameHome self.old self.new) }
+        ensures last { OnOk result (self.new.last ≡ self.old.last) }
+        ensures serves { OnOk result ((xs : List PoolItem) → Fits self.old xs → Serves self.old self.new moment facts.old.items facts.new.items xs) }
+    {
+        while let Some(request) = self.first_queued() {
+            let request = request.copy()?;
+            if let Some(connection) = self.last_available() {
+                self.grant(alloc, facts, moment, connection, request)?;
+            } else if self.has_room() {
+                self.create(alloc, facts, moment, request)?;
+            } else {
+                break;
+            }
+        }
+        Ok(())
+    }
+}

@@ -1,0 +1,74 @@
+//! A caller asks a pool for a connection.
+ghost use Rattle.std.specs.Prelude.{◌≡◌, ◌≢◌, ◌++◌, ◌∷◌, ◌+◌, ◌-◌, ◌<◌, ◌≤◌, ◌^◌, [], OnOk, OnErr, IfOk, All, option_copied, IsSome, IsTrue, List, true, None, Option, ℕ, unwrap_or, length, nat_lt, ◌&&◌, is_some};
+
+use super::{Act, PoolCore, Refused, Reply, Step};
+use mdb_base::{Moment, OutOfMemory};
+use mdb_events::Fact;
+use std::alloc::{AllocError, Global};
+
+impl PoolCore {
+    ghost use Rattle.mdb_pool.specs.Kept.{request_at};
+    ghost use Rattle.mdb_pool.specs.Standing.{SameHome, Fits, Accepts, StandsFor, Answers};
+    ghost use Rattle.mdb_pool.specs.History.{Item, PoolItem, asked};
+    ghost use Rattle.mdb_pool.specs.declared.step.Act.TheVariants.{Request as RequestAct};
+
+    /// A new caller is served. Whoever calls has tested the refusals.
+    pub fn accept_request(
+        &mut self,
+        alloc: Global,
+        facts: &mut Vec<Fact>,
+        moment: Moment,
+        request: u32,
+    ) -> Result<Reply, AllocError>
+        requires { request_at self.old request ≡ None }
+        ensures home { OnOk result (SameHome self.old self.new) }
+        ensures last { OnOk result (self.new.last ≡ moment) }
+        ensures accepts { IfOk result (λ reply. (xs : List PoolItem) → Fits self.old xs → Accepts self.old self.new facts.old.items facts.new.items moment (RequestAct request self.old.address) reply xs (asked request moment ∷ xs)) }
+    {
+        self.ask(alloc, facts, moment, request)?;
+        self.serve(alloc, facts, moment)?;
+        Ok(self.outcome(request))
+    }
+
+    // Refuses the request, or accepts it.
+    pub(super) fn try_request(
+        &mut self,
+        alloc: Global,
+        facts: &mut Vec<Fact>,
+        moment: Moment,
+        request: u32,
+    ) -> Result<Reply, AllocError>
+        ensures home { OnOk result (SameHome self.old self.new) }
+        ensures answers { IfOk result (λ reply. (h : List Item) → StandsFor self.old h → Answers self.old self.new facts.old.items facts.new.items (record { moment = moment; act = RequestAct request self.old.address }) reply h) }
+    {
+        if moment < self.last {
+            return Ok(Reply::Refused(Refused::TimeBack(self.last)));
+        }
+        if self.knows(request) {
+            return Ok(Reply::Refused(Refused::RequestKnown));
+        }
+        let reply = self.accept_request(alloc, facts, moment, request)?;
+        Ok(reply)
+    }
+
+    /// A caller asks for a connection. Refused as `TimeBack` or `RequestKnown`.
+    pub fn request(
+        &mut self,
+        alloc: Global,
+        facts: &mut Vec<Fact>,
+        moment: Moment,
+        request: u32,
+    ) -> Result<Reply, OutOfMemory>
+        ensures home { OnOk result (SameHome self.old self.new) }
+        ensures answers { IfOk result (λ reply. (h : List Item) → StandsFor self.old h → Answers self.old self.new facts.old.items facts.new.items (record { moment = moment; act = RequestAct request self.old.address }) reply h) }
+        ensures err_core { OnErr result (self.new ≡ self.old) }
+        ensures err_facts { OnErr result (facts.new.items ≡ facts.old.items) }
+    {
+        let address = self.address.clone()?;
+        let step = Step {
+            moment,
+            act: Act::Request(request, address),
+        };
+        self.attempt(alloc, facts, &step)
+    }
+}

@@ -1,0 +1,84 @@
+//! A party returns its connection to a pool.
+ghost use Rattle.std.specs.Prelude.{◌≡◌, ◌≢◌, ◌++◌, ◌∷◌, ◌+◌, ◌-◌, ◌<◌, ◌≤◌, ◌^◌, [], OnOk, OnErr, IfOk, All, option_copied, IsSome, IsTrue, List, true, None, Option, ℕ, unwrap_or, length, nat_lt, ◌&&◌, is_some};
+
+use super::table::Keyed;
+use super::{Act, PoolCore, Refused, Reply, Step, Use};
+use mdb_base::{Moment, OutOfMemory};
+use mdb_events::Fact;
+use std::alloc::{AllocError, Global};
+
+impl PoolCore {
+    ghost use Rattle.mdb_pool.specs.Kept.{held_connection};
+    ghost use Rattle.mdb_pool.specs.Standing.{SameHome, Fits, Accepts, StandsFor, Answers};
+    ghost use Rattle.mdb_pool.specs.History.{Item, PoolItem, returned};
+    ghost use Rattle.mdb_pool.specs.declared.step.Act.TheVariants.{Return as ReturnAct};
+    ghost use Rattle.mdb_pool.specs.declared.step.Use.TheVariants.{Ok as UseOk};
+
+    /// A held connection comes back. Whoever calls has tested the refusals.
+    pub fn accept_return(
+        &mut self,
+        alloc: Global,
+        facts: &mut Vec<Fact>,
+        moment: Moment,
+        party: u32,
+    ) -> Result<Reply, AllocError>
+        requires { is_some (held_connection self.old party) ≡ true }
+        ensures home { OnOk result (SameHome self.old self.new) }
+        ensures last { OnOk result (self.new.last ≡ moment) }
+        ensures accepts { IfOk result (λ reply. (xs : List PoolItem) → Fits self.old xs → Accepts self.old self.new facts.old.items facts.new.items moment (ReturnAct party UseOk) reply xs (returned party UseOk ∷ xs)) }
+    {
+        let Some(connection) = self.held_connection(party) else {
+            unreachable!()
+        };
+        let Some(request) = self.requests.get(party) else {
+            unreachable!()
+        };
+        let request = request.copy()?;
+        self.give_back(alloc, facts, moment, connection, request)?;
+        self.serve(alloc, facts, moment)?;
+        Ok(Reply::Done)
+    }
+
+    // Refuses the return, or accepts it.
+    pub(super) fn try_return(
+        &mut self,
+        alloc: Global,
+        facts: &mut Vec<Fact>,
+        moment: Moment,
+        party: u32,
+    ) -> Result<Reply, AllocError>
+        ensures home { OnOk result (SameHome self.old self.new) }
+        ensures answers { IfOk result (λ reply. (h : List Item) → StandsFor self.old h → Answers self.old self.new facts.old.items facts.new.items (record { moment = moment; act = ReturnAct party UseOk }) reply h) }
+    {
+        if moment < self.last {
+            return Ok(Reply::Refused(Refused::TimeBack(self.last)));
+        }
+        if !self.holds(party) {
+            return Ok(Reply::Refused(Refused::NotHolder));
+        }
+        let reply = self.accept_return(alloc, facts, moment, party)?;
+        Ok(reply)
+    }
+
+    /// A party returns its connection. Refused as `TimeBack` or `NotHolder`.
+    pub fn check_in(
+        &mut self,
+        alloc: Global,
+        facts: &mut Vec<Fact>,
+        moment: Moment,
+        party: u32,
+        used: Use,
+    ) -> Result<Reply, OutOfMemory>
+        requires { used ≡ UseOk }
+        ensures home { OnOk result (SameHome self.old self.new) }
+        ensures answers { IfOk result (λ reply. (h : List Item) → StandsFor self.old h → Answers self.old self.new facts.old.items facts.new.items (record { moment = moment; act = ReturnAct party used }) reply h) }
+        ensures err_core { OnErr result (self.new ≡ self.old) }
+        ensures err_facts { OnErr result (facts.new.items ≡ facts.old.items) }
+    {
+        let step = Step {
+            moment,
+            act: Act::Return(party, used),
+        };
+        self.attempt(alloc, facts, &step)
+    }
+}

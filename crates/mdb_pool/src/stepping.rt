@@ -1,0 +1,131 @@
+//! The steps of a pool.
+ghost use Rattle.std.specs.Prelude.{◌≡◌, ◌≢◌, ◌++◌, ◌∷◌, ◌+◌, ◌-◌, ◌<◌, ◌≤◌, ◌^◌, [], OnOk, OnErr, IfOk, All, option_copied, IsSome, IsTrue, List, true, None, Option, ℕ, unwrap_or, length, nat_lt, ◌&&◌, is_some};
+
+use super::{Act, Entry, Log, PoolCore, Refused, Reply, Step};
+use mdb_base::{Items, OutOfMemory};
+use mdb_events::Fact;
+use std::alloc::{AllocError, Global};
+
+impl PoolCore {
+    ghost use Rattle.mdb_pool.specs.Standing.{SameHome, StandsFor, Answers, Logs, IsBuilt, Runs};
+    ghost use Rattle.mdb_pool.specs.Legal.{NoneLeftWaiting};
+    ghost use Rattle.mdb_pool.specs.History.{Item, of_pool};
+
+    // Does what the step says.
+    fn perform(
+        &mut self,
+        alloc: Global,
+        facts: &mut Vec<Fact>,
+        step: &Step,
+    ) -> Result<Reply, AllocError>
+        requires { IsBuilt step.now.act }
+        ensures home { OnOk result (SameHome self.old self.new) }
+        ensures answers { IfOk result (λ reply. (h : List Item) → StandsFor self.old h → Answers self.old self.new facts.old.items facts.new.items step.now reply h) }
+    {
+        match &step.act {
+            Act::Request(request, address) => {
+                if self.address.is(address) {
+                    self.try_request(alloc, facts, step.moment, *request)
+                } else if step.moment < self.last {
+                    Ok(Reply::Refused(Refused::TimeBack(self.last)))
+                } else {
+                    Ok(Reply::Refused(Refused::UnknownServer))
+                }
+            }
+            Act::Established(pool, id, made) => {
+                if *pool == self.pool {
+                    self.try_established(alloc, facts, step.moment, *id, *made)
+                } else if step.moment < self.last {
+                    Ok(Reply::Refused(Refused::TimeBack(self.last)))
+                } else {
+                    Ok(Reply::Refused(Refused::NotPending))
+                }
+            }
+            Act::Return(party, _) => self.try_return(alloc, facts, step.moment, *party),
+            _ => unreachable!(),
+        }
+    }
+
+    // Does what the step says, on a copy that takes the state's place at its end.
+    pub(super) fn attempt(
+        &mut self,
+        alloc: Global,
+        facts: &mut Vec<Fact>,
+        step: &Step,
+    ) -> Result<Reply, OutOfMemory>
+        requires { IsBuilt step.now.act }
+        ensures home { OnOk result (SameHome self.old self.new) }
+        ensures answers { IfOk result (λ reply. (h : List Item) → StandsFor self.old h → Answers self.old self.new facts.old.items facts.new.items step.now reply h) }
+        ensures err_core { OnErr result (self.new ≡ self.old) }
+        ensures err_facts { OnErr result (facts.new.items ≡ facts.old.items) }
+    {
+        let mut next = self.copy(alloc)?;
+        let mut made = Vec::new(alloc);
+        let reply = next.perform(alloc, &mut made, step)?;
+        facts.append(&mut made)?;
+        *self = next;
+        Ok(reply)
+    }
+
+    // The state after the step, whose entry is in the log.
+    fn stepped(
+        &self,
+        alloc: Global,
+        log: &mut Log,
+        seat: u32,
+        step: &Step,
+    ) -> Result<PoolCore, AllocError>
+        requires { IsBuilt step.now.act }
+        ensures home { IfOk result (λ next. SameHome self.now next) }
+        ensures logs { IfOk result (λ next. (h : List Item) → StandsFor self.now h → Logs self.now next log.old log.new seat step.now h) }
+        ensures err { OnErr result (log.new ≡ log.old) }
+    {
+        let mut next = self.copy(alloc)?;
+        let mut facts = Vec::new(alloc);
+        let reply = next.perform(alloc, &mut facts, step)?;
+        let step = step.clone()?;
+        log.push(Entry {
+            seat,
+            step,
+            reply,
+            facts: Items::new(facts),
+        })?;
+        Ok(next)
+    }
+
+    /// One step of the pool, on a copy that takes the state's place at its end.
+    pub fn step(
+        &mut self,
+        alloc: Global,
+        log: &mut Log,
+        seat: u32,
+        step: &Step,
+    ) -> Result<(), OutOfMemory>
+        requires { IsBuilt step.now.act }
+        ensures home { OnOk result (SameHome self.old self.new) }
+        ensures logs { OnOk result ((h : List Item) → StandsFor self.old h → Logs self.old self.new log.old log.new seat step.now h) }
+        ensures err_core { OnErr result (self.new ≡ self.old) }
+        ensures err_log { OnErr result (log.new ≡ log.old) }
+    {
+        let next = self.stepped(alloc, log, seat, step)?;
+        *self = next;
+        Ok(())
+    }
+
+    /// Steps one after another; the entries that the log gets are legal.
+    pub fn run(
+        &mut self,
+        alloc: Global,
+        log: &mut Log,
+        seat: u32,
+        steps: &[Step],
+    ) -> Result<(), OutOfMemory>
+        requires { All (λ step. IsBuilt step.act) steps.now }
+        ensures legal { OnOk result ((h : List Item) → StandsFor self.old h → NoneLeftWaiting self.old.options (of_pool self.old.pool h) → Runs self.old self.new log.old log.new seat steps.now h) }
+    {
+        for step in steps {
+            self.step(alloc, log, seat, step)?;
+        }
+        Ok(())
+    }
+}
