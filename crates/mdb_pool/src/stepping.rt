@@ -59,11 +59,11 @@ impl PoolCore {
         ensures err_core { OnErr result (self.new ≡ self.old) }
         ensures err_facts { OnErr result (facts.new.items ≡ facts.old.items) }
     {
-        let mut next = self.copy(alloc)?;
+        let mut worked = self.copy(alloc)?;
         let mut made = Vec::new(alloc);
-        let reply = next.perform(alloc, &mut made, step)?;
+        let reply = worked.perform(alloc, &mut made, step)?;
         facts.append(&mut made)?;
-        *self = next;
+        *self = worked;
         Ok(reply)
     }
 
