@@ -1,4 +1,3 @@
-ghost use Rattle.std.specs.Prelude.{◌≡◌, true, None, IfOk};
 ghost use Rattle.mdb_pool.specs.Standing.{IsBuilt};
 
 use super::*;
