@@ -179,8 +179,8 @@ queue-falls t q c e =
     rw (where-put_out (λ (r : Request). r.number) (λ r. is_queued r.phase) (record q { phase = Given c }) t.requests refl, head.1) (grind (arith, length-without q.number head.0))
 
 -- the fact of the checkout has the moment of the kept request
-pub checked_out-kept : (t : PoolCore) (ys : List PoolItem) (z : Fits t ys) (n c : ℕ) (q : Request) → request_at t q.number ≡ Some q → checked_out_fact t.pool t.address n ys q.number c ≡ out_fact t c (n - q.asked_at)
-checked_out-kept t ys z n c q at_q = ap (λ k. out_fact t c (n - k)) (z.matches.asked_at q.number ∙ ap asked_at_of at_q)
+pub checked_out-kept : (t : PoolCore) (zs : List PoolItem) (z : Fits t zs) (n c : ℕ) (q : Request) → request_at t q.number ≡ Some q → checked_out_fact t.pool t.address n zs q.number c ≡ out_fact t c (n - q.asked_at)
+checked_out-kept t zs z n c q at_q = ap (λ k. out_fact t c (n - k)) (z.matches.asked_at q.number ∙ ap asked_at_of at_q)
 
 -- the turns as the code makes them
 pub turn-grant-to : (s t u : PoolCore) (home : SameHome s t) (n : ℕ) (before after facts : List Fact) (xs : List PoolItem) (q : Request) (x : Connection) → Progress s t n before after xs → first_queued t ≡ Some q → last_available t ≡ Some x → u ≡ granting t x q → facts ≡ after ++ Granted q.number t.pool x.id ∷ out_fact t x.id (n - q.asked_at) ∷ [] → Progress s u n before facts xs

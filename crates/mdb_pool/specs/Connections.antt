@@ -127,6 +127,12 @@ service_of (established d service m ∷ xs) c = if d == c then service else serv
 service_of (failed d service ∷ xs) c = if d == c then service else service_of xs c
 service_of (_ ∷ xs) c = service_of xs c
 
+-- the service that its established step names
+abbrev pub known_service : List PoolItem → ℕ → Option ObjectId
+known_service [] c = None
+known_service (established d service m ∷ xs) c = if d == c then service else known_service xs c
+known_service (_ ∷ xs) c = known_service xs c
+
 -- how the connection was used last: what its last return says, and Ok for a give-up
 abbrev pub last_use : List PoolItem → ℕ → Use
 last_use [] c = Ok

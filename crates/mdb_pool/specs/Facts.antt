@@ -17,7 +17,7 @@ use Rattle.mdb_pool.specs.declared.options.PoolOptions.{PoolOptions}
 use Rattle.mdb_pool.specs.declared.step.Act.{Act}
 use Rattle.mdb_pool.specs.declared.step.Act.TheVariants.{Request, Warm, GiveUp, Established, Failed, Return, Unpin, Maintain, Ready, Clear, Close}
 use Rattle.mdb_pool.specs.History.{PoolItem, after_facts}
-use Rattle.mdb_pool.specs.Connections.{live_total, created_total, created_at, pending_list, holding, pins, is_pinned, granted_to, available_list, service_of, last_use, is_errored, is_dropped}
+use Rattle.mdb_pool.specs.Connections.{live_total, created_total, created_at, pending_list, holding, pins, is_pinned, granted_to, available_list, known_service, last_use, is_errored, is_dropped}
 use Rattle.mdb_pool.specs.Requests.{requests, queued, is_warm, asked_at, end_of, is_unserved}
 use Rattle.mdb_pool.specs.State.{State, is_new, is_ready, is_paused, is_closed, state_of, ready, is_stale, is_idle, min_size, max_connecting}
 
@@ -45,8 +45,9 @@ module _ (p : ℕ) (a : ServerAddress) where
   abbrev pub created_fact : ℕ → Fact
   created_fact c = Pool p (ConnectionCreated (record { address = a; connection_id = c }))
 
+  -- a close tells the service of a connection that was established
   abbrev pub closed_fact : List PoolItem → ℕ → ConnectionClosedReason → Fact
-  closed_fact xs c why = Pool p (ConnectionClosed (record { address = a; connection_id = c; reason = why; service_id = service_of xs c }))
+  closed_fact xs c why = Pool p (ConnectionClosed (record { address = a; connection_id = c; reason = why; service_id = known_service xs c }))
 
   -- closed where there is a reason
   abbrev pub closes : List PoolItem → ℕ → Option ConnectionClosedReason → List Fact

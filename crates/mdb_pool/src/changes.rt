@@ -1,5 +1,6 @@
 //! The single changes of a pool, each with its facts.
-ghost use Rattle.std.specs.Prelude.{◌≡◌, ◌≢◌, ◌++◌, ◌∷◌, ◌+◌, ◌-◌, ◌<◌, ◌≤◌, ◌^◌, [], OnOk, OnErr, IfOk, All, option_copied, IsSome, IsTrue, List, true, None, Option, ℕ, unwrap_or, length, nat_lt, ◌&&◌, is_some};
+
+ghost use Rattle.std.specs.Prelude.{◌≡◌, ◌++◌, ◌∷◌, ◌+◌, ◌-◌, ◌<◌, [], OnOk};
 
 use super::PoolCore;
 use super::connection::{Connection, Place};

@@ -1,5 +1,6 @@
 //! A pending connection of a pool is established.
-ghost use Rattle.std.specs.Prelude.{◌≡◌, ◌≢◌, ◌++◌, ◌∷◌, ◌+◌, ◌-◌, ◌<◌, ◌≤◌, ◌^◌, [], OnOk, OnErr, IfOk, All, option_copied, IsSome, IsTrue, List, true, None, Option, ℕ, unwrap_or, length, nat_lt, ◌&&◌, is_some};
+
+ghost use Rattle.std.specs.Prelude.{◌≡◌, ◌∷◌, OnOk, OnErr, IfOk, List, true};
 
 use super::{Act, Established, PoolCore, Refused, Reply, Step};
 use mdb_base::{Moment, OutOfMemory};

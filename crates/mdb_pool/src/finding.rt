@@ -1,5 +1,6 @@
 //! What a pool finds among its connections and requests.
-ghost use Rattle.std.specs.Prelude.{◌≡◌, ◌≢◌, ◌++◌, ◌∷◌, ◌+◌, ◌-◌, ◌<◌, ◌≤◌, ◌^◌, [], OnOk, OnErr, IfOk, All, option_copied, IsSome, IsTrue, List, true, None, Option, ℕ, unwrap_or, length, nat_lt, ◌&&◌, is_some};
+
+ghost use Rattle.std.specs.Prelude.{◌≡◌, option_copied};
 
 use super::connection::{Connection, Place};
 use super::request::{Phase, Request};

@@ -16,6 +16,8 @@ mod returning;
 mod step;
 mod stepping;
 mod table;
+#[cfg(test)]
+mod tests;
 
 pub use log::{Entry, Log};
 pub use options::PoolOptions;

@@ -1,4 +1,5 @@
 //! Logs of steps.
+
 ghost use Rattle.std.specs.Prelude.{◌≡◌, ◌++◌, ◌∷◌, [], OnOk, OnErr};
 
 use super::{Reply, Step};
@@ -8,7 +9,7 @@ use std::alloc::{AllocError, Global};
 use std::marker::Model;
 
 /// One step with its answer: the seat that made it, the reply, and the facts in their order.
-#[derive(Drop)]
+#[derive(Debug, Drop)]
 pub struct Entry {
     pub seat: u32,
     pub step: Step,

@@ -1,8 +1,9 @@
 //! The options of one pool.
+
 use mdb_base::Moment;
 
 /// The options of a pool. Sizes are at most 65,535, and the maximum and `max_connecting` at least 1.
-#[derive(Clone, Copy, Drop)]
+#[derive(Clone, Copy, Debug, PartialEq, Eq)]
 pub struct PoolOptions {
     /// The most connections that callers make, 10 where it isn't named.
     pub max_pool_size: Option<u32>,

@@ -1,5 +1,6 @@
 //! The serving of a pool's queue.
-ghost use Rattle.std.specs.Prelude.{◌≡◌, ◌≢◌, ◌++◌, ◌∷◌, ◌+◌, ◌-◌, ◌<◌, ◌≤◌, ◌^◌, [], OnOk, OnErr, IfOk, All, option_copied, IsSome, IsTrue, List, true, None, Option, ℕ, unwrap_or, length, nat_lt, ◌&&◌, is_some};
+
+ghost use Rattle.std.specs.Prelude.{◌≡◌, OnOk, List};
 
 use super::PoolCore;
 use super::table::Keyed;

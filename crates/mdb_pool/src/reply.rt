@@ -1,4 +1,5 @@
 //! What the one who made a step is told.
+
 ghost use Rattle.std.specs.Prelude.{◌≡◌};
 
 use mdb_base::Moment;
@@ -6,7 +7,7 @@ use mdb_events::End;
 use std::alloc::AllocError;
 
 /// A number that ran out.
-#[derive(Clone, Copy, Drop)]
+#[derive(Clone, Copy, Debug, PartialEq, Eq)]
 pub enum What {
     Pool,
     Generation,
@@ -15,7 +16,7 @@ pub enum What {
 }
 
 /// Why a step was refused. The first reason that holds is told, in this order.
-#[derive(Clone, Copy, Drop)]
+#[derive(Clone, Copy, Debug, PartialEq, Eq)]
 pub enum Refused {
     /// The moment is before that of the last accepted step, which is carried.
     TimeBack(Moment),
@@ -46,7 +47,7 @@ pub enum Refused {
 }
 
 /// What the one who made a step is told.
-#[derive(Drop)]
+#[derive(Debug, Drop, PartialEq, Eq)]
 pub enum Reply {
     /// The party has the connection: the numbers of its pool and its own.
     Pooled(u32, u32),

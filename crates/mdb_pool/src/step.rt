@@ -1,11 +1,12 @@
 //! The steps that a driver and its pools take.
-ghost use Rattle.std.specs.Prelude.{◌≡◌, IfOk};
+
+ghost use Rattle.std.specs.Prelude.{◌≡◌};
 
 use mdb_base::{Error, Moment, ObjectId, Options, ServerAddress};
 use std::alloc::AllocError;
 
 /// What establishing a connection found out.
-#[derive(Clone, Copy, Drop)]
+#[derive(Clone, Copy, Debug, PartialEq, Eq)]
 pub struct Established {
     /// The greatest wire version of the server.
     pub wire: i32,
@@ -16,14 +17,14 @@ pub struct Established {
 }
 
 /// Whether establishing failed before the server's hello, or after it with the service that it named.
-#[derive(Clone, Copy, Drop)]
+#[derive(Clone, Copy, Debug, PartialEq, Eq)]
 pub enum FailedAt {
     Pre,
     Post(Option<ObjectId>),
 }
 
 /// How a connection was used by the party that returns it.
-#[derive(Clone, Copy, PartialEq, Eq, Drop)]
+#[derive(Clone, Copy, Debug, PartialEq, Eq)]
 pub enum Use {
     Ok,
     Errored,
@@ -34,7 +35,7 @@ pub enum Use {
 }
 
 /// What a step does. Numbers are those of parties, pools and connections, in this order unless it is said otherwise.
-#[derive(Drop)]
+#[derive(Debug, Drop)]
 pub enum Act {
     /// The driver is opened.
     Open(Options),
@@ -72,27 +73,12 @@ pub enum Act {
     Close(u32),
 }
 
-fn copy_of_options(options: &Options) -> Result<Options, AllocError>
-    ensures { IfOk result (λ copy. copy ≡ options.now) }
-{
-    let seeds = options.seeds.clone()?;
-    let set_name = match &options.set_name {
-        Some(name) => Some(name.clone()?),
-        None => None,
-    };
-    Ok(Options {
-        seeds,
-        set_name,
-        ..*options
-    })
-}
-
 impl Clone for Act {
     ghost is_clone = { λ s t. t ≡ s };
 
     fn clone(&self) -> Result<Act, AllocError> {
         Ok(match self {
-            Act::Open(options) => Act::Open(copy_of_options(options)?),
+            Act::Open(options) => Act::Open(options.clone()?),
             Act::Request(request, address) => Act::Request(*request, address.clone()?),
             Act::Warm(request, address) => Act::Warm(*request, address.clone()?),
             Act::Collect(request) => Act::Collect(*request),
@@ -114,7 +100,7 @@ impl Clone for Act {
 }
 
 /// One atomic step.
-#[derive(Drop)]
+#[derive(Debug, Drop)]
 pub struct Step {
     pub moment: Moment,
     pub act: Act,

@@ -1,5 +1,6 @@
 //! The steps of a pool.
-ghost use Rattle.std.specs.Prelude.{◌≡◌, ◌≢◌, ◌++◌, ◌∷◌, ◌+◌, ◌-◌, ◌<◌, ◌≤◌, ◌^◌, [], OnOk, OnErr, IfOk, All, option_copied, IsSome, IsTrue, List, true, None, Option, ℕ, unwrap_or, length, nat_lt, ◌&&◌, is_some};
+
+ghost use Rattle.std.specs.Prelude.{◌≡◌, OnOk, OnErr, IfOk, All, List};
 
 use super::{Act, Entry, Log, PoolCore, Refused, Reply, Step};
 use mdb_base::{Items, OutOfMemory};
@@ -59,11 +60,11 @@ impl PoolCore {
         ensures err_core { OnErr result (self.new ≡ self.old) }
         ensures err_facts { OnErr result (facts.new.items ≡ facts.old.items) }
     {
-        let mut next = self.copy(alloc)?;
+        let mut worked = self.copy(alloc)?;
         let mut made = Vec::new(alloc);
-        let reply = next.perform(alloc, &mut made, step)?;
+        let reply = worked.perform(alloc, &mut made, step)?;
         facts.append(&mut made)?;
-        *self = next;
+        *self = worked;
         Ok(reply)
     }
 
