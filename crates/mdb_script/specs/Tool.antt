@@ -2,8 +2,11 @@
 use Rattle.std.specs.Prelude.{◌≡◌, ℕ, zero, suc, List, codes, ◌⊎◌}
 use Rattle.mdb_pool.specs.declared.log.Entry.{Entry}
 use Rattle.mdb_lines.specs.declared.run_error.RunError.{RunError}
-use Rattle.mdb_lines.specs.Status.{Told, Tells, status, message, usage}
+use Rattle.mdb_lines.specs.Status.{Told, Tells, status, message}
 use Rattle.mdb_script.specs.Runs.{Seen, Finished, Ended}
+
+abbrev pub usage : List ℕ
+usage = codes "usage: mdb_script [make N | share K]\n"
 
 -- what a run of the tool with no words comes to, by its status
 abbrev pub ToolRuns : Seen → Seen → Told → Told → ℕ → Type 0

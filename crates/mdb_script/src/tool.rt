@@ -8,6 +8,8 @@ use mdb_base::{Sink, Source};
 use mdb_lines::{Status, status_of, tell_error, tell_usage};
 use std::alloc::Global;
 
+const USAGE: &str = "usage: mdb_script [make N | share K]\n";
+
 /// Runs the script on `source` where there are no words, and answers the status: 0 where it ran to its end, 1 for want of
 /// memory, 3 and 4 for a fault of source or sink, 5 for a malformed line, 6 for an input that is too long. Any word is a
 /// usage, status 2, at which nothing is read or written. The log's text goes to `sink`, and what ended the run to `errors`.
@@ -32,7 +34,7 @@ pub fn run_tool<S: Source, K: Sink, E: Sink>(
             }
         },
         [_, ..] => {
-            tell_usage(errors);
+            tell_usage(errors, USAGE);
             2
         }
     }

@@ -1,0 +1,7 @@
+pub mod TextLemmas
+pub mod AddressLemmas
+pub mod PartLemmas
+pub mod FormLemmas
+pub mod OpenLemmas
+pub mod Loops
+pub mod Tell

@@ -1,0 +1,107 @@
+-- What calls of a sink or a source come to, one after another, and how an input is cut into lines.
+use Rattle.std.proofs.Common.{◌≡◌, ℕ, zero, suc, ◌+◌, ◌<◌, List, [], ◌∷◌, ◌++◌, length, take, drop, Option, Some, None, Ok, Err, refl, sym, ap, ◌∙◌, arith, append_assoc, eqb, ltb, inl, inr, position, length-drop}
+use Rattle.std.specs.List.{onto_first, position_or_len}
+use Rattle.std.proofs.lemmas.Bool.{cases_Bool, eqb-true, eqb-false, ltb-true, ltb-false}
+use Rattle.std.proofs.lemmas.Option.{cond_some}
+use Rattle.std.proofs.lemmas.List.Sums.{fails_before_first, passes_at_first}
+use Rattle.std.proofs.lemmas.List.{append-nil}
+use Rattle.std.proofs.Math.Seq.{take-add}
+use Rattle.std.specs.Io.KnownBytes.{Consumes}
+use Rattle.mdb_base.specs.AddressReading.{until, beyond}
+use Rattle.mdb_base.proofs.Words.{until_found, until_missing}
+use Rattle.mdb_base.specs.Outside.{Rose, Held, Took, WriteCause}
+use Rattle.mdb_lines.specs.Script.{lines_of}
+
+pub took_nothing : (a : Option Held) → Took a a []
+took_nothing None = tt
+took_nothing (Some h) = (sym (append-nil h.taken), omega arith)
+
+pub took_more : (a b c : Option Held) (x y : List ℕ) → Took a b x → Took b c y → Took a c (x ++ y)
+took_more None b c x y p q = tt
+took_more (Some h) None c x y p q = absurd p
+took_more (Some h) (Some k) None x y p q = absurd q
+took_more (Some h) (Some k) (Some l) x y p q = (q.0 ∙ rw (p.0) (append_assoc h.taken x y), omega (arith, p.1, q.1))
+
+pub took_no_more : (a b c : Option Held) (x : List ℕ) → Took a b x → Took b c [] → Took a c x
+took_no_more a b c x p q = rw (append-nil x) at (took_more a b c x [] p q)
+
+pub cause_none : (E : Type 0) (before now : ℕ) (piece : List ℕ) → 0 < length piece → WriteCause {E = E} before now piece (Ok 0) → Rose before now
+cause_none E before now [] some h = absurd (omega arith)
+cause_none E before now (b ∷ bs) some h = h
+
+pub cause_some : (E : Type 0) (before now : ℕ) (piece : List ℕ) (n : ℕ) → 0 < n → WriteCause {E = E} before now piece (Ok n) → now ≡ before
+cause_some E before now [] n some h = h
+cause_some E before now (b ∷ bs) zero some h = absurd (omega arith)
+cause_some E before now (b ∷ bs) (suc n) some h = h
+
+pub took_next : (a b c : Option Held) (bytes piece : List ℕ) (m n : ℕ) → piece ≡ drop m bytes → Took a b (take m bytes) → Took b c (take n piece) → Took a c (take (m + n) bytes)
+took_next a b c bytes piece m n e p q = rw (take-add m n bytes, ← e) (took_more a b c (take m bytes) (take n piece) p q)
+
+-- reading
+
+pub consumes_none : (a : Option (List ℕ)) → Consumes a a []
+consumes_none None = tt
+consumes_none (Some xs) = refl
+
+pub consumes_more : (a b c : Option (List ℕ)) (x y : List ℕ) → Consumes a b x → Consumes b c y → Consumes a c (x ++ y)
+consumes_more None b c x y p q = tt
+consumes_more (Some xs) None c x y p q = absurd p
+consumes_more (Some xs) (Some ys) None x y p q = absurd q
+consumes_more (Some xs) (Some ys) (Some zs) x y p q = p ∙ ap (λ (l : List ℕ). x ++ l) q ∙ sym (append_assoc x y zs)
+
+-- lines
+
+lines_cut : (bs : List ℕ) → 0 < length (beyond 10 bs) → lines_of bs ≡ (until 10 bs ++ 10 ∷ []) ∷ lines_of (drop 1 (beyond 10 bs))
+unfolding lines_of until beyond
+lines_cut [] some = absurd (omega arith)
+lines_cut (b ∷ bs) some = elim (cases_Bool (eqb b 10)) [
+  | inl same ↦ rw same refl
+  | inr other ↦ rw (other, lines_cut bs (rw other at some)) refl
+]
+
+lines_last : (b : ℕ) (bs : List ℕ) → beyond 10 (b ∷ bs) ≡ [] → lines_of (b ∷ bs) ≡ (b ∷ bs) ∷ []
+unfolding lines_of beyond
+lines_last b [] none = elim (cases_Bool (eqb b 10)) [
+  | inl same ↦ absurd (let e : b ∷ [] ≡ [] = rw same at none in cc)
+  | inr other ↦ rw other refl
+]
+lines_last b (c ∷ cs) none = elim (cases_Bool (eqb b 10)) [
+  | inl same ↦ absurd (let e : b ∷ c ∷ cs ≡ [] = rw same at none in cc)
+  | inr other ↦ rw other (ap (onto_first b) (lines_last c cs (rw other at none)))
+]
+
+pub newline_found : (bytes : List ℕ) (i : ℕ) → position (λ b. eqb b 10) bytes ≡ Some i → (i < length bytes) × (until 10 bytes ≡ take i bytes) × (beyond 10 bytes ≡ drop i bytes)
+newline_found bytes i e =
+    let p = λ (b : ℕ). eqb b 10 in
+    let s = cond_some (ltb (position_or_len p bytes) (length bytes)) (position_or_len p bytes) i e in
+    let lt : position_or_len p bytes < length bytes = ltb-true (position_or_len p bytes) (length bytes) s.0 in
+    let found = until_found 10 bytes (position_or_len p bytes) lt (eqb-true _ 10 (passes_at_first p bytes 0 lt)) (λ k l. eqb-false _ 10 (fails_before_first p bytes k 0 l)) in
+    rw (← s.1) (lt, found.0, found.1)
+
+pub newline_missing : (bytes : List ℕ) → position (λ b. eqb b 10) bytes ≡ None → beyond 10 bytes ≡ []
+newline_missing bytes e = (until_missing 10 bytes (λ k l. eqb-false _ 10 (fails_before_first (λ b. eqb b 10) bytes k 0 (past k l)))).1
+  where
+    past : (k : ℕ) → k < length bytes → k < position_or_len (λ (b : ℕ). eqb b 10) bytes
+    past k l = elim (cases_Bool (ltb (position_or_len (λ (b : ℕ). eqb b 10) bytes) (length bytes))) [
+      | inl inside ↦ absurd (let f : Some (position_or_len (λ (b : ℕ). eqb b 10) bytes) ≡ None = rw inside at e in cc)
+      | inr outside ↦ omega (arith, ltb-false _ _ outside)
+    ]
+
+pub cuts_some : (bytes : List ℕ) (i : ℕ) → position (λ b. eqb b 10) bytes ≡ Some i → (lines_of bytes ≡ (take i bytes ++ 10 ∷ []) ∷ lines_of (drop 1 (drop i bytes))) × (length (drop 1 (drop i bytes)) < length bytes)
+cuts_some bytes i e =
+    let f = newline_found bytes i e in
+    let some : 0 < length (beyond 10 bytes) = rw (f.2, length-drop i bytes) (omega (arith, f.0)) in
+    let cut = lines_cut bytes some in
+    (rw (← f.1, ← f.2) cut, omega (arith, f.0, length-drop i bytes, length-drop 1 (drop i bytes)))
+
+pub cuts_none : (bytes : List ℕ) → 0 < length bytes → position (λ b. eqb b 10) bytes ≡ None → (lines_of bytes ≡ bytes ∷ []) × (beyond 10 bytes ≡ [])
+cuts_none [] some e = absurd (omega arith)
+cuts_none (b ∷ bs) some e = let none = newline_missing (b ∷ bs) e in (lines_last b bs none, none)
+
+pub line_not_last : (xs : List ℕ) → beyond 10 (xs ++ 10 ∷ []) ≡ [] → ⊥
+unfolding beyond
+line_not_last [] h = let e : ◌≡◌ {A = List ℕ} (10 ∷ []) [] = h in cc
+line_not_last (b ∷ bs) h = elim (cases_Bool (eqb b 10)) [
+  | inl same ↦ (let e : b ∷ (bs ++ 10 ∷ []) ≡ [] = rw same at h in cc)
+  | inr other ↦ line_not_last bs (rw other at h)
+]

@@ -1,0 +1,33 @@
+-- What the loops that read and write do.
+use Rattle.std.specs.Prelude.{◌≡◌, ℕ, ◌<◌, ◌≤◌, List, [], ◌∷◌, ◌++◌, length, take, codes, Option, Some, None, if◌then◌else◌, ◌==◌}
+use Rattle.std.specs.Borrow.{Bor}
+use Rattle.std.specs.Io.KnownBytes.{Consumes, IsAtEnd}
+use Rattle.mdb_base.specs.AddressReading.{beyond}
+use Rattle.mdb_base.specs.Outside.{Rose, Held, Took}
+use Rattle.mdb_lines.specs.declared.run_error.RunError.{RunError}
+use Rattle.mdb_lines.specs.declared.run_error.RunError.TheVariants as errors
+use Rattle.mdb_lines.specs.Script.{lines_of, max_input}
+
+-- The first line, and what stands behind it, of bytes that have a newline.
+abbrev pub CutsLine : List ℕ → Option (Bor (List ℕ) × Bor (List ℕ)) → Type 0
+CutsLine bytes None = (lines_of bytes ≡ bytes ∷ []) × (beyond 10 bytes ≡ [])
+CutsLine bytes (Some x) = (lines_of bytes ≡ (x.0.now ++ codes "\n") ∷ lines_of x.1.now) × (length x.1.now < length bytes)
+
+-- a sink took the first bytes of a text
+abbrev pub TookFront : Option Held → Option Held → List ℕ → Type 0
+TookFront old new text = (n : ℕ) × Took old new (take n text)
+
+-- Reading ended so: at a fault, or past the greatest length.
+abbrev pub ReadEnds : Option (List ℕ) → Option (List ℕ) → ℕ → ℕ → RunError → Type 0
+ReadEnds left new_left faults new_faults errors.OutOfMemory = new_faults ≡ faults
+ReadEnds left new_left faults new_faults errors.ReadFault = Rose faults new_faults
+ReadEnds left new_left faults new_faults errors.WriteFault = ⊥
+ReadEnds left new_left faults new_faults (errors.Malformed n) = ⊥
+ReadEnds left new_left faults new_faults errors.TooLong = (bytes : List ℕ) × Consumes left new_left bytes × (max_input < length bytes) × (new_faults ≡ faults)
+
+-- All was read, and it isn't too long.
+pub record ReadsAll (left new_left : Option (List ℕ)) (faults new_faults : ℕ) (input : List ℕ) : Type 0 where
+  pub consumed : Consumes left new_left input
+  pub ended : IsAtEnd new_left
+  pub short : length input ≤ max_input
+  pub same : new_faults ≡ faults

@@ -1,0 +1,39 @@
+-- Each number of a step is one of its type.
+use Rattle.std.specs.Prelude.{◌≡◌, ℕ, ◌<◌, ◌^◌, length, IfSome, slice_index, FitsSigned}
+use Rattle.std.specs.Int.{w32, w64}
+use Rattle.mdb_base.specs.declared.object_id.ObjectId.{ObjectId}
+use Rattle.mdb_base.specs.declared.options.Options.{Options}
+use Rattle.mdb_pool.specs.declared.step.Established.{Established}
+use Rattle.mdb_pool.specs.declared.step.Step.{Step}
+use Rattle.mdb_pool.specs.declared.step.Act.{Act}
+use Rattle.mdb_pool.specs.declared.step.Act.TheVariants as act
+
+abbrev pub IsIdOfTypes : ObjectId → Type 0
+IsIdOfTypes id = (length id.0 ≡ 12) × ((i : ℕ) → slice_index id.0 i < 256)
+
+pub record AreOptionsOfTypes (o : Options) : Type 0 where
+  pub max : IfSome o.max_pool_size (λ n. n < 2 ^ 32)
+  pub min : IfSome o.min_pool_size (λ n. n < 2 ^ 32)
+  pub connecting : IfSome o.max_connecting (λ n. n < 2 ^ 32)
+  pub idle : IfSome o.max_idle_time (λ n. n < 2 ^ 64)
+  pub heartbeat : IfSome o.heartbeat (λ n. n < 2 ^ 64)
+  pub connect : IfSome o.connect (λ n. n < 2 ^ 64)
+  pub limit_id : IfSome o.limit_id (λ n. n < 2 ^ 32)
+  pub limit_generation : IfSome o.limit_generation (λ n. n < 2 ^ 64)
+  pub limit_pool : IfSome o.limit_pool (λ n. n < 2 ^ 32)
+  pub limit_monitor : IfSome o.limit_monitor (λ n. n < 2 ^ 32)
+
+pub record IsEstablishedOfTypes (e : Established) : Type 0 where
+  pub wire : FitsSigned w32 e.wire
+  pub service : IfSome e.service_id IsIdOfTypes
+  pub server : IfSome e.server_id (FitsSigned w64)
+
+abbrev pub IsActOfTypes : Act → Type 0
+IsActOfTypes (act.Open o) = AreOptionsOfTypes o
+IsActOfTypes (act.Request r a) = r < 2 ^ 32
+IsActOfTypes (act.Established p c e) = (p < 2 ^ 32) × (c < 2 ^ 32) × IsEstablishedOfTypes e
+IsActOfTypes (act.Return r u) = r < 2 ^ 32
+IsActOfTypes _ = Unit {0}
+
+abbrev pub IsStepOfTypes : Step → Type 0
+IsStepOfTypes s = (s.moment < 2 ^ 64) × IsActOfTypes s.act

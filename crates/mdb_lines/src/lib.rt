@@ -1,0 +1,32 @@
+//! The lines of a script, the text of a log, and the loops that read and write them.
+#![tactic(auto)]
+
+mod caller_lines;
+mod connection_lines;
+mod entry_text;
+mod fields;
+mod line_error;
+mod line_kind;
+mod line_reading;
+mod line_text;
+mod open_line;
+mod open_text;
+mod part_text;
+mod parts;
+mod reading_loop;
+mod rules;
+mod run_error;
+mod status;
+mod types;
+mod values;
+mod words;
+mod writing_loop;
+
+pub use entry_text::write_entry;
+pub use line_error::LineError;
+pub use line_reading::read_line;
+pub use line_text::write_line;
+pub use reading_loop::{MAX_INPUT, cut_line, read_all};
+pub use run_error::{RunError, Status, status_of};
+pub use status::{tell_error, tell_usage};
+pub use writing_loop::write_all;

@@ -1,0 +1,80 @@
+//! Reading a line.
+
+ghost use Rattle.std.specs.Prelude.{◌≡◌, true, IfOk, OnOk};
+ghost use Rattle.mdb_pool.specs.declared.step.Step.{Step};
+ghost use Rattle.mdb_lines.specs.Grammar.{is_printable};
+ghost use Rattle.mdb_lines.specs.Script.{Spells};
+ghost use Rattle.mdb_lines.specs.Reading.{Gives};
+ghost use Rattle.mdb_lines.specs.Forms.{ReadsKind, ReadsLine};
+
+use crate::caller_lines::{request, returned};
+use crate::connection_lines::established;
+use crate::line_error::LineError;
+use crate::line_kind::{LineKind, kind_of};
+use crate::line_text::write_line;
+use crate::open_line::opened;
+use crate::rules::{is_printable, keeps_place, keeps_rules};
+use crate::types::step_types;
+use crate::words::cut;
+use mdb_pool::Step;
+use std::alloc::Global;
+
+fn read_kind(alloc: Global, kind: LineKind, text: &str) -> Result<Step, LineError>
+    ensures { ReadsKind kind text.now result }
+{
+    match kind {
+        LineKind::Open => opened(alloc, text),
+        LineKind::Request => request(alloc, text),
+        LineKind::Established => established(text),
+        LineKind::Return => returned(text),
+    }
+}
+
+fn read_text(alloc: Global, line: &str) -> Result<Step, LineError>
+    ensures { ReadsLine line.now result }
+{
+    let (word, rest) = cut(line, ' ');
+    match kind_of(word) {
+        Some(kind) => read_kind(alloc, kind, rest),
+        None => Err(LineError::Bad),
+    }
+}
+
+// What a line spells, if it spells anything.
+fn guess(alloc: Global, line: &[u8], number: u32) -> Result<Step, LineError>
+    ensures printable { OnOk result (is_printable line.now ≡ true) }
+    ensures only { (s : Step) → Spells number line.now s → Gives s result }
+{
+    if !is_printable(line) {
+        return Err(LineError::Bad);
+    }
+    match str::from_utf8(line) {
+        Ok(text) => read_text(alloc, text),
+        Err(_) => Err(LineError::Bad),
+    }
+}
+
+/// The step that a line spells, given without its newline. The first line of a script has the number 1 and opens, and no
+/// other. `Bad` where it spells none.
+pub fn read_line(alloc: Global, line: &[u8], number: u32) -> Result<Step, LineError>
+    // The line spells what is read.
+    ensures found { IfOk result (Spells number line.now) }
+
+    // What the line spells is read, unless memory ran out.
+    ensures only { (s : Step) → Spells number line.now s → Gives s result }
+{
+    let found = guess(alloc, line, number)?;
+    step_types(&found);
+    if !keeps_rules(&found) {
+        return Err(LineError::Bad);
+    }
+    if !keeps_place(&found, number) {
+        return Err(LineError::Bad);
+    }
+    let spelled = write_line(alloc, &found)?;
+    if spelled.as_bytes() == line {
+        Ok(found)
+    } else {
+        Err(LineError::Bad)
+    }
+}
