@@ -26,14 +26,14 @@ later-of (d ∷ ds) steps e b =
     let P : Step → Type 0 = λ t. IsBuilt t.act in
     let all : All P (d.step ∷ map (λ e. e.step) ds) = subst (λ ts. All P ts) (sym e) b in
     All-cons (λ (e : Entry). is_opening e.step.act ≡ false) d ds (built-later d.step.act (All-head P d.step (map (λ e. e.step) ds) all))
-        (later-of ds (map (λ e. e.step) ds) refl (All-tail P d.step (map (λ e. e.step) ds) all))
+    (later-of ds (map (λ e. e.step) ds) refl (All-tail P d.step (map (λ e. e.step) ds) all))
 
 legal-opened : (s : PoolCore) (log : List Entry) → IsOpened s log → IsLegalLog log
 legal-opened s log w =
     let first : Entry = opening_entry w.options in
     let legal : IsLegal 0 (pool_options w.options) (history_of (first ∷ [])) w.runs.entries =
-        subst (λ (o : PoolOptions). IsLegal 0 o (history_of (first ∷ [])) w.runs.entries) w.made_with
-        (subst (λ (p : ℕ). IsLegal p w.made.options (history_of (first ∷ [])) w.runs.entries) w.number w.runs.legal) in
+    subst (λ (o : PoolOptions). IsLegal 0 o (history_of (first ∷ [])) w.runs.entries) w.made_with
+    (subst (λ (p : ℕ). IsLegal p w.made.options (history_of (first ∷ [])) w.runs.entries) w.number w.runs.legal) in
     subst IsLegalLog (sym w.runs.logged) (refl, later-of w.runs.entries w.steps w.runs.in_order w.built, legal)
 
 pub legal-log : (pool : Option PoolCore) (log : List Entry) → Holds pool log → IsLegalLog log

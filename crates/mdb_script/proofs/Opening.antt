@@ -40,13 +40,13 @@ opens s step log n a o w logged zero here with number at options z none_left =
     let first : List Entry = opening_entry w.options ∷ [] in
     let seeds : w.options.seeds ≡ w.address ∷ [] = w.seeds in
     let own : StandsFor s (opening s.pool w.address (pool_options w.options)) =
-        subst (λ (b : ServerAddress). StandsFor s (opening s.pool b (pool_options w.options))) here
-        (subst (λ (q : PoolOptions). StandsFor s (opening s.pool a q)) with (subst (λ (p : ℕ). StandsFor s (opening p a o)) (sym number) z)) in
+    subst (λ (b : ServerAddress). StandsFor s (opening s.pool b (pool_options w.options))) here
+    (subst (λ (q : PoolOptions). StandsFor s (opening s.pool a q)) with (subst (λ (p : ℕ). StandsFor s (opening p a o)) (sym number) z)) in
     let stands : StandsFor s (history_of first) =
-        subst (λ (ads : List ServerAddress). StandsFor s (history_of (opened_by w.options ads))) (sym seeds) (opened-stands s w.options w.address own (number ∙ zero)) in
+    subst (λ (ads : List ServerAddress). StandsFor s (history_of (opened_by w.options ads))) (sym seeds) (opened-stands s w.options w.address own (number ∙ zero)) in
     let left : NoneLeftWaiting s.options (of_pool s.pool (history_of first)) =
-        subst (λ (p : ℕ). NoneLeftWaiting s.options (of_pool p (history_of first))) (sym (number ∙ zero))
-        (subst (λ (ads : List ServerAddress). NoneLeftWaiting s.options (of_pool 0 (history_of (opened_by w.options ads)))) (sym seeds) (inl refl)) in
+    subst (λ (p : ℕ). NoneLeftWaiting s.options (of_pool p (history_of first))) (sym (number ∙ zero))
+    (subst (λ (ads : List ServerAddress). NoneLeftWaiting s.options (of_pool 0 (history_of (opened_by w.options ads)))) (sym seeds) (inl refl)) in
     record {
       options = w.options;
       made = s;

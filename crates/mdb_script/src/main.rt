@@ -2,11 +2,10 @@
 #![tactic(auto)]
 
 mod run;
-mod tool;
-mod world;
-
 #[cfg(test)]
 mod tests;
+mod tool;
+mod world;
 
 use mdb_base::{Reading, Writing};
 use std::alloc::AllocError;

@@ -9,7 +9,9 @@ ghost use Rattle.mdb_script.specs.Runs.{LineRuns, Ran, RunEnds, Finished, Ended,
 
 use crate::world::World;
 use mdb_base::{Sink, Source};
-use mdb_lines::{LineError, MAX_INPUT, RunError, cut_line, read_all, read_line, write_all, write_entry};
+use mdb_lines::{
+    LineError, MAX_INPUT, RunError, cut_line, read_all, read_line, write_all, write_entry,
+};
 use mdb_pool::Log;
 use std::alloc::Global;
 

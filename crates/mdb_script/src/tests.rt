@@ -37,7 +37,9 @@ fn run(alloc: Global, words: &[&str], script: &[u8], outside: Outside) -> Result
     let piece = outside.source_piece.max(1);
     let mut source = MemSource::new(held, piece, vec![in alloc; outside.source_fails]?);
     let fails = vec![in alloc; outside.sink_fails]?;
-    let mut sink = MemSink::new(alloc, outside.room, outside.sink_piece, fails).map_err(|_| AllocError)?;
+    let mut sink = MemSink::new(alloc, outside.room, outside.sink_piece, fails).map_err(
+        |_| AllocError,
+    )?;
     let mut errors = MemSink::new(alloc, 100, 100, Vec::new(alloc)).map_err(|_| AllocError)?;
     let status = run_tool(alloc, words, &mut source, &mut sink, &mut errors);
     Ok(Left {
@@ -53,7 +55,8 @@ const FIRST: &str = "open seeds=a:1 lb\n\
     return 9 1 ok\n\
     request 10 2 a:1\n";
 
-const FIRST_LOG: &str = "open seeds=a:1 lb | Done | Opened 0 a:1 | Pool 0 PoolCreated a:1 max=- min=- idle=-\n\
+const FIRST_LOG: &str =
+    "open seeds=a:1 lb | Done | Opened 0 a:1 | Pool 0 PoolCreated a:1 max=- min=- idle=-\n\
     request 5 1 a:1 | Establishing 0.1 | Pool 0 ConnectionCheckoutStarted a:1 | Pool 0 ConnectionCreated a:1 1 | Granted 1 0.1\n\
     established 7 0 1 wire=21 sid=0102030405060708090a0b0c | Done | Pool 0 ConnectionReady a:1 1 2 | Pool 0 ConnectionCheckedOut a:1 1 2\n\
     return 9 1 ok | Done | Pool 0 ConnectionCheckedIn a:1 1\n\
@@ -67,7 +70,8 @@ const WAITING: &str = "open seeds=a:1 lb max=1\n\
     request 3 3 a:1\n\
     return 4 1 ok\n";
 
-const WAITING_LOG: &str = "open seeds=a:1 lb max=1 | Done | Opened 0 a:1 | Pool 0 PoolCreated a:1 max=1 min=- idle=-\n\
+const WAITING_LOG: &str =
+    "open seeds=a:1 lb max=1 | Done | Opened 0 a:1 | Pool 0 PoolCreated a:1 max=1 min=- idle=-\n\
     request 0 1 a:1 | Establishing 0.1 | Pool 0 ConnectionCheckoutStarted a:1 | Pool 0 ConnectionCreated a:1 1 | Granted 1 0.1\n\
     established 1 0 1 wire=21 sid=0102030405060708090a0b0c | Done | Pool 0 ConnectionReady a:1 1 1 | Pool 0 ConnectionCheckedOut a:1 1 1\n\
     request 2 2 a:1 | Waiting | Pool 0 ConnectionCheckoutStarted a:1\n\
@@ -81,7 +85,8 @@ const CONNECTING: &str = "open seeds=a:1 lb connecting=2\n\
     request 0 3 a:1\n\
     established 1 0 1 wire=21 sid=0102030405060708090a0b0c\n";
 
-const CONNECTING_LOG: &str = "open seeds=a:1 lb connecting=2 | Done | Opened 0 a:1 | Pool 0 PoolCreated a:1 max=- min=- idle=-\n\
+const CONNECTING_LOG: &str =
+    "open seeds=a:1 lb connecting=2 | Done | Opened 0 a:1 | Pool 0 PoolCreated a:1 max=- min=- idle=-\n\
     request 0 1 a:1 | Establishing 0.1 | Pool 0 ConnectionCheckoutStarted a:1 | Pool 0 ConnectionCreated a:1 1 | Granted 1 0.1\n\
     request 0 2 a:1 | Establishing 0.2 | Pool 0 ConnectionCheckoutStarted a:1 | Pool 0 ConnectionCreated a:1 2 | Granted 2 0.2\n\
     request 0 3 a:1 | Waiting | Pool 0 ConnectionCheckoutStarted a:1\n\
@@ -110,7 +115,12 @@ const LAST_BACK_END: &str = "request 1 3 a:1 | Refused TimeBack 2\n\
 #[test]
 fn scripts_give_their_logs(rt: HostRuntime) -> Result<(), Fail> {
     let alloc = rt.alloc();
-    for (script, log) in [("", ""), (FIRST, FIRST_LOG), (WAITING, WAITING_LOG), (CONNECTING, CONNECTING_LOG)] {
+    for (script, log) in [
+        ("", ""),
+        (FIRST, FIRST_LOG),
+        (WAITING, WAITING_LOG),
+        (CONNECTING, CONNECTING_LOG),
+    ] {
         let left = run(alloc, &[], script.as_bytes(), PLAIN)?;
         assert!(rt; left.status == 0, "{script}");
         assert!(rt; left.written.as_slice() == log.as_bytes(), "{script}");
@@ -124,7 +134,11 @@ fn scripts_give_their_logs(rt: HostRuntime) -> Result<(), Fail> {
 #[test]
 fn a_run_answers_its_log(rt: HostRuntime) -> Result<(), Fail> {
     let alloc = rt.alloc();
-    let mut source = MemSource::new(Vec::from_slice(alloc, FIRST.as_bytes())?, 7, Vec::new(alloc));
+    let mut source = MemSource::new(
+        Vec::from_slice(alloc, FIRST.as_bytes())?,
+        7,
+        Vec::new(alloc),
+    );
     let mut sink = MemSink::new(alloc, 1000, 3, Vec::new(alloc)).map_err(|_| AllocError)?;
     let answered = run_script(alloc, &mut source, &mut sink);
     assert!(rt; matches!(&answered, Ok(log) if log.entries().len() == 5));
@@ -151,8 +165,14 @@ fn the_first_malformed_line_ends_the_run(rt: HostRuntime) -> Result<(), Fail> {
         let mut script = Vec::from_slice(alloc, b"open seeds=a:1 lb\n".as_slice())?;
         script.extend_from_slice(line.as_bytes())?;
         let left = run(alloc, &[], script.as_slice(), PLAIN)?;
-        assert!(rt; left.status == 5 && left.told.as_slice() == b"line 2 is malformed\n".as_slice(), "{line}");
-        assert!(rt; left.written.len() == 84 && FIRST_LOG.as_bytes().starts_with(left.written.as_slice()), "{line}");
+        assert!(rt;
+            left.status == 5 && left.told.as_slice() == b"line 2 is malformed\n".as_slice(),
+            "{line}"
+        );
+        assert!(rt;
+            left.written.len() == 84 && FIRST_LOG.as_bytes().starts_with(left.written.as_slice()),
+            "{line}"
+        );
     }
     for line in [
         "request 1 1 a:1\n",
@@ -163,7 +183,10 @@ fn the_first_malformed_line_ends_the_run(rt: HostRuntime) -> Result<(), Fail> {
         "open seeds=a:0 lb\n",
     ] {
         let left = run(alloc, &[], line.as_bytes(), PLAIN)?;
-        assert!(rt; left.status == 5 && left.told.as_slice() == b"line 1 is malformed\n".as_slice(), "{line}");
+        assert!(rt;
+            left.status == 5 && left.told.as_slice() == b"line 1 is malformed\n".as_slice(),
+            "{line}"
+        );
         assert!(rt; left.written.is_empty(), "{line}");
     }
     Ok(())
@@ -174,16 +197,57 @@ fn faults_end_the_run_with_what_was_written(rt: HostRuntime) -> Result<(), Fail>
     let alloc = rt.alloc();
     let whole = FIRST_LOG.len();
     for (outside, status, written) in [
-        (Outside { source_piece: 1, sink_piece: 1, ..PLAIN }, 0, whole),
-        (Outside { source_fails: 2, source_piece: 10, ..PLAIN }, 3, 0),
-        (Outside { sink_fails: 2, sink_piece: 10, ..PLAIN }, 4, 10),
+        (
+            Outside {
+                source_piece: 1,
+                sink_piece: 1,
+                ..PLAIN
+            },
+            0,
+            whole,
+        ),
+        (
+            Outside {
+                source_fails: 2,
+                source_piece: 10,
+                ..PLAIN
+            },
+            3,
+            0,
+        ),
+        (
+            Outside {
+                sink_fails: 2,
+                sink_piece: 10,
+                ..PLAIN
+            },
+            4,
+            10,
+        ),
         (Outside { room: 10, ..PLAIN }, 4, 10),
-        (Outside { sink_piece: 0, ..PLAIN }, 4, 0),
-        (Outside { sink_fails: 6, ..PLAIN }, 4, whole),
+        (
+            Outside {
+                sink_piece: 0,
+                ..PLAIN
+            },
+            4,
+            0,
+        ),
+        (
+            Outside {
+                sink_fails: 6,
+                ..PLAIN
+            },
+            4,
+            whole,
+        ),
     ] {
         let left = run(alloc, &[], FIRST.as_bytes(), outside)?;
         assert!(rt; left.status == status, "{status} {written}");
-        assert!(rt; left.written.len() == written && FIRST_LOG.as_bytes().starts_with(left.written.as_slice()));
+        assert!(rt;
+            left.written.len() == written
+                && FIRST_LOG.as_bytes().starts_with(left.written.as_slice())
+        );
     }
     Ok(())
 }

@@ -1,0 +1,51 @@
+-- Each line that spells a step is read as that step, and no line spells two.
+use Rattle.std.proofs.Common.{◌≡◌, ℕ, ◌<◌, ◌≤◌, ◌^◌, ◌&&◌, Bool, true, eqb, leb, List, [], ◌∷◌, ◌++◌, get_or, zero, suc, Option, Some, None, Result, Ok, Err, IsUtf8, refl, sym, ap, ◌∙◌, arith, codes, subst}
+use Rattle.std.specs.List.{list_all}
+use Rattle.std.proofs.lemmas.Bool.{eqb-true, leb-true, and_parts}
+use Rattle.std.proofs.lemmas.List.{append_cancel_right}
+use Rattle.std.proofs.lemmas.Str.{IsUtf8-from_ascii}
+use Rattle.mdb_base.specs.AddressReading.{until, beyond}
+use Rattle.mdb_pool.specs.declared.step.Step.{Step}
+use Rattle.mdb_pool.specs.declared.step.Act.{Act}
+use Rattle.mdb_pool.specs.declared.step.Act.TheVariants as act
+use Rattle.mdb_lines.specs.declared.line_error.LineError.{LineError}
+use Rattle.mdb_lines.specs.Spelling.{act_text, spelling}
+use Rattle.mdb_lines.specs.Grammar.{is_act, is_printable, are_options}
+use Rattle.mdb_lines.specs.Types.{IsActOfTypes}
+use Rattle.mdb_lines.specs.Script.{Spells, line_of}
+use Rattle.mdb_lines.specs.Reading.{Gives}
+use Rattle.mdb_lines.specs.Forms.{kind_of, ReadsLine}
+
+-- what reading the text of an act gives
+pub act_read : (m : ℕ) (a : Act) (r : Result Step LineError) → m < 2 ^ 64 → IsActOfTypes a → is_act m a ≡ true → ReadsLine (act_text m a) r → Gives (record { moment = m; act = a }) r
+unfolding until beyond kind_of
+act_read m (act.Open o) r lm types rules reads =
+    let p = and_parts (eqb m 0) (are_options o) rules in
+    subst (λ (n : ℕ). Gives (record { moment = n; act = act.Open o }) r) (sym (eqb-true m 0 p.0)) (reads o types p.1 refl)
+act_read m (act.Request party a) r lm types rules reads = reads m party a lm types rules refl
+act_read m (act.Established p c e) r lm types rules reads = reads m p c e lm types.0 types.1 types.2 rules refl
+act_read m (act.Return party used) r lm types rules reads = reads m party used lm types refl
+act_read m (act.Warm party a) r lm types rules reads = absurd (cc)
+act_read m (act.Collect party) r lm types rules reads = absurd (cc)
+act_read m act.Claim r lm types rules reads = absurd (cc)
+act_read m (act.GiveUp party) r lm types rules reads = absurd (cc)
+act_read m (act.Failed p c at e) r lm types rules reads = absurd (cc)
+act_read m (act.Pin party) r lm types rules reads = absurd (cc)
+act_read m (act.Replicate p c) r lm types rules reads = absurd (cc)
+act_read m (act.Take party p c) r lm types rules reads = absurd (cc)
+act_read m (act.Unpin p c) r lm types rules reads = absurd (cc)
+act_read m (act.Maintain a) r lm types rules reads = absurd (cc)
+act_read m (act.Ready p) r lm types rules reads = absurd (cc)
+act_read m (act.Clear p s e) r lm types rules reads = absurd (cc)
+act_read m (act.Close p) r lm types rules reads = absurd (cc)
+
+pub step_read : (number : ℕ) (line : List ℕ) (s : Step) (r : Result Step LineError) → Spells number line s → ReadsLine line r → Gives s r
+step_read number line s r h reads = act_read s.moment s.act r h.types.0 h.types.1 h.rules (subst (λ (l : List ℕ). ReadsLine l r) h.text reads)
+
+pub is_text : (line : List ℕ) → is_printable line ≡ true → IsUtf8 line
+is_text line h = IsUtf8-from_ascii line (λ i. below line h i)
+  where
+    below : (bs : List ℕ) → is_printable bs ≡ true → (i : ℕ) → get_or bs i 0 < 128
+    below [] h i = omega arith
+    below (b ∷ bs) h zero = let le : b ≤ 126 = leb-true b 126 (and_parts (leb 32 b) (leb b 126) (and_parts (leb 32 b && leb b 126) (is_printable bs) h).0).1 in omega arith
+    below (b ∷ bs) h (suc i) = below bs (and_parts (leb 32 b && leb b 126) (is_printable bs) h).1 i
