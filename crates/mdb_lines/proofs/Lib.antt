@@ -3,6 +3,8 @@ pub mod AddressLemmas
 pub mod PartLemmas
 pub mod FormLemmas
 pub mod OpenLemmas
+pub mod Same
+pub mod SameForms
 pub mod Lines
 pub mod Loops
 pub mod Tell

@@ -1,6 +1,5 @@
 -- Each line that spells a step is read as that step, and no line spells two.
-use Rattle.std.proofs.Common.{◌≡◌, ℕ, ◌<◌, ◌≤◌, ◌^◌, ◌&&◌, Bool, true, eqb, leb, List, [], ◌∷◌, ◌++◌, get_or, zero, suc, Option, Some, None, Result, Ok, Err, IsUtf8, refl, sym, ap, ◌∙◌, arith, codes, subst}
-use Rattle.std.specs.List.{list_all}
+use Rattle.std.proofs.Common.{◌≡◌, ℕ, ◌<◌, ◌≤◌, ◌^◌, ◌&&◌, true, eqb, leb, List, [], ◌∷◌, get_or, zero, suc, Result, Ok, IsUtf8, refl, sym, arith, codes, subst}
 use Rattle.std.proofs.lemmas.Bool.{eqb-true, leb-true, and_parts}
 use Rattle.std.proofs.lemmas.List.{append_cancel_right}
 use Rattle.std.proofs.lemmas.Str.{IsUtf8-from_ascii}
@@ -15,6 +14,7 @@ use Rattle.mdb_lines.specs.Types.{IsActOfTypes}
 use Rattle.mdb_lines.specs.Script.{Spells, line_of}
 use Rattle.mdb_lines.specs.Reading.{Gives}
 use Rattle.mdb_lines.specs.Forms.{kind_of, ReadsLine}
+use Rattle.mdb_lines.proofs.SameForms.{open_same, request_same, established_same, return_same}
 
 -- what reading the text of an act gives
 pub act_read : (m : ℕ) (a : Act) (r : Result Step LineError) → m < 2 ^ 64 → IsActOfTypes a → is_act m a ≡ true → ReadsLine (act_text m a) r → Gives (record { moment = m; act = a }) r
@@ -49,3 +49,37 @@ is_text line h = IsUtf8-from_ascii line (λ i. below line h i)
     below [] h i = omega arith
     below (b ∷ bs) h zero = let le : b ≤ 126 = leb-true b 126 (and_parts (leb 32 b) (leb b 126) (and_parts (leb 32 b && leb b 126) (is_printable bs) h).0).1 in omega arith
     below (b ∷ bs) h (suc i) = below bs (and_parts (leb 32 b && leb b 126) (is_printable bs) h).1 i
+
+-- reading what spells an act may give that act
+act_reads : (m : ℕ) (a : Act) → m < 2 ^ 64 → IsActOfTypes a → is_act m a ≡ true → ReadsLine (act_text m a) (Ok (record { moment = m; act = a }))
+unfolding until beyond kind_of
+act_reads m (act.Open o) lm types rules =
+    let p = and_parts (eqb m 0) (are_options o) rules in
+    subst (λ (n : ℕ). ReadsLine (act_text n (act.Open o)) (Ok (record { moment = n; act = act.Open o }))) (sym (eqb-true m 0 p.0)) (open_same o types p.1)
+act_reads m (act.Request party a) lm types rules = request_same m party a lm types rules
+act_reads m (act.Established p c e) lm types rules = established_same m p c e lm types.0 types.1 types.2 rules
+act_reads m (act.Return party used) lm types rules = return_same m party used lm types
+act_reads m (act.Warm party a) lm types rules = absurd (cc)
+act_reads m (act.Collect party) lm types rules = absurd (cc)
+act_reads m act.Claim lm types rules = absurd (cc)
+act_reads m (act.GiveUp party) lm types rules = absurd (cc)
+act_reads m (act.Failed p c at e) lm types rules = absurd (cc)
+act_reads m (act.Pin party) lm types rules = absurd (cc)
+act_reads m (act.Replicate p c) lm types rules = absurd (cc)
+act_reads m (act.Take party p c) lm types rules = absurd (cc)
+act_reads m (act.Unpin p c) lm types rules = absurd (cc)
+act_reads m (act.Maintain a) lm types rules = absurd (cc)
+act_reads m (act.Ready p) lm types rules = absurd (cc)
+act_reads m (act.Clear p s e) lm types rules = absurd (cc)
+act_reads m (act.Close p) lm types rules = absurd (cc)
+
+-- a line spells one step
+pub spells_one : (n : ℕ) (line : List ℕ) (s t : Step) → Spells n line s → Spells n line t → s ≡ t
+spells_one n line s t hs ht =
+    let reads = act_reads s.moment s.act hs.types.0 hs.types.1 hs.rules in
+    step_read n line t (Ok s) ht (subst (λ (l : List ℕ). ReadsLine l (Ok s)) (sym hs.text) reads)
+
+pub line_same : (n : ℕ) (s t : Step) → Spells n (spelling s) s → Spells n (spelling t) t → line_of s ≡ line_of t → s ≡ t
+line_same n s t hs ht e =
+    let text : spelling s ≡ spelling t = append_cancel_right (spelling s) (spelling t) (codes "\n") e in
+    spells_one n (spelling t) s t (subst (λ (l : List ℕ). Spells n l s) text hs) ht

@@ -1,5 +1,5 @@
 -- The parts of a first line, and its rules, as reading needs them.
-use Rattle.std.proofs.Common.{◌≡◌, ℕ, ◌<◌, ◌≤◌, ◌&&◌, ◌⊎◌, not, Bool, true, false, leb, List, [], ◌∷◌, ◌++◌, length, is_none, Option, Some, None, option_map, IfSome, refl, arith, inl, inr, codes}
+use Rattle.std.proofs.Common.{◌≡◌, ℕ, ◌<◌, ◌≤◌, ◌&&◌, Bool, true, false, leb, List, [], ◌∷◌, ◌++◌, length, is_none, Option, Some, None, option_map, IfSome, refl, arith, inl, inr, codes}
 use Rattle.std.specs.List.{list_all, flat_map}
 use Rattle.std.proofs.lemmas.Bool.{cases_Bool, leb-true, and_parts, and_from}
 use Rattle.mdb_base.specs.AddressRule.{is_address}

@@ -1,5 +1,5 @@
 -- Optional parts: where a part's name stands, and where it doesn't.
-use Rattle.std.proofs.Common.{◌≡◌, ℕ, ◌<◌, ◌≤◌, ◌^◌, ◌&&◌, Bool, true, false, eqb, List, [], ◌∷◌, ◌++◌, Option, Some, None, option_map, IfSome, refl, sym, ap, ◌∙◌, arith, inl, inr, append_assoc, decimal, ℤ, pos, int_le, FitsSigned}
+use Rattle.std.proofs.Common.{◌≡◌, ℕ, ◌<◌, ◌^◌, Bool, true, false, eqb, List, [], ◌∷◌, ◌++◌, Option, Some, None, option_map, IfSome, refl, ap, ◌∙◌, arith, inl, inr, append_assoc, decimal, ℤ, pos, int_le, FitsSigned}
 use Rattle.std.specs.Int.{w64}
 use Rattle.std.specs.Fmt.{signed_decimal}
 use Rattle.std.proofs.lemmas.Bool.{eqb-true, cases_Bool, and_parts}
@@ -8,7 +8,7 @@ use Rattle.mdb_base.specs.Spelling.{object_id}
 use Rattle.mdb_base.specs.AddressReading.{until, beyond, after}
 use Rattle.mdb_base.proofs.Words.{after_here}
 use Rattle.mdb_base.proofs.AddressAgain.{word_cut}
-use Rattle.mdb_lines.specs.Parts.{Part, flag, part_text, parts_text, apart, is_spaced, are_spaced, are_apart, may_follow}
+use Rattle.mdb_lines.specs.Parts.{Part, flag, parts_text, apart, is_spaced, are_spaced, are_apart, may_follow}
 use Rattle.mdb_lines.specs.Reading.{lacks, Follows}
 use Rattle.mdb_lines.proofs.TextLemmas.{follows_rest, decimal_lacks, signed_lacks}
 use Rattle.mdb_lines.proofs.AddressLemmas.{id_lacks}
@@ -27,7 +27,7 @@ unfolding after
 after_nothing [] h = absurd (cc)
 after_nothing (n ∷ ns) h = refl
 
-parts_lack : (name : List ℕ) (ps : List Part) → are_apart name ps ≡ true → after name (parts_text ps) ≡ None
+pub parts_lack : (name : List ℕ) (ps : List Part) → are_apart name ps ≡ true → after name (parts_text ps) ≡ None
 unfolding parts_text
 parts_lack name [] h = after_nothing name h
 parts_lack name ((other, None) ∷ ps) h = parts_lack name ps (and_parts _ _ h).1

@@ -1,6 +1,5 @@
 -- Reading words: what the calls of std give, and that what is spelled is read again.
-use Rattle.std.proofs.Common.{◌≡◌, ◌≢◌, ℕ, zero, suc, ◌<◌, ◌^◌, ◌&&◌, ◌⊎◌, not, Bool, true, false, eqb, List, [], ◌∷◌, ◌++◌, length, get_or, take, drop, Option, Some, None, MatchOption, option_copied, Bor, refl, sym, ap, ◌∙◌, arith, inl, inr, eq-eqb, decimal, ℤ, pos, negsuc, int_le, FitsSigned, Result, Ok, Err}
-use Rattle.std.specs.List.{list_all}
+use Rattle.std.proofs.Common.{◌≡◌, ℕ, suc, ◌<◌, ◌^◌, true, false, eqb, List, [], ◌∷◌, ◌++◌, Some, None, refl, ap, ◌∙◌, arith, decimal, ℤ, pos, negsuc, int_le, FitsSigned, Result, Ok, Err}
 use Rattle.std.specs.Str.Parse.{AllDigits, ParsesUnsigned, ParsesSigned}
 use Rattle.std.specs.Fmt.{signed_decimal}
 use Rattle.std.specs.Int.{Width, w32, w64, cast_signed, cast_unsigned}
@@ -8,7 +7,7 @@ use Rattle.std.proofs.lemmas.Int.{to_z-of_z}
 use Rattle.std.specs.Int.Signed.{mag}
 use Rattle.std.proofs.lemmas.Str.Parse.{digit_from_value}
 use Rattle.std.proofs.lemmas.Fmt.{decimal_is_IsNumeral, parse-decimal, parse-signed_decimal}
-use Rattle.std.proofs.lemmas.Bool.{eqb-true, ne_eqb, cases_Bool, and_parts, and_from}
+use Rattle.std.proofs.lemmas.Bool.{ne_eqb, and_from}
 use Rattle.mdb_base.specs.AddressReading.{until, beyond, after}
 use Rattle.mdb_base.proofs.Words.{after_here}
 use Rattle.mdb_base.proofs.AddressAgain.{IsRest, rest_nil, rest_cons, word_cut}

@@ -1,5 +1,5 @@
 -- What reading gives for each kind of line, from what stands behind its first word: the step that the line spells.
-use Rattle.std.specs.Prelude.{◌≡◌, ℕ, ◌<◌, ◌^◌, List, ◌++◌, codes, decimal, Option, Some, None, Result, Bool, true, if◌then◌else◌, bytes_eq, MatchOption, Ok, Err}
+use Rattle.std.specs.Prelude.{◌≡◌, ℕ, ◌<◌, ◌^◌, List, ◌++◌, codes, decimal, Option, Some, None, Result, true, if◌then◌else◌, bytes_eq, MatchOption}
 use Rattle.std.specs.Fmt.{signed_decimal}
 use Rattle.mdb_base.specs.AddressReading.{until, beyond}
 use Rattle.mdb_base.specs.AddressRule.{is_address}

@@ -1,5 +1,5 @@
 -- The rules of the grammar: which steps the lines of a script spell.
-use Rattle.std.specs.Prelude.{ℕ, ◌==◌, ◌&&◌, nat_le, List, length, Option, Some, None, Bool, true, false, not, is_none, is_some, ℤ, int_le, pos, bytes_eq, replicate}
+use Rattle.std.specs.Prelude.{ℕ, ◌==◌, ◌&&◌, nat_le, List, Bool, true, false, not, is_none, is_some, int_le, pos, bytes_eq, replicate}
 use Rattle.std.specs.List.{list_all}
 use Rattle.mdb_base.specs.AddressRule.{is_address}
 use Rattle.mdb_base.specs.OptionRules.{broken_rule}

@@ -1,5 +1,5 @@
 -- How steps are spelled.
-use Rattle.std.specs.Prelude.{ℕ, List, [], ◌∷◌, ◌++◌, decimal, codes, Option, option_map, Bool, true, false, IsTrue}
+use Rattle.std.specs.Prelude.{ℕ, List, [], ◌∷◌, ◌++◌, decimal, codes, option_map, Bool, true, false, IsTrue}
 use Rattle.std.specs.Fmt.{signed_decimal}
 use Rattle.mdb_base.specs.Spelling.{address, object_id}
 use Rattle.mdb_base.specs.ErrorText.{error_text}

@@ -1,5 +1,6 @@
 pub mod Opening
 pub mod Legality
-pub mod Run
+pub mod Between
 pub mod Complete
 pub mod Usage
+pub mod Taken

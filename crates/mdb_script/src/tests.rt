@@ -1,18 +1,9 @@
 //! Worked scripts with their logs, and the ends of runs.
 
-use crate::run::run_script;
 use crate::tool::run_tool;
 use mdb_base::{MemSink, MemSource};
 use std::alloc::{AllocError, Global};
 use std::test::Fail;
-
-/// What a run of the tool left.
-#[derive(Drop)]
-struct Left {
-    status: u8,
-    written: Vec<u8>,
-    told: Vec<u8>,
-}
 
 /// How the source and the sink of a run behave.
 #[derive(Clone, Copy)]
@@ -32,21 +23,28 @@ const PLAIN: Outside = Outside {
     sink_fails: 0,
 };
 
-fn run(alloc: Global, words: &[&str], script: &[u8], outside: Outside) -> Result<Left, AllocError> {
+// A run of the tool ends with this status, and wrote and told just this.
+fn ends(
+    alloc: Global,
+    words: &[&str],
+    script: &[u8],
+    outside: Outside,
+    status: u8,
+    written: &[u8],
+    told: &[u8],
+) -> Result<bool, AllocError> {
     let held = Vec::from_slice(alloc, script)?;
     let piece = outside.source_piece.max(1);
     let mut source = MemSource::new(held, piece, vec![in alloc; outside.source_fails]?);
     let fails = vec![in alloc; outside.sink_fails]?;
-    let mut sink = MemSink::new(alloc, outside.room, outside.sink_piece, fails).map_err(
-        |_| AllocError,
-    )?;
-    let mut errors = MemSink::new(alloc, 100, 100, Vec::new(alloc)).map_err(|_| AllocError)?;
-    let status = run_tool(alloc, words, &mut source, &mut sink, &mut errors);
-    Ok(Left {
-        status,
-        written: Vec::from_slice(alloc, sink.taken())?,
-        told: Vec::from_slice(alloc, errors.taken())?,
-    })
+    let Ok(mut sink) = MemSink::new(alloc, outside.room, outside.sink_piece, fails) else {
+        return Err(AllocError);
+    };
+    let Ok(mut errors) = MemSink::new(alloc, 100, 100, Vec::new(alloc)) else {
+        return Err(AllocError);
+    };
+    let ended = run_tool(alloc, words, &mut source, &mut sink, &mut errors);
+    Ok(ended == status && sink.taken() == written && errors.taken() == told)
 }
 
 const FIRST: &str = "open seeds=a:1 lb\n\
@@ -106,11 +104,22 @@ const LAST_BACK: &str = "open seeds=a:1 lb\n\
     return 2 9 ok\n\
     established 2 0 9 wire=21 sid=0102030405060708090a0b0c\n";
 
-const LAST_BACK_END: &str = "request 1 3 a:1 | Refused TimeBack 2\n\
+const LAST_BACK_LOG: &str =
+    "open seeds=a:1 lb | Done | Opened 0 a:1 | Pool 0 PoolCreated a:1 max=- min=- idle=-\n\
+    request 0 1 a:1 | Establishing 0.1 | Pool 0 ConnectionCheckoutStarted a:1 | Pool 0 ConnectionCreated a:1 1 | Granted 1 0.1\n\
+    request 0 2 a:1 | Establishing 0.2 | Pool 0 ConnectionCheckoutStarted a:1 | Pool 0 ConnectionCreated a:1 2 | Granted 2 0.2\n\
+    established 1 0 1 wire=21 sid=0102030405060708090a0b0c | Done | Pool 0 ConnectionReady a:1 1 1 | Pool 0 ConnectionCheckedOut a:1 1 1\n\
+    established 1 0 2 wire=21 sid=0102030405060708090a0b0c | Done | Pool 0 ConnectionReady a:1 2 1 | Pool 0 ConnectionCheckedOut a:1 2 1\n\
+    return 2 1 ok | Done | Pool 0 ConnectionCheckedIn a:1 1\n\
+    return 2 2 ok | Done | Pool 0 ConnectionCheckedIn a:1 2\n\
+    request 1 3 a:1 | Refused TimeBack 2\n\
     request 2 1 a:1 | Refused RequestKnown\n\
     request 2 3 a:1 | Pooled 0.2 | Pool 0 ConnectionCheckoutStarted a:1 | Granted 3 0.2 | Pool 0 ConnectionCheckedOut a:1 2 0\n\
     return 2 9 ok | Refused NotHolder\n\
     established 2 0 9 wire=21 sid=0102030405060708090a0b0c | Refused NotPending\n";
+
+const OPENED: &str =
+    "open seeds=a:1 lb | Done | Opened 0 a:1 | Pool 0 PoolCreated a:1 max=- min=- idle=-\n";
 
 #[test]
 fn scripts_give_their_logs(rt: HostRuntime) -> Result<(), Fail> {
@@ -120,74 +129,56 @@ fn scripts_give_their_logs(rt: HostRuntime) -> Result<(), Fail> {
         (FIRST, FIRST_LOG),
         (WAITING, WAITING_LOG),
         (CONNECTING, CONNECTING_LOG),
+        (LAST_BACK, LAST_BACK_LOG),
     ] {
-        let left = run(alloc, &[], script.as_bytes(), PLAIN)?;
-        assert!(rt; left.status == 0, "{script}");
-        assert!(rt; left.written.as_slice() == log.as_bytes(), "{script}");
-        assert!(rt; left.told.is_empty());
+        let same = ends(alloc, &[], script.as_bytes(), PLAIN, 0, log.as_bytes(), b"")?;
+        assert!(rt; same, "{script}");
     }
-    let left = run(alloc, &[], LAST_BACK.as_bytes(), PLAIN)?;
-    assert!(rt; left.status == 0 && left.written.ends_with(LAST_BACK_END.as_bytes()));
-    Ok(())
-}
-
-#[test]
-fn a_run_answers_its_log(rt: HostRuntime) -> Result<(), Fail> {
-    let alloc = rt.alloc();
-    let mut source = MemSource::new(
-        Vec::from_slice(alloc, FIRST.as_bytes())?,
-        7,
-        Vec::new(alloc),
-    );
-    let mut sink = MemSink::new(alloc, 1000, 3, Vec::new(alloc)).map_err(|_| AllocError)?;
-    let answered = run_script(alloc, &mut source, &mut sink);
-    assert!(rt; matches!(&answered, Ok(log) if log.entries().len() == 5));
-    assert!(rt; sink.taken() == FIRST_LOG.as_bytes());
     Ok(())
 }
 
 #[test]
 fn the_first_malformed_line_ends_the_run(rt: HostRuntime) -> Result<(), Fail> {
     let alloc = rt.alloc();
-    for line in [
-        "open seeds=a:1 lb\n",
-        "request 05 1 a:1\n",
-        "request 1  1 a:1\n",
-        "request 1 1 a:1 \n",
-        "request 18446744073709551616 1 a:1\n",
-        "request 1 1 a:1\r\n",
-        "request 1 1 b:1\n",
-        "request 1 1 a:1",
-        "return 1 1 errored\n",
-        "established 1 0 1 wire=21\n",
-        "\n",
+    for script in [
+        "open seeds=a:1 lb\nopen seeds=a:1 lb\n",
+        "open seeds=a:1 lb\nrequest 05 1 a:1\n",
+        "open seeds=a:1 lb\nrequest 1  1 a:1\n",
+        "open seeds=a:1 lb\nrequest 1 1 a:1 \n",
+        "open seeds=a:1 lb\nrequest 18446744073709551616 1 a:1\n",
+        "open seeds=a:1 lb\nrequest 1 1 a:1\r\n",
+        "open seeds=a:1 lb\nrequest 1 1 b:1\n",
+        "open seeds=a:1 lb\nrequest 1 1 a:1",
+        "open seeds=a:1 lb\n\n",
     ] {
-        let mut script = Vec::from_slice(alloc, b"open seeds=a:1 lb\n".as_slice())?;
-        script.extend_from_slice(line.as_bytes())?;
-        let left = run(alloc, &[], script.as_slice(), PLAIN)?;
-        assert!(rt;
-            left.status == 5 && left.told.as_slice() == b"line 2 is malformed\n".as_slice(),
-            "{line}"
-        );
-        assert!(rt;
-            left.written.len() == 84 && FIRST_LOG.as_bytes().starts_with(left.written.as_slice()),
-            "{line}"
-        );
+        let told = b"line 2 is malformed\n";
+        let same = ends(
+            alloc,
+            &[],
+            script.as_bytes(),
+            PLAIN,
+            5,
+            OPENED.as_bytes(),
+            told,
+        )?;
+        assert!(rt; same, "{script}");
     }
-    for line in [
+    for script in [
         "request 1 1 a:1\n",
         "open seeds=a:1,b:1 lb\n",
-        "open seeds=a:1,a:1 lb\n",
         "open seeds=a:1 direct lb\n",
         "open seeds=a:1 lb max=0\n",
-        "open seeds=a:0 lb\n",
     ] {
-        let left = run(alloc, &[], line.as_bytes(), PLAIN)?;
-        assert!(rt;
-            left.status == 5 && left.told.as_slice() == b"line 1 is malformed\n".as_slice(),
-            "{line}"
-        );
-        assert!(rt; left.written.is_empty(), "{line}");
+        let same = ends(
+            alloc,
+            &[],
+            script.as_bytes(),
+            PLAIN,
+            5,
+            b"",
+            b"line 1 is malformed\n",
+        )?;
+        assert!(rt; same, "{script}");
     }
     Ok(())
 }
@@ -195,79 +186,81 @@ fn the_first_malformed_line_ends_the_run(rt: HostRuntime) -> Result<(), Fail> {
 #[test]
 fn faults_end_the_run_with_what_was_written(rt: HostRuntime) -> Result<(), Fail> {
     let alloc = rt.alloc();
-    let whole = FIRST_LOG.len();
-    for (outside, status, written) in [
-        (
-            Outside {
-                source_piece: 1,
-                sink_piece: 1,
-                ..PLAIN
-            },
-            0,
-            whole,
-        ),
-        (
-            Outside {
-                source_fails: 2,
-                source_piece: 10,
-                ..PLAIN
-            },
-            3,
-            0,
-        ),
-        (
-            Outside {
-                sink_fails: 2,
-                sink_piece: 10,
-                ..PLAIN
-            },
+    let (script, log) = (FIRST.as_bytes(), FIRST_LOG.as_bytes());
+    let single = Outside {
+        source_piece: 1,
+        sink_piece: 1,
+        ..PLAIN
+    };
+    assert!(rt; ends(alloc, &[], script, single, 0, log, b"")?);
+    let unread = Outside {
+        source_piece: 10,
+        source_fails: 2,
+        ..PLAIN
+    };
+    assert!(rt; ends(alloc, &[], script, unread, 3, b"", b"read fault\n")?);
+    let unwritten = Outside {
+        sink_piece: 10,
+        sink_fails: 2,
+        ..PLAIN
+    };
+    assert!(rt;
+        ends(
+            alloc,
+            &[],
+            script,
+            unwritten,
             4,
-            10,
-        ),
-        (Outside { room: 10, ..PLAIN }, 4, 10),
-        (
-            Outside {
-                sink_piece: 0,
-                ..PLAIN
-            },
-            4,
-            0,
-        ),
-        (
-            Outside {
-                sink_fails: 6,
-                ..PLAIN
-            },
-            4,
-            whole,
-        ),
-    ] {
-        let left = run(alloc, &[], FIRST.as_bytes(), outside)?;
-        assert!(rt; left.status == status, "{status} {written}");
-        assert!(rt;
-            left.written.len() == written
-                && FIRST_LOG.as_bytes().starts_with(left.written.as_slice())
-        );
-    }
+            b"open seeds",
+            b"write fault\n"
+        )?
+    );
+    let full = Outside { room: 10, ..PLAIN };
+    assert!(rt; ends(alloc, &[], script, full, 4, b"open seeds", b"write fault\n")?);
+    let closed = Outside {
+        sink_piece: 0,
+        ..PLAIN
+    };
+    assert!(rt; ends(alloc, &[], script, closed, 4, b"", b"write fault\n")?);
+    let unflushed = Outside {
+        sink_fails: 6,
+        ..PLAIN
+    };
+    assert!(rt; ends(alloc, &[], script, unflushed, 4, log, b"write fault\n")?);
     Ok(())
 }
 
 #[test]
 fn words_are_a_usage_and_long_inputs_are_refused(rt: HostRuntime) -> Result<(), Fail> {
     let alloc = rt.alloc();
-    for word in ["make", "--help", "share", ""] {
-        let left = run(alloc, &[word], FIRST.as_bytes(), PLAIN)?;
-        assert!(rt; left.status == 2 && left.written.is_empty());
-        assert!(rt; left.told.as_slice() == b"usage: mdb_script [make N | share K]\n".as_slice());
-    }
+    let usage = b"usage: mdb_script [make N | share K]\n";
+    assert!(rt; ends(alloc, &["make"], FIRST.as_bytes(), PLAIN, 2, b"", usage)?);
     let mut script = Vec::new(alloc);
     for _ in 0..131_073u32 {
         script.push(b'x')?;
     }
-    let left = run(alloc, &[], script.as_slice(), PLAIN)?;
-    assert!(rt; left.status == 6 && left.told.as_slice() == b"input is too long\n".as_slice());
+    assert!(rt;
+        ends(
+            alloc,
+            &[],
+            script.as_slice(),
+            PLAIN,
+            6,
+            b"",
+            b"input is too long\n"
+        )?
+    );
     script.truncate(131_072);
-    let left = run(alloc, &[], script.as_slice(), PLAIN)?;
-    assert!(rt; left.status == 5 && left.told.as_slice() == b"line 1 is malformed\n".as_slice());
+    assert!(rt;
+        ends(
+            alloc,
+            &[],
+            script.as_slice(),
+            PLAIN,
+            5,
+            b"",
+            b"line 1 is malformed\n"
+        )?
+    );
     Ok(())
 }

@@ -15,12 +15,15 @@ returns-in_err-address c = λ seeds some hold e.
     handed_on seeds c.from_residual.result c.in_err-address.field-0.0 (c.in_err-address.ensures took.taken took.rule took.text) c.from_residual.ensures.1
 
 pub loop-first-preserved : goal.loop-first-preserved
-loop-first-preserved c = (search rules, λ seeds some hold e.
-    let l = c.loop-first in
-    let around = split_once_first 44 l.rest.now (Some (c.in-Some.first, c.in-Some.more)) c.in-Some.ensures.cases (omega arith) in
-    let took = leaves_split seeds l.found.items l.rest.now c.in-Some.first.now c.in-Some.more.now (l.invariant.1 seeds some hold e) (record { inside = around.0; before = around.1; after = around.2 }) in
-    let same = c.in_ok-address.ensures took.taken took.rule took.text in
-    rw (c.in_ok-push.ensures.items, same) took.left)
+loop-first-preserved c = (
+  search rules,
+  λ seeds some hold e.
+      let l = c.loop-first in
+      let around = split_once_first 44 l.rest.now (Some (c.in-Some.first, c.in-Some.more)) c.in-Some.ensures.cases (omega arith) in
+      let took = leaves_split seeds l.found.items l.rest.now c.in-Some.first.now c.in-Some.more.now (l.invariant.1 seeds some hold e) (record { inside = around.0; before = around.1; after = around.2 }) in
+      let same = c.in_ok-address.ensures took.taken took.rule took.text in
+      rw (c.in_ok-push.ensures.items, same) took.left,
+)
 
 pub returns-in_err-address-2 : goal.returns-in_err-address-2
 returns-in_err-address-2 c = λ seeds some hold e.

@@ -1,4 +1,4 @@
-use Rattle.std.proofs.Common.{◌≡◌, ◌∙◌, Some, ap}
+use Rattle.std.proofs.Common.{◌∙◌, ap}
 use Rattle.mdb_base.specs.AddressReading.{after}
 use Rattle.mdb_base.proofs.Words.{after_here}
 use Rattle.mdb_lines.proofs.TextLemmas.{field_there}

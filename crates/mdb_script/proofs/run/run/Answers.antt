@@ -1,5 +1,5 @@
 use Rattle.mdb_script.specs.Runs.{Seen}
-use Rattle.mdb_script.proofs.Run.{flush_fails}
+use Rattle.mdb_script.proofs.Between.{flush_fails}
 use Rattle.mdb_script.proofs.run.run.Goals as goal
 
 pub returns-clause-ended : goal.returns-clause-ended

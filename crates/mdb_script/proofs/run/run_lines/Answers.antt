@@ -1,6 +1,6 @@
 use Rattle.std.proofs.Common.{arith, length, ◌≡◌}
 use Rattle.std.proofs.lemmas.Grind.{common_steps}
-use Rattle.mdb_script.proofs.Run.{goes_on, done, line_ends, last_ends}
+use Rattle.mdb_script.proofs.Between.{goes_on, done, line_ends, last_ends}
 use Rattle.mdb_script.proofs.Legality.{legal-log}
 use Rattle.mdb_script.proofs.run.run_lines.Goals as goal
 

@@ -1,6 +1,6 @@
 use Rattle.std.proofs.Common.{length}
 use Rattle.mdb_script.specs.Standing.{Stands}
-use Rattle.mdb_script.proofs.Run.{Between}
+use Rattle.mdb_script.proofs.Between.{Between}
 use Rattle.mdb_script.proofs.run.run_lines.Given as goal
 
 abbrev pub invariant-loop-rest : goal.invariant-loop-rest

@@ -1,5 +1,5 @@
 -- A run, line by line.
-use Rattle.std.proofs.Common.{◌≡◌, ℕ, suc, ◌+◌, ◌≤◌, Bool, true, false, List, [], ◌∷◌, ◌++◌, length, take, map, codes, Option, Some, None, Ok, Err, All, refl, sym, ap, ◌∙◌, arith, append_assoc, inl, inr, subst, length-append}
+use Rattle.std.proofs.Common.{◌≡◌, ℕ, suc, ◌+◌, ◌<◌, ◌≤◌, Bool, true, false, List, [], ◌∷◌, ◌++◌, length, take, map, codes, Option, Some, None, Ok, Err, All, refl, sym, ap, ◌∙◌, arith, append_assoc, inl, inr, subst, length-append}
 use Rattle.std.proofs.lemmas.List.{append-nil, append_cancel_right}
 use Rattle.std.proofs.lemmas.List.Elements.{All-nil, All-push}
 use Rattle.std.proofs.Math.Seq.{take-append-add, take-length}
@@ -11,7 +11,7 @@ use Rattle.mdb_lines.specs.declared.run_error.RunError.TheVariants as errors
 use Rattle.mdb_lines.specs.Spelling.{spelling}
 use Rattle.mdb_lines.specs.LogText.{text_of_entry, text_of}
 use Rattle.mdb_lines.specs.Script.{Spells, lines_of, line_of, AreAllowed, max_input}
-use Rattle.mdb_lines.specs.Reading.{beyond}
+use Rattle.mdb_base.specs.AddressReading.{beyond}
 use Rattle.mdb_lines.specs.Loops.{ReadsAll, ReadEnds}
 use Rattle.mdb_lines.proofs.Loops.{took_nothing, took_more, took_no_more, line_not_last}
 use Rattle.mdb_script.specs.World.{is_within, may_come, entry_after, log_of, log_after, IsLegalLog}
