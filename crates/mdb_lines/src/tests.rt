@@ -22,7 +22,7 @@ fn reads_each_line_and_spells_it_again(rt: HostRuntime) -> Result<(), Fail> {
         let step = read_line(rt.alloc(), line.as_bytes(), number)?;
         let spelled = write_line(rt.alloc(), &step)?;
         assert!(rt; spelled.as_str() == *line, "{line}");
-        number += 1;
+        number = number.saturating_add(1);
     }
     let others = [
         "open seeds=[::1]:8191 lb max=65535 connecting=1",
