@@ -8,13 +8,15 @@ mod tool;
 mod world;
 
 use mdb_base::{Reading, Writing};
+use mdb_lines::{RunError, Status, status_of, tell_error};
 use std::alloc::AllocError;
 use std::env;
+use std::io::ErrorKind;
 use std::process::ExitCode;
 use std::rt::Env;
 use tool::run_tool;
 
-// The words of the command line; where they can't be had, one word that is no command.
+// The words of the command line; where one of them is no text, a word that is no command.
 fn words<R: Env + AllocGlobal>(rt: &R) -> Result<Vec<String>, AllocError> {
     let mut words = Vec::new(rt.alloc());
     match env::args(rt) {
@@ -23,12 +25,21 @@ fn words<R: Env + AllocGlobal>(rt: &R) -> Result<Vec<String>, AllocError> {
                 words.push(word)?;
             }
         }
-        Err(_) => words.push(String::from_str(rt.alloc(), "?")?)?,
+        Err(e) => {
+            if e.kind() == ErrorKind::OutOfMemory {
+                return Err(AllocError);
+            }
+            words.push(String::from_str(rt.alloc(), "?")?)?;
+        }
     }
     Ok(words)
 }
 
-fn status<R: AllocGlobal>(rt: &R, words: &[String], host: &HostRuntime) -> Result<u8, AllocError> {
+fn status<R: AllocGlobal>(
+    rt: &R,
+    words: &[String],
+    host: &HostRuntime,
+) -> Result<Status, AllocError> {
     let mut texts = Vec::new(rt.alloc());
     for word in words {
         texts.push(word.as_str())?;
@@ -45,12 +56,18 @@ fn status<R: AllocGlobal>(rt: &R, words: &[String], host: &HostRuntime) -> Resul
     ))
 }
 
+fn answer(rt: &HostRuntime) -> Result<Status, AllocError> {
+    let words = words(rt)?;
+    status(rt, words.as_slice(), rt)
+}
+
 fn main(rt: HostRuntime) -> ExitCode {
-    match words(&rt) {
-        Ok(words) => match status(&rt, words.as_slice(), &rt) {
-            Ok(status) => ExitCode::from(status),
-            Err(_) => ExitCode::from(1),
-        },
-        Err(_) => ExitCode::from(1),
+    match answer(&rt) {
+        Ok(status) => ExitCode::from(status),
+        Err(_) => {
+            let mut errors = Writing::new(rt.stderr());
+            tell_error(&mut errors, RunError::OutOfMemory);
+            ExitCode::from(status_of(RunError::OutOfMemory))
+        }
     }
 }
