@@ -1,0 +1,11 @@
+pub mod Commands
+pub mod Errors
+pub mod Groups
+pub mod Kinds
+pub mod Links
+pub mod MemoryLinks
+pub mod ReadBack
+pub mod Reading
+pub mod Reply
+pub mod ServerTypes
+pub mod Table
