@@ -13,28 +13,28 @@ use Rattle.mdb_lines.specs.Grammar.{is_act, is_printable, are_options}
 use Rattle.mdb_lines.specs.Types.{IsActOfTypes}
 use Rattle.mdb_lines.specs.Script.{Spells, line_of}
 use Rattle.mdb_lines.specs.Reading.{Gives}
-use Rattle.mdb_lines.specs.Forms.{kind_of, ReadsLine}
-use Rattle.mdb_lines.proofs.SameForms.{open_same, request_same, established_same, return_same}
+use Rattle.mdb_lines.specs.Forms.{kind_of, caller_kind, connection_kind, ReadsLine}
+use Rattle.mdb_lines.proofs.SameForms.{open_same, moment_same, party_same, asked_same, address_line_same, place_same, take_same, established_same, return_same}
 
 -- what reading the text of an act gives
 pub act_read : (m : ℕ) (a : Act) (r : Result Step LineError) → m < 2 ^ 64 → IsActOfTypes a → is_act m a ≡ true → ReadsLine (act_text m a) r → Gives (record { moment = m; act = a }) r
-unfolding until beyond kind_of
+unfolding until beyond kind_of caller_kind connection_kind
 act_read m (act.Open o) r lm types rules reads =
     let p = and_parts (eqb m 0) (are_options o) rules in
     subst (λ (n : ℕ). Gives (record { moment = n; act = act.Open o }) r) (sym (eqb-true m 0 p.0)) (reads o types p.1 refl)
 act_read m (act.Request party a) r lm types rules reads = reads m party a lm types rules refl
+act_read m (act.Warm party a) r lm types rules reads = reads m party a lm types rules refl
+act_read m (act.Collect party) r lm types rules reads = reads m party lm types refl
+act_read m act.Claim r lm types rules reads = reads m lm refl
+act_read m (act.GiveUp party) r lm types rules reads = reads m party lm types refl
 act_read m (act.Established p c e) r lm types rules reads = reads m p c e lm types.0 types.1 types.2 rules refl
 act_read m (act.Return party used) r lm types rules reads = reads m party used lm types refl
-act_read m (act.Warm party a) r lm types rules reads = absurd (cc)
-act_read m (act.Collect party) r lm types rules reads = absurd (cc)
-act_read m act.Claim r lm types rules reads = absurd (cc)
-act_read m (act.GiveUp party) r lm types rules reads = absurd (cc)
+act_read m (act.Pin party) r lm types rules reads = reads m party lm types refl
+act_read m (act.Replicate p c) r lm types rules reads = reads m p c lm types.0 types.1 refl
+act_read m (act.Take party p c) r lm types rules reads = reads m party p c lm types.0 types.1 types.2 refl
+act_read m (act.Unpin p c) r lm types rules reads = reads m p c lm types.0 types.1 refl
+act_read m (act.Maintain a) r lm types rules reads = reads m a lm rules refl
 act_read m (act.Failed p c at e) r lm types rules reads = absurd (cc)
-act_read m (act.Pin party) r lm types rules reads = absurd (cc)
-act_read m (act.Replicate p c) r lm types rules reads = absurd (cc)
-act_read m (act.Take party p c) r lm types rules reads = absurd (cc)
-act_read m (act.Unpin p c) r lm types rules reads = absurd (cc)
-act_read m (act.Maintain a) r lm types rules reads = absurd (cc)
 act_read m (act.Ready p) r lm types rules reads = absurd (cc)
 act_read m (act.Clear p s e) r lm types rules reads = absurd (cc)
 act_read m (act.Close p) r lm types rules reads = absurd (cc)
@@ -52,23 +52,23 @@ is_text line h = IsUtf8-from_ascii line (λ i. below line h i)
 
 -- reading what spells an act may give that act
 act_reads : (m : ℕ) (a : Act) → m < 2 ^ 64 → IsActOfTypes a → is_act m a ≡ true → ReadsLine (act_text m a) (Ok (record { moment = m; act = a }))
-unfolding until beyond kind_of
+unfolding until beyond kind_of caller_kind connection_kind
 act_reads m (act.Open o) lm types rules =
     let p = and_parts (eqb m 0) (are_options o) rules in
     subst (λ (n : ℕ). ReadsLine (act_text n (act.Open o)) (Ok (record { moment = n; act = act.Open o }))) (sym (eqb-true m 0 p.0)) (open_same o types p.1)
-act_reads m (act.Request party a) lm types rules = request_same m party a lm types rules
+act_reads m (act.Request party a) lm types rules = asked_same (λ r b. act.Request r b) m party a lm types rules
+act_reads m (act.Warm party a) lm types rules = asked_same (λ r b. act.Warm r b) m party a lm types rules
+act_reads m (act.Collect party) lm types rules = party_same (λ r. act.Collect r) m party lm types
+act_reads m act.Claim lm types rules = moment_same act.Claim m lm
+act_reads m (act.GiveUp party) lm types rules = party_same (λ r. act.GiveUp r) m party lm types
 act_reads m (act.Established p c e) lm types rules = established_same m p c e lm types.0 types.1 types.2 rules
 act_reads m (act.Return party used) lm types rules = return_same m party used lm types
-act_reads m (act.Warm party a) lm types rules = absurd (cc)
-act_reads m (act.Collect party) lm types rules = absurd (cc)
-act_reads m act.Claim lm types rules = absurd (cc)
-act_reads m (act.GiveUp party) lm types rules = absurd (cc)
+act_reads m (act.Pin party) lm types rules = party_same (λ r. act.Pin r) m party lm types
+act_reads m (act.Replicate p c) lm types rules = place_same (λ q k. act.Replicate q k) m p c lm types.0 types.1
+act_reads m (act.Take party p c) lm types rules = take_same m party p c lm types.0 types.1 types.2
+act_reads m (act.Unpin p c) lm types rules = place_same (λ q k. act.Unpin q k) m p c lm types.0 types.1
+act_reads m (act.Maintain a) lm types rules = address_line_same (λ b. act.Maintain b) m a lm rules
 act_reads m (act.Failed p c at e) lm types rules = absurd (cc)
-act_reads m (act.Pin party) lm types rules = absurd (cc)
-act_reads m (act.Replicate p c) lm types rules = absurd (cc)
-act_reads m (act.Take party p c) lm types rules = absurd (cc)
-act_reads m (act.Unpin p c) lm types rules = absurd (cc)
-act_reads m (act.Maintain a) lm types rules = absurd (cc)
 act_reads m (act.Ready p) lm types rules = absurd (cc)
 act_reads m (act.Clear p s e) lm types rules = absurd (cc)
 act_reads m (act.Close p) lm types rules = absurd (cc)

@@ -52,11 +52,9 @@ unfolding are_options
 open_rules o h =
     let r4 = names_no_limit o && is_zero_id o.topology_id in
     let r3 = names_no_other o && r4 in
-    let r2 = o.load_balanced && r3 in
-    let p1 = and_parts (is_none (broken_rule o)) (list_all is_address o.seeds && r2) h in
-    let p2 = and_parts (list_all is_address o.seeds) r2 p1.1 in
-    let p3 = and_parts o.load_balanced r3 p2.1 in
-    let p4 = and_parts (names_no_other o) r4 p3.1 in
+    let p1 = and_parts (is_none (broken_rule o)) (list_all is_address o.seeds && r3) h in
+    let p2 = and_parts (list_all is_address o.seeds) r3 p1.1 in
+    let p4 = and_parts (names_no_other o) r4 p2.1 in
     let p5 = and_parts (names_no_limit o) (is_zero_id o.topology_id) p4.1 in
     let q = and_parts (leb 1 (length o.seeds) && leb (length o.seeds) 128) (all_different o.seeds) (seeds_kept o p1.0) in
     let one : 1 ≤ length o.seeds = leb-true 1 (length o.seeds) (and_parts (leb 1 (length o.seeds)) (leb (length o.seeds) 128) q.0).0 in

@@ -3,7 +3,7 @@ use Rattle.std.proofs.Common.{◌≡◌, ℕ, ◌<◌, ◌^◌, Bool, true, fals
 use Rattle.std.specs.Int.{w32, w64}
 use Rattle.std.specs.Fmt.{signed_decimal}
 use Rattle.std.proofs.lemmas.List.{append_cancel_left}
-use Rattle.std.proofs.lemmas.Fmt.{signed_decimal_injective}
+use Rattle.std.proofs.lemmas.Fmt.{decimal_injective, signed_decimal_injective}
 use Rattle.std.proofs.lemmas.Slice.Eq.{bytes_eq-Decides}
 use Rattle.mdb_base.specs.AddressRule.{is_address}
 use Rattle.mdb_base.specs.Spelling.{address, object_id}
@@ -11,6 +11,7 @@ use Rattle.mdb_base.specs.declared.address.ServerAddress.{ServerAddress}
 use Rattle.mdb_base.specs.declared.object_id.ObjectId.{ObjectId}
 use Rattle.mdb_base.specs.declared.options.Options.{Options}
 use Rattle.mdb_pool.specs.declared.step.Step.{Step}
+use Rattle.mdb_pool.specs.declared.step.Act.{Act}
 use Rattle.mdb_pool.specs.declared.step.Act.TheVariants as act
 use Rattle.mdb_pool.specs.declared.step.Established.{Established}
 use Rattle.mdb_pool.specs.declared.step.Use.{Use}
@@ -20,20 +21,56 @@ use Rattle.mdb_lines.specs.OpenLine.{open_parts, mode_text}
 use Rattle.mdb_lines.specs.Spelling.{use_text, established_parts}
 use Rattle.mdb_lines.specs.Grammar.{are_options, is_established, is_zero_id}
 use Rattle.mdb_lines.specs.Types.{AreOptionsOfTypes, IsEstablishedOfTypes}
-use Rattle.mdb_lines.specs.Forms.{ReadsOpen, ReadsRequest, ReadsEstablished, ReadsReturn}
+use Rattle.mdb_lines.specs.Forms.{ReadsOpen, ReadsMoment, ReadsParty, ReadsAsked, ReadsAddress, ReadsPlace, ReadsTake, ReadsEstablished, ReadsReturn}
 use Rattle.mdb_lines.proofs.TextLemmas.{signed_lacks, short_32}
 use Rattle.mdb_lines.proofs.PartLemmas.{parts_follow, words_lack-32, words_lack-64, words_lack-signed, words_lack-id, words_lack-flag}
 use Rattle.mdb_lines.proofs.FormLemmas.{server_fits}
 use Rattle.mdb_lines.proofs.OpenLemmas.{mode_lacks, addresses_lack, open_rules}
 use Rattle.mdb_lines.proofs.Same.{word_same, number_same, address_same, addresses_same, part_same, numbers_same-32, numbers_same-64, numbers_same-signed, ids_same, values_same}
 
-pub request_same : (m r : ℕ) (a : ServerAddress) → m < 2 ^ 64 → r < 2 ^ 32 → is_address a ≡ true
-    → ReadsRequest (codes " " ++ (decimal m ++ (codes " " ++ (decimal r ++ (codes " " ++ address a))))) (Ok (record { moment = m; act = act.Request r a }))
-request_same m r a lm lr h n q b ln lq k e =
+pub moment_same : (done : Act) (m : ℕ) → m < 2 ^ 64 → ReadsMoment done (codes " " ++ decimal m) (Ok (record { moment = m; act = done }))
+moment_same done m lm n ln e =
+    let p1 = decimal_injective m n lm ln (append_cancel_left (codes " ") (decimal m) (decimal n) e) in
+    rw p1 refl
+
+pub party_same : (does : ℕ → Act) (m r : ℕ) → m < 2 ^ 64 → r < 2 ^ 32
+    → ReadsParty does (codes " " ++ (decimal m ++ (codes " " ++ decimal r))) (Ok (record { moment = m; act = does r }))
+party_same does m r lm lr n q ln lq e =
+    let p1 = number_same m n (codes " " ++ decimal r) (codes " " ++ decimal q) lm ln refl refl (append_cancel_left (codes " ") _ _ e) in
+    let p2 = decimal_injective r q (omega arith) (omega arith) (append_cancel_left (codes " ") (decimal r) (decimal q) p1.1) in
+    rw (p1.0, p2) refl
+
+pub address_line_same : (does : ServerAddress → Act) (m : ℕ) (a : ServerAddress) → m < 2 ^ 64 → is_address a ≡ true
+    → ReadsAddress does (codes " " ++ (decimal m ++ (codes " " ++ address a))) (Ok (record { moment = m; act = does a }))
+address_line_same does m a lm h n b ln k e =
+    let p1 = number_same m n (codes " " ++ address a) (codes " " ++ address b) lm ln refl refl (append_cancel_left (codes " ") _ _ e) in
+    let p2 = address_same a b h k (append_cancel_left (codes " ") (address a) (address b) p1.1) in
+    rw (p1.0, p2) refl
+
+pub asked_same : (does : ℕ → ServerAddress → Act) (m r : ℕ) (a : ServerAddress) → m < 2 ^ 64 → r < 2 ^ 32 → is_address a ≡ true
+    → ReadsAsked does (codes " " ++ (decimal m ++ (codes " " ++ (decimal r ++ (codes " " ++ address a))))) (Ok (record { moment = m; act = does r a }))
+asked_same does m r a lm lr h n q b ln lq k e =
     let p1 = number_same m n (codes " " ++ (decimal r ++ (codes " " ++ address a))) (codes " " ++ (decimal q ++ (codes " " ++ address b))) lm ln refl refl (append_cancel_left (codes " ") _ _ e) in
     let p2 = number_same r q (codes " " ++ address a) (codes " " ++ address b) (omega arith) (omega arith) refl refl (append_cancel_left (codes " ") _ _ p1.1) in
     let p3 = address_same a b h k (append_cancel_left (codes " ") _ _ p2.1) in
     rw (p1.0, p2.0, p3) refl
+
+pub place_same : (does : ℕ → ℕ → Act) (m p c : ℕ) → m < 2 ^ 64 → p < 2 ^ 32 → c < 2 ^ 32
+    → ReadsPlace does (codes " " ++ (decimal m ++ (codes " " ++ (decimal p ++ (codes " " ++ decimal c))))) (Ok (record { moment = m; act = does p c }))
+place_same does m p c lm lp lc n q k ln lq lk e =
+    let p1 = number_same m n (codes " " ++ (decimal p ++ (codes " " ++ decimal c))) (codes " " ++ (decimal q ++ (codes " " ++ decimal k))) lm ln refl refl (append_cancel_left (codes " ") _ _ e) in
+    let p2 = number_same p q (codes " " ++ decimal c) (codes " " ++ decimal k) (omega arith) (omega arith) refl refl (append_cancel_left (codes " ") _ _ p1.1) in
+    let p3 = decimal_injective c k (omega arith) (omega arith) (append_cancel_left (codes " ") (decimal c) (decimal k) p2.1) in
+    rw (p1.0, p2.0, p3) refl
+
+pub take_same : (m r p c : ℕ) → m < 2 ^ 64 → r < 2 ^ 32 → p < 2 ^ 32 → c < 2 ^ 32
+    → ReadsTake (codes " " ++ (decimal m ++ (codes " " ++ (decimal r ++ (codes " " ++ (decimal p ++ (codes " " ++ decimal c))))))) (Ok (record { moment = m; act = act.Take r p c }))
+take_same m r p c lm lr lp lc n s q k ln ls lq lk e =
+    let p1 = number_same m n (codes " " ++ (decimal r ++ (codes " " ++ (decimal p ++ (codes " " ++ decimal c))))) (codes " " ++ (decimal s ++ (codes " " ++ (decimal q ++ (codes " " ++ decimal k))))) lm ln refl refl (append_cancel_left (codes " ") _ _ e) in
+    let p2 = number_same r s (codes " " ++ (decimal p ++ (codes " " ++ decimal c))) (codes " " ++ (decimal q ++ (codes " " ++ decimal k))) (omega arith) (omega arith) refl refl (append_cancel_left (codes " ") _ _ p1.1) in
+    let p3 = number_same p q (codes " " ++ decimal c) (codes " " ++ decimal k) (omega arith) (omega arith) refl refl (append_cancel_left (codes " ") _ _ p2.1) in
+    let p4 = decimal_injective c k (omega arith) (omega arith) (append_cancel_left (codes " ") (decimal c) (decimal k) p3.1) in
+    rw (p1.0, p2.0, p3.0, p4) refl
 
 -- a use, by the length of its word
 use_from : List ℕ → Use

@@ -31,8 +31,15 @@ pub record IsEstablishedOfTypes (e : Established) : Type 0 where
 abbrev pub IsActOfTypes : Act → Type 0
 IsActOfTypes (act.Open o) = AreOptionsOfTypes o
 IsActOfTypes (act.Request r a) = r < 2 ^ 32
+IsActOfTypes (act.Warm r a) = r < 2 ^ 32
+IsActOfTypes (act.Collect r) = r < 2 ^ 32
+IsActOfTypes (act.GiveUp r) = r < 2 ^ 32
 IsActOfTypes (act.Established p c e) = (p < 2 ^ 32) × (c < 2 ^ 32) × IsEstablishedOfTypes e
 IsActOfTypes (act.Return r u) = r < 2 ^ 32
+IsActOfTypes (act.Pin r) = r < 2 ^ 32
+IsActOfTypes (act.Replicate p c) = (p < 2 ^ 32) × (c < 2 ^ 32)
+IsActOfTypes (act.Take r p c) = (r < 2 ^ 32) × (p < 2 ^ 32) × (c < 2 ^ 32)
+IsActOfTypes (act.Unpin p c) = (p < 2 ^ 32) × (c < 2 ^ 32)
 IsActOfTypes _ = Unit {0}
 
 abbrev pub IsStepOfTypes : Step → Type 0

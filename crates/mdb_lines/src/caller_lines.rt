@@ -1,27 +1,59 @@
-//! Reading the lines of callers.
+//! Reading the lines of callers and workers.
 
-ghost use Rattle.mdb_lines.specs.Forms.{ReadsRequest, ReadsReturn};
+ghost use Rattle.mdb_pool.specs.declared.step.Act.TheVariants as act;
+ghost use Rattle.mdb_lines.specs.Forms.{ReadsMoment, ReadsParty, ReadsAsked, ReadsAddress, ReadsReturn};
 
 use crate::fields::{u32_field, u64_field};
 use crate::line_error::LineError;
-use crate::values::{address_word, use_word};
+use crate::shapes::{moment, moment_and_address, moment_and_party, party_at_address};
+use crate::values::use_word;
 use crate::words::last;
 use mdb_pool::{Act, Step};
 use std::alloc::Global;
 
 /// A request: a moment, a party and an address.
-#[tactic(auto, using(crate::proofs::TextLemmas::follows))]
 pub fn request(alloc: Global, text: &str) -> Result<Step, LineError>
-    ensures { ReadsRequest text.now result }
+    ensures { ReadsAsked (λ party a. act.Request party a) text.now result }
 {
-    let (moment, rest) = u64_field(text, " ")?;
-    let (party, rest) = u32_field(rest, " ")?;
-    let word = last(rest, " ")?;
-    let address = address_word(alloc, word)?;
-    Ok(Step {
-        moment,
-        act: Act::Request(party, address),
-    })
+    let (moment, party, address) = party_at_address(alloc, text)?;
+    let act = Act::Request(party, address);
+    Ok(Step { moment, act })
+}
+
+/// A request that only fills the pool: a moment, its number and an address.
+pub fn warm(alloc: Global, text: &str) -> Result<Step, LineError>
+    ensures { ReadsAsked (λ party a. act.Warm party a) text.now result }
+{
+    let (moment, party, address) = party_at_address(alloc, text)?;
+    let act = Act::Warm(party, address);
+    Ok(Step { moment, act })
+}
+
+/// A caller asks how its request stands: a moment and the request.
+pub fn collect(text: &str) -> Result<Step, LineError>
+    ensures { ReadsParty (λ party. act.Collect party) text.now result }
+{
+    let (moment, party) = moment_and_party(text)?;
+    let act = Act::Collect(party);
+    Ok(Step { moment, act })
+}
+
+/// A worker asks for a connection to establish: a moment.
+pub fn claim(text: &str) -> Result<Step, LineError>
+    ensures { ReadsMoment act.Claim text.now result }
+{
+    let moment = moment(text)?;
+    let act = Act::Claim;
+    Ok(Step { moment, act })
+}
+
+/// A caller gives up: a moment and the request.
+pub fn give_up(text: &str) -> Result<Step, LineError>
+    ensures { ReadsParty (λ party. act.GiveUp party) text.now result }
+{
+    let (moment, party) = moment_and_party(text)?;
+    let act = Act::GiveUp(party);
+    Ok(Step { moment, act })
 }
 
 /// A return: a moment, a party and how the connection was used.
@@ -33,8 +65,15 @@ pub fn returned(text: &str) -> Result<Step, LineError>
     let (party, rest) = u32_field(rest, " ")?;
     let word = last(rest, " ")?;
     let used = use_word(word)?;
-    Ok(Step {
-        moment,
-        act: Act::Return(party, used),
-    })
+    let act = Act::Return(party, used);
+    Ok(Step { moment, act })
+}
+
+/// The maintenance of a pool: a moment and an address.
+pub fn maintain(alloc: Global, text: &str) -> Result<Step, LineError>
+    ensures { ReadsAddress (λ a. act.Maintain a) text.now result }
+{
+    let (moment, address) = moment_and_address(alloc, text)?;
+    let act = Act::Maintain(address);
+    Ok(Step { moment, act })
 }

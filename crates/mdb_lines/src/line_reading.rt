@@ -7,12 +7,13 @@ ghost use Rattle.mdb_lines.specs.Script.{Spells};
 ghost use Rattle.mdb_lines.specs.Reading.{Gives};
 ghost use Rattle.mdb_lines.specs.Forms.{ReadsKind, ReadsLine};
 
-use crate::caller_lines::{request, returned};
+use crate::caller_lines::{claim, collect, give_up, maintain, request, returned, warm};
 use crate::connection_lines::established;
 use crate::line_error::LineError;
 use crate::line_kind::{LineKind, kind_of};
 use crate::line_text::write_line;
 use crate::open_line::opened;
+use crate::pin_lines::{pin, replicate, take, unpin};
 use crate::rules::{is_printable, keeps_place, keeps_rules};
 use crate::types::step_types;
 use crate::words::cut;
@@ -25,8 +26,17 @@ fn read_kind(alloc: Global, kind: LineKind, text: &str) -> Result<Step, LineErro
     match kind {
         LineKind::Open => opened(alloc, text),
         LineKind::Request => request(alloc, text),
+        LineKind::Warm => warm(alloc, text),
+        LineKind::Collect => collect(text),
+        LineKind::Claim => claim(text),
+        LineKind::GiveUp => give_up(text),
         LineKind::Established => established(text),
         LineKind::Return => returned(text),
+        LineKind::Pin => pin(text),
+        LineKind::Replicate => replicate(text),
+        LineKind::Take => take(text),
+        LineKind::Unpin => unpin(text),
+        LineKind::Maintain => maintain(alloc, text),
     }
 }
 

@@ -3,10 +3,10 @@
 ghost use Rattle.std.specs.Prelude.{◌≡◌, IsTrue, ◌↔◌, ◌==◌};
 ghost use Rattle.std.specs.List.{list_all};
 ghost use Rattle.mdb_base.specs.AddressRule.{is_address};
-ghost use Rattle.mdb_lines.specs.Grammar.{names_no_other, names_no_limit, is_zero_id, are_options, is_established, is_ok, is_step, is_open, is_printable};
+ghost use Rattle.mdb_lines.specs.Grammar.{names_no_other, names_no_limit, is_zero_id, are_options, is_not_negative, is_established, is_step, is_open, is_printable};
 
 use mdb_base::{ObjectId, Options, ServerAddress};
-use mdb_pool::{Act, Established, Step, Use};
+use mdb_pool::{Act, Established, Step};
 
 fn are_addresses(addresses: &[ServerAddress]) -> bool
     ensures { result ≡ list_all is_address addresses.now }
@@ -19,17 +19,15 @@ fn names_no_other(o: &Options) -> bool
 {
     o.set_name.is_none()
         && !o.direct
-        && o.min_pool_size.is_none()
-        && o.max_idle_time.is_none()
         && o.heartbeat.is_none()
         && o.connect.is_none()
+        && o.streaming.is_none()
 }
 
 fn names_no_limit(o: &Options) -> bool
     ensures { result ≡ names_no_limit o.now }
 {
-    o.streaming.is_none()
-        && o.limit_id.is_none()
+    o.limit_id.is_none()
         && o.limit_generation.is_none()
         && o.limit_pool.is_none()
         && o.limit_monitor.is_none()
@@ -47,22 +45,24 @@ fn are_options(o: &Options) -> bool
 {
     o.check().is_none()
         && are_addresses(o.seeds.as_slice())
-        && o.load_balanced
         && names_no_other(o)
         && names_no_limit(o)
         && is_zero_id(&o.topology_id)
 }
 
+fn is_not_negative(number: Option<i64>) -> bool
+    ensures { result ≡ is_not_negative number }
+{
+    match number {
+        None => true,
+        Some(number) => 0 <= number,
+    }
+}
+
 fn is_established(made: &Established) -> bool
     ensures { result ≡ is_established made.now }
 {
-    0 <= made.wire && made.service_id.is_some() && made.server_id.is_none()
-}
-
-fn is_ok(used: Use) -> bool
-    ensures { result ≡ is_ok used }
-{
-    matches!(used, Use::Ok)
+    0 <= made.wire && is_not_negative(made.server_id)
 }
 
 /// Whether a step keeps the rules of the grammar.
@@ -72,8 +72,17 @@ pub fn keeps_rules(step: &Step) -> bool
     match &step.act {
         Act::Open(o) => step.moment == 0 && are_options(o),
         Act::Request(_, address) => address.is_regular(),
+        Act::Warm(_, address) => address.is_regular(),
+        Act::Collect(_) => true,
+        Act::Claim => true,
+        Act::GiveUp(_) => true,
         Act::Established(_, _, made) => is_established(made),
-        Act::Return(_, used) => is_ok(*used),
+        Act::Return(_, _) => true,
+        Act::Pin(_) => true,
+        Act::Replicate(_, _) => true,
+        Act::Take(_, _, _) => true,
+        Act::Unpin(_, _) => true,
+        Act::Maintain(address) => address.is_regular(),
         _ => false,
     }
 }

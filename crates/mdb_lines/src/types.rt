@@ -86,14 +86,35 @@ pub fn step_types(step: &Step)
     match &step.act {
         Act::Open(o) => options(o),
         Act::Request(r, _) => {
-            let _numbers = *r;
+            let _number = *r;
+        }
+        Act::Warm(r, _) => {
+            let _number = *r;
+        }
+        Act::Collect(r) => {
+            let _number = *r;
+        }
+        Act::GiveUp(r) => {
+            let _number = *r;
         }
         Act::Established(p, c, made) => {
             let _numbers = (*p, *c);
             established(made);
         }
         Act::Return(r, _) => {
-            let _numbers = *r;
+            let _number = *r;
+        }
+        Act::Pin(r) => {
+            let _number = *r;
+        }
+        Act::Replicate(p, c) => {
+            let _numbers = (*p, *c);
+        }
+        Act::Take(r, p, c) => {
+            let _numbers = (*r, *p, *c);
+        }
+        Act::Unpin(p, c) => {
+            let _numbers = (*p, *c);
         }
         _ => {}
     }

@@ -10,7 +10,7 @@ use Rattle.mdb_pool.specs.declared.pool_core.PoolCore.{PoolCore}
 use Rattle.mdb_pool.specs.History.{PoolItem}
 use Rattle.mdb_pool.specs.Serving.{last_of}
 use Rattle.mdb_pool.specs.Standing.{Matches}
-use Rattle.mdb_pool.specs.Kept.{connection_at, request_at, ids_where, numbers_where, first_queued, last_available, last_from, held_connection, if_held}
+use Rattle.mdb_pool.specs.Kept.{connection_at, request_at, ids_where, numbers_where, first_queued, last_available, last_from, held_connection, if_held, given_in, given_of, if_pending, pending_connection, holder_at}
 use Rattle.mdb_pool.specs.Places.{is_pending, is_available, is_held, is_queued}
 use Rattle.mdb_pool.proofs.Tables.{In, here, there, member-at, one_if-le, find-member, entry_at-key}
 
@@ -124,3 +124,43 @@ holder s r x q e f = on q.phase refl
     on (Given c) p = let t : held_connection s r ≡ if_held (connection_at s c) = rw (f, p) refl in at_connection c (connection_at s c) refl p (sym t ∙ e)
     on Over p = let t : held_connection s r ≡ None = rw (f, p) refl in let w : ◌≡◌ {A = Option Connection} None (Some x) = sym t ∙ e in cc
     on (EndedPhase end) p = let t : held_connection s r ≡ None = rw (f, p) refl in let w : ◌≡◌ {A = Option Connection} None (Some x) = sym t ∙ e in cc
+
+-- who waits for a pending connection has a request that was given it
+pub pender : (s : PoolCore) (r : ℕ) (x : Connection) (q : Request) → pending_connection s r ≡ Some x → request_at s r ≡ Some q → (q.phase ≡ Given x.id) × (connection_at s x.id ≡ Some x) × (x.place ≡ Pending)
+pender s r x q e f = on q.phase refl
+  where
+    at_pending : (c : ℕ) (y : Connection) (b : Bool) → connection_at s c ≡ Some y → is_pending y.place ≡ b → q.phase ≡ Given c → if_pending (Some y) ≡ Some x → (q.phase ≡ Given x.id) × (connection_at s x.id ≡ Some x) × (x.place ≡ Pending)
+    at_pending c y true g k p t =
+        let w : y ≡ x = grind arith in
+        let i : y.id ≡ c = entry_at-key (λ (z : Connection). z.id) c y s.connections g in
+        (p ∙ ap Given (sym i ∙ ap (λ z. z.id) w), subst (λ d. connection_at s d ≡ Some x) (sym i ∙ ap (λ z. z.id) w) (g ∙ ap Some w), ap (λ z. z.place) (sym w) ∙ is-pending y.place k)
+    at_pending c y false g k p t = let w : ◌≡◌ {A = Option Connection} None (Some x) = grind arith in cc
+
+    at_connection : (c : ℕ) (o : Option Connection) → connection_at s c ≡ o → q.phase ≡ Given c → if_pending o ≡ Some x → (q.phase ≡ Given x.id) × (connection_at s x.id ≡ Some x) × (x.place ≡ Pending)
+    at_connection c None g p t = cc
+    at_connection c (Some y) g p t = at_pending c y (is_pending y.place) g refl p t
+
+    on : (p : Phase) → q.phase ≡ p → (q.phase ≡ Given x.id) × (connection_at s x.id ≡ Some x) × (x.place ≡ Pending)
+    on Queued p = let t : pending_connection s r ≡ None = rw (f, p) refl in let w : ◌≡◌ {A = Option Connection} None (Some x) = sym t ∙ e in cc
+    on (Given c) p = let t : pending_connection s r ≡ if_pending (connection_at s c) = rw (f, p) refl in at_connection c (connection_at s c) refl p (sym t ∙ e)
+    on Over p = let t : pending_connection s r ≡ None = rw (f, p) refl in let w : ◌≡◌ {A = Option Connection} None (Some x) = sym t ∙ e in cc
+    on (EndedPhase end) p = let t : pending_connection s r ≡ None = rw (f, p) refl in let w : ◌≡◌ {A = Option Connection} None (Some x) = sym t ∙ e in cc
+
+-- who neither holds a connection nor waits for one was given none
+pub not-given : (s : PoolCore) (xs : List PoolItem) → Matches s xs → (r : ℕ) (q : Request) → request_at s r ≡ Some q → held_connection s r ≡ None → pending_connection s r ≡ None → given_in q.phase ≡ None
+not-given s xs m r q f h p = on q.phase refl
+  where
+    at_place : (c : ℕ) (x : Connection) (l : Place) → connection_at s c ≡ Some x → x.place ≡ l → q.phase ≡ Given c → holder_at (connection_at s c) ≡ Some r → given_in q.phase ≡ None
+    at_place c x Pending g l e t = let k : pending_connection s r ≡ Some x = rw (f, e, g, l) refl in cc
+    at_place c x Available g l e t = let k : holder_at (Some x) ≡ None = m.free c x g (ap is_available l) in let v : holder_at (Some x) ≡ Some r = ap holder_at (sym g) ∙ t in cc
+    at_place c x Held g l e t = let k : held_connection s r ≡ Some x = rw (f, e, g, l) refl in cc
+
+    at_connection : (c : ℕ) (o : Option Connection) → connection_at s c ≡ o → q.phase ≡ Given c → holder_at (connection_at s c) ≡ Some r → given_in q.phase ≡ None
+    at_connection c None g e t = let v : holder_at None ≡ Some r = ap holder_at (sym g) ∙ t in cc
+    at_connection c (Some x) g e t = at_place c x x.place g refl e t
+
+    on : (k : Phase) → q.phase ≡ k → given_in q.phase ≡ None
+    on Queued e = ap given_in e
+    on (Given c) e = at_connection c (connection_at s c) refl e (m.taken r c (ap given_of f ∙ ap given_in e))
+    on Over e = ap given_in e
+    on (EndedPhase end) e = ap given_in e

@@ -6,7 +6,7 @@ use Rattle.mdb_events.specs.declared.fact.Fact.TheVariants.{Opened, Pool, Grante
 use Rattle.mdb_events.specs.declared.cmap.CmapEvent.TheVariants.{PoolCreated, PoolReady, PoolCleared, PoolClosed, ConnectionCreated, ConnectionReady, ConnectionClosed, ConnectionCheckoutStarted, ConnectionCheckoutFailed, ConnectionCheckedOut, ConnectionCheckedIn}
 use Rattle.mdb_pool.specs.declared.step.Act.{Act}
 use Rattle.mdb_pool.specs.History.{Item, made, PoolItem, after_fact, after_facts, with_facts, has_asked, has_taken, has_party, last_moment, open_pool, if_so}
-use Rattle.mdb_pool.specs.Requests.{some_act}
+use Rattle.mdb_pool.specs.Requests.{some_act, told, is_claimed}
 use Rattle.mdb_pool.specs.Legal.{IsOwn, AllOwn}
 
 pub other-number : (p q : ℕ) → p ≢ q → (p == q) ≡ false
@@ -87,6 +87,14 @@ last-facts m (f ∷ fs) h = last-facts m fs (made m f ∷ h)
 pub acts-facts : (test : Act → ℕ → Bool) (m r : ℕ) (fs : List Fact) (h : List Item) → some_act test (with_facts m fs h) r ≡ some_act test h r
 acts-facts test m r [] h = refl
 acts-facts test m r (f ∷ fs) h = acts-facts test m r fs (made m f ∷ h)
+
+pub told-facts : (m r : ℕ) (fs : List Fact) (h : List Item) → told (with_facts m fs h) r ≡ told h r
+told-facts m r [] h = refl
+told-facts m r (f ∷ fs) h = told-facts m r fs (made m f ∷ h)
+
+pub claimed-facts : (p m c : ℕ) (fs : List Fact) (h : List Item) → is_claimed (with_facts m fs h) p c ≡ is_claimed h p c
+claimed-facts p m c [] h = refl
+claimed-facts p m c (f ∷ fs) h = claimed-facts p m c fs (made m f ∷ h)
 
 open-fact : (p m : ℕ) (f : Fact) (xs : List PoolItem) (h : List Item) (a : ServerAddress) → IsOwn p xs f → open_pool (made m f ∷ h) a ≡ open_pool h a
 open-fact p m (Opened q b) xs h a i = absurd i

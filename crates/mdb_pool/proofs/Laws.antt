@@ -18,7 +18,7 @@ use Rattle.mdb_pool.specs.Legal.{NoneLeftWaiting, IsNext, AllFirstCome, AllOwn, 
 use Rattle.mdb_pool.proofs.Tables.{length-without}
 use Rattle.mdb_pool.proofs.Serving.{serve-nothing}
 
-has-append : (r q : ℕ) (rs : List ℕ) → has r (rs ++ q ∷ []) ≡ has r rs || (q == r)
+pub has-append : (r q : ℕ) (rs : List ℕ) → has r (rs ++ q ∷ []) ≡ has r rs || (q == r)
 has-append r q [] = grind arith
 has-append r q (k ∷ rs) = grind (arith, has-append r q rs)
 

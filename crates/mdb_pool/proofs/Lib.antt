@@ -2,6 +2,9 @@ mod Rows
 pub mod Tables
 pub mod Addresses
 pub mod Moves
+pub mod MovesBack
+pub mod MovesGiveUp
+pub mod MovesFail
 pub mod Stands
 pub mod Found
 pub mod Serving
@@ -15,3 +18,7 @@ pub mod ReturnedActs
 pub mod Places
 pub mod Laws
 pub mod Runs
+pub mod CollectedActs
+pub mod ClaimedActs
+pub mod GivenUpActs
+pub mod FailedActs

@@ -1,5 +1,6 @@
 -- The turns of the serving are its moves.
 use Rattle.std.proofs.Common.{ℕ, zero, suc, ◌≡◌, ◌+◌, ◌-◌, ◌<◌, ◌≤◌, Bool, true, false, not, ◌&&◌, ◌==◌, List, [], ◌∷◌, ◌++◌, length, Option, Some, None, is_some, refl, sym, ◌∙◌, ap, subst, arith, append_assoc, append-nil}
+use Rattle.mdb_base.specs.declared.object_id.ObjectId.{ObjectId}
 use Rattle.mdb_base.specs.declared.address.ServerAddress.{ServerAddress}
 use Rattle.mdb_events.specs.declared.fact.Fact.{Fact}
 use Rattle.mdb_events.specs.declared.fact.Fact.TheVariants.{Granted}
@@ -10,7 +11,7 @@ use Rattle.mdb_pool.specs.declared.request.Request.{Request}
 use Rattle.mdb_pool.specs.declared.request.Phase.TheVariants.{Queued, Given}
 use Rattle.mdb_pool.specs.declared.pool_core.PoolCore.{PoolCore}
 use Rattle.mdb_pool.specs.History.{Item, made, PoolItem, granted, created, of_pool, with_facts, after_fact, after_facts, without}
-use Rattle.mdb_pool.specs.State.{is_stale, may_create, is_idle}
+use Rattle.mdb_pool.specs.State.{is_stale, may_create, is_idle, generation_of, generation_before}
 use Rattle.mdb_pool.specs.Requests.{queued}
 use Rattle.mdb_pool.specs.Connections.{available_list, service_of}
 use Rattle.mdb_pool.specs.Serving.{last_of, caller_move, next_move, serve, serving}
@@ -45,8 +46,12 @@ or_else-none None = refl
 or_else-none (Some c) = refl
 
 module _ (s : PoolCore) (xs : List PoolItem) (z : Fits s xs) (n : ℕ) where
+  -- whatever items without a clear come after it, nothing is stale
+  pub no-stale-in : (ys : List PoolItem) (c : ℕ) → ((t : Option ObjectId) → generation_before ys c t ≡ 0) → ((t : Option ObjectId) → generation_of ys t ≡ 0) → is_stale s.options ys c ≡ false
+  no-stale-in ys c before now = rw (z.balanced, before (service_of ys c), now (service_of ys c)) (and-false (not (true && not (is_some (service_of ys c)))))
+
   pub no-stale : (c : ℕ) → is_stale s.options xs c ≡ false
-  no-stale c = rw (z.balanced, z.matches.no_before c (service_of xs c), z.matches.no_clear (service_of xs c)) (and-false (not (true && not (is_some (service_of xs c)))))
+  no-stale c = no-stale-in xs c (z.matches.no_before c) z.matches.no_clear
 
   no-idle : (c : ℕ) → is_idle s.options n xs c ≡ false
   no-idle c = rw z.no_idle refl

@@ -2,7 +2,7 @@
 use Rattle.std.proofs.Common.{ℕ, ◌≡◌, ◌+◌, Bool, true, false, ◌==◌, List, [], ◌∷◌, ◌++◌, length, map, filter, find, Option, Some, None, is_some, refl, sym, ◌∙◌, ap, subst, ◌<◌, ◌≤◌, arith, if◌then◌else◌}
 use Rattle.std.specs.Prelude.{count_by}
 use Rattle.std.proofs.lemmas.Grind.{common_steps}
-use Rattle.mdb_pool.specs.Keyed.{entry_at, others, put}
+use Rattle.mdb_pool.specs.Keyed.{entry_at, others, put, swap}
 use Rattle.mdb_pool.specs.History.{without}
 use Rattle.mdb_pool.specs.Connections.{has, one_if}
 
@@ -108,6 +108,38 @@ module _ {T : Type 0} (key : T → ℕ) where
   member-at x [] i l = elim i [ ]
   member-at x (y ∷ ys) here l = grind (arith, common_steps)
   member-at x (y ∷ ys) (there i) l = let e : 0 < named (key x) ys = named-member x ys i in let f : named (key x) ys ≤ 1 → entry_at key (key x) ys ≡ Some x = member-at x ys i in grind (arith, common_steps)
+
+  -- a value in the place of another
+  entry_at-swap_any : (k : ℕ) (x : T) (xs : List T) → entry_at key k (swap key x xs) ≡ if key x == k then (if is_some (entry_at key k xs) then Some x else None) else entry_at key k xs
+  entry_at-swap_any k x [] = grind arith
+  entry_at-swap_any k x (y ∷ ys) = grind (arith, common_steps, entry_at-swap_any k x ys)
+
+  pub entry_at-swap : (k : ℕ) (x : T) (xs : List T) → is_some (entry_at key (key x) xs) ≡ true → entry_at key k (swap key x xs) ≡ if key x == k then Some x else entry_at key k xs
+  entry_at-swap k x xs e = grind (arith, entry_at-swap_any k x xs)
+
+  pub named-swap : (k : ℕ) (x : T) (xs : List T) → named k (swap key x xs) ≡ named k xs
+  named-swap k x [] = refl
+  named-swap k x (y ∷ ys) = grind (arith, common_steps, named-swap k x ys)
+
+  pub length-swap : (x : T) (xs : List T) → length (swap key x xs) ≡ length xs
+  length-swap x [] = refl
+  length-swap x (y ∷ ys) = grind (arith, common_steps, length-swap x ys)
+
+  pub where-swap : (p : T → Bool) (x : T) (xs : List T) → ((y : T) → In y xs → key y ≡ key x → p y ≡ p x) → map key (filter p (swap key x xs)) ≡ map key (filter p xs)
+  where-swap p x [] same = refl
+  where-swap p x (y ∷ ys) same = on (key y == key x) refl (where-swap p x ys (λ z i. same z (there i)))
+    where
+      on : (b : Bool) → (key y == key x) ≡ b → map key (filter p (swap key x ys)) ≡ map key (filter p ys) → map key (filter p (swap key x (y ∷ ys))) ≡ map key (filter p (y ∷ ys))
+      on true e rest = let f : key y ≡ key x = grind arith in let g : p y ≡ p x = same y here f in grind (arith, common_steps)
+      on false e rest = grind (arith, common_steps)
+
+  -- where the old value passes the test as the new one does
+  pub where-swap_same : (p : T → Bool) (x old : T) (xs : List T) → entry_at key (key x) xs ≡ Some old → named (key x) xs ≤ 1 → p old ≡ p x → map key (filter p (swap key x xs)) ≡ map key (filter p xs)
+  where-swap_same p x old xs at_old single e = where-swap p x xs (λ y i f.
+      let g : entry_at key (key y) xs ≡ Some y = member-at y xs i (subst (λ k. named k xs ≤ 1) (sym f) single) in
+      let h : entry_at key (key x) xs ≡ Some y = subst (λ k. entry_at key k xs ≡ Some y) f g in
+      let w : old ≡ y = cc in
+      ap p (sym w) ∙ e)
 
 pub one_if-le : (b : Bool) → one_if b ≤ 1
 one_if-le true = omega arith

@@ -65,19 +65,23 @@ outcome_of p xs r = on (end_of xs r) (given xs r)
     on None None = Waiting
     on None (Some c) = if has c (pending_list xs) then Establishing p c else Pooled p c
 
--- the step is one of the request's own, and its reply tells that it has a connection or that it ended
-abbrev pub tells : Act → Reply → ℕ → Bool
-tells (Request q a) (Pooled p c) r = q == r
-tells (Request q a) (Ended end) r = q == r
-tells (Warm q a) (Ended end) r = q == r
-tells (Collect q) (Pooled p c) r = q == r
-tells (Collect q) (Ended end) r = q == r
-tells _ _ r = false
+-- the reply to the step tells how the request stands
+abbrev pub asks_how : Act → ℕ → Bool
+asks_how (Request q a) r = q == r
+asks_how (Warm q a) r = q == r
+asks_how (Collect q) r = q == r
+asks_how _ r = false
+
+-- the reply says that the request has a connection, or that it ended
+abbrev pub is_outcome : Reply → Bool
+is_outcome (Pooled p c) = true
+is_outcome (Ended end) = true
+is_outcome _ = false
 
 -- how often the outcome was told
 abbrev pub told : List Item → ℕ → ℕ
 told [] r = 0
-told (did step reply ∷ h) r = if tells step.act reply r then told h r + 1 else told h r
+told (did step reply ∷ h) r = if asks_how step.act r && is_outcome reply then told h r + 1 else told h r
 told (made m fact ∷ h) r = told h r
 
 abbrev pub was_asked : Act → ℕ → Bool

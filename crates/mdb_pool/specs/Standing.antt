@@ -1,25 +1,25 @@
 -- When the state of a pool stands for a history.
-use Rattle.std.specs.Prelude.{ℕ, ◌≡◌, ◌<◌, Bool, true, false, if◌then◌else◌, ◌==◌, is_some, List, [], ◌∷◌, ◌++◌, length, map, count_by, Option, Some, None, ⊤, All}
+use Rattle.std.specs.Prelude.{ℕ, ◌≡◌, ◌<◌, Bool, true, false, if◌then◌else◌, ◌==◌, is_some, List, [], ◌∷◌, ◌++◌, length, map, count_by, Option, Some, None, ⊤, All, not, ◌&&◌, ◌||◌}
 use Rattle.mdb_base.specs.declared.address.ServerAddress.{ServerAddress}
 use Rattle.mdb_base.specs.declared.object_id.ObjectId.{ObjectId}
 use Rattle.mdb_events.specs.declared.fact.Fact.{Fact}
 use Rattle.mdb_pool.specs.declared.step.Step.{Step}
 use Rattle.mdb_pool.specs.declared.log.Entry.{Entry}
 use Rattle.mdb_pool.specs.declared.step.Act.{Act}
-use Rattle.mdb_pool.specs.declared.step.Act.TheVariants.{Request as RequestAct, Established, Return}
-use Rattle.mdb_pool.specs.declared.step.Use.TheVariants.{Ok}
+use Rattle.mdb_pool.specs.declared.step.Act.TheVariants.{Request as RequestAct, Collect, Claim, GiveUp, Established, Failed, Return}
 use Rattle.mdb_pool.specs.declared.reply.Reply.{Reply}
+use Rattle.mdb_pool.specs.declared.reply.Reply.TheVariants.{Job}
+use Rattle.mdb_pool.specs.declared.connection.Connection.{Connection}
 use Rattle.mdb_pool.specs.declared.pool_core.PoolCore.{PoolCore}
-use Rattle.mdb_base.specs.Equality.{same_address}
-use Rattle.mdb_pool.specs.Places.{is_pending, is_available, is_queued}
-use Rattle.mdb_pool.specs.History.{Item, PoolItem, open_pool, last_moment, given, has_party, of_pool, after_facts, with_answer, with_entries}
-use Rattle.mdb_pool.specs.Connections.{one_if, live, live_total, created_total, created_at, pending_list, parties, pins, is_pinned, granted_to, available_list, is_errored}
-use Rattle.mdb_pool.specs.Requests.{queued, is_warm, asked_at, end_of, names_party, some_act}
+use Rattle.mdb_pool.specs.Places.{is_pending, is_available, is_queued, is_held}
+use Rattle.mdb_pool.specs.History.{Item, PoolItem, open_pool, last_moment, given, has_party, of_pool, after_facts, with_answer, with_entries, has_asked, has_taken}
+use Rattle.mdb_pool.specs.Connections.{one_if, live, live_total, created_total, created_at, pending_list, parties, pins, granted_to, available_list, is_errored, has, known_service, last_use, is_dropped}
+use Rattle.mdb_pool.specs.Requests.{queued, is_warm, asked_at, end_of, names_party, some_act, asks_how, is_outcome, told, was_asked, leaves, is_claimed}
 use Rattle.mdb_pool.specs.State.{is_ready, state_of, generation_of, generation_before}
 use Rattle.mdb_pool.specs.Serving.{serving}
 use Rattle.mdb_pool.specs.Answer.{reply_of, all_facts, answer}
 use Rattle.mdb_pool.specs.Legal.{NoneLeftWaiting, AllFirstCome, IsFairAnswer, IsLegal, IsServed, AllOwn, IsAccepted}
-use Rattle.mdb_pool.specs.Kept.{connection_at, request_at, given_of, asked_at_of, ids_where, numbers_where, parties_of, party_of, created_at_of}
+use Rattle.mdb_pool.specs.Kept.{connection_at, request_at, given_of, asked_at_of, ids_where, numbers_where, one_party, holder_at, end_at, is_ended_at, service_at, lasts}
 use Rattle.mdb_base.specs.Equality.{same_address}
 
 -- The kept connections and requests are those of the pool's items.
@@ -33,24 +33,30 @@ pub record Matches (s : PoolCore) (xs : List PoolItem) : Type 0 where
   pub single : (c : ℕ) → count_by (λ x. x.id == c) s.connections ≡ one_if (is_some (connection_at s c))
   pub unused : (c : ℕ) → s.created < c → connection_at s c ≡ None
   pub live : (c : ℕ) → live xs c ≡ one_if (is_some (connection_at s c))
-  pub parties : (c : ℕ) → parties xs c ≡ parties_of (connection_at s c)
-  pub granted_to : (c : ℕ) → granted_to xs c ≡ party_of (connection_at s c)
-  pub created_at : (c : ℕ) → created_at xs c ≡ created_at_of (connection_at s c)
+  pub parties : (c : ℕ) → parties xs c ≡ one_party (holder_at (connection_at s c))
+  pub granted_to : (c : ℕ) (x : Connection) → connection_at s c ≡ Some x → granted_to xs c ≡ Some x.party
+  pub created_at : (c : ℕ) (x : Connection) → connection_at s c ≡ Some x → created_at xs c ≡ x.created_at
+  pub service : (c : ℕ) → (if lasts s c then known_service xs c else None) ≡ service_at (connection_at s c)
   -- each request
   pub given : (r : ℕ) → given xs r ≡ given_of (request_at s r)
   pub single_request : (r : ℕ) → count_by (λ q. q.number == r) s.requests ≡ one_if (is_some (request_at s r))
   pub asked_at : (r : ℕ) → asked_at xs r ≡ asked_at_of (request_at s r)
+  pub ends : (r : ℕ) → end_of xs r ≡ end_at (request_at s r)
   -- connections and requests know each other
-  pub taken : (r c : ℕ) → given_of (request_at s r) ≡ Some c → parties_of (connection_at s c) ≡ r ∷ []
-  pub owned : (c r : ℕ) → parties_of (connection_at s c) ≡ r ∷ [] → given_of (request_at s r) ≡ Some c
-  pub known : (c r : ℕ) → party_of (connection_at s c) ≡ Some r → is_some (request_at s r) ≡ true
+  pub taken : (r c : ℕ) → given_of (request_at s r) ≡ Some c → holder_at (connection_at s c) ≡ Some r
+  pub owned : (c r : ℕ) → holder_at (connection_at s c) ≡ Some r → given_of (request_at s r) ≡ Some c
+  pub known : (c : ℕ) (x : Connection) → connection_at s c ≡ Some x → is_some (request_at s x.party) ≡ true
+  -- who has a connection: nobody one that is available, somebody one that is held, and its party one that is pending, unless that one ended
+  pub free : (c : ℕ) (x : Connection) → connection_at s c ≡ Some x → is_available x.place ≡ true → x.holder ≡ None
+  pub busy : (c : ℕ) (x : Connection) → connection_at s c ≡ Some x → is_held x.place ≡ true → is_some x.holder ≡ true
+  pub waits : (c : ℕ) (x : Connection) (r : ℕ) → connection_at s c ≡ Some x → is_pending x.place ≡ true → x.holder ≡ Some r → r ≡ x.party
+  pub left_by : (c : ℕ) (x : Connection) → connection_at s c ≡ Some x → is_pending x.place ≡ true → x.holder ≡ None → is_ended_at (request_at s x.party) ≡ true
   -- what these acts never do
   pub ready : state_of s.options xs ≡ is_ready
   pub no_warm : (r : ℕ) → is_warm xs r ≡ false
-  pub no_end : (r : ℕ) → end_of xs r ≡ None
   pub no_pin : (c : ℕ) → pins xs c ≡ 0
-  pub no_place : (c : ℕ) → is_pinned xs c ≡ false
-  pub no_error : (c : ℕ) → is_errored xs c ≡ false
+  pub no_error : (c : ℕ) → lasts s c && is_errored xs c ≡ false
+  pub no_drop : (c : ℕ) → lasts s c && is_dropped (last_use xs c) ≡ false
   pub no_clear : (t : Option ObjectId) → generation_of xs t ≡ 0
   pub no_before : (c : ℕ) (t : Option ObjectId) → generation_before xs c t ≡ 0
 
@@ -58,6 +64,7 @@ pub record Matches (s : PoolCore) (xs : List PoolItem) : Type 0 where
 pub record Fits (s : PoolCore) (xs : List PoolItem) : Type 0 where
   pub matches : Matches s xs
   pub asked : (r : ℕ) → has_party xs r ≡ is_some (request_at s r)
+  pub no_take : (r : ℕ) → has_taken xs r ≡ false
   pub balanced : s.options.load_balanced ≡ true
   pub no_idle : s.options.max_idle_time ≡ None
 
@@ -67,6 +74,9 @@ pub record StandsFor (s : PoolCore) (h : List Item) : Type 0 where
   pub last_is : last_moment h ≡ s.last
   pub open_here : (a : ServerAddress) → open_pool h a ≡ if same_address s.address a then Some s.pool else None
   pub asked_once : (r : ℕ) → some_act names_party h r ≡ has_party (of_pool s.pool h) r
+  pub requested : (r : ℕ) → some_act was_asked h r ≡ has_asked (of_pool s.pool h) r
+  pub opens : (r : ℕ) → (told h r == 0) && not (some_act leaves h r) ≡ not (has r s.settled)
+  pub claims : (c : ℕ) → is_claimed h s.pool c ≡ has c s.claimed
 
 -- the number, the address and the options stay
 pub record SameHome (s t : PoolCore) : Type 0 where
@@ -74,12 +84,30 @@ pub record SameHome (s t : PoolCore) : Type 0 where
   pub address : t.address ≡ s.address
   pub options : t.options ≡ s.options
 
--- The acts that a pool takes so far: requests, established connections, and returns with the use Ok.
+-- The acts that a pool takes so far: requests, what they came to, give-ups, claims, established and failed connections, and returns.
 abbrev pub IsBuilt : Act → Type 0
 IsBuilt (RequestAct r a) = ⊤
 IsBuilt (Established p c how) = ⊤
-IsBuilt (Return r used) = used ≡ Ok
+IsBuilt (Failed p c at error) = ⊤
+IsBuilt (Collect r) = ⊤
+IsBuilt Claim = ⊤
+IsBuilt (GiveUp r) = ⊤
+IsBuilt (Return r used) = ⊤
 IsBuilt _ = ⊥
+
+-- what was told and claimed stays
+pub record SameNotes (s t : PoolCore) : Type 0 where
+  pub settled : t.settled ≡ s.settled
+  pub claimed : t.claimed ≡ s.claimed
+
+-- the step tells the outcome of the request, or its caller leaves
+abbrev pub settles : Act → Reply → ℕ → Bool
+settles act reply r = (asks_how act r && is_outcome reply) || leaves act r
+
+-- the reply is the job of the connection
+abbrev pub is_job : ℕ → Reply → ℕ → Bool
+is_job p (Job q c) d = (q == p) && (c == d)
+is_job p _ d = false
 
 -- the facts after the old ones are those of the serving, and the state then fits them too
 pub record Serves (s t : PoolCore) (m : ℕ) (before after : List Fact) (xs : List PoolItem) : Type 0 where
@@ -89,8 +117,10 @@ pub record Serves (s t : PoolCore) (m : ℕ) (before after : List Fact) (xs : Li
 -- an accepted act: xs is what the pool knew, and ys what it knows with the act; the reply and the facts are those of the definitions, and the state then fits them
 pub record Accepts (s t : PoolCore) (before after : List Fact) (m : ℕ) (act : Act) (reply : Reply) (xs ys : List PoolItem) : Type 0 where
   pub facts_are : after ≡ before ++ all_facts s.pool s.address s.options m xs ys act
-  pub reply_is : (claimed : ℕ → Bool) → reply ≡ reply_of s.pool claimed xs (after_facts s.pool m (all_facts s.pool s.address s.options m xs ys act) ys) act
+  pub reply_is : (claimed : ℕ → Bool) → ((c : ℕ) → claimed c ≡ has c s.claimed) → reply ≡ reply_of s.pool claimed xs (after_facts s.pool m (all_facts s.pool s.address s.options m xs ys act) ys) act
   pub accepted : IsAccepted reply
+  pub settled : (r : ℕ) → has r t.settled ≡ settles act reply r || has r s.settled
+  pub claimed : (c : ℕ) → has c t.claimed ≡ is_job s.pool reply c || has c s.claimed
   pub fits : Fits t (after_facts s.pool m (all_facts s.pool s.address s.options m xs ys act) ys)
   pub fair : AllFirstCome s.pool m ys (all_facts s.pool s.address s.options m xs ys act)
   pub own : AllOwn s.pool m ys (all_facts s.pool s.address s.options m xs ys act)

@@ -1,20 +1,20 @@
 //! The single changes of a pool, each with its facts.
 
-ghost use Rattle.std.specs.Prelude.{◌≡◌, ◌++◌, ◌∷◌, ◌+◌, ◌-◌, ◌<◌, [], OnOk};
+ghost use Rattle.std.specs.Prelude.{◌≡◌, ◌++◌, ◌∷◌, ◌+◌, ◌-◌, ◌<◌, [], OnOk, IfOk};
 
-use super::PoolCore;
 use super::connection::{Connection, Place};
 use super::request::{Phase, Request};
-use mdb_base::Moment;
+use super::{PoolCore, Reply};
+use mdb_base::{Moment, ObjectId};
 use mdb_events::{
-    CmapEvent, ConnectionCheckedInEvent, ConnectionCheckedOutEvent, ConnectionCheckoutStartedEvent,
-    ConnectionCreatedEvent, ConnectionReadyEvent, Fact,
+    CmapEvent, ConnectionCheckedOutEvent, ConnectionCheckoutStartedEvent, ConnectionCreatedEvent,
+    ConnectionReadyEvent, Fact,
 };
 use std::alloc::{AllocError, Global};
 
 impl PoolCore {
-    ghost use Rattle.mdb_pool.specs.Kept.{request_at, asked_at_of};
-    ghost use Rattle.mdb_pool.specs.Changes.{asking, creating, granting, establishing, returning, started_fact, up_fact, out_fact, in_fact};
+    ghost use Rattle.mdb_pool.specs.Kept.{request_at, asked_at_of, outcome_now};
+    ghost use Rattle.mdb_pool.specs.Changes.{asking, creating, granting, establishing, telling, started_fact, up_fact, out_fact};
     ghost use Rattle.mdb_events.specs.declared.fact.Fact.TheVariants.{Pool, Granted};
     ghost use Rattle.mdb_events.specs.declared.cmap.CmapEvent.TheVariants.{ConnectionCreated, ConnectionCheckedOut};
 
@@ -68,6 +68,8 @@ impl PoolCore {
                 created_at: moment,
                 place: Place::Pending,
                 party: request.number,
+                holder: Some(request.number),
+                service: None,
             },
         )?;
         self.requests.put(
@@ -106,6 +108,7 @@ impl PoolCore {
             Connection {
                 place: Place::Held,
                 party: request.number,
+                holder: Some(request.number),
                 ..connection
             },
         )?;
@@ -135,8 +138,9 @@ impl PoolCore {
         facts: &mut Vec<Fact>,
         moment: Moment,
         connection: Connection,
+        service: Option<ObjectId>,
     ) -> Result<(), AllocError>
-        ensures core { OnOk result (self.new ≡ establishing self.old moment connection) }
+        ensures core { OnOk result (self.new ≡ establishing self.old moment connection service) }
         ensures facts { OnOk result (facts.new.items ≡ facts.old.items ++ up_fact self.old connection.id (moment - connection.created_at) ∷ out_fact self.old connection.id (moment - asked_at_of (request_at self.old connection.party)) ∷ []) }
     {
         let ready_address = self.address.clone()?;
@@ -150,6 +154,7 @@ impl PoolCore {
             alloc,
             Connection {
                 place: Place::Held,
+                service,
                 ..connection
             },
         )?;
@@ -172,41 +177,15 @@ impl PoolCore {
         Ok(())
     }
 
-    // A held connection comes back.
-    pub(super) fn give_back(
-        &mut self,
-        alloc: Global,
-        facts: &mut Vec<Fact>,
-        moment: Moment,
-        connection: Connection,
-        request: Request,
-    ) -> Result<(), AllocError>
-        ensures core { OnOk result (self.new ≡ returning self.old moment connection request) }
-        ensures facts { OnOk result (facts.new.items ≡ facts.old.items ++ in_fact self.old connection.id ∷ []) }
+    // Tells how the request stands. Whoever has a connection or has ended is told once.
+    pub(super) fn tell(&mut self, request: u32) -> Result<Reply, AllocError>
+        ensures core { OnOk result (self.new ≡ telling self.old request) }
+        ensures reply { IfOk result (λ reply. reply ≡ outcome_now self.old request) }
     {
-        let address = self.address.clone()?;
-        self.last = moment;
-        self.connections.put(
-            alloc,
-            Connection {
-                place: Place::Available,
-                ..connection
-            },
-        )?;
-        self.requests.put(
-            alloc,
-            Request {
-                phase: Phase::Over,
-                ..request
-            },
-        )?;
-        facts.push(Fact::Pool(
-            self.pool,
-            CmapEvent::ConnectionCheckedIn(ConnectionCheckedInEvent {
-                address,
-                connection_id: connection.id,
-            }),
-        ))?;
-        Ok(())
+        let reply = self.outcome(request)?;
+        if matches!(reply, Reply::Pooled(_, _) | Reply::Ended(_)) {
+            self.settled.push(request)?;
+        }
+        Ok(reply)
     }
 }

@@ -30,7 +30,12 @@ impl PoolCore {
         let Some(connection) = self.connections.get(id).copied() else {
             unreachable!()
         };
-        self.establish(alloc, facts, moment, connection)?;
+        if !connection.is_awaited() {
+            self.pool_connection(alloc, facts, moment, connection, made.service_id)?;
+            self.serve(alloc, facts, moment)?;
+            return Ok(Reply::Done);
+        }
+        self.establish(alloc, facts, moment, connection, made.service_id)?;
         self.serve(alloc, facts, moment)?;
         Ok(Reply::Done)
     }

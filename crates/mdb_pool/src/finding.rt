@@ -1,13 +1,14 @@
 //! What a pool finds among its connections and requests.
 
-ghost use Rattle.std.specs.Prelude.{◌≡◌, option_copied};
+ghost use Rattle.std.specs.Prelude.{◌≡◌, option_copied, IfOk};
 
 use super::connection::{Connection, Place};
 use super::request::{Phase, Request};
 use super::{PoolCore, Reply};
+use std::alloc::AllocError;
 
 impl PoolCore {
-    ghost use Rattle.mdb_pool.specs.Kept.{first_queued, last_available, pending_count, has_room, held_connection, outcome_now};
+    ghost use Rattle.mdb_pool.specs.Kept.{first_queued, last_available, pending_count, has_room, held_connection, pending_connection, holder_request, outcome_now, first_unclaimed};
 
     pub(super) fn first_queued(&self) -> Option<&Request>
         ensures { option_copied result ≡ first_queued self.now }
@@ -67,21 +68,60 @@ impl PoolCore {
         }
     }
 
-    // What the request is told.
-    pub(super) fn outcome(&self, request: u32) -> Reply
-        ensures { result ≡ outcome_now self.now request }
+    // The pending connection that the party is given.
+    pub(super) fn pending_connection(&self, party: u32) -> Option<Connection>
+        ensures { result ≡ pending_connection self.now party }
     {
-        match self.requests.get(request) {
+        match self.requests.get(party) {
             Some(request) => match request.phase {
                 Phase::Given(id) => match self.connections.get(id) {
-                    Some(connection) if connection.is_pending() => {
-                        Reply::Establishing(self.pool, id)
-                    }
-                    _ => Reply::Pooled(self.pool, id),
+                    Some(connection) if connection.is_pending() => Some(*connection),
+                    _ => None,
                 },
+                _ => None,
+            },
+            None => None,
+        }
+    }
+
+    // The request that will have the connection.
+    pub(super) fn holder_request(&self, connection: Connection) -> Option<&Request>
+        ensures { option_copied result ≡ holder_request self.now connection }
+    {
+        match connection.holder {
+            Some(holder) => self.requests.get(holder),
+            None => None,
+        }
+    }
+
+    // The pending connection that came first among those that no claim was told of.
+    pub(super) fn first_unclaimed(&self) -> Option<Connection>
+        ensures { result ≡ first_unclaimed self.now }
+    {
+        for x in self.connections.as_slice() {
+            if x.is_pending() && !self.claimed.contains(x.id) {
+                return Some(*x);
+            }
+        }
+        None
+    }
+
+    // What the request is told.
+    pub(super) fn outcome(&self, request: u32) -> Result<Reply, AllocError>
+        ensures { IfOk result (λ reply. reply ≡ outcome_now self.now request) }
+    {
+        Ok(match self.requests.get(request) {
+            Some(request) => match &request.phase {
+                Phase::Given(id) => match self.connections.get(*id) {
+                    Some(connection) if connection.is_pending() => {
+                        Reply::Establishing(self.pool, *id)
+                    }
+                    _ => Reply::Pooled(self.pool, *id),
+                },
+                Phase::Ended(end) => Reply::Ended(end.clone()?),
                 _ => Reply::Waiting,
             },
             None => Reply::Waiting,
-        }
+        })
     }
 }

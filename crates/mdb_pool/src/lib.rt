@@ -2,9 +2,14 @@
 #![tactic(auto)]
 
 mod changes;
+mod claiming;
+mod collecting;
+mod coming_back;
 mod connection;
 mod establishing;
+mod failing;
 mod finding;
+mod giving_up;
 mod log;
 mod options;
 mod pool_core;
@@ -13,6 +18,7 @@ mod reply;
 mod request;
 mod requesting;
 mod returning;
+mod sequence;
 mod step;
 mod stepping;
 mod table;

@@ -5,6 +5,7 @@ ghost use Rattle.std.specs.Prelude.{◌≡◌, IfOk, true, None, is_some};
 use super::PoolOptions;
 use super::connection::Connection;
 use super::request::Request;
+use super::sequence::Sequence;
 use super::table::Table;
 use mdb_base::{Moment, ServerAddress};
 use std::alloc::{AllocError, Global};
@@ -20,10 +21,14 @@ pub struct PoolCore {
     pub(super) created: u32,
     pub(super) connections: Table<Connection>,
     pub(super) requests: Table<Request>,
+    // The requests whose outcome was told, or that gave up or came back.
+    pub(super) settled: Sequence<u32>,
+    // The connections that a claim was told to establish.
+    pub(super) claimed: Sequence<u32>,
 }
 
 impl PoolCore {
-    ghost use Rattle.mdb_pool.specs.Kept.{held_connection, request_at, connection_at, is_pending_at};
+    ghost use Rattle.mdb_pool.specs.Kept.{held_connection, request_at, connection_at, is_pending_at, is_open_now};
     ghost use Rattle.mdb_pool.specs.Standing.{StandsFor};
     ghost use Rattle.mdb_pool.specs.Legal.{NoneLeftWaiting};
     ghost use Rattle.mdb_pool.specs.History.{of_pool, opening};
@@ -46,6 +51,8 @@ impl PoolCore {
             created: 0,
             connections: Table::new(alloc),
             requests: Table::new(alloc),
+            settled: Sequence::new(alloc),
+            claimed: Sequence::new(alloc),
         }
     }
 
@@ -77,6 +84,13 @@ impl PoolCore {
         self.held_connection(party).is_some()
     }
 
+    /// The request was made at this pool, its outcome was not told yet, and its caller neither gave up nor returned the connection.
+    pub fn is_open(&self, request: u32) -> bool
+        ensures { result ≡ is_open_now self.now request }
+    {
+        self.knows(request) && !self.settled.contains(request)
+    }
+
     /// The connection isn't established yet.
     pub fn is_pending(&self, id: u32) -> bool
         ensures { result ≡ is_pending_at (connection_at self.now id) }
@@ -94,6 +108,8 @@ impl PoolCore {
         let address = self.address.clone()?;
         let connections = self.connections.copy(alloc)?;
         let requests = self.requests.copy(alloc)?;
+        let settled = self.settled.copy(alloc)?;
+        let claimed = self.claimed.copy(alloc)?;
         Ok(PoolCore {
             pool: self.pool,
             address,
@@ -102,6 +118,8 @@ impl PoolCore {
             created: self.created,
             connections,
             requests,
+            settled,
+            claimed,
         })
     }
 }

@@ -9,7 +9,7 @@ use mdb_events::Fact;
 use std::alloc::{AllocError, Global};
 
 impl PoolCore {
-    ghost use Rattle.mdb_pool.specs.Standing.{SameHome, Fits, Serves};
+    ghost use Rattle.mdb_pool.specs.Standing.{SameHome, SameNotes, Fits, Serves};
     ghost use Rattle.mdb_pool.specs.History.{PoolItem};
 
     // Serves the queue until nothing more can be done.
@@ -21,6 +21,7 @@ impl PoolCore {
     ) -> Result<(), AllocError>
         ensures home { OnOk result (SameHome self.old self.new) }
         ensures last { OnOk result (self.new.last ≡ self.old.last) }
+        ensures notes { OnOk result (SameNotes self.old self.new) }
         ensures serves { OnOk result ((xs : List PoolItem) → Fits self.old xs → Serves self.old self.new moment facts.old.items facts.new.items xs) }
     {
         while let Some(request) = self.first_queued() {

@@ -28,7 +28,8 @@ impl PoolCore {
     {
         self.ask(alloc, facts, moment, request)?;
         self.serve(alloc, facts, moment)?;
-        Ok(self.outcome(request))
+        let reply = self.tell(request)?;
+        Ok(reply)
     }
 
     // Refuses the request, or accepts it.

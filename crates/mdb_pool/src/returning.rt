@@ -1,19 +1,30 @@
 //! A party returns its connection to a pool.
 
 ghost use Rattle.std.specs.Prelude.{◌≡◌, ◌∷◌, OnOk, OnErr, IfOk, List, true, is_some};
+ghost use Rattle.mdb_pool.specs.Kept.{reason_of};
 
 use super::table::Keyed;
 use super::{Act, PoolCore, Refused, Reply, Step, Use};
 use mdb_base::{Moment, OutOfMemory};
-use mdb_events::Fact;
+use mdb_events::{ConnectionClosedReason, Fact};
 use std::alloc::{AllocError, Global};
+
+// Why a connection that was used so is closed when it comes back.
+fn reason_of(used: Use) -> Option<ConnectionClosedReason>
+    ensures { result ≡ reason_of used }
+{
+    match used {
+        Use::Ok => None,
+        Use::Errored => Some(ConnectionClosedReason::Error),
+        Use::Dropped | Use::Streaming => Some(ConnectionClosedReason::Dropped),
+    }
+}
 
 impl PoolCore {
     ghost use Rattle.mdb_pool.specs.Kept.{held_connection};
     ghost use Rattle.mdb_pool.specs.Standing.{SameHome, Fits, Accepts, StandsFor, Answers};
     ghost use Rattle.mdb_pool.specs.History.{Item, PoolItem, returned};
     ghost use Rattle.mdb_pool.specs.declared.step.Act.TheVariants.{Return as ReturnAct};
-    ghost use Rattle.mdb_pool.specs.declared.step.Use.TheVariants.{Ok as UseOk};
 
     /// A held connection comes back. Whoever calls has tested the refusals.
     pub fn accept_return(
@@ -22,11 +33,12 @@ impl PoolCore {
         facts: &mut Vec<Fact>,
         moment: Moment,
         party: u32,
+        used: Use,
     ) -> Result<Reply, AllocError>
         requires { is_some (held_connection self.old party) ≡ true }
         ensures home { OnOk result (SameHome self.old self.new) }
         ensures last { OnOk result (self.new.last ≡ moment) }
-        ensures accepts { IfOk result (λ reply. (xs : List PoolItem) → Fits self.old xs → Accepts self.old self.new facts.old.items facts.new.items moment (ReturnAct party UseOk) reply xs (returned party UseOk ∷ xs)) }
+        ensures accepts { IfOk result (λ reply. (xs : List PoolItem) → Fits self.old xs → Accepts self.old self.new facts.old.items facts.new.items moment (ReturnAct party used) reply xs (returned party used ∷ xs)) }
     {
         let Some(connection) = self.held_connection(party) else {
             unreachable!()
@@ -35,6 +47,11 @@ impl PoolCore {
             unreachable!()
         };
         let request = request.copy()?;
+        if let Some(reason) = reason_of(used) {
+            self.drop_back(alloc, facts, moment, connection, request, reason)?;
+            self.serve(alloc, facts, moment)?;
+            return Ok(Reply::Done);
+        }
         self.give_back(alloc, facts, moment, connection, request)?;
         self.serve(alloc, facts, moment)?;
         Ok(Reply::Done)
@@ -47,9 +64,10 @@ impl PoolCore {
         facts: &mut Vec<Fact>,
         moment: Moment,
         party: u32,
+        used: Use,
     ) -> Result<Reply, AllocError>
         ensures home { OnOk result (SameHome self.old self.new) }
-        ensures answers { IfOk result (λ reply. (h : List Item) → StandsFor self.old h → Answers self.old self.new facts.old.items facts.new.items (record { moment = moment; act = ReturnAct party UseOk }) reply h) }
+        ensures answers { IfOk result (λ reply. (h : List Item) → StandsFor self.old h → Answers self.old self.new facts.old.items facts.new.items (record { moment = moment; act = ReturnAct party used }) reply h) }
     {
         if moment < self.last {
             return Ok(Reply::Refused(Refused::TimeBack(self.last)));
@@ -57,7 +75,7 @@ impl PoolCore {
         if !self.holds(party) {
             return Ok(Reply::Refused(Refused::NotHolder));
         }
-        let reply = self.accept_return(alloc, facts, moment, party)?;
+        let reply = self.accept_return(alloc, facts, moment, party, used)?;
         Ok(reply)
     }
 
@@ -70,7 +88,6 @@ impl PoolCore {
         party: u32,
         used: Use,
     ) -> Result<Reply, OutOfMemory>
-        requires { used ≡ UseOk }
         ensures home { OnOk result (SameHome self.old self.new) }
         ensures answers { IfOk result (λ reply. (h : List Item) → StandsFor self.old h → Answers self.old self.new facts.old.items facts.new.items (record { moment = moment; act = ReturnAct party used }) reply h) }
         ensures err_core { OnErr result (self.new ≡ self.old) }

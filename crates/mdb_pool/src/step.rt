@@ -23,6 +23,20 @@ pub enum FailedAt {
     Post(Option<ObjectId>),
 }
 
+impl FailedAt {
+    ghost use Rattle.mdb_pool.specs.Kept.{service_in};
+
+    /// The service that the server named before the connection failed.
+    pub fn service_id(&self) -> Option<ObjectId>
+        ensures { result ≡ service_in self.now }
+    {
+        match *self {
+            FailedAt::Pre => None,
+            FailedAt::Post(service) => service,
+        }
+    }
+}
+
 /// How a connection was used by the party that returns it.
 #[derive(Clone, Copy, Debug, PartialEq, Eq)]
 pub enum Use {

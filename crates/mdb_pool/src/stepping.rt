@@ -42,7 +42,21 @@ impl PoolCore {
                     Ok(Reply::Refused(Refused::NotPending))
                 }
             }
-            Act::Return(party, _) => self.try_return(alloc, facts, step.moment, *party),
+            Act::Failed(pool, id, at, cause) => {
+                if *pool == self.pool {
+                    self.try_failed(alloc, facts, step.moment, *id, *at, cause)
+                } else if step.moment < self.last {
+                    Ok(Reply::Refused(Refused::TimeBack(self.last)))
+                } else {
+                    Ok(Reply::Refused(Refused::NotPending))
+                }
+            }
+            Act::Collect(request) => self.try_collect(alloc, facts, step.moment, *request),
+            Act::Claim => self.try_claim(alloc, facts, step.moment),
+            Act::Return(party, used) => {
+                self.try_return(alloc, facts, step.moment, *party, *used)
+            }
+            Act::GiveUp(request) => self.try_give_up(alloc, facts, step.moment, *request),
             _ => unreachable!(),
         }
     }

@@ -1,5 +1,5 @@
 -- A run, line by line.
-use Rattle.std.proofs.Common.{◌≡◌, ℕ, suc, ◌+◌, ◌<◌, ◌≤◌, Bool, true, false, List, [], ◌∷◌, ◌++◌, length, take, map, codes, Option, Some, None, Ok, Err, All, refl, sym, ap, ◌∙◌, arith, append_assoc, inl, inr, subst, length-append}
+use Rattle.std.proofs.Common.{◌≡◌, ℕ, suc, ◌+◌, ◌<◌, ◌≤◌, true, List, [], ◌∷◌, ◌++◌, length, take, map, codes, Option, Ok, Err, refl, sym, ap, ◌∙◌, arith, append_assoc, inl, inr, subst, length-append}
 use Rattle.std.proofs.lemmas.List.{append-nil, append_cancel_right}
 use Rattle.std.proofs.lemmas.List.Elements.{All-nil, All-push}
 use Rattle.std.proofs.Math.Seq.{take-append-add, take-length}
@@ -48,8 +48,8 @@ allowed_push n [] s h t = (subst (λ (k : ℕ). Spells k (spelling s) s) (omega 
 allowed_push n (u ∷ ss) s h t = (h.0, allowed_push (n + 1) ss s h.1 (subst (λ (k : ℕ). Spells k (spelling s) s) (omega arith) t))
 
 within_push : (ss : List Step) (s : Step) → IsWithin ss → may_come ss s ≡ true → IsWithin (ss ++ s ∷ [])
-within_push [] s w m = All-nil (λ (t : Step). is_within s.act t.act ≡ true)
-within_push (u ∷ ss) s w m = All-push (λ (t : Step). is_within u.act t.act ≡ true) ss s w m
+within_push [] s w m = (m, All-nil (λ (t : Step). is_within s.act t.act ≡ true))
+within_push (u ∷ ss) s w m = (w.0, All-push (λ (t : Step). is_within u.act t.act ≡ true) ss s w.1 m)
 
 length_steps : (log : List Entry) → length (steps_of log) ≡ length log
 length_steps [] = refl

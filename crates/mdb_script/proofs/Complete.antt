@@ -1,5 +1,5 @@
 -- A script is run to its end, unless memory runs out or a call of the outside fails.
-use Rattle.std.proofs.Common.{◌≡◌, ℕ, ◌+◌, ◌≤◌, true, List, [], ◌∷◌, ◌++◌, length, map, codes, All, Option, Some, None, Result, Ok, Err, MatchResult, IfOk, IfErr, refl, sym, ap, ◌∙◌, arith, subst, length-append}
+use Rattle.std.proofs.Common.{◌≡◌, ℕ, ◌+◌, ◌≤◌, true, List, [], ◌∷◌, ◌++◌, length, map, All, Option, Some, None, Result, Ok, Err, MatchResult, IfOk, IfErr, refl, sym, ap, ◌∙◌, arith, subst, length-append}
 use Rattle.std.proofs.lemmas.List.{append-nil}
 use Rattle.std.proofs.lemmas.List.Elements.{All-head, All-tail}
 use Rattle.std.specs.Io.KnownBytes.{Consumes, IsAtEnd}
@@ -11,9 +11,9 @@ use Rattle.mdb_lines.specs.declared.run_error.RunError.TheVariants as errors
 use Rattle.mdb_lines.specs.Spelling.{spelling}
 use Rattle.mdb_lines.specs.Script.{Spells, lines_of, line_of, max_input, AreAllowed}
 use Rattle.mdb_lines.proofs.Lines.{line_same}
-use Rattle.mdb_script.specs.World.{is_within, may_come}
+use Rattle.mdb_script.specs.World.{is_within}
 use Rattle.mdb_script.specs.Standing.{steps_of}
-use Rattle.mdb_script.specs.Runs.{IsWithin, IsNextLine, IsBad, IsScript, Seen, Finished, Ended}
+use Rattle.mdb_script.specs.Runs.{IsWithin, IsBad, IsScript, Seen, Finished, Ended}
 
 some_same : {A : Type 0} (a b : A) → Some a ≡ Some b → a ≡ b
 some_same a b h = cc
@@ -45,11 +45,11 @@ next_spelled P n (t ∷ done) (s ∷ ss) bad more e allowed all =
 
 bad_not : (done ss : List Step) (bad : List ℕ) (more : List (List ℕ)) → map line_of done ++ bad ∷ more ≡ map line_of ss → AreAllowed 1 done → AreAllowed 1 ss → IsWithin ss → IsBad (1 + length done) done bad → ⊥
 bad_not [] [] bad more e before allowed within never = cc
-bad_not [] (s ∷ ss) bad more e before allowed within never = never s (allowed.0, refl) (cons_head bad (line_of s) more (map line_of ss) e)
+bad_not [] (s ∷ ss) bad more e before allowed within never = never s (allowed.0, within.0) (cons_head bad (line_of s) more (map line_of ss) e)
 bad_not (t ∷ done) [] bad more e before allowed within never = cc
 bad_not (t ∷ done) (s ∷ ss) bad more e before allowed within never =
     let first : t ≡ s = line_same 1 t s before.0 allowed.0 (cons_head (line_of t) (line_of s) (map line_of done ++ bad ∷ more) (map line_of ss) e) in
-    let next = next_spelled (λ (u : Step). is_within s.act u.act ≡ true) 2 done ss bad more (cons_tail (line_of t) (line_of s) (map line_of done ++ bad ∷ more) (map line_of ss) e) allowed.1 within in
+    let next = next_spelled (λ (u : Step). is_within s.act u.act ≡ true) 2 done ss bad more (cons_tail (line_of t) (line_of s) (map line_of done ++ bad ∷ more) (map line_of ss) e) allowed.1 within.1 in
     let spelled : Spells (1 + length (t ∷ done)) (spelling next.0) next.0 = subst (λ (k : ℕ). Spells k (spelling next.0) next.0) (omega arith) next.1 in
     never next.0 (spelled, subst (λ (u : Step). is_within u.act next.0.act ≡ true) (sym first) next.2) next.3
 

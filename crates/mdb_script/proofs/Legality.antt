@@ -1,5 +1,5 @@
 -- The log that the world stands for is legal.
-use Rattle.std.proofs.Common.{ℕ, ◌≡◌, Bool, true, false, List, [], ◌∷◌, ◌++◌, map, Option, Some, None, All, refl, sym, ◌∙◌, ap, subst}
+use Rattle.std.proofs.Common.{ℕ, ◌≡◌, false, List, [], ◌∷◌, map, Option, Some, None, All, refl, sym, subst}
 use Rattle.std.proofs.lemmas.List.Elements.{All-nil, All-cons, All-head, All-tail}
 use Rattle.mdb_pool.specs.declared.options.PoolOptions.{PoolOptions}
 use Rattle.mdb_pool.specs.declared.step.Step.{Step}

@@ -30,6 +30,9 @@ opened-stands s o a z e =
       last_is = w.last_is;
       open_here = w.open_here;
       asked_once = w.asked_once;
+      requested = w.requested;
+      opens = w.opens;
+      claims = w.claims;
     }
 
 pub opens : (s : PoolCore) (step : Step) (log : List Entry) (n : ℕ) (a : ServerAddress) (o : PoolOptions) (w : OpensOne step)

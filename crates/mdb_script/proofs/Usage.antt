@@ -1,5 +1,5 @@
 -- A tool that was given words.
-use Rattle.std.proofs.Common.{◌≡◌, ℕ, zero, suc, ◌≤◌, refl, arith}
+use Rattle.std.proofs.Common.{ℕ, zero, suc, ◌≤◌, refl, arith}
 use Rattle.mdb_lines.specs.Status.{Told, Tells}
 use Rattle.mdb_script.specs.Runs.{Seen}
 use Rattle.mdb_script.specs.Tool.{ToolEnds, usage}

@@ -1,5 +1,5 @@
 -- What a run reads, answers and writes.
-use Rattle.std.specs.Prelude.{◌≡◌, ℕ, ◌+◌, ◌<◌, ◌≤◌, List, [], ◌∷◌, ◌++◌, length, map, true, All, Option, Some, None, Result, Ok, Err, ◌⊎◌}
+use Rattle.std.specs.Prelude.{◌≡◌, ℕ, ◌+◌, ◌<◌, List, [], ◌∷◌, ◌++◌, length, map, true, All, Option, Result, Ok, Err, ◌⊎◌}
 use Rattle.std.specs.Io.KnownBytes.{Consumes}
 use Rattle.mdb_base.specs.Outside.{Rose, Held, Took, IsFlushed}
 use Rattle.mdb_pool.specs.declared.step.Step.{Step}
@@ -10,13 +10,13 @@ use Rattle.mdb_lines.specs.Spelling.{spelling}
 use Rattle.mdb_lines.specs.LogText.{text_of_entry, text_of}
 use Rattle.mdb_lines.specs.Script.{Spells, lines_of, line_of, AreAllowed, max_input}
 use Rattle.mdb_lines.specs.Loops.{TookFront, ReadsAll}
-use Rattle.mdb_script.specs.World.{is_within, may_come, entry_after, log_of, IsLegalLog}
+use Rattle.mdb_script.specs.World.{opens_one, is_within, may_come, entry_after, log_of, IsLegalLog}
 use Rattle.mdb_script.specs.Standing.{steps_of}
 
--- every later step is one that may come after the first
+-- the first step opens one seed, and every later step is one that may come after it
 abbrev pub IsWithin : List Step → Type 0
 IsWithin [] = Unit {0}
-IsWithin (first ∷ steps) = All (λ s. is_within first.act s.act ≡ true) steps
+IsWithin (first ∷ steps) = (opens_one first.act ≡ true) × All (λ s. is_within first.act s.act ≡ true) steps
 
 -- The input is a script of these steps, all of which are lines of this stage.
 pub record IsScript (input : List ℕ) (steps : List Step) : Type 0 where

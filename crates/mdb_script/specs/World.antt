@@ -1,6 +1,5 @@
 -- What the lines of a script are answered: the first opens a pool, and each later one is a step of that pool.
-use Rattle.std.specs.Prelude.{ℕ, ◌≡◌, ◌+◌, Bool, true, false, ◌&&◌, List, [], ◌∷◌, ◌++◌, Option, Some, None, unwrap_or, ⊤, All}
-use Rattle.mdb_base.specs.Equality.{same_address}
+use Rattle.std.specs.Prelude.{ℕ, ◌≡◌, ◌+◌, ◌==◌, Bool, true, false, ◌&&◌, List, [], ◌∷◌, ◌++◌, length, Some, is_none, unwrap_or, ⊤, All}
 use Rattle.mdb_base.specs.declared.address.ServerAddress.{ServerAddress}
 use Rattle.mdb_base.specs.declared.options.Options.{Options}
 use Rattle.mdb_events.specs.declared.fact.Fact.{Fact}
@@ -68,20 +67,28 @@ log_after log (s ∷ ss) = log_after (log ++ entry_after log s ∷ []) ss
 abbrev pub log_of : List Step → List Entry
 log_of steps = log_after [] steps
 
--- The acts that lines have so far: the first opens one seed, and a request names that seed.
-abbrev pub names_seed : List ServerAddress → Act → Bool
-names_seed (a ∷ []) (act.Request r b) = same_address a b
-names_seed (a ∷ []) (act.Established p c how) = true
-names_seed (a ∷ []) (act.Return r used) = true
-names_seed _ _ = false
+-- The first line opens one seed behind a load balancer, with no least size and no idle limit.
+abbrev pub opens_one : Act → Bool
+opens_one (act.Open o) = (length o.seeds == 1) && (o.load_balanced && (is_none o.min_pool_size && is_none o.max_idle_time))
+opens_one _ = false
+
+-- The acts that lines after that one have so far: a caller asks, asks how its request stands, gives up or comes back, and a worker claims or reports.
+abbrev pub is_later : List ServerAddress → Act → Bool
+is_later (a ∷ []) (act.Request r b) = true
+is_later (a ∷ []) (act.Collect r) = true
+is_later (a ∷ []) act.Claim = true
+is_later (a ∷ []) (act.GiveUp r) = true
+is_later (a ∷ []) (act.Established p c how) = true
+is_later (a ∷ []) (act.Return r used) = true
+is_later _ _ = false
 
 abbrev pub is_within : Act → Act → Bool
-is_within (act.Open o) next = names_seed o.seeds next
+is_within (act.Open o) next = is_later o.seeds next
 is_within _ next = false
 
 -- the step may come after these steps
 abbrev pub may_come : List Step → Step → Bool
-may_come [] step = true
+may_come [] step = opens_one step.act
 may_come (first ∷ steps) step = is_within first.act step.act
 
 -- the entries after the first are legal steps of the pool that it opened

@@ -60,13 +60,15 @@ const FIRST_LOG: &str =
     return 9 1 ok | Done | Pool 0 ConnectionCheckedIn a:1 1\n\
     request 10 2 a:1 | Pooled 0.1 | Pool 0 ConnectionCheckoutStarted a:1 | Granted 2 0.1 | Pool 0 ConnectionCheckedOut a:1 1 0\n";
 
-// One caller holds the one connection; two wait, and the first of them gets it when it comes back.
+// One caller holds the one connection; two wait, and the first of them gets it when it comes back, which its collect tells.
 const WAITING: &str = "open seeds=a:1 lb max=1\n\
     request 0 1 a:1\n\
     established 1 0 1 wire=21 sid=0102030405060708090a0b0c\n\
     request 2 2 a:1\n\
     request 3 3 a:1\n\
-    return 4 1 ok\n";
+    return 4 1 ok\n\
+    collect 5 2\n\
+    collect 5 3\n";
 
 const WAITING_LOG: &str =
     "open seeds=a:1 lb max=1 | Done | Opened 0 a:1 | Pool 0 PoolCreated a:1 max=1 min=- idle=-\n\
@@ -74,7 +76,9 @@ const WAITING_LOG: &str =
     established 1 0 1 wire=21 sid=0102030405060708090a0b0c | Done | Pool 0 ConnectionReady a:1 1 1 | Pool 0 ConnectionCheckedOut a:1 1 1\n\
     request 2 2 a:1 | Waiting | Pool 0 ConnectionCheckoutStarted a:1\n\
     request 3 3 a:1 | Waiting | Pool 0 ConnectionCheckoutStarted a:1\n\
-    return 4 1 ok | Done | Pool 0 ConnectionCheckedIn a:1 1 | Granted 2 0.1 | Pool 0 ConnectionCheckedOut a:1 1 2\n";
+    return 4 1 ok | Done | Pool 0 ConnectionCheckedIn a:1 1 | Granted 2 0.1 | Pool 0 ConnectionCheckedOut a:1 1 2\n\
+    collect 5 2 | Pooled 0.1\n\
+    collect 5 3 | Waiting\n";
 
 // Two connections may be established at once; the third caller gets one as soon as the first is.
 const CONNECTING: &str = "open seeds=a:1 lb connecting=2\n\
@@ -118,6 +122,62 @@ const LAST_BACK_LOG: &str =
     return 2 9 ok | Refused NotHolder\n\
     established 2 0 9 wire=21 sid=0102030405060708090a0b0c | Refused NotPending\n";
 
+// Workers claim each pending connection once, the least number first; a report needs the service that a load balancer names.
+const CLAIMED: &str = "open seeds=a:1 lb\n\
+    claim 0\n\
+    request 0 1 a:1\n\
+    request 0 2 a:1\n\
+    claim 1\n\
+    claim 1\n\
+    claim 1\n\
+    established 2 0 1 wire=21\n\
+    established 2 0 1 wire=21 sid=0102030405060708090a0b0c server=5\n\
+    collect 2 1\n\
+    collect 2 1\n\
+    collect 2 2\n";
+
+const CLAIMED_LOG: &str =
+    "open seeds=a:1 lb | Done | Opened 0 a:1 | Pool 0 PoolCreated a:1 max=- min=- idle=-\n\
+    claim 0 | NoJob\n\
+    request 0 1 a:1 | Establishing 0.1 | Pool 0 ConnectionCheckoutStarted a:1 | Pool 0 ConnectionCreated a:1 1 | Granted 1 0.1\n\
+    request 0 2 a:1 | Establishing 0.2 | Pool 0 ConnectionCheckoutStarted a:1 | Pool 0 ConnectionCreated a:1 2 | Granted 2 0.2\n\
+    claim 1 | Job 0.1\n\
+    claim 1 | Job 0.2\n\
+    claim 1 | NoJob\n\
+    established 2 0 1 wire=21 | Refused WrongMode\n\
+    established 2 0 1 wire=21 sid=0102030405060708090a0b0c server=5 | Done | Pool 0 ConnectionReady a:1 1 2 | Pool 0 ConnectionCheckedOut a:1 1 2\n\
+    collect 2 1 | Pooled 0.1\n\
+    collect 2 1 | Refused UnknownRequest\n\
+    collect 2 2 | Establishing 0.2\n";
+
+// A caller that gave up leaves its connection to the next one; a connection is closed by how it was used.
+const LEFT: &str = "open seeds=a:1 lb\n\
+    request 1 1 b:1\n\
+    request 1 1 a:1\n\
+    giveup 2 1\n\
+    giveup 2 1\n\
+    established 3 0 1 wire=21 sid=0102030405060708090a0b0c\n\
+    return 3 1 ok\n\
+    request 4 2 a:1\n\
+    return 5 2 errored\n\
+    request 6 3 a:1\n\
+    established 7 0 2 wire=21 sid=0102030405060708090a0b0c\n\
+    return 8 3 dropped\n";
+
+const LEFT_LOG: &str =
+    "open seeds=a:1 lb | Done | Opened 0 a:1 | Pool 0 PoolCreated a:1 max=- min=- idle=-\n\
+    request 1 1 b:1 | Refused UnknownServer\n\
+    request 1 1 a:1 | Establishing 0.1 | Pool 0 ConnectionCheckoutStarted a:1 | Pool 0 ConnectionCreated a:1 1 | Granted 1 0.1\n\
+    giveup 2 1 | Done | Ended 1 GaveUp\n\
+    giveup 2 1 | Refused UnknownRequest\n\
+    established 3 0 1 wire=21 sid=0102030405060708090a0b0c | Done | Pool 0 ConnectionReady a:1 1 2 | Pool 0 ConnectionCheckedIn a:1 1\n\
+    return 3 1 ok | Refused NotHolder\n\
+    request 4 2 a:1 | Pooled 0.1 | Pool 0 ConnectionCheckoutStarted a:1 | Granted 2 0.1 | Pool 0 ConnectionCheckedOut a:1 1 0\n\
+    return 5 2 errored | Done | Pool 0 ConnectionCheckedIn a:1 1 | Pool 0 ConnectionClosed a:1 1 Error service=0102030405060708090a0b0c\n\
+    request 6 3 a:1 | Establishing 0.2 | Pool 0 ConnectionCheckoutStarted a:1 | Pool 0 ConnectionCreated a:1 2 | Granted 3 0.2\n\
+    established 7 0 2 wire=21 sid=0102030405060708090a0b0c | Done | Pool 0 ConnectionReady a:1 2 1 | Pool 0 ConnectionCheckedOut a:1 2 1\n\
+    return 8 3 dropped | Done | Pool 0 ConnectionCheckedIn a:1 2 | Pool 0 ConnectionClosed a:1 2 Dropped service=0102030405060708090a0b0c\n";
+
 const OPENED: &str =
     "open seeds=a:1 lb | Done | Opened 0 a:1 | Pool 0 PoolCreated a:1 max=- min=- idle=-\n";
 
@@ -130,6 +190,8 @@ fn scripts_give_their_logs(rt: HostRuntime) -> Result<(), Fail> {
         (WAITING, WAITING_LOG),
         (CONNECTING, CONNECTING_LOG),
         (LAST_BACK, LAST_BACK_LOG),
+        (CLAIMED, CLAIMED_LOG),
+        (LEFT, LEFT_LOG),
     ] {
         let same = ends(alloc, &[], script.as_bytes(), PLAIN, 0, log.as_bytes(), b"")?;
         assert!(rt; same, "{script}");
@@ -147,8 +209,10 @@ fn the_first_malformed_line_ends_the_run(rt: HostRuntime) -> Result<(), Fail> {
         "open seeds=a:1 lb\nrequest 1 1 a:1 \n",
         "open seeds=a:1 lb\nrequest 18446744073709551616 1 a:1\n",
         "open seeds=a:1 lb\nrequest 1 1 a:1\r\n",
-        "open seeds=a:1 lb\nrequest 1 1 b:1\n",
-        "open seeds=a:1 lb\nrequest 1 1 a:1",
+        "open seeds=a:1 lb\nwarm 1 1 a:1\n",
+        "open seeds=a:1 lb\npin 1 1\n",
+        "open seeds=a:1 lb\nmaintain 1 a:1\n",
+        "open seeds=a:1 lb\nclaim 1",
         "open seeds=a:1 lb\n\n",
     ] {
         let told = b"line 2 is malformed\n";
@@ -166,6 +230,9 @@ fn the_first_malformed_line_ends_the_run(rt: HostRuntime) -> Result<(), Fail> {
     for script in [
         "request 1 1 a:1\n",
         "open seeds=a:1,b:1 lb\n",
+        "open seeds=a:1\n",
+        "open seeds=a:1 lb min=0\n",
+        "open seeds=a:1 lb idle=5\n",
         "open seeds=a:1 direct lb\n",
         "open seeds=a:1 lb max=0\n",
     ] {

@@ -1,7 +1,7 @@
 //! What answers the lines of a script: the pool that the first line opened.
 
 ghost use Rattle.std.specs.Prelude.{◌≡◌, ◌++◌, ◌∷◌, [], OnOk, OnErr, IfOk, None, true, List};
-ghost use Rattle.mdb_script.specs.World.{pool_options, opening_facts, entry_after, may_come};
+ghost use Rattle.mdb_script.specs.World.{pool_options, opening_facts, entry_after, opens_one, may_come};
 
 use mdb_base::{Items, Options, OutOfMemory, ServerAddress};
 use mdb_events::{CmapEvent, ConnectionPoolOptions, Fact, PoolCreatedEvent};
@@ -25,6 +25,21 @@ fn pool_options(options: &Options) -> PoolOptions
         load_balanced: options.load_balanced,
         limit_id: options.limit_id.unwrap_or(u32::MAX),
         limit_generation: options.limit_generation.unwrap_or(u64::MAX),
+    }
+}
+
+// The act opens one seed behind a load balancer, with no least size and no idle limit.
+fn opens_one(act: &Act) -> bool
+    ensures { result ≡ opens_one act.now }
+{
+    match act {
+        Act::Open(options) => {
+            options.seeds.as_slice().len() == 1
+                && options.load_balanced
+                && options.min_pool_size.is_none()
+                && options.max_idle_time.is_none()
+        }
+        _ => false,
     }
 }
 
@@ -64,15 +79,18 @@ impl World {
         World { pool: None }
     }
 
-    /// The step is one that lines have so far: the first opens one seed, and a request names it.
+    /// The step is one that lines have so far: the first opens one seed behind a load balancer.
     pub fn may_come(&self, step: &Step) -> bool
         ensures { (log : List Entry) → Stands self.now log → result ≡ may_come (steps_of log) step.now }
     {
         match &self.pool {
-            None => true,
-            Some(pool) => match &step.act {
-                Act::Request(_, address) => pool.address().is(address),
+            None => opens_one(&step.act),
+            Some(_) => match &step.act {
+                Act::Request(_, _) => true,
+                Act::Collect(_) => true,
+                Act::Claim => true,
                 Act::Established(_, _, _) => true,
+                Act::GiveUp(_) => true,
                 Act::Return(_, _) => true,
                 _ => false,
             },

@@ -1,9 +1,8 @@
 use Rattle.std.proofs.Common.{◌≡◌, sym, ◌∙◌, ap, subst, List}
 use Rattle.std.specs.Prelude.{IfOk}
-use Rattle.mdb_pool.specs.declared.step.Act.TheVariants.{Request as RequestAct, Established as EstablishedAct, Return as ReturnAct}
-use Rattle.mdb_pool.specs.declared.step.Use.TheVariants.{Ok}
+use Rattle.mdb_pool.specs.declared.step.Act.TheVariants.{Request as RequestAct, Established as EstablishedAct, Failed as FailedAct}
 use Rattle.mdb_pool.specs.History.{Item}
-use Rattle.mdb_pool.specs.Standing.{StandsFor, Answers, IsBuilt}
+use Rattle.mdb_pool.specs.Standing.{StandsFor, Answers}
 use Rattle.mdb_pool.specs.declared.reply.Reply.TheVariants.{Refused as RefusedBy}
 use Rattle.mdb_pool.specs.declared.reply.Refused.TheVariants.{UnknownServer}
 use Rattle.mdb_pool.proofs.Addresses.{same-address}
@@ -31,7 +30,18 @@ returns-then-pool-self-clause-answers c =
     subst (λ act. IfOk c.try_established.result (λ reply. (h : List Item) → StandsFor c.args.self.now h → Answers c.args.self.now c.try_established.new.self c.args.facts.now.items c.try_established.new.facts.items (record { moment = c.args.step.now.moment; act = act }) reply h)) (sym e) c.try_established.ensures.answers
 
 pub returns-in-Return-clause-answers : goal.returns-in-Return-clause-answers
-returns-in-Return-clause-answers c =
-    let built : c.in-Return.field-1 ≡ Ok = subst IsBuilt c.in-Return.is c.requires in
-    let e : c.args.step.now.act ≡ ReturnAct c.in-Return.party Ok = c.in-Return.is ∙ ap (ReturnAct c.in-Return.party) built in
-    subst (λ act. IfOk c.try_return.result (λ reply. (h : List Item) → StandsFor c.args.self.now h → Answers c.args.self.now c.try_return.new.self c.args.facts.now.items c.try_return.new.facts.items (record { moment = c.args.step.now.moment; act = act }) reply h)) (sym e) c.try_return.ensures.answers
+returns-in-Return-clause-answers c = subst (λ act. IfOk c.try_return.result (λ reply. (h : List Item) → StandsFor c.args.self.now h → Answers c.args.self.now c.try_return.new.self c.args.facts.now.items c.try_return.new.facts.items (record { moment = c.args.step.now.moment; act = act }) reply h)) (sym c.in-Return.is) c.try_return.ensures.answers
+
+pub returns-in-GiveUp-clause-answers : goal.returns-in-GiveUp-clause-answers
+returns-in-GiveUp-clause-answers c = subst (λ act. IfOk c.try_give_up.result (λ reply. (h : List Item) → StandsFor c.args.self.now h → Answers c.args.self.now c.try_give_up.new.self c.args.facts.now.items c.try_give_up.new.facts.items (record { moment = c.args.step.now.moment; act = act }) reply h)) (sym c.in-GiveUp.is) c.try_give_up.ensures.answers
+
+pub returns-in-Collect-clause-answers : goal.returns-in-Collect-clause-answers
+returns-in-Collect-clause-answers c = subst (λ act. IfOk c.try_collect.result (λ reply. (h : List Item) → StandsFor c.args.self.now h → Answers c.args.self.now c.try_collect.new.self c.args.facts.now.items c.try_collect.new.facts.items (record { moment = c.args.step.now.moment; act = act }) reply h)) (sym c.in-Collect.is) c.try_collect.ensures.answers
+
+pub returns-in-Claim-clause-answers : goal.returns-in-Claim-clause-answers
+returns-in-Claim-clause-answers c = subst (λ act. IfOk c.try_claim.result (λ reply. (h : List Item) → StandsFor c.args.self.now h → Answers c.args.self.now c.try_claim.new.self c.args.facts.now.items c.try_claim.new.facts.items (record { moment = c.args.step.now.moment; act = act }) reply h)) (sym c.in-Claim.is) c.try_claim.ensures.answers
+
+pub returns-then-pool-self-2-clause-answers : goal.returns-then-pool-self-2-clause-answers
+returns-then-pool-self-2-clause-answers c =
+    let e : c.args.step.now.act ≡ FailedAct c.args.self.now.pool c.in-Failed.id c.in-Failed.at c.in-Failed.cause = c.in-Failed.is ∙ ap (λ p. FailedAct p c.in-Failed.id c.in-Failed.at c.in-Failed.cause) c.if-pool-self-2.true in
+    subst (λ act. IfOk c.try_failed.result (λ reply. (h : List Item) → StandsFor c.args.self.now h → Answers c.args.self.now c.try_failed.new.self c.args.facts.now.items c.try_failed.new.facts.items (record { moment = c.args.step.now.moment; act = act }) reply h)) (sym e) c.try_failed.ensures.answers

@@ -1,6 +1,6 @@
 use Rattle.std.proofs.Common.{◌≡◌, List, length}
 use Rattle.mdb_pool.specs.History.{PoolItem}
-use Rattle.mdb_pool.specs.Standing.{Fits, SameHome}
+use Rattle.mdb_pool.specs.Standing.{Fits, SameHome, SameNotes}
 use Rattle.mdb_pool.specs.Kept.{numbers_where}
 use Rattle.mdb_pool.specs.Places.{is_queued}
 use Rattle.mdb_pool.proofs.Serving.{Progress}
@@ -10,6 +10,7 @@ abbrev pub invariant-loop-request : goal.invariant-loop-request
 invariant-loop-request l = record {
   last : l.self.last ≡ l.initial.self.last;
   home : SameHome l.initial.self l.self;
+  notes : SameNotes l.initial.self l.self;
   serves : (xs : List PoolItem) → Fits l.initial.self xs → Progress l.initial.self l.self l.moment l.initial.facts.items l.facts.items xs;
 }
 

@@ -1,5 +1,4 @@
-use Rattle.std.proofs.Common.{rules, ◌≡◌, ◌∷◌, [], List, refl}
-use Rattle.mdb_pool.specs.declared.log.Entry.{Entry}
+use Rattle.std.proofs.Common.{rules, ◌≡◌, ◌∷◌, [], refl}
 use Rattle.mdb_script.specs.World.{pool_options, entry_after}
 use Rattle.mdb_script.proofs.Opening.{opens}
 use Rattle.mdb_script.proofs.world.World.open.Goals as goal

@@ -1,0 +1,162 @@
+-- What a failed connection does is the answer to its step.
+use Rattle.std.proofs.Common.{ℕ, ◌≡◌, ◌-◌, ◌≤◌, Bool, true, false, not, ◌&&◌, ◌==◌, List, [], ◌∷◌, ◌++◌, Some, None, is_some, refl, sym, ◌∙◌, subst, if◌then◌else◌, ap, Option}
+use Rattle.mdb_base.specs.declared.error.Error.{Error}
+use Rattle.mdb_events.specs.declared.fact.Fact.{Fact}
+use Rattle.mdb_events.specs.declared.fact.Fact.TheVariants.{Ended}
+use Rattle.mdb_events.specs.declared.end.End.TheVariants.{Failed as FailedEnd}
+use Rattle.mdb_events.specs.declared.reasons.ConnectionClosedReason.TheVariants.{Error as ErrorReason}
+use Rattle.mdb_pool.specs.declared.step.Act.TheVariants.{Failed as FailedAct}
+use Rattle.mdb_pool.specs.declared.step.FailedAt.{FailedAt}
+use Rattle.mdb_pool.specs.declared.step.FailedAt.TheVariants.{Pre, Post}
+use Rattle.mdb_pool.specs.declared.reply.Refused.TheVariants.{NotPending, WrongMode}
+use Rattle.mdb_pool.specs.declared.reply.Reply.{Reply}
+use Rattle.mdb_pool.specs.declared.reply.Reply.TheVariants.{Done, Refused as RefusedBy}
+use Rattle.mdb_pool.specs.declared.connection.Connection.{Connection}
+use Rattle.mdb_pool.specs.declared.connection.Place.TheVariants.{Pending}
+use Rattle.mdb_pool.specs.declared.request.Request.{Request}
+use Rattle.mdb_pool.specs.declared.pool_core.PoolCore.{PoolCore}
+use Rattle.mdb_pool.specs.History.{Item, PoolItem, failed, of_pool, has_asked}
+use Rattle.mdb_pool.specs.Refusal.{refusal_of}
+use Rattle.mdb_pool.specs.Facts.{act_facts}
+use Rattle.mdb_pool.specs.Answer.{with_act}
+use Rattle.mdb_pool.specs.Standing.{Fits, StandsFor, Serves, Accepts, Answers, SameHome, SameNotes}
+use Rattle.mdb_pool.specs.Kept.{connection_at, request_at, is_pending_at, given_of, holder_at, holder_request, service_in}
+use Rattle.mdb_pool.specs.Changes.{failing, forgetting, shut_fact, off_fact}
+use Rattle.mdb_pool.proofs.Acts.{refuses, accepts, own-answers, not-back, pending-is, live-service, given-open, asked-known}
+use Rattle.mdb_pool.proofs.Tables.{entry_at-key, named}
+use Rattle.mdb_pool.proofs.Serving.{same-number}
+use Rattle.mdb_pool.proofs.Stands.{fail-fits, forget-fits}
+use Rattle.mdb_pool.specs.Connections.{has, pending, held}
+use Rattle.mdb_pool.specs.Requests.{end_of}
+use Rattle.mdb_pool.specs.Places.{is_pending}
+
+-- a pending connection
+module _ (s : PoolCore) (xs : List PoolItem) (z : Fits s xs) (n : ℕ) (x : Connection) (at : FailedAt) (error : Error) where
+  abbrev ys : List PoolItem
+  ys = failed x.id (service_in at) ∷ xs
+
+  -- its request has not ended
+  fail-are : (q : Request) → connection_at s x.id ≡ Some x → x.place ≡ Pending → x.holder ≡ Some q.number → request_at s q.number ≡ Some q → act_facts s.pool s.address s.options n xs ys (FailedAct s.pool x.id at error) ≡ shut_fact s x ErrorReason ∷ Ended q.number (FailedEnd error) ∷ off_fact s (n - q.asked_at) ∷ []
+  fail-are q at_x place held at_q =
+      let same : q.number ≡ x.party = z.matches.waits x.id x q.number at_x (ap is_pending place) held in
+      let mine : given_of (request_at s q.number) ≡ Some x.id = z.matches.owned x.id q.number (ap holder_at at_x ∙ held) in
+      let still : end_of xs q.number ≡ None = z.matches.ends q.number ∙ given-open (request_at s q.number) x.id mine in
+      rw (z.matches.granted_to x.id x at_x, ← same, still, z.matches.no_warm q.number, z.matches.asked_at q.number, at_q, live-service s xs z.matches x.id x at_x) refl
+
+  -- its party gave up
+  forget-are : connection_at s x.id ≡ Some x → x.place ≡ Pending → x.holder ≡ None → act_facts s.pool s.address s.options n xs ys (FailedAct s.pool x.id at error) ≡ shut_fact s x ErrorReason ∷ []
+  forget-are at_x place alone =
+      let over : is_some (end_of xs x.party) ≡ true = ap is_some (z.matches.ends x.party) ∙ z.matches.left_by x.id x at_x (ap is_pending place) alone in
+      rw (z.matches.granted_to x.id x at_x, over, live-service s xs z.matches x.id x at_x) refl
+
+  pub fail-accepts : (s1 t : PoolCore) (before f1 after : List Fact) (q : Request) → connection_at s x.id ≡ Some x → x.place ≡ Pending → x.holder ≡ Some q.number → request_at s q.number ≡ Some q → s1 ≡ failing s n x q (FailedEnd error)
+      → f1 ≡ before ++ shut_fact s x ErrorReason ∷ Ended q.number (FailedEnd error) ∷ off_fact s (n - q.asked_at) ∷ [] → SameHome s1 t → SameNotes s1 t
+      → ((k : List PoolItem) → Fits s1 k → Serves s1 t n f1 after k)
+      → Accepts s t before after n (FailedAct s.pool x.id at error) Done xs ys
+  fail-accepts s1 t before f1 after q at_x place held at_q s1_is f1_is home notes serves =
+      let asked : has_asked xs q.number ≡ true = asked-known s xs z q.number ∙ ap is_some at_q in
+      accepts s s1 t t before f1 after n (FailedAct s.pool x.id at error) Done (shut_fact s x ErrorReason ∷ Ended q.number (FailedEnd error) ∷ off_fact s (n - q.asked_at) ∷ []) xs ys
+      (fail-are q at_x place held at_q)
+      f1_is (rw s1_is (record { pool = refl; address = refl; options = refl })) (rw (s1_is, same-number s.pool, asked) (fail-fits s xs z n x (service_in at) q (FailedEnd error) at_x at_q held)) serves
+      (λ zs v. v)
+      (λ claims own zs m. refl)
+      tt
+      (λ r. ap (has r) (notes.settled ∙ ap (λ k. k.settled) s1_is))
+      (λ c. ap (has c) (notes.claimed ∙ ap (λ k. k.claimed) s1_is))
+      (tt, (tt, (tt, tt)))
+      (refl, (rw (same-number s.pool) asked, (refl, tt)))
+
+  pub forget-accepts : (s1 t : PoolCore) (before f1 after : List Fact) → connection_at s x.id ≡ Some x → x.place ≡ Pending → x.holder ≡ None → s1 ≡ forgetting s n x → f1 ≡ before ++ shut_fact s x ErrorReason ∷ [] → SameHome s1 t → SameNotes s1 t
+      → ((k : List PoolItem) → Fits s1 k → Serves s1 t n f1 after k)
+      → Accepts s t before after n (FailedAct s.pool x.id at error) Done xs ys
+  forget-accepts s1 t before f1 after at_x place alone s1_is f1_is home notes serves =
+      accepts s s1 t t before f1 after n (FailedAct s.pool x.id at error) Done (shut_fact s x ErrorReason ∷ []) xs ys
+      (forget-are at_x place alone)
+      f1_is (rw s1_is (record { pool = refl; address = refl; options = refl })) (rw (s1_is, same-number s.pool) (forget-fits s xs z n x (service_in at) at_x alone)) serves
+      (λ zs v. v)
+      (λ claims own zs m. refl)
+      tt
+      (λ r. ap (has r) (notes.settled ∙ ap (λ k. k.settled) s1_is))
+      (λ c. ap (has c) (notes.claimed ∙ ap (λ k. k.claimed) s1_is))
+      (tt, tt)
+      (refl, tt)
+
+-- the request of a connection is that of its holder
+holder-some : (s : PoolCore) (x : Connection) (q : Request) → holder_request s x ≡ Some q → (x.holder ≡ Some q.number) × (request_at s q.number ≡ Some q)
+holder-some s x q e = on x.holder refl
+  where
+    on : (o : Option ℕ) → x.holder ≡ o → (x.holder ≡ Some q.number) × (request_at s q.number ≡ Some q)
+    on None f = let k : holder_request s x ≡ None = rw f refl in let w : ◌≡◌ {A = Option Request} None (Some q) = sym k ∙ e in cc
+    on (Some r) f =
+        let t : holder_request s x ≡ request_at s r = rw f refl in
+        let k : request_at s r ≡ Some q = sym t ∙ e in
+        let i : q.number ≡ r = entry_at-key (λ (k : Request). k.number) r q s.requests k in
+        (f ∙ ap Some (sym i), subst (λ d. request_at s d ≡ Some q) (sym i) k)
+
+-- without one nobody has it
+holder-none : (s : PoolCore) (xs : List PoolItem) (z : Fits s xs) (x : Connection) → connection_at s x.id ≡ Some x → holder_request s x ≡ None → x.holder ≡ None
+holder-none s xs z x at_x e = on x.holder refl
+  where
+    on : (o : Option ℕ) → x.holder ≡ o → x.holder ≡ None
+    on None f = f
+    on (Some r) f =
+        let t : holder_request s x ≡ request_at s r = rw f refl in
+        let k : request_at s r ≡ None = sym t ∙ e in
+        let mine : given_of (request_at s r) ≡ Some x.id = z.matches.owned x.id r (ap holder_at at_x ∙ f) in
+        let none : given_of (request_at s r) ≡ None = ap given_of k in
+        cc
+
+-- the same by the numbers that the calls are given
+pub fail-of : (s s1 t : PoolCore) (before f1 after : List Fact) (n c : ℕ) (x : Connection) (q : Request) (at : FailedAt) (error : Error) (xs : List PoolItem) → Fits s xs → connection_at s c ≡ Some x → x.place ≡ Pending → holder_request s x ≡ Some q → s1 ≡ failing s n x q (FailedEnd error)
+    → f1 ≡ before ++ shut_fact s x ErrorReason ∷ Ended q.number (FailedEnd error) ∷ off_fact s (n - q.asked_at) ∷ [] → SameHome s1 t → SameNotes s1 t → ((k : List PoolItem) → Fits s1 k → Serves s1 t n f1 after k)
+    → Accepts s t before after n (FailedAct s.pool c at error) Done xs (failed c (service_in at) ∷ xs)
+fail-of s s1 t before f1 after n c x q at error xs z at_c place asker s1_is f1_is home notes serves =
+    let e : x.id ≡ c = entry_at-key (λ (y : Connection). y.id) c x s.connections at_c in
+    let v : (x.holder ≡ Some q.number) × (request_at s q.number ≡ Some q) = holder-some s x q asker in
+    subst (λ d. Accepts s t before after n (FailedAct s.pool d at error) Done xs (failed d (service_in at) ∷ xs)) e (fail-accepts s xs z n x at error s1 t before f1 after q (subst (λ d. connection_at s d ≡ Some x) (sym e) at_c) place v.0 v.1 s1_is f1_is home notes serves)
+
+pub forget-of : (s s1 t : PoolCore) (before f1 after : List Fact) (n c : ℕ) (x : Connection) (at : FailedAt) (error : Error) (xs : List PoolItem) → Fits s xs → connection_at s c ≡ Some x → x.place ≡ Pending → holder_request s x ≡ None → s1 ≡ forgetting s n x
+    → f1 ≡ before ++ shut_fact s x ErrorReason ∷ [] → SameHome s1 t → SameNotes s1 t → ((k : List PoolItem) → Fits s1 k → Serves s1 t n f1 after k)
+    → Accepts s t before after n (FailedAct s.pool c at error) Done xs (failed c (service_in at) ∷ xs)
+forget-of s s1 t before f1 after n c x at error xs z at_c place none s1_is f1_is home notes serves =
+    let e : x.id ≡ c = entry_at-key (λ (y : Connection). y.id) c x s.connections at_c in
+    let at_x : connection_at s x.id ≡ Some x = subst (λ d. connection_at s d ≡ Some x) (sym e) at_c in
+    subst (λ d. Accepts s t before after n (FailedAct s.pool d at error) Done xs (failed d (service_in at) ∷ xs)) e (forget-accepts s xs z n x at error s1 t before f1 after at_x place (holder-none s xs z x at_x none) s1_is f1_is home notes serves)
+
+-- how a failed connection is refused: it isn't pending, or it names a service and the pool is normal
+failed-refusal : (s : PoolCore) (h : List Item) → StandsFor s h → (n c : ℕ) (at : FailedAt) (error : Error) → s.last ≤ n → refusal_of s.pool s.options h (record { moment = n; act = FailedAct s.pool c at error }) ≡ if is_pending_at (connection_at s c) then (if not s.options.load_balanced && is_some (service_in at) then Some WrongMode else None) else Some NotPending
+failed-refusal s h z n c Pre error l = rw (z.last_is, not-back n s.last l, same-number s.pool, pending-is s (of_pool s.pool h) z.fits c) (on (is_pending_at (connection_at s c)) (not s.options.load_balanced))
+  where
+    on : (b k : Bool) → (if not b then Some NotPending else None) ≡ (if b then (if k && false then Some WrongMode else None) else Some NotPending)
+    on true true = refl
+    on true false = refl
+    on false k = refl
+failed-refusal s h z n c (Post service) error l = rw (z.last_is, not-back n s.last l, same-number s.pool, pending-is s (of_pool s.pool h) z.fits c) (on (is_pending_at (connection_at s c)) (not s.options.load_balanced && is_some service))
+  where
+    on : (b k : Bool) → (if not b then Some NotPending else (if k then Some WrongMode else None)) ≡ (if b then (if k then Some WrongMode else None) else Some NotPending)
+    on true k = refl
+    on false k = refl
+
+pub fails-pending : (s : PoolCore) (facts : List Fact) (n c : ℕ) (at : FailedAt) (error : Error) (h : List Item) → StandsFor s h → s.last ≤ n → is_pending_at (connection_at s c) ≡ false → Answers s s facts facts (record { moment = n; act = FailedAct s.pool c at error }) (RefusedBy NotPending) h
+fails-pending s facts n c at error h z l e = refuses s facts (record { moment = n; act = FailedAct s.pool c at error }) NotPending h z (failed-refusal s h z n c at error l ∙ rw e refl)
+
+pub fails-mode : (s : PoolCore) (facts : List Fact) (n c : ℕ) (at : FailedAt) (error : Error) (h : List Item) → StandsFor s h → s.last ≤ n → is_pending_at (connection_at s c) ≡ true → (not s.options.load_balanced && is_some (service_in at)) ≡ true → Answers s s facts facts (record { moment = n; act = FailedAct s.pool c at error }) (RefusedBy WrongMode) h
+fails-mode s facts n c at error h z l e f = refuses s facts (record { moment = n; act = FailedAct s.pool c at error }) WrongMode h z (failed-refusal s h z n c at error l ∙ rw (e, f) refl)
+
+-- a failed connection of another pool is refused
+pub fails-other : (s : PoolCore) (facts : List Fact) (n q c : ℕ) (at : FailedAt) (error : Error) (h : List Item) → StandsFor s h → s.last ≤ n → (q == s.pool) ≡ false → Answers s s facts facts (record { moment = n; act = FailedAct q c at error }) (RefusedBy NotPending) h
+fails-other s facts n q c Pre error h z l e = refuses s facts (record { moment = n; act = FailedAct q c Pre error }) NotPending h z (rw (z.last_is, not-back n s.last l, e) refl)
+fails-other s facts n q c (Post service) error h z l e = refuses s facts (record { moment = n; act = FailedAct q c (Post service) error }) NotPending h z (rw (z.last_is, not-back n s.last l, e) refl)
+
+with-failed : (s : PoolCore) (h : List Item) (n c : ℕ) (at : FailedAt) (error : Error) → with_act s.pool h (record { moment = n; act = FailedAct s.pool c at error }) ≡ failed c (service_in at) ∷ of_pool s.pool h
+with-failed s h n c Pre error = rw (same-number s.pool) refl
+with-failed s h n c (Post service) error = rw (same-number s.pool) refl
+
+pub failed-own : (s t : PoolCore) (before after : List Fact) (n c : ℕ) (at : FailedAt) (error : Error) (reply : Reply) (h : List Item) → StandsFor s h → s.last ≤ n → (not s.options.load_balanced && is_some (service_in at)) ≡ false → is_pending_at (connection_at s c) ≡ true → SameHome s t → t.last ≡ n
+    → ((xs : List PoolItem) → Fits s xs → Accepts s t before after n (FailedAct s.pool c at error) reply xs (failed c (service_in at) ∷ xs))
+    → Answers s t before after (record { moment = n; act = FailedAct s.pool c at error }) reply h
+failed-own s t before after n c at error reply h z l named pending home last_is v =
+    own-answers s t before after (record { moment = n; act = FailedAct s.pool c at error }) reply (failed c (service_in at) ∷ of_pool s.pool h) h z
+    (failed-refusal s h z n c at error l ∙ rw (pending, named) refl)
+    (with-failed s h n c at error)
+    (λ k. refl) (λ k. refl) home last_is (v (of_pool s.pool h) z.fits)

@@ -1,0 +1,174 @@
+-- What a give-up does is the answer to its step.
+use Rattle.std.proofs.Common.{ℕ, ◌≡◌, ◌≤◌, Bool, true, false, not, ◌==◌, List, [], ◌∷◌, ◌++◌, Option, Some, None, is_some, refl, sym, ◌∙◌, ap, subst, if◌then◌else◌, append-nil}
+use Rattle.mdb_events.specs.declared.fact.Fact.{Fact}
+use Rattle.mdb_events.specs.declared.fact.Fact.TheVariants.{Ended}
+use Rattle.mdb_events.specs.declared.end.End.{End}
+use Rattle.mdb_events.specs.declared.end.End.TheVariants.{GaveUp}
+use Rattle.mdb_pool.specs.declared.step.Act.TheVariants.{GiveUp}
+use Rattle.mdb_pool.specs.declared.reply.Refused.TheVariants.{UnknownRequest}
+use Rattle.mdb_pool.specs.declared.reply.Reply.{Reply}
+use Rattle.mdb_pool.specs.declared.reply.Reply.TheVariants.{Done, Refused as RefusedBy}
+use Rattle.mdb_pool.specs.declared.connection.Connection.{Connection}
+use Rattle.mdb_pool.specs.declared.connection.Place.TheVariants.{Pending, Held}
+use Rattle.mdb_pool.specs.declared.request.Request.{Request}
+use Rattle.mdb_pool.specs.declared.request.Phase.{Phase}
+use Rattle.mdb_pool.specs.declared.request.Phase.TheVariants.{Queued, Given, Over, Ended as EndedPhase}
+use Rattle.mdb_pool.specs.declared.pool_core.PoolCore.{PoolCore}
+use Rattle.mdb_pool.specs.History.{Item, PoolItem, is_number, given, has_asked, of_pool, after_facts, gave_up}
+use Rattle.mdb_pool.specs.Kept.{connection_at, request_at, given_in, given_of, end_in, end_at, is_ended_at, held_connection, pending_connection, is_open_now, is_pending_at, outcome_now}
+use Rattle.mdb_pool.specs.Requests.{end_of, told}
+use Rattle.mdb_pool.specs.Facts.{act_facts}
+use Rattle.mdb_pool.specs.Standing.{Fits, StandsFor, SameHome, SameNotes, Serves, Accepts, Answers}
+use Rattle.mdb_pool.specs.Connections.{has, pending_list, held}
+use Rattle.mdb_pool.specs.Places.{is_pending}
+use Rattle.mdb_pool.specs.Refusal.{refusal_of}
+use Rattle.mdb_pool.specs.Changes.{in_fact, quitting, leaving, handing}
+use Rattle.mdb_pool.specs.Legal.{AllFirstCome, AllOwn}
+use Rattle.mdb_pool.proofs.ReturnedActs.{or-swap}
+use Rattle.mdb_pool.proofs.Found.{Holder, holder, pender, not-given}
+use Rattle.mdb_pool.proofs.CollectedActs.{open-is}
+use Rattle.mdb_pool.proofs.Stands.{quit-fits, leave-fits, hand-fits, late-fits}
+use Rattle.mdb_pool.proofs.Tables.{entry_at-key}
+use Rattle.mdb_pool.proofs.Laws.{has-append}
+use Rattle.mdb_pool.proofs.Serving.{same-number, no-stale}
+use Rattle.mdb_pool.proofs.Acts.{refuses, accepts, own-answers, not-back, pending-is, holding-is, outcome-is, outcome-accepted, outcome-no-job, live-fine, asked-known}
+
+-- a request that has not ended
+module _ (s : PoolCore) (xs : List PoolItem) (z : Fits s xs) (n : ℕ) (q : Request) (at_q : request_at s q.number ≡ Some q) (open_now : end_in q.phase ≡ None) where
+  abbrev ys : List PoolItem
+  ys = gave_up q.number ∷ xs
+
+  still : end_of xs q.number ≡ None
+  still = z.matches.ends q.number ∙ (ap end_at at_q ∙ open_now)
+
+  asked : has_asked xs q.number ≡ true
+  asked = asked-known s xs z q.number ∙ ap is_some at_q
+
+  -- the facts acts, and a state that fits them, are an answer
+  given-up : (s1 t : PoolCore) (before f1 after : List Fact) (acts : List Fact) → act_facts s.pool s.address s.options n xs ys (GiveUp q.number) ≡ acts → f1 ≡ before ++ acts → SameHome s s1 → s1.settled ≡ s.settled ++ q.number ∷ [] → s1.claimed ≡ s.claimed
+      → Fits s1 (after_facts s.pool n acts ys) → SameHome s1 t → SameNotes s1 t → ((k : List PoolItem) → Fits s1 k → Serves s1 t n f1 after k) → AllFirstCome s.pool n ys acts → AllOwn s.pool n ys acts
+      → Accepts s t before after n (GiveUp q.number) Done xs ys
+  given-up s1 t before f1 after acts acts_are f1_is at_home told same fits home notes serves fair own =
+      accepts s s1 t t before f1 after n (GiveUp q.number) Done acts xs ys acts_are f1_is at_home fits serves
+      (λ zs v. v)
+      (λ claims own zs m. rw still refl)
+      tt
+      (λ r. ap (has r) (notes.settled ∙ told) ∙ (has-append r q.number s.settled ∙ or-swap (has r s.settled) (q.number == r)))
+      (λ c. ap (has c) (notes.claimed ∙ same))
+      fair own
+
+  -- it waits in the queue
+  quit-are : given_in q.phase ≡ None → act_facts s.pool s.address s.options n xs ys (GiveUp q.number) ≡ Ended q.number GaveUp ∷ []
+  quit-are none = let g : given xs q.number ≡ None = z.matches.given q.number ∙ (ap given_of at_q ∙ none) in rw (still, g) refl
+
+  pub quit-accepts : (s1 t : PoolCore) (before f1 after : List Fact) → given_in q.phase ≡ None → s1 ≡ quitting s n q → f1 ≡ before ++ Ended q.number GaveUp ∷ [] → SameHome s1 t → SameNotes s1 t → ((k : List PoolItem) → Fits s1 k → Serves s1 t n f1 after k)
+      → Accepts s t before after n (GiveUp q.number) Done xs ys
+  quit-accepts s1 t before f1 after none s1_is f1_is home notes serves =
+      given-up s1 t before f1 after (Ended q.number GaveUp ∷ []) (quit-are none) f1_is (rw s1_is (record { pool = refl; address = refl; options = refl })) (ap (λ k. k.settled) s1_is) (ap (λ k. k.claimed) s1_is)
+      (rw (s1_is, asked) (quit-fits s xs z n q at_q none)) home notes serves (tt, tt) (asked, tt)
+
+  -- its connection is pending
+  leave-are : (x : Connection) → connection_at s x.id ≡ Some x → x.place ≡ Pending → q.phase ≡ Given x.id → act_facts s.pool s.address s.options n xs ys (GiveUp q.number) ≡ Ended q.number GaveUp ∷ []
+  leave-are x at_x place phase =
+      let g : given xs q.number ≡ Some x.id = z.matches.given q.number ∙ (ap given_of at_q ∙ ap given_in phase) in
+      let p : has x.id (pending_list xs) ≡ true = pending-is s xs z x.id ∙ (ap is_pending_at at_x ∙ ap is_pending place) in
+      rw (still, g, p) refl
+
+  pub leave-accepts : (s1 t : PoolCore) (before f1 after : List Fact) (x : Connection) → connection_at s x.id ≡ Some x → x.place ≡ Pending → q.phase ≡ Given x.id → s1 ≡ leaving s n x q → f1 ≡ before ++ Ended q.number GaveUp ∷ [] → SameHome s1 t → SameNotes s1 t → ((k : List PoolItem) → Fits s1 k → Serves s1 t n f1 after k)
+      → Accepts s t before after n (GiveUp q.number) Done xs ys
+  leave-accepts s1 t before f1 after x at_x place phase s1_is f1_is home notes serves =
+      given-up s1 t before f1 after (Ended q.number GaveUp ∷ []) (leave-are x at_x place phase) f1_is (rw s1_is (record { pool = refl; address = refl; options = refl })) (ap (λ k. k.settled) s1_is) (ap (λ k. k.claimed) s1_is)
+      (rw (s1_is, asked) (leave-fits s xs z n x q at_x at_q phase place)) home notes serves (tt, tt) (asked, tt)
+
+  -- its connection is held
+  hand-are : (x : Connection) → held_connection s q.number ≡ Some x → connection_at s x.id ≡ Some x → q.phase ≡ Given x.id → act_facts s.pool s.address s.options n xs ys (GiveUp q.number) ≡ Ended q.number GaveUp ∷ in_fact s x.id ∷ []
+  hand-are x held at_x phase =
+      let g : given xs q.number ≡ Some x.id = z.matches.given q.number ∙ (ap given_of at_q ∙ ap given_in phase) in
+      let mine : is_number (given xs q.number) x.id ≡ true = ap (λ o. is_number o x.id) g ∙ same-number x.id in
+      rw (still, holding-is s xs z q.number, held, z.matches.no_pin x.id, z.matches.ready, live-fine s xs z.matches x.id x at_x, no-stale s xs z n x.id, mine) refl
+
+  pub hand-accepts : (s1 t : PoolCore) (before f1 after : List Fact) (x : Connection) → held_connection s q.number ≡ Some x → connection_at s x.id ≡ Some x → x.place ≡ Held → q.phase ≡ Given x.id → s1 ≡ handing s n x q → f1 ≡ before ++ Ended q.number GaveUp ∷ in_fact s x.id ∷ [] → SameHome s1 t → SameNotes s1 t → ((k : List PoolItem) → Fits s1 k → Serves s1 t n f1 after k)
+      → Accepts s t before after n (GiveUp q.number) Done xs ys
+  hand-accepts s1 t before f1 after x held at_x place phase s1_is f1_is home notes serves =
+      given-up s1 t before f1 after (Ended q.number GaveUp ∷ in_fact s x.id ∷ []) (hand-are x held at_x phase) f1_is (rw s1_is (record { pool = refl; address = refl; options = refl })) (ap (λ k. k.settled) s1_is) (ap (λ k. k.claimed) s1_is)
+      (rw (s1_is, asked, same-number s.pool) (hand-fits s xs z n x q at_x place at_q phase)) home notes serves (tt, (tt, tt)) (asked, (refl, tt))
+
+-- a request that ended is told how
+some-end : (o : Option Request) → is_ended_at o ≡ true → given_of o ≡ None
+some-end None e = refl
+some-end (Some q) e = on q.phase refl
+  where
+    on : (p : Phase) → q.phase ≡ p → given_of (Some q) ≡ None
+    on Queued f = ap given_in f
+    on (Given c) f = let k : is_ended_at (Some q) ≡ false = ap (λ p. is_some (end_in p)) f in cc
+    on Over f = ap given_in f
+    on (EndedPhase end) f = ap given_in f
+
+pub late-accepts : (s s1 t : PoolCore) (before after : List Fact) (n r : ℕ) (reply : Reply) (xs : List PoolItem) → Fits s xs → is_ended_at (request_at s r) ≡ true
+    → s1 ≡ record s { last = n; settled = s.settled ++ r ∷ [] } → SameHome s1 t → SameNotes s1 t → ((k : List PoolItem) → Fits s1 k → Serves s1 t n before after k) → reply ≡ outcome_now s r
+    → Accepts s t before after n (GiveUp r) reply xs (gave_up r ∷ xs)
+late-accepts s s1 t before after n r reply xs z over s1_is home notes serves reply_is =
+    let gone : is_some (end_of xs r) ≡ true = ap is_some (z.matches.ends r) ∙ over in
+    accepts s s1 t t before before after n (GiveUp r) reply [] xs (gave_up r ∷ xs)
+    (rw gone refl)
+    (sym (append-nil before)) (rw s1_is (record { pool = refl; address = refl; options = refl })) (rw s1_is (late-fits s xs z n r (s.settled ++ r ∷ []) (some-end (request_at s r) over))) serves
+    (λ zs v. v)
+    (λ claims own zs m. rw gone (reply_is ∙ sym (outcome-is s xs z.matches r)))
+    (rw reply_is (outcome-accepted s r))
+    (λ k. ap (has k) (notes.settled ∙ ap (λ x. x.settled) s1_is) ∙ (has-append k r s.settled ∙ or-swap (has k s.settled) (r == k)))
+    (λ c. rw (reply_is, outcome-no-job s r s.pool c) (ap (has c) (notes.claimed ∙ ap (λ x. x.claimed) s1_is)))
+    tt tt
+
+give-up-refusal : (s : PoolCore) (h : List Item) → StandsFor s h → (n r : ℕ) → s.last ≤ n → refusal_of s.pool s.options h (record { moment = n; act = GiveUp r }) ≡ if not (is_open_now s r) then Some UnknownRequest else None
+give-up-refusal s h z n r l = rw (z.last_is, not-back n s.last l, open-is s h z r) refl
+
+pub refuses-closed : (s : PoolCore) (facts : List Fact) (n r : ℕ) (h : List Item) → StandsFor s h → s.last ≤ n → is_open_now s r ≡ false → Answers s s facts facts (record { moment = n; act = GiveUp r }) (RefusedBy UnknownRequest) h
+refuses-closed s facts n r h z l e = refuses s facts (record { moment = n; act = GiveUp r }) UnknownRequest h z (give-up-refusal s h z n r l ∙ ap (λ b. if not b then Some UnknownRequest else None) e)
+
+-- an open request is known
+pub open-known : (s : PoolCore) (r : ℕ) → is_open_now s r ≡ true → is_some (request_at s r) ≡ true
+open-known s r e = on (is_some (request_at s r)) refl
+  where
+    on : (b : Bool) → is_some (request_at s r) ≡ b → is_some (request_at s r) ≡ true
+    on true f = f
+    on false f = let k : is_open_now s r ≡ false = rw f refl in cc
+
+pub give-up-own : (s t : PoolCore) (before after : List Fact) (n r : ℕ) (reply : Reply) (h : List Item) → StandsFor s h → s.last ≤ n → is_open_now s r ≡ true → SameHome s t → t.last ≡ n
+    → ((xs : List PoolItem) → Fits s xs → Accepts s t before after n (GiveUp r) reply xs (gave_up r ∷ xs))
+    → Answers s t before after (record { moment = n; act = GiveUp r }) reply h
+give-up-own s t before after n r reply h z l opened home last_is v =
+    own-answers s t before after (record { moment = n; act = GiveUp r }) reply (gave_up r ∷ of_pool s.pool h) h z
+    (give-up-refusal s h z n r l ∙ ap (λ b. if not b then Some UnknownRequest else None) opened)
+    (rw (asked-known s (of_pool s.pool h) z.fits r ∙ open-known s r opened) refl)
+    (λ k. refl) (λ k. refl) home last_is (v (of_pool s.pool h) z.fits)
+
+no-end : (s : PoolCore) (r : ℕ) (q : Request) → request_at s r ≡ Some q → is_ended_at (request_at s r) ≡ false → end_in q.phase ≡ None
+no-end s r q at_r e = none (end_in q.phase) (sym (ap is_ended_at at_r) ∙ e)
+  where
+    none : (o : Option End) → is_some o ≡ false → o ≡ None
+    none None f = refl
+    none (Some end) f = cc
+
+-- the same by the number that the call is given
+pub hand-of : (s s1 t : PoolCore) (before f1 after : List Fact) (n r : ℕ) (x : Connection) (q : Request) (xs : List PoolItem) → Fits s xs → request_at s r ≡ Some q → is_ended_at (request_at s r) ≡ false → held_connection s r ≡ Some x
+    → s1 ≡ handing s n x q → f1 ≡ before ++ Ended q.number GaveUp ∷ in_fact s x.id ∷ [] → SameHome s1 t → SameNotes s1 t → ((k : List PoolItem) → Fits s1 k → Serves s1 t n f1 after k)
+    → Accepts s t before after n (GiveUp r) Done xs (gave_up r ∷ xs)
+hand-of s s1 t before f1 after n r x q xs z at_r open_now held s1_is f1_is home notes serves =
+    let e : q.number ≡ r = entry_at-key (λ (k : Request). k.number) r q s.requests at_r in
+    let v : Holder s r x q = holder s r x q held at_r in
+    subst (λ d. Accepts s t before after n (GiveUp d) Done xs (gave_up d ∷ xs)) e (hand-accepts s xs z n q (subst (λ d. request_at s d ≡ Some q) (sym e) at_r) (no-end s r q at_r open_now) s1 t before f1 after x (subst (λ d. held_connection s d ≡ Some x) (sym e) held) v.at_x v.place v.phase s1_is f1_is home notes serves)
+
+pub leave-of : (s s1 t : PoolCore) (before f1 after : List Fact) (n r : ℕ) (x : Connection) (q : Request) (xs : List PoolItem) → Fits s xs → request_at s r ≡ Some q → is_ended_at (request_at s r) ≡ false → pending_connection s r ≡ Some x
+    → s1 ≡ leaving s n x q → f1 ≡ before ++ Ended q.number GaveUp ∷ [] → SameHome s1 t → SameNotes s1 t → ((k : List PoolItem) → Fits s1 k → Serves s1 t n f1 after k)
+    → Accepts s t before after n (GiveUp r) Done xs (gave_up r ∷ xs)
+leave-of s s1 t before f1 after n r x q xs z at_r open_now waits s1_is f1_is home notes serves =
+    let e : q.number ≡ r = entry_at-key (λ (k : Request). k.number) r q s.requests at_r in
+    let v : (q.phase ≡ Given x.id) × (connection_at s x.id ≡ Some x) × (x.place ≡ Pending) = pender s r x q waits at_r in
+    subst (λ d. Accepts s t before after n (GiveUp d) Done xs (gave_up d ∷ xs)) e (leave-accepts s xs z n q (subst (λ d. request_at s d ≡ Some q) (sym e) at_r) (no-end s r q at_r open_now) s1 t before f1 after x v.1 v.2 v.0 s1_is f1_is home notes serves)
+
+pub quit-of : (s s1 t : PoolCore) (before f1 after : List Fact) (n r : ℕ) (q : Request) (xs : List PoolItem) → Fits s xs → request_at s r ≡ Some q → is_ended_at (request_at s r) ≡ false → held_connection s r ≡ None → pending_connection s r ≡ None
+    → s1 ≡ quitting s n q → f1 ≡ before ++ Ended q.number GaveUp ∷ [] → SameHome s1 t → SameNotes s1 t → ((k : List PoolItem) → Fits s1 k → Serves s1 t n f1 after k)
+    → Accepts s t before after n (GiveUp r) Done xs (gave_up r ∷ xs)
+quit-of s s1 t before f1 after n r q xs z at_r open_now held waits s1_is f1_is home notes serves =
+    let e : q.number ≡ r = entry_at-key (λ (k : Request). k.number) r q s.requests at_r in
+    subst (λ d. Accepts s t before after n (GiveUp d) Done xs (gave_up d ∷ xs)) e (quit-accepts s xs z n q (subst (λ d. request_at s d ≡ Some q) (sym e) at_r) (no-end s r q at_r open_now) s1 t before f1 after (not-given s xs z.matches r q at_r held waits) s1_is f1_is home notes serves)

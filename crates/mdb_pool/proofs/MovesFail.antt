@@ -1,0 +1,140 @@
+-- What a failed connection does follows the items of the pool.
+use Rattle.std.proofs.Common.{ℕ, ◌≡◌, arith, true, false, ◌==◌, List, [], ◌∷◌, Option, Some, None, refl, sym, ◌∙◌, ap, if◌then◌else◌}
+use Rattle.std.proofs.lemmas.Grind.{common_steps}
+use Rattle.std.proofs.lemmas.Bool.Decides.{nat_tests}
+use Rattle.mdb_base.specs.declared.object_id.ObjectId.{ObjectId}
+use Rattle.mdb_events.specs.declared.end.End.{End}
+use Rattle.mdb_pool.specs.declared.connection.Connection.{Connection}
+use Rattle.mdb_pool.specs.declared.request.Request.{Request}
+use Rattle.mdb_pool.specs.declared.request.Phase.{Phase}
+use Rattle.mdb_pool.specs.declared.request.Phase.TheVariants.{Queued, Given, Over, Ended as EndedPhase}
+use Rattle.mdb_pool.specs.declared.pool_core.PoolCore.{PoolCore}
+use Rattle.mdb_pool.specs.History.{PoolItem, is_number, without, failed, closed, ended}
+use Rattle.mdb_pool.specs.Kept.{connection_at, request_at, given_in, given_of, holder_at}
+use Rattle.mdb_pool.specs.Requests.{queued}
+use Rattle.mdb_pool.specs.Standing.{Matches}
+use Rattle.mdb_pool.specs.Connections.{pending_list, parties}
+use Rattle.mdb_pool.specs.Places.{is_pending, is_available, is_queued}
+use Rattle.mdb_pool.specs.Changes.{failing, forgetting}
+use Rattle.mdb_pool.proofs.Moves.{without-one, number-some}
+use Rattle.mdb_pool.proofs.Tables.{without-absent, entry_at-others, map-filter-others, entry_at-put, named-others, named-put, length-others, passes, has-where, where-put_stay}
+
+abbrev id_of : Connection → ℕ
+id_of x = x.id
+
+abbrev number_of : Request → ℕ
+number_of q = q.number
+
+pub without-twice : (c : ℕ) (cs : List ℕ) → without c (without c cs) ≡ without c cs
+without-twice c [] = refl
+without-twice c (d ∷ cs) = grind (arith, common_steps, without-twice c cs)
+
+-- a pending connection failed
+module _ (s : PoolCore) (xs : List PoolItem) (m : Matches s xs) (n : ℕ) (x : Connection) (service : Option ObjectId) (at_x : connection_at s x.id ≡ Some x) where
+  lost_connection : (c : ℕ) → connection_at (forgetting s n x) c ≡ if x.id == c then None else connection_at s c
+  lost_connection c = entry_at-others id_of c x.id s.connections
+
+  -- its requester gave up
+  pub forget-matches : x.holder ≡ None → Matches (forgetting s n x) (closed x.id ∷ failed x.id service ∷ xs)
+  forget-matches alone = record {
+    created = m.created;
+    live_all = grind (arith, m.live_all, length-others id_of x.id s.connections, m.single x.id, at_x);
+    pending = without-twice x.id (pending_list xs) ∙ (ap (without x.id) m.pending ∙ sym (map-filter-others id_of (λ y. is_pending y.place) x.id s.connections));
+    available = ap (without x.id) m.available ∙ sym (map-filter-others id_of (λ y. is_available y.place) x.id s.connections);
+    queue = m.queue;
+    single = λ c. grind (arith, named-others id_of c x.id s.connections, lost_connection c, m.single c);
+    unused = λ c h. grind (arith, lost_connection c, m.unused c h);
+    live = λ c. grind (arith, lost_connection c, m.live c, at_x);
+    parties = λ c. grind (arith, lost_connection c, m.parties c, at_x, alone);
+    granted_to = λ c y e. grind (arith, lost_connection c, m.granted_to c y);
+    created_at = λ c y e. grind (arith, lost_connection c, m.created_at c y);
+    service = λ c. grind (arith, nat_tests, lost_connection c, m.service c, m.unused c, at_x);
+    given = m.given;
+    single_request = m.single_request;
+    asked_at = m.asked_at;
+    ends = m.ends;
+    taken = λ r c h. grind (arith, lost_connection c, m.taken r c, at_x, alone);
+    owned = λ c r h. grind (arith, lost_connection c, m.owned c r);
+    known = λ c y e. grind (arith, lost_connection c, m.known c y);
+    free = λ c y e f. grind (arith, lost_connection c, m.free c y);
+    busy = λ c y e f. grind (arith, lost_connection c, m.busy c y);
+    waits = λ c y r e f g. grind (arith, lost_connection c, m.waits c y r);
+    left_by = λ c y e f g. grind (arith, lost_connection c, m.left_by c y);
+    ready = m.ready;
+    no_warm = m.no_warm;
+    no_pin = m.no_pin;
+    no_error = λ c. grind (arith, nat_tests, lost_connection c, m.no_error c, m.unused c, at_x);
+    no_drop = λ c. grind (arith, nat_tests, lost_connection c, m.no_drop c, m.unused c, at_x);
+    no_clear = m.no_clear;
+    no_before = m.no_before;
+  }
+
+-- and its requester ends
+module _ (s : PoolCore) (xs : List PoolItem) (m : Matches s xs) (n : ℕ) (x : Connection) (service : Option ObjectId) (at_x : connection_at s x.id ≡ Some x) (q : Request) (end : End) (at_q : request_at s q.number ≡ Some q) (held : x.holder ≡ Some q.number) where
+  abbrev failed_q : Request
+  failed_q = record q { phase = EndedPhase end }
+
+  gone_connection : (c : ℕ) → connection_at (failing s n x q end) c ≡ if x.id == c then None else connection_at s c
+  gone_connection c = entry_at-others id_of c x.id s.connections
+
+  pub failed_request : (r : ℕ) → request_at (failing s n x q end) r ≡ if q.number == r then Some failed_q else request_at s r
+  failed_request r = entry_at-put number_of r failed_q s.requests
+
+  was_held : holder_at (connection_at s x.id) ≡ Some q.number
+  was_held = ap holder_at at_x ∙ held
+
+  given_now : given_of (request_at s q.number) ≡ Some x.id
+  given_now = m.owned x.id q.number was_held
+
+  given_phase : given_in q.phase ≡ Some x.id
+  given_phase = sym (ap given_of at_q) ∙ given_now
+
+  not_queued : is_queued q.phase ≡ false
+  not_queued = on q.phase refl
+    where
+      on : (p : Phase) → q.phase ≡ p → is_queued q.phase ≡ false
+      on Queued e = let k : given_in q.phase ≡ None = ap given_in e in let w : given_in q.phase ≡ Some x.id = given_phase in cc
+      on (Given c) e = ap is_queued e
+      on Over e = ap is_queued e
+      on (EndedPhase end) e = ap is_queued e
+
+  -- the party no longer has the connection
+  parted : (c : ℕ) → without q.number (parties xs c) ≡ if is_number (holder_at (connection_at s c)) q.number then [] else parties xs c
+  parted c = rw (m.parties c) (without-one (holder_at (connection_at s c)) q.number)
+
+  only : (c : ℕ) → is_number (holder_at (connection_at s c)) q.number ≡ true → given_of (request_at s q.number) ≡ Some c
+  only c e = m.owned c q.number (number-some (holder_at (connection_at s c)) q.number e)
+
+  pub fail-matches : Matches (failing s n x q end) (ended q.number end ∷ closed x.id ∷ failed x.id service ∷ xs)
+  fail-matches = record {
+    created = m.created;
+    live_all = grind (arith, m.live_all, length-others id_of x.id s.connections, m.single x.id, at_x);
+    pending = without-twice x.id (pending_list xs) ∙ (ap (without x.id) m.pending ∙ sym (map-filter-others id_of (λ y. is_pending y.place) x.id s.connections));
+    available = ap (without x.id) m.available ∙ sym (map-filter-others id_of (λ y. is_available y.place) x.id s.connections);
+    queue = without-absent q.number (queued xs) (rw m.queue (has-where number_of (λ y. is_queued y.phase) q.number s.requests (m.single_request q.number) ∙ (ap (passes number_of (λ y. is_queued y.phase)) at_q ∙ not_queued))) ∙ (m.queue ∙ sym (where-put_stay number_of (λ y. is_queued y.phase) failed_q s.requests refl (m.single_request q.number) (ap (passes number_of (λ y. is_queued y.phase)) at_q ∙ not_queued)));
+    single = λ c. grind (arith, named-others id_of c x.id s.connections, gone_connection c, m.single c);
+    unused = λ c h. grind (arith, gone_connection c, m.unused c h);
+    live = λ c. grind (arith, gone_connection c, m.live c, at_x);
+    parties = λ c. parted c ∙ grind (arith, gone_connection c, m.parties c, only c, given_now, was_held, at_x);
+    granted_to = λ c y e. grind (arith, gone_connection c, m.granted_to c y);
+    created_at = λ c y e. grind (arith, gone_connection c, m.created_at c y);
+    service = λ c. grind (arith, nat_tests, gone_connection c, m.service c, m.unused c, at_x);
+    given = λ r. grind (arith, failed_request r, m.given r);
+    single_request = λ r. grind (arith, named-put number_of r failed_q s.requests, failed_request r, m.single_request r);
+    asked_at = λ r. grind (arith, failed_request r, m.asked_at r);
+    ends = λ r. grind (arith, failed_request r, m.ends r);
+    taken = λ r c h. grind (arith, failed_request r, gone_connection c, m.taken r c, m.owned c r, was_held, at_x, at_q);
+    owned = λ c r h. grind (arith, failed_request r, gone_connection c, m.owned c r, m.taken r c, was_held, at_x, at_q);
+    known = λ c y e. grind (arith, gone_connection c, failed_request y.party, m.known c y);
+    free = λ c y e f. grind (arith, gone_connection c, m.free c y);
+    busy = λ c y e f. grind (arith, gone_connection c, m.busy c y);
+    waits = λ c y r e f g. grind (arith, gone_connection c, m.waits c y r);
+    left_by = λ c y e f g. grind (arith, gone_connection c, m.left_by c y, failed_request y.party);
+    ready = m.ready;
+    no_warm = m.no_warm;
+    no_pin = m.no_pin;
+    no_error = λ c. grind (arith, nat_tests, gone_connection c, m.no_error c, m.unused c, at_x);
+    no_drop = λ c. grind (arith, nat_tests, gone_connection c, m.no_drop c, m.unused c, at_x);
+    no_clear = m.no_clear;
+    no_before = m.no_before;
+  }

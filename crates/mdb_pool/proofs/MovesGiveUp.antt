@@ -1,0 +1,245 @@
+-- What a give-up does follows the items of the pool.
+use Rattle.std.proofs.Common.{ℕ, ◌≡◌, arith, ◌≤◌, true, ◌==◌, List, [], ◌∷◌, ◌++◌, Some, None, is_some, refl, sym, ◌∙◌, ap, if◌then◌else◌}
+use Rattle.std.proofs.lemmas.Bool.Decides.{nat_tests}
+use Rattle.mdb_events.specs.declared.end.End.TheVariants.{GaveUp}
+use Rattle.mdb_pool.specs.declared.connection.Connection.{Connection}
+use Rattle.mdb_pool.specs.declared.connection.Place.TheVariants.{Pending, Available, Held}
+use Rattle.mdb_pool.specs.declared.request.Request.{Request}
+use Rattle.mdb_pool.specs.declared.request.Phase.TheVariants.{Given, Ended as EndedPhase}
+use Rattle.mdb_pool.specs.declared.pool_core.PoolCore.{PoolCore}
+use Rattle.mdb_pool.specs.History.{PoolItem, is_number, without, given, gave_up, checked_in, ended}
+use Rattle.mdb_pool.specs.Kept.{connection_at, request_at, given_in, given_of, holder_at}
+use Rattle.mdb_pool.specs.Requests.{queued}
+use Rattle.mdb_pool.specs.Standing.{Matches}
+use Rattle.mdb_pool.specs.Connections.{parties}
+use Rattle.mdb_pool.specs.Places.{is_pending, is_available, is_queued}
+use Rattle.mdb_pool.specs.Changes.{quitting, leaving, handing}
+use Rattle.mdb_pool.proofs.Moves.{without-one, number-some}
+use Rattle.mdb_pool.proofs.Tables.{without-absent, entry_at-put, where-put, named, named-put, length-put, passes, has-where, where-put_out, where-put_stay, entry_at-swap, named-swap, length-swap, where-swap_same, one_if-le}
+
+abbrev id_of : Connection → ℕ
+id_of x = x.id
+
+abbrev number_of : Request → ℕ
+number_of q = q.number
+
+-- a request that has no connection is given up
+module _ (s : PoolCore) (xs : List PoolItem) (m : Matches s xs) (n : ℕ) (q : Request)
+    (at_q : request_at s q.number ≡ Some q) (none : given_in q.phase ≡ None) where
+  abbrev pub quit_q : Request
+  quit_q = record q { phase = EndedPhase GaveUp }
+
+  pub quit_request : (r : ℕ) → request_at (quitting s n q) r ≡ if q.number == r then Some quit_q else request_at s r
+  quit_request r = entry_at-put number_of r quit_q s.requests
+
+  given_none : given_of (request_at s q.number) ≡ None
+  given_none = ap given_of at_q ∙ none
+
+  -- the party no longer has the connection
+  quits : (c : ℕ) → without q.number (parties xs c) ≡ if is_number (holder_at (connection_at s c)) q.number then [] else parties xs c
+  quits c = rw (m.parties c) (without-one (holder_at (connection_at s c)) q.number)
+
+  nobody : (c : ℕ) → is_number (holder_at (connection_at s c)) q.number ≡ true → given_of (request_at s q.number) ≡ Some c
+  nobody c e = m.owned c q.number (number-some (holder_at (connection_at s c)) q.number e)
+
+  pub quit-matches : Matches (quitting s n q) (ended q.number GaveUp ∷ gave_up q.number ∷ xs)
+  quit-matches = record {
+    created = m.created;
+    live_all = m.live_all;
+    pending = m.pending;
+    available = m.available;
+    queue = ap (without q.number) m.queue ∙ sym (where-put_out number_of (λ y. is_queued y.phase) quit_q s.requests refl);
+    single = m.single;
+    unused = m.unused;
+    live = m.live;
+    parties = λ c. quits c ∙ grind (arith, m.parties c, nobody c, given_none);
+    granted_to = m.granted_to;
+    created_at = m.created_at;
+    service = m.service;
+    given = λ r. grind (arith, quit_request r, m.given r);
+    single_request = λ r. grind (arith, named-put number_of r quit_q s.requests, quit_request r, m.single_request r);
+    asked_at = λ r. grind (arith, quit_request r, m.asked_at r);
+    ends = λ r. grind (arith, quit_request r, m.ends r);
+    taken = λ k c h. grind (arith, quit_request k, m.taken k c, at_q, none);
+    owned = λ c k h. grind (arith, quit_request k, m.owned c k, at_q, none);
+    known = λ c y e. grind (arith, quit_request y.party, m.known c y);
+    free = m.free;
+    busy = m.busy;
+    waits = m.waits;
+    left_by = λ c y e f g. grind (arith, quit_request y.party, m.left_by c y, m.known c y);
+    ready = m.ready;
+    no_warm = m.no_warm;
+    no_pin = m.no_pin;
+    no_error = m.no_error;
+    no_drop = λ c. grind (arith, m.no_drop c, m.given q.number, at_q, none);
+    no_clear = m.no_clear;
+    no_before = m.no_before;
+  }
+
+-- a request whose connection is pending is given up
+module _ (s : PoolCore) (xs : List PoolItem) (m : Matches s xs) (n : ℕ) (x : Connection) (q : Request)
+    (at_x : connection_at s x.id ≡ Some x) (at_q : request_at s q.number ≡ Some q) (phase : q.phase ≡ Given x.id) where
+  abbrev left_x : Connection
+  left_x = record x { holder = None }
+
+  abbrev pub left_q : Request
+  left_q = record q { phase = EndedPhase GaveUp }
+
+  left_connection : (c : ℕ) → connection_at (leaving s n x q) c ≡ if x.id == c then Some left_x else connection_at s c
+  left_connection c = entry_at-swap id_of c left_x s.connections (ap is_some at_x)
+
+  pub left_request : (r : ℕ) → request_at (leaving s n x q) r ≡ if q.number == r then Some left_q else request_at s r
+  left_request r = entry_at-put number_of r left_q s.requests
+
+  was_given : given xs q.number ≡ Some x.id
+  was_given = m.given q.number ∙ (ap given_of at_q ∙ ap given_in phase)
+
+  was_held : holder_at (connection_at s x.id) ≡ Some q.number
+  was_held = m.taken q.number x.id (ap given_of at_q ∙ ap given_in phase)
+
+  given_now : given_of (request_at s q.number) ≡ Some x.id
+  given_now = ap given_of at_q ∙ ap given_in phase
+
+  -- the party no longer has the connection
+  parted : (c : ℕ) → without q.number (parties xs c) ≡ if is_number (holder_at (connection_at s c)) q.number then [] else parties xs c
+  parted c = rw (m.parties c) (without-one (holder_at (connection_at s c)) q.number)
+
+  only : (c : ℕ) → is_number (holder_at (connection_at s c)) q.number ≡ true → given_of (request_at s q.number) ≡ Some c
+  only c e = m.owned c q.number (number-some (holder_at (connection_at s c)) q.number e)
+
+  pub leave-matches : x.place ≡ Pending → Matches (leaving s n x q) (ended q.number GaveUp ∷ gave_up q.number ∷ xs)
+  leave-matches place = record {
+    created = m.created;
+    live_all = m.live_all ∙ sym (length-swap id_of left_x s.connections);
+    pending = m.pending ∙ sym (where-swap_same id_of (λ y. is_pending y.place) left_x x s.connections at_x once refl);
+    available = m.available ∙ sym (where-swap_same id_of (λ y. is_available y.place) left_x x s.connections at_x once refl);
+    queue = without-absent q.number (queued xs) (rw m.queue (has-where number_of (λ y. is_queued y.phase) q.number s.requests (m.single_request q.number) ∙ (ap (passes number_of (λ y. is_queued y.phase)) at_q ∙ ap is_queued phase))) ∙ (m.queue ∙ sym (where-put_stay number_of (λ y. is_queued y.phase) left_q s.requests refl (m.single_request q.number) (ap (passes number_of (λ y. is_queued y.phase)) at_q ∙ ap is_queued phase)));
+    single = λ c. grind (arith, named-swap id_of c left_x s.connections, left_connection c, m.single c);
+    unused = λ c h. grind (arith, left_connection c, m.unused c h);
+    live = λ c. grind (arith, left_connection c, m.live c);
+    parties = λ c. parted c ∙ grind (arith, left_connection c, m.parties c, only c, given_now, was_held, at_x);
+    granted_to = λ c y e. grind (arith, left_connection c, m.granted_to c y, m.granted_to x.id x at_x);
+    created_at = λ c y e. grind (arith, left_connection c, m.created_at c y, m.created_at x.id x at_x);
+    service = λ c. grind (arith, nat_tests, left_connection c, m.service c, m.service x.id, at_x);
+    given = λ r. grind (arith, left_request r, m.given r);
+    single_request = λ r. grind (arith, named-put number_of r left_q s.requests, left_request r, m.single_request r);
+    asked_at = λ r. grind (arith, left_request r, m.asked_at r);
+    ends = λ r. grind (arith, left_request r, m.ends r);
+    taken = λ r c h. grind (arith, left_request r, left_connection c, m.taken r c, m.owned c r, was_held, at_x, at_q);
+    owned = λ c r h. grind (arith, left_request r, left_connection c, m.owned c r, m.taken r c, was_held, at_x, at_q);
+    known = λ c y e. grind (arith, left_connection c, m.known c y, m.known x.id x at_x, left_request y.party);
+    free = λ c y e f. grind (arith, left_connection c, m.free c y);
+    busy = λ c y e f. grind (arith, left_connection c, m.busy c y, place);
+    waits = λ c y r e f g. grind (arith, left_connection c, m.waits c y r);
+    left_by = λ c y e f g. grind (arith, left_connection c, m.left_by c y, left_request y.party, mine place);
+    ready = m.ready;
+    no_warm = m.no_warm;
+    no_pin = m.no_pin;
+    no_error = λ c. grind (arith, nat_tests, left_connection c, m.no_error c, m.no_error x.id, at_x);
+    no_drop = λ c. grind (arith, nat_tests, left_connection c, m.no_drop c, at_x, was_given);
+    no_clear = m.no_clear;
+    no_before = m.no_before;
+  }
+    where
+      once : named id_of x.id s.connections ≤ 1
+      once = rw (m.single x.id) (one_if-le (is_some (connection_at s x.id)))
+
+      mine : x.place ≡ Pending → x.party ≡ q.number
+      mine place = sym (m.waits x.id x q.number at_x (ap is_pending place) (sym (ap holder_at at_x) ∙ was_held))
+
+-- a request whose connection is held is given up, and the connection is available
+module _ (s : PoolCore) (xs : List PoolItem) (m : Matches s xs) (n : ℕ) (x : Connection) (q : Request)
+    (at_x : connection_at s x.id ≡ Some x) (place : x.place ≡ Held) (at_q : request_at s q.number ≡ Some q) (phase : q.phase ≡ Given x.id) where
+  abbrev handed_x : Connection
+  handed_x = record x { place = Available; holder = None }
+
+  handed_connection : (c : ℕ) → connection_at (handing s n x q) c ≡ if x.id == c then Some handed_x else connection_at s c
+  handed_connection c = entry_at-put id_of c handed_x s.connections
+
+  pub handed_request : (r : ℕ) → request_at (handing s n x q) r ≡ if q.number == r then Some (left_q s xs m n x q at_x at_q phase) else request_at s r
+  handed_request r = entry_at-put number_of r (left_q s xs m n x q at_x at_q phase) s.requests
+
+  had_given : given xs q.number ≡ Some x.id
+  had_given = m.given q.number ∙ (ap given_of at_q ∙ ap given_in phase)
+
+  had_held : holder_at (connection_at s x.id) ≡ Some q.number
+  had_held = m.taken q.number x.id (ap given_of at_q ∙ ap given_in phase)
+
+  has_given : given_of (request_at s q.number) ≡ Some x.id
+  has_given = ap given_of at_q ∙ ap given_in phase
+
+  -- the party no longer has the connection
+  handed_off : (c : ℕ) → without q.number (parties xs c) ≡ if is_number (holder_at (connection_at s c)) q.number then [] else parties xs c
+  handed_off c = rw (m.parties c) (without-one (holder_at (connection_at s c)) q.number)
+
+  alone : (c : ℕ) → is_number (holder_at (connection_at s c)) q.number ≡ true → given_of (request_at s q.number) ≡ Some c
+  alone c e = m.owned c q.number (number-some (holder_at (connection_at s c)) q.number e)
+
+  pub hand-matches : Matches (handing s n x q) (checked_in x.id n ∷ ended q.number GaveUp ∷ gave_up q.number ∷ xs)
+  hand-matches = record {
+    created = m.created;
+    live_all = grind (arith, m.live_all, length-put id_of handed_x s.connections, m.single x.id);
+    pending = m.pending ∙ sym (where-put_stay id_of (λ y. is_pending y.place) handed_x s.connections refl (m.single x.id) (ap (passes id_of (λ y. is_pending y.place)) at_x ∙ ap is_pending place));
+    available = ap (λ cs. without x.id cs ++ x.id ∷ []) m.available ∙ sym (where-put id_of (λ y. is_available y.place) handed_x s.connections);
+    queue = without-absent q.number (queued xs) (rw m.queue (has-where number_of (λ y. is_queued y.phase) q.number s.requests (m.single_request q.number) ∙ (ap (passes number_of (λ y. is_queued y.phase)) at_q ∙ ap is_queued phase))) ∙ (m.queue ∙ sym (where-put_stay number_of (λ y. is_queued y.phase) (left_q s xs m n x q at_x at_q phase) s.requests refl (m.single_request q.number) (ap (passes number_of (λ y. is_queued y.phase)) at_q ∙ ap is_queued phase)));
+    single = λ c. grind (arith, named-put id_of c handed_x s.connections, handed_connection c, m.single c);
+    unused = λ c h. grind (arith, handed_connection c, m.unused c h);
+    live = λ c. grind (arith, handed_connection c, m.live c);
+    parties = λ c. handed_off c ∙ grind (arith, handed_connection c, m.parties c, alone c, has_given, had_held, at_x);
+    granted_to = λ c y e. grind (arith, handed_connection c, m.granted_to c y, m.granted_to x.id x at_x);
+    created_at = λ c y e. grind (arith, handed_connection c, m.created_at c y, m.created_at x.id x at_x);
+    service = λ c. grind (arith, nat_tests, handed_connection c, m.service c, m.service x.id, at_x);
+    given = λ r. grind (arith, handed_request r, m.given r);
+    single_request = λ r. grind (arith, named-put number_of r (left_q s xs m n x q at_x at_q phase) s.requests, handed_request r, m.single_request r);
+    asked_at = λ r. grind (arith, handed_request r, m.asked_at r);
+    ends = λ r. grind (arith, handed_request r, m.ends r);
+    taken = λ r c h. grind (arith, handed_request r, handed_connection c, m.taken r c, m.owned c r, had_held, at_x, at_q);
+    owned = λ c r h. grind (arith, handed_request r, handed_connection c, m.owned c r, m.taken r c, had_held, at_x, at_q);
+    known = λ c y e. grind (arith, handed_connection c, m.known c y, m.known x.id x at_x, handed_request y.party);
+    free = λ c y e f. grind (arith, handed_connection c, m.free c y);
+    busy = λ c y e f. grind (arith, handed_connection c, m.busy c y);
+    waits = λ c y r e f g. grind (arith, handed_connection c, m.waits c y r);
+    left_by = λ c y e f g. grind (arith, handed_connection c, m.left_by c y, handed_request y.party);
+    ready = m.ready;
+    no_warm = m.no_warm;
+    no_pin = m.no_pin;
+    no_error = λ c. grind (arith, nat_tests, handed_connection c, m.no_error c, m.no_error x.id, at_x);
+    no_drop = λ c. grind (arith, nat_tests, handed_connection c, m.no_drop c, at_x, had_given);
+    no_clear = m.no_clear;
+    no_before = m.no_before;
+  }
+
+-- a request that ended is given up late
+pub late-matches : (s : PoolCore) (xs : List PoolItem) (m : Matches s xs) (n r : ℕ) (told : List ℕ) → given_of (request_at s r) ≡ None → Matches (record s { last = n; settled = told }) (gave_up r ∷ xs)
+late-matches s xs m n r told none = record {
+  created = m.created;
+  live_all = m.live_all;
+  pending = m.pending;
+  available = m.available;
+  queue = m.queue;
+  single = m.single;
+  unused = m.unused;
+  live = m.live;
+  parties = m.parties;
+  granted_to = m.granted_to;
+  created_at = m.created_at;
+  service = m.service;
+  given = m.given;
+  single_request = m.single_request;
+  asked_at = m.asked_at;
+  ends = m.ends;
+  taken = m.taken;
+  owned = m.owned;
+  known = m.known;
+  free = m.free;
+  busy = m.busy;
+  waits = m.waits;
+  left_by = m.left_by;
+  ready = m.ready;
+  no_warm = m.no_warm;
+  no_pin = m.no_pin;
+  no_error = m.no_error;
+  no_drop = λ c. grind (arith, m.no_drop c, m.given r, none);
+  no_clear = m.no_clear;
+  no_before = m.no_before;
+}

@@ -1,0 +1,180 @@
+//! A pending connection of a pool failed.
+
+ghost use Rattle.std.specs.Prelude.{◌≡◌, ◌++◌, ◌∷◌, ◌-◌, ◌&&◌, [], OnOk, OnErr, IfOk, List, true, not, is_some};
+
+use super::connection::Connection;
+use super::request::{Phase, Request};
+use super::table::Keyed;
+use super::{Act, FailedAt, PoolCore, Refused, Reply, Step};
+use mdb_base::{Error, Moment, OutOfMemory};
+use mdb_events::{
+    CmapEvent, ConnectionCheckoutFailedEvent, ConnectionCheckoutFailedReason,
+    ConnectionClosedReason, End, Fact,
+};
+use std::alloc::{AllocError, Global};
+
+impl PoolCore {
+    ghost use Rattle.mdb_pool.specs.Kept.{connection_at, is_pending_at, service_in};
+    ghost use Rattle.mdb_pool.specs.Changes.{failing, forgetting, shut_fact, off_fact};
+    ghost use Rattle.mdb_pool.specs.Standing.{SameHome, Fits, Accepts, StandsFor, Answers};
+    ghost use Rattle.mdb_pool.specs.History.{Item, PoolItem, failed};
+    ghost use Rattle.mdb_pool.specs.declared.step.Act.TheVariants.{Failed as FailedAct};
+    ghost use Rattle.mdb_events.specs.declared.fact.Fact.TheVariants.{Ended};
+    ghost use Rattle.mdb_events.specs.declared.end.End.TheVariants.{Failed as FailedEnd};
+    ghost use Rattle.mdb_events.specs.declared.reasons.ConnectionClosedReason.TheVariants.{Error as ErrorReason};
+
+    // A caller's request ends without a connection.
+    pub(super) fn push_end(
+        &self,
+        facts: &mut Vec<Fact>,
+        request: u32,
+        waited: Moment,
+        end: End,
+    ) -> Result<(), AllocError>
+        ensures { OnOk result (facts.new.items ≡ facts.old.items ++ Ended request end ∷ off_fact self.now waited ∷ []) }
+    {
+        let address = self.address.clone()?;
+        facts.push(Fact::Ended(request, end))?;
+        facts.push(Fact::Pool(
+            self.pool,
+            CmapEvent::ConnectionCheckoutFailed(ConnectionCheckoutFailedEvent {
+                address,
+                reason: ConnectionCheckoutFailedReason::ConnectionError,
+                duration: waited,
+            }),
+        ))?;
+        Ok(())
+    }
+
+    // The connection is closed, and its request ends.
+    fn fail(
+        &mut self,
+        alloc: Global,
+        facts: &mut Vec<Fact>,
+        moment: Moment,
+        connection: Connection,
+        request: Request,
+        cause: &Error,
+    ) -> Result<(), AllocError>
+        ensures core { OnOk result (self.new ≡ failing self.old moment connection request (FailedEnd cause.now)) }
+        ensures facts { OnOk result (facts.new.items ≡ facts.old.items ++ shut_fact self.old connection ErrorReason ∷ Ended request.number (FailedEnd cause.now) ∷ off_fact self.old (moment - request.asked_at) ∷ []) }
+    {
+        let told = cause.clone()?;
+        let kept = cause.clone()?;
+        let waited = moment.saturating_sub(request.asked_at);
+        self.push_close(facts, connection, ConnectionClosedReason::Error)?;
+        self.push_end(facts, request.number, waited, End::Failed(told))?;
+        self.last = moment;
+        self.connections.remove(alloc, connection.id)?;
+        self.requests.put(
+            alloc,
+            Request {
+                phase: Phase::Ended(End::Failed(kept)),
+                ..request
+            },
+        )?;
+        Ok(())
+    }
+
+    // The connection, whose caller gave up, is closed.
+    fn forget(
+        &mut self,
+        alloc: Global,
+        facts: &mut Vec<Fact>,
+        moment: Moment,
+        connection: Connection,
+    ) -> Result<(), AllocError>
+        ensures core { OnOk result (self.new ≡ forgetting self.old moment connection) }
+        ensures facts { OnOk result (facts.new.items ≡ facts.old.items ++ shut_fact self.old connection ErrorReason ∷ []) }
+    {
+        self.push_close(facts, connection, ConnectionClosedReason::Error)?;
+        self.last = moment;
+        self.connections.remove(alloc, connection.id)?;
+        Ok(())
+    }
+
+    /// A pending connection failed, at any point. Whoever calls has tested the refusals.
+    pub fn accept_failed(
+        &mut self,
+        alloc: Global,
+        facts: &mut Vec<Fact>,
+        moment: Moment,
+        id: u32,
+        at: FailedAt,
+        cause: &Error,
+    ) -> Result<Reply, AllocError>
+        requires { is_pending_at (connection_at self.old id) ≡ true }
+        ensures home { OnOk result (SameHome self.old self.new) }
+        ensures last { OnOk result (self.new.last ≡ moment) }
+        ensures accepts { IfOk result (λ reply. (xs : List PoolItem) → Fits self.old xs → Accepts self.old self.new facts.old.items facts.new.items moment (FailedAct self.old.pool id at cause.now) reply xs (failed id (service_in at) ∷ xs)) }
+    {
+        let Some(connection) = self.connections.get(id).copied() else {
+            unreachable!()
+        };
+        if let Some(request) = self.holder_request(connection) {
+            let request = request.copy()?;
+            self.fail(alloc, facts, moment, connection, request, cause)?;
+            self.serve(alloc, facts, moment)?;
+            return Ok(Reply::Done);
+        }
+        self.forget(alloc, facts, moment, connection)?;
+        self.serve(alloc, facts, moment)?;
+        Ok(Reply::Done)
+    }
+
+    // The pool is normal, and a service was named.
+    fn is_wrong_mode(&self, at: FailedAt) -> bool
+        ensures { result ≡ not self.now.options.load_balanced && is_some (service_in at) }
+    {
+        !self.options.load_balanced && at.service_id().is_some()
+    }
+
+    // Refuses the failure, or accepts it.
+    pub(super) fn try_failed(
+        &mut self,
+        alloc: Global,
+        facts: &mut Vec<Fact>,
+        moment: Moment,
+        id: u32,
+        at: FailedAt,
+        cause: &Error,
+    ) -> Result<Reply, AllocError>
+        ensures home { OnOk result (SameHome self.old self.new) }
+        ensures answers { IfOk result (λ reply. (h : List Item) → StandsFor self.old h → Answers self.old self.new facts.old.items facts.new.items (record { moment = moment; act = FailedAct self.old.pool id at cause.now }) reply h) }
+    {
+        if moment < self.last {
+            return Ok(Reply::Refused(Refused::TimeBack(self.last)));
+        }
+        if !self.is_pending(id) {
+            return Ok(Reply::Refused(Refused::NotPending));
+        }
+        if self.is_wrong_mode(at) {
+            return Ok(Reply::Refused(Refused::WrongMode));
+        }
+        let reply = self.accept_failed(alloc, facts, moment, id, at, cause)?;
+        Ok(reply)
+    }
+
+    /// A pending connection failed: it is closed, and its caller's request ends (CMAP, "Checking Out a Connection"). Refused as `TimeBack`,
+    /// `NotPending`, or `WrongMode` where a normal pool is given a service.
+    pub fn failed(
+        &mut self,
+        alloc: Global,
+        facts: &mut Vec<Fact>,
+        moment: Moment,
+        id: u32,
+        at: FailedAt,
+        error: Error,
+    ) -> Result<Reply, OutOfMemory>
+        ensures home { OnOk result (SameHome self.old self.new) }
+        ensures answers { IfOk result (λ reply. (h : List Item) → StandsFor self.old h → Answers self.old self.new facts.old.items facts.new.items (record { moment = moment; act = FailedAct self.old.pool id at error }) reply h) }
+        ensures err_core { OnErr result (self.new ≡ self.old) }
+        ensures err_facts { OnErr result (facts.new.items ≡ facts.old.items) }
+    {
+        let step = Step {
+            moment,
+            act: Act::Failed(self.pool, id, at, error),
+        };
+        self.attempt(alloc, facts, &step)
+    }
+}

@@ -1,0 +1,125 @@
+//! The caller of a request of a pool gives up.
+
+ghost use Rattle.std.specs.Prelude.{◌≡◌, ◌∷◌, OnOk, OnErr, IfOk, List, true, is_some};
+
+use super::request::Phase;
+use super::table::Keyed;
+use super::{Act, PoolCore, Refused, Reply, Step};
+use mdb_base::{Moment, OutOfMemory};
+use mdb_events::Fact;
+use std::alloc::{AllocError, Global};
+
+impl PoolCore {
+    ghost use Rattle.mdb_pool.specs.Kept.{request_at, is_ended_at};
+    ghost use Rattle.mdb_pool.specs.Standing.{SameHome, Fits, Accepts, StandsFor, Answers};
+    ghost use Rattle.mdb_pool.specs.History.{Item, PoolItem, gave_up};
+    ghost use Rattle.mdb_pool.specs.declared.step.Act.TheVariants.{GiveUp};
+
+    // The request ended in another way.
+    fn is_ended(&self, request: u32) -> bool
+        ensures { result ≡ is_ended_at (request_at self.now request) }
+    {
+        match self.requests.get(request) {
+            Some(request) => matches!(request.phase, Phase::Ended(_)),
+            None => false,
+        }
+    }
+
+    // An ended request is told how it ended.
+    fn give_up_late(
+        &mut self,
+        alloc: Global,
+        facts: &mut Vec<Fact>,
+        moment: Moment,
+        request: u32,
+    ) -> Result<Reply, AllocError>
+        requires { is_ended_at (request_at self.old request) ≡ true }
+        ensures home { OnOk result (SameHome self.old self.new) }
+        ensures last { OnOk result (self.new.last ≡ moment) }
+        ensures accepts { IfOk result (λ reply. (xs : List PoolItem) → Fits self.old xs → Accepts self.old self.new facts.old.items facts.new.items moment (GiveUp request) reply xs (gave_up request ∷ xs)) }
+    {
+        let reply = self.outcome(request)?;
+        self.last = moment;
+        self.settled.push(request)?;
+        self.serve(alloc, facts, moment)?;
+        Ok(reply)
+    }
+
+    /// The caller of a request no longer wants its connection. Whoever calls has tested the refusals.
+    pub fn accept_give_up(
+        &mut self,
+        alloc: Global,
+        facts: &mut Vec<Fact>,
+        moment: Moment,
+        request: u32,
+    ) -> Result<Reply, AllocError>
+        requires { is_some (request_at self.old request) ≡ true }
+        ensures home { OnOk result (SameHome self.old self.new) }
+        ensures last { OnOk result (self.new.last ≡ moment) }
+        ensures accepts { IfOk result (λ reply. (xs : List PoolItem) → Fits self.old xs → Accepts self.old self.new facts.old.items facts.new.items moment (GiveUp request) reply xs (gave_up request ∷ xs)) }
+    {
+        if self.is_ended(request) {
+            let reply = self.give_up_late(alloc, facts, moment, request)?;
+            return Ok(reply);
+        }
+        let Some(asker) = self.requests.get(request) else {
+            unreachable!()
+        };
+        let asker = asker.copy()?;
+        if let Some(connection) = self.held_connection(request) {
+            self.hand_back(alloc, facts, moment, connection, asker)?;
+            self.serve(alloc, facts, moment)?;
+            return Ok(Reply::Done);
+        }
+        if let Some(connection) = self.pending_connection(request) {
+            self.leave(alloc, facts, moment, connection, asker)?;
+            self.serve(alloc, facts, moment)?;
+            return Ok(Reply::Done);
+        }
+        self.quit(alloc, facts, moment, asker)?;
+        self.serve(alloc, facts, moment)?;
+        Ok(Reply::Done)
+    }
+
+    // Refuses the give-up, or accepts it.
+    pub(super) fn try_give_up(
+        &mut self,
+        alloc: Global,
+        facts: &mut Vec<Fact>,
+        moment: Moment,
+        request: u32,
+    ) -> Result<Reply, AllocError>
+        ensures home { OnOk result (SameHome self.old self.new) }
+        ensures answers { IfOk result (λ reply. (h : List Item) → StandsFor self.old h → Answers self.old self.new facts.old.items facts.new.items (record { moment = moment; act = GiveUp request }) reply h) }
+    {
+        if moment < self.last {
+            return Ok(Reply::Refused(Refused::TimeBack(self.last)));
+        }
+        if !self.is_open(request) {
+            return Ok(Reply::Refused(Refused::UnknownRequest));
+        }
+        let reply = self.accept_give_up(alloc, facts, moment, request)?;
+        Ok(reply)
+    }
+
+    /// The caller of a request no longer wants its connection. Refused as `TimeBack`, or as `UnknownRequest` where the request isn't open. A request
+    /// that ended before is told how.
+    pub fn give_up(
+        &mut self,
+        alloc: Global,
+        facts: &mut Vec<Fact>,
+        moment: Moment,
+        request: u32,
+    ) -> Result<Reply, OutOfMemory>
+        ensures home { OnOk result (SameHome self.old self.new) }
+        ensures answers { IfOk result (λ reply. (h : List Item) → StandsFor self.old h → Answers self.old self.new facts.old.items facts.new.items (record { moment = moment; act = GiveUp request }) reply h) }
+        ensures err_core { OnErr result (self.new ≡ self.old) }
+        ensures err_facts { OnErr result (facts.new.items ≡ facts.old.items) }
+    {
+        let step = Step {
+            moment,
+            act: Act::GiveUp(request),
+        };
+        self.attempt(alloc, facts, &step)
+    }
+}
