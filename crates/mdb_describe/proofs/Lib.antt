@@ -1,0 +1,9 @@
+pub mod Behind
+pub mod InOrder
+pub mod Kept
+pub mod Parsed
+pub mod Parts
+pub mod Selecting
+pub mod Taken
+pub mod Timeouts
+pub mod Walks

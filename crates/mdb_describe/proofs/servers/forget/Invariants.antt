@@ -1,0 +1,7 @@
+use Rattle.std.proofs.Common.{◌≡◌, ◌++◌, take, drop}
+use Rattle.mdb_base.specs.Equality.{same_address}
+use Rattle.mdb_describe.specs.Servers.{forget_where}
+use Rattle.mdb_describe.proofs.servers.forget.Given as goal
+
+abbrev pub invariant-loop-server : goal.invariant-loop-server
+invariant-loop-server l = l.servers ≡ forget_where (λ s. same_address s.address l.address) (take l.server-index l.fn.servers) ++ drop l.server-index l.fn.servers

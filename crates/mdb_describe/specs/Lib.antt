@@ -1,0 +1,16 @@
+pub mod Changes
+pub mod Compatibility
+pub mod Descriptions
+pub mod Differences
+pub mod Fields
+pub mod InfoText
+pub mod Joining
+pub mod Kept
+pub mod Listed
+pub mod OwnAddress
+pub mod Same
+pub mod Selection
+pub mod Servers
+pub mod SoFar
+pub mod Topology
+pub mod Update
