@@ -4,10 +4,11 @@ use Rattle.mdb_base.specs.Spelling.{address}
 use Rattle.mdb_base.specs.ErrorText.{error_text}
 use Rattle.mdb_events.specs.Words.{service_or_dash}
 use Rattle.mdb_events.specs.EventText.{event_text}
+use Rattle.mdb_events.specs.SdamText.{sdam_text}
 use Rattle.mdb_events.specs.declared.end.End.{End}
 use Rattle.mdb_events.specs.declared.end.End.TheVariants.{Cleared, Failed, Closed, Warmed, Filled, GaveUp}
 use Rattle.mdb_events.specs.declared.fact.Fact.{Fact}
-use Rattle.mdb_events.specs.declared.fact.Fact.TheVariants.{Opened, Pool, Granted, Ended, Raised, CheckNow, Cancel}
+use Rattle.mdb_events.specs.declared.fact.Fact.TheVariants.{Opened, Pool, Granted, Ended, Raised, Sdam, CheckNow, Cancel}
 
 abbrev pub end_text : End → List ℕ
 end_text (Cleared error) = codes "Cleared " ++ error_text error
@@ -23,5 +24,6 @@ fact_text (Pool p e) = codes "Pool " ++ (decimal p ++ (codes " " ++ event_text e
 fact_text (Granted r p c) = codes "Granted " ++ (decimal r ++ (codes " " ++ (decimal p ++ (codes "." ++ decimal c))))
 fact_text (Ended r end) = codes "Ended " ++ (decimal r ++ (codes " " ++ end_text end))
 fact_text (Raised p service error) = codes "Raised " ++ (decimal p ++ (codes " " ++ (service_or_dash service ++ (codes " " ++ error_text error))))
+fact_text (Sdam e) = codes "Sdam " ++ sdam_text e
 fact_text (CheckNow a) = codes "CheckNow " ++ address a
 fact_text (Cancel a) = codes "Cancel " ++ address a

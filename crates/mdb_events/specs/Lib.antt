@@ -1,3 +1,4 @@
 pub mod EventText
 pub mod FactText
+pub mod SdamText
 pub mod Words

@@ -1,5 +1,6 @@
 -- Words that texts are made of.
-use Rattle.std.specs.Prelude.{ℕ, List, codes, decimal, Bool, true, false, Option, Some, None}
+use Rattle.std.specs.Prelude.{ℕ, ℤ, List, codes, decimal, Bool, true, false, Option, Some, None}
+use Rattle.std.specs.Fmt.{signed_decimal}
 use Rattle.mdb_base.specs.declared.object_id.ObjectId.{ObjectId}
 use Rattle.mdb_base.specs.Spelling.{object_id}
 use Rattle.mdb_events.specs.declared.reasons.ConnectionClosedReason.{ConnectionClosedReason}
@@ -11,6 +12,11 @@ use Rattle.mdb_events.specs.declared.reasons.ConnectionCheckoutFailedReason.TheV
 abbrev pub number_or_dash : Option ℕ → List ℕ
 number_or_dash None = codes "-"
 number_or_dash (Some n) = decimal n
+
+-- a number that may be below zero, or a dash where there is none
+abbrev pub signed_or_dash : Option ℤ → List ℕ
+signed_or_dash None = codes "-"
+signed_or_dash (Some n) = signed_decimal n
 
 -- an id, or a dash where there is none
 abbrev pub service_or_dash : Option ObjectId → List ℕ

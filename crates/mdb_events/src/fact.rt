@@ -2,12 +2,13 @@
 
 use crate::cmap::CmapEvent;
 use crate::end::End;
+use crate::sdam::SdamEvent;
 use crate::words::ServiceOrDash;
 use mdb_base::{Error, ObjectId, ServerAddress};
 use std::fmt;
 
 /// One fact. Pools, connections and parties are named by numbers; a connection's number counts within its pool.
-#[derive(Debug, Drop, PartialEq, Eq)]
+#[derive(Debug, Drop)]
 pub enum Fact {
     /// A pool of this number was opened at the address.
     Opened(u32, ServerAddress),
@@ -19,6 +20,8 @@ pub enum Fact {
     Ended(u32, End),
     /// The generation of the pool, or of one service behind it, was raised by this cause.
     Raised(u32, Option<ObjectId>, Error),
+    /// This event of a server or of the topology was made.
+    Sdam(SdamEvent),
     /// The monitor of the address should check now.
     CheckNow(ServerAddress),
     /// The check of the address that runs should be cancelled.
@@ -41,6 +44,7 @@ impl fmt::Display for Fact {
                 let service = ServiceOrDash(*service);
                 write!(f, "Raised {pool} {service} {error}")
             }
+            Fact::Sdam(event) => write!(f, "Sdam {event}"),
             Fact::CheckNow(address) => write!(f, "CheckNow {address}"),
             Fact::Cancel(address) => write!(f, "Cancel {address}"),
         }

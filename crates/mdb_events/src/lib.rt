@@ -1,4 +1,4 @@
-//! The events of connection pools, and the facts that a step makes, with their exact texts.
+//! The events of connection pools, servers and topologies, and the facts that a step makes, with their exact texts.
 #![tactic(auto)]
 
 mod cmap;
@@ -6,7 +6,11 @@ mod cmap_from;
 mod cmap_text;
 mod end;
 mod fact;
+mod handlers;
 mod reasons;
+mod sdam;
+mod sdam_from;
+mod sdam_text;
 mod words;
 
 pub use cmap::{
@@ -18,9 +22,18 @@ pub use cmap::{
 pub use cmap_text::write_cmap;
 pub use end::End;
 pub use fact::Fact;
+pub use handlers::{CmapEventHandler, SdamEventHandler, deliver_cmap, deliver_sdam};
 pub use reasons::{
     ConnectionCheckoutFailedReason, ConnectionClosedReason, closed_reason_text, failed_reason_text,
 };
+pub use sdam::{
+    SdamEvent, ServerClosedEvent, ServerDescriptionChangedEvent, ServerHeartbeatFailedEvent,
+    ServerHeartbeatStartedEvent, ServerHeartbeatSucceededEvent, ServerOpeningEvent,
+    TopologyClosedEvent, TopologyDescriptionChangedEvent, TopologyOpeningEvent,
+};
+pub use sdam_text::write_sdam;
 
+#[cfg(test)]
+mod delivery_tests;
 #[cfg(test)]
 mod tests;

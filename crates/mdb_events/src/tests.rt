@@ -2,10 +2,10 @@
 
 use crate::{
     CmapEvent, ConnectionCheckoutFailedReason, ConnectionClosedEvent, ConnectionClosedReason, Fact,
-    closed_reason_text, failed_reason_text, write_cmap,
+    SdamEvent, ServerOpeningEvent, closed_reason_text, failed_reason_text, write_cmap, write_sdam,
 };
 use mdb_base::{ObjectId, ServerAddress};
-use std::alloc::AllocError;
+use std::alloc::{AllocError, Global};
 use std::test::Fail;
 
 #[test]
@@ -31,10 +31,28 @@ fn a_grant_names_party_pool_and_connection(rt: HostRuntime) -> Result<(), Fail> 
     Ok(())
 }
 
+fn opening_of_a(alloc: Global) -> Result<SdamEvent, AllocError> {
+    let address = ServerAddress::new(String::from_str(alloc, "a")?, 1);
+    Ok(SdamEvent::from(ServerOpeningEvent {
+        address,
+        topology_id: ObjectId([0; 12]),
+    }))
+}
+
 #[test]
 fn reasons_are_sentences(rt: HostRuntime) {
     let dropped = closed_reason_text(ConnectionClosedReason::Dropped);
     assert!(rt; dropped == "Connection was dropped during an operation");
     let failed = failed_reason_text(ConnectionCheckoutFailedReason::ConnectionError);
     assert!(rt; failed == "An error occurred while trying to establish a new connection");
+}
+
+#[test]
+fn an_event_of_a_server_is_appended(rt: HostRuntime) -> Result<(), Fail> {
+    let alloc = rt.alloc();
+    let event = opening_of_a(alloc)?;
+    let mut out = Vec::new(alloc);
+    write_sdam(alloc, &event, &mut out).map_err(|_| AllocError)?;
+    assert!(rt; out.as_slice() == b"ServerOpening a:1".as_slice());
+    Ok(())
 }

@@ -13,6 +13,7 @@ mod plain_reply;
 mod plain_values;
 mod reading;
 mod response;
+mod response_copy;
 mod server_type;
 mod tag_values;
 mod writing;
