@@ -16,7 +16,7 @@ use Rattle.mdb_pool.specs.declared.connection.Place.TheVariants.{Pending, Availa
 use Rattle.mdb_pool.specs.declared.request.Request.{Request}
 use Rattle.mdb_pool.specs.declared.request.Phase.TheVariants.{Queued, Given, Over, Ended as EndedPhase}
 use Rattle.mdb_pool.specs.declared.pool_core.PoolCore.{PoolCore}
-use Rattle.mdb_pool.specs.History.{Item, did, PoolItem, has_party, of_pool, with_facts, with_answer, after_facts, given, has_asked}
+use Rattle.mdb_pool.specs.History.{Item, did, PoolItem, has_party, of_pool, with_facts, with_answer, after_facts, given, has_asked, open_pool}
 use Rattle.mdb_pool.specs.Connections.{has, pending_list, holding, known_service, last_use, is_errored, is_dropped}
 use Rattle.mdb_pool.specs.Requests.{outcome_of, names_party, is_claimed, asks_how, is_outcome, told, was_asked, leaves, some_act}
 use Rattle.mdb_pool.specs.Refusal.{refusal_of}
@@ -24,15 +24,16 @@ use Rattle.mdb_pool.specs.Facts.{act_facts}
 use Rattle.mdb_pool.specs.Answer.{all_facts, reply_of, answer, answered, with_act}
 use Rattle.mdb_pool.specs.Serving.{serving}
 use Rattle.mdb_pool.specs.Standing.{Matches, Fits, StandsFor, Serves, Accepts, Answers, SameHome, settles, is_job}
-use Rattle.mdb_pool.specs.Kept.{connection_at, request_at, held_connection, outcome_now, is_pending_at, given_of, given_in, holder_at, if_held, end_at}
-use Rattle.mdb_pool.specs.Legal.{IsAccepted, IsFairAnswer, NoneLeftWaiting, IsServed, AllFirstCome, AllOwn}
+use Rattle.mdb_pool.specs.Kept.{connection_at, request_at, held_connection, outcome_now, is_pending_at, given_of, given_in, holder_at, if_held, end_at, is_shut}
+use Rattle.mdb_pool.specs.Legal.{IsAccepted, IsFairAnswer, NoneLeftWaiting, IsServed, AllFirstCome, AllOwn, shuts}
 use Rattle.mdb_pool.specs.Places.{is_pending, is_held, is_available}
 use Rattle.mdb_pool.proofs.Tables.{has-where, passes, entry_at-key}
 use Rattle.mdb_pool.proofs.Found.{id_or}
-use Rattle.mdb_pool.proofs.Laws.{fair-append, serve-fair, own-append, serve-own, size}
+use Rattle.mdb_pool.proofs.Laws.{fair-append, serve-fair, own-append, serve-own, with-serve, size}
 use Rattle.mdb_pool.proofs.Served.{serving-serves, served-settled}
 use Rattle.mdb_pool.proofs.Serving.{of_pool-with_facts, after-append}
-use Rattle.mdb_pool.proofs.Frame.{last-facts, acts-facts, open-facts, party-facts, asked-facts, told-facts, claimed-facts}
+use Rattle.mdb_pool.proofs.Frame.{last-facts, acts-facts, open-facts, open-home, party-facts, asked-facts, told-facts, claimed-facts}
+use Rattle.mdb_base.specs.Equality.{same_address}
 
 pub with_answer-accepted : (step : Step) (reply : Reply) (facts : List Fact) (h : List Item) → IsAccepted reply → with_answer step reply facts h ≡ with_facts step.moment facts (did step reply ∷ h)
 with_answer-accepted step (Pooled p c) facts h i = refl
@@ -80,12 +81,13 @@ pub accepts : (s s1 t u : PoolCore) (before f1 after : List Fact) (m : ℕ) (act
     → ((zs : List PoolItem) → Fits t zs → Fits u zs)
     → ((claimed : ℕ → Bool) → ((c : ℕ) → claimed c ≡ has c s.claimed) → (zs : List PoolItem) → Matches t zs → reply ≡ reply_of s.pool claimed xs zs act)
     → IsAccepted reply
+    → is_shut u.status ≡ shuts acts || is_shut s.status
     → ((r : ℕ) → has r u.settled ≡ settles act reply r || has r s.settled)
     → ((c : ℕ) → has c u.claimed ≡ is_job s.pool reply c || has c s.claimed)
     → AllFirstCome s.pool m ys acts
     → AllOwn s.pool m ys acts
     → Accepts s u before after m act reply xs ys
-accepts s s1 t u before f1 after m act reply acts xs ys facts_of f1_is home fits1 serves noted reply_is fine settled claimed acts_fair acts_own =
+accepts s s1 t u before f1 after m act reply acts xs ys facts_of f1_is home fits1 serves noted reply_is fine shut settled claimed acts_fair acts_own =
     let zs : List PoolItem = after_facts s.pool m acts ys in
     let v : Serves s1 t m f1 after zs = serves zs fits1 in
     let served : serving s1.pool s1.address s1.options m zs ≡ serving s.pool s.address s.options m zs = rw (home.pool, home.address, home.options) refl in
@@ -96,6 +98,7 @@ accepts s s1 t u before f1 after m act reply acts xs ys facts_of f1_is home fits
       facts_are = v.facts ∙ (ap (λ f. f ++ serving s1.pool s1.address s1.options m zs) f1_is ∙ (append_assoc before acts (serving s1.pool s1.address s1.options m zs) ∙ ap (λ f. before ++ f) (ap (λ f. acts ++ f) served ∙ sym all)));
       reply_is = λ claims own. reply_is claims own (after_facts s.pool m (all_facts s.pool s.address s.options m xs ys act) ys) (subst (λ f. Fits t (after_facts s.pool m f ys)) (sym all) fits).matches;
       accepted = fine;
+      shut = shut ∙ ap (λ b. b || is_shut s.status) (sym (ap shuts all ∙ with-serve s.pool s.address s.options m acts (size s.pool s.address s.options m zs) zs));
       settled = settled;
       claimed = claimed;
       fits = noted (after_facts s.pool m (all_facts s.pool s.address s.options m xs ys act) ys) (subst (λ f. Fits t (after_facts s.pool m f ys)) (sym all) fits);
@@ -104,7 +107,7 @@ accepts s s1 t u before f1 after m act reply acts xs ys facts_of f1_is home fits
       served = subst (λ f. IsServed s.options (after_facts s.pool m f ys)) (sym all) (subst (IsServed s.options) (sym (after-append s.pool m acts (serving s.pool s.address s.options m zs) ys)) (serving-serves s.pool s.address s.options m zs));
     }
 
-opens-after : (a b l : Bool) (n : ℕ) (o : Bool) → (n == 0) && not l ≡ not o → ((if a then n + 1 else n) == 0) && not (b || l) ≡ not ((a || b) || o)
+pub opens-after : (a b l : Bool) (n : ℕ) (o : Bool) → (n == 0) && not l ≡ not o → ((if a then n + 1 else n) == 0) && not (b || l) ≡ not ((a || b) || o)
 opens-after true b l n o e = let f : (n + 1 == 0) ≡ false = grind arith in rw f refl
 opens-after false true l n o e = and-no (n == 0)
   where
@@ -113,7 +116,7 @@ opens-after false true l n o e = and-no (n == 0)
     and-no false = refl
 opens-after false false l n o e = e
 
-claimed-reply : (p c : ℕ) (step : Step) (reply : Reply) (h : List Item) → is_claimed (did step reply ∷ h) p c ≡ is_job p reply c || is_claimed h p c
+pub claimed-reply : (p c : ℕ) (step : Step) (reply : Reply) (h : List Item) → is_claimed (did step reply ∷ h) p c ≡ is_job p reply c || is_claimed h p c
 claimed-reply p c step (Pooled q d) h = refl
 claimed-reply p c step (Establishing q d) h = refl
 claimed-reply p c step Waiting h = refl
@@ -146,7 +149,7 @@ own-answers s t before after step reply ys h z none same names asks home last_is
     let stands : StandsFor t k = record {
       fits = subst (λ q. Fits t (of_pool q k)) (sym home.pool) (subst (Fits t) (sym known) v.fits);
       last_is = last-facts m facts (did step reply ∷ h) ∙ sym last_is;
-      open_here = λ a. open-facts p m facts ys (did step reply ∷ h) a v.own ∙ (z.open_here a ∙ rw (home.address, home.pool) refl);
+      open_here = λ a. open-facts p m facts ys (did step reply ∷ h) a v.own ∙ (open-home p (same_address s.address a) (is_shut s.status) (is_shut t.status) (shuts facts) (open_pool h a) (z.open_here a) v.shut ∙ rw (home.address, home.pool) refl);
       asked_once = λ r. acts-facts names_party m r facts (did step reply ∷ h) ∙ (ap (λ b. names_party step.act r || b) (z.asked_once r) ∙ (sym (names r) ∙ (sym (party-facts p m r facts ys) ∙ (ap (λ zs. has_party zs r) (sym known) ∙ ap (λ q. has_party (of_pool q k) r) (sym home.pool)))));
       requested = λ r. acts-facts was_asked m r facts (did step reply ∷ h) ∙ (ap (λ b. was_asked step.act r || b) (z.requested r) ∙ (sym (asks r) ∙ (sym (asked-facts p m r facts ys) ∙ (ap (λ zs. has_asked zs r) (sym known) ∙ ap (λ q. has_asked (of_pool q k) r) (sym home.pool)))));
       opens = λ r. rw (told-facts m r facts (did step reply ∷ h), acts-facts leaves m r facts (did step reply ∷ h)) (opens-after (asks_how step.act r && is_outcome reply) (leaves step.act r) (some_act leaves h r) (told h r) (has r s.settled) (z.opens r) ∙ ap not (sym (v.settled r)));

@@ -14,16 +14,16 @@ use Rattle.mdb_pool.specs.Answer.{first_job}
 use Rattle.mdb_pool.specs.Changes.{claiming}
 use Rattle.mdb_pool.specs.Connections.{has}
 use Rattle.mdb_pool.specs.History.{Item, PoolItem, of_pool}
-use Rattle.mdb_pool.specs.Kept.{first_unclaimed, job_now, ids_where}
+use Rattle.mdb_pool.specs.Kept.{first_unclaimed, job_now, ids_where, is_shut}
 use Rattle.mdb_pool.specs.Legal.{IsAccepted}
 use Rattle.mdb_pool.specs.Places.{is_pending}
 use Rattle.mdb_pool.specs.Standing.{Fits, StandsFor, SameHome, SameNotes, settles, is_job, Serves, Accepts, Answers}
 
-abbrev job_of : ℕ → Option Connection → Reply
+abbrev pub job_of : ℕ → Option Connection → Reply
 job_of p None = NoJob
 job_of p (Some x) = Job p x.id
 
-first-job : (p : ℕ) (claimed : ℕ → Bool) (cs : List ℕ) → ((c : ℕ) → claimed c ≡ has c cs) → (ys : List Connection) → first_job p claimed (ids_where is_pending ys) ≡ job_of p (find (λ y. is_pending y.place && not (has y.id cs)) ys)
+pub first-job : (p : ℕ) (claimed : ℕ → Bool) (cs : List ℕ) → ((c : ℕ) → claimed c ≡ has c cs) → (ys : List Connection) → first_job p claimed (ids_where is_pending ys) ≡ job_of p (find (λ y. is_pending y.place && not (has y.id cs)) ys)
 first-job p claimed cs own [] = refl
 first-job p claimed cs own (y ∷ ys) = on (is_pending y.place) (has y.id cs) refl refl (first-job p claimed cs own ys)
   where
@@ -32,7 +32,7 @@ first-job p claimed cs own (y ∷ ys) = on (is_pending y.place) (has y.id cs) re
     on true false e f rest = rw (e, own y.id, f) refl
     on false k e f rest = rw e rest
 
-job-is : (s : PoolCore) → job_now s ≡ job_of s.pool (first_unclaimed s)
+pub job-is : (s : PoolCore) → job_now s ≡ job_of s.pool (first_unclaimed s)
 job-is s = on (first_unclaimed s) refl
   where
     on : (o : Option Connection) → first_unclaimed s ≡ o → job_now s ≡ job_of s.pool (first_unclaimed s)
@@ -75,6 +75,7 @@ claim-accepts s s0 s1 t before after n reply xs z s0_is s1_is home notes serves 
     (λ zs v. v)
     (λ claims own zs m. reply_is ∙ (job-is s ∙ sym (ap (first_job s.pool claims) z.matches.pending ∙ first-job s.pool claims s.claimed own s.connections)))
     (rw reply_is (job-accepted s))
+    (ap is_shut (notes.status ∙ ap (λ k. k.status) whole))
     (λ r. ap (has r) (notes.settled ∙ ap (λ k. k.settled) whole))
     (λ c. ap (has c) (notes.claimed ∙ ap (λ k. k.claimed) whole) ∙ rw reply_is (claiming-has s c))
     tt

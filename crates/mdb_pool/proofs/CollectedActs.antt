@@ -12,7 +12,7 @@ use Rattle.mdb_pool.proofs.Stands.{noted-fits}
 use Rattle.mdb_pool.specs.Changes.{telling}
 use Rattle.mdb_pool.specs.Connections.{has}
 use Rattle.mdb_pool.specs.History.{Item, PoolItem, of_pool}
-use Rattle.mdb_pool.specs.Kept.{is_open_now, outcome_now}
+use Rattle.mdb_pool.specs.Kept.{is_open_now, outcome_now, is_shut}
 use Rattle.mdb_pool.specs.Refusal.{refusal_of}
 use Rattle.mdb_pool.specs.Requests.{outcome_of, is_outcome, is_open}
 use Rattle.mdb_pool.specs.Standing.{Fits, StandsFor, SameHome, SameNotes, Serves, Accepts, Answers}
@@ -30,6 +30,7 @@ collect-accepts s s1 t u before after n r reply xs z s1_is home notes serves u_i
     (λ zs v. rw u_is (telling-fits t r zs v))
     (λ claims own zs m. reply_is ∙ (sym (outcome-is t zs m r) ∙ ap (λ p. outcome_of p zs r) (home.pool ∙ at_home.pool)))
     (rw reply_is (outcome-accepted t r))
+    (ap (λ k. is_shut k.status) u_is ∙ ap is_shut (notes.status ∙ ap (λ k. k.status) s1_is))
     (λ k. rw (u_is, reply_is) (telling-settled t r k ∙ rw (or-none ((r == k) && is_outcome (outcome_now t r))) (ap (λ b. ((r == k) && is_outcome (outcome_now t r)) || has k b) (notes.settled ∙ ap (λ x. x.settled) s1_is))))
     (λ c. rw (u_is, reply_is, outcome-no-job t r s.pool c) (ap (has c) (notes.claimed ∙ ap (λ x. x.claimed) s1_is)))
     tt

@@ -20,7 +20,7 @@ use Rattle.mdb_pool.specs.Refusal.{refusal_of}
 use Rattle.mdb_pool.specs.Facts.{act_facts}
 use Rattle.mdb_pool.specs.Answer.{with_act}
 use Rattle.mdb_pool.specs.Standing.{Fits, StandsFor, Serves, Accepts, Answers, SameHome, SameNotes}
-use Rattle.mdb_pool.specs.Kept.{connection_at, request_at, is_pending_at, given_of, holder_at, holder_request, service_in}
+use Rattle.mdb_pool.specs.Kept.{connection_at, request_at, is_pending_at, given_of, holder_at, holder_request, service_in, is_shut}
 use Rattle.mdb_pool.specs.Changes.{failing, forgetting, shut_fact, off_fact}
 use Rattle.mdb_pool.proofs.Acts.{refuses, accepts, own-answers, not-back, pending-is, live-service, given-open, asked-known}
 use Rattle.mdb_pool.proofs.Tables.{entry_at-key, named}
@@ -61,6 +61,7 @@ module _ (s : PoolCore) (xs : List PoolItem) (z : Fits s xs) (n : ℕ) (x : Conn
       (λ zs v. v)
       (λ claims own zs m. refl)
       tt
+      (ap is_shut (notes.status ∙ ap (λ k. k.status) s1_is))
       (λ r. ap (has r) (notes.settled ∙ ap (λ k. k.settled) s1_is))
       (λ c. ap (has c) (notes.claimed ∙ ap (λ k. k.claimed) s1_is))
       (tt, (tt, (tt, tt)))
@@ -76,6 +77,7 @@ module _ (s : PoolCore) (xs : List PoolItem) (z : Fits s xs) (n : ℕ) (x : Conn
       (λ zs v. v)
       (λ claims own zs m. refl)
       tt
+      (ap is_shut (notes.status ∙ ap (λ k. k.status) s1_is))
       (λ r. ap (has r) (notes.settled ∙ ap (λ k. k.settled) s1_is))
       (λ c. ap (has c) (notes.claimed ∙ ap (λ k. k.claimed) s1_is))
       (tt, tt)

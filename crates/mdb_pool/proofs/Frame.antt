@@ -1,13 +1,13 @@
 -- Facts of one pool leave what concerns the others as it was.
-use Rattle.std.proofs.Common.{ℕ, ◌≡◌, ◌≢◌, ◌==◌, Bool, true, false, List, [], ◌∷◌, refl, sym, ◌∙◌, ap, arith}
+use Rattle.std.proofs.Common.{ℕ, ◌≡◌, ◌≢◌, ◌==◌, Bool, true, false, List, [], ◌∷◌, refl, sym, ◌∙◌, ap, arith, not, ◌&&◌, ◌||◌, Option, Some, None, if◌then◌else◌}
 use Rattle.mdb_base.specs.declared.address.ServerAddress.{ServerAddress}
 use Rattle.mdb_events.specs.declared.fact.Fact.{Fact}
-use Rattle.mdb_events.specs.declared.fact.Fact.TheVariants.{Opened, Pool, Granted, Ended, Raised, CheckNow, Cancel}
+use Rattle.mdb_events.specs.declared.fact.Fact.TheVariants.{Opened, Pool, Granted, Ended, Raised, Sdam, CheckNow, Cancel}
 use Rattle.mdb_events.specs.declared.cmap.CmapEvent.TheVariants.{PoolCreated, PoolReady, PoolCleared, PoolClosed, ConnectionCreated, ConnectionReady, ConnectionClosed, ConnectionCheckoutStarted, ConnectionCheckoutFailed, ConnectionCheckedOut, ConnectionCheckedIn}
 use Rattle.mdb_pool.specs.declared.step.Act.{Act}
-use Rattle.mdb_pool.specs.History.{Item, made, PoolItem, after_fact, after_facts, with_facts, has_asked, has_taken, has_party, last_moment, open_pool, if_so}
+use Rattle.mdb_pool.specs.History.{Item, made, PoolItem, after_fact, after_facts, with_facts, has_asked, has_taken, has_party, last_moment, open_pool, if_so, is_number}
 use Rattle.mdb_pool.specs.Requests.{some_act, told, is_claimed}
-use Rattle.mdb_pool.specs.Legal.{IsOwn, AllOwn}
+use Rattle.mdb_pool.specs.Legal.{IsOwn, AllOwn, is_closing, shuts}
 
 pub other-number : (p q : ℕ) → p ≢ q → (p == q) ≡ false
 other-number p q ne = on (p == q) refl
@@ -33,6 +33,7 @@ asked-fact p m r (Pool q (ConnectionCheckedIn e)) xs = grind arith
 asked-fact p m r (Granted k q c) xs = grind arith
 asked-fact p m r (Ended k end) xs = grind arith
 asked-fact p m r (Raised q service error) xs = grind arith
+asked-fact p m r (Sdam e) xs = refl
 asked-fact p m r (CheckNow a) xs = refl
 asked-fact p m r (Cancel a) xs = refl
 
@@ -56,6 +57,7 @@ taken-fact p m r (Pool q (ConnectionCheckedIn e)) xs = grind arith
 taken-fact p m r (Granted k q c) xs = grind arith
 taken-fact p m r (Ended k end) xs = grind arith
 taken-fact p m r (Raised q service error) xs = grind arith
+taken-fact p m r (Sdam e) xs = refl
 taken-fact p m r (CheckNow a) xs = refl
 taken-fact p m r (Cancel a) xs = refl
 
@@ -96,12 +98,16 @@ pub claimed-facts : (p m c : ℕ) (fs : List Fact) (h : List Item) → is_claime
 claimed-facts p m c [] h = refl
 claimed-facts p m c (f ∷ fs) h = claimed-facts p m c fs (made m f ∷ h)
 
-open-fact : (p m : ℕ) (f : Fact) (xs : List PoolItem) (h : List Item) (a : ServerAddress) → IsOwn p xs f → open_pool (made m f ∷ h) a ≡ open_pool h a
+-- a fact of the pool p closes it or leaves the open pools
+abbrev unless : Bool → ℕ → Option ℕ → Option ℕ
+unless b p o = if b && is_number o p then None else o
+
+open-fact : (p m : ℕ) (f : Fact) (xs : List PoolItem) (h : List Item) (a : ServerAddress) → IsOwn p xs f → open_pool (made m f ∷ h) a ≡ unless (is_closing f) p (open_pool h a)
 open-fact p m (Opened q b) xs h a i = absurd i
-open-fact p m (Pool q (PoolCreated e)) xs h a i = refl
+open-fact p m (Pool q (PoolCreated e)) xs h a i = absurd i
 open-fact p m (Pool q (PoolReady e)) xs h a i = refl
 open-fact p m (Pool q (PoolCleared e)) xs h a i = refl
-open-fact p m (Pool q (PoolClosed e)) xs h a i = absurd i
+open-fact p m (Pool q (PoolClosed e)) xs h a i = rw i refl
 open-fact p m (Pool q (ConnectionCreated e)) xs h a i = refl
 open-fact p m (Pool q (ConnectionReady e)) xs h a i = refl
 open-fact p m (Pool q (ConnectionClosed e)) xs h a i = refl
@@ -112,12 +118,36 @@ open-fact p m (Pool q (ConnectionCheckedIn e)) xs h a i = refl
 open-fact p m (Granted k q c) xs h a i = refl
 open-fact p m (Ended k end) xs h a i = refl
 open-fact p m (Raised q service error) xs h a i = refl
-open-fact p m (CheckNow b) xs h a i = refl
-open-fact p m (Cancel b) xs h a i = refl
+open-fact p m (Sdam e) xs h a i = absurd i
+open-fact p m (CheckNow b) xs h a i = absurd i
+open-fact p m (Cancel b) xs h a i = absurd i
 
-pub open-facts : (p m : ℕ) (fs : List Fact) (xs : List PoolItem) (h : List Item) (a : ServerAddress) → AllOwn p m xs fs → open_pool (with_facts m fs h) a ≡ open_pool h a
+unless-unless : (b c : Bool) (p : ℕ) (o : Option ℕ) → unless b p (unless c p o) ≡ unless (c || b) p o
+unless-unless b false p o = refl
+unless-unless true true p None = refl
+unless-unless false true p None = refl
+unless-unless b true p (Some q) = on b (q == p) refl
+  where
+    on : (d k : Bool) → (q == p) ≡ k → unless d p (unless true p (Some q)) ≡ unless true p (Some q)
+    on true true e = rw e refl
+    on true false e = rw (e, e) refl
+    on false k e = refl
+
+pub open-facts : (p m : ℕ) (fs : List Fact) (xs : List PoolItem) (h : List Item) (a : ServerAddress) → AllOwn p m xs fs → open_pool (with_facts m fs h) a ≡ unless (shuts fs) p (open_pool h a)
 open-facts p m [] xs h a i = refl
-open-facts p m (f ∷ fs) xs h a i = open-facts p m fs (after_fact p m f xs) (made m f ∷ h) a i.1 ∙ open-fact p m f xs h a i.0
+open-facts p m (f ∷ fs) xs h a i =
+    open-facts p m fs (after_fact p m f xs) (made m f ∷ h) a i.1 ∙ (ap (unless (shuts fs) p) (open-fact p m f xs h a i.0) ∙ unless-unless (shuts fs) (is_closing f) p (open_pool h a))
+
+-- where the pool p was open it is so unless it was shut
+pub open-home : (p : ℕ) (here was now b : Bool) (o : Option ℕ) → o ≡ (if here && not was then Some p else None) → now ≡ b || was → unless b p o ≡ (if here && not now then Some p else None)
+open-home p true true now true o e f = rw (e, f) refl
+open-home p true true now false o e f = rw (e, f) refl
+open-home p true false now true o e f = let k : (p == p) ≡ true = grind arith in rw (e, f, k) refl
+open-home p true false now false o e f = rw (e, f) refl
+open-home p false true now true o e f = rw e refl
+open-home p false true now false o e f = rw e refl
+open-home p false false now true o e f = rw e refl
+open-home p false false now false o e f = rw e refl
 
 -- a fact of the pool p is none of the pool q
 module _ (p q m : ℕ) (ne : p ≢ q) where
@@ -126,10 +156,10 @@ module _ (p q m : ℕ) (ne : p ≢ q) where
 
   pub other-fact : (f : Fact) (xs ys : List PoolItem) → ((r : ℕ) → has_party xs r ≡ true → has_party ys r ≡ false) → IsOwn p xs f → after_fact q m f ys ≡ ys
   other-fact (Opened k a) xs ys apart i = refl
-  other-fact (Pool k (PoolCreated e)) xs ys apart i = skips k _ ys i
+  other-fact (Pool k (PoolCreated e)) xs ys apart i = absurd i
   other-fact (Pool k (PoolReady e)) xs ys apart i = skips k _ ys i
   other-fact (Pool k (PoolCleared e)) xs ys apart i = refl
-  other-fact (Pool k (PoolClosed e)) xs ys apart i = absurd i
+  other-fact (Pool k (PoolClosed e)) xs ys apart i = skips k _ ys i
   other-fact (Pool k (ConnectionCreated e)) xs ys apart i = skips k _ ys i
   other-fact (Pool k (ConnectionReady e)) xs ys apart i = refl
   other-fact (Pool k (ConnectionClosed e)) xs ys apart i = skips k _ ys i
@@ -140,6 +170,7 @@ module _ (p q m : ℕ) (ne : p ≢ q) where
   other-fact (Granted r k c) xs ys apart i = skips k _ ys i
   other-fact (Ended r end) xs ys apart i = rw (no-party-asked ys r (apart r (asked-party xs r i))) refl
   other-fact (Raised k service error) xs ys apart i = skips k _ ys i
+  other-fact (Sdam e) xs ys apart i = refl
   other-fact (CheckNow a) xs ys apart i = refl
   other-fact (Cancel a) xs ys apart i = refl
 

@@ -1,8 +1,10 @@
 -- What a give-up does is the answer to its step.
-use Rattle.std.proofs.Common.{ℕ, ◌≡◌, ◌≤◌, Bool, true, false, not, ◌==◌, List, [], ◌∷◌, ◌++◌, Option, Some, None, is_some, refl, sym, ◌∙◌, ap, subst, if◌then◌else◌, append-nil}
+use Rattle.std.proofs.Common.{ℕ, ◌≡◌, ◌≤◌, Bool, true, false, not, ◌==◌, List, [], ◌∷◌, ◌++◌, Option, Some, None, is_some, refl, sym, ◌∙◌, ap, subst, if◌then◌else◌, append-nil, ◌||◌}
 use Rattle.mdb_events.specs.declared.fact.Fact.{Fact}
 use Rattle.mdb_events.specs.declared.fact.Fact.TheVariants.{Ended}
 use Rattle.mdb_events.specs.declared.end.End.{End}
+use Rattle.mdb_events.specs.declared.reasons.ConnectionClosedReason.{ConnectionClosedReason}
+use Rattle.mdb_pool.specs.declared.step.Use.TheVariants.{Ok}
 use Rattle.mdb_events.specs.declared.end.End.TheVariants.{GaveUp}
 use Rattle.mdb_pool.specs.declared.step.Act.TheVariants.{GiveUp}
 use Rattle.mdb_pool.specs.declared.reply.Refused.TheVariants.{UnknownRequest}
@@ -14,24 +16,26 @@ use Rattle.mdb_pool.specs.declared.request.Request.{Request}
 use Rattle.mdb_pool.specs.declared.request.Phase.{Phase}
 use Rattle.mdb_pool.specs.declared.request.Phase.TheVariants.{Queued, Given, Over, Ended as EndedPhase}
 use Rattle.mdb_pool.specs.declared.pool_core.PoolCore.{PoolCore}
-use Rattle.mdb_pool.specs.History.{Item, PoolItem, is_number, given, has_asked, of_pool, after_facts, gave_up}
-use Rattle.mdb_pool.specs.Kept.{connection_at, request_at, given_in, given_of, end_in, end_at, is_ended_at, held_connection, pending_connection, is_open_now, is_pending_at, outcome_now}
+use Rattle.mdb_pool.specs.History.{Item, PoolItem, is_number, given, has_asked, of_pool, after_facts, gave_up, closed, checked_in, ended, after_fact}
+use Rattle.mdb_pool.specs.Kept.{connection_at, request_at, given_in, given_of, end_in, end_at, is_ended_at, held_connection, pending_connection, is_open_now, is_pending_at, outcome_now, is_shut, stale_for, reason_now}
 use Rattle.mdb_pool.specs.Requests.{end_of, told}
 use Rattle.mdb_pool.specs.Facts.{act_facts}
 use Rattle.mdb_pool.specs.Standing.{Fits, StandsFor, SameHome, SameNotes, Serves, Accepts, Answers}
 use Rattle.mdb_pool.specs.Connections.{has, pending_list, held}
 use Rattle.mdb_pool.specs.Places.{is_pending}
 use Rattle.mdb_pool.specs.Refusal.{refusal_of}
-use Rattle.mdb_pool.specs.Changes.{in_fact, quitting, leaving, handing}
-use Rattle.mdb_pool.specs.Legal.{AllFirstCome, AllOwn}
+use Rattle.mdb_pool.specs.Changes.{quitting, leaving, handing, back_facts, losing, handing_for}
+use Rattle.mdb_pool.specs.Legal.{AllFirstCome, AllOwn, shuts}
 use Rattle.mdb_pool.proofs.ReturnedActs.{or-swap}
 use Rattle.mdb_pool.proofs.Found.{Holder, holder, pender, not-given}
 use Rattle.mdb_pool.proofs.CollectedActs.{open-is}
-use Rattle.mdb_pool.proofs.Stands.{quit-fits, leave-fits, hand-fits, late-fits}
+use Rattle.mdb_pool.proofs.Stands.{quit-fits, leave-fits, hand-fits, late-fits, lose-fits}
 use Rattle.mdb_pool.proofs.Tables.{entry_at-key}
 use Rattle.mdb_pool.proofs.Laws.{has-append}
-use Rattle.mdb_pool.proofs.Serving.{same-number, no-stale}
-use Rattle.mdb_pool.proofs.Acts.{refuses, accepts, own-answers, not-back, pending-is, holding-is, outcome-is, outcome-accepted, outcome-no-job, live-fine, asked-known}
+use Rattle.mdb_pool.proofs.Serving.{same-number}
+use Rattle.mdb_pool.proofs.Acts.{refuses, accepts, own-answers, not-back, pending-is, holding-is, outcome-is, outcome-accepted, outcome-no-job, live-fine, asked-known, live-service}
+use Rattle.mdb_pool.proofs.CheckIns.{reason-is, check-in-is, back-fair, back-own, back-open, back-fits}
+use Rattle.mdb_pool.proofs.Staleness.{stale-at}
 
 -- a request that has not ended
 module _ (s : PoolCore) (xs : List PoolItem) (z : Fits s xs) (n : ℕ) (q : Request) (at_q : request_at s q.number ≡ Some q) (open_now : end_in q.phase ≡ None) where
@@ -45,14 +49,15 @@ module _ (s : PoolCore) (xs : List PoolItem) (z : Fits s xs) (n : ℕ) (q : Requ
   asked = asked-known s xs z q.number ∙ ap is_some at_q
 
   -- the facts acts, and a state that fits them, are an answer
-  given-up : (s1 t : PoolCore) (before f1 after : List Fact) (acts : List Fact) → act_facts s.pool s.address s.options n xs ys (GiveUp q.number) ≡ acts → f1 ≡ before ++ acts → SameHome s s1 → s1.settled ≡ s.settled ++ q.number ∷ [] → s1.claimed ≡ s.claimed
+  given-up : (s1 t : PoolCore) (before f1 after : List Fact) (acts : List Fact) → act_facts s.pool s.address s.options n xs ys (GiveUp q.number) ≡ acts → f1 ≡ before ++ acts → SameHome s s1 → s1.settled ≡ s.settled ++ q.number ∷ [] → s1.claimed ≡ s.claimed → s1.status ≡ s.status → shuts acts ≡ false
       → Fits s1 (after_facts s.pool n acts ys) → SameHome s1 t → SameNotes s1 t → ((k : List PoolItem) → Fits s1 k → Serves s1 t n f1 after k) → AllFirstCome s.pool n ys acts → AllOwn s.pool n ys acts
       → Accepts s t before after n (GiveUp q.number) Done xs ys
-  given-up s1 t before f1 after acts acts_are f1_is at_home told same fits home notes serves fair own =
+  given-up s1 t before f1 after acts acts_are f1_is at_home told same state unshut fits home notes serves fair own =
       accepts s s1 t t before f1 after n (GiveUp q.number) Done acts xs ys acts_are f1_is at_home fits serves
       (λ zs v. v)
       (λ claims own zs m. rw still refl)
       tt
+      (ap is_shut (notes.status ∙ state) ∙ ap (λ b. b || is_shut s.status) (sym unshut))
       (λ r. ap (has r) (notes.settled ∙ told) ∙ (has-append r q.number s.settled ∙ or-swap (has r s.settled) (q.number == r)))
       (λ c. ap (has c) (notes.claimed ∙ same))
       fair own
@@ -64,7 +69,7 @@ module _ (s : PoolCore) (xs : List PoolItem) (z : Fits s xs) (n : ℕ) (q : Requ
   pub quit-accepts : (s1 t : PoolCore) (before f1 after : List Fact) → given_in q.phase ≡ None → s1 ≡ quitting s n q → f1 ≡ before ++ Ended q.number GaveUp ∷ [] → SameHome s1 t → SameNotes s1 t → ((k : List PoolItem) → Fits s1 k → Serves s1 t n f1 after k)
       → Accepts s t before after n (GiveUp q.number) Done xs ys
   quit-accepts s1 t before f1 after none s1_is f1_is home notes serves =
-      given-up s1 t before f1 after (Ended q.number GaveUp ∷ []) (quit-are none) f1_is (rw s1_is (record { pool = refl; address = refl; options = refl })) (ap (λ k. k.settled) s1_is) (ap (λ k. k.claimed) s1_is)
+      given-up s1 t before f1 after (Ended q.number GaveUp ∷ []) (quit-are none) f1_is (rw s1_is (record { pool = refl; address = refl; options = refl })) (ap (λ k. k.settled) s1_is) (ap (λ k. k.claimed) s1_is) (ap (λ k. k.status) s1_is) refl
       (rw (s1_is, asked) (quit-fits s xs z n q at_q none)) home notes serves (tt, tt) (asked, tt)
 
   -- its connection is pending
@@ -77,21 +82,43 @@ module _ (s : PoolCore) (xs : List PoolItem) (z : Fits s xs) (n : ℕ) (q : Requ
   pub leave-accepts : (s1 t : PoolCore) (before f1 after : List Fact) (x : Connection) → connection_at s x.id ≡ Some x → x.place ≡ Pending → q.phase ≡ Given x.id → s1 ≡ leaving s n x q → f1 ≡ before ++ Ended q.number GaveUp ∷ [] → SameHome s1 t → SameNotes s1 t → ((k : List PoolItem) → Fits s1 k → Serves s1 t n f1 after k)
       → Accepts s t before after n (GiveUp q.number) Done xs ys
   leave-accepts s1 t before f1 after x at_x place phase s1_is f1_is home notes serves =
-      given-up s1 t before f1 after (Ended q.number GaveUp ∷ []) (leave-are x at_x place phase) f1_is (rw s1_is (record { pool = refl; address = refl; options = refl })) (ap (λ k. k.settled) s1_is) (ap (λ k. k.claimed) s1_is)
+      given-up s1 t before f1 after (Ended q.number GaveUp ∷ []) (leave-are x at_x place phase) f1_is (rw s1_is (record { pool = refl; address = refl; options = refl })) (ap (λ k. k.settled) s1_is) (ap (λ k. k.claimed) s1_is) (ap (λ k. k.status) s1_is) refl
       (rw (s1_is, asked) (leave-fits s xs z n x q at_x at_q phase place)) home notes serves (tt, tt) (asked, tt)
 
   -- its connection is held
-  hand-are : (x : Connection) → held_connection s q.number ≡ Some x → connection_at s x.id ≡ Some x → q.phase ≡ Given x.id → act_facts s.pool s.address s.options n xs ys (GiveUp q.number) ≡ Ended q.number GaveUp ∷ in_fact s x.id ∷ []
-  hand-are x held at_x phase =
-      let g : given xs q.number ≡ Some x.id = z.matches.given q.number ∙ (ap given_of at_q ∙ ap given_in phase) in
-      let mine : is_number (given xs q.number) x.id ≡ true = ap (λ o. is_number o x.id) g ∙ same-number x.id in
-      rw (still, holding-is s xs z q.number, held, z.matches.no_pin x.id, z.matches.ready, live-fine s xs z.matches x.id x at_x, no-stale s xs z n x.id, mine) refl
+  abbrev why : Connection → Option ConnectionClosedReason
+  why x = reason_now s x.id x.service Ok
 
-  pub hand-accepts : (s1 t : PoolCore) (before f1 after : List Fact) (x : Connection) → held_connection s q.number ≡ Some x → connection_at s x.id ≡ Some x → x.place ≡ Held → q.phase ≡ Given x.id → s1 ≡ handing s n x q → f1 ≡ before ++ Ended q.number GaveUp ∷ in_fact s x.id ∷ [] → SameHome s1 t → SameNotes s1 t → ((k : List PoolItem) → Fits s1 k → Serves s1 t n f1 after k)
+  hand-are : (x : Connection) → held_connection s q.number ≡ Some x → connection_at s x.id ≡ Some x → q.phase ≡ Given x.id → act_facts s.pool s.address s.options n xs ys (GiveUp q.number) ≡ Ended q.number GaveUp ∷ back_facts s x (why x)
+  hand-are x held at_x phase =
+      let mine : is_number (given xs q.number) x.id ≡ true = ap (λ o. is_number o x.id) (z.matches.given q.number ∙ (ap given_of at_q ∙ ap given_in phase)) ∙ same-number x.id in
+      rw (still, holding-is s xs z q.number, held, z.matches.no_pin x.id) (ap (λ k. Ended q.number GaveUp ∷ k) (check-in-is s ys x Ok z.matches.status (live-service s xs z.matches x.id x at_x) (reason-is s ys x.id Ok (stale_for s x.id x.service) (live-fine s xs z.matches x.id x at_x) (stale-at s xs z.matches x.id x at_x) (rw mine refl))))
+
+  hand-fits-for : (x : Connection) → connection_at s x.id ≡ Some x → x.place ≡ Held → q.phase ≡ Given x.id → (o : Option ConnectionClosedReason) → Fits (handing_for s n x q o) (after_facts s.pool n (Ended q.number GaveUp ∷ back_facts s x o) ys)
+  hand-fits-for x at_x place phase None = rw asked (back-fits s (handing s n x q) n x None (ended q.number GaveUp ∷ ys) (λ f. hand-fits s xs z n x q at_x place at_q phase) (λ w f. drops w f))
+    where
+      drops : (w : ConnectionClosedReason) → ◌≡◌ {A = Option ConnectionClosedReason} None (Some w) → Fits (handing s n x q) (closed x.id ∷ checked_in x.id n ∷ ended q.number GaveUp ∷ ys)
+      drops w f = cc
+  hand-fits-for x at_x place phase (Some w) =
+      let told : after_fact s.pool n (Ended q.number GaveUp) ys ≡ ended q.number GaveUp ∷ ys = rw asked refl in
+      subst (λ k. Fits (losing s n x q) (after_facts s.pool n (back_facts s x (Some w)) k)) (sym told) (back-fits s (losing s n x q) n x (Some w) (ended q.number GaveUp ∷ ys) (λ f. keeps f) (λ v f. lose-fits s xs z n x q at_x place at_q phase))
+    where
+      keeps : ◌≡◌ {A = Option ConnectionClosedReason} (Some w) None → Fits (losing s n x q) (checked_in x.id n ∷ ended q.number GaveUp ∷ ys)
+      keeps f = cc
+
+  hand-home-for : (x : Connection) (o : Option ConnectionClosedReason) → SameHome s (handing_for s n x q o)
+  hand-home-for x None = record { pool = refl; address = refl; options = refl }
+  hand-home-for x (Some w) = record { pool = refl; address = refl; options = refl }
+
+  hand-notes-for : (x : Connection) (o : Option ConnectionClosedReason) → ((handing_for s n x q o).settled ≡ s.settled ++ q.number ∷ []) × ((handing_for s n x q o).claimed ≡ s.claimed) × ((handing_for s n x q o).status ≡ s.status)
+  hand-notes-for x None = (refl, refl, refl)
+  hand-notes-for x (Some w) = (refl, refl, refl)
+
+  pub hand-accepts : (s1 t : PoolCore) (before f1 after : List Fact) (x : Connection) → held_connection s q.number ≡ Some x → connection_at s x.id ≡ Some x → x.place ≡ Held → q.phase ≡ Given x.id → s1 ≡ handing_for s n x q (why x) → f1 ≡ before ++ Ended q.number GaveUp ∷ back_facts s x (why x) → SameHome s1 t → SameNotes s1 t → ((k : List PoolItem) → Fits s1 k → Serves s1 t n f1 after k)
       → Accepts s t before after n (GiveUp q.number) Done xs ys
   hand-accepts s1 t before f1 after x held at_x place phase s1_is f1_is home notes serves =
-      given-up s1 t before f1 after (Ended q.number GaveUp ∷ in_fact s x.id ∷ []) (hand-are x held at_x phase) f1_is (rw s1_is (record { pool = refl; address = refl; options = refl })) (ap (λ k. k.settled) s1_is) (ap (λ k. k.claimed) s1_is)
-      (rw (s1_is, asked, same-number s.pool) (hand-fits s xs z n x q at_x place at_q phase)) home notes serves (tt, (tt, tt)) (asked, (refl, tt))
+      given-up s1 t before f1 after (Ended q.number GaveUp ∷ back_facts s x (why x)) (hand-are x held at_x phase) f1_is (rw s1_is (hand-home-for x (why x))) (ap (λ k. k.settled) s1_is ∙ (hand-notes-for x (why x)).0) (ap (λ k. k.claimed) s1_is ∙ (hand-notes-for x (why x)).1) (ap (λ k. k.status) s1_is ∙ (hand-notes-for x (why x)).2) (back-open s x (why x))
+      (rw s1_is (hand-fits-for x at_x place phase (why x))) home notes serves (tt, back-fair s n x (why x) (after_facts s.pool n (Ended q.number GaveUp ∷ []) ys)) (asked, back-own s n x (why x) (after_facts s.pool n (Ended q.number GaveUp ∷ []) ys))
 
 -- a request that ended is told how
 some-end : (o : Option Request) → is_ended_at o ≡ true → given_of o ≡ None
@@ -115,6 +142,7 @@ late-accepts s s1 t before after n r reply xs z over s1_is home notes serves rep
     (λ zs v. v)
     (λ claims own zs m. rw gone (reply_is ∙ sym (outcome-is s xs z.matches r)))
     (rw reply_is (outcome-accepted s r))
+    (ap is_shut (notes.status ∙ ap (λ x. x.status) s1_is))
     (λ k. ap (has k) (notes.settled ∙ ap (λ x. x.settled) s1_is) ∙ (has-append k r s.settled ∙ or-swap (has k s.settled) (r == k)))
     (λ c. rw (reply_is, outcome-no-job s r s.pool c) (ap (has c) (notes.claimed ∙ ap (λ x. x.claimed) s1_is)))
     tt tt
@@ -150,13 +178,13 @@ no-end s r q at_r e = none (end_in q.phase) (sym (ap is_ended_at at_r) ∙ e)
     none (Some end) f = cc
 
 -- the same by the number that the call is given
-pub hand-of : (s s1 t : PoolCore) (before f1 after : List Fact) (n r : ℕ) (x : Connection) (q : Request) (xs : List PoolItem) → Fits s xs → request_at s r ≡ Some q → is_ended_at (request_at s r) ≡ false → held_connection s r ≡ Some x
-    → s1 ≡ handing s n x q → f1 ≡ before ++ Ended q.number GaveUp ∷ in_fact s x.id ∷ [] → SameHome s1 t → SameNotes s1 t → ((k : List PoolItem) → Fits s1 k → Serves s1 t n f1 after k)
+pub hand-of : (s s1 t : PoolCore) (before f1 after : List Fact) (n r : ℕ) (x : Connection) (q : Request) (o : Option ConnectionClosedReason) (xs : List PoolItem) → Fits s xs → request_at s r ≡ Some q → is_ended_at (request_at s r) ≡ false → held_connection s r ≡ Some x → o ≡ reason_now s x.id x.service Ok
+    → s1 ≡ handing_for s n x q o → f1 ≡ before ++ Ended q.number GaveUp ∷ back_facts s x o → SameHome s1 t → SameNotes s1 t → ((k : List PoolItem) → Fits s1 k → Serves s1 t n f1 after k)
     → Accepts s t before after n (GiveUp r) Done xs (gave_up r ∷ xs)
-hand-of s s1 t before f1 after n r x q xs z at_r open_now held s1_is f1_is home notes serves =
+hand-of s s1 t before f1 after n r x q o xs z at_r open_now held reason s1_is f1_is home notes serves =
     let e : q.number ≡ r = entry_at-key (λ (k : Request). k.number) r q s.requests at_r in
     let v : Holder s r x q = holder s r x q held at_r in
-    subst (λ d. Accepts s t before after n (GiveUp d) Done xs (gave_up d ∷ xs)) e (hand-accepts s xs z n q (subst (λ d. request_at s d ≡ Some q) (sym e) at_r) (no-end s r q at_r open_now) s1 t before f1 after x (subst (λ d. held_connection s d ≡ Some x) (sym e) held) v.at_x v.place v.phase s1_is f1_is home notes serves)
+    subst (λ d. Accepts s t before after n (GiveUp d) Done xs (gave_up d ∷ xs)) e (hand-accepts s xs z n q (subst (λ d. request_at s d ≡ Some q) (sym e) at_r) (no-end s r q at_r open_now) s1 t before f1 after x (subst (λ d. held_connection s d ≡ Some x) (sym e) held) v.at_x v.place v.phase (s1_is ∙ ap (handing_for s n x q) reason) (f1_is ∙ ap (λ k. before ++ Ended q.number GaveUp ∷ back_facts s x k) reason) home notes serves)
 
 pub leave-of : (s s1 t : PoolCore) (before f1 after : List Fact) (n r : ℕ) (x : Connection) (q : Request) (xs : List PoolItem) → Fits s xs → request_at s r ≡ Some q → is_ended_at (request_at s r) ≡ false → pending_connection s r ≡ Some x
     → s1 ≡ leaving s n x q → f1 ≡ before ++ Ended q.number GaveUp ∷ [] → SameHome s1 t → SameNotes s1 t → ((k : List PoolItem) → Fits s1 k → Serves s1 t n f1 after k)

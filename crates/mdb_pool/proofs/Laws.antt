@@ -1,6 +1,5 @@
 -- The serving is fair, and leaves nobody who could be served.
 use Rattle.std.proofs.Common.{ℕ, zero, suc, ◌≡◌, ◌+◌, ◌<◌, ◌≤◌, Bool, true, false, not, ◌&&◌, ◌||◌, ◌==◌, List, [], ◌∷◌, ◌++◌, length, filter, Option, Some, None, ◌⊎◌, inl, inr, refl, sym, ◌∙◌, ap, subst, arith, if◌then◌else◌}
-use Rattle.std.proofs.lemmas.Grind.{common_steps}
 use Rattle.mdb_base.specs.declared.address.ServerAddress.{ServerAddress}
 use Rattle.mdb_events.specs.declared.fact.Fact.{Fact}
 use Rattle.mdb_events.specs.declared.fact.Fact.TheVariants.{Granted, Ended}
@@ -14,8 +13,8 @@ use Rattle.mdb_pool.specs.State.{is_stale, state_of, ready, may_create, could_be
 use Rattle.mdb_pool.specs.Requests.{queued, is_warm}
 use Rattle.mdb_pool.specs.Serving.{last_of, is_blocked, candidate, next_move, serve, serving, creation, wants_connection}
 use Rattle.mdb_pool.specs.Facts.{closed_fact, checked_out_fact}
-use Rattle.mdb_pool.specs.Legal.{NoneLeftWaiting, IsNext, AllFirstCome, AllOwn, first}
-use Rattle.mdb_pool.proofs.Tables.{length-without}
+use Rattle.mdb_pool.specs.Legal.{NoneLeftWaiting, IsNext, AllFirstCome, AllOwn, first, is_closing, shuts}
+use Rattle.mdb_pool.proofs.Tables.{length-without, length-without_has}
 use Rattle.mdb_pool.proofs.Serving.{serve-nothing}
 
 pub has-append : (r q : ℕ) (rs : List ℕ) → has r (rs ++ q ∷ []) ≡ has r rs || (q == r)
@@ -25,10 +24,6 @@ has-append r q (k ∷ rs) = grind (arith, has-append r q rs)
 has-without : (r q : ℕ) (rs : List ℕ) → has r (without q rs) ≡ true → has r rs ≡ true
 has-without r q [] e = e
 has-without r q (k ∷ rs) e = grind (arith, has-without r q rs)
-
-pub length-without_has : (k : ℕ) (ks : List ℕ) → has k ks ≡ true → length (without k ks) < length ks
-length-without_has k [] e = cc
-length-without_has k (j ∷ ks) e = grind (arith, common_steps, length-without_has k ks, length-without k ks)
 
 -- who is queued has asked
 pub queued-asked : (xs : List PoolItem) (r : ℕ) → has r (queued xs) ≡ true → has_asked xs r ≡ true
@@ -190,6 +185,33 @@ module _ (p : ℕ) (a : ServerAddress) (o : PoolOptions) (n : ℕ) where
   pub serve-own : (k : ℕ) (xs : List PoolItem) → AllOwn p n xs (serve p a o n k xs)
   serve-own zero xs = tt
   serve-own (suc k) xs = own-append (next_move p a o n xs) (serve p a o n k (after_facts p n (next_move p a o n xs) xs)) xs (own-move xs (move-of xs)) (serve-own k (after_facts p n (next_move p a o n xs) xs))
+
+  shut-append : (fs gs : List Fact) → shuts (fs ++ gs) ≡ shuts fs || shuts gs
+  shut-append [] gs = refl
+  shut-append (f ∷ fs) gs = on (is_closing f) refl (shut-append fs gs)
+    where
+      on : (b : Bool) → is_closing f ≡ b → shuts (fs ++ gs) ≡ shuts fs || shuts gs → shuts ((f ∷ fs) ++ gs) ≡ shuts (f ∷ fs) || shuts gs
+      on true e rest = rw e refl
+      on false e rest = rw e rest
+
+  -- no move closes a pool
+  move-open : (xs : List PoolItem) → Move xs → shuts (next_move p a o n xs) ≡ false
+  move-open xs (nothing e s) = rw e refl
+  move-open xs (closing c why e i) = rw e refl
+  move-open xs (granting r c e i f) = rw e refl
+  move-open xs (creating r e i f) = rw e refl
+  move-open xs (warming r e i) = rw e refl
+
+  serve-open : (k : ℕ) (xs : List PoolItem) → shuts (serve p a o n k xs) ≡ false
+  serve-open zero xs = refl
+  serve-open (suc k) xs = shut-append (next_move p a o n xs) (serve p a o n k (after_facts p n (next_move p a o n xs) xs)) ∙ rw (move-open xs (move-of xs)) (serve-open k (after_facts p n (next_move p a o n xs) xs))
+
+  pub with-serve : (fs : List Fact) (k : ℕ) (xs : List PoolItem) → shuts (fs ++ serve p a o n k xs) ≡ shuts fs
+  with-serve fs k xs = shut-append fs (serve p a o n k xs) ∙ rw (serve-open k xs) (or-no (shuts fs))
+    where
+      or-no : (b : Bool) → b || false ≡ b
+      or-no true = refl
+      or-no false = refl
 
   pub after_facts-append : (fs gs : List Fact) (xs : List PoolItem) → after_facts p n (fs ++ gs) xs ≡ after_facts p n gs (after_facts p n fs xs)
   after_facts-append [] gs xs = refl

@@ -13,7 +13,7 @@ use Rattle.mdb_pool.specs.Standing.{Matches}
 use Rattle.mdb_pool.specs.Connections.{one_if, has, pending_list}
 use Rattle.mdb_pool.specs.Places.{is_pending, is_available, is_queued}
 use Rattle.mdb_pool.specs.Changes.{asking, creating, granting}
-use Rattle.mdb_pool.proofs.Tables.{entry_at-put, named, named-put, length-put, passes, has-where, where-put_out, where-put_stay, where-put_in}
+use Rattle.mdb_pool.proofs.Tables.{entry_at-put, named, named-put, length-put, passes, has-where, where-put_out, where-put_stay, where-put_in, entry_at-swap, named-swap, where-swap_out}
 
 pub without-one : (o : Option ℕ) (r : ℕ) → without r (one_party o) ≡ if is_number o r then [] else one_party o
 without-one None r = refl
@@ -47,7 +47,7 @@ module _ (s : PoolCore) (xs : List PoolItem) (m : Matches s xs) (x : Connection)
   new_connection c = entry_at-put id_of c granted_x s.connections
 
   pub new_request : (r : ℕ) → request_at (granting s x q) r ≡ if q.number == r then Some granted_q else request_at s r
-  new_request r = entry_at-put number_of r granted_q s.requests
+  new_request r = entry_at-swap number_of r granted_q s.requests (ap is_some at_q)
 
   alone : x.holder ≡ None
   alone = m.free x.id x at_x (ap is_available place)
@@ -58,16 +58,18 @@ module _ (s : PoolCore) (xs : List PoolItem) (m : Matches s xs) (x : Connection)
     live_all = grind (arith, m.live_all, length-put id_of granted_x s.connections, m.single x.id);
     pending = m.pending ∙ sym (where-put_stay id_of (λ y. is_pending y.place) granted_x s.connections refl (m.single x.id) (ap (passes id_of (λ y. is_pending y.place)) at_x ∙ ap is_pending place));
     available = ap (without x.id) m.available ∙ sym (where-put_out id_of (λ y. is_available y.place) granted_x s.connections refl);
-    queue = ap (without q.number) m.queue ∙ sym (where-put_out number_of (λ y. is_queued y.phase) granted_q s.requests refl);
+    queue = ap (without q.number) m.queue ∙ sym (where-swap_out number_of (λ y. is_queued y.phase) granted_q s.requests refl);
     single = λ c. grind (arith, named-put id_of c granted_x s.connections, new_connection c, m.single c);
     unused = λ c h. grind (arith, new_connection c, m.unused c h);
     live = λ c. grind (arith, new_connection c, m.live c);
     parties = λ c. grind (arith, new_connection c, m.parties c, at_x, alone);
     granted_to = λ c y e. grind (arith, new_connection c, m.granted_to c y);
     created_at = λ c y e. grind (arith, new_connection c, m.created_at c y, m.created_at x.id x at_x);
+    served = λ c. grind (arith, nat_tests, new_connection c, m.served c, m.served x.id, at_x);
     service = λ c. grind (arith, nat_tests, new_connection c, m.service c, m.service x.id, at_x);
+    wire = λ c. grind (arith, nat_tests, new_connection c, m.wire c, m.wire x.id, at_x);
     given = λ r. grind (arith, new_request r, m.given r);
-    single_request = λ r. grind (arith, named-put number_of r granted_q s.requests, new_request r, m.single_request r);
+    single_request = λ r. grind (arith, named-swap number_of r granted_q s.requests, new_request r, m.single_request r);
     asked_at = λ r. grind (arith, new_request r, m.asked_at r);
     ends = λ r. grind (arith, new_request r, m.ends r);
     taken = λ r c h. grind (arith, new_request r, new_connection c, m.taken r c, m.owned c r, at_x, alone);
@@ -77,13 +79,14 @@ module _ (s : PoolCore) (xs : List PoolItem) (m : Matches s xs) (x : Connection)
     busy = λ c y e f. grind (arith, new_connection c, m.busy c y);
     waits = λ c y r e f g. grind (arith, new_connection c, m.waits c y r);
     left_by = λ c y e f g. grind (arith, new_connection c, m.left_by c y, new_request y.party);
-    ready = m.ready;
+    status = m.status;
+    clears = m.clears;
+    before = m.before;
+    seen = m.seen;
     no_warm = m.no_warm;
     no_pin = m.no_pin;
     no_error = λ c. grind (arith, nat_tests, new_connection c, m.no_error c, m.no_error x.id, at_x);
     no_drop = λ c. grind (arith, nat_tests, new_connection c, m.no_drop c, m.no_drop x.id, at_x);
-    no_clear = m.no_clear;
-    no_before = m.no_before;
   }
 
 -- a party that is new asks
@@ -107,7 +110,9 @@ module _ (s : PoolCore) (xs : List PoolItem) (m : Matches s xs) (r n : ℕ) (abs
     parties = m.parties;
     granted_to = m.granted_to;
     created_at = m.created_at;
+    served = m.served;
     service = m.service;
+    wire = m.wire;
     given = λ r. grind (arith, asked_request r, m.given r);
     single_request = λ r. grind (arith, named-put number_of r asked_q s.requests, asked_request r, m.single_request r);
     asked_at = λ r. grind (arith, asked_request r, m.asked_at r);
@@ -119,20 +124,21 @@ module _ (s : PoolCore) (xs : List PoolItem) (m : Matches s xs) (r n : ℕ) (abs
     busy = m.busy;
     waits = m.waits;
     left_by = λ c y e f g. grind (arith, asked_request y.party, m.left_by c y e f g, m.known c y e, absent);
-    ready = m.ready;
+    status = m.status;
+    clears = m.clears;
+    before = m.before;
+    seen = m.seen;
     no_warm = λ k. grind (arith, m.no_warm k);
     no_pin = m.no_pin;
     no_error = m.no_error;
     no_drop = m.no_drop;
-    no_clear = m.no_clear;
-    no_before = m.no_before;
   }
 
 -- a connection is created for a queued request
 module _ (s : PoolCore) (xs : List PoolItem) (m : Matches s xs) (n : ℕ) (q : Request)
     (at_q : request_at s q.number ≡ Some q) (phase : q.phase ≡ Queued) where
   abbrev made_x : Connection
-  made_x = record { id = s.created + 1; created_at = n; place = Pending; party = q.number; holder = Some q.number; service = None }
+  made_x = record { id = s.created + 1; created_at = n; place = Pending; party = q.number; holder = Some q.number; service = None; wire = None }
 
   abbrev pub made_q : Request
   made_q = record q { phase = Given (s.created + 1) }
@@ -144,7 +150,7 @@ module _ (s : PoolCore) (xs : List PoolItem) (m : Matches s xs) (n : ℕ) (q : R
   made_connection c = entry_at-put id_of c made_x s.connections
 
   pub made_request : (r : ℕ) → request_at (creating s n q) r ≡ if q.number == r then Some made_q else request_at s r
-  made_request r = entry_at-put number_of r made_q s.requests
+  made_request r = entry_at-swap number_of r made_q s.requests (ap is_some at_q)
 
   none_named : named id_of (s.created + 1) s.connections ≡ 0
   none_named = m.single (s.created + 1) ∙ ap (λ o. one_if (is_some o)) fresh
@@ -155,16 +161,18 @@ module _ (s : PoolCore) (xs : List PoolItem) (m : Matches s xs) (n : ℕ) (q : R
     live_all = grind (arith, m.live_all, length-put id_of made_x s.connections, none_named);
     pending = ap (λ cs. cs ++ (s.created + 1) ∷ []) m.pending ∙ sym (where-put_in id_of (λ y. is_pending y.place) made_x s.connections refl (m.single (s.created + 1)) (ap (passes id_of (λ y. is_pending y.place)) fresh));
     available = ap (without (s.created + 1)) m.available ∙ sym (where-put_out id_of (λ y. is_available y.place) made_x s.connections refl);
-    queue = ap (without q.number) m.queue ∙ sym (where-put_out number_of (λ y. is_queued y.phase) made_q s.requests refl);
+    queue = ap (without q.number) m.queue ∙ sym (where-swap_out number_of (λ y. is_queued y.phase) made_q s.requests refl);
     single = λ c. grind (arith, named-put id_of c made_x s.connections, made_connection c, m.single c);
     unused = λ c h. grind (arith, made_connection c, m.unused c);
     live = λ c. grind (arith, made_connection c, m.live c, fresh);
     parties = λ c. grind (arith, made_connection c, m.parties c, fresh);
     granted_to = λ c y e. grind (arith, made_connection c, m.granted_to c y);
     created_at = λ c y e. grind (arith, made_connection c, m.created_at c y);
+    served = λ c. grind (arith, nat_tests, made_connection c, m.served c, fresh);
     service = λ c. grind (arith, nat_tests, made_connection c, m.service c, fresh);
+    wire = λ c. grind (arith, nat_tests, made_connection c, m.wire c, fresh);
     given = λ r. grind (arith, made_request r, m.given r);
-    single_request = λ r. grind (arith, named-put number_of r made_q s.requests, made_request r, m.single_request r);
+    single_request = λ r. grind (arith, named-swap number_of r made_q s.requests, made_request r, m.single_request r);
     asked_at = λ r. grind (arith, made_request r, m.asked_at r);
     ends = λ r. grind (arith, made_request r, m.ends r);
     taken = λ r c h. grind (arith, made_request r, made_connection c, m.taken r c, m.owned c r, fresh);
@@ -174,11 +182,12 @@ module _ (s : PoolCore) (xs : List PoolItem) (m : Matches s xs) (n : ℕ) (q : R
     busy = λ c y e f. grind (arith, made_connection c, m.busy c y);
     waits = λ c y r e f g. grind (arith, made_connection c, m.waits c y r);
     left_by = λ c y e f g. grind (arith, made_connection c, made_request y.party, m.left_by c y, at_q, phase);
-    ready = m.ready;
+    status = m.status;
+    clears = m.clears;
+    before = λ c t h. grind (arith, m.before c t, m.seen c t, m.clears t);
+    seen = λ c t h. m.seen c t (omega arith);
     no_warm = m.no_warm;
     no_pin = m.no_pin;
     no_error = λ c. grind (arith, nat_tests, made_connection c, m.no_error c);
     no_drop = λ c. grind (arith, nat_tests, made_connection c, m.no_drop c);
-    no_clear = m.no_clear;
-    no_before = λ c t. grind (arith, m.no_before c t, m.no_clear t);
   }

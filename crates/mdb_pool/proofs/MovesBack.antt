@@ -1,8 +1,7 @@
 -- What connections that are established, returned or given up do follows the items of the pool.
-use Rattle.std.proofs.Common.{ℕ, ◌≡◌, arith, true, false, ◌&&◌, ◌==◌, List, [], ◌∷◌, ◌++◌, Option, Some, None, is_some, refl, sym, ◌∙◌, ap, if◌then◌else◌}
+use Rattle.std.proofs.Common.{ℕ, ◌≡◌, arith, true, false, ◌&&◌, ◌==◌, List, [], ◌∷◌, ◌++◌, Some, None, is_some, refl, sym, ◌∙◌, ap, if◌then◌else◌}
 use Rattle.std.proofs.lemmas.Grind.{common_steps}
 use Rattle.std.proofs.lemmas.Bool.Decides.{nat_tests}
-use Rattle.mdb_base.specs.declared.object_id.ObjectId.{ObjectId}
 use Rattle.mdb_pool.specs.declared.connection.Connection.{Connection}
 use Rattle.mdb_pool.specs.declared.connection.Place.TheVariants.{Pending, Available, Held}
 use Rattle.mdb_pool.specs.declared.request.Request.{Request}
@@ -17,7 +16,8 @@ use Rattle.mdb_pool.specs.Connections.{parties, granted_to, available_list, is_e
 use Rattle.mdb_pool.specs.Places.{is_pending, is_available, is_queued}
 use Rattle.mdb_pool.specs.Changes.{establishing, pooling, returning, dropping}
 use Rattle.mdb_pool.proofs.Moves.{without-one, number-some}
-use Rattle.mdb_pool.proofs.Tables.{entry_at-others, map-filter-others, entry_at-put, where-put, named-others, named-put, length-others, length-put, passes, where-put_out, where-put_stay}
+use Rattle.mdb_pool.proofs.Tables.{entry_at-others, map-filter-others, entry_at-put, where-put, named-others, named-put, length-others, length-put, passes, where-put_out, where-put_stay, entry_at-swap, named-swap, where-swap_stay}
+use Rattle.mdb_pool.specs.declared.step.Established.{Established}
 
 abbrev id_of : Connection → ℕ
 id_of x = x.id
@@ -30,19 +30,19 @@ without-again c [] = grind (arith, common_steps)
 without-again c (d ∷ cs) = grind (arith, common_steps, without-again c cs)
 
 -- a pending connection is established
-module _ (s : PoolCore) (xs : List PoolItem) (m : Matches s xs) (n : ℕ) (x : Connection) (service : Option ObjectId)
+module _ (s : PoolCore) (xs : List PoolItem) (m : Matches s xs) (n : ℕ) (x : Connection) (how : Established)
     (at_x : connection_at s x.id ≡ Some x) (place : x.place ≡ Pending) where
   was_granted : granted_to xs x.id ≡ Some x.party
   was_granted = m.granted_to x.id x at_x
 
   abbrev up_x : Connection
-  up_x = record x { place = Held; service = service }
+  up_x = record x { place = Held; service = how.service_id; wire = Some how.wire }
 
-  up_connection : (c : ℕ) → connection_at (establishing s n x service) c ≡ if x.id == c then Some up_x else connection_at s c
+  up_connection : (c : ℕ) → connection_at (establishing s n x how) c ≡ if x.id == c then Some up_x else connection_at s c
   up_connection c = entry_at-put id_of c up_x s.connections
 
   -- its requester holds it
-  pub establish-matches : is_some x.holder ≡ true → Matches (establishing s n x service) (established x.id service n ∷ xs)
+  pub establish-matches : is_some x.holder ≡ true → Matches (establishing s n x how) (established x.id how n ∷ xs)
   establish-matches has_holder = record {
     created = m.created;
     live_all = grind (arith, m.live_all, length-put id_of up_x s.connections, m.single x.id);
@@ -55,7 +55,9 @@ module _ (s : PoolCore) (xs : List PoolItem) (m : Matches s xs) (n : ℕ) (x : C
     parties = λ c. grind (arith, common_steps, up_connection c, m.parties c, at_x);
     granted_to = λ c y e. grind (arith, up_connection c, m.granted_to c y, m.granted_to x.id x at_x);
     created_at = λ c y e. grind (arith, up_connection c, m.created_at c y, m.created_at x.id x at_x);
+    served = λ c. grind (arith, nat_tests, up_connection c, m.served c, m.served x.id, at_x);
     service = λ c. grind (arith, nat_tests, up_connection c, m.service c, m.service x.id, at_x);
+    wire = λ c. grind (arith, nat_tests, up_connection c, m.wire c, m.wire x.id, at_x);
     given = m.given;
     single_request = m.single_request;
     asked_at = m.asked_at;
@@ -67,23 +69,24 @@ module _ (s : PoolCore) (xs : List PoolItem) (m : Matches s xs) (n : ℕ) (x : C
     busy = λ c y e f. grind (arith, up_connection c, m.busy c y, has_holder);
     waits = λ c y r e f g. grind (arith, up_connection c, m.waits c y r);
     left_by = λ c y e f g. grind (arith, up_connection c, m.left_by c y);
-    ready = m.ready;
+    status = m.status;
+    clears = m.clears;
+    before = m.before;
+    seen = m.seen;
     no_warm = m.no_warm;
     no_pin = m.no_pin;
     no_error = λ c. grind (arith, nat_tests, up_connection c, m.no_error c, m.no_error x.id, at_x);
     no_drop = λ c. grind (arith, nat_tests, up_connection c, m.no_drop c, m.no_drop x.id, at_x);
-    no_clear = m.no_clear;
-    no_before = m.no_before;
   }
 
   abbrev in_x : Connection
-  in_x = record x { place = Available; service = service }
+  in_x = record x { place = Available; holder = None; service = how.service_id; wire = Some how.wire }
 
-  in_connection : (c : ℕ) → connection_at (pooling s n x service) c ≡ if x.id == c then Some in_x else connection_at s c
+  in_connection : (c : ℕ) → connection_at (pooling s n x how) c ≡ if x.id == c then Some in_x else connection_at s c
   in_connection c = entry_at-put id_of c in_x s.connections
 
   -- its requester gave up, and it is checked in
-  pub pool-matches : x.holder ≡ None → Matches (pooling s n x service) (checked_in x.id n ∷ established x.id service n ∷ xs)
+  pub pool-matches : x.holder ≡ None → Matches (pooling s n x how) (checked_in x.id n ∷ established x.id how n ∷ xs)
   pool-matches alone = record {
     created = m.created;
     live_all = grind (arith, m.live_all, length-put id_of in_x s.connections, m.single x.id);
@@ -93,28 +96,31 @@ module _ (s : PoolCore) (xs : List PoolItem) (m : Matches s xs) (n : ℕ) (x : C
     single = λ c. grind (arith, named-put id_of c in_x s.connections, in_connection c, m.single c);
     unused = λ c h. grind (arith, in_connection c, m.unused c h);
     live = λ c. grind (arith, in_connection c, m.live c);
-    parties = λ c. grind (arith, common_steps, in_connection c, m.parties c, at_x);
+    parties = λ c. grind (arith, in_connection c, m.parties c, at_x, alone);
     granted_to = λ c y e. grind (arith, in_connection c, m.granted_to c y, m.granted_to x.id x at_x);
     created_at = λ c y e. grind (arith, in_connection c, m.created_at c y, m.created_at x.id x at_x);
+    served = λ c. grind (arith, nat_tests, in_connection c, m.served c, m.served x.id, at_x);
     service = λ c. grind (arith, nat_tests, in_connection c, m.service c, m.service x.id, at_x);
+    wire = λ c. grind (arith, nat_tests, in_connection c, m.wire c, m.wire x.id, at_x);
     given = m.given;
     single_request = m.single_request;
     asked_at = m.asked_at;
     ends = m.ends;
-    taken = λ r c h. grind (arith, in_connection c, m.taken r c, m.owned c r, at_x);
-    owned = λ c r h. grind (arith, in_connection c, m.owned c r, m.taken r c, at_x);
+    taken = λ r c h. grind (arith, in_connection c, m.taken r c, at_x, alone);
+    owned = λ c r h. grind (arith, in_connection c, m.owned c r);
     known = λ c y e. grind (arith, in_connection c, m.known c y, m.known x.id x at_x);
-    free = λ c y e f. grind (arith, in_connection c, m.free c y, alone);
+    free = λ c y e f. grind (arith, in_connection c, m.free c y);
     busy = λ c y e f. grind (arith, in_connection c, m.busy c y);
     waits = λ c y r e f g. grind (arith, in_connection c, m.waits c y r);
     left_by = λ c y e f g. grind (arith, in_connection c, m.left_by c y);
-    ready = m.ready;
+    status = m.status;
+    clears = m.clears;
+    before = m.before;
+    seen = m.seen;
     no_warm = m.no_warm;
     no_pin = m.no_pin;
     no_error = λ c. grind (arith, nat_tests, in_connection c, m.no_error c, m.no_error x.id, at_x);
     no_drop = λ c. grind (arith, nat_tests, in_connection c, m.no_drop c, m.no_drop x.id, at_x);
-    no_clear = m.no_clear;
-    no_before = m.no_before;
   }
 
 -- a held connection comes back
@@ -130,7 +136,7 @@ module _ (s : PoolCore) (xs : List PoolItem) (m : Matches s xs) (n : ℕ) (x : C
   back_connection c = entry_at-put id_of c back_x s.connections
 
   pub back_request : (r : ℕ) → request_at (returning s n x q) r ≡ if q.number == r then Some back_q else request_at s r
-  back_request r = entry_at-put number_of r back_q s.requests
+  back_request r = entry_at-swap number_of r back_q s.requests (ap is_some at_q)
 
   was_given : given xs q.number ≡ Some x.id
   was_given = m.given q.number ∙ (ap given_of at_q ∙ ap given_in phase)
@@ -155,16 +161,18 @@ module _ (s : PoolCore) (xs : List PoolItem) (m : Matches s xs) (n : ℕ) (x : C
     live_all = grind (arith, m.live_all, length-put id_of back_x s.connections, m.single x.id);
     pending = m.pending ∙ sym (where-put_stay id_of (λ y. is_pending y.place) back_x s.connections refl (m.single x.id) (ap (passes id_of (λ y. is_pending y.place)) at_x ∙ ap is_pending place));
     available = ap (λ cs. without x.id cs ++ x.id ∷ []) m.available ∙ sym (where-put id_of (λ y. is_available y.place) back_x s.connections);
-    queue = m.queue ∙ sym (where-put_stay number_of (λ y. is_queued y.phase) back_q s.requests refl (m.single_request q.number) (ap (passes number_of (λ y. is_queued y.phase)) at_q ∙ ap is_queued phase));
+    queue = m.queue ∙ sym (where-swap_stay number_of (λ y. is_queued y.phase) back_q s.requests refl (m.single_request q.number) (ap (passes number_of (λ y. is_queued y.phase)) at_q ∙ ap is_queued phase));
     single = λ c. grind (arith, named-put id_of c back_x s.connections, back_connection c, m.single c);
     unused = λ c h. grind (arith, back_connection c, m.unused c h);
     live = λ c. grind (arith, back_connection c, m.live c);
     parties = λ c. parted c ∙ grind (arith, back_connection c, m.parties c, only c, given_now, was_held, at_x);
     granted_to = λ c y e. grind (arith, back_connection c, m.granted_to c y, m.granted_to x.id x at_x);
     created_at = λ c y e. grind (arith, back_connection c, m.created_at c y, m.created_at x.id x at_x);
+    served = λ c. grind (arith, nat_tests, back_connection c, m.served c, m.served x.id, at_x);
     service = λ c. grind (arith, nat_tests, back_connection c, m.service c, m.service x.id, at_x);
+    wire = λ c. grind (arith, nat_tests, back_connection c, m.wire c, m.wire x.id, at_x);
     given = λ r. grind (arith, back_request r, m.given r);
-    single_request = λ r. grind (arith, named-put number_of r back_q s.requests, back_request r, m.single_request r);
+    single_request = λ r. grind (arith, named-swap number_of r back_q s.requests, back_request r, m.single_request r);
     asked_at = λ r. grind (arith, back_request r, m.asked_at r);
     ends = λ r. grind (arith, back_request r, m.ends r, at_q, phase);
     taken = λ r c h. grind (arith, back_request r, back_connection c, m.taken r c, m.owned c r, was_held, at_x, at_q);
@@ -174,20 +182,21 @@ module _ (s : PoolCore) (xs : List PoolItem) (m : Matches s xs) (n : ℕ) (x : C
     busy = λ c y e f. grind (arith, back_connection c, m.busy c y);
     waits = λ c y r e f g. grind (arith, back_connection c, m.waits c y r);
     left_by = λ c y e f g. grind (arith, back_connection c, m.left_by c y, back_request y.party, at_q, phase);
-    ready = m.ready;
+    status = m.status;
+    clears = m.clears;
+    before = m.before;
+    seen = m.seen;
     no_warm = m.no_warm;
     no_pin = m.no_pin;
     no_error = λ c. rw fine (grind (arith, nat_tests, back_connection c, m.no_error c, at_x));
     no_drop = λ c. rw fine (grind (arith, nat_tests, back_connection c, m.no_drop c, at_x));
-    no_clear = m.no_clear;
-    no_before = m.no_before;
   }
 
   gone_connection : (c : ℕ) → connection_at (dropping s n x q) c ≡ if x.id == c then None else connection_at s c
   gone_connection c = entry_at-others id_of c x.id s.connections
 
   pub gone_request : (r : ℕ) → request_at (dropping s n x q) r ≡ if q.number == r then Some back_q else request_at s r
-  gone_request r = entry_at-put number_of r back_q s.requests
+  gone_request r = entry_at-swap number_of r back_q s.requests (ap is_some at_q)
 
   -- it is closed at once
   pub drop-matches : Matches (dropping s n x q) (closed x.id ∷ checked_in x.id n ∷ returned q.number used ∷ xs)
@@ -196,16 +205,18 @@ module _ (s : PoolCore) (xs : List PoolItem) (m : Matches s xs) (n : ℕ) (x : C
     live_all = grind (arith, m.live_all, length-others id_of x.id s.connections, m.single x.id, at_x);
     pending = ap (without x.id) m.pending ∙ sym (map-filter-others id_of (λ y. is_pending y.place) x.id s.connections);
     available = without-again x.id (available_list xs) ∙ (ap (without x.id) m.available ∙ sym (map-filter-others id_of (λ y. is_available y.place) x.id s.connections));
-    queue = m.queue ∙ sym (where-put_stay number_of (λ y. is_queued y.phase) back_q s.requests refl (m.single_request q.number) (ap (passes number_of (λ y. is_queued y.phase)) at_q ∙ ap is_queued phase));
+    queue = m.queue ∙ sym (where-swap_stay number_of (λ y. is_queued y.phase) back_q s.requests refl (m.single_request q.number) (ap (passes number_of (λ y. is_queued y.phase)) at_q ∙ ap is_queued phase));
     single = λ c. grind (arith, named-others id_of c x.id s.connections, gone_connection c, m.single c);
     unused = λ c h. grind (arith, gone_connection c, m.unused c h);
     live = λ c. grind (arith, gone_connection c, m.live c, at_x);
     parties = λ c. parted c ∙ grind (arith, gone_connection c, m.parties c, only c, given_now, was_held, at_x);
     granted_to = λ c y e. grind (arith, gone_connection c, m.granted_to c y);
     created_at = λ c y e. grind (arith, gone_connection c, m.created_at c y);
+    served = λ c. grind (arith, nat_tests, gone_connection c, m.served c, m.unused c, at_x);
     service = λ c. grind (arith, nat_tests, gone_connection c, m.service c, m.unused c, at_x);
+    wire = λ c. grind (arith, nat_tests, gone_connection c, m.wire c, m.unused c, at_x);
     given = λ r. grind (arith, gone_request r, m.given r);
-    single_request = λ r. grind (arith, named-put number_of r back_q s.requests, gone_request r, m.single_request r);
+    single_request = λ r. grind (arith, named-swap number_of r back_q s.requests, gone_request r, m.single_request r);
     asked_at = λ r. grind (arith, gone_request r, m.asked_at r);
     ends = λ r. grind (arith, gone_request r, m.ends r, at_q, phase);
     taken = λ r c h. grind (arith, gone_request r, gone_connection c, m.taken r c, m.owned c r, was_held, at_x, at_q);
@@ -215,13 +226,14 @@ module _ (s : PoolCore) (xs : List PoolItem) (m : Matches s xs) (n : ℕ) (x : C
     busy = λ c y e f. grind (arith, gone_connection c, m.busy c y);
     waits = λ c y r e f g. grind (arith, gone_connection c, m.waits c y r);
     left_by = λ c y e f g. grind (arith, gone_connection c, m.left_by c y, gone_request y.party, at_q, phase);
-    ready = m.ready;
+    status = m.status;
+    clears = m.clears;
+    before = m.before;
+    seen = m.seen;
     no_warm = m.no_warm;
     no_pin = m.no_pin;
     no_error = λ c. on_use used refl c;
     no_drop = λ c. grind (arith, nat_tests, gone_connection c, m.no_drop c, m.unused c, at_x, was_given);
-    no_clear = m.no_clear;
-    no_before = m.no_before;
   }
     where
       on_use : (u : Use) → used ≡ u → (c : ℕ) → lasts (dropping s n x q) c && is_errored (closed x.id ∷ checked_in x.id n ∷ returned q.number used ∷ xs) c ≡ false

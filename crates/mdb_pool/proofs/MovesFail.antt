@@ -1,5 +1,5 @@
 -- What a failed connection does follows the items of the pool.
-use Rattle.std.proofs.Common.{ℕ, ◌≡◌, arith, true, false, ◌==◌, List, [], ◌∷◌, Option, Some, None, refl, sym, ◌∙◌, ap, if◌then◌else◌}
+use Rattle.std.proofs.Common.{ℕ, ◌≡◌, arith, true, false, ◌==◌, List, [], ◌∷◌, Option, Some, None, is_some, refl, sym, ◌∙◌, ap, if◌then◌else◌}
 use Rattle.std.proofs.lemmas.Grind.{common_steps}
 use Rattle.std.proofs.lemmas.Bool.Decides.{nat_tests}
 use Rattle.mdb_base.specs.declared.object_id.ObjectId.{ObjectId}
@@ -15,9 +15,9 @@ use Rattle.mdb_pool.specs.Requests.{queued}
 use Rattle.mdb_pool.specs.Standing.{Matches}
 use Rattle.mdb_pool.specs.Connections.{pending_list, parties}
 use Rattle.mdb_pool.specs.Places.{is_pending, is_available, is_queued}
-use Rattle.mdb_pool.specs.Changes.{failing, forgetting}
+use Rattle.mdb_pool.specs.Changes.{forgetting, failing}
 use Rattle.mdb_pool.proofs.Moves.{without-one, number-some}
-use Rattle.mdb_pool.proofs.Tables.{without-absent, entry_at-others, map-filter-others, entry_at-put, named-others, named-put, length-others, passes, has-where, where-put_stay}
+use Rattle.mdb_pool.proofs.Tables.{without-absent, entry_at-others, map-filter-others, named-others, length-others, passes, has-where, entry_at-swap, named-swap, where-swap_stay}
 
 abbrev id_of : Connection → ℕ
 id_of x = x.id
@@ -48,7 +48,9 @@ module _ (s : PoolCore) (xs : List PoolItem) (m : Matches s xs) (n : ℕ) (x : C
     parties = λ c. grind (arith, lost_connection c, m.parties c, at_x, alone);
     granted_to = λ c y e. grind (arith, lost_connection c, m.granted_to c y);
     created_at = λ c y e. grind (arith, lost_connection c, m.created_at c y);
+    served = λ c. grind (arith, nat_tests, lost_connection c, m.served c, m.unused c, at_x);
     service = λ c. grind (arith, nat_tests, lost_connection c, m.service c, m.unused c, at_x);
+    wire = λ c. grind (arith, nat_tests, lost_connection c, m.wire c, m.unused c, at_x);
     given = m.given;
     single_request = m.single_request;
     asked_at = m.asked_at;
@@ -60,13 +62,14 @@ module _ (s : PoolCore) (xs : List PoolItem) (m : Matches s xs) (n : ℕ) (x : C
     busy = λ c y e f. grind (arith, lost_connection c, m.busy c y);
     waits = λ c y r e f g. grind (arith, lost_connection c, m.waits c y r);
     left_by = λ c y e f g. grind (arith, lost_connection c, m.left_by c y);
-    ready = m.ready;
+    status = m.status;
+    clears = m.clears;
+    before = m.before;
+    seen = m.seen;
     no_warm = m.no_warm;
     no_pin = m.no_pin;
     no_error = λ c. grind (arith, nat_tests, lost_connection c, m.no_error c, m.unused c, at_x);
     no_drop = λ c. grind (arith, nat_tests, lost_connection c, m.no_drop c, m.unused c, at_x);
-    no_clear = m.no_clear;
-    no_before = m.no_before;
   }
 
 -- and its requester ends
@@ -78,7 +81,7 @@ module _ (s : PoolCore) (xs : List PoolItem) (m : Matches s xs) (n : ℕ) (x : C
   gone_connection c = entry_at-others id_of c x.id s.connections
 
   pub failed_request : (r : ℕ) → request_at (failing s n x q end) r ≡ if q.number == r then Some failed_q else request_at s r
-  failed_request r = entry_at-put number_of r failed_q s.requests
+  failed_request r = entry_at-swap number_of r failed_q s.requests (ap is_some at_q)
 
   was_held : holder_at (connection_at s x.id) ≡ Some q.number
   was_held = ap holder_at at_x ∙ held
@@ -111,16 +114,18 @@ module _ (s : PoolCore) (xs : List PoolItem) (m : Matches s xs) (n : ℕ) (x : C
     live_all = grind (arith, m.live_all, length-others id_of x.id s.connections, m.single x.id, at_x);
     pending = without-twice x.id (pending_list xs) ∙ (ap (without x.id) m.pending ∙ sym (map-filter-others id_of (λ y. is_pending y.place) x.id s.connections));
     available = ap (without x.id) m.available ∙ sym (map-filter-others id_of (λ y. is_available y.place) x.id s.connections);
-    queue = without-absent q.number (queued xs) (rw m.queue (has-where number_of (λ y. is_queued y.phase) q.number s.requests (m.single_request q.number) ∙ (ap (passes number_of (λ y. is_queued y.phase)) at_q ∙ not_queued))) ∙ (m.queue ∙ sym (where-put_stay number_of (λ y. is_queued y.phase) failed_q s.requests refl (m.single_request q.number) (ap (passes number_of (λ y. is_queued y.phase)) at_q ∙ not_queued)));
+    queue = without-absent q.number (queued xs) (rw m.queue (has-where number_of (λ y. is_queued y.phase) q.number s.requests (m.single_request q.number) ∙ (ap (passes number_of (λ y. is_queued y.phase)) at_q ∙ not_queued))) ∙ (m.queue ∙ sym (where-swap_stay number_of (λ y. is_queued y.phase) failed_q s.requests refl (m.single_request q.number) (ap (passes number_of (λ y. is_queued y.phase)) at_q ∙ not_queued)));
     single = λ c. grind (arith, named-others id_of c x.id s.connections, gone_connection c, m.single c);
     unused = λ c h. grind (arith, gone_connection c, m.unused c h);
     live = λ c. grind (arith, gone_connection c, m.live c, at_x);
     parties = λ c. parted c ∙ grind (arith, gone_connection c, m.parties c, only c, given_now, was_held, at_x);
     granted_to = λ c y e. grind (arith, gone_connection c, m.granted_to c y);
     created_at = λ c y e. grind (arith, gone_connection c, m.created_at c y);
+    served = λ c. grind (arith, nat_tests, gone_connection c, m.served c, m.unused c, at_x);
     service = λ c. grind (arith, nat_tests, gone_connection c, m.service c, m.unused c, at_x);
+    wire = λ c. grind (arith, nat_tests, gone_connection c, m.wire c, m.unused c, at_x);
     given = λ r. grind (arith, failed_request r, m.given r);
-    single_request = λ r. grind (arith, named-put number_of r failed_q s.requests, failed_request r, m.single_request r);
+    single_request = λ r. grind (arith, named-swap number_of r failed_q s.requests, failed_request r, m.single_request r);
     asked_at = λ r. grind (arith, failed_request r, m.asked_at r);
     ends = λ r. grind (arith, failed_request r, m.ends r);
     taken = λ r c h. grind (arith, failed_request r, gone_connection c, m.taken r c, m.owned c r, was_held, at_x, at_q);
@@ -130,11 +135,12 @@ module _ (s : PoolCore) (xs : List PoolItem) (m : Matches s xs) (n : ℕ) (x : C
     busy = λ c y e f. grind (arith, gone_connection c, m.busy c y);
     waits = λ c y r e f g. grind (arith, gone_connection c, m.waits c y r);
     left_by = λ c y e f g. grind (arith, gone_connection c, m.left_by c y, failed_request y.party);
-    ready = m.ready;
+    status = m.status;
+    clears = m.clears;
+    before = m.before;
+    seen = m.seen;
     no_warm = m.no_warm;
     no_pin = m.no_pin;
     no_error = λ c. grind (arith, nat_tests, gone_connection c, m.no_error c, m.unused c, at_x);
     no_drop = λ c. grind (arith, nat_tests, gone_connection c, m.no_drop c, m.unused c, at_x);
-    no_clear = m.no_clear;
-    no_before = m.no_before;
   }

@@ -15,7 +15,7 @@ use Rattle.mdb_pool.specs.Connections.{parties}
 use Rattle.mdb_pool.specs.Places.{is_pending, is_available, is_queued}
 use Rattle.mdb_pool.specs.Changes.{quitting, leaving, handing}
 use Rattle.mdb_pool.proofs.Moves.{without-one, number-some}
-use Rattle.mdb_pool.proofs.Tables.{without-absent, entry_at-put, where-put, named, named-put, length-put, passes, has-where, where-put_out, where-put_stay, entry_at-swap, named-swap, length-swap, where-swap_same, one_if-le}
+use Rattle.mdb_pool.proofs.Tables.{without-absent, entry_at-put, where-put, named, named-put, length-put, passes, has-where, where-put_stay, entry_at-swap, named-swap, length-swap, where-swap_out, where-swap_stay, where-swap_same, one_if-le}
 
 abbrev id_of : Connection → ℕ
 id_of x = x.id
@@ -30,7 +30,7 @@ module _ (s : PoolCore) (xs : List PoolItem) (m : Matches s xs) (n : ℕ) (q : R
   quit_q = record q { phase = EndedPhase GaveUp }
 
   pub quit_request : (r : ℕ) → request_at (quitting s n q) r ≡ if q.number == r then Some quit_q else request_at s r
-  quit_request r = entry_at-put number_of r quit_q s.requests
+  quit_request r = entry_at-swap number_of r quit_q s.requests (ap is_some at_q)
 
   given_none : given_of (request_at s q.number) ≡ None
   given_none = ap given_of at_q ∙ none
@@ -48,16 +48,18 @@ module _ (s : PoolCore) (xs : List PoolItem) (m : Matches s xs) (n : ℕ) (q : R
     live_all = m.live_all;
     pending = m.pending;
     available = m.available;
-    queue = ap (without q.number) m.queue ∙ sym (where-put_out number_of (λ y. is_queued y.phase) quit_q s.requests refl);
+    queue = ap (without q.number) m.queue ∙ sym (where-swap_out number_of (λ y. is_queued y.phase) quit_q s.requests refl);
     single = m.single;
     unused = m.unused;
     live = m.live;
     parties = λ c. quits c ∙ grind (arith, m.parties c, nobody c, given_none);
     granted_to = m.granted_to;
     created_at = m.created_at;
+    served = m.served;
     service = m.service;
+    wire = m.wire;
     given = λ r. grind (arith, quit_request r, m.given r);
-    single_request = λ r. grind (arith, named-put number_of r quit_q s.requests, quit_request r, m.single_request r);
+    single_request = λ r. grind (arith, named-swap number_of r quit_q s.requests, quit_request r, m.single_request r);
     asked_at = λ r. grind (arith, quit_request r, m.asked_at r);
     ends = λ r. grind (arith, quit_request r, m.ends r);
     taken = λ k c h. grind (arith, quit_request k, m.taken k c, at_q, none);
@@ -67,13 +69,14 @@ module _ (s : PoolCore) (xs : List PoolItem) (m : Matches s xs) (n : ℕ) (q : R
     busy = m.busy;
     waits = m.waits;
     left_by = λ c y e f g. grind (arith, quit_request y.party, m.left_by c y, m.known c y);
-    ready = m.ready;
+    status = m.status;
+    clears = m.clears;
+    before = m.before;
+    seen = m.seen;
     no_warm = m.no_warm;
     no_pin = m.no_pin;
     no_error = m.no_error;
     no_drop = λ c. grind (arith, m.no_drop c, m.given q.number, at_q, none);
-    no_clear = m.no_clear;
-    no_before = m.no_before;
   }
 
 -- a request whose connection is pending is given up
@@ -89,7 +92,7 @@ module _ (s : PoolCore) (xs : List PoolItem) (m : Matches s xs) (n : ℕ) (x : C
   left_connection c = entry_at-swap id_of c left_x s.connections (ap is_some at_x)
 
   pub left_request : (r : ℕ) → request_at (leaving s n x q) r ≡ if q.number == r then Some left_q else request_at s r
-  left_request r = entry_at-put number_of r left_q s.requests
+  left_request r = entry_at-swap number_of r left_q s.requests (ap is_some at_q)
 
   was_given : given xs q.number ≡ Some x.id
   was_given = m.given q.number ∙ (ap given_of at_q ∙ ap given_in phase)
@@ -113,16 +116,18 @@ module _ (s : PoolCore) (xs : List PoolItem) (m : Matches s xs) (n : ℕ) (x : C
     live_all = m.live_all ∙ sym (length-swap id_of left_x s.connections);
     pending = m.pending ∙ sym (where-swap_same id_of (λ y. is_pending y.place) left_x x s.connections at_x once refl);
     available = m.available ∙ sym (where-swap_same id_of (λ y. is_available y.place) left_x x s.connections at_x once refl);
-    queue = without-absent q.number (queued xs) (rw m.queue (has-where number_of (λ y. is_queued y.phase) q.number s.requests (m.single_request q.number) ∙ (ap (passes number_of (λ y. is_queued y.phase)) at_q ∙ ap is_queued phase))) ∙ (m.queue ∙ sym (where-put_stay number_of (λ y. is_queued y.phase) left_q s.requests refl (m.single_request q.number) (ap (passes number_of (λ y. is_queued y.phase)) at_q ∙ ap is_queued phase)));
+    queue = without-absent q.number (queued xs) (rw m.queue (has-where number_of (λ y. is_queued y.phase) q.number s.requests (m.single_request q.number) ∙ (ap (passes number_of (λ y. is_queued y.phase)) at_q ∙ ap is_queued phase))) ∙ (m.queue ∙ sym (where-swap_stay number_of (λ y. is_queued y.phase) left_q s.requests refl (m.single_request q.number) (ap (passes number_of (λ y. is_queued y.phase)) at_q ∙ ap is_queued phase)));
     single = λ c. grind (arith, named-swap id_of c left_x s.connections, left_connection c, m.single c);
     unused = λ c h. grind (arith, left_connection c, m.unused c h);
     live = λ c. grind (arith, left_connection c, m.live c);
     parties = λ c. parted c ∙ grind (arith, left_connection c, m.parties c, only c, given_now, was_held, at_x);
     granted_to = λ c y e. grind (arith, left_connection c, m.granted_to c y, m.granted_to x.id x at_x);
     created_at = λ c y e. grind (arith, left_connection c, m.created_at c y, m.created_at x.id x at_x);
+    served = λ c. grind (arith, nat_tests, left_connection c, m.served c, m.served x.id, at_x);
     service = λ c. grind (arith, nat_tests, left_connection c, m.service c, m.service x.id, at_x);
+    wire = λ c. grind (arith, nat_tests, left_connection c, m.wire c, m.wire x.id, at_x);
     given = λ r. grind (arith, left_request r, m.given r);
-    single_request = λ r. grind (arith, named-put number_of r left_q s.requests, left_request r, m.single_request r);
+    single_request = λ r. grind (arith, named-swap number_of r left_q s.requests, left_request r, m.single_request r);
     asked_at = λ r. grind (arith, left_request r, m.asked_at r);
     ends = λ r. grind (arith, left_request r, m.ends r);
     taken = λ r c h. grind (arith, left_request r, left_connection c, m.taken r c, m.owned c r, was_held, at_x, at_q);
@@ -132,13 +137,14 @@ module _ (s : PoolCore) (xs : List PoolItem) (m : Matches s xs) (n : ℕ) (x : C
     busy = λ c y e f. grind (arith, left_connection c, m.busy c y, place);
     waits = λ c y r e f g. grind (arith, left_connection c, m.waits c y r);
     left_by = λ c y e f g. grind (arith, left_connection c, m.left_by c y, left_request y.party, mine place);
-    ready = m.ready;
+    status = m.status;
+    clears = m.clears;
+    before = m.before;
+    seen = m.seen;
     no_warm = m.no_warm;
     no_pin = m.no_pin;
     no_error = λ c. grind (arith, nat_tests, left_connection c, m.no_error c, m.no_error x.id, at_x);
     no_drop = λ c. grind (arith, nat_tests, left_connection c, m.no_drop c, at_x, was_given);
-    no_clear = m.no_clear;
-    no_before = m.no_before;
   }
     where
       once : named id_of x.id s.connections ≤ 1
@@ -157,7 +163,7 @@ module _ (s : PoolCore) (xs : List PoolItem) (m : Matches s xs) (n : ℕ) (x : C
   handed_connection c = entry_at-put id_of c handed_x s.connections
 
   pub handed_request : (r : ℕ) → request_at (handing s n x q) r ≡ if q.number == r then Some (left_q s xs m n x q at_x at_q phase) else request_at s r
-  handed_request r = entry_at-put number_of r (left_q s xs m n x q at_x at_q phase) s.requests
+  handed_request r = entry_at-swap number_of r (left_q s xs m n x q at_x at_q phase) s.requests (ap is_some at_q)
 
   had_given : given xs q.number ≡ Some x.id
   had_given = m.given q.number ∙ (ap given_of at_q ∙ ap given_in phase)
@@ -181,16 +187,18 @@ module _ (s : PoolCore) (xs : List PoolItem) (m : Matches s xs) (n : ℕ) (x : C
     live_all = grind (arith, m.live_all, length-put id_of handed_x s.connections, m.single x.id);
     pending = m.pending ∙ sym (where-put_stay id_of (λ y. is_pending y.place) handed_x s.connections refl (m.single x.id) (ap (passes id_of (λ y. is_pending y.place)) at_x ∙ ap is_pending place));
     available = ap (λ cs. without x.id cs ++ x.id ∷ []) m.available ∙ sym (where-put id_of (λ y. is_available y.place) handed_x s.connections);
-    queue = without-absent q.number (queued xs) (rw m.queue (has-where number_of (λ y. is_queued y.phase) q.number s.requests (m.single_request q.number) ∙ (ap (passes number_of (λ y. is_queued y.phase)) at_q ∙ ap is_queued phase))) ∙ (m.queue ∙ sym (where-put_stay number_of (λ y. is_queued y.phase) (left_q s xs m n x q at_x at_q phase) s.requests refl (m.single_request q.number) (ap (passes number_of (λ y. is_queued y.phase)) at_q ∙ ap is_queued phase)));
+    queue = without-absent q.number (queued xs) (rw m.queue (has-where number_of (λ y. is_queued y.phase) q.number s.requests (m.single_request q.number) ∙ (ap (passes number_of (λ y. is_queued y.phase)) at_q ∙ ap is_queued phase))) ∙ (m.queue ∙ sym (where-swap_stay number_of (λ y. is_queued y.phase) (left_q s xs m n x q at_x at_q phase) s.requests refl (m.single_request q.number) (ap (passes number_of (λ y. is_queued y.phase)) at_q ∙ ap is_queued phase)));
     single = λ c. grind (arith, named-put id_of c handed_x s.connections, handed_connection c, m.single c);
     unused = λ c h. grind (arith, handed_connection c, m.unused c h);
     live = λ c. grind (arith, handed_connection c, m.live c);
     parties = λ c. handed_off c ∙ grind (arith, handed_connection c, m.parties c, alone c, has_given, had_held, at_x);
     granted_to = λ c y e. grind (arith, handed_connection c, m.granted_to c y, m.granted_to x.id x at_x);
     created_at = λ c y e. grind (arith, handed_connection c, m.created_at c y, m.created_at x.id x at_x);
+    served = λ c. grind (arith, nat_tests, handed_connection c, m.served c, m.served x.id, at_x);
     service = λ c. grind (arith, nat_tests, handed_connection c, m.service c, m.service x.id, at_x);
+    wire = λ c. grind (arith, nat_tests, handed_connection c, m.wire c, m.wire x.id, at_x);
     given = λ r. grind (arith, handed_request r, m.given r);
-    single_request = λ r. grind (arith, named-put number_of r (left_q s xs m n x q at_x at_q phase) s.requests, handed_request r, m.single_request r);
+    single_request = λ r. grind (arith, named-swap number_of r (left_q s xs m n x q at_x at_q phase) s.requests, handed_request r, m.single_request r);
     asked_at = λ r. grind (arith, handed_request r, m.asked_at r);
     ends = λ r. grind (arith, handed_request r, m.ends r);
     taken = λ r c h. grind (arith, handed_request r, handed_connection c, m.taken r c, m.owned c r, had_held, at_x, at_q);
@@ -200,13 +208,14 @@ module _ (s : PoolCore) (xs : List PoolItem) (m : Matches s xs) (n : ℕ) (x : C
     busy = λ c y e f. grind (arith, handed_connection c, m.busy c y);
     waits = λ c y r e f g. grind (arith, handed_connection c, m.waits c y r);
     left_by = λ c y e f g. grind (arith, handed_connection c, m.left_by c y, handed_request y.party);
-    ready = m.ready;
+    status = m.status;
+    clears = m.clears;
+    before = m.before;
+    seen = m.seen;
     no_warm = m.no_warm;
     no_pin = m.no_pin;
     no_error = λ c. grind (arith, nat_tests, handed_connection c, m.no_error c, m.no_error x.id, at_x);
     no_drop = λ c. grind (arith, nat_tests, handed_connection c, m.no_drop c, at_x, had_given);
-    no_clear = m.no_clear;
-    no_before = m.no_before;
   }
 
 -- a request that ended is given up late
@@ -223,7 +232,9 @@ late-matches s xs m n r told none = record {
   parties = m.parties;
   granted_to = m.granted_to;
   created_at = m.created_at;
+  served = m.served;
   service = m.service;
+  wire = m.wire;
   given = m.given;
   single_request = m.single_request;
   asked_at = m.asked_at;
@@ -235,11 +246,12 @@ late-matches s xs m n r told none = record {
   busy = m.busy;
   waits = m.waits;
   left_by = m.left_by;
-  ready = m.ready;
+  status = m.status;
+  clears = m.clears;
+  before = m.before;
+  seen = m.seen;
   no_warm = m.no_warm;
   no_pin = m.no_pin;
   no_error = m.no_error;
   no_drop = λ c. grind (arith, m.no_drop c, m.given r, none);
-  no_clear = m.no_clear;
-  no_before = m.no_before;
 }

@@ -9,6 +9,8 @@ use Rattle.mdb_pool.specs.History.{Item, of_pool, with_answer, with_entries}
 use Rattle.mdb_pool.specs.Answer.{answer}
 use Rattle.mdb_pool.specs.Legal.{OnePlace, NoneLeftWaiting, IsFairAnswer, IsLegal}
 use Rattle.mdb_pool.specs.Standing.{StandsFor, SameHome, Logs, Runs}
+use Rattle.mdb_pool.specs.Limits.{WithinLimits}
+use Rattle.mdb_pool.proofs.Limits.{answer-within}
 use Rattle.mdb_pool.proofs.Places.{one-place}
 
 pub with_entries-append : (es : List Entry) (e : Entry) (h : List Item) → with_entries (es ++ e ∷ []) h ≡ with_answer e.step e.reply e.facts (with_entries es h)
@@ -37,7 +39,14 @@ run-starts s log seat h z i = record {
   legal = tt;
   stands = z;
   none_left = i;
+  within = λ w. w;
 }
+
+-- a pool that moved on is the same pool, of the same limits
+within-home : (s t : PoolCore) (k j : List Item) → SameHome s t → (WithinLimits t.options (of_pool t.pool k) → WithinLimits t.options (of_pool t.pool j)) → WithinLimits s.options (of_pool s.pool k) → WithinLimits s.options (of_pool s.pool j)
+within-home s t k j home kept w =
+    let there : WithinLimits t.options (of_pool t.pool k) = subst (λ o. WithinLimits o (of_pool t.pool k)) (sym home.options) (subst (λ p. WithinLimits s.options (of_pool p k)) (sym home.pool) w) in
+    subst (λ p. WithinLimits s.options (of_pool p j)) home.pool (subst (λ o. WithinLimits o (of_pool t.pool j)) home.options (kept there))
 
 pub run-more : (s t u : PoolCore) (before middle after : List Entry) (steps : List Step) (seat : ℕ) (step : Step) (h : List Item) → SameHome s t → SameHome t u → Runs s t before middle seat steps h → ((k : List Item) → StandsFor t k → Logs t u middle after seat step k) → Runs s u before after seat (steps ++ step ∷ []) h
 run-more s t u before middle after steps seat step h home next r logs =
@@ -58,4 +67,5 @@ run-more s t u before middle after steps seat step h home next r logs =
           (subst (λ p. NoneLeftWaiting s.options (of_pool p (with_answer e.step e.reply e.facts k))) home.pool (subst (λ o. NoneLeftWaiting o (of_pool t.pool (with_answer e.step e.reply e.facts k))) home.options none_left_t));
       stands = subst (StandsFor u) (sym same) v.stands;
       none_left = subst (λ j. NoneLeftWaiting u.options (of_pool u.pool j)) (sym same) (subst (λ p. NoneLeftWaiting u.options (of_pool p (with_answer e.step e.reply e.facts k))) (sym next.pool) (subst (λ o. NoneLeftWaiting o (of_pool t.pool (with_answer e.step e.reply e.facts k))) (sym next.options) none_left_t));
+      within = λ w. subst (λ j. WithinLimits s.options (of_pool s.pool j)) (sym same) (within-home s t k (with_answer e.step e.reply e.facts k) home (answer-within t.pool t.address t.options k step) (r.within w));
     }

@@ -1,5 +1,5 @@
 -- Lists of values that are named by a number.
-use Rattle.std.proofs.Common.{ℕ, ◌≡◌, ◌+◌, Bool, true, false, ◌==◌, List, [], ◌∷◌, ◌++◌, length, map, filter, find, Option, Some, None, is_some, refl, sym, ◌∙◌, ap, subst, ◌<◌, ◌≤◌, arith, if◌then◌else◌}
+use Rattle.std.proofs.Common.{ℕ, ◌≡◌, ◌+◌, Bool, true, false, ◌==◌, List, [], ◌∷◌, ◌++◌, length, map, filter, find, Option, Some, None, is_some, refl, sym, ◌∙◌, ap, subst, ◌<◌, ◌≤◌, arith, if◌then◌else◌, not}
 use Rattle.std.specs.Prelude.{count_by}
 use Rattle.std.proofs.lemmas.Grind.{common_steps}
 use Rattle.mdb_pool.specs.Keyed.{entry_at, others, put, swap}
@@ -38,6 +38,19 @@ module _ {T : Type 0} (key : T → ℕ) where
   pub map-append : (xs : List T) (y : T) → map key (xs ++ y ∷ []) ≡ map key xs ++ key y ∷ []
   map-append [] y = refl
   map-append (x ∷ xs) y = ap (λ zs. key x ∷ zs) (map-append xs y)
+
+  -- the numbers stay where a value takes the place of another
+  pub map-swap : (x : T) (xs : List T) → map key (swap key x xs) ≡ map key xs
+  map-swap x [] = refl
+  map-swap x (y ∷ ys) = grind (arith, common_steps, map-swap x ys)
+
+  pub others-absent : (k : ℕ) (xs : List T) → entry_at key k xs ≡ None → others key k xs ≡ xs
+  others-absent k [] e = refl
+  others-absent k (x ∷ xs) e = grind (arith, common_steps, others-absent k xs)
+
+  others-twice : (k : ℕ) (xs : List T) → others key k (others key k xs) ≡ others key k xs
+  others-twice k [] = refl
+  others-twice k (x ∷ xs) = grind (arith, common_steps, others-twice k xs)
 
   pub where-put : (p : T → Bool) (x : T) (xs : List T) → map key (filter p (put key x xs)) ≡ without (key x) (map key (filter p xs)) ++ (if p x then (key x ∷ []) else [])
   where-put p x xs = on (p x) refl
@@ -133,6 +146,18 @@ module _ {T : Type 0} (key : T → ℕ) where
       on true e rest = let f : key y ≡ key x = grind arith in let g : p y ≡ p x = same y here f in grind (arith, common_steps)
       on false e rest = grind (arith, common_steps)
 
+  -- the new value fails the test: its number leaves the part, or was not there
+  pub where-swap_out : (p : T → Bool) (x : T) (xs : List T) → p x ≡ false → map key (filter p (swap key x xs)) ≡ without (key x) (map key (filter p xs))
+  where-swap_out p x [] e = refl
+  where-swap_out p x (y ∷ ys) e = grind (arith, common_steps, where-swap_out p x ys e)
+
+  pub where-swap_stay : (p : T → Bool) (x : T) (xs : List T) → p x ≡ false → named (key x) xs ≡ one_if (is_some (entry_at key (key x) xs)) → passes p (entry_at key (key x) xs) ≡ false → map key (filter p (swap key x xs)) ≡ map key (filter p xs)
+  where-swap_stay p x xs e single f = where-swap_out p x xs e ∙ without-absent (key x) (map key (filter p xs)) (has-where p (key x) xs single ∙ f)
+
+  -- what was put last is taken out again
+  pub others-put : (x : T) (xs : List T) → others key (key x) (put key x xs) ≡ others key (key x) xs
+  others-put x xs = grind (arith, common_steps, filter-append (λ y. not (key y == key x)) (others key (key x) xs) x, others-twice (key x) xs)
+
   -- where the old value passes the test as the new one does
   pub where-swap_same : (p : T → Bool) (x old : T) (xs : List T) → entry_at key (key x) xs ≡ Some old → named (key x) xs ≤ 1 → p old ≡ p x → map key (filter p (swap key x xs)) ≡ map key (filter p xs)
   where-swap_same p x old xs at_old single e = where-swap p x xs (λ y i f.
@@ -156,6 +181,10 @@ find-member p x (y ∷ ys) e = on (p y) refl (find-member p x ys)
 pub length-without : (k : ℕ) (ks : List ℕ) → length (without k ks) ≤ length ks
 length-without k [] = omega arith
 length-without k (j ∷ ks) = grind (arith, common_steps, length-without k ks)
+
+pub length-without_has : (k : ℕ) (ks : List ℕ) → has k ks ≡ true → length (without k ks) < length ks
+length-without_has k [] e = cc
+length-without_has k (j ∷ ks) e = grind (arith, common_steps, length-without_has k ks, length-without k ks)
 
 pub entry_at-key : {T : Type 0} (key : T → ℕ) (k : ℕ) (x : T) (xs : List T) → entry_at key k xs ≡ Some x → key x ≡ k
 entry_at-key key k x [] e = cc

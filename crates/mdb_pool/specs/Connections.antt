@@ -1,5 +1,5 @@
 -- What a pool's items, newest first, say of its connections.
-use Rattle.std.specs.Prelude.{ℕ, ◌+◌, ◌-◌, Bool, true, false, not, ◌&&◌, ◌||◌, if◌then◌else◌, ◌==◌, nat_lt, is_some, List, [], ◌∷◌, ◌++◌, length, Option, Some, None}
+use Rattle.std.specs.Prelude.{ℕ, ◌+◌, ◌-◌, Bool, true, false, not, ◌&&◌, ◌||◌, if◌then◌else◌, ◌==◌, nat_lt, is_some, List, [], ◌∷◌, ◌++◌, length, Option, Some, None, ℤ}
 use Rattle.std.specs.List.{list_any}
 use Rattle.mdb_base.specs.declared.object_id.ObjectId.{ObjectId}
 use Rattle.mdb_pool.specs.declared.step.Use.{Use}
@@ -19,6 +19,9 @@ live [] c = 0
 live (created d m ∷ xs) c = live xs c + one_if (d == c)
 live (closed d ∷ xs) c = live xs c - one_if (d == c)
 live (_ ∷ xs) c = live xs c
+
+abbrev pub is_live : List PoolItem → ℕ → Bool
+is_live xs c = nat_lt 0 (live xs c)
 
 abbrev pub live_total : List PoolItem → ℕ
 live_total [] = 0
@@ -41,7 +44,7 @@ created_at (_ ∷ xs) c = created_at xs c
 abbrev pub pending_list : List PoolItem → List ℕ
 pending_list [] = []
 pending_list (created c m ∷ xs) = pending_list xs ++ c ∷ []
-pending_list (established c service m ∷ xs) = without c (pending_list xs)
+pending_list (established c how m ∷ xs) = without c (pending_list xs)
 pending_list (failed c service ∷ xs) = without c (pending_list xs)
 pending_list (closed c ∷ xs) = without c (pending_list xs)
 pending_list (_ ∷ xs) = pending_list xs
@@ -105,7 +108,7 @@ granted_to (_ ∷ xs) c = granted_to xs c
 abbrev pub available_list : List PoolItem → List ℕ
 available_list [] = []
 available_list (checked_in c m ∷ xs) = without c (available_list xs) ++ c ∷ []
-available_list (established c service m ∷ xs) = if is_some (granted_to xs c) then available_list xs else (without c (available_list xs) ++ c ∷ [])
+available_list (established c how m ∷ xs) = if is_some (granted_to xs c) then available_list xs else (without c (available_list xs) ++ c ∷ [])
 available_list (granted r c ∷ xs) = without c (available_list xs)
 available_list (closed c ∷ xs) = without c (available_list xs)
 available_list (_ ∷ xs) = available_list xs
@@ -117,21 +120,27 @@ available xs c = one_if (has c (available_list xs))
 abbrev pub since : List PoolItem → ℕ → ℕ
 since [] c = 0
 since (checked_in d m ∷ xs) c = if d == c then m else since xs c
-since (established d service m ∷ xs) c = if (d == c) && not (is_some (granted_to xs c)) then m else since xs c
+since (established d how m ∷ xs) c = if (d == c) && not (is_some (granted_to xs c)) then m else since xs c
 since (_ ∷ xs) c = since xs c
 
 -- the service that its established or failed step names
 abbrev pub service_of : List PoolItem → ℕ → Option ObjectId
 service_of [] c = None
-service_of (established d service m ∷ xs) c = if d == c then service else service_of xs c
+service_of (established d how m ∷ xs) c = if d == c then how.service_id else service_of xs c
 service_of (failed d service ∷ xs) c = if d == c then service else service_of xs c
 service_of (_ ∷ xs) c = service_of xs c
 
 -- the service that its established step names
 abbrev pub known_service : List PoolItem → ℕ → Option ObjectId
 known_service [] c = None
-known_service (established d service m ∷ xs) c = if d == c then service else known_service xs c
+known_service (established d how m ∷ xs) c = if d == c then how.service_id else known_service xs c
 known_service (_ ∷ xs) c = known_service xs c
+
+-- the wire version that its established step names
+abbrev pub wire_of : List PoolItem → ℕ → Option ℤ
+wire_of [] c = None
+wire_of (established d how m ∷ xs) c = if d == c then Some how.wire else wire_of xs c
+wire_of (_ ∷ xs) c = wire_of xs c
 
 -- how the connection was used last: what its last return says, and Ok for a give-up
 abbrev pub last_use : List PoolItem → ℕ → Use

@@ -17,6 +17,7 @@ use Rattle.mdb_pool.specs.declared.step.Use.{Use}
 use Rattle.mdb_pool.specs.declared.reply.Reply.{Reply}
 use Rattle.mdb_pool.specs.declared.reply.Reply.TheVariants.{Refused}
 use Rattle.mdb_pool.specs.declared.log.Entry.{Entry}
+use Rattle.mdb_pool.specs.declared.step.Established.{Established as Establishment}
 
 -- an accepted step with its reply, or a fact with its moment
 pub data Item : Type 0 where
@@ -31,8 +32,8 @@ pub data PoolItem : Type 0 where
   gave_up : ℕ → PoolItem
   returned : ℕ → Use → PoolItem
   pinned_by : ℕ → PoolItem
-  -- steps on connections: established and failed with the service, replicate, take by a party, unpin
-  established : ℕ → Option ObjectId → ℕ → PoolItem
+  -- steps on connections: established with what it found out, failed with the service, replicate, take by a party, unpin
+  established : ℕ → Establishment → ℕ → PoolItem
   failed : ℕ → Option ObjectId → PoolItem
   replicated : ℕ → PoolItem
   taken : ℕ → ℕ → PoolItem
@@ -110,7 +111,7 @@ abbrev pub after_act : ℕ → (ServerAddress → Option ℕ) → ℕ → Act �
 after_act p here m (Request r a) xs = if_so (is_number (here a) p) (asked r m) xs
 after_act p here m (Warm r a) xs = if_so (is_number (here a) p) (warmed r m) xs
 after_act p here m (GiveUp r) xs = if_so (has_asked xs r) (gave_up r) xs
-after_act p here m (Established q c how) xs = if_so (q == p) (established c how.service_id m) xs
+after_act p here m (Established q c how) xs = if_so (q == p) (established c how m) xs
 after_act p here m (Failed q c Pre error) xs = if_so (q == p) (failed c None) xs
 after_act p here m (Failed q c (Post service) error) xs = if_so (q == p) (failed c service) xs
 after_act p here m (Return r used) xs = if_so (is_some (given xs r)) (returned r used) xs

@@ -1,5 +1,6 @@
 -- What the state of a pool has of connections and requests.
-use Rattle.std.specs.Prelude.{ℕ, Bool, false, ◌&&◌, if◌then◌else◌, nat_lt, List, [], ◌∷◌, length, map, filter, find, count_by, Option, Some, None, not, is_some, ◌||◌}
+use Rattle.std.specs.List.{list_any}
+use Rattle.std.specs.Prelude.{ℕ, nat_le, true, Bool, false, ◌&&◌, if◌then◌else◌, nat_lt, List, [], ◌∷◌, length, map, filter, find, count_by, Option, Some, None, not, is_some, ◌||◌, ℤ}
 use Rattle.mdb_pool.specs.declared.reply.Reply.{Reply}
 use Rattle.mdb_pool.specs.declared.reply.Reply.TheVariants.{Waiting, Establishing as EstablishingReply, Pooled, Job, NoJob, Ended as EndedReply}
 use Rattle.mdb_pool.specs.declared.connection.Connection.{Connection}
@@ -10,12 +11,19 @@ use Rattle.mdb_pool.specs.declared.request.Phase.TheVariants.{Queued, Given, Ove
 use Rattle.mdb_pool.specs.declared.pool_core.PoolCore.{PoolCore}
 use Rattle.mdb_pool.specs.Places.{is_pending, is_available, is_held, is_queued}
 use Rattle.mdb_pool.specs.Keyed.{entry_at}
-use Rattle.mdb_pool.specs.State.{max_size, max_connecting}
+use Rattle.mdb_pool.specs.State.{State, is_new, is_ready, is_paused, is_closed, max_size, max_connecting}
 use Rattle.mdb_pool.specs.Connections.{has}
 use Rattle.mdb_base.specs.declared.object_id.ObjectId.{ObjectId}
 use Rattle.mdb_events.specs.declared.end.End.{End}
 use Rattle.mdb_events.specs.declared.reasons.ConnectionClosedReason.{ConnectionClosedReason}
-use Rattle.mdb_events.specs.declared.reasons.ConnectionClosedReason.TheVariants.{Error as ErrorReason, Dropped as DroppedReason}
+use Rattle.mdb_events.specs.declared.reasons.ConnectionClosedReason.TheVariants.{Stale, Error as ErrorReason, Dropped as DroppedReason, PoolClosed as PoolClosedReason}
+use Rattle.mdb_pool.specs.declared.status.Status.{Status}
+use Rattle.mdb_pool.specs.declared.status.Status.TheVariants.{New, Ready, Paused, Closed}
+use Rattle.mdb_pool.specs.declared.status.Clear.{Clear}
+use Rattle.mdb_pool.specs.declared.status.PoolState.{PoolState}
+use Rattle.mdb_pool.specs.declared.status.PoolState.TheVariants.{New as NewState, Ready as ReadyState, Paused as PausedState, Closed as ClosedState}
+use Rattle.mdb_base.specs.declared.error.Error.{Error}
+use Rattle.mdb_pool.specs.History.{same_service}
 use Rattle.mdb_pool.specs.declared.step.FailedAt.{FailedAt}
 use Rattle.mdb_pool.specs.declared.step.FailedAt.TheVariants.{Pre, Post}
 use Rattle.mdb_pool.specs.declared.step.Use.{Use}
@@ -95,6 +103,10 @@ pending_connection s r = of_given (given_of (request_at s r))
     of_given None = None
     of_given (Some c) = if_pending (connection_at s c)
 
+abbrev pub id_at : Option Connection → Option ℕ
+id_at None = None
+id_at (Some x) = Some x.id
+
 -- the request that will have the connection
 abbrev pub holder_request : PoolCore → Connection → Option Request
 holder_request s x = of_holder x.holder
@@ -151,18 +163,80 @@ abbrev pub service_at : Option Connection → Option ObjectId
 service_at None = None
 service_at (Some x) = x.service
 
+abbrev pub wire_at : Option Connection → Option ℤ
+wire_at None = None
+wire_at (Some x) = x.wire
+
 -- the connection is live, or was never created
 abbrev pub lasts : PoolCore → ℕ → Bool
 lasts s c = is_some (connection_at s c) || nat_lt s.created c
 
+-- what the pool is
+abbrev pub state_in : Status → State
+state_in New = is_new
+state_in Ready = is_ready
+state_in (Paused error) = is_paused error
+state_in Closed = is_closed
+
+abbrev pub name_of : State → PoolState
+name_of is_new = NewState
+name_of is_ready = ReadyState
+name_of (is_paused error) = PausedState
+name_of is_closed = ClosedState
+
+abbrev pub cause_of : State → Option Error
+cause_of (is_paused error) = Some error
+cause_of _ = None
+
+abbrev pub is_ready_now : Status → Bool
+is_ready_now Ready = true
+is_ready_now _ = false
+
+abbrev pub is_shut : Status → Bool
+is_shut Closed = true
+is_shut _ = false
+
+-- how often the service was cleared, or the pool as a whole where there is none
+abbrev pub clears_for : Option ObjectId → List Clear → ℕ
+clears_for t ks = count_by (λ k. same_service k.service t) ks
+
+-- how often so before the connection was created
+abbrev pub clears_before : ℕ → Option ObjectId → List Clear → ℕ
+clears_before c t ks = count_by (λ k. same_service k.service t && nat_lt k.after c) ks
+
+-- such a clear came after the connection was created
+abbrev pub cleared_since : ℕ → Option ObjectId → List Clear → Bool
+cleared_since c t ks = list_any (λ k. same_service k.service t && not (nat_lt k.after c)) ks
+
+-- a connection with the service would be stale
+abbrev pub stale_for : PoolCore → ℕ → Option ObjectId → Bool
+stale_for s c service =
+    let t : Option ObjectId = if s.options.load_balanced then service else None in
+    not (s.options.load_balanced && not (is_some t)) && cleared_since c t s.clears
+
 -- why a connection that was used so is closed when it comes back
-abbrev pub reason_of : Use → Option ConnectionClosedReason
-reason_of Ok = None
-reason_of Errored = Some ErrorReason
-reason_of Dropped = Some DroppedReason
-reason_of Streaming = Some DroppedReason
+abbrev pub reason_of : Bool → Use → Option ConnectionClosedReason
+reason_of stale Ok = if stale then Some Stale else None
+reason_of stale Errored = Some ErrorReason
+reason_of stale Dropped = if stale then Some Stale else Some DroppedReason
+reason_of stale Streaming = if stale then Some Stale else Some DroppedReason
+
+-- the same in the pool as it is
+abbrev pub reason_now : PoolCore → ℕ → Option ObjectId → Use → Option ConnectionClosedReason
+reason_now s c service used = if is_shut s.status then Some PoolClosedReason else reason_of (stale_for s c service) used
 
 -- the service that the server named before the connection failed
 abbrev pub service_in : FailedAt → Option ObjectId
 service_in Pre = None
 service_in (Post service) = service
+
+-- one more clear would pass the limit of the generation
+abbrev pub exhausted_now : PoolCore → Option ObjectId → Bool
+exhausted_now s service = not (is_shut s.status) && nat_le s.options.limit_generation (clears_for service s.clears)
+
+-- nothing was handed to a request that is so: it is queued, or its connection is pending
+abbrev pub unserved_in : PoolCore → Phase → Bool
+unserved_in s Queued = true
+unserved_in s (Given c) = is_pending_at (connection_at s c)
+unserved_in s Over = false
+unserved_in s (EndedPhase end) = false

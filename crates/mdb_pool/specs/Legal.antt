@@ -1,10 +1,11 @@
 -- When the log of a pool is legal.
-use Rattle.std.specs.Prelude.{ℕ, ◌≡◌, ◌+◌, ◌≤◌, ◌⊎◌, true, false, List, [], ◌∷◌, Option, Some, None, ⊤}
+use Rattle.std.specs.List.{list_any}
+use Rattle.std.specs.Prelude.{ℕ, Bool, ◌≡◌, ◌+◌, ◌≤◌, ◌⊎◌, true, false, List, [], ◌∷◌, Option, Some, None, ⊤}
 use Rattle.std.specs.Bool.{MatchBool}
 use Rattle.mdb_base.specs.declared.address.ServerAddress.{ServerAddress}
 use Rattle.mdb_events.specs.declared.fact.Fact.{Fact}
 use Rattle.mdb_events.specs.declared.fact.Fact.TheVariants.{Pool, Granted, Ended, Raised}
-use Rattle.mdb_events.specs.declared.cmap.CmapEvent.TheVariants.{PoolClosed}
+use Rattle.mdb_events.specs.declared.cmap.CmapEvent.TheVariants.{PoolCreated, PoolClosed}
 use Rattle.mdb_pool.specs.declared.options.PoolOptions.{PoolOptions}
 use Rattle.mdb_pool.specs.declared.step.Step.{Step}
 use Rattle.mdb_pool.specs.declared.log.Entry.{Entry}
@@ -59,9 +60,18 @@ IsLegal p o h (entry ∷ entries) =
 abbrev pub IsServed : PoolOptions → List PoolItem → Type 0
 IsServed o xs = (p : ℕ) (a : ServerAddress) (n : ℕ) → next_move p a o n xs ≡ []
 
--- the fact is of the pool p alone, and opens and closes no pool
+-- the fact closes a pool
+abbrev pub is_closing : Fact → Bool
+is_closing (Pool q (PoolClosed e)) = true
+is_closing _ = false
+
+-- some of the facts does
+abbrev pub shuts : List Fact → Bool
+shuts facts = list_any is_closing facts
+
+-- the fact is of the pool p alone, and opens no pool
 abbrev pub IsOwn : ℕ → List PoolItem → Fact → Type 0
-IsOwn p xs (Pool q (PoolClosed e)) = ⊥
+IsOwn p xs (Pool q (PoolCreated e)) = ⊥
 IsOwn p xs (Pool q event) = q ≡ p
 IsOwn p xs (Granted r q c) = q ≡ p
 IsOwn p xs (Ended r end) = has_asked xs r ≡ true

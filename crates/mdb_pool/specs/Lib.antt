@@ -12,3 +12,6 @@ pub mod Places
 pub mod Kept
 pub mod Changes
 pub mod Standing
+pub mod Generations
+pub mod Driver
+pub mod Limits

@@ -1,26 +1,30 @@
 -- When the state of a pool stands for a history.
-use Rattle.std.specs.Prelude.{ℕ, ◌≡◌, ◌<◌, Bool, true, false, if◌then◌else◌, ◌==◌, is_some, List, [], ◌∷◌, ◌++◌, length, map, count_by, Option, Some, None, ⊤, All, not, ◌&&◌, ◌||◌}
+use Rattle.std.specs.Prelude.{ℕ, ◌≡◌, ◌<◌, ◌≤◌, Bool, true, false, if◌then◌else◌, ◌==◌, is_some, List, [], ◌∷◌, ◌++◌, length, map, count_by, Option, Some, None, ⊤, All, not, ◌&&◌, ◌||◌}
 use Rattle.mdb_base.specs.declared.address.ServerAddress.{ServerAddress}
 use Rattle.mdb_base.specs.declared.object_id.ObjectId.{ObjectId}
 use Rattle.mdb_events.specs.declared.fact.Fact.{Fact}
 use Rattle.mdb_pool.specs.declared.step.Step.{Step}
 use Rattle.mdb_pool.specs.declared.log.Entry.{Entry}
 use Rattle.mdb_pool.specs.declared.step.Act.{Act}
-use Rattle.mdb_pool.specs.declared.step.Act.TheVariants.{Request as RequestAct, Collect, Claim, GiveUp, Established, Failed, Return}
+use Rattle.mdb_pool.specs.declared.step.Act.TheVariants.{Request as RequestAct, Collect, Claim, GiveUp, Established, Failed, Return, Ready, Clear, Close}
 use Rattle.mdb_pool.specs.declared.reply.Reply.{Reply}
 use Rattle.mdb_pool.specs.declared.reply.Reply.TheVariants.{Job}
 use Rattle.mdb_pool.specs.declared.connection.Connection.{Connection}
 use Rattle.mdb_pool.specs.declared.pool_core.PoolCore.{PoolCore}
 use Rattle.mdb_pool.specs.Places.{is_pending, is_available, is_queued, is_held}
 use Rattle.mdb_pool.specs.History.{Item, PoolItem, open_pool, last_moment, given, has_party, of_pool, after_facts, with_answer, with_entries, has_asked, has_taken}
-use Rattle.mdb_pool.specs.Connections.{one_if, live, live_total, created_total, created_at, pending_list, parties, pins, granted_to, available_list, is_errored, has, known_service, last_use, is_dropped}
-use Rattle.mdb_pool.specs.Requests.{queued, is_warm, asked_at, end_of, names_party, some_act, asks_how, is_outcome, told, was_asked, leaves, is_claimed}
-use Rattle.mdb_pool.specs.State.{is_ready, state_of, generation_of, generation_before}
+use Rattle.mdb_pool.specs.Connections.{one_if, live, live_total, created_total, created_at, pending_list, parties, pins, granted_to, available_list, is_errored, has, known_service, service_of, last_use, is_dropped, wire_of}
+use Rattle.mdb_pool.specs.Requests.{queued, is_warm, asked_at, end_of, names_party, some_act, asks_how, is_outcome, told, was_asked, leaves, is_claimed, requests}
+use Rattle.mdb_pool.specs.State.{state_of, generation_of, generation_before}
 use Rattle.mdb_pool.specs.Serving.{serving}
 use Rattle.mdb_pool.specs.Answer.{reply_of, all_facts, answer}
-use Rattle.mdb_pool.specs.Legal.{NoneLeftWaiting, AllFirstCome, IsFairAnswer, IsLegal, IsServed, AllOwn, IsAccepted}
-use Rattle.mdb_pool.specs.Kept.{connection_at, request_at, given_of, asked_at_of, ids_where, numbers_where, one_party, holder_at, end_at, is_ended_at, service_at, lasts}
+use Rattle.mdb_pool.specs.Legal.{NoneLeftWaiting, AllFirstCome, IsFairAnswer, IsLegal, IsServed, AllOwn, shuts, IsAccepted}
+use Rattle.mdb_pool.specs.Limits.{WithinLimits}
+use Rattle.mdb_pool.specs.Kept.{connection_at, request_at, given_of, asked_at_of, ids_where, numbers_where, one_party, holder_at, end_at, is_ended_at, service_at, lasts, state_in, is_shut, clears_for, clears_before, wire_at}
 use Rattle.mdb_base.specs.Equality.{same_address}
+use Rattle.mdb_base.specs.declared.error.Error.{Error}
+use Rattle.mdb_events.specs.declared.end.End.{End}
+use Rattle.mdb_pool.specs.Facts.{all_ends, clear_facts}
 
 -- The kept connections and requests are those of the pool's items.
 pub record Matches (s : PoolCore) (xs : List PoolItem) : Type 0 where
@@ -36,7 +40,9 @@ pub record Matches (s : PoolCore) (xs : List PoolItem) : Type 0 where
   pub parties : (c : ℕ) → parties xs c ≡ one_party (holder_at (connection_at s c))
   pub granted_to : (c : ℕ) (x : Connection) → connection_at s c ≡ Some x → granted_to xs c ≡ Some x.party
   pub created_at : (c : ℕ) (x : Connection) → connection_at s c ≡ Some x → created_at xs c ≡ x.created_at
+  pub served : (c : ℕ) → (if lasts s c then service_of xs c else None) ≡ service_at (connection_at s c)
   pub service : (c : ℕ) → (if lasts s c then known_service xs c else None) ≡ service_at (connection_at s c)
+  pub wire : (c : ℕ) → (if lasts s c then wire_of xs c else None) ≡ wire_at (connection_at s c)
   -- each request
   pub given : (r : ℕ) → given xs r ≡ given_of (request_at s r)
   pub single_request : (r : ℕ) → count_by (λ q. q.number == r) s.requests ≡ one_if (is_some (request_at s r))
@@ -51,28 +57,30 @@ pub record Matches (s : PoolCore) (xs : List PoolItem) : Type 0 where
   pub busy : (c : ℕ) (x : Connection) → connection_at s c ≡ Some x → is_held x.place ≡ true → is_some x.holder ≡ true
   pub waits : (c : ℕ) (x : Connection) (r : ℕ) → connection_at s c ≡ Some x → is_pending x.place ≡ true → x.holder ≡ Some r → r ≡ x.party
   pub left_by : (c : ℕ) (x : Connection) → connection_at s c ≡ Some x → is_pending x.place ≡ true → x.holder ≡ None → is_ended_at (request_at s x.party) ≡ true
+  -- the pool and its clears
+  pub status : state_of s.options xs ≡ state_in s.status
+  pub clears : (t : Option ObjectId) → generation_of xs t ≡ clears_for t s.clears
+  pub before : (c : ℕ) (t : Option ObjectId) → c ≤ s.created → generation_before xs c t ≡ clears_before c t s.clears
+  pub seen : (c : ℕ) (t : Option ObjectId) → s.created < c → clears_before c t s.clears ≡ clears_for t s.clears
   -- what these acts never do
-  pub ready : state_of s.options xs ≡ is_ready
   pub no_warm : (r : ℕ) → is_warm xs r ≡ false
   pub no_pin : (c : ℕ) → pins xs c ≡ 0
   pub no_error : (c : ℕ) → lasts s c && is_errored xs c ≡ false
   pub no_drop : (c : ℕ) → lasts s c && is_dropped (last_use xs c) ≡ false
-  pub no_clear : (t : Option ObjectId) → generation_of xs t ≡ 0
-  pub no_before : (c : ℕ) (t : Option ObjectId) → generation_before xs c t ≡ 0
 
 -- The state of a pool is that of the pool's items.
 pub record Fits (s : PoolCore) (xs : List PoolItem) : Type 0 where
   pub matches : Matches s xs
   pub asked : (r : ℕ) → has_party xs r ≡ is_some (request_at s r)
+  pub order : requests xs ≡ map (λ q. q.number) s.requests
   pub no_take : (r : ℕ) → has_taken xs r ≡ false
-  pub balanced : s.options.load_balanced ≡ true
   pub no_idle : s.options.max_idle_time ≡ None
 
 -- The state of a pool stands for a history of its own.
 pub record StandsFor (s : PoolCore) (h : List Item) : Type 0 where
   pub fits : Fits s (of_pool s.pool h)
   pub last_is : last_moment h ≡ s.last
-  pub open_here : (a : ServerAddress) → open_pool h a ≡ if same_address s.address a then Some s.pool else None
+  pub open_here : (a : ServerAddress) → open_pool h a ≡ if same_address s.address a && not (is_shut s.status) then Some s.pool else None
   pub asked_once : (r : ℕ) → some_act names_party h r ≡ has_party (of_pool s.pool h) r
   pub requested : (r : ℕ) → some_act was_asked h r ≡ has_asked (of_pool s.pool h) r
   pub opens : (r : ℕ) → (told h r == 0) && not (some_act leaves h r) ≡ not (has r s.settled)
@@ -84,21 +92,25 @@ pub record SameHome (s t : PoolCore) : Type 0 where
   pub address : t.address ≡ s.address
   pub options : t.options ≡ s.options
 
--- The acts that a pool takes so far: requests, what they came to, give-ups, claims, established and failed connections, and returns.
+-- The acts that a pool takes so far: requests, what they came to, give-ups, claims, established and failed connections, returns, marks as ready, clears and closes.
 abbrev pub IsBuilt : Act → Type 0
 IsBuilt (RequestAct r a) = ⊤
 IsBuilt (Established p c how) = ⊤
 IsBuilt (Failed p c at error) = ⊤
+IsBuilt (Ready p) = ⊤
+IsBuilt (Clear p service error) = ⊤
+IsBuilt (Close p) = ⊤
 IsBuilt (Collect r) = ⊤
 IsBuilt Claim = ⊤
 IsBuilt (GiveUp r) = ⊤
 IsBuilt (Return r used) = ⊤
 IsBuilt _ = ⊥
 
--- what was told and claimed stays
+-- what was told and claimed, and what the pool is, stays
 pub record SameNotes (s t : PoolCore) : Type 0 where
   pub settled : t.settled ≡ s.settled
   pub claimed : t.claimed ≡ s.claimed
+  pub status : t.status ≡ s.status
 
 -- the step tells the outcome of the request, or its caller leaves
 abbrev pub settles : Act → Reply → ℕ → Bool
@@ -114,6 +126,19 @@ pub record Serves (s t : PoolCore) (m : ℕ) (before after : List Fact) (xs : Li
   pub facts : after ≡ before ++ serving s.pool s.address s.options m xs
   pub fits : Fits t (after_facts s.pool m (serving s.pool s.address s.options m xs) xs)
 
+-- the queue ended: the facts after the old ones are those of its ends, and the state then fits them too
+pub record EndsQueue (s t : PoolCore) (m : ℕ) (end : End) (before after : List Fact) (xs : List PoolItem) : Type 0 where
+  pub facts : after ≡ before ++ all_ends s.pool s.address m xs end (queued xs)
+  pub fits : Fits t (after_facts s.pool m (all_ends s.pool s.address m xs end (queued xs)) xs)
+
+-- the pool, or a service of it, was cleared: the facts after the old ones are those of the clear, and the state then fits them too
+pub record Clears (s t : PoolCore) (m : ℕ) (service : Option ObjectId) (error : Error) (before after : List Fact) (xs : List PoolItem) : Type 0 where
+  pub facts : after ≡ before ++ clear_facts s.pool s.address s.options m xs service error
+  pub fits : Fits t (after_facts s.pool m (clear_facts s.pool s.address s.options m xs service error) xs)
+  pub settled : t.settled ≡ s.settled
+  pub claimed : t.claimed ≡ s.claimed
+  pub unshut : is_shut t.status ≡ false
+
 -- an accepted act: xs is what the pool knew, and ys what it knows with the act; the reply and the facts are those of the definitions, and the state then fits them
 pub record Accepts (s t : PoolCore) (before after : List Fact) (m : ℕ) (act : Act) (reply : Reply) (xs ys : List PoolItem) : Type 0 where
   pub facts_are : after ≡ before ++ all_facts s.pool s.address s.options m xs ys act
@@ -121,6 +146,7 @@ pub record Accepts (s t : PoolCore) (before after : List Fact) (m : ℕ) (act : 
   pub accepted : IsAccepted reply
   pub settled : (r : ℕ) → has r t.settled ≡ settles act reply r || has r s.settled
   pub claimed : (c : ℕ) → has c t.claimed ≡ is_job s.pool reply c || has c s.claimed
+  pub shut : is_shut t.status ≡ shuts (all_facts s.pool s.address s.options m xs ys act) || is_shut s.status
   pub fits : Fits t (after_facts s.pool m (all_facts s.pool s.address s.options m xs ys act) ys)
   pub fair : AllFirstCome s.pool m ys (all_facts s.pool s.address s.options m xs ys act)
   pub own : AllOwn s.pool m ys (all_facts s.pool s.address s.options m xs ys act)
@@ -141,7 +167,7 @@ pub record Logs (s t : PoolCore) (before after : List Entry) (seat : ℕ) (step 
   pub fair : IsFairAnswer s.pool h step (answer s.pool s.address s.options h step).reply (answer s.pool s.address s.options h step).facts
   pub none_left : NoneLeftWaiting s.options (of_pool s.pool h) → NoneLeftWaiting s.options (of_pool s.pool (with_answer step (answer s.pool s.address s.options h step).reply (answer s.pool s.address s.options h step).facts h))
 
--- the log has one entry more for each step, in order and by the seat; these entries are legal, and the state stands for them
+-- the log has one entry more for each step, in order and by the seat; these entries are legal and keep the limits, and the state stands for them
 pub record Runs (s t : PoolCore) (before after : List Entry) (seat : ℕ) (steps : List Step) (h : List Item) : Type 0 where
   pub entries : List Entry
   pub logged : after ≡ before ++ entries
@@ -150,3 +176,4 @@ pub record Runs (s t : PoolCore) (before after : List Entry) (seat : ℕ) (steps
   pub legal : IsLegal s.pool s.options h entries
   pub stands : StandsFor t (with_entries entries h)
   pub none_left : NoneLeftWaiting t.options (of_pool t.pool (with_entries entries h))
+  pub within : WithinLimits s.options (of_pool s.pool h) → WithinLimits s.options (of_pool s.pool (with_entries entries h))

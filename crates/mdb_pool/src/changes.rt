@@ -1,21 +1,37 @@
 //! The single changes of a pool, each with its facts.
 
+ghost use Rattle.mdb_pool.specs.Facts.{new_pool_error};
 ghost use Rattle.std.specs.Prelude.{◌≡◌, ◌++◌, ◌∷◌, ◌+◌, ◌-◌, ◌<◌, [], OnOk, IfOk};
 
 use super::connection::{Connection, Place};
 use super::request::{Phase, Request};
-use super::{PoolCore, Reply};
-use mdb_base::{Moment, ObjectId};
+use super::status::Status;
+use super::{Established, PoolCore, Reply};
+use mdb_base::{Error, ErrorKind, Items, Moment, Text};
 use mdb_events::{
-    CmapEvent, ConnectionCheckedOutEvent, ConnectionCheckoutStartedEvent, ConnectionCreatedEvent,
-    ConnectionReadyEvent, Fact,
+    CmapEvent, ConnectionCheckedOutEvent, ConnectionCheckoutStartedEvent, ConnectionClosedReason,
+    ConnectionCreatedEvent, ConnectionReadyEvent, End, Fact,
 };
 use std::alloc::{AllocError, Global};
 
+// The error of a request to a pool that was never ready.
+fn new_pool_error(alloc: Global) -> Result<Error, AllocError>
+    ensures { IfOk result (λ error. error ≡ new_pool_error) }
+{
+    let message = String::from_str(alloc, "check out attempted from new pool")?;
+    Ok(Error {
+        kind: ErrorKind::Other,
+        labels: Items::new(Vec::new(alloc)),
+        topology_version: None,
+        message: Text::new(message),
+    })
+}
+
 impl PoolCore {
     ghost use Rattle.mdb_pool.specs.Kept.{request_at, asked_at_of, outcome_now};
-    ghost use Rattle.mdb_pool.specs.Changes.{asking, creating, granting, establishing, telling, started_fact, up_fact, out_fact};
+    ghost use Rattle.mdb_pool.specs.Changes.{asking, away, away_end, away_facts, discarding, shut_fact, creating, granting, establishing, telling, started_fact, up_fact, out_fact, new_fact};
     ghost use Rattle.mdb_events.specs.declared.fact.Fact.TheVariants.{Pool, Granted};
+    ghost use Rattle.mdb_events.specs.declared.reasons.ConnectionClosedReason.TheVariants.{Stale};
     ghost use Rattle.mdb_events.specs.declared.cmap.CmapEvent.TheVariants.{ConnectionCreated, ConnectionCheckedOut};
 
     // A new caller comes last.
@@ -46,6 +62,105 @@ impl PoolCore {
         Ok(())
     }
 
+    // How a request ends at once where the pool isn't ready.
+    fn away_end(&self, alloc: Global) -> Result<Option<End>, AllocError>
+        ensures { IfOk result (λ end. end ≡ away_end self.now.status) }
+    {
+        match &self.status {
+            Status::New => {
+                let error = new_pool_error(alloc)?;
+                Ok(Some(End::Cleared(error)))
+            }
+            Status::Paused(cause) => {
+                let error = cause.clone()?;
+                Ok(Some(End::Cleared(error)))
+            }
+            _ => Ok(None),
+        }
+    }
+
+    // A new request ends at once where the pool isn't ready.
+    pub(super) fn turn_away(
+        &mut self,
+        alloc: Global,
+        facts: &mut Vec<Fact>,
+        moment: Moment,
+        request: u32,
+    ) -> Result<(), AllocError>
+        ensures core { OnOk result (self.new ≡ away self.old request moment (away_end self.old.status)) }
+        ensures facts { OnOk result (facts.new.items ≡ facts.old.items ++ away_facts self.old request (away_end self.old.status)) }
+    {
+        let Some(end) = self.away_end(alloc)? else {
+            return Ok(());
+        };
+        let told = end.clone()?;
+        self.push_end(facts, request, 0, told)?;
+        self.requests.replace(
+            alloc,
+            &Request {
+                number: request,
+                asked_at: moment,
+                phase: Phase::Ended(end),
+            },
+        )?;
+        Ok(())
+    }
+
+    fn push_created(&self, facts: &mut Vec<Fact>, id: u32) -> Result<(), AllocError>
+        ensures { OnOk result (facts.new.items ≡ facts.old.items ++ new_fact self.now id ∷ []) }
+    {
+        let address = self.address.clone()?;
+        facts.push(Fact::Pool(
+            self.pool,
+            CmapEvent::ConnectionCreated(ConnectionCreatedEvent {
+                address,
+                connection_id: id,
+            }),
+        ))?;
+        Ok(())
+    }
+
+    fn push_checked_out(
+        &self,
+        facts: &mut Vec<Fact>,
+        id: u32,
+        waited: Moment,
+    ) -> Result<(), AllocError>
+        ensures { OnOk result (facts.new.items ≡ facts.old.items ++ out_fact self.now id waited ∷ []) }
+    {
+        let address = self.address.clone()?;
+        facts.push(Fact::Pool(
+            self.pool,
+            CmapEvent::ConnectionCheckedOut(ConnectionCheckedOutEvent {
+                address,
+                connection_id: id,
+                duration: waited,
+            }),
+        ))?;
+        Ok(())
+    }
+
+    // An established connection is told of.
+    pub(super) fn push_ready(
+        &self,
+        facts: &mut Vec<Fact>,
+        moment: Moment,
+        connection: Connection,
+    ) -> Result<(), AllocError>
+        ensures { OnOk result (facts.new.items ≡ facts.old.items ++ up_fact self.now connection.id (moment - connection.created_at) ∷ []) }
+    {
+        let address = self.address.clone()?;
+        facts.push(Fact::Pool(
+            self.pool,
+            CmapEvent::ConnectionReady(ConnectionReadyEvent {
+                address,
+                connection_id: connection.id,
+                duration: moment.saturating_sub(connection.created_at),
+            }),
+        ))?;
+        Ok(())
+    }
+
     // The request gets a new connection.
     pub(super) fn create(
         &mut self,
@@ -59,7 +174,6 @@ impl PoolCore {
         ensures facts { OnOk result (facts.new.items ≡ facts.old.items ++ Pool self.old.pool (ConnectionCreated (record { address = self.old.address; connection_id = self.old.created + 1 })) ∷ Granted request.number self.old.pool (self.old.created + 1) ∷ []) }
     {
         let id = self.created + 1;
-        let address = self.address.clone()?;
         self.created = id;
         self.connections.put(
             alloc,
@@ -70,22 +184,17 @@ impl PoolCore {
                 party: request.number,
                 holder: Some(request.number),
                 service: None,
+                wire: None,
             },
         )?;
-        self.requests.put(
+        self.requests.replace(
             alloc,
-            Request {
+            &Request {
                 phase: Phase::Given(id),
                 ..request
             },
         )?;
-        facts.push(Fact::Pool(
-            self.pool,
-            CmapEvent::ConnectionCreated(ConnectionCreatedEvent {
-                address,
-                connection_id: id,
-            }),
-        ))?;
+        self.push_created(facts, id)?;
         facts.push(Fact::Granted(request.number, self.pool, id))?;
         Ok(())
     }
@@ -102,7 +211,6 @@ impl PoolCore {
         ensures core { OnOk result (self.new ≡ granting self.old connection request) }
         ensures facts { OnOk result (facts.new.items ≡ facts.old.items ++ Granted request.number self.old.pool connection.id ∷ Pool self.old.pool (ConnectionCheckedOut (record { address = self.old.address; connection_id = connection.id; duration = moment - request.asked_at })) ∷ []) }
     {
-        let address = self.address.clone()?;
         self.connections.put(
             alloc,
             Connection {
@@ -112,22 +220,31 @@ impl PoolCore {
                 ..connection
             },
         )?;
-        self.requests.put(
+        self.requests.replace(
             alloc,
-            Request {
+            &Request {
                 phase: Phase::Given(connection.id),
                 ..request
             },
         )?;
         facts.push(Fact::Granted(request.number, self.pool, connection.id))?;
-        facts.push(Fact::Pool(
-            self.pool,
-            CmapEvent::ConnectionCheckedOut(ConnectionCheckedOutEvent {
-                address,
-                connection_id: connection.id,
-                duration: moment.saturating_sub(request.asked_at),
-            }),
-        ))?;
+        let waited = moment.saturating_sub(request.asked_at);
+        self.push_checked_out(facts, connection.id, waited)?;
+        Ok(())
+    }
+
+    // A stale connection that the search for a caller meets is closed.
+    pub(super) fn discard(
+        &mut self,
+        alloc: Global,
+        facts: &mut Vec<Fact>,
+        connection: Connection,
+    ) -> Result<(), AllocError>
+        ensures core { OnOk result (self.new ≡ discarding self.old connection) }
+        ensures facts { OnOk result (facts.new.items ≡ facts.old.items ++ shut_fact self.old connection Stale ∷ []) }
+    {
+        self.push_close(facts, connection, ConnectionClosedReason::Stale)?;
+        self.connections.remove(alloc, connection.id)?;
         Ok(())
     }
 
@@ -138,13 +255,11 @@ impl PoolCore {
         facts: &mut Vec<Fact>,
         moment: Moment,
         connection: Connection,
-        service: Option<ObjectId>,
+        made: Established,
     ) -> Result<(), AllocError>
-        ensures core { OnOk result (self.new ≡ establishing self.old moment connection service) }
+        ensures core { OnOk result (self.new ≡ establishing self.old moment connection made) }
         ensures facts { OnOk result (facts.new.items ≡ facts.old.items ++ up_fact self.old connection.id (moment - connection.created_at) ∷ out_fact self.old connection.id (moment - asked_at_of (request_at self.old connection.party)) ∷ []) }
     {
-        let ready_address = self.address.clone()?;
-        let address = self.address.clone()?;
         let asked_at = match self.requests.get(connection.party) {
             Some(request) => request.asked_at,
             None => 0,
@@ -154,26 +269,14 @@ impl PoolCore {
             alloc,
             Connection {
                 place: Place::Held,
-                service,
+                service: made.service_id,
+                wire: Some(made.wire),
                 ..connection
             },
         )?;
-        facts.push(Fact::Pool(
-            self.pool,
-            CmapEvent::ConnectionReady(ConnectionReadyEvent {
-                address: ready_address,
-                connection_id: connection.id,
-                duration: moment.saturating_sub(connection.created_at),
-            }),
-        ))?;
-        facts.push(Fact::Pool(
-            self.pool,
-            CmapEvent::ConnectionCheckedOut(ConnectionCheckedOutEvent {
-                address,
-                connection_id: connection.id,
-                duration: moment.saturating_sub(asked_at),
-            }),
-        ))?;
+        self.push_ready(facts, moment, connection)?;
+        let waited = moment.saturating_sub(asked_at);
+        self.push_checked_out(facts, connection.id, waited)?;
         Ok(())
     }
 

@@ -1,19 +1,18 @@
 //! The changes of a pool by which connections come back and requests are given up.
 
-ghost use Rattle.std.specs.Prelude.{◌≡◌, ◌++◌, ◌∷◌, ◌-◌, [], OnOk};
+ghost use Rattle.std.specs.Prelude.{◌≡◌, ◌++◌, ◌∷◌, ◌-◌, [], OnOk, Some};
 
-use super::PoolCore;
 use super::connection::{Connection, Place};
 use super::request::{Phase, Request};
-use mdb_base::{Moment, ObjectId};
+use super::{Established, PoolCore};
+use mdb_base::Moment;
 use mdb_events::{
-    CmapEvent, ConnectionCheckedInEvent, ConnectionClosedEvent, ConnectionClosedReason,
-    ConnectionReadyEvent, End, Fact,
+    CmapEvent, ConnectionCheckedInEvent, ConnectionClosedEvent, ConnectionClosedReason, End, Fact,
 };
 use std::alloc::{AllocError, Global};
 
 impl PoolCore {
-    ghost use Rattle.mdb_pool.specs.Changes.{returning, pooling, dropping, quitting, leaving, handing, up_fact, in_fact, shut_fact, finishing};
+    ghost use Rattle.mdb_pool.specs.Changes.{returning_for, pooling_for, quitting, leaving, handing_for, up_fact, in_fact, shut_fact, back_facts, placed, finishing};
     ghost use Rattle.mdb_events.specs.declared.fact.Fact.TheVariants.{Ended};
     ghost use Rattle.mdb_events.specs.declared.end.End.TheVariants.{GaveUp};
 
@@ -52,37 +51,74 @@ impl PoolCore {
         Ok(())
     }
 
-    // An established connection whose caller gave up goes into the pool.
+    // What a check-in says. On a closed pool there is the close alone.
+    fn push_back(
+        &self,
+        facts: &mut Vec<Fact>,
+        connection: Connection,
+        reason: Option<ConnectionClosedReason>,
+    ) -> Result<(), AllocError>
+        ensures { OnOk result (facts.new.items ≡ facts.old.items ++ back_facts self.now connection reason) }
+    {
+        let Some(reason) = reason else {
+            self.push_check_in(facts, connection.id)?;
+            return Ok(());
+        };
+        if self.status.is_closed() {
+            self.push_close(facts, connection, reason)?;
+            return Ok(());
+        }
+        self.push_check_in(facts, connection.id)?;
+        self.push_close(facts, connection, reason)?;
+        Ok(())
+    }
+
+    // The connection is closed where there is a reason, and else available.
+    fn place_back(
+        &mut self,
+        alloc: Global,
+        connection: Connection,
+        reason: Option<ConnectionClosedReason>,
+    ) -> Result<(), AllocError>
+        ensures { OnOk result (self.new ≡ record self.old { connections = placed connection reason self.old.connections }) }
+    {
+        if reason.is_some() {
+            self.connections.remove(alloc, connection.id)?;
+            return Ok(());
+        }
+        self.connections.put(
+            alloc,
+            Connection {
+                place: Place::Available,
+                holder: None,
+                ..connection
+            },
+        )?;
+        Ok(())
+    }
+
+    // An established connection whose caller gave up goes into the pool, or is closed.
     pub(super) fn pool_connection(
         &mut self,
         alloc: Global,
         facts: &mut Vec<Fact>,
         moment: Moment,
         connection: Connection,
-        service: Option<ObjectId>,
+        made: Established,
+        reason: Option<ConnectionClosedReason>,
     ) -> Result<(), AllocError>
-        ensures core { OnOk result (self.new ≡ pooling self.old moment connection service) }
-        ensures facts { OnOk result (facts.new.items ≡ facts.old.items ++ up_fact self.old connection.id (moment - connection.created_at) ∷ in_fact self.old connection.id ∷ []) }
+        ensures core { OnOk result (self.new ≡ pooling_for self.old moment connection made reason) }
+        ensures facts { OnOk result (facts.new.items ≡ facts.old.items ++ up_fact self.old connection.id (moment - connection.created_at) ∷ back_facts self.old (record connection { service = made.service_id; wire = Some made.wire }) reason) }
     {
-        let address = self.address.clone()?;
-        facts.push(Fact::Pool(
-            self.pool,
-            CmapEvent::ConnectionReady(ConnectionReadyEvent {
-                address,
-                connection_id: connection.id,
-                duration: moment.saturating_sub(connection.created_at),
-            }),
-        ))?;
-        self.push_check_in(facts, connection.id)?;
+        let connection = Connection {
+            service: made.service_id,
+            wire: Some(made.wire),
+            ..connection
+        };
+        self.push_ready(facts, moment, connection)?;
+        self.push_back(facts, connection, reason)?;
         self.last = moment;
-        self.connections.put(
-            alloc,
-            Connection {
-                place: Place::Available,
-                service,
-                ..connection
-            },
-        )?;
+        self.place_back(alloc, connection, reason)?;
         Ok(())
     }
 
@@ -98,11 +134,11 @@ impl PoolCore {
     {
         self.last = moment;
         self.settled.push(request.number)?;
-        self.requests.put(alloc, Request { phase, ..request })?;
+        self.requests.replace(alloc, &Request { phase, ..request })?;
         Ok(())
     }
 
-    // A held connection comes back, and is available.
+    // A held connection comes back, and is available or closed.
     pub(super) fn give_back(
         &mut self,
         alloc: Global,
@@ -110,40 +146,14 @@ impl PoolCore {
         moment: Moment,
         connection: Connection,
         request: Request,
+        reason: Option<ConnectionClosedReason>,
     ) -> Result<(), AllocError>
-        ensures core { OnOk result (self.new ≡ returning self.old moment connection request) }
-        ensures facts { OnOk result (facts.new.items ≡ facts.old.items ++ in_fact self.old connection.id ∷ []) }
+        ensures core { OnOk result (self.new ≡ returning_for self.old moment connection request reason) }
+        ensures facts { OnOk result (facts.new.items ≡ facts.old.items ++ back_facts self.old connection reason) }
     {
-        self.push_check_in(facts, connection.id)?;
+        self.push_back(facts, connection, reason)?;
         self.finish(alloc, moment, request, Phase::Over)?;
-        self.connections.put(
-            alloc,
-            Connection {
-                place: Place::Available,
-                holder: None,
-                ..connection
-            },
-        )?;
-        Ok(())
-    }
-
-    // A held connection comes back, and is closed.
-    pub(super) fn drop_back(
-        &mut self,
-        alloc: Global,
-        facts: &mut Vec<Fact>,
-        moment: Moment,
-        connection: Connection,
-        request: Request,
-        reason: ConnectionClosedReason,
-    ) -> Result<(), AllocError>
-        ensures core { OnOk result (self.new ≡ dropping self.old moment connection request) }
-        ensures facts { OnOk result (facts.new.items ≡ facts.old.items ++ in_fact self.old connection.id ∷ shut_fact self.old connection reason ∷ []) }
-    {
-        self.push_check_in(facts, connection.id)?;
-        self.push_close(facts, connection, reason)?;
-        self.finish(alloc, moment, request, Phase::Over)?;
-        self.connections.remove(alloc, connection.id)?;
+        self.place_back(alloc, connection, reason)?;
         Ok(())
     }
 
@@ -186,7 +196,7 @@ impl PoolCore {
         Ok(())
     }
 
-    // A request whose connection is held is given up, and the connection is available.
+    // A request whose connection is held is given up, and the connection is available or closed.
     pub(super) fn hand_back(
         &mut self,
         alloc: Global,
@@ -194,20 +204,15 @@ impl PoolCore {
         moment: Moment,
         connection: Connection,
         request: Request,
+        reason: Option<ConnectionClosedReason>,
     ) -> Result<(), AllocError>
-        ensures core { OnOk result (self.new ≡ handing self.old moment connection request) }
-        ensures facts { OnOk result (facts.new.items ≡ facts.old.items ++ Ended request.number GaveUp ∷ in_fact self.old connection.id ∷ []) }
+        ensures core { OnOk result (self.new ≡ handing_for self.old moment connection request reason) }
+        ensures facts { OnOk result (facts.new.items ≡ facts.old.items ++ Ended request.number GaveUp ∷ back_facts self.old connection reason) }
     {
-        self.quit(alloc, facts, moment, request)?;
-        self.push_check_in(facts, connection.id)?;
-        self.connections.put(
-            alloc,
-            Connection {
-                place: Place::Available,
-                holder: None,
-                ..connection
-            },
-        )?;
+        facts.push(Fact::Ended(request.number, End::GaveUp))?;
+        self.push_back(facts, connection, reason)?;
+        self.finish(alloc, moment, request, Phase::Ended(End::GaveUp))?;
+        self.place_back(alloc, connection, reason)?;
         Ok(())
     }
 }

@@ -2,7 +2,7 @@
 
 ghost use Rattle.std.specs.Prelude.{◌≡◌, ◌∷◌, OnOk, OnErr, IfOk, List, true};
 
-use super::{Act, Established, PoolCore, Refused, Reply, Step};
+use super::{Act, Established, PoolCore, Refused, Reply, Step, Use};
 use mdb_base::{Moment, OutOfMemory};
 use mdb_events::Fact;
 use std::alloc::{AllocError, Global};
@@ -25,17 +25,18 @@ impl PoolCore {
         requires { is_pending_at (connection_at self.old id) ≡ true }
         ensures home { OnOk result (SameHome self.old self.new) }
         ensures last { OnOk result (self.new.last ≡ moment) }
-        ensures accepts { IfOk result (λ reply. (xs : List PoolItem) → Fits self.old xs → Accepts self.old self.new facts.old.items facts.new.items moment (EstablishedAct self.old.pool id made) reply xs (established id made.service_id moment ∷ xs)) }
+        ensures accepts { IfOk result (λ reply. (xs : List PoolItem) → Fits self.old xs → Accepts self.old self.new facts.old.items facts.new.items moment (EstablishedAct self.old.pool id made) reply xs (established id made moment ∷ xs)) }
     {
         let Some(connection) = self.connections.get(id).copied() else {
             unreachable!()
         };
         if !connection.is_awaited() {
-            self.pool_connection(alloc, facts, moment, connection, made.service_id)?;
+            let reason = self.reason_now(id, made.service_id, Use::Ok);
+            self.pool_connection(alloc, facts, moment, connection, made, reason)?;
             self.serve(alloc, facts, moment)?;
             return Ok(Reply::Done);
         }
-        self.establish(alloc, facts, moment, connection, made.service_id)?;
+        self.establish(alloc, facts, moment, connection, made)?;
         self.serve(alloc, facts, moment)?;
         Ok(Reply::Done)
     }
@@ -63,6 +64,28 @@ impl PoolCore {
         }
         let reply = self.accept_established(alloc, facts, moment, id, made)?;
         Ok(reply)
+    }
+
+    // Refuses a connection of another pool, or takes it.
+    pub(super) fn try_established_in(
+        &mut self,
+        alloc: Global,
+        facts: &mut Vec<Fact>,
+        moment: Moment,
+        pool: u32,
+        id: u32,
+        made: Established,
+    ) -> Result<Reply, AllocError>
+        ensures home { OnOk result (SameHome self.old self.new) }
+        ensures answers { IfOk result (λ reply. (h : List Item) → StandsFor self.old h → Answers self.old self.new facts.old.items facts.new.items (record { moment = moment; act = EstablishedAct pool id made }) reply h) }
+    {
+        if pool == self.pool {
+            return self.try_established(alloc, facts, moment, id, made);
+        }
+        if moment < self.last {
+            return Ok(Reply::Refused(Refused::TimeBack(self.last)));
+        }
+        Ok(Reply::Refused(Refused::NotPending))
     }
 
     /// A pending connection was established. Refused as `TimeBack`, `NotPending`, or `WrongMode` where it names no service.

@@ -66,9 +66,9 @@ impl PoolCore {
         self.push_end(facts, request.number, waited, End::Failed(told))?;
         self.last = moment;
         self.connections.remove(alloc, connection.id)?;
-        self.requests.put(
+        self.requests.replace(
             alloc,
-            Request {
+            &Request {
                 phase: Phase::Ended(End::Failed(kept)),
                 ..request
             },
@@ -153,6 +153,29 @@ impl PoolCore {
         }
         let reply = self.accept_failed(alloc, facts, moment, id, at, cause)?;
         Ok(reply)
+    }
+
+    // Refuses a connection of another pool, or takes its failure.
+    pub(super) fn try_failed_in(
+        &mut self,
+        alloc: Global,
+        facts: &mut Vec<Fact>,
+        moment: Moment,
+        pool: u32,
+        id: u32,
+        at: FailedAt,
+        cause: &Error,
+    ) -> Result<Reply, AllocError>
+        ensures home { OnOk result (SameHome self.old self.new) }
+        ensures answers { IfOk result (λ reply. (h : List Item) → StandsFor self.old h → Answers self.old self.new facts.old.items facts.new.items (record { moment = moment; act = FailedAct pool id at cause.now }) reply h) }
+    {
+        if pool == self.pool {
+            return self.try_failed(alloc, facts, moment, id, at, cause);
+        }
+        if moment < self.last {
+            return Ok(Reply::Refused(Refused::TimeBack(self.last)));
+        }
+        Ok(Reply::Refused(Refused::NotPending))
     }
 
     /// A pending connection failed: it is closed, and its caller's request ends (CMAP, "Checking Out a Connection"). Refused as `TimeBack`,

@@ -4,7 +4,7 @@ ghost use Rattle.std.specs.Prelude.{◌≡◌, ◌∷◌, OnOk, OnErr, IfOk, Lis
 
 use super::request::Phase;
 use super::table::Keyed;
-use super::{Act, PoolCore, Refused, Reply, Step};
+use super::{Act, PoolCore, Refused, Reply, Step, Use};
 use mdb_base::{Moment, OutOfMemory};
 use mdb_events::Fact;
 use std::alloc::{AllocError, Global};
@@ -67,7 +67,8 @@ impl PoolCore {
         };
         let asker = asker.copy()?;
         if let Some(connection) = self.held_connection(request) {
-            self.hand_back(alloc, facts, moment, connection, asker)?;
+            let reason = self.reason_now(connection.id, connection.service, Use::Ok);
+            self.hand_back(alloc, facts, moment, connection, asker, reason)?;
             self.serve(alloc, facts, moment)?;
             return Ok(Reply::Done);
         }

@@ -25,9 +25,13 @@ pub struct Log {
 
 impl Model for Log {
     ghost use Rattle.std.specs.Prelude.{List};
+    ghost use Rattle.std.specs.Coded.{codes};
+    ghost use Rattle.mdb_base.specs.DocumentCode.{fields_coded};
     ghost use Rattle.mdb_pool.specs.declared.log.Entry.{Entry};
 
     ghost Value = { List Entry };
+
+    ghost coded = { Prim.hlevel (codes, fields_coded) };
 
     ghost view = { λ l. l.entries.items };
 }

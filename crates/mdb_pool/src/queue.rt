@@ -1,8 +1,10 @@
 //! The serving of a pool's queue.
 
-ghost use Rattle.std.specs.Prelude.{◌≡◌, OnOk, List};
+ghost use Rattle.std.specs.Prelude.{◌≡◌, ◌++◌, OnOk, List};
 
 use super::PoolCore;
+use super::connection::Connection;
+use super::request::Request;
 use super::table::Keyed;
 use mdb_base::Moment;
 use mdb_events::Fact;
@@ -11,6 +13,26 @@ use std::alloc::{AllocError, Global};
 impl PoolCore {
     ghost use Rattle.mdb_pool.specs.Standing.{SameHome, SameNotes, Fits, Serves};
     ghost use Rattle.mdb_pool.specs.History.{PoolItem};
+    ghost use Rattle.mdb_pool.specs.Changes.{meeting, meeting_facts};
+
+    // A caller meets the available connection that came back last.
+    fn meet(
+        &mut self,
+        alloc: Global,
+        facts: &mut Vec<Fact>,
+        moment: Moment,
+        connection: Connection,
+        request: Request,
+    ) -> Result<(), AllocError>
+        ensures core { OnOk result (self.new ≡ meeting self.old connection request) }
+        ensures facts { OnOk result (facts.new.items ≡ facts.old.items ++ meeting_facts self.old moment connection request) }
+    {
+        if self.stale_for(connection.id, connection.service) {
+            self.discard(alloc, facts, connection)
+        } else {
+            self.grant(alloc, facts, moment, connection, request)
+        }
+    }
 
     // Serves the queue until nothing more can be done.
     pub(super) fn serve(
@@ -24,10 +46,13 @@ impl PoolCore {
         ensures notes { OnOk result (SameNotes self.old self.new) }
         ensures serves { OnOk result ((xs : List PoolItem) → Fits self.old xs → Serves self.old self.new moment facts.old.items facts.new.items xs) }
     {
+        if !self.status.is_ready() {
+            return Ok(());
+        }
         while let Some(request) = self.first_queued() {
             let request = request.copy()?;
             if let Some(connection) = self.last_available() {
-                self.grant(alloc, facts, moment, connection, request)?;
+                self.meet(alloc, facts, moment, connection, request)?;
             } else if self.has_room() {
                 self.create(alloc, facts, moment, request)?;
             } else {

@@ -3,7 +3,7 @@
 ghost use Rattle.std.specs.Prelude.{◌≡◌, ◌∷◌, OnOk, OnErr, IfOk, List, None};
 
 use super::{Act, PoolCore, Refused, Reply, Step};
-use mdb_base::{Moment, OutOfMemory};
+use mdb_base::{Moment, OutOfMemory, ServerAddress};
 use mdb_events::Fact;
 use std::alloc::{AllocError, Global};
 
@@ -27,6 +27,7 @@ impl PoolCore {
         ensures accepts { IfOk result (λ reply. (xs : List PoolItem) → Fits self.old xs → Accepts self.old self.new facts.old.items facts.new.items moment (RequestAct request self.old.address) reply xs (asked request moment ∷ xs)) }
     {
         self.ask(alloc, facts, moment, request)?;
+        self.turn_away(alloc, facts, moment, request)?;
         self.serve(alloc, facts, moment)?;
         let reply = self.tell(request)?;
         Ok(reply)
@@ -46,6 +47,9 @@ impl PoolCore {
         if moment < self.last {
             return Ok(Reply::Refused(Refused::TimeBack(self.last)));
         }
+        if self.status.is_closed() {
+            return Ok(Reply::Refused(Refused::UnknownServer));
+        }
         if self.knows(request) {
             return Ok(Reply::Refused(Refused::RequestKnown));
         }
@@ -53,7 +57,29 @@ impl PoolCore {
         Ok(reply)
     }
 
-    /// A caller asks for a connection. Refused as `TimeBack` or `RequestKnown`.
+    // Refuses a request to another address, or takes it.
+    pub(super) fn try_request_at(
+        &mut self,
+        alloc: Global,
+        facts: &mut Vec<Fact>,
+        moment: Moment,
+        request: u32,
+        address: &ServerAddress,
+    ) -> Result<Reply, AllocError>
+        ensures home { OnOk result (SameHome self.old self.new) }
+        ensures answers { IfOk result (λ reply. (h : List Item) → StandsFor self.old h → Answers self.old self.new facts.old.items facts.new.items (record { moment = moment; act = RequestAct request address.now }) reply h) }
+    {
+        if self.address.is(address) {
+            return self.try_request(alloc, facts, moment, request);
+        }
+        if moment < self.last {
+            return Ok(Reply::Refused(Refused::TimeBack(self.last)));
+        }
+        Ok(Reply::Refused(Refused::UnknownServer))
+    }
+
+    /// A caller asks for a connection. Refused as `TimeBack`, `UnknownServer` where the pool is closed, or `RequestKnown`. It ends at
+    /// once where the pool is new or paused (CMAP, "Checking Out a Connection").
     pub fn request(
         &mut self,
         alloc: Global,

@@ -1,24 +1,12 @@
 //! A party returns its connection to a pool.
 
 ghost use Rattle.std.specs.Prelude.{◌≡◌, ◌∷◌, OnOk, OnErr, IfOk, List, true, is_some};
-ghost use Rattle.mdb_pool.specs.Kept.{reason_of};
 
 use super::table::Keyed;
 use super::{Act, PoolCore, Refused, Reply, Step, Use};
 use mdb_base::{Moment, OutOfMemory};
-use mdb_events::{ConnectionClosedReason, Fact};
+use mdb_events::Fact;
 use std::alloc::{AllocError, Global};
-
-// Why a connection that was used so is closed when it comes back.
-fn reason_of(used: Use) -> Option<ConnectionClosedReason>
-    ensures { result ≡ reason_of used }
-{
-    match used {
-        Use::Ok => None,
-        Use::Errored => Some(ConnectionClosedReason::Error),
-        Use::Dropped | Use::Streaming => Some(ConnectionClosedReason::Dropped),
-    }
-}
 
 impl PoolCore {
     ghost use Rattle.mdb_pool.specs.Kept.{held_connection};
@@ -47,12 +35,8 @@ impl PoolCore {
             unreachable!()
         };
         let request = request.copy()?;
-        if let Some(reason) = reason_of(used) {
-            self.drop_back(alloc, facts, moment, connection, request, reason)?;
-            self.serve(alloc, facts, moment)?;
-            return Ok(Reply::Done);
-        }
-        self.give_back(alloc, facts, moment, connection, request)?;
+        let reason = self.reason_now(connection.id, connection.service, used);
+        self.give_back(alloc, facts, moment, connection, request, reason)?;
         self.serve(alloc, facts, moment)?;
         Ok(Reply::Done)
     }

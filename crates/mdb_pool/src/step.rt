@@ -2,7 +2,8 @@
 
 ghost use Rattle.std.specs.Prelude.{◌≡◌};
 
-use mdb_base::{Error, Moment, ObjectId, Options, ServerAddress};
+use super::{BeatenResult, HelloResult};
+use mdb_base::{ClusterTime, Error, Items, Moment, Nanos, ObjectId, Options, ServerAddress};
 use std::alloc::AllocError;
 
 /// What establishing a connection found out.
@@ -77,6 +78,26 @@ pub enum Act {
     Take(u32, u32, u32),
     /// One pin less.
     Unpin(u32, u32),
+    /// An operation of a party met an error on its connection.
+    Error(u32, Error),
+    /// What the hello of a monitor at the address came to, beside the number of the pool that it was begun for.
+    Hello(ServerAddress, u32, HelloResult),
+    /// The monitor of the address begins a check, beside the number of the pool.
+    Beat(ServerAddress, u32),
+    /// The check of the address ended after this time, beside the number of the pool.
+    Beaten(ServerAddress, u32, Nanos, BeatenResult),
+    /// A round trip to the address was measured, beside the number of the pool.
+    Rtt(ServerAddress, u32, Nanos),
+    /// The hosts that SRV records name now.
+    Hosts(Items<ServerAddress>),
+    /// A reply told this time of the cluster.
+    ClusterTime(ClusterTime),
+    /// A watcher, by its number, wants the servers checked at once.
+    Want(u32),
+    /// A watcher no longer wants it.
+    Unwant(u32),
+    /// The driver is stopped.
+    Stop,
     /// The pool of the address is maintained.
     Maintain(ServerAddress),
     /// A pool may be used.
@@ -105,6 +126,22 @@ impl Clone for Act {
             Act::Replicate(pool, id) => Act::Replicate(*pool, *id),
             Act::Take(party, pool, id) => Act::Take(*party, *pool, *id),
             Act::Unpin(pool, id) => Act::Unpin(*pool, *id),
+            Act::Error(party, error) => Act::Error(*party, error.clone()?),
+            Act::Hello(address, pool, came) => {
+                let address = address.clone()?;
+                Act::Hello(address, *pool, came.clone()?)
+            }
+            Act::Beat(address, pool) => Act::Beat(address.clone()?, *pool),
+            Act::Beaten(address, pool, duration, came) => {
+                let address = address.clone()?;
+                Act::Beaten(address, *pool, *duration, came.clone()?)
+            }
+            Act::Rtt(address, pool, sample) => Act::Rtt(address.clone()?, *pool, *sample),
+            Act::Hosts(hosts) => Act::Hosts(hosts.clone()?),
+            Act::ClusterTime(time) => Act::ClusterTime(*time),
+            Act::Want(watcher) => Act::Want(*watcher),
+            Act::Unwant(watcher) => Act::Unwant(*watcher),
+            Act::Stop => Act::Stop,
             Act::Maintain(address) => Act::Maintain(address.clone()?),
             Act::Ready(pool) => Act::Ready(*pool),
             Act::Clear(pool, service, error) => Act::Clear(*pool, *service, error.clone()?),

@@ -2,7 +2,7 @@
 
 ghost use Rattle.std.specs.Prelude.{◌≡◌, OnOk, OnErr, IfOk, All, List};
 
-use super::{Act, Entry, Log, PoolCore, Refused, Reply, Step};
+use super::{Act, Entry, Log, PoolCore, Reply, Step};
 use mdb_base::{Items, OutOfMemory};
 use mdb_events::Fact;
 use std::alloc::{AllocError, Global};
@@ -23,40 +23,26 @@ impl PoolCore {
         ensures home { OnOk result (SameHome self.old self.new) }
         ensures answers { IfOk result (λ reply. (h : List Item) → StandsFor self.old h → Answers self.old self.new facts.old.items facts.new.items step.now reply h) }
     {
+        let moment = step.moment;
         match &step.act {
             Act::Request(request, address) => {
-                if self.address.is(address) {
-                    self.try_request(alloc, facts, step.moment, *request)
-                } else if step.moment < self.last {
-                    Ok(Reply::Refused(Refused::TimeBack(self.last)))
-                } else {
-                    Ok(Reply::Refused(Refused::UnknownServer))
-                }
+                self.try_request_at(alloc, facts, moment, *request, address)
             }
+            Act::Collect(request) => self.try_collect(alloc, facts, moment, *request),
+            Act::Claim => self.try_claim(alloc, facts, moment),
+            Act::GiveUp(request) => self.try_give_up(alloc, facts, moment, *request),
             Act::Established(pool, id, made) => {
-                if *pool == self.pool {
-                    self.try_established(alloc, facts, step.moment, *id, *made)
-                } else if step.moment < self.last {
-                    Ok(Reply::Refused(Refused::TimeBack(self.last)))
-                } else {
-                    Ok(Reply::Refused(Refused::NotPending))
-                }
+                self.try_established_in(alloc, facts, moment, *pool, *id, *made)
             }
             Act::Failed(pool, id, at, cause) => {
-                if *pool == self.pool {
-                    self.try_failed(alloc, facts, step.moment, *id, *at, cause)
-                } else if step.moment < self.last {
-                    Ok(Reply::Refused(Refused::TimeBack(self.last)))
-                } else {
-                    Ok(Reply::Refused(Refused::NotPending))
-                }
+                self.try_failed_in(alloc, facts, moment, *pool, *id, *at, cause)
             }
-            Act::Collect(request) => self.try_collect(alloc, facts, step.moment, *request),
-            Act::Claim => self.try_claim(alloc, facts, step.moment),
-            Act::Return(party, used) => {
-                self.try_return(alloc, facts, step.moment, *party, *used)
+            Act::Return(party, used) => self.try_return(alloc, facts, moment, *party, *used),
+            Act::Ready(pool) => self.try_ready(alloc, facts, moment, *pool),
+            Act::Clear(pool, service, cause) => {
+                self.try_clear(alloc, facts, moment, *pool, *service, cause)
             }
-            Act::GiveUp(request) => self.try_give_up(alloc, facts, step.moment, *request),
+            Act::Close(pool) => self.try_close(alloc, facts, moment, *pool),
             _ => unreachable!(),
         }
     }

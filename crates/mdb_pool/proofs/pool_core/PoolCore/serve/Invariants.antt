@@ -1,9 +1,8 @@
-use Rattle.std.proofs.Common.{◌≡◌, List, length}
+use Rattle.std.proofs.Common.{◌≡◌, true, List}
 use Rattle.mdb_pool.specs.History.{PoolItem}
 use Rattle.mdb_pool.specs.Standing.{Fits, SameHome, SameNotes}
-use Rattle.mdb_pool.specs.Kept.{numbers_where}
-use Rattle.mdb_pool.specs.Places.{is_queued}
-use Rattle.mdb_pool.proofs.Serving.{Progress}
+use Rattle.mdb_pool.specs.Kept.{is_ready_now}
+use Rattle.mdb_pool.proofs.Serving.{Progress, load}
 use Rattle.mdb_pool.proofs.pool_core.PoolCore.serve.Given as goal
 
 abbrev pub invariant-loop-request : goal.invariant-loop-request
@@ -11,8 +10,9 @@ invariant-loop-request l = record {
   last : l.self.last ≡ l.initial.self.last;
   home : SameHome l.initial.self l.self;
   notes : SameNotes l.initial.self l.self;
+  ready : is_ready_now l.self.status ≡ true;
   serves : (xs : List PoolItem) → Fits l.initial.self xs → Progress l.initial.self l.self l.moment l.initial.facts.items l.facts.items xs;
 }
 
 abbrev pub decreases-loop-request : goal.decreases-loop-request
-decreases-loop-request l = length (numbers_where is_queued l.self.requests)
+decreases-loop-request l = load l.self

@@ -1,0 +1,242 @@
+-- What a close does is the answer to its step.
+use Rattle.std.proofs.Common.{ℕ, ◌≡◌, ◌≤◌, ◌-◌, Bool, true, false, ◌||◌, List, [], ◌∷◌, ◌++◌, map, filter, Some, is_some, refl, sym, ◌∙◌, ap, subst, append_assoc, append-nil, if◌then◌else◌}
+use Rattle.mdb_events.specs.declared.fact.Fact.{Fact}
+use Rattle.mdb_events.specs.declared.fact.Fact.TheVariants.{Ended}
+use Rattle.mdb_events.specs.declared.end.End.TheVariants.{Closed as ClosedEnd}
+use Rattle.mdb_events.specs.declared.reasons.ConnectionClosedReason.TheVariants.{PoolClosed as PoolClosedReason}
+use Rattle.mdb_pool.specs.declared.step.Act.TheVariants.{Close as CloseAct}
+use Rattle.mdb_pool.specs.declared.reply.Reply.{Reply}
+use Rattle.mdb_pool.specs.declared.reply.Reply.TheVariants.{Done}
+use Rattle.mdb_pool.specs.declared.status.Status.{Status}
+use Rattle.mdb_pool.specs.declared.status.Status.TheVariants.{New, Ready, Paused, Closed}
+use Rattle.mdb_pool.specs.declared.connection.Connection.{Connection}
+use Rattle.mdb_pool.specs.declared.request.Request.{Request}
+use Rattle.mdb_pool.specs.declared.request.Phase.{Phase}
+use Rattle.mdb_pool.specs.declared.request.Phase.TheVariants.{Queued, Given, Over, Ended as EndedPhase}
+use Rattle.mdb_pool.specs.declared.pool_core.PoolCore.{PoolCore}
+use Rattle.mdb_pool.specs.History.{Item, PoolItem, closed, ended, pool_closed, of_pool, after_fact, after_facts, has_asked, given}
+use Rattle.mdb_pool.specs.Connections.{has, pending_list, available_list}
+use Rattle.mdb_pool.specs.Requests.{requests, is_unserved, queued, asked_at, end_of}
+use Rattle.mdb_pool.specs.State.{state_of}
+use Rattle.mdb_pool.specs.Facts.{all_ends, close_facts, closed_fact}
+use Rattle.mdb_pool.specs.Kept.{connection_at, request_at, given_in, given_of, end_in, end_at, asked_at_of, state_in, is_shut, unserved_in}
+use Rattle.mdb_pool.specs.Places.{is_pending, is_available, is_queued}
+use Rattle.mdb_pool.specs.Changes.{closing, closing_facts, shut_facts, off_facts, pool_closed_fact, available_ones, pending_ones, unserved_ones, shut_fact, off_fact}
+use Rattle.mdb_pool.specs.Legal.{AllFirstCome, AllOwn, shuts}
+use Rattle.mdb_pool.specs.Standing.{Fits, StandsFor, Serves, Accepts, Answers, SameHome, SameNotes}
+use Rattle.mdb_pool.proofs.Tables.{In, here, there, passes, has-where, member-at, one_if-le}
+use Rattle.mdb_pool.proofs.Acts.{accepts, own-answers, not-back, live-service, pending-is, asked-known}
+use Rattle.mdb_pool.proofs.Serving.{same-number, after-append}
+use Rattle.mdb_pool.proofs.Stands.{later-fits}
+use Rattle.mdb_pool.proofs.Staleness.{shut-status}
+use Rattle.mdb_pool.proofs.Frame.{asked-facts}
+use Rattle.mdb_pool.proofs.Laws.{fair-append, own-append}
+use Rattle.mdb_pool.proofs.Closes.{closings, endings}
+use Rattle.mdb_pool.proofs.MovesClose.{id_of, number_of, shut_ids, over_numbers, shut_items, close-fits}
+
+-- a part of the list is of the list
+module _ {T : Type 0} where
+  in-head : (x y : T) (zs ys : List T) → (In x zs → In x ys) → In x (y ∷ zs) → In x (y ∷ ys)
+  in-head x y zs ys f here = here
+  in-head x y zs ys f (there i) = there (f i)
+
+  pub in-filter : (p : T → Bool) (x : T) (xs : List T) → In x (filter p xs) → In x xs
+  in-filter p x [] i = i
+  in-filter p x (y ∷ ys) i = on (p y) refl (λ k. in-filter p x ys k) i
+    where
+      on : (b : Bool) → p y ≡ b → (In x (filter p ys) → In x ys) → In x (filter p (y ∷ ys)) → In x (y ∷ ys)
+      on true e rest j = in-head x y (filter p ys) ys rest (subst (λ c. In x (if c then (y ∷ filter p ys) else filter p ys)) e j)
+      on false e rest j = there (rest (subst (λ c. In x (if c then (y ∷ filter p ys) else filter p ys)) e j))
+
+  in-both : (P : T → Type 0) (xs ys : List T) → ((x : T) → In x xs → P x) → ((x : T) → In x ys → P x) → (x : T) → In x (xs ++ ys) → P x
+  in-both P [] ys f g x i = g x i
+  in-both P (z ∷ xs) ys f g x here = f x here
+  in-both P (z ∷ xs) ys f g x (there i) = in-both P xs ys (λ y j. f y (there j)) g x i
+
+module _ (s : PoolCore) (xs : List PoolItem) (z : Fits s xs) (n : ℕ) where
+  conn-at : (x : Connection) → In x s.connections → connection_at s x.id ≡ Some x
+  conn-at x i = member-at id_of x s.connections i (rw (z.matches.single x.id) (one_if-le (is_some (connection_at s x.id))))
+
+  req-at : (q : Request) → In q s.requests → request_at s q.number ≡ Some q
+  req-at q i = member-at number_of q s.requests i (rw (z.matches.single_request q.number) (one_if-le (is_some (request_at s q.number))))
+
+  -- the closes
+  closes-are : (cs : List Connection) → ((x : Connection) → In x cs → connection_at s x.id ≡ Some x) → map (λ c. closed_fact s.pool s.address xs c PoolClosedReason) (map id_of cs) ≡ shut_facts s cs
+  closes-are [] at = refl
+  closes-are (x ∷ cs) at = rw (live-service s xs z.matches x.id x (at x here)) (ap (λ fs. shut_fact s x PoolClosedReason ∷ fs) (closes-are cs (λ y i. at y (there i))))
+
+  ids-append : (cs ds : List Connection) → map id_of cs ++ map id_of ds ≡ map id_of (cs ++ ds)
+  ids-append [] ds = refl
+  ids-append (x ∷ cs) ds = ap (λ ks. x.id ∷ ks) (ids-append cs ds)
+
+  shut-all : map (λ c. closed_fact s.pool s.address xs c PoolClosedReason) (available_list xs ++ pending_list xs) ≡ shut_facts s (available_ones s ++ pending_ones s)
+  shut-all = rw (z.matches.available, z.matches.pending, ids-append (available_ones s) (pending_ones s)) (closes-are (available_ones s ++ pending_ones s) (in-both (λ x. connection_at s x.id ≡ Some x) (available_ones s) (pending_ones s) (λ x i. conn-at x (in-filter (λ y. is_available y.place) x s.connections i)) (λ x i. conn-at x (in-filter (λ y. is_pending y.place) x s.connections i))))
+
+  -- the ends
+  unserved-is : (q : Request) → request_at s q.number ≡ Some q → is_unserved xs q.number ≡ unserved_in s q.phase
+  unserved-is q e = on q.phase refl
+    where
+      there_queued : has q.number (queued xs) ≡ is_queued q.phase
+      there_queued = ap (has q.number) z.matches.queue ∙ (has-where number_of (λ r. is_queued r.phase) q.number s.requests (z.matches.single_request q.number) ∙ ap (passes number_of (λ r. is_queued r.phase)) e)
+
+      end_is : end_of xs q.number ≡ end_in q.phase
+      end_is = z.matches.ends q.number ∙ ap end_at e
+
+      given_is : given xs q.number ≡ given_in q.phase
+      given_is = z.matches.given q.number ∙ ap given_of e
+
+      on : (p : Phase) → q.phase ≡ p → is_unserved xs q.number ≡ unserved_in s q.phase
+      on Queued f = rw (there_queued, f) refl
+      on (Given c) f = rw (there_queued, end_is, given_is, f, pending-is s xs z c) refl
+      on Over f = rw (there_queued, end_is, given_is, f) refl
+      on (EndedPhase end) f = rw (there_queued, end_is, given_is, f) refl
+
+  numbers-of : (qs : List Request) → ((q : Request) → In q qs → request_at s q.number ≡ Some q) → filter (is_unserved xs) (map number_of qs) ≡ map number_of (filter (λ q. unserved_in s q.phase) qs)
+  numbers-of [] at = refl
+  numbers-of (q ∷ qs) at = on (unserved_in s q.phase) refl (numbers-of qs (λ r i. at r (there i)))
+    where
+      on : (b : Bool) → unserved_in s q.phase ≡ b → filter (is_unserved xs) (map number_of qs) ≡ map number_of (filter (λ r. unserved_in s r.phase) qs) → filter (is_unserved xs) (map number_of (q ∷ qs)) ≡ map number_of (filter (λ r. unserved_in s r.phase) (q ∷ qs))
+      on true e rest = let f : is_unserved xs q.number ≡ true = unserved-is q (at q here) ∙ e in rw (f, e) (ap (λ ks. q.number ∷ ks) rest)
+      on false e rest = let f : is_unserved xs q.number ≡ false = unserved-is q (at q here) ∙ e in rw (f, e) rest
+
+  ends-are : (qs : List Request) → ((q : Request) → In q qs → request_at s q.number ≡ Some q) → all_ends s.pool s.address n xs ClosedEnd (map number_of qs) ≡ off_facts s n qs
+  ends-are [] at = refl
+  ends-are (q ∷ qs) at =
+      let moment : asked_at xs q.number ≡ q.asked_at = z.matches.asked_at q.number ∙ ap asked_at_of (at q here) in
+      rw (z.matches.no_warm q.number, moment) (ap (λ fs. Ended q.number ClosedEnd ∷ off_fact s (n - q.asked_at) ∷ fs) (ends-are qs (λ r i. at r (there i))))
+
+  unserved-at : (q : Request) → In q (unserved_ones s) → request_at s q.number ≡ Some q
+  unserved-at q i = req-at q (in-filter (λ r. unserved_in s r.phase) q s.requests i)
+
+  over-all : all_ends s.pool s.address n xs ClosedEnd (filter (is_unserved xs) (requests xs)) ≡ off_facts s n (unserved_ones s)
+  over-all = rw (z.order, numbers-of s.requests (λ q i. req-at q i)) (ends-are (unserved_ones s) (λ q i. unserved-at q i))
+
+  pub close-are : is_shut s.status ≡ false → close_facts s.pool s.address s.options n xs ≡ closing_facts s n
+  close-are unshut = on s.status z.matches.status unshut
+    where
+      on : (u : Status) → state_of s.options xs ≡ state_in u → is_shut u ≡ false → close_facts s.pool s.address s.options n xs ≡ closing_facts s n
+      on New e f = rw (e, shut-all, over-all) refl
+      on Ready e f = rw (e, shut-all, over-all) refl
+      on (Paused error) e f = rw (e, shut-all, over-all) refl
+      on Closed e f = cc
+
+  pub close-nothing : is_shut s.status ≡ true → close_facts s.pool s.address s.options n xs ≡ []
+  close-nothing shut = rw (z.matches.status, shut-status s.status shut) refl
+
+  -- what the facts say
+  shut-known : (cs : List Connection) (ys : List PoolItem) → after_facts s.pool n (shut_facts s cs) ys ≡ closings (map id_of cs) ys
+  shut-known [] ys = refl
+  shut-known (x ∷ cs) ys =
+      let first : after_fact s.pool n (shut_fact s x PoolClosedReason) ys ≡ closed x.id ∷ ys = rw (same-number s.pool) refl in
+      ap (after_facts s.pool n (shut_facts s cs)) first ∙ shut-known cs (closed x.id ∷ ys)
+
+  off-known : (qs : List Request) (ys : List PoolItem) → ((q : Request) → In q qs → has_asked ys q.number ≡ true) → after_facts s.pool n (off_facts s n qs) ys ≡ endings ClosedEnd (map number_of qs) ys
+  off-known [] ys asked = refl
+  off-known (q ∷ qs) ys asked =
+      let first : after_fact s.pool n (Ended q.number ClosedEnd) ys ≡ ended q.number ClosedEnd ∷ ys = rw (asked q here) refl in
+      ap (after_facts s.pool n (off_facts s n qs)) first ∙ off-known qs (ended q.number ClosedEnd ∷ ys) (λ r i. asked r (there i))
+
+  asked-then : (q : Request) → In q (unserved_ones s) → has_asked (after_facts s.pool n (shut_facts s (available_ones s ++ pending_ones s)) xs) q.number ≡ true
+  asked-then q i = asked-facts s.pool n q.number (shut_facts s (available_ones s ++ pending_ones s)) xs ∙ (asked-known s xs z q.number ∙ ap is_some (unserved-at q i))
+
+  pub close-known : after_facts s.pool n (closing_facts s n) xs ≡ shut_items s xs z.matches n
+  close-known =
+      let ys : List PoolItem = after_facts s.pool n (shut_facts s (available_ones s ++ pending_ones s)) xs in
+      let zs : List PoolItem = after_facts s.pool n (off_facts s n (unserved_ones s)) ys in
+      let e : ys ≡ closings (shut_ids s xs z.matches n) xs = shut-known (available_ones s ++ pending_ones s) xs in
+      let f : zs ≡ endings ClosedEnd (over_numbers s xs z.matches n) ys = off-known (unserved_ones s) ys asked-then in
+      after-append s.pool n (shut_facts s (available_ones s ++ pending_ones s) ++ off_facts s n (unserved_ones s)) (pool_closed_fact s ∷ []) xs
+      ∙ (ap (after_facts s.pool n (pool_closed_fact s ∷ [])) (after-append s.pool n (shut_facts s (available_ones s ++ pending_ones s)) (off_facts s n (unserved_ones s)) xs)
+      ∙ (last zs ∙ ap (λ ks. pool_closed ∷ ks) (f ∙ ap (endings ClosedEnd (over_numbers s xs z.matches n)) e)))
+    where
+      last : (ks : List PoolItem) → after_facts s.pool n (pool_closed_fact s ∷ []) ks ≡ pool_closed ∷ ks
+      last ks = rw (same-number s.pool) refl
+
+  -- they are fair, the pool's own, and close it
+  shut-fair : (cs : List Connection) (ys : List PoolItem) → AllFirstCome s.pool n ys (shut_facts s cs)
+  shut-fair [] ys = tt
+  shut-fair (x ∷ cs) ys = (tt, shut-fair cs _)
+
+  off-fair : (qs : List Request) (ys : List PoolItem) → AllFirstCome s.pool n ys (off_facts s n qs)
+  off-fair [] ys = tt
+  off-fair (q ∷ qs) ys = (tt, (tt, off-fair qs _))
+
+  shut-own : (cs : List Connection) (ys : List PoolItem) → AllOwn s.pool n ys (shut_facts s cs)
+  shut-own [] ys = tt
+  shut-own (x ∷ cs) ys = (refl, shut-own cs _)
+
+  off-own : (qs : List Request) (ys : List PoolItem) → ((q : Request) → In q qs → has_asked ys q.number ≡ true) → AllOwn s.pool n ys (off_facts s n qs)
+  off-own [] ys asked = tt
+  off-own (q ∷ qs) ys asked = (asked q here, (refl, off-own qs (after_fact s.pool n (Ended q.number ClosedEnd) ys) (λ r i. asked-facts s.pool n r.number (Ended q.number ClosedEnd ∷ []) ys ∙ asked r (there i))))
+
+  pub close-fair : AllFirstCome s.pool n xs (closing_facts s n)
+  close-fair = fair-append s.pool s.address s.options n (shut_facts s (available_ones s ++ pending_ones s) ++ off_facts s n (unserved_ones s)) (pool_closed_fact s ∷ []) xs
+      (fair-append s.pool s.address s.options n (shut_facts s (available_ones s ++ pending_ones s)) (off_facts s n (unserved_ones s)) xs (shut-fair (available_ones s ++ pending_ones s) xs) (off-fair (unserved_ones s) (after_facts s.pool n (shut_facts s (available_ones s ++ pending_ones s)) xs)))
+      (tt, tt)
+
+  pub close-all-own : AllOwn s.pool n xs (closing_facts s n)
+  close-all-own = own-append s.pool s.address s.options n (shut_facts s (available_ones s ++ pending_ones s) ++ off_facts s n (unserved_ones s)) (pool_closed_fact s ∷ []) xs
+      (own-append s.pool s.address s.options n (shut_facts s (available_ones s ++ pending_ones s)) (off_facts s n (unserved_ones s)) xs (shut-own (available_ones s ++ pending_ones s) xs) (off-own (unserved_ones s) (after_facts s.pool n (shut_facts s (available_ones s ++ pending_ones s)) xs) asked-then))
+      (refl, tt)
+
+  pub close-shuts : shuts (closing_facts s n) ≡ true
+  close-shuts = first (available_ones s ++ pending_ones s)
+    where
+      then_off : (qs : List Request) → shuts (off_facts s n qs ++ pool_closed_fact s ∷ []) ≡ true
+      then_off [] = refl
+      then_off (q ∷ qs) = then_off qs
+
+      first : (cs : List Connection) → shuts ((shut_facts s cs ++ off_facts s n (unserved_ones s)) ++ pool_closed_fact s ∷ []) ≡ true
+      first [] = then_off (unserved_ones s)
+      first (x ∷ cs) = first cs
+
+shut-split : (s : PoolCore) (cs ds : List Connection) → shut_facts s (cs ++ ds) ≡ shut_facts s cs ++ shut_facts s ds
+shut-split s [] ds = refl
+shut-split s (x ∷ cs) ds = ap (λ fs. shut_fact s x PoolClosedReason ∷ fs) (shut-split s cs ds)
+
+-- an accepted close of a pool that is open
+pub close-accepts : (s s1 t : PoolCore) (before f1 after : List Fact) (n q : ℕ) (xs : List PoolItem) → Fits s xs → is_shut s.status ≡ false → s1 ≡ closing s n
+    → f1 ≡ (((before ++ shut_facts s (available_ones s)) ++ shut_facts s (pending_ones s)) ++ off_facts s n (unserved_ones s)) ++ pool_closed_fact s ∷ []
+    → SameHome s1 t → SameNotes s1 t → ((k : List PoolItem) → Fits s1 k → Serves s1 t n f1 after k)
+    → Accepts s t before after n (CloseAct q) Done xs xs
+close-accepts s s1 t before f1 after n q xs z unshut s1_is f1_is home notes serves =
+    let split : (before ++ shut_facts s (available_ones s)) ++ shut_facts s (pending_ones s) ≡ before ++ shut_facts s (available_ones s ++ pending_ones s) = append_assoc before (shut_facts s (available_ones s)) (shut_facts s (pending_ones s)) ∙ ap (λ k. before ++ k) (sym (shut-split s (available_ones s) (pending_ones s))) in
+    accepts s s1 t t before f1 after n (CloseAct q) Done (closing_facts s n) xs xs
+    (close-are s xs z n unshut)
+    (f1_is ∙ (ap (λ k. (k ++ off_facts s n (unserved_ones s)) ++ pool_closed_fact s ∷ []) split ∙ (ap (λ k. k ++ pool_closed_fact s ∷ []) (append_assoc before (shut_facts s (available_ones s ++ pending_ones s)) (off_facts s n (unserved_ones s))) ∙ append_assoc before (shut_facts s (available_ones s ++ pending_ones s) ++ off_facts s n (unserved_ones s)) (pool_closed_fact s ∷ []))))
+    (rw s1_is (record { pool = refl; address = refl; options = refl }))
+    (rw s1_is (subst (Fits (closing s n)) (sym (close-known s xs z n)) (close-fits s xs z n)))
+    serves
+    (λ zs w. w)
+    (λ claims own zs m. refl)
+    tt
+    (ap is_shut (notes.status ∙ ap (λ k. k.status) s1_is) ∙ ap (λ b. b || is_shut s.status) (sym (close-shuts s xs z n)))
+    (λ r. ap (has r) (notes.settled ∙ ap (λ k. k.settled) s1_is))
+    (λ c. ap (has c) (notes.claimed ∙ ap (λ k. k.claimed) s1_is))
+    (close-fair s xs z n)
+    (close-all-own s xs z n)
+
+-- a close of a closed pool, which says nothing
+pub closed-accepts : (s s1 t : PoolCore) (before after : List Fact) (n q : ℕ) (xs : List PoolItem) → Fits s xs → is_shut s.status ≡ true → s1 ≡ record s { last = n } → SameHome s1 t → SameNotes s1 t
+    → ((k : List PoolItem) → Fits s1 k → Serves s1 t n before after k)
+    → Accepts s t before after n (CloseAct q) Done xs xs
+closed-accepts s s1 t before after n q xs z shut s1_is home notes serves =
+    accepts s s1 t t before before after n (CloseAct q) Done [] xs xs
+    (close-nothing s xs z n shut)
+    (sym (append-nil before)) (rw s1_is (record { pool = refl; address = refl; options = refl })) (rw s1_is (later-fits s xs z n)) serves
+    (λ zs w. w)
+    (λ claims own zs m. refl)
+    tt
+    (ap is_shut (notes.status ∙ ap (λ k. k.status) s1_is))
+    (λ r. ap (has r) (notes.settled ∙ ap (λ k. k.settled) s1_is))
+    (λ c. ap (has c) (notes.claimed ∙ ap (λ k. k.claimed) s1_is))
+    tt
+    tt
+
+pub close-own : (s t : PoolCore) (before after : List Fact) (n p : ℕ) (reply : Reply) (h : List Item) → StandsFor s h → s.last ≤ n → SameHome s t → t.last ≡ n
+    → ((xs : List PoolItem) → Fits s xs → Accepts s t before after n (CloseAct p) reply xs xs)
+    → Answers s t before after (record { moment = n; act = CloseAct p }) reply h
+close-own s t before after n p reply h z l home last_is v =
+    own-answers s t before after (record { moment = n; act = CloseAct p }) reply (of_pool s.pool h) h z
+    (rw (z.last_is, not-back n s.last l) refl)
+    refl (λ k. refl) (λ k. refl) home last_is (v (of_pool s.pool h) z.fits)

@@ -1,0 +1,305 @@
+-- What is said of a pool as a whole, and what is closed or ended by the way, follows the items of the pool.
+use Rattle.std.proofs.Common.{ℕ, ◌≡◌, arith, ◌+◌, Bool, true, false, ◌&&◌, ◌==◌, List, [], ◌∷◌, ◌++◌, Option, Some, None, is_some, refl, sym, ◌∙◌, ap, if◌then◌else◌, nat_lt}
+use Rattle.std.proofs.lemmas.Grind.{common_steps}
+use Rattle.std.proofs.lemmas.Bool.Decides.{nat_tests}
+use Rattle.mdb_base.specs.declared.object_id.ObjectId.{ObjectId}
+use Rattle.mdb_events.specs.declared.end.End.{End}
+use Rattle.mdb_base.specs.declared.error.Error.{Error}
+use Rattle.mdb_pool.specs.declared.connection.Connection.{Connection}
+use Rattle.mdb_pool.specs.declared.connection.Place.TheVariants.{Available}
+use Rattle.mdb_pool.specs.declared.request.Request.{Request}
+use Rattle.mdb_pool.specs.declared.request.Phase.TheVariants.{Ended as EndedPhase}
+use Rattle.mdb_pool.specs.declared.pool_core.PoolCore.{PoolCore}
+use Rattle.mdb_pool.specs.declared.status.Clear.{Clear}
+use Rattle.mdb_pool.specs.declared.status.Status.TheVariants.{Ready}
+use Rattle.mdb_pool.specs.History.{PoolItem, same_service, is_number, without, closed, checked_in, ended, raised, pool_ready}
+use Rattle.mdb_pool.specs.Kept.{connection_at, request_at, given_in, given_of, holder_at, state_in, clears_for, clears_before}
+use Rattle.mdb_pool.specs.Standing.{Matches}
+use Rattle.mdb_pool.specs.State.{state_of}
+use Rattle.mdb_pool.specs.Connections.{one_if, parties, available_list}
+use Rattle.mdb_pool.specs.Places.{is_pending, is_available, is_queued}
+use Rattle.mdb_pool.specs.Changes.{ending, discarding, cleared_status, raising}
+use Rattle.mdb_pool.proofs.Moves.{without-one, number-some}
+use Rattle.mdb_pool.proofs.Tables.{entry_at-others, map-filter-others, named-others, length-others, entry_at-swap, named-swap, where-swap_out}
+use Rattle.mdb_pool.proofs.MovesBack.{without-again}
+
+abbrev id_of : Connection → ℕ
+id_of x = x.id
+
+abbrev number_of : Request → ℕ
+number_of q = q.number
+
+-- an available connection is closed
+module _ (s : PoolCore) (xs : List PoolItem) (m : Matches s xs) (x : Connection) (at_x : connection_at s x.id ≡ Some x) (place : x.place ≡ Available) where
+  shut_connection : (c : ℕ) → connection_at (discarding s x) c ≡ if x.id == c then None else connection_at s c
+  shut_connection c = entry_at-others id_of c x.id s.connections
+
+  unheld : x.holder ≡ None
+  unheld = m.free x.id x at_x (ap is_available place)
+
+  pub discard-matches : Matches (discarding s x) (closed x.id ∷ xs)
+  discard-matches = record {
+    created = m.created;
+    live_all = grind (arith, m.live_all, length-others id_of x.id s.connections, m.single x.id, at_x);
+    pending = ap (without x.id) m.pending ∙ sym (map-filter-others id_of (λ y. is_pending y.place) x.id s.connections);
+    available = ap (without x.id) m.available ∙ sym (map-filter-others id_of (λ y. is_available y.place) x.id s.connections);
+    queue = m.queue;
+    single = λ c. grind (arith, named-others id_of c x.id s.connections, shut_connection c, m.single c);
+    unused = λ c h. grind (arith, shut_connection c, m.unused c h);
+    live = λ c. grind (arith, shut_connection c, m.live c, at_x);
+    parties = λ c. grind (arith, shut_connection c, m.parties c, at_x, unheld);
+    granted_to = λ c y e. grind (arith, shut_connection c, m.granted_to c y);
+    created_at = λ c y e. grind (arith, shut_connection c, m.created_at c y);
+    served = λ c. grind (arith, nat_tests, shut_connection c, m.served c, m.unused c, at_x);
+    service = λ c. grind (arith, nat_tests, shut_connection c, m.service c, m.unused c, at_x);
+    wire = λ c. grind (arith, nat_tests, shut_connection c, m.wire c, m.unused c, at_x);
+    given = m.given;
+    single_request = m.single_request;
+    asked_at = m.asked_at;
+    ends = m.ends;
+    taken = λ r c h. grind (arith, shut_connection c, m.taken r c, at_x, unheld);
+    owned = λ c r h. grind (arith, shut_connection c, m.owned c r);
+    known = λ c y e. grind (arith, shut_connection c, m.known c y);
+    free = λ c y e f. grind (arith, shut_connection c, m.free c y);
+    busy = λ c y e f. grind (arith, shut_connection c, m.busy c y);
+    waits = λ c y r e f g. grind (arith, shut_connection c, m.waits c y r);
+    left_by = λ c y e f g. grind (arith, shut_connection c, m.left_by c y);
+    status = m.status;
+    clears = m.clears;
+    before = m.before;
+    seen = m.seen;
+    no_warm = m.no_warm;
+    no_pin = m.no_pin;
+    no_error = λ c. grind (arith, nat_tests, shut_connection c, m.no_error c, m.unused c, at_x);
+    no_drop = λ c. grind (arith, nat_tests, shut_connection c, m.no_drop c, m.unused c, at_x);
+  }
+
+-- on a closed pool a connection that comes back is closed without being checked in
+pub skip-check-in : (s : PoolCore) (xs : List PoolItem) (c n : ℕ) → Matches s (closed c ∷ checked_in c n ∷ xs) → Matches s (closed c ∷ xs)
+skip-check-in s xs c n m = record {
+  created = m.created;
+  live_all = m.live_all;
+  pending = m.pending;
+  available = sym (without-again c (available_list xs)) ∙ m.available;
+  queue = m.queue;
+  single = m.single;
+  unused = m.unused;
+  live = m.live;
+  parties = m.parties;
+  granted_to = m.granted_to;
+  created_at = m.created_at;
+  served = m.served;
+  service = m.service;
+  wire = m.wire;
+  given = m.given;
+  single_request = m.single_request;
+  asked_at = m.asked_at;
+  ends = m.ends;
+  taken = m.taken;
+  owned = m.owned;
+  known = m.known;
+  free = m.free;
+  busy = m.busy;
+  waits = m.waits;
+  left_by = m.left_by;
+  status = m.status;
+  clears = m.clears;
+  before = m.before;
+  seen = m.seen;
+  no_warm = m.no_warm;
+  no_pin = m.no_pin;
+  no_error = m.no_error;
+  no_drop = m.no_drop;
+}
+
+-- a request that has no connection ends
+module _ (s : PoolCore) (xs : List PoolItem) (m : Matches s xs) (q : Request) (end : End) (at_q : request_at s q.number ≡ Some q) (none : given_in q.phase ≡ None) where
+  abbrev over_q : Request
+  over_q = record q { phase = EndedPhase end }
+
+  pub over_request : (r : ℕ) → request_at (ending s q end) r ≡ if q.number == r then Some over_q else request_at s r
+  over_request r = entry_at-swap number_of r over_q s.requests (ap is_some at_q)
+
+  given_none : given_of (request_at s q.number) ≡ None
+  given_none = ap given_of at_q ∙ none
+
+  quits : (c : ℕ) → without q.number (parties xs c) ≡ if is_number (holder_at (connection_at s c)) q.number then [] else parties xs c
+  quits c = rw (m.parties c) (without-one (holder_at (connection_at s c)) q.number)
+
+  nobody : (c : ℕ) → is_number (holder_at (connection_at s c)) q.number ≡ true → given_of (request_at s q.number) ≡ Some c
+  nobody c e = m.owned c q.number (number-some (holder_at (connection_at s c)) q.number e)
+
+  pub end-matches : Matches (ending s q end) (ended q.number end ∷ xs)
+  end-matches = record {
+    created = m.created;
+    live_all = m.live_all;
+    pending = m.pending;
+    available = m.available;
+    queue = ap (without q.number) m.queue ∙ sym (where-swap_out number_of (λ y. is_queued y.phase) over_q s.requests refl);
+    single = m.single;
+    unused = m.unused;
+    live = m.live;
+    parties = λ c. quits c ∙ grind (arith, m.parties c, nobody c, given_none);
+    granted_to = m.granted_to;
+    created_at = m.created_at;
+    served = m.served;
+    service = m.service;
+    wire = m.wire;
+    given = λ r. grind (arith, over_request r, m.given r);
+    single_request = λ r. grind (arith, named-swap number_of r over_q s.requests, over_request r, m.single_request r);
+    asked_at = λ r. grind (arith, over_request r, m.asked_at r);
+    ends = λ r. grind (arith, over_request r, m.ends r);
+    taken = λ k c h. grind (arith, over_request k, m.taken k c, at_q, none);
+    owned = λ c k h. grind (arith, over_request k, m.owned c k, at_q, none);
+    known = λ c y e. grind (arith, over_request y.party, m.known c y);
+    free = m.free;
+    busy = m.busy;
+    waits = m.waits;
+    left_by = λ c y e f g. grind (arith, over_request y.party, m.left_by c y, m.known c y);
+    status = m.status;
+    clears = m.clears;
+    before = m.before;
+    seen = m.seen;
+    no_warm = m.no_warm;
+    no_pin = m.no_pin;
+    no_error = m.no_error;
+    no_drop = m.no_drop;
+  }
+
+-- the pool is marked ready
+pub ready-matches : (s : PoolCore) (xs : List PoolItem) → Matches s xs → Matches (record s { status = Ready }) (pool_ready ∷ xs)
+ready-matches s xs m = record {
+  created = m.created;
+  live_all = m.live_all;
+  pending = m.pending;
+  available = m.available;
+  queue = m.queue;
+  single = m.single;
+  unused = m.unused;
+  live = m.live;
+  parties = m.parties;
+  granted_to = m.granted_to;
+  created_at = m.created_at;
+  served = m.served;
+  service = m.service;
+  wire = m.wire;
+  given = m.given;
+  single_request = m.single_request;
+  asked_at = m.asked_at;
+  ends = m.ends;
+  taken = m.taken;
+  owned = m.owned;
+  known = m.known;
+  free = m.free;
+  busy = m.busy;
+  waits = m.waits;
+  left_by = m.left_by;
+  status = refl;
+  clears = m.clears;
+  before = m.before;
+  seen = m.seen;
+  no_warm = m.no_warm;
+  no_pin = m.no_pin;
+  no_error = m.no_error;
+  no_drop = m.no_drop;
+}
+
+-- the last moment is nothing that the items say
+pub later-matches : (s : PoolCore) (xs : List PoolItem) (n : ℕ) → Matches s xs → Matches (record s { last = n }) xs
+later-matches s xs n m = record {
+  created = m.created;
+  live_all = m.live_all;
+  pending = m.pending;
+  available = m.available;
+  queue = m.queue;
+  single = m.single;
+  unused = m.unused;
+  live = m.live;
+  parties = m.parties;
+  granted_to = m.granted_to;
+  created_at = m.created_at;
+  served = m.served;
+  service = m.service;
+  wire = m.wire;
+  given = m.given;
+  single_request = m.single_request;
+  asked_at = m.asked_at;
+  ends = m.ends;
+  taken = m.taken;
+  owned = m.owned;
+  known = m.known;
+  free = m.free;
+  busy = m.busy;
+  waits = m.waits;
+  left_by = m.left_by;
+  status = m.status;
+  clears = m.clears;
+  before = m.before;
+  seen = m.seen;
+  no_warm = m.no_warm;
+  no_pin = m.no_pin;
+  no_error = m.no_error;
+  no_drop = m.no_drop;
+}
+
+clears_for-append : (t : Option ObjectId) (ks : List Clear) (k : Clear) → clears_for t (ks ++ k ∷ []) ≡ clears_for t ks + one_if (same_service k.service t)
+clears_for-append t [] k = grind (arith, common_steps)
+clears_for-append t (j ∷ ks) k = grind (arith, common_steps, clears_for-append t ks k)
+
+clears_before-append : (c : ℕ) (t : Option ObjectId) (ks : List Clear) (k : Clear) → clears_before c t (ks ++ k ∷ []) ≡ clears_before c t ks + one_if (same_service k.service t && nat_lt k.after c)
+clears_before-append c t [] k = grind (arith, common_steps)
+clears_before-append c t (j ∷ ks) k = grind (arith, common_steps, clears_before-append c t ks k)
+
+and-yes : (b : Bool) → b && true ≡ b
+and-yes true = refl
+and-yes false = refl
+
+and-no : (b : Bool) → b && false ≡ false
+and-no true = refl
+and-no false = refl
+
+-- the pool is cleared
+module _ (s : PoolCore) (xs : List PoolItem) (m : Matches s xs) (n : ℕ) (service : Option ObjectId) (error : Error) where
+  abbrev clear_now : Clear
+  clear_now = record { service = service; after = s.created }
+
+  paused : (t : Option ObjectId) → service ≡ t → state_of s.options (raised service error ∷ xs) ≡ state_in (cleared_status s service error)
+  paused None e = rw e refl
+  paused (Some t) e = rw e m.status
+
+  pub raise-matches : Matches (raising s n service error) (raised service error ∷ xs)
+  raise-matches = record {
+    created = m.created;
+    live_all = m.live_all;
+    pending = m.pending;
+    available = m.available;
+    queue = m.queue;
+    single = m.single;
+    unused = m.unused;
+    live = m.live;
+    parties = m.parties;
+    granted_to = m.granted_to;
+    created_at = m.created_at;
+    served = m.served;
+    service = m.service;
+    wire = m.wire;
+    given = m.given;
+    single_request = m.single_request;
+    asked_at = m.asked_at;
+    ends = m.ends;
+    taken = m.taken;
+    owned = m.owned;
+    known = m.known;
+    free = m.free;
+    busy = m.busy;
+    waits = m.waits;
+    left_by = m.left_by;
+    status = paused service refl;
+    clears = λ t. ap (λ k. k + one_if (same_service service t)) (m.clears t) ∙ sym (clears_for-append t s.clears clear_now);
+    before = λ c t h. m.before c t h ∙ (sym (let e : nat_lt s.created c ≡ false = grind (arith, nat_tests) in rw (clears_before-append c t s.clears clear_now, e, and-no (same_service service t)) (omega arith)));
+    seen = λ c t h. let e : nat_lt s.created c ≡ true = grind (arith, nat_tests) in rw (clears_before-append c t s.clears clear_now, clears_for-append t s.clears clear_now, e, and-yes (same_service service t), m.seen c t h) refl;
+    no_warm = m.no_warm;
+    no_pin = m.no_pin;
+    no_error = m.no_error;
+    no_drop = m.no_drop;
+  }

@@ -1,0 +1,90 @@
+-- What a mark as ready does is the answer to its step.
+use Rattle.std.proofs.Common.{ℕ, ◌≡◌, ◌≤◌, ◌||◌, List, [], ◌∷◌, ◌++◌, refl, ◌∙◌, ap, if◌then◌else◌}
+use Rattle.mdb_events.specs.declared.fact.Fact.{Fact}
+use Rattle.mdb_events.specs.declared.fact.Fact.TheVariants.{Pool}
+use Rattle.mdb_events.specs.declared.cmap.CmapEvent.TheVariants.{PoolReady}
+use Rattle.mdb_pool.specs.declared.step.Act.TheVariants.{Ready as ReadyAct}
+use Rattle.mdb_pool.specs.declared.reply.Reply.{Reply}
+use Rattle.mdb_pool.specs.declared.reply.Reply.TheVariants.{Done}
+use Rattle.mdb_pool.specs.declared.status.Status.{Status}
+use Rattle.mdb_pool.specs.declared.status.Status.TheVariants.{New, Ready, Paused, Closed}
+use Rattle.mdb_pool.specs.declared.pool_core.PoolCore.{PoolCore}
+use Rattle.mdb_pool.specs.History.{Item, PoolItem, of_pool, after_facts}
+use Rattle.mdb_pool.specs.Connections.{has}
+use Rattle.mdb_pool.specs.Facts.{readied}
+use Rattle.mdb_pool.specs.State.{state_of}
+use Rattle.mdb_pool.specs.Kept.{state_in, is_shut, is_ready_now}
+use Rattle.mdb_pool.specs.Changes.{readied_to, readied_facts}
+use Rattle.mdb_pool.specs.Legal.{AllFirstCome, AllOwn, shuts}
+use Rattle.mdb_pool.specs.Standing.{Fits, StandsFor, Serves, Accepts, Answers, SameHome, SameNotes}
+use Rattle.mdb_pool.proofs.Acts.{accepts, own-answers, not-back}
+use Rattle.mdb_pool.proofs.Serving.{same-number}
+use Rattle.mdb_pool.proofs.Stands.{later-fits, ready-fits}
+
+module _ (s : PoolCore) (xs : List PoolItem) (z : Fits s xs) (n : ℕ) where
+  abbrev ready_fact : Fact
+  ready_fact = Pool s.pool (PoolReady (record { address = s.address }))
+
+  -- what the mark says of a pool that is so
+  abbrev says : Status → List Fact
+  says t = if is_ready_now t || is_shut t then [] else (ready_fact ∷ [])
+
+  abbrev leads : Status → Status
+  leads t = if is_ready_now t || is_shut t then t else Ready
+
+  ready-are : (t : Status) → state_of s.options xs ≡ state_in t → readied s.pool s.address s.options n xs ≡ says t
+  ready-are New e = rw e refl
+  ready-are Ready e = rw e refl
+  ready-are (Paused error) e = rw e refl
+  ready-are Closed e = rw e refl
+
+  becomes-ready : Fits (record s { last = n; status = Ready }) (after_facts s.pool n (ready_fact ∷ []) xs)
+  becomes-ready = rw (same-number s.pool) (ready-fits (record s { last = n }) xs (later-fits s xs z n) n)
+
+  ready-fits-for : (t : Status) → s.status ≡ t → Fits (record s { last = n; status = leads t }) (after_facts s.pool n (says t) xs)
+  ready-fits-for New e = becomes-ready
+  ready-fits-for Ready e = rw (← e) (later-fits s xs z n)
+  ready-fits-for (Paused error) e = becomes-ready
+  ready-fits-for Closed e = rw (← e) (later-fits s xs z n)
+
+  leads-open : (t : Status) → is_shut (leads t) ≡ shuts (says t) || is_shut t
+  leads-open New = refl
+  leads-open Ready = refl
+  leads-open (Paused error) = refl
+  leads-open Closed = refl
+
+  says-fair : (t : Status) → AllFirstCome s.pool n xs (says t)
+  says-fair New = (tt, tt)
+  says-fair Ready = tt
+  says-fair (Paused error) = (tt, tt)
+  says-fair Closed = tt
+
+  says-own : (t : Status) → AllOwn s.pool n xs (says t)
+  says-own New = (refl, tt)
+  says-own Ready = tt
+  says-own (Paused error) = (refl, tt)
+  says-own Closed = tt
+
+pub ready-accepts : (s s1 t : PoolCore) (before f1 after : List Fact) (n p : ℕ) (xs : List PoolItem) → Fits s xs → s1 ≡ readied_to s n → f1 ≡ before ++ readied_facts s → SameHome s1 t → SameNotes s1 t
+    → ((k : List PoolItem) → Fits s1 k → Serves s1 t n f1 after k)
+    → Accepts s t before after n (ReadyAct p) Done xs xs
+ready-accepts s s1 t before f1 after n p xs z s1_is f1_is home notes serves =
+    accepts s s1 t t before f1 after n (ReadyAct p) Done (readied_facts s) xs xs
+    (ready-are s xs z n s.status z.matches.status)
+    f1_is (rw s1_is (record { pool = refl; address = refl; options = refl })) (rw s1_is (ready-fits-for s xs z n s.status refl)) serves
+    (λ zs v. v)
+    (λ claims own zs m. refl)
+    tt
+    (ap is_shut (notes.status ∙ ap (λ k. k.status) s1_is) ∙ leads-open s xs z n s.status)
+    (λ r. ap (has r) (notes.settled ∙ ap (λ k. k.settled) s1_is))
+    (λ c. ap (has c) (notes.claimed ∙ ap (λ k. k.claimed) s1_is))
+    (says-fair s xs z n s.status)
+    (says-own s xs z n s.status)
+
+pub ready-own : (s t : PoolCore) (before after : List Fact) (n p : ℕ) (reply : Reply) (h : List Item) → StandsFor s h → s.last ≤ n → SameHome s t → t.last ≡ n
+    → ((xs : List PoolItem) → Fits s xs → Accepts s t before after n (ReadyAct p) reply xs xs)
+    → Answers s t before after (record { moment = n; act = ReadyAct p }) reply h
+ready-own s t before after n p reply h z l home last_is v =
+    own-answers s t before after (record { moment = n; act = ReadyAct p }) reply (of_pool s.pool h) h z
+    (rw (z.last_is, not-back n s.last l) refl)
+    refl (λ k. refl) (λ k. refl) home last_is (v (of_pool s.pool h) z.fits)

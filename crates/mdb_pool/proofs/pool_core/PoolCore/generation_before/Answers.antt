@@ -1,0 +1,9 @@
+use Rattle.std.proofs.Common.{rules, ◌∙◌}
+use Rattle.mdb_pool.proofs.Getters.{before-now}
+use Rattle.mdb_pool.proofs.pool_core.PoolCore.generation_before.Goals as goal
+
+pub returns-clause-kept : goal.returns-clause-kept
+returns-clause-kept c = search rules
+
+pub returns-clause-history : goal.returns-clause-history
+returns-clause-history c = λ h z. returns-clause-kept c ∙ before-now c.args.self.now h z c.args.id c.args.service

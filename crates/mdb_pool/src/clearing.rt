@@ -1,0 +1,240 @@
+//! The connections of a pool become stale.
+
+ghost use Rattle.std.specs.Prelude.{◌≡◌, ◌++◌, ◌∷◌, ◌-◌, [], OnOk, OnErr, IfOk, List, false};
+
+use super::request::{Phase, Request};
+use super::status::{Clear, Status};
+use super::table::Keyed;
+use super::{Act, PoolCore, Refused, Reply, Step, What};
+use mdb_base::{Error, Moment, ObjectId, OutOfMemory};
+use mdb_events::{CmapEvent, End, Fact, PoolClearedEvent};
+use std::alloc::{AllocError, Global};
+
+impl PoolCore {
+    ghost use Rattle.mdb_pool.specs.Changes.{ending, raising, pool_cleared_fact, off_fact};
+    ghost use Rattle.mdb_pool.specs.Standing.{SameHome, SameNotes, Fits, EndsQueue, Clears, Accepts, StandsFor, Answers};
+    ghost use Rattle.mdb_pool.specs.History.{Item, PoolItem};
+    ghost use Rattle.mdb_pool.specs.Kept.{is_ready_now, is_shut, exhausted_now};
+    ghost use Rattle.std.specs.Prelude.{true, None};
+    ghost use Rattle.mdb_pool.specs.declared.step.Act.TheVariants.{Clear as ClearAct};
+    ghost use Rattle.mdb_events.specs.declared.fact.Fact.TheVariants.{Ended, Raised};
+    ghost use Rattle.mdb_events.specs.declared.end.End.TheVariants.{Cleared};
+
+    // A queued request ends.
+    fn end_cleared(
+        &mut self,
+        alloc: Global,
+        facts: &mut Vec<Fact>,
+        moment: Moment,
+        request: Request,
+        cause: &Error,
+    ) -> Result<(), AllocError>
+        ensures core { OnOk result (self.new ≡ ending self.old request (Cleared cause.now)) }
+        ensures facts { OnOk result (facts.new.items ≡ facts.old.items ++ Ended request.number (Cleared cause.now) ∷ off_fact self.old (moment - request.asked_at) ∷ []) }
+    {
+        let told = cause.clone()?;
+        let kept = cause.clone()?;
+        let waited = moment.saturating_sub(request.asked_at);
+        self.push_end(facts, request.number, waited, End::Cleared(told))?;
+        self.requests.replace(
+            alloc,
+            &Request {
+                phase: Phase::Ended(End::Cleared(kept)),
+                ..request
+            },
+        )?;
+        Ok(())
+    }
+
+    // All queued requests end, in their order.
+    fn end_queue(
+        &mut self,
+        alloc: Global,
+        facts: &mut Vec<Fact>,
+        moment: Moment,
+        cause: &Error,
+    ) -> Result<(), AllocError>
+        ensures home { OnOk result (SameHome self.old self.new) }
+        ensures last { OnOk result (self.new.last ≡ self.old.last) }
+        ensures notes { OnOk result (SameNotes self.old self.new) }
+        ensures ends { OnOk result ((xs : List PoolItem) → Fits self.old xs → EndsQueue self.old self.new moment (Cleared cause.now) facts.old.items facts.new.items xs) }
+    {
+        while let Some(request) = self.first_queued() {
+            let request = request.copy()?;
+            self.end_cleared(alloc, facts, moment, request, cause)?;
+        }
+        Ok(())
+    }
+
+    // The pool, or a service of it, is cleared.
+    fn raise(
+        &mut self,
+        facts: &mut Vec<Fact>,
+        moment: Moment,
+        service: Option<ObjectId>,
+        cause: &Error,
+    ) -> Result<(), AllocError>
+        ensures core { OnOk result (self.new ≡ raising self.old moment service cause.now) }
+        ensures facts { OnOk result (facts.new.items ≡ facts.old.items ++ Raised self.old.pool service cause.now ∷ []) }
+    {
+        let told = cause.clone()?;
+        facts.push(Fact::Raised(self.pool, service, told))?;
+        self.clears.push(Clear {
+            service,
+            after: self.created,
+        })?;
+        self.last = moment;
+        if service.is_some() {
+            return Ok(());
+        }
+        self.status = Status::Paused(cause.clone()?);
+        Ok(())
+    }
+
+    // A clear is told of.
+    fn push_cleared(
+        &self,
+        facts: &mut Vec<Fact>,
+        service: Option<ObjectId>,
+        cause: &Error,
+    ) -> Result<(), AllocError>
+        ensures { OnOk result (facts.new.items ≡ facts.old.items ++ pool_cleared_fact self.now service cause.now ∷ []) }
+    {
+        let address = self.address.clone()?;
+        facts.push(Fact::Pool(
+            self.pool,
+            CmapEvent::PoolCleared(PoolClearedEvent {
+                address,
+                service_id: service,
+                interrupt_in_use_connections: cause.is_network_timeout(),
+            }),
+        ))?;
+        Ok(())
+    }
+
+    // A clear of a pool that is ready, as a whole: the queue ends.
+    fn clear_ready(
+        &mut self,
+        alloc: Global,
+        facts: &mut Vec<Fact>,
+        moment: Moment,
+        cause: &Error,
+    ) -> Result<(), AllocError>
+        requires { is_ready_now self.old.status ≡ true }
+        ensures home { OnOk result (SameHome self.old self.new) }
+        ensures last { OnOk result (self.new.last ≡ moment) }
+        ensures moves { OnOk result ((xs : List PoolItem) → Fits self.old xs → Clears self.old self.new moment None cause.now facts.old.items facts.new.items xs) }
+    {
+        self.raise(facts, moment, None, cause)?;
+        self.push_cleared(facts, None, cause)?;
+        self.end_queue(alloc, facts, moment, cause)?;
+        Ok(())
+    }
+
+    // A clear of a pool that is not closed.
+    fn clear_open(
+        &mut self,
+        alloc: Global,
+        facts: &mut Vec<Fact>,
+        moment: Moment,
+        service: Option<ObjectId>,
+        cause: &Error,
+    ) -> Result<(), AllocError>
+        requires { is_shut self.old.status ≡ false }
+        ensures home { OnOk result (SameHome self.old self.new) }
+        ensures last { OnOk result (self.new.last ≡ moment) }
+        ensures moves { OnOk result ((xs : List PoolItem) → Fits self.old xs → Clears self.old self.new moment service cause.now facts.old.items facts.new.items xs) }
+    {
+        if service.is_some() {
+            self.raise(facts, moment, service, cause)?;
+            self.push_cleared(facts, service, cause)?;
+            return Ok(());
+        }
+        if self.status.is_ready() {
+            self.clear_ready(alloc, facts, moment, cause)?;
+            return Ok(());
+        }
+        self.raise(facts, moment, None, cause)?;
+        Ok(())
+    }
+
+    /// The pool, or a service of it, is cleared (CMAP, "Clearing a Connection Pool"). Whoever calls has tested the refusals.
+    pub fn accept_clear(
+        &mut self,
+        alloc: Global,
+        facts: &mut Vec<Fact>,
+        moment: Moment,
+        pool: u32,
+        service: Option<ObjectId>,
+        cause: &Error,
+    ) -> Result<Reply, AllocError>
+        ensures home { OnOk result (SameHome self.old self.new) }
+        ensures last { OnOk result (self.new.last ≡ moment) }
+        ensures accepts { IfOk result (λ reply. (xs : List PoolItem) → Fits self.old xs → Accepts self.old self.new facts.old.items facts.new.items moment (ClearAct pool service cause.now) reply xs xs) }
+    {
+        if self.status.is_closed() {
+            self.last = moment;
+            self.serve(alloc, facts, moment)?;
+            return Ok(Reply::Done);
+        }
+        self.clear_open(alloc, facts, moment, service, cause)?;
+        self.serve(alloc, facts, moment)?;
+        Ok(Reply::Done)
+    }
+
+    // One more clear would pass the limit of the generation.
+    fn is_exhausted(&self, service: Option<ObjectId>) -> bool
+        ensures { result ≡ exhausted_now self.now service }
+    {
+        !self.status.is_closed() && self.options.limit_generation <= self.generation(service)
+    }
+
+    // Refuses the clear, or accepts it.
+    pub(super) fn try_clear(
+        &mut self,
+        alloc: Global,
+        facts: &mut Vec<Fact>,
+        moment: Moment,
+        pool: u32,
+        service: Option<ObjectId>,
+        cause: &Error,
+    ) -> Result<Reply, AllocError>
+        ensures home { OnOk result (SameHome self.old self.new) }
+        ensures answers { IfOk result (λ reply. (h : List Item) → StandsFor self.old h → Answers self.old self.new facts.old.items facts.new.items (record { moment = moment; act = ClearAct pool service cause.now }) reply h) }
+    {
+        if moment < self.last {
+            return Ok(Reply::Refused(Refused::TimeBack(self.last)));
+        }
+        if service.is_some() != self.options.load_balanced {
+            return Ok(Reply::Refused(Refused::WrongMode));
+        }
+        if self.is_exhausted(service) {
+            return Ok(Reply::Refused(Refused::Exhausted(What::Generation)));
+        }
+        let reply = self.accept_clear(alloc, facts, moment, pool, service, cause)?;
+        Ok(reply)
+    }
+
+    /// The connections of the pool, or those of a service where it is load balanced, become stale; a normal pool is paused, and its queued requests
+    /// end with the cause (CMAP, "Clearing a Connection Pool"). A closed pool stays as it is. Refused as `TimeBack`, as `WrongMode` where a normal
+    /// pool is given a service or a load-balanced one none, or as `Exhausted` where the generation would pass its limit.
+    pub fn clear(
+        &mut self,
+        alloc: Global,
+        facts: &mut Vec<Fact>,
+        moment: Moment,
+        service: Option<ObjectId>,
+        cause: Error,
+    ) -> Result<Reply, OutOfMemory>
+        ensures home { OnOk result (SameHome self.old self.new) }
+        ensures answers { IfOk result (λ reply. (h : List Item) → StandsFor self.old h → Answers self.old self.new facts.old.items facts.new.items (record { moment = moment; act = ClearAct self.old.pool service cause }) reply h) }
+        ensures err_core { OnErr result (self.new ≡ self.old) }
+        ensures err_facts { OnErr result (facts.new.items ≡ facts.old.items) }
+    {
+        let step = Step {
+            moment,
+            act: Act::Clear(self.pool, service, cause),
+        };
+        self.attempt(alloc, facts, &step)
+    }
+}

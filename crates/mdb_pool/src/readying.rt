@@ -1,0 +1,86 @@
+//! A pool is marked ready.
+
+ghost use Rattle.std.specs.Prelude.{◌≡◌, ◌++◌, ◌∷◌, [], OnOk, OnErr, IfOk, List};
+
+use super::status::Status;
+use super::{Act, PoolCore, Refused, Reply, Step};
+use mdb_base::{Moment, OutOfMemory};
+use mdb_events::{CmapEvent, Fact, PoolReadyEvent};
+use std::alloc::{AllocError, Global};
+
+impl PoolCore {
+    ghost use Rattle.mdb_pool.specs.Changes.{readied_to, readied_facts};
+    ghost use Rattle.mdb_pool.specs.Standing.{SameHome, Fits, Accepts, StandsFor, Answers};
+    ghost use Rattle.mdb_pool.specs.History.{Item, PoolItem};
+    ghost use Rattle.mdb_pool.specs.declared.step.Act.TheVariants.{Ready as ReadyAct};
+
+    // A pool that is new or paused becomes ready.
+    fn make_ready(&mut self, facts: &mut Vec<Fact>, moment: Moment) -> Result<(), AllocError>
+        ensures core { OnOk result (self.new ≡ readied_to self.old moment) }
+        ensures facts { OnOk result (facts.new.items ≡ facts.old.items ++ readied_facts self.old) }
+    {
+        self.last = moment;
+        if self.status.is_ready() || self.status.is_closed() {
+            return Ok(());
+        }
+        let address = self.address.clone()?;
+        facts.push(Fact::Pool(self.pool, CmapEvent::PoolReady(PoolReadyEvent { address })))?;
+        self.status = Status::Ready;
+        Ok(())
+    }
+
+    /// A new or paused pool becomes ready, and is then served. Whoever calls has tested the refusals.
+    pub fn accept_ready(
+        &mut self,
+        alloc: Global,
+        facts: &mut Vec<Fact>,
+        moment: Moment,
+        pool: u32,
+    ) -> Result<Reply, AllocError>
+        ensures home { OnOk result (SameHome self.old self.new) }
+        ensures last { OnOk result (self.new.last ≡ moment) }
+        ensures accepts { IfOk result (λ reply. (xs : List PoolItem) → Fits self.old xs → Accepts self.old self.new facts.old.items facts.new.items moment (ReadyAct pool) reply xs xs) }
+    {
+        self.make_ready(facts, moment)?;
+        self.serve(alloc, facts, moment)?;
+        Ok(Reply::Done)
+    }
+
+    // Refuses the mark, or accepts it.
+    pub(super) fn try_ready(
+        &mut self,
+        alloc: Global,
+        facts: &mut Vec<Fact>,
+        moment: Moment,
+        pool: u32,
+    ) -> Result<Reply, AllocError>
+        ensures home { OnOk result (SameHome self.old self.new) }
+        ensures answers { IfOk result (λ reply. (h : List Item) → StandsFor self.old h → Answers self.old self.new facts.old.items facts.new.items (record { moment = moment; act = ReadyAct pool }) reply h) }
+    {
+        if moment < self.last {
+            return Ok(Reply::Refused(Refused::TimeBack(self.last)));
+        }
+        let reply = self.accept_ready(alloc, facts, moment, pool)?;
+        Ok(reply)
+    }
+
+    /// The pool may be used from now on (CMAP, "Marking a Connection Pool as Ready"). A ready one stays ready, a closed one closed. Refused as
+    /// `TimeBack`.
+    pub fn mark_as_ready(
+        &mut self,
+        alloc: Global,
+        facts: &mut Vec<Fact>,
+        moment: Moment,
+    ) -> Result<Reply, OutOfMemory>
+        ensures home { OnOk result (SameHome self.old self.new) }
+        ensures answers { IfOk result (λ reply. (h : List Item) → StandsFor self.old h → Answers self.old self.new facts.old.items facts.new.items (record { moment = moment; act = ReadyAct self.old.pool }) reply h) }
+        ensures err_core { OnErr result (self.new ≡ self.old) }
+        ensures err_facts { OnErr result (facts.new.items ≡ facts.old.items) }
+    {
+        let step = Step {
+            moment,
+            act: Act::Ready(self.pool),
+        };
+        self.attempt(alloc, facts, &step)
+    }
+}

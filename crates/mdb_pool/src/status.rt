@@ -1,0 +1,74 @@
+//! Whether a pool may be used, and its clears.
+
+use mdb_base::{Error, ObjectId};
+use std::alloc::AllocError;
+
+/// Whether a pool may be used (CMAP, "Connection Pool").
+#[derive(Clone, Copy, Debug, PartialEq, Eq)]
+pub enum PoolState {
+    /// It was never marked ready.
+    New,
+    /// Connections can be checked out.
+    Ready,
+    /// It was cleared as a whole, and not marked ready since.
+    Paused,
+    /// It was closed for good.
+    Closed,
+}
+
+/// What a pool is, with the cause of a pause.
+#[derive(Drop)]
+pub enum Status {
+    New,
+    Ready,
+    Paused(Error),
+    Closed,
+}
+
+/// A clear of the pool, or of one service of it, and how many connections were created before it.
+#[derive(Clone, Copy)]
+pub struct Clear {
+    pub service: Option<ObjectId>,
+    pub after: u32,
+}
+
+impl Status {
+    ghost use Rattle.std.specs.Prelude.{◌≡◌, IfOk};
+    ghost use Rattle.mdb_pool.specs.Kept.{is_ready_now, is_shut, state_in};
+    ghost use Rattle.mdb_pool.specs.State.{is_ready, is_new};
+    ghost use Rattle.std.specs.Prelude.{if◌then◌else◌, false};
+
+    /// A load-balanced pool is ready from the first, a normal one new.
+    pub fn at_first(load_balanced: bool) -> Status
+        ensures state { state_in result ≡ if load_balanced then is_ready else is_new }
+        ensures open { is_shut result ≡ false }
+    {
+        if load_balanced {
+            return Status::Ready;
+        }
+        Status::New
+    }
+
+    pub fn is_ready(&self) -> bool
+        ensures { result ≡ is_ready_now self.now }
+    {
+        matches!(self, Status::Ready)
+    }
+
+    pub fn is_closed(&self) -> bool
+        ensures { result ≡ is_shut self.now }
+    {
+        matches!(self, Status::Closed)
+    }
+
+    pub fn copy(&self) -> Result<Status, AllocError>
+        ensures { IfOk result (λ copy. copy ≡ self.now) }
+    {
+        Ok(match self {
+            Status::New => Status::New,
+            Status::Ready => Status::Ready,
+            Status::Paused(cause) => Status::Paused(cause.clone()?),
+            Status::Closed => Status::Closed,
+        })
+    }
+}
