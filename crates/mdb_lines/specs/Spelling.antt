@@ -28,7 +28,7 @@ abbrev pub failed_at_text : FailedAt → List ℕ
 failed_at_text at.Pre = codes " pre"
 failed_at_text (at.Post service) = codes " post" ++ part_text (codes " sid=") (option_map object_id service)
 
--- An act's line at a moment. No line spells that a pool is readied, cleared or closed.
+-- An act's line at a moment. No line spells that a pool is readied, cleared or closed, nor so far what concerns the topology.
 abbrev pub act_text : ℕ → Act → List ℕ
 act_text m (act.Open o) = open_text o
 act_text m (act.Request r a) = codes "request " ++ (decimal m ++ (codes " " ++ (decimal r ++ (codes " " ++ address a))))
@@ -44,9 +44,7 @@ act_text m (act.Replicate p c) = codes "replicate " ++ (decimal m ++ (codes " " 
 act_text m (act.Take r p c) = codes "take " ++ (decimal m ++ (codes " " ++ (decimal r ++ (codes " " ++ (decimal p ++ (codes " " ++ decimal c))))))
 act_text m (act.Unpin p c) = codes "unpin " ++ (decimal m ++ (codes " " ++ (decimal p ++ (codes " " ++ decimal c))))
 act_text m (act.Maintain a) = codes "maintain " ++ (decimal m ++ (codes " " ++ address a))
-act_text m (act.Ready p) = []
-act_text m (act.Clear p s e) = []
-act_text m (act.Close p) = []
+act_text m _ = []
 
 -- a step's line, without the newline
 abbrev pub spelling : Step → List ℕ
@@ -56,6 +54,16 @@ abbrev pub is_spelled : Act → Bool
 is_spelled (act.Ready p) = false
 is_spelled (act.Clear p s e) = false
 is_spelled (act.Close p) = false
+is_spelled (act.Error r e) = false
+is_spelled (act.Hello a p came) = false
+is_spelled (act.Beat a p) = false
+is_spelled (act.Beaten a p n came) = false
+is_spelled (act.Rtt a p n) = false
+is_spelled (act.Hosts hosts) = false
+is_spelled (act.ClusterTime t) = false
+is_spelled (act.Want w) = false
+is_spelled (act.Unwant w) = false
+is_spelled act.Stop = false
 is_spelled _ = true
 
 -- A line spells such a step.

@@ -17,6 +17,7 @@ use crate::pin_lines::{pin, replicate, take, unpin};
 use crate::rules::{is_printable, keeps_place, keeps_rules};
 use crate::types::step_types;
 use crate::words::cut;
+use mdb_base::OutOfMemory;
 use mdb_pool::Step;
 use std::alloc::Global;
 
@@ -64,6 +65,20 @@ fn guess(alloc: Global, line: &[u8], number: u32) -> Result<Step, LineError>
     }
 }
 
+// Whether the line spells the step.
+fn is_spelled(alloc: Global, step: &Step, line: &[u8], number: u32) -> Result<bool, OutOfMemory>
+    requires printable { is_printable line.now ≡ true }
+    ensures yes { IfOk result (λ spelled. spelled ≡ true → Spells number line.now step.now) }
+    ensures no { IfOk result (λ spelled. Spells number line.now step.now → spelled ≡ true) }
+{
+    step_types(step);
+    if !keeps_rules(step) || !keeps_place(step, number) {
+        return Ok(false);
+    }
+    let spelled = write_line(alloc, step)?;
+    Ok(spelled.as_bytes() == line)
+}
+
 /// The step that a line spells, given without its newline. The first line of a script has the number 1 and opens, and no
 /// other. `Bad` where it spells none.
 pub fn read_line(alloc: Global, line: &[u8], number: u32) -> Result<Step, LineError>
@@ -74,15 +89,7 @@ pub fn read_line(alloc: Global, line: &[u8], number: u32) -> Result<Step, LineEr
     ensures only { (s : Step) → Spells number line.now s → Gives s result }
 {
     let found = guess(alloc, line, number)?;
-    step_types(&found);
-    if !keeps_rules(&found) {
-        return Err(LineError::Bad);
-    }
-    if !keeps_place(&found, number) {
-        return Err(LineError::Bad);
-    }
-    let spelled = write_line(alloc, &found)?;
-    if spelled.as_bytes() == line {
+    if is_spelled(alloc, &found, line, number)? {
         Ok(found)
     } else {
         Err(LineError::Bad)

@@ -162,9 +162,7 @@ impl fmt::Display for LineText<'_> {
             }
             Act::Unpin(p, c) => write!(f, "unpin {m} {p} {c}"),
             Act::Maintain(address) => write!(f, "maintain {m} {address}"),
-            Act::Ready(_) => Ok(()),
-            Act::Clear(_, _, _) => Ok(()),
-            Act::Close(_) => Ok(()),
+            _ => Ok(()),
         }
     }
 }

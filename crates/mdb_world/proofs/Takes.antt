@@ -1,0 +1,149 @@
+-- After an accepted act of one pool the pools stand for the longer history.
+use Rattle.std.proofs.Common.{ℕ, ◌≡◌, ◌≢◌, ◌==◌, ◌||◌, ◌&&◌, Bool, true, false, not, List, [], ◌∷◌, set, Option, Some, None, is_some, refl, sym, ◌∙◌, ap, subst, arith}
+use Rattle.std.specs.Prelude.{slice_get}
+use Rattle.mdb_events.specs.declared.fact.Fact.{Fact}
+use Rattle.mdb_pool.specs.declared.options.PoolOptions.{PoolOptions}
+use Rattle.mdb_pool.specs.declared.step.Step.{Step}
+use Rattle.mdb_pool.specs.declared.step.Act.{Act}
+use Rattle.mdb_pool.specs.declared.step.Act.TheVariants.{Request, Warm, Collect, Claim, GiveUp}
+use Rattle.mdb_pool.specs.declared.reply.Reply.{Reply}
+use Rattle.mdb_events.specs.declared.end.End.{End}
+use Rattle.mdb_pool.specs.declared.pool_core.PoolCore.{PoolCore}
+use Rattle.mdb_pool.specs.History.{Item, did, PoolItem, of_pool, with_facts, with_answer, after_facts, last_moment, given}
+use Rattle.mdb_pool.specs.Connections.{has, pending_list}
+use Rattle.mdb_pool.specs.Requests.{some_act, names_party, was_asked, leaves, told, asks_how, is_outcome, is_claimed, end_of, outcome_of}
+use Rattle.mdb_pool.specs.Answer.{all_facts, first_job, reply_of}
+use Rattle.mdb_pool.specs.Kept.{request_at}
+use Rattle.mdb_pool.specs.Legal.{IsServed, shuts}
+use Rattle.mdb_pool.specs.Facts.{act_facts}
+use Rattle.mdb_pool.proofs.Laws.{with-serve, size}
+use Rattle.mdb_pool.specs.Legal.{AllFirstCome as PoolFirstCome}
+use Rattle.mdb_pool.specs.Standing.{Accepts, SameHome, settles, is_job}
+use Rattle.mdb_pool.proofs.Acts.{with_answer-accepted, opens-after, claimed-reply}
+use Rattle.mdb_pool.proofs.Frame.{party-facts, last-facts, acts-facts, open-facts, told-facts, claimed-facts, other-number}
+use Rattle.mdb_world.specs.Standing.{PoolFits, PoolsStand, Takes}
+use Rattle.mdb_world.proofs.Facts.{homes-facts, fair-facts, fair-accepted}
+use Rattle.mdb_world.proofs.Unshut.{act-open}
+use Rattle.mdb_world.proofs.Calls.{Moved, moved}
+use Rattle.mdb_world.proofs.Steps.{Concerns, answer-is, here, there}
+
+-- a job is told by the pool that has it
+outcome-no-job : (p q : ℕ) (xs : List PoolItem) (r c : ℕ) → is_job q (outcome_of p xs r) c ≡ false
+outcome-no-job p q xs r c = on (end_of xs r) (given xs r) refl refl
+  where
+    at_pending : (d : ℕ) (b : Bool) → end_of xs r ≡ None → given xs r ≡ Some d → has d (pending_list xs) ≡ b → is_job q (outcome_of p xs r) c ≡ false
+    at_pending d true e f g = rw (e, f, g) refl
+    at_pending d false e f g = rw (e, f, g) refl
+
+    on : (a : Option End) (b : Option ℕ) → end_of xs r ≡ a → given xs r ≡ b → is_job q (outcome_of p xs r) c ≡ false
+    on (Some end) b e f = rw e refl
+    on None None e f = rw (e, f) refl
+    on None (Some d) e f = at_pending d (has d (pending_list xs)) e f refl
+
+first-no-job : (p q c : ℕ) → p ≢ q → (claimed : ℕ → Bool) (cs : List ℕ) → is_job q (first_job p claimed cs) c ≡ false
+first-no-job p q c ne claimed [] = refl
+first-no-job p q c ne claimed (d ∷ cs) = on (claimed d) refl (first-no-job p q c ne claimed cs)
+  where
+    on : (b : Bool) → claimed d ≡ b → is_job q (first_job p claimed cs) c ≡ false → is_job q (first_job p claimed (d ∷ cs)) c ≡ false
+    on true e rest = rw e rest
+    on false e rest = rw (e, other-number p q ne) refl
+
+other-job : (p q c : ℕ) → p ≢ q → (claimed : ℕ → Bool) (xs zs : List PoolItem) (act : Act) → is_job q (reply_of p claimed xs zs act) c ≡ false
+other-job p q c ne claimed xs zs (Request r a) = outcome-no-job p q zs r c
+other-job p q c ne claimed xs zs (Warm r a) = outcome-no-job p q zs r c
+other-job p q c ne claimed xs zs (Collect r) = outcome-no-job p q zs r c
+other-job p q c ne claimed xs zs Claim = first-no-job p q c ne claimed (pending_list xs)
+other-job p q c ne claimed xs zs (GiveUp r) = on (is_some (end_of xs r)) refl
+  where
+    on : (b : Bool) → is_some (end_of xs r) ≡ b → is_job q (reply_of p claimed xs zs (GiveUp r)) c ≡ false
+    on true e = rw e (outcome-no-job p q xs r c)
+    on false e = rw e refl
+other-job p q c ne claimed xs zs _ = refl
+
+module _ (o : PoolOptions) (pools : List PoolCore) (h : List Item) (z : PoolsStand o pools h) (i : ℕ) (s t : PoolCore) (at_i : slice_get pools i ≡ Some s)
+    (step : Step) (reply : Reply) (ys : List PoolItem) (before after : List Fact) (same : SameHome s t) (w : Concerns o pools h s step ys)
+    (v : Accepts s t before after step.moment step.act reply (of_pool s.pool h) ys) where
+  abbrev m : ℕ
+  m = step.moment
+
+  abbrev own-stands : PoolFits o h i s
+  own-stands = z.fit.each i s at_i
+
+  abbrev F : List Fact
+  F = all_facts s.pool s.address s.options m (of_pool s.pool h) ys step.act
+
+  abbrev k : List Item
+  k = with_facts m F (did step reply ∷ h)
+
+  here-k : of_pool s.pool k ≡ after_facts s.pool m F ys
+  here-k = here o pools h z i s t at_i step reply ys before after w v
+
+  there-k : (q : ℕ) → s.pool ≢ q → of_pool q k ≡ of_pool q h
+  there-k = there o pools h z i s t at_i step reply ys before after w v
+
+  served-k : (q : ℕ) → IsServed o (of_pool q k)
+  served-k q = on (s.pool == q) refl
+    where
+      on : (b : Bool) → (s.pool == q) ≡ b → IsServed o (of_pool q k)
+      on true e =
+          let f : s.pool ≡ q = grind arith in
+          subst (IsServed o) (sym here-k ∙ ap (λ p. of_pool p k) f) (subst (λ c. IsServed c (after_facts s.pool m F ys)) own-stands.options v.served)
+      on false e = let f : s.pool ≢ q = grind arith in subst (IsServed o) (sym (there-k q f)) (z.served q)
+
+  closes-k : (b : ℕ → Bool) → ((r : ℕ) → (told h r == 0) && not (some_act leaves h r) ≡ not (b r)) → (r : ℕ) → (told k r == 0) && not (some_act leaves k r) ≡ not (settles step.act reply r || b r)
+  closes-k b e r = rw (told-facts m r F (did step reply ∷ h), acts-facts leaves m r F (did step reply ∷ h)) (opens-after (asks_how step.act r && is_outcome reply) (leaves step.act r) (some_act leaves h r) (told h r) (b r) (e r))
+
+  job-k : (q c : ℕ) → is_claimed k q c ≡ is_job q reply c || is_claimed h q c
+  job-k q c = claimed-facts q m c F (did step reply ∷ h) ∙ claimed-reply q c step reply h
+
+  no-job : (q c : ℕ) → s.pool ≢ q → is_job q reply c ≡ false
+  no-job q c ne =
+      let claims : (d : ℕ) → is_claimed h s.pool d ≡ has d s.claimed = λ d. ap (λ p. is_claimed h p d) own-stands.number ∙ z.fit.claims i s d at_i in
+      ap (λ b. is_job q b c) (v.reply_is (is_claimed h s.pool) claims) ∙ other-job s.pool q c ne (is_claimed h s.pool) (of_pool s.pool h) (after_facts s.pool m F ys) step.act
+
+  -- whose outcome was told, or who leaves, is known
+  known-k : (r : ℕ) → settles step.act reply r ≡ true → is_some (request_at t r) ≡ true
+  known-k r e = sym (v.fits.asked r) ∙ (party-facts s.pool m r F ys ∙ w.parties r (weaker (asks_how step.act r) (is_outcome reply) (leaves step.act r) e))
+    where
+      weaker : (a b c : Bool) → (a && b) || c ≡ true → a || c ≡ true
+      weaker true b c f = refl
+      weaker false b c f = f
+
+  -- no pool is closed
+  unshut : shuts F ≡ false
+  unshut =
+      let acts : List Fact = act_facts s.pool s.address s.options m (of_pool s.pool h) ys step.act in
+      let zs : List PoolItem = after_facts s.pool m acts ys in
+      with-serve s.pool s.address s.options m acts (size s.pool s.address s.options m zs) zs ∙ act-open s.pool s.address s.options m (of_pool s.pool h) ys step.act w.later
+
+  moves : Moved pools h s t k (after_facts s.pool m F ys) (names_party step.act) (settles step.act reply)
+  moves = record {
+    same = same;
+    fits = v.fits;
+    here = here-k;
+    there = there-k;
+    homes_k = homes-facts s.pool m F ys (did step reply ∷ h) v.own;
+    open_k = λ a. open-facts s.pool m F ys (did step reply ∷ h) a v.own ∙ rw unshut refl;
+    names = λ r. acts-facts names_party m r F (did step reply ∷ h);
+    requested = λ r. acts-facts was_asked m r F (did step reply ∷ h) ∙ ap (λ b. b || some_act was_asked h r) (w.asked r);
+    asks = λ r. party-facts s.pool m r F ys ∙ w.asks r;
+    fresh = w.fresh;
+    opens = closes-k;
+    settles = v.settled;
+    known = known-k;
+    claims = λ c e. job-k s.pool c ∙ (ap (λ b. is_job s.pool reply c || b) e ∙ sym (v.claimed c));
+    unclaimed = λ q c ne. job-k q c ∙ ap (λ b. b || is_claimed h q c) (no-job q c ne);
+  }
+
+  pub takes : Takes o pools i t before after step reply h
+  takes =
+      let e : with_answer step reply F h ≡ k = with_answer-accepted step reply F h v.accepted in
+      let stands : PoolsStand o (set pools i t) k = record { fit = moved o pools h z.fit i s t at_i k (after_facts s.pool m F ys) (names_party step.act) (settles step.act reply) moves; served = served-k } in
+      record {
+        facts = F;
+        facts_are = v.facts_are;
+        answer_is = answer-is o pools h z i s t at_i step reply ys before after w v;
+        stands = subst (PoolsStand o (set pools i t)) (sym e) stands;
+        last_is = ap last_moment e ∙ last-facts m F (did step reply ∷ h);
+        fair = fair-accepted h step reply F v.accepted (fair-facts s.pool m F (did step reply ∷ h) (subst (λ zs. PoolFirstCome s.pool m zs F) (sym w.mine) v.fair));
+      }
