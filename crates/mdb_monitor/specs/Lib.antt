@@ -1,0 +1,9 @@
+pub mod Asking
+pub mod Average
+pub mod Beginnings
+pub mod Endings
+pub mod Items
+pub mod Modes
+pub mod RawReply
+pub mod Sessions
+pub mod Standing
