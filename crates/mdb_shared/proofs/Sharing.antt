@@ -1,0 +1,244 @@
+-- Seats are cut off and joined, and the rule is kept.
+use Rattle.std.proofs.Common.{◌≡◌, ℕ, zero, suc, ◌+◌, ◌<◌, ◌≤◌, eqb, ◌≢◌, Bool, true, false, Option, Some, None, if◌then◌else◌, List, [], ◌∷◌, ◌++◌, length, set, slice_get, All, sym, refl, ap, ◌∙◌, subst, ◌⊎◌, inl, inr, ⊎_elim, arith, length-set, eq-eqb, ne_eqb}
+use Rattle.std.proofs.lemmas.List.Elements.{All-from_get_or}
+use Rattle.std.proofs.lemmas.Option.{get_or_from_slice_get}
+use mathlib.Core.Logic.{dite}
+use mathlib.Core.Option.{some, some-injective, some-ne-none}
+use native.Mathlib.Decide.{ℕ_discrete}
+use lib.ListN.{get_elem?}
+use Rattle.atomic_table.specs.Seated.{TableId}
+use Rattle.mdb_shared.specs.Seats.{SeatView, seat_view, fresh_seat, IsReady}
+use Rattle.atomic_table.specs.Table.{State, Me, Splits, Joins}
+use Rattle.atomic_table.proofs.Lists.{set_else, at_longer}
+use Rattle.mdb_pool.specs.declared.log.Entry.{Entry}
+use Rattle.mdb_shared.specs.declared.rule.Part.{Part}
+use Rattle.mdb_shared.specs.declared.rule.View.{View}
+use Rattle.mdb_pool.specs.Driver.{StartsWith}
+use Rattle.mdb_shared.specs.Turning.{own, part, Fits, Keeps, Held, keeper_view, numbering, numbered, bumped, number_of, copied, absorbed, spent, either_next, no_longer}
+use Rattle.mdb_shared.proofs.Keeping.{at_end, only_one, others_fit, here, elsewhere, true_not_false}
+
+own_none : (n : ℕ) (xs : List Entry) → ((k : ℕ) (e : Entry) → get_elem? xs k ≡ some e → e.seat < n) → own n xs ≡ []
+own_none n [] below = refl
+own_none n (x ∷ xs) below = let low = below 0 x refl in ap (λ (b : Bool). if b then x ∷ own n xs else own n xs) (ne_eqb x.seat n (λ e. omega arith)) ∙ own_none n xs (λ k e at. below (suc k) e at)
+
+at_append : {A : Type 0} (xs ys : List A) (k : ℕ) (p : A) → get_elem? (xs ++ ys) k ≡ some p → (get_elem? xs k ≡ some p) ⊎ ((i : ℕ) × (k ≡ length xs + i) × (get_elem? ys i ≡ some p))
+at_append [] ys k p e = inr (k, omega arith, e)
+at_append (x ∷ xs) ys zero p e = inl e
+at_append {A} (x ∷ xs) ys (suc k) p e = ⊎_elim (λ (t : get_elem? xs k ≡ some p). inl t) (λ (t : (i : ℕ) × (k ≡ length xs + i) × (get_elem? ys i ≡ some p)). inr (t.0, (let h = t.1 in omega arith), t.2)) (at_append xs ys k p e)
+
+starts_either : (log a c : List Entry) (b : Bool) → StartsWith log a → StartsWith log c → StartsWith log (if b then a else c)
+starts_either log a c true p q = p
+starts_either log a c false p q = q
+
+either_cases : (a b : Option ℕ) (k : ℕ) → either_next a b ≡ Some k → (a ≡ Some k) ⊎ (b ≡ Some k)
+either_cases (Some x) b k e = inl e
+either_cases None b k e = inr e
+
+-- where it is `from`, it becomes `to`
+abbrev moved : ℕ → ℕ → ℕ → ℕ
+moved from to n = if eqb n from then to else n
+
+moved_there : (from to n : ℕ) → n ≡ from → moved from to n ≡ to
+moved_there from to n e = ap (λ (b : Bool). if b then to else n) (eq-eqb n from e)
+
+moved_not : (from to n : ℕ) → n ≢ from → moved from to n ≡ n
+moved_not from to n e = ap (λ (b : Bool). if b then to else n) (ne_eqb n from e)
+
+-- the number `new` has the owner `to`
+abbrev given : ℕ → ℕ → (ℕ → ℕ) → ℕ → ℕ
+given new to owner n = if eqb n new then to else owner n
+
+module _ {T : Type 0} (stands : T → List Entry → Type 0) (base : List Entry) (seats : ℕ) where
+  abbrev St : Type 0
+  St = State (Held T) View
+
+  abbrev Rule : St → Type 0
+  Rule = Keeps stands base seats
+
+  abbrev turn : St → ℕ
+  turn s = Rattle.std.proofs.Common.get_or s.words 0 0
+
+  -- a view of no number
+  no_number : (past : List Entry) (t next keeper : ℕ) (owner : ℕ → ℕ) (id : ℕ) (seen : List Entry) → StartsWith (base ++ past) seen
+      → Fits base past t next keeper owner id record { seen = seen; told = seen; parts = []; next = None; turn = false; busy = [] }
+  no_number past t next keeper owner id seen front = record {
+    seen = front;
+    told = front;
+    parts = λ k p there. absurd (some-ne-none p (sym there));
+    apart = λ j k p q there _ _. absurd (some-ne-none p (sym there));
+    holds_turn = λ on. absurd (true_not_false false on refl);
+    keeps_next = λ k e. cc;
+  }
+
+  -- the view that has the turn is still there
+  still_taken : (s : St) (id : ℕ) (v w : View) (more : List View) → get_elem? s.views id ≡ some v → w.turn ≡ v.turn → ((h : ℕ) × (u : View) × (get_elem? s.views h ≡ some u) × (u.turn ≡ true))
+      → (h : ℕ) × (u : View) × (get_elem? (set s.views id w ++ more) h ≡ some u) × (u.turn ≡ true)
+  still_taken s id v w more at same t = dite (ℕ_discrete t.0 id)
+      (λ is. (id, w, at_longer (set s.views id w) more id w (here s.views id v w at), same ∙ (ap (λ (u : View). u.turn) (some-injective v t.1 (sym at ∙ (ap (λ (k : ℕ). get_elem? s.views k) (sym is) ∙ t.2))) ∙ t.3)))
+      (λ apart. (t.0, t.1, at_longer (set s.views id w) more t.0 t.1 (set_else s.views id t.0 w apart ∙ t.2), t.3))
+
+  -- kind 7, a copy
+  pub copies : (id : ℕ) (v : View) → Splits Rule id v v (copied v)
+  copies id v s r at = let x : ℕ = turn s in let f = r.fits id v at in let F : ℕ → View → Type 0 = Fits base r.past x r.next r.keeper r.owner in record {
+    past = r.past;
+    next = r.next;
+    keeper = r.keeper;
+    owner = r.owner;
+    wide = r.wide;
+    count = r.count;
+    authors = r.authors;
+    few = r.few;
+    fits = λ j d there. ⊎_elim (λ (old : get_elem? (set s.views id v) j ≡ some d). others_fit F F s.views id v f (λ i u _ _ g. g) r.fits j d old)
+        (λ (new : (j ≡ length (set s.views id v)) × (copied v ≡ d)). subst (F j) new.1 (no_number r.past x r.next r.keeper r.owner j v.seen f.seen)) (at_end (set s.views id v) (copied v) d j there);
+    taken = λ other. still_taken s id v v (copied v ∷ []) at refl (r.taken other);
+    free = r.free;
+  }
+
+  -- kind 7, a new number
+  pub numbers : (id k : ℕ) (v : View) → v.next ≡ Some k → k < seats → Splits Rule id v (numbering v) (numbered v)
+  numbers id k v is room s r at =
+      let x : ℕ = turn s in let f = r.fits id v at in let l : ℕ = length s.views in let next : ℕ = r.next in
+      let kept = f.keeps_next k is in let k_is : k ≡ next = kept.1 in
+      let owner : ℕ → ℕ = given next l r.owner in
+      let F : ℕ → View → Type 0 = Fits base r.past x next r.keeper r.owner in let G : ℕ → View → Type 0 = Fits base r.past x (next + 1) r.keeper owner in
+      let old_owner : (n : ℕ) → n < next → owner n ≡ r.owner n = λ n low. ap (λ (b : Bool). if b then l else r.owner n) (ne_eqb n next (λ e. omega arith)) in
+      let new_owner : owner k ≡ l = ap (λ (b : Bool). if b then l else r.owner k) (eq-eqb k next k_is) in
+      let parts_are : number_of v.next ≡ part k [] ∷ [] = ap number_of is in
+      let only : (i : ℕ) (p : Part) → get_elem? (number_of v.next) i ≡ some p → (i ≡ 0) × (part k [] ≡ p) = λ i p there. only_one (part k []) p i (ap (λ (ps : List Part). get_elem? ps i) (sym parts_are) ∙ there) in
+      let empty : own k r.past ≡ [] = own_none k r.past (λ i e there. subst (λ (n : ℕ). e.seat < n) (sym k_is) (r.authors i e there)) in
+      let old_parts : (j : ℕ) (d : View) → F j d → (i : ℕ) (p : Part) → get_elem? d.parts i ≡ some p → (owner p.number ≡ j) × (p.number < next + 1) × (own p.number r.past ≡ p.mine)
+      = λ j d g i p there. let h = g.parts i p there in let low = h.1 in (old_owner p.number low ∙ h.0, omega arith, h.2) in record {
+        past = r.past;
+        next = next + 1;
+        keeper = r.keeper;
+        owner = owner;
+        wide = r.wide;
+        count = r.count;
+        authors = λ i e there. let low = r.authors i e there in omega arith;
+        few = omega arith;
+        fits = λ j d there. ⊎_elim
+            (λ (old : get_elem? (set s.views id (numbering v)) j ≡ some d). others_fit F G s.views id (numbering v)
+            record { seen = f.seen; told = f.told; parts = old_parts id v f; apart = f.apart; holds_turn = f.holds_turn; keeps_next = λ i e. let bump : bumped v.next ≡ Some (k + 1) = ap bumped is in let e' : i ≡ k + 1 = cc in (kept.0, omega arith) }
+            (λ i u apart _ g. record { seen = g.seen; told = g.told; parts = old_parts i u g; apart = g.apart; holds_turn = g.holds_turn; keeps_next = λ n e. absurd (apart (sym (g.keeps_next n e).0 ∙ kept.0)) })
+            r.fits j d old)
+            (λ (new : (j ≡ length (set s.views id (numbering v))) × (numbered v ≡ d)). let place : j ≡ l = new.0 ∙ length-set s.views id (numbering v) in subst (G j) new.1 record {
+              seen = f.seen;
+              told = f.seen;
+              parts = λ i p at_i. let o = only i p at_i in (
+                subst (λ (y : Part). owner y.number ≡ j) o.1 (new_owner ∙ sym place),
+                subst (λ (y : Part). y.number < next + 1) o.1 (omega arith),
+                subst (λ (y : Part). own y.number r.past ≡ y.mine) o.1 empty,
+              );
+              apart = λ a b p q at_a at_b _. (only a p at_a).0 ∙ sym (only b q at_b).0;
+              holds_turn = λ on. absurd (true_not_false false on refl);
+              keeps_next = λ n e. cc;
+            })
+            (at_end (set s.views id (numbering v)) (numbered v) d j there);
+        taken = λ other. still_taken s id v (numbering v) (numbered v ∷ []) at refl (r.taken other);
+        free = r.free;
+      }
+
+  -- kind 8
+  pub absorbs : (id other : ℕ) (v w : View) → v.turn ≡ false → w.turn ≡ false → Joins Rule id v other w (absorbed v w) spent
+  absorbs id other v w off off' s r at apart there =
+      let x : ℕ = turn s in let f = r.fits id v at in let both : View = absorbed v w in
+      let at' : get_elem? s.views other ≡ some w = sym (set_else s.views id other both apart) ∙ there in
+      let f' = r.fits other w at' in let log : List Entry = base ++ r.past in
+      let owner : ℕ → ℕ = λ n. moved other id (r.owner n) in let keeper : ℕ = moved other id r.keeper in
+      let F : ℕ → View → Type 0 = Fits base r.past x r.next r.keeper r.owner in let G : ℕ → View → Type 0 = Fits base r.past x r.next keeper owner in
+      let apart' : id ≢ other = λ e. apart (sym e) in
+      let mine : (k : ℕ) (p : Part) → get_elem? v.parts k ≡ some p → (owner p.number ≡ id) × (p.number < r.next) × (own p.number r.past ≡ p.mine)
+      = λ k p at_k. let h = f.parts k p at_k in (moved_not other id (r.owner p.number) (λ e. apart (sym e ∙ h.0)) ∙ h.0, h.1, h.2) in
+      let theirs : (k : ℕ) (p : Part) → get_elem? w.parts k ≡ some p → (owner p.number ≡ id) × (p.number < r.next) × (own p.number r.past ≡ p.mine)
+      = λ k p at_k. let h = f'.parts k p at_k in (moved_there other id (r.owner p.number) h.0, h.1, h.2) in
+      let not_both : (j k : ℕ) (p q : Part) → get_elem? v.parts j ≡ some p → get_elem? w.parts k ≡ some q → p.number ≢ q.number
+      = λ j k p q at_j at_k e. apart (sym (f'.parts k q at_k).0 ∙ (ap r.owner (sym e) ∙ (f.parts j p at_j).0)) in
+      let joined : G id both = record {
+        seen = starts_either log w.seen v.seen (no_longer v.seen w.seen) f'.seen f.seen;
+        told = starts_either log v.seen w.seen (no_longer v.seen w.seen) f.seen f'.seen;
+        parts = λ k p at_k. ⊎_elim (λ (t : get_elem? v.parts k ≡ some p). mine k p t) (λ (t : (i : ℕ) × (k ≡ length v.parts + i) × (get_elem? w.parts i ≡ some p)). theirs t.0 p t.2) (at_append v.parts w.parts k p at_k);
+        apart = λ j k p q at_j at_k same. ⊎_elim
+            (λ (a : get_elem? v.parts j ≡ some p). ⊎_elim (λ (b : get_elem? v.parts k ≡ some q). f.apart j k p q a b same)
+            (λ (b : (i : ℕ) × (k ≡ length v.parts + i) × (get_elem? w.parts i ≡ some q)). absurd (not_both j b.0 p q a b.2 same)) (at_append v.parts w.parts k q at_k))
+            (λ (a : (i : ℕ) × (j ≡ length v.parts + i) × (get_elem? w.parts i ≡ some p)). ⊎_elim (λ (b : get_elem? v.parts k ≡ some q). absurd (not_both k a.0 q p b a.2 (sym same)))
+            (λ (b : (i : ℕ) × (k ≡ length v.parts + i) × (get_elem? w.parts i ≡ some q)). a.1 ∙ (ap (λ (n : ℕ). length v.parts + n) (f'.apart a.0 b.0 p q a.2 b.2 same) ∙ sym b.1)) (at_append v.parts w.parts k q at_k))
+            (at_append v.parts w.parts j p at_j);
+        holds_turn = λ on. absurd (true_not_false v.turn on off);
+        keeps_next = λ k e. ⊎_elim (λ (a : v.next ≡ Some k). let h = f.keeps_next k a in (moved_not other id r.keeper (λ z. apart (sym z ∙ h.0)) ∙ h.0, h.1))
+            (λ (b : w.next ≡ Some k). let h = f'.keeps_next k b in (moved_there other id r.keeper h.0, h.1)) (either_cases v.next w.next k e);
+      } in record {
+        past = r.past;
+        next = r.next;
+        keeper = keeper;
+        owner = owner;
+        wide = r.wide;
+        count = r.count;
+        authors = r.authors;
+        few = r.few;
+        fits = others_fit (λ j d. j ≢ other → G j d) G (set s.views id both) other spent (no_number r.past x r.next keeper owner other [] (log, refl)) (λ j d not_other _ g. g not_other)
+            (others_fit F (λ j d. j ≢ other → G j d) s.views id both (λ _. joined)
+            (λ j d not_id _ g not_other. record {
+              seen = g.seen;
+              told = g.told;
+              parts = λ k p at_k. let h = g.parts k p at_k in (moved_not other id (r.owner p.number) (λ e. not_other (sym h.0 ∙ e)) ∙ h.0, h.1, h.2);
+              apart = g.apart;
+              holds_turn = g.holds_turn;
+              keeps_next = λ k e. let h = g.keeps_next k e in (moved_not other id r.keeper (λ z. not_other (sym h.0 ∙ z)) ∙ h.0, h.1);
+            }) r.fits);
+        taken = λ taken. let t = r.taken taken in (
+          t.0,
+          t.1,
+          set_else (set s.views id both) other t.0 spent (elsewhere w t.1 off' t.3 s.views other t.0 at' t.2) ∙ (set_else s.views id t.0 both (elsewhere v t.1 off t.3 s.views id t.0 at t.2) ∙ t.2),
+          t.3,
+        );
+        free = r.free;
+      }
+
+-- ---- new, and meet
+
+module _ {A : Type 0} where
+  get_end : (xs : List A) (x : A) → slice_get (xs ++ x ∷ []) (length xs) ≡ Some x
+  get_end [] x = refl
+  get_end (y ∷ ys) x = get_end ys x
+
+  get_front : (xs ys : List A) (i : ℕ) (x : A) → slice_get xs i ≡ Some x → slice_get (xs ++ ys) i ≡ Some x
+  get_front [] ys i x e = cc
+  get_front (y ∷ xs) ys zero x e = e
+  get_front (y ∷ xs) ys (suc i) x e = get_front xs ys i x e
+
+  pub get_push : (xs : List A) (x : A) (n : ℕ) (f : ℕ → A) → length xs ≡ n → ((i : ℕ) → i < n → slice_get xs i ≡ Some (f i)) → x ≡ f n → (i : ℕ) → i < n + 1 → slice_get (xs ++ x ∷ []) i ≡ Some (f i)
+  get_push xs x n f long all is i low = dite (ℕ_discrete i n)
+      (λ e. ap (λ (k : ℕ). slice_get (xs ++ x ∷ []) k) (e ∙ sym long) ∙ (get_end xs x ∙ (ap Some is ∙ ap (λ (k : ℕ). Some (f k)) (sym e))))
+      (λ other. get_front xs (x ∷ []) i (f i) (all i (omega arith)))
+
+both_fronts : (b : Bool) (log x y : List Entry) → StartsWith log (if b then y else x) → StartsWith log (if b then x else y) → StartsWith log x × StartsWith log y
+both_fronts true log x y p q = (q, p)
+both_fronts false log x y p q = (p, q)
+
+front_no_longer : (xs rest : List Entry) → no_longer xs (xs ++ rest) ≡ true
+front_no_longer [] rest = refl
+front_no_longer (x ∷ xs) rest = front_no_longer xs rest
+
+-- one tells the other, which looks and tells one
+pub met : (one other told saw last : View) → told ≡ absorbed other (copied one) → StartsWith saw.seen told.seen → StartsWith saw.seen told.told → last ≡ absorbed one (copied saw)
+    → (last.seen ≡ saw.seen) × StartsWith saw.seen one.seen × StartsWith saw.seen other.seen
+met one other told saw last is front front' done =
+    let a : StartsWith saw.seen (if no_longer other.seen one.seen then one.seen else other.seen) = subst (λ (v : View). StartsWith saw.seen v.seen) is front in
+    let b : StartsWith saw.seen (if no_longer other.seen one.seen then other.seen else one.seen) = subst (λ (v : View). StartsWith saw.seen v.told) is front' in
+    let both = both_fronts (no_longer other.seen one.seen) saw.seen other.seen one.seen a b in
+    let yes : no_longer one.seen saw.seen ≡ true = ap (no_longer one.seen) both.1.1 ∙ front_no_longer one.seen both.1.0 in
+    (ap (λ (v : View). v.seen) done ∙ ap (λ (c : Bool). if c then saw.seen else one.seen) yes, both.1, both.0)
+
+-- a seat that was cut off the keeper is new
+pub is_fresh : {T : Type 0} (z y : TableId) (base : List Entry) (n : ℕ) (k m : Me (Held T) View) → k ≡ (keeper_view base n, []) → m ≡ (numbered k.0, []) → z ≡ y → (seat_view z n m.0 ≡ fresh_seat y base n) × IsReady n m
+is_fresh {T} z y base n k m is cut same =
+    let e : m ≡ (numbered (keeper_view base n), []) = cut ∙ ap (λ (x : Me (Held T) View). (numbered x.0, [])) is in
+    (ap (λ (x : Me (Held T) View). seat_view z n x.0) e ∙ ap (λ (x : TableId). fresh_seat x base n) same, subst (λ (x : Me (Held T) View). IsReady n x) (sym e) (refl, refl, refl))
+
+pub keeper_next : {T : Type 0} (base : List Entry) (n : ℕ) (k m : Me (Held T) View) → k ≡ (keeper_view base n, []) → m ≡ (numbering k.0, k.1) → m ≡ (keeper_view base (n + 1), [])
+keeper_next {T} base n k m is cut = cut ∙ ap (λ (x : Me (Held T) View). (numbering x.0, x.1)) is
+
+-- the seats of a new driver are its own
+pub all_seats : (z : TableId) (base : List Entry) (n : ℕ) (xs : List SeatView) → length xs ≡ n → ((i : ℕ) → i < n → slice_get xs i ≡ Some (fresh_seat z base i)) → All (λ s. s.driver ≡ z) xs
+all_seats z base n xs long all = All-from_get_or (λ (s : SeatView). s.driver ≡ z) xs (fresh_seat z base 0)
+    (λ i low. ap (λ (s : SeatView). s.driver) (get_or_from_slice_get xs i (fresh_seat z base i) (fresh_seat z base 0) (all i (subst (λ (k : ℕ). i < k) long low))))

@@ -1,0 +1,9 @@
+use Rattle.std.proofs.Common.{rules, ◌≡◌, List, ap, sym, subst, ◌∙◌}
+use Rattle.mdb_shared.specs.declared.rule.View.{View}
+use Rattle.atomic_table.specs.Table.{Me}
+use Rattle.mdb_shared.specs.Turning.{Held}
+use Rattle.mdb_shared.proofs.Sharing.{absorbs, met}
+use Rattle.mdb_shared.proofs.ending.take_in.Goals as goal
+
+pub join_seat-requires : goal.join_seat-requires
+join_seat-requires g c = (search rules, search rules, search rules, search rules, absorbs g.C.Core.stands _ _ _ _ _ _ c.requires.off.0 c.requires.off.1)

@@ -1,0 +1,17 @@
+//! A driver that many threads share: its core behind a turn, and the seats from which threads step it. Each reply stands in one log.
+#![tactic(auto)]
+
+mod answers;
+mod checkout;
+mod driver;
+mod ending;
+mod making;
+mod meeting;
+mod rule;
+mod seat;
+mod turn;
+
+pub use answers::{TryError, Unclosed};
+pub use checkout::{Back, BackWhy, Poll};
+pub use driver::SharedDriver;
+pub use seat::Seat;

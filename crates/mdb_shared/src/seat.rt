@@ -1,0 +1,27 @@
+//! Seats at a shared driver.
+
+use crate::rule::Place;
+use mdb_pool::Core;
+use std::marker::Model;
+
+/// A thread's place at one driver. It has a number, which its entries carry. Contracts see what it has seen of the log, its own entries, and
+/// the turn words that its failed tries found.
+#[derive(Drop)]
+pub struct Seat<C: Core> {
+    pub(crate) place: Place<C>,
+    pub(crate) number: u32,
+}
+
+impl<C: Core> Model for Seat<C> {
+    ghost use Rattle.std.specs.Coded.{codes};
+    ghost use Rattle.mdb_base.specs.DocumentCode.{fields_coded};
+    ghost use Rattle.mdb_shared.specs.Seats.{SeatView, seat_view, IsReady};
+
+    ghost Value = { SeatView };
+
+    ghost coded = { Prim.hlevel (codes, fields_coded) };
+
+    ghost view = { λ s. seat_view s.place.table_id s.number s.place.me.0 };
+
+    ghost invariant = { λ s. IsReady s.number s.place.me };
+}
