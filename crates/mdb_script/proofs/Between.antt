@@ -14,8 +14,7 @@ use Rattle.mdb_lines.specs.Script.{Spells, lines_of, line_of, AreAllowed, max_in
 use Rattle.mdb_base.specs.AddressReading.{beyond}
 use Rattle.mdb_lines.specs.Loops.{ReadsAll, ReadEnds}
 use Rattle.mdb_lines.proofs.Loops.{took_nothing, took_more, took_no_more, line_not_last}
-use Rattle.mdb_script.specs.World.{is_within, may_come, entry_after, log_of, log_after, IsLegalLog}
-use Rattle.mdb_script.specs.Standing.{steps_of}
+use Rattle.mdb_world.specs.Lines.{is_later, may_come, entry_after, log_of, log_after, steps_of, IsLegalLog}
 use Rattle.mdb_script.specs.Runs.{IsWithin, Begins, IsNextLine, IsBad, LineRuns, Ran, RunEnds, Seen, Ended}
 
 -- what holds between two lines
@@ -48,8 +47,8 @@ allowed_push n [] s h t = (subst (λ (k : ℕ). Spells k (spelling s) s) (omega 
 allowed_push n (u ∷ ss) s h t = (h.0, allowed_push (n + 1) ss s h.1 (subst (λ (k : ℕ). Spells k (spelling s) s) (omega arith) t))
 
 within_push : (ss : List Step) (s : Step) → IsWithin ss → may_come ss s ≡ true → IsWithin (ss ++ s ∷ [])
-within_push [] s w m = (m, All-nil (λ (t : Step). is_within s.act t.act ≡ true))
-within_push (u ∷ ss) s w m = (w.0, All-push (λ (t : Step). is_within u.act t.act ≡ true) ss s w.1 m)
+within_push [] s w m = (m, All-nil (λ (t : Step). is_later t.act ≡ true))
+within_push (u ∷ ss) s w m = (w.0, All-push (λ (t : Step). is_later t.act ≡ true) ss s w.1 m)
 
 length_steps : (log : List Entry) → length (steps_of log) ≡ length log
 length_steps [] = refl

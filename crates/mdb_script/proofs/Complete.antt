@@ -11,8 +11,7 @@ use Rattle.mdb_lines.specs.declared.run_error.RunError.TheVariants as errors
 use Rattle.mdb_lines.specs.Spelling.{spelling}
 use Rattle.mdb_lines.specs.Script.{Spells, lines_of, line_of, max_input, AreAllowed}
 use Rattle.mdb_lines.proofs.Lines.{line_same}
-use Rattle.mdb_script.specs.World.{is_within}
-use Rattle.mdb_script.specs.Standing.{steps_of}
+use Rattle.mdb_world.specs.Lines.{is_later, steps_of}
 use Rattle.mdb_script.specs.Runs.{IsWithin, IsBad, IsScript, Seen, Finished, Ended}
 
 some_same : {A : Type 0} (a b : A) → Some a ≡ Some b → a ≡ b
@@ -49,9 +48,9 @@ bad_not [] (s ∷ ss) bad more e before allowed within never = never s (allowed.
 bad_not (t ∷ done) [] bad more e before allowed within never = cc
 bad_not (t ∷ done) (s ∷ ss) bad more e before allowed within never =
     let first : t ≡ s = line_same 1 t s before.0 allowed.0 (cons_head (line_of t) (line_of s) (map line_of done ++ bad ∷ more) (map line_of ss) e) in
-    let next = next_spelled (λ (u : Step). is_within s.act u.act ≡ true) 2 done ss bad more (cons_tail (line_of t) (line_of s) (map line_of done ++ bad ∷ more) (map line_of ss) e) allowed.1 within.1 in
+    let next = next_spelled (λ (u : Step). is_later u.act ≡ true) 2 done ss bad more (cons_tail (line_of t) (line_of s) (map line_of done ++ bad ∷ more) (map line_of ss) e) allowed.1 within.1 in
     let spelled : Spells (1 + length (t ∷ done)) (spelling next.0) next.0 = subst (λ (k : ℕ). Spells k (spelling next.0) next.0) (omega arith) next.1 in
-    never next.0 (spelled, subst (λ (u : Step). is_within u.act next.0.act ≡ true) (sym first) next.2) next.3
+    never next.0 (spelled, next.2) next.3
 
 told : (left new : Option (List ℕ)) (input found : List ℕ) → left ≡ Some input → Consumes left new found → IsAtEnd new → found ≡ input
 told None new input found e h ends = absurd (cc)

@@ -1,6 +1,6 @@
-pub mod Opening
-pub mod Legality
 pub mod Between
 pub mod Complete
-pub mod Usage
 pub mod Taken
+pub mod MadeRuns
+pub mod Generation
+pub mod Stepping

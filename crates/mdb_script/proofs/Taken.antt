@@ -1,56 +1,46 @@
 -- What a line spells, and what may come, may be taken after the log of the lines before it.
-use Rattle.std.proofs.Common.{◌≡◌, ℕ, ◌&&◌, true, eqb, List, [], ◌∷◌, length, Option, Some, None, is_none, refl, sym, subst, arith}
+use Rattle.std.proofs.Common.{◌≡◌, ℕ, ◌&&◌, Bool, true, false, eqb, List, [], ◌∷◌, length, Option, Some, None, is_none, refl, sym, subst, arith}
+use Rattle.std.specs.Prelude.{nat_le}
 use Rattle.std.proofs.lemmas.Bool.{eqb-true, and_parts}
-use Rattle.mdb_base.specs.declared.address.ServerAddress.{ServerAddress}
+use Rattle.std.proofs.lemmas.Bool.Decides.{nat_tests}
+use Rattle.mdb_base.specs.OptionRules.{all_different, are_seeds, broken_rule}
 use Rattle.mdb_base.specs.declared.options.Options.{Options}
 use Rattle.mdb_pool.specs.declared.step.Step.{Step}
 use Rattle.mdb_pool.specs.declared.step.Act.{Act}
 use Rattle.mdb_pool.specs.declared.step.Act.TheVariants as act
 use Rattle.mdb_pool.specs.declared.log.Entry.{Entry}
-use Rattle.mdb_pool.specs.Standing.{IsBuilt}
 use Rattle.mdb_lines.specs.Grammar.{is_act, are_options}
 use Rattle.mdb_lines.specs.Script.{Spells}
-use Rattle.mdb_script.specs.World.{opens_one, is_later, is_within, may_come}
-use Rattle.mdb_script.specs.Standing.{OpensOne, IsTaken, steps_of}
+use Rattle.mdb_world.specs.Lines.{opens_seeds, may_come, steps_of}
+use Rattle.mdb_world.specs.Standing.{OpensSeeds, IsTaken}
 
 none_of : {A : Type 0} (x : Option A) → is_none x ≡ true → x ≡ None
 none_of None h = refl
 none_of (Some a) h = absurd (cc)
 
-one-of : (seeds : List ServerAddress) → eqb (length seeds) 1 ≡ true → (a : ServerAddress) × (seeds ≡ a ∷ [])
-one-of [] e = absurd (cc)
-one-of (a ∷ []) e = (a, refl)
-one-of (a ∷ b ∷ more) e = absurd (let n : length (a ∷ b ∷ more) ≡ 1 = eqb-true _ 1 e in omega arith)
+-- options that keep the rules have 1 to 128 different seeds
+kept-seeds : (o : Options) → is_none (broken_rule o) ≡ true → are_seeds o.seeds ≡ true
+kept-seeds o h = on (are_seeds o.seeds) refl
+  where
+    on : (b : Bool) → are_seeds o.seeds ≡ b → are_seeds o.seeds ≡ true
+    on true e = e
+    on false e = let k : is_none (broken_rule o) ≡ false = rw e refl in absurd (cc)
 
-opens-options : (o : Options) → opens_one (act.Open o) ≡ true → OpensOne (record { moment = 0; act = act.Open o })
-opens-options o h =
-    let p = and_parts (eqb (length o.seeds) 1) (o.load_balanced && (is_none o.min_pool_size && is_none o.max_idle_time)) h in
-    let q = and_parts o.load_balanced (is_none o.min_pool_size && is_none o.max_idle_time) p.1 in
-    let r = and_parts (is_none o.min_pool_size) (is_none o.max_idle_time) q.1 in
-    let one = one-of o.seeds p.0 in
-    record { options = o; address = one.0; step_is = refl; seeds = one.1; balanced = q.0; no_idle = none_of o.max_idle_time r.1 }
+opens-options : (o : Options) → is_none (broken_rule o) ≡ true → opens_seeds (act.Open o) ≡ true → OpensSeeds (record { moment = 0; act = act.Open o })
+opens-options o kept h =
+    let r = and_parts (is_none o.min_pool_size) (is_none o.max_idle_time) h in
+    let s = and_parts (nat_le 1 (length o.seeds) && nat_le (length o.seeds) 128) (all_different o.seeds) (kept-seeds o kept) in
+    let t = and_parts (nat_le 1 (length o.seeds)) (nat_le (length o.seeds) 128) s.0 in
+    record { options = o; step_is = refl; few = grind (arith, nat_tests, t.1); different = s.1; no_idle = none_of o.max_idle_time r.1 }
 
-first-taken : (m : ℕ) (a : Act) → is_act m a ≡ true → opens_one a ≡ true → OpensOne (record { moment = m; act = a })
+first-taken : (m : ℕ) (a : Act) → is_act m a ≡ true → opens_seeds a ≡ true → OpensSeeds (record { moment = m; act = a })
+unfolding are_options
 first-taken m (act.Open o) h e =
     let p = and_parts (eqb m 0) (are_options o) h in
-    subst (λ (n : ℕ). OpensOne (record { moment = n; act = act.Open o })) (sym (eqb-true m 0 p.0)) (opens-options o e)
+    let q = and_parts (is_none (broken_rule o)) _ p.1 in
+    subst (λ (n : ℕ). OpensSeeds (record { moment = n; act = act.Open o })) (sym (eqb-true m 0 p.0)) (opens-options o q.0 e)
 first-taken m _ h e = absurd (cc)
-
-seed-built : (seeds : List ServerAddress) (a : Act) → is_later seeds a ≡ true → IsBuilt a
-seed-built [] a h = absurd (cc)
-seed-built (s ∷ t ∷ more) a h = absurd (cc)
-seed-built (s ∷ []) (act.Request r b) h = tt
-seed-built (s ∷ []) (act.Collect r) h = tt
-seed-built (s ∷ []) act.Claim h = tt
-seed-built (s ∷ []) (act.Established p c how) h = tt
-seed-built (s ∷ []) (act.GiveUp r) h = tt
-seed-built (s ∷ []) (act.Return r used) h = tt
-seed-built (s ∷ []) _ h = absurd (cc)
-
-later-built : (first a : Act) → is_within first a ≡ true → IsBuilt a
-later-built (act.Open o) a h = seed-built o.seeds a h
-later-built _ a h = absurd (cc)
 
 pub taken : (number : ℕ) (line : List ℕ) (log : List Entry) (s : Step) → Spells number line s → may_come (steps_of log) s ≡ true → IsTaken log s
 taken number line [] s h may = first-taken s.moment s.act h.rules may
-taken number line (first ∷ log) s h may = later-built first.step.act s.act may
+taken number line (first ∷ log) s h may = may

@@ -1,4 +1,3 @@
-pub mod World
-pub mod Standing
 pub mod Runs
+pub mod Made
 pub mod Tool

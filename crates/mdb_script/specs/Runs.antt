@@ -10,13 +10,12 @@ use Rattle.mdb_lines.specs.Spelling.{spelling}
 use Rattle.mdb_lines.specs.LogText.{text_of_entry, text_of}
 use Rattle.mdb_lines.specs.Script.{Spells, lines_of, line_of, AreAllowed, max_input}
 use Rattle.mdb_lines.specs.Loops.{TookFront, ReadsAll}
-use Rattle.mdb_script.specs.World.{opens_one, is_within, may_come, entry_after, log_of, IsLegalLog}
-use Rattle.mdb_script.specs.Standing.{steps_of}
+use Rattle.mdb_world.specs.Lines.{opens_seeds, is_later, may_come, entry_after, log_of, steps_of, IsLegalLog}
 
--- the first step opens one seed, and every later step is one that may come after it
+-- the first step opens seeds, and every later step is one that may come after it
 abbrev pub IsWithin : List Step → Type 0
 IsWithin [] = Unit {0}
-IsWithin (first ∷ steps) = (opens_one first.act ≡ true) × All (λ s. is_within first.act s.act ≡ true) steps
+IsWithin (first ∷ steps) = (opens_seeds first.act ≡ true) × All (λ s. is_later s.act ≡ true) steps
 
 -- The input is a script of these steps, all of which are lines of this stage.
 pub record IsScript (input : List ℕ) (steps : List Step) : Type 0 where
@@ -37,6 +36,14 @@ IsNextLine n steps line s = Spells n line s × (may_come steps s ≡ true)
 -- no step that may come is spelled by a line, given with its newline
 abbrev pub IsBad : ℕ → List Step → List ℕ → Type 0
 IsBad n steps line = (s : Step) → IsNextLine n steps (spelling s) s → line ≡ line_of s → ⊥
+
+-- What one step does to the log and the sink.
+abbrev pub StepRuns : Step → List Entry → List Entry → Option Held → Option Held → ℕ → ℕ → Result (Unit {0}) RunError → Type 0
+StepRuns s log new_log held new_held faults new_faults (Ok u) =
+    (new_log ≡ log ++ entry_after log s ∷ []) × Took held new_held (text_of_entry (entry_after log s)) × (new_faults ≡ faults)
+StepRuns s log new_log held new_held faults new_faults (Err errors.OutOfMemory) = Took held new_held [] × (new_faults ≡ faults)
+StepRuns s log new_log held new_held faults new_faults (Err errors.WriteFault) = TookFront held new_held (text_of_entry (entry_after log s)) × Rose faults new_faults
+StepRuns s log new_log held new_held faults new_faults (Err _) = ⊥
 
 -- What one line does to the log and the sink.
 abbrev pub LineRuns : ℕ → List ℕ → List Entry → List Entry → Option Held → Option Held → ℕ → ℕ → Result (Unit {0}) RunError → Type 0

@@ -1,11 +1,13 @@
 //! Runs scripts of steps over connection pools. The real source and sinks stand here; all else is a call with a contract.
 #![tactic(auto)]
 
+mod made;
+#[cfg(test)]
+mod made_tests;
 mod run;
 #[cfg(test)]
 mod tests;
 mod tool;
-mod world;
 
 use mdb_base::{Reading, Writing};
 use mdb_lines::{RunError, Status, status_of, tell_error};

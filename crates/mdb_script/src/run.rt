@@ -4,16 +4,42 @@ ghost use Rattle.std.specs.Prelude.{◌≡◌, ◌+◌, ◌≤◌, [], ◌∷◌
 ghost use Rattle.mdb_pool.specs.declared.step.Step.{Step};
 ghost use Rattle.mdb_base.specs.Outside.{Rose};
 ghost use Rattle.mdb_lines.specs.declared.run_error.RunError.TheVariants.{OutOfMemory as NoMemory};
-ghost use Rattle.mdb_script.specs.Standing.{Stands, steps_of};
-ghost use Rattle.mdb_script.specs.Runs.{LineRuns, Ran, RunEnds, Finished, Ended, IsScript};
+ghost use Rattle.mdb_world.specs.Lines.{steps_of};
+ghost use Rattle.mdb_world.specs.Standing.{Stands, IsTaken};
+ghost use Rattle.mdb_script.specs.Runs.{StepRuns, LineRuns, Ran, RunEnds, Finished, Ended, IsScript};
 
-use crate::world::World;
 use mdb_base::{Sink, Source};
 use mdb_lines::{
     LineError, MAX_INPUT, RunError, cut_line, read_all, read_line, write_all, write_entry,
 };
-use mdb_pool::Log;
+use mdb_pool::{Log, Step};
+use mdb_world::World;
 use std::alloc::Global;
+
+// Adds the entry of one step, and writes its text.
+fn one_step<K: Sink>(
+    alloc: Global,
+    step: &Step,
+    world: &mut World,
+    log: &mut Log,
+    sink: &mut K,
+) -> Result<(), RunError>
+    requires stands { Stands world.old log.old }
+    requires taken { IsTaken log.old step.now }
+    ensures stands { Stands world.new log.new }
+    ensures runs { StepRuns step.now log.old log.new (K.held sink.old) (K.held sink.new) (K.faults sink.old) (K.faults sink.new) result }
+{
+    world.step(alloc, log, step)?;
+    let mut text = Vec::new(alloc);
+    match log.entries().last() {
+        Some(entry) => write_entry(alloc, entry, &mut text)?,
+        None => {}
+    }
+    match write_all(sink, text.as_slice()) {
+        Ok(()) => Ok(()),
+        Err(_) => Err(RunError::WriteFault),
+    }
+}
 
 // Adds the entry of one line, and writes its text.
 fn one_line<K: Sink>(
@@ -37,16 +63,7 @@ fn one_line<K: Sink>(
     if !world.may_come(&step) {
         return Err(RunError::Malformed(number));
     }
-    world.step(alloc, log, &step)?;
-    let mut text = Vec::new(alloc);
-    match log.entries().last() {
-        Some(entry) => write_entry(alloc, entry, &mut text)?,
-        None => {}
-    }
-    match write_all(sink, text.as_slice()) {
-        Ok(()) => Ok(()),
-        Err(_) => Err(RunError::WriteFault),
-    }
+    one_step(alloc, &step, world, log, sink)
 }
 
 // Runs the lines of an input.

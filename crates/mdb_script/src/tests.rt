@@ -178,6 +178,30 @@ const LEFT_LOG: &str =
     established 7 0 2 wire=21 sid=0102030405060708090a0b0c | Done | Pool 0 ConnectionReady a:1 2 1 | Pool 0 ConnectionCheckedOut a:1 2 1\n\
     return 8 3 dropped | Done | Pool 0 ConnectionCheckedIn a:1 2 | Pool 0 ConnectionClosed a:1 2 Dropped service=0102030405060708090a0b0c\n";
 
+// Seeds are opened in the order of their addresses; a new pool turns its callers away, and parties are known to all pools.
+const SEEDS: &str = "open seeds=b:1,a:2,a:1,[::1]:9 max=2\n\
+    request 5 1 a:2\n\
+    collect 5 1\n\
+    giveup 6 1\n\
+    request 6 1 b:1\n\
+    request 6 2 c:1\n\
+    claim 7\n\
+    established 8 2 1 wire=21\n\
+    return 8 1 streaming\n\
+    request 7 3 a:2\n";
+
+const SEEDS_LOG: &str =
+    "open seeds=b:1,a:2,a:1,[::1]:9 max=2 | Done | Opened 0 [::1]:9 | Pool 0 PoolCreated [::1]:9 max=2 min=- idle=- | Opened 1 a:1 | Pool 1 PoolCreated a:1 max=2 min=- idle=- | Opened 2 a:2 | Pool 2 PoolCreated a:2 max=2 min=- idle=- | Opened 3 b:1 | Pool 3 PoolCreated b:1 max=2 min=- idle=-\n\
+    request 5 1 a:2 | Ended Cleared other msg=check out attempted from new pool | Pool 2 ConnectionCheckoutStarted a:2 | Ended 1 Cleared other msg=check out attempted from new pool | Pool 2 ConnectionCheckoutFailed a:2 ConnectionError 0\n\
+    collect 5 1 | Refused UnknownRequest\n\
+    giveup 6 1 | Refused UnknownRequest\n\
+    request 6 1 b:1 | Refused RequestKnown\n\
+    request 6 2 c:1 | Refused UnknownServer\n\
+    claim 7 | NoJob\n\
+    established 8 2 1 wire=21 | Refused NotPending\n\
+    return 8 1 streaming | Refused NotHolder\n\
+    request 7 3 a:2 | Ended Cleared other msg=check out attempted from new pool | Pool 2 ConnectionCheckoutStarted a:2 | Ended 3 Cleared other msg=check out attempted from new pool | Pool 2 ConnectionCheckoutFailed a:2 ConnectionError 0\n";
+
 const OPENED: &str =
     "open seeds=a:1 lb | Done | Opened 0 a:1 | Pool 0 PoolCreated a:1 max=- min=- idle=-\n";
 
@@ -192,6 +216,7 @@ fn scripts_give_their_logs(rt: HostRuntime) -> Result<(), Fail> {
         (LAST_BACK, LAST_BACK_LOG),
         (CLAIMED, CLAIMED_LOG),
         (LEFT, LEFT_LOG),
+        (SEEDS, SEEDS_LOG),
     ] {
         let same = ends(alloc, &[], script.as_bytes(), PLAIN, 0, log.as_bytes(), b"")?;
         assert!(rt; same, "{script}");
@@ -213,6 +238,18 @@ fn the_first_malformed_line_ends_the_run(rt: HostRuntime) -> Result<(), Fail> {
         "open seeds=a:1 lb\npin 1 1\n",
         "open seeds=a:1 lb\nmaintain 1 a:1\n",
         "open seeds=a:1 lb\nclaim 1",
+        "open seeds=a:1 lb\nclaim\n",
+        "open seeds=a:1 lb\nclaim 1 2\n",
+        "open seeds=a:1 lb\ncollect 1\n",
+        "open seeds=a:1 lb\ncollect 1 4294967296\n",
+        "open seeds=a:1 lb\ngiveup 1 -1\n",
+        "open seeds=a:1 lb\nreturn 1 1 Ok\n",
+        "open seeds=a:1 lb\nreturn 1 1\n",
+        "open seeds=a:1 lb\nestablished 1 0 1 sid=0102030405060708090a0b0c\n",
+        "open seeds=a:1 lb\nestablished 1 0 1 wire=21 server=5 sid=0102030405060708090a0b0c\n",
+        "open seeds=a:1 lb\nestablished 1 0 1 wire=21 sid=0102\n",
+        "open seeds=a:1 lb\nrequest 1 1 a:0\n",
+        "open seeds=a:1 lb\nrequest 1 1 A:1\n",
         "open seeds=a:1 lb\n\n",
     ] {
         let told = b"line 2 is malformed\n";
@@ -230,7 +267,10 @@ fn the_first_malformed_line_ends_the_run(rt: HostRuntime) -> Result<(), Fail> {
     for script in [
         "request 1 1 a:1\n",
         "open seeds=a:1,b:1 lb\n",
-        "open seeds=a:1\n",
+        "open seeds=a:1,b:2,a:1\n",
+        "open seeds=a:1,\n",
+        "open seeds=a\n",
+        "open seeds=a:1 min=1\n",
         "open seeds=a:1 lb min=0\n",
         "open seeds=a:1 lb idle=5\n",
         "open seeds=a:1 direct lb\n",
@@ -329,5 +369,35 @@ fn words_are_a_usage_and_long_inputs_are_refused(rt: HostRuntime) -> Result<(), 
             b"line 1 is malformed\n"
         )?
     );
+    Ok(())
+}
+
+// A script of 131,072 bytes, and its log.
+fn long_script(alloc: Global) -> Result<(String, String), AllocError> {
+    let mut script = String::from_str(alloc, "open seeds=a:1 lb\nclaim 1844674407370955\n")?;
+    let mut log = String::from_str(alloc, OPENED)?;
+    log.push_str("claim 1844674407370955 | NoJob\n")?;
+    for _ in 0..4853u32 {
+        script.push_str("claim 18446744073709551615\n")?;
+        log.push_str("claim 18446744073709551615 | NoJob\n")?;
+    }
+    Ok((script, log))
+}
+
+#[test]
+fn as_many_lines_as_fit_are_answered(rt: HostRuntime) -> Result<(), Fail> {
+    let alloc = rt.alloc();
+    let (mut script, log) = long_script(alloc)?;
+    let wide = Outside {
+        source_piece: 200_000,
+        room: 200_000,
+        sink_piece: 200_000,
+        ..PLAIN
+    };
+    assert_eq!(rt; script.len(), 131_072);
+    assert!(rt; ends(alloc, &[], script.as_bytes(), wide, 0, log.as_bytes(), b"")?);
+    script.push('\n')?;
+    let told = b"input is too long\n";
+    assert!(rt; ends(alloc, &[], script.as_bytes(), wide, 6, b"", told)?);
     Ok(())
 }

@@ -1,5 +1,5 @@
 use Rattle.std.proofs.Common.{length}
-use Rattle.mdb_script.specs.Standing.{Stands}
+use Rattle.mdb_world.specs.Standing.{Stands}
 use Rattle.mdb_script.proofs.Between.{Between}
 use Rattle.mdb_script.proofs.run.run_lines.Given as goal
 

@@ -1,6 +1,9 @@
-use Rattle.std.proofs.Common.{length}
-use Rattle.mdb_script.proofs.Usage.{usage_ends}
+use Rattle.std.proofs.Common.{refl, inl, inr}
+use Rattle.mdb_generator.specs.declared.words.ToolCommand.TheVariants.{Make}
 use Rattle.mdb_script.proofs.tool.run_tool.Goals as goal
 
-pub returns-in-len1-up : goal.returns-in-len1-up
-returns-in-len1-up g c = usage_ends (length c.args.words.now) _ _ _ c.in-len1-up.len_at_least c.tell_usage.ensures
+pub returns-in-Ok-run_made : goal.returns-in-Ok-run_made
+returns-in-Ok-run_made g c = (Make c.in-Make.n, c.in-Make.ensures, (refl, refl, inl (refl, c.in-Ok-run_made.ensures, refl)))
+
+pub returns-in-Err-run_made : goal.returns-in-Err-run_made
+returns-in-Err-run_made g c = (Make c.in-Make.n, c.in-Make.ensures, (refl, refl, inr (c.in-Err-run_made.e, c.ended-in-Err-run_made.ensures.status, c.in-Err-run_made.ensures, c.ended-in-Err-run_made.ensures.told)))
