@@ -3,6 +3,14 @@
 use crate::reasons::{ConnectionCheckoutFailedReason, ConnectionClosedReason};
 use mdb_base::{Moment, ObjectId, ServerAddress};
 
+/// What names a connection to others: its number in its pool, the server's own number of it, and the address of its server.
+#[derive(Debug, Drop, PartialEq, Eq)]
+pub struct ConnectionInfo {
+    pub id: u32,
+    pub server_id: Option<i64>,
+    pub address: ServerAddress,
+}
+
 /// The sizes of a pool, as its creation tells them. `None` means that the default holds.
 #[derive(Clone, Copy, Debug, Default, PartialEq, Eq)]
 pub struct ConnectionPoolOptions {

@@ -15,7 +15,7 @@ mod words;
 
 pub use cmap::{
     CmapEvent, ConnectionCheckedInEvent, ConnectionCheckedOutEvent, ConnectionCheckoutFailedEvent,
-    ConnectionCheckoutStartedEvent, ConnectionClosedEvent, ConnectionCreatedEvent,
+    ConnectionCheckoutStartedEvent, ConnectionClosedEvent, ConnectionCreatedEvent, ConnectionInfo,
     ConnectionPoolOptions, ConnectionReadyEvent, PoolClearedEvent, PoolClosedEvent,
     PoolCreatedEvent, PoolReadyEvent,
 };
