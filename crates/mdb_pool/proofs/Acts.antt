@@ -12,21 +12,21 @@ use Rattle.mdb_pool.specs.declared.reply.Reply.TheVariants.{Pooled, Establishing
 use Rattle.mdb_pool.specs.declared.connection.Connection.{Connection}
 use Rattle.mdb_pool.specs.declared.connection.Place.{Place}
 use Rattle.mdb_pool.specs.declared.request.Phase.{Phase}
-use Rattle.mdb_pool.specs.declared.connection.Place.TheVariants.{Pending, Available, Held}
+use Rattle.mdb_pool.specs.declared.connection.Place.TheVariants.{Pending, Available, Held, Pinned}
 use Rattle.mdb_pool.specs.declared.request.Request.{Request}
 use Rattle.mdb_pool.specs.declared.request.Phase.TheVariants.{Queued, Given, Over, Ended as EndedPhase}
 use Rattle.mdb_pool.specs.declared.pool_core.PoolCore.{PoolCore}
 use Rattle.mdb_pool.specs.History.{Item, did, PoolItem, has_party, of_pool, with_facts, with_answer, after_facts, given, has_asked, open_pool}
-use Rattle.mdb_pool.specs.Connections.{has, pending_list, holding, known_service, last_use, is_errored, is_dropped}
+use Rattle.mdb_pool.specs.Connections.{has, pending_list, holding, known_service, last_use, is_errored, is_dropped, pins}
 use Rattle.mdb_pool.specs.Requests.{outcome_of, names_party, is_claimed, asks_how, is_outcome, told, was_asked, leaves, some_act}
 use Rattle.mdb_pool.specs.Refusal.{refusal_of}
 use Rattle.mdb_pool.specs.Facts.{act_facts}
 use Rattle.mdb_pool.specs.Answer.{all_facts, reply_of, answer, answered, with_act}
 use Rattle.mdb_pool.specs.Serving.{serving}
 use Rattle.mdb_pool.specs.Standing.{Matches, Fits, StandsFor, Serves, Accepts, Answers, SameHome, settles, is_job}
-use Rattle.mdb_pool.specs.Kept.{connection_at, request_at, held_connection, outcome_now, is_pending_at, given_of, given_in, holder_at, if_held, end_at, is_shut}
+use Rattle.mdb_pool.specs.Kept.{connection_at, request_at, held_connection, outcome_now, is_pending_at, given_of, given_in, holder_at, if_held, end_at, is_shut, pins_at}
 use Rattle.mdb_pool.specs.Legal.{IsAccepted, IsFairAnswer, NoneLeftWaiting, IsServed, AllFirstCome, AllOwn, shuts}
-use Rattle.mdb_pool.specs.Places.{is_pending, is_held, is_available}
+use Rattle.mdb_pool.specs.Places.{is_pending, is_held, is_available, is_at_pin}
 use Rattle.mdb_pool.proofs.Tables.{has-where, passes, entry_at-key}
 use Rattle.mdb_pool.proofs.Found.{id_or}
 use Rattle.mdb_pool.proofs.Laws.{fair-append, serve-fair, own-append, serve-own, with-serve, size}
@@ -186,6 +186,7 @@ module _ (s : PoolCore) (xs : List PoolItem) (z : Fits s xs) where
       at_place c x Pending e f t = let k : has c (pending_list xs) ≡ true = pending-is c ∙ (ap is_pending_at e ∙ ap is_pending f) in rw (k, f) refl
       at_place c x Available e f t = let k : holder_at (Some x) ≡ None = z.matches.free c x e (ap is_available f) in let v : holder_at (Some x) ≡ Some r = ap holder_at (sym e) ∙ t in cc
       at_place c x Held e f t = let k : has c (pending_list xs) ≡ false = pending-is c ∙ (ap is_pending_at e ∙ ap is_pending f) in let v : x.id ≡ c = entry_at-key (λ (y : Connection). y.id) c x s.connections e in rw (k, f) (ap Some (sym v))
+      at_place c x Pinned e f t = let k : holder_at (Some x) ≡ None = z.matches.rests c x e (ap is_at_pin f) in let v : holder_at (Some x) ≡ Some r = ap holder_at (sym e) ∙ t in cc
 
       at_connection : (c : ℕ) (o : Option Connection) → connection_at s c ≡ o → holder_at (connection_at s c) ≡ Some r → (if has c (pending_list xs) then None else Some c) ≡ id_or (if_held o) None
       at_connection c None e t = let v : holder_at None ≡ Some r = ap holder_at (sym e) ∙ t in cc
@@ -239,12 +240,15 @@ outcome-accepted s r = outcome-any IsAccepted (λ e. tt) tt (λ p c. tt) (λ p c
 pub outcome-no-job : (s : PoolCore) (r p c : ℕ) → is_job p (outcome_now s r) c ≡ false
 outcome-no-job s r p c = outcome-any (λ reply. is_job p reply c ≡ false) (λ e. refl) refl (λ q d. refl) (λ q d. refl) s r
 
--- a connection that is live is neither errored nor dropped
-pub live-fine : (s : PoolCore) (xs : List PoolItem) (m : Matches s xs) (c : ℕ) (x : Connection) → connection_at s c ≡ Some x → is_errored xs c ≡ false
-live-fine s xs m c x e = grind (arith, m.no_error c, e)
+-- how a live connection was used
+pub live-errored : (s : PoolCore) (xs : List PoolItem) (m : Matches s xs) (c : ℕ) (x : Connection) → connection_at s c ≡ Some x → is_errored xs c ≡ x.errored
+live-errored s xs m c x e = grind (arith, m.errored c, e)
 
-pub live-kept : (s : PoolCore) (xs : List PoolItem) (m : Matches s xs) (c : ℕ) (x : Connection) → connection_at s c ≡ Some x → is_dropped (last_use xs c) ≡ false
-live-kept s xs m c x e = grind (arith, m.no_drop c, e)
+pub live-dropped : (s : PoolCore) (xs : List PoolItem) (m : Matches s xs) (c : ℕ) (x : Connection) → connection_at s c ≡ Some x → is_dropped (last_use xs c) ≡ is_dropped x.used
+live-dropped s xs m c x e = grind (arith, m.dropped c, e)
+
+pub live-pins : (s : PoolCore) (xs : List PoolItem) (m : Matches s xs) (c : ℕ) (x : Connection) → connection_at s c ≡ Some x → pins xs c ≡ x.pins
+live-pins s xs m c x e = m.pins c ∙ ap pins_at e
 
 pub live-service : (s : PoolCore) (xs : List PoolItem) (m : Matches s xs) (c : ℕ) (x : Connection) → connection_at s c ≡ Some x → known_service xs c ≡ x.service
 live-service s xs m c x e = grind (arith, m.service c, e)
@@ -259,14 +263,6 @@ given-open (Some q) c e = on q.phase refl
     on (Given d) f = rw f refl
     on Over f = rw f refl
     on (EndedPhase end) f = let k : given_of (Some q) ≡ None = rw f refl in cc
-
--- the requests made at a pool are those that it keeps
-pub asked-known : (s : PoolCore) (xs : List PoolItem) → Fits s xs → (r : ℕ) → has_asked xs r ≡ is_some (request_at s r)
-asked-known s xs z r = sym (rw (z.no_take r) (or-none (has_asked xs r))) ∙ z.asked r
-  where
-    or-none : (a : Bool) → (a || false) ≡ a
-    or-none true = refl
-    or-none false = refl
 
 -- who holds a connection was given it
 holding-given : (xs : List PoolItem) (r : ℕ) → is_some (holding xs r) ≡ true → is_some (given xs r) ≡ true

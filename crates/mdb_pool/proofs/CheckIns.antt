@@ -5,8 +5,6 @@ use Rattle.mdb_events.specs.declared.reasons.ConnectionClosedReason.TheVariants.
 use Rattle.mdb_pool.specs.declared.connection.Connection.{Connection}
 use Rattle.mdb_pool.specs.declared.status.Status.{Status}
 use Rattle.mdb_pool.specs.declared.status.Status.TheVariants.{New, Ready, Paused, Closed}
-use Rattle.mdb_pool.specs.declared.step.Use.{Use}
-use Rattle.mdb_pool.specs.declared.step.Use.TheVariants.{Ok, Errored, Dropped, Streaming}
 use Rattle.mdb_pool.specs.declared.pool_core.PoolCore.{PoolCore}
 use Rattle.mdb_pool.specs.History.{PoolItem, closed, checked_in, after_facts}
 use Rattle.mdb_pool.specs.State.{state_of, is_stale}
@@ -20,38 +18,12 @@ use Rattle.mdb_pool.proofs.Serving.{same-number}
 use Rattle.mdb_pool.proofs.Stands.{skip-fits}
 use Rattle.mdb_pool.proofs.Staleness.{shut-status}
 
-abbrev pub is_fault : Use → Bool
-is_fault Errored = true
-is_fault _ = false
-
--- why a connection is closed that was used so
-pub reason-is : (s : PoolCore) (ys : List PoolItem) (c : ℕ) (used : Use) (stale : Bool) → is_errored ys c ≡ is_fault used → is_stale s.options ys c ≡ stale → is_dropped (last_use ys c) ≡ is_dropped used → close_reason s.options ys c ≡ reason_of stale used
-reason-is s ys c Ok true e f g = rw (e, f) refl
-reason-is s ys c Ok false e f g = rw (e, f, g) refl
-reason-is s ys c Errored stale e f g = rw e refl
-reason-is s ys c Dropped true e f g = rw (e, f) refl
-reason-is s ys c Dropped false e f g = rw (e, f, g) refl
-reason-is s ys c Streaming true e f g = rw (e, f) refl
-reason-is s ys c Streaming false e f g = rw (e, f, g) refl
-
--- a clean use of an open pool has no reason
-pub no-reason : (s : PoolCore) (c : ℕ) (x : Connection) (used : Use) → reason_now s c x.service used ≡ None → (used ≡ Ok) × (is_shut s.status ≡ false)
-no-reason s c x used e = at_shut (is_shut s.status) refl
-  where
-    on : (u : Use) (b : Bool) → reason_of b u ≡ None → u ≡ Ok
-    on Ok b f = refl
-    on Errored b f = cc
-    on Dropped true f = cc
-    on Dropped false f = cc
-    on Streaming true f = cc
-    on Streaming false f = cc
-
-    at_shut : (b : Bool) → is_shut s.status ≡ b → (used ≡ Ok) × (is_shut s.status ≡ false)
-    at_shut true f = let k : reason_now s c x.service used ≡ Some PoolClosedReason = rw f refl in let w : ◌≡◌ {A = Option ConnectionClosedReason} None (Some PoolClosedReason) = sym e ∙ k in cc
-    at_shut false f = let k : reason_now s c x.service used ≡ reason_of (stale_for s c x.service) used = rw f refl in (on used (stale_for s c x.service) (sym k ∙ e), f)
-
 -- what a check-in says
-module _ (s : PoolCore) (ys : List PoolItem) (x : Connection) (used : Use) (state : state_of s.options ys ≡ state_in s.status) (known : known_service ys x.id ≡ x.service) (reason : close_reason s.options ys x.id ≡ reason_of (stale_for s x.id x.service) used) where
+module _ (s : PoolCore) (ys : List PoolItem) (x : Connection) (state : state_of s.options ys ≡ state_in s.status) (known : known_service ys x.id ≡ x.service)
+    (errored : is_errored ys x.id ≡ x.errored) (stale : is_stale s.options ys x.id ≡ stale_for s x.id x.service) (dropped : is_dropped (last_use ys x.id) ≡ is_dropped x.used) where
+  reason : close_reason s.options ys x.id ≡ reason_of x.errored (stale_for s x.id x.service) (is_dropped x.used)
+  reason = rw (errored, stale, dropped) refl
+
   open-back : is_shut s.status ≡ false → (o : Option ConnectionClosedReason) → in_fact s x.id ∷ closes s.pool s.address ys x.id o ≡ back_facts s x o
   open-back e None = refl
   open-back e (Some why) = rw (e, known) refl
@@ -62,14 +34,14 @@ module _ (s : PoolCore) (ys : List PoolItem) (x : Connection) (used : Use) (stat
   open-says (Paused error) e f = rw e refl
   open-says Closed e f = cc
 
-  pub check-in-is : check_in s.pool s.address s.options ys x.id ≡ back_facts s x (reason_now s x.id x.service used)
+  pub check-in-is : check_in s.pool s.address s.options ys x.id ≡ back_facts s x (reason_now s x)
   check-in-is = on (is_shut s.status) refl
     where
-      on : (b : Bool) → is_shut s.status ≡ b → check_in s.pool s.address s.options ys x.id ≡ back_facts s x (reason_now s x.id x.service used)
+      on : (b : Bool) → is_shut s.status ≡ b → check_in s.pool s.address s.options ys x.id ≡ back_facts s x (reason_now s x)
       on true e = rw (state, shut-status s.status e, known) refl
       on false e =
-          let now : reason_now s x.id x.service used ≡ reason_of (stale_for s x.id x.service) used = rw e refl in
-          open-says s.status state e ∙ (ap (λ o. in_fact s x.id ∷ closes s.pool s.address ys x.id o) reason ∙ (open-back e (reason_of (stale_for s x.id x.service) used) ∙ ap (back_facts s x) (sym now)))
+          let now : reason_now s x ≡ reason_of x.errored (stale_for s x.id x.service) (is_dropped x.used) = rw e refl in
+          open-says s.status state e ∙ (ap (λ o. in_fact s x.id ∷ closes s.pool s.address ys x.id o) reason ∙ (open-back e (reason_of x.errored (stale_for s x.id x.service) (is_dropped x.used)) ∙ ap (back_facts s x) (sym now)))
 
 -- the facts of a check-in are fair and the pool's own
 pub back-fair : (s : PoolCore) (n : ℕ) (x : Connection) (o : Option ConnectionClosedReason) (ys : List PoolItem) → AllFirstCome s.pool n ys (back_facts s x o)

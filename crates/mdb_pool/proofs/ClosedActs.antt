@@ -1,7 +1,6 @@
 -- What a close does is the answer to its step.
-use Rattle.std.proofs.Common.{ℕ, ◌≡◌, ◌≤◌, ◌-◌, Bool, true, false, ◌||◌, List, [], ◌∷◌, ◌++◌, map, filter, Some, is_some, refl, sym, ◌∙◌, ap, subst, append_assoc, append-nil, if◌then◌else◌}
+use Rattle.std.proofs.Common.{ℕ, ◌≡◌, ◌≤◌, ◌-◌, Bool, true, false, ◌||◌, List, [], ◌∷◌, ◌++◌, map, filter, Option, Some, None, is_some, not, refl, sym, ◌∙◌, ap, subst, append_assoc, append-nil, if◌then◌else◌}
 use Rattle.mdb_events.specs.declared.fact.Fact.{Fact}
-use Rattle.mdb_events.specs.declared.fact.Fact.TheVariants.{Ended}
 use Rattle.mdb_events.specs.declared.end.End.TheVariants.{Closed as ClosedEnd}
 use Rattle.mdb_events.specs.declared.reasons.ConnectionClosedReason.TheVariants.{PoolClosed as PoolClosedReason}
 use Rattle.mdb_pool.specs.declared.step.Act.TheVariants.{Close as CloseAct}
@@ -16,21 +15,23 @@ use Rattle.mdb_pool.specs.declared.request.Phase.TheVariants.{Queued, Given, Ove
 use Rattle.mdb_pool.specs.declared.pool_core.PoolCore.{PoolCore}
 use Rattle.mdb_pool.specs.History.{Item, PoolItem, closed, ended, pool_closed, of_pool, after_fact, after_facts, has_asked, given}
 use Rattle.mdb_pool.specs.Connections.{has, pending_list, available_list}
-use Rattle.mdb_pool.specs.Requests.{requests, is_unserved, queued, asked_at, end_of}
+use Rattle.mdb_pool.specs.Requests.{requests, is_unserved, queued, end_of}
 use Rattle.mdb_pool.specs.State.{state_of}
 use Rattle.mdb_pool.specs.Facts.{all_ends, close_facts, closed_fact}
-use Rattle.mdb_pool.specs.Kept.{connection_at, request_at, given_in, given_of, end_in, end_at, asked_at_of, state_in, is_shut, unserved_in}
+use Rattle.mdb_pool.specs.Kept.{connection_at, request_at, given_in, given_of, end_in, end_at, is_pending_at, state_in, is_shut, unserved_in, asked_at_of, holder_at, is_asked_at, numbers_asked}
 use Rattle.mdb_pool.specs.Places.{is_pending, is_available, is_queued}
-use Rattle.mdb_pool.specs.Changes.{closing, closing_facts, shut_facts, off_facts, pool_closed_fact, available_ones, pending_ones, unserved_ones, shut_fact, off_fact}
-use Rattle.mdb_pool.specs.Legal.{AllFirstCome, AllOwn, shuts}
+use Rattle.mdb_pool.specs.Changes.{closing, closing_facts, shut_facts, off_facts, pool_closed_fact, available_ones, pending_ones, unserved_ones, shut_fact, over_facts, off_fact}
+use Rattle.mdb_pool.specs.Legal.{AllFirstCome, AllOwn, shuts, is_closing}
 use Rattle.mdb_pool.specs.Standing.{Fits, StandsFor, Serves, Accepts, Answers, SameHome, SameNotes}
-use Rattle.mdb_pool.proofs.Tables.{In, here, there, passes, has-where, member-at, one_if-le}
-use Rattle.mdb_pool.proofs.Acts.{accepts, own-answers, not-back, live-service, pending-is, asked-known}
+use Rattle.mdb_pool.proofs.Tables.{In, here, there, named, passes, has-where, member-at, one_if-le}
+use Rattle.mdb_pool.proofs.Acts.{accepts, own-answers, not-back, live-service, pending-is}
 use Rattle.mdb_pool.proofs.Serving.{same-number, after-append}
-use Rattle.mdb_pool.proofs.Stands.{later-fits}
+use Rattle.mdb_pool.proofs.Stands.{later-fits, asked-known}
 use Rattle.mdb_pool.proofs.Staleness.{shut-status}
+use Rattle.mdb_pool.proofs.Moves.{queued-known}
 use Rattle.mdb_pool.proofs.Frame.{asked-facts}
 use Rattle.mdb_pool.proofs.Laws.{fair-append, own-append}
+use Rattle.mdb_pool.proofs.Overs.{over-is, over-known, over-fair, over-own}
 use Rattle.mdb_pool.proofs.Closes.{closings, endings}
 use Rattle.mdb_pool.proofs.MovesClose.{id_of, number_of, shut_ids, over_numbers, shut_items, close-fits}
 
@@ -47,6 +48,19 @@ module _ {T : Type 0} where
       on : (b : Bool) → p y ≡ b → (In x (filter p ys) → In x ys) → In x (filter p (y ∷ ys)) → In x (y ∷ ys)
       on true e rest j = in-head x y (filter p ys) ys rest (subst (λ c. In x (if c then (y ∷ filter p ys) else filter p ys)) e j)
       on false e rest j = there (rest (subst (λ c. In x (if c then (y ∷ filter p ys) else filter p ys)) e j))
+
+  passes-head : (p : T → Bool) (x y : T) (zs : List T) → p y ≡ true → (In x zs → p x ≡ true) → In x (y ∷ zs) → p x ≡ true
+  passes-head p x y zs e f here = e
+  passes-head p x y zs e f (there i) = f i
+
+  -- what is there passes the test
+  in-passes : (p : T → Bool) (x : T) (xs : List T) → In x (filter p xs) → p x ≡ true
+  in-passes p x [] i = elim i [ ]
+  in-passes p x (y ∷ ys) i = on (p y) refl (λ k. in-passes p x ys k) i
+    where
+      on : (b : Bool) → p y ≡ b → (In x (filter p ys) → p x ≡ true) → In x (filter p (y ∷ ys)) → p x ≡ true
+      on true e rest j = passes-head p x y (filter p ys) e rest (subst (λ c. In x (if c then (y ∷ filter p ys) else filter p ys)) e j)
+      on false e rest j = rest (subst (λ c. In x (if c then (y ∷ filter p ys) else filter p ys)) e j)
 
   in-both : (P : T → Type 0) (xs ys : List T) → ((x : T) → In x xs → P x) → ((x : T) → In x ys → P x) → (x : T) → In x (xs ++ ys) → P x
   in-both P [] ys f g x i = g x i
@@ -91,19 +105,42 @@ module _ (s : PoolCore) (xs : List PoolItem) (z : Fits s xs) (n : ℕ) where
       on Over f = rw (there_queued, end_is, given_is, f) refl
       on (EndedPhase end) f = rw (there_queued, end_is, given_is, f) refl
 
-  numbers-of : (qs : List Request) → ((q : Request) → In q qs → request_at s q.number ≡ Some q) → filter (is_unserved xs) (map number_of qs) ≡ map number_of (filter (λ q. unserved_in s q.phase) qs)
-  numbers-of [] at = refl
-  numbers-of (q ∷ qs) at = on (unserved_in s q.phase) refl (numbers-of qs (λ r i. at r (there i)))
+  -- they asked
+  unserved-asked : (q : Request) → request_at s q.number ≡ Some q → unserved_in s q.phase ≡ true → is_asked_at (request_at s q.number) ≡ true
+  unserved-asked q e u = on q.phase refl
     where
-      on : (b : Bool) → unserved_in s q.phase ≡ b → filter (is_unserved xs) (map number_of qs) ≡ map number_of (filter (λ r. unserved_in s r.phase) qs) → filter (is_unserved xs) (map number_of (q ∷ qs)) ≡ map number_of (filter (λ r. unserved_in s r.phase) (q ∷ qs))
-      on true e rest = let f : is_unserved xs q.number ≡ true = unserved-is q (at q here) ∙ e in rw (f, e) (ap (λ ks. q.number ∷ ks) rest)
-      on false e rest = let f : is_unserved xs q.number ≡ false = unserved-is q (at q here) ∙ e in rw (f, e) rest
+      at_pending : (c : ℕ) (x : Connection) → q.phase ≡ Given c → connection_at s c ≡ Some x → is_pending x.place ≡ true → is_asked_at (request_at s q.number) ≡ true
+      at_pending c x f g h =
+          let mine : holder_at (connection_at s c) ≡ Some q.number = z.matches.taken q.number c (ap given_of e ∙ ap given_in f) in
+          z.matches.known c x q.number g (z.matches.waits c x q.number g h (sym (ap holder_at g) ∙ mine))
+
+      at_connection : (c : ℕ) (o : Option Connection) → q.phase ≡ Given c → connection_at s c ≡ o → is_asked_at (request_at s q.number) ≡ true
+      at_connection c None f g = let k : unserved_in s q.phase ≡ false = rw (f, g) refl in cc
+      at_connection c (Some x) f g = let k : unserved_in s q.phase ≡ is_pending x.place = rw (f, g) refl in at_pending c x f g (sym k ∙ u)
+
+      on : (p : Phase) → q.phase ≡ p → is_asked_at (request_at s q.number) ≡ true
+      on Queued f = queued-known s xs z.matches q e (ap is_queued f)
+      on (Given c) f = at_connection c (connection_at s c) f refl
+      on Over f = let k : unserved_in s q.phase ≡ false = rw f refl in cc
+      on (EndedPhase end) f = let k : unserved_in s q.phase ≡ false = rw f refl in cc
+
+  numbers-of : (qs : List Request) → ((q : Request) → In q qs → request_at s q.number ≡ Some q) → filter (is_unserved xs) (numbers_asked qs) ≡ map number_of (filter (λ q. unserved_in s q.phase) qs)
+  numbers-of [] at = refl
+  numbers-of (q ∷ qs) at = on (unserved_in s q.phase) q.took refl refl (numbers-of qs (λ r i. at r (there i)))
+    where
+      on : (b d : Bool) → unserved_in s q.phase ≡ b → q.took ≡ d → filter (is_unserved xs) (numbers_asked qs) ≡ map number_of (filter (λ r. unserved_in s r.phase) qs) → filter (is_unserved xs) (numbers_asked (q ∷ qs)) ≡ map number_of (filter (λ r. unserved_in s r.phase) (q ∷ qs))
+      on true true e d rest =
+          let k : is_asked_at (Some q) ≡ true = sym (ap is_asked_at (at q here)) ∙ unserved-asked q (at q here) e in
+          let w : is_asked_at (Some q) ≡ false = ap not d in
+          cc
+      on true false e d rest = let f : is_unserved xs q.number ≡ true = unserved-is q (at q here) ∙ e in rw (d, f, e) (ap (λ ks. q.number ∷ ks) rest)
+      on false true e d rest = rw (d, e) rest
+      on false false e d rest = let f : is_unserved xs q.number ≡ false = unserved-is q (at q here) ∙ e in rw (d, f, e) rest
 
   ends-are : (qs : List Request) → ((q : Request) → In q qs → request_at s q.number ≡ Some q) → all_ends s.pool s.address n xs ClosedEnd (map number_of qs) ≡ off_facts s n qs
   ends-are [] at = refl
   ends-are (q ∷ qs) at =
-      let moment : asked_at xs q.number ≡ q.asked_at = z.matches.asked_at q.number ∙ ap asked_at_of (at q here) in
-      rw (z.matches.no_warm q.number, moment) (ap (λ fs. Ended q.number ClosedEnd ∷ off_fact s (n - q.asked_at) ∷ fs) (ends-are qs (λ r i. at r (there i))))
+      ap (λ fs. fs ++ all_ends s.pool s.address n xs ClosedEnd (map number_of qs)) (over-is s xs z.matches n q ClosedEnd (at q here)) ∙ ap (λ fs. over_facts s q.number q.warm (n - q.asked_at) ClosedEnd ++ fs) (ends-are qs (λ r i. at r (there i)))
 
   unserved-at : (q : Request) → In q (unserved_ones s) → request_at s q.number ≡ Some q
   unserved-at q i = req-at q (in-filter (λ r. unserved_in s r.phase) q s.requests i)
@@ -133,11 +170,11 @@ module _ (s : PoolCore) (xs : List PoolItem) (z : Fits s xs) (n : ℕ) where
   off-known : (qs : List Request) (ys : List PoolItem) → ((q : Request) → In q qs → has_asked ys q.number ≡ true) → after_facts s.pool n (off_facts s n qs) ys ≡ endings ClosedEnd (map number_of qs) ys
   off-known [] ys asked = refl
   off-known (q ∷ qs) ys asked =
-      let first : after_fact s.pool n (Ended q.number ClosedEnd) ys ≡ ended q.number ClosedEnd ∷ ys = rw (asked q here) refl in
-      ap (after_facts s.pool n (off_facts s n qs)) first ∙ off-known qs (ended q.number ClosedEnd ∷ ys) (λ r i. asked r (there i))
+      after-append s.pool n (over_facts s q.number q.warm (n - q.asked_at) ClosedEnd) (off_facts s n qs) ys
+      ∙ (ap (after_facts s.pool n (off_facts s n qs)) (over-known s s.pool n q.number (n - q.asked_at) ClosedEnd q.warm ys (asked q here)) ∙ off-known qs (ended q.number ClosedEnd ∷ ys) (λ r i. asked r (there i)))
 
   asked-then : (q : Request) → In q (unserved_ones s) → has_asked (after_facts s.pool n (shut_facts s (available_ones s ++ pending_ones s)) xs) q.number ≡ true
-  asked-then q i = asked-facts s.pool n q.number (shut_facts s (available_ones s ++ pending_ones s)) xs ∙ (asked-known s xs z q.number ∙ ap is_some (unserved-at q i))
+  asked-then q i = asked-facts s.pool n q.number (shut_facts s (available_ones s ++ pending_ones s)) xs ∙ (asked-known s xs z q.number ∙ unserved-asked q (unserved-at q i) (in-passes (λ r. unserved_in s r.phase) q s.requests i))
 
   pub close-known : after_facts s.pool n (closing_facts s n) xs ≡ shut_items s xs z.matches n
   close-known =
@@ -159,7 +196,7 @@ module _ (s : PoolCore) (xs : List PoolItem) (z : Fits s xs) (n : ℕ) where
 
   off-fair : (qs : List Request) (ys : List PoolItem) → AllFirstCome s.pool n ys (off_facts s n qs)
   off-fair [] ys = tt
-  off-fair (q ∷ qs) ys = (tt, (tt, off-fair qs _))
+  off-fair (q ∷ qs) ys = fair-append s.pool s.address s.options n (over_facts s q.number q.warm (n - q.asked_at) ClosedEnd) (off_facts s n qs) ys (over-fair s s.pool n q.number (n - q.asked_at) ClosedEnd q.warm ys) (off-fair qs (after_facts s.pool n (over_facts s q.number q.warm (n - q.asked_at) ClosedEnd) ys))
 
   shut-own : (cs : List Connection) (ys : List PoolItem) → AllOwn s.pool n ys (shut_facts s cs)
   shut-own [] ys = tt
@@ -167,7 +204,9 @@ module _ (s : PoolCore) (xs : List PoolItem) (z : Fits s xs) (n : ℕ) where
 
   off-own : (qs : List Request) (ys : List PoolItem) → ((q : Request) → In q qs → has_asked ys q.number ≡ true) → AllOwn s.pool n ys (off_facts s n qs)
   off-own [] ys asked = tt
-  off-own (q ∷ qs) ys asked = (asked q here, (refl, off-own qs (after_fact s.pool n (Ended q.number ClosedEnd) ys) (λ r i. asked-facts s.pool n r.number (Ended q.number ClosedEnd ∷ []) ys ∙ asked r (there i))))
+  off-own (q ∷ qs) ys asked =
+      let over : List Fact = over_facts s q.number q.warm (n - q.asked_at) ClosedEnd in
+      own-append s.pool s.address s.options n over (off_facts s n qs) ys (over-own s s.pool n q.number (n - q.asked_at) ClosedEnd q.warm ys refl (asked q here)) (off-own qs (after_facts s.pool n over ys) (λ r i. asked-facts s.pool n r.number over ys ∙ asked r (there i)))
 
   pub close-fair : AllFirstCome s.pool n xs (closing_facts s n)
   close-fair = fair-append s.pool s.address s.options n (shut_facts s (available_ones s ++ pending_ones s) ++ off_facts s n (unserved_ones s)) (pool_closed_fact s ∷ []) xs
@@ -184,7 +223,11 @@ module _ (s : PoolCore) (xs : List PoolItem) (z : Fits s xs) (n : ℕ) where
     where
       then_off : (qs : List Request) → shuts (off_facts s n qs ++ pool_closed_fact s ∷ []) ≡ true
       then_off [] = refl
-      then_off (q ∷ qs) = then_off qs
+      then_off (q ∷ qs) = on q.warm refl (then_off qs)
+        where
+          on : (b : Bool) → q.warm ≡ b → shuts (off_facts s n qs ++ pool_closed_fact s ∷ []) ≡ true → shuts (off_facts s n (q ∷ qs) ++ pool_closed_fact s ∷ []) ≡ true
+          on true e rest = rw e rest
+          on false e rest = rw e rest
 
       first : (cs : List Connection) → shuts ((shut_facts s cs ++ off_facts s n (unserved_ones s)) ++ pool_closed_fact s ∷ []) ≡ true
       first [] = then_off (unserved_ones s)

@@ -1,22 +1,23 @@
 -- Many connections are closed and many requests end, one after another.
-use Rattle.std.proofs.Common.{ℕ, ◌≡◌, ◌+◌, ◌-◌, ◌≤◌, Bool, true, false, not, ◌&&◌, ◌||◌, ◌==◌, List, [], ◌∷◌, ◌++◌, length, filter, Option, Some, None, is_some, refl, sym, ◌∙◌, ap, arith, if◌then◌else◌, take, get_or, ◌<◌}
+use Rattle.std.proofs.Common.{ℕ, ◌≡◌, ◌+◌, ◌-◌, ◌≤◌, Bool, true, false, not, ◌&&◌, ◌||◌, ◌==◌, List, [], ◌∷◌, ◌++◌, length, map, filter, Option, Some, None, is_some, refl, sym, ◌∙◌, ap, arith, if◌then◌else◌, take, get_or, ◌<◌, append_assoc, append-nil}
+use Rattle.std.specs.Prelude.{count_by, find}
 use Rattle.std.proofs.lemmas.Grind.{common_steps}
 use Rattle.mdb_base.specs.declared.object_id.ObjectId.{ObjectId}
 use Rattle.mdb_events.specs.declared.end.End.{End}
 use Rattle.mdb_pool.specs.declared.options.PoolOptions.{PoolOptions}
 use Rattle.mdb_pool.specs.History.{PoolItem, closed, ended, given, without, has_asked, has_taken}
-use Rattle.mdb_pool.specs.Connections.{one_if, has, live, live_total, created_total, created_at, pending_list, available_list, parties, pins, granted_to, service_of, known_service, last_use, is_errored, wire_of}
+use Rattle.mdb_pool.specs.Connections.{one_if, has, live, live_total, created_total, created_at, pending_list, available_list, parties, pins, is_pinned, timeouts_since, granted_to, service_of, known_service, last_use, is_errored, wire_of}
 use Rattle.mdb_pool.specs.Requests.{requests, queued, is_warm, asked_at, end_of}
 use Rattle.mdb_pool.specs.State.{generation_of, generation_before}
 use Rattle.mdb_pool.specs.Keyed.{entry_at}
-use Rattle.mdb_events.specs.declared.fact.Fact.TheVariants.{Ended}
 use Rattle.mdb_events.specs.declared.end.End.TheVariants.{Closed as ClosedEnd}
 use Rattle.mdb_pool.specs.declared.request.Request.{Request}
 use Rattle.mdb_pool.specs.declared.pool_core.PoolCore.{PoolCore}
-use Rattle.mdb_pool.specs.Changes.{off_fact, off_facts}
+use Rattle.mdb_pool.specs.Changes.{over_facts, off_facts}
 use Rattle.mdb_pool.specs.Kept.{unserved_in}
 use Rattle.std.proofs.lemmas.List.{take_more}
 use Rattle.mdb_pool.proofs.Tables.{named, passes}
+use Rattle.mdb_pool.proofs.Pins.{pinned-again}
 
 -- the items, those of the first numbers first
 abbrev pub closings : List ℕ → List PoolItem → List PoolItem
@@ -40,6 +41,8 @@ pub record Still (o : PoolOptions) (xs ys : List PoolItem) : Type 0 where
   pub before : (c : ℕ) (t : Option ObjectId) → generation_before ys c t ≡ generation_before xs c t
   pub warm : (r : ℕ) → is_warm ys r ≡ is_warm xs r
   pub pins : (c : ℕ) → pins ys c ≡ pins xs c
+  pub pinned : (c : ℕ) → is_pinned ys c ≡ is_pinned xs c
+  pub timeouts : (c : ℕ) → timeouts_since ys c ≡ timeouts_since xs c
   pub errored : (c : ℕ) → is_errored ys c ≡ is_errored xs c
   pub use_of : (c : ℕ) → last_use ys c ≡ last_use xs c
   pub asked : (r : ℕ) → has_asked ys r ≡ has_asked xs r
@@ -59,6 +62,8 @@ still-then o xs ys zs a b = record {
   before = λ c t. b.before c t ∙ a.before c t;
   warm = λ r. b.warm r ∙ a.warm r;
   pins = λ c. b.pins c ∙ a.pins c;
+  pinned = λ c. b.pinned c ∙ a.pinned c;
+  timeouts = λ c. b.timeouts c ∙ a.timeouts c;
   errored = λ c. b.errored c ∙ a.errored c;
   use_of = λ c. b.use_of c ∙ a.use_of c;
   asked = λ r. b.asked r ∙ a.asked r;
@@ -79,6 +84,8 @@ still-same o xs = record {
   before = λ c t. refl;
   warm = λ r. refl;
   pins = λ c. refl;
+  pinned = λ c. refl;
+  timeouts = λ c. refl;
   errored = λ c. refl;
   use_of = λ c. refl;
   asked = λ r. refl;
@@ -99,6 +106,8 @@ still-closed o k xs = record {
   before = λ c t. refl;
   warm = λ r. refl;
   pins = λ c. refl;
+  pinned = λ c. pinned-again xs c;
+  timeouts = λ c. refl;
   errored = λ c. refl;
   use_of = λ c. refl;
   asked = λ r. refl;
@@ -119,6 +128,8 @@ still-ended o k end xs = record {
   before = λ c t. refl;
   warm = λ r. refl;
   pins = λ c. refl;
+  pinned = λ c. pinned-again xs c;
+  timeouts = λ c. refl;
   errored = λ c. refl;
   use_of = λ c. refl;
   asked = λ r. refl;
@@ -323,9 +334,9 @@ module _ {T : Type 0} (key : T → ℕ) where
       on false e rest = rw e rest
 
 -- the facts of one more end come last
-pub off_facts_append : (s : PoolCore) (m : ℕ) (qs : List Request) (q : Request) → off_facts s m (qs ++ q ∷ []) ≡ off_facts s m qs ++ Ended q.number ClosedEnd ∷ off_fact s (m - q.asked_at) ∷ []
-off_facts_append s m [] q = refl
-off_facts_append s m (k ∷ qs) q = ap (λ fs. Ended k.number ClosedEnd ∷ off_fact s (m - k.asked_at) ∷ fs) (off_facts_append s m qs q)
+pub off_facts_append : (s : PoolCore) (m : ℕ) (qs : List Request) (q : Request) → off_facts s m (qs ++ q ∷ []) ≡ off_facts s m qs ++ over_facts s q.number q.warm (m - q.asked_at) ClosedEnd
+off_facts_append s m [] q = append-nil (over_facts s q.number q.warm (m - q.asked_at) ClosedEnd)
+off_facts_append s m (k ∷ qs) q = ap (λ fs. over_facts s k.number k.warm (m - k.asked_at) ClosedEnd ++ fs) (off_facts_append s m qs q) ∙ sym (append_assoc (over_facts s k.number k.warm (m - k.asked_at) ClosedEnd) (off_facts s m qs) (over_facts s q.number q.warm (m - q.asked_at) ClosedEnd))
 
 -- how the facts grow with each request, as it ends or not
 module _ (s : PoolCore) (m : ℕ) (qs : List Request) (i : ℕ) (q : Request) (within : i < length qs) (at : q ≡ get_or qs i q) where
@@ -335,7 +346,7 @@ module _ (s : PoolCore) (m : ℕ) (qs : List Request) (i : ℕ) (q : Request) (w
   one-more : take (i + 1) qs ≡ take i qs ++ q ∷ []
   one-more = take_more qs i q within ∙ ap (λ k. take i qs ++ k ∷ []) (sym at)
 
-  pub off_facts_more : unserved_in s q.phase ≡ true → off_facts s m (filter chosen (take (i + 1) qs)) ≡ off_facts s m (filter chosen (take i qs)) ++ Ended q.number ClosedEnd ∷ off_fact s (m - q.asked_at) ∷ []
+  pub off_facts_more : unserved_in s q.phase ≡ true → off_facts s m (filter chosen (take (i + 1) qs)) ≡ off_facts s m (filter chosen (take i qs)) ++ over_facts s q.number q.warm (m - q.asked_at) ClosedEnd
   off_facts_more e =
       let f : filter chosen (take (i + 1) qs) ≡ filter chosen (take i qs) ++ q ∷ [] = ap (filter chosen) one-more ∙ grind (arith, common_steps, e) in
       ap (off_facts s m) f ∙ off_facts_append s m (filter chosen (take i qs)) q

@@ -6,9 +6,9 @@ use Rattle.mdb_pool.specs.declared.reply.Refused.TheVariants.{UnknownRequest}
 use Rattle.mdb_pool.specs.declared.reply.Reply.{Reply}
 use Rattle.mdb_pool.specs.declared.reply.Reply.TheVariants.{Refused as RefusedBy}
 use Rattle.mdb_pool.specs.declared.pool_core.PoolCore.{PoolCore}
-use Rattle.mdb_pool.proofs.Acts.{own-answers, not-back, outcome-is, outcome-accepted, outcome-no-job, refuses, accepts, asked-known}
+use Rattle.mdb_pool.proofs.Acts.{own-answers, not-back, outcome-is, outcome-accepted, outcome-no-job, refuses, accepts}
 use Rattle.mdb_pool.proofs.RequestedActs.{telling-settled, telling-fits, or-none}
-use Rattle.mdb_pool.proofs.Stands.{noted-fits}
+use Rattle.mdb_pool.proofs.Stands.{noted-fits, asked-known}
 use Rattle.mdb_pool.specs.Changes.{telling}
 use Rattle.mdb_pool.specs.Connections.{has}
 use Rattle.mdb_pool.specs.History.{Item, PoolItem, of_pool}

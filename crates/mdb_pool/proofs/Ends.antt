@@ -12,16 +12,17 @@ use Rattle.mdb_pool.specs.declared.request.Phase.TheVariants.{Queued, Ended as E
 use Rattle.mdb_pool.specs.declared.pool_core.PoolCore.{PoolCore}
 use Rattle.mdb_pool.specs.History.{PoolItem, ended, after_fact, after_facts, without, has_asked}
 use Rattle.mdb_pool.specs.Connections.{has}
-use Rattle.mdb_pool.specs.Requests.{queued, asked_at}
+use Rattle.mdb_pool.specs.Requests.{queued, asked_at, is_warm, told}
 use Rattle.mdb_pool.specs.Facts.{end_facts, all_ends}
-use Rattle.mdb_pool.specs.Kept.{request_at, first_queued, numbers_where, given_in, asked_at_of}
+use Rattle.mdb_pool.specs.Kept.{request_at, first_queued, numbers_where, given_in, asked_at_of, warm_of}
 use Rattle.mdb_pool.specs.Places.{is_queued}
-use Rattle.mdb_pool.specs.Changes.{ending, off_fact}
+use Rattle.mdb_pool.specs.Changes.{ending, over_facts}
 use Rattle.mdb_pool.specs.Standing.{Fits, SameHome, EndsQueue}
 use Rattle.mdb_pool.proofs.Tables.{named, where-swap_out, length-without, one_if-le}
+use Rattle.mdb_pool.proofs.Overs.{over-known}
 use Rattle.mdb_pool.proofs.Found.{queued-at, queue-head, queue-empty}
 use Rattle.mdb_pool.proofs.Serving.{after-append, same-number}
-use Rattle.mdb_pool.proofs.Acts.{asked-known}
+use Rattle.mdb_pool.proofs.Moves.{queued-asked_at}
 use Rattle.mdb_pool.proofs.Stands.{end-fits}
 
 -- facts don't ask
@@ -48,6 +49,30 @@ moment-fact p m r (Sdam e) xs = refl
 pub moment-facts : (p m r : ℕ) (fs : List Fact) (xs : List PoolItem) → asked_at (after_facts p m fs xs) r ≡ asked_at xs r
 moment-facts p m r [] xs = refl
 moment-facts p m r (f ∷ fs) xs = moment-facts p m r fs (after_fact p m f xs) ∙ moment-fact p m r f xs
+
+pub warm-fact : (p m r : ℕ) (f : Fact) (xs : List PoolItem) → is_warm (after_fact p m f xs) r ≡ is_warm xs r
+warm-fact p m r (Opened q a) xs = refl
+warm-fact p m r (Pool q (PoolCreated e)) xs = grind arith
+warm-fact p m r (Pool q (PoolReady e)) xs = grind arith
+warm-fact p m r (Pool q (PoolCleared e)) xs = refl
+warm-fact p m r (Pool q (PoolClosed e)) xs = grind arith
+warm-fact p m r (Pool q (ConnectionCreated e)) xs = grind arith
+warm-fact p m r (Pool q (ConnectionReady e)) xs = refl
+warm-fact p m r (Pool q (ConnectionClosed e)) xs = grind arith
+warm-fact p m r (Pool q (ConnectionCheckoutStarted e)) xs = refl
+warm-fact p m r (Pool q (ConnectionCheckoutFailed e)) xs = refl
+warm-fact p m r (Pool q (ConnectionCheckedOut e)) xs = refl
+warm-fact p m r (Pool q (ConnectionCheckedIn e)) xs = grind arith
+warm-fact p m r (Granted k q c) xs = grind arith
+warm-fact p m r (Ended k end) xs = grind arith
+warm-fact p m r (Raised q service error) xs = grind arith
+warm-fact p m r (CheckNow a) xs = refl
+warm-fact p m r (Cancel a) xs = refl
+warm-fact p m r (Sdam e) xs = refl
+
+pub warm-facts : (p m r : ℕ) (fs : List Fact) (xs : List PoolItem) → is_warm (after_facts p m fs xs) r ≡ is_warm xs r
+warm-facts p m r [] xs = refl
+warm-facts p m r (f ∷ fs) xs = warm-facts p m r fs (after_fact p m f xs) ∙ warm-fact p m r f xs
 
 ends-append : (p : ℕ) (a : ServerAddress) (m : ℕ) (xs : List PoolItem) (end : End) (rs : List ℕ) (r : ℕ) → all_ends p a m xs end (rs ++ r ∷ []) ≡ all_ends p a m xs end rs ++ end_facts p a m xs r end
 ends-append p a m xs end [] r = append-nil (end_facts p a m xs r end)
@@ -93,7 +118,7 @@ ends-done s t n end before after xs g e =
       fits = subst (λ k. Fits t (after_facts s.pool n (all_ends s.pool s.address n xs end k) xs)) (sym all) g.fits;
     }
 
-pub ends-more : (s t u : PoolCore) (home : SameHome s t) (n : ℕ) (end : End) (before after facts : List Fact) (xs : List PoolItem) (q : Request) → Fits s xs → Ending s t n end before after xs → first_queued t ≡ Some q → u ≡ ending t q end → facts ≡ after ++ Ended q.number end ∷ off_fact t (n - q.asked_at) ∷ [] → Ending s u n end before facts xs
+pub ends-more : (s t u : PoolCore) (home : SameHome s t) (n : ℕ) (end : End) (before after facts : List Fact) (xs : List PoolItem) (q : Request) → Fits s xs → Ending s t n end before after xs → first_queued t ≡ Some q → u ≡ ending t q end → facts ≡ after ++ over_facts t q.number q.warm (n - q.asked_at) end → Ending s u n end before facts xs
 ends-more s t u home n end before after facts xs q z g e new added =
     let ys : List PoolItem = after_facts s.pool n (all_ends s.pool s.address n xs end g.done) xs in
     let at_q : (request_at t q.number ≡ Some q) × (q.phase ≡ Queued) = queued-at t ys g.fits.matches q e in
@@ -102,13 +127,14 @@ ends-more s t u home n end before after facts xs q z g e new added =
     let single : count_by (λ j. j == q.number) (numbers_where is_queued t.requests) ≤ 1 = at-most (part-named q.number t.requests) (rw (g.fits.matches.single_request q.number) (one_if-le (is_some (request_at t q.number)))) in
     let left : without q.number (queued ys) ≡ head.0 = ap (without q.number) queue ∙ once q.number head.0 (subst (λ k. count_by (λ j. j == q.number) k ≤ 1) head.1 single) in
     let moment : asked_at xs q.number ≡ q.asked_at = sym (moment-facts s.pool n q.number (all_ends s.pool s.address n xs end g.done) xs) ∙ (g.fits.matches.asked_at q.number ∙ ap asked_at_of at_q.0) in
-    let told : end_facts s.pool s.address n xs q.number end ≡ Ended q.number end ∷ off_fact t (n - q.asked_at) ∷ [] = rw (z.matches.no_warm q.number, moment, home.pool, home.address) refl in
-    let asked : has_asked ys q.number ≡ true = asked-known t ys g.fits q.number ∙ ap is_some at_q.0 in
-    let more : all_ends s.pool s.address n xs end (g.done ++ q.number ∷ []) ≡ all_ends s.pool s.address n xs end g.done ++ Ended q.number end ∷ off_fact t (n - q.asked_at) ∷ [] = ends-append s.pool s.address n xs end g.done q.number ∙ ap (λ k. all_ends s.pool s.address n xs end g.done ++ k) told in
-    let known : after_facts s.pool n (all_ends s.pool s.address n xs end (g.done ++ q.number ∷ [])) xs ≡ ended q.number end ∷ ys = ap (λ k. after_facts s.pool n k xs) more ∙ (after-append s.pool n (all_ends s.pool s.address n xs end g.done) (Ended q.number end ∷ off_fact t (n - q.asked_at) ∷ []) xs ∙ rw asked refl) in
+    let warm : is_warm xs q.number ≡ q.warm = sym (warm-facts s.pool n q.number (all_ends s.pool s.address n xs end g.done) xs) ∙ (g.fits.matches.warm q.number ∙ ap warm_of at_q.0) in
+    let told : end_facts s.pool s.address n xs q.number end ≡ over_facts t q.number q.warm (n - q.asked_at) end = rw (warm, moment, home.pool, home.address) refl in
+    let asked : has_asked ys q.number ≡ true = queued-asked_at t ys g.fits.matches q at_q.0 (ap is_queued at_q.1) in
+    let more : all_ends s.pool s.address n xs end (g.done ++ q.number ∷ []) ≡ all_ends s.pool s.address n xs end g.done ++ over_facts t q.number q.warm (n - q.asked_at) end = ends-append s.pool s.address n xs end g.done q.number ∙ ap (λ k. all_ends s.pool s.address n xs end g.done ++ k) told in
+    let known : after_facts s.pool n (all_ends s.pool s.address n xs end (g.done ++ q.number ∷ [])) xs ≡ ended q.number end ∷ ys = ap (λ k. after_facts s.pool n k xs) more ∙ (after-append s.pool n (all_ends s.pool s.address n xs end g.done) (over_facts t q.number q.warm (n - q.asked_at) end) xs ∙ over-known t s.pool n q.number (n - q.asked_at) end q.warm ys asked) in
     record {
       done = g.done ++ q.number ∷ [];
-      facts = added ∙ (ap (λ k. k ++ Ended q.number end ∷ off_fact t (n - q.asked_at) ∷ []) g.facts ∙ (append_assoc before (all_ends s.pool s.address n xs end g.done) (Ended q.number end ∷ off_fact t (n - q.asked_at) ∷ []) ∙ ap (λ k. before ++ k) (sym more)));
+      facts = added ∙ (ap (λ k. k ++ over_facts t q.number q.warm (n - q.asked_at) end) g.facts ∙ (append_assoc before (all_ends s.pool s.address n xs end g.done) (over_facts t q.number q.warm (n - q.asked_at) end) ∙ ap (λ k. before ++ k) (sym more)));
       fits = subst (Fits u) (sym known) (rw new (end-fits t ys g.fits n q end at_q.0 (ap given_in at_q.1)));
       rest = g.rest ∙ (ap (λ k. g.done ++ k) queue ∙ (sym (append_assoc g.done (q.number ∷ []) head.0) ∙ ap (λ k. (g.done ++ q.number ∷ []) ++ k) (sym (ap queued known ∙ left))));
     }

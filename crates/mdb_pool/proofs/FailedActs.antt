@@ -1,8 +1,7 @@
 -- What a failed connection does is the answer to its step.
-use Rattle.std.proofs.Common.{ℕ, ◌≡◌, ◌-◌, ◌≤◌, Bool, true, false, not, ◌&&◌, ◌==◌, List, [], ◌∷◌, ◌++◌, Some, None, is_some, refl, sym, ◌∙◌, subst, if◌then◌else◌, ap, Option}
+use Rattle.std.proofs.Common.{ℕ, ◌≡◌, ◌-◌, ◌≤◌, Bool, true, false, not, ◌&&◌, ◌||◌, ◌==◌, List, [], ◌∷◌, ◌++◌, Some, None, is_some, refl, sym, ◌∙◌, subst, if◌then◌else◌, ap, Option}
 use Rattle.mdb_base.specs.declared.error.Error.{Error}
 use Rattle.mdb_events.specs.declared.fact.Fact.{Fact}
-use Rattle.mdb_events.specs.declared.fact.Fact.TheVariants.{Ended}
 use Rattle.mdb_events.specs.declared.end.End.TheVariants.{Failed as FailedEnd}
 use Rattle.mdb_events.specs.declared.reasons.ConnectionClosedReason.TheVariants.{Error as ErrorReason}
 use Rattle.mdb_pool.specs.declared.step.Act.TheVariants.{Failed as FailedAct}
@@ -15,57 +14,67 @@ use Rattle.mdb_pool.specs.declared.connection.Connection.{Connection}
 use Rattle.mdb_pool.specs.declared.connection.Place.TheVariants.{Pending}
 use Rattle.mdb_pool.specs.declared.request.Request.{Request}
 use Rattle.mdb_pool.specs.declared.pool_core.PoolCore.{PoolCore}
-use Rattle.mdb_pool.specs.History.{Item, PoolItem, failed, of_pool, has_asked}
+use Rattle.mdb_pool.specs.History.{Item, PoolItem, failed, closed, ended, of_pool, after_fact, after_facts, has_asked}
 use Rattle.mdb_pool.specs.Refusal.{refusal_of}
 use Rattle.mdb_pool.specs.Facts.{act_facts}
 use Rattle.mdb_pool.specs.Answer.{with_act}
 use Rattle.mdb_pool.specs.Standing.{Fits, StandsFor, Serves, Accepts, Answers, SameHome, SameNotes}
 use Rattle.mdb_pool.specs.Kept.{connection_at, request_at, is_pending_at, given_of, holder_at, holder_request, service_in, is_shut}
-use Rattle.mdb_pool.specs.Changes.{failing, forgetting, shut_fact, off_fact}
-use Rattle.mdb_pool.proofs.Acts.{refuses, accepts, own-answers, not-back, pending-is, live-service, given-open, asked-known}
+use Rattle.mdb_pool.specs.Changes.{failing, forgetting, shut_fact, over_facts}
+use Rattle.mdb_pool.proofs.Acts.{refuses, accepts, own-answers, not-back, pending-is, live-service, given-open}
 use Rattle.mdb_pool.proofs.Tables.{entry_at-key, named}
+use Rattle.mdb_pool.proofs.Overs.{over-is, over-known, over-fair, over-own, over-open}
 use Rattle.mdb_pool.proofs.Serving.{same-number}
-use Rattle.mdb_pool.proofs.Stands.{fail-fits, forget-fits}
+use Rattle.mdb_pool.proofs.Stands.{fail-fits, forget-fits, asked-known}
 use Rattle.mdb_pool.specs.Connections.{has, pending, held}
 use Rattle.mdb_pool.specs.Requests.{end_of}
-use Rattle.mdb_pool.specs.Places.{is_pending}
+use Rattle.mdb_pool.specs.Places.{is_pending, stays}
 
 -- a pending connection
 module _ (s : PoolCore) (xs : List PoolItem) (z : Fits s xs) (n : ℕ) (x : Connection) (at : FailedAt) (error : Error) where
   abbrev ys : List PoolItem
   ys = failed x.id (service_in at) ∷ xs
 
+  abbrev over : Request → List Fact
+  over q = over_facts s q.number q.warm (n - q.asked_at) (FailedEnd error)
+
   -- its request has not ended
-  fail-are : (q : Request) → connection_at s x.id ≡ Some x → x.place ≡ Pending → x.holder ≡ Some q.number → request_at s q.number ≡ Some q → act_facts s.pool s.address s.options n xs ys (FailedAct s.pool x.id at error) ≡ shut_fact s x ErrorReason ∷ Ended q.number (FailedEnd error) ∷ off_fact s (n - q.asked_at) ∷ []
+  fail-are : (q : Request) → connection_at s x.id ≡ Some x → x.place ≡ Pending → x.holder ≡ Some q.number → request_at s q.number ≡ Some q → act_facts s.pool s.address s.options n xs ys (FailedAct s.pool x.id at error) ≡ shut_fact s x ErrorReason ∷ over q
   fail-are q at_x place held at_q =
-      let same : q.number ≡ x.party = z.matches.waits x.id x q.number at_x (ap is_pending place) held in
+      let party : x.party ≡ Some q.number = z.matches.waits x.id x q.number at_x (ap is_pending place) held in
       let mine : given_of (request_at s q.number) ≡ Some x.id = z.matches.owned x.id q.number (ap holder_at at_x ∙ held) in
       let still : end_of xs q.number ≡ None = z.matches.ends q.number ∙ given-open (request_at s q.number) x.id mine in
-      rw (z.matches.granted_to x.id x at_x, ← same, still, z.matches.no_warm q.number, z.matches.asked_at q.number, at_q, live-service s xs z.matches x.id x at_x) refl
+      rw (z.matches.granted_to x.id x at_x ∙ party, still, live-service s xs z.matches x.id x at_x) (ap (λ fs. shut_fact s x ErrorReason ∷ fs) (over-is s xs z.matches n q (FailedEnd error) at_q))
 
-  -- its party gave up
+  -- its party gave up, or it has none
   forget-are : connection_at s x.id ≡ Some x → x.place ≡ Pending → x.holder ≡ None → act_facts s.pool s.address s.options n xs ys (FailedAct s.pool x.id at error) ≡ shut_fact s x ErrorReason ∷ []
-  forget-are at_x place alone =
-      let over : is_some (end_of xs x.party) ≡ true = ap is_some (z.matches.ends x.party) ∙ z.matches.left_by x.id x at_x (ap is_pending place) alone in
-      rw (z.matches.granted_to x.id x at_x, over, live-service s xs z.matches x.id x at_x) refl
+  forget-are at_x place alone = on x.party refl
+    where
+      on : (o : Option ℕ) → x.party ≡ o → act_facts s.pool s.address s.options n xs ys (FailedAct s.pool x.id at error) ≡ shut_fact s x ErrorReason ∷ []
+      on None e = rw (z.matches.granted_to x.id x at_x ∙ e, live-service s xs z.matches x.id x at_x) refl
+      on (Some k) e =
+          let gone : is_some (end_of xs k) ≡ true = ap is_some (z.matches.ends k) ∙ z.matches.left_by x.id x k at_x (ap is_pending place) alone e in
+          rw (z.matches.granted_to x.id x at_x ∙ e, gone, live-service s xs z.matches x.id x at_x) refl
 
   pub fail-accepts : (s1 t : PoolCore) (before f1 after : List Fact) (q : Request) → connection_at s x.id ≡ Some x → x.place ≡ Pending → x.holder ≡ Some q.number → request_at s q.number ≡ Some q → s1 ≡ failing s n x q (FailedEnd error)
-      → f1 ≡ before ++ shut_fact s x ErrorReason ∷ Ended q.number (FailedEnd error) ∷ off_fact s (n - q.asked_at) ∷ [] → SameHome s1 t → SameNotes s1 t
+      → f1 ≡ before ++ shut_fact s x ErrorReason ∷ over q → SameHome s1 t → SameNotes s1 t
       → ((k : List PoolItem) → Fits s1 k → Serves s1 t n f1 after k)
       → Accepts s t before after n (FailedAct s.pool x.id at error) Done xs ys
   fail-accepts s1 t before f1 after q at_x place held at_q s1_is f1_is home notes serves =
-      let asked : has_asked xs q.number ≡ true = asked-known s xs z q.number ∙ ap is_some at_q in
-      accepts s s1 t t before f1 after n (FailedAct s.pool x.id at error) Done (shut_fact s x ErrorReason ∷ Ended q.number (FailedEnd error) ∷ off_fact s (n - q.asked_at) ∷ []) xs ys
+      let asked : has_asked xs q.number ≡ true = asked-known s xs z q.number ∙ z.matches.known x.id x q.number at_x (z.matches.waits x.id x q.number at_x (ap is_pending place) held) in
+      let first : after_fact s.pool n (shut_fact s x ErrorReason) ys ≡ closed x.id ∷ ys = rw (same-number s.pool) refl in
+      let known : after_facts s.pool n (shut_fact s x ErrorReason ∷ over q) ys ≡ ended q.number (FailedEnd error) ∷ closed x.id ∷ ys = ap (after_facts s.pool n (over q)) first ∙ over-known s s.pool n q.number (n - q.asked_at) (FailedEnd error) q.warm (closed x.id ∷ ys) asked in
+      accepts s s1 t t before f1 after n (FailedAct s.pool x.id at error) Done (shut_fact s x ErrorReason ∷ over q) xs ys
       (fail-are q at_x place held at_q)
-      f1_is (rw s1_is (record { pool = refl; address = refl; options = refl })) (rw (s1_is, same-number s.pool, asked) (fail-fits s xs z n x (service_in at) q (FailedEnd error) at_x at_q held)) serves
+      f1_is (rw s1_is (record { pool = refl; address = refl; options = refl })) (rw s1_is (subst (Fits (failing s n x q (FailedEnd error))) (sym known) (fail-fits s xs z n x (service_in at) q (FailedEnd error) at_x at_q held (z.matches.loose x.id x at_x (ap stays place))))) serves
       (λ zs v. v)
       (λ claims own zs m. refl)
       tt
-      (ap is_shut (notes.status ∙ ap (λ k. k.status) s1_is))
+      (ap is_shut (notes.status ∙ ap (λ k. k.status) s1_is) ∙ ap (λ b. b || is_shut s.status) (sym (over-open s s.pool n q.number (n - q.asked_at) (FailedEnd error) q.warm)))
       (λ r. ap (has r) (notes.settled ∙ ap (λ k. k.settled) s1_is))
       (λ c. ap (has c) (notes.claimed ∙ ap (λ k. k.claimed) s1_is))
-      (tt, (tt, (tt, tt)))
-      (refl, (rw (same-number s.pool) asked, (refl, tt)))
+      (tt, over-fair s s.pool n q.number (n - q.asked_at) (FailedEnd error) q.warm (after_fact s.pool n (shut_fact s x ErrorReason) ys))
+      (refl, over-own s s.pool n q.number (n - q.asked_at) (FailedEnd error) q.warm (after_fact s.pool n (shut_fact s x ErrorReason) ys) refl (subst (λ k. has_asked k q.number ≡ true) (sym first) asked))
 
   pub forget-accepts : (s1 t : PoolCore) (before f1 after : List Fact) → connection_at s x.id ≡ Some x → x.place ≡ Pending → x.holder ≡ None → s1 ≡ forgetting s n x → f1 ≡ before ++ shut_fact s x ErrorReason ∷ [] → SameHome s1 t → SameNotes s1 t
       → ((k : List PoolItem) → Fits s1 k → Serves s1 t n f1 after k)
@@ -73,7 +82,7 @@ module _ (s : PoolCore) (xs : List PoolItem) (z : Fits s xs) (n : ℕ) (x : Conn
   forget-accepts s1 t before f1 after at_x place alone s1_is f1_is home notes serves =
       accepts s s1 t t before f1 after n (FailedAct s.pool x.id at error) Done (shut_fact s x ErrorReason ∷ []) xs ys
       (forget-are at_x place alone)
-      f1_is (rw s1_is (record { pool = refl; address = refl; options = refl })) (rw (s1_is, same-number s.pool) (forget-fits s xs z n x (service_in at) at_x alone)) serves
+      f1_is (rw s1_is (record { pool = refl; address = refl; options = refl })) (rw (s1_is, same-number s.pool) (forget-fits s xs z n x (service_in at) at_x alone (z.matches.loose x.id x at_x (ap stays place)))) serves
       (λ zs v. v)
       (λ claims own zs m. refl)
       tt
@@ -84,7 +93,7 @@ module _ (s : PoolCore) (xs : List PoolItem) (z : Fits s xs) (n : ℕ) (x : Conn
       (refl, tt)
 
 -- the request of a connection is that of its holder
-holder-some : (s : PoolCore) (x : Connection) (q : Request) → holder_request s x ≡ Some q → (x.holder ≡ Some q.number) × (request_at s q.number ≡ Some q)
+pub holder-some : (s : PoolCore) (x : Connection) (q : Request) → holder_request s x ≡ Some q → (x.holder ≡ Some q.number) × (request_at s q.number ≡ Some q)
 holder-some s x q e = on x.holder refl
   where
     on : (o : Option ℕ) → x.holder ≡ o → (x.holder ≡ Some q.number) × (request_at s q.number ≡ Some q)
@@ -96,7 +105,7 @@ holder-some s x q e = on x.holder refl
         (f ∙ ap Some (sym i), subst (λ d. request_at s d ≡ Some q) (sym i) k)
 
 -- without one nobody has it
-holder-none : (s : PoolCore) (xs : List PoolItem) (z : Fits s xs) (x : Connection) → connection_at s x.id ≡ Some x → holder_request s x ≡ None → x.holder ≡ None
+pub holder-none : (s : PoolCore) (xs : List PoolItem) (z : Fits s xs) (x : Connection) → connection_at s x.id ≡ Some x → holder_request s x ≡ None → x.holder ≡ None
 holder-none s xs z x at_x e = on x.holder refl
   where
     on : (o : Option ℕ) → x.holder ≡ o → x.holder ≡ None
@@ -110,7 +119,7 @@ holder-none s xs z x at_x e = on x.holder refl
 
 -- the same by the numbers that the calls are given
 pub fail-of : (s s1 t : PoolCore) (before f1 after : List Fact) (n c : ℕ) (x : Connection) (q : Request) (at : FailedAt) (error : Error) (xs : List PoolItem) → Fits s xs → connection_at s c ≡ Some x → x.place ≡ Pending → holder_request s x ≡ Some q → s1 ≡ failing s n x q (FailedEnd error)
-    → f1 ≡ before ++ shut_fact s x ErrorReason ∷ Ended q.number (FailedEnd error) ∷ off_fact s (n - q.asked_at) ∷ [] → SameHome s1 t → SameNotes s1 t → ((k : List PoolItem) → Fits s1 k → Serves s1 t n f1 after k)
+    → f1 ≡ before ++ shut_fact s x ErrorReason ∷ over_facts s q.number q.warm (n - q.asked_at) (FailedEnd error) → SameHome s1 t → SameNotes s1 t → ((k : List PoolItem) → Fits s1 k → Serves s1 t n f1 after k)
     → Accepts s t before after n (FailedAct s.pool c at error) Done xs (failed c (service_in at) ∷ xs)
 fail-of s s1 t before f1 after n c x q at error xs z at_c place asker s1_is f1_is home notes serves =
     let e : x.id ≡ c = entry_at-key (λ (y : Connection). y.id) c x s.connections at_c in

@@ -1,8 +1,8 @@
 -- What the state finds first or last.
-use Rattle.std.proofs.Common.{ℕ, ◌≡◌, Bool, true, false, List, [], ◌∷◌, find, Option, Some, None, is_some, ◌⊎◌, inl, inr, refl, sym, ◌∙◌, ap, subst, arith}
+use Rattle.std.proofs.Common.{ℕ, ◌≡◌, Bool, true, false, not, ◌&&◌, List, [], ◌∷◌, find, Option, Some, None, is_some, ◌⊎◌, inl, inr, refl, sym, ◌∙◌, ap, subst, arith}
 use Rattle.mdb_pool.specs.declared.connection.Connection.{Connection}
 use Rattle.mdb_pool.specs.declared.connection.Place.{Place}
-use Rattle.mdb_pool.specs.declared.connection.Place.TheVariants.{Pending, Available, Held}
+use Rattle.mdb_pool.specs.declared.connection.Place.TheVariants.{Pending, Available, Held, Pinned}
 use Rattle.mdb_pool.specs.declared.request.Request.{Request}
 use Rattle.mdb_pool.specs.declared.request.Phase.{Phase}
 use Rattle.mdb_pool.specs.declared.request.Phase.TheVariants.{Queued, Given, Over, Ended as EndedPhase}
@@ -10,8 +10,8 @@ use Rattle.mdb_pool.specs.declared.pool_core.PoolCore.{PoolCore}
 use Rattle.mdb_pool.specs.History.{PoolItem}
 use Rattle.mdb_pool.specs.Serving.{last_of}
 use Rattle.mdb_pool.specs.Standing.{Matches}
-use Rattle.mdb_pool.specs.Kept.{connection_at, request_at, ids_where, numbers_where, first_queued, last_available, last_from, held_connection, if_held, given_in, given_of, if_pending, pending_connection, holder_at}
-use Rattle.mdb_pool.specs.Places.{is_pending, is_available, is_held, is_queued}
+use Rattle.mdb_pool.specs.Kept.{connection_at, request_at, ids_where, numbers_where, first_queued, candidate_now, blocked_now, first_perished, perished_now, last_available, last_from, held_connection, if_held, given_in, given_of, if_pending, pending_connection, holder_at}
+use Rattle.mdb_pool.specs.Places.{is_pending, is_available, is_held, is_at_pin, is_queued}
 use Rattle.mdb_pool.proofs.Tables.{In, here, there, member-at, one_if-le, find-member, entry_at-key}
 
 pub is-queued : (p : Phase) → is_queued p ≡ true → p ≡ Queued
@@ -24,6 +24,7 @@ pub is-available : (p : Place) → is_available p ≡ true → p ≡ Available
 is-available Pending e = cc
 is-available Available e = refl
 is-available Held e = cc
+is-available Pinned e = cc
 
 -- the last available one is a member
 pub last-member : (before : Option Connection) (x : Connection) (xs : List Connection) → last_from before xs ≡ Some x → (before ≡ Some x) ⊎ (In x xs × (is_available x.place ≡ true))
@@ -59,11 +60,29 @@ last-id before (x ∷ xs) = on (is_available x.place) refl (λ b. last-id b xs)
     on true f rest = grind (arith, rest (Some x))
     on false f rest = grind (arith, rest before)
 
+pub both-left : (a b : Bool) → (a && b) ≡ true → a ≡ true
+both-left true b e = refl
+both-left false b e = cc
+
+pub both-right : (a b : Bool) → (a && b) ≡ true → b ≡ true
+both-right true b e = e
+both-right false b e = cc
+
 module _ (s : PoolCore) (xs : List PoolItem) (m : Matches s xs) where
   pub queued-at : (q : Request) → first_queued s ≡ Some q → (request_at s q.number ≡ Some q) × (q.phase ≡ Queued)
   queued-at q e =
       let i : In q s.requests × (is_queued q.phase ≡ true) = find-member (λ (r : Request). is_queued r.phase) q s.requests e in
       (member-at (λ (r : Request). r.number) q s.requests i.0 (rw (m.single_request q.number) (one_if-le (is_some (request_at s q.number)))), is-queued q.phase i.1)
+
+  pub candidate-at : (q : Request) → candidate_now s ≡ Some q → (request_at s q.number ≡ Some q) × (q.phase ≡ Queued)
+  candidate-at q e =
+      let i : In q s.requests × ((is_queued q.phase && not (q.warm && blocked_now s)) ≡ true) = find-member (λ (r : Request). is_queued r.phase && not (r.warm && blocked_now s)) q s.requests e in
+      (member-at (λ (r : Request). r.number) q s.requests i.0 (rw (m.single_request q.number) (one_if-le (is_some (request_at s q.number)))), is-queued q.phase (both-left (is_queued q.phase) (not (q.warm && blocked_now s)) i.1))
+
+  pub perished-at : (n : ℕ) (x : Connection) → first_perished s n ≡ Some x → (connection_at s x.id ≡ Some x) × (x.place ≡ Available) × (is_some (perished_now s n x) ≡ true)
+  perished-at n x e =
+      let i : In x s.connections × ((is_available x.place && is_some (perished_now s n x)) ≡ true) = find-member (λ (y : Connection). is_available y.place && is_some (perished_now s n y)) x s.connections e in
+      (member-at (λ (y : Connection). y.id) x s.connections i.0 (rw (m.single x.id) (one_if-le (is_some (connection_at s x.id)))), is-available x.place (both-left (is_available x.place) (is_some (perished_now s n x)) i.1), both-right (is_available x.place) (is_some (perished_now s n x)) i.1)
 
   pub available-at : (x : Connection) → last_available s ≡ Some x → (connection_at s x.id ≡ Some x) × (x.place ≡ Available)
   available-at x e = on (last-member None x s.connections e)
@@ -89,11 +108,19 @@ pub is-pending : (p : Place) → is_pending p ≡ true → p ≡ Pending
 is-pending Pending e = refl
 is-pending Available e = cc
 is-pending Held e = cc
+is-pending Pinned e = cc
 
 pub is-held : (p : Place) → is_held p ≡ true → p ≡ Held
 is-held Pending e = cc
 is-held Available e = cc
 is-held Held e = refl
+is-held Pinned e = cc
+
+pub is-pinned : (p : Place) → is_at_pin p ≡ true → p ≡ Pinned
+is-pinned Pending e = cc
+is-pinned Available e = cc
+is-pinned Held e = cc
+is-pinned Pinned e = refl
 
 -- who holds a connection has a request that was given it
 pub record Holder (s : PoolCore) (r : ℕ) (x : Connection) (q : Request) : Type 0 where
@@ -154,6 +181,7 @@ not-given s xs m r q f h p = on q.phase refl
     at_place c x Pending g l e t = let k : pending_connection s r ≡ Some x = rw (f, e, g, l) refl in cc
     at_place c x Available g l e t = let k : holder_at (Some x) ≡ None = m.free c x g (ap is_available l) in let v : holder_at (Some x) ≡ Some r = ap holder_at (sym g) ∙ t in cc
     at_place c x Held g l e t = let k : held_connection s r ≡ Some x = rw (f, e, g, l) refl in cc
+    at_place c x Pinned g l e t = let k : holder_at (Some x) ≡ None = m.rests c x g (ap is_at_pin l) in let v : holder_at (Some x) ≡ Some r = ap holder_at (sym g) ∙ t in cc
 
     at_connection : (c : ℕ) (o : Option Connection) → connection_at s c ≡ o → q.phase ≡ Given c → holder_at (connection_at s c) ≡ Some r → given_in q.phase ≡ None
     at_connection c None g e t = let v : holder_at None ≡ Some r = ap holder_at (sym g) ∙ t in cc

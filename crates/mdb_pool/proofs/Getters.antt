@@ -1,14 +1,19 @@
 -- What the calls that only look at a pool answer, by its history.
-use Rattle.std.proofs.Common.{ℕ, ◌≡◌, Bool, true, false, List, Option, Some, None, is_some, refl, sym, ◌∙◌, ap, if◌then◌else◌, nat_lt}
+use Rattle.std.proofs.Common.{ℕ, ◌≡◌, Bool, true, false, List, Option, Some, None, is_some, refl, sym, ◌∙◌, ap, if◌then◌else◌, nat_lt, not, ◌&&◌, ◌==◌, ◌+◌, arith}
 use Rattle.mdb_base.specs.declared.object_id.ObjectId.{ObjectId}
 use Rattle.mdb_pool.specs.declared.connection.Connection.{Connection}
 use Rattle.mdb_pool.specs.declared.pool_core.PoolCore.{PoolCore}
 use Rattle.mdb_pool.specs.History.{Item, PoolItem, of_pool}
-use Rattle.mdb_pool.specs.Connections.{has, is_live, pending_list, holding}
-use Rattle.mdb_pool.specs.State.{generation_of, generation_before}
-use Rattle.mdb_pool.specs.Kept.{connection_at, held_connection, is_pending_at, id_at, clears_for, clears_before}
+use Rattle.mdb_pool.specs.Connections.{has, is_live, pending_list, holding, known_service, timeouts_since}
+use Rattle.mdb_pool.specs.State.{generation_of, generation_before, is_interrupted}
+use Rattle.mdb_pool.specs.Kept.{connection_at, held_connection, is_pending_at, id_at, clears_for, clears_before, generation_at, interrupted_at, timeouts_in, is_held_at, pins_at}
+use Rattle.mdb_pool.specs.Places.{is_held}
+use Rattle.mdb_pool.specs.Generations.{carried}
+use Rattle.mdb_pool.specs.declared.generation.ConnectionGeneration.TheVariants.{Normal, LoadBalanced}
+use Rattle.mdb_pool.proofs.TakenActs.{held-is}
+use Rattle.std.proofs.lemmas.Bool.Decides.{nat_tests}
 use Rattle.mdb_pool.specs.Standing.{StandsFor}
-use Rattle.mdb_pool.proofs.Acts.{holding-is, pending-is}
+use Rattle.mdb_pool.proofs.Acts.{holding-is, pending-is, live-service}
 use Rattle.mdb_pool.proofs.Found.{id_or}
 use Rattle.mdb_pool.proofs.Staleness.{live-created}
 
@@ -42,3 +47,35 @@ module _ (s : PoolCore) (h : List Item) (z : StandsFor s h) where
 
   pub pending-now : (c : ℕ) → is_pending_at (connection_at s c) ≡ has c (pending_list xs)
   pending-now c = sym (pending-is s xs z.fits c)
+
+  -- the generation that a connection carries
+  carried-same : (c : ℕ) (x : Connection) → connection_at s c ≡ Some x → (b : Bool) (o : Option ObjectId) → carried b (λ t. clears_before c t s.clears) o ≡ carried b (generation_before xs c) o
+  carried-same c x e false o = ap Normal (sym (z.fits.matches.before c None (live-created s xs z.fits.matches c x e)))
+  carried-same c x e true None = refl
+  carried-same c x e true (Some t) = ap (λ n. LoadBalanced (Some (record { generation = n; service_id = t }))) (sym (z.fits.matches.before c (Some t) (live-created s xs z.fits.matches c x e)))
+
+  pub carried-now : (c : ℕ) → generation_at s c (connection_at s c) ≡ (if is_live xs c then Some (carried s.options.load_balanced (generation_before xs c) (known_service xs c)) else None)
+  carried-now c = rw (live-is c) (on (connection_at s c) refl)
+    where
+      on : (o : Option Connection) → connection_at s c ≡ o → generation_at s c (connection_at s c) ≡ (if is_some (connection_at s c) then Some (carried s.options.load_balanced (generation_before xs c) (known_service xs c)) else None)
+      on None e = rw e refl
+      on (Some x) e = rw (e, live-service s xs z.fits.matches c x e) (ap Some (carried-same c x e s.options.load_balanced x.service))
+
+  -- whether a connection is interrupted
+  since-now : (k : ℕ) (x : Connection) → k + x.timeouts ≡ timeouts_in s.clears → nat_lt x.timeouts (timeouts_in s.clears) ≡ nat_lt 0 k
+  since-now k x e = grind (arith, nat_tests)
+
+  pub interrupted-now : (c : ℕ) → interrupted_at s (connection_at s c) ≡ is_interrupted s.options xs c
+  interrupted-now c = sym (rw (held-is s xs z.fits c, z.fits.matches.pins c) (on (connection_at s c) refl))
+    where
+      at_held : (x : Connection) (b : Bool) → connection_at s c ≡ Some x → is_held x.place ≡ b → not s.options.load_balanced && (b && ((x.pins == 0) && nat_lt 0 (timeouts_since xs c))) ≡ not s.options.load_balanced && (b && ((x.pins == 0) && nat_lt x.timeouts (timeouts_in s.clears)))
+      at_held x false e f = refl
+      at_held x true e f = rw (since-now (timeouts_since xs c) x (z.fits.matches.calm c x e (z.fits.matches.busy c x e f))) refl
+
+      on : (o : Option Connection) → connection_at s c ≡ o → not s.options.load_balanced && (is_held_at o && ((pins_at o == 0) && nat_lt 0 (timeouts_since xs c))) ≡ interrupted_at s o
+      on None e = never (not s.options.load_balanced)
+        where
+          never : (b : Bool) → b && false ≡ false
+          never true = refl
+          never false = refl
+      on (Some x) e = at_held x (is_held x.place) e refl

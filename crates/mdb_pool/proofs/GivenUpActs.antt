@@ -1,5 +1,5 @@
 -- What a give-up does is the answer to its step.
-use Rattle.std.proofs.Common.{ℕ, ◌≡◌, ◌≤◌, Bool, true, false, not, ◌==◌, List, [], ◌∷◌, ◌++◌, Option, Some, None, is_some, refl, sym, ◌∙◌, ap, subst, if◌then◌else◌, append-nil, ◌||◌}
+use Rattle.std.proofs.Common.{ℕ, ◌≡◌, ◌≤◌, ◌<◌, Bool, true, false, not, ◌==◌, List, [], ◌∷◌, ◌++◌, Option, Some, None, is_some, refl, sym, ◌∙◌, ap, subst, if◌then◌else◌, append-nil, ◌||◌, nat_lt}
 use Rattle.mdb_events.specs.declared.fact.Fact.{Fact}
 use Rattle.mdb_events.specs.declared.fact.Fact.TheVariants.{Ended}
 use Rattle.mdb_events.specs.declared.end.End.{End}
@@ -17,28 +17,29 @@ use Rattle.mdb_pool.specs.declared.request.Phase.{Phase}
 use Rattle.mdb_pool.specs.declared.request.Phase.TheVariants.{Queued, Given, Over, Ended as EndedPhase}
 use Rattle.mdb_pool.specs.declared.pool_core.PoolCore.{PoolCore}
 use Rattle.mdb_pool.specs.History.{Item, PoolItem, is_number, given, has_asked, of_pool, after_facts, gave_up, closed, checked_in, ended, after_fact}
-use Rattle.mdb_pool.specs.Kept.{connection_at, request_at, given_in, given_of, end_in, end_at, is_ended_at, held_connection, pending_connection, is_open_now, is_pending_at, outcome_now, is_shut, stale_for, reason_now}
+use Rattle.mdb_pool.specs.Kept.{connection_at, request_at, given_in, given_of, end_in, end_at, is_ended_at, held_connection, pending_connection, is_open_now, is_pending_at, outcome_now, is_shut, reason_now, used_as, is_asked_at}
 use Rattle.mdb_pool.specs.Requests.{end_of, told}
 use Rattle.mdb_pool.specs.Facts.{act_facts}
 use Rattle.mdb_pool.specs.Standing.{Fits, StandsFor, SameHome, SameNotes, Serves, Accepts, Answers}
 use Rattle.mdb_pool.specs.Connections.{has, pending_list, held}
 use Rattle.mdb_pool.specs.Places.{is_pending}
 use Rattle.mdb_pool.specs.Refusal.{refusal_of}
-use Rattle.mdb_pool.specs.Changes.{quitting, leaving, handing, back_facts, losing, handing_for}
+use Rattle.mdb_pool.specs.Changes.{quitting, leaving, handing, back_facts, losing, handing_for, to_pin}
 use Rattle.mdb_pool.specs.Legal.{AllFirstCome, AllOwn, shuts}
-use Rattle.mdb_pool.proofs.ReturnedActs.{or-swap}
+use Rattle.mdb_pool.proofs.ReturnedActs.{or-swap, none-above, some-above}
+use Rattle.mdb_pool.proofs.PinStands.{quit-pinned-fits}
 use Rattle.mdb_pool.proofs.Found.{Holder, holder, pender, not-given}
 use Rattle.mdb_pool.proofs.CollectedActs.{open-is}
-use Rattle.mdb_pool.proofs.Stands.{quit-fits, leave-fits, hand-fits, late-fits, lose-fits}
+use Rattle.mdb_pool.proofs.Stands.{quit-fits, leave-fits, hand-fits, late-fits, lose-fits, asked-known}
 use Rattle.mdb_pool.proofs.Tables.{entry_at-key}
 use Rattle.mdb_pool.proofs.Laws.{has-append}
 use Rattle.mdb_pool.proofs.Serving.{same-number}
-use Rattle.mdb_pool.proofs.Acts.{refuses, accepts, own-answers, not-back, pending-is, holding-is, outcome-is, outcome-accepted, outcome-no-job, live-fine, asked-known, live-service}
-use Rattle.mdb_pool.proofs.CheckIns.{reason-is, check-in-is, back-fair, back-own, back-open, back-fits}
+use Rattle.mdb_pool.proofs.Acts.{refuses, accepts, own-answers, not-back, pending-is, holding-is, outcome-is, outcome-accepted, outcome-no-job, live-errored, live-service, live-pins}
+use Rattle.mdb_pool.proofs.CheckIns.{check-in-is, back-fair, back-own, back-open, back-fits}
 use Rattle.mdb_pool.proofs.Staleness.{stale-at}
 
 -- a request that has not ended
-module _ (s : PoolCore) (xs : List PoolItem) (z : Fits s xs) (n : ℕ) (q : Request) (at_q : request_at s q.number ≡ Some q) (open_now : end_in q.phase ≡ None) where
+module _ (s : PoolCore) (xs : List PoolItem) (z : Fits s xs) (n : ℕ) (q : Request) (at_q : request_at s q.number ≡ Some q) (open_now : end_in q.phase ≡ None) (known : is_asked_at (request_at s q.number) ≡ true) where
   abbrev ys : List PoolItem
   ys = gave_up q.number ∷ xs
 
@@ -46,7 +47,7 @@ module _ (s : PoolCore) (xs : List PoolItem) (z : Fits s xs) (n : ℕ) (q : Requ
   still = z.matches.ends q.number ∙ (ap end_at at_q ∙ open_now)
 
   asked : has_asked xs q.number ≡ true
-  asked = asked-known s xs z q.number ∙ ap is_some at_q
+  asked = asked-known s xs z q.number ∙ known
 
   -- the facts acts, and a state that fits them, are an answer
   given-up : (s1 t : PoolCore) (before f1 after : List Fact) (acts : List Fact) → act_facts s.pool s.address s.options n xs ys (GiveUp q.number) ≡ acts → f1 ≡ before ++ acts → SameHome s s1 → s1.settled ≡ s.settled ++ q.number ∷ [] → s1.claimed ≡ s.claimed → s1.status ≡ s.status → shuts acts ≡ false
@@ -87,38 +88,50 @@ module _ (s : PoolCore) (xs : List PoolItem) (z : Fits s xs) (n : ℕ) (q : Requ
 
   -- its connection is held
   abbrev why : Connection → Option ConnectionClosedReason
-  why x = reason_now s x.id x.service Ok
+  why x = reason_now s (used_as x Ok)
 
-  hand-are : (x : Connection) → held_connection s q.number ≡ Some x → connection_at s x.id ≡ Some x → q.phase ≡ Given x.id → act_facts s.pool s.address s.options n xs ys (GiveUp q.number) ≡ Ended q.number GaveUp ∷ back_facts s x (why x)
-  hand-are x held at_x phase =
-      let mine : is_number (given xs q.number) x.id ≡ true = ap (λ o. is_number o x.id) (z.matches.given q.number ∙ (ap given_of at_q ∙ ap given_in phase)) ∙ same-number x.id in
-      rw (still, holding-is s xs z q.number, held, z.matches.no_pin x.id) (ap (λ k. Ended q.number GaveUp ∷ k) (check-in-is s ys x Ok z.matches.status (live-service s xs z.matches x.id x at_x) (reason-is s ys x.id Ok (stale_for s x.id x.service) (live-fine s xs z.matches x.id x at_x) (stale-at s xs z.matches x.id x at_x) (rw mine refl))))
+  mine : (x : Connection) → q.phase ≡ Given x.id → given xs q.number ≡ Some x.id
+  mine x phase = z.matches.given q.number ∙ (ap given_of at_q ∙ ap given_in phase)
 
-  hand-fits-for : (x : Connection) → connection_at s x.id ≡ Some x → x.place ≡ Held → q.phase ≡ Given x.id → (o : Option ConnectionClosedReason) → Fits (handing_for s n x q o) (after_facts s.pool n (Ended q.number GaveUp ∷ back_facts s x o) ys)
-  hand-fits-for x at_x place phase None = rw asked (back-fits s (handing s n x q) n x None (ended q.number GaveUp ∷ ys) (λ f. hand-fits s xs z n x q at_x place at_q phase) (λ w f. drops w f))
+  hand-are : (x : Connection) → held_connection s q.number ≡ Some x → connection_at s x.id ≡ Some x → q.phase ≡ Given x.id → x.pins ≡ 0 → act_facts s.pool s.address s.options n xs ys (GiveUp q.number) ≡ Ended q.number GaveUp ∷ back_facts s (used_as x Ok) (why x)
+  hand-are x held at_x phase loose =
+      rw (still, holding-is s xs z q.number, held, live-pins s xs z.matches x.id x at_x, loose) (ap (λ k. Ended q.number GaveUp ∷ k) (check-in-is s ys (used_as x Ok) z.matches.status (live-service s xs z.matches x.id x at_x) (live-errored s xs z.matches x.id x at_x) (stale-at s xs z.matches x.id x at_x) (rw (mine x phase, same-number x.id) refl)))
+
+  -- and a pin stands
+  pinned-are : (x : Connection) → held_connection s q.number ≡ Some x → connection_at s x.id ≡ Some x → nat_lt 0 x.pins ≡ true → act_facts s.pool s.address s.options n xs ys (GiveUp q.number) ≡ Ended q.number GaveUp ∷ []
+  pinned-are x held at_x some_pins = rw (still, holding-is s xs z q.number, held, live-pins s xs z.matches x.id x at_x, some_pins) refl
+
+  pub pinned-accepts : (s1 t : PoolCore) (before f1 after : List Fact) (x : Connection) → held_connection s q.number ≡ Some x → connection_at s x.id ≡ Some x → x.place ≡ Held → q.phase ≡ Given x.id → nat_lt 0 x.pins ≡ true → s1 ≡ to_pin s n (used_as x Ok) q (EndedPhase GaveUp) → f1 ≡ before ++ Ended q.number GaveUp ∷ [] → SameHome s1 t → SameNotes s1 t → ((k : List PoolItem) → Fits s1 k → Serves s1 t n f1 after k)
+      → Accepts s t before after n (GiveUp q.number) Done xs ys
+  pinned-accepts s1 t before f1 after x held at_x place phase some_pins s1_is f1_is home notes serves =
+      given-up s1 t before f1 after (Ended q.number GaveUp ∷ []) (pinned-are x held at_x some_pins) f1_is (rw s1_is (record { pool = refl; address = refl; options = refl })) (ap (λ k. k.settled) s1_is) (ap (λ k. k.claimed) s1_is) (ap (λ k. k.status) s1_is) refl
+      (rw (s1_is, asked) (quit-pinned-fits s xs z n x q at_x place at_q phase some_pins)) home notes serves (tt, tt) (asked, tt)
+
+  hand-fits-for : (x : Connection) → connection_at s x.id ≡ Some x → x.place ≡ Held → q.phase ≡ Given x.id → x.pins ≡ 0 → (o : Option ConnectionClosedReason) → Fits (handing_for s n (used_as x Ok) q o) (after_facts s.pool n (Ended q.number GaveUp ∷ back_facts s (used_as x Ok) o) ys)
+  hand-fits-for x at_x place phase loose None = rw asked (back-fits s (handing s n (used_as x Ok) q) n (used_as x Ok) None (ended q.number GaveUp ∷ ys) (λ f. hand-fits s xs z n x q at_x place at_q phase loose) (λ w f. drops w f))
     where
-      drops : (w : ConnectionClosedReason) → ◌≡◌ {A = Option ConnectionClosedReason} None (Some w) → Fits (handing s n x q) (closed x.id ∷ checked_in x.id n ∷ ended q.number GaveUp ∷ ys)
+      drops : (w : ConnectionClosedReason) → ◌≡◌ {A = Option ConnectionClosedReason} None (Some w) → Fits (handing s n (used_as x Ok) q) (closed x.id ∷ checked_in x.id n ∷ ended q.number GaveUp ∷ ys)
       drops w f = cc
-  hand-fits-for x at_x place phase (Some w) =
+  hand-fits-for x at_x place phase loose (Some w) =
       let told : after_fact s.pool n (Ended q.number GaveUp) ys ≡ ended q.number GaveUp ∷ ys = rw asked refl in
-      subst (λ k. Fits (losing s n x q) (after_facts s.pool n (back_facts s x (Some w)) k)) (sym told) (back-fits s (losing s n x q) n x (Some w) (ended q.number GaveUp ∷ ys) (λ f. keeps f) (λ v f. lose-fits s xs z n x q at_x place at_q phase))
+      subst (λ k. Fits (losing s n (used_as x Ok) q) (after_facts s.pool n (back_facts s (used_as x Ok) (Some w)) k)) (sym told) (back-fits s (losing s n (used_as x Ok) q) n (used_as x Ok) (Some w) (ended q.number GaveUp ∷ ys) (λ f. keeps f) (λ v f. lose-fits s xs z n x q at_x place at_q phase loose))
     where
-      keeps : ◌≡◌ {A = Option ConnectionClosedReason} (Some w) None → Fits (losing s n x q) (checked_in x.id n ∷ ended q.number GaveUp ∷ ys)
+      keeps : ◌≡◌ {A = Option ConnectionClosedReason} (Some w) None → Fits (losing s n (used_as x Ok) q) (checked_in x.id n ∷ ended q.number GaveUp ∷ ys)
       keeps f = cc
 
-  hand-home-for : (x : Connection) (o : Option ConnectionClosedReason) → SameHome s (handing_for s n x q o)
+  hand-home-for : (x : Connection) (o : Option ConnectionClosedReason) → SameHome s (handing_for s n (used_as x Ok) q o)
   hand-home-for x None = record { pool = refl; address = refl; options = refl }
   hand-home-for x (Some w) = record { pool = refl; address = refl; options = refl }
 
-  hand-notes-for : (x : Connection) (o : Option ConnectionClosedReason) → ((handing_for s n x q o).settled ≡ s.settled ++ q.number ∷ []) × ((handing_for s n x q o).claimed ≡ s.claimed) × ((handing_for s n x q o).status ≡ s.status)
+  hand-notes-for : (x : Connection) (o : Option ConnectionClosedReason) → ((handing_for s n (used_as x Ok) q o).settled ≡ s.settled ++ q.number ∷ []) × ((handing_for s n (used_as x Ok) q o).claimed ≡ s.claimed) × ((handing_for s n (used_as x Ok) q o).status ≡ s.status)
   hand-notes-for x None = (refl, refl, refl)
   hand-notes-for x (Some w) = (refl, refl, refl)
 
-  pub hand-accepts : (s1 t : PoolCore) (before f1 after : List Fact) (x : Connection) → held_connection s q.number ≡ Some x → connection_at s x.id ≡ Some x → x.place ≡ Held → q.phase ≡ Given x.id → s1 ≡ handing_for s n x q (why x) → f1 ≡ before ++ Ended q.number GaveUp ∷ back_facts s x (why x) → SameHome s1 t → SameNotes s1 t → ((k : List PoolItem) → Fits s1 k → Serves s1 t n f1 after k)
+  pub hand-accepts : (s1 t : PoolCore) (before f1 after : List Fact) (x : Connection) → held_connection s q.number ≡ Some x → connection_at s x.id ≡ Some x → x.place ≡ Held → q.phase ≡ Given x.id → x.pins ≡ 0 → s1 ≡ handing_for s n (used_as x Ok) q (why x) → f1 ≡ before ++ Ended q.number GaveUp ∷ back_facts s (used_as x Ok) (why x) → SameHome s1 t → SameNotes s1 t → ((k : List PoolItem) → Fits s1 k → Serves s1 t n f1 after k)
       → Accepts s t before after n (GiveUp q.number) Done xs ys
-  hand-accepts s1 t before f1 after x held at_x place phase s1_is f1_is home notes serves =
-      given-up s1 t before f1 after (Ended q.number GaveUp ∷ back_facts s x (why x)) (hand-are x held at_x phase) f1_is (rw s1_is (hand-home-for x (why x))) (ap (λ k. k.settled) s1_is ∙ (hand-notes-for x (why x)).0) (ap (λ k. k.claimed) s1_is ∙ (hand-notes-for x (why x)).1) (ap (λ k. k.status) s1_is ∙ (hand-notes-for x (why x)).2) (back-open s x (why x))
-      (rw s1_is (hand-fits-for x at_x place phase (why x))) home notes serves (tt, back-fair s n x (why x) (after_facts s.pool n (Ended q.number GaveUp ∷ []) ys)) (asked, back-own s n x (why x) (after_facts s.pool n (Ended q.number GaveUp ∷ []) ys))
+  hand-accepts s1 t before f1 after x held at_x place phase loose s1_is f1_is home notes serves =
+      given-up s1 t before f1 after (Ended q.number GaveUp ∷ back_facts s (used_as x Ok) (why x)) (hand-are x held at_x phase loose) f1_is (rw s1_is (hand-home-for x (why x))) (ap (λ k. k.settled) s1_is ∙ (hand-notes-for x (why x)).0) (ap (λ k. k.claimed) s1_is ∙ (hand-notes-for x (why x)).1) (ap (λ k. k.status) s1_is ∙ (hand-notes-for x (why x)).2) (back-open s (used_as x Ok) (why x))
+      (rw s1_is (hand-fits-for x at_x place phase loose (why x))) home notes serves (tt, back-fair s n (used_as x Ok) (why x) (after_facts s.pool n (Ended q.number GaveUp ∷ []) ys)) (asked, back-own s n (used_as x Ok) (why x) (after_facts s.pool n (Ended q.number GaveUp ∷ []) ys))
 
 -- a request that ended is told how
 some-end : (o : Option Request) → is_ended_at o ≡ true → given_of o ≡ None
@@ -153,11 +166,11 @@ give-up-refusal s h z n r l = rw (z.last_is, not-back n s.last l, open-is s h z 
 pub refuses-closed : (s : PoolCore) (facts : List Fact) (n r : ℕ) (h : List Item) → StandsFor s h → s.last ≤ n → is_open_now s r ≡ false → Answers s s facts facts (record { moment = n; act = GiveUp r }) (RefusedBy UnknownRequest) h
 refuses-closed s facts n r h z l e = refuses s facts (record { moment = n; act = GiveUp r }) UnknownRequest h z (give-up-refusal s h z n r l ∙ ap (λ b. if not b then Some UnknownRequest else None) e)
 
--- an open request is known
-pub open-known : (s : PoolCore) (r : ℕ) → is_open_now s r ≡ true → is_some (request_at s r) ≡ true
-open-known s r e = on (is_some (request_at s r)) refl
+-- who has an open request asked
+pub open-known : (s : PoolCore) (r : ℕ) → is_open_now s r ≡ true → is_asked_at (request_at s r) ≡ true
+open-known s r e = on (is_asked_at (request_at s r)) refl
   where
-    on : (b : Bool) → is_some (request_at s r) ≡ b → is_some (request_at s r) ≡ true
+    on : (b : Bool) → is_asked_at (request_at s r) ≡ b → is_asked_at (request_at s r) ≡ true
     on true f = f
     on false f = let k : is_open_now s r ≡ false = rw f refl in cc
 
@@ -178,25 +191,33 @@ no-end s r q at_r e = none (end_in q.phase) (sym (ap is_ended_at at_r) ∙ e)
     none (Some end) f = cc
 
 -- the same by the number that the call is given
-pub hand-of : (s s1 t : PoolCore) (before f1 after : List Fact) (n r : ℕ) (x : Connection) (q : Request) (o : Option ConnectionClosedReason) (xs : List PoolItem) → Fits s xs → request_at s r ≡ Some q → is_ended_at (request_at s r) ≡ false → held_connection s r ≡ Some x → o ≡ reason_now s x.id x.service Ok
-    → s1 ≡ handing_for s n x q o → f1 ≡ before ++ Ended q.number GaveUp ∷ back_facts s x o → SameHome s1 t → SameNotes s1 t → ((k : List PoolItem) → Fits s1 k → Serves s1 t n f1 after k)
-    → Accepts s t before after n (GiveUp r) Done xs (gave_up r ∷ xs)
-hand-of s s1 t before f1 after n r x q o xs z at_r open_now held reason s1_is f1_is home notes serves =
-    let e : q.number ≡ r = entry_at-key (λ (k : Request). k.number) r q s.requests at_r in
-    let v : Holder s r x q = holder s r x q held at_r in
-    subst (λ d. Accepts s t before after n (GiveUp d) Done xs (gave_up d ∷ xs)) e (hand-accepts s xs z n q (subst (λ d. request_at s d ≡ Some q) (sym e) at_r) (no-end s r q at_r open_now) s1 t before f1 after x (subst (λ d. held_connection s d ≡ Some x) (sym e) held) v.at_x v.place v.phase (s1_is ∙ ap (handing_for s n x q) reason) (f1_is ∙ ap (λ k. before ++ Ended q.number GaveUp ∷ back_facts s x k) reason) home notes serves)
+pub hand-of : (s s1 t : PoolCore) (before f1 after : List Fact) (n : ℕ) (x y : Connection) (q : Request) (o : Option ConnectionClosedReason) (xs : List PoolItem) → Fits s xs → request_at s q.number ≡ Some q → is_asked_at (request_at s q.number) ≡ true → is_ended_at (request_at s q.number) ≡ false → held_connection s q.number ≡ Some x → y ≡ used_as x Ok → y.pins ≤ 0 → o ≡ reason_now s y
+    → s1 ≡ handing_for s n y q o → f1 ≡ before ++ Ended q.number GaveUp ∷ back_facts s y o → SameHome s1 t → SameNotes s1 t → ((k : List PoolItem) → Fits s1 k → Serves s1 t n f1 after k)
+    → Accepts s t before after n (GiveUp q.number) Done xs (gave_up q.number ∷ xs)
+hand-of s s1 t before f1 after n x y q o xs z at_q known open_now held y_is no_pins reason s1_is f1_is home notes serves =
+    let v : Holder s q.number x q = holder s q.number x q held at_q in
+    let loose : x.pins ≡ 0 = ap (λ k. k.pins) (sym y_is) ∙ none-above y.pins no_pins in
+    let w : o ≡ reason_now s (used_as x Ok) = reason ∙ ap (reason_now s) y_is in
+    hand-accepts s xs z n q at_q (no-end s q.number q at_q open_now) known s1 t before f1 after x held v.at_x v.place v.phase loose (s1_is ∙ rw (w, y_is) refl) (f1_is ∙ rw (w, y_is) refl) home notes serves
 
-pub leave-of : (s s1 t : PoolCore) (before f1 after : List Fact) (n r : ℕ) (x : Connection) (q : Request) (xs : List PoolItem) → Fits s xs → request_at s r ≡ Some q → is_ended_at (request_at s r) ≡ false → pending_connection s r ≡ Some x
+pub pinned-of : (s s1 t : PoolCore) (before f1 after : List Fact) (n : ℕ) (x y : Connection) (q : Request) (xs : List PoolItem) → Fits s xs → request_at s q.number ≡ Some q → is_asked_at (request_at s q.number) ≡ true → is_ended_at (request_at s q.number) ≡ false → held_connection s q.number ≡ Some x → y ≡ used_as x Ok → 0 < y.pins
+    → s1 ≡ to_pin s n y q (EndedPhase GaveUp) → f1 ≡ before ++ Ended q.number GaveUp ∷ [] → SameHome s1 t → SameNotes s1 t → ((k : List PoolItem) → Fits s1 k → Serves s1 t n f1 after k)
+    → Accepts s t before after n (GiveUp q.number) Done xs (gave_up q.number ∷ xs)
+pinned-of s s1 t before f1 after n x y q xs z at_q known open_now held y_is some_pins s1_is f1_is home notes serves =
+    let v : Holder s q.number x q = holder s q.number x q held at_q in
+    pinned-accepts s xs z n q at_q (no-end s q.number q at_q open_now) known s1 t before f1 after x held v.at_x v.place v.phase (ap (λ k. nat_lt 0 k.pins) (sym y_is) ∙ some-above y.pins some_pins) (s1_is ∙ rw y_is refl) f1_is home notes serves
+
+pub leave-of : (s s1 t : PoolCore) (before f1 after : List Fact) (n r : ℕ) (x : Connection) (q : Request) (xs : List PoolItem) → Fits s xs → request_at s r ≡ Some q → is_asked_at (request_at s r) ≡ true → is_ended_at (request_at s r) ≡ false → pending_connection s r ≡ Some x
     → s1 ≡ leaving s n x q → f1 ≡ before ++ Ended q.number GaveUp ∷ [] → SameHome s1 t → SameNotes s1 t → ((k : List PoolItem) → Fits s1 k → Serves s1 t n f1 after k)
     → Accepts s t before after n (GiveUp r) Done xs (gave_up r ∷ xs)
-leave-of s s1 t before f1 after n r x q xs z at_r open_now waits s1_is f1_is home notes serves =
+leave-of s s1 t before f1 after n r x q xs z at_r known open_now waits s1_is f1_is home notes serves =
     let e : q.number ≡ r = entry_at-key (λ (k : Request). k.number) r q s.requests at_r in
     let v : (q.phase ≡ Given x.id) × (connection_at s x.id ≡ Some x) × (x.place ≡ Pending) = pender s r x q waits at_r in
-    subst (λ d. Accepts s t before after n (GiveUp d) Done xs (gave_up d ∷ xs)) e (leave-accepts s xs z n q (subst (λ d. request_at s d ≡ Some q) (sym e) at_r) (no-end s r q at_r open_now) s1 t before f1 after x v.1 v.2 v.0 s1_is f1_is home notes serves)
+    subst (λ d. Accepts s t before after n (GiveUp d) Done xs (gave_up d ∷ xs)) e (leave-accepts s xs z n q (subst (λ d. request_at s d ≡ Some q) (sym e) at_r) (no-end s r q at_r open_now) (subst (λ d. is_asked_at (request_at s d) ≡ true) (sym e) known) s1 t before f1 after x v.1 v.2 v.0 s1_is f1_is home notes serves)
 
-pub quit-of : (s s1 t : PoolCore) (before f1 after : List Fact) (n r : ℕ) (q : Request) (xs : List PoolItem) → Fits s xs → request_at s r ≡ Some q → is_ended_at (request_at s r) ≡ false → held_connection s r ≡ None → pending_connection s r ≡ None
+pub quit-of : (s s1 t : PoolCore) (before f1 after : List Fact) (n r : ℕ) (q : Request) (xs : List PoolItem) → Fits s xs → request_at s r ≡ Some q → is_asked_at (request_at s r) ≡ true → is_ended_at (request_at s r) ≡ false → held_connection s r ≡ None → pending_connection s r ≡ None
     → s1 ≡ quitting s n q → f1 ≡ before ++ Ended q.number GaveUp ∷ [] → SameHome s1 t → SameNotes s1 t → ((k : List PoolItem) → Fits s1 k → Serves s1 t n f1 after k)
     → Accepts s t before after n (GiveUp r) Done xs (gave_up r ∷ xs)
-quit-of s s1 t before f1 after n r q xs z at_r open_now held waits s1_is f1_is home notes serves =
+quit-of s s1 t before f1 after n r q xs z at_r known open_now held waits s1_is f1_is home notes serves =
     let e : q.number ≡ r = entry_at-key (λ (k : Request). k.number) r q s.requests at_r in
-    subst (λ d. Accepts s t before after n (GiveUp d) Done xs (gave_up d ∷ xs)) e (quit-accepts s xs z n q (subst (λ d. request_at s d ≡ Some q) (sym e) at_r) (no-end s r q at_r open_now) s1 t before f1 after (not-given s xs z.matches r q at_r held waits) s1_is f1_is home notes serves)
+    subst (λ d. Accepts s t before after n (GiveUp d) Done xs (gave_up d ∷ xs)) e (quit-accepts s xs z n q (subst (λ d. request_at s d ≡ Some q) (sym e) at_r) (no-end s r q at_r open_now) (subst (λ d. is_asked_at (request_at s d) ≡ true) (sym e) known) s1 t before f1 after (not-given s xs z.matches r q at_r held waits) s1_is f1_is home notes serves)

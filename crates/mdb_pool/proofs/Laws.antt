@@ -186,7 +186,7 @@ module _ (p : ℕ) (a : ServerAddress) (o : PoolOptions) (n : ℕ) where
   serve-own zero xs = tt
   serve-own (suc k) xs = own-append (next_move p a o n xs) (serve p a o n k (after_facts p n (next_move p a o n xs) xs)) xs (own-move xs (move-of xs)) (serve-own k (after_facts p n (next_move p a o n xs) xs))
 
-  shut-append : (fs gs : List Fact) → shuts (fs ++ gs) ≡ shuts fs || shuts gs
+  pub shut-append : (fs gs : List Fact) → shuts (fs ++ gs) ≡ shuts fs || shuts gs
   shut-append [] gs = refl
   shut-append (f ∷ fs) gs = on (is_closing f) refl (shut-append fs gs)
     where

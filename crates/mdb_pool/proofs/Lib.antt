@@ -1,13 +1,16 @@
 mod Rows
 pub mod Tables
+pub mod Pins
 pub mod Addresses
 pub mod Moves
 mod Opened
 pub mod MovesBack
 pub mod MovesGiveUp
 pub mod MovesFail
+pub mod MovesPins
 pub mod MovesPool
 pub mod Stands
+pub mod PinStands
 pub mod Found
 pub mod Staleness
 pub mod Serving
@@ -17,6 +20,10 @@ pub mod Served
 pub mod CheckIns
 pub mod Acts
 pub mod RequestedActs
+pub mod WarmedActs
+pub mod MaintainedActs
+pub mod Maintains
+pub mod Overs
 pub mod EstablishedActs
 pub mod ReturnedActs
 pub mod Places
@@ -26,11 +33,16 @@ pub mod CollectedActs
 mod Getters
 pub mod ClaimedActs
 pub mod GivenUpActs
+pub mod PinnedActs
+pub mod TakenActs
+pub mod UnpinnedActs
 pub mod FailedActs
 pub mod ReadiedActs
 pub mod Ends
 pub mod ClearedActs
 pub mod Limits
+pub mod Calm
+pub mod Fresh
 pub mod Closes
 pub mod MovesClose
 pub mod ClosedActs

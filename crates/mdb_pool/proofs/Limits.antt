@@ -77,7 +77,7 @@ kept-if o true x xs e i = (item-kept o x xs e (within-now o xs i), i)
 kept-if o false x xs e i = i
 
 -- an act alone creates no connection
-act-kept : (o : PoolOptions) (p : ℕ) (here : ServerAddress → Option ℕ) (m : ℕ) (does : Act) (xs : List PoolItem) → WithinLimits o xs → WithinLimits o (after_act p here m does xs)
+pub act-kept : (o : PoolOptions) (p : ℕ) (here : ServerAddress → Option ℕ) (m : ℕ) (does : Act) (xs : List PoolItem) → WithinLimits o xs → WithinLimits o (after_act p here m does xs)
 act-kept o p here m (act.Request r a) xs i = kept-if o (is_number (here a) p) (asked r m) xs refl i
 act-kept o p here m (act.Warm r a) xs i = kept-if o (is_number (here a) p) (warmed r m) xs refl i
 act-kept o p here m (act.GiveUp r) xs i = kept-if o (has_asked xs r) (gave_up r) xs refl i
@@ -399,6 +399,10 @@ module _ (p : ℕ) (a : ServerAddress) (o : PoolOptions) (m : ℕ) where
 
   all-roomy : (xs ys : List PoolItem) (does : Act) → AllRoomy o p m ys (all_facts p a o m xs ys does)
   all-roomy xs ys does = roomy-append o p m (act_facts p a o m xs ys does) _ ys (act-roomy xs ys does) (serve-roomy _ (after_facts p m (act_facts p a o m xs ys does) ys))
+
+-- the facts of an accepted act keep the limits
+pub accepted-within : (p : ℕ) (a : ServerAddress) (o : PoolOptions) (m : ℕ) (xs ys : List PoolItem) (does : Act) → WithinLimits o ys → WithinLimits o (after_facts p m (all_facts p a o m xs ys does) ys)
+accepted-within p a o m xs ys does i = facts-kept o p m (all_facts p a o m xs ys does) ys (all-roomy p a o m xs ys does) i
 
 -- the reply to an accepted act is no refusal
 outcome-accepted : (p : ℕ) (xs : List PoolItem) (r : ℕ) → IsAccepted (outcome_of p xs r)

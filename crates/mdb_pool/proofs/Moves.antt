@@ -1,5 +1,5 @@
 -- The moves of the serving and of requests follow the items of the pool.
-use Rattle.std.proofs.Common.{ℕ, ◌≡◌, arith, ◌+◌, true, ◌==◌, List, [], ◌∷◌, ◌++◌, Option, Some, None, is_some, refl, sym, ◌∙◌, ap, if◌then◌else◌}
+use Rattle.std.proofs.Common.{ℕ, ◌≡◌, arith, ◌+◌, true, false, ◌==◌, List, [], ◌∷◌, ◌++◌, Option, Some, None, is_some, refl, sym, ◌∙◌, ap, if◌then◌else◌}
 use Rattle.std.proofs.lemmas.Grind.{common_steps}
 use Rattle.std.proofs.lemmas.Bool.Decides.{nat_tests}
 use Rattle.mdb_pool.specs.declared.connection.Connection.{Connection}
@@ -7,12 +7,14 @@ use Rattle.mdb_pool.specs.declared.connection.Place.TheVariants.{Pending, Availa
 use Rattle.mdb_pool.specs.declared.request.Request.{Request}
 use Rattle.mdb_pool.specs.declared.request.Phase.TheVariants.{Queued, Given}
 use Rattle.mdb_pool.specs.declared.pool_core.PoolCore.{PoolCore}
-use Rattle.mdb_pool.specs.History.{PoolItem, is_number, without, asked, created, granted}
-use Rattle.mdb_pool.specs.Kept.{connection_at, request_at, one_party}
+use Rattle.mdb_pool.specs.History.{PoolItem, is_number, without, asked, warmed, created, granted, has_asked}
+use Rattle.mdb_pool.specs.Kept.{connection_at, request_at, one_party, timeouts_in, is_asked_at}
 use Rattle.mdb_pool.specs.Standing.{Matches}
-use Rattle.mdb_pool.specs.Connections.{one_if, has, pending_list}
-use Rattle.mdb_pool.specs.Places.{is_pending, is_available, is_queued}
-use Rattle.mdb_pool.specs.Changes.{asking, creating, granting}
+use Rattle.mdb_pool.specs.Connections.{one_if, has, granted_to, pending_list}
+use Rattle.mdb_pool.specs.Places.{is_pending, is_available, is_queued, stays}
+use Rattle.mdb_pool.specs.declared.step.Use.TheVariants.{Ok}
+use Rattle.mdb_pool.proofs.Pins.{pinned-again, queued-asked}
+use Rattle.mdb_pool.specs.Changes.{asking, creating, granting, spawning}
 use Rattle.mdb_pool.proofs.Tables.{entry_at-put, named, named-put, length-put, passes, has-where, where-put_out, where-put_stay, where-put_in, entry_at-swap, named-swap, where-swap_out}
 
 pub without-one : (o : Option ℕ) (r : ℕ) → without r (one_party o) ≡ if is_number o r then [] else one_party o
@@ -28,6 +30,14 @@ module _ (s : PoolCore) (xs : List PoolItem) (m : Matches s xs) where
   pub pending-place : (x : Connection) → connection_at s x.id ≡ Some x → has x.id (pending_list xs) ≡ is_pending x.place
   pending-place x e = rw (m.pending, has-where (λ (y : Connection). y.id) (λ y. is_pending y.place) x.id s.connections (m.single x.id)) (ap (passes (λ (y : Connection). y.id) (λ y. is_pending y.place)) e)
 
+  -- who is in the queue asked
+  pub queued-asked_at : (q : Request) → request_at s q.number ≡ Some q → is_queued q.phase ≡ true → has_asked xs q.number ≡ true
+  queued-asked_at q at_q queued_now =
+      queued-asked xs q.number (rw m.queue (has-where (λ (y : Request). y.number) (λ y. is_queued y.phase) q.number s.requests (m.single_request q.number)) ∙ (ap (passes (λ (y : Request). y.number) (λ y. is_queued y.phase)) at_q ∙ queued_now))
+
+  pub queued-known : (q : Request) → request_at s q.number ≡ Some q → is_queued q.phase ≡ true → is_asked_at (request_at s q.number) ≡ true
+  queued-known q at_q queued_now = sym (m.asks q.number) ∙ queued-asked_at q at_q queued_now
+
 abbrev id_of : Connection → ℕ
 id_of x = x.id
 
@@ -38,7 +48,7 @@ number_of q = q.number
 module _ (s : PoolCore) (xs : List PoolItem) (m : Matches s xs) (x : Connection) (q : Request)
     (at_x : connection_at s x.id ≡ Some x) (place : x.place ≡ Available) (at_q : request_at s q.number ≡ Some q) (phase : q.phase ≡ Queued) where
   abbrev granted_x : Connection
-  granted_x = record x { place = Held; party = q.number; holder = Some q.number }
+  granted_x = record x { place = Held; party = Some q.number; holder = Some q.number; timeouts = timeouts_in s.clears }
 
   abbrev pub granted_q : Request
   granted_q = record q { phase = Given x.id }
@@ -52,8 +62,11 @@ module _ (s : PoolCore) (xs : List PoolItem) (m : Matches s xs) (x : Connection)
   alone : x.holder ≡ None
   alone = m.free x.id x at_x (ap is_available place)
 
-  pub grant-matches : Matches (granting s x q) (granted q.number x.id ∷ xs)
-  grant-matches = record {
+  asker : is_asked_at (request_at s q.number) ≡ true
+  asker = queued-known s xs m q at_q (ap is_queued phase)
+
+  pub grant-matches : q.warm ≡ false → Matches (granting s x q) (granted q.number x.id ∷ xs)
+  grant-matches cold = record {
     created = m.created;
     live_all = grind (arith, m.live_all, length-put id_of granted_x s.connections, m.single x.id);
     pending = m.pending ∙ sym (where-put_stay id_of (λ y. is_pending y.place) granted_x s.connections refl (m.single x.id) (ap (passes id_of (λ y. is_pending y.place)) at_x ∙ ap is_pending place));
@@ -74,30 +87,38 @@ module _ (s : PoolCore) (xs : List PoolItem) (m : Matches s xs) (x : Connection)
     ends = λ r. grind (arith, new_request r, m.ends r);
     taken = λ r c h. grind (arith, new_request r, new_connection c, m.taken r c, m.owned c r, at_x, alone);
     owned = λ c r h. grind (arith, new_request r, new_connection c, m.owned c r, m.taken r c, at_q, phase);
-    known = λ c y e. grind (arith, new_connection c, m.known c y, m.known x.id x at_x, new_request y.party);
+    known = λ c y r e f. grind (arith, new_connection c, m.known c y r, m.known x.id x r at_x, new_request r, asker, at_q);
     free = λ c y e f. grind (arith, new_connection c, m.free c y);
     busy = λ c y e f. grind (arith, new_connection c, m.busy c y);
     waits = λ c y r e f g. grind (arith, new_connection c, m.waits c y r);
-    left_by = λ c y e f g. grind (arith, new_connection c, m.left_by c y, new_request y.party);
+    left_by = λ c y r e f g h. grind (arith, new_connection c, m.left_by c y r, new_request r);
+    since = λ c y e f. grind (arith, new_connection c, m.since c y);
     status = m.status;
     clears = m.clears;
     before = m.before;
     seen = m.seen;
-    no_warm = m.no_warm;
-    no_pin = m.no_pin;
-    no_error = λ c. grind (arith, nat_tests, new_connection c, m.no_error c, m.no_error x.id, at_x);
-    no_drop = λ c. grind (arith, nat_tests, new_connection c, m.no_drop c, m.no_drop x.id, at_x);
+    warm = λ r. grind (arith, new_request r, m.warm r);
+    fills = λ c y r e f g. grind (arith, new_connection c, new_request r, m.fills c y r, cold);
+    ungranted = λ c h. grind (arith, m.ungranted c h, m.unused c h, at_x);
+    asks = λ r. grind (arith, new_request r, m.asks r);
+    pins = λ c. grind (arith, new_connection c, m.pins c, m.pins x.id, at_x);
+    at_pin = λ c. grind (arith, new_connection c, pinned-again xs c, m.at_pin c, m.at_pin x.id, at_x, place);
+    loose = λ c y e f. grind (arith, new_connection c, m.loose c y, m.loose x.id x at_x);
+    rests = λ c y e f. grind (arith, new_connection c, m.rests c y);
+    errored = λ c. grind (arith, nat_tests, new_connection c, m.errored c, m.errored x.id, at_x);
+    dropped = λ c. grind (arith, nat_tests, new_connection c, m.dropped c, m.dropped x.id, at_x);
+    calm = λ c y e f. grind (arith, new_connection c, m.calm c y);
   }
 
 -- a party that is new asks
 module _ (s : PoolCore) (xs : List PoolItem) (m : Matches s xs) (r n : ℕ) (absent : request_at s r ≡ None) where
   abbrev pub asked_q : Request
-  asked_q = record { number = r; asked_at = n; phase = Queued }
+  asked_q = record { number = r; asked_at = n; warm = false; took = false; phase = Queued }
 
-  pub asked_request : (k : ℕ) → request_at (asking s r n) k ≡ if r == k then Some asked_q else request_at s k
+  pub asked_request : (k : ℕ) → request_at (asking s r n false) k ≡ if r == k then Some asked_q else request_at s k
   asked_request k = entry_at-put number_of k asked_q s.requests
 
-  pub ask-matches : Matches (asking s r n) (asked r n ∷ xs)
+  pub ask-matches : Matches (asking s r n false) (asked r n ∷ xs)
   ask-matches = record {
     created = m.created;
     live_all = m.live_all;
@@ -119,32 +140,96 @@ module _ (s : PoolCore) (xs : List PoolItem) (m : Matches s xs) (r n : ℕ) (abs
     ends = λ k. grind (arith, asked_request k, m.ends k, absent);
     taken = λ k c h. grind (arith, asked_request k, m.taken k c);
     owned = λ c k h. grind (arith, asked_request k, m.owned c k, absent);
-    known = λ c y e. grind (arith, asked_request y.party, m.known c y);
+    known = λ c y r e f. grind (arith, asked_request r, m.known c y r);
     free = m.free;
     busy = m.busy;
     waits = m.waits;
-    left_by = λ c y e f g. grind (arith, asked_request y.party, m.left_by c y e f g, m.known c y e, absent);
+    left_by = λ c y r e f g h. grind (arith, asked_request r, m.left_by c y r e f g h, m.known c y r e h, absent);
+    since = m.since;
     status = m.status;
     clears = m.clears;
     before = m.before;
     seen = m.seen;
-    no_warm = λ k. grind (arith, m.no_warm k);
-    no_pin = m.no_pin;
-    no_error = m.no_error;
-    no_drop = m.no_drop;
+    warm = λ r. grind (arith, asked_request r, m.warm r);
+    fills = λ c y r e f g. grind (arith, asked_request r, m.fills c y r);
+    ungranted = m.ungranted;
+    asks = λ r. grind (arith, asked_request r, m.asks r);
+    pins = m.pins;
+    at_pin = λ c. grind (arith, pinned-again xs c, m.at_pin c);
+    loose = m.loose;
+    rests = m.rests;
+    errored = m.errored;
+    dropped = m.dropped;
+    calm = m.calm;
+  }
+
+-- a new warm request
+module _ (s : PoolCore) (xs : List PoolItem) (m : Matches s xs) (r n : ℕ) (absent : request_at s r ≡ None) where
+  abbrev pub warm_q : Request
+  warm_q = record { number = r; asked_at = n; warm = true; took = false; phase = Queued }
+
+  pub warm_request : (k : ℕ) → request_at (asking s r n true) k ≡ if r == k then Some warm_q else request_at s k
+  warm_request k = entry_at-put number_of k warm_q s.requests
+
+  pub warm-matches : Matches (asking s r n true) (warmed r n ∷ xs)
+  warm-matches = record {
+    created = m.created;
+    live_all = m.live_all;
+    pending = m.pending;
+    available = m.available;
+    queue = ap (λ rs. rs ++ r ∷ []) m.queue ∙ sym (where-put_in number_of (λ y. is_queued y.phase) warm_q s.requests refl (m.single_request r) (ap (passes number_of (λ y. is_queued y.phase)) absent));
+    single = m.single;
+    unused = m.unused;
+    live = m.live;
+    parties = m.parties;
+    granted_to = m.granted_to;
+    created_at = m.created_at;
+    served = m.served;
+    service = m.service;
+    wire = m.wire;
+    given = λ r. grind (arith, warm_request r, m.given r);
+    single_request = λ r. grind (arith, named-put number_of r warm_q s.requests, warm_request r, m.single_request r);
+    asked_at = λ r. grind (arith, warm_request r, m.asked_at r);
+    ends = λ k. grind (arith, warm_request k, m.ends k, absent);
+    taken = λ k c h. grind (arith, warm_request k, m.taken k c);
+    owned = λ c k h. grind (arith, warm_request k, m.owned c k, absent);
+    known = λ c y r e f. grind (arith, warm_request r, m.known c y r);
+    free = m.free;
+    busy = m.busy;
+    waits = m.waits;
+    left_by = λ c y r e f g h. grind (arith, warm_request r, m.left_by c y r e f g h, m.known c y r e h, absent);
+    since = m.since;
+    status = m.status;
+    clears = m.clears;
+    before = m.before;
+    seen = m.seen;
+    warm = λ r. grind (arith, warm_request r, m.warm r);
+    fills = λ c y k e f g. grind (arith, warm_request k, m.fills c y k, m.owned c k, m.taken k c, absent, e, f);
+    ungranted = m.ungranted;
+    asks = λ r. grind (arith, warm_request r, m.asks r);
+    pins = m.pins;
+    at_pin = λ c. grind (arith, pinned-again xs c, m.at_pin c);
+    loose = m.loose;
+    rests = m.rests;
+    errored = m.errored;
+    dropped = m.dropped;
+    calm = m.calm;
   }
 
 -- a connection is created for a queued request
 module _ (s : PoolCore) (xs : List PoolItem) (m : Matches s xs) (n : ℕ) (q : Request)
     (at_q : request_at s q.number ≡ Some q) (phase : q.phase ≡ Queued) where
   abbrev made_x : Connection
-  made_x = record { id = s.created + 1; created_at = n; place = Pending; party = q.number; holder = Some q.number; service = None; wire = None }
+  made_x = record { id = s.created + 1; created_at = n; place = Pending; party = Some q.number; holder = Some q.number; service = None; wire = None; since = n; pins = 0; used = Ok; errored = false; timeouts = timeouts_in s.clears }
 
   abbrev pub made_q : Request
   made_q = record q { phase = Given (s.created + 1) }
 
   fresh : connection_at s (s.created + 1) ≡ None
   fresh = m.unused (s.created + 1) (omega arith)
+
+  caller : is_asked_at (request_at s q.number) ≡ true
+  caller = queued-known s xs m q at_q (ap is_queued phase)
 
   made_connection : (c : ℕ) → connection_at (creating s n q) c ≡ if s.created + 1 == c then Some made_x else connection_at s c
   made_connection c = entry_at-put id_of c made_x s.connections
@@ -177,17 +262,87 @@ module _ (s : PoolCore) (xs : List PoolItem) (m : Matches s xs) (n : ℕ) (q : R
     ends = λ r. grind (arith, made_request r, m.ends r);
     taken = λ r c h. grind (arith, made_request r, made_connection c, m.taken r c, m.owned c r, fresh);
     owned = λ c r h. grind (arith, made_request r, made_connection c, m.owned c r, m.taken r c, fresh, at_q, phase);
-    known = λ c y e. grind (arith, made_connection c, made_request y.party, m.known c y);
+    known = λ c y r e f. grind (arith, made_connection c, made_request r, m.known c y r, caller, at_q);
     free = λ c y e f. grind (arith, made_connection c, m.free c y);
     busy = λ c y e f. grind (arith, made_connection c, m.busy c y);
     waits = λ c y r e f g. grind (arith, made_connection c, m.waits c y r);
-    left_by = λ c y e f g. grind (arith, made_connection c, made_request y.party, m.left_by c y, at_q, phase);
+    left_by = λ c y r e f g h. grind (arith, made_connection c, made_request r, m.left_by c y r, at_q, phase);
+    since = λ c y e f. grind (arith, made_connection c, m.since c y);
     status = m.status;
     clears = m.clears;
     before = λ c t h. grind (arith, m.before c t, m.seen c t, m.clears t);
     seen = λ c t h. m.seen c t (omega arith);
-    no_warm = m.no_warm;
-    no_pin = m.no_pin;
-    no_error = λ c. grind (arith, nat_tests, made_connection c, m.no_error c);
-    no_drop = λ c. grind (arith, nat_tests, made_connection c, m.no_drop c);
+    warm = λ r. grind (arith, made_request r, m.warm r);
+    fills = λ c y r e f g. grind (arith, made_connection c, made_request r, m.fills c y r);
+    ungranted = λ c h. grind (arith, m.ungranted c);
+    asks = λ r. grind (arith, made_request r, m.asks r);
+    pins = λ c. grind (arith, made_connection c, m.pins c, fresh);
+    at_pin = λ c. grind (arith, made_connection c, pinned-again xs c, m.at_pin c, fresh);
+    loose = λ c y e f. grind (arith, made_connection c, m.loose c y);
+    rests = λ c y e f. grind (arith, made_connection c, m.rests c y);
+    errored = λ c. grind (arith, nat_tests, made_connection c, m.errored c, fresh);
+    dropped = λ c. grind (arith, nat_tests, made_connection c, m.dropped c, fresh);
+    calm = λ c y e f. grind (arith, made_connection c, m.calm c y);
+  }
+
+-- a connection is created in the background
+module _ (s : PoolCore) (xs : List PoolItem) (m : Matches s xs) (n : ℕ) where
+  abbrev spare_x : Connection
+  spare_x = record { id = s.created + 1; created_at = n; place = Pending; party = None; holder = None; service = None; wire = None; since = n; pins = 0; used = Ok; errored = false; timeouts = 0 }
+
+  unmade : connection_at s (s.created + 1) ≡ None
+  unmade = m.unused (s.created + 1) (omega arith)
+
+  spare_connection : (c : ℕ) → connection_at (spawning s n) c ≡ if s.created + 1 == c then Some spare_x else connection_at s c
+  spare_connection c = entry_at-put id_of c spare_x s.connections
+
+  not_named : named id_of (s.created + 1) s.connections ≡ 0
+  not_named = m.single (s.created + 1) ∙ ap (λ o. one_if (is_some o)) unmade
+
+  not_granted : granted_to xs (s.created + 1) ≡ None
+  not_granted = m.ungranted (s.created + 1) (omega arith)
+
+  pub spawn-matches : Matches (spawning s n) (created (s.created + 1) n ∷ xs)
+  spawn-matches = record {
+    created = ap (λ k. k + 1) m.created;
+    live_all = grind (arith, m.live_all, length-put id_of spare_x s.connections, not_named);
+    pending = ap (λ cs. cs ++ (s.created + 1) ∷ []) m.pending ∙ sym (where-put_in id_of (λ y. is_pending y.place) spare_x s.connections refl (m.single (s.created + 1)) (ap (passes id_of (λ y. is_pending y.place)) unmade));
+    available = m.available ∙ sym (where-put_stay id_of (λ y. is_available y.place) spare_x s.connections refl (m.single (s.created + 1)) (ap (passes id_of (λ y. is_available y.place)) unmade));
+    queue = m.queue;
+    single = λ c. grind (arith, named-put id_of c spare_x s.connections, spare_connection c, m.single c);
+    unused = λ c h. grind (arith, spare_connection c, m.unused c);
+    live = λ c. grind (arith, spare_connection c, m.live c, unmade);
+    parties = λ c. grind (arith, spare_connection c, m.parties c, unmade);
+    granted_to = λ c y e. grind (arith, spare_connection c, m.granted_to c y, not_granted);
+    created_at = λ c y e. grind (arith, spare_connection c, m.created_at c y);
+    served = λ c. grind (arith, nat_tests, spare_connection c, m.served c, unmade);
+    service = λ c. grind (arith, nat_tests, spare_connection c, m.service c, unmade);
+    wire = λ c. grind (arith, nat_tests, spare_connection c, m.wire c, unmade);
+    given = m.given;
+    single_request = m.single_request;
+    asked_at = m.asked_at;
+    ends = m.ends;
+    taken = λ r c h. grind (arith, spare_connection c, m.taken r c, unmade);
+    owned = λ c r h. grind (arith, spare_connection c, m.owned c r);
+    known = λ c y r e f. grind (arith, spare_connection c, m.known c y r);
+    free = λ c y e f. grind (arith, spare_connection c, m.free c y);
+    busy = λ c y e f. grind (arith, spare_connection c, m.busy c y);
+    waits = λ c y r e f g. grind (arith, spare_connection c, m.waits c y r);
+    left_by = λ c y r e f g h. grind (arith, spare_connection c, m.left_by c y r);
+    since = λ c y e f. grind (arith, spare_connection c, m.since c y);
+    status = m.status;
+    clears = m.clears;
+    before = λ c t h. grind (arith, m.before c t, m.seen c t, m.clears t);
+    seen = λ c t h. m.seen c t (omega arith);
+    warm = m.warm;
+    fills = λ c y r e f g. grind (arith, spare_connection c, m.fills c y r);
+    ungranted = λ c h. m.ungranted c (omega arith);
+    asks = m.asks;
+    pins = λ c. grind (arith, spare_connection c, m.pins c, unmade);
+    at_pin = λ c. grind (arith, spare_connection c, pinned-again xs c, m.at_pin c, unmade);
+    loose = λ c y e f. grind (arith, spare_connection c, m.loose c y);
+    rests = λ c y e f. grind (arith, spare_connection c, m.rests c y);
+    errored = λ c. grind (arith, nat_tests, spare_connection c, m.errored c, unmade);
+    dropped = λ c. grind (arith, nat_tests, spare_connection c, m.dropped c, unmade);
+    calm = λ c y e f. grind (arith, spare_connection c, m.calm c y);
   }

@@ -1,5 +1,5 @@
 -- What connections that are established, returned or given up do follows the items of the pool.
-use Rattle.std.proofs.Common.{ℕ, ◌≡◌, arith, true, false, ◌&&◌, ◌==◌, List, [], ◌∷◌, ◌++◌, Some, None, is_some, refl, sym, ◌∙◌, ap, if◌then◌else◌}
+use Rattle.std.proofs.Common.{ℕ, ◌≡◌, arith, true, false, ◌&&◌, ◌==◌, List, [], ◌∷◌, ◌++◌, Some, None, is_some, refl, sym, ◌∙◌, ap, if◌then◌else◌, Option}
 use Rattle.std.proofs.lemmas.Grind.{common_steps}
 use Rattle.std.proofs.lemmas.Bool.Decides.{nat_tests}
 use Rattle.mdb_pool.specs.declared.connection.Connection.{Connection}
@@ -10,12 +10,13 @@ use Rattle.mdb_pool.specs.declared.step.Use.{Use}
 use Rattle.mdb_pool.specs.declared.step.Use.TheVariants.{Ok, Errored, Dropped, Streaming}
 use Rattle.mdb_pool.specs.declared.pool_core.PoolCore.{PoolCore}
 use Rattle.mdb_pool.specs.History.{PoolItem, is_number, without, given, returned, established, closed, checked_in}
-use Rattle.mdb_pool.specs.Kept.{connection_at, request_at, given_in, given_of, holder_at, lasts}
+use Rattle.mdb_pool.specs.Kept.{connection_at, request_at, given_in, given_of, holder_at, warm_of, used_as}
 use Rattle.mdb_pool.specs.Standing.{Matches}
-use Rattle.mdb_pool.specs.Connections.{parties, granted_to, available_list, is_errored}
-use Rattle.mdb_pool.specs.Places.{is_pending, is_available, is_queued}
+use Rattle.mdb_pool.specs.Connections.{parties, granted_to, available_list, holding}
+use Rattle.mdb_pool.specs.Places.{is_pending, is_available, is_queued, stays}
 use Rattle.mdb_pool.specs.Changes.{establishing, pooling, returning, dropping}
-use Rattle.mdb_pool.proofs.Moves.{without-one, number-some}
+use Rattle.mdb_pool.proofs.Moves.{without-one, number-some, pending-place}
+use Rattle.mdb_pool.proofs.Pins.{pinned-again, holding-one, errored-return}
 use Rattle.mdb_pool.proofs.Tables.{entry_at-others, map-filter-others, entry_at-put, where-put, named-others, named-put, length-others, length-put, passes, where-put_out, where-put_stay, entry_at-swap, named-swap, where-swap_stay}
 use Rattle.mdb_pool.specs.declared.step.Established.{Established}
 
@@ -32,8 +33,11 @@ without-again c (d ∷ cs) = grind (arith, common_steps, without-again c cs)
 -- a pending connection is established
 module _ (s : PoolCore) (xs : List PoolItem) (m : Matches s xs) (n : ℕ) (x : Connection) (how : Established)
     (at_x : connection_at s x.id ≡ Some x) (place : x.place ≡ Pending) where
-  was_granted : granted_to xs x.id ≡ Some x.party
+  was_granted : granted_to xs x.id ≡ x.party
   was_granted = m.granted_to x.id x at_x
+
+  no_pins : x.pins ≡ 0
+  no_pins = m.loose x.id x at_x (ap stays place)
 
   abbrev up_x : Connection
   up_x = record x { place = Held; service = how.service_id; wire = Some how.wire }
@@ -42,12 +46,12 @@ module _ (s : PoolCore) (xs : List PoolItem) (m : Matches s xs) (n : ℕ) (x : C
   up_connection c = entry_at-put id_of c up_x s.connections
 
   -- its requester holds it
-  pub establish-matches : is_some x.holder ≡ true → Matches (establishing s n x how) (established x.id how n ∷ xs)
-  establish-matches has_holder = record {
+  pub establish-matches : (k : ℕ) → x.holder ≡ Some k → warm_of (request_at s k) ≡ false → Matches (establishing s n x how) (established x.id how n ∷ xs)
+  establish-matches k held cold = record {
     created = m.created;
     live_all = grind (arith, m.live_all, length-put id_of up_x s.connections, m.single x.id);
     pending = ap (without x.id) m.pending ∙ sym (where-put_out id_of (λ y. is_pending y.place) up_x s.connections refl);
-    available = rw was_granted (m.available ∙ sym (where-put_stay id_of (λ y. is_available y.place) up_x s.connections refl (m.single x.id) (ap (passes id_of (λ y. is_available y.place)) at_x ∙ ap is_available place)));
+    available = rw (was_granted ∙ m.waits x.id x k at_x (ap is_pending place) held) (m.available ∙ sym (where-put_stay id_of (λ y. is_available y.place) up_x s.connections refl (m.single x.id) (ap (passes id_of (λ y. is_available y.place)) at_x ∙ ap is_available place)));
     queue = m.queue;
     single = λ c. grind (arith, named-put id_of c up_x s.connections, up_connection c, m.single c);
     unused = λ c h. grind (arith, up_connection c, m.unused c h);
@@ -64,26 +68,38 @@ module _ (s : PoolCore) (xs : List PoolItem) (m : Matches s xs) (n : ℕ) (x : C
     ends = m.ends;
     taken = λ r c h. grind (arith, up_connection c, m.taken r c, m.owned c r, at_x);
     owned = λ c r h. grind (arith, up_connection c, m.owned c r, m.taken r c, at_x);
-    known = λ c y e. grind (arith, up_connection c, m.known c y, m.known x.id x at_x);
+    known = λ c y r e f. grind (arith, up_connection c, m.known c y r, m.known x.id x r at_x);
     free = λ c y e f. grind (arith, up_connection c, m.free c y);
-    busy = λ c y e f. grind (arith, up_connection c, m.busy c y, has_holder);
+    busy = λ c y e f. grind (arith, up_connection c, m.busy c y, held);
     waits = λ c y r e f g. grind (arith, up_connection c, m.waits c y r);
-    left_by = λ c y e f g. grind (arith, up_connection c, m.left_by c y);
+    left_by = λ c y r e f g h. grind (arith, up_connection c, m.left_by c y r);
+    since = λ c y e f. grind (arith, up_connection c, m.since c y);
     status = m.status;
     clears = m.clears;
     before = m.before;
     seen = m.seen;
-    no_warm = m.no_warm;
-    no_pin = m.no_pin;
-    no_error = λ c. grind (arith, nat_tests, up_connection c, m.no_error c, m.no_error x.id, at_x);
-    no_drop = λ c. grind (arith, nat_tests, up_connection c, m.no_drop c, m.no_drop x.id, at_x);
+    warm = m.warm;
+    fills = λ c y r e f g. grind (arith, up_connection c, m.fills c y r, held, cold);
+    ungranted = m.ungranted;
+    asks = m.asks;
+    pins = λ c. grind (arith, up_connection c, m.pins c, m.pins x.id, at_x);
+    at_pin = λ c. grind (arith, up_connection c, pinned-again xs c, m.at_pin c, m.at_pin x.id, at_x, place);
+    loose = λ c y e f. grind (arith, up_connection c, m.loose c y, no_pins);
+    rests = λ c y e f. grind (arith, up_connection c, m.rests c y);
+    errored = λ c. grind (arith, nat_tests, up_connection c, m.errored c, m.errored x.id, at_x);
+    dropped = λ c. grind (arith, nat_tests, up_connection c, m.dropped c, m.dropped x.id, at_x);
+    calm = λ c y e f. grind (arith, up_connection c, m.calm c y, m.calm x.id x at_x);
   }
 
   abbrev in_x : Connection
-  in_x = record x { place = Available; holder = None; service = how.service_id; wire = Some how.wire }
+  in_x = record x { place = Available; holder = None; service = how.service_id; wire = Some how.wire; since = n }
 
   in_connection : (c : ℕ) → connection_at (pooling s n x how) c ≡ if x.id == c then Some in_x else connection_at s c
   in_connection c = entry_at-put id_of c in_x s.connections
+
+  kept_in : (o : Option ℕ) → without x.id (if is_some o then available_list xs else (without x.id (available_list xs) ++ x.id ∷ [])) ++ x.id ∷ [] ≡ without x.id (available_list xs) ++ x.id ∷ []
+  kept_in None = ap (λ cs. cs ++ x.id ∷ []) (without-again x.id (available_list xs))
+  kept_in (Some k) = refl
 
   -- its requester gave up, and it is checked in
   pub pool-matches : x.holder ≡ None → Matches (pooling s n x how) (checked_in x.id n ∷ established x.id how n ∷ xs)
@@ -91,7 +107,7 @@ module _ (s : PoolCore) (xs : List PoolItem) (m : Matches s xs) (n : ℕ) (x : C
     created = m.created;
     live_all = grind (arith, m.live_all, length-put id_of in_x s.connections, m.single x.id);
     pending = ap (without x.id) m.pending ∙ sym (where-put_out id_of (λ y. is_pending y.place) in_x s.connections refl);
-    available = rw was_granted (ap (λ cs. without x.id cs ++ x.id ∷ []) m.available ∙ sym (where-put id_of (λ y. is_available y.place) in_x s.connections));
+    available = kept_in (granted_to xs x.id) ∙ (ap (λ cs. without x.id cs ++ x.id ∷ []) m.available ∙ sym (where-put id_of (λ y. is_available y.place) in_x s.connections));
     queue = m.queue;
     single = λ c. grind (arith, named-put id_of c in_x s.connections, in_connection c, m.single c);
     unused = λ c h. grind (arith, in_connection c, m.unused c h);
@@ -108,34 +124,88 @@ module _ (s : PoolCore) (xs : List PoolItem) (m : Matches s xs) (n : ℕ) (x : C
     ends = m.ends;
     taken = λ r c h. grind (arith, in_connection c, m.taken r c, at_x, alone);
     owned = λ c r h. grind (arith, in_connection c, m.owned c r);
-    known = λ c y e. grind (arith, in_connection c, m.known c y, m.known x.id x at_x);
+    known = λ c y r e f. grind (arith, in_connection c, m.known c y r, m.known x.id x r at_x);
     free = λ c y e f. grind (arith, in_connection c, m.free c y);
     busy = λ c y e f. grind (arith, in_connection c, m.busy c y);
     waits = λ c y r e f g. grind (arith, in_connection c, m.waits c y r);
-    left_by = λ c y e f g. grind (arith, in_connection c, m.left_by c y);
+    left_by = λ c y r e f g h. grind (arith, in_connection c, m.left_by c y r);
+    since = λ c y e f. grind (arith, in_connection c, m.since c y);
     status = m.status;
     clears = m.clears;
     before = m.before;
     seen = m.seen;
-    no_warm = m.no_warm;
-    no_pin = m.no_pin;
-    no_error = λ c. grind (arith, nat_tests, in_connection c, m.no_error c, m.no_error x.id, at_x);
-    no_drop = λ c. grind (arith, nat_tests, in_connection c, m.no_drop c, m.no_drop x.id, at_x);
+    warm = m.warm;
+    fills = λ c y r e f g. grind (arith, in_connection c, m.fills c y r);
+    ungranted = m.ungranted;
+    asks = m.asks;
+    pins = λ c. grind (arith, in_connection c, m.pins c, m.pins x.id, at_x);
+    at_pin = λ c. grind (arith, in_connection c, pinned-again xs c, m.at_pin c, m.at_pin x.id, at_x, place);
+    loose = λ c y e f. grind (arith, in_connection c, m.loose c y, no_pins);
+    rests = λ c y e f. grind (arith, in_connection c, m.rests c y);
+    errored = λ c. grind (arith, nat_tests, in_connection c, m.errored c, m.errored x.id, at_x);
+    dropped = λ c. grind (arith, nat_tests, in_connection c, m.dropped c, m.dropped x.id, at_x);
+    calm = λ c y e f. grind (arith, in_connection c, m.calm c y, m.calm x.id x at_x);
+  }
+
+  -- it has none, and is available from now on
+  pub rest-matches : x.holder ≡ None → x.party ≡ None → Matches (pooling s n x how) (established x.id how n ∷ xs)
+  rest-matches alone nobody = record {
+    created = m.created;
+    live_all = grind (arith, m.live_all, length-put id_of in_x s.connections, m.single x.id);
+    pending = ap (without x.id) m.pending ∙ sym (where-put_out id_of (λ y. is_pending y.place) in_x s.connections refl);
+    available = rw (was_granted ∙ nobody) (ap (λ cs. without x.id cs ++ x.id ∷ []) m.available ∙ sym (where-put id_of (λ y. is_available y.place) in_x s.connections));
+    queue = m.queue;
+    single = λ c. grind (arith, named-put id_of c in_x s.connections, in_connection c, m.single c);
+    unused = λ c h. grind (arith, in_connection c, m.unused c h);
+    live = λ c. grind (arith, in_connection c, m.live c);
+    parties = λ c. grind (arith, in_connection c, m.parties c, at_x, alone);
+    granted_to = λ c y e. grind (arith, in_connection c, m.granted_to c y, m.granted_to x.id x at_x);
+    created_at = λ c y e. grind (arith, in_connection c, m.created_at c y, m.created_at x.id x at_x);
+    served = λ c. grind (arith, nat_tests, in_connection c, m.served c, m.served x.id, at_x);
+    service = λ c. grind (arith, nat_tests, in_connection c, m.service c, m.service x.id, at_x);
+    wire = λ c. grind (arith, nat_tests, in_connection c, m.wire c, m.wire x.id, at_x);
+    given = m.given;
+    single_request = m.single_request;
+    asked_at = m.asked_at;
+    ends = m.ends;
+    taken = λ r c h. grind (arith, in_connection c, m.taken r c, at_x, alone);
+    owned = λ c r h. grind (arith, in_connection c, m.owned c r);
+    known = λ c y r e f. grind (arith, in_connection c, m.known c y r, m.known x.id x r at_x);
+    free = λ c y e f. grind (arith, in_connection c, m.free c y);
+    busy = λ c y e f. grind (arith, in_connection c, m.busy c y);
+    waits = λ c y r e f g. grind (arith, in_connection c, m.waits c y r);
+    left_by = λ c y r e f g h. grind (arith, in_connection c, m.left_by c y r);
+    since = λ c y e f. grind (arith, in_connection c, m.since c y, was_granted, nobody);
+    status = m.status;
+    clears = m.clears;
+    before = m.before;
+    seen = m.seen;
+    warm = m.warm;
+    fills = λ c y r e f g. grind (arith, in_connection c, m.fills c y r);
+    ungranted = m.ungranted;
+    asks = m.asks;
+    pins = λ c. grind (arith, in_connection c, m.pins c, m.pins x.id, at_x);
+    at_pin = λ c. grind (arith, in_connection c, pinned-again xs c, m.at_pin c, m.at_pin x.id, at_x, place);
+    loose = λ c y e f. grind (arith, in_connection c, m.loose c y, no_pins);
+    rests = λ c y e f. grind (arith, in_connection c, m.rests c y);
+    errored = λ c. grind (arith, nat_tests, in_connection c, m.errored c, m.errored x.id, at_x);
+    dropped = λ c. grind (arith, nat_tests, in_connection c, m.dropped c, m.dropped x.id, at_x);
+    calm = λ c y e f. grind (arith, in_connection c, m.calm c y, m.calm x.id x at_x);
   }
 
 -- a held connection comes back
 module _ (s : PoolCore) (xs : List PoolItem) (m : Matches s xs) (n : ℕ) (x : Connection) (q : Request) (used : Use)
     (at_x : connection_at s x.id ≡ Some x) (place : x.place ≡ Held) (at_q : request_at s q.number ≡ Some q) (phase : q.phase ≡ Given x.id) where
   abbrev back_x : Connection
-  back_x = record x { place = Available; holder = None }
+  back_x = record (used_as x used) { place = Available; holder = None; since = n }
 
   abbrev pub back_q : Request
   back_q = record q { phase = Over }
 
-  back_connection : (c : ℕ) → connection_at (returning s n x q) c ≡ if x.id == c then Some back_x else connection_at s c
+  back_connection : (c : ℕ) → connection_at (returning s n (used_as x used) q) c ≡ if x.id == c then Some back_x else connection_at s c
   back_connection c = entry_at-put id_of c back_x s.connections
 
-  pub back_request : (r : ℕ) → request_at (returning s n x q) r ≡ if q.number == r then Some back_q else request_at s r
+  pub back_request : (r : ℕ) → request_at (returning s n (used_as x used) q) r ≡ if q.number == r then Some back_q else request_at s r
   back_request r = entry_at-swap number_of r back_q s.requests (ap is_some at_q)
 
   was_given : given xs q.number ≡ Some x.id
@@ -154,9 +224,12 @@ module _ (s : PoolCore) (xs : List PoolItem) (m : Matches s xs) (n : ℕ) (x : C
   only : (c : ℕ) → is_number (holder_at (connection_at s c)) q.number ≡ true → given_of (request_at s q.number) ≡ Some c
   only c e = m.owned c q.number (number-some (holder_at (connection_at s c)) q.number e)
 
+  held_it : holding xs q.number ≡ Some x.id
+  held_it = holding-one xs q.number x.id was_given (pending-place s xs m x at_x ∙ ap is_pending place)
+
   -- it is available from now on
-  pub return-matches : used ≡ Ok → Matches (returning s n x q) (checked_in x.id n ∷ returned q.number used ∷ xs)
-  return-matches fine = record {
+  pub return-matches : x.pins ≡ 0 → Matches (returning s n (used_as x used) q) (checked_in x.id n ∷ returned q.number used ∷ xs)
+  return-matches loose_now = record {
     created = m.created;
     live_all = grind (arith, m.live_all, length-put id_of back_x s.connections, m.single x.id);
     pending = m.pending ∙ sym (where-put_stay id_of (λ y. is_pending y.place) back_x s.connections refl (m.single x.id) (ap (passes id_of (λ y. is_pending y.place)) at_x ∙ ap is_pending place));
@@ -177,19 +250,27 @@ module _ (s : PoolCore) (xs : List PoolItem) (m : Matches s xs) (n : ℕ) (x : C
     ends = λ r. grind (arith, back_request r, m.ends r, at_q, phase);
     taken = λ r c h. grind (arith, back_request r, back_connection c, m.taken r c, m.owned c r, was_held, at_x, at_q);
     owned = λ c r h. grind (arith, back_request r, back_connection c, m.owned c r, m.taken r c, was_held, at_x, at_q);
-    known = λ c y e. grind (arith, back_connection c, m.known c y, m.known x.id x at_x, back_request y.party);
+    known = λ c y r e f. grind (arith, back_connection c, m.known c y r, m.known x.id x r at_x, back_request r);
     free = λ c y e f. grind (arith, back_connection c, m.free c y);
     busy = λ c y e f. grind (arith, back_connection c, m.busy c y);
     waits = λ c y r e f g. grind (arith, back_connection c, m.waits c y r);
-    left_by = λ c y e f g. grind (arith, back_connection c, m.left_by c y, back_request y.party, at_q, phase);
+    left_by = λ c y r e f g h. grind (arith, back_connection c, m.left_by c y r, back_request r, at_q, phase);
+    since = λ c y e f. grind (arith, back_connection c, m.since c y);
     status = m.status;
     clears = m.clears;
     before = m.before;
     seen = m.seen;
-    no_warm = m.no_warm;
-    no_pin = m.no_pin;
-    no_error = λ c. rw fine (grind (arith, nat_tests, back_connection c, m.no_error c, at_x));
-    no_drop = λ c. rw fine (grind (arith, nat_tests, back_connection c, m.no_drop c, at_x));
+    warm = λ r. grind (arith, back_request r, m.warm r);
+    fills = λ c y r e f g. grind (arith, back_connection c, back_request r, m.fills c y r);
+    ungranted = m.ungranted;
+    asks = λ r. grind (arith, back_request r, m.asks r);
+    pins = λ c. grind (arith, back_connection c, m.pins c, m.pins x.id, at_x);
+    at_pin = λ c. rw held_it (grind (arith, nat_tests, back_connection c, pinned-again xs c, m.at_pin c, m.pins x.id, at_x, loose_now));
+    loose = λ c y e f. grind (arith, back_connection c, m.loose c y, loose_now);
+    rests = λ c y e f. grind (arith, back_connection c, m.rests c y);
+    errored = λ c. rw (errored-return q.number used xs c, was_given) (grind (arith, nat_tests, back_connection c, m.errored c, m.errored x.id, at_x));
+    dropped = λ c. rw was_given (grind (arith, nat_tests, back_connection c, m.dropped c, m.dropped x.id, at_x));
+    calm = λ c y e f. grind (arith, back_connection c, m.calm c y);
   }
 
   gone_connection : (c : ℕ) → connection_at (dropping s n x q) c ≡ if x.id == c then None else connection_at s c
@@ -199,8 +280,8 @@ module _ (s : PoolCore) (xs : List PoolItem) (m : Matches s xs) (n : ℕ) (x : C
   gone_request r = entry_at-swap number_of r back_q s.requests (ap is_some at_q)
 
   -- it is closed at once
-  pub drop-matches : Matches (dropping s n x q) (closed x.id ∷ checked_in x.id n ∷ returned q.number used ∷ xs)
-  drop-matches = record {
+  pub drop-matches : x.pins ≡ 0 → Matches (dropping s n x q) (closed x.id ∷ checked_in x.id n ∷ returned q.number used ∷ xs)
+  drop-matches loose_now = record {
     created = m.created;
     live_all = grind (arith, m.live_all, length-others id_of x.id s.connections, m.single x.id, at_x);
     pending = ap (without x.id) m.pending ∙ sym (map-filter-others id_of (λ y. is_pending y.place) x.id s.connections);
@@ -221,23 +302,25 @@ module _ (s : PoolCore) (xs : List PoolItem) (m : Matches s xs) (n : ℕ) (x : C
     ends = λ r. grind (arith, gone_request r, m.ends r, at_q, phase);
     taken = λ r c h. grind (arith, gone_request r, gone_connection c, m.taken r c, m.owned c r, was_held, at_x, at_q);
     owned = λ c r h. grind (arith, gone_request r, gone_connection c, m.owned c r, m.taken r c, was_held, at_x, at_q);
-    known = λ c y e. grind (arith, gone_connection c, gone_request y.party, m.known c y);
+    known = λ c y r e f. grind (arith, gone_connection c, gone_request r, m.known c y r);
     free = λ c y e f. grind (arith, gone_connection c, m.free c y);
     busy = λ c y e f. grind (arith, gone_connection c, m.busy c y);
     waits = λ c y r e f g. grind (arith, gone_connection c, m.waits c y r);
-    left_by = λ c y e f g. grind (arith, gone_connection c, m.left_by c y, gone_request y.party, at_q, phase);
+    left_by = λ c y r e f g h. grind (arith, gone_connection c, m.left_by c y r, gone_request r, at_q, phase);
+    since = λ c y e f. grind (arith, gone_connection c, m.since c y);
     status = m.status;
     clears = m.clears;
     before = m.before;
     seen = m.seen;
-    no_warm = m.no_warm;
-    no_pin = m.no_pin;
-    no_error = λ c. on_use used refl c;
-    no_drop = λ c. grind (arith, nat_tests, gone_connection c, m.no_drop c, m.unused c, at_x, was_given);
+    warm = λ r. grind (arith, gone_request r, m.warm r);
+    fills = λ c y r e f g. grind (arith, gone_connection c, gone_request r, m.fills c y r);
+    ungranted = m.ungranted;
+    asks = λ r. grind (arith, gone_request r, m.asks r);
+    pins = λ c. grind (arith, gone_connection c, m.pins c, m.pins x.id, at_x, loose_now);
+    at_pin = λ c. rw held_it (grind (arith, nat_tests, gone_connection c, pinned-again xs c, m.at_pin c, m.pins x.id, at_x, loose_now));
+    loose = λ c y e f. grind (arith, gone_connection c, m.loose c y);
+    rests = λ c y e f. grind (arith, gone_connection c, m.rests c y);
+    errored = λ c. rw (errored-return q.number used xs c, was_given) (grind (arith, nat_tests, gone_connection c, m.errored c, m.unused c, at_x));
+    dropped = λ c. rw was_given (grind (arith, nat_tests, gone_connection c, m.dropped c, m.unused c, at_x));
+    calm = λ c y e f. grind (arith, gone_connection c, m.calm c y);
   }
-    where
-      on_use : (u : Use) → used ≡ u → (c : ℕ) → lasts (dropping s n x q) c && is_errored (closed x.id ∷ checked_in x.id n ∷ returned q.number used ∷ xs) c ≡ false
-      on_use Ok e c = rw e (grind (arith, nat_tests, gone_connection c, m.no_error c, m.unused c, at_x, was_given))
-      on_use Errored e c = rw e (grind (arith, nat_tests, gone_connection c, m.no_error c, m.unused c, at_x, was_given))
-      on_use Dropped e c = rw e (grind (arith, nat_tests, gone_connection c, m.no_error c, m.unused c, at_x, was_given))
-      on_use Streaming e c = rw e (grind (arith, nat_tests, gone_connection c, m.no_error c, m.unused c, at_x, was_given))

@@ -5,7 +5,7 @@ use Rattle.std.proofs.lemmas.Bool.Decides.{nat_tests}
 use Rattle.mdb_events.specs.declared.end.End.TheVariants.{Closed as ClosedEnd}
 use Rattle.mdb_pool.specs.declared.connection.Connection.{Connection}
 use Rattle.mdb_pool.specs.declared.connection.Place.{Place}
-use Rattle.mdb_pool.specs.declared.connection.Place.TheVariants.{Pending, Available, Held}
+use Rattle.mdb_pool.specs.declared.connection.Place.TheVariants.{Pending, Available, Held, Pinned}
 use Rattle.mdb_pool.specs.declared.request.Request.{Request}
 use Rattle.mdb_pool.specs.declared.request.Phase.{Phase}
 use Rattle.mdb_pool.specs.declared.request.Phase.TheVariants.{Queued, Given, Over, Ended as EndedPhase}
@@ -13,12 +13,13 @@ use Rattle.mdb_pool.specs.declared.pool_core.PoolCore.{PoolCore}
 use Rattle.mdb_pool.specs.History.{PoolItem, pool_closed, given}
 use Rattle.mdb_pool.specs.Connections.{one_if, has, live, live_total, pending_list, available_list, parties, service_of, known_service, is_errored, is_dropped, last_use, wire_of}
 use Rattle.mdb_pool.specs.Requests.{queued, end_of}
-use Rattle.mdb_pool.specs.Kept.{connection_at, request_at, given_of, holder_at, service_at, end_at, asked_at_of, one_party, numbers_where, is_pending_at, lasts, unserved_in, wire_at}
+use Rattle.mdb_pool.specs.Kept.{connection_at, request_at, given_of, given_in, holder_at, service_at, end_at, end_in, asked_at_of, warm_of, one_party, ids_where, numbers_where, is_pending_at, is_ended_at, lasts, unserved_in, wire_at, pins_at, is_pinned_at, errored_at, dropped_at, is_asked_at, numbers_asked}
 use Rattle.mdb_pool.specs.Standing.{Matches, Fits}
 use Rattle.mdb_pool.specs.Keyed.{entry_at}
-use Rattle.mdb_pool.specs.Places.{is_pending, is_available, is_held, is_queued}
+use Rattle.mdb_pool.specs.Places.{is_pending, is_available, is_at_pin, is_queued, stays}
 use Rattle.mdb_pool.specs.Changes.{closing, ended_request, available_ones, pending_ones, unserved_ones}
 use Rattle.mdb_pool.proofs.Tables.{named, passes, has-where, one_if-le}
+use Rattle.mdb_pool.proofs.Pins.{pinned-again}
 use Rattle.mdb_pool.proofs.Closes.{closings, endings, Still, still-both, leave, leave-all, leave-none, leave-one, live-closings, total-closings, pending-closings, available-closings, queued-closings, parties-closings, given-closings, end-closings, live-endings, total-endings, pending-endings, available-endings, queued-endings, parties-endings, given-endings, end-endings, entry_at-filter, named-filter, filter-none}
 
 abbrev pub id_of : Connection → ℕ
@@ -28,7 +29,7 @@ abbrev pub number_of : Request → ℕ
 number_of q = q.number
 
 abbrev is_kept : Connection → Bool
-is_kept x = is_held x.place
+is_kept x = stays x.place
 
 -- the connections of each place are all connections
 places : (xs : List Connection) → length (filter (λ x. is_available x.place) xs) + length (filter (λ x. is_pending x.place) xs) + length (filter is_kept xs) ≡ length xs
@@ -39,6 +40,7 @@ places (x ∷ xs) = on x.place refl (places xs)
     on Pending e rest = rw e (omega arith)
     on Available e rest = rw e (omega arith)
     on Held e rest = rw e (omega arith)
+    on Pinned e rest = rw e (omega arith)
 
 length-ids : (xs ys : List Connection) → length (map id_of (xs ++ ys)) ≡ length xs + length ys
 length-ids xs ys = grind (arith, common_steps)
@@ -51,20 +53,23 @@ has-ids c (x ∷ xs) ys = on (x.id == c) refl (has-ids c xs ys)
     on true e rest = rw e refl
     on false e rest = rw e rest
 
-held-not : (p : Place) → is_held p ≡ true → (is_pending p ≡ false) × (is_available p ≡ false)
-held-not Pending e = cc
-held-not Available e = cc
-held-not Held e = (refl, refl)
+kept-not : (p : Place) → stays p ≡ true → (is_pending p ≡ false) × (is_available p ≡ false)
+kept-not Pending e = cc
+kept-not Available e = cc
+kept-not Held e = (refl, refl)
+kept-not Pinned e = (refl, refl)
 
 -- one request
 module _ (s : PoolCore) where
-  same-numbers : (qs : List Request) → map number_of (map (ended_request s) qs) ≡ map number_of qs
+  same-numbers : (qs : List Request) → numbers_asked (map (ended_request s) qs) ≡ numbers_asked qs
   same-numbers [] = refl
-  same-numbers (q ∷ qs) = on (unserved_in s q.phase) refl (same-numbers qs)
+  same-numbers (q ∷ qs) = on (unserved_in s q.phase) q.took refl refl (same-numbers qs)
     where
-      on : (b : Bool) → unserved_in s q.phase ≡ b → map number_of (map (ended_request s) qs) ≡ map number_of qs → map number_of (map (ended_request s) (q ∷ qs)) ≡ map number_of (q ∷ qs)
-      on true e rest = rw e (ap (λ ks. q.number ∷ ks) rest)
-      on false e rest = rw e (ap (λ ks. q.number ∷ ks) rest)
+      on : (b d : Bool) → unserved_in s q.phase ≡ b → q.took ≡ d → numbers_asked (map (ended_request s) qs) ≡ numbers_asked qs → numbers_asked (map (ended_request s) (q ∷ qs)) ≡ numbers_asked (q ∷ qs)
+      on true true e f rest = rw (e, f) rest
+      on true false e f rest = rw (e, f) (ap (λ ks. q.number ∷ ks) rest)
+      on false true e f rest = rw (e, f) rest
+      on false false e f rest = rw (e, f) (ap (λ ks. q.number ∷ ks) rest)
 
   named-ended : (r : ℕ) (qs : List Request) → named number_of r (map (ended_request s) qs) ≡ named number_of r qs
   named-ended r [] = refl
@@ -163,17 +168,17 @@ module _ (s : PoolCore) (xs : List PoolItem) (m : Matches s xs) (n : ℕ) where
       on None f = cc
       on (Some q) f = at_phase q.phase f
 
-  -- a connection that stays is held, and was there
-  kept-was : (c : ℕ) (x : Connection) → connection_at (closing s n) c ≡ Some x → (connection_at s c ≡ Some x) × (is_held x.place ≡ true)
+  -- a connection that stays was there, held or at its pin
+  kept-was : (c : ℕ) (x : Connection) → connection_at (closing s n) c ≡ Some x → (connection_at s c ≡ Some x) × (stays x.place ≡ true)
   kept-was c x e = on (connection_at s c) refl
     where
-      at_place : (y : Connection) (b : Bool) → connection_at s c ≡ Some y → is_held y.place ≡ b → (connection_at s c ≡ Some x) × (is_held x.place ≡ true)
+      at_place : (y : Connection) (b : Bool) → connection_at s c ≡ Some y → stays y.place ≡ b → (connection_at s c ≡ Some x) × (stays x.place ≡ true)
       at_place y true f g = let k : Some x ≡ Some y = sym e ∙ (at_conn c ∙ rw (f, g) refl) in let v : x ≡ y = cc in (f ∙ sym k, rw v g)
       at_place y false f g = let k : connection_at (closing s n) c ≡ None = at_conn c ∙ rw (f, g) refl in cc
 
-      on : (o : Option Connection) → connection_at s c ≡ o → (connection_at s c ≡ Some x) × (is_held x.place ≡ true)
+      on : (o : Option Connection) → connection_at s c ≡ o → (connection_at s c ≡ Some x) × (stays x.place ≡ true)
       on None f = let k : connection_at (closing s n) c ≡ None = at_conn c ∙ rw f refl in cc
-      on (Some y) f = at_place y (is_held y.place) f refl
+      on (Some y) f = at_place y (stays y.place) f refl
 
   -- whoever was given a connection that is held keeps it, and one that is pending not
   given-over : (c r : ℕ) (x : Connection) → connection_at s c ≡ Some x → given_of (request_at s r) ≡ Some c → has r over_numbers ≡ is_pending x.place
@@ -198,6 +203,7 @@ module _ (s : PoolCore) (xs : List PoolItem) (m : Matches s xs) (n : ℕ) where
       at_place x Pending e = rw e refl
       at_place x Available e = rw e refl
       at_place x Held e = rw e refl
+      at_place x Pinned e = rw e refl
 
       on : (o : Option Connection) → (if passes id_of (λ x. is_available x.place) o || passes id_of (λ x. is_pending x.place) o then 0 else one_if (is_some o)) ≡ one_if (is_some (kept_of o))
       on None = refl
@@ -225,6 +231,7 @@ module _ (s : PoolCore) (xs : List PoolItem) (m : Matches s xs) (n : ℕ) where
       at_place x Pending e f = by_holder x x.holder e refl ∙ rw (f, at_conn c, e, f) refl
       at_place x Available e f = rw (m.free c x e (ap is_available f), at_conn c, e, f) (leave-none over_numbers)
       at_place x Held e f = by_holder x x.holder e refl ∙ rw (f, at_conn c, e, f) refl
+      at_place x Pinned e f = by_holder x x.holder e refl ∙ rw (f, at_conn c, e, f) refl
 
       on : (o : Option Connection) → connection_at s c ≡ o → leave over_numbers (one_party (holder_at (connection_at s c))) ≡ one_party (holder_at (connection_at (closing s n) c))
       on None e = rw (at_conn c, e) (leave-none over_numbers)
@@ -260,6 +267,14 @@ module _ (s : PoolCore) (xs : List PoolItem) (m : Matches s xs) (n : ℕ) where
       on true e = rw e refl
       on false e = rw e refl
 
+  warm-then : (o : Option Request) → warm_of o ≡ warm_of (ended_of s o)
+  warm-then None = refl
+  warm-then (Some q) = on (unserved_in s q.phase) refl
+    where
+      on : (b : Bool) → unserved_in s q.phase ≡ b → warm_of (Some q) ≡ warm_of (ended_of s (Some q))
+      on true e = rw e refl
+      on false e = rw e refl
+
   some-then : (o : Option Request) → is_some (ended_of s o) ≡ is_some o
   some-then None = refl
   some-then (Some q) = refl
@@ -274,6 +289,7 @@ module _ (s : PoolCore) (xs : List PoolItem) (m : Matches s xs) (n : ℕ) where
       at_place x Pending f g h p = let k : has r over_numbers ≡ true = given-over c r x h f ∙ ap is_pending p in cc
       at_place x Available f g h p = let k : holder_at (Some x) ≡ Some r = ap holder_at (sym h) ∙ m.taken r c f in let v : holder_at (Some x) ≡ None = m.free c x h (ap is_available p) in cc
       at_place x Held f g h p = rw (at_conn c, h, p) (ap holder_at (sym h) ∙ m.taken r c f)
+      at_place x Pinned f g h p = rw (at_conn c, h, p) (ap holder_at (sym h) ∙ m.taken r c f)
 
       at_connection : (o : Option Connection) → given_of (request_at s r) ≡ Some c → has r over_numbers ≡ false → connection_at s c ≡ o → holder_at (connection_at (closing s n) c) ≡ Some r
       at_connection None f g h = let k : holder_at None ≡ Some r = ap holder_at (sym h) ∙ m.taken r c f in cc
@@ -289,9 +305,9 @@ module _ (s : PoolCore) (xs : List PoolItem) (m : Matches s xs) (n : ℕ) where
       on : (o : Option Connection) → connection_at (closing s n) c ≡ o → given_of (request_at (closing s n) r) ≡ Some c
       on None f = let k : holder_at None ≡ Some r = ap holder_at (sym f) ∙ e in cc
       on (Some x) f =
-          let w : (connection_at s c ≡ Some x) × (is_held x.place ≡ true) = kept-was c x f in
+          let w : (connection_at s c ≡ Some x) × (stays x.place ≡ true) = kept-was c x f in
           let g : given_of (request_at s r) ≡ Some c = m.owned c r (ap holder_at w.0 ∙ (ap holder_at (sym f) ∙ e)) in
-          let k : has r over_numbers ≡ false = given-over c r x w.0 g ∙ (held-not x.place w.1).0 in
+          let k : has r over_numbers ≡ false = given-over c r x w.0 g ∙ (kept-not x.place w.1).0 in
           sym (given-then r) ∙ (given-endings ClosedEnd over_numbers (closings shut_ids xs) r ∙ rw k (given-closings shut_ids xs r ∙ (m.given r ∙ g)))
 
   -- what is said of a connection that lasts
@@ -304,37 +320,52 @@ module _ (s : PoolCore) (xs : List PoolItem) (m : Matches s xs) (n : ℕ) where
       at_place : (x : Connection) (p : Place) → connection_at s c ≡ Some x → x.place ≡ p → (if lasts (closing s n) c then v else none) ≡ says (connection_at (closing s n) c)
       at_place x Pending g p = rw (at_conn c, g, p, created-yet x g) (sym e)
       at_place x Available g p = rw (at_conn c, g, p, created-yet x g) (sym e)
-      at_place x Held g p = let k : v ≡ says (Some x) = subst (λ o. (if is_some o || nat_lt s.created c then v else none) ≡ says o) g f in rw (at_conn c, g, ap is_held p) k
+      at_place x Held g p = let k : v ≡ says (Some x) = subst (λ o. (if is_some o || nat_lt s.created c then v else none) ≡ says o) g f in rw (at_conn c, g, ap stays p) k
+      at_place x Pinned g p = let k : v ≡ says (Some x) = subst (λ o. (if is_some o || nat_lt s.created c then v else none) ≡ says o) g f in rw (at_conn c, g, ap stays p) k
 
       on : (o : Option Connection) → connection_at s c ≡ o → (if lasts (closing s n) c then v else none) ≡ says (connection_at (closing s n) c)
       on None g = rw (at_conn c, g) (subst (λ o. (if is_some o || nat_lt s.created c then v else none) ≡ says o) g f)
       on (Some x) g = at_place x x.place g refl
 
-  -- and of one that does not last nothing
-  lasts-less : (c : ℕ) (v : Bool) → lasts s c && v ≡ false → lasts (closing s n) c && v ≡ false
-  lasts-less c v f = rw (at_conn c) (on (connection_at s c) refl)
+  -- a connection that is closed is not pinned
+  pins-then : (c : ℕ) → pins_at (connection_at s c) ≡ pins_at (connection_at (closing s n) c)
+  pins-then c = on (connection_at s c) refl
     where
-      fewer : (a b d v : Bool) → (b ≡ true → a ≡ true) → (a || d) && v ≡ false → (b || d) && v ≡ false
-      fewer true true d v i e = e
-      fewer true false true v i e = e
-      fewer true false false v i e = refl
-      fewer false true d v i e = let k : false ≡ true = i refl in cc
-      fewer false false d v i e = e
+      at_kept : (x : Connection) (b : Bool) → connection_at s c ≡ Some x → stays x.place ≡ b → pins_at (connection_at s c) ≡ pins_at (connection_at (closing s n) c)
+      at_kept x true e f = rw (at_conn c, e, f) refl
+      at_kept x false e f = rw (at_conn c, e, f) (m.loose c x e f)
 
-      at_kept : (b : Bool) (x : Connection) → connection_at s c ≡ Some x → is_held x.place ≡ b → (is_some (kept_of (connection_at s c)) || nat_lt s.created c) && v ≡ false
-      at_kept true x g h = rw (g, h) (subst (λ o. (is_some o || nat_lt s.created c) && v ≡ false) g f)
-      at_kept false x g h = rw (g, h) (fewer true false (nat_lt s.created c) v (λ k. refl) (subst (λ o. (is_some o || nat_lt s.created c) && v ≡ false) g f))
+      on : (o : Option Connection) → connection_at s c ≡ o → pins_at (connection_at s c) ≡ pins_at (connection_at (closing s n) c)
+      on None e = rw (at_conn c, e) refl
+      on (Some x) e = at_kept x (stays x.place) e refl
 
-      on : (o : Option Connection) → connection_at s c ≡ o → (is_some (kept_of (connection_at s c)) || nat_lt s.created c) && v ≡ false
-      on None g = rw g (subst (λ o. (is_some o || nat_lt s.created c) && v ≡ false) g f)
-      on (Some x) g = at_kept (is_held x.place) x g refl
+  pinned-then : (c : ℕ) → is_pinned_at (connection_at s c) ≡ is_pinned_at (connection_at (closing s n) c)
+  pinned-then c = rw (at_conn c) (on (connection_at s c))
+    where
+      at_place : (x : Connection) (p : Place) → x.place ≡ p → is_pinned_at (Some x) ≡ is_pinned_at (kept_of (Some x))
+      at_place x Pending e = rw e refl
+      at_place x Available e = rw e refl
+      at_place x Held e = rw e refl
+      at_place x Pinned e = rw e refl
+
+      on : (o : Option Connection) → is_pinned_at o ≡ is_pinned_at (kept_of o)
+      on None = refl
+      on (Some x) = at_place x x.place refl
+
+  asks-then : (o : Option Request) → is_asked_at o ≡ is_asked_at (ended_of s o)
+  asks-then None = refl
+  asks-then (Some q) = on (unserved_in s q.phase) refl
+    where
+      on : (b : Bool) → unserved_in s q.phase ≡ b → is_asked_at (Some q) ≡ is_asked_at (ended_of s (Some q))
+      on true e = rw e refl
+      on false e = rw e refl
 
   pub close-matches : Matches (closing s n) shut_items
   close-matches = record {
     created = still.created ∙ m.created;
     live_all = total-then;
-    pending = pending-endings ClosedEnd over_numbers (closings shut_ids xs) ∙ (pending-closings shut_ids xs ∙ (leave-all shut_ids (pending_list xs) pending-gone ∙ sym (ap (map id_of) (filter-none id_of (λ x. is_pending x.place) is_kept s.connections (λ x e. (held-not x.place e).0)))));
-    available = available-endings ClosedEnd over_numbers (closings shut_ids xs) ∙ (available-closings shut_ids xs ∙ (leave-all shut_ids (available_list xs) available-gone ∙ sym (ap (map id_of) (filter-none id_of (λ x. is_available x.place) is_kept s.connections (λ x e. (held-not x.place e).1)))));
+    pending = pending-endings ClosedEnd over_numbers (closings shut_ids xs) ∙ (pending-closings shut_ids xs ∙ (leave-all shut_ids (pending_list xs) pending-gone ∙ sym (ap (map id_of) (filter-none id_of (λ x. is_pending x.place) is_kept s.connections (λ x e. (kept-not x.place e).0)))));
+    available = available-endings ClosedEnd over_numbers (closings shut_ids xs) ∙ (available-closings shut_ids xs ∙ (leave-all shut_ids (available_list xs) available-gone ∙ sym (ap (map id_of) (filter-none id_of (λ x. is_available x.place) is_kept s.connections (λ x e. (kept-not x.place e).1)))));
     queue = queued-endings ClosedEnd over_numbers (closings shut_ids xs) ∙ (ap (leave over_numbers) (queued-closings shut_ids xs) ∙ (leave-all over_numbers (queued xs) queued-gone ∙ sym (none-queued s s.requests)));
     single = λ c. named-filter id_of c is_kept s.connections (once c);
     unused = λ c h. at_conn c ∙ rw (m.unused c h) refl;
@@ -351,19 +382,27 @@ module _ (s : PoolCore) (xs : List PoolItem) (m : Matches s xs) (n : ℕ) where
     ends = ends-then;
     taken = taken-then;
     owned = owned-then;
-    known = λ c x e. ap is_some (at_request x.party) ∙ (some-then (request_at s x.party) ∙ m.known c x (kept-was c x e).0);
+    known = λ c x r e f. sym (asks-then (request_at s r) ∙ ap is_asked_at (sym (at_request r))) ∙ m.known c x r (kept-was c x e).0 f;
     free = λ c x e f. m.free c x (kept-was c x e).0 f;
     busy = λ c x e f. m.busy c x (kept-was c x e).0 f;
     waits = λ c x r e f g. m.waits c x r (kept-was c x e).0 f g;
-    left_by = λ c x e f g. let k : is_pending x.place ≡ false = (held-not x.place (kept-was c x e).1).0 in cc;
+    left_by = λ c x r e f g h. let k : is_pending x.place ≡ false = (kept-not x.place (kept-was c x e).1).0 in cc;
+    since = λ c x e f. let k : is_available x.place ≡ false = (kept-not x.place (kept-was c x e).1).1 in cc;
     status = refl;
     clears = λ t. still.clears t ∙ m.clears t;
     before = λ c t h. still.before c t ∙ m.before c t h;
     seen = m.seen;
-    no_warm = λ r. still.warm r ∙ m.no_warm r;
-    no_pin = λ c. still.pins c ∙ m.no_pin c;
-    no_error = λ c. rw (still.errored c) (lasts-less c (is_errored xs c) (m.no_error c));
-    no_drop = λ c. rw (still.use_of c) (lasts-less c (is_dropped (last_use xs c)) (m.no_drop c));
+    warm = λ r. still.warm r ∙ (m.warm r ∙ (warm-then (request_at s r) ∙ ap warm_of (sym (at_request r))));
+    fills = λ c x r e f g. m.fills c x r (kept-was c x e).0 f (warm-then (request_at s r) ∙ (ap warm_of (sym (at_request r)) ∙ g));
+    ungranted = λ c h. still.granted_to c ∙ m.ungranted c h;
+    asks = λ r. still.asked r ∙ (m.asks r ∙ (asks-then (request_at s r) ∙ ap is_asked_at (sym (at_request r))));
+    pins = λ c. still.pins c ∙ (m.pins c ∙ pins-then c);
+    at_pin = λ c. pinned-again (endings ClosedEnd over_numbers (closings shut_ids xs)) c ∙ (still.pinned c ∙ (m.at_pin c ∙ pinned-then c));
+    loose = λ c x e f. m.loose c x (kept-was c x e).0 f;
+    rests = λ c x e f. m.rests c x (kept-was c x e).0 f;
+    errored = λ c. rw (still.errored c) (lasts-then c (is_errored xs c) false errored_at refl (m.errored c));
+    dropped = λ c. rw (still.use_of c) (lasts-then c (is_dropped (last_use xs c)) false dropped_at refl (m.dropped c));
+    calm = λ c x e f. ap (λ k. k + x.timeouts) (still.timeouts c) ∙ m.calm c x (kept-was c x e).0 f;
   }
 
 pub close-fits : (s : PoolCore) (xs : List PoolItem) (z : Fits s xs) (n : ℕ) → Fits (closing s n) (shut_items s xs z.matches n)
@@ -373,6 +412,4 @@ close-fits s xs z n =
       matches = close-matches s xs z.matches n;
       asked = λ r. rw (st.asked r, st.taken r) (z.asked r ∙ (sym (some-then s xs z.matches n (request_at s r)) ∙ ap is_some (sym (at_request s xs z.matches n r))));
       order = st.order ∙ (z.order ∙ sym (same-numbers s s.requests));
-      no_take = λ r. st.taken r ∙ z.no_take r;
-      no_idle = z.no_idle;
     }

@@ -17,6 +17,7 @@ use Rattle.mdb_pool.specs.Connections.{pending_list, parties}
 use Rattle.mdb_pool.specs.Places.{is_pending, is_available, is_queued}
 use Rattle.mdb_pool.specs.Changes.{forgetting, failing}
 use Rattle.mdb_pool.proofs.Moves.{without-one, number-some}
+use Rattle.mdb_pool.proofs.Pins.{pinned-again}
 use Rattle.mdb_pool.proofs.Tables.{without-absent, entry_at-others, map-filter-others, named-others, length-others, passes, has-where, entry_at-swap, named-swap, where-swap_stay}
 
 abbrev id_of : Connection → ℕ
@@ -30,7 +31,7 @@ without-twice c [] = refl
 without-twice c (d ∷ cs) = grind (arith, common_steps, without-twice c cs)
 
 -- a pending connection failed
-module _ (s : PoolCore) (xs : List PoolItem) (m : Matches s xs) (n : ℕ) (x : Connection) (service : Option ObjectId) (at_x : connection_at s x.id ≡ Some x) where
+module _ (s : PoolCore) (xs : List PoolItem) (m : Matches s xs) (n : ℕ) (x : Connection) (service : Option ObjectId) (at_x : connection_at s x.id ≡ Some x) (loose_now : x.pins ≡ 0) where
   lost_connection : (c : ℕ) → connection_at (forgetting s n x) c ≡ if x.id == c then None else connection_at s c
   lost_connection c = entry_at-others id_of c x.id s.connections
 
@@ -57,23 +58,31 @@ module _ (s : PoolCore) (xs : List PoolItem) (m : Matches s xs) (n : ℕ) (x : C
     ends = m.ends;
     taken = λ r c h. grind (arith, lost_connection c, m.taken r c, at_x, alone);
     owned = λ c r h. grind (arith, lost_connection c, m.owned c r);
-    known = λ c y e. grind (arith, lost_connection c, m.known c y);
+    known = λ c y r e f. grind (arith, lost_connection c, m.known c y r);
     free = λ c y e f. grind (arith, lost_connection c, m.free c y);
     busy = λ c y e f. grind (arith, lost_connection c, m.busy c y);
     waits = λ c y r e f g. grind (arith, lost_connection c, m.waits c y r);
-    left_by = λ c y e f g. grind (arith, lost_connection c, m.left_by c y);
+    left_by = λ c y r e f g h. grind (arith, lost_connection c, m.left_by c y r);
+    since = λ c y e f. grind (arith, lost_connection c, m.since c y);
     status = m.status;
     clears = m.clears;
     before = m.before;
     seen = m.seen;
-    no_warm = m.no_warm;
-    no_pin = m.no_pin;
-    no_error = λ c. grind (arith, nat_tests, lost_connection c, m.no_error c, m.unused c, at_x);
-    no_drop = λ c. grind (arith, nat_tests, lost_connection c, m.no_drop c, m.unused c, at_x);
+    warm = m.warm;
+    fills = λ c y r e f g. grind (arith, lost_connection c, m.fills c y r);
+    ungranted = m.ungranted;
+    asks = m.asks;
+    pins = λ c. grind (arith, lost_connection c, m.pins c, m.pins x.id, at_x, loose_now);
+    at_pin = λ c. grind (arith, nat_tests, lost_connection c, pinned-again xs c, m.at_pin c, m.pins x.id, at_x, loose_now);
+    loose = λ c y e f. grind (arith, lost_connection c, m.loose c y);
+    rests = λ c y e f. grind (arith, lost_connection c, m.rests c y);
+    errored = λ c. grind (arith, nat_tests, lost_connection c, m.errored c, m.unused c, at_x);
+    dropped = λ c. grind (arith, nat_tests, lost_connection c, m.dropped c, m.unused c, at_x);
+    calm = λ c y e f. grind (arith, lost_connection c, m.calm c y);
   }
 
 -- and its requester ends
-module _ (s : PoolCore) (xs : List PoolItem) (m : Matches s xs) (n : ℕ) (x : Connection) (service : Option ObjectId) (at_x : connection_at s x.id ≡ Some x) (q : Request) (end : End) (at_q : request_at s q.number ≡ Some q) (held : x.holder ≡ Some q.number) where
+module _ (s : PoolCore) (xs : List PoolItem) (m : Matches s xs) (n : ℕ) (x : Connection) (service : Option ObjectId) (at_x : connection_at s x.id ≡ Some x) (q : Request) (end : End) (at_q : request_at s q.number ≡ Some q) (held : x.holder ≡ Some q.number) (loose_now : x.pins ≡ 0) where
   abbrev failed_q : Request
   failed_q = record q { phase = EndedPhase end }
 
@@ -130,17 +139,25 @@ module _ (s : PoolCore) (xs : List PoolItem) (m : Matches s xs) (n : ℕ) (x : C
     ends = λ r. grind (arith, failed_request r, m.ends r);
     taken = λ r c h. grind (arith, failed_request r, gone_connection c, m.taken r c, m.owned c r, was_held, at_x, at_q);
     owned = λ c r h. grind (arith, failed_request r, gone_connection c, m.owned c r, m.taken r c, was_held, at_x, at_q);
-    known = λ c y e. grind (arith, gone_connection c, failed_request y.party, m.known c y);
+    known = λ c y r e f. grind (arith, gone_connection c, failed_request r, m.known c y r);
     free = λ c y e f. grind (arith, gone_connection c, m.free c y);
     busy = λ c y e f. grind (arith, gone_connection c, m.busy c y);
     waits = λ c y r e f g. grind (arith, gone_connection c, m.waits c y r);
-    left_by = λ c y e f g. grind (arith, gone_connection c, m.left_by c y, failed_request y.party);
+    left_by = λ c y r e f g h. grind (arith, gone_connection c, m.left_by c y r, failed_request r);
+    since = λ c y e f. grind (arith, gone_connection c, m.since c y);
     status = m.status;
     clears = m.clears;
     before = m.before;
     seen = m.seen;
-    no_warm = m.no_warm;
-    no_pin = m.no_pin;
-    no_error = λ c. grind (arith, nat_tests, gone_connection c, m.no_error c, m.unused c, at_x);
-    no_drop = λ c. grind (arith, nat_tests, gone_connection c, m.no_drop c, m.unused c, at_x);
+    warm = λ r. grind (arith, failed_request r, m.warm r);
+    fills = λ c y r e f g. grind (arith, gone_connection c, failed_request r, m.fills c y r);
+    ungranted = m.ungranted;
+    asks = λ r. grind (arith, failed_request r, m.asks r);
+    pins = λ c. grind (arith, gone_connection c, m.pins c, m.pins x.id, at_x, loose_now);
+    at_pin = λ c. grind (arith, nat_tests, gone_connection c, pinned-again xs c, m.at_pin c, m.pins x.id, at_x, loose_now);
+    loose = λ c y e f. grind (arith, gone_connection c, m.loose c y);
+    rests = λ c y e f. grind (arith, gone_connection c, m.rests c y);
+    errored = λ c. grind (arith, nat_tests, gone_connection c, m.errored c, m.unused c, at_x);
+    dropped = λ c. grind (arith, nat_tests, gone_connection c, m.dropped c, m.unused c, at_x);
+    calm = λ c y e f. grind (arith, gone_connection c, m.calm c y);
   }

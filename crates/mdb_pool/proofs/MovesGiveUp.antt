@@ -1,6 +1,7 @@
 -- What a give-up does follows the items of the pool.
 use Rattle.std.proofs.Common.{ℕ, ◌≡◌, arith, ◌≤◌, true, ◌==◌, List, [], ◌∷◌, ◌++◌, Some, None, is_some, refl, sym, ◌∙◌, ap, if◌then◌else◌}
 use Rattle.std.proofs.lemmas.Bool.Decides.{nat_tests}
+use Rattle.mdb_events.specs.declared.end.End.{End}
 use Rattle.mdb_events.specs.declared.end.End.TheVariants.{GaveUp}
 use Rattle.mdb_pool.specs.declared.connection.Connection.{Connection}
 use Rattle.mdb_pool.specs.declared.connection.Place.TheVariants.{Pending, Available, Held}
@@ -8,13 +9,15 @@ use Rattle.mdb_pool.specs.declared.request.Request.{Request}
 use Rattle.mdb_pool.specs.declared.request.Phase.TheVariants.{Given, Ended as EndedPhase}
 use Rattle.mdb_pool.specs.declared.pool_core.PoolCore.{PoolCore}
 use Rattle.mdb_pool.specs.History.{PoolItem, is_number, without, given, gave_up, checked_in, ended}
-use Rattle.mdb_pool.specs.Kept.{connection_at, request_at, given_in, given_of, holder_at}
+use Rattle.mdb_pool.specs.Kept.{connection_at, request_at, given_in, given_of, holder_at, used_as}
 use Rattle.mdb_pool.specs.Requests.{queued}
 use Rattle.mdb_pool.specs.Standing.{Matches}
-use Rattle.mdb_pool.specs.Connections.{parties}
-use Rattle.mdb_pool.specs.Places.{is_pending, is_available, is_queued}
-use Rattle.mdb_pool.specs.Changes.{quitting, leaving, handing}
-use Rattle.mdb_pool.proofs.Moves.{without-one, number-some}
+use Rattle.mdb_pool.specs.Connections.{parties, holding}
+use Rattle.mdb_pool.specs.Places.{is_pending, is_available, is_queued, stays}
+use Rattle.mdb_pool.specs.Changes.{quitting, leaving, parting, handing}
+use Rattle.mdb_pool.proofs.Moves.{without-one, number-some, pending-place}
+use Rattle.mdb_pool.proofs.Pins.{pinned-again, holding-none, holding-one, holding-pending}
+use Rattle.mdb_pool.specs.declared.step.Use.TheVariants.{Ok}
 use Rattle.mdb_pool.proofs.Tables.{without-absent, entry_at-put, where-put, named, named-put, length-put, passes, has-where, where-put_stay, entry_at-swap, named-swap, length-swap, where-swap_out, where-swap_stay, where-swap_same, one_if-le}
 
 abbrev id_of : Connection → ℕ
@@ -64,26 +67,34 @@ module _ (s : PoolCore) (xs : List PoolItem) (m : Matches s xs) (n : ℕ) (q : R
     ends = λ r. grind (arith, quit_request r, m.ends r);
     taken = λ k c h. grind (arith, quit_request k, m.taken k c, at_q, none);
     owned = λ c k h. grind (arith, quit_request k, m.owned c k, at_q, none);
-    known = λ c y e. grind (arith, quit_request y.party, m.known c y);
+    known = λ c y r e f. grind (arith, quit_request r, m.known c y r);
     free = m.free;
     busy = m.busy;
     waits = m.waits;
-    left_by = λ c y e f g. grind (arith, quit_request y.party, m.left_by c y, m.known c y);
+    left_by = λ c y r e f g h. grind (arith, quit_request r, m.left_by c y r, m.known c y r);
+    since = m.since;
     status = m.status;
     clears = m.clears;
     before = m.before;
     seen = m.seen;
-    no_warm = m.no_warm;
-    no_pin = m.no_pin;
-    no_error = m.no_error;
-    no_drop = λ c. grind (arith, m.no_drop c, m.given q.number, at_q, none);
+    warm = λ r. grind (arith, quit_request r, m.warm r);
+    fills = λ c y r e f g. grind (arith, quit_request r, m.fills c y r);
+    ungranted = m.ungranted;
+    asks = λ r. grind (arith, quit_request r, m.asks r);
+    pins = m.pins;
+    at_pin = λ c. rw (holding-none xs q.number (m.given q.number ∙ given_none)) (grind (arith, pinned-again xs c, m.at_pin c));
+    loose = m.loose;
+    rests = m.rests;
+    errored = m.errored;
+    dropped = λ c. rw (m.given q.number ∙ given_none) (m.dropped c);
+    calm = m.calm;
   }
 
 -- a request whose connection is pending is given up
 module _ (s : PoolCore) (xs : List PoolItem) (m : Matches s xs) (n : ℕ) (x : Connection) (q : Request)
     (at_x : connection_at s x.id ≡ Some x) (at_q : request_at s q.number ≡ Some q) (phase : q.phase ≡ Given x.id) where
   abbrev left_x : Connection
-  left_x = record x { holder = None }
+  left_x = record x { holder = None; used = Ok }
 
   abbrev pub left_q : Request
   left_q = record q { phase = EndedPhase GaveUp }
@@ -132,37 +143,124 @@ module _ (s : PoolCore) (xs : List PoolItem) (m : Matches s xs) (n : ℕ) (x : C
     ends = λ r. grind (arith, left_request r, m.ends r);
     taken = λ r c h. grind (arith, left_request r, left_connection c, m.taken r c, m.owned c r, was_held, at_x, at_q);
     owned = λ c r h. grind (arith, left_request r, left_connection c, m.owned c r, m.taken r c, was_held, at_x, at_q);
-    known = λ c y e. grind (arith, left_connection c, m.known c y, m.known x.id x at_x, left_request y.party);
+    known = λ c y r e f. grind (arith, left_connection c, m.known c y r, m.known x.id x r at_x, left_request r);
     free = λ c y e f. grind (arith, left_connection c, m.free c y);
     busy = λ c y e f. grind (arith, left_connection c, m.busy c y, place);
     waits = λ c y r e f g. grind (arith, left_connection c, m.waits c y r);
-    left_by = λ c y e f g. grind (arith, left_connection c, m.left_by c y, left_request y.party, mine place);
+    left_by = λ c y r e f g h. grind (arith, left_connection c, m.left_by c y r, left_request r, mine place);
+    since = λ c y e f. grind (arith, left_connection c, m.since c y);
     status = m.status;
     clears = m.clears;
     before = m.before;
     seen = m.seen;
-    no_warm = m.no_warm;
-    no_pin = m.no_pin;
-    no_error = λ c. grind (arith, nat_tests, left_connection c, m.no_error c, m.no_error x.id, at_x);
-    no_drop = λ c. grind (arith, nat_tests, left_connection c, m.no_drop c, at_x, was_given);
+    warm = λ r. grind (arith, left_request r, m.warm r);
+    fills = λ c y r e f g. grind (arith, left_connection c, left_request r, m.fills c y r);
+    ungranted = m.ungranted;
+    asks = λ r. grind (arith, left_request r, m.asks r);
+    pins = λ c. grind (arith, left_connection c, m.pins c, m.pins x.id, at_x);
+    at_pin = λ c. rw (holding-pending xs q.number x.id was_given (pending-place s xs m x at_x ∙ ap is_pending place)) (grind (arith, left_connection c, pinned-again xs c, m.at_pin c, m.at_pin x.id, at_x, place));
+    loose = λ c y e f. grind (arith, left_connection c, m.loose c y, m.loose x.id x at_x (ap stays place));
+    rests = λ c y e f. grind (arith, left_connection c, m.rests c y);
+    errored = λ c. grind (arith, nat_tests, left_connection c, m.errored c, m.errored x.id, at_x);
+    dropped = λ c. rw was_given (grind (arith, nat_tests, left_connection c, m.dropped c, m.dropped x.id, at_x));
+    calm = λ c y e f. grind (arith, left_connection c, m.calm c y);
   }
     where
       once : named id_of x.id s.connections ≤ 1
       once = rw (m.single x.id) (one_if-le (is_some (connection_at s x.id)))
 
-      mine : x.place ≡ Pending → x.party ≡ q.number
-      mine place = sym (m.waits x.id x q.number at_x (ap is_pending place) (sym (ap holder_at at_x) ∙ was_held))
+      mine : x.place ≡ Pending → x.party ≡ Some q.number
+      mine place = m.waits x.id x q.number at_x (ap is_pending place) (sym (ap holder_at at_x) ∙ was_held)
+
+-- a request whose connection is pending ends
+module _ (s : PoolCore) (xs : List PoolItem) (m : Matches s xs) (x : Connection) (q : Request) (end : End)
+    (at_x : connection_at s x.id ≡ Some x) (at_q : request_at s q.number ≡ Some q) (phase : q.phase ≡ Given x.id) where
+  abbrev apart_x : Connection
+  apart_x = record x { holder = None }
+
+  abbrev pub apart_q : Request
+  apart_q = record q { phase = EndedPhase end }
+
+  apart_connection : (c : ℕ) → connection_at (parting s x q end) c ≡ if x.id == c then Some apart_x else connection_at s c
+  apart_connection c = entry_at-swap id_of c apart_x s.connections (ap is_some at_x)
+
+  pub apart_request : (r : ℕ) → request_at (parting s x q end) r ≡ if q.number == r then Some apart_q else request_at s r
+  apart_request r = entry_at-swap number_of r apart_q s.requests (ap is_some at_q)
+
+  kept_for : holder_at (connection_at s x.id) ≡ Some q.number
+  kept_for = m.taken q.number x.id (ap given_of at_q ∙ ap given_in phase)
+
+  given_then : given_of (request_at s q.number) ≡ Some x.id
+  given_then = ap given_of at_q ∙ ap given_in phase
+
+  -- the party no longer has the connection
+  parts_with : (c : ℕ) → without q.number (parties xs c) ≡ if is_number (holder_at (connection_at s c)) q.number then [] else parties xs c
+  parts_with c = rw (m.parties c) (without-one (holder_at (connection_at s c)) q.number)
+
+  only_theirs : (c : ℕ) → is_number (holder_at (connection_at s c)) q.number ≡ true → given_of (request_at s q.number) ≡ Some c
+  only_theirs c e = m.owned c q.number (number-some (holder_at (connection_at s c)) q.number e)
+
+  pub part-matches : x.place ≡ Pending → Matches (parting s x q end) (ended q.number end ∷ xs)
+  part-matches place = record {
+    created = m.created;
+    live_all = m.live_all ∙ sym (length-swap id_of apart_x s.connections);
+    pending = m.pending ∙ sym (where-swap_same id_of (λ y. is_pending y.place) apart_x x s.connections at_x once refl);
+    available = m.available ∙ sym (where-swap_same id_of (λ y. is_available y.place) apart_x x s.connections at_x once refl);
+    queue = without-absent q.number (queued xs) (rw m.queue (has-where number_of (λ y. is_queued y.phase) q.number s.requests (m.single_request q.number) ∙ (ap (passes number_of (λ y. is_queued y.phase)) at_q ∙ ap is_queued phase))) ∙ (m.queue ∙ sym (where-swap_stay number_of (λ y. is_queued y.phase) apart_q s.requests refl (m.single_request q.number) (ap (passes number_of (λ y. is_queued y.phase)) at_q ∙ ap is_queued phase)));
+    single = λ c. grind (arith, named-swap id_of c apart_x s.connections, apart_connection c, m.single c);
+    unused = λ c h. grind (arith, apart_connection c, m.unused c h);
+    live = λ c. grind (arith, apart_connection c, m.live c);
+    parties = λ c. parts_with c ∙ grind (arith, apart_connection c, m.parties c, only_theirs c, given_then, kept_for, at_x);
+    granted_to = λ c y e. grind (arith, apart_connection c, m.granted_to c y, m.granted_to x.id x at_x);
+    created_at = λ c y e. grind (arith, apart_connection c, m.created_at c y, m.created_at x.id x at_x);
+    served = λ c. grind (arith, nat_tests, apart_connection c, m.served c, m.served x.id, at_x);
+    service = λ c. grind (arith, nat_tests, apart_connection c, m.service c, m.service x.id, at_x);
+    wire = λ c. grind (arith, nat_tests, apart_connection c, m.wire c, m.wire x.id, at_x);
+    given = λ r. grind (arith, apart_request r, m.given r);
+    single_request = λ r. grind (arith, named-swap number_of r apart_q s.requests, apart_request r, m.single_request r);
+    asked_at = λ r. grind (arith, apart_request r, m.asked_at r);
+    ends = λ r. grind (arith, apart_request r, m.ends r);
+    taken = λ r c h. grind (arith, apart_request r, apart_connection c, m.taken r c, m.owned c r, kept_for, at_x, at_q);
+    owned = λ c r h. grind (arith, apart_request r, apart_connection c, m.owned c r, m.taken r c, kept_for, at_x, at_q);
+    known = λ c y r e f. grind (arith, apart_connection c, m.known c y r, m.known x.id x r at_x, apart_request r);
+    free = λ c y e f. grind (arith, apart_connection c, m.free c y);
+    busy = λ c y e f. grind (arith, apart_connection c, m.busy c y, place);
+    waits = λ c y r e f g. grind (arith, apart_connection c, m.waits c y r);
+    left_by = λ c y r e f g h. grind (arith, apart_connection c, m.left_by c y r, apart_request r, mine place);
+    since = λ c y e f. grind (arith, apart_connection c, m.since c y);
+    status = m.status;
+    clears = m.clears;
+    before = m.before;
+    seen = m.seen;
+    warm = λ r. grind (arith, apart_request r, m.warm r);
+    fills = λ c y r e f g. grind (arith, apart_connection c, apart_request r, m.fills c y r);
+    ungranted = m.ungranted;
+    asks = λ r. grind (arith, apart_request r, m.asks r);
+    pins = λ c. grind (arith, apart_connection c, m.pins c, m.pins x.id, at_x);
+    at_pin = λ c. grind (arith, apart_connection c, pinned-again xs c, m.at_pin c, m.at_pin x.id, at_x);
+    loose = λ c y e f. grind (arith, apart_connection c, m.loose c y, m.loose x.id x at_x (ap stays place));
+    rests = λ c y e f. grind (arith, apart_connection c, m.rests c y);
+    errored = λ c. grind (arith, nat_tests, apart_connection c, m.errored c, m.errored x.id, at_x);
+    dropped = λ c. grind (arith, nat_tests, apart_connection c, m.dropped c, m.dropped x.id, at_x);
+    calm = λ c y e f. grind (arith, apart_connection c, m.calm c y);
+  }
+    where
+      once : named id_of x.id s.connections ≤ 1
+      once = rw (m.single x.id) (one_if-le (is_some (connection_at s x.id)))
+
+      mine : x.place ≡ Pending → x.party ≡ Some q.number
+      mine place = m.waits x.id x q.number at_x (ap is_pending place) (sym (ap holder_at at_x) ∙ kept_for)
 
 -- a request whose connection is held is given up, and the connection is available
 module _ (s : PoolCore) (xs : List PoolItem) (m : Matches s xs) (n : ℕ) (x : Connection) (q : Request)
     (at_x : connection_at s x.id ≡ Some x) (place : x.place ≡ Held) (at_q : request_at s q.number ≡ Some q) (phase : q.phase ≡ Given x.id) where
   abbrev handed_x : Connection
-  handed_x = record x { place = Available; holder = None }
+  handed_x = record (used_as x Ok) { place = Available; holder = None; since = n }
 
-  handed_connection : (c : ℕ) → connection_at (handing s n x q) c ≡ if x.id == c then Some handed_x else connection_at s c
+  handed_connection : (c : ℕ) → connection_at (handing s n (used_as x Ok) q) c ≡ if x.id == c then Some handed_x else connection_at s c
   handed_connection c = entry_at-put id_of c handed_x s.connections
 
-  pub handed_request : (r : ℕ) → request_at (handing s n x q) r ≡ if q.number == r then Some (left_q s xs m n x q at_x at_q phase) else request_at s r
+  pub handed_request : (r : ℕ) → request_at (handing s n (used_as x Ok) q) r ≡ if q.number == r then Some (left_q s xs m n x q at_x at_q phase) else request_at s r
   handed_request r = entry_at-swap number_of r (left_q s xs m n x q at_x at_q phase) s.requests (ap is_some at_q)
 
   had_given : given xs q.number ≡ Some x.id
@@ -181,8 +279,11 @@ module _ (s : PoolCore) (xs : List PoolItem) (m : Matches s xs) (n : ℕ) (x : C
   alone : (c : ℕ) → is_number (holder_at (connection_at s c)) q.number ≡ true → given_of (request_at s q.number) ≡ Some c
   alone c e = m.owned c q.number (number-some (holder_at (connection_at s c)) q.number e)
 
-  pub hand-matches : Matches (handing s n x q) (checked_in x.id n ∷ ended q.number GaveUp ∷ gave_up q.number ∷ xs)
-  hand-matches = record {
+  pub held_one : holding xs q.number ≡ Some x.id
+  held_one = holding-one xs q.number x.id had_given (pending-place s xs m x at_x ∙ ap is_pending place)
+
+  pub hand-matches : x.pins ≡ 0 → Matches (handing s n (used_as x Ok) q) (checked_in x.id n ∷ ended q.number GaveUp ∷ gave_up q.number ∷ xs)
+  hand-matches loose_now = record {
     created = m.created;
     live_all = grind (arith, m.live_all, length-put id_of handed_x s.connections, m.single x.id);
     pending = m.pending ∙ sym (where-put_stay id_of (λ y. is_pending y.place) handed_x s.connections refl (m.single x.id) (ap (passes id_of (λ y. is_pending y.place)) at_x ∙ ap is_pending place));
@@ -203,19 +304,27 @@ module _ (s : PoolCore) (xs : List PoolItem) (m : Matches s xs) (n : ℕ) (x : C
     ends = λ r. grind (arith, handed_request r, m.ends r);
     taken = λ r c h. grind (arith, handed_request r, handed_connection c, m.taken r c, m.owned c r, had_held, at_x, at_q);
     owned = λ c r h. grind (arith, handed_request r, handed_connection c, m.owned c r, m.taken r c, had_held, at_x, at_q);
-    known = λ c y e. grind (arith, handed_connection c, m.known c y, m.known x.id x at_x, handed_request y.party);
+    known = λ c y r e f. grind (arith, handed_connection c, m.known c y r, m.known x.id x r at_x, handed_request r);
     free = λ c y e f. grind (arith, handed_connection c, m.free c y);
     busy = λ c y e f. grind (arith, handed_connection c, m.busy c y);
     waits = λ c y r e f g. grind (arith, handed_connection c, m.waits c y r);
-    left_by = λ c y e f g. grind (arith, handed_connection c, m.left_by c y, handed_request y.party);
+    left_by = λ c y r e f g h. grind (arith, handed_connection c, m.left_by c y r, handed_request r);
+    since = λ c y e f. grind (arith, handed_connection c, m.since c y);
     status = m.status;
     clears = m.clears;
     before = m.before;
     seen = m.seen;
-    no_warm = m.no_warm;
-    no_pin = m.no_pin;
-    no_error = λ c. grind (arith, nat_tests, handed_connection c, m.no_error c, m.no_error x.id, at_x);
-    no_drop = λ c. grind (arith, nat_tests, handed_connection c, m.no_drop c, at_x, had_given);
+    warm = λ r. grind (arith, handed_request r, m.warm r);
+    fills = λ c y r e f g. grind (arith, handed_connection c, handed_request r, m.fills c y r);
+    ungranted = m.ungranted;
+    asks = λ r. grind (arith, handed_request r, m.asks r);
+    pins = λ c. grind (arith, handed_connection c, m.pins c, m.pins x.id, at_x);
+    at_pin = λ c. rw held_one (grind (arith, nat_tests, handed_connection c, pinned-again xs c, m.at_pin c, m.pins x.id, at_x, loose_now));
+    loose = λ c y e f. grind (arith, handed_connection c, m.loose c y, loose_now);
+    rests = λ c y e f. grind (arith, handed_connection c, m.rests c y);
+    errored = λ c. grind (arith, nat_tests, handed_connection c, m.errored c, m.errored x.id, at_x);
+    dropped = λ c. rw had_given (grind (arith, nat_tests, handed_connection c, m.dropped c, m.dropped x.id, at_x));
+    calm = λ c y e f. grind (arith, handed_connection c, m.calm c y);
   }
 
 -- a request that ended is given up late
@@ -246,12 +355,20 @@ late-matches s xs m n r told none = record {
   busy = m.busy;
   waits = m.waits;
   left_by = m.left_by;
+  since = m.since;
   status = m.status;
   clears = m.clears;
   before = m.before;
   seen = m.seen;
-  no_warm = m.no_warm;
-  no_pin = m.no_pin;
-  no_error = m.no_error;
-  no_drop = λ c. grind (arith, m.no_drop c, m.given r, none);
+  warm = m.warm;
+  fills = m.fills;
+  ungranted = m.ungranted;
+  asks = m.asks;
+  pins = m.pins;
+  at_pin = λ c. rw (holding-none xs r (m.given r ∙ none)) (grind (arith, pinned-again xs c, m.at_pin c));
+  loose = m.loose;
+  rests = m.rests;
+  errored = m.errored;
+  dropped = λ c. rw (m.given r ∙ none) (m.dropped c);
+  calm = m.calm;
 }

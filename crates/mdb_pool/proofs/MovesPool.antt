@@ -1,26 +1,29 @@
 -- What is said of a pool as a whole, and what is closed or ended by the way, follows the items of the pool.
-use Rattle.std.proofs.Common.{ℕ, ◌≡◌, arith, ◌+◌, Bool, true, false, ◌&&◌, ◌==◌, List, [], ◌∷◌, ◌++◌, Option, Some, None, is_some, refl, sym, ◌∙◌, ap, if◌then◌else◌, nat_lt}
+use Rattle.std.proofs.Common.{ℕ, ◌≡◌, arith, ◌+◌, Bool, true, false, ◌&&◌, ◌==◌, List, [], ◌∷◌, ◌++◌, Option, Some, None, is_some, refl, sym, ◌∙◌, ap, subst, if◌then◌else◌, nat_lt}
 use Rattle.std.proofs.lemmas.Grind.{common_steps}
 use Rattle.std.proofs.lemmas.Bool.Decides.{nat_tests}
 use Rattle.mdb_base.specs.declared.object_id.ObjectId.{ObjectId}
 use Rattle.mdb_events.specs.declared.end.End.{End}
 use Rattle.mdb_base.specs.declared.error.Error.{Error}
+use Rattle.mdb_base.specs.Errors.{is_timeout}
 use Rattle.mdb_pool.specs.declared.connection.Connection.{Connection}
 use Rattle.mdb_pool.specs.declared.connection.Place.TheVariants.{Available}
 use Rattle.mdb_pool.specs.declared.request.Request.{Request}
 use Rattle.mdb_pool.specs.declared.request.Phase.TheVariants.{Ended as EndedPhase}
+use Rattle.mdb_pool.specs.declared.step.Established.{Established}
 use Rattle.mdb_pool.specs.declared.pool_core.PoolCore.{PoolCore}
 use Rattle.mdb_pool.specs.declared.status.Clear.{Clear}
 use Rattle.mdb_pool.specs.declared.status.Status.TheVariants.{Ready}
-use Rattle.mdb_pool.specs.History.{PoolItem, same_service, is_number, without, closed, checked_in, ended, raised, pool_ready}
-use Rattle.mdb_pool.specs.Kept.{connection_at, request_at, given_in, given_of, holder_at, state_in, clears_for, clears_before}
+use Rattle.mdb_pool.specs.History.{PoolItem, same_service, is_number, without, established, closed, checked_in, ended, raised, pool_ready}
+use Rattle.mdb_pool.specs.Kept.{connection_at, request_at, ids_where, given_in, given_of, holder_at, state_in, clears_for, clears_before, timeouts_in}
 use Rattle.mdb_pool.specs.Standing.{Matches}
 use Rattle.mdb_pool.specs.State.{state_of}
-use Rattle.mdb_pool.specs.Connections.{one_if, parties, available_list}
-use Rattle.mdb_pool.specs.Places.{is_pending, is_available, is_queued}
+use Rattle.mdb_pool.specs.Connections.{one_if, has, parties, available_list}
+use Rattle.mdb_pool.specs.Places.{is_pending, is_available, is_queued, stays}
 use Rattle.mdb_pool.specs.Changes.{ending, discarding, cleared_status, raising}
 use Rattle.mdb_pool.proofs.Moves.{without-one, number-some}
-use Rattle.mdb_pool.proofs.Tables.{entry_at-others, map-filter-others, named-others, length-others, entry_at-swap, named-swap, where-swap_out}
+use Rattle.mdb_pool.proofs.Pins.{pinned-again}
+use Rattle.mdb_pool.proofs.Tables.{passes, has-where, entry_at-others, map-filter-others, named-others, length-others, entry_at-swap, named-swap, where-swap_out}
 use Rattle.mdb_pool.proofs.MovesBack.{without-again}
 
 abbrev id_of : Connection → ℕ
@@ -36,6 +39,9 @@ module _ (s : PoolCore) (xs : List PoolItem) (m : Matches s xs) (x : Connection)
 
   unheld : x.holder ≡ None
   unheld = m.free x.id x at_x (ap is_available place)
+
+  no_pins : x.pins ≡ 0
+  no_pins = m.loose x.id x at_x (ap stays place)
 
   pub discard-matches : Matches (discarding s x) (closed x.id ∷ xs)
   discard-matches = record {
@@ -59,20 +65,32 @@ module _ (s : PoolCore) (xs : List PoolItem) (m : Matches s xs) (x : Connection)
     ends = m.ends;
     taken = λ r c h. grind (arith, shut_connection c, m.taken r c, at_x, unheld);
     owned = λ c r h. grind (arith, shut_connection c, m.owned c r);
-    known = λ c y e. grind (arith, shut_connection c, m.known c y);
+    known = λ c y r e f. grind (arith, shut_connection c, m.known c y r);
     free = λ c y e f. grind (arith, shut_connection c, m.free c y);
     busy = λ c y e f. grind (arith, shut_connection c, m.busy c y);
     waits = λ c y r e f g. grind (arith, shut_connection c, m.waits c y r);
-    left_by = λ c y e f g. grind (arith, shut_connection c, m.left_by c y);
+    left_by = λ c y r e f g h. grind (arith, shut_connection c, m.left_by c y r);
+    since = λ c y e f. grind (arith, shut_connection c, m.since c y);
     status = m.status;
     clears = m.clears;
     before = m.before;
     seen = m.seen;
-    no_warm = m.no_warm;
-    no_pin = m.no_pin;
-    no_error = λ c. grind (arith, nat_tests, shut_connection c, m.no_error c, m.unused c, at_x);
-    no_drop = λ c. grind (arith, nat_tests, shut_connection c, m.no_drop c, m.unused c, at_x);
+    warm = m.warm;
+    fills = λ c y r e f g. grind (arith, shut_connection c, m.fills c y r);
+    ungranted = m.ungranted;
+    asks = m.asks;
+    pins = λ c. grind (arith, shut_connection c, m.pins c, m.pins x.id, at_x, no_pins);
+    at_pin = λ c. grind (arith, shut_connection c, pinned-again xs c, m.at_pin c, m.at_pin x.id, at_x, place);
+    loose = λ c y e f. grind (arith, shut_connection c, m.loose c y);
+    rests = λ c y e f. grind (arith, shut_connection c, m.rests c y);
+    errored = λ c. grind (arith, nat_tests, shut_connection c, m.errored c, m.unused c, at_x);
+    dropped = λ c. grind (arith, nat_tests, shut_connection c, m.dropped c, m.unused c, at_x);
+    calm = λ c y e f. grind (arith, shut_connection c, m.calm c y);
   }
+
+without-not : (c : ℕ) (cs : List ℕ) → has c (without c cs) ≡ false
+without-not c [] = refl
+without-not c (d ∷ cs) = grind (arith, common_steps, without-not c cs)
 
 -- on a closed pool a connection that comes back is closed without being checked in
 pub skip-check-in : (s : PoolCore) (xs : List PoolItem) (c n : ℕ) → Matches s (closed c ∷ checked_in c n ∷ xs) → Matches s (closed c ∷ xs)
@@ -102,15 +120,37 @@ skip-check-in s xs c n m = record {
   busy = m.busy;
   waits = m.waits;
   left_by = m.left_by;
+  since = λ k x e f. grind (arith, m.since k x e f, absent k x e f);
   status = m.status;
   clears = m.clears;
   before = m.before;
   seen = m.seen;
-  no_warm = m.no_warm;
-  no_pin = m.no_pin;
-  no_error = m.no_error;
-  no_drop = m.no_drop;
+  warm = m.warm;
+  fills = m.fills;
+  ungranted = m.ungranted;
+  asks = m.asks;
+  pins = m.pins;
+  at_pin = λ c. grind (arith, pinned-again xs c, m.at_pin c);
+  loose = m.loose;
+  rests = m.rests;
+  errored = m.errored;
+  dropped = m.dropped;
+  calm = m.calm;
 }
+  where
+    closed_out : has c (ids_where is_available s.connections) ≡ false
+    closed_out = ap (has c) (sym m.available) ∙ without-not c (available_list (checked_in c n ∷ xs))
+
+    absent : (k : ℕ) (x : Connection) → connection_at s k ≡ Some x → is_available x.place ≡ true → (c == k) ≡ false
+    absent k x e f = on (c == k) refl
+      where
+        on : (b : Bool) → (c == k) ≡ b → (c == k) ≡ false
+        on true g =
+            let same : c ≡ k = grind arith in
+            let there : has c (ids_where is_available s.connections) ≡ true = subst (λ d. has d (ids_where is_available s.connections) ≡ true) (sym same) (has-where id_of (λ y. is_available y.place) k s.connections (m.single k) ∙ (ap (passes id_of (λ y. is_available y.place)) e ∙ f)) in
+            let never : true ≡ false = sym there ∙ closed_out in
+            cc
+        on false g = g
 
 -- a request that has no connection ends
 module _ (s : PoolCore) (xs : List PoolItem) (m : Matches s xs) (q : Request) (end : End) (at_q : request_at s q.number ≡ Some q) (none : given_in q.phase ≡ None) where
@@ -151,20 +191,164 @@ module _ (s : PoolCore) (xs : List PoolItem) (m : Matches s xs) (q : Request) (e
     ends = λ r. grind (arith, over_request r, m.ends r);
     taken = λ k c h. grind (arith, over_request k, m.taken k c, at_q, none);
     owned = λ c k h. grind (arith, over_request k, m.owned c k, at_q, none);
-    known = λ c y e. grind (arith, over_request y.party, m.known c y);
+    known = λ c y r e f. grind (arith, over_request r, m.known c y r);
     free = m.free;
     busy = m.busy;
     waits = m.waits;
-    left_by = λ c y e f g. grind (arith, over_request y.party, m.left_by c y, m.known c y);
+    left_by = λ c y r e f g h. grind (arith, over_request r, m.left_by c y r, m.known c y r);
+    since = m.since;
     status = m.status;
     clears = m.clears;
     before = m.before;
     seen = m.seen;
-    no_warm = m.no_warm;
-    no_pin = m.no_pin;
-    no_error = m.no_error;
-    no_drop = m.no_drop;
+    warm = λ r. grind (arith, over_request r, m.warm r);
+    fills = λ c y r e f g. grind (arith, over_request r, m.fills c y r);
+    ungranted = m.ungranted;
+    asks = λ r. grind (arith, over_request r, m.asks r);
+    pins = m.pins;
+    at_pin = λ c. grind (arith, pinned-again xs c, m.at_pin c);
+    loose = m.loose;
+    rests = m.rests;
+    errored = m.errored;
+    dropped = m.dropped;
+    calm = m.calm;
   }
+
+-- the end of a warm request comes after what its connection does
+pub late-end : (s : PoolCore) (xs : List PoolItem) (c n r : ℕ) (how : Established) (end : End) → Matches s (checked_in c n ∷ established c how n ∷ ended r end ∷ xs) → Matches s (ended r end ∷ checked_in c n ∷ established c how n ∷ xs)
+late-end s xs c n r how end m = record {
+  created = m.created;
+  live_all = m.live_all;
+  pending = m.pending;
+  available = m.available;
+  queue = m.queue;
+  single = m.single;
+  unused = m.unused;
+  live = m.live;
+  parties = m.parties;
+  granted_to = m.granted_to;
+  created_at = m.created_at;
+  served = m.served;
+  service = m.service;
+  wire = m.wire;
+  given = m.given;
+  single_request = m.single_request;
+  asked_at = m.asked_at;
+  ends = m.ends;
+  taken = m.taken;
+  owned = m.owned;
+  known = m.known;
+  free = m.free;
+  busy = m.busy;
+  waits = m.waits;
+  left_by = m.left_by;
+  since = m.since;
+  status = m.status;
+  clears = m.clears;
+  before = m.before;
+  seen = m.seen;
+  warm = m.warm;
+  fills = m.fills;
+  ungranted = m.ungranted;
+  asks = m.asks;
+  pins = m.pins;
+  at_pin = λ c. grind (arith, pinned-again xs c, m.at_pin c);
+  loose = m.loose;
+  rests = m.rests;
+  errored = m.errored;
+  dropped = m.dropped;
+  calm = m.calm;
+}
+
+pub late-end_closed : (s : PoolCore) (xs : List PoolItem) (c n r : ℕ) (how : Established) (end : End) → Matches s (closed c ∷ checked_in c n ∷ established c how n ∷ ended r end ∷ xs) → Matches s (ended r end ∷ closed c ∷ checked_in c n ∷ established c how n ∷ xs)
+late-end_closed s xs c n r how end m = record {
+  created = m.created;
+  live_all = m.live_all;
+  pending = m.pending;
+  available = m.available;
+  queue = m.queue;
+  single = m.single;
+  unused = m.unused;
+  live = m.live;
+  parties = m.parties;
+  granted_to = m.granted_to;
+  created_at = m.created_at;
+  served = m.served;
+  service = m.service;
+  wire = m.wire;
+  given = m.given;
+  single_request = m.single_request;
+  asked_at = m.asked_at;
+  ends = m.ends;
+  taken = m.taken;
+  owned = m.owned;
+  known = m.known;
+  free = m.free;
+  busy = m.busy;
+  waits = m.waits;
+  left_by = m.left_by;
+  since = m.since;
+  status = m.status;
+  clears = m.clears;
+  before = m.before;
+  seen = m.seen;
+  warm = m.warm;
+  fills = m.fills;
+  ungranted = m.ungranted;
+  asks = m.asks;
+  pins = m.pins;
+  at_pin = λ c. grind (arith, pinned-again xs c, m.at_pin c);
+  loose = m.loose;
+  rests = m.rests;
+  errored = m.errored;
+  dropped = m.dropped;
+  calm = m.calm;
+}
+
+pub late-end_skipped : (s : PoolCore) (xs : List PoolItem) (c n r : ℕ) (how : Established) (end : End) → Matches s (closed c ∷ established c how n ∷ ended r end ∷ xs) → Matches s (ended r end ∷ closed c ∷ established c how n ∷ xs)
+late-end_skipped s xs c n r how end m = record {
+  created = m.created;
+  live_all = m.live_all;
+  pending = m.pending;
+  available = m.available;
+  queue = m.queue;
+  single = m.single;
+  unused = m.unused;
+  live = m.live;
+  parties = m.parties;
+  granted_to = m.granted_to;
+  created_at = m.created_at;
+  served = m.served;
+  service = m.service;
+  wire = m.wire;
+  given = m.given;
+  single_request = m.single_request;
+  asked_at = m.asked_at;
+  ends = m.ends;
+  taken = m.taken;
+  owned = m.owned;
+  known = m.known;
+  free = m.free;
+  busy = m.busy;
+  waits = m.waits;
+  left_by = m.left_by;
+  since = m.since;
+  status = m.status;
+  clears = m.clears;
+  before = m.before;
+  seen = m.seen;
+  warm = m.warm;
+  fills = m.fills;
+  ungranted = m.ungranted;
+  asks = m.asks;
+  pins = m.pins;
+  at_pin = λ c. grind (arith, pinned-again xs c, m.at_pin c);
+  loose = m.loose;
+  rests = m.rests;
+  errored = m.errored;
+  dropped = m.dropped;
+  calm = m.calm;
+}
 
 -- the pool is marked ready
 pub ready-matches : (s : PoolCore) (xs : List PoolItem) → Matches s xs → Matches (record s { status = Ready }) (pool_ready ∷ xs)
@@ -194,14 +378,22 @@ ready-matches s xs m = record {
   busy = m.busy;
   waits = m.waits;
   left_by = m.left_by;
+  since = m.since;
   status = refl;
   clears = m.clears;
   before = m.before;
   seen = m.seen;
-  no_warm = m.no_warm;
-  no_pin = m.no_pin;
-  no_error = m.no_error;
-  no_drop = m.no_drop;
+  warm = m.warm;
+  fills = m.fills;
+  ungranted = m.ungranted;
+  asks = m.asks;
+  pins = m.pins;
+  at_pin = λ c. grind (arith, pinned-again xs c, m.at_pin c);
+  loose = m.loose;
+  rests = m.rests;
+  errored = m.errored;
+  dropped = m.dropped;
+  calm = m.calm;
 }
 
 -- the last moment is nothing that the items say
@@ -232,14 +424,22 @@ later-matches s xs n m = record {
   busy = m.busy;
   waits = m.waits;
   left_by = m.left_by;
+  since = m.since;
   status = m.status;
   clears = m.clears;
   before = m.before;
   seen = m.seen;
-  no_warm = m.no_warm;
-  no_pin = m.no_pin;
-  no_error = m.no_error;
-  no_drop = m.no_drop;
+  warm = m.warm;
+  fills = m.fills;
+  ungranted = m.ungranted;
+  asks = m.asks;
+  pins = m.pins;
+  at_pin = m.at_pin;
+  loose = m.loose;
+  rests = m.rests;
+  errored = m.errored;
+  dropped = m.dropped;
+  calm = m.calm;
 }
 
 clears_for-append : (t : Option ObjectId) (ks : List Clear) (k : Clear) → clears_for t (ks ++ k ∷ []) ≡ clears_for t ks + one_if (same_service k.service t)
@@ -249,6 +449,10 @@ clears_for-append t (j ∷ ks) k = grind (arith, common_steps, clears_for-append
 clears_before-append : (c : ℕ) (t : Option ObjectId) (ks : List Clear) (k : Clear) → clears_before c t (ks ++ k ∷ []) ≡ clears_before c t ks + one_if (same_service k.service t && nat_lt k.after c)
 clears_before-append c t [] k = grind (arith, common_steps)
 clears_before-append c t (j ∷ ks) k = grind (arith, common_steps, clears_before-append c t ks k)
+
+timeouts-append : (ks : List Clear) (k : Clear) → timeouts_in (ks ++ k ∷ []) ≡ timeouts_in ks + one_if k.timeout
+timeouts-append [] k = grind (arith, common_steps)
+timeouts-append (j ∷ ks) k = grind (arith, common_steps, timeouts-append ks k)
 
 and-yes : (b : Bool) → b && true ≡ b
 and-yes true = refl
@@ -261,7 +465,7 @@ and-no false = refl
 -- the pool is cleared
 module _ (s : PoolCore) (xs : List PoolItem) (m : Matches s xs) (n : ℕ) (service : Option ObjectId) (error : Error) where
   abbrev clear_now : Clear
-  clear_now = record { service = service; after = s.created }
+  clear_now = record { service = service; after = s.created; timeout = is_timeout error.kind }
 
   paused : (t : Option ObjectId) → service ≡ t → state_of s.options (raised service error ∷ xs) ≡ state_in (cleared_status s service error)
   paused None e = rw e refl
@@ -294,12 +498,20 @@ module _ (s : PoolCore) (xs : List PoolItem) (m : Matches s xs) (n : ℕ) (servi
     busy = m.busy;
     waits = m.waits;
     left_by = m.left_by;
+    since = m.since;
     status = paused service refl;
     clears = λ t. ap (λ k. k + one_if (same_service service t)) (m.clears t) ∙ sym (clears_for-append t s.clears clear_now);
     before = λ c t h. m.before c t h ∙ (sym (let e : nat_lt s.created c ≡ false = grind (arith, nat_tests) in rw (clears_before-append c t s.clears clear_now, e, and-no (same_service service t)) (omega arith)));
     seen = λ c t h. let e : nat_lt s.created c ≡ true = grind (arith, nat_tests) in rw (clears_before-append c t s.clears clear_now, clears_for-append t s.clears clear_now, e, and-yes (same_service service t), m.seen c t h) refl;
-    no_warm = m.no_warm;
-    no_pin = m.no_pin;
-    no_error = m.no_error;
-    no_drop = m.no_drop;
+    warm = m.warm;
+    fills = m.fills;
+    ungranted = m.ungranted;
+    asks = m.asks;
+    pins = m.pins;
+    at_pin = λ c. grind (arith, pinned-again xs c, m.at_pin c);
+    loose = m.loose;
+    rests = m.rests;
+    errored = m.errored;
+    dropped = m.dropped;
+    calm = λ c y e f. grind (arith, m.calm c y e f, timeouts-append s.clears clear_now);
   }

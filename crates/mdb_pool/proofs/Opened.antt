@@ -19,10 +19,6 @@ module _ (p : ℕ) (a : ServerAddress) (o : PoolOptions) (status : Status) where
   both true x = refl
   both false x = refl
 
-  never : (b : Bool) → b && false ≡ false
-  never true = refl
-  never false = refl
-
   opened-matches : state_in status ≡ (if o.load_balanced then is_ready else is_new) → Matches opened (pool_created ∷ [])
   opened-matches e = record {
     created = refl;
@@ -45,27 +41,35 @@ module _ (p : ℕ) (a : ServerAddress) (o : PoolOptions) (status : Status) where
     ends = λ r. refl;
     taken = λ r c h. cc;
     owned = λ c r h. cc;
-    known = λ c y h. cc;
+    known = λ c y r h f. cc;
     free = λ c y h f. cc;
     busy = λ c y h f. cc;
     waits = λ c y r h f g. cc;
-    left_by = λ c y h f g. cc;
+    left_by = λ c y r h f g i. cc;
+    since = λ c y h f. cc;
     status = sym e;
     clears = λ t. refl;
     before = λ c t h. refl;
     seen = λ c t h. refl;
-    no_warm = λ r. refl;
-    no_pin = λ c. refl;
-    no_error = λ c. never _;
-    no_drop = λ c. never _;
+    warm = λ r. refl;
+    fills = λ c y r h f g. cc;
+    ungranted = λ c h. refl;
+    asks = λ r. refl;
+    pins = λ c. refl;
+    at_pin = λ c. refl;
+    loose = λ c y h f. cc;
+    rests = λ c y h f. cc;
+    errored = λ c. both _ false;
+    dropped = λ c. both _ false;
+    calm = λ c y h f. cc;
   }
 
   opened-items : of_pool p (opening p a o) ≡ pool_created ∷ []
   opened-items = rw (same-number p) refl
 
-  pub opening-stands : o.max_idle_time ≡ None → state_in status ≡ (if o.load_balanced then is_ready else is_new) → is_shut status ≡ false → StandsFor opened (opening p a o)
-  opening-stands idle e unshut = record {
-    fits = subst (Fits opened) (sym opened-items) (record { matches = opened-matches e; asked = λ r. refl; order = refl; no_take = λ r. refl; no_idle = idle });
+  pub opening-stands : state_in status ≡ (if o.load_balanced then is_ready else is_new) → is_shut status ≡ false → StandsFor opened (opening p a o)
+  opening-stands e unshut = record {
+    fits = subst (Fits opened) (sym opened-items) (record { matches = opened-matches e; asked = λ r. refl; order = refl });
     last_is = refl;
     open_here = λ b. rw unshut (at_home (same_address a b));
     asked_once = λ r. rw opened-items refl;

@@ -61,7 +61,7 @@ module _ (s : PoolCore) (xs : List PoolItem) (z : Fits s xs) (n r : ℕ) (absent
   ys = asked r n ∷ xs
 
   abbrev new_q : Request
-  new_q = record { number = r; asked_at = n; phase = Queued }
+  new_q = record { number = r; asked_at = n; warm = false; took = false; phase = Queued }
 
   abbrev away_now : Option End
   away_now = away_end s.status
@@ -69,55 +69,55 @@ module _ (s : PoolCore) (xs : List PoolItem) (z : Fits s xs) (n r : ℕ) (absent
   no-time : n - n ≡ 0
   no-time = omega arith
 
-  away-are : (t : Status) → state_of s.options xs ≡ state_in t → turned_away s.pool s.address s.options n ys r ≡ away_facts s r (away_end t)
+  away-are : (t : Status) → state_of s.options xs ≡ state_in t → turned_away s.pool s.address s.options n ys r ≡ away_facts s r false (away_end t)
   away-are New e = rw (e, same-number r, no-time) refl
   away-are Ready e = rw e refl
   away-are (Paused error) e = rw (e, same-number r, no-time) refl
   away-are Closed e = rw e refl
 
-  there : request_at (asking s r n) r ≡ Some new_q
+  there : request_at (asking s r n false) r ≡ Some new_q
   there = entry_at-put (λ (q : Request). q.number) r new_q s.requests ∙ rw (same-number r) refl
 
-  away-fits : (o : Option End) → Fits (away (asking s r n) r n o) (after_facts s.pool n (started_fact s ∷ away_facts s r o) ys)
+  away-fits : (o : Option End) → Fits (away (asking s r n false) r n false o) (after_facts s.pool n (started_fact s ∷ away_facts s r false o) ys)
   away-fits None = ask-fits s xs z n r absent
-  away-fits (Some end) = rw (same-number r) (end-fits (asking s r n) ys (ask-fits s xs z n r absent) n new_q end there refl)
+  away-fits (Some end) = rw (same-number r) (end-fits (asking s r n false) ys (ask-fits s xs z n r absent) n new_q end there refl)
 
-  away-home : (o : Option End) → SameHome s (away (asking s r n) r n o)
+  away-home : (o : Option End) → SameHome s (away (asking s r n false) r n false o)
   away-home None = record { pool = refl; address = refl; options = refl }
   away-home (Some end) = record { pool = refl; address = refl; options = refl }
 
-  away-notes : (o : Option End) → SameNotes s (away (asking s r n) r n o)
+  away-notes : (o : Option End) → SameNotes s (away (asking s r n false) r n false o)
   away-notes None = record { settled = refl; claimed = refl; status = refl }
   away-notes (Some end) = record { settled = refl; claimed = refl; status = refl }
 
-  away-same : (o : Option End) → away_facts (asking s r n) r o ≡ away_facts s r o
+  away-same : (o : Option End) → away_facts (asking s r n false) r false o ≡ away_facts s r false o
   away-same None = refl
   away-same (Some end) = refl
 
-  away-open : (o : Option End) → shuts (started_fact s ∷ away_facts s r o) ≡ false
+  away-open : (o : Option End) → shuts (started_fact s ∷ away_facts s r false o) ≡ false
   away-open None = refl
   away-open (Some end) = refl
 
-  away-fair : (o : Option End) → AllFirstCome s.pool n ys (started_fact s ∷ away_facts s r o)
+  away-fair : (o : Option End) → AllFirstCome s.pool n ys (started_fact s ∷ away_facts s r false o)
   away-fair None = (tt, tt)
   away-fair (Some end) = (tt, (tt, (tt, tt)))
 
-  away-own : (o : Option End) → AllOwn s.pool n ys (started_fact s ∷ away_facts s r o)
+  away-own : (o : Option End) → AllOwn s.pool n ys (started_fact s ∷ away_facts s r false o)
   away-own None = (refl, tt)
   away-own (Some end) = (refl, (rw (same-number r) refl, (refl, tt)))
 
 pub request-accepts : (s s0 s1 t u : PoolCore) (before f0 f1 after : List Fact) (n r : ℕ) (reply : Reply) (xs : List PoolItem) → Fits s xs
-    → request_at s r ≡ None → s0 ≡ asking s r n → f0 ≡ before ++ started_fact s ∷ [] → s1 ≡ away s0 r n (away_end s0.status) → f1 ≡ f0 ++ away_facts s0 r (away_end s0.status) → SameHome s1 t → SameNotes s1 t
+    → request_at s r ≡ None → s0 ≡ asking s r n false → f0 ≡ before ++ started_fact s ∷ [] → s1 ≡ away s0 r n false (away_end s0.status) → f1 ≡ f0 ++ away_facts s0 r false (away_end s0.status) → SameHome s1 t → SameNotes s1 t
     → ((k : List PoolItem) → Fits s1 k → Serves s1 t n f1 after k) → u ≡ telling t r → reply ≡ outcome_now t r
     → Accepts s u before after n (RequestAct r s.address) reply xs (asked r n ∷ xs)
 request-accepts s s0 s1 t u before f0 f1 after n r reply xs z absent s0_is f0_is s1_is f1_is home notes serves u_is reply_is =
     let o : Option End = away_end s.status in
-    let whole : s1 ≡ away (asking s r n) r n o = s1_is ∙ ap (λ k. away k r n (away_end k.status)) s0_is in
-    let told : f1 ≡ before ++ started_fact s ∷ away_facts s r o =
-    f1_is ∙ (ap (λ k. f0 ++ away_facts k r (away_end k.status)) s0_is ∙ (ap (λ f. f ++ away_facts (asking s r n) r o) f0_is ∙ (append_assoc before (started_fact s ∷ []) (away_facts (asking s r n) r o) ∙ ap (λ f. before ++ started_fact s ∷ f) (away-same s xs z n r absent o)))) in
+    let whole : s1 ≡ away (asking s r n false) r n false o = s1_is ∙ ap (λ k. away k r n false (away_end k.status)) s0_is in
+    let told : f1 ≡ before ++ started_fact s ∷ away_facts s r false o =
+    f1_is ∙ (ap (λ k. f0 ++ away_facts k r false (away_end k.status)) s0_is ∙ (ap (λ f. f ++ away_facts (asking s r n false) r false o) f0_is ∙ (append_assoc before (started_fact s ∷ []) (away_facts (asking s r n false) r false o) ∙ ap (λ f. before ++ started_fact s ∷ f) (away-same s xs z n r absent o)))) in
     let at_home : SameHome s s1 = rw whole (away-home s xs z n r absent o) in
     let state : t.status ≡ s.status = notes.status ∙ (ap (λ k. k.status) whole ∙ (away-notes s xs z n r absent o).status) in
-    accepts s s1 t u before f1 after n (RequestAct r s.address) reply (started_fact s ∷ away_facts s r o) xs (asked r n ∷ xs)
+    accepts s s1 t u before f1 after n (RequestAct r s.address) reply (started_fact s ∷ away_facts s r false o) xs (asked r n ∷ xs)
     (ap (λ k. started_fact s ∷ k) (away-are s xs z n r absent s.status z.matches.status))
     told at_home (rw whole (away-fits s xs z n r absent o)) serves
     (λ zs v. rw u_is (telling-fits t r zs v))
@@ -129,7 +129,7 @@ request-accepts s s0 s1 t u before f0 f1 after n r reply xs z absent s0_is f0_is
     (away-fair s xs z n r absent o)
     (away-own s xs z n r absent o)
 
-or-first : (a b c : Bool) → (a || b) || c ≡ a || (b || c)
+pub or-first : (a b c : Bool) → (a || b) || c ≡ a || (b || c)
 or-first true b c = refl
 or-first false b c = refl
 

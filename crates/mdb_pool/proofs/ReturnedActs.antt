@@ -1,9 +1,9 @@
 -- What a return does is the answer to its step.
-use Rattle.std.proofs.Common.{ℕ, ◌≡◌, ◌≤◌, true, not, List, [], ◌∷◌, ◌++◌, Option, Some, None, is_some, refl, sym, ◌∙◌, ap, subst, if◌then◌else◌, Bool, false, ◌||◌, ◌==◌}
+use Rattle.std.proofs.Common.{ℕ, ◌≡◌, ◌≤◌, ◌<◌, true, not, arith, nat_lt, append-nil, List, [], ◌∷◌, ◌++◌, Option, Some, None, is_some, refl, sym, ◌∙◌, ap, subst, if◌then◌else◌, Bool, false, ◌||◌, ◌==◌}
 use Rattle.mdb_events.specs.declared.fact.Fact.{Fact}
 use Rattle.mdb_pool.specs.declared.step.Act.TheVariants.{Return as ReturnAct}
 use Rattle.mdb_pool.specs.declared.step.Use.{Use}
-use Rattle.mdb_pool.specs.declared.step.Use.TheVariants.{Ok, Errored, Dropped, Streaming}
+use Rattle.std.proofs.lemmas.Bool.Decides.{nat_tests}
 use Rattle.mdb_events.specs.declared.reasons.ConnectionClosedReason.{ConnectionClosedReason}
 use Rattle.mdb_pool.specs.declared.reply.Refused.TheVariants.{NotHolder}
 use Rattle.mdb_pool.specs.declared.reply.Reply.{Reply}
@@ -11,22 +11,24 @@ use Rattle.mdb_pool.specs.declared.reply.Reply.TheVariants.{Done, Refused as Ref
 use Rattle.mdb_pool.specs.declared.connection.Connection.{Connection}
 use Rattle.mdb_pool.specs.declared.connection.Place.TheVariants.{Held}
 use Rattle.mdb_pool.specs.declared.request.Request.{Request}
-use Rattle.mdb_pool.specs.declared.request.Phase.TheVariants.{Given}
+use Rattle.mdb_pool.specs.declared.request.Phase.TheVariants.{Given, Over}
 use Rattle.mdb_pool.specs.declared.pool_core.PoolCore.{PoolCore}
 use Rattle.mdb_pool.specs.History.{Item, PoolItem, returned, of_pool, given, is_number, after_facts, closed, checked_in}
 use Rattle.mdb_pool.specs.Refusal.{refusal_of}
-use Rattle.mdb_pool.specs.Facts.{act_facts, close_reason}
+use Rattle.mdb_pool.specs.Facts.{act_facts, check_in}
 use Rattle.mdb_pool.specs.Standing.{Fits, StandsFor, Serves, Accepts, Answers, SameHome, SameNotes}
-use Rattle.mdb_pool.specs.Kept.{connection_at, request_at, held_connection, given_of, given_in, reason_of, is_shut, stale_for, reason_now}
-use Rattle.mdb_pool.specs.Changes.{returning, dropping, back_facts, returning_for}
-use Rattle.mdb_pool.proofs.Acts.{refuses, accepts, own-answers, not-back, holding-is, holds-given, live-fine, live-service}
+use Rattle.mdb_pool.specs.Kept.{connection_at, request_at, held_connection, given_of, given_in, is_shut, reason_now, used_as, is_fault}
+use Rattle.mdb_pool.specs.Changes.{returning, dropping, back_facts, returning_for, to_pin}
+use Rattle.mdb_pool.proofs.Acts.{refuses, accepts, own-answers, not-back, holding-is, holds-given, live-errored, live-service, live-pins}
 use Rattle.mdb_pool.proofs.Tables.{entry_at-key}
 use Rattle.mdb_pool.proofs.Found.{id_or, Holder, holder}
 use Rattle.mdb_pool.proofs.Serving.{same-number}
 use Rattle.mdb_pool.proofs.Stands.{return-fits, drop-fits}
+use Rattle.mdb_pool.proofs.PinStands.{stand-fits}
+use Rattle.mdb_pool.proofs.Pins.{errored-return}
 use Rattle.mdb_pool.specs.Connections.{has, held, is_errored}
 use Rattle.mdb_pool.proofs.Laws.{has-append}
-use Rattle.mdb_pool.proofs.CheckIns.{is_fault, reason-is, no-reason, check-in-is, back-fair, back-own, back-open, back-fits}
+use Rattle.mdb_pool.proofs.CheckIns.{check-in-is, back-fair, back-own, back-open, back-fits}
 use Rattle.mdb_pool.proofs.Staleness.{stale-at}
 
 pub or-swap : (a b : Bool) → a || b ≡ b || a
@@ -35,70 +37,106 @@ or-swap true false = refl
 or-swap false true = refl
 or-swap false false = refl
 
+pub none-above : (k : ℕ) → k ≤ 0 → k ≡ 0
+none-above k l = omega arith
+
+pub some-above : (k : ℕ) → 0 < k → nat_lt 0 k ≡ true
+some-above k l = grind (arith, nat_tests)
+
 -- a party that holds a connection
 module _ (s : PoolCore) (xs : List PoolItem) (z : Fits s xs) (n : ℕ) (x : Connection) (q : Request) (used : Use) where
   abbrev ys : List PoolItem
   ys = returned q.number used ∷ xs
 
+  abbrev used_x : Connection
+  used_x = used_as x used
+
   abbrev why : Option ConnectionClosedReason
-  why = reason_now s x.id x.service used
+  why = reason_now s used_x
 
-  reason-here : connection_at s x.id ≡ Some x → request_at s q.number ≡ Some q → q.phase ≡ Given x.id → close_reason s.options ys x.id ≡ reason_of (stale_for s x.id x.service) used
-  reason-here at_x at_q phase = reason-is s ys x.id used (stale_for s x.id x.service) (on used refl) (stale-at s xs z.matches x.id x at_x) (rw mine refl)
+  mine : request_at s q.number ≡ Some q → q.phase ≡ Given x.id → given xs q.number ≡ Some x.id
+  mine at_q phase = z.matches.given q.number ∙ (ap given_of at_q ∙ ap given_in phase)
+
+  check-in-here : connection_at s x.id ≡ Some x → request_at s q.number ≡ Some q → q.phase ≡ Given x.id → check_in s.pool s.address s.options ys x.id ≡ back_facts s used_x why
+  check-in-here at_x at_q phase = check-in-is s ys used_x z.matches.status (live-service s xs z.matches x.id x at_x) errored_now (stale-at s xs z.matches x.id x at_x) (rw (mine at_q phase, same-number x.id) refl)
     where
-      mine : is_number (given xs q.number) x.id ≡ true
-      mine = ap (λ o. is_number o x.id) (z.matches.given q.number ∙ (ap given_of at_q ∙ ap given_in phase)) ∙ same-number x.id
+      errored_now : is_errored ys x.id ≡ is_fault used || x.errored
+      errored_now = errored-return q.number used xs x.id ∙ rw (mine at_q phase, same-number x.id, live-errored s xs z.matches x.id x at_x) refl
 
-      on : (u : Use) → used ≡ u → is_errored ys x.id ≡ is_fault used
-      on Ok e = rw e (live-fine s xs z.matches x.id x at_x)
-      on Errored e = rw (e, mine) refl
-      on Dropped e = rw e (live-fine s xs z.matches x.id x at_x)
-      on Streaming e = rw e (live-fine s xs z.matches x.id x at_x)
+  back-are : held_connection s q.number ≡ Some x → connection_at s x.id ≡ Some x → request_at s q.number ≡ Some q → q.phase ≡ Given x.id → x.pins ≡ 0 → act_facts s.pool s.address s.options n xs ys (ReturnAct q.number used) ≡ back_facts s used_x why
+  back-are held at_x at_q phase loose = rw (holding-is s xs z q.number, held, live-pins s xs z.matches x.id x at_x, loose) (check-in-here at_x at_q phase)
 
-  back-are : held_connection s q.number ≡ Some x → connection_at s x.id ≡ Some x → request_at s q.number ≡ Some q → q.phase ≡ Given x.id → act_facts s.pool s.address s.options n xs ys (ReturnAct q.number used) ≡ back_facts s x why
-  back-are held at_x at_q phase = rw (holding-is s xs z q.number, held, z.matches.no_pin x.id) (check-in-is s ys x used z.matches.status (live-service s xs z.matches x.id x at_x) (reason-here at_x at_q phase))
+  -- a pin stands
+  stand-are : held_connection s q.number ≡ Some x → connection_at s x.id ≡ Some x → nat_lt 0 x.pins ≡ true → act_facts s.pool s.address s.options n xs ys (ReturnAct q.number used) ≡ []
+  stand-are held at_x some_pins = rw (holding-is s xs z q.number, held, live-pins s xs z.matches x.id x at_x, some_pins) refl
 
-  fits-for : connection_at s x.id ≡ Some x → x.place ≡ Held → request_at s q.number ≡ Some q → q.phase ≡ Given x.id → (o : Option ConnectionClosedReason) → o ≡ why → Fits (returning_for s n x q o) (after_facts s.pool n (back_facts s x o) ys)
-  fits-for at_x place at_q phase None e = back-fits s (returning s n x q) n x None ys (λ f. return-fits s xs z n x q used at_x place at_q phase (no-reason s x.id x used (sym e)).0) (λ w f. drops w f)
+  fits-for : connection_at s x.id ≡ Some x → x.place ≡ Held → request_at s q.number ≡ Some q → q.phase ≡ Given x.id → x.pins ≡ 0 → (o : Option ConnectionClosedReason) → Fits (returning_for s n used_x q o) (after_facts s.pool n (back_facts s used_x o) ys)
+  fits-for at_x place at_q phase loose None = back-fits s (returning s n used_x q) n used_x None ys (λ f. return-fits s xs z n x q used at_x place at_q phase loose) (λ w f. drops w f)
     where
-      drops : (w : ConnectionClosedReason) → ◌≡◌ {A = Option ConnectionClosedReason} None (Some w) → Fits (returning s n x q) (closed x.id ∷ checked_in x.id n ∷ ys)
+      drops : (w : ConnectionClosedReason) → ◌≡◌ {A = Option ConnectionClosedReason} None (Some w) → Fits (returning s n used_x q) (closed x.id ∷ checked_in x.id n ∷ ys)
       drops w f = cc
-  fits-for at_x place at_q phase (Some w) e = back-fits s (dropping s n x q) n x (Some w) ys (λ f. keeps f) (λ v f. drop-fits s xs z n x q used at_x place at_q phase)
+  fits-for at_x place at_q phase loose (Some w) = back-fits s (dropping s n used_x q) n used_x (Some w) ys (λ f. keeps f) (λ v f. drop-fits s xs z n x q used at_x place at_q phase loose)
     where
-      keeps : ◌≡◌ {A = Option ConnectionClosedReason} (Some w) None → Fits (dropping s n x q) (checked_in x.id n ∷ ys)
+      keeps : ◌≡◌ {A = Option ConnectionClosedReason} (Some w) None → Fits (dropping s n used_x q) (checked_in x.id n ∷ ys)
       keeps f = cc
 
-  home-for : (o : Option ConnectionClosedReason) → SameHome s (returning_for s n x q o)
+  home-for : (o : Option ConnectionClosedReason) → SameHome s (returning_for s n used_x q o)
   home-for None = record { pool = refl; address = refl; options = refl }
   home-for (Some w) = record { pool = refl; address = refl; options = refl }
 
-  notes-for : (o : Option ConnectionClosedReason) → ((returning_for s n x q o).settled ≡ s.settled ++ q.number ∷ []) × ((returning_for s n x q o).claimed ≡ s.claimed) × ((returning_for s n x q o).status ≡ s.status)
+  notes-for : (o : Option ConnectionClosedReason) → ((returning_for s n used_x q o).settled ≡ s.settled ++ q.number ∷ []) × ((returning_for s n used_x q o).claimed ≡ s.claimed) × ((returning_for s n used_x q o).status ≡ s.status)
   notes-for None = (refl, refl, refl)
   notes-for (Some w) = (refl, refl, refl)
 
-  pub return-accepts : (s1 t : PoolCore) (before f1 after : List Fact) → held_connection s q.number ≡ Some x → connection_at s x.id ≡ Some x → x.place ≡ Held → request_at s q.number ≡ Some q → q.phase ≡ Given x.id → s1 ≡ returning_for s n x q why → f1 ≡ before ++ back_facts s x why → SameHome s1 t → SameNotes s1 t
+  pub return-accepts : (s1 t : PoolCore) (before f1 after : List Fact) → held_connection s q.number ≡ Some x → connection_at s x.id ≡ Some x → x.place ≡ Held → request_at s q.number ≡ Some q → q.phase ≡ Given x.id → x.pins ≡ 0 → s1 ≡ returning_for s n used_x q why → f1 ≡ before ++ back_facts s used_x why → SameHome s1 t → SameNotes s1 t
       → ((k : List PoolItem) → Fits s1 k → Serves s1 t n f1 after k)
       → Accepts s t before after n (ReturnAct q.number used) Done xs ys
-  return-accepts s1 t before f1 after held at_x place at_q phase s1_is f1_is home notes serves =
-      accepts s s1 t t before f1 after n (ReturnAct q.number used) Done (back_facts s x why) xs ys
-      (back-are held at_x at_q phase)
-      f1_is (rw s1_is (home-for why)) (rw s1_is (fits-for at_x place at_q phase why refl)) serves
+  return-accepts s1 t before f1 after held at_x place at_q phase loose s1_is f1_is home notes serves =
+      accepts s s1 t t before f1 after n (ReturnAct q.number used) Done (back_facts s used_x why) xs ys
+      (back-are held at_x at_q phase loose)
+      f1_is (rw s1_is (home-for why)) (rw s1_is (fits-for at_x place at_q phase loose why)) serves
       (λ zs v. v)
       (λ claims own zs m. refl)
       tt
-      (ap is_shut (notes.status ∙ (ap (λ k. k.status) s1_is ∙ (notes-for why).2)) ∙ ap (λ b. b || is_shut s.status) (sym (back-open s x why)))
+      (ap is_shut (notes.status ∙ (ap (λ k. k.status) s1_is ∙ (notes-for why).2)) ∙ ap (λ b. b || is_shut s.status) (sym (back-open s used_x why)))
       (λ r. ap (has r) (notes.settled ∙ (ap (λ k. k.settled) s1_is ∙ (notes-for why).0)) ∙ (has-append r q.number s.settled ∙ or-swap (has r s.settled) (q.number == r)))
       (λ c. ap (has c) (notes.claimed ∙ (ap (λ k. k.claimed) s1_is ∙ (notes-for why).1)))
-      (back-fair s n x why ys)
-      (back-own s n x why ys)
+      (back-fair s n used_x why ys)
+      (back-own s n used_x why ys)
 
-pub return-of : (s s1 t : PoolCore) (before f1 after : List Fact) (n r : ℕ) (x : Connection) (q : Request) (used : Use) (o : Option ConnectionClosedReason) (xs : List PoolItem) → Fits s xs → held_connection s r ≡ Some x → request_at s r ≡ Some q → o ≡ reason_now s x.id x.service used → s1 ≡ returning_for s n x q o
-    → f1 ≡ before ++ back_facts s x o → SameHome s1 t → SameNotes s1 t → ((k : List PoolItem) → Fits s1 k → Serves s1 t n f1 after k)
+  pub stand-accepts : (s1 t : PoolCore) (before after : List Fact) → held_connection s q.number ≡ Some x → connection_at s x.id ≡ Some x → x.place ≡ Held → request_at s q.number ≡ Some q → q.phase ≡ Given x.id → nat_lt 0 x.pins ≡ true → s1 ≡ to_pin s n used_x q Over → SameHome s1 t → SameNotes s1 t
+      → ((k : List PoolItem) → Fits s1 k → Serves s1 t n before after k)
+      → Accepts s t before after n (ReturnAct q.number used) Done xs ys
+  stand-accepts s1 t before after held at_x place at_q phase some_pins s1_is home notes serves =
+      accepts s s1 t t before before after n (ReturnAct q.number used) Done [] xs ys
+      (stand-are held at_x some_pins)
+      (sym (append-nil before)) (rw s1_is (record { pool = refl; address = refl; options = refl })) (rw s1_is (stand-fits s xs z n x q at_x place at_q phase some_pins used)) serves
+      (λ zs v. v)
+      (λ claims own zs m. refl)
+      tt
+      (ap is_shut (notes.status ∙ ap (λ k. k.status) s1_is))
+      (λ r. ap (has r) (notes.settled ∙ ap (λ k. k.settled) s1_is) ∙ (has-append r q.number s.settled ∙ or-swap (has r s.settled) (q.number == r)))
+      (λ c. ap (has c) (notes.claimed ∙ ap (λ k. k.claimed) s1_is))
+      tt
+      tt
+
+pub return-of : (s s1 t : PoolCore) (before f1 after : List Fact) (n r : ℕ) (x y : Connection) (q : Request) (used : Use) (o : Option ConnectionClosedReason) (xs : List PoolItem) → Fits s xs → held_connection s r ≡ Some x → request_at s r ≡ Some q → y ≡ used_as x used → y.pins ≤ 0 → o ≡ reason_now s y → s1 ≡ returning_for s n y q o
+    → f1 ≡ before ++ back_facts s y o → SameHome s1 t → SameNotes s1 t → ((k : List PoolItem) → Fits s1 k → Serves s1 t n f1 after k)
     → Accepts s t before after n (ReturnAct r used) Done xs (returned r used ∷ xs)
-return-of s s1 t before f1 after n r x q used o xs z held at_r why s1_is f1_is home notes serves =
+return-of s s1 t before f1 after n r x y q used o xs z held at_r y_is no_pins why s1_is f1_is home notes serves =
     let e : q.number ≡ r = entry_at-key (λ (k : Request). k.number) r q s.requests at_r in
     let v : Holder s r x q = holder s r x q held at_r in
-    subst (λ d. Accepts s t before after n (ReturnAct d used) Done xs (returned d used ∷ xs)) e (return-accepts s xs z n x q used s1 t before f1 after (subst (λ d. held_connection s d ≡ Some x) (sym e) held) v.at_x v.place (subst (λ d. request_at s d ≡ Some q) (sym e) at_r) v.phase (s1_is ∙ ap (returning_for s n x q) why) (f1_is ∙ ap (λ k. before ++ back_facts s x k) why) home notes serves)
+    let loose : x.pins ≡ 0 = ap (λ k. k.pins) (sym y_is) ∙ none-above y.pins no_pins in
+    let w : o ≡ reason_now s (used_as x used) = why ∙ ap (reason_now s) y_is in
+    subst (λ d. Accepts s t before after n (ReturnAct d used) Done xs (returned d used ∷ xs)) e (return-accepts s xs z n x q used s1 t before f1 after (subst (λ d. held_connection s d ≡ Some x) (sym e) held) v.at_x v.place (subst (λ d. request_at s d ≡ Some q) (sym e) at_r) v.phase loose (s1_is ∙ rw (w, y_is) refl) (f1_is ∙ rw (w, y_is) refl) home notes serves)
+
+pub stand-of : (s s1 t : PoolCore) (before after : List Fact) (n r : ℕ) (x y : Connection) (q : Request) (used : Use) (xs : List PoolItem) → Fits s xs → held_connection s r ≡ Some x → request_at s r ≡ Some q → y ≡ used_as x used → 0 < y.pins → s1 ≡ to_pin s n y q Over
+    → SameHome s1 t → SameNotes s1 t → ((k : List PoolItem) → Fits s1 k → Serves s1 t n before after k)
+    → Accepts s t before after n (ReturnAct r used) Done xs (returned r used ∷ xs)
+stand-of s s1 t before after n r x y q used xs z held at_r y_is some_pins s1_is home notes serves =
+    let e : q.number ≡ r = entry_at-key (λ (k : Request). k.number) r q s.requests at_r in
+    let v : Holder s r x q = holder s r x q held at_r in
+    subst (λ d. Accepts s t before after n (ReturnAct d used) Done xs (returned d used ∷ xs)) e (stand-accepts s xs z n x q used s1 t before after (subst (λ d. held_connection s d ≡ Some x) (sym e) held) v.at_x v.place (subst (λ d. request_at s d ≡ Some q) (sym e) at_r) v.phase (ap (λ k. nat_lt 0 k.pins) (sym y_is) ∙ some-above y.pins some_pins) (s1_is ∙ rw y_is refl) home notes serves)
 
 -- how a return is refused
 return-refusal : (s : PoolCore) (h : List Item) → StandsFor s h → (n r : ℕ) (used : Use) → s.last ≤ n → refusal_of s.pool s.options h (record { moment = n; act = ReturnAct r used }) ≡ if is_some (held_connection s r) then None else Some NotHolder

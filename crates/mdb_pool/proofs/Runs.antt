@@ -6,11 +6,13 @@ use Rattle.mdb_pool.specs.declared.step.Step.{Step}
 use Rattle.mdb_pool.specs.declared.log.Entry.{Entry}
 use Rattle.mdb_pool.specs.declared.pool_core.PoolCore.{PoolCore}
 use Rattle.mdb_pool.specs.History.{Item, of_pool, with_answer, with_entries}
-use Rattle.mdb_pool.specs.Answer.{answer}
+use Rattle.mdb_pool.specs.Answer.{answer, with_act}
 use Rattle.mdb_pool.specs.Legal.{OnePlace, NoneLeftWaiting, IsFairAnswer, IsLegal}
 use Rattle.mdb_pool.specs.Standing.{StandsFor, SameHome, Logs, Runs}
 use Rattle.mdb_pool.specs.Limits.{WithinLimits}
+use Rattle.mdb_pool.specs.Fresh.{AllGrantFresh, EntriesGrantFresh}
 use Rattle.mdb_pool.proofs.Limits.{answer-within}
+use Rattle.mdb_pool.proofs.Fresh.{answer-fresh}
 use Rattle.mdb_pool.proofs.Places.{one-place}
 
 pub with_entries-append : (es : List Entry) (e : Entry) (h : List Item) → with_entries (es ++ e ∷ []) h ≡ with_answer e.step e.reply e.facts (with_entries es h)
@@ -26,6 +28,11 @@ legal-append : (p : ℕ) (o : PoolOptions) (es : List Entry) (e : Entry) (h : Li
 legal-append p o [] e h l fair place none_left = (fair, place, none_left, tt)
 legal-append p o (d ∷ es) e h l fair place none_left = (l.0, l.1, l.2, legal-append p o es e (with_answer d.step d.reply d.facts h) l.3 fair place none_left)
 
+-- one more entry that grants fresh connections
+fresh-append : (p : ℕ) (o : PoolOptions) (es : List Entry) (e : Entry) (h : List Item) → EntriesGrantFresh p o h es → AllGrantFresh p o e.step.moment (with_act p (with_entries es h) e.step) e.facts → EntriesGrantFresh p o h (es ++ e ∷ [])
+fresh-append p o [] e h l more = (more, tt)
+fresh-append p o (d ∷ es) e h l more = (l.0, fresh-append p o es e (with_answer d.step d.reply d.facts h) l.1 more)
+
 map-append : (es : List Entry) (e : Entry) → map (λ d. d.step) (es ++ e ∷ []) ≡ map (λ d. d.step) es ++ e.step ∷ []
 map-append [] e = refl
 map-append (d ∷ es) e = ap (λ ss. d.step ∷ ss) (map-append es e)
@@ -37,6 +44,7 @@ run-starts s log seat h z i = record {
   by_seat = All-nil (λ (d : Entry). d.seat ≡ seat);
   in_order = refl;
   legal = tt;
+  fresh = tt;
   stands = z;
   none_left = i;
   within = λ w. w;
@@ -65,6 +73,8 @@ run-more s t u before middle after steps seat step h home next r logs =
           (subst (λ p. IsFairAnswer p k e.step e.reply e.facts) home.pool v.fair)
           (subst (λ p. OnePlace (of_pool p (with_answer e.step e.reply e.facts k))) (next.pool ∙ home.pool) place)
           (subst (λ p. NoneLeftWaiting s.options (of_pool p (with_answer e.step e.reply e.facts k))) home.pool (subst (λ o. NoneLeftWaiting o (of_pool t.pool (with_answer e.step e.reply e.facts k))) home.options none_left_t));
+      fresh = fresh-append s.pool s.options r.entries e h r.fresh
+          (subst (λ p. AllGrantFresh p s.options step.moment (with_act p k step) e.facts) home.pool (subst (λ o. AllGrantFresh t.pool o step.moment (with_act t.pool k step) e.facts) home.options (answer-fresh t k step r.stands)));
       stands = subst (StandsFor u) (sym same) v.stands;
       none_left = subst (λ j. NoneLeftWaiting u.options (of_pool u.pool j)) (sym same) (subst (λ p. NoneLeftWaiting u.options (of_pool p (with_answer e.step e.reply e.facts k))) (sym next.pool) (subst (λ o. NoneLeftWaiting o (of_pool t.pool (with_answer e.step e.reply e.facts k))) (sym next.options) none_left_t));
       within = λ w. subst (λ j. WithinLimits s.options (of_pool s.pool j)) (sym same) (within-home s t k (with_answer e.step e.reply e.facts k) home (answer-within t.pool t.address t.options k step) (r.within w));

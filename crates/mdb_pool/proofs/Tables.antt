@@ -158,6 +158,17 @@ module _ {T : Type 0} (key : T → ℕ) where
   pub others-put : (x : T) (xs : List T) → others key (key x) (put key x xs) ≡ others key (key x) xs
   others-put x xs = grind (arith, common_steps, filter-append (λ y. not (key y == key x)) (others key (key x) xs) x, others-twice (key x) xs)
 
+  -- nor does it matter that another took its place before
+  pub others-swap : (x : T) (xs : List T) → others key (key x) (swap key x xs) ≡ others key (key x) xs
+  others-swap x [] = refl
+  others-swap x (y ∷ ys) = grind (arith, common_steps, others-swap x ys)
+
+  -- a member that passes the test is in that part
+  pub member-has : (p : T → Bool) (x : T) (xs : List T) → In x xs → p x ≡ true → has (key x) (map key (filter p xs)) ≡ true
+  member-has p x [] i e = elim i [ ]
+  member-has p x (y ∷ ys) here e = grind (arith, common_steps)
+  member-has p x (y ∷ ys) (there i) e = let f : has (key x) (map key (filter p ys)) ≡ true = member-has p x ys i e in grind (arith, common_steps)
+
   -- where the old value passes the test as the new one does
   pub where-swap_same : (p : T → Bool) (x old : T) (xs : List T) → entry_at key (key x) xs ≡ Some old → named (key x) xs ≤ 1 → p old ≡ p x → map key (filter p (swap key x xs)) ≡ map key (filter p xs)
   where-swap_same p x old xs at_old single e = where-swap p x xs (λ y i f.

@@ -1,5 +1,5 @@
 -- The single changes of the state of a pool, and the facts that they make.
-use Rattle.std.specs.Prelude.{ℕ, ◌||◌, ◌+◌, ◌-◌, List, [], ◌∷◌, ◌++◌, Option, Some, None, if◌then◌else◌, map, filter}
+use Rattle.std.specs.Prelude.{ℕ, Bool, ◌||◌, ◌+◌, ◌-◌, List, [], ◌∷◌, ◌++◌, Option, Some, None, if◌then◌else◌, map, filter, true, false}
 use Rattle.mdb_events.specs.declared.fact.Fact.{Fact}
 use Rattle.mdb_events.specs.declared.fact.Fact.TheVariants.{Pool, Granted, Ended}
 use Rattle.mdb_base.specs.declared.error.Error.{Error}
@@ -9,22 +9,23 @@ use Rattle.mdb_pool.specs.declared.status.Status.TheVariants.{New, Ready, Paused
 use Rattle.mdb_pool.specs.Facts.{new_pool_error}
 use Rattle.mdb_events.specs.declared.cmap.CmapEvent.TheVariants.{PoolReady, PoolCleared, PoolClosed, ConnectionCreated, ConnectionReady, ConnectionClosed, ConnectionCheckoutStarted, ConnectionCheckoutFailed, ConnectionCheckedOut, ConnectionCheckedIn}
 use Rattle.mdb_events.specs.declared.reasons.ConnectionClosedReason.{ConnectionClosedReason}
-use Rattle.mdb_events.specs.declared.reasons.ConnectionClosedReason.TheVariants.{Stale, PoolClosed as PoolClosedReason}
+use Rattle.mdb_events.specs.declared.reasons.ConnectionClosedReason.TheVariants.{PoolClosed as PoolClosedReason}
 use Rattle.mdb_events.specs.declared.reasons.ConnectionCheckoutFailedReason.TheVariants.{ConnectionError}
 use Rattle.mdb_events.specs.declared.end.End.{End}
-use Rattle.mdb_events.specs.declared.end.End.TheVariants.{GaveUp, Cleared, Closed as ClosedEnd}
+use Rattle.mdb_events.specs.declared.end.End.TheVariants.{GaveUp, Cleared, Closed as ClosedEnd, Warmed, Filled}
 use Rattle.mdb_base.specs.declared.object_id.ObjectId.{ObjectId}
 use Rattle.mdb_pool.specs.declared.request.Phase.{Phase}
 use Rattle.mdb_pool.specs.declared.connection.Connection.{Connection}
-use Rattle.mdb_pool.specs.declared.connection.Place.TheVariants.{Pending, Available, Held}
+use Rattle.mdb_pool.specs.declared.connection.Place.TheVariants.{Pending, Available, Held, Pinned}
 use Rattle.mdb_pool.specs.declared.request.Request.{Request}
 use Rattle.mdb_pool.specs.declared.request.Phase.TheVariants.{Queued, Given, Over, Ended as EndedPhase}
 use Rattle.mdb_pool.specs.declared.pool_core.PoolCore.{PoolCore}
 use Rattle.mdb_pool.specs.Keyed.{put, others, swap}
-use Rattle.mdb_pool.specs.Kept.{first_unclaimed, outcome_now, stale_for, is_shut, is_ready_now, unserved_in}
-use Rattle.mdb_pool.specs.Places.{is_pending, is_available, is_held}
+use Rattle.mdb_pool.specs.Kept.{first_unclaimed, outcome_now, perished_now, wants_now, is_shut, is_ready_now, unserved_in, timeouts_in}
+use Rattle.mdb_pool.specs.Places.{is_pending, is_available, stays}
 use Rattle.mdb_pool.specs.Requests.{is_outcome}
 use Rattle.mdb_pool.specs.declared.step.Established.{Established}
+use Rattle.mdb_pool.specs.declared.step.Use.TheVariants.{Ok}
 
 -- the facts that the moves make
 abbrev pub started_fact : PoolCore → Fact
@@ -53,49 +54,67 @@ abbrev pub back_facts : PoolCore → Connection → Option ConnectionClosedReaso
 back_facts s x None = in_fact s x.id ∷ []
 back_facts s x (Some why) = if is_shut s.status then (shut_fact s x why ∷ []) else (in_fact s x.id ∷ shut_fact s x why ∷ [])
 
+-- the end of a request; the checkout of a caller fails right after it
+abbrev pub over_facts : PoolCore → ℕ → Bool → ℕ → End → List Fact
+over_facts s r warm waited end = if warm then (Ended r end ∷ []) else (Ended r end ∷ off_fact s waited ∷ [])
+
 -- how a request ends at once, and what that makes
 abbrev pub away_end : Status → Option End
 away_end New = Some (Cleared new_pool_error)
 away_end (Paused error) = Some (Cleared error)
 away_end _ = None
 
-abbrev pub away_facts : PoolCore → ℕ → Option End → List Fact
-away_facts s r None = []
-away_facts s r (Some end) = Ended r end ∷ off_fact s 0 ∷ []
+abbrev pub away_facts : PoolCore → ℕ → Bool → Option End → List Fact
+away_facts s r warm None = []
+away_facts s r warm (Some end) = over_facts s r warm 0 end
 
 -- the facts of a clear
 abbrev pub pool_cleared_fact : PoolCore → Option ObjectId → Error → Fact
 pool_cleared_fact s service error = Pool s.pool (PoolCleared (record { address = s.address; service_id = service; interrupt_in_use_connections = is_timeout error.kind }))
 
 -- a connection that comes back is available, or is closed where there is a reason
-abbrev pub placed : Connection → Option ConnectionClosedReason → List Connection → List Connection
-placed x None xs = put (λ y. y.id) (record x { place = Available; holder = None }) xs
-placed x (Some why) xs = others (λ y. y.id) x.id xs
+abbrev pub placed : ℕ → Connection → Option ConnectionClosedReason → List Connection → List Connection
+placed m x None xs = put (λ y. y.id) (record x { place = Available; holder = None; since = m }) xs
+placed m x (Some why) xs = others (λ y. y.id) x.id xs
 
 -- the moves of the state
-abbrev pub asking : PoolCore → ℕ → ℕ → PoolCore
-asking s r m = record s {
+abbrev pub asking : PoolCore → ℕ → ℕ → Bool → PoolCore
+asking s r m warm = record s {
   last = m;
-  requests = put (λ q. q.number) (record { number = r; asked_at = m; phase = Queued }) s.requests;
+  requests = put (λ q. q.number) (record { number = r; asked_at = m; warm = warm; took = false; phase = Queued }) s.requests;
 }
 
 abbrev pub ending : PoolCore → Request → End → PoolCore
 ending s q end = record s { requests = swap (λ q. q.number) (record q { phase = EndedPhase end }) s.requests }
 
-abbrev pub away : PoolCore → ℕ → ℕ → Option End → PoolCore
-away s r m None = s
-away s r m (Some end) = ending s (record { number = r; asked_at = m; phase = Queued }) end
+abbrev pub away : PoolCore → ℕ → ℕ → Bool → Option End → PoolCore
+away s r m warm None = s
+away s r m warm (Some end) = ending s (record { number = r; asked_at = m; warm = warm; took = false; phase = Queued }) end
 
 abbrev pub creating : PoolCore → ℕ → Request → PoolCore
 creating s m q = record s {
   created = s.created + 1;
-  connections = put (λ x. x.id) (record { id = s.created + 1; created_at = m; place = Pending; party = q.number; holder = Some q.number; service = None; wire = None }) s.connections;
+  connections = put (λ x. x.id) (record { id = s.created + 1; created_at = m; place = Pending; party = Some q.number; holder = Some q.number; service = None; wire = None; since = m; pins = 0; used = Ok; errored = false; timeouts = timeouts_in s.clears }) s.connections;
   requests = swap (λ q. q.number) (record q { phase = Given (s.created + 1) }) s.requests;
 }
 
+-- a connection is created in the background
+abbrev pub spawning : PoolCore → ℕ → PoolCore
+spawning s m = record s {
+  created = s.created + 1;
+  connections = put (λ x. x.id) (record { id = s.created + 1; created_at = m; place = Pending; party = None; holder = None; service = None; wire = None; since = m; pins = 0; used = Ok; errored = false; timeouts = 0 }) s.connections;
+}
+
+-- a warm request gets a new connection, or ends as none is wanted
+abbrev pub warming : PoolCore → ℕ → Request → PoolCore
+warming s m q = if wants_now s then creating s m q else ending s q Warmed
+
+abbrev pub warming_facts : PoolCore → Request → List Fact
+warming_facts s q = if wants_now s then (new_fact s (s.created + 1) ∷ Granted q.number s.pool (s.created + 1) ∷ []) else (Ended q.number Warmed ∷ [])
+
 abbrev pub granting : PoolCore → Connection → Request → PoolCore
 granting s x q = record s {
-  connections = put (λ x. x.id) (record x { place = Held; party = q.number; holder = Some q.number }) s.connections;
+  connections = put (λ x. x.id) (record x { place = Held; party = Some q.number; holder = Some q.number; timeouts = timeouts_in s.clears }) s.connections;
   requests = swap (λ q. q.number) (record q { phase = Given x.id }) s.requests;
 }
 
@@ -112,18 +131,30 @@ establishing s m x how = record s {
 abbrev pub pooling : PoolCore → ℕ → Connection → Established → PoolCore
 pooling s m x how = record s {
   last = m;
-  connections = put (λ x. x.id) (record x { place = Available; holder = None; service = how.service_id; wire = Some how.wire }) s.connections;
+  connections = put (λ x. x.id) (record x { place = Available; holder = None; service = how.service_id; wire = Some how.wire; since = m }) s.connections;
 }
 
--- a caller meets an available connection: a stale one is closed, and else it is granted
-abbrev pub meeting : PoolCore → Connection → Request → PoolCore
-meeting s x q = if stale_for s x.id x.service then discarding s x else granting s x q
+-- a caller meets an available connection: it is closed where it has perished, and else granted
+abbrev pub met : PoolCore → Connection → Request → Option ConnectionClosedReason → PoolCore
+met s x q (Some why) = discarding s x
+met s x q None = granting s x q
+
+abbrev pub meeting : PoolCore → ℕ → Connection → Request → PoolCore
+meeting s m x q = met s x q (perished_now s m x)
+
+abbrev pub met_facts : PoolCore → ℕ → Connection → Request → Option ConnectionClosedReason → List Fact
+met_facts s m x q (Some why) = shut_fact s x why ∷ []
+met_facts s m x q None = Granted q.number s.pool x.id ∷ out_fact s x.id (m - q.asked_at) ∷ []
 
 abbrev pub meeting_facts : PoolCore → ℕ → Connection → Request → List Fact
-meeting_facts s m x q =
-    if stale_for s x.id x.service
-    then (shut_fact s x Stale ∷ [])
-    else (Granted q.number s.pool x.id ∷ out_fact s x.id (m - q.asked_at) ∷ [])
+meeting_facts s m x q = met_facts s m x q (perished_now s m x)
+
+-- a request whose connection is pending ends
+abbrev pub parting : PoolCore → Connection → Request → End → PoolCore
+parting s x q end = record s {
+  connections = swap (λ x. x.id) (record x { holder = None }) s.connections;
+  requests = swap (λ q. q.number) (record q { phase = EndedPhase end }) s.requests;
+}
 
 -- the request is over, and no longer open
 abbrev pub finishing : PoolCore → ℕ → Request → Phase → PoolCore
@@ -134,7 +165,7 @@ finishing s m q phase = record s {
 }
 
 abbrev pub returning : PoolCore → ℕ → Connection → Request → PoolCore
-returning s m x q = record (finishing s m q Over) { connections = put (λ x. x.id) (record x { place = Available; holder = None }) s.connections }
+returning s m x q = record (finishing s m q Over) { connections = put (λ x. x.id) (record x { place = Available; holder = None; since = m }) s.connections }
 
 abbrev pub dropping : PoolCore → ℕ → Connection → Request → PoolCore
 dropping s m x q = record (finishing s m q Over) { connections = others (λ x. x.id) x.id s.connections }
@@ -151,14 +182,18 @@ abbrev pub pooling_for : PoolCore → ℕ → Connection → Established → Opt
 pooling_for s m x how None = pooling s m x how
 pooling_for s m x how (Some why) = forgetting s m x
 
+-- the connection of a warm request is established, and goes into the pool
+abbrev pub filling_for : PoolCore → ℕ → Connection → Established → Request → Option ConnectionClosedReason → PoolCore
+filling_for s m x how q o = ending (pooling_for s m x how o) q Filled
+
 abbrev pub quitting : PoolCore → ℕ → Request → PoolCore
 quitting s m q = finishing s m q (EndedPhase GaveUp)
 
 abbrev pub leaving : PoolCore → ℕ → Connection → Request → PoolCore
-leaving s m x q = record (finishing s m q (EndedPhase GaveUp)) { connections = swap (λ x. x.id) (record x { holder = None }) s.connections }
+leaving s m x q = record (finishing s m q (EndedPhase GaveUp)) { connections = swap (λ x. x.id) (record x { holder = None; used = Ok }) s.connections }
 
 abbrev pub handing : PoolCore → ℕ → Connection → Request → PoolCore
-handing s m x q = record (finishing s m q (EndedPhase GaveUp)) { connections = put (λ x. x.id) (record x { place = Available; holder = None }) s.connections }
+handing s m x q = record (finishing s m q (EndedPhase GaveUp)) { connections = put (λ x. x.id) (record x { place = Available; holder = None; since = m }) s.connections }
 
 abbrev pub losing : PoolCore → ℕ → Connection → Request → PoolCore
 losing s m x q = record (finishing s m q (EndedPhase GaveUp)) { connections = others (λ x. x.id) x.id s.connections }
@@ -166,6 +201,33 @@ losing s m x q = record (finishing s m q (EndedPhase GaveUp)) { connections = ot
 abbrev pub handing_for : PoolCore → ℕ → Connection → Request → Option ConnectionClosedReason → PoolCore
 handing_for s m x q None = handing s m x q
 handing_for s m x q (Some why) = losing s m x q
+
+-- a held connection goes to its pin, and the request of its party is over
+abbrev pub to_pin : PoolCore → ℕ → Connection → Request → Phase → PoolCore
+to_pin s m x q phase = record (finishing s m q phase) { connections = swap (λ y. y.id) (record x { place = Pinned; holder = None }) s.connections }
+
+-- a connection has one pin more
+abbrev pub pinning : PoolCore → ℕ → Connection → PoolCore
+pinning s m x = record s { last = m; connections = swap (λ y. y.id) (record x { pins = x.pins + 1 }) s.connections }
+
+-- a new party takes a connection from its pin
+abbrev pub taking : PoolCore → ℕ → ℕ → Connection → PoolCore
+taking s m r x = record s {
+  last = m;
+  connections = swap (λ y. y.id) (record x { place = Held; holder = Some r; timeouts = timeouts_in s.clears }) s.connections;
+  requests = put (λ q. q.number) (record { number = r; asked_at = 0; warm = false; took = true; phase = Given x.id }) s.requests;
+}
+
+-- a connection with one pin less
+abbrev pub unpinned_once : PoolCore → Connection → Connection
+unpinned_once s x = record x { pins = x.pins - 1; timeouts = timeouts_in s.clears }
+
+abbrev pub unpinning : PoolCore → ℕ → Connection → PoolCore
+unpinning s m x = record s { last = m; connections = swap (λ y. y.id) (unpinned_once s x) s.connections }
+
+-- a connection at its pin loses the last one, and is available or closed
+abbrev pub pin_ending : PoolCore → ℕ → Connection → Option ConnectionClosedReason → PoolCore
+pin_ending s m x o = record s { last = m; connections = placed m (unpinned_once s x) o s.connections }
 
 -- a pending connection failed, and its request ends
 abbrev pub failing : PoolCore → ℕ → Connection → Request → End → PoolCore
@@ -203,10 +265,10 @@ abbrev pub raising : PoolCore → ℕ → Option ObjectId → Error → PoolCore
 raising s m service error = record s {
   last = m;
   status = cleared_status s service error;
-  clears = s.clears ++ record { service = service; after = s.created } ∷ [];
+  clears = s.clears ++ record { service = service; after = s.created; timeout = is_timeout error.kind } ∷ [];
 }
 
--- a pool is closed: connections stay where somebody holds them, and requests end that nothing was handed to
+-- a pool is closed: connections stay where somebody holds them or they are at their pins, and requests end that nothing was handed to
 abbrev pub ended_request : PoolCore → Request → Request
 ended_request s q = if unserved_in s q.phase then record q { phase = EndedPhase ClosedEnd } else q
 
@@ -214,7 +276,7 @@ abbrev pub closing : PoolCore → ℕ → PoolCore
 closing s m = record s {
   last = m;
   status = Closed;
-  connections = filter (λ x. is_held x.place) s.connections;
+  connections = filter (λ x. stays x.place) s.connections;
   requests = map (ended_request s) s.requests;
 }
 
@@ -223,7 +285,7 @@ shut_facts s xs = map (λ x. shut_fact s x PoolClosedReason) xs
 
 abbrev pub off_facts : PoolCore → ℕ → List Request → List Fact
 off_facts s m [] = []
-off_facts s m (q ∷ qs) = Ended q.number ClosedEnd ∷ off_fact s (m - q.asked_at) ∷ off_facts s m qs
+off_facts s m (q ∷ qs) = over_facts s q.number q.warm (m - q.asked_at) ClosedEnd ++ off_facts s m qs
 
 abbrev pub pool_closed_fact : PoolCore → Fact
 pool_closed_fact s = Pool s.pool (PoolClosed (record { address = s.address }))

@@ -1,10 +1,11 @@
 -- What a pool's items, newest first, say of its connections.
 use Rattle.std.specs.Prelude.{ℕ, ◌+◌, ◌-◌, Bool, true, false, not, ◌&&◌, ◌||◌, if◌then◌else◌, ◌==◌, nat_lt, is_some, List, [], ◌∷◌, ◌++◌, length, Option, Some, None, ℤ}
 use Rattle.std.specs.List.{list_any}
+use Rattle.mdb_base.specs.Errors.{is_timeout}
 use Rattle.mdb_base.specs.declared.object_id.ObjectId.{ObjectId}
 use Rattle.mdb_pool.specs.declared.step.Use.{Use}
 use Rattle.mdb_pool.specs.declared.step.Use.TheVariants.{Ok, Errored, Dropped, Streaming}
-use Rattle.mdb_pool.specs.History.{PoolItem, gave_up, returned, pinned_by, established, failed, replicated, taken, unpinned, created, closed, checked_in, granted, ended, is_number, without, given}
+use Rattle.mdb_pool.specs.History.{PoolItem, gave_up, returned, pinned_by, established, failed, replicated, taken, unpinned, created, closed, checked_in, granted, ended, raised, is_number, without, given}
 
 -- 1 where the test holds
 abbrev pub one_if : Bool → ℕ
@@ -141,6 +142,15 @@ abbrev pub wire_of : List PoolItem → ℕ → Option ℤ
 wire_of [] c = None
 wire_of (established d how m ∷ xs) c = if d == c then Some how.wire else wire_of xs c
 wire_of (_ ∷ xs) c = wire_of xs c
+
+-- how many clears by a network timeout came after the last of its grant, take and unpin
+abbrev pub timeouts_since : List PoolItem → ℕ → ℕ
+timeouts_since [] c = 0
+timeouts_since (granted r d ∷ xs) c = if d == c then 0 else timeouts_since xs c
+timeouts_since (taken r d ∷ xs) c = if d == c then 0 else timeouts_since xs c
+timeouts_since (unpinned d ∷ xs) c = if d == c then 0 else timeouts_since xs c
+timeouts_since (raised service error ∷ xs) c = timeouts_since xs c + one_if (is_timeout error.kind)
+timeouts_since (_ ∷ xs) c = timeouts_since xs c
 
 -- how the connection was used last: what its last return says, and Ok for a give-up
 abbrev pub last_use : List PoolItem → ℕ → Use

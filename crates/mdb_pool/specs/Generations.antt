@@ -1,5 +1,5 @@
 -- Which connections are stale, by the generations that they carry.
-use Rattle.std.specs.Prelude.{ℕ, Bool, false, not, if◌then◌else◌, ◌==◌, List, [], ◌∷◌, Option, Some, None}
+use Rattle.std.specs.Prelude.{ℕ, Bool, true, false, not, if◌then◌else◌, ◌==◌, List, [], ◌∷◌, Option, Some, None}
 use Rattle.mdb_base.specs.Equality.{same_id}
 use Rattle.mdb_base.specs.declared.object_id.ObjectId.{ObjectId}
 use Rattle.mdb_pool.specs.declared.generation.PoolGeneration.{PoolGeneration}
@@ -20,6 +20,12 @@ is_behind (LoadBalanced None) (NormalPool m) = false
 is_behind (LoadBalanced (Some g)) (NormalPool m) = false
 is_behind (LoadBalanced None) (LoadBalancedPool gs) = false
 is_behind (LoadBalanced (Some g)) (LoadBalancedPool gs) = not (g.generation == generation_in g.service_id gs)
+
+-- The generation that a connection carries, by how often its pool or a service of it was cleared before its creation: that of the pool as a whole, or that of the service that the server named.
+abbrev pub carried : Bool → (Option ObjectId → ℕ) → Option ObjectId → ConnectionGeneration
+carried false before service = Normal (before None)
+carried true before None = LoadBalanced None
+carried true before (Some t) = LoadBalanced (Some (record { generation = before (Some t); service_id = t }))
 
 abbrev pub service_named : ConnectionGeneration → Option ObjectId
 service_named (Normal n) = None

@@ -1,6 +1,6 @@
 -- What the state of a pool has of connections and requests.
 use Rattle.std.specs.List.{list_any}
-use Rattle.std.specs.Prelude.{ℕ, nat_le, true, Bool, false, ◌&&◌, if◌then◌else◌, nat_lt, List, [], ◌∷◌, length, map, filter, find, count_by, Option, Some, None, not, is_some, ◌||◌, ℤ}
+use Rattle.std.specs.Prelude.{ℕ, nat_le, true, Bool, false, ◌&&◌, if◌then◌else◌, nat_lt, ◌-◌, ◌==◌, List, [], ◌∷◌, length, map, filter, find, count_by, Option, Some, None, not, is_some, ◌||◌, ℤ}
 use Rattle.mdb_pool.specs.declared.reply.Reply.{Reply}
 use Rattle.mdb_pool.specs.declared.reply.Reply.TheVariants.{Waiting, Establishing as EstablishingReply, Pooled, Job, NoJob, Ended as EndedReply}
 use Rattle.mdb_pool.specs.declared.connection.Connection.{Connection}
@@ -9,14 +9,16 @@ use Rattle.mdb_pool.specs.declared.request.Request.{Request}
 use Rattle.mdb_pool.specs.declared.request.Phase.{Phase}
 use Rattle.mdb_pool.specs.declared.request.Phase.TheVariants.{Queued, Given, Over, Ended as EndedPhase}
 use Rattle.mdb_pool.specs.declared.pool_core.PoolCore.{PoolCore}
-use Rattle.mdb_pool.specs.Places.{is_pending, is_available, is_held, is_queued}
+use Rattle.mdb_pool.specs.Places.{is_pending, is_available, is_held, is_at_pin, is_queued}
 use Rattle.mdb_pool.specs.Keyed.{entry_at}
-use Rattle.mdb_pool.specs.State.{State, is_new, is_ready, is_paused, is_closed, max_size, max_connecting}
-use Rattle.mdb_pool.specs.Connections.{has}
+use Rattle.mdb_pool.specs.Generations.{carried}
+use Rattle.mdb_pool.specs.declared.generation.ConnectionGeneration.{ConnectionGeneration}
+use Rattle.mdb_pool.specs.State.{State, is_new, is_ready, is_paused, is_closed, min_size, max_size, max_connecting}
+use Rattle.mdb_pool.specs.Connections.{has, is_dropped}
 use Rattle.mdb_base.specs.declared.object_id.ObjectId.{ObjectId}
 use Rattle.mdb_events.specs.declared.end.End.{End}
 use Rattle.mdb_events.specs.declared.reasons.ConnectionClosedReason.{ConnectionClosedReason}
-use Rattle.mdb_events.specs.declared.reasons.ConnectionClosedReason.TheVariants.{Stale, Error as ErrorReason, Dropped as DroppedReason, PoolClosed as PoolClosedReason}
+use Rattle.mdb_events.specs.declared.reasons.ConnectionClosedReason.TheVariants.{Stale, Idle, Error as ErrorReason, Dropped as DroppedReason, PoolClosed as PoolClosedReason}
 use Rattle.mdb_pool.specs.declared.status.Status.{Status}
 use Rattle.mdb_pool.specs.declared.status.Status.TheVariants.{New, Ready, Paused, Closed}
 use Rattle.mdb_pool.specs.declared.status.Clear.{Clear}
@@ -27,7 +29,7 @@ use Rattle.mdb_pool.specs.History.{same_service}
 use Rattle.mdb_pool.specs.declared.step.FailedAt.{FailedAt}
 use Rattle.mdb_pool.specs.declared.step.FailedAt.TheVariants.{Pre, Post}
 use Rattle.mdb_pool.specs.declared.step.Use.{Use}
-use Rattle.mdb_pool.specs.declared.step.Use.TheVariants.{Ok, Errored, Dropped, Streaming}
+use Rattle.mdb_pool.specs.declared.step.Use.TheVariants.{Errored}
 
 abbrev pub connection_at : PoolCore → ℕ → Option Connection
 connection_at s c = entry_at (λ x. x.id) c s.connections
@@ -51,6 +53,26 @@ pending_count s = count_by (λ x. is_pending x.place) s.connections
 
 abbrev pub has_room : PoolCore → Bool
 has_room s = nat_lt s.created s.options.limit_id && (nat_lt (length s.connections) (max_size s.options) && nat_lt (pending_count s) (max_connecting s.options))
+
+abbrev pub is_ready_now : Status → Bool
+is_ready_now Ready = true
+is_ready_now _ = false
+
+-- warm requests are to get connections
+abbrev pub wants_now : PoolCore → Bool
+wants_now s = nat_lt (length s.connections) (min_size s.options) && (nat_lt (length s.connections) (max_size s.options) && nat_lt s.created s.options.limit_id)
+
+-- and only the number of pending connections hinders them
+abbrev pub blocked_now : PoolCore → Bool
+blocked_now s = wants_now s && not (nat_lt (pending_count s) (max_connecting s.options))
+
+-- the first of the queued requests that is no blocked warm one
+abbrev pub candidate_now : PoolCore → Option Request
+candidate_now s = find (λ q. is_queued q.phase && not (q.warm && blocked_now s)) s.requests
+
+-- maintenance may create a connection
+abbrev pub fills_now : PoolCore → Bool
+fills_now s = is_ready_now s.status && (nat_lt (length s.connections) (min_size s.options) && (nat_lt (pending_count s) (max_connecting s.options) && nat_lt s.created s.options.limit_id))
 
 abbrev pub given_in : Phase → Option ℕ
 given_in Queued = None
@@ -78,6 +100,11 @@ is_ended_at o = is_some (end_at o)
 abbrev pub asked_at_of : Option Request → ℕ
 asked_at_of None = 0
 asked_at_of (Some q) = q.asked_at
+
+-- the request is a warm one
+abbrev pub warm_of : Option Request → Bool
+warm_of None = false
+warm_of (Some q) = q.warm
 
 abbrev pub if_held : Option Connection → Option Connection
 if_held None = None
@@ -115,9 +142,14 @@ holder_request s x = of_holder x.holder
     of_holder None = None
     of_holder (Some r) = request_at s r
 
--- the request is open: known, and neither told its outcome nor given up nor returned
+-- the party asked for a connection, and did not take a pinned one
+abbrev pub is_asked_at : Option Request → Bool
+is_asked_at None = false
+is_asked_at (Some q) = not q.took
+
+-- the request is open: asked, and neither told its outcome nor given up nor returned
 abbrev pub is_open_now : PoolCore → ℕ → Bool
-is_open_now s r = is_some (request_at s r) && not (has r s.settled)
+is_open_now s r = is_asked_at (request_at s r) && not (has r s.settled)
 
 -- the pending connection that came first among those that no claim was told of
 abbrev pub first_unclaimed : PoolCore → Option Connection
@@ -135,6 +167,10 @@ abbrev pub is_pending_at : Option Connection → Bool
 is_pending_at None = false
 is_pending_at (Some x) = is_pending x.place
 
+abbrev pub is_held_at : Option Connection → Bool
+is_held_at None = false
+is_held_at (Some x) = is_held x.place
+
 -- what the request is told
 abbrev pub outcome_now : PoolCore → ℕ → Reply
 outcome_now s r = on (end_at (request_at s r)) (given_of (request_at s r))
@@ -151,6 +187,10 @@ ids_where test xs = map (λ x. x.id) (filter (λ x. test x.place) xs)
 abbrev pub numbers_where : (Phase → Bool) → List Request → List ℕ
 numbers_where test qs = map (λ q. q.number) (filter (λ q. test q.phase) qs)
 
+-- the parties that asked
+abbrev pub numbers_asked : List Request → List ℕ
+numbers_asked qs = map (λ q. q.number) (filter (λ q. not q.took) qs)
+
 abbrev pub one_party : Option ℕ → List ℕ
 one_party None = []
 one_party (Some r) = r ∷ []
@@ -166,6 +206,22 @@ service_at (Some x) = x.service
 abbrev pub wire_at : Option Connection → Option ℤ
 wire_at None = None
 wire_at (Some x) = x.wire
+
+abbrev pub pins_at : Option Connection → ℕ
+pins_at None = 0
+pins_at (Some x) = x.pins
+
+abbrev pub is_pinned_at : Option Connection → Bool
+is_pinned_at None = false
+is_pinned_at (Some x) = is_at_pin x.place
+
+abbrev pub errored_at : Option Connection → Bool
+errored_at None = false
+errored_at (Some x) = x.errored
+
+abbrev pub dropped_at : Option Connection → Bool
+dropped_at None = false
+dropped_at (Some x) = is_dropped x.used
 
 -- the connection is live, or was never created
 abbrev pub lasts : PoolCore → ℕ → Bool
@@ -188,10 +244,6 @@ abbrev pub cause_of : State → Option Error
 cause_of (is_paused error) = Some error
 cause_of _ = None
 
-abbrev pub is_ready_now : Status → Bool
-is_ready_now Ready = true
-is_ready_now _ = false
-
 abbrev pub is_shut : Status → Bool
 is_shut Closed = true
 is_shut _ = false
@@ -208,22 +260,61 @@ clears_before c t ks = count_by (λ k. same_service k.service t && nat_lt k.afte
 abbrev pub cleared_since : ℕ → Option ObjectId → List Clear → Bool
 cleared_since c t ks = list_any (λ k. same_service k.service t && not (nat_lt k.after c)) ks
 
+-- how many of the clears were by a network timeout
+abbrev pub timeouts_in : List Clear → ℕ
+timeouts_in ks = count_by (λ k. k.timeout) ks
+
+-- the connection is interrupted
+abbrev pub interrupted_at : PoolCore → Option Connection → Bool
+interrupted_at s None = false
+interrupted_at s (Some x) = not s.options.load_balanced && (is_held x.place && ((x.pins == 0) && nat_lt x.timeouts (timeouts_in s.clears)))
+
+-- the generation that the connection carries
+abbrev pub generation_at : PoolCore → ℕ → Option Connection → Option ConnectionGeneration
+generation_at s c None = None
+generation_at s c (Some x) = Some (carried s.options.load_balanced (λ t. clears_before c t s.clears) x.service)
+
 -- a connection with the service would be stale
 abbrev pub stale_for : PoolCore → ℕ → Option ObjectId → Bool
 stale_for s c service =
     let t : Option ObjectId = if s.options.load_balanced then service else None in
     not (s.options.load_balanced && not (is_some t)) && cleared_since c t s.clears
 
--- why a connection that was used so is closed when it comes back
-abbrev pub reason_of : Bool → Use → Option ConnectionClosedReason
-reason_of stale Ok = if stale then Some Stale else None
-reason_of stale Errored = Some ErrorReason
-reason_of stale Dropped = if stale then Some Stale else Some DroppedReason
-reason_of stale Streaming = if stale then Some Stale else Some DroppedReason
+-- a connection that is available since then would be idle at the moment m
+abbrev pub idle_since : Option ℕ → ℕ → ℕ → Bool
+idle_since None m since = false
+idle_since (Some limit) m since = nat_lt 0 limit && nat_le limit (m - since)
+
+-- why an available connection that is met at the moment m is closed
+abbrev pub perished_now : PoolCore → ℕ → Connection → Option ConnectionClosedReason
+perished_now s m x =
+    if stale_for s x.id x.service then Some Stale
+    else (if idle_since s.options.max_idle_time m x.since then Some Idle
+    else None)
+
+-- the available connection that came back first among those that have perished
+abbrev pub first_perished : PoolCore → ℕ → Option Connection
+first_perished s m = find (λ x. is_available x.place && is_some (perished_now s m x)) s.connections
+
+abbrev pub is_fault : Use → Bool
+is_fault Errored = true
+is_fault _ = false
+
+-- the connection with one more use
+abbrev pub used_as : Connection → Use → Connection
+used_as x used = record x { errored = is_fault used || x.errored; used = used }
+
+-- why a connection is closed when it comes back: it is errored, else stale, else its last use dropped it
+abbrev pub reason_of : Bool → Bool → Bool → Option ConnectionClosedReason
+reason_of errored stale dropped =
+    if errored then Some ErrorReason
+    else (if stale then Some Stale
+    else (if dropped then Some DroppedReason
+    else None))
 
 -- the same in the pool as it is
-abbrev pub reason_now : PoolCore → ℕ → Option ObjectId → Use → Option ConnectionClosedReason
-reason_now s c service used = if is_shut s.status then Some PoolClosedReason else reason_of (stale_for s c service) used
+abbrev pub reason_now : PoolCore → Connection → Option ConnectionClosedReason
+reason_now s x = if is_shut s.status then Some PoolClosedReason else reason_of x.errored (stale_for s x.id x.service) (is_dropped x.used)
 
 -- the service that the server named before the connection failed
 abbrev pub service_in : FailedAt → Option ObjectId

@@ -15,3 +15,4 @@ pub mod Standing
 pub mod Generations
 pub mod Driver
 pub mod Limits
+pub mod Fresh

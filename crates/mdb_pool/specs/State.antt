@@ -4,7 +4,7 @@ use Rattle.mdb_base.specs.declared.object_id.ObjectId.{ObjectId}
 use Rattle.mdb_base.specs.declared.error.Error.{Error}
 use Rattle.mdb_pool.specs.declared.options.PoolOptions.{PoolOptions}
 use Rattle.mdb_pool.specs.History.{PoolItem, created, raised, pool_created, pool_ready, pool_closed, same_service}
-use Rattle.mdb_pool.specs.Connections.{one_if, live_total, created_total, pending_list, available_list, since, service_of}
+use Rattle.mdb_pool.specs.Connections.{one_if, live_total, created_total, pending_list, available_list, since, service_of, held, pins, timeouts_since}
 
 pub data State : Type 0 where
   is_new : State
@@ -50,6 +50,10 @@ is_idle o m xs c = is_over o.max_idle_time
     is_over : Option ℕ → Bool
     is_over None = false
     is_over (Some limit) = nat_lt 0 limit && nat_le limit (m - since xs c)
+
+-- Interrupted: in a normal pool a party has the connection, no pin stands, and a clear by a network timeout came after the last of its grant, take and unpin.
+abbrev pub is_interrupted : PoolOptions → List PoolItem → ℕ → Bool
+is_interrupted o xs c = not o.load_balanced && (nat_lt 0 (held xs c) && ((pins xs c == 0) && nat_lt 0 (timeouts_since xs c)))
 
 -- The sizes, with their defaults.
 abbrev pub max_size : PoolOptions → ℕ

@@ -1,12 +1,12 @@
 //! The single changes of a pool, each with its facts.
 
 ghost use Rattle.mdb_pool.specs.Facts.{new_pool_error};
-ghost use Rattle.std.specs.Prelude.{◌≡◌, ◌++◌, ◌∷◌, ◌+◌, ◌-◌, ◌<◌, [], OnOk, IfOk};
+ghost use Rattle.std.specs.Prelude.{false, ◌≡◌, ◌++◌, ◌∷◌, ◌+◌, ◌-◌, ◌<◌, [], OnOk, IfOk};
 
 use super::connection::{Connection, Place};
 use super::request::{Phase, Request};
 use super::status::Status;
-use super::{Established, PoolCore, Reply};
+use super::{Established, PoolCore, Reply, Use};
 use mdb_base::{Error, ErrorKind, Items, Moment, Text};
 use mdb_events::{
     CmapEvent, ConnectionCheckedOutEvent, ConnectionCheckoutStartedEvent, ConnectionClosedReason,
@@ -28,11 +28,34 @@ fn new_pool_error(alloc: Global) -> Result<Error, AllocError>
 }
 
 impl PoolCore {
-    ghost use Rattle.mdb_pool.specs.Kept.{request_at, asked_at_of, outcome_now};
-    ghost use Rattle.mdb_pool.specs.Changes.{asking, away, away_end, away_facts, discarding, shut_fact, creating, granting, establishing, telling, started_fact, up_fact, out_fact, new_fact};
-    ghost use Rattle.mdb_events.specs.declared.fact.Fact.TheVariants.{Pool, Granted};
-    ghost use Rattle.mdb_events.specs.declared.reasons.ConnectionClosedReason.TheVariants.{Stale};
+    ghost use Rattle.mdb_pool.specs.Kept.{outcome_now};
+    ghost use Rattle.mdb_pool.specs.Changes.{asking, away, away_end, away_facts, discarding, shut_fact, creating, spawning, ending, new_fact, granting, establishing, telling, started_fact, up_fact, out_fact};
+    ghost use Rattle.mdb_events.specs.declared.fact.Fact.TheVariants.{Pool, Granted, Ended};
     ghost use Rattle.mdb_events.specs.declared.cmap.CmapEvent.TheVariants.{ConnectionCreated, ConnectionCheckedOut};
+
+    // A new request comes last.
+    pub(super) fn enqueue(
+        &mut self,
+        alloc: Global,
+        moment: Moment,
+        request: u32,
+        warm: bool,
+    ) -> Result<(), AllocError>
+        ensures { OnOk result (self.new ≡ asking self.old request moment warm) }
+    {
+        self.last = moment;
+        self.requests.put(
+            alloc,
+            Request {
+                number: request,
+                asked_at: moment,
+                warm,
+                took: false,
+                phase: Phase::Queued,
+            },
+        )?;
+        Ok(())
+    }
 
     // A new caller comes last.
     pub(super) fn ask(
@@ -42,19 +65,11 @@ impl PoolCore {
         moment: Moment,
         request: u32,
     ) -> Result<(), AllocError>
-        ensures core { OnOk result (self.new ≡ asking self.old request moment) }
+        ensures core { OnOk result (self.new ≡ asking self.old request moment false) }
         ensures facts { OnOk result (facts.new.items ≡ facts.old.items ++ started_fact self.old ∷ []) }
     {
         let address = self.address.clone()?;
-        self.last = moment;
-        self.requests.put(
-            alloc,
-            Request {
-                number: request,
-                asked_at: moment,
-                phase: Phase::Queued,
-            },
-        )?;
+        self.enqueue(alloc, moment, request, false)?;
         facts.push(Fact::Pool(
             self.pool,
             CmapEvent::ConnectionCheckoutStarted(ConnectionCheckoutStartedEvent { address }),
@@ -86,20 +101,23 @@ impl PoolCore {
         facts: &mut Vec<Fact>,
         moment: Moment,
         request: u32,
+        warm: bool,
     ) -> Result<(), AllocError>
-        ensures core { OnOk result (self.new ≡ away self.old request moment (away_end self.old.status)) }
-        ensures facts { OnOk result (facts.new.items ≡ facts.old.items ++ away_facts self.old request (away_end self.old.status)) }
+        ensures core { OnOk result (self.new ≡ away self.old request moment warm (away_end self.old.status)) }
+        ensures facts { OnOk result (facts.new.items ≡ facts.old.items ++ away_facts self.old request warm (away_end self.old.status)) }
     {
         let Some(end) = self.away_end(alloc)? else {
             return Ok(());
         };
         let told = end.clone()?;
-        self.push_end(facts, request, 0, told)?;
+        self.push_end(facts, request, warm, 0, told)?;
         self.requests.replace(
             alloc,
             &Request {
                 number: request,
                 asked_at: moment,
+                warm,
+                took: false,
                 phase: Phase::Ended(end),
             },
         )?;
@@ -173,6 +191,7 @@ impl PoolCore {
         ensures core { OnOk result (self.new ≡ creating self.old moment request) }
         ensures facts { OnOk result (facts.new.items ≡ facts.old.items ++ Pool self.old.pool (ConnectionCreated (record { address = self.old.address; connection_id = self.old.created + 1 })) ∷ Granted request.number self.old.pool (self.old.created + 1) ∷ []) }
     {
+        let timeouts = self.timeouts();
         let id = self.created + 1;
         self.created = id;
         self.connections.put(
@@ -181,10 +200,15 @@ impl PoolCore {
                 id,
                 created_at: moment,
                 place: Place::Pending,
-                party: request.number,
+                party: Some(request.number),
                 holder: Some(request.number),
                 service: None,
                 wire: None,
+                since: moment,
+                pins: 0,
+                used: Use::Ok,
+                errored: false,
+                timeouts,
             },
         )?;
         self.requests.replace(
@@ -196,6 +220,66 @@ impl PoolCore {
         )?;
         self.push_created(facts, id)?;
         facts.push(Fact::Granted(request.number, self.pool, id))?;
+        Ok(())
+    }
+
+    // A connection is created in the background.
+    pub(super) fn spawn(
+        &mut self,
+        alloc: Global,
+        facts: &mut Vec<Fact>,
+        moment: Moment,
+    ) -> Result<(), AllocError>
+        requires { self.old.created < self.old.options.limit_id }
+        ensures core { OnOk result (self.new ≡ spawning self.old moment) }
+        ensures facts { OnOk result (facts.new.items ≡ facts.old.items ++ new_fact self.old (self.old.created + 1) ∷ []) }
+    {
+        // The id is at most the limit, which bounds it.
+        let _limit = self.options.limit_id;
+        let id = self.created + 1;
+        self.created = id;
+        self.connections.put(
+            alloc,
+            Connection {
+                id,
+                created_at: moment,
+                place: Place::Pending,
+                party: None,
+                holder: None,
+                service: None,
+                wire: None,
+                since: moment,
+                pins: 0,
+                used: Use::Ok,
+                errored: false,
+                timeouts: 0,
+            },
+        )?;
+        self.push_created(facts, id)?;
+        Ok(())
+    }
+
+    // A warm request ends.
+    pub(super) fn end_warm(
+        &mut self,
+        alloc: Global,
+        facts: &mut Vec<Fact>,
+        request: Request,
+        end: &End,
+    ) -> Result<(), AllocError>
+        ensures core { OnOk result (self.new ≡ ending self.old request end.now) }
+        ensures facts { OnOk result (facts.new.items ≡ facts.old.items ++ Ended request.number end.now ∷ []) }
+    {
+        let told = end.clone()?;
+        let kept = end.clone()?;
+        facts.push(Fact::Ended(request.number, told))?;
+        self.requests.replace(
+            alloc,
+            &Request {
+                phase: Phase::Ended(kept),
+                ..request
+            },
+        )?;
         Ok(())
     }
 
@@ -211,12 +295,14 @@ impl PoolCore {
         ensures core { OnOk result (self.new ≡ granting self.old connection request) }
         ensures facts { OnOk result (facts.new.items ≡ facts.old.items ++ Granted request.number self.old.pool connection.id ∷ Pool self.old.pool (ConnectionCheckedOut (record { address = self.old.address; connection_id = connection.id; duration = moment - request.asked_at })) ∷ []) }
     {
+        let timeouts = self.timeouts();
         self.connections.put(
             alloc,
             Connection {
                 place: Place::Held,
-                party: request.number,
+                party: Some(request.number),
                 holder: Some(request.number),
+                timeouts,
                 ..connection
             },
         )?;
@@ -233,22 +319,23 @@ impl PoolCore {
         Ok(())
     }
 
-    // A stale connection that the search for a caller meets is closed.
+    // An available connection that has perished is closed.
     pub(super) fn discard(
         &mut self,
         alloc: Global,
         facts: &mut Vec<Fact>,
         connection: Connection,
+        reason: ConnectionClosedReason,
     ) -> Result<(), AllocError>
         ensures core { OnOk result (self.new ≡ discarding self.old connection) }
-        ensures facts { OnOk result (facts.new.items ≡ facts.old.items ++ shut_fact self.old connection Stale ∷ []) }
+        ensures facts { OnOk result (facts.new.items ≡ facts.old.items ++ shut_fact self.old connection reason ∷ []) }
     {
-        self.push_close(facts, connection, ConnectionClosedReason::Stale)?;
+        self.push_close(facts, connection, reason)?;
         self.connections.remove(alloc, connection.id)?;
         Ok(())
     }
 
-    // A pending connection is handed to its party.
+    // A pending connection is handed to the caller who asked at that moment.
     pub(super) fn establish(
         &mut self,
         alloc: Global,
@@ -256,14 +343,11 @@ impl PoolCore {
         moment: Moment,
         connection: Connection,
         made: Established,
+        asked_at: Moment,
     ) -> Result<(), AllocError>
         ensures core { OnOk result (self.new ≡ establishing self.old moment connection made) }
-        ensures facts { OnOk result (facts.new.items ≡ facts.old.items ++ up_fact self.old connection.id (moment - connection.created_at) ∷ out_fact self.old connection.id (moment - asked_at_of (request_at self.old connection.party)) ∷ []) }
+        ensures facts { OnOk result (facts.new.items ≡ facts.old.items ++ up_fact self.old connection.id (moment - connection.created_at) ∷ out_fact self.old connection.id (moment - asked_at) ∷ []) }
     {
-        let asked_at = match self.requests.get(connection.party) {
-            Some(request) => request.asked_at,
-            None => 0,
-        };
         self.last = moment;
         self.connections.put(
             alloc,

@@ -11,13 +11,13 @@ use mdb_events::{CmapEvent, End, Fact, PoolClearedEvent};
 use std::alloc::{AllocError, Global};
 
 impl PoolCore {
-    ghost use Rattle.mdb_pool.specs.Changes.{ending, raising, pool_cleared_fact, off_fact};
+    ghost use Rattle.mdb_pool.specs.Changes.{ending, raising, pool_cleared_fact, over_facts};
     ghost use Rattle.mdb_pool.specs.Standing.{SameHome, SameNotes, Fits, EndsQueue, Clears, Accepts, StandsFor, Answers};
     ghost use Rattle.mdb_pool.specs.History.{Item, PoolItem};
     ghost use Rattle.mdb_pool.specs.Kept.{is_ready_now, is_shut, exhausted_now};
     ghost use Rattle.std.specs.Prelude.{true, None};
     ghost use Rattle.mdb_pool.specs.declared.step.Act.TheVariants.{Clear as ClearAct};
-    ghost use Rattle.mdb_events.specs.declared.fact.Fact.TheVariants.{Ended, Raised};
+    ghost use Rattle.mdb_events.specs.declared.fact.Fact.TheVariants.{Raised};
     ghost use Rattle.mdb_events.specs.declared.end.End.TheVariants.{Cleared};
 
     // A queued request ends.
@@ -30,12 +30,18 @@ impl PoolCore {
         cause: &Error,
     ) -> Result<(), AllocError>
         ensures core { OnOk result (self.new ≡ ending self.old request (Cleared cause.now)) }
-        ensures facts { OnOk result (facts.new.items ≡ facts.old.items ++ Ended request.number (Cleared cause.now) ∷ off_fact self.old (moment - request.asked_at) ∷ []) }
+        ensures facts { OnOk result (facts.new.items ≡ facts.old.items ++ over_facts self.old request.number request.warm (moment - request.asked_at) (Cleared cause.now)) }
     {
         let told = cause.clone()?;
         let kept = cause.clone()?;
         let waited = moment.saturating_sub(request.asked_at);
-        self.push_end(facts, request.number, waited, End::Cleared(told))?;
+        self.push_end(
+            facts,
+            request.number,
+            request.warm,
+            waited,
+            End::Cleared(told),
+        )?;
         self.requests.replace(
             alloc,
             &Request {
@@ -82,6 +88,7 @@ impl PoolCore {
         self.clears.push(Clear {
             service,
             after: self.created,
+            timeout: cause.is_network_timeout(),
         })?;
         self.last = moment;
         if service.is_some() {

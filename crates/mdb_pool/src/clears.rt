@@ -2,11 +2,13 @@
 
 ghost use Rattle.std.specs.Prelude.{◌≡◌};
 ghost use Rattle.mdb_pool.specs.History.{same_service};
-ghost use Rattle.mdb_pool.specs.Kept.{clears_for, clears_before, cleared_since, reason_of};
+ghost use Rattle.mdb_pool.specs.Kept.{clears_for, clears_before, cleared_since, timeouts_in, used_as};
+ghost use Rattle.mdb_pool.specs.Connections.{is_dropped};
 
+use super::connection::Connection;
 use super::status::Clear;
-use super::{PoolCore, Use};
-use mdb_base::ObjectId;
+use super::{ConnectionGeneration, LoadBalancedGeneration, PoolCore, Use};
+use mdb_base::{Moment, ObjectId};
 use mdb_events::ConnectionClosedReason;
 
 fn same_service(a: Option<ObjectId>, b: Option<ObjectId>) -> bool
@@ -46,25 +48,39 @@ fn cleared_since(clears: &[Clear], id: u32, service: Option<ObjectId>) -> bool
     clears.iter().any(|clear| same_service(clear.service, service) && !(clear.after < id))
 }
 
-// Why a connection that was used so is closed when it comes back to a pool that is open.
-fn reason_of(stale: bool, used: Use) -> Option<ConnectionClosedReason>
-    ensures { result ≡ reason_of stale used }
+// How many of the clears were by a network timeout.
+fn count_timeouts(clears: &[Clear]) -> usize
+    ensures { result ≡ timeouts_in clears.now }
 {
-    match used {
-        Use::Errored => Some(ConnectionClosedReason::Error),
-        _ if stale => Some(ConnectionClosedReason::Stale),
-        Use::Ok => None,
-        Use::Dropped | Use::Streaming => Some(ConnectionClosedReason::Dropped),
+    clears.iter().filter(|clear| clear.timeout).count()
+}
+
+// A connection is closed that was used so last.
+fn is_dropped(used: Use) -> bool
+    ensures { result ≡ is_dropped used }
+{
+    matches!(used, Use::Dropped | Use::Streaming)
+}
+
+// The connection with one more use.
+pub(super) fn used_as(connection: Connection, used: Use) -> Connection
+    ensures { result ≡ used_as connection used }
+{
+    Connection {
+        errored: matches!(used, Use::Errored) || connection.errored,
+        used,
+        ..connection
     }
 }
 
 impl PoolCore {
     ghost use Rattle.std.specs.Prelude.{is_some, if◌then◌else◌, Some, None, List};
+    ghost use Rattle.mdb_pool.specs.Kept.{connection_at, stale_for, idle_since, perished_now, reason_now, generation_at, interrupted_at};
+    ghost use Rattle.mdb_pool.specs.Generations.{carried};
     ghost use Rattle.mdb_pool.specs.Standing.{StandsFor};
     ghost use Rattle.mdb_pool.specs.History.{Item, of_pool};
-    ghost use Rattle.mdb_pool.specs.Connections.{is_live};
-    ghost use Rattle.mdb_pool.specs.State.{generation_of, generation_before};
-    ghost use Rattle.mdb_pool.specs.Kept.{connection_at, stale_for, reason_now};
+    ghost use Rattle.mdb_pool.specs.Connections.{is_live, known_service};
+    ghost use Rattle.mdb_pool.specs.State.{generation_of, generation_before, is_interrupted};
 
     // A connection of the service would be stale.
     pub(super) fn stale_for(&self, id: u32, service: Option<ObjectId>) -> bool
@@ -81,19 +97,57 @@ impl PoolCore {
         cleared_since(self.clears.as_slice(), id, named)
     }
 
-    // Why a connection that was used so is closed when it comes back.
-    pub(super) fn reason_now(
+    // It would have been available for too long.
+    fn is_idle(&self, moment: Moment, since: Moment) -> bool
+        ensures { result ≡ idle_since self.now.options.max_idle_time moment since }
+    {
+        match self.options.max_idle_time {
+            None => false,
+            Some(limit) => 0 < limit && limit <= moment.saturating_sub(since),
+        }
+    }
+
+    // Why an available connection that is met now is closed.
+    pub(super) fn perished(
         &self,
-        id: u32,
-        service: Option<ObjectId>,
-        used: Use,
+        moment: Moment,
+        connection: Connection,
     ) -> Option<ConnectionClosedReason>
-        ensures { result ≡ reason_now self.now id service used }
+        ensures { result ≡ perished_now self.now moment connection }
+    {
+        if self.stale_for(connection.id, connection.service) {
+            return Some(ConnectionClosedReason::Stale);
+        }
+        if self.is_idle(moment, connection.since) {
+            return Some(ConnectionClosedReason::Idle);
+        }
+        None
+    }
+
+    // How many clears by a network timeout the pool had.
+    pub(super) fn timeouts(&self) -> usize
+        ensures { result ≡ timeouts_in self.now.clears }
+    {
+        count_timeouts(self.clears.as_slice())
+    }
+
+    // Why a connection is closed when it comes back.
+    pub(super) fn reason_now(&self, connection: Connection) -> Option<ConnectionClosedReason>
+        ensures { result ≡ reason_now self.now connection }
     {
         if self.status.is_closed() {
             return Some(ConnectionClosedReason::PoolClosed);
         }
-        reason_of(self.stale_for(id, service), used)
+        if connection.errored {
+            return Some(ConnectionClosedReason::Error);
+        }
+        if self.stale_for(connection.id, connection.service) {
+            return Some(ConnectionClosedReason::Stale);
+        }
+        if is_dropped(connection.used) {
+            return Some(ConnectionClosedReason::Dropped);
+        }
+        None
     }
 
     /// How often the pool was cleared: for the service, or as a whole where there is none (CMAP, "Generation").
@@ -113,5 +167,50 @@ impl PoolCore {
             return None;
         }
         Some(count_before(self.clears.as_slice(), id, service) as u64)
+    }
+
+    // The generation that a connection of the service carries.
+    fn carried(&self, id: u32, service: Option<ObjectId>) -> ConnectionGeneration
+        ensures { result ≡ carried self.now.options.load_balanced (λ t. clears_before id t self.now.clears) service }
+    {
+        let clears = self.clears.as_slice();
+        if !self.options.load_balanced {
+            return ConnectionGeneration::Normal(count_before(clears, id, None) as u64);
+        }
+        let Some(service_id) = service else {
+            return ConnectionGeneration::LoadBalanced(None);
+        };
+        ConnectionGeneration::LoadBalanced(Some(LoadBalancedGeneration {
+            generation: count_before(clears, id, service) as u64,
+            service_id,
+        }))
+    }
+
+    /// The generation that the connection carries (CMAP, "Generation"), `None` where it isn't live.
+    pub fn connection_generation(&self, id: u32) -> Option<ConnectionGeneration>
+        ensures kept { result ≡ generation_at self.now id (connection_at self.now id) }
+        ensures history { (h : List Item) → StandsFor self.now h → result ≡ if is_live (of_pool self.now.pool h) id then Some (carried self.now.options.load_balanced (generation_before (of_pool self.now.pool h) id) (known_service (of_pool self.now.pool h) id)) else None }
+    {
+        match self.connections.get(id) {
+            Some(connection) => Some(self.carried(id, connection.service)),
+            None => None,
+        }
+    }
+
+    /// An operation under way on the connection is to stop (CMAP, "Interrupting pending connections"): in a normal pool, a party has it, no pin
+    /// stands, and a clear by a network timeout came after the last of its grant, take and unpin.
+    pub fn is_interrupted(&self, id: u32) -> bool
+        ensures kept { result ≡ interrupted_at self.now (connection_at self.now id) }
+        ensures history { (h : List Item) → StandsFor self.now h → result ≡ is_interrupted self.now.options (of_pool self.now.pool h) id }
+    {
+        match self.connections.get(id) {
+            Some(connection) => {
+                !self.options.load_balanced
+                    && connection.is_held()
+                    && connection.pins == 0
+                    && connection.timeouts < self.timeouts()
+            }
+            None => false,
+        }
     }
 }

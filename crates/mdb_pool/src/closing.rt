@@ -1,7 +1,7 @@
 //! A pool is closed.
 
 ghost use Rattle.std.specs.Prelude.{◌≡◌, ◌++◌, ◌∷◌, [], OnOk, OnErr, IfOk, List, map, filter};
-ghost use Rattle.mdb_pool.specs.Places.{is_held};
+ghost use Rattle.mdb_pool.specs.Places.{stays};
 
 use super::connection::Connection;
 use super::request::{Phase, Request};
@@ -12,13 +12,13 @@ use mdb_base::{Moment, OutOfMemory};
 use mdb_events::{CmapEvent, ConnectionClosedReason, End, Fact, PoolClosedEvent};
 use std::alloc::{AllocError, Global};
 
-// The connections that somebody holds.
-fn held_ones(alloc: Global, connections: &[Connection]) -> Result<Vec<Connection>, AllocError>
-    ensures { IfOk result (λ kept. kept.items ≡ filter (λ x. is_held x.place) connections.now) }
+// The connections that somebody holds, and those at their pins.
+fn kept_ones(alloc: Global, connections: &[Connection]) -> Result<Vec<Connection>, AllocError>
+    ensures { IfOk result (λ kept. kept.items ≡ filter (λ x. stays x.place) connections.now) }
 {
     let mut kept = Vec::new(alloc);
     for x in connections {
-        if x.is_held() {
+        if x.stays() {
             kept.push(*x)?;
         }
     }
@@ -74,7 +74,7 @@ impl PoolCore {
         for q in self.requests.as_slice() {
             if self.is_unserved(q) {
                 let waited = moment.saturating_sub(q.asked_at);
-                self.push_end(facts, q.number, waited, End::Closed)?;
+                self.push_end(facts, q.number, q.warm, waited, End::Closed)?;
             }
         }
         Ok(())
@@ -87,6 +87,8 @@ impl PoolCore {
             return Ok(Request {
                 number: request.number,
                 asked_at: request.asked_at,
+                warm: request.warm,
+                took: request.took,
                 phase: Phase::Ended(End::Closed),
             });
         }
@@ -122,7 +124,7 @@ impl PoolCore {
             CmapEvent::PoolClosed(PoolClosedEvent { address }),
         ))?;
         let requests = self.ended_requests(alloc)?;
-        let connections = held_ones(alloc, self.connections.as_slice())?;
+        let connections = kept_ones(alloc, self.connections.as_slice())?;
         self.requests.set(requests);
         self.connections.set(connections);
         self.status = Status::Closed;

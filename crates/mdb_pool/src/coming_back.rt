@@ -4,17 +4,29 @@ ghost use Rattle.std.specs.Prelude.{◌≡◌, ◌++◌, ◌∷◌, ◌-◌, [],
 
 use super::connection::{Connection, Place};
 use super::request::{Phase, Request};
-use super::{Established, PoolCore};
+use super::{Established, PoolCore, Use};
 use mdb_base::Moment;
 use mdb_events::{
     CmapEvent, ConnectionCheckedInEvent, ConnectionClosedEvent, ConnectionClosedReason, End, Fact,
 };
 use std::alloc::{AllocError, Global};
 
+// The connection with what was found out when it was established.
+pub(super) fn as_made(connection: Connection, made: Established) -> Connection
+    ensures { result ≡ record connection { service = made.service_id; wire = Some made.wire } }
+{
+    Connection {
+        service: made.service_id,
+        wire: Some(made.wire),
+        ..connection
+    }
+}
+
 impl PoolCore {
-    ghost use Rattle.mdb_pool.specs.Changes.{returning_for, pooling_for, quitting, leaving, handing_for, up_fact, in_fact, shut_fact, back_facts, placed, finishing};
+    ghost use Rattle.mdb_pool.specs.Changes.{returning_for, pooling, pooling_for, filling_for, quitting, leaving, handing_for, to_pin, up_fact, in_fact, shut_fact, back_facts, placed, finishing};
+    ghost use Rattle.mdb_pool.specs.declared.request.Phase.TheVariants.{Ended as EndedPhase};
     ghost use Rattle.mdb_events.specs.declared.fact.Fact.TheVariants.{Ended};
-    ghost use Rattle.mdb_events.specs.declared.end.End.TheVariants.{GaveUp};
+    ghost use Rattle.mdb_events.specs.declared.end.End.TheVariants.{GaveUp, Filled};
 
     fn push_check_in(&self, facts: &mut Vec<Fact>, id: u32) -> Result<(), AllocError>
         ensures { OnOk result (facts.new.items ≡ facts.old.items ++ in_fact self.now id ∷ []) }
@@ -52,7 +64,7 @@ impl PoolCore {
     }
 
     // What a check-in says. On a closed pool there is the close alone.
-    fn push_back(
+    pub(super) fn push_back(
         &self,
         facts: &mut Vec<Fact>,
         connection: Connection,
@@ -74,13 +86,14 @@ impl PoolCore {
     }
 
     // The connection is closed where there is a reason, and else available.
-    fn place_back(
+    pub(super) fn place_back(
         &mut self,
         alloc: Global,
+        moment: Moment,
         connection: Connection,
         reason: Option<ConnectionClosedReason>,
     ) -> Result<(), AllocError>
-        ensures { OnOk result (self.new ≡ record self.old { connections = placed connection reason self.old.connections }) }
+        ensures { OnOk result (self.new ≡ record self.old { connections = placed moment connection reason self.old.connections }) }
     {
         if reason.is_some() {
             self.connections.remove(alloc, connection.id)?;
@@ -91,6 +104,7 @@ impl PoolCore {
             Connection {
                 place: Place::Available,
                 holder: None,
+                since: moment,
                 ..connection
             },
         )?;
@@ -110,16 +124,49 @@ impl PoolCore {
         ensures core { OnOk result (self.new ≡ pooling_for self.old moment connection made reason) }
         ensures facts { OnOk result (facts.new.items ≡ facts.old.items ++ up_fact self.old connection.id (moment - connection.created_at) ∷ back_facts self.old (record connection { service = made.service_id; wire = Some made.wire }) reason) }
     {
-        let connection = Connection {
-            service: made.service_id,
-            wire: Some(made.wire),
-            ..connection
-        };
+        let connection = as_made(connection, made);
         self.push_ready(facts, moment, connection)?;
         self.push_back(facts, connection, reason)?;
         self.last = moment;
-        self.place_back(alloc, connection, reason)?;
+        self.place_back(alloc, moment, connection, reason)?;
         Ok(())
+    }
+
+    // An established connection that was created in the background is available.
+    pub(super) fn rest(
+        &mut self,
+        alloc: Global,
+        facts: &mut Vec<Fact>,
+        moment: Moment,
+        connection: Connection,
+        made: Established,
+    ) -> Result<(), AllocError>
+        ensures core { OnOk result (self.new ≡ pooling self.old moment connection made) }
+        ensures facts { OnOk result (facts.new.items ≡ facts.old.items ++ up_fact self.old connection.id (moment - connection.created_at) ∷ []) }
+    {
+        self.push_ready(facts, moment, connection)?;
+        self.last = moment;
+        let connection = as_made(connection, made);
+        self.place_back(alloc, moment, connection, None)?;
+        Ok(())
+    }
+
+    // An established connection of a warm request goes into the pool, or is closed, and the request ends.
+    pub(super) fn fill_in(
+        &mut self,
+        alloc: Global,
+        facts: &mut Vec<Fact>,
+        moment: Moment,
+        connection: Connection,
+        made: Established,
+        request: Request,
+        reason: Option<ConnectionClosedReason>,
+    ) -> Result<(), AllocError>
+        ensures core { OnOk result (self.new ≡ filling_for self.old moment connection made request reason) }
+        ensures facts { OnOk result (facts.new.items ≡ facts.old.items ++ (up_fact self.old connection.id (moment - connection.created_at) ∷ back_facts self.old (record connection { service = made.service_id; wire = Some made.wire }) reason) ++ Ended request.number Filled ∷ []) }
+    {
+        self.pool_connection(alloc, facts, moment, connection, made, reason)?;
+        self.end_warm(alloc, facts, request, &End::Filled)
     }
 
     // The request is over, and no longer open.
@@ -138,6 +185,51 @@ impl PoolCore {
         Ok(())
     }
 
+    // A held connection goes to its pin, and the request of its party is over.
+    pub(super) fn put_to_pin(
+        &mut self,
+        alloc: Global,
+        moment: Moment,
+        connection: Connection,
+        request: Request,
+        phase: Phase,
+    ) -> Result<(), AllocError>
+        ensures { OnOk result (self.new ≡ to_pin self.old moment connection request phase) }
+    {
+        self.finish(alloc, moment, request, phase)?;
+        self.connections.replace(
+            alloc,
+            &Connection {
+                place: Place::Pinned,
+                holder: None,
+                ..connection
+            },
+        )?;
+        Ok(())
+    }
+
+    // A request whose connection is pinned and held is given up.
+    pub(super) fn leave_to_pin(
+        &mut self,
+        alloc: Global,
+        facts: &mut Vec<Fact>,
+        moment: Moment,
+        connection: Connection,
+        request: Request,
+    ) -> Result<(), AllocError>
+        ensures core { OnOk result (self.new ≡ to_pin self.old moment connection request (EndedPhase GaveUp)) }
+        ensures facts { OnOk result (facts.new.items ≡ facts.old.items ++ Ended request.number GaveUp ∷ []) }
+    {
+        facts.push(Fact::Ended(request.number, End::GaveUp))?;
+        self.put_to_pin(
+            alloc,
+            moment,
+            connection,
+            request,
+            Phase::Ended(End::GaveUp),
+        )
+    }
+
     // A held connection comes back, and is available or closed.
     pub(super) fn give_back(
         &mut self,
@@ -153,7 +245,7 @@ impl PoolCore {
     {
         self.push_back(facts, connection, reason)?;
         self.finish(alloc, moment, request, Phase::Over)?;
-        self.place_back(alloc, connection, reason)?;
+        self.place_back(alloc, moment, connection, reason)?;
         Ok(())
     }
 
@@ -190,6 +282,7 @@ impl PoolCore {
             alloc,
             &Connection {
                 holder: None,
+                used: Use::Ok,
                 ..connection
             },
         )?;
@@ -212,7 +305,7 @@ impl PoolCore {
         facts.push(Fact::Ended(request.number, End::GaveUp))?;
         self.push_back(facts, connection, reason)?;
         self.finish(alloc, moment, request, Phase::Ended(End::GaveUp))?;
-        self.place_back(alloc, connection, reason)?;
+        self.place_back(alloc, moment, connection, reason)?;
         Ok(())
     }
 }

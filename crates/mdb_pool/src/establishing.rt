@@ -2,7 +2,9 @@
 
 ghost use Rattle.std.specs.Prelude.{◌≡◌, ◌∷◌, OnOk, OnErr, IfOk, List, true};
 
-use super::{Act, Established, PoolCore, Refused, Reply, Step, Use};
+use super::coming_back::as_made;
+use super::table::Keyed;
+use super::{Act, Established, PoolCore, Refused, Reply, Step};
 use mdb_base::{Moment, OutOfMemory};
 use mdb_events::Fact;
 use std::alloc::{AllocError, Global};
@@ -13,7 +15,7 @@ impl PoolCore {
     ghost use Rattle.mdb_pool.specs.History.{Item, PoolItem, established};
     ghost use Rattle.mdb_pool.specs.declared.step.Act.TheVariants.{Established as EstablishedAct};
 
-    /// A pending connection is handed over. Whoever calls has tested the refusals.
+    /// A pending connection is handed over, or goes into the pool. Whoever calls has tested the refusals.
     pub fn accept_established(
         &mut self,
         alloc: Global,
@@ -30,13 +32,26 @@ impl PoolCore {
         let Some(connection) = self.connections.get(id).copied() else {
             unreachable!()
         };
-        if !connection.is_awaited() {
-            let reason = self.reason_now(id, made.service_id, Use::Ok);
+        let up = as_made(connection, made);
+        let reason = self.reason_now(up);
+        if let Some(request) = self.holder_request(connection) {
+            let request = request.copy()?;
+            if request.warm {
+                self.fill_in(alloc, facts, moment, connection, made, request, reason)?;
+                self.serve(alloc, facts, moment)?;
+                return Ok(Reply::Done);
+            }
+            let asked_at = request.asked_at;
+            self.establish(alloc, facts, moment, connection, made, asked_at)?;
+            self.serve(alloc, facts, moment)?;
+            return Ok(Reply::Done);
+        }
+        if connection.has_party() {
             self.pool_connection(alloc, facts, moment, connection, made, reason)?;
             self.serve(alloc, facts, moment)?;
             return Ok(Reply::Done);
         }
-        self.establish(alloc, facts, moment, connection, made)?;
+        self.rest(alloc, facts, moment, connection, made)?;
         self.serve(alloc, facts, moment)?;
         Ok(Reply::Done)
     }

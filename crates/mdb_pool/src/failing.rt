@@ -15,26 +15,29 @@ use std::alloc::{AllocError, Global};
 
 impl PoolCore {
     ghost use Rattle.mdb_pool.specs.Kept.{connection_at, is_pending_at, service_in};
-    ghost use Rattle.mdb_pool.specs.Changes.{failing, forgetting, shut_fact, off_fact};
+    ghost use Rattle.mdb_pool.specs.Changes.{failing, forgetting, shut_fact, over_facts};
     ghost use Rattle.mdb_pool.specs.Standing.{SameHome, Fits, Accepts, StandsFor, Answers};
     ghost use Rattle.mdb_pool.specs.History.{Item, PoolItem, failed};
     ghost use Rattle.mdb_pool.specs.declared.step.Act.TheVariants.{Failed as FailedAct};
-    ghost use Rattle.mdb_events.specs.declared.fact.Fact.TheVariants.{Ended};
     ghost use Rattle.mdb_events.specs.declared.end.End.TheVariants.{Failed as FailedEnd};
     ghost use Rattle.mdb_events.specs.declared.reasons.ConnectionClosedReason.TheVariants.{Error as ErrorReason};
 
-    // A caller's request ends without a connection.
+    // A request ends without a connection; of a caller, its checkout fails.
     pub(super) fn push_end(
         &self,
         facts: &mut Vec<Fact>,
         request: u32,
+        warm: bool,
         waited: Moment,
         end: End,
     ) -> Result<(), AllocError>
-        ensures { OnOk result (facts.new.items ≡ facts.old.items ++ Ended request end ∷ off_fact self.now waited ∷ []) }
+        ensures { OnOk result (facts.new.items ≡ facts.old.items ++ over_facts self.now request warm waited end) }
     {
         let address = self.address.clone()?;
         facts.push(Fact::Ended(request, end))?;
+        if warm {
+            return Ok(());
+        }
         facts.push(Fact::Pool(
             self.pool,
             CmapEvent::ConnectionCheckoutFailed(ConnectionCheckoutFailedEvent {
@@ -57,13 +60,19 @@ impl PoolCore {
         cause: &Error,
     ) -> Result<(), AllocError>
         ensures core { OnOk result (self.new ≡ failing self.old moment connection request (FailedEnd cause.now)) }
-        ensures facts { OnOk result (facts.new.items ≡ facts.old.items ++ shut_fact self.old connection ErrorReason ∷ Ended request.number (FailedEnd cause.now) ∷ off_fact self.old (moment - request.asked_at) ∷ []) }
+        ensures facts { OnOk result (facts.new.items ≡ facts.old.items ++ shut_fact self.old connection ErrorReason ∷ over_facts self.old request.number request.warm (moment - request.asked_at) (FailedEnd cause.now)) }
     {
         let told = cause.clone()?;
         let kept = cause.clone()?;
         let waited = moment.saturating_sub(request.asked_at);
         self.push_close(facts, connection, ConnectionClosedReason::Error)?;
-        self.push_end(facts, request.number, waited, End::Failed(told))?;
+        self.push_end(
+            facts,
+            request.number,
+            request.warm,
+            waited,
+            End::Failed(told),
+        )?;
         self.last = moment;
         self.connections.remove(alloc, connection.id)?;
         self.requests.replace(
@@ -76,7 +85,7 @@ impl PoolCore {
         Ok(())
     }
 
-    // The connection, whose caller gave up, is closed.
+    // The connection, whose caller gave up or which has none, is closed.
     fn forget(
         &mut self,
         alloc: Global,

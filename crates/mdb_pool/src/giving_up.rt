@@ -1,8 +1,10 @@
 //! The caller of a request of a pool gives up.
 
-ghost use Rattle.std.specs.Prelude.{◌≡◌, ◌∷◌, OnOk, OnErr, IfOk, List, true, is_some};
+ghost use Rattle.std.specs.Prelude.{◌≡◌, ◌∷◌, OnOk, OnErr, IfOk, List, true, false, Some};
 
-use super::request::Phase;
+use super::clears::used_as;
+use super::connection::Connection;
+use super::request::{Phase, Request};
 use super::table::Keyed;
 use super::{Act, PoolCore, Refused, Reply, Step, Use};
 use mdb_base::{Moment, OutOfMemory};
@@ -10,7 +12,7 @@ use mdb_events::Fact;
 use std::alloc::{AllocError, Global};
 
 impl PoolCore {
-    ghost use Rattle.mdb_pool.specs.Kept.{request_at, is_ended_at};
+    ghost use Rattle.mdb_pool.specs.Kept.{request_at, is_ended_at, is_asked_at, held_connection};
     ghost use Rattle.mdb_pool.specs.Standing.{SameHome, Fits, Accepts, StandsFor, Answers};
     ghost use Rattle.mdb_pool.specs.History.{Item, PoolItem, gave_up};
     ghost use Rattle.mdb_pool.specs.declared.step.Act.TheVariants.{GiveUp};
@@ -45,6 +47,35 @@ impl PoolCore {
         Ok(reply)
     }
 
+    // A request whose connection is held is given up.
+    fn give_up_held(
+        &mut self,
+        alloc: Global,
+        facts: &mut Vec<Fact>,
+        moment: Moment,
+        connection: Connection,
+        request: Request,
+    ) -> Result<Reply, AllocError>
+        requires held { held_connection self.old request.number ≡ Some connection }
+        requires asker { request_at self.old request.number ≡ Some request }
+        requires open { is_ended_at (request_at self.old request.number) ≡ false }
+        requires asked { is_asked_at (request_at self.old request.number) ≡ true }
+        ensures home { OnOk result (SameHome self.old self.new) }
+        ensures last { OnOk result (self.new.last ≡ moment) }
+        ensures accepts { IfOk result (λ reply. (xs : List PoolItem) → Fits self.old xs → Accepts self.old self.new facts.old.items facts.new.items moment (GiveUp request.number) reply xs (gave_up request.number ∷ xs)) }
+    {
+        let back = used_as(connection, Use::Ok);
+        if 0 < back.pins {
+            self.leave_to_pin(alloc, facts, moment, back, request)?;
+            self.serve(alloc, facts, moment)?;
+            return Ok(Reply::Done);
+        }
+        let reason = self.reason_now(back);
+        self.hand_back(alloc, facts, moment, back, request, reason)?;
+        self.serve(alloc, facts, moment)?;
+        Ok(Reply::Done)
+    }
+
     /// The caller of a request no longer wants its connection. Whoever calls has tested the refusals.
     pub fn accept_give_up(
         &mut self,
@@ -53,7 +84,7 @@ impl PoolCore {
         moment: Moment,
         request: u32,
     ) -> Result<Reply, AllocError>
-        requires { is_some (request_at self.old request) ≡ true }
+        requires { is_asked_at (request_at self.old request) ≡ true }
         ensures home { OnOk result (SameHome self.old self.new) }
         ensures last { OnOk result (self.new.last ≡ moment) }
         ensures accepts { IfOk result (λ reply. (xs : List PoolItem) → Fits self.old xs → Accepts self.old self.new facts.old.items facts.new.items moment (GiveUp request) reply xs (gave_up request ∷ xs)) }
@@ -67,10 +98,8 @@ impl PoolCore {
         };
         let asker = asker.copy()?;
         if let Some(connection) = self.held_connection(request) {
-            let reason = self.reason_now(connection.id, connection.service, Use::Ok);
-            self.hand_back(alloc, facts, moment, connection, asker, reason)?;
-            self.serve(alloc, facts, moment)?;
-            return Ok(Reply::Done);
+            let reply = self.give_up_held(alloc, facts, moment, connection, asker)?;
+            return Ok(reply);
         }
         if let Some(connection) = self.pending_connection(request) {
             self.leave(alloc, facts, moment, connection, asker)?;

@@ -13,13 +13,19 @@ mod connection;
 mod driver;
 mod establishing;
 mod failing;
+#[cfg(test)]
+mod filling_tests;
 mod finding;
 mod generation;
 mod giving_up;
 mod job;
 mod jobs;
 mod log;
+mod maintaining;
 mod options;
+#[cfg(test)]
+mod pin_tests;
+mod pinning;
 mod pool_core;
 mod pooled;
 mod queue;
@@ -33,8 +39,11 @@ mod status;
 mod step;
 mod stepping;
 mod table;
+mod taking;
 #[cfg(test)]
 mod tests;
+mod unpinning;
+mod warming;
 #[cfg(test)]
 mod worked_row;
 
@@ -45,7 +54,7 @@ pub use job::Job;
 pub use log::{Entry, Log};
 pub use options::PoolOptions;
 pub use pool_core::PoolCore;
-pub use pooled::PooledConnection;
+pub use pooled::{PinnedConnectionHandle, PooledConnection};
 pub use reply::{Refused, Reply, What};
 pub use status::PoolState;
 pub use step::{Act, Established, FailedAt, Step, Use};

@@ -1,6 +1,6 @@
 //! The core of one pool.
 
-ghost use Rattle.std.specs.Prelude.{◌≡◌, IfOk, true, None, is_some, option_copied, List, if◌then◌else◌};
+ghost use Rattle.std.specs.Prelude.{◌≡◌, IfOk, true, is_some, option_copied, None, List, if◌then◌else◌};
 
 use super::connection::Connection;
 use super::request::Request;
@@ -31,7 +31,7 @@ pub struct PoolCore {
 }
 
 impl PoolCore {
-    ghost use Rattle.mdb_pool.specs.Kept.{held_connection, request_at, connection_at, is_pending_at, is_open_now, id_at, wire_at, name_of, cause_of, state_in};
+    ghost use Rattle.mdb_pool.specs.Kept.{held_connection, request_at, connection_at, is_pending_at, is_open_now, is_asked_at, id_at, wire_at, name_of, cause_of, state_in};
     ghost use Rattle.mdb_pool.specs.Connections.{has, is_live, pending_list, holding, wire_of};
     ghost use Rattle.mdb_pool.specs.Requests.{is_open};
     ghost use Rattle.mdb_pool.specs.State.{state_of};
@@ -42,7 +42,6 @@ impl PoolCore {
 
     /// A pool that was just made: a load-balanced one is ready, a normal one new. Its sizes are at most 65,535.
     pub fn new(alloc: Global, pool: u32, address: ServerAddress, options: PoolOptions) -> PoolCore
-        requires no_idle { options.max_idle_time ≡ None }
         ensures stands { StandsFor result (opening pool address options) }
         ensures none_left { NoneLeftWaiting options (of_pool pool (opening pool address options)) }
         ensures within { WithinLimits options (of_pool pool (opening pool address options)) }
@@ -115,7 +114,7 @@ impl PoolCore {
         }
     }
 
-    /// The party asked this pool.
+    /// The party asked this pool, or took a pinned connection of it.
     pub fn knows(&self, party: u32) -> bool
         ensures { result ≡ is_some (request_at self.now party) }
     {
@@ -129,12 +128,22 @@ impl PoolCore {
         self.held_connection(party).is_some()
     }
 
+    /// The party asked this pool for a connection, and did not take a pinned one.
+    pub fn has_asked(&self, party: u32) -> bool
+        ensures { result ≡ is_asked_at (request_at self.now party) }
+    {
+        match self.requests.get(party) {
+            Some(request) => !request.took,
+            None => false,
+        }
+    }
+
     /// The request was made at this pool, its outcome was not told yet, and its caller neither gave up nor returned the connection.
     pub fn is_open(&self, request: u32) -> bool
         ensures kept { result ≡ is_open_now self.now request }
         ensures history { (h : List Item) → StandsFor self.now h → result ≡ is_open h request }
     {
-        self.knows(request) && !self.settled.contains(request)
+        self.has_asked(request) && !self.settled.contains(request)
     }
 
     /// The connection isn't established yet.

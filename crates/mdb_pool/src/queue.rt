@@ -7,13 +7,13 @@ use super::connection::Connection;
 use super::request::Request;
 use super::table::Keyed;
 use mdb_base::Moment;
-use mdb_events::Fact;
+use mdb_events::{End, Fact};
 use std::alloc::{AllocError, Global};
 
 impl PoolCore {
     ghost use Rattle.mdb_pool.specs.Standing.{SameHome, SameNotes, Fits, Serves};
     ghost use Rattle.mdb_pool.specs.History.{PoolItem};
-    ghost use Rattle.mdb_pool.specs.Changes.{meeting, meeting_facts};
+    ghost use Rattle.mdb_pool.specs.Changes.{meeting, meeting_facts, warming, warming_facts};
 
     // A caller meets the available connection that came back last.
     fn meet(
@@ -24,13 +24,31 @@ impl PoolCore {
         connection: Connection,
         request: Request,
     ) -> Result<(), AllocError>
-        ensures core { OnOk result (self.new ≡ meeting self.old connection request) }
+        ensures core { OnOk result (self.new ≡ meeting self.old moment connection request) }
         ensures facts { OnOk result (facts.new.items ≡ facts.old.items ++ meeting_facts self.old moment connection request) }
     {
-        if self.stale_for(connection.id, connection.service) {
-            self.discard(alloc, facts, connection)
+        if let Some(reason) = self.perished(moment, connection) {
+            self.discard(alloc, facts, connection, reason)
         } else {
             self.grant(alloc, facts, moment, connection, request)
+        }
+    }
+
+    // A warm request gets a new connection, or ends as none is wanted.
+    fn warm_up(
+        &mut self,
+        alloc: Global,
+        facts: &mut Vec<Fact>,
+        moment: Moment,
+        request: Request,
+    ) -> Result<(), AllocError>
+        ensures core { OnOk result (self.new ≡ warming self.old moment request) }
+        ensures facts { OnOk result (facts.new.items ≡ facts.old.items ++ warming_facts self.old request) }
+    {
+        if self.wants_connection() {
+            self.create(alloc, facts, moment, request)
+        } else {
+            self.end_warm(alloc, facts, request, &End::Warmed)
         }
     }
 
@@ -49,9 +67,11 @@ impl PoolCore {
         if !self.status.is_ready() {
             return Ok(());
         }
-        while let Some(request) = self.first_queued() {
+        while let Some(request) = self.candidate() {
             let request = request.copy()?;
-            if let Some(connection) = self.last_available() {
+            if request.warm {
+                self.warm_up(alloc, facts, moment, request)?;
+            } else if let Some(connection) = self.last_available() {
                 self.meet(alloc, facts, moment, connection, request)?;
             } else if self.has_room() {
                 self.create(alloc, facts, moment, request)?;

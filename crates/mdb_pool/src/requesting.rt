@@ -27,7 +27,7 @@ impl PoolCore {
         ensures accepts { IfOk result (λ reply. (xs : List PoolItem) → Fits self.old xs → Accepts self.old self.new facts.old.items facts.new.items moment (RequestAct request self.old.address) reply xs (asked request moment ∷ xs)) }
     {
         self.ask(alloc, facts, moment, request)?;
-        self.turn_away(alloc, facts, moment, request)?;
+        self.turn_away(alloc, facts, moment, request, false)?;
         self.serve(alloc, facts, moment)?;
         let reply = self.tell(request)?;
         Ok(reply)

@@ -2,6 +2,8 @@
 
 ghost use Rattle.std.specs.Prelude.{◌≡◌, ◌∷◌, OnOk, OnErr, IfOk, List, true, is_some};
 
+use super::clears::used_as;
+use super::request::Phase;
 use super::table::Keyed;
 use super::{Act, PoolCore, Refused, Reply, Step, Use};
 use mdb_base::{Moment, OutOfMemory};
@@ -14,7 +16,7 @@ impl PoolCore {
     ghost use Rattle.mdb_pool.specs.History.{Item, PoolItem, returned};
     ghost use Rattle.mdb_pool.specs.declared.step.Act.TheVariants.{Return as ReturnAct};
 
-    /// A held connection comes back. Whoever calls has tested the refusals.
+    /// A held connection comes back, or goes to its pin. Whoever calls has tested the refusals.
     pub fn accept_return(
         &mut self,
         alloc: Global,
@@ -35,8 +37,14 @@ impl PoolCore {
             unreachable!()
         };
         let request = request.copy()?;
-        let reason = self.reason_now(connection.id, connection.service, used);
-        self.give_back(alloc, facts, moment, connection, request, reason)?;
+        let back = used_as(connection, used);
+        if 0 < back.pins {
+            self.put_to_pin(alloc, moment, back, request, Phase::Over)?;
+            self.serve(alloc, facts, moment)?;
+            return Ok(Reply::Done);
+        }
+        let reason = self.reason_now(back);
+        self.give_back(alloc, facts, moment, back, request, reason)?;
         self.serve(alloc, facts, moment)?;
         Ok(Reply::Done)
     }
@@ -63,7 +71,7 @@ impl PoolCore {
         Ok(reply)
     }
 
-    /// A party returns its connection. Refused as `TimeBack` or `NotHolder`.
+    /// A party returns its connection, which goes to its pin where one stands, and else is checked in (CMAP, "Checking In a Connection"). Refused as `TimeBack` or `NotHolder`.
     pub fn check_in(
         &mut self,
         alloc: Global,

@@ -25,11 +25,12 @@ pub enum Status {
     Closed,
 }
 
-/// A clear of the pool, or of one service of it, and how many connections were created before it.
+/// A clear of the pool, or of one service of it, and how many connections were created before it. `timeout` tells that its cause is a network timeout.
 #[derive(Clone, Copy)]
 pub struct Clear {
     pub service: Option<ObjectId>,
     pub after: u32,
+    pub timeout: bool,
 }
 
 impl Status {

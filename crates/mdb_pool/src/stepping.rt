@@ -8,7 +8,7 @@ use mdb_events::Fact;
 use std::alloc::{AllocError, Global};
 
 impl PoolCore {
-    ghost use Rattle.mdb_pool.specs.Standing.{SameHome, StandsFor, Answers, Logs, IsBuilt, Runs};
+    ghost use Rattle.mdb_pool.specs.Standing.{SameHome, StandsFor, Answers, Logs, IsPoolAct, Runs};
     ghost use Rattle.mdb_pool.specs.Legal.{NoneLeftWaiting};
     ghost use Rattle.mdb_pool.specs.History.{Item, of_pool};
 
@@ -19,7 +19,7 @@ impl PoolCore {
         facts: &mut Vec<Fact>,
         step: &Step,
     ) -> Result<Reply, AllocError>
-        requires { IsBuilt step.now.act }
+        requires { IsPoolAct step.now.act }
         ensures home { OnOk result (SameHome self.old self.new) }
         ensures answers { IfOk result (λ reply. (h : List Item) → StandsFor self.old h → Answers self.old self.new facts.old.items facts.new.items step.now reply h) }
     {
@@ -38,11 +38,21 @@ impl PoolCore {
                 self.try_failed_in(alloc, facts, moment, *pool, *id, *at, cause)
             }
             Act::Return(party, used) => self.try_return(alloc, facts, moment, *party, *used),
+            Act::Pin(party) => self.try_pin(alloc, facts, moment, *party),
+            Act::Replicate(pool, id) => self.try_replicate(alloc, facts, moment, *pool, *id),
+            Act::Take(party, pool, id) => {
+                self.try_take_in(alloc, facts, moment, *party, *pool, *id)
+            }
+            Act::Unpin(pool, id) => self.try_unpin(alloc, facts, moment, *pool, *id),
             Act::Ready(pool) => self.try_ready(alloc, facts, moment, *pool),
             Act::Clear(pool, service, cause) => {
                 self.try_clear(alloc, facts, moment, *pool, *service, cause)
             }
             Act::Close(pool) => self.try_close(alloc, facts, moment, *pool),
+            Act::Warm(request, address) => {
+                self.try_warm_at(alloc, facts, moment, *request, address)
+            }
+            Act::Maintain(address) => self.try_maintain_at(alloc, facts, moment, address),
             _ => unreachable!(),
         }
     }
@@ -54,7 +64,7 @@ impl PoolCore {
         facts: &mut Vec<Fact>,
         step: &Step,
     ) -> Result<Reply, OutOfMemory>
-        requires { IsBuilt step.now.act }
+        requires { IsPoolAct step.now.act }
         ensures home { OnOk result (SameHome self.old self.new) }
         ensures answers { IfOk result (λ reply. (h : List Item) → StandsFor self.old h → Answers self.old self.new facts.old.items facts.new.items step.now reply h) }
         ensures err_core { OnErr result (self.new ≡ self.old) }
@@ -76,7 +86,7 @@ impl PoolCore {
         seat: u32,
         step: &Step,
     ) -> Result<PoolCore, AllocError>
-        requires { IsBuilt step.now.act }
+        requires { IsPoolAct step.now.act }
         ensures home { IfOk result (λ next. SameHome self.now next) }
         ensures logs { IfOk result (λ next. (h : List Item) → StandsFor self.now h → Logs self.now next log.old log.new seat step.now h) }
         ensures err { OnErr result (log.new ≡ log.old) }
@@ -102,7 +112,7 @@ impl PoolCore {
         seat: u32,
         step: &Step,
     ) -> Result<(), OutOfMemory>
-        requires { IsBuilt step.now.act }
+        requires { IsPoolAct step.now.act }
         ensures home { OnOk result (SameHome self.old self.new) }
         ensures logs { OnOk result ((h : List Item) → StandsFor self.old h → Logs self.old self.new log.old log.new seat step.now h) }
         ensures err_core { OnErr result (self.new ≡ self.old) }
@@ -121,7 +131,7 @@ impl PoolCore {
         seat: u32,
         steps: &[Step],
     ) -> Result<(), OutOfMemory>
-        requires { All (λ step. IsBuilt step.act) steps.now }
+        requires { All (λ step. IsPoolAct step.act) steps.now }
         ensures legal { OnOk result ((h : List Item) → StandsFor self.old h → NoneLeftWaiting self.old.options (of_pool self.old.pool h) → Runs self.old self.new log.old log.new seat steps.now h) }
     {
         for step in steps {

@@ -33,3 +33,21 @@ returns-in-Clear-clause-answers c = subst (λ act. IfOk c.try_clear.result (λ r
 
 pub returns-in-Close-clause-answers : goal.returns-in-Close-clause-answers
 returns-in-Close-clause-answers c = subst (λ act. IfOk c.try_close.result (λ reply. (h : List Item) → StandsFor c.args.self.now h → Answers c.args.self.now c.try_close.new.self c.args.facts.now.items c.try_close.new.facts.items (record { moment = c.args.step.now.moment; act = act }) reply h)) (sym c.in-Close.is) c.try_close.ensures.answers
+
+pub returns-in-Warm-clause-answers : goal.returns-in-Warm-clause-answers
+returns-in-Warm-clause-answers c = subst (λ act. IfOk c.try_warm_at.result (λ reply. (h : List Item) → StandsFor c.args.self.now h → Answers c.args.self.now c.try_warm_at.new.self c.args.facts.now.items c.try_warm_at.new.facts.items (record { moment = c.args.step.now.moment; act = act }) reply h)) (sym c.in-Warm.is) c.try_warm_at.ensures.answers
+
+pub returns-in-Maintain-clause-answers : goal.returns-in-Maintain-clause-answers
+returns-in-Maintain-clause-answers c = subst (λ act. IfOk c.try_maintain_at.result (λ reply. (h : List Item) → StandsFor c.args.self.now h → Answers c.args.self.now c.try_maintain_at.new.self c.args.facts.now.items c.try_maintain_at.new.facts.items (record { moment = c.args.step.now.moment; act = act }) reply h)) (sym c.in-Maintain.is) c.try_maintain_at.ensures.answers
+
+pub returns-in-Pin-clause-answers : goal.returns-in-Pin-clause-answers
+returns-in-Pin-clause-answers c = subst (λ act. IfOk c.try_pin.result (λ reply. (h : List Item) → StandsFor c.args.self.now h → Answers c.args.self.now c.try_pin.new.self c.args.facts.now.items c.try_pin.new.facts.items (record { moment = c.args.step.now.moment; act = act }) reply h)) (sym c.in-Pin.is) c.try_pin.ensures.answers
+
+pub returns-in-Replicate-clause-answers : goal.returns-in-Replicate-clause-answers
+returns-in-Replicate-clause-answers c = subst (λ act. IfOk c.try_replicate.result (λ reply. (h : List Item) → StandsFor c.args.self.now h → Answers c.args.self.now c.try_replicate.new.self c.args.facts.now.items c.try_replicate.new.facts.items (record { moment = c.args.step.now.moment; act = act }) reply h)) (sym c.in-Replicate.is) c.try_replicate.ensures.answers
+
+pub returns-in-Take-clause-answers : goal.returns-in-Take-clause-answers
+returns-in-Take-clause-answers c = subst (λ act. IfOk c.try_take_in.result (λ reply. (h : List Item) → StandsFor c.args.self.now h → Answers c.args.self.now c.try_take_in.new.self c.args.facts.now.items c.try_take_in.new.facts.items (record { moment = c.args.step.now.moment; act = act }) reply h)) (sym c.in-Take.is) c.try_take_in.ensures.answers
+
+pub returns-in-Unpin-clause-answers : goal.returns-in-Unpin-clause-answers
+returns-in-Unpin-clause-answers c = subst (λ act. IfOk c.try_unpin.result (λ reply. (h : List Item) → StandsFor c.args.self.now h → Answers c.args.self.now c.try_unpin.new.self c.args.facts.now.items c.try_unpin.new.facts.items (record { moment = c.args.step.now.moment; act = act }) reply h)) (sym c.in-Unpin.is) c.try_unpin.ensures.answers

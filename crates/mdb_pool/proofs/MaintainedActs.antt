@@ -1,0 +1,71 @@
+-- What a maintenance does is the answer to its step.
+use Rattle.std.proofs.Common.{ℕ, ◌≡◌, ◌≤◌, Bool, true, false, ◌||◌, List, ◌++◌, refl, sym, ◌∙◌, ap, subst, append_assoc}
+use Rattle.mdb_base.specs.declared.address.ServerAddress.{ServerAddress}
+use Rattle.mdb_base.specs.Equality.{same_address}
+use Rattle.mdb_events.specs.declared.fact.Fact.{Fact}
+use Rattle.mdb_pool.specs.declared.step.Act.TheVariants.{Maintain as MaintainAct}
+use Rattle.mdb_pool.specs.declared.reply.Refused.TheVariants.{UnknownServer}
+use Rattle.mdb_pool.specs.declared.reply.Reply.{Reply}
+use Rattle.mdb_pool.specs.declared.reply.Reply.TheVariants.{Done, Refused as RefusedBy}
+use Rattle.mdb_pool.specs.declared.pool_core.PoolCore.{PoolCore}
+use Rattle.mdb_pool.specs.History.{Item, PoolItem, of_pool, after_facts}
+use Rattle.mdb_pool.specs.Connections.{has, available_list}
+use Rattle.mdb_pool.specs.State.{min_size}
+use Rattle.mdb_pool.specs.Facts.{sweep, fill}
+use Rattle.mdb_pool.specs.Legal.{shuts}
+use Rattle.mdb_pool.specs.Kept.{is_shut}
+use Rattle.mdb_pool.specs.Standing.{Fits, StandsFor, Serves, Sweeps, Fills, Accepts, Answers, SameHome, SameNotes}
+use Rattle.mdb_pool.proofs.Acts.{refuses, accepts, own-answers, not-back}
+use Rattle.mdb_pool.proofs.Addresses.{own-address}
+use Rattle.mdb_pool.proofs.Serving.{same-number, after-append}
+use Rattle.mdb_pool.proofs.Stands.{later-fits}
+use Rattle.mdb_pool.proofs.Laws.{fair-append, own-append, shut-append}
+use Rattle.mdb_pool.proofs.Maintains.{sweep-fair, sweep-own, sweep-open, fill-fair, fill-own, fill-open}
+
+pub maintain-accepts : (s s0 s1 s2 t : PoolCore) (before f1 f2 after : List Fact) (n : ℕ) (xs : List PoolItem) → Fits s xs → s0 ≡ record s { last = n }
+    → SameHome s0 s1 → SameNotes s0 s1 → ((k : List PoolItem) → Fits s0 k → Sweeps s0 s1 n before f1 k)
+    → SameHome s1 s2 → SameNotes s1 s2 → ((k : List PoolItem) → Fits s1 k → Fills s1 s2 n f1 f2 k)
+    → SameHome s2 t → SameNotes s2 t → ((k : List PoolItem) → Fits s2 k → Serves s2 t n f2 after k)
+    → Accepts s t before after n (MaintainAct s.address) Done xs xs
+maintain-accepts s s0 s1 s2 t before f1 f2 after n xs z s0_is home1 notes1 sweeps home2 notes2 fills home notes serves =
+    let p : ℕ = s.pool in
+    let gone : List Fact = sweep s.pool s.address s.options n xs (available_list xs) in
+    let zs : List PoolItem = after_facts s.pool n gone xs in
+    let come : List Fact = fill s.pool s.address s.options n (min_size s.options) zs in
+    let v : Sweeps s0 s1 n before f1 xs = sweeps xs (rw s0_is (later-fits s xs z n)) in
+    let at0 : SameHome s s0 = rw s0_is (record { pool = refl; address = refl; options = refl }) in
+    let at1 : SameHome s s1 = record { pool = home1.pool ∙ at0.pool; address = home1.address ∙ at0.address; options = home1.options ∙ at0.options } in
+    let at2 : SameHome s s2 = record { pool = home2.pool ∙ at1.pool; address = home2.address ∙ at1.address; options = home2.options ∙ at1.options } in
+    let gone_is : sweep s0.pool s0.address s0.options n xs (available_list xs) ≡ gone = rw (at0.pool, at0.address, at0.options) refl in
+    let fits1 : Fits s1 zs = subst (λ q. Fits s1 (after_facts q n gone xs)) at0.pool (subst (λ fs. Fits s1 (after_facts s0.pool n fs xs)) gone_is v.fits) in
+    let w : Fills s1 s2 n f1 f2 zs = fills zs fits1 in
+    let come_is : fill s1.pool s1.address s1.options n (min_size s1.options) zs ≡ come = rw (at1.pool, at1.address, at1.options) refl in
+    let fits2 : Fits s2 (after_facts s.pool n come zs) = subst (λ q. Fits s2 (after_facts q n come zs)) at1.pool (subst (λ fs. Fits s2 (after_facts s1.pool n fs zs)) come_is w.fits) in
+    let said : f2 ≡ before ++ (gone ++ come) = w.facts ∙ (ap (λ k. f1 ++ k) come_is ∙ (ap (λ k. k ++ come) (v.facts ∙ ap (λ k. before ++ k) gone_is) ∙ append_assoc before gone come)) in
+    let unshut : shuts (gone ++ come) ≡ false = shut-append s.pool s.address s.options n gone come ∙ rw (sweep-open s.pool s.address s.options n xs (available_list xs), fill-open s.pool s.address s.options n (min_size s.options) zs) refl in
+    accepts s s2 t t before f2 after n (MaintainAct s.address) Done (gone ++ come) xs xs
+    refl said at2
+    (subst (Fits s2) (sym (after-append s.pool n gone come xs)) fits2) serves
+    (λ ks k. k)
+    (λ claims own ks m. refl)
+    tt
+    (ap is_shut (notes.status ∙ (notes2.status ∙ (notes1.status ∙ ap (λ k. k.status) s0_is))) ∙ ap (λ b. b || is_shut s.status) (sym unshut))
+    (λ r. ap (has r) (notes.settled ∙ (notes2.settled ∙ (notes1.settled ∙ ap (λ k. k.settled) s0_is))))
+    (λ c. ap (has c) (notes.claimed ∙ (notes2.claimed ∙ (notes1.claimed ∙ ap (λ k. k.claimed) s0_is))))
+    (fair-append s.pool s.address s.options n gone come xs (sweep-fair s.pool s.address s.options n xs xs (available_list xs)) (fill-fair s.pool s.address s.options n (min_size s.options) zs))
+    (own-append s.pool s.address s.options n gone come xs (sweep-own s.pool s.address s.options n xs xs (available_list xs)) (fill-own s.pool s.address s.options n (min_size s.options) zs))
+
+-- how a maintenance is refused: the pool is closed, or it has another address
+pub maintain-shut : (s : PoolCore) (facts : List Fact) (n : ℕ) (h : List Item) → StandsFor s h → s.last ≤ n → is_shut s.status ≡ true → Answers s s facts facts (record { moment = n; act = MaintainAct s.address }) (RefusedBy UnknownServer) h
+maintain-shut s facts n h z l shut = refuses s facts (record { moment = n; act = MaintainAct s.address }) UnknownServer h z (rw (z.last_is, not-back n s.last l, z.open_here s.address, own-address s.address, shut) refl)
+
+pub maintain-server : (s : PoolCore) (facts : List Fact) (n : ℕ) (a : ServerAddress) (h : List Item) → StandsFor s h → s.last ≤ n → same_address s.address a ≡ false → Answers s s facts facts (record { moment = n; act = MaintainAct a }) (RefusedBy UnknownServer) h
+maintain-server s facts n a h z l e = refuses s facts (record { moment = n; act = MaintainAct a }) UnknownServer h z (rw (z.last_is, not-back n s.last l, z.open_here a, e) refl)
+
+pub maintain-own : (s t : PoolCore) (before after : List Fact) (n : ℕ) (reply : Reply) (h : List Item) → StandsFor s h → s.last ≤ n → is_shut s.status ≡ false → SameHome s t → t.last ≡ n
+    → ((xs : List PoolItem) → Fits s xs → Accepts s t before after n (MaintainAct s.address) reply xs xs)
+    → Answers s t before after (record { moment = n; act = MaintainAct s.address }) reply h
+maintain-own s t before after n reply h z l unshut home last_is v =
+    own-answers s t before after (record { moment = n; act = MaintainAct s.address }) reply (of_pool s.pool h) h z
+    (rw (z.last_is, not-back n s.last l, z.open_here s.address, own-address s.address, unshut, same-number s.pool) refl)
+    refl (λ k. refl) (λ k. refl) home last_is (v (of_pool s.pool h) z.fits)

@@ -1,0 +1,9 @@
+use Rattle.std.proofs.Common.{◌≡◌, subst, List}
+use Rattle.std.specs.Prelude.{IfOk}
+use Rattle.mdb_pool.specs.declared.step.Act.TheVariants.{Maintain as MaintainAct}
+use Rattle.mdb_pool.specs.History.{Item}
+use Rattle.mdb_pool.specs.Standing.{StandsFor, Answers}
+use Rattle.mdb_pool.proofs.pool_core.PoolCore.maintain.Goals as goal
+
+pub returns-clause-answers : goal.returns-clause-answers
+returns-clause-answers c = subst (λ a. IfOk c.attempt.result (λ reply. (h : List Item) → StandsFor c.args.self.now h → Answers c.args.self.now c.attempt.new.self c.args.facts.now.items c.attempt.new.facts.items (record { moment = c.args.moment; act = MaintainAct a }) reply h)) c.in_ok-address.ensures.cases c.attempt.ensures.answers

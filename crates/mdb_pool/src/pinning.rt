@@ -1,0 +1,177 @@
+//! A party pins its connection, and a pinned connection gets one more pin.
+
+ghost use Rattle.std.specs.Prelude.{◌≡◌, ◌∷◌, OnOk, OnErr, IfOk, List, true, is_some, nat_lt};
+
+use super::connection::Connection;
+use super::{Act, PoolCore, Refused, Reply, Step};
+use mdb_base::{Moment, OutOfMemory};
+use mdb_events::Fact;
+use std::alloc::{AllocError, Global};
+
+impl PoolCore {
+    ghost use Rattle.mdb_pool.specs.Changes.{pinning};
+    ghost use Rattle.mdb_pool.specs.Kept.{held_connection, connection_at, pins_at};
+    ghost use Rattle.mdb_pool.specs.Standing.{SameHome, Fits, Accepts, StandsFor, Answers};
+    ghost use Rattle.mdb_pool.specs.History.{Item, PoolItem, pinned_by, replicated};
+    ghost use Rattle.mdb_pool.specs.declared.step.Act.TheVariants.{Pin, Replicate};
+
+    /// The connection is one of this pool and has a pin.
+    pub fn has_pin(&self, id: u32) -> bool
+        ensures { result ≡ nat_lt 0 (pins_at (connection_at self.now id)) }
+    {
+        match self.connections.get(id) {
+            Some(connection) => 0 < connection.pins,
+            None => false,
+        }
+    }
+
+    // One more pin. Past the greatest number of the type there is no room for it.
+    fn add_pin(
+        &mut self,
+        alloc: Global,
+        moment: Moment,
+        connection: Connection,
+    ) -> Result<(), AllocError>
+        ensures { OnOk result (self.new ≡ pinning self.old moment connection) }
+    {
+        let Some(pins) = connection.pins.checked_add(1) else {
+            return Err(AllocError);
+        };
+        self.last = moment;
+        self.connections
+            .replace(alloc, &Connection { pins, ..connection })?;
+        Ok(())
+    }
+
+    /// A held connection is pinned. Whoever calls has tested the refusals.
+    pub fn accept_pin(
+        &mut self,
+        alloc: Global,
+        facts: &mut Vec<Fact>,
+        moment: Moment,
+        party: u32,
+    ) -> Result<Reply, AllocError>
+        requires { is_some (held_connection self.old party) ≡ true }
+        ensures home { OnOk result (SameHome self.old self.new) }
+        ensures last { OnOk result (self.new.last ≡ moment) }
+        ensures accepts { IfOk result (λ reply. (xs : List PoolItem) → Fits self.old xs → Accepts self.old self.new facts.old.items facts.new.items moment (Pin party) reply xs (pinned_by party ∷ xs)) }
+    {
+        let Some(connection) = self.held_connection(party) else {
+            unreachable!()
+        };
+        self.add_pin(alloc, moment, connection)?;
+        self.serve(alloc, facts, moment)?;
+        Ok(Reply::Done)
+    }
+
+    // Refuses the pin, or adds it.
+    pub(super) fn try_pin(
+        &mut self,
+        alloc: Global,
+        facts: &mut Vec<Fact>,
+        moment: Moment,
+        party: u32,
+    ) -> Result<Reply, AllocError>
+        ensures home { OnOk result (SameHome self.old self.new) }
+        ensures answers { IfOk result (λ reply. (h : List Item) → StandsFor self.old h → Answers self.old self.new facts.old.items facts.new.items (record { moment = moment; act = Pin party }) reply h) }
+    {
+        if moment < self.last {
+            return Ok(Reply::Refused(Refused::TimeBack(self.last)));
+        }
+        let Some(connection) = self.held_connection(party) else {
+            return Ok(Reply::Refused(Refused::NotHolder));
+        };
+        if 0 < connection.pins {
+            return Ok(Reply::Refused(Refused::PinState));
+        }
+        let reply = self.accept_pin(alloc, facts, moment, party)?;
+        Ok(reply)
+    }
+
+    /// A party pins its connection: while a pin stands, a return puts the connection at its pin. Refused as `TimeBack`, as `NotHolder` where the
+    /// party holds none, or as `PinState` where a pin stands.
+    pub fn pin(
+        &mut self,
+        alloc: Global,
+        facts: &mut Vec<Fact>,
+        moment: Moment,
+        party: u32,
+    ) -> Result<Reply, OutOfMemory>
+        ensures home { OnOk result (SameHome self.old self.new) }
+        ensures answers { IfOk result (λ reply. (h : List Item) → StandsFor self.old h → Answers self.old self.new facts.old.items facts.new.items (record { moment = moment; act = Pin party }) reply h) }
+        ensures err_core { OnErr result (self.new ≡ self.old) }
+        ensures err_facts { OnErr result (facts.new.items ≡ facts.old.items) }
+    {
+        let step = Step {
+            moment,
+            act: Act::Pin(party),
+        };
+        self.attempt(alloc, facts, &step)
+    }
+
+    /// A pinned connection gets one more pin. Whoever calls has tested the refusals.
+    pub fn accept_replicate(
+        &mut self,
+        alloc: Global,
+        facts: &mut Vec<Fact>,
+        moment: Moment,
+        id: u32,
+    ) -> Result<Reply, AllocError>
+        requires { nat_lt 0 (pins_at (connection_at self.old id)) ≡ true }
+        ensures home { OnOk result (SameHome self.old self.new) }
+        ensures last { OnOk result (self.new.last ≡ moment) }
+        ensures accepts { IfOk result (λ reply. (xs : List PoolItem) → Fits self.old xs → Accepts self.old self.new facts.old.items facts.new.items moment (Replicate self.old.pool id) reply xs (replicated id ∷ xs)) }
+    {
+        let Some(connection) = self.connections.get(id).copied() else {
+            unreachable!()
+        };
+        self.add_pin(alloc, moment, connection)?;
+        self.serve(alloc, facts, moment)?;
+        Ok(Reply::Done)
+    }
+
+    // Refuses the pin, or adds it. The pool of the connection is tested here too.
+    pub(super) fn try_replicate(
+        &mut self,
+        alloc: Global,
+        facts: &mut Vec<Fact>,
+        moment: Moment,
+        pool: u32,
+        id: u32,
+    ) -> Result<Reply, AllocError>
+        ensures home { OnOk result (SameHome self.old self.new) }
+        ensures answers { IfOk result (λ reply. (h : List Item) → StandsFor self.old h → Answers self.old self.new facts.old.items facts.new.items (record { moment = moment; act = Replicate pool id }) reply h) }
+    {
+        if moment < self.last {
+            return Ok(Reply::Refused(Refused::TimeBack(self.last)));
+        }
+        if pool != self.pool {
+            return Ok(Reply::Refused(Refused::Unpinned));
+        }
+        if !self.has_pin(id) {
+            return Ok(Reply::Refused(Refused::Unpinned));
+        }
+        let reply = self.accept_replicate(alloc, facts, moment, id)?;
+        Ok(reply)
+    }
+
+    /// A pinned connection gets one more pin. Refused as `TimeBack`, or as `Unpinned` where no pin stands.
+    pub fn replicate(
+        &mut self,
+        alloc: Global,
+        facts: &mut Vec<Fact>,
+        moment: Moment,
+        id: u32,
+    ) -> Result<Reply, OutOfMemory>
+        ensures home { OnOk result (SameHome self.old self.new) }
+        ensures answers { IfOk result (λ reply. (h : List Item) → StandsFor self.old h → Answers self.old self.new facts.old.items facts.new.items (record { moment = moment; act = Replicate self.old.pool id }) reply h) }
+        ensures err_core { OnErr result (self.new ≡ self.old) }
+        ensures err_facts { OnErr result (facts.new.items ≡ facts.old.items) }
+    {
+        let step = Step {
+            moment,
+            act: Act::Replicate(self.pool, id),
+        };
+        self.attempt(alloc, facts, &step)
+    }
+}

@@ -1,0 +1,161 @@
+//! A new party takes a pinned connection.
+
+ghost use Rattle.std.specs.Prelude.{◌≡◌, ◌∷◌, OnOk, OnErr, IfOk, List, true, false, is_some, nat_lt};
+
+use super::connection::{Connection, Place};
+use super::request::{Phase, Request};
+use super::{Act, PoolCore, Refused, Reply, Step};
+use mdb_base::{Moment, OutOfMemory};
+use mdb_events::Fact;
+use std::alloc::{AllocError, Global};
+
+impl PoolCore {
+    ghost use Rattle.mdb_pool.specs.Changes.{taking};
+    ghost use Rattle.mdb_pool.specs.Kept.{connection_at, request_at, pins_at, is_held_at};
+    ghost use Rattle.mdb_pool.specs.Standing.{SameHome, Fits, Accepts, StandsFor, Answers};
+    ghost use Rattle.mdb_pool.specs.History.{Item, PoolItem, taken};
+    ghost use Rattle.mdb_pool.specs.declared.step.Act.TheVariants.{Take};
+
+    /// The connection is one of this pool, and a party has it since it was established.
+    pub fn is_held(&self, id: u32) -> bool
+        ensures { result ≡ is_held_at (connection_at self.now id) }
+    {
+        match self.connections.get(id) {
+            Some(connection) => connection.is_held(),
+            None => false,
+        }
+    }
+
+    // The party gets the connection from its pin.
+    fn hand_pinned(
+        &mut self,
+        alloc: Global,
+        moment: Moment,
+        party: u32,
+        connection: Connection,
+    ) -> Result<(), AllocError>
+        ensures { OnOk result (self.new ≡ taking self.old moment party connection) }
+    {
+        let timeouts = self.timeouts();
+        self.last = moment;
+        self.connections.replace(
+            alloc,
+            &Connection {
+                place: Place::Held,
+                holder: Some(party),
+                timeouts,
+                ..connection
+            },
+        )?;
+        self.requests.put(
+            alloc,
+            Request {
+                number: party,
+                asked_at: 0,
+                warm: false,
+                took: true,
+                phase: Phase::Given(connection.id),
+            },
+        )?;
+        Ok(())
+    }
+
+    /// A new party takes a connection from its pin. Whoever calls has tested the refusals.
+    pub fn accept_take(
+        &mut self,
+        alloc: Global,
+        facts: &mut Vec<Fact>,
+        moment: Moment,
+        party: u32,
+        id: u32,
+    ) -> Result<Reply, AllocError>
+        requires unknown { is_some (request_at self.old party) ≡ false }
+        requires pinned { nat_lt 0 (pins_at (connection_at self.old id)) ≡ true }
+        requires free { is_held_at (connection_at self.old id) ≡ false }
+        ensures home { OnOk result (SameHome self.old self.new) }
+        ensures last { OnOk result (self.new.last ≡ moment) }
+        ensures accepts { IfOk result (λ reply. (xs : List PoolItem) → Fits self.old xs → Accepts self.old self.new facts.old.items facts.new.items moment (Take party self.old.pool id) reply xs (taken party id ∷ xs)) }
+    {
+        let Some(connection) = self.connections.get(id).copied() else {
+            unreachable!()
+        };
+        self.hand_pinned(alloc, moment, party, connection)?;
+        self.serve(alloc, facts, moment)?;
+        Ok(Reply::Pooled(self.pool, id))
+    }
+
+    // Refuses the take, or hands the connection over.
+    fn try_take(
+        &mut self,
+        alloc: Global,
+        facts: &mut Vec<Fact>,
+        moment: Moment,
+        party: u32,
+        id: u32,
+    ) -> Result<Reply, AllocError>
+        ensures home { OnOk result (SameHome self.old self.new) }
+        ensures answers { IfOk result (λ reply. (h : List Item) → StandsFor self.old h → Answers self.old self.new facts.old.items facts.new.items (record { moment = moment; act = Take party self.old.pool id }) reply h) }
+    {
+        if moment < self.last {
+            return Ok(Reply::Refused(Refused::TimeBack(self.last)));
+        }
+        if self.knows(party) {
+            return Ok(Reply::Refused(Refused::RequestKnown));
+        }
+        if !self.has_pin(id) {
+            return Ok(Reply::Refused(Refused::Unpinned));
+        }
+        if self.is_held(id) {
+            return Ok(Reply::Refused(Refused::PinInUse));
+        }
+        let reply = self.accept_take(alloc, facts, moment, party, id)?;
+        Ok(reply)
+    }
+
+    // Refuses the take of another pool's connection, or does it.
+    pub(super) fn try_take_in(
+        &mut self,
+        alloc: Global,
+        facts: &mut Vec<Fact>,
+        moment: Moment,
+        party: u32,
+        pool: u32,
+        id: u32,
+    ) -> Result<Reply, AllocError>
+        ensures home { OnOk result (SameHome self.old self.new) }
+        ensures answers { IfOk result (λ reply. (h : List Item) → StandsFor self.old h → Answers self.old self.new facts.old.items facts.new.items (record { moment = moment; act = Take party pool id }) reply h) }
+    {
+        if pool == self.pool {
+            return self.try_take(alloc, facts, moment, party, id);
+        }
+        if moment < self.last {
+            return Ok(Reply::Refused(Refused::TimeBack(self.last)));
+        }
+        if self.knows(party) {
+            return Ok(Reply::Refused(Refused::RequestKnown));
+        }
+        Ok(Reply::Refused(Refused::Unpinned))
+    }
+
+    /// A new party takes a connection that is at its pin. Refused as `TimeBack`, as `RequestKnown` where the number was used, as `Unpinned` where no
+    /// pin stands, or as `PinInUse` where the connection is held.
+    pub fn take_connection(
+        &mut self,
+        alloc: Global,
+        facts: &mut Vec<Fact>,
+        moment: Moment,
+        party: u32,
+        id: u32,
+    ) -> Result<Reply, OutOfMemory>
+        ensures home { OnOk result (SameHome self.old self.new) }
+        ensures answers { IfOk result (λ reply. (h : List Item) → StandsFor self.old h → Answers self.old self.new facts.old.items facts.new.items (record { moment = moment; act = Take party self.old.pool id }) reply h) }
+        ensures err_core { OnErr result (self.new ≡ self.old) }
+        ensures err_facts { OnErr result (facts.new.items ≡ facts.old.items) }
+    {
+        let step = Step {
+            moment,
+            act: Act::Take(party, self.pool, id),
+        };
+        self.attempt(alloc, facts, &step)
+    }
+}

@@ -1,0 +1,135 @@
+//! A pinned connection loses a pin.
+
+ghost use Rattle.std.specs.Prelude.{◌≡◌, ◌∷◌, ◌++◌, OnOk, OnErr, IfOk, List, true, nat_lt};
+
+use super::connection::Connection;
+use super::{Act, PoolCore, Refused, Reply, Step};
+use mdb_base::{Moment, OutOfMemory};
+use mdb_events::{ConnectionClosedReason, Fact};
+use std::alloc::{AllocError, Global};
+
+impl PoolCore {
+    ghost use Rattle.mdb_pool.specs.Changes.{unpinned_once, unpinning, pin_ending, back_facts};
+    ghost use Rattle.mdb_pool.specs.Kept.{connection_at, pins_at};
+    ghost use Rattle.mdb_pool.specs.Standing.{SameHome, Fits, Accepts, StandsFor, Answers};
+    ghost use Rattle.mdb_pool.specs.History.{Item, PoolItem, unpinned};
+    ghost use Rattle.mdb_pool.specs.declared.step.Act.TheVariants.{Unpin};
+
+    // The connection with one pin less.
+    fn unpinned_once(&self, connection: Connection) -> Connection
+        ensures { result ≡ unpinned_once self.now connection }
+    {
+        Connection {
+            pins: connection.pins.saturating_sub(1),
+            timeouts: self.timeouts(),
+            ..connection
+        }
+    }
+
+    // One pin less, and no more of it.
+    fn remove_pin(
+        &mut self,
+        alloc: Global,
+        moment: Moment,
+        connection: Connection,
+    ) -> Result<(), AllocError>
+        ensures { OnOk result (self.new ≡ unpinning self.old moment connection) }
+    {
+        let fewer = self.unpinned_once(connection);
+        self.last = moment;
+        self.connections.replace(alloc, &fewer)?;
+        Ok(())
+    }
+
+    // The last pin of a connection that is at it goes: the connection is available or closed.
+    fn end_pin(
+        &mut self,
+        alloc: Global,
+        facts: &mut Vec<Fact>,
+        moment: Moment,
+        connection: Connection,
+        reason: Option<ConnectionClosedReason>,
+    ) -> Result<(), AllocError>
+        ensures core { OnOk result (self.new ≡ pin_ending self.old moment connection reason) }
+        ensures facts { OnOk result (facts.new.items ≡ facts.old.items ++ back_facts self.old connection reason) }
+    {
+        self.push_back(facts, connection, reason)?;
+        let fewer = self.unpinned_once(connection);
+        self.last = moment;
+        self.place_back(alloc, moment, fewer, reason)?;
+        Ok(())
+    }
+
+    /// A pinned connection loses a pin. Whoever calls has tested the refusals.
+    pub fn accept_unpin(
+        &mut self,
+        alloc: Global,
+        facts: &mut Vec<Fact>,
+        moment: Moment,
+        id: u32,
+    ) -> Result<Reply, AllocError>
+        requires { nat_lt 0 (pins_at (connection_at self.old id)) ≡ true }
+        ensures home { OnOk result (SameHome self.old self.new) }
+        ensures last { OnOk result (self.new.last ≡ moment) }
+        ensures accepts { IfOk result (λ reply. (xs : List PoolItem) → Fits self.old xs → Accepts self.old self.new facts.old.items facts.new.items moment (Unpin self.old.pool id) reply xs (unpinned id ∷ xs)) }
+    {
+        let Some(connection) = self.connections.get(id).copied() else {
+            unreachable!()
+        };
+        if connection.is_at_last_pin() {
+            let reason = self.reason_now(connection);
+            self.end_pin(alloc, facts, moment, connection, reason)?;
+            self.serve(alloc, facts, moment)?;
+            return Ok(Reply::Done);
+        }
+        self.remove_pin(alloc, moment, connection)?;
+        self.serve(alloc, facts, moment)?;
+        Ok(Reply::Done)
+    }
+
+    // Refuses the unpin, or does it. The pool of the connection is tested here too.
+    pub(super) fn try_unpin(
+        &mut self,
+        alloc: Global,
+        facts: &mut Vec<Fact>,
+        moment: Moment,
+        pool: u32,
+        id: u32,
+    ) -> Result<Reply, AllocError>
+        ensures home { OnOk result (SameHome self.old self.new) }
+        ensures answers { IfOk result (λ reply. (h : List Item) → StandsFor self.old h → Answers self.old self.new facts.old.items facts.new.items (record { moment = moment; act = Unpin pool id }) reply h) }
+    {
+        if moment < self.last {
+            return Ok(Reply::Refused(Refused::TimeBack(self.last)));
+        }
+        if pool != self.pool {
+            return Ok(Reply::Refused(Refused::Unpinned));
+        }
+        if !self.has_pin(id) {
+            return Ok(Reply::Refused(Refused::Unpinned));
+        }
+        let reply = self.accept_unpin(alloc, facts, moment, id)?;
+        Ok(reply)
+    }
+
+    /// A pinned connection loses a pin; with the last one it is checked in where it is at its pin (CMAP, "Checking In a Connection"). Refused as
+    /// `TimeBack`, or as `Unpinned` where no pin stands.
+    pub fn unpin(
+        &mut self,
+        alloc: Global,
+        facts: &mut Vec<Fact>,
+        moment: Moment,
+        id: u32,
+    ) -> Result<Reply, OutOfMemory>
+        ensures home { OnOk result (SameHome self.old self.new) }
+        ensures answers { IfOk result (λ reply. (h : List Item) → StandsFor self.old h → Answers self.old self.new facts.old.items facts.new.items (record { moment = moment; act = Unpin self.old.pool id }) reply h) }
+        ensures err_core { OnErr result (self.new ≡ self.old) }
+        ensures err_facts { OnErr result (facts.new.items ≡ facts.old.items) }
+    {
+        let step = Step {
+            moment,
+            act: Act::Unpin(self.pool, id),
+        };
+        self.attempt(alloc, facts, &step)
+    }
+}
