@@ -1,3 +1,4 @@
 pub mod Keeping
 pub mod Sharing
 pub mod Closing
+pub mod Crossing

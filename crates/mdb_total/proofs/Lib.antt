@@ -1,0 +1,2 @@
+pub mod Totalled
+pub mod Crossing

@@ -1,0 +1,13 @@
+use Rattle.std.proofs.Common.{rules, ◌≡◌, ℕ, refl, sym, ap, ◌∙◌}
+use Rattle.mdb_pool.specs.declared.log.Entry.{Entry}
+use Rattle.mdb_pool.specs.Driver.{IsEntry}
+use Rattle.mdb_total.specs.Totals.{reply_of}
+use Rattle.mdb_total.proofs.Totalled.{still_stands}
+use Rattle.mdb_total.proofs.total.TotalCore.step.Goals as goal
+
+pub returns-clause-stands : goal.returns-clause-stands
+returns-clause-stands c =
+    let step = c.args.step.now in let answer = c.reply-answer.result in
+    let e : Entry = record { seat = c.args.seat; step = c.in_ok-clone.field-0; reply = c.reply.result; facts = c.new-2.result } in
+    let is : IsEntry c.args.seat step answer e = search rules in
+    still_stands c.args.self.now _ c.args.log.now c.args.seat step answer e c.push.new.self is c.in_ok-push.ensures.ok c.requires.stands (c.reply-answer.ensures ∙ ap (λ (k : ℕ). reply_of k step.act) c.sum_after-sum.ensures) c.sum_after-sum.ensures c.moved-self.ensures refl
