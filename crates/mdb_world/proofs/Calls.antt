@@ -5,10 +5,10 @@ use Rattle.mdb_base.specs.Equality.{same_address}
 use Rattle.mdb_base.specs.declared.address.ServerAddress.{ServerAddress}
 use Rattle.mdb_pool.specs.declared.options.PoolOptions.{PoolOptions}
 use Rattle.mdb_pool.specs.declared.pool_core.PoolCore.{PoolCore}
-use Rattle.mdb_pool.specs.History.{Item, PoolItem, of_pool, has_party, open_pool}
+use Rattle.mdb_pool.specs.History.{Item, PoolItem, of_pool, has_party, has_asked, open_pool}
 use Rattle.mdb_pool.specs.Connections.{has}
 use Rattle.mdb_pool.specs.Requests.{some_act, names_party, was_asked, leaves, told, is_claimed}
-use Rattle.mdb_pool.specs.Kept.{request_at}
+use Rattle.mdb_pool.specs.Kept.{request_at, is_asked_at}
 use Rattle.mdb_pool.specs.Standing.{Fits, SameHome}
 use Rattle.mdb_world.specs.Homes.{homes}
 use Rattle.mdb_world.specs.Standing.{home, knows, settled, PoolFits, IsApart, PoolsFit}
@@ -16,8 +16,8 @@ use Rattle.mdb_world.proofs.Lists.{any-set, any-none, position-set, map-set}
 use Rattle.mdb_world.proofs.Places.{Place, at_it, beside, place, some-same}
 
 -- What a longer history k says of the pool i, which has moved from s to t and knows zs, and of the others, which know what they knew.
--- The parties of new have just asked the pool, and the requests of closed are settled there.
-pub record Moved (pools : List PoolCore) (h : List Item) (s t : PoolCore) (k : List Item) (zs : List PoolItem) (new closed : ℕ → Bool) : Type 0 where
+-- The parties of new have just come to the pool, those of asking by a request, and the requests of closed are settled there.
+pub record Moved (pools : List PoolCore) (h : List Item) (s t : PoolCore) (k : List Item) (zs : List PoolItem) (new asking closed : ℕ → Bool) : Type 0 where
   pub same : SameHome s t
   pub fits : Fits t zs
   pub here : of_pool s.pool k ≡ zs
@@ -25,8 +25,9 @@ pub record Moved (pools : List PoolCore) (h : List Item) (s t : PoolCore) (k : L
   pub homes_k : homes k ≡ homes h
   pub open_k : (a : ServerAddress) → open_pool k a ≡ open_pool h a
   pub names : (r : ℕ) → some_act names_party k r ≡ new r || some_act names_party h r
-  pub requested : (r : ℕ) → some_act was_asked k r ≡ new r || some_act was_asked h r
-  pub asks : (r : ℕ) → has_party zs r ≡ new r || has_party (of_pool s.pool h) r
+  pub requested : (r : ℕ) → some_act was_asked k r ≡ asking r || some_act was_asked h r
+  pub parties : (r : ℕ) → has_party zs r ≡ new r || has_party (of_pool s.pool h) r
+  pub asks : (r : ℕ) → has_asked zs r ≡ asking r || has_asked (of_pool s.pool h) r
   pub fresh : (r : ℕ) → new r ≡ true → knows pools r ≡ false
   pub opens : (b : ℕ → Bool) → ((r : ℕ) → (told h r == 0) && not (some_act leaves h r) ≡ not (b r)) → (r : ℕ) → (told k r == 0) && not (some_act leaves k r) ≡ not (closed r || b r)
   pub settles : (r : ℕ) → has r t.settled ≡ closed r || has r s.settled
@@ -35,7 +36,7 @@ pub record Moved (pools : List PoolCore) (h : List Item) (s t : PoolCore) (k : L
   pub unclaimed : (q c : ℕ) → s.pool ≢ q → is_claimed k q c ≡ is_claimed h q c
 
 module _ (o : PoolOptions) (pools : List PoolCore) (h : List Item) (z : PoolsFit o pools h) (i : ℕ) (s t : PoolCore) (at_i : slice_get pools i ≡ Some s)
-    (k : List Item) (zs : List PoolItem) (new closed : ℕ → Bool) (v : Moved pools h s t k zs new closed) where
+    (k : List Item) (zs : List PoolItem) (new asking closed : ℕ → Bool) (v : Moved pools h s t k zs new asking closed) where
   abbrev d : PoolFits o h i s
   d = z.each i s at_i
 
@@ -43,7 +44,10 @@ module _ (o : PoolOptions) (pools : List PoolCore) (h : List Item) (z : PoolsFit
   other-place j ne f = ne (sym d.number ∙ f)
 
   known-t : (r : ℕ) → is_some (request_at t r) ≡ new r || is_some (request_at s r)
-  known-t r = sym (v.fits.asked r) ∙ (v.asks r ∙ (ap (λ p. new r || has_party (of_pool p h) r) d.number ∙ ap (λ b. new r || b) (d.fits.asked r)))
+  known-t r = sym (v.fits.asked r) ∙ (v.parties r ∙ (ap (λ p. new r || has_party (of_pool p h) r) d.number ∙ ap (λ b. new r || b) (d.fits.asked r)))
+
+  asked-t : (r : ℕ) → is_asked_at (request_at t r) ≡ asking r || is_asked_at (request_at s r)
+  asked-t r = sym (v.fits.matches.asks r) ∙ (v.asks r ∙ (ap (λ p. asking r || has_asked (of_pool p h) r) d.number ∙ ap (λ b. asking r || b) (d.fits.matches.asks r)))
 
   each-k : (j : ℕ) (u : PoolCore) → slice_get (set pools i t) j ≡ Some u → PoolFits o k j u
   each-k j u e = on (place pools i s t at_i j)
@@ -121,7 +125,7 @@ module _ (o : PoolOptions) (pools : List PoolCore) (h : List Item) (z : PoolsFit
     open_are = λ a. v.open_k a ∙ (z.open_are a ∙ sym (position-set (λ u. same_address u.address a) pools i s t at_i (ap (λ b. same_address b a) v.same.address)));
     names = λ r. v.names r ∙ (ap (λ b. new r || b) (z.names r) ∙ sym (any-set (λ u. is_some (request_at u r)) (new r) pools i s t at_i (known-t r)));
     apart = apart-k;
-    requested = λ r. v.requested r ∙ (ap (λ b. new r || b) (z.requested r) ∙ sym (any-set (λ u. is_some (request_at u r)) (new r) pools i s t at_i (known-t r)));
+    requested = λ r. v.requested r ∙ (ap (λ b. asking r || b) (z.requested r) ∙ sym (any-set (λ u. is_asked_at (request_at u r)) (asking r) pools i s t at_i (asked-t r)));
     opens = λ r. v.opens (settled pools) z.opens r ∙ ap not (sym (any-set (λ u. has r u.settled) (closed r) pools i s t at_i (v.settles r)));
     noted = noted-k;
     claims = claims-k;

@@ -13,7 +13,8 @@ use Rattle.mdb_pool.specs.Legal.{IsOwn, AllOwn, IsAccepted, IsNext}
 use Rattle.mdb_pool.specs.Legal.{AllFirstCome as PoolFirstCome}
 use Rattle.mdb_pool.specs.Kept.{request_at}
 use Rattle.mdb_world.specs.Homes.{homes}
-use Rattle.mdb_world.specs.Legal.{FirstCome, AllFirstCome, IsFairAnswer}
+use Rattle.mdb_pool.specs.Fresh.{GrantsFresh, AllGrantFresh}
+use Rattle.mdb_world.specs.Legal.{FirstCome, AllFirstCome, IsFairAnswer, FreshGrant, AllFreshGrants}
 use Rattle.mdb_world.specs.Standing.{PoolsFit}
 
 -- they open no pool
@@ -33,6 +34,15 @@ fair-fact p m _ h fs i = tt
 pub fair-facts : (p m : ℕ) (fs : List Fact) (h : List Item) → PoolFirstCome p m (of_pool p h) fs → AllFirstCome m h fs
 fair-facts p m [] h i = tt
 fair-facts p m (f ∷ fs) h i = (fair-fact p m f h fs i, fair-facts p m fs (made m f ∷ h) i.1)
+
+-- what is fresh in the pool is fresh among all
+fresh-fact : (p : ℕ) (o : PoolOptions) (m : ℕ) (f : Fact) (h : List Item) (fs : List Fact) → PoolFirstCome p m (of_pool p h) (f ∷ fs) → GrantsFresh o m (of_pool p h) f → FreshGrant o m h f
+fresh-fact p o m (Granted k q c) h fs i j = subst (λ n. GrantsFresh o m (of_pool n h) (Granted k q c)) (sym i.0.0) j
+fresh-fact p o m _ h fs i j = tt
+
+pub fresh-facts : (p : ℕ) (o : PoolOptions) (m : ℕ) (fs : List Fact) (h : List Item) → PoolFirstCome p m (of_pool p h) fs → AllGrantFresh p o m (of_pool p h) fs → AllFreshGrants o m h fs
+fresh-facts p o m [] h i j = tt
+fresh-facts p o m (f ∷ fs) h i j = (fresh-fact p o m f h fs i j.0, fresh-facts p o m fs (made m f ∷ h) i.1 j.1)
 
 pub fair-accepted : (h : List Item) (step : Step) (reply : Reply) (fs : List Fact) → IsAccepted reply → AllFirstCome step.moment (did step reply ∷ h) fs → IsFairAnswer h step reply fs
 fair-accepted h step (Refused why) fs i f = absurd i

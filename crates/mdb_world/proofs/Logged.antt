@@ -11,15 +11,16 @@ use Rattle.mdb_pool.specs.declared.step.Act.{Act}
 use Rattle.mdb_pool.specs.declared.step.Act.TheVariants.{Open}
 use Rattle.mdb_pool.specs.declared.log.Entry.{Entry}
 use Rattle.mdb_pool.specs.declared.pool_core.PoolCore.{PoolCore}
-use Rattle.mdb_pool.specs.History.{Item, of_pool, with_answer, with_entries, history_of}
+use Rattle.mdb_pool.specs.History.{Item, did, of_pool, with_answer, with_entries, history_of}
 use Rattle.mdb_pool.specs.Legal.{OnePlace, NoneLeftWaiting}
+use Rattle.mdb_pool.specs.Limits.{WithinLimits}
 use Rattle.mdb_pool.proofs.Places.{one-place}
 use Rattle.mdb_pool.proofs.Runs.{with_entries-append}
 use Rattle.mdb_pool.proofs.Served.{served-settled}
 use Rattle.mdb_world.specs.declared.pools.Pools.{Pools}
 use Rattle.mdb_world.specs.Answer.{answer}
 use Rattle.mdb_world.specs.Opening.{is_opening, pool_options, in_order}
-use Rattle.mdb_world.specs.Legal.{IsFairAnswer, IsOrderly, IsLegal}
+use Rattle.mdb_world.specs.Legal.{IsFairAnswer, AllFreshGrants, IsOrderly, IsLegal}
 use Rattle.mdb_world.specs.Lines.{answer_after, entry_after, is_later, IsLegalLog}
 use Rattle.mdb_world.specs.Standing.{PoolFits, StandsFor, Logs, OpensSeeds, opened, opening_entry, IsOpened, IsTaken, Holds}
 
@@ -33,19 +34,19 @@ nothing-waits o = inl refl
 pub orderly : (w : Pools) (h : List Item) → StandsFor w h → IsOrderly w.options h
 orderly w h z p = on (slice_get w.cores.items p) refl
   where
-    on : (a : Option PoolCore) → slice_get w.cores.items p ≡ a → OnePlace (of_pool p h) × NoneLeftWaiting w.options (of_pool p h)
+    on : (a : Option PoolCore) → slice_get w.cores.items p ≡ a → OnePlace (of_pool p h) × NoneLeftWaiting w.options (of_pool p h) × WithinLimits w.options (of_pool p h)
     on None e =
         let k : of_pool p h ≡ [] = z.pools.fit.rest p e in
-        subst (λ xs. OnePlace xs × NoneLeftWaiting w.options xs) (sym k) (nothing-placed, nothing-waits w.options)
+        (subst OnePlace (sym k) nothing-placed, subst (NoneLeftWaiting w.options) (sym k) (nothing-waits w.options), z.pools.within p)
     on (Some s) e =
         let d : PoolFits w.options h p s = z.pools.fit.each p s e in
-        (one-place s (of_pool p h) d.fits.matches, served-settled w.options (of_pool p h) (z.pools.served p) s.address)
+        (one-place s (of_pool p h) d.fits.matches, served-settled w.options (of_pool p h) (z.pools.served p) s.address, z.pools.within p)
 
 -- one more legal entry
 legal-append : (o : PoolOptions) (es : List Entry) (e : Entry) (h : List Item) → IsLegal o h es → IsFairAnswer (with_entries es h) e.step e.reply e.facts
-    → IsOrderly o (with_answer e.step e.reply e.facts (with_entries es h)) → IsLegal o h (es ++ e ∷ [])
-legal-append o [] e h l fair order = (fair, order, tt)
-legal-append o (d ∷ es) e h l fair order = (l.0, l.1, legal-append o es e (with_answer d.step d.reply d.facts h) l.2 fair order)
+    → AllFreshGrants o e.step.moment (did e.step e.reply ∷ with_entries es h) e.facts → IsOrderly o (with_answer e.step e.reply e.facts (with_entries es h)) → IsLegal o h (es ++ e ∷ [])
+legal-append o [] e h l fair fresh order = (fair, fresh, order, tt)
+legal-append o (d ∷ es) e h l fair fresh order = (l.0, l.1, l.2, legal-append o es e (with_answer d.step d.reply d.facts h) l.3 fair fresh order)
 
 later-open : (a : Act) → is_later a ≡ true → is_opening a ≡ false
 later-open (Open o) e = absurd (cc)
@@ -76,7 +77,7 @@ adds w v log after step z same l later =
         logged = added;
         later = All-push (λ (d : Entry). is_opening d.step.act ≡ false) z.entries e z.later (later-open step.act later);
         orderly = z.orderly;
-        legal = legal-append o z.entries e h0 z.legal (subst (λ k. IsFairAnswer k e.step e.reply e.facts) known l.fair) (subst (λ k. IsOrderly o (with_answer e.step e.reply e.facts k)) known order);
+        legal = legal-append o z.entries e h0 z.legal (subst (λ k. IsFairAnswer k e.step e.reply e.facts) known l.fair) (subst (λ q. AllFreshGrants q step.moment (did step e.reply ∷ with_entries z.entries h0) e.facts) z.made_with (subst (λ k. AllFreshGrants w.options step.moment (did step e.reply ∷ k) e.facts) known l.fresh)) (subst (λ k. IsOrderly o (with_answer e.step e.reply e.facts k)) known order);
         stands = subst (StandsFor v) now stands;
       },
     )

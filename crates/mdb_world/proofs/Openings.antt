@@ -105,6 +105,7 @@ opens-none w options e l = record {
   pools = subst (λ ps. PoolsStand w.options ps (start options)) (sym e) (record {
     fit = record { each = λ p s f. cc; rest = λ p f. refl; homes_are = refl; open_are = λ a. refl; names = λ r. refl; apart = λ r p q s t f. cc; requested = λ r. refl; opens = λ r. refl; noted = λ p s r f. cc; claims = λ p s c f. cc; unclaimed = λ p c f. refl };
     served = λ p q a n. refl;
+    within = λ p. record { pending = omega arith; live = omega arith };
   });
   last_is = sym l;
 }

@@ -17,8 +17,9 @@ use Rattle.mdb_pool.specs.declared.pool_core.PoolCore.{PoolCore}
 use Rattle.mdb_pool.specs.History.{Item, made, pool_created, of_pool, open_pool}
 use Rattle.mdb_pool.specs.Connections.{has}
 use Rattle.mdb_pool.specs.Requests.{is_claimed}
-use Rattle.mdb_pool.specs.Kept.{request_at}
+use Rattle.mdb_pool.specs.Kept.{request_at, is_asked_at}
 use Rattle.mdb_pool.specs.Legal.{IsServed}
+use Rattle.mdb_pool.specs.Limits.{WithinLimits}
 use Rattle.mdb_pool.specs.Standing.{Fits}
 use Rattle.mdb_pool.proofs.Addresses.{same-address}
 use Rattle.mdb_pool.proofs.Frame.{other-number}
@@ -88,6 +89,9 @@ module _ (o : PoolOptions) (pools : List PoolCore) (h : List Item) (z : PoolsSta
   knows-none : (r : ℕ) → is_some (request_at s r) ≡ false
   knows-none r = sym (fresh.fits.asked r)
 
+  asked-none : (r : ℕ) → is_asked_at (request_at s r) ≡ false
+  asked-none r = sym (fresh.fits.matches.asks r)
+
   each-k : (j : ℕ) (u : PoolCore) → slice_get (pools ++ s ∷ []) j ≡ Some u → PoolFits o k j u
   each-k j u f = on (place pools s j)
     where
@@ -152,6 +156,16 @@ module _ (o : PoolOptions) (pools : List PoolCore) (h : List Item) (z : PoolsSta
       on true f = let w : n ≡ q = grind arith in subst (IsServed o) (sym mine ∙ ap (λ p. of_pool p k) w) (subst (λ c. IsServed c (pool_created ∷ [])) options fresh.served)
       on false f = let w : n ≢ q = grind arith in subst (IsServed o) (sym (others q w)) (z.served q)
 
+  new-within : WithinLimits o (pool_created ∷ [])
+  new-within = (record { pending = omega arith; live = omega arith }, record { pending = omega arith; live = omega arith })
+
+  within-k : (q : ℕ) → WithinLimits o (of_pool q k)
+  within-k q = on (n == q) refl
+    where
+      on : (b : Bool) → (n == q) ≡ b → WithinLimits o (of_pool q k)
+      on true f = let w : n ≡ q = grind arith in subst (WithinLimits o) (sym mine ∙ ap (λ p. of_pool p k) w) new-within
+      on false f = let w : n ≢ q = grind arith in subst (WithinLimits o) (sym (others q w)) (z.within q)
+
   fit-k : PoolsFit o (pools ++ s ∷ []) k
   fit-k = record {
     each = each-k;
@@ -160,7 +174,7 @@ module _ (o : PoolOptions) (pools : List PoolCore) (h : List Item) (z : PoolsSta
     open_are = open-k;
     names = λ r. z.fit.names r ∙ sym (any-push (λ u. is_some (request_at u r)) pools s (knows-none r));
     apart = apart-k;
-    requested = λ r. z.fit.requested r ∙ sym (any-push (λ u. is_some (request_at u r)) pools s (knows-none r));
+    requested = λ r. z.fit.requested r ∙ sym (any-push (λ u. is_asked_at (request_at u r)) pools s (asked-none r));
     opens = λ r. z.fit.opens r ∙ ap not (sym (any-push (λ u. has r u.settled) pools s (fresh.settled r)));
     noted = noted-k;
     claims = claims-k;
@@ -168,4 +182,4 @@ module _ (o : PoolOptions) (pools : List PoolCore) (h : List Item) (z : PoolsSta
   }
 
   pub opens : PoolsStand o (pools ++ s ∷ []) k
-  opens = record { fit = fit-k; served = served-k }
+  opens = record { fit = fit-k; served = served-k; within = within-k }

@@ -37,7 +37,7 @@ module _ (o : PoolOptions) (pools : List PoolCore) (h : List Item) (n : ℕ) whe
   }
 
   rests-stand : PoolsStand o pools h → PoolsStand o pools k
-  rests-stand z = record { fit = rests-fit z.fit; served = z.served }
+  rests-stand z = record { fit = rests-fit z.fit; served = z.served; within = z.within }
 
   -- no pool has anything to serve
   quiet : PoolsStand o pools h → step_facts o h (record { moment = n; act = Claim }) None ≡ []

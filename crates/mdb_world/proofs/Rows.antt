@@ -2,14 +2,15 @@
 use Rattle.std.specs.Prelude.{ℕ, ◌≡◌, List, [], ◌∷◌, ◌++◌, Some, None, refl, pos, true, false, codes}
 use Rattle.mdb_base.specs.declared.address.ServerAddress.{ServerAddress}
 use Rattle.mdb_base.specs.declared.options.Options.{Options}
-use Rattle.mdb_events.specs.declared.cmap.CmapEvent.TheVariants.{ConnectionCreated, ConnectionCheckoutStarted, ConnectionCheckedOut, ConnectionCheckedIn}
+use Rattle.mdb_events.specs.declared.cmap.CmapEvent.TheVariants.{ConnectionCreated, ConnectionCheckoutStarted, ConnectionCheckedOut, ConnectionCheckedIn, ConnectionClosed}
+use Rattle.mdb_events.specs.declared.reasons.ConnectionClosedReason.TheVariants.{Error as ErrorReason}
 use Rattle.mdb_events.specs.declared.fact.Fact.TheVariants.{Opened, Pool, Granted}
 use Rattle.mdb_pool.specs.declared.step.Established.{Established as How}
 use Rattle.mdb_pool.specs.declared.step.Step.{Step}
 use Rattle.mdb_pool.specs.declared.step.Act.{Act}
-use Rattle.mdb_pool.specs.declared.step.Act.TheVariants.{Open, Request, Collect, Claim, Established, Return}
-use Rattle.mdb_pool.specs.declared.step.Use.TheVariants.{Ok}
-use Rattle.mdb_pool.specs.declared.reply.Refused.TheVariants.{TimeBack, UnknownServer, RequestKnown, UnknownRequest, NotHolder, NotPending, WrongMode}
+use Rattle.mdb_pool.specs.declared.step.Act.TheVariants.{Open, Request, Collect, Claim, Established, Return, Pin, Take, Unpin}
+use Rattle.mdb_pool.specs.declared.step.Use.TheVariants.{Ok, Errored}
+use Rattle.mdb_pool.specs.declared.reply.Refused.TheVariants.{TimeBack, UnknownServer, RequestKnown, UnknownRequest, NotHolder, NotPending, Unpinned, PinInUse, PinState, WrongMode}
 use Rattle.mdb_pool.specs.declared.reply.Reply.TheVariants.{Pooled, Establishing, Job, NoJob, Done, Refused}
 use Rattle.mdb_pool.specs.Answer.{Answer}
 use Rattle.mdb_world.specs.Opening.{created, pool_options, in_order}
@@ -112,3 +113,27 @@ row15 = refl
 
 row16 : final (three ++ at_moment 5 Claim ∷ []) 5 Claim ≡ record { reply = NoJob; facts = [] }
 row16 = refl
+
+-- the first caller pins its connection, and leaves it at the pin with an error
+abbrev pinned : List Step
+pinned = three ++ at_moment 5 (Pin 1) ∷ at_moment 6 (Return 1 Errored) ∷ []
+
+-- no caller that waits gets it from there, but a party that takes it; with the last pin it is checked in, and closed for its error
+row17 : final pinned 7 (Take 4 1 1) ≡ record { reply = Pooled 1 1; facts = [] }
+row17 = refl
+
+row18 : final (pinned ++ at_moment 7 (Take 4 1 1) ∷ at_moment 8 (Return 4 Ok) ∷ []) 9 (Unpin 1 1) ≡ record {
+  reply = Done;
+  facts = Pool 1 (ConnectionCheckedIn (record { address = b; connection_id = 1 })) ∷ Pool 1 (ConnectionClosed (record { address = b; connection_id = 1; reason = ErrorReason; service_id = how.service_id })) ∷ Pool 1 (ConnectionCreated (record { address = b; connection_id = 2 })) ∷ Granted 3 1 2 ∷ [];
+}
+row18 = refl
+
+-- a pin stands in its own pool alone, once for its holder, and nobody takes what is held
+row19 : final pinned 7 (Unpin 0 1) ≡ record { reply = Refused Unpinned; facts = [] }
+row19 = refl
+
+row20 : final (three ++ at_moment 5 (Pin 1) ∷ []) 5 (Pin 1) ≡ record { reply = Refused PinState; facts = [] }
+row20 = refl
+
+row21 : final (three ++ at_moment 5 (Pin 1) ∷ []) 5 (Take 4 1 1) ≡ record { reply = Refused PinInUse; facts = [] }
+row21 = refl

@@ -6,12 +6,14 @@ use Rattle.mdb_pool.specs.declared.options.PoolOptions.{PoolOptions}
 use Rattle.mdb_pool.specs.declared.step.Step.{Step}
 use Rattle.mdb_pool.specs.declared.reply.Reply.{Reply}
 use Rattle.mdb_pool.specs.declared.pool_core.PoolCore.{PoolCore}
-use Rattle.mdb_pool.specs.History.{Item, did, PoolItem, of_pool, with_facts, after_facts, has_party}
+use Rattle.mdb_pool.specs.History.{Item, did, PoolItem, of_pool, with_facts, after_facts, has_party, has_asked}
 use Rattle.mdb_pool.specs.Facts.{act_facts}
 use Rattle.mdb_pool.specs.Serving.{serving}
 use Rattle.mdb_pool.specs.Answer.{all_facts, reply_of, with_act}
 use Rattle.mdb_pool.specs.Requests.{names_party, was_asked, asks_how, leaves, is_claimed}
 use Rattle.mdb_pool.specs.Legal.{AllOwn}
+use Rattle.mdb_pool.specs.Connections.{created_total}
+use Rattle.mdb_pool.proofs.Calm.{IsBound}
 use Rattle.mdb_pool.specs.Kept.{request_at}
 use Rattle.mdb_pool.specs.Standing.{Accepts}
 use Rattle.mdb_pool.proofs.Serving.{of_pool-with_facts}
@@ -30,11 +32,12 @@ use Rattle.mdb_world.proofs.Facts.{apart-items}
 pub record Concerns (o : PoolOptions) (pools : List PoolCore) (h : List Item) (s : PoolCore) (step : Step) (ys : List PoolItem) : Type 0 where
   pub mine : with_act s.pool h step ≡ ys
   pub others : (q : ℕ) → s.pool ≢ q → with_act q h step ≡ of_pool q h
-  pub asks : (r : ℕ) → has_party ys r ≡ names_party step.act r || has_party (of_pool s.pool h) r
+  pub names : (r : ℕ) → has_party ys r ≡ names_party step.act r || has_party (of_pool s.pool h) r
+  pub asks : (r : ℕ) → has_asked ys r ≡ was_asked step.act r || has_asked (of_pool s.pool h) r
   pub fresh : (r : ℕ) → names_party step.act r ≡ true → knows pools r ≡ false
-  pub asked : (r : ℕ) → was_asked step.act r ≡ names_party step.act r
   pub parties : (r : ℕ) → asks_how step.act r || leaves step.act r ≡ true → has_party ys r ≡ true
   pub later : is_later step.act ≡ true
+  pub bound : IsBound (created_total (of_pool s.pool h)) (of_pool s.pool h) step.act
   pub accepted : refusal o h step ≡ None
   pub place : home_of h step.act ≡ Some (home s)
 
@@ -62,7 +65,7 @@ module _ (o : PoolOptions) (pools : List PoolCore) (h : List Item) (z : PoolsSta
 
   -- the parties of the act are none of another pool's
   apart-act : (q : ℕ) → s.pool ≢ q → (r : ℕ) → has_party ys r ≡ true → has_party (of_pool q h) r ≡ false
-  apart-act q ne r e = on (names_party step.act r) refl (sym (w.asks r) ∙ e)
+  apart-act q ne r e = on (names_party step.act r) refl (sym (w.names r) ∙ e)
     where
       at_pool : (a : Option PoolCore) → slice_get pools q ≡ a → names_party step.act r ≡ true → has_party (of_pool q h) r ≡ false
       at_pool None f g = ap (λ xs. has_party xs r) (z.fit.rest q f)

@@ -9,7 +9,7 @@ use Rattle.mdb_pool.specs.declared.step.Act.TheVariants.{Request, Warm, Collect,
 use Rattle.mdb_pool.specs.declared.reply.Reply.{Reply}
 use Rattle.mdb_events.specs.declared.end.End.{End}
 use Rattle.mdb_pool.specs.declared.pool_core.PoolCore.{PoolCore}
-use Rattle.mdb_pool.specs.History.{Item, did, PoolItem, of_pool, with_facts, with_answer, after_facts, last_moment, given}
+use Rattle.mdb_pool.specs.History.{Item, did, PoolItem, of_pool, with_facts, with_answer, after_facts, last_moment, given, open_pool}
 use Rattle.mdb_pool.specs.Connections.{has, pending_list}
 use Rattle.mdb_pool.specs.Requests.{some_act, names_party, was_asked, leaves, told, asks_how, is_outcome, is_claimed, end_of, outcome_of}
 use Rattle.mdb_pool.specs.Answer.{all_facts, first_job, reply_of}
@@ -18,11 +18,16 @@ use Rattle.mdb_pool.specs.Legal.{IsServed, shuts}
 use Rattle.mdb_pool.specs.Facts.{act_facts}
 use Rattle.mdb_pool.proofs.Laws.{with-serve, size}
 use Rattle.mdb_pool.specs.Legal.{AllFirstCome as PoolFirstCome}
-use Rattle.mdb_pool.specs.Standing.{Accepts, SameHome, settles, is_job}
+use Rattle.mdb_pool.specs.Answer.{with_act}
+use Rattle.mdb_pool.specs.Limits.{WithinLimits}
+use Rattle.mdb_pool.specs.Fresh.{AllGrantFresh}
+use Rattle.mdb_pool.specs.Standing.{Fits, Accepts, SameHome, settles, is_job}
 use Rattle.mdb_pool.proofs.Acts.{with_answer-accepted, opens-after, claimed-reply}
-use Rattle.mdb_pool.proofs.Frame.{party-facts, last-facts, acts-facts, open-facts, told-facts, claimed-facts, other-number}
+use Rattle.mdb_pool.proofs.Limits.{act-kept, accepted-within}
+use Rattle.mdb_pool.proofs.Fresh.{accepted-fresh}
+use Rattle.mdb_pool.proofs.Frame.{party-facts, asked-facts, last-facts, acts-facts, open-facts, told-facts, claimed-facts, other-number}
 use Rattle.mdb_world.specs.Standing.{PoolFits, PoolsStand, Takes}
-use Rattle.mdb_world.proofs.Facts.{homes-facts, fair-facts, fair-accepted}
+use Rattle.mdb_world.proofs.Facts.{homes-facts, fair-facts, fair-accepted, fresh-facts}
 use Rattle.mdb_world.proofs.Unshut.{act-open}
 use Rattle.mdb_world.proofs.Calls.{Moved, moved}
 use Rattle.mdb_world.proofs.Steps.{Concerns, answer-is, here, there}
@@ -90,6 +95,30 @@ module _ (o : PoolOptions) (pools : List PoolCore) (h : List Item) (z : PoolsSta
           subst (IsServed o) (sym here-k ∙ ap (λ p. of_pool p k) f) (subst (λ c. IsServed c (after_facts s.pool m F ys)) own-stands.options v.served)
       on false e = let f : s.pool ≢ q = grind arith in subst (IsServed o) (sym (there-k q f)) (z.served q)
 
+  -- each pool keeps its limits
+  within-here : WithinLimits s.options (after_facts s.pool m F ys)
+  within-here =
+      let before : WithinLimits s.options (of_pool s.pool h) = subst (λ c. WithinLimits c (of_pool s.pool h)) (sym own-stands.options) (z.within s.pool) in
+      let acted : WithinLimits s.options ys = subst (WithinLimits s.options) w.mine (act-kept s.options s.pool (open_pool h) m step.act (of_pool s.pool h) before) in
+      accepted-within s.pool s.address s.options m (of_pool s.pool h) ys step.act acted
+
+  within-k : (q : ℕ) → WithinLimits o (of_pool q k)
+  within-k q = on (s.pool == q) refl
+    where
+      on : (b : Bool) → (s.pool == q) ≡ b → WithinLimits o (of_pool q k)
+      on true e =
+          let f : s.pool ≡ q = grind arith in
+          subst (WithinLimits o) (sym here-k ∙ ap (λ p. of_pool p k) f) (subst (λ c. WithinLimits c (after_facts s.pool m F ys)) own-stands.options within-here)
+      on false e = let f : s.pool ≢ q = grind arith in subst (WithinLimits o) (sym (there-k q f)) (z.within q)
+
+  -- the grants are of fresh connections
+  fresh-k : AllGrantFresh s.pool o m (with_act s.pool h step) F
+  fresh-k =
+      let fits : Fits s (of_pool s.pool h) = subst (λ p. Fits s (of_pool p h)) (sym own-stands.number) own-stands.fits in
+      let of_act : AllGrantFresh s.pool s.options m (with_act s.pool h step) F =
+      subst (λ zs. AllGrantFresh s.pool s.options m (with_act s.pool h step) (all_facts s.pool s.address s.options m (of_pool s.pool h) zs step.act)) w.mine (accepted-fresh s h step fits.matches w.bound) in
+      subst (λ c. AllGrantFresh s.pool c m (with_act s.pool h step) F) own-stands.options of_act
+
   closes-k : (b : ℕ → Bool) → ((r : ℕ) → (told h r == 0) && not (some_act leaves h r) ≡ not (b r)) → (r : ℕ) → (told k r == 0) && not (some_act leaves k r) ≡ not (settles step.act reply r || b r)
   closes-k b e r = rw (told-facts m r F (did step reply ∷ h), acts-facts leaves m r F (did step reply ∷ h)) (opens-after (asks_how step.act r && is_outcome reply) (leaves step.act r) (some_act leaves h r) (told h r) (b r) (e r))
 
@@ -116,7 +145,7 @@ module _ (o : PoolOptions) (pools : List PoolCore) (h : List Item) (z : PoolsSta
       let zs : List PoolItem = after_facts s.pool m acts ys in
       with-serve s.pool s.address s.options m acts (size s.pool s.address s.options m zs) zs ∙ act-open s.pool s.address s.options m (of_pool s.pool h) ys step.act w.later
 
-  moves : Moved pools h s t k (after_facts s.pool m F ys) (names_party step.act) (settles step.act reply)
+  moves : Moved pools h s t k (after_facts s.pool m F ys) (names_party step.act) (was_asked step.act) (settles step.act reply)
   moves = record {
     same = same;
     fits = v.fits;
@@ -125,8 +154,9 @@ module _ (o : PoolOptions) (pools : List PoolCore) (h : List Item) (z : PoolsSta
     homes_k = homes-facts s.pool m F ys (did step reply ∷ h) v.own;
     open_k = λ a. open-facts s.pool m F ys (did step reply ∷ h) a v.own ∙ rw unshut refl;
     names = λ r. acts-facts names_party m r F (did step reply ∷ h);
-    requested = λ r. acts-facts was_asked m r F (did step reply ∷ h) ∙ ap (λ b. b || some_act was_asked h r) (w.asked r);
-    asks = λ r. party-facts s.pool m r F ys ∙ w.asks r;
+    requested = λ r. acts-facts was_asked m r F (did step reply ∷ h);
+    parties = λ r. party-facts s.pool m r F ys ∙ w.names r;
+    asks = λ r. asked-facts s.pool m r F ys ∙ w.asks r;
     fresh = w.fresh;
     opens = closes-k;
     settles = v.settled;
@@ -138,7 +168,7 @@ module _ (o : PoolOptions) (pools : List PoolCore) (h : List Item) (z : PoolsSta
   pub takes : Takes o pools i t before after step reply h
   takes =
       let e : with_answer step reply F h ≡ k = with_answer-accepted step reply F h v.accepted in
-      let stands : PoolsStand o (set pools i t) k = record { fit = moved o pools h z.fit i s t at_i k (after_facts s.pool m F ys) (names_party step.act) (settles step.act reply) moves; served = served-k } in
+      let stands : PoolsStand o (set pools i t) k = record { fit = moved o pools h z.fit i s t at_i k (after_facts s.pool m F ys) (names_party step.act) (was_asked step.act) (settles step.act reply) moves; served = served-k; within = within-k } in
       record {
         facts = F;
         facts_are = v.facts_are;
@@ -146,4 +176,5 @@ module _ (o : PoolOptions) (pools : List PoolCore) (h : List Item) (z : PoolsSta
         stands = subst (PoolsStand o (set pools i t)) (sym e) stands;
         last_is = ap last_moment e ∙ last-facts m F (did step reply ∷ h);
         fair = fair-accepted h step reply F v.accepted (fair-facts s.pool m F (did step reply ∷ h) (subst (λ zs. PoolFirstCome s.pool m zs F) (sym w.mine) v.fair));
+        fresh = fresh-facts s.pool o m F (did step reply ∷ h) (subst (λ zs. PoolFirstCome s.pool m zs F) (sym w.mine) v.fair) fresh-k;
       }

@@ -1,5 +1,5 @@
 -- Acts of callers and workers close no pool.
-use Rattle.std.proofs.Common.{ℕ, ◌≡◌, Bool, true, false, List, [], ◌∷◌, ◌++◌, Option, Some, None, is_some, nat_lt, refl, sym, ◌∙◌}
+use Rattle.std.proofs.Common.{ℕ, ◌≡◌, ◌==◌, ◌&&◌, Bool, true, false, List, [], ◌∷◌, ◌++◌, Option, Some, None, is_some, nat_lt, refl, sym, ◌∙◌}
 use Rattle.mdb_base.specs.declared.address.ServerAddress.{ServerAddress}
 use Rattle.mdb_events.specs.declared.end.End.{End}
 use Rattle.mdb_events.specs.declared.fact.Fact.{Fact}
@@ -8,13 +8,15 @@ use Rattle.mdb_events.specs.declared.end.End.TheVariants.{Filled}
 use Rattle.mdb_events.specs.declared.reasons.ConnectionClosedReason.{ConnectionClosedReason}
 use Rattle.mdb_pool.specs.declared.options.PoolOptions.{PoolOptions}
 use Rattle.mdb_pool.specs.declared.step.Act.{Act}
-use Rattle.mdb_pool.specs.declared.step.Act.TheVariants.{Request, Collect, Claim, GiveUp, Established, Return}
-use Rattle.mdb_pool.specs.History.{PoolItem}
-use Rattle.mdb_pool.specs.Connections.{holding, pins, granted_to}
+use Rattle.mdb_pool.specs.declared.step.Act.TheVariants.{Request, Warm, Maintain, Collect, Claim, GiveUp, Established, Return, Pin, Replicate, Take, Unpin}
+use Rattle.mdb_pool.specs.History.{PoolItem, after_facts}
+use Rattle.mdb_pool.specs.Connections.{available_list, holding, pins, is_pinned, granted_to}
 use Rattle.mdb_pool.specs.Requests.{is_warm, end_of}
-use Rattle.mdb_pool.specs.State.{State, is_new, is_ready, is_paused, is_closed, state_of}
-use Rattle.mdb_pool.specs.Facts.{closes, close_reason, end_facts, check_in, come_back, hand_over, turned_away, act_facts}
+use Rattle.mdb_pool.specs.State.{State, is_new, is_ready, is_paused, is_closed, state_of, min_size}
+use Rattle.mdb_pool.specs.Facts.{closes, close_reason, end_facts, check_in, come_back, hand_over, turned_away, sweep, fill, act_facts}
 use Rattle.mdb_pool.specs.Legal.{is_closing, shuts}
+use Rattle.mdb_pool.proofs.Laws.{shut-append}
+use Rattle.mdb_pool.proofs.Maintains.{sweep-open, fill-open}
 use Rattle.mdb_world.specs.Lines.{is_later}
 
 module _ (p : ℕ) (a : ServerAddress) (o : PoolOptions) (m : ℕ) where
@@ -81,9 +83,19 @@ module _ (p : ℕ) (a : ServerAddress) (o : PoolOptions) (m : ℕ) where
 
   pub act-open : (xs ys : List PoolItem) (act : Act) → is_later act ≡ true → shuts (act_facts p a o m xs ys act) ≡ false
   act-open xs ys (Request r b) e = turned-open ys r
+  act-open xs ys (Warm r b) e = turned-open ys r
+  act-open xs ys (Maintain b) e = shut-append p a o m (sweep p a o m ys (available_list ys)) (fill p a o m (min_size o) (after_facts p m (sweep p a o m ys (available_list ys)) ys)) ∙ rw (sweep-open p a o m ys (available_list ys), fill-open p a o m (min_size o) (after_facts p m (sweep p a o m ys (available_list ys)) ys)) refl
   act-open xs ys (Collect r) e = refl
   act-open xs ys Claim e = refl
   act-open xs ys (GiveUp r) e = give-up-open xs ys r
   act-open xs ys (Established q c how) e = hand-open ys c (granted_to ys c)
   act-open xs ys (Return r used) e = come-back-open ys (holding xs r)
+  act-open xs ys (Pin r) e = refl
+  act-open xs ys (Replicate q c) e = refl
+  act-open xs ys (Take r q c) e = refl
+  act-open xs ys (Unpin q c) e = on (is_pinned xs c && (pins ys c == 0)) refl
+    where
+      on : (b : Bool) → is_pinned xs c && (pins ys c == 0) ≡ b → shuts (act_facts p a o m xs ys (Unpin q c)) ≡ false
+      on true f = rw f (check-in-open ys c)
+      on false f = rw f refl
   act-open xs ys _ e = absurd (cc)

@@ -4,7 +4,7 @@ use Rattle.std.specs.List.{list_any}
 use Rattle.mdb_base.specs.declared.address.ServerAddress.{ServerAddress}
 use Rattle.mdb_events.specs.declared.fact.Fact.TheVariants.{Opened}
 use Rattle.mdb_pool.specs.declared.step.Act.{Act}
-use Rattle.mdb_pool.specs.declared.step.Act.TheVariants.{Request, Collect, Claim, GiveUp, Established, Return}
+use Rattle.mdb_pool.specs.declared.step.Act.TheVariants.{Request, Warm, Maintain, Collect, Claim, GiveUp, Established, Return, Pin, Replicate, Take, Unpin}
 use Rattle.mdb_pool.specs.History.{Item, made, of_pool, open_pool, is_number, has_asked}
 use Rattle.mdb_pool.specs.Connections.{pending_list, holding}
 use Rattle.mdb_pool.specs.Requests.{is_claimed}
@@ -27,11 +27,17 @@ has_job h p = list_any (λ c. not (is_claimed h p c)) (pending_list (of_pool p h
 -- The act concerns the pool: it is open at the address, was asked by the request, has a job, is named, or the party holds a connection of it.
 abbrev pub concerns : List Item → Act → ℕ → Bool
 concerns h (Request r a) p = is_number (open_pool h a) p
+concerns h (Warm r a) p = is_number (open_pool h a) p
+concerns h (Maintain a) p = is_number (open_pool h a) p
 concerns h (Collect r) p = has_asked (of_pool p h) r
 concerns h (GiveUp r) p = has_asked (of_pool p h) r
 concerns h Claim p = has_job h p
 concerns h (Established q c how) p = q == p
 concerns h (Return r used) p = is_some (holding (of_pool p h) r)
+concerns h (Pin r) p = is_some (holding (of_pool p h) r)
+concerns h (Replicate q c) p = q == p
+concerns h (Take r q c) p = q == p
+concerns h (Unpin q c) p = q == p
 concerns h _ p = false
 
 -- the first pool, by number, that the act concerns

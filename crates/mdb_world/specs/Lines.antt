@@ -1,5 +1,5 @@
 -- What the lines of a script are answered: the first opens the pools of its seeds, and each later one is a step of theirs.
-use Rattle.std.specs.Prelude.{◌≡◌, Bool, true, false, ◌&&◌, List, [], ◌∷◌, ◌++◌, map, is_none, ⊤, All}
+use Rattle.std.specs.Prelude.{◌≡◌, Bool, true, false, List, [], ◌∷◌, ◌++◌, map, ⊤, All}
 use Rattle.mdb_pool.specs.declared.step.Step.{Step}
 use Rattle.mdb_pool.specs.declared.step.Act.{Act}
 use Rattle.mdb_pool.specs.declared.step.Act.TheVariants as act
@@ -36,19 +36,25 @@ log_of steps = log_after [] steps
 abbrev pub steps_of : List Entry → List Step
 steps_of log = map (λ e. e.step) log
 
--- The first line opens its seeds, with no least size and no idle limit.
+-- The first line opens its seeds.
 abbrev pub opens_seeds : Act → Bool
-opens_seeds (act.Open o) = is_none o.min_pool_size && is_none o.max_idle_time
+opens_seeds (act.Open o) = true
 opens_seeds _ = false
 
--- The acts that lines after that one have so far: a caller asks, asks how its request stands, gives up or comes back, and a worker claims or reports.
+-- The acts that lines after that one have so far: a caller or a warm request asks, a pool is maintained, a caller asks how its request stands, gives up, pins its connection or comes back, a cursor or transaction pins it once more, takes it or unpins it, and a worker claims or reports.
 abbrev pub is_later : Act → Bool
 is_later (act.Request r a) = true
+is_later (act.Warm r a) = true
+is_later (act.Maintain a) = true
 is_later (act.Collect r) = true
 is_later act.Claim = true
 is_later (act.GiveUp r) = true
 is_later (act.Established p c how) = true
 is_later (act.Return r used) = true
+is_later (act.Pin r) = true
+is_later (act.Replicate p c) = true
+is_later (act.Take r p c) = true
+is_later (act.Unpin p c) = true
 is_later _ = false
 
 -- the step may come after these steps
@@ -61,7 +67,7 @@ abbrev pub AreLegal : Act → List Item → List Entry → Type 0
 AreLegal (act.Open o) h log = IsOrderly (pool_options o) h × IsLegal (pool_options o) h log
 AreLegal _ h log = ⊥
 
--- Legal: the log is empty, or its first entry opens the seeds in the order of their addresses, no other opens, and each grants first come and leaves in each pool each connection in one place and nobody waiting who could be granted one.
+-- Legal: the log is empty, or its first entry opens the seeds in the order of their addresses, no other opens, and each grants first come and only what is fresh, and leaves in each pool each connection in one place, nobody waiting who could be granted one, and the limits kept.
 abbrev pub IsLegalLog : List Entry → Type 0
 IsLegalLog [] = ⊤
 IsLegalLog (first ∷ log) = (first.facts ≡ (opening_answer first.step.act).facts) × All (λ e. is_opening e.step.act ≡ false) log × AreLegal first.step.act (history_of (first ∷ [])) log

@@ -1,5 +1,5 @@
 -- When the pools of one driver stand for a history, and for a log.
-use Rattle.std.specs.Prelude.{ℕ, ◌≡◌, ◌<◌, ◌≤◌, ◌==◌, Bool, true, false, not, ◌&&◌, is_some, List, [], ◌∷◌, ◌++◌, length, map, position, slice_get, set, Option, Some, None, All, ⊤}
+use Rattle.std.specs.Prelude.{ℕ, ◌≡◌, ◌<◌, ◌≤◌, ◌==◌, Bool, true, false, not, nat_lt, ◌&&◌, is_some, List, [], ◌∷◌, ◌++◌, length, map, position, slice_get, set, Option, Some, None, All, ⊤}
 use Rattle.std.specs.List.{list_any}
 use Rattle.mdb_base.specs.Equality.{same_address}
 use Rattle.mdb_base.specs.declared.address.ServerAddress.{ServerAddress}
@@ -16,8 +16,9 @@ use Rattle.mdb_pool.specs.declared.pool_core.PoolCore.{PoolCore}
 use Rattle.mdb_pool.specs.History.{Item, did, of_pool, open_pool, last_moment, with_facts, with_answer, history_of}
 use Rattle.mdb_pool.specs.Connections.{has}
 use Rattle.mdb_pool.specs.Requests.{some_act, names_party, was_asked, leaves, told, is_claimed}
-use Rattle.mdb_pool.specs.Kept.{request_at, held_connection, first_unclaimed}
+use Rattle.mdb_pool.specs.Kept.{request_at, held_connection, first_unclaimed, is_asked_at, pins_at}
 use Rattle.mdb_pool.specs.Legal.{IsServed}
+use Rattle.mdb_pool.specs.Limits.{WithinLimits}
 use Rattle.mdb_pool.specs.Standing.{Fits}
 use Rattle.mdb_world.specs.declared.pools.Pools.{Pools}
 use Rattle.mdb_world.specs.declared.outcome.Outcome.{Outcome}
@@ -27,7 +28,7 @@ use Rattle.mdb_world.specs.Homes.{Home, homes}
 use Rattle.mdb_world.specs.Refusal.{refusal}
 use Rattle.mdb_world.specs.Answer.{answer}
 use Rattle.mdb_world.specs.Opening.{is_opening, pool_options, opening_facts, opening_answer}
-use Rattle.mdb_world.specs.Legal.{IsFairAnswer, IsOrderly, IsLegal}
+use Rattle.mdb_world.specs.Legal.{IsFairAnswer, AllFreshGrants, IsOrderly, IsLegal}
 use Rattle.mdb_world.specs.Lines.{is_later}
 
 abbrev pub home : PoolCore → Home
@@ -37,17 +38,25 @@ home s = record { number = s.pool; address = s.address }
 abbrev pub at_address : List PoolCore → ServerAddress → Option ℕ
 at_address pools a = position (λ s. same_address s.address a) pools
 
--- some pool was asked by the party
+-- some pool knows the party: it asked, or took a pinned connection
 abbrev pub knows : List PoolCore → ℕ → Bool
 knows pools r = list_any (λ s. is_some (request_at s r)) pools
 
--- the first pool that the party asked
-abbrev pub asked_by : List PoolCore → ℕ → Option ℕ
-asked_by pools r = position (λ s. is_some (request_at s r)) pools
+-- some pool was asked by the party
+abbrev pub requested : List PoolCore → ℕ → Bool
+requested pools r = list_any (λ s. is_asked_at (request_at s r)) pools
+
+-- the first pool that knows the party
+abbrev pub known_by : List PoolCore → ℕ → Option ℕ
+known_by pools r = position (λ s. is_some (request_at s r)) pools
 
 -- the first pool of which the party holds a connection
 abbrev pub holder : List PoolCore → ℕ → Option ℕ
 holder pools r = position (λ s. is_some (held_connection s r)) pools
+
+-- the connection that the party holds of the pool has a pin
+abbrev pub holds_pin : PoolCore → ℕ → Bool
+holds_pin s r = nat_lt 0 (pins_at (held_connection s r))
 
 -- the first pool that has a job
 abbrev pub first_job : List PoolCore → Option ℕ
@@ -63,7 +72,7 @@ pub record PoolFits (o : PoolOptions) (h : List Item) (p : ℕ) (s : PoolCore) :
   pub options : s.options ≡ o
   pub fits : Fits s (of_pool p h)
 
--- no party asked two pools
+-- no party is known to two pools
 abbrev pub IsApart : List PoolCore → Type 0
 IsApart pools = (r p q : ℕ) (s t : PoolCore) → slice_get pools p ≡ Some s → slice_get pools q ≡ Some t → is_some (request_at s r) ≡ true → is_some (request_at t r) ≡ true → p ≡ q
 
@@ -76,16 +85,17 @@ pub record PoolsFit (o : PoolOptions) (pools : List PoolCore) (h : List Item) : 
   pub names : (r : ℕ) → some_act names_party h r ≡ knows pools r
   pub apart : IsApart pools
   -- what was told and claimed
-  pub requested : (r : ℕ) → some_act was_asked h r ≡ knows pools r
+  pub requested : (r : ℕ) → some_act was_asked h r ≡ requested pools r
   pub opens : (r : ℕ) → (told h r == 0) && not (some_act leaves h r) ≡ not (settled pools r)
   pub noted : (p : ℕ) (s : PoolCore) (r : ℕ) → slice_get pools p ≡ Some s → has r s.settled ≡ true → is_some (request_at s r) ≡ true
   pub claims : (p : ℕ) (s : PoolCore) (c : ℕ) → slice_get pools p ≡ Some s → is_claimed h p c ≡ has c s.claimed
   pub unclaimed : (p c : ℕ) → slice_get pools p ≡ None → is_claimed h p c ≡ false
 
--- The pools are those of the history, and each is served.
+-- The pools are those of the history, each is served, and each keeps its limits.
 pub record PoolsStand (o : PoolOptions) (pools : List PoolCore) (h : List Item) : Type 0 where
   pub fit : PoolsFit o pools h
   pub served : (p : ℕ) → IsServed o (of_pool p h)
+  pub within : (p : ℕ) → WithinLimits o (of_pool p h)
 
 pub record StandsFor (w : Pools) (h : List Item) : Type 0 where
   pub pools : PoolsStand w.options w.cores.items h
@@ -99,6 +109,7 @@ pub record Takes (o : PoolOptions) (pools : List PoolCore) (i : ℕ) (t : PoolCo
   pub stands : PoolsStand o (set pools i t) (with_answer step reply facts h)
   pub last_is : last_moment (with_answer step reply facts h) ≡ step.moment
   pub fair : IsFairAnswer h step reply facts
+  pub fresh : AllFreshGrants o step.moment (did step reply ∷ h) facts
 
 -- An accepted step that finds no job: all pools stay.
 pub record Rests (o : PoolOptions) (pools : List PoolCore) (before after : List Fact) (step : Step) (h : List Item) : Type 0 where
@@ -123,14 +134,14 @@ pub record Logs (w v : Pools) (before after : List Entry) (seat : ℕ) (step : S
   pub entry : after ≡ before ++ record { seat = seat; step = step; reply = (answer w.options h step).reply; facts = (answer w.options h step).facts } ∷ []
   pub stands : StandsFor v (with_answer step (answer w.options h step).reply (answer w.options h step).facts h)
   pub fair : IsFairAnswer h step (answer w.options h step).reply (answer w.options h step).facts
+  pub fresh : AllFreshGrants w.options step.moment (did step (answer w.options h step).reply ∷ h) (answer w.options h step).facts
 
--- The step opens different seeds, without an idle limit.
+-- The step opens different seeds.
 pub record OpensSeeds (s : Step) : Type 0 where
   pub options : Options
   pub step_is : s ≡ record { moment = 0; act = Open options }
   pub few : length options.seeds ≤ 128
   pub different : all_different options.seeds ≡ true
-  pub no_idle : options.max_idle_time ≡ None
 
 -- the history of a driver that was opened with these options, and had a pool made for each of the addresses
 abbrev pub opened : PoolOptions → Options → List ServerAddress → List Item

@@ -11,7 +11,7 @@ use std::alloc::{AllocError, Global};
 
 impl Pools {
     ghost use Rattle.mdb_pool.specs.History.{Item};
-    ghost use Rattle.mdb_pool.specs.declared.step.Act.TheVariants.{Request as RequestAct, Collect as CollectAct, GiveUp as GiveUpAct, Return as ReturnAct};
+    ghost use Rattle.mdb_pool.specs.declared.step.Act.TheVariants.{Request as RequestAct, Warm as WarmAct, Collect as CollectAct, GiveUp as GiveUpAct, Return as ReturnAct};
     ghost use Rattle.mdb_world.specs.Standing.{IsWithin, StandsFor, Performs};
 
     // A caller asks the pool at the address.
@@ -38,6 +38,30 @@ impl Pools {
         Ok(Outcome::Accepted(index, pool, reply))
     }
 
+    // A warm request asks the pool at the address.
+    pub(crate) fn warm(
+        &self,
+        alloc: Global,
+        facts: &mut Vec<Fact>,
+        moment: Moment,
+        party: u32,
+        address: &ServerAddress,
+    ) -> Result<Outcome, AllocError>
+        requires { self.now.last ≤ moment }
+        ensures within { IfOk result (λ outcome. IsWithin self.now outcome) }
+        ensures performs { IfOk result (λ outcome. (h : List Item) → StandsFor self.now h → Performs self.now facts.old.items facts.new.items (record { moment = moment; act = WarmAct party address.now }) outcome h) }
+    {
+        let Some(index) = self.at_address(address) else {
+            return Ok(Outcome::Refused(Refused::UnknownServer));
+        };
+        if self.knows(party) {
+            return Ok(Outcome::Refused(Refused::RequestKnown));
+        }
+        let mut pool = self.cores[index].copy(alloc)?;
+        let reply = pool.accept_warm(alloc, facts, moment, party)?;
+        Ok(Outcome::Accepted(index, pool, reply))
+    }
+
     // The caller of a request asks how it stands.
     pub(crate) fn collect(
         &self,
@@ -50,7 +74,7 @@ impl Pools {
         ensures within { IfOk result (λ outcome. IsWithin self.now outcome) }
         ensures performs { IfOk result (λ outcome. (h : List Item) → StandsFor self.now h → Performs self.now facts.old.items facts.new.items (record { moment = moment; act = CollectAct request }) outcome h) }
     {
-        let Some(index) = self.asked_by(request) else {
+        let Some(index) = self.known_by(request) else {
             return Ok(Outcome::Refused(Refused::UnknownRequest));
         };
         let asked = &self.cores[index];
@@ -74,7 +98,7 @@ impl Pools {
         ensures within { IfOk result (λ outcome. IsWithin self.now outcome) }
         ensures performs { IfOk result (λ outcome. (h : List Item) → StandsFor self.now h → Performs self.now facts.old.items facts.new.items (record { moment = moment; act = GiveUpAct request }) outcome h) }
     {
-        let Some(index) = self.asked_by(request) else {
+        let Some(index) = self.known_by(request) else {
             return Ok(Outcome::Refused(Refused::UnknownRequest));
         };
         let asked = &self.cores[index];

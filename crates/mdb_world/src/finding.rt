@@ -6,7 +6,7 @@ use crate::pools::Pools;
 use mdb_base::ServerAddress;
 
 impl Pools {
-    ghost use Rattle.mdb_world.specs.Standing.{at_address, knows, asked_by, holder, first_job};
+    ghost use Rattle.mdb_world.specs.Standing.{at_address, knows, known_by, holder, first_job};
 
     // The pool that serves the address.
     pub(crate) fn at_address(&self, address: &ServerAddress) -> Option<usize>
@@ -17,16 +17,16 @@ impl Pools {
             .position(|pool| pool.address().is(address))
     }
 
-    // The party asked some pool.
+    // Some pool knows the party: it asked, or took a pinned connection.
     pub(crate) fn knows(&self, party: u32) -> bool
         ensures { result ≡ knows self.now.cores.items party }
     {
         self.cores.iter().any(|pool| pool.knows(party))
     }
 
-    // The pool that the party asked.
-    pub(crate) fn asked_by(&self, party: u32) -> Option<usize>
-        ensures { result ≡ asked_by self.now.cores.items party }
+    // The pool that knows the party.
+    pub(crate) fn known_by(&self, party: u32) -> Option<usize>
+        ensures { result ≡ known_by self.now.cores.items party }
     {
         self.cores.iter().position(|pool| pool.knows(party))
     }

@@ -3,8 +3,10 @@
 
 mod asking;
 mod finding;
+mod maintaining;
 mod opening;
 mod outcome;
+mod pinning;
 mod pools;
 mod reporting;
 mod seeds;

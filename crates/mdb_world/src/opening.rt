@@ -53,7 +53,6 @@ impl Pools {
     fn add(&mut self, alloc: Global, address: &ServerAddress) -> Result<(), AllocError>
         requires few { length self.old.cores.items < 128 }
         requires absent { at_address self.old.cores.items address.now ≡ None }
-        requires no_idle { self.old.options.max_idle_time ≡ None }
         ensures options { self.new.options ≡ self.old.options }
         ensures addresses { OnOk result (map (λ s. s.address) self.new.cores.items ≡ map (λ s. s.address) self.old.cores.items ++ address.now ∷ []) }
         ensures stands { OnOk result ((o : Options) (list : List Address) → length list ≡ length self.old.cores.items
@@ -74,7 +73,6 @@ impl Pools {
     ) -> Result<Pools, AllocError>
         requires few { length addresses.now ≤ 128 }
         requires different { all_different addresses.now ≡ true }
-        requires no_idle { options.max_idle_time ≡ None }
         ensures options { IfOk result (λ w. w.options ≡ options) }
         ensures stands { IfOk result (λ w. (o : Options) → StandsFor w (opened options o addresses.now)) }
     {

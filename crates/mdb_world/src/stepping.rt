@@ -43,6 +43,8 @@ impl Pools {
         let moment = step.moment;
         match &step.act {
             Act::Request(party, address) => self.request(alloc, facts, moment, *party, address),
+            Act::Warm(party, address) => self.warm(alloc, facts, moment, *party, address),
+            Act::Maintain(address) => self.maintain(alloc, facts, moment, address),
             Act::Collect(request) => self.collect(alloc, facts, moment, *request),
             Act::Claim => self.claim(alloc, facts, moment),
             Act::GiveUp(request) => self.give_up(alloc, facts, moment, *request),
@@ -50,6 +52,10 @@ impl Pools {
                 self.established(alloc, facts, moment, *number, *id, *made)
             }
             Act::Return(party, used) => self.check_in(alloc, facts, moment, *party, *used),
+            Act::Pin(party) => self.pin(alloc, facts, moment, *party),
+            Act::Replicate(number, id) => self.replicate(alloc, facts, moment, *number, *id),
+            Act::Take(party, number, id) => self.take(alloc, facts, moment, *party, *number, *id),
+            Act::Unpin(number, id) => self.unpin(alloc, facts, moment, *number, *id),
             _ => unreachable!(),
         }
     }

@@ -31,14 +31,11 @@ fn pool_options(options: &Options) -> PoolOptions
     }
 }
 
-// The act opens its seeds, with no least size and no idle limit.
+// The act opens its seeds.
 fn opens_seeds(act: &Act) -> bool
     ensures { result ≡ opens_seeds act.now }
 {
-    match act {
-        Act::Open(options) => { options.min_pool_size.is_none() && options.max_idle_time.is_none() }
-        _ => false,
-    }
+    matches!(act, Act::Open(_))
 }
 
 // The act is one of those that lines after the first have so far.
@@ -47,11 +44,17 @@ fn is_later(act: &Act) -> bool
 {
     match act {
         Act::Request(_, _) => true,
+        Act::Warm(_, _) => true,
+        Act::Maintain(_) => true,
         Act::Collect(_) => true,
         Act::Claim => true,
         Act::Established(_, _, _) => true,
         Act::GiveUp(_) => true,
         Act::Return(_, _) => true,
+        Act::Pin(_) => true,
+        Act::Replicate(_, _) => true,
+        Act::Take(_, _, _) => true,
+        Act::Unpin(_, _) => true,
         _ => false,
     }
 }

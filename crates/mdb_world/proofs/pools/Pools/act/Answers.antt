@@ -33,3 +33,21 @@ returns-in-Established-clause-performs c = at-act c.args.self.now c.args.facts.n
 
 pub returns-in-Return-clause-performs : goal.returns-in-Return-clause-performs
 returns-in-Return-clause-performs c = at-act c.args.self.now c.args.facts.now.items c.check_in.new.facts.items c.args.step.now _ c.check_in.result c.in-Return.is c.check_in.ensures.performs
+
+pub returns-in-Warm-clause-performs : goal.returns-in-Warm-clause-performs
+returns-in-Warm-clause-performs c = at-act c.args.self.now c.args.facts.now.items c.warm.new.facts.items c.args.step.now _ c.warm.result c.in-Warm.is c.warm.ensures.performs
+
+pub returns-in-Maintain-clause-performs : goal.returns-in-Maintain-clause-performs
+returns-in-Maintain-clause-performs c = at-act c.args.self.now c.args.facts.now.items c.maintain.new.facts.items c.args.step.now _ c.maintain.result c.in-Maintain.is c.maintain.ensures.performs
+
+pub returns-in-Pin-clause-performs : goal.returns-in-Pin-clause-performs
+returns-in-Pin-clause-performs c = at-act c.args.self.now c.args.facts.now.items c.pin.new.facts.items c.args.step.now _ c.pin.result c.in-Pin.is c.pin.ensures.performs
+
+pub returns-in-Replicate-clause-performs : goal.returns-in-Replicate-clause-performs
+returns-in-Replicate-clause-performs c = at-act c.args.self.now c.args.facts.now.items c.replicate.new.facts.items c.args.step.now _ c.replicate.result c.in-Replicate.is c.replicate.ensures.performs
+
+pub returns-in-Take-clause-performs : goal.returns-in-Take-clause-performs
+returns-in-Take-clause-performs c = at-act c.args.self.now c.args.facts.now.items c.take.new.facts.items c.args.step.now _ c.take.result c.in-Take.is c.take.ensures.performs
+
+pub returns-in-Unpin-clause-performs : goal.returns-in-Unpin-clause-performs
+returns-in-Unpin-clause-performs c = at-act c.args.self.now c.args.facts.now.items c.unpin.new.facts.items c.args.step.now _ c.unpin.result c.in-Unpin.is c.unpin.ensures.performs

@@ -2,7 +2,7 @@ use Rattle.std.proofs.Common.{◌≡◌, ◌<◌, ◌∙◌, length, refl, sym, 
 use Rattle.std.specs.Prelude.{slice_get}
 use Rattle.mdb_pool.specs.Kept.{request_at, is_open_now}
 use Rattle.mdb_world.proofs.Lists.{position-within, position-at, position-none, at-index}
-use Rattle.mdb_world.proofs.Acts.{not-open, open-at, give-up-refusal}
+use Rattle.mdb_world.proofs.Acts.{not-open, open-at, open-asked, give-up-refusal}
 use Rattle.mdb_world.proofs.Taken.{give-up-takes}
 use Rattle.mdb_world.proofs.pools.Pools.give_up.Goals as goal
 
@@ -28,8 +28,4 @@ returns-clause-performs c =
     c.args.request (sym c.in-Some.ensures) opened c.in_ok-reply.ensures.accepts
 
 pub accept_give_up-requires : goal.accept_give_up-requires
-accept_give_up-requires c =
-    let pools = c.args.self.now.cores.items in
-    let within : c.in-Some.index < length pools = position-within (λ s. is_some (request_at s c.args.request)) pools c.in-Some.index (sym c.in-Some.ensures) in
-    let at_i : slice_get pools c.in-Some.index ≡ Some c.in_ok-pool.pool = at-index pools c.in-Some.index c.index-asked.result.now c.in_ok-pool.pool within c.index-asked.ensures c.in_ok-pool.ensures in
-    (position-at (λ s. is_some (request_at s c.args.request)) pools c.in-Some.index c.in_ok-pool.pool (sym c.in-Some.ensures) at_i).0
+accept_give_up-requires c = open-asked c.in_ok-pool.pool c.args.request (ap (λ s. is_open_now s c.args.request) c.in_ok-pool.ensures ∙ (sym c.is_open.ensures.kept ∙ c.if-not-is_open.false))
