@@ -45,6 +45,17 @@ fn calls_of_acts_answer_as_steps_do(rt: HostRuntime) -> Result<(), Fail> {
     assert!(rt; matches!(reply, Reply::Job(0, 1)));
     let reply = core.claim(alloc, &mut facts, 0)?;
     assert!(rt; matches!(reply, Reply::NoJob));
+    assert_eq!(rt; core.number(), 0);
+    assert_eq!(rt; core.address().port, 27017);
+    Ok(())
+}
+
+#[test]
+fn a_connection_is_handed_out_and_comes_back(rt: HostRuntime) -> Result<(), Fail> {
+    let alloc = rt.alloc();
+    let mut core = pool_of_one(alloc)?;
+    let mut facts = Vec::new(alloc);
+    core.request(alloc, &mut facts, 0, 1)?;
     let reply = core.established(alloc, &mut facts, 1, 1, made())?;
     assert!(rt; matches!(reply, Reply::Done));
     let reply = core.collect(alloc, &mut facts, 1, 1)?;
@@ -54,8 +65,6 @@ fn calls_of_acts_answer_as_steps_do(rt: HostRuntime) -> Result<(), Fail> {
     let reply = core.check_in(alloc, &mut facts, 2, 1, Use::Ok)?;
     assert!(rt; matches!(reply, Reply::Done));
     assert_eq!(rt; facts.len(), 6);
-    assert_eq!(rt; core.number(), 0);
-    assert_eq!(rt; core.address().port, 27017);
     Ok(())
 }
 
