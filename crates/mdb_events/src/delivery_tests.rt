@@ -144,6 +144,11 @@ fn pool_events(alloc: Global) -> Result<Vec<CmapEvent>, AllocError> {
         CmapEvent::from(PoolClosedEvent {
             address: address(alloc)?
         }),
+    ]?)
+}
+
+fn connection_events(alloc: Global) -> Result<Vec<CmapEvent>, AllocError> {
+    Ok(vec![in alloc;
         CmapEvent::from(ConnectionCreatedEvent {
             address: address(alloc)?,
             connection_id: 1
@@ -278,7 +283,11 @@ fn heartbeats(alloc: Global) -> Result<Vec<SdamEvent>, AllocError> {
 fn each_event_of_a_pool_calls_its_function_once(rt: HostRuntime) -> Result<(), Fail> {
     let told = Told::new();
     let mut count: u64 = 0;
-    for event in &pool_events(rt.alloc())? {
+    let mut events = pool_events(rt.alloc())?;
+    for event in connection_events(rt.alloc())? {
+        events.push(event)?;
+    }
+    for event in &events {
         deliver_cmap(&told, event);
         count = count.wrapping_add(1);
         assert!(rt; told.calls.load(Ordering::SeqCst) == count);
