@@ -1,12 +1,16 @@
 //! Runs scripts of steps over connection pools. The real source and sinks stand here; all else is a call with a contract.
 #![tactic(auto)]
 
+#[cfg(test)]
+mod end_tests;
 mod made;
 #[cfg(test)]
 mod made_tests;
+#[cfg(test)]
+mod memory_runs;
 mod run;
 #[cfg(test)]
-mod tests;
+mod script_tests;
 mod tool;
 
 use mdb_base::{Reading, Writing};
