@@ -1,5 +1,5 @@
 -- The facts of acts grant nothing, and check in only connections that were created.
-use Rattle.std.proofs.Common.{ℕ, zero, suc, ◌≡◌, ◌+◌, ◌<◌, ◌≤◌, Bool, true, false, ◌&&◌, ◌==◌, List, [], ◌∷◌, ◌++◌, length, map, filter, Option, Some, None, refl, if◌then◌else◌}
+use Rattle.std.proofs.Common.{ℕ, zero, suc, ◌≡◌, ◌+◌, ◌≤◌, Bool, true, false, ◌&&◌, ◌==◌, List, [], ◌∷◌, ◌++◌, map, filter, Option, Some, None, refl, if◌then◌else◌}
 use Rattle.std.specs.Prelude.{is_some, nat_lt}
 use Rattle.mdb_base.specs.declared.address.ServerAddress.{ServerAddress}
 use Rattle.mdb_base.specs.declared.object_id.ObjectId.{ObjectId}
@@ -8,16 +8,16 @@ use Rattle.mdb_events.specs.declared.reasons.ConnectionClosedReason.{ConnectionC
 use Rattle.mdb_events.specs.declared.cmap.CmapEvent.TheVariants as event
 use Rattle.mdb_events.specs.declared.end.End.{End}
 use Rattle.mdb_events.specs.declared.end.End.TheVariants.{Closed, GaveUp}
-use Rattle.mdb_events.specs.declared.reasons.ConnectionClosedReason.TheVariants.{Error as ErrorReason, PoolClosed as PoolClosedReason}
+use Rattle.mdb_events.specs.declared.reasons.ConnectionClosedReason.TheVariants.{PoolClosed as PoolClosedReason}
 use Rattle.mdb_events.specs.declared.fact.Fact.{Fact}
 use Rattle.mdb_events.specs.declared.fact.Fact.TheVariants as fact
 use Rattle.mdb_pool.specs.declared.options.PoolOptions.{PoolOptions}
 use Rattle.mdb_pool.specs.declared.step.Act.{Act}
 use Rattle.mdb_pool.specs.declared.step.Act.TheVariants as act
 use Rattle.mdb_pool.specs.History.{PoolItem, after_facts}
-use Rattle.mdb_pool.specs.Connections.{live_total, created_total, pending_list, available_list, holding, pins, is_pinned, granted_to}
+use Rattle.mdb_pool.specs.Connections.{created_total, pending_list, available_list, holding, pins, is_pinned, granted_to}
 use Rattle.mdb_pool.specs.Requests.{requests, queued, is_warm, end_of, is_unserved}
-use Rattle.mdb_pool.specs.State.{State, is_new, is_ready, is_paused, is_closed, state_of, ready, min_size, max_connecting}
+use Rattle.mdb_pool.specs.State.{State, is_new, is_ready, is_paused, is_closed, state_of, min_size}
 use Rattle.mdb_pool.specs.Facts.{created_fact, closed_fact, closes, check_in, come_back, hand_over, fail_requester, sweep, fill, clear_facts, close_facts, turned_away, readied, act_facts, end_facts, all_ends, close_reason, perished}
 
 -- the fact grants nothing, and checks in no connection past the number n

@@ -18,12 +18,12 @@ use Rattle.mdb_pool.specs.Connections.{has, pending_list, available_list}
 use Rattle.mdb_pool.specs.Requests.{requests, is_unserved, queued, end_of}
 use Rattle.mdb_pool.specs.State.{state_of}
 use Rattle.mdb_pool.specs.Facts.{all_ends, close_facts, closed_fact}
-use Rattle.mdb_pool.specs.Kept.{connection_at, request_at, given_in, given_of, end_in, end_at, is_pending_at, state_in, is_shut, unserved_in, asked_at_of, holder_at, is_asked_at, numbers_asked}
+use Rattle.mdb_pool.specs.Kept.{connection_at, request_at, given_in, given_of, end_in, end_at, state_in, is_shut, unserved_in, holder_at, is_asked_at, numbers_asked}
 use Rattle.mdb_pool.specs.Places.{is_pending, is_available, is_queued}
-use Rattle.mdb_pool.specs.Changes.{closing, closing_facts, shut_facts, off_facts, pool_closed_fact, available_ones, pending_ones, unserved_ones, shut_fact, over_facts, off_fact}
-use Rattle.mdb_pool.specs.Legal.{AllFirstCome, AllOwn, shuts, is_closing}
+use Rattle.mdb_pool.specs.Changes.{closing, closing_facts, shut_facts, off_facts, pool_closed_fact, available_ones, pending_ones, unserved_ones, shut_fact, over_facts}
+use Rattle.mdb_pool.specs.Legal.{AllFirstCome, AllOwn, shuts}
 use Rattle.mdb_pool.specs.Standing.{Fits, StandsFor, Serves, Accepts, Answers, SameHome, SameNotes}
-use Rattle.mdb_pool.proofs.Tables.{In, here, there, named, passes, has-where, member-at, one_if-le}
+use Rattle.mdb_pool.proofs.Tables.{In, here, there, passes, has-where, member-at, one_if-le}
 use Rattle.mdb_pool.proofs.Acts.{accepts, own-answers, not-back, live-service, pending-is}
 use Rattle.mdb_pool.proofs.Serving.{same-number, after-append}
 use Rattle.mdb_pool.proofs.Stands.{later-fits, asked-known}

@@ -1,6 +1,5 @@
 -- Many connections are closed and many requests end, one after another.
-use Rattle.std.proofs.Common.{ℕ, ◌≡◌, ◌+◌, ◌-◌, ◌≤◌, Bool, true, false, not, ◌&&◌, ◌||◌, ◌==◌, List, [], ◌∷◌, ◌++◌, length, map, filter, Option, Some, None, is_some, refl, sym, ◌∙◌, ap, arith, if◌then◌else◌, take, get_or, ◌<◌, append_assoc, append-nil}
-use Rattle.std.specs.Prelude.{count_by, find}
+use Rattle.std.proofs.Common.{ℕ, ◌≡◌, ◌+◌, ◌-◌, ◌≤◌, Bool, true, false, not, ◌&&◌, ◌||◌, ◌==◌, List, [], ◌∷◌, ◌++◌, length, filter, Option, Some, None, is_some, refl, sym, ◌∙◌, ap, arith, if◌then◌else◌, take, get_or, ◌<◌, append_assoc, append-nil}
 use Rattle.std.proofs.lemmas.Grind.{common_steps}
 use Rattle.mdb_base.specs.declared.object_id.ObjectId.{ObjectId}
 use Rattle.mdb_events.specs.declared.end.End.{End}

@@ -12,7 +12,7 @@ use Rattle.mdb_pool.specs.declared.request.Phase.TheVariants.{Queued, Ended as E
 use Rattle.mdb_pool.specs.declared.pool_core.PoolCore.{PoolCore}
 use Rattle.mdb_pool.specs.History.{PoolItem, ended, after_fact, after_facts, without, has_asked}
 use Rattle.mdb_pool.specs.Connections.{has}
-use Rattle.mdb_pool.specs.Requests.{queued, asked_at, is_warm, told}
+use Rattle.mdb_pool.specs.Requests.{queued, asked_at, is_warm}
 use Rattle.mdb_pool.specs.Facts.{end_facts, all_ends}
 use Rattle.mdb_pool.specs.Kept.{request_at, first_queued, numbers_where, given_in, asked_at_of, warm_of}
 use Rattle.mdb_pool.specs.Places.{is_queued}

@@ -23,7 +23,7 @@ use Rattle.mdb_pool.proofs.Laws.{fair-append, own-append, shut-append}
 use Rattle.mdb_pool.proofs.Frame.{asked-facts}
 use Rattle.mdb_pool.proofs.FailedActs.{holder-some, holder-none}
 use Rattle.mdb_pool.specs.Standing.{Fits, StandsFor, Serves, Accepts, Answers, SameHome, SameNotes}
-use Rattle.mdb_pool.specs.Kept.{connection_at, request_at, is_pending_at, asked_at_of, warm_of, given_in, given_of, holder_at, holder_request, is_shut, stale_for, reason_now}
+use Rattle.mdb_pool.specs.Kept.{connection_at, request_at, is_pending_at, asked_at_of, warm_of, given_in, given_of, holder_at, holder_request, is_shut, reason_now}
 use Rattle.mdb_pool.specs.Changes.{establishing, up_fact, out_fact, pooling, back_facts, forgetting, pooling_for, filling_for, parting, ending}
 use Rattle.mdb_pool.proofs.Acts.{refuses, accepts, own-answers, not-back, pending-is, live-errored, live-dropped, given-open}
 use Rattle.mdb_pool.proofs.Tables.{entry_at-key, entry_at-swap, others-swap, named}
@@ -34,7 +34,6 @@ use Rattle.mdb_pool.specs.Requests.{end_of}
 use Rattle.mdb_pool.specs.Places.{is_pending}
 use Rattle.mdb_base.specs.declared.object_id.ObjectId.{ObjectId}
 use Rattle.mdb_events.specs.declared.reasons.ConnectionClosedReason.{ConnectionClosedReason}
-use Rattle.mdb_pool.specs.declared.step.Use.TheVariants.{Ok}
 use Rattle.mdb_pool.proofs.CheckIns.{check-in-is, back-fair, back-own, back-open, back-fits}
 use Rattle.mdb_pool.proofs.Staleness.{live-created, stale-in}
 

@@ -1,5 +1,5 @@
 -- What a pool answers grants only fresh connections.
-use Rattle.std.proofs.Common.{ℕ, zero, suc, ◌≡◌, ◌+◌, ◌<◌, ◌≤◌, Bool, true, false, not, ◌&&◌, ◌||◌, ◌==◌, List, [], ◌∷◌, ◌++◌, length, Option, Some, None, refl, sym, ◌∙◌, ap, subst, arith, if◌then◌else◌}
+use Rattle.std.proofs.Common.{ℕ, zero, suc, ◌≡◌, ◌+◌, ◌<◌, ◌≤◌, Bool, true, false, not, ◌&&◌, ◌==◌, List, [], ◌∷◌, ◌++◌, Option, Some, None, refl, sym, ◌∙◌, ap, arith}
 use Rattle.std.specs.Prelude.{is_some, nat_lt}
 use Rattle.std.proofs.lemmas.Bool.{and_parts}
 use Rattle.std.proofs.lemmas.Grind.{common_steps}
@@ -24,15 +24,15 @@ use Rattle.mdb_pool.specs.History.{Item, PoolItem, asked, warmed, gave_up, retur
 use Rattle.mdb_pool.specs.Connections.{has, created_total, pending_list, available_list, holding, pins, granted_to}
 use Rattle.mdb_pool.specs.Requests.{queued, is_warm}
 use Rattle.mdb_pool.specs.State.{state_of, ready, is_stale, is_idle, may_create}
-use Rattle.mdb_pool.specs.Facts.{created_fact, act_facts, perished}
-use Rattle.mdb_pool.specs.Serving.{last_of, candidate, next_move, serve, serving, creation, wants_connection}
+use Rattle.mdb_pool.specs.Facts.{act_facts, perished}
+use Rattle.mdb_pool.specs.Serving.{last_of, candidate, next_move, serve, creation, wants_connection}
 use Rattle.mdb_pool.specs.Refusal.{refusal_of, first_row, rows_of, wrong_service}
 use Rattle.mdb_pool.specs.Answer.{all_facts, answer, with_act}
 use Rattle.mdb_pool.specs.Fresh.{IsFresh, GrantsFresh, AllGrantFresh}
 use Rattle.mdb_pool.specs.Standing.{Matches, StandsFor}
-use Rattle.mdb_pool.specs.Kept.{connection_at, request_at, given_of, holder_at, pins_at}
+use Rattle.mdb_pool.specs.Kept.{connection_at, holder_at, pins_at}
 use Rattle.mdb_pool.specs.Places.{is_pending, is_available}
-use Rattle.mdb_pool.proofs.Tables.{has-where, passes}
+use Rattle.mdb_pool.proofs.Tables.{has-where}
 use Rattle.mdb_pool.proofs.Laws.{has-append}
 use Rattle.mdb_pool.proofs.Serving.{same-number}
 use Rattle.mdb_pool.proofs.Staleness.{live-created}

@@ -16,7 +16,7 @@ use Rattle.mdb_pool.specs.declared.request.Request.{Request}
 use Rattle.mdb_pool.specs.declared.request.Phase.{Phase}
 use Rattle.mdb_pool.specs.declared.request.Phase.TheVariants.{Queued, Given, Over, Ended as EndedPhase}
 use Rattle.mdb_pool.specs.declared.pool_core.PoolCore.{PoolCore}
-use Rattle.mdb_pool.specs.History.{Item, PoolItem, is_number, given, has_asked, of_pool, after_facts, gave_up, closed, checked_in, ended, after_fact}
+use Rattle.mdb_pool.specs.History.{Item, PoolItem, given, has_asked, of_pool, after_facts, gave_up, closed, checked_in, ended, after_fact}
 use Rattle.mdb_pool.specs.Kept.{connection_at, request_at, given_in, given_of, end_in, end_at, is_ended_at, held_connection, pending_connection, is_open_now, is_pending_at, outcome_now, is_shut, reason_now, used_as, is_asked_at}
 use Rattle.mdb_pool.specs.Requests.{end_of, told}
 use Rattle.mdb_pool.specs.Facts.{act_facts}

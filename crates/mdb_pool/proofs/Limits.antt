@@ -1,12 +1,11 @@
 -- What a pool answers keeps its limits.
-use Rattle.std.proofs.Common.{ℕ, zero, suc, ◌≡◌, ◌+◌, ◌<◌, ◌≤◌, Bool, true, false, not, ◌&&◌, ◌==◌, List, [], ◌∷◌, ◌++◌, length, map, filter, Option, Some, None, inl, inr, refl, sym, ◌∙◌, ap, subst, arith, if◌then◌else◌, ltb, length-append}
+use Rattle.std.proofs.Common.{ℕ, zero, suc, ◌≡◌, ◌<◌, Bool, true, false, ◌&&◌, ◌==◌, List, [], ◌∷◌, ◌++◌, length, map, filter, Option, Some, None, refl, sym, ◌∙◌, ap, subst, arith, if◌then◌else◌, length-append}
 use Rattle.std.specs.Prelude.{max, is_some, nat_lt}
-use Rattle.std.proofs.lemmas.Bool.{ltb-true, and_parts, cases_Bool}
+use Rattle.std.proofs.lemmas.Bool.{ltb-true, and_parts}
 use Rattle.mdb_base.specs.declared.address.ServerAddress.{ServerAddress}
 use Rattle.mdb_base.specs.declared.object_id.ObjectId.{ObjectId}
 use Rattle.mdb_base.specs.declared.error.Error.{Error}
 use Rattle.mdb_events.specs.declared.reasons.ConnectionClosedReason.{ConnectionClosedReason}
-use Rattle.mdb_events.specs.declared.cmap.CmapEvent.{CmapEvent}
 use Rattle.mdb_events.specs.declared.cmap.CmapEvent.TheVariants as event
 use Rattle.mdb_events.specs.declared.end.End.{End}
 use Rattle.mdb_events.specs.declared.end.End.TheVariants.{Closed, GaveUp}
@@ -21,20 +20,18 @@ use Rattle.mdb_pool.specs.declared.step.FailedAt.TheVariants as at
 use Rattle.mdb_pool.specs.declared.reply.Reply.{Reply}
 use Rattle.mdb_pool.specs.declared.reply.Reply.TheVariants as reply
 use Rattle.mdb_pool.specs.declared.reply.Refused.{Refused}
-use Rattle.mdb_pool.specs.History.{Item, did, with_entries, PoolItem, asked, warmed, gave_up, returned, pinned_by, established, failed, replicated, taken, unpinned, created, closed, checked_in, granted, ended, raised, pool_created, pool_ready, pool_closed, if_so, after_act, after_fact, after_facts, of_pool, open_pool, with_facts, with_answer, is_number, given, has_asked}
+use Rattle.mdb_pool.specs.History.{Item, did, PoolItem, asked, warmed, gave_up, returned, pinned_by, established, failed, replicated, taken, unpinned, created, closed, checked_in, granted, ended, raised, pool_created, pool_ready, pool_closed, if_so, after_act, after_fact, after_facts, of_pool, open_pool, with_answer, is_number, given, has_asked}
 use Rattle.mdb_pool.specs.Connections.{has, live_total, created_total, pending_list, available_list, holding, pins, is_pinned, granted_to}
-use Rattle.mdb_pool.specs.declared.log.Entry.{Entry}
 use Rattle.mdb_pool.specs.Legal.{IsAccepted}
 use Rattle.mdb_pool.proofs.Acts.{with_answer-accepted}
 use Rattle.mdb_pool.specs.Requests.{outcome_of, is_claimed, requests, queued, is_warm, end_of, is_unserved}
-use Rattle.mdb_pool.specs.State.{State, is_new, is_ready, is_paused, is_closed, state_of, ready, is_stale, is_idle, min_size, max_size, max_connecting, may_create}
-use Rattle.mdb_pool.specs.Facts.{closed_fact, closes, check_in, come_back, hand_over, fail_requester, sweep, fill, clear_facts, close_facts, turned_away, readied, act_facts, end_facts, all_ends, close_reason, perished, created_fact}
-use Rattle.mdb_pool.specs.Serving.{last_of, is_blocked, candidate, next_move, serve, serving, creation, wants_connection}
+use Rattle.mdb_pool.specs.State.{State, is_new, is_ready, is_paused, is_closed, state_of, ready, min_size, max_size, max_connecting, may_create}
+use Rattle.mdb_pool.specs.Facts.{closed_fact, closes, check_in, come_back, hand_over, fail_requester, sweep, fill, clear_facts, close_facts, turned_away, readied, act_facts, end_facts, all_ends, close_reason, perished}
+use Rattle.mdb_pool.specs.Serving.{last_of, is_blocked, candidate, next_move, serve, wants_connection}
 use Rattle.mdb_pool.specs.Refusal.{refusal_of}
-use Rattle.mdb_pool.specs.Answer.{first_job, reply_of, all_facts, answer, answered, with_act}
+use Rattle.mdb_pool.specs.Answer.{first_job, reply_of, all_facts, answer, with_act}
 use Rattle.mdb_pool.specs.Limits.{IsWithin, WithinLimits}
 use Rattle.mdb_pool.proofs.Tables.{length-without}
-use Rattle.mdb_pool.proofs.Laws.{after_facts-append}
 use Rattle.mdb_pool.proofs.Serving.{of_pool-with_facts}
 
 -- there is room for one more connection

@@ -1,5 +1,5 @@
 -- What a maintenance does is the answer to its step.
-use Rattle.std.proofs.Common.{ℕ, ◌≡◌, ◌≤◌, Bool, true, false, ◌||◌, List, ◌++◌, refl, sym, ◌∙◌, ap, subst, append_assoc}
+use Rattle.std.proofs.Common.{ℕ, ◌≡◌, ◌≤◌, true, false, ◌||◌, List, ◌++◌, refl, sym, ◌∙◌, ap, subst, append_assoc}
 use Rattle.mdb_base.specs.declared.address.ServerAddress.{ServerAddress}
 use Rattle.mdb_base.specs.Equality.{same_address}
 use Rattle.mdb_events.specs.declared.fact.Fact.{Fact}

@@ -1,5 +1,5 @@
 -- The turns of a maintenance: closes of what has perished, and then creations.
-use Rattle.std.proofs.Common.{ℕ, zero, suc, ◌≡◌, ◌+◌, ◌-◌, ◌<◌, ◌≤◌, Bool, true, false, not, ◌&&◌, ◌==◌, List, [], ◌∷◌, ◌++◌, length, find, Option, Some, None, is_some, if◌then◌else◌, nat_lt, refl, sym, ◌∙◌, ap, subst, arith, append_assoc, append-nil}
+use Rattle.std.proofs.Common.{ℕ, zero, suc, ◌≡◌, ◌+◌, ◌-◌, ◌<◌, ◌≤◌, Bool, true, false, ◌&&◌, ◌==◌, List, [], ◌∷◌, ◌++◌, length, find, Option, Some, None, is_some, nat_lt, refl, sym, ◌∙◌, ap, subst, arith, append_assoc, append-nil}
 use Rattle.std.proofs.lemmas.Grind.{common_steps}
 use Rattle.std.proofs.lemmas.Bool.Decides.{nat_tests}
 use Rattle.mdb_base.specs.declared.address.ServerAddress.{ServerAddress}
@@ -9,8 +9,8 @@ use Rattle.mdb_pool.specs.declared.options.PoolOptions.{PoolOptions}
 use Rattle.mdb_pool.specs.declared.connection.Connection.{Connection}
 use Rattle.mdb_pool.specs.declared.connection.Place.TheVariants.{Available}
 use Rattle.mdb_pool.specs.declared.pool_core.PoolCore.{PoolCore}
-use Rattle.mdb_pool.specs.History.{PoolItem, created, closed, without, after_fact, after_facts}
-use Rattle.mdb_pool.specs.Connections.{has, live_total, created_total, pending_list, available_list, known_service}
+use Rattle.mdb_pool.specs.History.{PoolItem, created, closed, without, after_facts}
+use Rattle.mdb_pool.specs.Connections.{live_total, created_total, pending_list, available_list, known_service}
 use Rattle.mdb_pool.specs.State.{state_of, ready, min_size, max_connecting}
 use Rattle.mdb_pool.specs.Facts.{created_fact, closes, perished, sweep, fill}
 use Rattle.mdb_pool.specs.Kept.{connection_at, ids_where, perished_now, first_perished, fills_now, pending_count, is_ready_now}
@@ -24,7 +24,6 @@ use Rattle.mdb_pool.proofs.Staleness.{ready-is}
 use Rattle.mdb_pool.proofs.Stands.{discard-fits, spawn-fits}
 use Rattle.mdb_pool.proofs.Serving.{after-append, same-number, perished-is}
 use Rattle.mdb_pool.proofs.Acts.{live-service}
-use Rattle.mdb_pool.proofs.Laws.{shut-append}
 
 abbrev id_of : Connection → ℕ
 id_of x = x.id

@@ -11,7 +11,7 @@ use Rattle.mdb_pool.specs.History.{PoolItem, is_number, without, asked, warmed, 
 use Rattle.mdb_pool.specs.Kept.{connection_at, request_at, one_party, timeouts_in, is_asked_at}
 use Rattle.mdb_pool.specs.Standing.{Matches}
 use Rattle.mdb_pool.specs.Connections.{one_if, has, granted_to, pending_list}
-use Rattle.mdb_pool.specs.Places.{is_pending, is_available, is_queued, stays}
+use Rattle.mdb_pool.specs.Places.{is_pending, is_available, is_queued}
 use Rattle.mdb_pool.specs.declared.step.Use.TheVariants.{Ok}
 use Rattle.mdb_pool.proofs.Pins.{pinned-again, queued-asked}
 use Rattle.mdb_pool.specs.Changes.{asking, creating, granting, spawning}

@@ -1,5 +1,5 @@
 -- A close of the pool follows the items of the pool.
-use Rattle.std.proofs.Common.{ℕ, ◌≡◌, ◌≤◌, ◌+◌, ◌-◌, arith, Bool, true, false, ◌&&◌, ◌||◌, ◌==◌, List, [], ◌∷◌, ◌++◌, length, map, filter, Option, Some, None, is_some, refl, sym, ◌∙◌, ap, subst, if◌then◌else◌, nat_lt}
+use Rattle.std.proofs.Common.{ℕ, ◌≡◌, ◌≤◌, ◌+◌, ◌-◌, arith, Bool, true, false, ◌||◌, ◌==◌, List, [], ◌∷◌, ◌++◌, length, map, filter, Option, Some, None, is_some, refl, sym, ◌∙◌, ap, subst, if◌then◌else◌, nat_lt}
 use Rattle.std.proofs.lemmas.Grind.{common_steps}
 use Rattle.std.proofs.lemmas.Bool.Decides.{nat_tests}
 use Rattle.mdb_events.specs.declared.end.End.TheVariants.{Closed as ClosedEnd}
@@ -13,10 +13,10 @@ use Rattle.mdb_pool.specs.declared.pool_core.PoolCore.{PoolCore}
 use Rattle.mdb_pool.specs.History.{PoolItem, pool_closed, given}
 use Rattle.mdb_pool.specs.Connections.{one_if, has, live, live_total, pending_list, available_list, parties, service_of, known_service, is_errored, is_dropped, last_use, wire_of}
 use Rattle.mdb_pool.specs.Requests.{queued, end_of}
-use Rattle.mdb_pool.specs.Kept.{connection_at, request_at, given_of, given_in, holder_at, service_at, end_at, end_in, asked_at_of, warm_of, one_party, ids_where, numbers_where, is_pending_at, is_ended_at, lasts, unserved_in, wire_at, pins_at, is_pinned_at, errored_at, dropped_at, is_asked_at, numbers_asked}
+use Rattle.mdb_pool.specs.Kept.{connection_at, request_at, given_of, holder_at, service_at, end_at, asked_at_of, warm_of, one_party, numbers_where, is_pending_at, lasts, unserved_in, wire_at, pins_at, is_pinned_at, errored_at, dropped_at, is_asked_at, numbers_asked}
 use Rattle.mdb_pool.specs.Standing.{Matches, Fits}
 use Rattle.mdb_pool.specs.Keyed.{entry_at}
-use Rattle.mdb_pool.specs.Places.{is_pending, is_available, is_at_pin, is_queued, stays}
+use Rattle.mdb_pool.specs.Places.{is_pending, is_available, is_queued, stays}
 use Rattle.mdb_pool.specs.Changes.{closing, ended_request, available_ones, pending_ones, unserved_ones}
 use Rattle.mdb_pool.proofs.Tables.{named, passes, has-where, one_if-le}
 use Rattle.mdb_pool.proofs.Pins.{pinned-again}

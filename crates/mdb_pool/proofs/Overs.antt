@@ -1,5 +1,5 @@
 -- The facts by which a request ends.
-use Rattle.std.proofs.Common.{ℕ, ◌≡◌, ◌-◌, Bool, true, false, List, ◌∷◌, Option, Some, refl, ◌∙◌, ap}
+use Rattle.std.proofs.Common.{ℕ, ◌≡◌, ◌-◌, Bool, true, false, List, ◌∷◌, Some, refl, ◌∙◌, ap}
 use Rattle.mdb_events.specs.declared.end.End.{End}
 use Rattle.mdb_pool.specs.declared.request.Request.{Request}
 use Rattle.mdb_pool.specs.declared.pool_core.PoolCore.{PoolCore}

@@ -1,5 +1,5 @@
 -- What is done with pins keeps what the state fits.
-use Rattle.std.proofs.Common.{ℕ, ◌≡◌, Bool, true, false, ◌&&◌, ◌==◌, List, [], ◌∷◌, Option, Some, None, is_some, refl, sym, ◌∙◌, ap, subst, arith, nat_lt, not}
+use Rattle.std.proofs.Common.{ℕ, ◌≡◌, true, false, ◌&&◌, ◌==◌, List, ◌∷◌, Some, None, refl, sym, ◌∙◌, ap, subst, arith, nat_lt, not}
 use Rattle.mdb_events.specs.declared.end.End.TheVariants.{GaveUp}
 use Rattle.mdb_events.specs.declared.reasons.ConnectionClosedReason.{ConnectionClosedReason}
 use Rattle.mdb_pool.specs.declared.connection.Connection.{Connection}

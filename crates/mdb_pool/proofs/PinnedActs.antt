@@ -10,11 +10,10 @@ use Rattle.mdb_pool.specs.declared.reply.Reply.TheVariants.{Done, Refused as Ref
 use Rattle.mdb_pool.specs.declared.connection.Connection.{Connection}
 use Rattle.mdb_pool.specs.declared.connection.Place.TheVariants.{Held}
 use Rattle.mdb_pool.specs.declared.request.Request.{Request}
-use Rattle.mdb_pool.specs.declared.request.Phase.TheVariants.{Given}
 use Rattle.mdb_pool.specs.declared.pool_core.PoolCore.{PoolCore}
-use Rattle.mdb_pool.specs.History.{Item, PoolItem, pinned_by, replicated, of_pool, given}
+use Rattle.mdb_pool.specs.History.{Item, PoolItem, pinned_by, replicated, of_pool}
 use Rattle.mdb_pool.specs.Refusal.{refusal_of}
-use Rattle.mdb_pool.specs.Connections.{has, holding, pins}
+use Rattle.mdb_pool.specs.Connections.{has, pins}
 use Rattle.mdb_pool.specs.Standing.{Matches, Fits, StandsFor, Serves, Accepts, Answers, SameHome, SameNotes}
 use Rattle.mdb_pool.specs.Kept.{connection_at, request_at, held_connection, given_of, given_in, is_shut, pins_at}
 use Rattle.mdb_pool.specs.Places.{stays}

@@ -1,5 +1,5 @@
 -- What the items of a pool say of pins, of who holds a connection and of who asked.
-use Rattle.std.proofs.Common.{ℕ, ◌≡◌, arith, Bool, true, false, not, ◌&&◌, ◌||◌, ◌==◌, List, [], ◌∷◌, Option, Some, None, refl, if◌then◌else◌, nat_lt, ◌++◌, sym, ◌∙◌}
+use Rattle.std.proofs.Common.{ℕ, ◌≡◌, arith, Bool, true, false, ◌&&◌, ◌||◌, ◌==◌, List, [], ◌∷◌, Some, None, refl, if◌then◌else◌, nat_lt, ◌++◌, sym, ◌∙◌}
 use Rattle.std.proofs.lemmas.Grind.{common_steps}
 use Rattle.mdb_pool.specs.declared.step.Use.{Use}
 use Rattle.mdb_pool.specs.declared.step.Use.TheVariants.{Ok, Errored, Dropped, Streaming}

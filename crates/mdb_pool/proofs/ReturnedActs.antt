@@ -13,7 +13,7 @@ use Rattle.mdb_pool.specs.declared.connection.Place.TheVariants.{Held}
 use Rattle.mdb_pool.specs.declared.request.Request.{Request}
 use Rattle.mdb_pool.specs.declared.request.Phase.TheVariants.{Given, Over}
 use Rattle.mdb_pool.specs.declared.pool_core.PoolCore.{PoolCore}
-use Rattle.mdb_pool.specs.History.{Item, PoolItem, returned, of_pool, given, is_number, after_facts, closed, checked_in}
+use Rattle.mdb_pool.specs.History.{Item, PoolItem, returned, of_pool, given, after_facts, closed, checked_in}
 use Rattle.mdb_pool.specs.Refusal.{refusal_of}
 use Rattle.mdb_pool.specs.Facts.{act_facts, check_in}
 use Rattle.mdb_pool.specs.Standing.{Fits, StandsFor, Serves, Accepts, Answers, SameHome, SameNotes}

@@ -1,5 +1,5 @@
 -- The moves of the state keep what it fits.
-use Rattle.std.proofs.Common.{ℕ, ◌≡◌, ◌+◌, Bool, true, false, ◌||◌, List, [], ◌∷◌, ◌++◌, map, sym, ap, Option, Some, None, is_some, arith, ◌==◌, refl, ◌∙◌, subst, not}
+use Rattle.std.proofs.Common.{ℕ, ◌≡◌, ◌+◌, Bool, true, false, List, [], ◌∷◌, ◌++◌, sym, ap, Option, Some, None, is_some, arith, ◌==◌, refl, ◌∙◌, subst, not}
 use Rattle.mdb_base.specs.declared.object_id.ObjectId.{ObjectId}
 use Rattle.mdb_events.specs.declared.end.End.{End}
 use Rattle.mdb_base.specs.declared.error.Error.{Error}

@@ -1,5 +1,5 @@
 -- What a take does is the answer to its step.
-use Rattle.std.proofs.Common.{ℕ, ◌≡◌, ◌≤◌, ◌||◌, ◌&&◌, Bool, true, false, not, ◌==◌, List, [], ◌∷◌, length, Option, Some, None, is_some, refl, sym, ◌∙◌, ap, subst, if◌then◌else◌, append-nil, nat_lt}
+use Rattle.std.proofs.Common.{ℕ, ◌≡◌, ◌≤◌, ◌||◌, Bool, true, false, not, ◌==◌, List, [], ◌∷◌, length, Option, Some, None, is_some, refl, sym, ◌∙◌, ap, subst, if◌then◌else◌, append-nil, nat_lt}
 use Rattle.mdb_events.specs.declared.fact.Fact.{Fact}
 use Rattle.mdb_pool.specs.declared.step.Act.TheVariants.{Take}
 use Rattle.mdb_pool.specs.declared.reply.Refused.{Refused}
@@ -12,10 +12,10 @@ use Rattle.mdb_pool.specs.declared.connection.Place.TheVariants.{Pending, Availa
 use Rattle.mdb_pool.specs.declared.pool_core.PoolCore.{PoolCore}
 use Rattle.mdb_pool.specs.History.{Item, PoolItem, taken, of_pool, has_asked}
 use Rattle.mdb_pool.specs.Refusal.{refusal_of}
-use Rattle.mdb_pool.specs.Connections.{has, held, pending_list}
-use Rattle.mdb_pool.specs.Standing.{Matches, Fits, StandsFor, Serves, Accepts, Answers, SameHome, SameNotes}
+use Rattle.mdb_pool.specs.Connections.{has, held}
+use Rattle.mdb_pool.specs.Standing.{Fits, StandsFor, Serves, Accepts, Answers, SameHome, SameNotes}
 use Rattle.mdb_pool.specs.Kept.{connection_at, request_at, is_shut, pins_at, is_held_at, is_pending_at, holder_at, one_party}
-use Rattle.mdb_pool.specs.Places.{is_pending, is_available, is_held, is_at_pin, stays}
+use Rattle.mdb_pool.specs.Places.{is_available, is_held, is_at_pin, stays}
 use Rattle.mdb_pool.specs.Changes.{taking}
 use Rattle.mdb_pool.proofs.Acts.{refuses, accepts, own-answers, not-back, pending-is, no-some}
 use Rattle.mdb_pool.proofs.Serving.{same-number}

@@ -1,5 +1,5 @@
 -- What an unpin does is the answer to its step.
-use Rattle.std.proofs.Common.{ℕ, ◌≡◌, ◌≤◌, ◌-◌, ◌||◌, ◌&&◌, Bool, true, false, not, ◌==◌, arith, List, [], ◌∷◌, ◌++◌, Option, Some, None, is_some, refl, sym, ◌∙◌, ap, subst, if◌then◌else◌, append-nil, nat_lt}
+use Rattle.std.proofs.Common.{ℕ, ◌≡◌, ◌≤◌, ◌-◌, ◌||◌, ◌&&◌, Bool, true, false, not, ◌==◌, arith, List, [], ◌∷◌, ◌++◌, Option, Some, None, refl, sym, ◌∙◌, ap, subst, if◌then◌else◌, append-nil, nat_lt}
 use Rattle.std.proofs.lemmas.Bool.Decides.{nat_tests}
 use Rattle.mdb_events.specs.declared.fact.Fact.{Fact}
 use Rattle.mdb_events.specs.declared.reasons.ConnectionClosedReason.{ConnectionClosedReason}
@@ -14,7 +14,7 @@ use Rattle.mdb_pool.specs.History.{Item, PoolItem, unpinned, of_pool, after_fact
 use Rattle.mdb_pool.specs.Refusal.{refusal_of}
 use Rattle.mdb_pool.specs.Facts.{act_facts}
 use Rattle.mdb_pool.specs.Connections.{has, pins, is_pinned}
-use Rattle.mdb_pool.specs.Standing.{Matches, Fits, StandsFor, Serves, Accepts, Answers, SameHome, SameNotes}
+use Rattle.mdb_pool.specs.Standing.{Fits, StandsFor, Serves, Accepts, Answers, SameHome, SameNotes}
 use Rattle.mdb_pool.specs.Kept.{connection_at, is_shut, pins_at, is_pinned_at, reason_now}
 use Rattle.mdb_pool.specs.Places.{is_at_pin}
 use Rattle.mdb_pool.specs.Changes.{unpinning, pin_ending, back_facts}

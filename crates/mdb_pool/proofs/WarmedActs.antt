@@ -1,5 +1,5 @@
 -- What a warm request does is the answer to its step.
-use Rattle.std.proofs.Common.{ℕ, ◌≡◌, ◌≤◌, Bool, true, false, ◌||◌, ◌==◌, List, [], ◌∷◌, ◌++◌, Some, None, is_some, refl, sym, ◌∙◌, ap, if◌then◌else◌, ◌&&◌, ◌-◌, Option, arith, append_assoc}
+use Rattle.std.proofs.Common.{ℕ, ◌≡◌, ◌≤◌, true, false, ◌||◌, ◌==◌, List, ◌∷◌, ◌++◌, Some, None, is_some, refl, sym, ◌∙◌, ap, if◌then◌else◌, ◌&&◌, Option}
 use Rattle.mdb_events.specs.declared.fact.Fact.{Fact}
 use Rattle.mdb_events.specs.declared.end.End.{End}
 use Rattle.mdb_pool.specs.declared.request.Request.{Request}
@@ -24,7 +24,6 @@ use Rattle.mdb_base.specs.Equality.{same_address}
 use Rattle.mdb_pool.proofs.Serving.{same-number}
 use Rattle.mdb_pool.proofs.Stands.{warm-fits, end-fits}
 use Rattle.mdb_pool.specs.Connections.{has}
-use Rattle.mdb_pool.proofs.Laws.{has-append}
 use Rattle.mdb_pool.specs.Facts.{turned_away}
 use Rattle.mdb_pool.specs.State.{state_of}
 use Rattle.mdb_pool.specs.Legal.{AllFirstCome, shuts, AllOwn}

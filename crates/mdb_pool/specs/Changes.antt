@@ -91,10 +91,14 @@ abbrev pub away : PoolCore → ℕ → ℕ → Bool → Option End → PoolCore
 away s r m warm None = s
 away s r m warm (Some end) = ending s (record { number = r; asked_at = m; warm = warm; took = false; phase = Queued }) end
 
+-- a new connection, for a party or in the background
+abbrev pub pending_for : ℕ → ℕ → Option ℕ → ℕ → Connection
+pending_for c m party t = record { id = c; created_at = m; place = Pending; party = party; holder = party; service = None; wire = None; since = m; pins = 0; used = Ok; errored = false; timeouts = t }
+
 abbrev pub creating : PoolCore → ℕ → Request → PoolCore
 creating s m q = record s {
   created = s.created + 1;
-  connections = put (λ x. x.id) (record { id = s.created + 1; created_at = m; place = Pending; party = Some q.number; holder = Some q.number; service = None; wire = None; since = m; pins = 0; used = Ok; errored = false; timeouts = timeouts_in s.clears }) s.connections;
+  connections = put (λ x. x.id) (pending_for (s.created + 1) m (Some q.number) (timeouts_in s.clears)) s.connections;
   requests = swap (λ q. q.number) (record q { phase = Given (s.created + 1) }) s.requests;
 }
 
@@ -102,7 +106,7 @@ creating s m q = record s {
 abbrev pub spawning : PoolCore → ℕ → PoolCore
 spawning s m = record s {
   created = s.created + 1;
-  connections = put (λ x. x.id) (record { id = s.created + 1; created_at = m; place = Pending; party = None; holder = None; service = None; wire = None; since = m; pins = 0; used = Ok; errored = false; timeouts = 0 }) s.connections;
+  connections = put (λ x. x.id) (pending_for (s.created + 1) m None 0) s.connections;
 }
 
 -- a warm request gets a new connection, or ends as none is wanted

@@ -1,5 +1,5 @@
 -- The limits of a pool: how many of its connections are pending, and how many live.
-use Rattle.std.specs.Prelude.{ℕ, ◌≤◌, max, List, [], ◌∷◌, length}
+use Rattle.std.specs.Prelude.{◌≤◌, max, List, [], ◌∷◌, length}
 use Rattle.mdb_pool.specs.declared.options.PoolOptions.{PoolOptions}
 use Rattle.mdb_pool.specs.History.{PoolItem}
 use Rattle.mdb_pool.specs.Connections.{live_total, pending_list}

@@ -6,7 +6,7 @@ ghost use Rattle.std.specs.Prelude.{false, ◌≡◌, ◌++◌, ◌∷◌, ◌+�
 use super::connection::{Connection, Place};
 use super::request::{Phase, Request};
 use super::status::Status;
-use super::{Established, PoolCore, Reply, Use};
+use super::{Established, PoolCore, Reply};
 use mdb_base::{Error, ErrorKind, Items, Moment, Text};
 use mdb_events::{
     CmapEvent, ConnectionCheckedOutEvent, ConnectionCheckoutStartedEvent, ConnectionClosedReason,
@@ -194,23 +194,8 @@ impl PoolCore {
         let timeouts = self.timeouts();
         let id = self.created + 1;
         self.created = id;
-        self.connections.put(
-            alloc,
-            Connection {
-                id,
-                created_at: moment,
-                place: Place::Pending,
-                party: Some(request.number),
-                holder: Some(request.number),
-                service: None,
-                wire: None,
-                since: moment,
-                pins: 0,
-                used: Use::Ok,
-                errored: false,
-                timeouts,
-            },
-        )?;
+        let connection = Connection::pending(id, moment, Some(request.number), timeouts);
+        self.connections.put(alloc, connection)?;
         self.requests.replace(
             alloc,
             &Request {
@@ -238,23 +223,8 @@ impl PoolCore {
         let _limit = self.options.limit_id;
         let id = self.created + 1;
         self.created = id;
-        self.connections.put(
-            alloc,
-            Connection {
-                id,
-                created_at: moment,
-                place: Place::Pending,
-                party: None,
-                holder: None,
-                service: None,
-                wire: None,
-                since: moment,
-                pins: 0,
-                used: Use::Ok,
-                errored: false,
-                timeouts: 0,
-            },
-        )?;
+        self.connections
+            .put(alloc, Connection::pending(id, moment, None, 0))?;
         self.push_created(facts, id)?;
         Ok(())
     }

@@ -1,4 +1,4 @@
-use Rattle.std.proofs.Common.{◌≡◌, ◌-◌, ◌<◌, refl, sym, ◌∙◌, ap, arith}
+use Rattle.std.proofs.Common.{refl, sym, ◌∙◌}
 use Rattle.mdb_pool.proofs.Maintains.{fill-start, fill-more, fill-done, fills-below, spawn-smaller}
 use Rattle.mdb_pool.proofs.pool_core.PoolCore.fill.Goals as goal
 

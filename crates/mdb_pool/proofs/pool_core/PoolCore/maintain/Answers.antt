@@ -1,4 +1,4 @@
-use Rattle.std.proofs.Common.{◌≡◌, subst, List}
+use Rattle.std.proofs.Common.{subst, List}
 use Rattle.std.specs.Prelude.{IfOk}
 use Rattle.mdb_pool.specs.declared.step.Act.TheVariants.{Maintain as MaintainAct}
 use Rattle.mdb_pool.specs.History.{Item}

@@ -1,5 +1,4 @@
-use Rattle.std.proofs.Common.{◌≡◌, ◌++◌, ◌-◌, sym, ◌∙◌, ap, append_assoc, filter, take, ◌∷◌, []}
-use Rattle.mdb_events.specs.declared.fact.Fact.TheVariants.{Ended}
+use Rattle.std.proofs.Common.{◌++◌, ◌-◌, sym, ◌∙◌, ap, append_assoc, filter, take}
 use Rattle.mdb_events.specs.declared.end.End.TheVariants.{Closed}
 use Rattle.mdb_pool.specs.Kept.{unserved_in}
 use Rattle.mdb_pool.specs.Changes.{over_facts, off_facts}

@@ -1,4 +1,4 @@
-use Rattle.std.proofs.Common.{◌≡◌, true, false, is_some, refl, sym, ◌∙◌, ap}
+use Rattle.std.proofs.Common.{◌≡◌, true, false, is_some, refl, sym, ap}
 use Rattle.mdb_pool.specs.Kept.{perished_now}
 use Rattle.mdb_pool.proofs.Maintains.{sweep-start, sweep-more, sweep-done, sweep-smaller, has-perished}
 use Rattle.mdb_pool.proofs.pool_core.PoolCore.sweep.Goals as goal

@@ -1,4 +1,4 @@
-use Rattle.std.proofs.Common.{sym, ◌∙◌}
+use Rattle.std.proofs.Common.{sym}
 use Rattle.mdb_pool.proofs.PinnedActs.{pin-own, refuses-holder, refuses-state}
 use Rattle.mdb_pool.proofs.pool_core.PoolCore.try_pin.Goals as goal
 

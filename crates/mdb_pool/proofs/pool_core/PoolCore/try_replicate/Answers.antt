@@ -1,4 +1,4 @@
-use Rattle.std.proofs.Common.{sym, ◌∙◌, subst, List}
+use Rattle.std.proofs.Common.{sym, ◌∙◌, subst}
 use Rattle.mdb_pool.specs.declared.step.Act.TheVariants.{Replicate}
 use Rattle.mdb_pool.specs.declared.reply.Reply.TheVariants.{Refused}
 use Rattle.mdb_pool.specs.declared.reply.Refused.TheVariants.{Unpinned}
