@@ -1,17 +1,17 @@
 -- All seats are one, and the driver is closed.
-use Rattle.std.proofs.Common.{◌≡◌, ℕ, zero, suc, ◌+◌, ◌<◌, ◌≤◌, eqb, ◌≢◌, Bool, true, false, Option, Some, None, if◌then◌else◌, List, [], ◌∷◌, ◌++◌, length, All, slice_get, get_or, sym, refl, ap, ◌∙◌, subst, ◌⊎◌, inl, inr, ⊎_elim, arith, length-append, append_assoc, append-nil, eq-eqb, ne_eqb}
+use Rattle.std.proofs.Common.{◌≡◌, ℕ, zero, suc, ◌+◌, ◌<◌, ◌≤◌, eqb, ◌≢◌, Bool, true, false, Some, List, [], ◌∷◌, ◌++◌, length, All, slice_get, get_or, sym, refl, ap, ◌∙◌, subst, ⊎_elim, arith, length-append, append_assoc, append-nil, eq-eqb, ne_eqb}
 use mathlib.Core.Logic.{dite}
 use mathlib.Core.Option.{some, some-injective, some-ne-none}
 use native.Mathlib.Decide.{ℕ_discrete}
 use lib.ListN.{get_elem?}
 use Rattle.atomic_table.specs.Seated.{TableId}
-use Rattle.atomic_table.specs.Table.{State, Me, Final, Seen}
+use Rattle.atomic_table.specs.Table.{Me, Final, Seen}
 use Rattle.atomic_table.proofs.Lists.{at_longer, at_last}
 use Rattle.mdb_pool.specs.declared.log.Entry.{Entry}
 use Rattle.mdb_shared.specs.declared.rule.Part.{Part}
 use Rattle.mdb_shared.specs.declared.rule.View.{View}
 use Rattle.mdb_pool.specs.Driver.{StartsWith}
-use Rattle.mdb_shared.specs.Turning.{own, part, Fits, Keeps, Held, Settles}
+use Rattle.mdb_shared.specs.Turning.{own, part, Keeps, Held, Settles}
 use Rattle.mdb_shared.specs.Seats.{SeatView, seat_view, mine_of, IsReady, AllOf, part_of, behind, Each, ByOne, Accounts}
 use Rattle.mdb_shared.proofs.Keeping.{turn_of, true_not_false}
 

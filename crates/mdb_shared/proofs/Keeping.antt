@@ -1,5 +1,5 @@
 -- Each step of the shared driver keeps its rule.
-use Rattle.std.proofs.Common.{IsTrue, ◌≡◌, ℕ, zero, suc, ◌+◌, ◌%◌, ◌^◌, ◌<◌, ◌≤◌, eqb, ◌≢◌, Bool, true, false, Option, Some, None, if◌then◌else◌, List, [], ◌∷◌, ◌++◌, length, get_or, set, sym, refl, ap, ◌∙◌, subst, ◌⊎◌, inl, inr, ⊎_elim, arith, length-set, length-append, append_assoc, append-nil, get_or-set_other, get_or-set_same, eq-eqb, ne_eqb}
+use Rattle.std.proofs.Common.{IsTrue, ◌≡◌, ℕ, zero, suc, ◌+◌, ◌%◌, ◌^◌, ◌<◌, ◌≤◌, eqb, ◌≢◌, Bool, true, false, Some, None, if◌then◌else◌, List, [], ◌∷◌, ◌++◌, length, get_or, set, sym, refl, ap, ◌∙◌, subst, ◌⊎◌, inl, inr, ⊎_elim, arith, length-set, length-append, append_assoc, append-nil, get_or-set_other, get_or-set_same, eq-eqb, ne_eqb}
 use Rattle.std.proofs.Math.Nat.{le-max_right}
 use mathlib.Core.Logic.{dite}
 use mathlib.Core.Option.{some, none, some-injective, some-ne-none}
@@ -7,8 +7,8 @@ use native.Mathlib.Decide.{ℕ_discrete}
 use lib.ListN.{get_elem?}
 use lib.Seq.{set-get_or}
 use prog.Atomic.{either}
-use Rattle.atomic_table.specs.Table.{State, Me, step, keeps, takes, gives, stepped, put_back, homes_after, Allows, Splits, Joins, opening, rest}
-use Rattle.atomic_table.proofs.Lists.{at_set, set_here, set_else, set_again, exchanged}
+use Rattle.atomic_table.specs.Table.{State, Me, step, keeps, takes, gives, stepped, put_back, homes_after, Allows, opening, rest}
+use Rattle.atomic_table.proofs.Lists.{at_set, set_here, set_else}
 use Rattle.mdb_pool.specs.declared.log.Entry.{Entry}
 use Rattle.mdb_shared.specs.declared.rule.Part.{Part}
 use Rattle.mdb_shared.specs.declared.rule.View.{View}

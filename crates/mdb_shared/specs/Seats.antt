@@ -1,5 +1,5 @@
 -- What clauses see of a driver and of a seat, and what the calls do to them.
-use Rattle.std.specs.Prelude.{◌≡◌, ◌≢◌, ℕ, ◌+◌, true, false, List, [], ◌∷◌, ◌++◌, All, Some, slice_get, max}
+use Rattle.std.specs.Prelude.{◌≡◌, ◌≢◌, ℕ, ◌+◌, false, List, [], ◌∷◌, ◌++◌, All, Some, slice_get, max}
 use Rattle.atomic_table.specs.Table.{Me}
 use Rattle.atomic_table.specs.Seated.{TableId}
 use Rattle.mdb_pool.specs.declared.log.Entry.{Entry}

@@ -1,6 +1,5 @@
 -- A running total still stands for the log after one more entry, and its replies go with their acts.
-use Rattle.std.proofs.Common.{◌≡◌, ℕ, Bool, Option, true, false, nat_lt, eqb, if◌then◌else◌, IsTrue, List, [], ◌∷◌, ◌++◌, refl, sym, ap, ◌∙◌, subst}
-use Rattle.mdb_describe.specs.Topology.{opened}
+use Rattle.std.proofs.Common.{◌≡◌, ℕ, Bool, Option, true, false, nat_lt, eqb, if◌then◌else◌, List, [], ◌∷◌, ◌++◌, refl, sym, ap, ◌∙◌, subst}
 use Rattle.mdb_pool.specs.declared.job.Job.{Job}
 use Rattle.mdb_pool.specs.declared.log.Entry.{Entry}
 use Rattle.mdb_pool.specs.declared.reply.Reply.{Reply}
@@ -9,7 +8,7 @@ use Rattle.mdb_pool.specs.declared.step.Act.TheVariants as act
 use Rattle.mdb_pool.specs.declared.step.Step.{Step}
 use Rattle.mdb_pool.specs.Driver.{IsEntry, is_refusal, is_reply_to, is_in_time, IsThere}
 use Rattle.mdb_total.specs.declared.total.Total.{Total}
-use Rattle.mdb_total.specs.Totals.{after, reply_of, total_from, moment_after, last_from, Replies, no_options, StandsFor}
+use Rattle.mdb_total.specs.Totals.{after, reply_of, total_from, moment_after, last_from, Replies, StandsFor}
 
 total_more : (t : ℕ) (log : List Entry) (e : Entry) → total_from t (log ++ e ∷ []) ≡ after (total_from t log) e.step.act
 total_more t [] e = refl

@@ -1,4 +1,4 @@
-use Rattle.std.proofs.Common.{List, Some, refl, subst, sym, ◌∙◌}
+use Rattle.std.proofs.Common.{List, refl, subst, sym, ◌∙◌}
 use Rattle.std.specs.Option.{IsSome}
 use Rattle.mdb_pool.specs.declared.log.Entry.{Entry}
 use Rattle.mdb_shared.specs.Turning.{Held, Settles}

@@ -1,8 +1,5 @@
-use Rattle.std.proofs.Common.{rules, ◌≡◌, List, ap, sym, subst, ◌∙◌}
-use Rattle.mdb_shared.specs.declared.rule.View.{View}
-use Rattle.atomic_table.specs.Table.{Me}
-use Rattle.mdb_shared.specs.Turning.{Held}
-use Rattle.mdb_shared.proofs.Sharing.{absorbs, met}
+use Rattle.std.proofs.Common.{rules}
+use Rattle.mdb_shared.proofs.Sharing.{absorbs}
 use Rattle.mdb_shared.proofs.ending.take_in.Goals as goal
 
 pub join_seat-requires : goal.join_seat-requires

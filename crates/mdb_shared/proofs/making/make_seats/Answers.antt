@@ -1,8 +1,8 @@
-use Rattle.std.proofs.Common.{rules, arith, ◌≡◌, ◌<◌, ◌+◌, ◌∷◌, [], List, length, length-append, ℕ, ap, sym, subst, refl, ◌∙◌, slice_get, Some}
+use Rattle.std.proofs.Common.{rules, arith, ◌≡◌, ◌<◌, ◌+◌, List, length, length-append, ℕ, ap, sym, subst, refl, ◌∙◌, slice_get, Some}
 use Rattle.atomic_table.specs.Table.{Me}
 use Rattle.mdb_shared.specs.declared.rule.View.{View}
 use Rattle.mdb_shared.specs.Turning.{Held}
-use Rattle.mdb_shared.specs.Seats.{SeatView, fresh_seat, seat_view}
+use Rattle.mdb_shared.specs.Seats.{SeatView, fresh_seat}
 use Rattle.mdb_shared.proofs.Sharing.{numbers, get_push, is_fresh, keeper_next}
 use Rattle.mdb_shared.proofs.making.make_seats.Goals as goal
 

@@ -1,4 +1,4 @@
-use Rattle.std.proofs.Common.{rules, refl, ap, sym, subst, ◌∙◌, false}
+use Rattle.std.proofs.Common.{rules, ap}
 use Rattle.mdb_shared.specs.declared.rule.View.{View}
 use Rattle.atomic_table.specs.Table.{Me}
 use Rattle.mdb_shared.specs.Turning.{Held}

@@ -1,4 +1,4 @@
-use Rattle.std.proofs.Common.{rules, arith, ℕ, ◌≡◌, ◌<◌, ◌+◌, ◌^◌, List, [], ◌∷◌, ◌++◌, length, ap, sym, subst, refl, ◌∙◌, Some, None, length-append}
+use Rattle.std.proofs.Common.{rules, arith, ◌≡◌, ◌+◌, [], ◌∷◌, length, ap, sym, subst, ◌∙◌, length-append}
 use Rattle.mdb_pool.specs.declared.log.Entry.{Entry}
 use Rattle.mdb_shared.specs.Turning.{with_entry, without_turn}
 use Rattle.mdb_shared.proofs.Keeping.{filled, adds_at, releases_at, grown_me, let_go_me, last_same}

@@ -1,4 +1,4 @@
-use Rattle.std.proofs.Common.{rules, ap, sym, subst, refl, ◌∙◌}
+use Rattle.std.proofs.Common.{rules, subst}
 use Rattle.mdb_shared.proofs.Keeping.{filled, releases_at}
 use Rattle.mdb_shared.proofs.turn.give_back.Goals as goal
 

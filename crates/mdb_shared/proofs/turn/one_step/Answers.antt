@@ -1,4 +1,4 @@
-use Rattle.std.proofs.Common.{ℕ, ◌≤◌, IsTrue, ap, sym, subst, ◌∙◌, [], ◌∷◌, ◌++◌}
+use Rattle.std.proofs.Common.{ℕ, IsTrue, ap, sym, subst, ◌∙◌, [], ◌∷◌, ◌++◌}
 use Rattle.atomic_table.specs.Table.{Me}
 use Rattle.mdb_pool.specs.declared.step.Step.{Step}
 use Rattle.mdb_pool.specs.Driver.{IsDriverAct, is_reply_to}

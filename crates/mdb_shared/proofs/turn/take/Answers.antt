@@ -1,4 +1,4 @@
-use Rattle.std.proofs.Common.{rules, ap, sym, ◌∙◌, ◌∷◌, Some, None}
+use Rattle.std.proofs.Common.{rules, ap, sym, ◌∙◌, ◌∷◌, Some}
 use Rattle.atomic_table.specs.Table.{rest}
 use Rattle.mdb_shared.proofs.Keeping.{claims}
 use Rattle.mdb_shared.proofs.turn.take.Goals as goal

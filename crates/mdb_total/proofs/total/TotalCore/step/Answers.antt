@@ -1,4 +1,4 @@
-use Rattle.std.proofs.Common.{rules, ◌≡◌, ℕ, refl, sym, ap, ◌∙◌}
+use Rattle.std.proofs.Common.{rules, ℕ, refl, ap, ◌∙◌}
 use Rattle.mdb_pool.specs.declared.log.Entry.{Entry}
 use Rattle.mdb_pool.specs.Driver.{IsEntry}
 use Rattle.mdb_total.specs.Totals.{reply_of}
