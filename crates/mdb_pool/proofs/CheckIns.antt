@@ -13,7 +13,7 @@ use Rattle.mdb_pool.specs.Kept.{state_in, is_shut, stale_for, reason_of, reason_
 use Rattle.mdb_pool.specs.Changes.{in_fact, back_facts}
 use Rattle.mdb_pool.specs.Legal.{AllFirstCome, AllOwn, shuts}
 use Rattle.mdb_pool.specs.Standing.{Fits}
-use Rattle.mdb_pool.proofs.Serving.{same-number}
+use Rattle.mdb_pool.proofs.Numbers.{same-number}
 use Rattle.mdb_pool.proofs.Stands.{skip-fits}
 use Rattle.mdb_pool.proofs.Staleness.{shut-status}
 

@@ -7,8 +7,8 @@ use Rattle.mdb_pool.specs.declared.reply.Reply.TheVariants.{Job, NoJob}
 use Rattle.mdb_pool.specs.declared.connection.Connection.{Connection}
 use Rattle.mdb_pool.specs.declared.pool_core.PoolCore.{PoolCore}
 use Rattle.mdb_pool.proofs.Acts.{own-answers, not-back, accepts}
-use Rattle.mdb_pool.proofs.Laws.{has-append}
-use Rattle.mdb_pool.proofs.Serving.{same-number}
+use Rattle.std.proofs.Math.Bool.{or_comm}
+use Rattle.mdb_pool.proofs.Numbers.{has-append, same-number}
 use Rattle.mdb_pool.proofs.Stands.{noted-fits}
 use Rattle.mdb_pool.specs.Answer.{first_job}
 use Rattle.mdb_pool.specs.Changes.{claiming}
@@ -42,15 +42,9 @@ job-is s = on (first_unclaimed s) refl
 claiming-has : (s : PoolCore) (c : ℕ) → has c (claiming s).claimed ≡ is_job s.pool (job_now s) c || has c s.claimed
 claiming-has s c = on (first_unclaimed s) refl
   where
-    swap : (a b : Bool) → a || b ≡ (true && b) || a
-    swap true true = refl
-    swap true false = refl
-    swap false true = refl
-    swap false false = refl
-
     on : (o : Option Connection) → first_unclaimed s ≡ o → has c (claiming s).claimed ≡ is_job s.pool (job_now s) c || has c s.claimed
     on None e = rw e refl
-    on (Some x) e = rw (e, same-number s.pool) (has-append c x.id s.claimed ∙ swap (has c s.claimed) (x.id == c))
+    on (Some x) e = rw (e, same-number s.pool) (has-append c x.id s.claimed ∙ or_comm (has c s.claimed) (x.id == c))
 
 job-accepted : (s : PoolCore) → IsAccepted (job_now s)
 job-accepted s = on (first_unclaimed s) refl

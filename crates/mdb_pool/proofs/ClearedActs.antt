@@ -27,10 +27,10 @@ use Rattle.mdb_pool.specs.Changes.{raising, pool_cleared_fact}
 use Rattle.mdb_pool.specs.Legal.{AllFirstCome, AllOwn, shuts}
 use Rattle.mdb_pool.specs.Standing.{Fits, StandsFor, Serves, EndsQueue, Clears, Accepts, Answers, SameHome, SameNotes}
 use Rattle.mdb_pool.proofs.Acts.{refuses, accepts, own-answers, not-back}
-use Rattle.mdb_pool.proofs.Serving.{same-number}
+use Rattle.mdb_pool.proofs.Numbers.{same-number}
 use Rattle.mdb_pool.proofs.Stands.{later-fits, raise-fits}
 use Rattle.mdb_pool.proofs.Staleness.{ready-status, shut-status}
-use Rattle.mdb_pool.proofs.Laws.{queued-asked}
+use Rattle.mdb_pool.proofs.Pins.{queued-asked}
 use Rattle.mdb_pool.proofs.Frame.{asked-fact, asked-facts}
 use Rattle.mdb_pool.proofs.EstablishedActs.{wrong-is, right-is}
 

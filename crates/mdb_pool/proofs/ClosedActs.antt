@@ -25,7 +25,8 @@ use Rattle.mdb_pool.specs.Legal.{AllFirstCome, AllOwn, shuts}
 use Rattle.mdb_pool.specs.Standing.{Fits, StandsFor, Serves, Accepts, Answers, SameHome, SameNotes}
 use Rattle.mdb_pool.proofs.Tables.{In, here, there, passes, has-where, member-at, one_if-le}
 use Rattle.mdb_pool.proofs.Acts.{accepts, own-answers, not-back, live-service, pending-is}
-use Rattle.mdb_pool.proofs.Serving.{same-number, after-append}
+use Rattle.mdb_pool.proofs.Numbers.{same-number}
+use Rattle.mdb_pool.proofs.Serving.{after-append}
 use Rattle.mdb_pool.proofs.Stands.{later-fits, asked-known}
 use Rattle.mdb_pool.proofs.Staleness.{shut-status}
 use Rattle.mdb_pool.proofs.Moves.{queued-known}

@@ -17,6 +17,8 @@ use Rattle.mdb_pool.specs.Kept.{unserved_in}
 use Rattle.std.proofs.lemmas.List.{take_more}
 use Rattle.mdb_pool.proofs.Tables.{named, passes}
 use Rattle.mdb_pool.proofs.Pins.{pinned-again}
+use Rattle.mdb_pool.proofs.Numbers.{same-number, has-without-is}
+use Rattle.std.proofs.Math.Bool.{and-true}
 
 -- the items, those of the first numbers first
 abbrev pub closings : List ℕ → List PoolItem → List PoolItem
@@ -152,26 +154,18 @@ abbrev pub leave : List ℕ → List ℕ → List ℕ
 leave [] ks = ks
 leave (j ∷ js) ks = leave js (without j ks)
 
-has-without-is : (k j : ℕ) (ks : List ℕ) → has k (without j ks) ≡ has k ks && not (j == k)
-has-without-is k j [] = refl
-has-without-is k j (i ∷ ks) = grind (arith, common_steps, has-without-is k j ks)
-
 and-not : (a b c : Bool) → (a && not b) && not c ≡ a && not (b || c)
 and-not true true c = refl
 and-not true false c = refl
 and-not false b c = refl
 
-and-yes : (a : Bool) → a ≡ a && true
-and-yes true = refl
-and-yes false = refl
-
 has-leave : (k : ℕ) (js ks : List ℕ) → has k (leave js ks) ≡ has k ks && not (has k js)
-has-leave k [] ks = and-yes (has k ks)
+has-leave k [] ks = sym (and-true (has k ks))
 has-leave k (j ∷ js) ks = has-leave k js (without j ks) ∙ (ap (λ b. b && not (has k js)) (has-without-is k j ks) ∙ and-not (has k ks) (j == k) (has k js))
 
 no-members : (ks : List ℕ) → ((k : ℕ) → has k ks ≡ false) → ks ≡ []
 no-members [] none = refl
-no-members (k ∷ ks) none = let e : has k (k ∷ ks) ≡ true = (let s : (k == k) ≡ true = grind arith in rw s refl) in let f : has k (k ∷ ks) ≡ false = none k in cc
+no-members (k ∷ ks) none = let e : has k (k ∷ ks) ≡ true = rw (same-number k) refl in let f : has k (k ∷ ks) ≡ false = none k in cc
 
 -- nothing is left where all are taken out
 pub leave-all : (js ks : List ℕ) → ((k : ℕ) → has k ks ≡ true → has k js ≡ true) → leave js ks ≡ []

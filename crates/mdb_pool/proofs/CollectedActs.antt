@@ -7,7 +7,8 @@ use Rattle.mdb_pool.specs.declared.reply.Reply.{Reply}
 use Rattle.mdb_pool.specs.declared.reply.Reply.TheVariants.{Refused as RefusedBy}
 use Rattle.mdb_pool.specs.declared.pool_core.PoolCore.{PoolCore}
 use Rattle.mdb_pool.proofs.Acts.{own-answers, not-back, outcome-is, outcome-accepted, outcome-no-job, refuses, accepts}
-use Rattle.mdb_pool.proofs.RequestedActs.{telling-settled, telling-fits, or-none}
+use Rattle.std.proofs.Math.Bool.{or-false}
+use Rattle.mdb_pool.proofs.RequestedActs.{telling-settled, telling-fits}
 use Rattle.mdb_pool.proofs.Stands.{noted-fits, asked-known}
 use Rattle.mdb_pool.specs.Changes.{telling}
 use Rattle.mdb_pool.specs.Connections.{has}
@@ -31,7 +32,7 @@ collect-accepts s s1 t u before after n r reply xs z s1_is home notes serves u_i
     (λ claims own zs m. reply_is ∙ (sym (outcome-is t zs m r) ∙ ap (λ p. outcome_of p zs r) (home.pool ∙ at_home.pool)))
     (rw reply_is (outcome-accepted t r))
     (ap (λ k. is_shut k.status) u_is ∙ ap is_shut (notes.status ∙ ap (λ k. k.status) s1_is))
-    (λ k. rw (u_is, reply_is) (telling-settled t r k ∙ rw (or-none ((r == k) && is_outcome (outcome_now t r))) (ap (λ b. ((r == k) && is_outcome (outcome_now t r)) || has k b) (notes.settled ∙ ap (λ x. x.settled) s1_is))))
+    (λ k. rw (u_is, reply_is) (telling-settled t r k ∙ rw (or-false ((r == k) && is_outcome (outcome_now t r))) (ap (λ b. ((r == k) && is_outcome (outcome_now t r)) || has k b) (notes.settled ∙ ap (λ x. x.settled) s1_is))))
     (λ c. rw (u_is, reply_is, outcome-no-job t r s.pool c) (ap (has c) (notes.claimed ∙ ap (λ x. x.claimed) s1_is)))
     tt
     tt

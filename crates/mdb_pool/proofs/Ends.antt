@@ -21,7 +21,8 @@ use Rattle.mdb_pool.specs.Standing.{Fits, SameHome, EndsQueue}
 use Rattle.mdb_pool.proofs.Tables.{named, where-swap_out, length-without, one_if-le}
 use Rattle.mdb_pool.proofs.Overs.{over-known}
 use Rattle.mdb_pool.proofs.Found.{queued-at, queue-head, queue-empty}
-use Rattle.mdb_pool.proofs.Serving.{after-append, same-number}
+use Rattle.mdb_pool.proofs.Numbers.{same-number}
+use Rattle.mdb_pool.proofs.Serving.{after-append}
 use Rattle.mdb_pool.proofs.Moves.{queued-asked_at}
 use Rattle.mdb_pool.proofs.Stands.{end-fits}
 

@@ -1,5 +1,5 @@
 -- What an established connection does is the answer to its step.
-use Rattle.std.proofs.Common.{ℕ, ◌≡◌, ◌-◌, ◌≤◌, Bool, true, false, not, ◌==◌, List, [], ◌∷◌, ◌++◌, Some, None, is_some, ◌≢◌, refl, sym, ◌∙◌, subst, if◌then◌else◌, ap, Option, ◌||◌, append_assoc}
+use Rattle.std.proofs.Common.{ℕ, ◌≡◌, ◌-◌, ◌≤◌, Bool, true, false, ◌==◌, List, [], ◌∷◌, ◌++◌, Some, None, is_some, ◌≢◌, refl, sym, ◌∙◌, subst, if◌then◌else◌, ap, Option, ◌||◌, append_assoc}
 use Rattle.mdb_events.specs.declared.fact.Fact.{Fact}
 use Rattle.mdb_events.specs.declared.fact.Fact.TheVariants.{Ended}
 use Rattle.mdb_events.specs.declared.end.End.TheVariants.{Filled}
@@ -27,7 +27,8 @@ use Rattle.mdb_pool.specs.Kept.{connection_at, request_at, is_pending_at, asked_
 use Rattle.mdb_pool.specs.Changes.{establishing, up_fact, out_fact, pooling, back_facts, forgetting, pooling_for, filling_for, parting, ending}
 use Rattle.mdb_pool.proofs.Acts.{refuses, accepts, own-answers, not-back, pending-is, live-errored, live-dropped, given-open}
 use Rattle.mdb_pool.proofs.Tables.{entry_at-key, entry_at-swap, others-swap, named}
-use Rattle.mdb_pool.proofs.Serving.{same-number}
+use Rattle.mdb_pool.proofs.Bools.{if-not}
+use Rattle.mdb_pool.proofs.Numbers.{same-number}
 use Rattle.mdb_pool.proofs.Stands.{establish-fits, pool-fits, pool-drop-fits, rest-fits, part-fits, skip-fits, late-end-fits, late-end-fits_closed, late-end-fits_skipped, asked-known}
 use Rattle.mdb_pool.specs.Connections.{has, pending, held, granted_to, service_of, known_service}
 use Rattle.mdb_pool.specs.Requests.{end_of}
@@ -264,11 +265,7 @@ rest-of s s1 t before f1 after n c x how xs z at_c place none no_party s1_is f1_
 
 -- how an established connection is refused: it isn't pending, or it names no service
 established-refusal : (s : PoolCore) (h : List Item) → StandsFor s h → (n c : ℕ) (how : Established) → s.last ≤ n → refusal_of s.pool s.options h (record { moment = n; act = EstablishedAct s.pool c how }) ≡ if is_pending_at (connection_at s c) then (if wrong_service s.options.load_balanced how.service_id then Some WrongMode else None) else Some NotPending
-established-refusal s h z n c how l = rw (z.last_is, not-back n s.last l, same-number s.pool, pending-is s (of_pool s.pool h) z.fits c) (on (is_pending_at (connection_at s c)) (wrong_service s.options.load_balanced how.service_id))
-  where
-    on : (b k : Bool) → (if not b then Some NotPending else (if k then Some WrongMode else None)) ≡ (if b then (if k then Some WrongMode else None) else Some NotPending)
-    on true k = refl
-    on false k = refl
+established-refusal s h z n c how l = rw (z.last_is, not-back n s.last l, same-number s.pool, pending-is s (of_pool s.pool h) z.fits c) (if-not (is_pending_at (connection_at s c)) (Some NotPending) (if wrong_service s.options.load_balanced how.service_id then Some WrongMode else None))
 
 -- the mode goes with the service
 pub wrong-is : (b : Bool) (o : Option ObjectId) → is_some o ≢ b → wrong_service b o ≡ true

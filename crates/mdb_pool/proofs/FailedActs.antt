@@ -24,7 +24,8 @@ use Rattle.mdb_pool.specs.Changes.{failing, forgetting, shut_fact, over_facts}
 use Rattle.mdb_pool.proofs.Acts.{refuses, accepts, own-answers, not-back, pending-is, live-service, given-open}
 use Rattle.mdb_pool.proofs.Tables.{entry_at-key, named}
 use Rattle.mdb_pool.proofs.Overs.{over-is, over-known, over-fair, over-own, over-open}
-use Rattle.mdb_pool.proofs.Serving.{same-number}
+use Rattle.mdb_pool.proofs.Bools.{if-not}
+use Rattle.mdb_pool.proofs.Numbers.{same-number}
 use Rattle.mdb_pool.proofs.Stands.{fail-fits, forget-fits, asked-known}
 use Rattle.mdb_pool.specs.Connections.{has, pending, held}
 use Rattle.mdb_pool.specs.Requests.{end_of}
@@ -142,11 +143,7 @@ failed-refusal s h z n c Pre error l = rw (z.last_is, not-back n s.last l, same-
     on true true = refl
     on true false = refl
     on false k = refl
-failed-refusal s h z n c (Post service) error l = rw (z.last_is, not-back n s.last l, same-number s.pool, pending-is s (of_pool s.pool h) z.fits c) (on (is_pending_at (connection_at s c)) (not s.options.load_balanced && is_some service))
-  where
-    on : (b k : Bool) → (if not b then Some NotPending else (if k then Some WrongMode else None)) ≡ (if b then (if k then Some WrongMode else None) else Some NotPending)
-    on true k = refl
-    on false k = refl
+failed-refusal s h z n c (Post service) error l = rw (z.last_is, not-back n s.last l, same-number s.pool, pending-is s (of_pool s.pool h) z.fits c) (if-not (is_pending_at (connection_at s c)) (Some NotPending) (if not s.options.load_balanced && is_some service then Some WrongMode else None))
 
 pub fails-pending : (s : PoolCore) (facts : List Fact) (n c : ℕ) (at : FailedAt) (error : Error) (h : List Item) → StandsFor s h → s.last ≤ n → is_pending_at (connection_at s c) ≡ false → Answers s s facts facts (record { moment = n; act = FailedAct s.pool c at error }) (RefusedBy NotPending) h
 fails-pending s facts n c at error h z l e = refuses s facts (record { moment = n; act = FailedAct s.pool c at error }) NotPending h z (failed-refusal s h z n c at error l ∙ rw e refl)

@@ -12,6 +12,7 @@ use Rattle.mdb_pool.specs.Serving.{last_of}
 use Rattle.mdb_pool.specs.Standing.{Matches}
 use Rattle.mdb_pool.specs.Kept.{connection_at, request_at, ids_where, numbers_where, first_queued, candidate_now, blocked_now, first_perished, perished_now, last_available, last_from, held_connection, if_held, given_in, given_of, if_pending, pending_connection, holder_at}
 use Rattle.mdb_pool.specs.Places.{is_pending, is_available, is_held, is_at_pin, is_queued}
+use Rattle.mdb_pool.proofs.Bools.{both-left, both-right}
 use Rattle.mdb_pool.proofs.Tables.{In, here, there, member-at, one_if-le, find-member, entry_at-key}
 
 pub is-queued : (p : Phase) → is_queued p ≡ true → p ≡ Queued
@@ -59,14 +60,6 @@ last-id before (x ∷ xs) = on (is_available x.place) refl (λ b. last-id b xs)
     on : (b : Bool) → is_available x.place ≡ b → ((c : Option Connection) → id_or (last_from c xs) None ≡ or_else (last_of (ids_where is_available xs)) (id_or c None)) → id_or (last_from before (x ∷ xs)) None ≡ or_else (last_of (ids_where is_available (x ∷ xs))) (id_or before None)
     on true f rest = grind (arith, rest (Some x))
     on false f rest = grind (arith, rest before)
-
-pub both-left : (a b : Bool) → (a && b) ≡ true → a ≡ true
-both-left true b e = refl
-both-left false b e = cc
-
-pub both-right : (a b : Bool) → (a && b) ≡ true → b ≡ true
-both-right true b e = e
-both-right false b e = cc
 
 module _ (s : PoolCore) (xs : List PoolItem) (m : Matches s xs) where
   pub queued-at : (q : Request) → first_queued s ≡ Some q → (request_at s q.number ≡ Some q) × (q.phase ≡ Queued)

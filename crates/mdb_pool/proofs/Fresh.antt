@@ -33,8 +33,7 @@ use Rattle.mdb_pool.specs.Standing.{Matches, StandsFor}
 use Rattle.mdb_pool.specs.Kept.{connection_at, holder_at, pins_at}
 use Rattle.mdb_pool.specs.Places.{is_pending, is_available}
 use Rattle.mdb_pool.proofs.Tables.{has-where}
-use Rattle.mdb_pool.proofs.Laws.{has-append}
-use Rattle.mdb_pool.proofs.Serving.{same-number}
+use Rattle.mdb_pool.proofs.Numbers.{has-append, same-number}
 use Rattle.mdb_pool.proofs.Staleness.{live-created}
 use Rattle.mdb_pool.proofs.Calm.{IsCalm, AreCalm, IsBound, act-calm}
 

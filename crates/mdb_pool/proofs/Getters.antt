@@ -12,6 +12,7 @@ use Rattle.mdb_pool.specs.Generations.{carried}
 use Rattle.mdb_pool.specs.declared.generation.ConnectionGeneration.TheVariants.{Normal, LoadBalanced}
 use Rattle.mdb_pool.proofs.TakenActs.{held-is}
 use Rattle.std.proofs.lemmas.Bool.Decides.{nat_tests}
+use Rattle.std.proofs.Math.Bool.{and-false}
 use Rattle.mdb_pool.specs.Standing.{StandsFor}
 use Rattle.mdb_pool.proofs.Acts.{holding-is, pending-is, live-service}
 use Rattle.mdb_pool.proofs.Found.{id_or}
@@ -73,9 +74,5 @@ module _ (s : PoolCore) (h : List Item) (z : StandsFor s h) where
       at_held x true e f = rw (since-now (timeouts_since xs c) x (z.fits.matches.calm c x e (z.fits.matches.busy c x e f))) refl
 
       on : (o : Option Connection) → connection_at s c ≡ o → not s.options.load_balanced && (is_held_at o && ((pins_at o == 0) && nat_lt 0 (timeouts_since xs c))) ≡ interrupted_at s o
-      on None e = never (not s.options.load_balanced)
-        where
-          never : (b : Bool) → b && false ≡ false
-          never true = refl
-          never false = refl
+      on None e = and-false (not s.options.load_balanced)
       on (Some x) e = at_held x (is_held x.place) e refl

@@ -26,14 +26,14 @@ use Rattle.mdb_pool.specs.Places.{is_pending}
 use Rattle.mdb_pool.specs.Refusal.{refusal_of}
 use Rattle.mdb_pool.specs.Changes.{quitting, leaving, handing, back_facts, losing, handing_for, to_pin}
 use Rattle.mdb_pool.specs.Legal.{AllFirstCome, AllOwn, shuts}
-use Rattle.mdb_pool.proofs.ReturnedActs.{or-swap, none-above, some-above}
+use Rattle.mdb_pool.proofs.ReturnedActs.{none-above, some-above}
 use Rattle.mdb_pool.proofs.PinStands.{quit-pinned-fits}
 use Rattle.mdb_pool.proofs.Found.{Holder, holder, pender, not-given}
 use Rattle.mdb_pool.proofs.CollectedActs.{open-is}
 use Rattle.mdb_pool.proofs.Stands.{quit-fits, leave-fits, hand-fits, late-fits, lose-fits, asked-known}
 use Rattle.mdb_pool.proofs.Tables.{entry_at-key}
-use Rattle.mdb_pool.proofs.Laws.{has-append}
-use Rattle.mdb_pool.proofs.Serving.{same-number}
+use Rattle.std.proofs.Math.Bool.{or_comm}
+use Rattle.mdb_pool.proofs.Numbers.{has-append, same-number}
 use Rattle.mdb_pool.proofs.Acts.{refuses, accepts, own-answers, not-back, pending-is, holding-is, outcome-is, outcome-accepted, outcome-no-job, live-errored, live-service, live-pins}
 use Rattle.mdb_pool.proofs.CheckIns.{check-in-is, back-fair, back-own, back-open, back-fits}
 use Rattle.mdb_pool.proofs.Staleness.{stale-at}
@@ -59,7 +59,7 @@ module _ (s : PoolCore) (xs : List PoolItem) (z : Fits s xs) (n : ℕ) (q : Requ
       (λ claims own zs m. rw still refl)
       tt
       (ap is_shut (notes.status ∙ state) ∙ ap (λ b. b || is_shut s.status) (sym unshut))
-      (λ r. ap (has r) (notes.settled ∙ told) ∙ (has-append r q.number s.settled ∙ or-swap (has r s.settled) (q.number == r)))
+      (λ r. ap (has r) (notes.settled ∙ told) ∙ (has-append r q.number s.settled ∙ or_comm (has r s.settled) (q.number == r)))
       (λ c. ap (has c) (notes.claimed ∙ same))
       fair own
 
@@ -156,7 +156,7 @@ late-accepts s s1 t before after n r reply xs z over s1_is home notes serves rep
     (λ claims own zs m. rw gone (reply_is ∙ sym (outcome-is s xs z.matches r)))
     (rw reply_is (outcome-accepted s r))
     (ap is_shut (notes.status ∙ ap (λ x. x.status) s1_is))
-    (λ k. ap (has k) (notes.settled ∙ ap (λ x. x.settled) s1_is) ∙ (has-append k r s.settled ∙ or-swap (has k s.settled) (r == k)))
+    (λ k. ap (has k) (notes.settled ∙ ap (λ x. x.settled) s1_is) ∙ (has-append k r s.settled ∙ or_comm (has k s.settled) (r == k)))
     (λ c. rw (reply_is, outcome-no-job s r s.pool c) (ap (has c) (notes.claimed ∙ ap (λ x. x.claimed) s1_is)))
     tt tt
 

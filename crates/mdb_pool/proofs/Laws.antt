@@ -1,5 +1,5 @@
 -- The serving is fair, and leaves nobody who could be served.
-use Rattle.std.proofs.Common.{ℕ, zero, suc, ◌≡◌, ◌+◌, ◌<◌, ◌≤◌, Bool, true, false, not, ◌&&◌, ◌||◌, ◌==◌, List, [], ◌∷◌, ◌++◌, length, filter, Option, Some, None, ◌⊎◌, inl, inr, refl, sym, ◌∙◌, ap, subst, arith, if◌then◌else◌}
+use Rattle.std.proofs.Common.{ℕ, zero, suc, ◌≡◌, ◌+◌, ◌<◌, ◌≤◌, Bool, true, false, not, ◌&&◌, ◌||◌, List, [], ◌∷◌, ◌++◌, length, filter, Option, Some, None, ◌⊎◌, inl, inr, refl, sym, ◌∙◌, ap, subst, arith, if◌then◌else◌}
 use Rattle.mdb_base.specs.declared.address.ServerAddress.{ServerAddress}
 use Rattle.mdb_events.specs.declared.fact.Fact.{Fact}
 use Rattle.mdb_events.specs.declared.fact.Fact.TheVariants.{Granted, Ended}
@@ -7,7 +7,7 @@ use Rattle.mdb_events.specs.declared.end.End.TheVariants.{Warmed}
 use Rattle.mdb_events.specs.declared.reasons.ConnectionClosedReason.{ConnectionClosedReason}
 use Rattle.mdb_events.specs.declared.reasons.ConnectionClosedReason.TheVariants.{Stale, Idle}
 use Rattle.mdb_pool.specs.declared.options.PoolOptions.{PoolOptions}
-use Rattle.mdb_pool.specs.History.{PoolItem, asked, warmed, gave_up, returned, pinned_by, established, failed, replicated, taken, unpinned, created, closed, checked_in, granted, ended, raised, pool_created, pool_ready, pool_closed, after_fact, after_facts, without, has_asked}
+use Rattle.mdb_pool.specs.History.{PoolItem, after_fact, after_facts, without}
 use Rattle.mdb_pool.specs.Connections.{has, created_total, available_list}
 use Rattle.mdb_pool.specs.State.{is_stale, state_of, ready, may_create, could_be_granted, is_empty, is_idle}
 use Rattle.mdb_pool.specs.Requests.{queued, is_warm}
@@ -15,54 +15,10 @@ use Rattle.mdb_pool.specs.Serving.{last_of, is_blocked, candidate, next_move, se
 use Rattle.mdb_pool.specs.Facts.{closed_fact, checked_out_fact}
 use Rattle.mdb_pool.specs.Legal.{NoneLeftWaiting, IsNext, AllFirstCome, AllOwn, first, is_closing, shuts}
 use Rattle.mdb_pool.proofs.Tables.{length-without, length-without_has}
-use Rattle.mdb_pool.proofs.Serving.{serve-nothing}
-
-pub has-append : (r q : ℕ) (rs : List ℕ) → has r (rs ++ q ∷ []) ≡ has r rs || (q == r)
-has-append r q [] = grind arith
-has-append r q (k ∷ rs) = grind (arith, has-append r q rs)
-
-has-without : (r q : ℕ) (rs : List ℕ) → has r (without q rs) ≡ true → has r rs ≡ true
-has-without r q [] e = e
-has-without r q (k ∷ rs) e = grind (arith, has-without r q rs)
-
--- who is queued has asked
-pub queued-asked : (xs : List PoolItem) (r : ℕ) → has r (queued xs) ≡ true → has_asked xs r ≡ true
-queued-asked [] r e = cc
-queued-asked (asked q m ∷ xs) r e = grind (arith, queued-asked xs r, has-append r q (queued xs))
-queued-asked (warmed q m ∷ xs) r e = grind (arith, queued-asked xs r, has-append r q (queued xs))
-queued-asked (granted q c ∷ xs) r e = queued-asked xs r (has-without r q (queued xs) e)
-queued-asked (ended q end ∷ xs) r e = queued-asked xs r (has-without r q (queued xs) e)
-queued-asked (gave_up q ∷ xs) r e = queued-asked xs r e
-queued-asked (returned q used ∷ xs) r e = queued-asked xs r e
-queued-asked (pinned_by q ∷ xs) r e = queued-asked xs r e
-queued-asked (established c service m ∷ xs) r e = queued-asked xs r e
-queued-asked (failed c service ∷ xs) r e = queued-asked xs r e
-queued-asked (replicated c ∷ xs) r e = queued-asked xs r e
-queued-asked (taken q c ∷ xs) r e = queued-asked xs r e
-queued-asked (unpinned c ∷ xs) r e = queued-asked xs r e
-queued-asked (created c m ∷ xs) r e = queued-asked xs r e
-queued-asked (closed c ∷ xs) r e = queued-asked xs r e
-queued-asked (checked_in c m ∷ xs) r e = queued-asked xs r e
-queued-asked (raised service error ∷ xs) r e = queued-asked xs r e
-queued-asked (pool_created ∷ xs) r e = queued-asked xs r e
-queued-asked (pool_ready ∷ xs) r e = queued-asked xs r e
-queued-asked (pool_closed ∷ xs) r e = queued-asked xs r e
-
-pub last_of-has : (c : ℕ) (cs : List ℕ) → last_of cs ≡ Some c → has c cs ≡ true
-last_of-has c [] e = cc
-last_of-has c (d ∷ cs) e = on (last_of cs) refl (last_of-has c cs)
-  where
-    on : (o : Option ℕ) → last_of cs ≡ o → (last_of cs ≡ Some c → has c cs ≡ true) → has c (d ∷ cs) ≡ true
-    on None f deeper = let g : last_of (d ∷ cs) ≡ Some d = rw f refl in let w : d ≡ c = cc in grind arith
-    on (Some k) f deeper = let g : last_of (d ∷ cs) ≡ Some k = rw f refl in let w : k ≡ c = cc in let v : has c cs ≡ true = deeper (f ∙ ap Some w) in grind arith
-
-pub last_of-none : (cs : List ℕ) → last_of cs ≡ None → cs ≡ []
-last_of-none [] e = refl
-last_of-none (d ∷ cs) e = on (last_of cs) refl
-  where
-    on : (o : Option ℕ) → last_of cs ≡ o → d ∷ cs ≡ []
-    on None f = let g : last_of (d ∷ cs) ≡ Some d = rw f refl in cc
-    on (Some k) f = let g : last_of (d ∷ cs) ≡ Some k = rw f refl in cc
+use Rattle.mdb_pool.proofs.Serving.{after-append, serve-nothing}
+use Rattle.mdb_pool.proofs.Numbers.{same-number, last_of-has, last_of-none}
+use Rattle.mdb_pool.proofs.Pins.{queued-asked}
+use Rattle.std.proofs.Math.Bool.{and-false, or-false}
 
 module _ (p : ℕ) (a : ServerAddress) (o : PoolOptions) (n : ℕ) where
   pub candidate-has : (xs : List PoolItem) (r : ℕ) (rs : List ℕ) → candidate o xs rs ≡ Some r → has r rs ≡ true
@@ -112,11 +68,7 @@ module _ (p : ℕ) (a : ServerAddress) (o : PoolOptions) (n : ℕ) where
   not-ready xs e = rw e refl
 
   no-grant : (xs : List PoolItem) → available_list xs ≡ [] → may_create o xs ≡ false → could_be_granted o xs ≡ false
-  no-grant xs e f = rw (e, f) (on (ready (state_of o xs)))
-    where
-      on : (b : Bool) → b && false ≡ false
-      on true = refl
-      on false = refl
+  no-grant xs e f = rw (e, f) (and-false (ready (state_of o xs)))
 
   pub move-of : (xs : List PoolItem) → Move xs
   move-of xs = at_status (ready (state_of o xs)) refl
@@ -153,22 +105,19 @@ module _ (p : ℕ) (a : ServerAddress) (o : PoolOptions) (n : ℕ) where
       at_status true e = at_candidate (candidate o xs (queued xs)) refl e
       at_status false e = nothing (rw e refl) (inr (not-ready xs e))
 
-  same : (k : ℕ) → (k == k) ≡ true
-  same k = grind arith
-
   -- a move takes something away, or there is none
   pub shrinks : (xs : List PoolItem) → Move xs → ((next_move p a o n xs ≡ []) × NoneLeftWaiting o xs) ⊎ (size (after_facts p n (next_move p a o n xs) xs) < size xs)
   shrinks xs (nothing e s) = inl (e, s)
-  shrinks xs (closing c why e i) = inr (rw (e, same p) (let k : length (without c (available_list xs)) < length (available_list xs) = length-without_has c (available_list xs) i in omega arith))
-  shrinks xs (granting r c e i f) = inr (rw (e, same p) (let k : length (without r (queued xs)) < length (queued xs) = length-without_has r (queued xs) i in omega (arith, length-without c (available_list xs))))
-  shrinks xs (creating r e i f) = inr (rw (e, same p) (let k : length (without r (queued xs)) < length (queued xs) = length-without_has r (queued xs) i in omega (arith, length-without (created_total xs + 1) (available_list xs))))
+  shrinks xs (closing c why e i) = inr (rw (e, same-number p) (let k : length (without c (available_list xs)) < length (available_list xs) = length-without_has c (available_list xs) i in omega arith))
+  shrinks xs (granting r c e i f) = inr (rw (e, same-number p) (let k : length (without r (queued xs)) < length (queued xs) = length-without_has r (queued xs) i in omega (arith, length-without c (available_list xs))))
+  shrinks xs (creating r e i f) = inr (rw (e, same-number p) (let k : length (without r (queued xs)) < length (queued xs) = length-without_has r (queued xs) i in omega (arith, length-without (created_total xs + 1) (available_list xs))))
   shrinks xs (warming r e i) = inr (rw (e, queued-asked xs r i) (let k : length (without r (queued xs)) < length (queued xs) = length-without_has r (queued xs) i in omega arith))
 
   pub fair-move : (xs : List PoolItem) → Move xs → AllFirstCome p n xs (next_move p a o n xs)
   fair-move xs (nothing e s) = rw e tt
   fair-move xs (closing c why e i) = rw e (tt, tt)
   fair-move xs (granting r c e i f) = rw e ((refl, f), (tt, tt))
-  fair-move xs (creating r e i f) = rw (e, same p) (tt, ((refl, f), tt))
+  fair-move xs (creating r e i f) = rw (e, same-number p) (tt, ((refl, f), tt))
   fair-move xs (warming r e i) = rw e (tt, tt)
 
   pub own-move : (xs : List PoolItem) → Move xs → AllOwn p n xs (next_move p a o n xs)
@@ -207,15 +156,7 @@ module _ (p : ℕ) (a : ServerAddress) (o : PoolOptions) (n : ℕ) where
   serve-open (suc k) xs = shut-append (next_move p a o n xs) (serve p a o n k (after_facts p n (next_move p a o n xs) xs)) ∙ rw (move-open xs (move-of xs)) (serve-open k (after_facts p n (next_move p a o n xs) xs))
 
   pub with-serve : (fs : List Fact) (k : ℕ) (xs : List PoolItem) → shuts (fs ++ serve p a o n k xs) ≡ shuts fs
-  with-serve fs k xs = shut-append fs (serve p a o n k xs) ∙ rw (serve-open k xs) (or-no (shuts fs))
-    where
-      or-no : (b : Bool) → b || false ≡ b
-      or-no true = refl
-      or-no false = refl
-
-  pub after_facts-append : (fs gs : List Fact) (xs : List PoolItem) → after_facts p n (fs ++ gs) xs ≡ after_facts p n gs (after_facts p n fs xs)
-  after_facts-append [] gs xs = refl
-  after_facts-append (f ∷ fs) gs xs = after_facts-append fs gs (after_fact p n f xs)
+  with-serve fs k xs = shut-append fs (serve p a o n k xs) ∙ rw (serve-open k xs) (or-false (shuts fs))
 
   pub fair-append : (fs gs : List Fact) (xs : List PoolItem) → AllFirstCome p n xs fs → AllFirstCome p n (after_facts p n fs xs) gs → AllFirstCome p n xs (fs ++ gs)
   fair-append [] gs xs i j = j
@@ -237,7 +178,7 @@ module _ (p : ℕ) (a : ServerAddress) (o : PoolOptions) (n : ℕ) where
     where
       on : ((next_move p a o n xs ≡ []) × NoneLeftWaiting o xs) ⊎ (size (after_facts p n (next_move p a o n xs) xs) < size xs) → (size (after_facts p n (next_move p a o n xs) xs) ≤ k → NoneLeftWaiting o (after_facts p n (serve p a o n k (after_facts p n (next_move p a o n xs) xs)) (after_facts p n (next_move p a o n xs) xs))) → NoneLeftWaiting o (after_facts p n (serve p a o n (suc k) xs) xs)
       on (inl q) deeper = rw (serve-nothing p a o n (suc k) xs q.0) q.1
-      on (inr q) deeper = rw (after_facts-append (next_move p a o n xs) (serve p a o n k (after_facts p n (next_move p a o n xs) xs)) xs) (deeper (omega arith))
+      on (inr q) deeper = rw (after-append p n (next_move p a o n xs) (serve p a o n k (after_facts p n (next_move p a o n xs) xs)) xs) (deeper (omega arith))
 
   pub serving-settles : (xs : List PoolItem) → NoneLeftWaiting o (after_facts p n (serving p a o n xs) xs)
   serving-settles xs = serve-settles (size xs) xs (omega arith)

@@ -1,4 +1,6 @@
 mod Rows
+pub mod Bools
+pub mod Numbers
 pub mod Tables
 pub mod Pins
 pub mod Addresses

@@ -17,7 +17,8 @@ use Rattle.mdb_pool.specs.Kept.{is_shut}
 use Rattle.mdb_pool.specs.Standing.{Fits, StandsFor, Serves, Sweeps, Fills, Accepts, Answers, SameHome, SameNotes}
 use Rattle.mdb_pool.proofs.Acts.{refuses, accepts, own-answers, not-back}
 use Rattle.mdb_pool.proofs.Addresses.{own-address}
-use Rattle.mdb_pool.proofs.Serving.{same-number, after-append}
+use Rattle.mdb_pool.proofs.Numbers.{same-number}
+use Rattle.mdb_pool.proofs.Serving.{after-append}
 use Rattle.mdb_pool.proofs.Stands.{later-fits}
 use Rattle.mdb_pool.proofs.Laws.{fair-append, own-append, shut-append}
 use Rattle.mdb_pool.proofs.Maintains.{sweep-fair, sweep-own, sweep-open, fill-fair, fill-own, fill-open}

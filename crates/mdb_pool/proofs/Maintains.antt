@@ -22,7 +22,9 @@ use Rattle.mdb_pool.proofs.Tables.{In, here, there, named, member-at, member-has
 use Rattle.mdb_pool.proofs.Found.{is-available, perished-at}
 use Rattle.mdb_pool.proofs.Staleness.{ready-is}
 use Rattle.mdb_pool.proofs.Stands.{discard-fits, spawn-fits}
-use Rattle.mdb_pool.proofs.Serving.{after-append, same-number, perished-is}
+use Rattle.mdb_pool.proofs.Bools.{both-left, both-right}
+use Rattle.mdb_pool.proofs.Numbers.{same-number}
+use Rattle.mdb_pool.proofs.Serving.{after-append, perished-is}
 use Rattle.mdb_pool.proofs.Acts.{live-service}
 
 abbrev id_of : Connection → ℕ
@@ -184,19 +186,11 @@ module _ (s t : PoolCore) (home : SameHome s t) (n : ℕ) (before after : List F
 pub sweep-smaller : (t u : PoolCore) (n : ℕ) (x : Connection) → first_perished t n ≡ Some x → u ≡ discarding t x → length (ids_where is_available u.connections) < length (ids_where is_available t.connections)
 sweep-smaller t u n x e new =
     let i : In x t.connections × ((is_available x.place && is_some (perished_now t n x)) ≡ true) = find-member (λ (y : Connection). is_available y.place && is_some (perished_now t n y)) x t.connections e in
-    rw (new, map-filter-others id_of (λ y. is_available y.place) x.id t.connections) (length-without_has x.id (ids_where is_available t.connections) (member-has id_of (λ y. is_available y.place) x t.connections i.0 (first (is_available x.place) (is_some (perished_now t n x)) i.1)))
-  where
-    first : (a b : Bool) → (a && b) ≡ true → a ≡ true
-    first true b e = refl
-    first false b e = cc
+    rw (new, map-filter-others id_of (λ y. is_available y.place) x.id t.connections) (length-without_has x.id (ids_where is_available t.connections) (member-has id_of (λ y. is_available y.place) x t.connections i.0 (both-left (is_available x.place) (is_some (perished_now t n x)) i.1)))
 
 -- one that is first perished has a reason
 pub has-perished : (t : PoolCore) (n : ℕ) (x : Connection) → first_perished t n ≡ Some x → is_some (perished_now t n x) ≡ true
-has-perished t n x e = second (is_available x.place) (is_some (perished_now t n x)) (find-member (λ (y : Connection). is_available y.place && is_some (perished_now t n y)) x t.connections e).1
-  where
-    second : (a b : Bool) → (a && b) ≡ true → b ≡ true
-    second true b e = e
-    second false b e = cc
+has-perished t n x e = both-right (is_available x.place) (is_some (perished_now t n x)) (find-member (λ (y : Connection). is_available y.place && is_some (perished_now t n y)) x t.connections e).1
 
 -- how far the creations are
 pub record Filling (s t : PoolCore) (n : ℕ) (before after : List Fact) (xs : List PoolItem) : Type 0 where

@@ -8,22 +8,30 @@ use Rattle.mdb_pool.specs.declared.request.Request.{Request}
 use Rattle.mdb_pool.specs.declared.request.Phase.TheVariants.{Queued, Given}
 use Rattle.mdb_pool.specs.declared.pool_core.PoolCore.{PoolCore}
 use Rattle.mdb_pool.specs.History.{PoolItem, is_number, without, asked, warmed, created, granted, has_asked}
-use Rattle.mdb_pool.specs.Kept.{connection_at, request_at, one_party, timeouts_in, is_asked_at}
+use Rattle.mdb_pool.specs.Kept.{connection_at, request_at, one_party, holder_at, given_of, timeouts_in, is_asked_at}
 use Rattle.mdb_pool.specs.Standing.{Matches}
-use Rattle.mdb_pool.specs.Connections.{one_if, has, granted_to, pending_list}
+use Rattle.mdb_pool.specs.Connections.{one_if, has, granted_to, parties, pending_list}
 use Rattle.mdb_pool.specs.Places.{is_pending, is_available, is_queued}
 use Rattle.mdb_pool.specs.declared.step.Use.TheVariants.{Ok}
 use Rattle.mdb_pool.proofs.Pins.{pinned-again, queued-asked}
 use Rattle.mdb_pool.specs.Changes.{asking, creating, granting, spawning}
 use Rattle.mdb_pool.proofs.Tables.{entry_at-put, named, named-put, length-put, passes, has-where, where-put_out, where-put_stay, where-put_in, entry_at-swap, named-swap, where-swap_out}
 
-pub without-one : (o : Option ℕ) (r : ℕ) → without r (one_party o) ≡ if is_number o r then [] else one_party o
+without-one : (o : Option ℕ) (r : ℕ) → without r (one_party o) ≡ if is_number o r then [] else one_party o
 without-one None r = refl
 without-one (Some k) r = grind (arith, common_steps)
 
-pub number-some : (o : Option ℕ) (r : ℕ) → is_number o r ≡ true → o ≡ Some r
+number-some : (o : Option ℕ) (r : ℕ) → is_number o r ≡ true → o ≡ Some r
 number-some None r e = cc
 number-some (Some k) r e = let f : k ≡ r = grind arith in ap Some f
+
+-- a party that leaves no longer has what it held
+pub parties-without : (s : PoolCore) (xs : List PoolItem) → Matches s xs → (r c : ℕ) → without r (parties xs c) ≡ if is_number (holder_at (connection_at s c)) r then [] else parties xs c
+parties-without s xs m r c = rw (m.parties c) (without-one (holder_at (connection_at s c)) r)
+
+-- whoever has a connection was given it
+pub holder-given : (s : PoolCore) (xs : List PoolItem) → Matches s xs → (r c : ℕ) → is_number (holder_at (connection_at s c)) r ≡ true → given_of (request_at s r) ≡ Some c
+holder-given s xs m r c e = m.owned c r (number-some (holder_at (connection_at s c)) r e)
 
 module _ (s : PoolCore) (xs : List PoolItem) (m : Matches s xs) where
   -- a connection is pending or available as its place says

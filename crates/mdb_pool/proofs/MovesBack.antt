@@ -1,5 +1,5 @@
 -- What connections that are established, returned or given up do follows the items of the pool.
-use Rattle.std.proofs.Common.{ℕ, ◌≡◌, arith, true, false, ◌==◌, List, [], ◌∷◌, ◌++◌, Some, None, is_some, refl, sym, ◌∙◌, ap, if◌then◌else◌, Option}
+use Rattle.std.proofs.Common.{ℕ, ◌≡◌, arith, false, ◌==◌, List, [], ◌∷◌, ◌++◌, Some, None, is_some, refl, sym, ◌∙◌, ap, if◌then◌else◌, Option}
 use Rattle.std.proofs.lemmas.Grind.{common_steps}
 use Rattle.std.proofs.lemmas.Bool.Decides.{nat_tests}
 use Rattle.mdb_pool.specs.declared.connection.Connection.{Connection}
@@ -8,13 +8,13 @@ use Rattle.mdb_pool.specs.declared.request.Request.{Request}
 use Rattle.mdb_pool.specs.declared.request.Phase.TheVariants.{Given, Over}
 use Rattle.mdb_pool.specs.declared.step.Use.{Use}
 use Rattle.mdb_pool.specs.declared.pool_core.PoolCore.{PoolCore}
-use Rattle.mdb_pool.specs.History.{PoolItem, is_number, without, given, returned, established, closed, checked_in}
+use Rattle.mdb_pool.specs.History.{PoolItem, without, given, returned, established, closed, checked_in}
 use Rattle.mdb_pool.specs.Kept.{connection_at, request_at, given_in, given_of, holder_at, warm_of, used_as}
 use Rattle.mdb_pool.specs.Standing.{Matches}
-use Rattle.mdb_pool.specs.Connections.{parties, granted_to, available_list, holding}
+use Rattle.mdb_pool.specs.Connections.{granted_to, available_list, holding}
 use Rattle.mdb_pool.specs.Places.{is_pending, is_available, is_queued, stays}
 use Rattle.mdb_pool.specs.Changes.{establishing, pooling, returning, dropping}
-use Rattle.mdb_pool.proofs.Moves.{without-one, number-some, pending-place}
+use Rattle.mdb_pool.proofs.Moves.{parties-without, holder-given, pending-place}
 use Rattle.mdb_pool.proofs.Pins.{pinned-again, holding-one, errored-return}
 use Rattle.mdb_pool.proofs.Tables.{entry_at-others, map-filter-others, entry_at-put, where-put, named-others, named-put, length-others, length-put, passes, where-put_out, where-put_stay, entry_at-swap, named-swap, where-swap_stay}
 use Rattle.mdb_pool.specs.declared.step.Established.{Established}
@@ -216,13 +216,6 @@ module _ (s : PoolCore) (xs : List PoolItem) (m : Matches s xs) (n : ℕ) (x : C
   given_now : given_of (request_at s q.number) ≡ Some x.id
   given_now = ap given_of at_q ∙ ap given_in phase
 
-  -- the party no longer has the connection
-  parted : (c : ℕ) → without q.number (parties xs c) ≡ if is_number (holder_at (connection_at s c)) q.number then [] else parties xs c
-  parted c = rw (m.parties c) (without-one (holder_at (connection_at s c)) q.number)
-
-  only : (c : ℕ) → is_number (holder_at (connection_at s c)) q.number ≡ true → given_of (request_at s q.number) ≡ Some c
-  only c e = m.owned c q.number (number-some (holder_at (connection_at s c)) q.number e)
-
   held_it : holding xs q.number ≡ Some x.id
   held_it = holding-one xs q.number x.id was_given (pending-place s xs m x at_x ∙ ap is_pending place)
 
@@ -237,7 +230,7 @@ module _ (s : PoolCore) (xs : List PoolItem) (m : Matches s xs) (n : ℕ) (x : C
     single = λ c. grind (arith, named-put id_of c back_x s.connections, back_connection c, m.single c);
     unused = λ c h. grind (arith, back_connection c, m.unused c h);
     live = λ c. grind (arith, back_connection c, m.live c);
-    parties = λ c. parted c ∙ grind (arith, back_connection c, m.parties c, only c, given_now, was_held, at_x);
+    parties = λ c. parties-without s xs m q.number c ∙ grind (arith, back_connection c, m.parties c, holder-given s xs m q.number c, given_now, was_held, at_x);
     granted_to = λ c y e. grind (arith, back_connection c, m.granted_to c y, m.granted_to x.id x at_x);
     created_at = λ c y e. grind (arith, back_connection c, m.created_at c y, m.created_at x.id x at_x);
     served = λ c. grind (arith, nat_tests, back_connection c, m.served c, m.served x.id, at_x);
@@ -289,7 +282,7 @@ module _ (s : PoolCore) (xs : List PoolItem) (m : Matches s xs) (n : ℕ) (x : C
     single = λ c. grind (arith, named-others id_of c x.id s.connections, gone_connection c, m.single c);
     unused = λ c h. grind (arith, gone_connection c, m.unused c h);
     live = λ c. grind (arith, gone_connection c, m.live c, at_x);
-    parties = λ c. parted c ∙ grind (arith, gone_connection c, m.parties c, only c, given_now, was_held, at_x);
+    parties = λ c. parties-without s xs m q.number c ∙ grind (arith, gone_connection c, m.parties c, holder-given s xs m q.number c, given_now, was_held, at_x);
     granted_to = λ c y e. grind (arith, gone_connection c, m.granted_to c y);
     created_at = λ c y e. grind (arith, gone_connection c, m.created_at c y);
     served = λ c. grind (arith, nat_tests, gone_connection c, m.served c, m.unused c, at_x);

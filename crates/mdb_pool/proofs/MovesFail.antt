@@ -1,5 +1,5 @@
 -- What a failed connection does follows the items of the pool.
-use Rattle.std.proofs.Common.{ℕ, ◌≡◌, arith, true, false, ◌==◌, List, [], ◌∷◌, Option, Some, None, is_some, refl, sym, ◌∙◌, ap, if◌then◌else◌}
+use Rattle.std.proofs.Common.{ℕ, ◌≡◌, arith, false, ◌==◌, List, [], ◌∷◌, Option, Some, None, is_some, refl, sym, ◌∙◌, ap, if◌then◌else◌}
 use Rattle.std.proofs.lemmas.Grind.{common_steps}
 use Rattle.std.proofs.lemmas.Bool.Decides.{nat_tests}
 use Rattle.mdb_base.specs.declared.object_id.ObjectId.{ObjectId}
@@ -9,14 +9,14 @@ use Rattle.mdb_pool.specs.declared.request.Request.{Request}
 use Rattle.mdb_pool.specs.declared.request.Phase.{Phase}
 use Rattle.mdb_pool.specs.declared.request.Phase.TheVariants.{Queued, Given, Over, Ended as EndedPhase}
 use Rattle.mdb_pool.specs.declared.pool_core.PoolCore.{PoolCore}
-use Rattle.mdb_pool.specs.History.{PoolItem, is_number, without, failed, closed, ended}
+use Rattle.mdb_pool.specs.History.{PoolItem, without, failed, closed, ended}
 use Rattle.mdb_pool.specs.Kept.{connection_at, request_at, given_in, given_of, holder_at}
 use Rattle.mdb_pool.specs.Requests.{queued}
 use Rattle.mdb_pool.specs.Standing.{Matches}
-use Rattle.mdb_pool.specs.Connections.{pending_list, parties}
+use Rattle.mdb_pool.specs.Connections.{pending_list}
 use Rattle.mdb_pool.specs.Places.{is_pending, is_available, is_queued}
 use Rattle.mdb_pool.specs.Changes.{forgetting, failing}
-use Rattle.mdb_pool.proofs.Moves.{without-one, number-some}
+use Rattle.mdb_pool.proofs.Moves.{parties-without, holder-given}
 use Rattle.mdb_pool.proofs.Pins.{pinned-again}
 use Rattle.mdb_pool.proofs.Tables.{without-absent, entry_at-others, map-filter-others, named-others, length-others, passes, has-where, entry_at-swap, named-swap, where-swap_stay}
 
@@ -110,13 +110,6 @@ module _ (s : PoolCore) (xs : List PoolItem) (m : Matches s xs) (n : ℕ) (x : C
       on Over e = ap is_queued e
       on (EndedPhase end) e = ap is_queued e
 
-  -- the party no longer has the connection
-  parted : (c : ℕ) → without q.number (parties xs c) ≡ if is_number (holder_at (connection_at s c)) q.number then [] else parties xs c
-  parted c = rw (m.parties c) (without-one (holder_at (connection_at s c)) q.number)
-
-  only : (c : ℕ) → is_number (holder_at (connection_at s c)) q.number ≡ true → given_of (request_at s q.number) ≡ Some c
-  only c e = m.owned c q.number (number-some (holder_at (connection_at s c)) q.number e)
-
   pub fail-matches : Matches (failing s n x q end) (ended q.number end ∷ closed x.id ∷ failed x.id service ∷ xs)
   fail-matches = record {
     created = m.created;
@@ -127,7 +120,7 @@ module _ (s : PoolCore) (xs : List PoolItem) (m : Matches s xs) (n : ℕ) (x : C
     single = λ c. grind (arith, named-others id_of c x.id s.connections, gone_connection c, m.single c);
     unused = λ c h. grind (arith, gone_connection c, m.unused c h);
     live = λ c. grind (arith, gone_connection c, m.live c, at_x);
-    parties = λ c. parted c ∙ grind (arith, gone_connection c, m.parties c, only c, given_now, was_held, at_x);
+    parties = λ c. parties-without s xs m q.number c ∙ grind (arith, gone_connection c, m.parties c, holder-given s xs m q.number c, given_now, was_held, at_x);
     granted_to = λ c y e. grind (arith, gone_connection c, m.granted_to c y);
     created_at = λ c y e. grind (arith, gone_connection c, m.created_at c y);
     served = λ c. grind (arith, nat_tests, gone_connection c, m.served c, m.unused c, at_x);

@@ -1,5 +1,5 @@
 -- What a give-up does follows the items of the pool.
-use Rattle.std.proofs.Common.{ℕ, ◌≡◌, arith, ◌≤◌, true, ◌==◌, List, [], ◌∷◌, ◌++◌, Some, None, is_some, refl, sym, ◌∙◌, ap, if◌then◌else◌}
+use Rattle.std.proofs.Common.{ℕ, ◌≡◌, arith, ◌≤◌, ◌==◌, List, [], ◌∷◌, ◌++◌, Some, None, is_some, refl, sym, ◌∙◌, ap, if◌then◌else◌}
 use Rattle.std.proofs.lemmas.Bool.Decides.{nat_tests}
 use Rattle.mdb_events.specs.declared.end.End.{End}
 use Rattle.mdb_events.specs.declared.end.End.TheVariants.{GaveUp}
@@ -8,14 +8,14 @@ use Rattle.mdb_pool.specs.declared.connection.Place.TheVariants.{Pending, Availa
 use Rattle.mdb_pool.specs.declared.request.Request.{Request}
 use Rattle.mdb_pool.specs.declared.request.Phase.TheVariants.{Given, Ended as EndedPhase}
 use Rattle.mdb_pool.specs.declared.pool_core.PoolCore.{PoolCore}
-use Rattle.mdb_pool.specs.History.{PoolItem, is_number, without, given, gave_up, checked_in, ended}
+use Rattle.mdb_pool.specs.History.{PoolItem, without, given, gave_up, checked_in, ended}
 use Rattle.mdb_pool.specs.Kept.{connection_at, request_at, given_in, given_of, holder_at, used_as}
 use Rattle.mdb_pool.specs.Requests.{queued}
 use Rattle.mdb_pool.specs.Standing.{Matches}
-use Rattle.mdb_pool.specs.Connections.{parties, holding}
+use Rattle.mdb_pool.specs.Connections.{holding}
 use Rattle.mdb_pool.specs.Places.{is_pending, is_available, is_queued, stays}
 use Rattle.mdb_pool.specs.Changes.{quitting, leaving, parting, handing}
-use Rattle.mdb_pool.proofs.Moves.{without-one, number-some, pending-place}
+use Rattle.mdb_pool.proofs.Moves.{parties-without, holder-given, pending-place}
 use Rattle.mdb_pool.proofs.Pins.{pinned-again, holding-none, holding-one, holding-pending}
 use Rattle.mdb_pool.specs.declared.step.Use.TheVariants.{Ok}
 use Rattle.mdb_pool.proofs.Tables.{without-absent, entry_at-put, where-put, named, named-put, length-put, passes, has-where, where-put_stay, entry_at-swap, named-swap, length-swap, where-swap_out, where-swap_stay, where-swap_same, one_if-le}
@@ -38,13 +38,6 @@ module _ (s : PoolCore) (xs : List PoolItem) (m : Matches s xs) (n : ℕ) (q : R
   given_none : given_of (request_at s q.number) ≡ None
   given_none = ap given_of at_q ∙ none
 
-  -- the party no longer has the connection
-  quits : (c : ℕ) → without q.number (parties xs c) ≡ if is_number (holder_at (connection_at s c)) q.number then [] else parties xs c
-  quits c = rw (m.parties c) (without-one (holder_at (connection_at s c)) q.number)
-
-  nobody : (c : ℕ) → is_number (holder_at (connection_at s c)) q.number ≡ true → given_of (request_at s q.number) ≡ Some c
-  nobody c e = m.owned c q.number (number-some (holder_at (connection_at s c)) q.number e)
-
   pub quit-matches : Matches (quitting s n q) (ended q.number GaveUp ∷ gave_up q.number ∷ xs)
   quit-matches = record {
     created = m.created;
@@ -55,7 +48,7 @@ module _ (s : PoolCore) (xs : List PoolItem) (m : Matches s xs) (n : ℕ) (q : R
     single = m.single;
     unused = m.unused;
     live = m.live;
-    parties = λ c. quits c ∙ grind (arith, m.parties c, nobody c, given_none);
+    parties = λ c. parties-without s xs m q.number c ∙ grind (arith, m.parties c, holder-given s xs m q.number c, given_none);
     granted_to = m.granted_to;
     created_at = m.created_at;
     served = m.served;
@@ -114,13 +107,6 @@ module _ (s : PoolCore) (xs : List PoolItem) (m : Matches s xs) (n : ℕ) (x : C
   given_now : given_of (request_at s q.number) ≡ Some x.id
   given_now = ap given_of at_q ∙ ap given_in phase
 
-  -- the party no longer has the connection
-  parted : (c : ℕ) → without q.number (parties xs c) ≡ if is_number (holder_at (connection_at s c)) q.number then [] else parties xs c
-  parted c = rw (m.parties c) (without-one (holder_at (connection_at s c)) q.number)
-
-  only : (c : ℕ) → is_number (holder_at (connection_at s c)) q.number ≡ true → given_of (request_at s q.number) ≡ Some c
-  only c e = m.owned c q.number (number-some (holder_at (connection_at s c)) q.number e)
-
   pub leave-matches : x.place ≡ Pending → Matches (leaving s n x q) (ended q.number GaveUp ∷ gave_up q.number ∷ xs)
   leave-matches place = record {
     created = m.created;
@@ -131,7 +117,7 @@ module _ (s : PoolCore) (xs : List PoolItem) (m : Matches s xs) (n : ℕ) (x : C
     single = λ c. grind (arith, named-swap id_of c left_x s.connections, left_connection c, m.single c);
     unused = λ c h. grind (arith, left_connection c, m.unused c h);
     live = λ c. grind (arith, left_connection c, m.live c);
-    parties = λ c. parted c ∙ grind (arith, left_connection c, m.parties c, only c, given_now, was_held, at_x);
+    parties = λ c. parties-without s xs m q.number c ∙ grind (arith, left_connection c, m.parties c, holder-given s xs m q.number c, given_now, was_held, at_x);
     granted_to = λ c y e. grind (arith, left_connection c, m.granted_to c y, m.granted_to x.id x at_x);
     created_at = λ c y e. grind (arith, left_connection c, m.created_at c y, m.created_at x.id x at_x);
     served = λ c. grind (arith, nat_tests, left_connection c, m.served c, m.served x.id, at_x);
@@ -193,13 +179,6 @@ module _ (s : PoolCore) (xs : List PoolItem) (m : Matches s xs) (x : Connection)
   given_then : given_of (request_at s q.number) ≡ Some x.id
   given_then = ap given_of at_q ∙ ap given_in phase
 
-  -- the party no longer has the connection
-  parts_with : (c : ℕ) → without q.number (parties xs c) ≡ if is_number (holder_at (connection_at s c)) q.number then [] else parties xs c
-  parts_with c = rw (m.parties c) (without-one (holder_at (connection_at s c)) q.number)
-
-  only_theirs : (c : ℕ) → is_number (holder_at (connection_at s c)) q.number ≡ true → given_of (request_at s q.number) ≡ Some c
-  only_theirs c e = m.owned c q.number (number-some (holder_at (connection_at s c)) q.number e)
-
   pub part-matches : x.place ≡ Pending → Matches (parting s x q end) (ended q.number end ∷ xs)
   part-matches place = record {
     created = m.created;
@@ -210,7 +189,7 @@ module _ (s : PoolCore) (xs : List PoolItem) (m : Matches s xs) (x : Connection)
     single = λ c. grind (arith, named-swap id_of c apart_x s.connections, apart_connection c, m.single c);
     unused = λ c h. grind (arith, apart_connection c, m.unused c h);
     live = λ c. grind (arith, apart_connection c, m.live c);
-    parties = λ c. parts_with c ∙ grind (arith, apart_connection c, m.parties c, only_theirs c, given_then, kept_for, at_x);
+    parties = λ c. parties-without s xs m q.number c ∙ grind (arith, apart_connection c, m.parties c, holder-given s xs m q.number c, given_then, kept_for, at_x);
     granted_to = λ c y e. grind (arith, apart_connection c, m.granted_to c y, m.granted_to x.id x at_x);
     created_at = λ c y e. grind (arith, apart_connection c, m.created_at c y, m.created_at x.id x at_x);
     served = λ c. grind (arith, nat_tests, apart_connection c, m.served c, m.served x.id, at_x);
@@ -272,13 +251,6 @@ module _ (s : PoolCore) (xs : List PoolItem) (m : Matches s xs) (n : ℕ) (x : C
   has_given : given_of (request_at s q.number) ≡ Some x.id
   has_given = ap given_of at_q ∙ ap given_in phase
 
-  -- the party no longer has the connection
-  handed_off : (c : ℕ) → without q.number (parties xs c) ≡ if is_number (holder_at (connection_at s c)) q.number then [] else parties xs c
-  handed_off c = rw (m.parties c) (without-one (holder_at (connection_at s c)) q.number)
-
-  alone : (c : ℕ) → is_number (holder_at (connection_at s c)) q.number ≡ true → given_of (request_at s q.number) ≡ Some c
-  alone c e = m.owned c q.number (number-some (holder_at (connection_at s c)) q.number e)
-
   pub held_one : holding xs q.number ≡ Some x.id
   held_one = holding-one xs q.number x.id had_given (pending-place s xs m x at_x ∙ ap is_pending place)
 
@@ -292,7 +264,7 @@ module _ (s : PoolCore) (xs : List PoolItem) (m : Matches s xs) (n : ℕ) (x : C
     single = λ c. grind (arith, named-put id_of c handed_x s.connections, handed_connection c, m.single c);
     unused = λ c h. grind (arith, handed_connection c, m.unused c h);
     live = λ c. grind (arith, handed_connection c, m.live c);
-    parties = λ c. handed_off c ∙ grind (arith, handed_connection c, m.parties c, alone c, has_given, had_held, at_x);
+    parties = λ c. parties-without s xs m q.number c ∙ grind (arith, handed_connection c, m.parties c, holder-given s xs m q.number c, has_given, had_held, at_x);
     granted_to = λ c y e. grind (arith, handed_connection c, m.granted_to c y, m.granted_to x.id x at_x);
     created_at = λ c y e. grind (arith, handed_connection c, m.created_at c y, m.created_at x.id x at_x);
     served = λ c. grind (arith, nat_tests, handed_connection c, m.served c, m.served x.id, at_x);

@@ -9,14 +9,14 @@ use Rattle.mdb_pool.specs.declared.request.Phase.TheVariants.{Given, Over, Ended
 use Rattle.mdb_pool.specs.declared.step.Use.{Use}
 use Rattle.mdb_pool.specs.declared.step.Use.TheVariants.{Ok}
 use Rattle.mdb_pool.specs.declared.pool_core.PoolCore.{PoolCore}
-use Rattle.mdb_pool.specs.History.{PoolItem, is_number, without, given, gave_up, returned, ended, pinned_by, replicated, taken, unpinned, checked_in}
+use Rattle.mdb_pool.specs.History.{PoolItem, without, given, gave_up, returned, ended, pinned_by, replicated, taken, unpinned, checked_in}
 use Rattle.mdb_pool.specs.Kept.{connection_at, request_at, given_in, given_of, holder_at, used_as, timeouts_in, is_pinned_at}
 use Rattle.mdb_pool.specs.Requests.{queued}
 use Rattle.mdb_pool.specs.Standing.{Matches}
-use Rattle.mdb_pool.specs.Connections.{parties, holding, pins, is_pinned}
+use Rattle.mdb_pool.specs.Connections.{holding, pins, is_pinned}
 use Rattle.mdb_pool.specs.Places.{is_pending, is_available, is_at_pin, is_queued, stays}
 use Rattle.mdb_pool.specs.Changes.{to_pin, pinning, taking, unpinned_once, unpinning, pin_ending}
-use Rattle.mdb_pool.proofs.Moves.{without-one, number-some, pending-place}
+use Rattle.mdb_pool.proofs.Moves.{parties-without, holder-given, pending-place}
 use Rattle.mdb_pool.proofs.Pins.{pinned-again, holding-one, errored-return}
 use Rattle.mdb_pool.proofs.Tables.{without-absent, entry_at-put, where-put, named, named-put, length-put, passes, has-where, where-put_stay, entry_at-swap, named-swap, length-swap, where-swap_stay, where-swap_same, one_if-le}
 
@@ -40,13 +40,6 @@ module _ (s : PoolCore) (xs : List PoolItem) (m : Matches s xs) (n : ℕ) (x : C
 
   held_it : holding xs q.number ≡ Some x.id
   held_it = holding-one xs q.number x.id was_given (pending-place s xs m x at_x ∙ ap is_pending place)
-
-  -- the party no longer has the connection
-  parted : (c : ℕ) → without q.number (parties xs c) ≡ if is_number (holder_at (connection_at s c)) q.number then [] else parties xs c
-  parted c = rw (m.parties c) (without-one (holder_at (connection_at s c)) q.number)
-
-  only : (c : ℕ) → is_number (holder_at (connection_at s c)) q.number ≡ true → given_of (request_at s q.number) ≡ Some c
-  only c e = m.owned c q.number (number-some (holder_at (connection_at s c)) q.number e)
 
   -- as it is returned
   module _ (used : Use) where
@@ -72,7 +65,7 @@ module _ (s : PoolCore) (xs : List PoolItem) (m : Matches s xs) (n : ℕ) (x : C
       single = λ c. grind (arith, named-swap id_of c back_x s.connections, back_connection c, m.single c);
       unused = λ c h. grind (arith, back_connection c, m.unused c h);
       live = λ c. grind (arith, back_connection c, m.live c);
-      parties = λ c. parted c ∙ grind (arith, back_connection c, m.parties c, only c, given_now, was_held, at_x);
+      parties = λ c. parties-without s xs m q.number c ∙ grind (arith, back_connection c, m.parties c, holder-given s xs m q.number c, given_now, was_held, at_x);
       granted_to = λ c y e. grind (arith, back_connection c, m.granted_to c y, m.granted_to x.id x at_x);
       created_at = λ c y e. grind (arith, back_connection c, m.created_at c y, m.created_at x.id x at_x);
       served = λ c. grind (arith, nat_tests, back_connection c, m.served c, m.served x.id, at_x);
@@ -130,7 +123,7 @@ module _ (s : PoolCore) (xs : List PoolItem) (m : Matches s xs) (n : ℕ) (x : C
     single = λ c. grind (arith, named-swap id_of c left_x s.connections, left_connection c, m.single c);
     unused = λ c h. grind (arith, left_connection c, m.unused c h);
     live = λ c. grind (arith, left_connection c, m.live c);
-    parties = λ c. parted c ∙ grind (arith, left_connection c, m.parties c, only c, given_now, was_held, at_x);
+    parties = λ c. parties-without s xs m q.number c ∙ grind (arith, left_connection c, m.parties c, holder-given s xs m q.number c, given_now, was_held, at_x);
     granted_to = λ c y e. grind (arith, left_connection c, m.granted_to c y, m.granted_to x.id x at_x);
     created_at = λ c y e. grind (arith, left_connection c, m.created_at c y, m.created_at x.id x at_x);
     served = λ c. grind (arith, nat_tests, left_connection c, m.served c, m.served x.id, at_x);

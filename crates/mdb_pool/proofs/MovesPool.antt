@@ -14,15 +14,16 @@ use Rattle.mdb_pool.specs.declared.step.Established.{Established}
 use Rattle.mdb_pool.specs.declared.pool_core.PoolCore.{PoolCore}
 use Rattle.mdb_pool.specs.declared.status.Clear.{Clear}
 use Rattle.mdb_pool.specs.declared.status.Status.TheVariants.{Ready}
-use Rattle.mdb_pool.specs.History.{PoolItem, same_service, is_number, without, established, closed, checked_in, ended, raised, pool_ready}
-use Rattle.mdb_pool.specs.Kept.{connection_at, request_at, ids_where, given_in, given_of, holder_at, state_in, clears_for, clears_before, timeouts_in}
+use Rattle.mdb_pool.specs.History.{PoolItem, same_service, without, established, closed, checked_in, ended, raised, pool_ready}
+use Rattle.mdb_pool.specs.Kept.{connection_at, request_at, ids_where, given_in, given_of, state_in, clears_for, clears_before, timeouts_in}
 use Rattle.mdb_pool.specs.Standing.{Matches}
 use Rattle.mdb_pool.specs.State.{state_of}
-use Rattle.mdb_pool.specs.Connections.{one_if, has, parties, available_list}
+use Rattle.mdb_pool.specs.Connections.{one_if, has, available_list}
 use Rattle.mdb_pool.specs.Places.{is_pending, is_available, is_queued, stays}
 use Rattle.mdb_pool.specs.Changes.{ending, discarding, cleared_status, raising}
-use Rattle.mdb_pool.proofs.Moves.{without-one, number-some}
+use Rattle.mdb_pool.proofs.Moves.{parties-without, holder-given}
 use Rattle.mdb_pool.proofs.Pins.{pinned-again}
+use Rattle.std.proofs.Math.Bool.{and-false, and-true}
 use Rattle.mdb_pool.proofs.Tables.{passes, has-where, entry_at-others, map-filter-others, named-others, length-others, entry_at-swap, named-swap, where-swap_out}
 use Rattle.mdb_pool.proofs.MovesBack.{without-again}
 
@@ -163,12 +164,6 @@ module _ (s : PoolCore) (xs : List PoolItem) (m : Matches s xs) (q : Request) (e
   given_none : given_of (request_at s q.number) ≡ None
   given_none = ap given_of at_q ∙ none
 
-  quits : (c : ℕ) → without q.number (parties xs c) ≡ if is_number (holder_at (connection_at s c)) q.number then [] else parties xs c
-  quits c = rw (m.parties c) (without-one (holder_at (connection_at s c)) q.number)
-
-  nobody : (c : ℕ) → is_number (holder_at (connection_at s c)) q.number ≡ true → given_of (request_at s q.number) ≡ Some c
-  nobody c e = m.owned c q.number (number-some (holder_at (connection_at s c)) q.number e)
-
   pub end-matches : Matches (ending s q end) (ended q.number end ∷ xs)
   end-matches = record {
     created = m.created;
@@ -179,7 +174,7 @@ module _ (s : PoolCore) (xs : List PoolItem) (m : Matches s xs) (q : Request) (e
     single = m.single;
     unused = m.unused;
     live = m.live;
-    parties = λ c. quits c ∙ grind (arith, m.parties c, nobody c, given_none);
+    parties = λ c. parties-without s xs m q.number c ∙ grind (arith, m.parties c, holder-given s xs m q.number c, given_none);
     granted_to = m.granted_to;
     created_at = m.created_at;
     served = m.served;
@@ -454,14 +449,6 @@ timeouts-append : (ks : List Clear) (k : Clear) → timeouts_in (ks ++ k ∷ [])
 timeouts-append [] k = grind (arith, common_steps)
 timeouts-append (j ∷ ks) k = grind (arith, common_steps, timeouts-append ks k)
 
-and-yes : (b : Bool) → b && true ≡ b
-and-yes true = refl
-and-yes false = refl
-
-and-no : (b : Bool) → b && false ≡ false
-and-no true = refl
-and-no false = refl
-
 -- the pool is cleared
 module _ (s : PoolCore) (xs : List PoolItem) (m : Matches s xs) (n : ℕ) (service : Option ObjectId) (error : Error) where
   abbrev clear_now : Clear
@@ -501,8 +488,8 @@ module _ (s : PoolCore) (xs : List PoolItem) (m : Matches s xs) (n : ℕ) (servi
     since = m.since;
     status = paused service refl;
     clears = λ t. ap (λ k. k + one_if (same_service service t)) (m.clears t) ∙ sym (clears_for-append t s.clears clear_now);
-    before = λ c t h. m.before c t h ∙ (sym (let e : nat_lt s.created c ≡ false = grind (arith, nat_tests) in rw (clears_before-append c t s.clears clear_now, e, and-no (same_service service t)) (omega arith)));
-    seen = λ c t h. let e : nat_lt s.created c ≡ true = grind (arith, nat_tests) in rw (clears_before-append c t s.clears clear_now, clears_for-append t s.clears clear_now, e, and-yes (same_service service t), m.seen c t h) refl;
+    before = λ c t h. m.before c t h ∙ (sym (let e : nat_lt s.created c ≡ false = grind (arith, nat_tests) in rw (clears_before-append c t s.clears clear_now, e, and-false (same_service service t)) (omega arith)));
+    seen = λ c t h. let e : nat_lt s.created c ≡ true = grind (arith, nat_tests) in rw (clears_before-append c t s.clears clear_now, clears_for-append t s.clears clear_now, e, and-true (same_service service t), m.seen c t h) refl;
     warm = m.warm;
     fills = m.fills;
     ungranted = m.ungranted;

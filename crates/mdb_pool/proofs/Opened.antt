@@ -9,7 +9,7 @@ use Rattle.mdb_pool.specs.History.{of_pool, opening, pool_created}
 use Rattle.mdb_pool.specs.State.{is_ready, is_new}
 use Rattle.mdb_pool.specs.Kept.{state_in, is_shut}
 use Rattle.mdb_pool.specs.Standing.{Matches, Fits, StandsFor}
-use Rattle.mdb_pool.proofs.Serving.{same-number}
+use Rattle.mdb_pool.proofs.Numbers.{same-number}
 
 module _ (p : ℕ) (a : ServerAddress) (o : PoolOptions) (status : Status) where
   abbrev pub opened : PoolCore

@@ -16,7 +16,7 @@ use Rattle.mdb_pool.specs.Places.{is_at_pin, stays}
 use Rattle.mdb_pool.specs.Changes.{to_pin, pinning, taking, unpinned_once, unpinning, pin_ending}
 use Rattle.mdb_pool.proofs.MovesPins.{stand-matches, back_request, quit-pinned-matches, left_request, pin-matches, replicate-matches, take-matches, taken_q, taken_request, unpin-matches, pin-end-matches}
 use Rattle.mdb_pool.proofs.Stands.{order-stays, discard-fits}
-use Rattle.mdb_pool.proofs.Serving.{same-number}
+use Rattle.mdb_pool.proofs.Numbers.{same-number}
 use Rattle.mdb_pool.proofs.Tables.{entry_at-put, others-put, where-put_stay, passes}
 
 module _ (s : PoolCore) (xs : List PoolItem) (z : Fits s xs) (n : ℕ) where

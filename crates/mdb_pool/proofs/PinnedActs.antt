@@ -21,7 +21,8 @@ use Rattle.mdb_pool.specs.Changes.{pinning}
 use Rattle.mdb_pool.proofs.Acts.{refuses, accepts, own-answers, not-back, holding-is, holds-given, live-pins}
 use Rattle.mdb_pool.proofs.Found.{id_or, Holder, holder}
 use Rattle.mdb_pool.proofs.Tables.{entry_at-key}
-use Rattle.mdb_pool.proofs.Serving.{same-number}
+use Rattle.mdb_pool.proofs.Bools.{if-not}
+use Rattle.mdb_pool.proofs.Numbers.{same-number}
 use Rattle.mdb_pool.proofs.ReturnedActs.{none-above, some-above}
 use Rattle.mdb_pool.proofs.PinStands.{pin-fits, replicate-fits}
 
@@ -106,11 +107,7 @@ pin-own s t before after n r x reply h z l held none home last_is v =
     (λ k. refl) (λ k. refl) home last_is (v (of_pool s.pool h) z.fits)
 
 replicate-refusal : (s : PoolCore) (h : List Item) → StandsFor s h → (n c : ℕ) → s.last ≤ n → refusal_of s.pool s.options h (record { moment = n; act = Replicate s.pool c }) ≡ if nat_lt 0 (pins_at (connection_at s c)) then None else Some Unpinned
-replicate-refusal s h z n c l = rw (z.last_is, not-back n s.last l, same-number s.pool, z.fits.matches.pins c) (on (nat_lt 0 (pins_at (connection_at s c))))
-  where
-    on : (b : Bool) → (if not b then Some Unpinned else None) ≡ (if b then None else Some Unpinned)
-    on true = refl
-    on false = refl
+replicate-refusal s h z n c l = rw (z.last_is, not-back n s.last l, same-number s.pool, z.fits.matches.pins c) (if-not (nat_lt 0 (pins_at (connection_at s c))) (Some Unpinned) None)
 
 pub refuses-unpinned : (s : PoolCore) (facts : List Fact) (n c : ℕ) (h : List Item) → StandsFor s h → s.last ≤ n → nat_lt 0 (pins_at (connection_at s c)) ≡ false → Answers s s facts facts (record { moment = n; act = Replicate s.pool c }) (RefusedBy Unpinned) h
 refuses-unpinned s facts n c h z l e = refuses s facts (record { moment = n; act = Replicate s.pool c }) Unpinned h z (replicate-refusal s h z n c l ∙ rw e refl)

@@ -1,12 +1,13 @@
 -- What the items of a pool say of pins, of who holds a connection and of who asked.
-use Rattle.std.proofs.Common.{ℕ, ◌≡◌, arith, Bool, true, false, ◌&&◌, ◌||◌, ◌==◌, List, [], ◌∷◌, Some, None, refl, if◌then◌else◌, nat_lt, ◌++◌, sym, ◌∙◌}
-use Rattle.std.proofs.lemmas.Grind.{common_steps}
+use Rattle.std.proofs.Common.{ℕ, ◌≡◌, arith, Bool, true, false, ◌&&◌, ◌||◌, List, [], ◌∷◌, Some, None, refl, if◌then◌else◌, nat_lt, ap, sym}
+use Rattle.std.proofs.Math.Bool.{and-false, and-true}
 use Rattle.mdb_pool.specs.declared.step.Use.{Use}
 use Rattle.mdb_pool.specs.declared.step.Use.TheVariants.{Ok, Errored, Dropped, Streaming}
-use Rattle.mdb_pool.specs.History.{PoolItem, asked, warmed, gave_up, returned, pinned_by, established, failed, replicated, taken, unpinned, created, closed, checked_in, granted, ended, raised, pool_created, pool_ready, pool_closed, is_number, without, given, has_asked}
+use Rattle.mdb_pool.specs.History.{PoolItem, asked, warmed, gave_up, returned, pinned_by, established, failed, replicated, taken, unpinned, created, closed, checked_in, granted, ended, raised, pool_created, pool_ready, pool_closed, is_number, given, has_asked}
 use Rattle.mdb_pool.specs.Connections.{has, pending_list, holding, pins, comes_back, is_taking, is_pinned, is_errored}
 use Rattle.mdb_pool.specs.Requests.{queued}
 use Rattle.mdb_pool.specs.Kept.{is_fault}
+use Rattle.mdb_pool.proofs.Numbers.{has-append, has-without}
 
 -- a connection at its pin has one
 pub pinned-again : (xs : List PoolItem) (c : ℕ) → is_pinned xs c && nat_lt 0 (pins xs c) ≡ is_pinned xs c
@@ -31,59 +32,16 @@ holding-one xs r c e f = rw (e, f) refl
 
 -- a return that tells of an error
 pub errored-return : (r : ℕ) (used : Use) (xs : List PoolItem) (c : ℕ) → is_errored (returned r used ∷ xs) c ≡ (is_number (given xs r) c && is_fault used) || is_errored xs c
-errored-return r Ok xs c = and-no (is_number (given xs r) c)
-  where
-    and-no : (b : Bool) → is_errored xs c ≡ (b && false) || is_errored xs c
-    and-no true = refl
-    and-no false = refl
-errored-return r Errored xs c = and-yes (is_number (given xs r) c)
-  where
-    and-yes : (b : Bool) → b || is_errored xs c ≡ (b && true) || is_errored xs c
-    and-yes true = refl
-    and-yes false = refl
-errored-return r Dropped xs c = and-no (is_number (given xs r) c)
-  where
-    and-no : (b : Bool) → is_errored xs c ≡ (b && false) || is_errored xs c
-    and-no true = refl
-    and-no false = refl
-errored-return r Streaming xs c = and-no (is_number (given xs r) c)
-  where
-    and-no : (b : Bool) → is_errored xs c ≡ (b && false) || is_errored xs c
-    and-no true = refl
-    and-no false = refl
-
-has-without : (k r : ℕ) (ms : List ℕ) → has r (without k ms) ≡ true → has r ms ≡ true
-has-without k r [] e = e
-has-without k r (m ∷ ms) e = grind (arith, common_steps, has-without k r ms)
-
-has-last : (k r : ℕ) (ms : List ℕ) → has r (ms ++ k ∷ []) ≡ has r ms || (k == r)
-has-last k r [] = on (k == r)
-  where
-    on : (b : Bool) → b || false ≡ b
-    on true = refl
-    on false = refl
-has-last k r (m ∷ ms) = on (m == r) refl (has-last k r ms)
-  where
-    on : (b : Bool) → (m == r) ≡ b → has r (ms ++ k ∷ []) ≡ has r ms || (k == r) → has r ((m ∷ ms) ++ k ∷ []) ≡ has r (m ∷ ms) || (k == r)
-    on true e rest = rw e refl
-    on false e rest = rw e rest
-
-asked-then : (k r : ℕ) (ms : List ℕ) (b : Bool) → (has r ms ≡ true → b ≡ true) → has r (ms ++ k ∷ []) ≡ true → (k == r) || b ≡ true
-asked-then k r ms b i e = on (k == r) refl
-  where
-    on : (d : Bool) → (k == r) ≡ d → (k == r) || b ≡ true
-    on true f = rw f refl
-    on false f = let g : has r ms || (k == r) ≡ true = sym (has-last k r ms) ∙ e in rw f (i (left (has r ms) (rw (← f) g)))
-      where
-        left : (a : Bool) → a || false ≡ true → a ≡ true
-        left true h = refl
-        left false h = cc
+errored-return r Ok xs c = ap (λ b. b || is_errored xs c) (sym (and-false (is_number (given xs r) c)))
+errored-return r Errored xs c = ap (λ b. b || is_errored xs c) (sym (and-true (is_number (given xs r) c)))
+errored-return r Dropped xs c = ap (λ b. b || is_errored xs c) (sym (and-false (is_number (given xs r) c)))
+errored-return r Streaming xs c = ap (λ b. b || is_errored xs c) (sym (and-false (is_number (given xs r) c)))
 
 -- who is in the queue asked
 pub queued-asked : (xs : List PoolItem) (r : ℕ) → has r (queued xs) ≡ true → has_asked xs r ≡ true
 queued-asked [] r e = cc
-queued-asked (asked k m ∷ xs) r e = asked-then k r (queued xs) (has_asked xs r) (queued-asked xs r) e
-queued-asked (warmed k m ∷ xs) r e = asked-then k r (queued xs) (has_asked xs r) (queued-asked xs r) e
+queued-asked (asked k m ∷ xs) r e = grind (arith, queued-asked xs r, has-append r k (queued xs))
+queued-asked (warmed k m ∷ xs) r e = grind (arith, queued-asked xs r, has-append r k (queued xs))
 queued-asked (gave_up k ∷ xs) r e = queued-asked xs r e
 queued-asked (returned k used ∷ xs) r e = queued-asked xs r e
 queued-asked (pinned_by k ∷ xs) r e = queued-asked xs r e
@@ -95,8 +53,8 @@ queued-asked (unpinned c ∷ xs) r e = queued-asked xs r e
 queued-asked (created c m ∷ xs) r e = queued-asked xs r e
 queued-asked (closed c ∷ xs) r e = queued-asked xs r e
 queued-asked (checked_in c m ∷ xs) r e = queued-asked xs r e
-queued-asked (granted k c ∷ xs) r e = queued-asked xs r (has-without k r (queued xs) e)
-queued-asked (ended k end ∷ xs) r e = queued-asked xs r (has-without k r (queued xs) e)
+queued-asked (granted k c ∷ xs) r e = queued-asked xs r (has-without r k (queued xs) e)
+queued-asked (ended k end ∷ xs) r e = queued-asked xs r (has-without r k (queued xs) e)
 queued-asked (raised service error ∷ xs) r e = queued-asked xs r e
 queued-asked (pool_created ∷ xs) r e = queued-asked xs r e
 queued-asked (pool_ready ∷ xs) r e = queued-asked xs r e

@@ -18,7 +18,7 @@ use Rattle.mdb_pool.specs.Changes.{readied_to, readied_facts}
 use Rattle.mdb_pool.specs.Legal.{AllFirstCome, AllOwn, shuts}
 use Rattle.mdb_pool.specs.Standing.{Fits, StandsFor, Serves, Accepts, Answers, SameHome, SameNotes}
 use Rattle.mdb_pool.proofs.Acts.{accepts, own-answers, not-back}
-use Rattle.mdb_pool.proofs.Serving.{same-number}
+use Rattle.mdb_pool.proofs.Numbers.{same-number}
 use Rattle.mdb_pool.proofs.Stands.{later-fits, ready-fits}
 
 module _ (s : PoolCore) (xs : List PoolItem) (z : Fits s xs) (n : ℕ) where

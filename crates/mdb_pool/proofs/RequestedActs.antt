@@ -21,10 +21,10 @@ use Rattle.mdb_pool.proofs.Acts.{refuses, accepts, own-answers, not-back, outcom
 use Rattle.mdb_pool.proofs.Addresses.{own-address}
 use Rattle.mdb_base.specs.declared.address.ServerAddress.{ServerAddress}
 use Rattle.mdb_base.specs.Equality.{same_address}
-use Rattle.mdb_pool.proofs.Serving.{same-number}
+use Rattle.std.proofs.Math.Bool.{and-false, and-true, or-false, or_assoc, or_comm}
+use Rattle.mdb_pool.proofs.Numbers.{same-number, has-append}
 use Rattle.mdb_pool.proofs.Stands.{ask-fits, noted-fits, end-fits}
 use Rattle.mdb_pool.specs.Connections.{has}
-use Rattle.mdb_pool.proofs.Laws.{has-append}
 use Rattle.mdb_pool.specs.Facts.{turned_away}
 use Rattle.mdb_pool.specs.State.{state_of}
 use Rattle.mdb_pool.specs.Legal.{AllFirstCome, shuts, AllOwn}
@@ -35,25 +35,11 @@ pub telling-settled : (t : PoolCore) (r k : ℕ) → has k (telling t r).settled
 telling-settled t r k = on (is_outcome (outcome_now t r)) refl
   where
     on : (b : Bool) → is_outcome (outcome_now t r) ≡ b → has k (telling t r).settled ≡ ((r == k) && is_outcome (outcome_now t r)) || has k t.settled
-    on true e = rw e (has-append k r t.settled ∙ swap (has k t.settled) (r == k))
-      where
-        swap : (a b : Bool) → a || b ≡ (b && true) || a
-        swap true true = refl
-        swap true false = refl
-        swap false true = refl
-        swap false false = refl
-    on false e = rw e (none (r == k))
-      where
-        none : (b : Bool) → has k t.settled ≡ (b && false) || has k t.settled
-        none true = refl
-        none false = refl
+    on true e = rw e (has-append k r t.settled ∙ (or_comm (has k t.settled) (r == k) ∙ ap (λ b. b || has k t.settled) (sym (and-true (r == k)))))
+    on false e = rw e (ap (λ b. b || has k t.settled) (sym (and-false (r == k))))
 
 pub telling-fits : (t : PoolCore) (r : ℕ) (zs : List PoolItem) → Fits t zs → Fits (telling t r) zs
 telling-fits t r zs z = noted-fits t (if is_outcome (outcome_now t r) then (t.settled ++ r ∷ []) else t.settled) t.claimed t.last zs z
-
-pub or-none : (a : Bool) → (a || false) ≡ a
-or-none true = refl
-or-none false = refl
 
 -- a caller that is new, and ends at once where the pool isn't ready
 module _ (s : PoolCore) (xs : List PoolItem) (z : Fits s xs) (n r : ℕ) (absent : request_at s r ≡ None) where
@@ -124,14 +110,10 @@ request-accepts s s0 s1 t u before f0 f1 after n r reply xs z absent s0_is f0_is
     (λ claims own zs m. reply_is ∙ (sym (outcome-is t zs m r) ∙ ap (λ p. outcome_of p zs r) (home.pool ∙ at_home.pool)))
     (rw reply_is (outcome-accepted t r))
     (ap (λ k. is_shut k.status) u_is ∙ (ap is_shut state ∙ ap (λ b. b || is_shut s.status) (sym (away-open s xs z n r absent o))))
-    (λ k. rw (u_is, reply_is) (telling-settled t r k ∙ rw (or-none ((r == k) && is_outcome (outcome_now t r))) (ap (λ b. ((r == k) && is_outcome (outcome_now t r)) || has k b) (notes.settled ∙ (ap (λ x. x.settled) whole ∙ (away-notes s xs z n r absent o).settled)))))
+    (λ k. rw (u_is, reply_is) (telling-settled t r k ∙ rw (or-false ((r == k) && is_outcome (outcome_now t r))) (ap (λ b. ((r == k) && is_outcome (outcome_now t r)) || has k b) (notes.settled ∙ (ap (λ x. x.settled) whole ∙ (away-notes s xs z n r absent o).settled)))))
     (λ c. rw (u_is, reply_is, outcome-no-job t r s.pool c) (ap (has c) (notes.claimed ∙ (ap (λ x. x.claimed) whole ∙ (away-notes s xs z n r absent o).claimed))))
     (away-fair s xs z n r absent o)
     (away-own s xs z n r absent o)
-
-pub or-first : (a b c : Bool) → (a || b) || c ≡ a || (b || c)
-or-first true b c = refl
-or-first false b c = refl
 
 -- how a request to the pool itself is refused
 request-refusal : (s : PoolCore) (h : List Item) → StandsFor s h → (n r : ℕ) → s.last ≤ n → is_shut s.status ≡ false → refusal_of s.pool s.options h (record { moment = n; act = RequestAct r s.address }) ≡ if is_some (request_at s r) then Some RequestKnown else None
@@ -155,4 +137,4 @@ request-own s t before after n r reply h z l unshut absent home last_is v =
     own-answers s t before after (record { moment = n; act = RequestAct r s.address }) reply (asked r n ∷ of_pool s.pool h) h z
     (request-refusal s h z n r l unshut ∙ rw absent refl)
     (rw (z.open_here s.address, own-address s.address, unshut, same-number s.pool) refl)
-    (λ k. or-first (r == k) (has_asked (of_pool s.pool h) k) (has_taken (of_pool s.pool h) k)) (λ k. refl) home last_is (v (of_pool s.pool h) z.fits)
+    (λ k. or_assoc (r == k) (has_asked (of_pool s.pool h) k) (has_taken (of_pool s.pool h) k)) (λ k. refl) home last_is (v (of_pool s.pool h) z.fits)

@@ -1,5 +1,5 @@
 -- What a return does is the answer to its step.
-use Rattle.std.proofs.Common.{ℕ, ◌≡◌, ◌≤◌, ◌<◌, true, not, arith, nat_lt, append-nil, List, [], ◌∷◌, ◌++◌, Option, Some, None, is_some, refl, sym, ◌∙◌, ap, subst, if◌then◌else◌, Bool, false, ◌||◌, ◌==◌}
+use Rattle.std.proofs.Common.{ℕ, ◌≡◌, ◌≤◌, ◌<◌, true, not, arith, nat_lt, append-nil, List, [], ◌∷◌, ◌++◌, Option, Some, None, is_some, refl, sym, ◌∙◌, ap, subst, if◌then◌else◌, ◌||◌, ◌==◌}
 use Rattle.mdb_events.specs.declared.fact.Fact.{Fact}
 use Rattle.mdb_pool.specs.declared.step.Act.TheVariants.{Return as ReturnAct}
 use Rattle.mdb_pool.specs.declared.step.Use.{Use}
@@ -22,20 +22,14 @@ use Rattle.mdb_pool.specs.Changes.{returning, dropping, back_facts, returning_fo
 use Rattle.mdb_pool.proofs.Acts.{refuses, accepts, own-answers, not-back, holding-is, holds-given, live-errored, live-service, live-pins}
 use Rattle.mdb_pool.proofs.Tables.{entry_at-key}
 use Rattle.mdb_pool.proofs.Found.{id_or, Holder, holder}
-use Rattle.mdb_pool.proofs.Serving.{same-number}
+use Rattle.std.proofs.Math.Bool.{or_comm}
+use Rattle.mdb_pool.proofs.Numbers.{same-number, has-append}
 use Rattle.mdb_pool.proofs.Stands.{return-fits, drop-fits}
 use Rattle.mdb_pool.proofs.PinStands.{stand-fits}
 use Rattle.mdb_pool.proofs.Pins.{errored-return}
 use Rattle.mdb_pool.specs.Connections.{has, held, is_errored}
-use Rattle.mdb_pool.proofs.Laws.{has-append}
 use Rattle.mdb_pool.proofs.CheckIns.{check-in-is, back-fair, back-own, back-open, back-fits}
 use Rattle.mdb_pool.proofs.Staleness.{stale-at}
-
-pub or-swap : (a b : Bool) → a || b ≡ b || a
-or-swap true true = refl
-or-swap true false = refl
-or-swap false true = refl
-or-swap false false = refl
 
 pub none-above : (k : ℕ) → k ≤ 0 → k ≡ 0
 none-above k l = omega arith
@@ -99,7 +93,7 @@ module _ (s : PoolCore) (xs : List PoolItem) (z : Fits s xs) (n : ℕ) (x : Conn
       (λ claims own zs m. refl)
       tt
       (ap is_shut (notes.status ∙ (ap (λ k. k.status) s1_is ∙ (notes-for why).2)) ∙ ap (λ b. b || is_shut s.status) (sym (back-open s used_x why)))
-      (λ r. ap (has r) (notes.settled ∙ (ap (λ k. k.settled) s1_is ∙ (notes-for why).0)) ∙ (has-append r q.number s.settled ∙ or-swap (has r s.settled) (q.number == r)))
+      (λ r. ap (has r) (notes.settled ∙ (ap (λ k. k.settled) s1_is ∙ (notes-for why).0)) ∙ (has-append r q.number s.settled ∙ or_comm (has r s.settled) (q.number == r)))
       (λ c. ap (has c) (notes.claimed ∙ (ap (λ k. k.claimed) s1_is ∙ (notes-for why).1)))
       (back-fair s n used_x why ys)
       (back-own s n used_x why ys)
@@ -115,7 +109,7 @@ module _ (s : PoolCore) (xs : List PoolItem) (z : Fits s xs) (n : ℕ) (x : Conn
       (λ claims own zs m. refl)
       tt
       (ap is_shut (notes.status ∙ ap (λ k. k.status) s1_is))
-      (λ r. ap (has r) (notes.settled ∙ ap (λ k. k.settled) s1_is) ∙ (has-append r q.number s.settled ∙ or-swap (has r s.settled) (q.number == r)))
+      (λ r. ap (has r) (notes.settled ∙ ap (λ k. k.settled) s1_is) ∙ (has-append r q.number s.settled ∙ or_comm (has r s.settled) (q.number == r)))
       (λ c. ap (has c) (notes.claimed ∙ ap (λ k. k.claimed) s1_is))
       tt
       tt

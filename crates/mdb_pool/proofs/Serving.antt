@@ -1,5 +1,5 @@
 -- The turns of the serving are its moves.
-use Rattle.std.proofs.Common.{ℕ, zero, suc, ◌≡◌, ◌+◌, ◌-◌, ◌<◌, ◌≤◌, Bool, true, false, not, ◌&&◌, ◌==◌, List, [], ◌∷◌, ◌++◌, length, find, Option, Some, None, is_some, if◌then◌else◌, refl, sym, ◌∙◌, ap, subst, arith, append_assoc, append-nil}
+use Rattle.std.proofs.Common.{ℕ, zero, suc, ◌≡◌, ◌+◌, ◌-◌, ◌<◌, ◌≤◌, Bool, true, false, not, ◌&&◌, List, [], ◌∷◌, ◌++◌, length, find, Option, Some, None, is_some, if◌then◌else◌, refl, sym, ◌∙◌, ap, subst, arith, append_assoc, append-nil}
 use Rattle.mdb_base.specs.declared.address.ServerAddress.{ServerAddress}
 use Rattle.mdb_events.specs.declared.fact.Fact.{Fact}
 use Rattle.mdb_events.specs.declared.fact.Fact.TheVariants.{Granted, Ended}
@@ -26,7 +26,9 @@ use Rattle.mdb_pool.specs.declared.step.Use.TheVariants.{Ok}
 use Rattle.mdb_pool.specs.Places.{is_pending, is_available, is_queued}
 use Rattle.mdb_pool.proofs.Tables.{In, member-has, here as head_in, there, find-member, member-at, one_if-le, length-without, length-where, where-put_out, map-filter-others, passes, has-where, where-swap_out, length-without_has}
 use Rattle.mdb_pool.specs.Keyed.{put, swap}
-use Rattle.mdb_pool.proofs.Found.{candidate-at, both-left, available-at, last-id, id_or, or_else}
+use Rattle.mdb_pool.proofs.Bools.{both-left}
+use Rattle.mdb_pool.proofs.Numbers.{same-number, last_of-has}
+use Rattle.mdb_pool.proofs.Found.{candidate-at, available-at, last-id, id_or, or_else}
 use Rattle.mdb_pool.proofs.Moves.{queued-asked_at}
 use Rattle.mdb_pool.proofs.Stands.{grant-fits, create-fits, discard-fits, end-fits}
 use Rattle.mdb_pool.proofs.Staleness.{ready-is, ready-status, stale-at}
@@ -40,21 +42,9 @@ pub after-append : (p n : ℕ) (fs gs : List Fact) (xs : List PoolItem) → afte
 after-append p n [] gs xs = refl
 after-append p n (f ∷ fs) gs xs = after-append p n fs gs (after_fact p n f xs)
 
-pub same-number : (p : ℕ) → (p == p) ≡ true
-same-number p = grind arith
-
 or_else-none : (o : Option ℕ) → or_else o None ≡ o
 or_else-none None = refl
 or_else-none (Some c) = refl
-
--- the last of a list is in it
-last-has : (c : ℕ) (cs : List ℕ) → last_of cs ≡ Some c → has c cs ≡ true
-last-has c [] e = cc
-last-has c (d ∷ cs) e = on (last_of cs) refl (last-has c cs)
-  where
-    on : (o : Option ℕ) → last_of cs ≡ o → (last_of cs ≡ Some c → has c cs ≡ true) → has c (d ∷ cs) ≡ true
-    on None f deeper = let g : last_of (d ∷ cs) ≡ Some d = rw f refl in let w : d ≡ c = cc in grind arith
-    on (Some k) f deeper = let g : last_of (d ∷ cs) ≡ Some k = rw f refl in let w : k ≡ c = cc in let v : has c cs ≡ true = deeper (f ∙ ap Some w) in grind arith
 
 abbrev number_at : Option Request → Option ℕ
 number_at None = None
@@ -294,7 +284,7 @@ smaller-create t u n q e f =
 smaller-discard : (t : PoolCore) (x : Connection) → last_available t ≡ Some x → load (discarding t x) < load t
 smaller-discard t x e =
     let i : last_of (ids_where is_available t.connections) ≡ Some x.id = sym (or_else-none (last_of (ids_where is_available t.connections))) ∙ (sym (last-id None t.connections) ∙ ap (λ o. id_or o None) e) in
-    let a : length (without x.id (ids_where is_available t.connections)) < length (ids_where is_available t.connections) = length-without_has x.id (ids_where is_available t.connections) (last-has x.id (ids_where is_available t.connections) i) in
+    let a : length (without x.id (ids_where is_available t.connections)) < length (ids_where is_available t.connections) = length-without_has x.id (ids_where is_available t.connections) (last_of-has x.id (ids_where is_available t.connections) i) in
     rw (map-filter-others (λ (y : Connection). y.id) (λ y. is_available y.place) x.id t.connections) (omega arith)
 
 pub smaller-meet : (t u : PoolCore) (n : ℕ) (q : Request) (x : Connection) → candidate_now t ≡ Some q → last_available t ≡ Some x → u ≡ meeting t n x q → load u < load t

@@ -1,5 +1,5 @@
 -- The moves of the state keep what it fits.
-use Rattle.std.proofs.Common.{ℕ, ◌≡◌, ◌+◌, Bool, true, false, List, [], ◌∷◌, ◌++◌, sym, ap, Option, Some, None, is_some, arith, ◌==◌, refl, ◌∙◌, subst, not}
+use Rattle.std.proofs.Common.{ℕ, ◌≡◌, ◌+◌, Bool, true, false, List, [], ◌∷◌, ◌++◌, sym, ap, Option, Some, None, is_some, arith, refl, ◌∙◌, subst, not}
 use Rattle.mdb_base.specs.declared.object_id.ObjectId.{ObjectId}
 use Rattle.mdb_events.specs.declared.end.End.{End}
 use Rattle.mdb_base.specs.declared.error.Error.{Error}
@@ -22,6 +22,7 @@ use Rattle.mdb_pool.proofs.MovesBack.{establish-matches, pool-matches, rest-matc
 use Rattle.mdb_pool.specs.Connections.{held}
 use Rattle.mdb_pool.proofs.MovesFail.{forget-matches, failed_request, fail-matches}
 use Rattle.mdb_pool.proofs.MovesPool.{discard-matches, skip-check-in, late-end, late-end_closed, late-end_skipped, over_request, end-matches, ready-matches, later-matches, raise-matches}
+use Rattle.mdb_pool.proofs.Numbers.{same-number}
 use Rattle.mdb_pool.proofs.Tables.{entry_at-put, others-put, where-put_in, where-swap_same, passes, one_if-le}
 use Rattle.mdb_pool.specs.Requests.{requests}
 use Rattle.mdb_pool.specs.declared.request.Phase.{Phase}
@@ -30,9 +31,6 @@ use Rattle.mdb_pool.specs.declared.step.Established.{Established}
 
 abbrev id_of : Connection → ℕ
 id_of x = x.id
-
-same-number : (p : ℕ) → (p == p) ≡ true
-same-number p = grind arith
 
 abbrev number_of : Request → ℕ
 number_of q = q.number

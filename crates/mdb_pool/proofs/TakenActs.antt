@@ -18,7 +18,7 @@ use Rattle.mdb_pool.specs.Kept.{connection_at, request_at, is_shut, pins_at, is_
 use Rattle.mdb_pool.specs.Places.{is_available, is_held, is_at_pin, stays}
 use Rattle.mdb_pool.specs.Changes.{taking}
 use Rattle.mdb_pool.proofs.Acts.{refuses, accepts, own-answers, not-back, pending-is, no-some}
-use Rattle.mdb_pool.proofs.Serving.{same-number}
+use Rattle.mdb_pool.proofs.Numbers.{same-number}
 use Rattle.mdb_pool.proofs.PinnedActs.{pinned-at, pinned-outside}
 use Rattle.mdb_pool.proofs.PinStands.{take-fits}
 

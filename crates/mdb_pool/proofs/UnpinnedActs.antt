@@ -1,5 +1,5 @@
 -- What an unpin does is the answer to its step.
-use Rattle.std.proofs.Common.{ℕ, ◌≡◌, ◌≤◌, ◌-◌, ◌||◌, ◌&&◌, Bool, true, false, not, ◌==◌, arith, List, [], ◌∷◌, ◌++◌, Option, Some, None, refl, sym, ◌∙◌, ap, subst, if◌then◌else◌, append-nil, nat_lt}
+use Rattle.std.proofs.Common.{ℕ, ◌≡◌, ◌≤◌, ◌-◌, ◌||◌, ◌&&◌, Bool, true, false, ◌==◌, arith, List, [], ◌∷◌, ◌++◌, Option, Some, None, refl, sym, ◌∙◌, ap, subst, if◌then◌else◌, append-nil, nat_lt}
 use Rattle.std.proofs.lemmas.Bool.Decides.{nat_tests}
 use Rattle.mdb_events.specs.declared.fact.Fact.{Fact}
 use Rattle.mdb_events.specs.declared.reasons.ConnectionClosedReason.{ConnectionClosedReason}
@@ -21,8 +21,9 @@ use Rattle.mdb_pool.specs.Changes.{unpinning, pin_ending, back_facts}
 use Rattle.mdb_pool.proofs.Acts.{refuses, accepts, own-answers, not-back, live-errored, live-dropped, live-service, live-pins}
 use Rattle.mdb_pool.proofs.CheckIns.{check-in-is, back-fair, back-own, back-open, back-fits}
 use Rattle.mdb_pool.proofs.Staleness.{stale-at}
-use Rattle.mdb_pool.proofs.Serving.{same-number}
-use Rattle.mdb_pool.proofs.Found.{is-pinned, both-left, both-right}
+use Rattle.mdb_pool.proofs.Numbers.{same-number}
+use Rattle.mdb_pool.proofs.Bools.{both-left, both-right, if-not}
+use Rattle.mdb_pool.proofs.Found.{is-pinned}
 use Rattle.mdb_pool.proofs.PinnedActs.{pinned-at}
 use Rattle.mdb_pool.proofs.PinStands.{unpin-fits, pin-end-fits, pin-lose-fits}
 
@@ -116,11 +117,7 @@ pin-end-of s s1 t before f1 after n c x o xs z at_c some_pins last reason s1_is 
 
 -- how it is refused
 unpin-refusal : (s : PoolCore) (h : List Item) → StandsFor s h → (n c : ℕ) → s.last ≤ n → refusal_of s.pool s.options h (record { moment = n; act = Unpin s.pool c }) ≡ if nat_lt 0 (pins_at (connection_at s c)) then None else Some Unpinned
-unpin-refusal s h z n c l = rw (z.last_is, not-back n s.last l, same-number s.pool, z.fits.matches.pins c) (on (nat_lt 0 (pins_at (connection_at s c))))
-  where
-    on : (b : Bool) → (if not b then Some Unpinned else None) ≡ (if b then None else Some Unpinned)
-    on true = refl
-    on false = refl
+unpin-refusal s h z n c l = rw (z.last_is, not-back n s.last l, same-number s.pool, z.fits.matches.pins c) (if-not (nat_lt 0 (pins_at (connection_at s c))) (Some Unpinned) None)
 
 pub refuses-unpinned : (s : PoolCore) (facts : List Fact) (n c : ℕ) (h : List Item) → StandsFor s h → s.last ≤ n → nat_lt 0 (pins_at (connection_at s c)) ≡ false → Answers s s facts facts (record { moment = n; act = Unpin s.pool c }) (RefusedBy Unpinned) h
 refuses-unpinned s facts n c h z l e = refuses s facts (record { moment = n; act = Unpin s.pool c }) Unpinned h z (unpin-refusal s h z n c l ∙ rw e refl)

@@ -21,14 +21,15 @@ use Rattle.mdb_pool.proofs.Acts.{refuses, accepts, own-answers, not-back, outcom
 use Rattle.mdb_pool.proofs.Addresses.{own-address}
 use Rattle.mdb_base.specs.declared.address.ServerAddress.{ServerAddress}
 use Rattle.mdb_base.specs.Equality.{same_address}
-use Rattle.mdb_pool.proofs.Serving.{same-number}
+use Rattle.mdb_pool.proofs.Numbers.{same-number}
 use Rattle.mdb_pool.proofs.Stands.{warm-fits, end-fits}
 use Rattle.mdb_pool.specs.Connections.{has}
 use Rattle.mdb_pool.specs.Facts.{turned_away}
 use Rattle.mdb_pool.specs.State.{state_of}
 use Rattle.mdb_pool.specs.Legal.{AllFirstCome, shuts, AllOwn}
 use Rattle.mdb_pool.proofs.Tables.{entry_at-put}
-use Rattle.mdb_pool.proofs.RequestedActs.{telling-settled, telling-fits, or-none, or-first}
+use Rattle.std.proofs.Math.Bool.{or-false, or_assoc}
+use Rattle.mdb_pool.proofs.RequestedActs.{telling-settled, telling-fits}
 
 -- a warm request that is new, and ends at once where the pool isn't ready
 module _ (s : PoolCore) (xs : List PoolItem) (z : Fits s xs) (n r : ℕ) (absent : request_at s r ≡ None) where
@@ -96,7 +97,7 @@ warm-accepts s s0 s1 t u before f1 after n r reply xs z absent s0_is s1_is f1_is
     (λ claims own zs m. reply_is ∙ (sym (outcome-is t zs m r) ∙ ap (λ p. outcome_of p zs r) (home.pool ∙ at_home.pool)))
     (rw reply_is (outcome-accepted t r))
     (ap (λ k. is_shut k.status) u_is ∙ (ap is_shut state ∙ ap (λ b. b || is_shut s.status) (sym (away-open s xs z n r absent o))))
-    (λ k. rw (u_is, reply_is) (telling-settled t r k ∙ rw (or-none ((r == k) && is_outcome (outcome_now t r))) (ap (λ b. ((r == k) && is_outcome (outcome_now t r)) || has k b) (notes.settled ∙ (ap (λ x. x.settled) whole ∙ (away-notes s xs z n r absent o).settled)))))
+    (λ k. rw (u_is, reply_is) (telling-settled t r k ∙ rw (or-false ((r == k) && is_outcome (outcome_now t r))) (ap (λ b. ((r == k) && is_outcome (outcome_now t r)) || has k b) (notes.settled ∙ (ap (λ x. x.settled) whole ∙ (away-notes s xs z n r absent o).settled)))))
     (λ c. rw (u_is, reply_is, outcome-no-job t r s.pool c) (ap (has c) (notes.claimed ∙ (ap (λ x. x.claimed) whole ∙ (away-notes s xs z n r absent o).claimed))))
     (away-fair s xs z n r absent o)
     (away-own s xs z n r absent o)
@@ -123,4 +124,4 @@ warm-own s t before after n r reply h z l unshut absent home last_is v =
     own-answers s t before after (record { moment = n; act = WarmAct r s.address }) reply (warmed r n ∷ of_pool s.pool h) h z
     (warm-refusal s h z n r l unshut ∙ rw absent refl)
     (rw (z.open_here s.address, own-address s.address, unshut, same-number s.pool) refl)
-    (λ k. or-first (r == k) (has_asked (of_pool s.pool h) k) (has_taken (of_pool s.pool h) k)) (λ k. refl) home last_is (v (of_pool s.pool h) z.fits)
+    (λ k. or_assoc (r == k) (has_asked (of_pool s.pool h) k) (has_taken (of_pool s.pool h) k)) (λ k. refl) home last_is (v (of_pool s.pool h) z.fits)

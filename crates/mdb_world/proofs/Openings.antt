@@ -17,7 +17,7 @@ use Rattle.mdb_pool.specs.Connections.{has}
 use Rattle.mdb_pool.specs.Serving.{next_move}
 use Rattle.mdb_pool.specs.Standing.{Fits}
 use Rattle.mdb_pool.specs.Standing.{StandsFor as PoolStandsFor}
-use Rattle.mdb_pool.proofs.Serving.{same-number}
+use Rattle.mdb_pool.proofs.Numbers.{same-number}
 use Rattle.mdb_world.specs.declared.pools.Pools.{Pools}
 use Rattle.mdb_world.specs.Opening.{created, opening_facts}
 use Rattle.mdb_world.specs.Standing.{at_address, opened, PoolsStand, StandsFor}

@@ -23,7 +23,7 @@ use Rattle.mdb_pool.specs.Limits.{WithinLimits}
 use Rattle.mdb_pool.specs.Standing.{Fits}
 use Rattle.mdb_pool.proofs.Addresses.{same-address}
 use Rattle.mdb_pool.proofs.Frame.{other-number}
-use Rattle.mdb_pool.proofs.Serving.{same-number}
+use Rattle.mdb_pool.proofs.Numbers.{same-number}
 use Rattle.mdb_world.specs.Standing.{home, at_address, PoolFits, IsApart, PoolsFit, PoolsStand}
 use Rattle.mdb_world.proofs.Places.{some-same}
 

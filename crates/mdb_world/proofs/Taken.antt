@@ -17,7 +17,7 @@ use Rattle.mdb_pool.specs.Standing.{Fits, Accepts, SameHome}
 use Rattle.mdb_pool.proofs.Addresses.{same-address}
 use Rattle.mdb_pool.proofs.Acts.{holds-given, held-known}
 use Rattle.mdb_pool.proofs.Frame.{other-number, no-party-asked}
-use Rattle.mdb_pool.proofs.Serving.{same-number}
+use Rattle.mdb_pool.proofs.Numbers.{same-number}
 use Rattle.mdb_pool.proofs.Fresh.{holding-created, live-before}
 use Rattle.mdb_world.specs.declared.pools.Pools.{Pools}
 use Rattle.mdb_world.specs.Refusal.{refusal}
