@@ -4,6 +4,5 @@ pub mod Kept
 pub mod Parsed
 pub mod Parts
 pub mod Selecting
-pub mod Taken
 pub mod Timeouts
 pub mod Walks

@@ -1,7 +1,7 @@
 //! What is known of one server.
 
 ghost use Rattle.std.specs.Prelude.{◌≡◌, IfOk};
-ghost use Rattle.mdb_describe.specs.Descriptions.{unknown, failed, texts_of, listed_texts, from_reply, bad_reply, time_of};
+ghost use Rattle.mdb_describe.specs.Descriptions.{unknown, failed, texts_of, listed_texts, from_reply, replied, bad_reply, time_of};
 ghost use Rattle.mdb_describe.specs.Listed.{are_addresses};
 
 use crate::listed::are_addresses;
@@ -52,19 +52,41 @@ impl ServerDescription {
     ) -> Result<ServerDescription, OutOfMemory>
         ensures { IfOk result (λ d. d ≡ from_reply address reply rtt at) }
     {
-        if !lists_addresses(alloc, &reply.command_response)? {
-            return Ok(ServerDescription::new_from_error(address, bad_reply(alloc)?));
+        if lists_addresses(alloc, &reply.command_response)? {
+            replied(alloc, address, reply, rtt, at)
+        } else {
+            refused(alloc, address)
         }
-        let server_type = reply.command_response.server_type();
-        let reply = lowered_reply(alloc, reply)?;
-        Ok(ServerDescription {
-            address,
-            server_type,
-            last_update_time: Some(time_of(at)),
-            average_round_trip_time: Some(rtt),
-            reply: Ok(Some(reply)),
-        })
     }
+}
+
+// A server that gave a reply which lists addresses.
+fn replied(
+    alloc: Global,
+    address: ServerAddress,
+    reply: HelloReply,
+    rtt: Nanos,
+    at: Moment,
+) -> Result<ServerDescription, OutOfMemory>
+    ensures { IfOk result (λ d. d ≡ replied address reply rtt at) }
+{
+    let server_type = reply.command_response.server_type();
+    let reply = lowered_reply(alloc, reply)?;
+    Ok(ServerDescription {
+        address,
+        server_type,
+        last_update_time: Some(time_of(at)),
+        average_round_trip_time: Some(rtt),
+        reply: Ok(Some(reply)),
+    })
+}
+
+// A server whose reply lists a text that is no address.
+fn refused(alloc: Global, address: ServerAddress) -> Result<ServerDescription, OutOfMemory>
+    ensures { IfOk result (λ d. d ≡ failed address bad_reply) }
+{
+    let error = bad_reply(alloc)?;
+    Ok(ServerDescription::new_from_error(address, error))
 }
 
 // A server of type Unknown.

@@ -1,6 +1,6 @@
 //! The texts of hosts in lower case.
 
-ghost use Rattle.std.specs.Prelude.{◌≡◌, map, IfOk};
+ghost use Rattle.std.specs.Prelude.{◌≡◌, map, IfOk, OnOk};
 ghost use Rattle.mdb_describe.specs.Listed.{lower};
 ghost use Rattle.mdb_describe.specs.Descriptions.{lower_list, lower_text, lowered, lowered_reply};
 
@@ -47,18 +47,22 @@ fn lower_list(alloc: Global, texts: Option<Items<Text>>) -> Result<Option<Items<
     }
 }
 
-fn lowered(
-    alloc: Global,
-    response: HelloCommandResponse,
-) -> Result<HelloCommandResponse, OutOfMemory>
-    ensures { IfOk result (λ r. r ≡ lowered response) }
+fn lower_in_place(alloc: Global, texts: &mut Option<Items<Text>>) -> Result<(), OutOfMemory>
+    ensures { OnOk result (texts.new ≡ lower_list texts.old) }
 {
-    let mut response = response;
-    response.hosts = lower_list(alloc, response.hosts)?;
-    response.passives = lower_list(alloc, response.passives)?;
-    response.arbiters = lower_list(alloc, response.arbiters)?;
-    response.me = lower_text(response.me);
-    Ok(response)
+    *texts = lower_list(alloc, texts.take())?;
+    Ok(())
+}
+
+// Lowers hosts, passives, arbiters and `me`.
+fn lower_hosts(alloc: Global, response: &mut HelloCommandResponse) -> Result<(), OutOfMemory>
+    ensures { OnOk result (response.new ≡ lowered response.old) }
+{
+    lower_in_place(alloc, &mut response.hosts)?;
+    lower_in_place(alloc, &mut response.passives)?;
+    lower_in_place(alloc, &mut response.arbiters)?;
+    response.me = lower_text(response.me.take());
+    Ok(())
 }
 
 /// The reply with its hosts, passives, arbiters and `me` in lower case.
@@ -66,6 +70,6 @@ pub fn lowered_reply(alloc: Global, reply: HelloReply) -> Result<HelloReply, Out
     ensures { IfOk result (λ r. r ≡ lowered_reply reply) }
 {
     let mut reply = reply;
-    reply.command_response = lowered(alloc, reply.command_response)?;
+    lower_hosts(alloc, &mut reply.command_response)?;
     Ok(reply)
 }

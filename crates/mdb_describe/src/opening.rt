@@ -13,7 +13,6 @@ use crate::topology::TopologyDescription;
 use mdb_base::{Options, OutOfMemory, ServerAddress, Text};
 use mdb_srv::{TopologyType, should_poll};
 use std::alloc::Global;
-use std::mem;
 
 impl TopologyDescription {
     /// What is known as the driver is opened: the seeds, and nothing of them (SDAM, "Initial servers" and "Initial
@@ -48,14 +47,7 @@ impl TopologyDescription {
         }
         let unknowns = unknowns(alloc, hosts)?;
         let error = error_among(alloc, hosts, self.servers())?;
-        let mut servers = mem::replace(
-            &mut self.servers,
-            Clearable::new(Vec::new(alloc)),
-        ).into_inner();
-        if servers.reserve(unknowns.len()).is_err() {
-            self.servers = Clearable::new(servers);
-            return Err(OutOfMemory);
-        }
+        let mut servers = self.servers_with_room(alloc, unknowns.len())?;
         follow(&mut servers, hosts, unknowns);
         self.compatibility_error = error;
         self.servers = Clearable::new(servers);

@@ -1,6 +1,7 @@
 //! What a change needs of memory, which is taken before anything is changed.
 
-ghost use Rattle.std.specs.Prelude.{◌≡◌, ◌++◌, ◌||◌, [], map, IfOk, OnOk, OnErr, if◌then◌else◌};
+ghost use Rattle.std.specs.Prelude.{◌≡◌, ◌+◌, ◌≤◌, ◌++◌, ◌||◌, [], map, IfOk, OnOk, OnErr, if◌then◌else◌};
+ghost use Rattle.std.specs.Vec.{vec_len, vec_capacity};
 ghost use Rattle.mdb_describe.specs.Descriptions.{unknown, texts_of};
 ghost use Rattle.mdb_describe.specs.Fields.{set_name};
 ghost use Rattle.mdb_describe.specs.Listed.{addresses, with_address};
@@ -10,11 +11,30 @@ ghost use Rattle.mdb_describe.specs.Kept.{is_kept, standing, takes_place, reason
 ghost use Rattle.mdb_describe.specs.Servers.{first_incompatible};
 
 use crate::change::{Change, Fate};
+use crate::clearable::Clearable;
 use crate::description::ServerDescription;
 use crate::listed::parsed;
 use crate::servers::{is_listed, is_primary_type};
+use crate::topology::TopologyDescription;
 use mdb_base::{Items, OutOfMemory, ServerAddress, Text};
 use std::alloc::Global;
+use std::mem;
+
+/// What a change needs, made before anything is changed.
+#[derive(Drop)]
+pub struct Prepared {
+    /// The address of the server that is described.
+    pub address: ServerAddress,
+    /// The servers that it lists, and descriptions of them of which nothing is known.
+    pub listed: Vec<ServerAddress>,
+    pub unknowns: Vec<ServerDescription>,
+    /// The set name after the change.
+    pub set_name: Option<Text>,
+    /// Why the driver cannot speak to one of the servers after the change.
+    pub error: Option<Text>,
+    /// The servers before the change, with room for those that are listed.
+    pub servers: Vec<ServerDescription>,
+}
 
 // The hosts, passives and arbiters that a server lists.
 #[tactic(auto, using(crate::proofs::Parts::addresses_of_three))]
@@ -77,6 +97,29 @@ pub fn unknowns(
         servers.push(ServerDescription::new(alloc, host)?)?;
     }
     Ok(servers)
+}
+
+impl TopologyDescription {
+    /// The servers, with room for so many more; the topology is left without servers, or as it was where there is no
+    /// memory.
+    pub fn servers_with_room(
+        &mut self,
+        alloc: Global,
+        more: usize,
+    ) -> Result<Vec<ServerDescription>, OutOfMemory>
+        ensures emptied { OnOk result (self.new ≡ record self.old { servers = [] }) }
+        ensures servers { IfOk result (λ servers. servers.items ≡ self.old.servers) }
+        ensures room { IfOk result (λ servers. vec_len servers + more ≤ vec_capacity servers) }
+        ensures unchanged { OnErr result (self.new ≡ self.old) }
+    {
+        let empty = Clearable::new(Vec::new(alloc));
+        let mut servers = mem::replace(&mut self.servers, empty).into_inner();
+        if servers.reserve(more).is_err() {
+            self.servers = Clearable::new(servers);
+            return Err(OutOfMemory);
+        }
+        Ok(servers)
+    }
 }
 
 // Why the driver cannot speak to one of the servers after the change: to the first one to which it cannot. A

@@ -1,6 +1,6 @@
 //! Changes of a list of servers. Only `join` may take memory, and where the list has room it takes none.
 
-ghost use Rattle.std.specs.Prelude.{◌≡◌, ◌<◌, ◌≤◌, ◌+◌, not, ◌&&◌, length, if◌then◌else◌, OnOk, OnErr, IsOk, option_copied};
+ghost use Rattle.std.specs.Prelude.{◌≡◌, ◌<◌, ◌≤◌, ◌+◌, not, ◌&&◌, length, if◌then◌else◌, OnOk, OnErr, IsOk, IfSome, IfNone, option_copied, set};
 ghost use Rattle.std.specs.List.{insert};
 ghost use Rattle.std.specs.Vec.{vec_len, vec_capacity};
 ghost use Rattle.mdb_base.specs.Equality.{same_address};
@@ -14,6 +14,7 @@ use crate::description::ServerDescription;
 use crate::order::is_before;
 use mdb_base::{OutOfMemory, ServerAddress};
 use mdb_hello::ServerType;
+use std::mem;
 
 /// One of the servers has this address.
 pub fn is_known(servers: &[ServerDescription], address: &ServerAddress) -> bool
@@ -58,12 +59,24 @@ pub fn is_primary_type(kind: ServerType) -> bool
 pub fn store(servers: &mut [ServerDescription], server: ServerDescription)
     ensures { servers.new ≡ store server servers.old }
 {
+    match place_of(servers, &server.address) {
+        Some(at) => drop(mem::replace(&mut servers[at], server)),
+        None => drop(server),
+    }
+}
+
+// Where the first server with this address stands.
+fn place_of(servers: &[ServerDescription], address: &ServerAddress) -> Option<usize>
+    ensures within { IfSome result (λ at. at < length servers.now) }
+    ensures found { IfSome result (λ at. (d : ServerDescription) → d.address ≡ address.now → store d servers.now ≡ set servers.now at d) }
+    ensures none { IfNone result ((d : ServerDescription) → d.address ≡ address.now → store d servers.now ≡ servers.now) }
+{
     for at in 0..servers.len() {
-        if servers[at].address.is(&server.address) {
-            servers[at] = server;
-            return;
+        if servers[at].address.is(address) {
+            return Some(at);
         }
     }
+    None
 }
 
 impl ServerDescription {

@@ -1,24 +1,24 @@
 //! How a topology takes a new description of one of its servers.
 
-ghost use Rattle.std.specs.Prelude.{◌≡◌, IfOk, OnOk, OnErr, true, if◌then◌else◌};
+ghost use Rattle.std.specs.Prelude.{◌≡◌, ◌+◌, ◌≤◌, [], length, map, IfOk, OnOk, OnErr, true, if◌then◌else◌};
+ghost use Rattle.std.specs.Vec.{vec_len, vec_capacity};
 ghost use Rattle.mdb_describe.specs.Descriptions.{unknown};
 ghost use Rattle.mdb_describe.specs.Fields.{set_name};
-ghost use Rattle.mdb_describe.specs.Update.{decided, updated, is_misnamed, is_new, is_older, name_or};
-ghost use Rattle.mdb_describe.specs.Changes.{changed_type};
-ghost use Rattle.mdb_describe.specs.Servers.{in_order};
+ghost use Rattle.mdb_describe.specs.Update.{decided, listed, updated, is_misnamed, is_new, is_older, name_or};
+ghost use Rattle.mdb_describe.specs.Changes.{changed_servers, changed_type};
+ghost use Rattle.mdb_describe.specs.Servers.{first_incompatible, in_order};
 
 use crate::carrying::carry_out;
 use crate::change::Change;
 use crate::clearable::Clearable;
 use crate::description::ServerDescription;
-use crate::preparation::{error_after, listed, unknowns};
+use crate::preparation::{Prepared, error_after, listed, unknowns};
 use crate::servers::has_primary;
 use crate::topology::TopologyDescription;
 use mdb_base::{OutOfMemory, Text, TopologyVersion};
 use mdb_hello::ServerType;
 use mdb_srv::TopologyType;
 use std::alloc::Global;
-use std::mem;
 
 impl TopologyDescription {
     /// Takes a new description of a server (SDAM, "Updating the TopologyDescription"). One of an unknown address,
@@ -63,34 +63,81 @@ impl TopologyDescription {
         ensures ordered { in_order self.old.servers ≡ true → in_order self.new.servers ≡ true }
     {
         let change = self.decide(&server);
-        let address = server.address.clone()?;
-        let listed = listed(alloc, &server)?;
-        let unknowns = unknowns(alloc, listed.as_slice())?;
-        let set_name = self.name_after(change.learns, &server)?;
-        let error = error_after(alloc, &change, &server, listed.as_slice(), self.servers())?;
-        let mut servers = mem::replace(
-            &mut self.servers,
-            Clearable::new(Vec::new(alloc)),
-        ).into_inner();
-        if servers.reserve(unknowns.len()).is_err() {
-            self.servers = Clearable::new(servers);
-            return Err(OutOfMemory);
+        match self.prepare(alloc, &change, &server) {
+            Ok(prepared) => {
+                self.carry(&change, server, prepared);
+                Ok(())
+            }
+            Err(e) => {
+                drop(server);
+                Err(e)
+            }
         }
+    }
+
+    // What the change needs. The servers leave the topology for it.
+    fn prepare(
+        &mut self,
+        alloc: Global,
+        change: &Change,
+        server: &ServerDescription,
+    ) -> Result<Prepared, OutOfMemory>
+        ensures emptied { OnOk result (self.new ≡ record self.old { servers = [] }) }
+        ensures unchanged { OnErr result (self.new ≡ self.old) }
+        ensures address { IfOk result (λ p. p.address ≡ server.now.address) }
+        ensures listed { IfOk result (λ p. p.listed.items ≡ listed server.now) }
+        ensures unknowns { IfOk result (λ p. p.unknowns.items ≡ map unknown (listed server.now)) }
+        ensures name { IfOk result (λ p. p.set_name ≡ (if change.now.learns then name_or self.old.set_name (set_name server.now) else self.old.set_name)) }
+        ensures error { IfOk result (λ p. p.error ≡ first_incompatible (changed_servers change.now server.now (listed server.now) self.old.servers)) }
+        ensures servers { IfOk result (λ p. p.servers.items ≡ self.old.servers) }
+        ensures room { IfOk result (λ p. vec_len p.servers + length p.unknowns.items ≤ vec_capacity p.servers) }
+    {
+        let address = server.address.clone()?;
+        let listed = listed(alloc, server)?;
+        let unknowns = unknowns(alloc, listed.as_slice())?;
+        let set_name = self.name_after(change.learns, server)?;
+        let error = error_after(alloc, change, server, listed.as_slice(), self.servers())?;
+        let servers = self.servers_with_room(alloc, unknowns.len())?;
+        Ok(Prepared {
+            address,
+            listed,
+            unknowns,
+            set_name,
+            error,
+            servers,
+        })
+    }
+
+    // Carries the change out. No memory is taken.
+    fn carry(&mut self, change: &Change, server: ServerDescription, prepared: Prepared)
+        requires room { vec_len prepared.servers + length prepared.unknowns.items ≤ vec_capacity prepared.servers }
+        requires own { prepared.address ≡ server.address }
+        requires unknowns { prepared.unknowns.items ≡ map unknown prepared.listed.items }
+        ensures carried { let after = changed_servers change.now server prepared.listed.items prepared.servers.items in self.new ≡ record self.old { topology_type = changed_type change.now after; set_name = prepared.set_name; max_set_version = change.now.max_set_version; max_election_id = change.now.max_election_id; compatibility_error = prepared.error; servers = after } }
+        ensures ordered { in_order prepared.servers.items ≡ true → in_order self.new.servers ≡ true }
+    {
+        let Prepared {
+            address,
+            listed,
+            unknowns,
+            set_name,
+            error,
+            mut servers,
+        } = prepared;
         carry_out(
             &mut servers,
-            &change,
+            change,
             server,
             &address,
             listed.as_slice(),
             unknowns,
         );
-        self.topology_type = type_after(&change, servers.as_slice());
+        self.topology_type = type_after(change, servers.as_slice());
         self.set_name = set_name;
         self.max_set_version = change.max_set_version;
         self.max_election_id = change.max_election_id;
         self.compatibility_error = error;
         self.servers = Clearable::new(servers);
-        Ok(())
     }
 
     // The set name after the change.

@@ -42,22 +42,68 @@ fn copy_document(document: &Option<Document>) -> Result<Option<Document>, AllocE
     }
 }
 
+// The lists of texts of a reply.
+#[derive(Drop)]
+struct Lists {
+    hosts: Option<Items<Text>>,
+    passives: Option<Items<Text>>,
+    arbiters: Option<Items<Text>>,
+    compressors: Option<Items<Text>>,
+    sasl_supported_mechs: Option<Items<Text>>,
+}
+
+fn copy_lists(reply: &HelloCommandResponse) -> Result<Lists, AllocError>
+    ensures { IfOk result (λ l. l ≡ record { hosts = reply.now.hosts; passives = reply.now.passives; arbiters = reply.now.arbiters; compressors = reply.now.compressors; sasl_supported_mechs = reply.now.sasl_supported_mechs }) }
+{
+    Ok(Lists {
+        hosts: copy_list(&reply.hosts)?,
+        passives: copy_list(&reply.passives)?,
+        arbiters: copy_list(&reply.arbiters)?,
+        compressors: copy_list(&reply.compressors)?,
+        sasl_supported_mechs: copy_list(&reply.sasl_supported_mechs)?,
+    })
+}
+
+// The single texts of a reply.
+#[derive(Drop)]
+struct Texts {
+    msg: Option<Text>,
+    me: Option<Text>,
+    set_name: Option<Text>,
+    primary: Option<Text>,
+}
+
+fn copy_texts(reply: &HelloCommandResponse) -> Result<Texts, AllocError>
+    ensures { IfOk result (λ t. t ≡ record { msg = reply.now.msg; me = reply.now.me; set_name = reply.now.set_name; primary = reply.now.primary }) }
+{
+    Ok(Texts {
+        msg: copy_text(&reply.msg)?,
+        me: copy_text(&reply.me)?,
+        set_name: copy_text(&reply.set_name)?,
+        primary: copy_text(&reply.primary)?,
+    })
+}
+
 impl Clone for HelloCommandResponse {
     ghost is_clone = { λ s t. t ≡ s };
 
     fn clone(&self) -> Result<HelloCommandResponse, AllocError> {
+        let lists = copy_lists(self)?;
+        let texts = copy_texts(self)?;
+        let tags = copy_tags(&self.tags)?;
+        let speculative_authenticate = copy_document(&self.speculative_authenticate)?;
         Ok(HelloCommandResponse {
             is_writable_primary: self.is_writable_primary,
             is_master: self.is_master,
             hello_ok: self.hello_ok,
-            hosts: copy_list(&self.hosts)?,
-            passives: copy_list(&self.passives)?,
-            arbiters: copy_list(&self.arbiters)?,
-            msg: copy_text(&self.msg)?,
-            me: copy_text(&self.me)?,
-            compressors: copy_list(&self.compressors)?,
+            hosts: lists.hosts,
+            passives: lists.passives,
+            arbiters: lists.arbiters,
+            msg: texts.msg,
+            me: texts.me,
+            compressors: lists.compressors,
             set_version: self.set_version,
-            set_name: copy_text(&self.set_name)?,
+            set_name: texts.set_name,
             hidden: self.hidden,
             secondary: self.secondary,
             arbiter_only: self.arbiter_only,
@@ -66,11 +112,11 @@ impl Clone for HelloCommandResponse {
             last_write: self.last_write,
             min_wire_version: self.min_wire_version,
             max_wire_version: self.max_wire_version,
-            tags: copy_tags(&self.tags)?,
+            tags,
             election_id: self.election_id,
-            primary: copy_text(&self.primary)?,
-            sasl_supported_mechs: copy_list(&self.sasl_supported_mechs)?,
-            speculative_authenticate: copy_document(&self.speculative_authenticate)?,
+            primary: texts.primary,
+            sasl_supported_mechs: lists.sasl_supported_mechs,
+            speculative_authenticate,
             max_bson_object_size: self.max_bson_object_size,
             max_write_batch_size: self.max_write_batch_size,
             service_id: self.service_id,

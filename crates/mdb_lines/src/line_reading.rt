@@ -89,9 +89,15 @@ pub fn read_line(alloc: Global, line: &[u8], number: u32) -> Result<Step, LineEr
     ensures only { (s : Step) → Spells number line.now s → Gives s result }
 {
     let found = guess(alloc, line, number)?;
-    if is_spelled(alloc, &found, line, number)? {
-        Ok(found)
-    } else {
-        Err(LineError::Bad)
+    match is_spelled(alloc, &found, line, number) {
+        Ok(true) => Ok(found),
+        Ok(false) => {
+            drop(found);
+            Err(LineError::Bad)
+        }
+        Err(e) => {
+            drop(found);
+            Err(LineError::from(e))
+        }
     }
 }

@@ -28,10 +28,40 @@ fn new_pool_error(alloc: Global) -> Result<Error, AllocError>
 }
 
 impl PoolCore {
+    ghost use Rattle.mdb_pool.specs.Keyed.{swap};
     ghost use Rattle.mdb_pool.specs.Kept.{outcome_now};
     ghost use Rattle.mdb_pool.specs.Changes.{asking, away, away_end, away_facts, discarding, shut_fact, creating, spawning, ending, new_fact, granting, establishing, telling, started_fact, up_fact, out_fact};
     ghost use Rattle.mdb_events.specs.declared.fact.Fact.TheVariants.{Pool, Granted, Ended};
     ghost use Rattle.mdb_events.specs.declared.cmap.CmapEvent.TheVariants.{ConnectionCreated, ConnectionCheckedOut};
+
+    // The request is at this phase.
+    pub(super) fn enter_phase(
+        &mut self,
+        alloc: Global,
+        request: Request,
+        phase: Phase,
+    ) -> Result<(), AllocError>
+        ensures { OnOk result (self.new ≡ record self.old { requests = swap (λ q. q.number) (record request { phase = phase }) self.old.requests }) }
+    {
+        let Request {
+            number,
+            asked_at,
+            warm,
+            took,
+            phase: before,
+        } = request;
+        drop(before);
+        let next = Request {
+            number,
+            asked_at,
+            warm,
+            took,
+            phase,
+        };
+        let entered = self.requests.replace(alloc, &next);
+        drop(next);
+        entered
+    }
 
     // A new request comes last.
     pub(super) fn enqueue(
@@ -194,17 +224,14 @@ impl PoolCore {
         let timeouts = self.timeouts();
         let id = self.created + 1;
         self.created = id;
-        let connection = Connection::pending(id, moment, Some(request.number), timeouts);
-        self.connections.put(alloc, connection)?;
-        self.requests.replace(
+        let number = request.number;
+        self.enter_phase(alloc, request, Phase::Given(id))?;
+        self.connections.put(
             alloc,
-            &Request {
-                phase: Phase::Given(id),
-                ..request
-            },
+            Connection::pending(id, moment, Some(number), timeouts),
         )?;
         self.push_created(facts, id)?;
-        facts.push(Fact::Granted(request.number, self.pool, id))?;
+        facts.push(Fact::Granted(number, self.pool, id))?;
         Ok(())
     }
 
@@ -240,16 +267,11 @@ impl PoolCore {
         ensures core { OnOk result (self.new ≡ ending self.old request end.now) }
         ensures facts { OnOk result (facts.new.items ≡ facts.old.items ++ Ended request.number end.now ∷ []) }
     {
-        let told = end.clone()?;
+        let number = request.number;
         let kept = end.clone()?;
-        facts.push(Fact::Ended(request.number, told))?;
-        self.requests.replace(
-            alloc,
-            &Request {
-                phase: Phase::Ended(kept),
-                ..request
-            },
-        )?;
+        self.enter_phase(alloc, request, Phase::Ended(kept))?;
+        let told = end.clone()?;
+        facts.push(Fact::Ended(number, told))?;
         Ok(())
     }
 
@@ -265,26 +287,21 @@ impl PoolCore {
         ensures core { OnOk result (self.new ≡ granting self.old connection request) }
         ensures facts { OnOk result (facts.new.items ≡ facts.old.items ++ Granted request.number self.old.pool connection.id ∷ Pool self.old.pool (ConnectionCheckedOut (record { address = self.old.address; connection_id = connection.id; duration = moment - request.asked_at })) ∷ []) }
     {
+        let number = request.number;
+        let waited = moment.saturating_sub(request.asked_at);
         let timeouts = self.timeouts();
+        self.enter_phase(alloc, request, Phase::Given(connection.id))?;
         self.connections.put(
             alloc,
             Connection {
                 place: Place::Held,
-                party: Some(request.number),
-                holder: Some(request.number),
+                party: Some(number),
+                holder: Some(number),
                 timeouts,
                 ..connection
             },
         )?;
-        self.requests.replace(
-            alloc,
-            &Request {
-                phase: Phase::Given(connection.id),
-                ..request
-            },
-        )?;
-        facts.push(Fact::Granted(request.number, self.pool, connection.id))?;
-        let waited = moment.saturating_sub(request.asked_at);
+        facts.push(Fact::Granted(number, self.pool, connection.id))?;
         self.push_checked_out(facts, connection.id, waited)?;
         Ok(())
     }

@@ -76,6 +76,8 @@ impl PoolCore {
             moment,
             act: Act::Claim,
         };
-        self.attempt(alloc, facts, &step)
+        let answer = self.attempt(alloc, facts, &step);
+        drop(step);
+        answer
     }
 }

@@ -32,23 +32,12 @@ impl PoolCore {
         ensures core { OnOk result (self.new ≡ ending self.old request (Cleared cause.now)) }
         ensures facts { OnOk result (facts.new.items ≡ facts.old.items ++ over_facts self.old request.number request.warm (moment - request.asked_at) (Cleared cause.now)) }
     {
-        let told = cause.clone()?;
-        let kept = cause.clone()?;
+        let (number, warm) = (request.number, request.warm);
         let waited = moment.saturating_sub(request.asked_at);
-        self.push_end(
-            facts,
-            request.number,
-            request.warm,
-            waited,
-            End::Cleared(told),
-        )?;
-        self.requests.replace(
-            alloc,
-            &Request {
-                phase: Phase::Ended(End::Cleared(kept)),
-                ..request
-            },
-        )?;
+        let kept = cause.clone()?;
+        self.enter_phase(alloc, request, Phase::Ended(End::Cleared(kept)))?;
+        let told = cause.clone()?;
+        self.push_end(facts, number, warm, waited, End::Cleared(told))?;
         Ok(())
     }
 
@@ -242,6 +231,8 @@ impl PoolCore {
             moment,
             act: Act::Clear(self.pool, service, cause),
         };
-        self.attempt(alloc, facts, &step)
+        let answer = self.attempt(alloc, facts, &step);
+        drop(step);
+        answer
     }
 }

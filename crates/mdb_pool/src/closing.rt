@@ -189,6 +189,8 @@ impl PoolCore {
             moment,
             act: Act::Close(self.pool),
         };
-        self.attempt(alloc, facts, &step)
+        let answer = self.attempt(alloc, facts, &step);
+        drop(step);
+        answer
     }
 }

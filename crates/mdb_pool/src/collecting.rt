@@ -69,6 +69,8 @@ impl PoolCore {
             moment,
             act: Act::Collect(request),
         };
-        self.attempt(alloc, facts, &step)
+        let answer = self.attempt(alloc, facts, &step);
+        drop(step);
+        answer
     }
 }

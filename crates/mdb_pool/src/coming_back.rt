@@ -179,9 +179,10 @@ impl PoolCore {
     ) -> Result<(), AllocError>
         ensures { OnOk result (self.new ≡ finishing self.old moment request phase) }
     {
+        let number = request.number;
         self.last = moment;
-        self.settled.push(request.number)?;
-        self.requests.replace(alloc, &Request { phase, ..request })?;
+        self.enter_phase(alloc, request, phase)?;
+        self.settled.push(number)?;
         Ok(())
     }
 

@@ -121,6 +121,8 @@ impl PoolCore {
             moment,
             act: Act::Established(self.pool, id, made),
         };
-        self.attempt(alloc, facts, &step)
+        let answer = self.attempt(alloc, facts, &step);
+        drop(step);
+        answer
     }
 }

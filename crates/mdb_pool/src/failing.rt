@@ -62,26 +62,15 @@ impl PoolCore {
         ensures core { OnOk result (self.new ≡ failing self.old moment connection request (FailedEnd cause.now)) }
         ensures facts { OnOk result (facts.new.items ≡ facts.old.items ++ shut_fact self.old connection ErrorReason ∷ over_facts self.old request.number request.warm (moment - request.asked_at) (FailedEnd cause.now)) }
     {
-        let told = cause.clone()?;
-        let kept = cause.clone()?;
+        let (number, warm) = (request.number, request.warm);
         let waited = moment.saturating_sub(request.asked_at);
+        let kept = cause.clone()?;
+        self.enter_phase(alloc, request, Phase::Ended(End::Failed(kept)))?;
         self.push_close(facts, connection, ConnectionClosedReason::Error)?;
-        self.push_end(
-            facts,
-            request.number,
-            request.warm,
-            waited,
-            End::Failed(told),
-        )?;
+        let told = cause.clone()?;
+        self.push_end(facts, number, warm, waited, End::Failed(told))?;
         self.last = moment;
         self.connections.remove(alloc, connection.id)?;
-        self.requests.replace(
-            alloc,
-            &Request {
-                phase: Phase::Ended(End::Failed(kept)),
-                ..request
-            },
-        )?;
         Ok(())
     }
 
@@ -207,6 +196,8 @@ impl PoolCore {
             moment,
             act: Act::Failed(self.pool, id, at, error),
         };
-        self.attempt(alloc, facts, &step)
+        let answer = self.attempt(alloc, facts, &step);
+        drop(step);
+        answer
     }
 }

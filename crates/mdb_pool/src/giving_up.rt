@@ -150,6 +150,8 @@ impl PoolCore {
             moment,
             act: Act::GiveUp(request),
         };
-        self.attempt(alloc, facts, &step)
+        let answer = self.attempt(alloc, facts, &step);
+        drop(step);
+        answer
     }
 }

@@ -128,6 +128,8 @@ impl PoolCore {
             moment,
             act: Act::Maintain(address),
         };
-        self.attempt(alloc, facts, &step)
+        let answer = self.attempt(alloc, facts, &step);
+        drop(step);
+        answer
     }
 }

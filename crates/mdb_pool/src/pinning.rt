@@ -106,7 +106,9 @@ impl PoolCore {
             moment,
             act: Act::Pin(party),
         };
-        self.attempt(alloc, facts, &step)
+        let answer = self.attempt(alloc, facts, &step);
+        drop(step);
+        answer
     }
 
     /// A pinned connection gets one more pin. Whoever calls has tested the refusals.
@@ -172,6 +174,8 @@ impl PoolCore {
             moment,
             act: Act::Replicate(self.pool, id),
         };
-        self.attempt(alloc, facts, &step)
+        let answer = self.attempt(alloc, facts, &step);
+        drop(step);
+        answer
     }
 }

@@ -81,6 +81,8 @@ impl PoolCore {
             moment,
             act: Act::Ready(self.pool),
         };
-        self.attempt(alloc, facts, &step)
+        let answer = self.attempt(alloc, facts, &step);
+        drop(step);
+        answer
     }
 }

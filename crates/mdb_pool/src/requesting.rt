@@ -97,6 +97,8 @@ impl PoolCore {
             moment,
             act: Act::Request(request, address),
         };
-        self.attempt(alloc, facts, &step)
+        let answer = self.attempt(alloc, facts, &step);
+        drop(step);
+        answer
     }
 }

@@ -89,6 +89,8 @@ impl PoolCore {
             moment,
             act: Act::Return(party, used),
         };
-        self.attempt(alloc, facts, &step)
+        let answer = self.attempt(alloc, facts, &step);
+        drop(step);
+        answer
     }
 }

@@ -1,11 +1,38 @@
 //! The steps of a pool.
 
-ghost use Rattle.std.specs.Prelude.{◌≡◌, OnOk, OnErr, IfOk, All, List};
+ghost use Rattle.std.specs.Prelude.{◌≡◌, ◌++◌, ◌∷◌, [], OnOk, OnErr, IfOk, All, List};
 
 use super::{Act, Entry, Log, PoolCore, Reply, Step};
 use mdb_base::{Items, OutOfMemory};
 use mdb_events::Fact;
 use std::alloc::{AllocError, Global};
+use std::mem;
+
+// One more entry, of a copy of the step.
+fn log_step(
+    log: &mut Log,
+    seat: u32,
+    step: &Step,
+    reply: Reply,
+    facts: Vec<Fact>,
+) -> Result<(), AllocError>
+    ensures entry { OnOk result (log.new ≡ log.old ++ record { seat = seat; step = step.now; reply = reply; facts = facts.items } ∷ []) }
+    ensures err { OnErr result (log.new ≡ log.old) }
+{
+    match step.clone() {
+        Ok(step) => log.push(Entry {
+            seat,
+            step,
+            reply,
+            facts: Items::new(facts),
+        }),
+        Err(e) => {
+            drop(reply);
+            drop(facts);
+            Err(e)
+        }
+    }
+}
 
 impl PoolCore {
     ghost use Rattle.mdb_pool.specs.Standing.{SameHome, StandsFor, Answers, Logs, IsPoolAct, Runs};
@@ -74,8 +101,26 @@ impl PoolCore {
         let mut made = Vec::new(alloc);
         let reply = worked.perform(alloc, &mut made, step)?;
         facts.append(&mut made)?;
-        *self = worked;
+        drop(mem::replace(self, worked));
         Ok(reply)
+    }
+
+    // Does what the step says, and logs it.
+    fn enter(
+        &mut self,
+        alloc: Global,
+        log: &mut Log,
+        seat: u32,
+        step: &Step,
+    ) -> Result<(), AllocError>
+        requires { IsPoolAct step.now.act }
+        ensures home { OnOk result (SameHome self.old self.new) }
+        ensures logs { OnOk result ((h : List Item) → StandsFor self.old h → Logs self.old self.new log.old log.new seat step.now h) }
+        ensures err { OnErr result (log.new ≡ log.old) }
+    {
+        let mut facts = Vec::new(alloc);
+        let reply = self.perform(alloc, &mut facts, step)?;
+        log_step(log, seat, step, reply, facts)
     }
 
     // The state after the step, whose entry is in the log.
@@ -92,16 +137,13 @@ impl PoolCore {
         ensures err { OnErr result (log.new ≡ log.old) }
     {
         let mut next = self.copy(alloc)?;
-        let mut facts = Vec::new(alloc);
-        let reply = next.perform(alloc, &mut facts, step)?;
-        let step = step.clone()?;
-        log.push(Entry {
-            seat,
-            step,
-            reply,
-            facts: Items::new(facts),
-        })?;
-        Ok(next)
+        match next.enter(alloc, log, seat, step) {
+            Ok(()) => Ok(next),
+            Err(e) => {
+                drop(next);
+                Err(e)
+            }
+        }
     }
 
     /// One step of the pool, on a copy that takes the state's place at its end.
@@ -119,7 +161,7 @@ impl PoolCore {
         ensures err_log { OnErr result (log.new ≡ log.old) }
     {
         let next = self.stepped(alloc, log, seat, step)?;
-        *self = next;
+        drop(mem::replace(self, next));
         Ok(())
     }
 

@@ -156,6 +156,8 @@ impl PoolCore {
             moment,
             act: Act::Take(party, self.pool, id),
         };
-        self.attempt(alloc, facts, &step)
+        let answer = self.attempt(alloc, facts, &step);
+        drop(step);
+        answer
     }
 }

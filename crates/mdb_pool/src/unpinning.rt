@@ -130,6 +130,8 @@ impl PoolCore {
             moment,
             act: Act::Unpin(self.pool, id),
         };
-        self.attempt(alloc, facts, &step)
+        let answer = self.attempt(alloc, facts, &step);
+        drop(step);
+        answer
     }
 }

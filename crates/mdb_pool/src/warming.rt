@@ -98,6 +98,8 @@ impl PoolCore {
             moment,
             act: Act::Warm(request, address),
         };
-        self.attempt(alloc, facts, &step)
+        let answer = self.attempt(alloc, facts, &step);
+        drop(step);
+        answer
     }
 }

@@ -92,7 +92,9 @@ pub(super) fn one_step<C: Core>(
         Err(word) => return Err(TryError::Busy(word, step)),
     };
     let raised = raise(step, core.last_moment());
-    match core.step(alloc, &mut log, number, &raised) {
+    let stepped = core.step(alloc, &mut log, number, &raised);
+    drop(raised);
+    match stepped {
         Ok(reply) => {
             finish(table, place, core, log, number);
             table.shared.wake_one(1);

@@ -6,4 +6,4 @@ use Rattle.mdb_pool.specs.Standing.{StandsFor, Answers}
 use Rattle.mdb_pool.proofs.pool_core.PoolCore.maintain.Goals as goal
 
 pub returns-clause-answers : goal.returns-clause-answers
-returns-clause-answers c = subst (λ a. IfOk c.attempt.result (λ reply. (h : List Item) → StandsFor c.args.self.now h → Answers c.args.self.now c.attempt.new.self c.args.facts.now.items c.attempt.new.facts.items (record { moment = c.args.moment; act = MaintainAct a }) reply h)) c.in_ok-address.ensures.cases c.attempt.ensures.answers
+returns-clause-answers c = subst (λ a. IfOk c.attempt-answer.result (λ reply. (h : List Item) → StandsFor c.args.self.now h → Answers c.args.self.now c.attempt-answer.new.self c.args.facts.now.items c.attempt-answer.new.facts.items (record { moment = c.args.moment; act = MaintainAct a }) reply h)) c.in_ok-address.ensures.cases c.attempt-answer.ensures.answers
