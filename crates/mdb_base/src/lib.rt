@@ -49,10 +49,3 @@ pub use tags::TagSet;
 pub use text::Text;
 pub use times::{ClusterTime, DateTime, Moment, Nanos};
 pub use topology_version::TopologyVersion;
-
-#[cfg(test)]
-mod acknowledgment_tests;
-#[cfg(test)]
-mod document_tests;
-#[cfg(test)]
-mod tests;

@@ -20,13 +20,9 @@ mod preparation;
 mod primary;
 mod same;
 mod selection;
-#[cfg(test)]
-mod sequences;
 mod server_info;
 mod servers;
 mod session_timeout;
-#[cfg(test)]
-mod tests;
 mod topology;
 mod update;
 

@@ -32,8 +32,3 @@ pub use sdam::{
     TopologyClosedEvent, TopologyDescriptionChangedEvent, TopologyOpeningEvent,
 };
 pub use sdam_text::write_sdam;
-
-#[cfg(test)]
-mod delivery_tests;
-#[cfg(test)]
-mod tests;

@@ -8,6 +8,3 @@ mod words;
 pub use script::make_script;
 pub use summary::{Kind, Summary};
 pub use words::{ToolCommand, read_words};
-
-#[cfg(test)]
-mod tests;

@@ -27,6 +27,3 @@ pub use link::{Link, run_hello};
 pub use memory_link::MemLink;
 pub use response::{HelloCommandResponse, HelloReply, LastWrite};
 pub use server_type::ServerType;
-
-#[cfg(test)]
-mod tests;

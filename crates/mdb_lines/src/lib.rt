@@ -32,6 +32,3 @@ pub use reading_loop::{MAX_INPUT, cut_line, read_all};
 pub use run_error::{RunError, Status, status_of};
 pub use status::{tell_error, tell_usage};
 pub use writing_loop::write_all;
-
-#[cfg(test)]
-mod tests;

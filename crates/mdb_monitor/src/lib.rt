@@ -20,6 +20,3 @@ pub use constants::{DEFAULT_HEARTBEAT_FREQUENCY, MIN_HEARTBEAT_FREQUENCY};
 pub use mode::{ServerMonitoringMode, allow_streaming};
 pub use monitor::MonitorCore;
 pub use rtt::RttInfo;
-
-#[cfg(test)]
-mod tests;

@@ -13,8 +13,6 @@ mod connection;
 mod driver;
 mod establishing;
 mod failing;
-#[cfg(test)]
-mod filling_tests;
 mod finding;
 mod generation;
 mod giving_up;
@@ -23,8 +21,6 @@ mod jobs;
 mod log;
 mod maintaining;
 mod options;
-#[cfg(test)]
-mod pin_tests;
 mod pinning;
 mod pool_core;
 mod pooled;
@@ -40,12 +36,8 @@ mod step;
 mod stepping;
 mod table;
 mod taking;
-#[cfg(test)]
-mod tests;
 mod unpinning;
 mod warming;
-#[cfg(test)]
-mod worked_row;
 
 pub use checked::{BeatenResult, HelloResult};
 pub use driver::Core;

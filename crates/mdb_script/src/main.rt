@@ -1,26 +1,14 @@
-//! Runs scripts of steps over connection pools. The real source and sinks stand here; all else is a call with a contract.
+//! Runs scripts of steps over connection pools: the real source and sinks of `run_tool`.
 #![tactic(auto)]
-
-#[cfg(test)]
-mod end_tests;
-mod made;
-#[cfg(test)]
-mod made_tests;
-#[cfg(test)]
-mod memory_runs;
-mod run;
-#[cfg(test)]
-mod script_tests;
-mod tool;
 
 use mdb_base::{Reading, Writing};
 use mdb_lines::{RunError, Status, status_of, tell_error};
+use mdb_runs::run_tool;
 use std::alloc::AllocError;
 use std::env;
 use std::io::ErrorKind;
 use std::process::ExitCode;
 use std::rt::Env;
-use tool::run_tool;
 
 // The words of the command line; where one of them is no text, a word that is no command.
 fn words<R: Env + AllocGlobal>(rt: &R) -> Result<Vec<String>, AllocError> {

@@ -26,6 +26,3 @@ pub use polling::{on_lookup, rescan_interval, select_hosts};
 pub use resolver::{LookupError, Resolver, SrvRecord, TxtRecord};
 pub use srv_resolver::SrvResolver;
 pub use topology_type::{TopologyType, should_poll};
-
-#[cfg(test)]
-mod tests;

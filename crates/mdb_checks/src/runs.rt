@@ -1,0 +1,157 @@
+//! Cases of mdb_runs: one run of the tool over memory.
+
+use crate::page::Page;
+use crate::words::{number, parted, small, value_of};
+use mdb_base::{MemSink, MemSource};
+use mdb_runs::run_tool;
+
+/// Puts the letters behind the text.
+pub fn add(page: &mut Page, text: &mut String, letters: &str) {
+    if text.push_str(letters).is_err() {
+        page.fail();
+    }
+}
+
+fn escaped(letter: char) -> char {
+    match letter {
+        'n' => '\n',
+        'r' => '\r',
+        _ => '?',
+    }
+}
+
+fn add_letter(page: &mut Page, text: &mut String, letter: char) {
+    if text.push(letter).is_err() {
+        page.fail();
+    }
+}
+
+// Puts the words behind the text, with `\n` and `\r` as the letters that they stand for.
+fn add_decoded(page: &mut Page, text: &mut String, words: &str) {
+    let mut is_escape = false;
+    for letter in words.chars() {
+        if is_escape {
+            is_escape = false;
+            add_letter(page, text, escaped(letter));
+        } else if letter == '\\' {
+            is_escape = true;
+        } else {
+            add_letter(page, text, letter);
+        }
+    }
+}
+
+// Puts the text behind the script, as often as the number before it says.
+fn fill(page: &mut Page, script: &mut String, filled: &str) {
+    let (times, words) = parted(filled);
+    let mut text = page.string("");
+    add_decoded(page, &mut text, words);
+    for _ in 0..number(times) {
+        add(page, script, text.as_str());
+    }
+}
+
+fn script(page: &mut Page, words: &str) -> String {
+    let (front, rest) = words.split_once(" filled=").unwrap_or((words, ""));
+    let mut script = page.string("");
+    add_decoded(page, &mut script, front);
+    for filled in rest.split(" filled=") {
+        fill(page, &mut script, filled);
+    }
+    script
+}
+
+// What the words say of a name, and what is usual where they say nothing.
+fn limit(words: &str, name: &str, usual: usize) -> usize {
+    match value_of(words, name) {
+        "" => usual,
+        word => small(word) as usize,
+    }
+}
+
+fn source(page: &mut Page, words: &str, script: &str) -> MemSource {
+    let piece = limit(words, "reads", 1000).max(1);
+    let fails = page.numbers(value_of(words, "unread"));
+    MemSource::new(page.bytes(script), piece, fails)
+}
+
+// One piece, and how often it stands.
+fn put_piece(page: &mut Page, piece: &str, times: u64) {
+    if times > 1 {
+        page.put(" ");
+        page.show(&times);
+    }
+    if times > 0 {
+        page.put(" ");
+        page.debug(&piece);
+    }
+}
+
+/// The lines of the bytes with their newlines, each once, with the number of times that it stands there in turn.
+pub fn put_lines(page: &mut Page, bytes: &[u8]) {
+    let text = str::from_utf8(bytes).unwrap_or("malformed");
+    let mut last = page.string("");
+    let mut times = 0u64;
+    for line in text.split_inclusive('\n') {
+        if line != last.as_str() {
+            put_piece(page, last.as_str(), times);
+            last = page.string(line);
+            times = 0;
+        }
+        times = times.saturating_add(1);
+    }
+    put_piece(page, last.as_str(), times);
+}
+
+fn command_line<'a>(page: &mut Page, words: &'a str) -> Vec<&'a str> {
+    let mut list = Vec::new(page.alloc);
+    for word in value_of(words, "words").split(',') {
+        if !word.is_empty() {
+            page.keep(&mut list, word);
+        }
+    }
+    list
+}
+
+fn run(
+    page: &mut Page,
+    words: &str,
+    source: &mut MemSource,
+    sink: &mut MemSink,
+    errors: &mut MemSink,
+) {
+    let list = command_line(page, words);
+    let status = run_tool(page.alloc, list.as_slice(), source, sink, errors);
+    page.show(&status);
+    put_lines(page, sink.taken());
+    page.put(";");
+    put_lines(page, errors.taken());
+}
+
+fn run_telling(page: &mut Page, words: &str, source: &mut MemSource, sink: &mut MemSink) {
+    match MemSink::new(page.alloc, 100, 100, Vec::new(page.alloc)) {
+        Ok(mut errors) => run(page, words, source, sink, &mut errors),
+        Err(_) => page.fail(),
+    }
+}
+
+fn run_writing(page: &mut Page, words: &str, source: &mut MemSource) {
+    let room = limit(words, "room", 10_000);
+    let piece = limit(words, "writes", 1000);
+    let fails = page.numbers(value_of(words, "unwritten"));
+    match MemSink::new(page.alloc, room, piece, fails) {
+        Ok(mut sink) => run_telling(page, words, source, &mut sink),
+        Err(_) => page.fail(),
+    }
+}
+
+/// `run words=make,1 reads=10 unread=2 room=10 writes=10 unwritten=2 script=TEXT filled=3 TEXT`: a run of the tool with
+/// these words on its command line, where the source gives and the sink takes so many bytes at once, these calls of them
+/// fail, and the second text stands three times behind the first one (`filled` may stand more than once). The answer is the status, the lines that were
+/// written, and behind `;` what was told of an error.
+pub fn tell(page: &mut Page, given: &str) {
+    let (words, text) = given.split_once("script=").unwrap_or((given, ""));
+    let script = script(page, text);
+    let mut source = source(page, words, script.as_str());
+    run_writing(page, words, &mut source);
+}

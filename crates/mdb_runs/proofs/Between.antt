@@ -1,0 +1,154 @@
+-- A run, line by line.
+use Rattle.std.proofs.Common.{◌≡◌, ℕ, suc, ◌+◌, ◌<◌, ◌≤◌, true, List, [], ◌∷◌, ◌++◌, length, take, map, codes, Option, Ok, Err, refl, sym, ap, ◌∙◌, arith, append_assoc, inl, inr, subst, length-append}
+use Rattle.std.proofs.lemmas.List.{append-nil, append_cancel_right}
+use Rattle.std.proofs.lemmas.List.Elements.{All-nil, All-push}
+use Rattle.std.proofs.Math.Seq.{take-append-add, take-length}
+use Rattle.mdb_base.specs.Outside.{Rose, Held, Took}
+use Rattle.mdb_pool.specs.declared.step.Step.{Step}
+use Rattle.mdb_pool.specs.declared.log.Entry.{Entry}
+use Rattle.mdb_lines.specs.declared.run_error.RunError.{RunError}
+use Rattle.mdb_lines.specs.declared.run_error.RunError.TheVariants as errors
+use Rattle.mdb_lines.specs.Spelling.{spelling}
+use Rattle.mdb_lines.specs.LogText.{text_of_entry, text_of}
+use Rattle.mdb_lines.specs.Script.{Spells, lines_of, line_of, AreAllowed, max_input}
+use Rattle.mdb_base.specs.AddressReading.{beyond}
+use Rattle.mdb_lines.specs.Loops.{ReadsAll, ReadEnds}
+use Rattle.mdb_lines.proofs.Loops.{took_nothing, took_more, took_no_more, line_not_last}
+use Rattle.mdb_world.specs.Lines.{is_later, may_come, entry_after, log_of, log_after, steps_of, IsLegalLog}
+use Rattle.mdb_runs.specs.Runs.{IsWithin, Begins, IsNextLine, IsBad, LineRuns, Ran, RunEnds, Seen, Ended}
+
+-- what holds between two lines
+pub record Between (input rest : List ℕ) (n : ℕ) (entries : List Entry) (held new_held : Option Held) (faults new_faults : ℕ) : Type 0 where
+  pub begins : Begins input (steps_of entries) (lines_of rest)
+  pub answers : entries ≡ log_of (steps_of entries)
+  pub number : n ≡ 1 + length entries
+  pub room : n + length rest ≤ 1 + max_input
+  pub taken : Took held new_held (text_of entries)
+  pub same : new_faults ≡ faults
+
+steps_push : (log : List Entry) (e : Entry) → steps_of (log ++ e ∷ []) ≡ steps_of log ++ e.step ∷ []
+steps_push [] e = refl
+steps_push (f ∷ log) e = ap (λ (ss : List Step). f.step ∷ ss) (steps_push log e)
+
+log_push : (log : List Entry) (ss : List Step) (s : Step) → log_after log (ss ++ s ∷ []) ≡ log_after log ss ++ entry_after (log_after log ss) s ∷ []
+log_push log [] s = refl
+log_push log (t ∷ ss) s = log_push (log ++ entry_after log t ∷ []) ss s
+
+text_push : (log : List Entry) (e : Entry) → text_of (log ++ e ∷ []) ≡ text_of log ++ text_of_entry e
+text_push [] e = append-nil (text_of_entry e)
+text_push (f ∷ log) e = ap (λ (xs : List ℕ). text_of_entry f ++ xs) (text_push log e) ∙ sym (append_assoc (text_of_entry f) (text_of log) (text_of_entry e))
+
+lines_push : (ss : List Step) (s : Step) → map line_of (ss ++ s ∷ []) ≡ map line_of ss ++ line_of s ∷ []
+lines_push [] s = refl
+lines_push (t ∷ ss) s = ap (λ (ls : List (List ℕ)). line_of t ∷ ls) (lines_push ss s)
+
+allowed_push : (n : ℕ) (ss : List Step) (s : Step) → AreAllowed n ss → Spells (n + length ss) (spelling s) s → AreAllowed n (ss ++ s ∷ [])
+allowed_push n [] s h t = (subst (λ (k : ℕ). Spells k (spelling s) s) (omega arith) t, tt)
+allowed_push n (u ∷ ss) s h t = (h.0, allowed_push (n + 1) ss s h.1 (subst (λ (k : ℕ). Spells k (spelling s) s) (omega arith) t))
+
+within_push : (ss : List Step) (s : Step) → IsWithin ss → may_come ss s ≡ true → IsWithin (ss ++ s ∷ [])
+within_push [] s w m = (m, All-nil (λ (t : Step). is_later t.act ≡ true))
+within_push (u ∷ ss) s w m = (w.0, All-push (λ (t : Step). is_later t.act ≡ true) ss s w.1 m)
+
+length_steps : (log : List Entry) → length (steps_of log) ≡ length log
+length_steps [] = refl
+length_steps (e ∷ log) = ap suc (length_steps log)
+
+pub starts : (input : List ℕ) (held : Option Held) (faults : ℕ) → length input ≤ max_input → Between input input 1 [] held held faults faults
+starts input held faults fits = record {
+  begins = record { cut = refl; allowed = tt; within = tt };
+  answers = refl;
+  number = refl;
+  room = omega arith;
+  taken = took_nothing held;
+  same = refl;
+}
+
+begins_more : (input rest line behind : List ℕ) (n : ℕ) (log : List Entry) (held mid : Option Held) (faults old_faults : ℕ) (step : Step)
+    → lines_of rest ≡ (line ++ codes "\n") ∷ lines_of behind → Between input rest n log held mid faults old_faults → IsNextLine n (steps_of log) line step → Begins input (steps_of log ++ step ∷ []) (lines_of behind)
+begins_more input rest line behind n log held mid faults old_faults step cut s (spells, may) =
+    let whole : line ++ codes "\n" ≡ line_of step = ap (λ (xs : List ℕ). xs ++ codes "\n") spells.text in
+    let spelled : Spells n (spelling step) step = subst (λ (xs : List ℕ). Spells n xs step) spells.text spells in
+    let at : n ≡ 1 + length (steps_of log) = rw (length_steps log) s.number in
+    record {
+      cut = s.begins.cut ∙ rw (cut, lines_push (steps_of log) step, whole, append_assoc (map line_of (steps_of log)) (line_of step ∷ []) (lines_of behind)) refl;
+      allowed = allowed_push 1 (steps_of log) step s.begins.allowed (subst (λ (k : ℕ). Spells k (spelling step) step) at spelled);
+      within = within_push (steps_of log) step s.begins.within may;
+    }
+
+-- the line that is next is done
+pub goes_on : (input rest line behind : List ℕ) (n : ℕ) (log new_log : List Entry) (held mid new_held : Option Held) (faults old_faults new_faults : ℕ) (u : Unit {0})
+    → lines_of rest ≡ (line ++ codes "\n") ∷ lines_of behind → length behind < length rest
+    → Between input rest n log held mid faults old_faults → LineRuns n line log new_log mid new_held old_faults new_faults (Ok u)
+    → Between input behind (n + 1) new_log held new_held faults new_faults
+goes_on input rest line behind n log new_log held mid new_held faults old_faults new_faults u cut shorter s (step, next, added, taken, same) =
+    let e = entry_after log step in
+    let steps : steps_of new_log ≡ steps_of log ++ step ∷ [] = rw added (steps_push log e) in
+    record {
+      begins = rw steps (begins_more input rest line behind n log held mid faults old_faults step cut s next);
+      answers = rw (steps, log_push [] (steps_of log) step, ← s.answers) added;
+      number = rw (added, length-append log (e ∷ [])) (omega (arith, s.number));
+      room = omega (arith, s.room, shorter);
+      taken = rw (added, text_push log e) (took_more held mid new_held (text_of log) (text_of_entry e) s.taken taken);
+      same = same ∙ s.same;
+    }
+
+pub done : (input : List ℕ) (n : ℕ) (log : List Entry) (held new_held : Option Held) (faults new_faults : ℕ) (rest : List ℕ) → length rest ≡ 0
+    → Between input rest n log held new_held faults new_faults → IsLegalLog log → Ran input log held new_held faults new_faults
+unfolding lines_of
+done input n log held new_held faults new_faults [] none s legal = record { begins = s.begins; answers = s.answers; legal = legal; taken = s.taken; same = s.same }
+done input n log held new_held faults new_faults (b ∷ bs) none s legal = absurd (omega arith)
+
+-- the line that is next ends the run
+pub line_ends : (input rest line behind : List ℕ) (n : ℕ) (log new_log : List Entry) (held mid new_held : Option Held) (faults old_faults new_faults : ℕ) (e : RunError)
+    → lines_of rest ≡ (line ++ codes "\n") ∷ lines_of behind
+    → Between input rest n log held mid faults old_faults → LineRuns n line log new_log mid new_held old_faults new_faults (Err e)
+    → RunEnds input held new_held faults new_faults e
+line_ends input rest line behind n log new_log held mid new_held faults old_faults new_faults errors.OutOfMemory cut s (taken, same) =
+    (steps_of log, lines_of rest, s.begins, rw (← s.answers) (took_no_more held mid new_held (text_of log) s.taken taken), same ∙ s.same)
+line_ends input rest line behind n log new_log held mid new_held faults old_faults new_faults errors.ReadFault cut s h = h
+line_ends input rest line behind n log new_log held mid new_held faults old_faults new_faults errors.WriteFault cut s (step, next, (k, front), rose) =
+    let e = entry_after log step in
+    let log_is : log_of (steps_of log ++ step ∷ []) ≡ log ++ e ∷ [] = rw (log_push [] (steps_of log) step, ← s.answers) refl in
+    let text : take (length (text_of log) + k) (text_of (log ++ e ∷ [])) ≡ text_of log ++ take k (text_of_entry e) = rw (text_push log e, take-append-add (text_of log) (text_of_entry e) k) refl in
+    let took : Took held new_held (take (length (text_of log) + k) (text_of (log ++ e ∷ []))) = rw text (took_more held mid new_held (text_of log) (take k (text_of_entry e)) s.taken front) in
+    (steps_of log ++ step ∷ [], lines_of behind, begins_more input rest line behind n log held mid faults old_faults step cut s next, (length (text_of log) + k, rw log_is took), subst (λ (f : ℕ). Rose f new_faults) s.same rose)
+line_ends input rest line behind n log new_log held mid new_held faults old_faults new_faults (errors.Malformed m) cut s (at, never, taken, same) =
+    let begins : Begins input (steps_of log) ((line ++ codes "\n") ∷ lines_of behind) = rw (← cut) s.begins in
+    (steps_of log, line ++ codes "\n", lines_of behind, begins, at ∙ s.number ∙ ap (λ (k : ℕ). 1 + k) (sym (length_steps log)), bad, rw (← s.answers) (took_no_more held mid new_held (text_of log) s.taken taken), same ∙ s.same)
+  where
+    bad : IsBad m (steps_of log) (line ++ codes "\n")
+    bad t (sp, may) eq =
+        let w : line ≡ spelling t = append_cancel_right line (spelling t) (codes "\n") eq in
+        never t (subst (λ (xs : List ℕ). Spells n xs t) (sym w) (subst (λ (k : ℕ). Spells k (spelling t) t) at sp), may)
+line_ends input rest line behind n log new_log held mid new_held faults old_faults new_faults errors.TooLong cut s h = h
+
+-- bytes without a newline end the run
+pub last_ends : (input rest : List ℕ) (n : ℕ) (log : List Entry) (held new_held : Option Held) (faults new_faults : ℕ) → (lines_of rest ≡ rest ∷ []) × (beyond 10 rest ≡ [])
+    → Between input rest n log held new_held faults new_faults → RunEnds input held new_held faults new_faults (errors.Malformed n)
+last_ends input rest n log held new_held faults new_faults cut s =
+    let begins : Begins input (steps_of log) (rest ∷ []) = rw (← cut.0) s.begins in
+    (steps_of log, rest, [], begins, s.number ∙ ap (λ (k : ℕ). 1 + k) (sym (length_steps log)), λ t sp eq. line_not_last (spelling t) (rw eq at cut.1), rw (← s.answers) s.taken, s.same)
+
+-- whole runs
+
+pub flush_fails : (old new : Seen) (input : List ℕ) (log : List Entry) (mid : Option Held) (count : ℕ) → ReadsAll old.left new.left old.reads new.reads input
+    → Ran input log old.held mid old.writes count → Took mid new.held [] → Rose count new.writes → Ended old new errors.WriteFault
+flush_fails old new input log mid count read ran took rose =
+    let text = text_of log in
+    let all : Took old.held new.held (take (length text) text) = rw (take-length text) (took_no_more old.held mid new.held text ran.taken took) in
+    (input, read, (steps_of log, [], ran.begins, (length text, rw (← ran.answers) all), subst (λ (f : ℕ). Rose f new.writes) ran.same rose))
+
+pub read_ends : (old new : Seen) (e : RunError) → new.held ≡ old.held → new.writes ≡ old.writes → ReadEnds old.left new.left old.reads new.reads e → Ended old new e
+read_ends old new errors.OutOfMemory held writes h = (h, writes, inl (rw held (took_nothing old.held)))
+read_ends old new errors.ReadFault held writes h = (h, writes, rw held (took_nothing old.held))
+read_ends old new errors.WriteFault held writes h = absurd h
+read_ends old new (errors.Malformed n) held writes h = absurd h
+read_ends old new errors.TooLong held writes (bytes, consumed, long, same) = (same, writes, rw held (took_nothing old.held), (bytes, consumed, long))
+
+pub lines_end : (old new : Seen) (input : List ℕ) (e : RunError) → ReadsAll old.left new.left old.reads new.reads input → RunEnds input old.held new.held old.writes new.writes e → Ended old new e
+lines_end old new input errors.OutOfMemory read h = (read.same, h.4, inr (input, read, h))
+lines_end old new input errors.ReadFault read h = absurd h
+lines_end old new input errors.WriteFault read h = (input, read, h)
+lines_end old new input (errors.Malformed n) read h = (input, read, h)
+lines_end old new input errors.TooLong read h = absurd h

@@ -1,0 +1,80 @@
+-- A script is run to its end, unless memory runs out or a call of the outside fails.
+use Rattle.std.proofs.Common.{◌≡◌, ℕ, ◌+◌, ◌≤◌, true, List, [], ◌∷◌, ◌++◌, length, map, All, Option, Some, None, Result, Ok, Err, MatchResult, IfOk, IfErr, refl, sym, ap, ◌∙◌, arith, subst, length-append}
+use Rattle.std.proofs.lemmas.List.{append-nil}
+use Rattle.std.proofs.lemmas.List.Elements.{All-head, All-tail}
+use Rattle.std.specs.Io.KnownBytes.{Consumes, IsAtEnd}
+use Rattle.mdb_base.specs.Outside.{Rose}
+use Rattle.mdb_pool.specs.declared.step.Step.{Step}
+use Rattle.mdb_pool.specs.declared.log.Entry.{Entry}
+use Rattle.mdb_lines.specs.declared.run_error.RunError.{RunError}
+use Rattle.mdb_lines.specs.declared.run_error.RunError.TheVariants as errors
+use Rattle.mdb_lines.specs.Spelling.{spelling}
+use Rattle.mdb_lines.specs.Script.{Spells, lines_of, line_of, max_input, AreAllowed}
+use Rattle.mdb_lines.proofs.Lines.{line_same}
+use Rattle.mdb_world.specs.Lines.{is_later, steps_of}
+use Rattle.mdb_runs.specs.Runs.{IsWithin, IsBad, IsScript, Seen, Finished, Ended}
+
+some_same : {A : Type 0} (a b : A) → Some a ≡ Some b → a ≡ b
+some_same a b h = cc
+
+cons_head : {A : Type 0} (x y : A) (xs ys : List A) → x ∷ xs ≡ y ∷ ys → x ≡ y
+cons_head x y xs ys h = cc
+
+cons_tail : {A : Type 0} (x y : A) (xs ys : List A) → x ∷ xs ≡ y ∷ ys → xs ≡ ys
+cons_tail x y xs ys h = cc
+
+all_same : (n : ℕ) (ss ts : List Step) → AreAllowed n ss → AreAllowed n ts → map line_of ss ≡ map line_of ts → ss ≡ ts
+all_same n [] [] hs ht e = refl
+all_same n [] (t ∷ ts) hs ht e = absurd (cc)
+all_same n (s ∷ ss) [] hs ht e = absurd (cc)
+all_same n (s ∷ ss) (t ∷ ts) hs ht e =
+    let first = line_same n s t hs.0 ht.0 (cons_head (line_of s) (line_of t) (map line_of ss) (map line_of ts) e) in
+    let others = all_same (n + 1) ss ts hs.1 ht.1 (cons_tail (line_of s) (line_of t) (map line_of ss) (map line_of ts) e) in
+    cc
+
+-- the line behind the first lines of a script is one that may come after its first step
+next_spelled : (P : Step → Type 0) (n : ℕ) (done ss : List Step) (bad : List ℕ) (more : List (List ℕ)) → map line_of done ++ bad ∷ more ≡ map line_of ss → AreAllowed n ss → All P ss
+    → (s : Step) × Spells (n + length done) (spelling s) s × P s × (bad ≡ line_of s)
+next_spelled P n [] [] bad more e allowed all = absurd (cc)
+next_spelled P n [] (s ∷ ss) bad more e allowed all = (s, subst (λ (k : ℕ). Spells k (spelling s) s) (omega arith) allowed.0, All-head P s ss all, cons_head bad (line_of s) more (map line_of ss) e)
+next_spelled P n (t ∷ done) [] bad more e allowed all = absurd (cc)
+next_spelled P n (t ∷ done) (s ∷ ss) bad more e allowed all =
+    let rest = next_spelled P (n + 1) done ss bad more (cons_tail (line_of t) (line_of s) (map line_of done ++ bad ∷ more) (map line_of ss) e) allowed.1 (All-tail P s ss all) in
+    (rest.0, subst (λ (k : ℕ). Spells k (spelling rest.0) rest.0) (omega arith) rest.1, rest.2, rest.3)
+
+bad_not : (done ss : List Step) (bad : List ℕ) (more : List (List ℕ)) → map line_of done ++ bad ∷ more ≡ map line_of ss → AreAllowed 1 done → AreAllowed 1 ss → IsWithin ss → IsBad (1 + length done) done bad → ⊥
+bad_not [] [] bad more e before allowed within never = cc
+bad_not [] (s ∷ ss) bad more e before allowed within never = never s (allowed.0, within.0) (cons_head bad (line_of s) more (map line_of ss) e)
+bad_not (t ∷ done) [] bad more e before allowed within never = cc
+bad_not (t ∷ done) (s ∷ ss) bad more e before allowed within never =
+    let first : t ≡ s = line_same 1 t s before.0 allowed.0 (cons_head (line_of t) (line_of s) (map line_of done ++ bad ∷ more) (map line_of ss) e) in
+    let next = next_spelled (λ (u : Step). is_later u.act ≡ true) 2 done ss bad more (cons_tail (line_of t) (line_of s) (map line_of done ++ bad ∷ more) (map line_of ss) e) allowed.1 within.1 in
+    let spelled : Spells (1 + length (t ∷ done)) (spelling next.0) next.0 = subst (λ (k : ℕ). Spells k (spelling next.0) next.0) (omega arith) next.1 in
+    never next.0 (spelled, next.2) next.3
+
+told : (left new : Option (List ℕ)) (input found : List ℕ) → left ≡ Some input → Consumes left new found → IsAtEnd new → found ≡ input
+told None new input found e h ends = absurd (cc)
+told (Some xs) None input found e h ends = absurd h
+told (Some xs) (Some ys) input found e h ends = let all : xs ≡ found = h ∙ rw ends (append-nil found) in let same = some_same xs input e in sym all ∙ same
+
+no_longer : (left new : Option (List ℕ)) (input found : List ℕ) → left ≡ Some input → Consumes left new found → length found ≤ length input
+no_longer None new input found e h = absurd (cc)
+no_longer (Some xs) None input found e h = absurd h
+no_longer (Some xs) (Some ys) input found e h = let same = some_same xs input e in let size : length input ≡ length (found ++ ys) = ap length (sym same ∙ h) in omega (arith, size, length-append found ys)
+
+pub completes : (old new : Seen) (r : Result (List Entry) RunError) (input : List ℕ) (steps : List Step) → old.left ≡ Some input → length input ≤ max_input → IsScript input steps
+    → (Rose old.reads new.reads → ⊥) → (Rose old.writes new.writes → ⊥) → IfOk r (Finished old new) → IfErr r (Ended old new) → MatchResult r (λ log. steps_of log ≡ steps) (λ e. e ≡ errors.OutOfMemory)
+completes old new (Ok log) input steps left short script read write finished ended =
+    let same = told old.left new.left input finished.input left finished.read.consumed finished.read.ended in
+    let cut : map line_of (steps_of log) ≡ map line_of steps = sym (append-nil (map line_of (steps_of log))) ∙ sym finished.ran.begins.cut ∙ ap lines_of same ∙ script.lines in
+    all_same 1 (steps_of log) steps finished.ran.begins.allowed script.allowed cut
+completes old new (Err errors.OutOfMemory) input steps left short script read write finished ended = refl
+completes old new (Err errors.ReadFault) input steps left short script read write finished ended = absurd (read ended.0)
+completes old new (Err errors.WriteFault) input steps left short script read write finished (found, all, (done, more, begins, front, rose)) = absurd (write rose)
+completes old new (Err (errors.Malformed n)) input steps left short script read write finished (found, all, (done, bad, more, begins, at, never, took, same)) =
+    let whole = told old.left new.left input found left all.consumed all.ended in
+    let cut : map line_of done ++ bad ∷ more ≡ map line_of steps = sym begins.cut ∙ ap lines_of whole ∙ script.lines in
+    absurd (bad_not done steps bad more cut begins.allowed script.allowed script.within (subst (λ (k : ℕ). IsBad k done bad) at never))
+completes old new (Err errors.TooLong) input steps left short script read write finished (reads, writes, took, (bytes, consumed, long)) =
+    let le = no_longer old.left new.left input bytes left consumed in
+    absurd (omega arith)

@@ -1,0 +1,142 @@
+//! Runs of a script.
+
+ghost use Rattle.std.specs.Prelude.{◌≡◌, ◌+◌, ◌≤◌, [], ◌∷◌, ◌++◌, ℕ, List, IfOk, IfErr, MatchResult, length, Some};
+ghost use Rattle.mdb_pool.specs.declared.step.Step.{Step};
+ghost use Rattle.mdb_base.specs.Outside.{Rose};
+ghost use Rattle.mdb_lines.specs.declared.run_error.RunError.TheVariants.{OutOfMemory as NoMemory};
+ghost use Rattle.mdb_world.specs.Lines.{steps_of};
+ghost use Rattle.mdb_world.specs.Standing.{Stands, IsTaken};
+ghost use Rattle.mdb_runs.specs.Runs.{StepRuns, LineRuns, Ran, RunEnds, Finished, Ended, IsScript};
+
+use mdb_base::{Sink, Source};
+use mdb_lines::{
+    LineError, MAX_INPUT, RunError, cut_line, read_all, read_line, write_all, write_entry,
+};
+use mdb_pool::{Log, Step};
+use mdb_world::World;
+use std::alloc::Global;
+
+// Adds the entry of one step, and writes its text.
+fn one_step<K: Sink>(
+    alloc: Global,
+    step: &Step,
+    world: &mut World,
+    log: &mut Log,
+    sink: &mut K,
+) -> Result<(), RunError>
+    requires stands { Stands world.old log.old }
+    requires taken { IsTaken log.old step.now }
+    ensures stands { Stands world.new log.new }
+    ensures runs { StepRuns step.now log.old log.new (K.held sink.old) (K.held sink.new) (K.faults sink.old) (K.faults sink.new) result }
+{
+    world.step(alloc, log, step)?;
+    let mut text = Vec::new(alloc);
+    match log.entries().last() {
+        Some(entry) => write_entry(alloc, entry, &mut text)?,
+        None => {}
+    }
+    match write_all(sink, text.as_slice()) {
+        Ok(()) => Ok(()),
+        Err(_) => Err(RunError::WriteFault),
+    }
+}
+
+// Adds the entry of one line, and writes its text.
+fn one_line<K: Sink>(
+    alloc: Global,
+    line: &[u8],
+    number: u32,
+    world: &mut World,
+    log: &mut Log,
+    sink: &mut K,
+) -> Result<(), RunError>
+    requires stands { Stands world.old log.old }
+    requires number { number ≡ 1 + length log.old }
+    ensures stands { Stands world.new log.new }
+    ensures runs { LineRuns number line.now log.old log.new (K.held sink.old) (K.held sink.new) (K.faults sink.old) (K.faults sink.new) result }
+{
+    let step = match read_line(alloc, line, number) {
+        Ok(step) => step,
+        Err(LineError::Bad) => return Err(RunError::Malformed(number)),
+        Err(LineError::OutOfMemory) => return Err(RunError::OutOfMemory),
+    };
+    if !world.may_come(&step) {
+        drop(step);
+        return Err(RunError::Malformed(number));
+    }
+    let answer = one_step(alloc, &step, world, log, sink);
+    drop(step);
+    answer
+}
+
+// Runs the lines of an input.
+fn run_lines<K: Sink>(alloc: Global, input: &[u8], sink: &mut K) -> Result<Log, RunError>
+    requires { length input.now ≤ MAX_INPUT }
+    ensures ran { IfOk result (λ log. Ran input.now log (K.held sink.old) (K.held sink.new) (K.faults sink.old) (K.faults sink.new)) }
+    ensures ends { IfErr result (RunEnds input.now (K.held sink.old) (K.held sink.new) (K.faults sink.old) (K.faults sink.new)) }
+{
+    let mut log = Log::new(alloc);
+    let mut world = World::new();
+    let mut rest = input;
+    let mut number = 1u32;
+    while !rest.is_empty() {
+        match cut_line(rest) {
+            None => return Err(RunError::Malformed(number)),
+            Some((line, behind)) => {
+                match one_line(alloc, line, number, &mut world, &mut log, sink) {
+                    Ok(()) => {}
+                    Err(e) => return Err(e),
+                }
+                rest = behind;
+                number += 1;
+            }
+        }
+    }
+    Ok(log)
+}
+
+fn run<S: Source, K: Sink>(alloc: Global, source: &mut S, sink: &mut K) -> Result<Log, RunError>
+    ensures finished { IfOk result (Finished
+        (record { left = S.left source.old; reads = S.faults source.old; held = K.held sink.old; writes = K.faults sink.old })
+        (record { left = S.left source.new; reads = S.faults source.new; held = K.held sink.new; writes = K.faults sink.new })) }
+    ensures ended { IfErr result (Ended
+        (record { left = S.left source.old; reads = S.faults source.old; held = K.held sink.old; writes = K.faults sink.old })
+        (record { left = S.left source.new; reads = S.faults source.new; held = K.held sink.new; writes = K.faults sink.new })) }
+{
+    let input = match read_all(alloc, source) {
+        Ok(input) => input,
+        Err(e) => return Err(e),
+    };
+    let log = match run_lines(alloc, input.as_slice(), sink) {
+        Ok(log) => log,
+        Err(e) => return Err(e),
+    };
+    match sink.flush() {
+        Ok(()) => Ok(log),
+        Err(_) => Err(RunError::WriteFault),
+    }
+}
+
+/// Reads a whole script, answers its lines one by one on seat 0, and writes the text of each entry. It flushes at the end.
+///
+/// `Ok` carries the log. `ReadFault` and `WriteFault` come only where the source or the sink failed in this call,
+/// `Malformed(n)` where line n, counted from 1, is the first that spells no step, and `TooLong` past 131,072 bytes.
+pub fn run_script<S: Source, K: Sink>(
+    alloc: Global,
+    source: &mut S,
+    sink: &mut K,
+) -> Result<Log, RunError>
+    ensures finished { IfOk result (Finished
+        (record { left = S.left source.old; reads = S.faults source.old; held = K.held sink.old; writes = K.faults sink.old })
+        (record { left = S.left source.new; reads = S.faults source.new; held = K.held sink.new; writes = K.faults sink.new })) }
+    ensures ended { IfErr result (Ended
+        (record { left = S.left source.old; reads = S.faults source.old; held = K.held sink.old; writes = K.faults sink.old })
+        (record { left = S.left source.new; reads = S.faults source.new; held = K.held sink.new; writes = K.faults sink.new })) }
+
+    // A script is run to its end where nothing fails, unless memory runs out.
+    ensures complete { (input : List ℕ) (steps : List Step) → S.left source.old ≡ Some input → length input ≤ MAX_INPUT → IsScript input steps
+        → ¬ (Rose (S.faults source.old) (S.faults source.new)) → ¬ (Rose (K.faults sink.old) (K.faults sink.new))
+        → MatchResult result (λ log. steps_of log ≡ steps) (λ e. e ≡ NoMemory) }
+{
+    run(alloc, source, sink)
+}

@@ -1,0 +1,62 @@
+//! The tool: its words, its statuses, and what it says of an error.
+
+ghost use Rattle.std.specs.Prelude.{◌≡◌, map};
+ghost use Rattle.mdb_lines.specs.Status.{Tells, message, status};
+ghost use Rattle.mdb_runs.specs.Tool.{ToolEnds, usage};
+
+use crate::made::run_made;
+use crate::run::run_script;
+use mdb_base::{Sink, Source};
+use mdb_generator::{ToolCommand, read_words};
+use mdb_lines::{RunError, Status, status_of, tell_error, tell_usage};
+use std::alloc::Global;
+
+const USAGE: &str = "usage: mdb_script [make N | share K]\n";
+
+// Says why a run ended before its end, and answers its status.
+fn ended<E: Sink>(errors: &mut E, e: RunError) -> Status
+    ensures status { result ≡ status e }
+    ensures told { Tells (record { held = E.held errors.old; faults = E.faults errors.old }) (record { held = E.held errors.new; faults = E.faults errors.new }) (message e) }
+{
+    tell_error(errors, e);
+    status_of(e)
+}
+
+// Says how the tool is used, and answers the status of a usage.
+fn refused<E: Sink>(errors: &mut E) -> Status
+    ensures status { result ≡ 2 }
+    ensures told { Tells (record { held = E.held errors.old; faults = E.faults errors.old }) (record { held = E.held errors.new; faults = E.faults errors.new }) usage }
+{
+    tell_usage(errors, USAGE);
+    2
+}
+
+/// Runs the script on `source` where there are no words, and the generated script of n rounds at the words `make n`, of
+/// which it writes the summary; it answers the status: 0 where the script ran to its end, 1 for want of memory, 3 and 4 for
+/// a fault of source or sink, 5 for a malformed line, 6 for an input that is too long. All other words are a usage,
+/// status 2, at which nothing is read or written. What ended the run goes to `errors`.
+pub fn run_tool<S: Source, K: Sink, E: Sink>(
+    alloc: Global,
+    words: &[&str],
+    source: &mut S,
+    sink: &mut K,
+    errors: &mut E,
+) -> Status
+    ensures { ToolEnds (map (λ w. w.now) words.now)
+        (record { left = S.left source.old; reads = S.faults source.old; held = K.held sink.old; writes = K.faults sink.old })
+        (record { left = S.left source.new; reads = S.faults source.new; held = K.held sink.new; writes = K.faults sink.new })
+        (record { held = E.held errors.old; faults = E.faults errors.old }) (record { held = E.held errors.new; faults = E.faults errors.new }) result }
+{
+    match read_words(words) {
+        ToolCommand::Script => match run_script(alloc, source, sink) {
+            Ok(_log) => 0,
+            Err(e) => ended(errors, e),
+        },
+        ToolCommand::Make(n) => match run_made(alloc, n, sink) {
+            Ok(()) => 0,
+            Err(e) => ended(errors, e),
+        },
+        ToolCommand::Share(_) => refused(errors),
+        ToolCommand::Usage => refused(errors),
+    }
+}

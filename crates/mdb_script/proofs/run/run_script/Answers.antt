@@ -1,9 +1,0 @@
-use Rattle.mdb_script.specs.Runs.{Seen}
-use Rattle.mdb_script.proofs.Complete.{completes}
-use Rattle.mdb_script.proofs.run.run_script.Goals as goal
-
-pub returns-clause-complete : goal.returns-clause-complete
-returns-clause-complete g c =
-    let old : Seen = record { left = g.S.Source.left c.args.source.now; reads = g.S.Source.faults c.args.source.now; held = g.K.Sink.held c.args.sink.now; writes = g.K.Sink.faults c.args.sink.now } in
-    let new : Seen = record { left = g.S.Source.left c.run.new.source; reads = g.S.Source.faults c.run.new.source; held = g.K.Sink.held c.run.new.sink; writes = g.K.Sink.faults c.run.new.sink } in
-    λ input steps left short script read write. completes old new c.run.result input steps left short script read write c.run.ensures.finished c.run.ensures.ended
