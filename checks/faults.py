@@ -1,0 +1,256 @@
+#!/usr/bin/env python3
+"""Runs built programs with one call of the C library failing: each allocation, each read and each write in turn.
+
+usage: checks/faults.py [--script PROGRAM] [--checks PROGRAM] [--jobs N]
+
+PROGRAM is crates/mdb_script/out/mdb_script and crates/mdb_checks/out/mdb_checks where it is left out; nothing is built.
+mdb_script runs its stored script and `make 10`, mdb_checks its stored cases: once as they are, and then, up to N runs side
+by side (as many as there are processors), once for each call and each of these faults:
+
+  allocation   is refused. The program tells want of memory, with status 1, after whole entries or lines, the first of the
+               stored output; or the run recovers: status 0 and the stored output.
+  read, write  fails with an error. The program tells it, with its status, after a front of the stored output; a failing
+               read leaves mdb_script with no output.
+  short_read, short_write   moves one byte, and so does each of them in a further run. Nothing changes.
+
+A case of mdb_checks may answer want of memory where it runs the tool (counted as answered). One that is answered otherwise
+for want of memory is known where its kind is in KNOWN, and else a finding. Cases of more than LONG allocations are left out.
+Each finding has a line, and the counts come last. The status is 0 where nothing was found, 1 where something was, and 2
+where a program is missing or can't be run so. Needs gcc, and programs that are linked with the C library (by `rt run`).
+"""
+import argparse
+import concurrent.futures
+import os
+import subprocess
+import sys
+import tempfile
+import time
+from collections import Counter, namedtuple
+
+HERE = os.path.dirname(os.path.abspath(__file__))
+CRATES = os.path.join(os.path.dirname(HERE), 'crates')
+SORTS = {'allocation': 0, 'read': 1, 'write': 2, 'short_read': 1, 'short_write': 2}
+MADE = b'lines=22 granted=10 created=4 closed=1 live=3\n'
+# Kinds of cases that may be answered otherwise for want of memory: a write to a `Vec` that has no room is told as failed.
+KNOWN = (b'writing',)
+# The end of an answer that is itself want of memory, told by a run of the tool within a case.
+WANT = b'"out of memory\\n"'
+REST = 30  # seconds between two lines of progress
+LIMIT = 120  # seconds for one run
+LONG = 2000  # allocations of one case; one that takes more is left out
+
+Subject = namedtuple('Subject', 'name program words input wanted ends')
+Run = namedtuple('Run', 'status written told counts')
+
+# How a run ends at a fault: its status, and what it tells.
+SCRIPT_ENDS = {'allocation': (1, b'out of memory\n'), 'read': (3, b'read fault\n'), 'write': (4, b'write fault\n')}
+FAULT = b'Error: Os { code: 5, kind: Uncategorized, message: "Input/output error" }\n'
+CHECKS_ENDS = {'allocation': (1, b'Error: Kind(OutOfMemory)\n'), 'read': (1, FAULT), 'write': (1, FAULT)}
+
+
+def stored(crate):
+    """The stored input of a crate, by its path, and the stored output."""
+    with open(os.path.join(CRATES, crate, 'stdout'), 'rb') as file:
+        return os.path.join(CRATES, crate, 'stdin'), file.read()
+
+
+def subjects(script, checks):
+    """The runs that are disturbed, of the programs that are there; and the programs that are missing."""
+    found, missing = [], [program for program in (script, checks) if not os.path.isfile(program)]
+    if script not in missing:
+        found.append(Subject('mdb_script', script, [], *stored('mdb_script'), SCRIPT_ENDS))
+        found.append(Subject('mdb_script make 10', script, ['make', '10'], os.devnull, MADE, SCRIPT_ENDS))
+    if checks not in missing:
+        found.append(Subject('mdb_checks', checks, [], *stored('mdb_checks'), CHECKS_ENDS))
+    return found, missing
+
+
+def run(subject, library, folder, **fault):
+    """Runs a subject with the fault that the variables tell. Its input is a file: from a pipe a line is read byte by byte."""
+    with open(subject.input, 'rb') as file, tempfile.TemporaryFile(dir=folder) as counts:
+        env = {'LD_PRELOAD': library, 'FAULT_COUNTS': str(counts.fileno()), **fault}
+        try:
+            ended = subprocess.run([subject.program] + subject.words, stdin=file, capture_output=True, env=env,
+                                   pass_fds=(counts.fileno(),), cwd=folder, timeout=LIMIT)
+        except subprocess.TimeoutExpired:
+            return Run('none', b'', b'', [])
+        counts.seek(0)
+        told = [[int(count) for count in line.split()] for line in counts]
+    return Run(ended.returncode, ended.stdout, ended.stderr, told)
+
+
+def is_front(written, wanted, by_lines):
+    """Whether what was written is a front of what is wanted; by lines: of whole lines."""
+    return wanted.startswith(written) and (not by_lines or not written or written.endswith(b'\n'))
+
+
+def changed_cases(written, wanted):
+    """The lines that tell another answer to a case than the stored one, or None where anything else differs."""
+    lines, others = written.splitlines(), wanted.splitlines()
+    if len(lines) != len(others):
+        return None
+    changed = []
+    for line, other in zip(lines, others):
+        case, arrow, _ = other.partition(b' => ')
+        if line != other and not (arrow and line.startswith(b'differs: ' + case + arrow)):
+            return None
+        if line != other:
+            changed.append(line)
+    return changed
+
+
+def judge_change(subject, ended):
+    """Of an allocation refused in a run that came to its end with another output: what it counts as, and the cases."""
+    changed = changed_cases(ended.written, subject.wanted)
+    if not changed or ended.told:
+        return 'found', []
+    if all(line.endswith(WANT) for line in changed):
+        return 'answered', []
+    is_known = all(line.split(b' ')[1] in KNOWN for line in changed)
+    return ('known' if is_known else 'found'), changed
+
+
+def judge_end(subject, kind, ended):
+    """What a run counts as that did not come to its end."""
+    is_told = (ended.status, ended.told) == subject.ends[kind]
+    is_silent = subject.ends is not SCRIPT_ENDS or kind != 'read' or not ended.written
+    is_good = is_told and is_silent and is_front(ended.written, subject.wanted, kind == 'allocation')
+    return ('ended' if is_good else 'found'), []
+
+
+def judge(subject, kind, at, ended):
+    """What a run with a fault counts as, 'ended', 'unharmed', 'answered', 'known' or 'found', and the cases that changed."""
+    if not ended.counts or ended.counts[-1][SORTS[kind]] < max(at, 1):
+        return 'found', []
+    is_unharmed = (ended.status, ended.written, ended.told) == (0, subject.wanted, b'')
+    if kind in ('short_read', 'short_write'):
+        return ('unharmed' if is_unharmed else 'found'), []
+    if kind == 'allocation' and ended.status == 0:
+        return ('unharmed', []) if is_unharmed else judge_change(subject, ended)
+    return judge_end(subject, kind, ended)
+
+
+def one(subject, library, folder, kind, at):
+    """One run with a fault: what it counts as, and the lines to print of it."""
+    ended = run(subject, library, folder, FAULT_KIND=kind, FAULT_AT=str(at))
+    verdict, changed = judge(subject, kind, at, ended)
+    if verdict in ('ended', 'unharmed', 'answered'):
+        return verdict, []
+    which = 'each %s' % kind if at == 0 else '%s %d' % (kind, at)
+    head = '%s: %s: %s: %s' % (verdict, subject.name, which, 'status %s, told %r, %d of %d bytes' % (
+        ended.status, ended.told, len(ended.written), len(subject.wanted)))
+    return verdict, [head] + ['  ' + line.decode(errors='replace') for line in changed]
+
+
+def faults(counts):
+    """The faults of a run with these counts: kinds, and numbers of calls, 0 for all of them at once."""
+    for kind, sort in SORTS.items():
+        for at in range(1, counts[sort] + 1):
+            yield kind, at
+        if kind.startswith('short') and counts[sort]:
+            yield kind, 0
+
+
+def shortened(subject, plain, folder):
+    """The subject without its long cases, which are told. A case is a line of the input, and is answered by one write."""
+    lines, took = subject.wanted.splitlines(keepends=True), [counts[0] for counts in plain.counts[:-1]]
+    if subject.words or len(took) != len(lines):
+        return subject
+    is_long = [after - before > LONG for before, after in zip([0] + took, took)]
+    if subject.ends is SCRIPT_ENDS or not any(is_long):
+        return subject
+    for line, is_left_out in zip(lines, is_long):
+        if is_left_out:
+            print('%s: left out, for it takes over %d allocations: %s' % (subject.name, LONG, line[:80].decode().rstrip()))
+    kept = b''.join(line for line, is_left_out in zip(lines, is_long) if not is_left_out)
+    path = os.path.join(folder, 'input')
+    with open(path, 'wb') as file:
+        file.write(kept)
+    return subject._replace(input=path, wanted=kept)
+
+
+def plain_run(subject, library, folder):
+    """A run with no fault, or None where it is not as stored, which is told."""
+    plain = run(subject, library, folder, FAULT_EACH='yes')
+    if (plain.status, plain.written, plain.told) != (0, subject.wanted, b''):
+        print('found: %s: with no fault: status %s, told %r, not the stored output' % (subject.name, plain.status, plain.told))
+        return None
+    if not plain.counts or not plain.counts[-1][0]:
+        print('%s: no allocation was seen; is it linked with the C library?' % subject.name, file=sys.stderr)
+        sys.exit(2)
+    return plain
+
+
+def sweep(subject, library, folder, jobs):
+    """Runs a subject with each fault; what the runs of each kind count as."""
+    plain = plain_run(subject, library, folder)
+    if plain:
+        subject = shortened(subject, plain, folder)
+        plain = plain_run(subject, library, folder)
+    if not plain:
+        return Counter({('none', 'found'): 1})
+    print('%s: %d allocations, %d reads, %d writes' % (subject.name, *plain.counts[-1]), flush=True)
+    tally, begun = Counter(), time.monotonic()
+    todo, told = list(faults(plain.counts[-1])), begun
+    with concurrent.futures.ThreadPoolExecutor(jobs) as pool:
+        ended = pool.map(lambda fault: one(subject, library, folder, *fault), todo)
+        for number, (fault, (verdict, lines)) in enumerate(zip(todo, ended)):
+            tally[fault[0], verdict] += 1
+            for line in lines:
+                print(line, flush=True)
+            if time.monotonic() - told > REST:
+                told = time.monotonic()
+                print('%s: %d of %d runs' % (subject.name, number + 1, len(todo)), file=sys.stderr, flush=True)
+    tell(subject, tally, time.monotonic() - begun)
+    return tally
+
+
+def tell(subject, tally, seconds):
+    """Prints what the runs of each kind count as."""
+    for kind in SORTS:
+        verdicts = ['%d %s' % (tally[kind, verdict], verdict)
+                    for verdict in ('ended', 'unharmed', 'answered', 'known', 'found') if tally[kind, verdict]]
+        if verdicts:
+            print('%s: %s: %s' % (subject.name, kind, ', '.join(verdicts)))
+    print('%s: %d runs in %.0f seconds' % (subject.name, sum(tally.values()), seconds), flush=True)
+
+
+def build(folder):
+    """Compiles what stands before the C library."""
+    library = os.path.join(folder, 'faults.so')
+    source = os.path.join(HERE, 'faults.c')
+    try:
+        subprocess.run(['gcc', '-O1', '-shared', '-fPIC', '-o', library, source, '-ldl'], check=True)
+    except (OSError, subprocess.CalledProcessError) as e:
+        print('faults.c can\'t be compiled: %s' % e, file=sys.stderr)
+        sys.exit(2)
+    return library
+
+
+def options():
+    """The words of the command line."""
+    reader = argparse.ArgumentParser(usage=__doc__.split('usage: ')[1])
+    reader.add_argument('--script', default=os.path.join(CRATES, 'mdb_script/out/mdb_script'))
+    reader.add_argument('--checks', default=os.path.join(CRATES, 'mdb_checks/out/mdb_checks'))
+    reader.add_argument('--jobs', type=int, default=os.cpu_count())
+    return reader.parse_args()
+
+
+def main():
+    """Sweeps each program that is there, and says what was found."""
+    given = options()
+    found, missing = subjects(os.path.abspath(given.script), os.path.abspath(given.checks))
+    tally = Counter()
+    with tempfile.TemporaryDirectory() as folder:
+        library = build(folder) if found else None
+        for subject in found:
+            tally.update(sweep(subject, library, folder, given.jobs))
+    for program in missing:
+        print('missing: %s' % program)
+    count = sum(number for (_, verdict), number in tally.items() if verdict == 'found')
+    print('%d runs, %d findings' % (sum(tally.values()), count))
+    sys.exit(2 if missing else 1 if count else 0)
+
+
+if __name__ == '__main__':
+    main()
