@@ -102,7 +102,7 @@ pub fn unknowns(
 impl TopologyDescription {
     /// The servers, with room for so many more; the topology is left without servers, or as it was where there is no
     /// memory.
-    pub fn servers_with_room(
+    pub(crate) fn servers_with_room(
         &mut self,
         alloc: Global,
         more: usize,
