@@ -62,7 +62,7 @@ number_again k n fits lt =
 
 -- hosts
 
-name_parts : (host : List ℕ) → is_name_host host ≡ true → (0 < length host) × (list_all is_name_byte host ≡ true)
+pub name_parts : (host : List ℕ) → is_name_host host ≡ true → (0 < length host) × (list_all is_name_byte host ≡ true)
 unfolding is_name_host
 name_parts host h =
     let p = and_parts (leb 1 (length host)) (leb (length host) 255 && list_all is_name_byte host) h in
@@ -95,7 +95,7 @@ lacks_colon (b ∷ bs) h = elim (cases_Bool (eqb b 58)) [
   | inr other ↦ and_from _ _ (rw other refl) (lacks_colon bs (rw other at h))
 ]
 
-no_bracket : (host rest : List ℕ) → lacks 91 host ≡ true → 0 < length host → after (codes "[") (host ++ rest) ≡ None
+pub no_bracket : (host rest : List ℕ) → lacks 91 host ≡ true → 0 < length host → after (codes "[") (host ++ rest) ≡ None
 unfolding after
 no_bracket [] rest h some = absurd (omega arith)
 no_bracket (b ∷ bs) rest h some = elim (cases_Bool (eqb b 91)) [

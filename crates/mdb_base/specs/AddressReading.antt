@@ -1,4 +1,4 @@
--- Reading an address from left to right. It may take more than the rule: what is read is then compared with its spelling.
+-- Reading words and addresses from left to right. The crate's own reading of a text is stated by until, beyond, after and number_of. address_of may take more than the rule; crates above state theirs by it, and compare what is read with its spelling.
 use Rattle.std.specs.Prelude.{◌≡◌, ℕ, ◌^◌, ◌==◌, ◌&&◌, nat_lt, List, [], ◌∷◌, length, Option, Some, None, Result, Ok, Err, if◌then◌else◌, codes}
 use Rattle.std.specs.List.{list_all}
 use Rattle.std.specs.Char.{digit_value}

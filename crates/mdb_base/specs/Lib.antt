@@ -1,5 +1,7 @@
+pub mod AddressOrder
 pub mod AddressReading
 pub mod AddressRule
+pub mod AddressText
 pub mod Acknowledgment
 pub mod Document
 pub mod DocumentCode
@@ -10,4 +12,5 @@ pub mod Memory
 pub mod OptionRules
 pub mod Outside
 pub mod Spelling
+pub mod Streams
 pub mod Tags

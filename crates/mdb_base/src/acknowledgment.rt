@@ -3,7 +3,7 @@
 //! A message is packaged with a ticket. Whoever handles it makes an acknowledgment under that ticket, and the
 //! receiver that was packaged with it takes the value of an acknowledgment under its own ticket alone.
 ghost use Rattle.std.specs.Prelude.{◌≡◌};
-ghost use Rattle.mdb_base.specs.Acknowledgment.{resolution};
+ghost use Rattle.mdb_base.specs.Acknowledgment.{message as message_of, sender as sender_of, sender_ticket, receiver_ticket, ticket as ticket_of, value as value_of, resolution};
 
 use std::marker::PhantomData;
 
@@ -41,9 +41,9 @@ impl<M, R> AcknowledgedMessage<M, R> {
         ticket: u64,
         message: M,
     ) -> (AcknowledgedMessage<M, R>, AcknowledgmentReceiver<R>)
-        ensures message { result.0.message ≡ message }
-        ensures sender { result.0.sender.ticket ≡ ticket }
-        ensures receiver { result.1.ticket ≡ ticket }
+        ensures message { message_of result.0 ≡ message }
+        ensures sender { sender_ticket (sender_of result.0) ≡ ticket }
+        ensures receiver { receiver_ticket result.1 ≡ ticket }
     {
         let sender = AcknowledgmentSender {
             ticket,
@@ -58,15 +58,15 @@ impl<M, R> AcknowledgedMessage<M, R> {
 
     /// The message.
     pub fn message(&self) -> &M
-        ensures { result.now ≡ self.now.message }
+        ensures { result.now ≡ message_of self.now }
     {
         &self.message
     }
 
     /// The message and what acknowledges it later.
     pub fn into_parts(self) -> (M, AcknowledgmentSender<R>)
-        ensures message { result.0 ≡ self.message }
-        ensures sender { result.1.ticket ≡ self.sender.ticket }
+        ensures message { result.0 ≡ message_of self }
+        ensures sender { result.1 ≡ sender_of self }
     {
         (self.message, self.sender)
     }
@@ -75,8 +75,8 @@ impl<M, R> AcknowledgedMessage<M, R> {
 impl<M: Drop, R> AcknowledgedMessage<M, R> {
     /// Acknowledges the message, and lets it go.
     pub fn acknowledge(self, value: R) -> Acknowledgment<R>
-        ensures ticket { result.ticket ≡ self.sender.ticket }
-        ensures value { result.value ≡ value }
+        ensures ticket { ticket_of result ≡ sender_ticket (sender_of self) }
+        ensures value { value_of result ≡ value }
     {
         self.sender.acknowledge(value)
     }
@@ -85,8 +85,8 @@ impl<M: Drop, R> AcknowledgedMessage<M, R> {
 impl<R> AcknowledgmentSender<R> {
     /// Acknowledges the message that this was packaged with.
     pub fn acknowledge(self, value: R) -> Acknowledgment<R>
-        ensures ticket { result.ticket ≡ self.ticket }
-        ensures value { result.value ≡ value }
+        ensures ticket { ticket_of result ≡ sender_ticket self }
+        ensures value { value_of result ≡ value }
     {
         Acknowledgment {
             ticket: self.ticket,

@@ -7,13 +7,13 @@ ghost use Rattle.mdb_base.specs.AddressRule.{is_name_byte, is_v6_byte, is_name_h
 
 use crate::address::ServerAddress;
 
-fn is_name_byte(b: u8) -> bool
+pub(crate) fn is_name_byte(b: u8) -> bool
     ensures { result ≡ is_name_byte b }
 {
     b.is_ascii_lowercase() || b.is_ascii_digit() || b == b'_' || b == b'-' || b == b'.'
 }
 
-fn is_v6_byte(b: u8) -> bool
+pub(crate) fn is_v6_byte(b: u8) -> bool
     ensures { result ≡ is_v6_byte b }
 {
     (b'a' <= b && b <= b'f') || (b'0' <= b && b <= b'9') || b == b':' || b == b'.'

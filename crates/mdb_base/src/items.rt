@@ -1,6 +1,6 @@
 //! A list that contracts see as the list of its elements.
 
-ghost use Rattle.std.specs.Prelude.{◌≡◌};
+ghost use Rattle.std.specs.Prelude.{◌≡◌, []};
 
 use std::alloc::AllocError;
 use std::marker::Model;
@@ -39,6 +39,15 @@ impl<T> Items<T> {
         ensures { result.items ≡ self }
     {
         self.inner
+    }
+}
+
+impl<T: Drop> Items<T> {
+    /// No element is left. No memory is taken.
+    pub fn clear(&mut self)
+        ensures { self.new ≡ [] }
+    {
+        self.inner.clear();
     }
 }
 

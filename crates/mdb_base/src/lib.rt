@@ -4,8 +4,10 @@
 
 mod acknowledgment;
 mod address;
+mod address_order;
 mod address_parse;
 mod address_rule;
+mod address_text;
 mod document;
 mod document_copy;
 mod error;
@@ -31,7 +33,7 @@ mod topology_version;
 pub use acknowledgment::{
     AcknowledgedMessage, Acknowledgment, AcknowledgmentReceiver, AcknowledgmentSender,
 };
-pub use address::ServerAddress;
+pub use address::{ServerAddress, has_colon};
 pub use address_parse::AddressError;
 pub use document::{Doc, Value};
 pub use error::{Error, ErrorKind};

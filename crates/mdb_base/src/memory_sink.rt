@@ -1,7 +1,6 @@
 //! A sink in memory.
 
-ghost use Rattle.std.specs.Prelude.{◌≡◌, ◌+◌, ◌≤◌, [], length, IfOk, Some, vec_len, vec_capacity, MatchBool};
-ghost use Rattle.mdb_base.specs.Outside.{Rose};
+ghost use Rattle.std.specs.Prelude.{◌≡◌, ◌+◌, ◌≤◌, [], length, if◌then◌else◌, IfOk, OnOk, Some, vec_len, vec_capacity};
 
 use crate::out_of_memory::OutOfMemory;
 use crate::outside::{Failed, Sink};
@@ -24,7 +23,7 @@ pub struct MemSink {
 }
 
 impl MemSink {
-    ghost use Rattle.mdb_base.specs.Memory.{sink_held, sink_faults, sink_taken};
+    ghost use Rattle.mdb_base.specs.Memory.{sink_held, sink_faults, sink_taken, sink_state, fails_after, next};
 
     /// Reserves the room. `OutOfMemory` where there is none.
     pub fn new(
@@ -35,6 +34,7 @@ impl MemSink {
     ) -> Result<MemSink, OutOfMemory>
         ensures held { IfOk result (λ sink. sink_held sink ≡ Some (record { taken = []; flushed = 0 })) }
         ensures faults { IfOk result (λ sink. sink_faults sink ≡ 0) }
+        ensures state { IfOk result (λ sink. sink_state sink ≡ record { taken = []; flushed = 0; room = room; piece = piece; fails = fails.items; calls = 0; faults = 0 }) }
     {
         Ok(MemSink {
             bytes: Vec::with_capacity(alloc, room)?,
@@ -56,8 +56,8 @@ impl MemSink {
 
     // Whether the next call fails, which it then counts.
     fn fails_now(&mut self) -> bool
-        ensures same { self.new ≡ record self.old { calls = self.new.calls; faults = self.new.faults } }
-        ensures cause { MatchBool result (Rose self.old.faults self.new.faults) (self.new.faults ≡ self.old.faults) }
+        ensures whether { result ≡ fails_after self.old.fails.items self.old.calls }
+        ensures counted { self.new ≡ record self.old { calls = next self.old.calls; faults = if result then next self.old.faults else self.old.faults } }
     {
         self.calls = self.calls.saturating_add(1);
         let fails = self.fails.contains(&self.calls);
@@ -69,13 +69,18 @@ impl MemSink {
 }
 
 impl Sink for MemSink {
-    ghost use Rattle.mdb_base.specs.Memory.{sink_held, sink_faults};
+    ghost use Rattle.mdb_base.specs.Outside.{HasCause, Took, IsFlushed, WriteTakes, WriteCause};
+    ghost use Rattle.mdb_base.specs.Memory.{sink_held, sink_faults, sink_state, SinkWrites, SinkFlushes};
 
     ghost held = { sink_held };
 
     ghost faults = { sink_faults };
 
-    fn write(&mut self, piece: &[u8]) -> Result<usize, Failed> {
+    fn write(&mut self, piece: &[u8]) -> Result<usize, Failed>
+        ensures bytes { WriteTakes (sink_held self.old) (sink_held self.new) piece.now result }
+        ensures cause { WriteCause (sink_faults self.old) (sink_faults self.new) piece.now result }
+        ensures writes { SinkWrites (sink_state self.old) (sink_state self.new) piece.now result }
+    {
         if self.fails_now() {
             return Err(Failed);
         }
@@ -91,7 +96,12 @@ impl Sink for MemSink {
         Ok(count)
     }
 
-    fn flush(&mut self) -> Result<(), Failed> {
+    fn flush(&mut self) -> Result<(), Failed>
+        ensures bytes { Took (sink_held self.old) (sink_held self.new) [] }
+        ensures flushed { OnOk result (IsFlushed (sink_held self.new)) }
+        ensures cause { HasCause (sink_faults self.old) (sink_faults self.new) result }
+        ensures flushes { SinkFlushes (sink_state self.old) (sink_state self.new) result }
+    {
         if self.fails_now() {
             return Err(Failed);
         }

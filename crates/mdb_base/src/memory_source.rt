@@ -29,13 +29,14 @@ pub fn copy_front(into: &mut [u8], front: &[u8])
 }
 
 impl MemSource {
-    ghost use Rattle.mdb_base.specs.Memory.{source_left, source_faults};
+    ghost use Rattle.mdb_base.specs.Memory.{source_state, source_left, source_faults};
 
     /// A source of these bytes, of which none is read yet.
     pub fn new(held: Vec<u8>, piece: usize, fails: Vec<u64>) -> MemSource
         requires { 0 < piece }
         ensures left { source_left result ≡ Some held.items }
         ensures faults { source_faults result ≡ 0 }
+        ensures state { source_state result ≡ record { left = held.items; piece = piece; fails = fails.items; calls = 0; faults = 0 } }
     {
         MemSource {
             held,
@@ -49,13 +50,21 @@ impl MemSource {
 }
 
 impl Source for MemSource {
-    ghost use Rattle.mdb_base.specs.Memory.{source_left, source_faults};
+    ghost use Rattle.std.specs.Io.{ReadsAtMost};
+    ghost use Rattle.std.specs.Io.KnownBytes.{ReadConsumes};
+    ghost use Rattle.mdb_base.specs.Outside.{HasCause};
+    ghost use Rattle.mdb_base.specs.Memory.{source_state, source_left, source_faults, SourceReads};
 
     ghost left = { source_left };
 
     ghost faults = { source_faults };
 
-    fn read(&mut self, into: &mut [u8]) -> Result<usize, Failed> {
+    fn read(&mut self, into: &mut [u8]) -> Result<usize, Failed>
+        ensures bound { ReadsAtMost result into.new }
+        ensures bytes { ReadConsumes (source_left self.old) (source_left self.new) result into.new }
+        ensures cause { HasCause (source_faults self.old) (source_faults self.new) result }
+        ensures reads { SourceReads (source_state self.old) (source_state self.new) (length into.old) result }
+    {
         self.calls = self.calls.saturating_add(1);
         if self.fails.contains(&self.calls) {
             self.faults = self.faults.saturating_add(1);

@@ -1,16 +1,24 @@
 //! Object ids, in hex.
 
-ghost use Rattle.std.specs.Prelude.{◌≡◌, IfOk, string_bytes};
-ghost use Rattle.hex.specs.Hex.{encode_lower};
+ghost use Rattle.std.specs.Prelude.{◌≡◌, length, IfOk, string_bytes, Some, Ok};
+ghost use Rattle.hex.specs.Hex.{decode_sized, encode_lower};
 
 use crate::out_of_memory::OutOfMemory;
 use hex::FromHex;
-use std::alloc::Global;
+use std::alloc::{AllocError, Global};
 use std::fmt;
 
 /// The twelve bytes that name a service, a process, an election or a topology.
 #[derive(Clone, Copy, Debug, PartialEq, Eq, PartialOrd, Ord)]
 pub struct ObjectId(pub [u8; 12]);
+
+// The digits of the bytes, which give the bytes back.
+fn digits(alloc: Global, bytes: &[u8]) -> Result<String, AllocError>
+    ensures digits { IfOk result (λ text. string_bytes text ≡ encode_lower bytes.now) }
+    ensures again { IfOk result (λ text. decode_sized (string_bytes text) (length bytes.now) ≡ Ok bytes.now) }
+{
+    hex::encode(alloc, bytes)
+}
 
 impl ObjectId {
     ghost use Rattle.mdb_base.specs.Spelling.{id_of};
@@ -25,16 +33,18 @@ impl ObjectId {
         }
     }
 
-    /// 24 hex digits in lower case.
+    /// 24 hex digits in lower case, which `from_hex` reads as the same id.
     pub fn to_hex(&self, alloc: Global) -> Result<String, OutOfMemory>
-        ensures { IfOk result (λ text. string_bytes text ≡ encode_lower self.now.0) }
+        ensures digits { IfOk result (λ text. string_bytes text ≡ encode_lower self.now.0) }
+        ensures again { IfOk result (λ text. id_of (string_bytes text) ≡ Some self.now) }
     {
-        Ok(hex::encode(alloc, &self.0)?)
+        let bytes: &[u8] = &self.0;
+        prove!(bytes.len() == 12);
+        Ok(digits(alloc, bytes)?)
     }
 }
 
 impl fmt::Display for ObjectId {
-    ghost use Rattle.std.specs.Prelude.{Some};
     ghost use Rattle.mdb_base.specs.Spelling.{object_id};
 
     ghost output = { λ id. Some (object_id id) };

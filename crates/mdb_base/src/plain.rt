@@ -1,6 +1,6 @@
 //! A source and a sink that never fail and take no memory.
 
-ghost use Rattle.std.specs.Prelude.{◌≡◌, ◌≤◌, length, Some};
+ghost use Rattle.std.specs.Prelude.{◌≡◌, ◌≤◌, length, Some, Ok};
 
 use crate::memory_source::copy_front;
 use crate::outside::{Failed, Sink, Source};
@@ -25,13 +25,21 @@ impl PlainSource {
 }
 
 impl Source for PlainSource {
-    ghost use Rattle.mdb_base.specs.Memory.{plain_left};
+    ghost use Rattle.std.specs.Prelude.{drop};
+    ghost use Rattle.std.specs.Io.{ReadsAtMost};
+    ghost use Rattle.std.specs.Io.KnownBytes.{ReadConsumes};
+    ghost use Rattle.mdb_base.specs.Memory.{plain_left, plain_rest, plain_count};
 
     ghost left = { plain_left };
 
     ghost faults = { λ s. 0 };
 
-    fn read(&mut self, into: &mut [u8]) -> Result<usize, Failed> {
+    fn read(&mut self, into: &mut [u8]) -> Result<usize, Failed>
+        ensures bound { ReadsAtMost result into.new }
+        ensures bytes { ReadConsumes (plain_left self.old) (plain_left self.new) result into.new }
+        ensures count { result ≡ Ok (plain_count self.old (length into.old)) }
+        ensures left { plain_rest self.new ≡ drop (plain_count self.old (length into.old)) (plain_rest self.old) }
+    {
         let rest = &self.held.as_slice()[self.at..];
         let count = rest.len().min(into.len());
         copy_front(into, &rest[..count]);
@@ -57,11 +65,15 @@ impl Sink for NullSink {
 
     ghost faults = { λ s. 0 };
 
-    fn write(&mut self, piece: &[u8]) -> Result<usize, Failed> {
+    fn write(&mut self, piece: &[u8]) -> Result<usize, Failed>
+        ensures whole { result ≡ Ok (length piece.now) }
+    {
         Ok(piece.len())
     }
 
-    fn flush(&mut self) -> Result<(), Failed> {
+    fn flush(&mut self) -> Result<(), Failed>
+        ensures fine { result ≡ Ok tt }
+    {
         Ok(())
     }
 }

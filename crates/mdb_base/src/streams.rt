@@ -1,5 +1,7 @@
 //! Sources and sinks over streams. They tell no bytes: that a stream carries what was read or written is trusted.
 
+ghost use Rattle.std.specs.Prelude.{◌≡◌};
+
 use crate::outside::{Failed, Sink, Source};
 use std::io::{Read, Write};
 
@@ -11,18 +13,23 @@ pub struct Reading<R> {
 }
 
 impl<R> Reading<R> {
+    ghost use Rattle.mdb_base.specs.Streams.{reading_faults};
+
     /// A source over this reader, which has not failed yet.
-    pub fn new(inner: R) -> Reading<R> {
+    pub fn new(inner: R) -> Reading<R>
+        ensures faults { reading_faults result ≡ 0 }
+    {
         Reading { inner, faults: 0 }
     }
 }
 
 impl<R: Read> Source for Reading<R> {
     ghost use Rattle.std.specs.Prelude.{None};
+    ghost use Rattle.mdb_base.specs.Streams.{reading_faults};
 
     ghost left = { λ s. None };
 
-    ghost faults = { λ s. s.faults };
+    ghost faults = { reading_faults };
 
     fn read(&mut self, into: &mut [u8]) -> Result<usize, Failed> {
         match self.inner.read(into) {
@@ -43,18 +50,23 @@ pub struct Writing<W> {
 }
 
 impl<W> Writing<W> {
+    ghost use Rattle.mdb_base.specs.Streams.{writing_faults};
+
     /// A sink over this writer, which has not failed yet.
-    pub fn new(inner: W) -> Writing<W> {
+    pub fn new(inner: W) -> Writing<W>
+        ensures faults { writing_faults result ≡ 0 }
+    {
         Writing { inner, faults: 0 }
     }
 }
 
 impl<W: Write> Sink for Writing<W> {
     ghost use Rattle.std.specs.Prelude.{None};
+    ghost use Rattle.mdb_base.specs.Streams.{writing_faults};
 
     ghost held = { λ s. None };
 
-    ghost faults = { λ s. s.faults };
+    ghost faults = { writing_faults };
 
     fn write(&mut self, piece: &[u8]) -> Result<usize, Failed> {
         match self.inner.write(piece) {
