@@ -1,10 +1,10 @@
 -- A value of each kind is read back from what it is written as.
-use Rattle.std.proofs.Common.{◌≡◌, ℕ, ◌+◌, ◌-◌, ◌^◌, ◌<◌, min, ℤ, pos, List, [], ◌∷◌, map, Bool, true, false, IsTrue, Option, Some, None, option_map, option_and_then, Ordering, Less, Equal, Greater, nat_cmp, refl, sym, ap, ◌∙◌, arith}
+use Rattle.std.proofs.Common.{◌≡◌, ℕ, ℤ, List, [], ◌∷◌, map, true, Some, option_map, Ordering, Less, Equal, Greater, nat_cmp, refl, ap, ◌∙◌, arith}
 use Rattle.std.proofs.lemmas.Bool.{false≢true}
 use Rattle.std.specs.Cmp.Lexicographic.{slice_cmp}
 use Rattle.std.specs.Ordering.{match_ordering, is_lt}
 use Rattle.mdb_base.proofs.Documents.{fields_listed, contents_listed}
-use Rattle.mdb_base.specs.Document.{Content, text}
+use Rattle.mdb_base.specs.Document.{text}
 use Rattle.mdb_base.specs.Tags.{Tag, is_by_name, is_below_first}
 use Rattle.mdb_hello.specs.Kinds.{Kind, a_flag, a_text, some_texts, a_small_number, a_number, a_count, an_id, some_tags, a_last_write, a_version, a_document, Of, all_texts, put_tag, put_tags, tag_field, is_small, small_number, read_as, written_as}
 use Rattle.mdb_hello.specs.ReadBack.{IsPlain}

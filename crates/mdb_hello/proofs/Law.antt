@@ -1,10 +1,10 @@
 -- What a table of fields is written as is read back.
-use Rattle.std.proofs.Common.{◌≡◌, ℕ, List, [], ◌∷◌, ◌++◌, Bool, true, false, ◌&&◌, not, Option, Some, None, is_some, Result, Ok, Err, if◌then◌else◌, nat_eq, refl, sym, ap, ◌∙◌, append_assoc}
+use Rattle.std.proofs.Common.{◌≡◌, ℕ, List, [], ◌∷◌, ◌++◌, Bool, true, false, ◌&&◌, not, Option, Some, None, is_some, Ok, if◌then◌else◌, nat_eq, refl, sym, ap, ◌∙◌, append_assoc}
 use Rattle.std.proofs.lemmas.Bool.{true≢false}
 use Rattle.std.specs.Cmp.Lexicographic.{pointwise}
 use Rattle.mdb_base.specs.Document.{Field, Content}
-use Rattle.mdb_hello.specs.Kinds.{Kind, Of, named, read_as, written_as}
-use Rattle.mdb_hello.specs.ReadBack.{IsPlain, IsPlainSlot, ArePlain}
+use Rattle.mdb_hello.specs.Kinds.{Kind, Of, named}
+use Rattle.mdb_hello.specs.ReadBack.{IsPlainSlot, ArePlain}
 use Rattle.mdb_hello.specs.Reply.{read, reply_of, values, written}
 use Rattle.mdb_hello.specs.Table.{Row, Slot, Values, of_its_type, on_ok, beside, read_found, read_row, read_rows, written_slot, written_rows, reply_fields}
 use Rattle.mdb_hello.specs.declared.response.HelloCommandResponse.{HelloCommandResponse}

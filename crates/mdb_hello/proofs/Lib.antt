@@ -1,7 +1,9 @@
+pub mod Checks
 pub mod KindLaws
 pub mod Law
 pub mod Placed
 pub mod PlainReply
 pub mod Tables
 pub mod Tagged
+pub mod TagRule
 pub mod Written

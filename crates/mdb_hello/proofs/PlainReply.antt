@@ -1,6 +1,6 @@
 -- A reply is plain where its numbers, its tags and its session timeout are.
-use Rattle.std.proofs.Common.{ℕ, List, Option, Some, None, IsTrue, false}
-use Rattle.mdb_hello.specs.Kinds.{Kind, a_flag, a_text, some_texts, a_small_number, a_number, a_count, an_id, some_tags, a_last_write, a_version, a_document, Of, is_small}
+use Rattle.std.proofs.Common.{Option, Some, None, IsTrue, false}
+use Rattle.mdb_hello.specs.Kinds.{Kind, a_flag, a_text, some_texts, a_small_number, a_number, an_id, some_tags, a_last_write, a_version, a_document, Of, is_small}
 use Rattle.mdb_hello.specs.ReadBack.{IsPlain, IsPlainSlot, IsPlainReply, IsShort}
 use Rattle.mdb_hello.specs.declared.response.HelloCommandResponse.{HelloCommandResponse}
 

@@ -1,14 +1,13 @@
 -- Reading a table of fields part by part.
-use Rattle.std.proofs.Common.{◌≡◌, ℕ, List, [], ◌∷◌, ◌++◌, take, drop, Result, Ok, Err, refl, sym, ap, ◌∙◌, append_assoc}
+use Rattle.std.proofs.Common.{◌≡◌, ℕ, List, [], ◌∷◌, ◌++◌, Result, Ok, Err, IsOk, refl, ap, ◌∙◌, append_assoc}
 use Rattle.mdb_base.specs.Document.{Field}
-use Rattle.mdb_hello.specs.Groups.{five, FrontValues, BackValues, read_front, read_back, reply_of_halves}
+use Rattle.mdb_hello.specs.Groups.{five, read_front, read_back, reply_of_halves}
 use Rattle.mdb_hello.specs.Kinds.{Of}
-use Rattle.mdb_hello.specs.Reading.{Gives}
+use Rattle.mdb_hello.specs.Reading.{Gives, Reads}
 use Rattle.mdb_hello.specs.Reply.{read, reply_of}
 use Rattle.mdb_hello.specs.declared.error.HelloError.{HelloError}
 use Rattle.mdb_hello.specs.declared.error.HelloError.TheVariants as hello
-use Rattle.mdb_hello.specs.Table.{Row, Slot, Values, on_ok, beside, read_row, read_rows, reply_fields}
-use Rattle.mdb_hello.specs.declared.response.HelloCommandResponse.{HelloCommandResponse}
+use Rattle.mdb_hello.specs.Table.{Row, Slot, Values, on_ok, beside, read_row, read_rows}
 
 abbrev pub joined : (xs ys : List Row) → Values xs × Values ys → Values (xs ++ ys)
 joined [] ys p = p.1
@@ -86,3 +85,9 @@ five_added old p q r s t a b c d e ea eb ec ed ee =
 -- two parts added one after the other
 pub two_added : {X : Type 0} (old p q a b : List X) → a ≡ old ++ p → b ≡ a ++ q → b ≡ old ++ (p ++ q)
 two_added old p q a b ea eb = eb ∙ ap (λ xs. xs ++ q) ea ∙ append_assoc old p q
+
+-- want of memory where the reading gives a value
+pub whole : {T : Type 0} (answer : Result T HelloError) (r : Result T (List ℕ)) → IsOk r → Gives answer r → Reads answer r
+whole (Ok x) r ok gives = gives
+whole (Err (hello.BadField name)) r ok gives = gives
+whole (Err hello.OutOfMemory) r ok gives = ok

@@ -1,11 +1,11 @@
 -- Tags that are put in their places, one after the other.
-use Rattle.std.proofs.Common.{◌≡◌, ℕ, ◌+◌, ◌-◌, ◌<◌, ◌≤◌, get_or, arith, List, [], ◌∷◌, ◌++◌, map, take, drop, length, Option, Some, None, option_map, option_and_then, Bool, true, false, ◌&&◌, Ordering, Less, Equal, Greater, nat_cmp, String, Global, string_bytes, refl, sym, ap, ◌∙◌, append_assoc}
+use Rattle.std.proofs.Common.{◌≡◌, ℕ, ◌-◌, ◌<◌, ◌≤◌, get_or, arith, List, [], ◌∷◌, ◌++◌, map, take, length, Option, Some, None, option_map, option_and_then, Bool, true, false, ◌&&◌, Ordering, Less, Equal, Greater, nat_cmp, String, Global, string_bytes, refl, sym, ap, ◌∙◌}
 use Rattle.std.proofs.lemmas.Cmp.{nat_list_cmp_total}
 use Rattle.std.proofs.lemmas.Bool.{false≢true}
 use Rattle.std.proofs.lemmas.List.{take_more}
 use Rattle.std.specs.Cmp.Lexicographic.{slice_cmp}
 use Rattle.std.specs.Ordering.{match_ordering, ordering_reverse, is_lt}
-use Rattle.mdb_base.specs.Document.{Field, value_content, named_content, Content, text}
+use Rattle.mdb_base.specs.Document.{Field, value_content, named_content}
 use Rattle.mdb_base.specs.Tags.{Tag, is_before, is_below_first, is_by_name}
 use Rattle.mdb_base.specs.declared.document.Value.{Value}
 use Rattle.mdb_hello.specs.Kinds.{text_in, put_tag, put_tags}

@@ -1,5 +1,5 @@
 -- The command that greets a server.
-use Rattle.std.specs.Prelude.{ℕ, pos, List, [], ◌∷◌, ◌++◌, Bool, true, false, ◌||◌, if◌then◌else◌, Option, Some, None, is_some, codes}
+use Rattle.std.specs.Prelude.{ℕ, pos, List, [], ◌∷◌, ◌++◌, Bool, true, false, ◌||◌, Option, Some, None, is_some, codes}
 use Rattle.mdb_base.specs.Document.{Field, int, boolean, text}
 use Rattle.mdb_hello.specs.Kinds.{version_content, count_content}
 use Rattle.mdb_hello.specs.ServerTypes.{says}

@@ -1,7 +1,8 @@
--- The values of a reply's fields, five at a time, in the order of the table.
-use Rattle.std.specs.Prelude.{ℕ, List, Result, take, drop}
+-- The table of fields in parts of five, as private functions go through it. No public contract cites this file.
+use Rattle.std.specs.Prelude.{ℕ, List, Option, Result, take, drop}
+use Rattle.std.specs.Option.{option_or}
 use Rattle.mdb_base.specs.Document.{Field}
-use Rattle.mdb_hello.specs.Table.{Row, Values, reply_fields, beside, read_rows}
+use Rattle.mdb_hello.specs.Table.{Row, Values, reply_fields, beside, read_rows, first_bad}
 use Rattle.mdb_hello.specs.declared.response.HelloCommandResponse.{HelloCommandResponse}
 use Rattle.mdb_hello.specs.declared.groups.Greeting.{Greeting}
 use Rattle.mdb_hello.specs.declared.groups.Membership.{Membership}
@@ -53,6 +54,13 @@ read_front doc = beside (read_rows (five 0) doc) (beside (read_rows (five 5) doc
 
 abbrev pub read_back : List Field → Result BackValues (List ℕ)
 read_back doc = beside (read_rows (five 15) doc) (beside (read_rows (five 20) doc) (read_rows (five 25) doc))
+
+-- the first bad one of the first fifteen fields, and of the last fifteen
+abbrev pub bad_in_front : List Field → Option (List ℕ)
+bad_in_front doc = option_or (first_bad (five 0) doc) (option_or (first_bad (five 5) doc) (first_bad (five 10) doc))
+
+abbrev pub bad_in_back : List Field → Option (List ℕ)
+bad_in_back doc = option_or (first_bad (five 15) doc) (option_or (first_bad (five 20) doc) (first_bad (five 25) doc))
 
 -- the reply with these values
 abbrev pub reply_of_halves : FrontValues × BackValues → HelloCommandResponse

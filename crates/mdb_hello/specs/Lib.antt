@@ -9,3 +9,4 @@ pub mod Reading
 pub mod Reply
 pub mod ServerTypes
 pub mod Table
+pub mod TagRule

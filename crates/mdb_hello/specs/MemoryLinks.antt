@@ -22,11 +22,11 @@ abbrev pub next_document : MemLink → Option (List Field)
 next_document s = first_of (left s)
 
 abbrev pub link_state : MemLink → LinkState
-link_state s = record { last_error = s.last_error; faults = s.faults }
+link_state s = record { last_error = Some s.last_error; faults = s.faults }
 
 -- a link that has not failed
 abbrev pub unfailed : LinkState
-unfailed = record { last_error = None; faults = 0 }
+unfailed = record { last_error = Some None; faults = 0 }
 
 -- the error with which it fails
 abbrev pub link_error : MemLink → Error
@@ -48,24 +48,20 @@ next_call s = min (call_count s + 1) (2 ^ 64 - 1)
 abbrev pub fails_next : MemLink → Bool
 fails_next s = list_any (λ number. number == next_call s) (listed_calls s) || length (left s) == 0
 
--- A call was counted, and its error and the calls that fail stay.
-pub record IsCounted (old new : MemLink) : Type 0 where
-  pub calls : call_count new ≡ next_call old
-  pub fails : listed_calls new ≡ listed_calls old
-  pub error : link_error new ≡ link_error old
-
--- A call that is to fail gives the link's error and leaves the documents; any other call hands out the first of them.
--- Want of memory changes nothing.
-abbrev pub Moves : MemLink → MemLink → Result Doc LinkError → Type 0
-Moves old new (Ok doc) = IsCounted old new × (fails_next old ≡ false) × (left old ≡ doc_content doc ∷ left new)
-Moves old new (Err (link.Failed error)) = IsCounted old new × (fails_next old ≡ true) × (left new ≡ left old) × (error ≡ link_error old)
-Moves old new (Err link.OutOfMemory) = new ≡ old
-
 -- a call that failed with this error
 abbrev pub failed : MemLink → MemLink
 failed s = record s { calls = next_call s; faults = min (s.faults + 1) (2 ^ 64 - 1); last_error = Some s.error }
 
--- a call fails with the link's error, but for want of memory
-abbrev pub Fails : MemLink → MemLink → Result Error LinkError → Type 0
-Fails old new (Ok error) = (new ≡ failed old) × (error ≡ link_error old)
-Fails old new (Err e) = (new ≡ old) × (e ≡ link.OutOfMemory)
+-- A call was counted, and all but the documents stays.
+pub record IsCounted (old new : MemLink) : Type 0 where
+  pub calls : call_count new ≡ next_call old
+  pub fails : listed_calls new ≡ listed_calls old
+  pub error : link_error new ≡ link_error old
+  pub state : link_state new ≡ link_state old
+
+-- A call that is to fail gives the link's error, which is then the last one, and leaves the documents; any other call
+-- hands out the first of them. Want of memory changes nothing.
+abbrev pub Moves : MemLink → MemLink → Result Doc LinkError → Type 0
+Moves old new (Ok doc) = IsCounted old new × (fails_next old ≡ false) × (left old ≡ doc_content doc ∷ left new)
+Moves old new (Err (link.Failed error)) = (new ≡ failed old) × (fails_next old ≡ true) × (error ≡ link_error old)
+Moves old new (Err link.OutOfMemory) = new ≡ old

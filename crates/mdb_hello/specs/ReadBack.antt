@@ -1,5 +1,5 @@
 -- Which replies are read back from what they are written as: all whose numbers are of their types, whose tags stand by name, and whose session timeout is below 2^63.
-use Rattle.std.specs.Prelude.{◌≡◌, ℕ, ◌^◌, ◌<◌, ℤ, List, [], ◌∷◌, Bool, true, false, Option, Some, None, IsTrue, IfSome}
+use Rattle.std.specs.Prelude.{ℕ, ◌^◌, ◌<◌, List, [], ◌∷◌, Bool, true, false, Option, Some, None, IsTrue}
 use Rattle.mdb_base.specs.Tags.{is_by_name}
 use Rattle.mdb_hello.specs.Kinds.{Kind, a_flag, a_text, some_texts, a_small_number, a_number, a_count, an_id, some_tags, a_last_write, a_version, a_document, Of, is_small}
 use Rattle.mdb_hello.specs.Table.{Row, Slot, Values, reply_fields}

@@ -1,5 +1,5 @@
 -- What a call that reads answers.
-use Rattle.std.specs.Prelude.{◌≡◌, ℕ, List, Result, Ok, Err}
+use Rattle.std.specs.Prelude.{◌≡◌, ℕ, List, Result, Ok, Err, IsOk}
 use Rattle.mdb_hello.specs.declared.error.HelloError.{HelloError}
 use Rattle.mdb_hello.specs.declared.error.HelloError.TheVariants as hello
 
@@ -8,3 +8,9 @@ abbrev pub Gives : {T : Type 0} → Result T HelloError → Result T (List ℕ) 
 Gives (Ok x) r = r ≡ Ok x
 Gives (Err (hello.BadField name)) r = r ≡ Err name.now
 Gives (Err hello.OutOfMemory) r = Unit {0}
+
+-- The same of a whole document, where want of memory comes only after all refusals: no field is bad.
+abbrev pub Reads : {T : Type 0} → Result T HelloError → Result T (List ℕ) → Type 0
+Reads (Ok x) r = r ≡ Ok x
+Reads (Err (hello.BadField name)) r = r ≡ Err name.now
+Reads (Err hello.OutOfMemory) r = IsOk r

@@ -1,5 +1,5 @@
 -- A reply to a hello as a document: what is read of a document, and what is written.
-use Rattle.std.specs.Prelude.{ℕ, List, [], ◌∷◌, Option, None, Result, Ok, Err, pos}
+use Rattle.std.specs.Prelude.{ℕ, List, None, Result, pos}
 use Rattle.mdb_base.specs.Document.{Field}
 use Rattle.mdb_hello.specs.Table.{on_ok, Values, reply_fields, read_rows, written_rows}
 use Rattle.mdb_hello.specs.declared.response.HelloCommandResponse.{HelloCommandResponse}

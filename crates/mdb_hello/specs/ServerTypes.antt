@@ -1,5 +1,5 @@
 -- What kind of server a reply comes from.
-use Rattle.std.specs.Prelude.{Bool, true, false, ◌||◌, if◌then◌else◌, Option, Some, None, is_some, codes, List, ℕ, nat_eq}
+use Rattle.std.specs.Prelude.{Bool, false, ◌||◌, if◌then◌else◌, Option, Some, None, is_some, codes, List, ℕ, nat_eq}
 use Rattle.std.specs.Cmp.Lexicographic.{pointwise}
 use Rattle.mdb_hello.specs.declared.response.HelloCommandResponse.{HelloCommandResponse}
 use Rattle.mdb_hello.specs.declared.server_type.ServerType.{ServerType}

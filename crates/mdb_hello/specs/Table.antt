@@ -1,5 +1,7 @@
 -- The fields of a reply to a hello, in order, and how a table of fields is read from a document and written to one.
 use Rattle.std.specs.Prelude.{ℕ, List, [], ◌∷◌, ◌++◌, Bool, true, false, Option, Some, None, Result, Ok, Err, codes}
+use Rattle.std.specs.Option.{option_or}
+use Rattle.std.specs.Result.{result_err}
 use Rattle.mdb_base.specs.Document.{Content, Field}
 use Rattle.mdb_hello.specs.Kinds.{Kind, a_flag, a_text, some_texts, a_small_number, a_number, a_count, an_id, some_tags, a_last_write, a_version, a_document, Of, named, read_as, written_as}
 
@@ -96,6 +98,11 @@ beside (Ok x) (Ok y) = Ok (x, y)
 abbrev pub read_rows : (rows : List Row) → List Field → Result (Values rows) (List ℕ)
 read_rows [] doc = Ok tt
 read_rows (row ∷ rows) doc = beside (read_row row doc) (read_rows rows doc)
+
+-- the name of the first field that has another type or is required and absent, where there is one
+abbrev pub first_bad : List Row → List Field → Option (List ℕ)
+first_bad [] doc = None
+first_bad (row ∷ rows) doc = option_or (result_err (read_row row doc)) (first_bad rows doc)
 
 -- a field, where it is there
 abbrev pub optional_field : {T : Type 0} → (T → Content) → List ℕ → Option T → List Field

@@ -15,6 +15,10 @@ pub enum HelloError {
     OutOfMemory,
 }
 
+/// The first field, in the order of the reply's fields, that has another type, or that is required and absent.
+#[derive(Clone, Copy, Debug, PartialEq, Eq)]
+pub struct BadField(pub &'static str);
+
 /// Why a link gave no document.
 #[derive(Debug, Drop, ThisError)]
 pub enum LinkError {

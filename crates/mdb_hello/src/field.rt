@@ -1,6 +1,6 @@
 //! Fields of a document, read by the type that is wanted.
 
-ghost use Rattle.std.specs.Prelude.{◌≡◌, ◌++◌, ◌∷◌, [], IfOk, OnOk, option_map, map};
+ghost use Rattle.std.specs.Prelude.{◌≡◌, ◌++◌, ◌∷◌, [], IfOk, OnOk, is_some, option_map, map};
 ghost use Rattle.mdb_base.specs.Document.{value_content, doc_content, named_content};
 ghost use Rattle.mdb_hello.specs.Kinds.{named, document_in, list_in, text_in};
 ghost use Rattle.mdb_hello.specs.Table.{optional_in, required_in, optional_field};
@@ -21,6 +21,10 @@ pub trait FieldValue: Sized + Drop {
 
     /// What a value is written as.
     ghost content: { Self → Content };
+
+    /// Whether the value is one of this type. No memory is taken.
+    fn fits(value: &Value) -> bool
+        ensures { result ≡ is_some (value_in (value_content value.now)) };
 
     /// The value, and `None` where it is of another type.
     fn from_value(alloc: Global, value: &Value) -> Result<Option<Self>, OutOfMemory>

@@ -8,6 +8,7 @@ ghost use Rattle.mdb_hello.specs.Groups.{greeting_values, membership_values, rol
 ghost use Rattle.mdb_hello.specs.Reading.{Gives};
 ghost use Rattle.mdb_hello.specs.Table.{on_ok, beside, read_rows, reply_fields};
 
+use crate::command::LEGACY_HELLO_COMMAND_NAME_LOWERCASE;
 use crate::error::HelloError;
 use crate::field::{optional, required};
 use crate::response::LastWrite;
@@ -28,7 +29,7 @@ fn read_greeting(alloc: Global, doc: &Doc) -> Result<Greeting, HelloError>
 {
     Ok(Greeting {
         is_writable_primary: optional(alloc, doc, "isWritablePrimary")?,
-        is_master: optional(alloc, doc, "ismaster")?,
+        is_master: optional(alloc, doc, LEGACY_HELLO_COMMAND_NAME_LOWERCASE)?,
         hello_ok: optional(alloc, doc, "helloOk")?,
         hosts: optional(alloc, doc, "hosts")?,
         passives: optional(alloc, doc, "passives")?,

@@ -1,6 +1,7 @@
 //! Hello: the command by which a driver greets a server, and the server's reply (SDAM, "hello").
 #![tactic(auto)]
 
+mod checking;
 mod command;
 mod error;
 mod field;

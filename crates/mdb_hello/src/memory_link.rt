@@ -1,15 +1,14 @@
 //! A link in memory.
 
-ghost use Rattle.std.specs.Prelude.{◌≡◌, map};
+ghost use Rattle.std.specs.Prelude.{◌≡◌, map, IfOk, OnErr};
 ghost use Rattle.mdb_base.specs.Document.{doc_content};
-ghost use Rattle.mdb_hello.specs.Links.{Exchanges};
-ghost use Rattle.mdb_hello.specs.MemoryLinks.{left, next_document, link_state, unfailed, link_error, listed_calls, call_count, next_call, fails_next, Moves, Fails};
+ghost use Rattle.mdb_hello.specs.MemoryLinks.{left, link_state, unfailed, link_error, listed_calls, call_count, next_call, fails_next, failed};
 
 use crate::command::Command;
 use crate::error::LinkError;
 use crate::link::Link;
 use mdb_base::{Doc, Error};
-use std::alloc::Global;
+use std::alloc::{AllocError, Global};
 
 /// A link that gives its documents one after the other, whatever the command. Its calls are numbered from 1. Those
 /// in `fails`, and those for which no document is left, fail with `error`, and leave the documents.
@@ -58,8 +57,10 @@ impl MemLink {
     }
 
     // Fails this call, and gives the error.
-    fn fail(&mut self) -> Result<Error, LinkError>
-        ensures { Fails self.old self.new result }
+    fn fail(&mut self) -> Result<Error, AllocError>
+        ensures failed { IfOk result (λ error. self.new ≡ failed self.old) }
+        ensures error { IfOk result (λ error. error ≡ link_error self.old) }
+        ensures kept { OnErr result (self.new ≡ self.old) }
     {
         let error = self.error.clone()?;
         let last_error = self.error.clone()?;
@@ -71,16 +72,15 @@ impl MemLink {
 }
 
 impl Link for MemLink {
-    ghost use Rattle.mdb_hello.specs.MemoryLinks.{next_document, link_state};
+    ghost use Rattle.mdb_hello.specs.MemoryLinks.{next_document, link_state, Moves};
 
     ghost document = { λ s c. next_document s };
 
     ghost state = { link_state };
 
-    fn exchange(&mut self, _alloc: Global, _command: &Command) -> Result<Doc, LinkError>
-        ensures exchanges { Exchanges (next_document self.old) (link_state self.old) (link_state self.new) result }
-        ensures moves { Moves self.old self.new result }
-    {
+    ghost exchanged = { λ s c answer t. Moves s t answer };
+
+    fn exchange(&mut self, _alloc: Global, _command: &Command) -> Result<Doc, LinkError> {
         if self.fails_next() {
             return Err(LinkError::Failed(self.fail()?));
         }

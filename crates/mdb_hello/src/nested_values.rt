@@ -1,6 +1,6 @@
 //! The values of a reply's fields that stand in a document as lists and as documents of their own.
 
-ghost use Rattle.std.specs.Prelude.{◌≡◌, IfOk, option_map, map};
+ghost use Rattle.std.specs.Prelude.{◌≡◌, IfOk, is_some, option_map, map};
 ghost use Rattle.mdb_base.specs.Document.{value_content, doc_content};
 ghost use Rattle.mdb_hello.specs.Kinds.{all_texts, last_write_of, version_of};
 
@@ -16,6 +16,13 @@ impl FieldValue for LastWrite {
     ghost value_in = { last_write_in };
 
     ghost content = { last_write_content };
+
+    fn fits(value: &Value) -> bool {
+        match nested(value) {
+            Some(doc) => last_write_of(doc).is_some(),
+            None => false,
+        }
+    }
 
     fn from_value(_alloc: Global, value: &Value) -> Result<Option<LastWrite>, OutOfMemory> {
         match nested(value) {
@@ -54,6 +61,13 @@ impl FieldValue for TopologyVersion {
 
     ghost content = { version_content };
 
+    fn fits(value: &Value) -> bool {
+        match nested(value) {
+            Some(doc) => version_of(doc).is_some(),
+            None => false,
+        }
+    }
+
     fn from_value(_alloc: Global, value: &Value) -> Result<Option<TopologyVersion>, OutOfMemory> {
         match nested(value) {
             Some(doc) => Ok(version_of(doc)),
@@ -88,6 +102,13 @@ impl FieldValue for Items<Text> {
 
     ghost content = { texts_content };
 
+    fn fits(value: &Value) -> bool {
+        match listed(value) {
+            Some(values) => are_texts(values),
+            None => false,
+        }
+    }
+
     fn from_value(alloc: Global, value: &Value) -> Result<Option<Items<Text>>, OutOfMemory> {
         match listed(value) {
             Some(values) => match texts_of(alloc, values)? {
@@ -105,6 +126,20 @@ impl FieldValue for Items<Text> {
         }
         Ok(list_of(values))
     }
+}
+
+// Whether each of the values is a text.
+fn are_texts(values: &[Value]) -> bool
+    ensures { result ≡ is_some (all_texts (map value_content values.now)) }
+{
+    let mut rest = values;
+    while let [value, more @ ..] = rest {
+        if text_of(value).is_none() {
+            return false;
+        }
+        rest = more;
+    }
+    true
 }
 
 // The texts, where each of the values is one.

@@ -4,7 +4,7 @@ ghost use Rattle.std.specs.Prelude.{◌≡◌, ◌-◌, ◌^◌, min, pos};
 ghost use Rattle.mdb_hello.specs.Kinds.{small_number, count_of};
 
 use crate::field::{FieldValue, nested, text_of};
-use mdb_base::{DateTime, Document, ObjectId, OutOfMemory, Text, Value};
+use mdb_base::{Document, ObjectId, OutOfMemory, Text, Value};
 use std::alloc::Global;
 
 impl FieldValue for bool {
@@ -14,6 +14,10 @@ impl FieldValue for bool {
     ghost value_in = { flag_in };
 
     ghost content = { boolean };
+
+    fn fits(value: &Value) -> bool {
+        matches!(value, Value::Bool(_))
+    }
 
     fn from_value(_alloc: Global, value: &Value) -> Result<Option<bool>, OutOfMemory> {
         match value {
@@ -34,6 +38,10 @@ impl FieldValue for Text {
     ghost value_in = { text_in };
 
     ghost content = { text };
+
+    fn fits(value: &Value) -> bool {
+        text_of(value).is_some()
+    }
 
     fn from_value(alloc: Global, value: &Value) -> Result<Option<Text>, OutOfMemory> {
         match text_of(value) {
@@ -56,6 +64,10 @@ impl FieldValue for i64 {
 
     ghost content = { int };
 
+    fn fits(value: &Value) -> bool {
+        matches!(value, Value::Int(_))
+    }
+
     fn from_value(_alloc: Global, value: &Value) -> Result<Option<i64>, OutOfMemory> {
         match value {
             Value::Int(n) => Ok(Some(*n)),
@@ -75,6 +87,13 @@ impl FieldValue for i32 {
     ghost value_in = { small_number_in };
 
     ghost content = { int };
+
+    fn fits(value: &Value) -> bool {
+        match value {
+            Value::Int(n) => small(*n).is_some(),
+            _ => false,
+        }
+    }
 
     fn from_value(_alloc: Global, value: &Value) -> Result<Option<i32>, OutOfMemory> {
         match value {
@@ -105,6 +124,13 @@ impl FieldValue for u64 {
     ghost value_in = { count_in };
 
     ghost content = { count_content };
+
+    fn fits(value: &Value) -> bool {
+        match value {
+            Value::Int(n) => count(*n).is_some(),
+            _ => false,
+        }
+    }
 
     fn from_value(_alloc: Global, value: &Value) -> Result<Option<u64>, OutOfMemory> {
         match value {
@@ -140,6 +166,10 @@ impl FieldValue for ObjectId {
 
     ghost content = { id };
 
+    fn fits(value: &Value) -> bool {
+        matches!(value, Value::Id(_))
+    }
+
     fn from_value(_alloc: Global, value: &Value) -> Result<Option<ObjectId>, OutOfMemory> {
         match value {
             Value::Id(id) => Ok(Some(*id)),
@@ -152,32 +182,16 @@ impl FieldValue for ObjectId {
     }
 }
 
-impl FieldValue for DateTime {
-    ghost use Rattle.mdb_base.specs.Document.{date};
-    ghost use Rattle.mdb_hello.specs.Kinds.{date_in};
-
-    ghost value_in = { date_in };
-
-    ghost content = { date };
-
-    fn from_value(_alloc: Global, value: &Value) -> Result<Option<DateTime>, OutOfMemory> {
-        match value {
-            Value::Date(date) => Ok(Some(*date)),
-            _ => Ok(None),
-        }
-    }
-
-    fn to_value(&self, _alloc: Global) -> Result<Value, OutOfMemory> {
-        Ok(Value::Date(*self))
-    }
-}
-
 impl FieldValue for Document {
     ghost use Rattle.mdb_hello.specs.Kinds.{document_in, document_content};
 
     ghost value_in = { document_in };
 
     ghost content = { document_content };
+
+    fn fits(value: &Value) -> bool {
+        nested(value).is_some()
+    }
 
     fn from_value(_alloc: Global, value: &Value) -> Result<Option<Document>, OutOfMemory> {
         match nested(value) {

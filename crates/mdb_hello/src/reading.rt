@@ -1,12 +1,15 @@
 //! Reading a reply from a document.
 
-ghost use Rattle.std.specs.Prelude.{◌≡◌};
+ghost use Rattle.std.specs.Prelude.{◌≡◌, IfOk, codes};
 ghost use Rattle.mdb_base.specs.Document.{doc_content};
 ghost use Rattle.mdb_hello.specs.Groups.{halves_values, reply_of_halves};
-ghost use Rattle.mdb_hello.specs.Reading.{Gives};
+ghost use Rattle.mdb_hello.specs.Kinds.{named};
+ghost use Rattle.mdb_hello.specs.TagRule.{HasTagsOf};
+ghost use Rattle.mdb_hello.specs.Reading.{Gives, Reads};
 ghost use Rattle.mdb_hello.specs.Reply.{read};
 
-use crate::error::HelloError;
+use crate::checking::check;
+use crate::error::{BadField, HelloError};
 use crate::groups::{Back, Front, read_halves};
 use crate::response::HelloCommandResponse;
 use mdb_base::Doc;
@@ -15,14 +18,25 @@ use std::alloc::Global;
 impl HelloCommandResponse {
     /// Reads a server's answer to a hello. `BadField` names the first field, in the order of this struct, that has
     /// another type, or that is one of the two sizes and is absent. Of repeated names the first counts, and other
-    /// names are ignored.
+    /// names are ignored. `OutOfMemory` comes only where no field is bad.
     pub fn from_doc(alloc: Global, doc: &Doc) -> Result<HelloCommandResponse, HelloError>
-        ensures { Gives result (read (doc_content doc.now)) }
+        ensures read { Reads result (read (doc_content doc.now)) }
+        ensures tags { IfOk result (λ reply. HasTagsOf (named (codes "tags") (doc_content doc.now)) reply.tags) }
     {
-        match read_halves(alloc, doc) {
-            Ok((front, back)) => Ok(reply_of(front, back)),
-            Err(e) => Err(e),
+        match check(doc) {
+            Ok(()) => read_reply(alloc, doc),
+            Err(BadField(name)) => Err(HelloError::BadField(name)),
         }
+    }
+}
+
+// Reads a reply, copying each field in turn.
+fn read_reply(alloc: Global, doc: &Doc) -> Result<HelloCommandResponse, HelloError>
+    ensures { Gives result (read (doc_content doc.now)) }
+{
+    match read_halves(alloc, doc) {
+        Ok((front, back)) => Ok(reply_of(front, back)),
+        Err(e) => Err(e),
     }
 }
 

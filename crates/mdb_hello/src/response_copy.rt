@@ -2,7 +2,7 @@
 
 ghost use Rattle.std.specs.Prelude.{◌≡◌, IfOk};
 
-use super::HelloCommandResponse;
+use super::{HelloCommandResponse, HelloReply};
 use mdb_base::{Document, Items, TagSet, Text};
 use std::alloc::AllocError;
 
@@ -123,6 +123,22 @@ impl Clone for HelloCommandResponse {
             topology_version: self.topology_version,
             max_message_size_bytes: self.max_message_size_bytes,
             connection_id: self.connection_id,
+        })
+    }
+}
+
+impl Clone for HelloReply {
+    ghost is_clone = { λ s t. t ≡ s };
+
+    fn clone(&self) -> Result<HelloReply, AllocError> {
+        let server_address = self.server_address.clone()?;
+        let raw_command_response = self.raw_command_response.clone()?;
+        let command_response = self.command_response.clone()?;
+        Ok(HelloReply {
+            server_address,
+            command_response,
+            raw_command_response,
+            cluster_time: self.cluster_time,
         })
     }
 }

@@ -1,6 +1,6 @@
 //! Tags, as a reply's document has them.
 
-ghost use Rattle.std.specs.Prelude.{◌≡◌, IfOk, OnOk, map, []};
+ghost use Rattle.std.specs.Prelude.{◌≡◌, IfOk, OnOk, is_some, map, []};
 ghost use Rattle.mdb_base.specs.Document.{doc_content, named_content};
 ghost use Rattle.mdb_hello.specs.Kinds.{put_tag, put_tags};
 
@@ -17,6 +17,13 @@ impl FieldValue for TagSet {
 
     ghost content = { tags_content };
 
+    fn fits(value: &Value) -> bool {
+        match nested(value) {
+            Some(doc) => are_tags(doc),
+            None => false,
+        }
+    }
+
     fn from_value(alloc: Global, value: &Value) -> Result<Option<TagSet>, OutOfMemory> {
         match nested(value) {
             Some(doc) => tags_of(alloc, doc),
@@ -32,6 +39,26 @@ impl FieldValue for TagSet {
         }
         Ok(nest(fields))
     }
+}
+
+fn are_tags(doc: &Doc) -> bool
+    ensures { result ≡ is_some (put_tags [] (doc_content doc.now)) }
+{
+    hold_texts(doc.fields.as_slice())
+}
+
+// Whether each of the fields is a text.
+fn hold_texts(fields: &[(String, Value)]) -> bool
+    ensures { result ≡ is_some (put_tags [] (map named_content fields.now)) }
+{
+    let mut rest = fields;
+    while let [(_, value), more @ ..] = rest {
+        if text_of(value).is_none() {
+            return false;
+        }
+        rest = more;
+    }
+    true
 }
 
 fn tags_of(alloc: Global, doc: &Doc) -> Result<Option<TagSet>, OutOfMemory>

@@ -9,6 +9,7 @@ ghost use Rattle.mdb_hello.specs.ReadBack.{IsShort};
 ghost use Rattle.mdb_hello.specs.Reply.{read, written};
 ghost use Rattle.mdb_hello.specs.Table.{written_rows};
 
+use crate::command::LEGACY_HELLO_COMMAND_NAME_LOWERCASE;
 use crate::field::{push_optional, push_required};
 use crate::making::doc_of;
 use crate::plain_reply::plain_reply;
@@ -31,7 +32,12 @@ fn write_greeting(
         "isWritablePrimary",
         &reply.is_writable_primary,
     )?;
-    push_optional(alloc, fields, "ismaster", &reply.is_master)?;
+    push_optional(
+        alloc,
+        fields,
+        LEGACY_HELLO_COMMAND_NAME_LOWERCASE,
+        &reply.is_master,
+    )?;
     push_optional(alloc, fields, "helloOk", &reply.hello_ok)?;
     push_optional(alloc, fields, "hosts", &reply.hosts)?;
     push_optional(alloc, fields, "passives", &reply.passives)?;

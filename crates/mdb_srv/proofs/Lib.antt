@@ -1,3 +1,4 @@
+pub mod Answered
 pub mod Cuts
 pub mod Domains
 pub mod Examples

@@ -1,5 +1,6 @@
 pub mod Answers
 pub mod Hosts
+pub mod Lookups
 pub mod Memory
 pub mod Polling
 pub mod Records

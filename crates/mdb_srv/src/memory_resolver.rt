@@ -1,11 +1,11 @@
 //! A resolver in memory.
-ghost use Rattle.std.specs.Prelude.{◌≡◌, ◌==◌, ◌+◌, ◌-◌, ◌^◌, min, MatchBool, MatchOption, []};
-ghost use Rattle.std.specs.List.{list_any};
-ghost use Rattle.mdb_base.specs.Outside.{Rose};
+ghost use Rattle.std.specs.Prelude.{◌≡◌, MatchOption, IfOk, [], option_map};
+ghost use Rattle.mdb_srv.specs.declared.resolver.LookupError.TheVariants.{Failed};
+ghost use Rattle.mdb_srv.specs.Records.{txt_answer};
 
 use super::{LookupError, Resolver, SrvRecord, TxtRecord};
 use mdb_base::{Items, Text};
-use std::alloc::Global;
+use std::alloc::{AllocError, Global};
 
 /// The records that stand under a name.
 #[derive(Debug, Drop)]
@@ -19,7 +19,8 @@ pub struct MemRecords {
 }
 
 /// A resolver that holds its records: for each name those of the first entry with that name, and none for any other.
-/// Both lookups are numbered together from 1, and those whose numbers stand in `fails` fail.
+/// Both lookups are numbered together from 1, and those whose numbers stand in `fails` fail. A lookup that wants memory
+/// has no number.
 #[derive(Debug, Drop)]
 pub struct MemResolver {
     answers: Vec<MemRecords>,
@@ -29,13 +30,15 @@ pub struct MemResolver {
 }
 
 impl MemResolver {
-    ghost use Rattle.mdb_srv.specs.Memory.{srv_in, txt_in, srv_held, txt_held, resolver_faults};
+    ghost use Rattle.mdb_srv.specs.Memory.{srv_in, txt_in, srv_held, txt_held, resolver_faults, listed_lookups, lookup_count, next_lookup, fails_next, counted, failed};
 
-    /// A resolver of these records, which was not asked yet.
+    /// A resolver of these records, which was not asked yet. No memory is taken.
     pub fn new(answers: Vec<MemRecords>, fails: Vec<u64>) -> MemResolver
         ensures srv { srv_held result ≡ srv_in answers.items }
         ensures txt { txt_held result ≡ txt_in answers.items }
         ensures faults { resolver_faults result ≡ 0 }
+        ensures fails { listed_lookups result ≡ fails.items }
+        ensures calls { lookup_count result ≡ 0 }
     {
         MemResolver {
             answers,
@@ -45,18 +48,54 @@ impl MemResolver {
         }
     }
 
-    // Whether the next call fails, which it then counts.
-    fn fails_now(&mut self) -> bool
-        ensures same { self.new ≡ record self.old { calls = min (self.old.calls + 1) (2 ^ 64 - 1); faults = self.new.faults } }
-        ensures listed { result ≡ list_any (λ number. number == min (self.old.calls + 1) (2 ^ 64 - 1)) self.old.fails.items }
-        ensures cause { MatchBool result (Rose self.old.faults self.new.faults) (self.new.faults ≡ self.old.faults) }
+    // The number of the next call.
+    fn next_call(&self) -> u64
+        ensures { result ≡ next_lookup self.now }
     {
-        self.calls = self.calls.saturating_add(1);
-        let fails = self.fails.contains(&self.calls);
-        if fails {
-            self.faults = self.faults.saturating_add(1);
+        self.calls.saturating_add(1)
+    }
+
+    fn fails_next(&self) -> bool
+        ensures { result ≡ fails_next self.now }
+    {
+        self.fails.contains(&self.next_call())
+    }
+
+    // Counts a call.
+    fn count(&mut self)
+        ensures { self.new ≡ counted self.old }
+    {
+        self.calls = self.next_call();
+    }
+
+    // Counts a call that fails.
+    fn fail(&mut self) -> LookupError
+        ensures failed { self.new ≡ failed self.old }
+        ensures error { result ≡ Failed }
+    {
+        self.calls = self.next_call();
+        self.faults = self.faults.saturating_add(1);
+        LookupError::Failed
+    }
+
+    fn srv(&self, alloc: Global, query: &str) -> Result<Vec<SrvRecord>, AllocError>
+        ensures { IfOk result (λ found. found.items ≡ srv_held self.now query.now) }
+    {
+        match self.entry(query) {
+            Some(held) => Ok(held.srv.clone()?.into_inner()),
+            None => Ok(Vec::new(alloc)),
         }
-        fails
+    }
+
+    fn txt(&self, query: &str) -> Result<Option<Vec<TxtRecord>>, AllocError>
+        ensures { IfOk result (λ found. option_map (λ list. list.items) found ≡ txt_answer (txt_held self.now query.now)) }
+    {
+        match self.entry(query) {
+            Some(held) if !held.txt.as_slice().is_empty() => Ok(Some(
+                held.txt.clone()?.into_inner(),
+            )),
+            _ => Ok(None),
+        }
     }
 
     // The first entry with this name.
@@ -78,37 +117,39 @@ impl MemResolver {
 }
 
 impl Resolver for MemResolver {
-    ghost use Rattle.mdb_srv.specs.Memory.{srv_held, txt_held, resolver_faults};
+    ghost use Rattle.std.specs.Prelude.{Some};
+    ghost use Rattle.mdb_srv.specs.Memory.{srv_held, txt_held, resolver_faults, Moves};
+    ghost use Rattle.mdb_srv.specs.Records.{txt_answer};
 
-    ghost srv_records = { srv_held };
+    ghost srv_records = { λ r query. Some (srv_held r query) };
 
-    ghost txt_records = { txt_held };
+    ghost txt_records = { λ r query. Some (txt_held r query) };
 
     ghost faults = { resolver_faults };
 
+    ghost srv_looked = { λ r query answer s. Moves (srv_held r query) r answer s };
+
+    ghost txt_looked = { λ r query answer s. Moves (txt_answer (txt_held r query)) r answer s };
+
     fn srv_lookup(&mut self, alloc: Global, query: &str) -> Result<Vec<SrvRecord>, LookupError> {
-        if self.fails_now() {
-            return Err(LookupError::Failed);
+        if self.fails_next() {
+            return Err(self.fail());
         }
-        match self.entry(query) {
-            Some(held) => Ok(held.srv.clone()?.into_inner()),
-            None => Ok(Vec::new(alloc)),
-        }
+        let found = self.srv(alloc, query)?;
+        self.count();
+        Ok(found)
     }
 
     fn txt_lookup(
         &mut self,
-        alloc: Global,
+        _alloc: Global,
         query: &str,
     ) -> Result<Option<Vec<TxtRecord>>, LookupError> {
-        if self.fails_now() {
-            return Err(LookupError::Failed);
+        if self.fails_next() {
+            return Err(self.fail());
         }
-        match self.entry(query) {
-            Some(held) if !held.txt.as_slice().is_empty() => Ok(Some(
-                held.txt.clone()?.into_inner(),
-            )),
-            _ => Ok(None),
-        }
+        let found = self.txt(query)?;
+        self.count();
+        Ok(found)
     }
 }

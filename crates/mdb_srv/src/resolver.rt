@@ -78,24 +78,33 @@ impl From<AllocError> for LookupError {
     }
 }
 
-/// What looks records up. It holds records for each query, which no call changes, and an answer gives them.
+/// What looks records up. The records that it tells of no call changes, and an answer gives them.
 pub trait Resolver {
+    ghost use Rattle.std.specs.Prelude.{Option, Result};
+    ghost use Rattle.mdb_srv.specs.declared.resolver.LookupError.{LookupError};
     ghost use Rattle.mdb_srv.specs.Answers.{LookupCause};
-    ghost use Rattle.mdb_srv.specs.Records.{txt_answer};
+    ghost use Rattle.mdb_srv.specs.Records.{txt_answer, seen, Tells};
 
-    /// The SRV records for a query.
-    ghost srv_records: { Self → List ℕ → List SrvRecord };
+    /// The SRV records for a query, where the object tells.
+    ghost srv_records: { Self → List ℕ → Option (List SrvRecord) };
 
-    /// The TXT records for a query.
-    ghost txt_records: { Self → List ℕ → List TxtRecord };
+    /// The TXT records for a query, where the object tells.
+    ghost txt_records: { Self → List ℕ → Option (List TxtRecord) };
 
     /// How often it failed. The count never falls.
     ghost faults: { Self → ℕ };
 
+    /// What one lookup of SRV records is for this kind of resolver: before, the query, the answer, after.
+    ghost srv_looked: { Self → List ℕ → Result (List SrvRecord) LookupError → Self → Type 0 };
+
+    /// What one lookup of TXT records is for this kind of resolver.
+    ghost txt_looked: { Self → List ℕ → Result (Option (List TxtRecord)) LookupError → Self → Type 0 };
+
     /// The SRV records for `query`.
     fn srv_lookup(&mut self, alloc: Global, query: &str) -> Result<Vec<SrvRecord>, LookupError>
-        ensures found { IfOk result (λ found. found.items ≡ srv_records self.old query.now) }
+        ensures found { IfOk result (λ found. Tells (srv_records self.old query.now) found.items) }
         ensures cause { LookupCause (faults self.old) (faults self.new) result }
+        ensures looked { srv_looked self.old query.now (seen (λ found. found.items) result) self.new }
         ensures srv { srv_records self.new ≡ srv_records self.old }
         ensures txt { txt_records self.new ≡ txt_records self.old };
 
@@ -105,9 +114,10 @@ pub trait Resolver {
         alloc: Global,
         query: &str,
     ) -> Result<Option<Vec<TxtRecord>>, LookupError>
-        ensures found { IfOk result (λ found. option_map (λ list. list.items) found
-            ≡ txt_answer (txt_records self.old query.now)) }
+        ensures found { IfOk result (λ found. Tells (option_map txt_answer (txt_records self.old query.now))
+            (option_map (λ list. list.items) found)) }
         ensures cause { LookupCause (faults self.old) (faults self.new) result }
+        ensures looked { txt_looked self.old query.now (seen (option_map (λ list. list.items)) result) self.new }
         ensures srv { srv_records self.new ≡ srv_records self.old }
         ensures txt { txt_records self.new ≡ txt_records self.old };
 }

@@ -1,5 +1,9 @@
 //! The seeds and the options of a deployment, looked up.
-ghost use Rattle.std.specs.Prelude.{◌≡◌, IfOk, IfErr, OnErr, OnOk, Ok, option_map, string_bytes};
+ghost use Rattle.std.specs.Prelude.{◌≡◌, List, IfOk, IfErr, OnErr, OnOk, Ok, Some, option_map, string_bytes};
+ghost use Rattle.std.specs.Result.{result_and};
+ghost use Rattle.mdb_srv.specs.declared.resolver.SrvRecord.{SrvRecord};
+ghost use Rattle.mdb_srv.specs.declared.resolver.TxtRecord.{TxtRecord};
+ghost use Rattle.mdb_srv.specs.Lookups.{LooksHostsUp, LooksOptionsUp, Resolves};
 ghost use Rattle.mdb_srv.specs.Answers.{FaultCause, RefusesOrFails};
 ghost use Rattle.mdb_srv.specs.declared.hosts.DomainMismatch.TheVariants.{Error};
 ghost use Rattle.mdb_srv.specs.Hosts.{valid_hosts};
@@ -33,7 +37,7 @@ impl<R: Resolver> SrvResolver<R> {
         }
     }
 
-    /// Looks up the SRV records of `original_hostname` and accepts their hosts as `LookupHosts::validate` does.
+    /// Looks up the SRV records of `original_hostname`, once, and accepts their hosts as `LookupHosts::validate` does.
     ///
     /// `DnsResolve` comes where that call refuses them, and `ResolverFault` only where the resolver failed.
     pub fn get_srv_hosts(
@@ -42,15 +46,20 @@ impl<R: Resolver> SrvResolver<R> {
         original_hostname: &str,
         dm: DomainMismatch,
     ) -> Result<LookupHosts, SrvError>
+        // Where the resolver tells the records:
         ensures hosts { let query = srv_query self.old.srv_service_name original_hostname.now in
-            let records = R.srv_records self.old.resolver query in
+            (records : List SrvRecord) → R.srv_records self.old.resolver query ≡ Some records →
             IfOk result (λ found. valid_hosts original_hostname.now dm (hosts_of records) ≡ Ok found.hosts) }
         ensures ttl { let query = srv_query self.old.srv_service_name original_hostname.now in
-            let records = R.srv_records self.old.resolver query in
+            (records : List SrvRecord) → R.srv_records self.old.resolver query ≡ Some records →
             IfOk result (λ found. found.min_ttl ≡ least_ttl records) }
         ensures refused { let query = srv_query self.old.srv_service_name original_hostname.now in
-            let records = R.srv_records self.old.resolver query in
+            (records : List SrvRecord) → R.srv_records self.old.resolver query ≡ Some records →
             IfErr result (RefusesOrFails (valid_hosts original_hostname.now dm (hosts_of records))) }
+
+        // Whatever it tells:
+        ensures once { let query = srv_query self.old.srv_service_name original_hostname.now in
+            LooksHostsUp (λ r answer s. R.srv_looked r query answer s) original_hostname.now dm self.old.resolver self.new.resolver result }
         ensures cause { FaultCause (R.faults self.old.resolver) (R.faults self.new.resolver) result }
         ensures srv { R.srv_records self.new.resolver ≡ R.srv_records self.old.resolver }
         ensures txt { R.txt_records self.new.resolver ≡ R.txt_records self.old.resolver }
@@ -62,7 +71,7 @@ impl<R: Resolver> SrvResolver<R> {
         found.validate(alloc, original_hostname, dm)
     }
 
-    /// Looks up the TXT records of `original_hostname` and sets the options that they name in `config`. Of two
+    /// Looks up the TXT records of `original_hostname`, once, and sets the options that they name in `config`. Of two
     /// values for one option the later counts. No records change nothing.
     ///
     /// `DnsResolve` comes where there is more than one record, or where a part of the record is no option: the first
@@ -74,10 +83,15 @@ impl<R: Resolver> SrvResolver<R> {
         original_hostname: &str,
         config: &mut ResolvedConfig,
     ) -> Result<(), SrvError>
-        ensures set { let records = R.txt_records self.old.resolver original_hostname.now in
+        // Where the resolver tells the records:
+        ensures set { (records : List TxtRecord) → R.txt_records self.old.resolver original_hostname.now ≡ Some records →
             OnOk result (configured original_hostname.now records config.old ≡ Ok config.new) }
-        ensures refused { let records = R.txt_records self.old.resolver original_hostname.now in
+        ensures refused { (records : List TxtRecord) → R.txt_records self.old.resolver original_hostname.now ≡ Some records →
             IfErr result (RefusesOrFails (configured original_hostname.now records config.old)) }
+
+        // Whatever it tells:
+        ensures once { LooksOptionsUp (λ r answer s. R.txt_looked r original_hostname.now answer s) original_hostname.now config.old
+            self.old.resolver self.new.resolver (result_and result (Ok config.new)) }
         ensures unchanged { OnErr result (config.new ≡ config.old) }
         ensures cause { FaultCause (R.faults self.old.resolver) (R.faults self.new.resolver) result }
         ensures srv { R.srv_records self.new.resolver ≡ R.srv_records self.old.resolver }
@@ -91,7 +105,7 @@ impl<R: Resolver> SrvResolver<R> {
     }
 
     /// Looks up the seeds of a deployment and its options: the SRV records of `hostname`, whose hosts must all be in
-    /// its domain, and then its TXT records.
+    /// its domain, and then, where they are accepted, its TXT records.
     ///
     /// `DnsResolve` and `ResolverFault` come as from the two lookups.
     pub fn resolve_client_options(
@@ -99,12 +113,20 @@ impl<R: Resolver> SrvResolver<R> {
         alloc: Global,
         hostname: &str,
     ) -> Result<ResolvedConfig, SrvError>
-        ensures found { let srv = R.srv_records self.old.resolver (srv_query self.old.srv_service_name hostname.now) in
-            let txt = R.txt_records self.old.resolver hostname.now in
+        // Where the resolver tells the records:
+        ensures found { let query = srv_query self.old.srv_service_name hostname.now in
+            (srv : List SrvRecord) (txt : List TxtRecord)
+            → R.srv_records self.old.resolver query ≡ Some srv → R.txt_records self.old.resolver hostname.now ≡ Some txt →
             IfOk result (λ config. resolved hostname.now srv txt ≡ Ok config) }
-        ensures refused { let srv = R.srv_records self.old.resolver (srv_query self.old.srv_service_name hostname.now) in
-            let txt = R.txt_records self.old.resolver hostname.now in
+        ensures refused { let query = srv_query self.old.srv_service_name hostname.now in
+            (srv : List SrvRecord) (txt : List TxtRecord)
+            → R.srv_records self.old.resolver query ≡ Some srv → R.txt_records self.old.resolver hostname.now ≡ Some txt →
             IfErr result (RefusesOrFails (resolved hostname.now srv txt)) }
+
+        // Whatever it tells:
+        ensures order { let query = srv_query self.old.srv_service_name hostname.now in
+            Resolves (λ r answer s. R.srv_looked r query answer s) (λ r answer s. R.txt_looked r hostname.now answer s) hostname.now
+            self.old.resolver self.new.resolver result }
         ensures cause { FaultCause (R.faults self.old.resolver) (R.faults self.new.resolver) result }
         ensures srv { R.srv_records self.new.resolver ≡ R.srv_records self.old.resolver }
         ensures txt { R.txt_records self.new.resolver ≡ R.txt_records self.old.resolver }

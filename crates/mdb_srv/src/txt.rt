@@ -1,10 +1,8 @@
 //! What the TXT records of a host say.
-ghost use Rattle.std.specs.Prelude.{◌≡◌, ◌==◌, List, IfOk, IfErr, Ok, map, string_bytes, option_map};
+ghost use Rattle.std.specs.Prelude.{◌≡◌, ◌==◌, IfOk, IfErr, Ok, map, string_bytes, option_map, unwrap_or, []};
 ghost use Rattle.std.specs.List.{slice_split, fold};
 ghost use Rattle.mdb_srv.specs.Answers.{Refuses};
 ghost use Rattle.mdb_srv.specs.Txt.{all_options, txt_options, text_of, with_option, plain_config};
-ghost use Rattle.mdb_srv.specs.Records.{txt_answer};
-ghost use Rattle.mdb_srv.specs.declared.resolver.TxtRecord.{TxtRecord};
 
 use super::refusals::too_many;
 use super::txt_option::TxtOption;
@@ -18,10 +16,8 @@ pub(crate) fn txt_options(
     original: &str,
     records: Option<Vec<TxtRecord>>,
 ) -> Result<Vec<TxtOption>, SrvError>
-    ensures found { (held : List TxtRecord) → option_map (λ list. list.items) records ≡ txt_answer held
-        → IfOk result (λ options. txt_options original.now held ≡ Ok options.items) }
-    ensures refused { (held : List TxtRecord) → option_map (λ list. list.items) records ≡ txt_answer held
-        → IfErr result (Refuses (txt_options original.now held)) }
+    ensures found { IfOk result (λ options. txt_options original.now (unwrap_or (option_map (λ list. list.items) records) []) ≡ Ok options.items) }
+    ensures refused { IfErr result (Refuses (txt_options original.now (unwrap_or (option_map (λ list. list.items) records) []))) }
 {
     match records {
         Some(records) => options_of(alloc, original, &records),

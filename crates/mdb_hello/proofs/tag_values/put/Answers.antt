@@ -1,4 +1,4 @@
-use Rattle.std.proofs.Common.{◌≡◌, sym, ap, ◌∙◌, arith, length, ◌<◌, ◌≤◌}
+use Rattle.std.proofs.Common.{sym, ap, ◌∙◌, arith, length, ◌<◌, ◌≤◌}
 use Rattle.mdb_hello.specs.Kinds.{put_tag}
 use Rattle.mdb_hello.proofs.Placed.{put_less, put_equal, put_end}
 use Rattle.mdb_hello.proofs.tag_values.put.Goals as goal

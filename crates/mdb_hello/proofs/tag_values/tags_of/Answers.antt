@@ -1,4 +1,4 @@
-use Rattle.std.proofs.Common.{◌≡◌, ap, sym, ◌∙◌, [], map}
+use Rattle.std.proofs.Common.{ap, sym, ◌∙◌, [], map}
 use Rattle.mdb_base.specs.Document.{named_content}
 use Rattle.mdb_base.proofs.Documents.{doc_content_out}
 use Rattle.mdb_hello.specs.Kinds.{put_tags}

@@ -1,4 +1,4 @@
-use Rattle.std.proofs.Common.{◌≡◌, ◌≤◌, ◌-◌, length, string_bytes, sym, ap, ◌∙◌, arith, map, take}
+use Rattle.std.proofs.Common.{◌-◌, sym, ap, ◌∙◌, arith, map, take}
 use Rattle.mdb_base.specs.Document.{named_content}
 use Rattle.mdb_hello.specs.Kinds.{put_tag, put_tags}
 use Rattle.mdb_hello.proofs.Tagged.{put_text, put_other, by_name_put}
