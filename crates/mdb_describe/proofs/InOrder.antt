@@ -1,93 +1,22 @@
 -- Changes of a list keep its servers in the order of their addresses.
-use Rattle.std.proofs.Common.{◌≡◌, ℕ, Bool, true, false, not, ◌&&◌, ◌||◌, ◌==◌, nat_lt, List, [], ◌∷◌, filter, if◌then◌else◌, refl, sym, ap, ◌∙◌, inl, inr, arith}
-use Rattle.std.specs.declared.cmp.Ordering.{Ordering}
-use Rattle.std.specs.declared.cmp.Ordering.TheVariants.{Less, Equal, Greater}
-use Rattle.std.specs.Cmp.{IsTotalOrder}
-use Rattle.std.specs.Cmp.Lexicographic.{slice_cmp}
-use Rattle.std.specs.Ordering.{nat_cmp, is_lt, is_eq, ordering_then, ordering_reverse}
-use Rattle.std.proofs.lemmas.Cmp.{nat_list_cmp_total, nat_cmp_total, on_total, then_total, alike_right}
-use Rattle.std.proofs.lemmas.Map.Text.{is_eq-slice_cmp}
+use Rattle.std.proofs.Common.{◌≡◌, Bool, true, false, not, ◌&&◌, ◌||◌, List, [], ◌∷◌, filter, if◌then◌else◌, refl, sym, ◌∙◌, inl, inr}
 use Rattle.std.proofs.lemmas.Bool.{cases_Bool, and_parts, and_from}
-use Rattle.std.proofs.lemmas.Bool.Decides.{nat_tests}
 use Rattle.mdb_base.specs.declared.address.ServerAddress.{ServerAddress}
+use Rattle.mdb_base.specs.AddressOrder.{is_before, is_before_first as is_before_address}
 use Rattle.mdb_base.specs.Equality.{same_address}
+use Rattle.mdb_base.proofs.AddressOrder.{before_on, before_back, tied_left, tied_right}
 use Rattle.mdb_describe.specs.declared.description.ServerDescription.{ServerDescription}
 use Rattle.mdb_describe.specs.declared.change.Fate.{Fate}
 use Rattle.mdb_describe.specs.declared.change.Fate.TheVariants.{Stays, Forgotten, Gone}
 use Rattle.mdb_describe.specs.declared.change.Change.{Change}
 use Rattle.mdb_describe.specs.Descriptions.{unknown}
-use Rattle.mdb_describe.specs.Servers.{is_before, is_before_first, in_order, is_known, is_listed, is_primary_type, store, forget_where, forget_other_primaries, put, add, add_all, keep_listed}
+use Rattle.mdb_describe.specs.Servers.{addresses_of, in_order, is_known, is_listed, is_primary_type, store, forget_where, forget_other_primaries, put, add, add_all, keep_listed}
 use Rattle.mdb_describe.specs.Changes.{changed_servers, by_fate}
 
--- The order of addresses is a total one.
-
-abbrev rank : ServerAddress → ServerAddress → Ordering
-rank a b = ordering_then (slice_cmp nat_cmp a.host b.host) (nat_cmp a.port b.port)
-
-total : IsTotalOrder rank
-total = then_total (on_total (λ (a : ServerAddress). a.host) nat_list_cmp_total) (on_total (λ (a : ServerAddress). a.port) nat_cmp_total)
-
-number_lt : (p q : ℕ) → nat_lt p q ≡ is_lt (nat_cmp p q)
-number_lt p q = grind (arith, nat_tests)
-
-number_eq : (p q : ℕ) → (p == q) ≡ is_eq (nat_cmp p q)
-number_eq p q = grind (arith, nat_tests)
-
-lt_then : (o r : Ordering) → (is_lt o || (is_eq o && is_lt r)) ≡ is_lt (ordering_then o r)
-lt_then Less r = refl
-lt_then Equal r = refl
-lt_then Greater r = refl
-
-eq_then : (o r : Ordering) → (is_eq o && is_eq r) ≡ is_eq (ordering_then o r)
-eq_then Less r = refl
-eq_then Equal r = refl
-eq_then Greater r = refl
-
-before_by_rank : (a b : ServerAddress) → is_before a b ≡ is_lt (rank a b)
-before_by_rank a b =
-    let o = slice_cmp nat_cmp a.host b.host in
-    ap (λ (e : Bool). is_lt o || (e && nat_lt a.port b.port)) (sym (is_eq-slice_cmp a.host b.host))
-    ∙ ap (λ (e : Bool). is_lt o || (is_eq o && e)) (number_lt a.port b.port)
-    ∙ lt_then o (nat_cmp a.port b.port)
-
-same_by_rank : (a b : ServerAddress) → same_address a b ≡ is_eq (rank a b)
-same_by_rank a b =
-    let o = slice_cmp nat_cmp a.host b.host in
-    ap (λ (e : Bool). e && (a.port == b.port)) (sym (is_eq-slice_cmp a.host b.host))
-    ∙ ap (λ (e : Bool). is_eq o && e) (number_eq a.port b.port)
-    ∙ eq_then o (nat_cmp a.port b.port)
-
-is_less : (o : Ordering) → is_lt o ≡ true → o ≡ Less
-is_less Less h = refl
-is_less Equal h = absurd (cc)
-is_less Greater h = absurd (cc)
-
-is_tied : (o : Ordering) → is_eq o ≡ true → o ≡ Equal
-is_tied Less h = absurd (cc)
-is_tied Equal h = refl
-is_tied Greater h = absurd (cc)
-
-before_on : (a b c : ServerAddress) → is_before a b ≡ true → is_before b c ≡ true → is_before a c ≡ true
-before_on a b c h g = before_by_rank a c ∙ ap is_lt (total.trans a b c (is_less (rank a b) (sym (before_by_rank a b) ∙ h)) (is_less (rank b c) (sym (before_by_rank b c) ∙ g)))
-
-turned : (o : Ordering) → is_lt o ≡ false → is_eq (ordering_reverse o) ≡ false → is_lt (ordering_reverse o) ≡ true
-turned Less h g = absurd (cc)
-turned Equal h g = absurd (cc)
-turned Greater h g = refl
-
-before_back : (a b : ServerAddress) → is_before a b ≡ false → same_address b a ≡ false → is_before b a ≡ true
-before_back a b h g =
-    before_by_rank b a
-    ∙ ap is_lt (total.antisymm b a)
-    ∙ turned (rank a b) (sym (before_by_rank a b) ∙ h) (ap is_eq (sym (total.antisymm b a)) ∙ sym (same_by_rank b a) ∙ g)
-
-tied_left : (a b c : ServerAddress) → same_address a b ≡ true → is_before a c ≡ is_before b c
-tied_left a b c h = before_by_rank a c ∙ ap is_lt (total.congr a b c (is_tied (rank a b) (sym (same_by_rank a b) ∙ h))) ∙ sym (before_by_rank b c)
-
-tied_right : (a b c : ServerAddress) → same_address a b ≡ true → is_before c a ≡ is_before c b
-tied_right a b c h = before_by_rank c a ∙ ap is_lt (alike_right total a b c (is_tied (rank a b) (sym (same_by_rank a b) ∙ h))) ∙ sym (before_by_rank c b)
-
 -- What stands before the first server.
+
+abbrev is_before_first : ServerAddress → List ServerDescription → Bool
+is_before_first a xs = is_before_address a (addresses_of xs)
 
 abbrev Test : Type 0
 Test = ServerDescription → Bool

@@ -3,6 +3,7 @@ use Rattle.std.proofs.Common.{◌≡◌, ℕ, ◌<◌, ◌≤◌, ◌+◌, zero,
 use Rattle.std.proofs.lemmas.Bool.{cases_Bool}
 use Rattle.std.proofs.lemmas.List.{drop_more}
 use Rattle.mdb_base.specs.declared.address.ServerAddress.{ServerAddress}
+use Rattle.mdb_base.specs.AddressOrder.{is_before}
 use Rattle.mdb_base.specs.Equality.{same_address}
 use Rattle.mdb_describe.specs.declared.description.ServerDescription.{ServerDescription}
 use Rattle.mdb_describe.specs.declared.change.Fate.{Fate}
@@ -10,7 +11,7 @@ use Rattle.mdb_describe.specs.declared.change.Fate.TheVariants.{Stays, Forgotten
 use Rattle.mdb_describe.specs.declared.change.Change.{Change}
 use Rattle.mdb_describe.specs.Descriptions.{unknown}
 use Rattle.mdb_describe.specs.Compatibility.{incompatible}
-use Rattle.mdb_describe.specs.Servers.{is_known, is_listed, is_primary_type, is_before, store, put, add, add_all, keep_listed, forget_where, forget_other_primaries, first_of, first_incompatible}
+use Rattle.mdb_describe.specs.Servers.{is_known, is_listed, is_primary_type, store, put, add, add_all, keep_listed, forget_where, forget_other_primaries, first_of, first_incompatible}
 use Rattle.mdb_describe.specs.Joining.{join_all}
 use Rattle.mdb_describe.specs.Changes.{changed_servers, by_fate}
 use Rattle.mdb_describe.specs.Kept.{stays, is_kept, first_kept, reason_if, takes_place, standing, stored_unless}

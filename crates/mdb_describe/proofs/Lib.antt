@@ -1,4 +1,4 @@
-pub mod Behind
+pub mod Found
 pub mod InOrder
 pub mod Kept
 pub mod Parsed

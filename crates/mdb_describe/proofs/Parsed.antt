@@ -1,10 +1,11 @@
 -- What reading a text as an address gives.
-use Rattle.std.proofs.Common.{◌≡◌, ℕ, ◌&&◌, ◌||◌, ◌==◌, ◌⊎◌, Bool, true, false, nat_eq, List, Option, Some, None, Ok, Err, inl, inr, refl, ap, ◌∙◌, arith}
+use Rattle.std.proofs.Common.{◌≡◌, ℕ, ◌&&◌, ◌||◌, ◌==◌, ◌⊎◌, Bool, true, false, nat_eq, List, Option, Some, None, Ok, Err, inl, inr, refl, sym, ap, subst, ◌∙◌, arith}
 use Rattle.std.specs.Cmp.Lexicographic.{pointwise}
 use Rattle.std.specs.Bool.{Decides}
 use Rattle.std.proofs.lemmas.Slice.Eq.{slice_eq-Decides}
 use Rattle.std.proofs.lemmas.Bool.Decides.{Decides-eqb}
 use Rattle.std.proofs.lemmas.Bool.{and_parts, and_from, or_cases, cases_Bool, eqb-true, eq-eqb}
+use Rattle.std.proofs.lemmas.Option.{same_Some}
 use Rattle.mdb_base.specs.declared.address.ServerAddress.{ServerAddress}
 use Rattle.mdb_base.specs.declared.address_parse.AddressError.{AddressError}
 use Rattle.mdb_base.specs.declared.address_parse.AddressError.TheVariants.{BadAddress, OutOfMemory}
@@ -66,4 +67,18 @@ parsed_none text none = by (address_of (lower text))
     by (Some a) = elim (cases_Bool (spells (lower text) a)) [
       | inl spelled ↦ absurd (let bad : BadAddress ≡ OutOfMemory = none a (from_spells (lower text) a spelled) in let no : true ≡ false = ap differ bad in cc)
       | inr other ↦ rw other refl
+    ]
+
+-- What is read is an address by the rule. With `parsed_some`: exactly the texts of addresses are read.
+pub parsed_rule : (text : List ℕ) (a : ServerAddress) → parsed text ≡ Some a → IsAddressText text a
+unfolding parsed
+parsed_rule text a h = by (address_of (lower text)) h
+  where
+    by : (o : Option ServerAddress) → kept_if_spelled (lower text) o ≡ Some a → IsSpelledAddress (lower text) a
+    by None e = absurd (cc)
+    by (Some x) e = elim (cases_Bool (spells (lower text) x)) [
+      | inl spelled ↦
+          let is : Some x ≡ Some a = sym (rw spelled refl) ∙ e in
+          subst (λ (b : ServerAddress). IsSpelledAddress (lower text) b) (same_Some x a is) (from_spells (lower text) x spelled)
+      | inr other ↦ absurd (let none : None ≡ Some a = sym (rw other refl) ∙ e in cc)
     ]

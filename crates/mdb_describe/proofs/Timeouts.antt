@@ -4,8 +4,8 @@ use Rattle.std.specs.List.{fold}
 use Rattle.std.proofs.lemmas.Bool.{cases_Bool}
 use Rattle.std.proofs.lemmas.List.{take_more}
 use Rattle.mdb_describe.specs.declared.description.ServerDescription.{ServerDescription}
-use Rattle.mdb_describe.specs.Fields.{session_timeout}
-use Rattle.mdb_describe.specs.Topology.{is_data_bearing, lesser, least_timeout, session_timeout as least_session_timeout}
+use Rattle.mdb_describe.specs.Fields.{is_data_bearing, session_timeout}
+use Rattle.mdb_describe.specs.Topology.{lesser, least_timeout, session_timeout as least_session_timeout}
 use Rattle.mdb_describe.specs.SoFar.{next_least, least_of, least_so_far, with_one, or_none}
 
 abbrev pub holds : ServerDescription → Bool

@@ -2,9 +2,10 @@
 use Rattle.std.proofs.Common.{◌≡◌, ℕ, ◌<◌, ◌≤◌, ◌+◌, zero, suc, true, false, List, [], ◌∷◌, ◌++◌, length, get_or, set, take, drop, map, below_more, refl, sym, ap, subst, ◌∙◌, arith}
 use Rattle.std.specs.List.{insert}
 use Rattle.mdb_base.specs.declared.address.ServerAddress.{ServerAddress}
+use Rattle.mdb_base.specs.AddressOrder.{is_before}
 use Rattle.mdb_base.specs.Equality.{same_address}
 use Rattle.mdb_describe.specs.declared.description.ServerDescription.{ServerDescription}
-use Rattle.mdb_describe.specs.Servers.{store, put, is_before}
+use Rattle.mdb_describe.specs.Servers.{store, put}
 
 -- the description is not stored before the place i
 abbrev pub StoresFrom : ServerDescription → List ServerDescription → ℕ → Type 0

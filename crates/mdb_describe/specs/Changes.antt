@@ -1,4 +1,4 @@
--- What carrying out a change comes to.
+-- What carrying out a change comes to. The contracts inside the crate speak by these words, and no public one does.
 use Rattle.std.specs.Prelude.{List, if◌then◌else◌}
 use Rattle.mdb_base.specs.declared.address.ServerAddress.{ServerAddress}
 use Rattle.mdb_srv.specs.declared.topology_type.TopologyType.{TopologyType}

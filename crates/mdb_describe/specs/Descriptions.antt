@@ -5,7 +5,7 @@ use Rattle.mdb_base.specs.declared.error.Error.{Error}
 use Rattle.mdb_base.specs.declared.error.ErrorKind.TheVariants.{Other}
 use Rattle.mdb_hello.specs.declared.response.HelloReply.{HelloReply}
 use Rattle.mdb_hello.specs.declared.response.HelloCommandResponse.{HelloCommandResponse}
-use Rattle.mdb_hello.specs.declared.server_type.ServerType.TheVariants.{Unknown}
+use Rattle.mdb_hello.specs.declared.server_type.ServerType.TheVariants.{LoadBalancer, Unknown}
 use Rattle.mdb_hello.specs.ServerTypes.{type_of}
 use Rattle.mdb_describe.specs.declared.description.ServerDescription.{ServerDescription}
 use Rattle.mdb_describe.specs.Listed.{lower, are_addresses}
@@ -13,6 +13,10 @@ use Rattle.mdb_describe.specs.Listed.{lower, are_addresses}
 -- a server of which nothing is known
 abbrev pub unknown : ServerAddress → ServerDescription
 unknown a = record { address = a; server_type = Unknown; last_update_time = None; average_round_trip_time = None; reply = Ok None }
+
+-- a load balancer, of which no more is known
+abbrev pub load_balancer : ServerAddress → ServerDescription
+load_balancer a = record { address = a; server_type = LoadBalancer; last_update_time = None; average_round_trip_time = None; reply = Ok None }
 
 -- a server whose check or operation failed
 abbrev pub failed : ServerAddress → Error → ServerDescription

@@ -1,6 +1,8 @@
 -- What differs between two lists of servers.
-use Rattle.std.specs.Prelude.{List, [], ◌∷◌, map, filter, Bool, true, false, not, ◌&&◌, if◌then◌else◌, Option, Some, None}
+use Rattle.std.specs.Prelude.{◌≡◌, List, [], ◌∷◌, map, filter, Bool, true, false, not, ◌&&◌, if◌then◌else◌, Option, Some, None}
+use Rattle.std.specs.List.{list_all}
 use Rattle.mdb_base.specs.declared.address.ServerAddress.{ServerAddress}
+use Rattle.mdb_base.specs.AddressOrder.{in_order}
 use Rattle.mdb_describe.specs.declared.description.ServerDescription.{ServerDescription}
 use Rattle.mdb_describe.specs.declared.diff.Diff.{Diff}
 use Rattle.mdb_describe.specs.Same.{same}
@@ -29,6 +31,16 @@ is_empty (a ∷ more) = false
 
 abbrev pub unless_empty : Diff → Option Diff
 unless_empty d = if is_empty d.changed && (is_empty d.removed && is_empty d.added) then None else Some d
+
+-- each list in the order of addresses
+pub record AreInOrder (d : Diff) : Type 0 where
+  pub changed : in_order d.changed ≡ true
+  pub removed : in_order d.removed ≡ true
+  pub added : in_order d.added ≡ true
+
+-- each address is that of a server of both lists
+abbrev pub are_in_both : List ServerDescription → List ServerDescription → List ServerAddress → Bool
+are_in_both earlier later addresses = list_all (λ a. is_known a earlier && is_known a later) addresses
 
 -- the changed, the removed and the added servers, and nothing where there is none of them
 abbrev pub difference : List ServerDescription → List ServerDescription → Option Diff

@@ -1,5 +1,5 @@
 -- What a description says of its server, field by field: a field that the reply lacks, and each field where there is no reply, is absent.
-use Rattle.std.specs.Prelude.{ℕ, ℤ, nat_eq, List, Bool, true, false, not, Option, Some, None, Result, Ok, Err}
+use Rattle.std.specs.Prelude.{ℕ, ℤ, nat_eq, List, Bool, true, false, not, ◌&&◌, Option, Some, None, is_some, Result, Ok, Err}
 use Rattle.std.specs.Cmp.Lexicographic.{pointwise}
 use Rattle.mdb_base.specs.declared.error.Error.{Error}
 use Rattle.mdb_base.specs.declared.topology_version.TopologyVersion.{TopologyVersion}
@@ -9,8 +9,9 @@ use Rattle.mdb_base.specs.Tags.{Tag}
 use Rattle.mdb_hello.specs.declared.response.HelloReply.{HelloReply}
 use Rattle.mdb_hello.specs.declared.response.HelloCommandResponse.{HelloCommandResponse}
 use Rattle.mdb_hello.specs.declared.server_type.ServerType.{ServerType}
-use Rattle.mdb_hello.specs.declared.server_type.ServerType.TheVariants.{Unknown}
+use Rattle.mdb_hello.specs.declared.server_type.ServerType.TheVariants.{Standalone, Mongos, RsPrimary, RsSecondary, LoadBalancer, Unknown}
 use Rattle.mdb_describe.specs.declared.description.ServerDescription.{ServerDescription}
+use Rattle.mdb_describe.specs.Listed.{lower}
 
 abbrev pub response_in : Result (Option HelloReply) Error → Option HelloCommandResponse
 response_in (Ok (Some r)) = Some r.command_response
@@ -82,10 +83,20 @@ abbrev pub is_known_type : ServerType → Bool
 is_known_type Unknown = false
 is_known_type _ = true
 
-abbrev pub differs_from : List ℕ → Option (List ℕ) → Bool
-differs_from text (Some other) = not (pointwise nat_eq other text)
-differs_from text None = false
+-- servers that hold data
+abbrev pub is_data_bearing : ServerType → Bool
+is_data_bearing Standalone = true
+is_data_bearing Mongos = true
+is_data_bearing RsPrimary = true
+is_data_bearing RsSecondary = true
+is_data_bearing LoadBalancer = true
+is_data_bearing _ = false
 
--- the server names another address as its own
+-- a text is there, and in lower case it is this one
+abbrev pub names : List ℕ → Option (List ℕ) → Bool
+names text (Some other) = pointwise nat_eq (lower other) text
+names text None = false
+
+-- the server names an address as its own, and in lower case it is another one
 abbrev pub invalid_me : ServerDescription → Bool
-invalid_me d = differs_from (address d.address) (me d)
+invalid_me d = is_some (me d) && not (names (address d.address) (me d))

@@ -1,4 +1,4 @@
--- Servers that join a list.
+-- Servers that join a list, as the contracts inside the crate say it: a server of which nothing is known joins as `add` says.
 use Rattle.std.specs.Prelude.{List, [], ◌∷◌, if◌then◌else◌}
 use Rattle.mdb_describe.specs.declared.description.ServerDescription.{ServerDescription}
 use Rattle.mdb_describe.specs.Servers.{is_known, put}

@@ -1,4 +1,4 @@
--- Which servers keep what is said of them in a change.
+-- Which servers keep what is said of them in a change. The contracts inside the crate speak by these words, and no public one does.
 use Rattle.std.specs.Prelude.{ℕ, List, [], ◌∷◌, Bool, true, false, not, ◌&&◌, ◌||◌, if◌then◌else◌, Option, None}
 use Rattle.mdb_base.specs.declared.address.ServerAddress.{ServerAddress}
 use Rattle.mdb_base.specs.Equality.{same_address}

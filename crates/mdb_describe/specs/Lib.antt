@@ -7,10 +7,11 @@ pub mod InfoText
 pub mod Joining
 pub mod Kept
 pub mod Listed
-pub mod OwnAddress
 pub mod Same
 pub mod Selection
+pub mod ServerInfo
 pub mod Servers
 pub mod SoFar
 pub mod Topology
+pub mod TopologyView
 pub mod Update

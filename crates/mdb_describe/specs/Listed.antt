@@ -20,7 +20,7 @@ abbrev pub kept_if_spelled : List ℕ → Option ServerAddress → Option Server
 kept_if_spelled text None = None
 kept_if_spelled text (Some a) = if spells text a then Some a else None
 
--- the address that a text in letters of any case stands for
+-- the address that a text in letters of any case stands for, by the rule of addresses: what is read from left to right is kept where the text spells it
 unfoldable pub parsed : List ℕ → Option ServerAddress
 parsed text = kept_if_spelled (lower text) (address_of (lower text))
 

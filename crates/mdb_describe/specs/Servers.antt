@@ -1,9 +1,8 @@
 -- Lists of servers, and what is done to them.
-use Rattle.std.specs.Prelude.{ℕ, nat_lt, nat_eq, List, [], ◌∷◌, map, filter, Bool, true, false, not, ◌&&◌, ◌||◌, if◌then◌else◌, Option, Some, None}
+use Rattle.std.specs.Prelude.{ℕ, List, [], ◌∷◌, map, filter, Bool, true, false, not, ◌&&◌, if◌then◌else◌, Option, Some, None}
 use Rattle.std.specs.List.{list_any}
-use Rattle.std.specs.Ordering.{is_lt, nat_cmp}
-use Rattle.std.specs.Cmp.Lexicographic.{pointwise, slice_cmp}
 use Rattle.mdb_base.specs.declared.address.ServerAddress.{ServerAddress}
+use Rattle.mdb_base.specs.AddressOrder.{is_before, in_order as are_in_order}
 use Rattle.mdb_base.specs.Equality.{same_address}
 use Rattle.mdb_hello.specs.declared.server_type.ServerType.{ServerType}
 use Rattle.mdb_hello.specs.declared.server_type.ServerType.TheVariants.{RsPrimary}
@@ -11,18 +10,12 @@ use Rattle.mdb_describe.specs.declared.description.ServerDescription.{ServerDesc
 use Rattle.mdb_describe.specs.Descriptions.{unknown}
 use Rattle.mdb_describe.specs.Compatibility.{incompatible}
 
--- by the bytes of the hosts, and at one host by the ports
-abbrev pub is_before : ServerAddress → ServerAddress → Bool
-is_before a b = is_lt (slice_cmp nat_cmp a.host b.host) || (pointwise nat_eq a.host b.host && nat_lt a.port b.port)
-
-abbrev pub is_before_first : ServerAddress → List ServerDescription → Bool
-is_before_first a [] = true
-is_before_first a (s ∷ servers) = is_before a s.address
+abbrev pub addresses_of : List ServerDescription → List ServerAddress
+addresses_of servers = map (λ s. s.address) servers
 
 -- each address is below the next, so that no two are the same
 abbrev pub in_order : List ServerDescription → Bool
-in_order [] = true
-in_order (s ∷ servers) = is_before_first s.address servers && in_order servers
+in_order servers = are_in_order (addresses_of servers)
 
 -- one of the servers has this address
 abbrev pub is_known : ServerAddress → List ServerDescription → Bool

@@ -1,8 +1,8 @@
--- The least session timeout of the servers so far.
+-- The least session timeout of the servers so far. The contracts inside the crate speak by these words, and no public one does.
 use Rattle.std.specs.Prelude.{ℕ, List, [], ◌∷◌, filter, if◌then◌else◌, Option, Some, None}
 use Rattle.mdb_describe.specs.declared.description.ServerDescription.{ServerDescription}
-use Rattle.mdb_describe.specs.Topology.{is_data_bearing, lesser, least_timeout}
-use Rattle.mdb_describe.specs.Fields.{session_timeout}
+use Rattle.mdb_describe.specs.Topology.{lesser, least_timeout}
+use Rattle.mdb_describe.specs.Fields.{is_data_bearing, session_timeout}
 
 abbrev pub next_least : Option (Option ℕ) → Option ℕ → Option ℕ
 next_least None timeout = timeout

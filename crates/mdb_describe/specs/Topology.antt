@@ -1,17 +1,15 @@
 -- A topology as it is opened, asked and stopped.
-use Rattle.std.specs.Prelude.{ℕ, ◌==◌, nat_lt, List, [], ◌∷◌, length, find, filter, min, Bool, true, false, if◌then◌else◌, Option, Some, None, is_some}
+use Rattle.std.specs.Prelude.{ℕ, ◌==◌, nat_lt, List, [], ◌∷◌, length, find, filter, min, if◌then◌else◌, Option, Some, None, is_some}
 use Rattle.std.specs.List.{fold}
 use Rattle.mdb_base.specs.declared.address.ServerAddress.{ServerAddress}
 use Rattle.mdb_base.specs.declared.times.ClusterTime.{ClusterTime}
 use Rattle.mdb_base.specs.declared.options.Options.{Options}
 use Rattle.mdb_base.specs.Equality.{same_address}
-use Rattle.mdb_hello.specs.declared.server_type.ServerType.{ServerType}
-use Rattle.mdb_hello.specs.declared.server_type.ServerType.TheVariants as Server
 use Rattle.mdb_srv.specs.declared.topology_type.TopologyType.{TopologyType}
 use Rattle.mdb_srv.specs.declared.topology_type.TopologyType.TheVariants as Kind
 use Rattle.mdb_describe.specs.declared.description.ServerDescription.{ServerDescription}
 use Rattle.mdb_describe.specs.declared.topology.TopologyDescription.{TopologyDescription}
-use Rattle.mdb_describe.specs.Fields.{session_timeout as timeout_of}
+use Rattle.mdb_describe.specs.Fields.{is_data_bearing, session_timeout as timeout_of}
 use Rattle.mdb_describe.specs.Servers.{add_all, keep_listed, first_incompatible}
 
 -- the type that the options ask for
@@ -44,15 +42,6 @@ synced_by_type _ hosts t = t
 
 abbrev pub synced : List ServerAddress → TopologyDescription → TopologyDescription
 synced hosts t = synced_by_type t.topology_type hosts t
-
--- servers that hold data
-abbrev pub is_data_bearing : ServerType → Bool
-is_data_bearing Server.Standalone = true
-is_data_bearing Server.Mongos = true
-is_data_bearing Server.RsPrimary = true
-is_data_bearing Server.RsSecondary = true
-is_data_bearing Server.LoadBalancer = true
-is_data_bearing _ = false
 
 -- absent where one of the two is
 abbrev pub lesser : Option ℕ → Option ℕ → Option ℕ

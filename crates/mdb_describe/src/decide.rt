@@ -17,7 +17,7 @@ use mdb_srv::TopologyType;
 
 impl TopologyDescription {
     /// What the description changes.
-    pub fn decide(&self, server: &ServerDescription) -> Change
+    pub(crate) fn decide(&self, server: &ServerDescription) -> Change
         ensures { changed result self.now server.now ≡ decided self.now server.now }
     {
         match self.topology_type {
@@ -29,8 +29,8 @@ impl TopologyDescription {
         }
     }
 
-    // The set has a name, and the server names another one or none.
-    pub fn names_other(&self, server: &ServerDescription) -> bool
+    /// The set has a name, and the server names another one or none.
+    pub(crate) fn names_other(&self, server: &ServerDescription) -> bool
         ensures { result ≡ names_other self.now server.now }
     {
         match (&self.set_name, server.set_name()) {

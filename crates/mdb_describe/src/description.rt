@@ -1,7 +1,7 @@
 //! What is known of one server.
 
 ghost use Rattle.std.specs.Prelude.{◌≡◌, IfOk};
-ghost use Rattle.mdb_describe.specs.Descriptions.{unknown, failed, texts_of, listed_texts, from_reply, replied, bad_reply, time_of};
+ghost use Rattle.mdb_describe.specs.Descriptions.{unknown, load_balancer, failed, texts_of, listed_texts, from_reply, replied, bad_reply, time_of};
 ghost use Rattle.mdb_describe.specs.Listed.{are_addresses};
 
 use crate::listed::are_addresses;
@@ -31,6 +31,16 @@ impl ServerDescription {
     {
         let _alloc = alloc;
         Ok(described(address.clone()?, Ok(None)))
+    }
+
+    /// A load balancer, which is not checked ("Load Balancer Support"). No memory is taken.
+    pub fn new_load_balancer(address: ServerAddress) -> ServerDescription
+        ensures { result ≡ load_balancer address }
+    {
+        ServerDescription {
+            server_type: ServerType::LoadBalancer,
+            ..described(address, Ok(None))
+        }
     }
 
     /// A server whose check failed. No memory is taken.

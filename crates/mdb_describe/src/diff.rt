@@ -1,7 +1,7 @@
 //! What differs between two descriptions of a topology.
 
-ghost use Rattle.std.specs.Prelude.{◌≡◌, ◌++◌, ◌∷◌, [], IfOk, OnOk, if◌then◌else◌};
-ghost use Rattle.mdb_describe.specs.Differences.{changed, missing, difference, differs_from};
+ghost use Rattle.std.specs.Prelude.{◌≡◌, ◌++◌, ◌∷◌, [], true, IfOk, IfSome, OnOk, if◌then◌else◌};
+ghost use Rattle.mdb_describe.specs.Differences.{changed, missing, difference, differs_from, AreInOrder, are_in_both};
 
 use crate::description::ServerDescription;
 use crate::servers::{is_known, server_at};
@@ -25,11 +25,15 @@ impl TopologyDescription {
         alloc: Global,
         later: &TopologyDescription,
     ) -> Result<Option<Diff>, OutOfMemory>
-        ensures { IfOk result (λ found. found ≡ difference self.now.servers later.now.servers) }
+        ensures difference { IfOk result (λ found. found ≡ difference self.now.servers later.now.servers) }
+        ensures ordered { IfOk result (λ found. IfSome found (λ d. AreInOrder d)) }
+        ensures in_both { IfOk result (λ found. IfSome found (λ d. are_in_both self.now.servers later.now.servers d.changed ≡ true)) }
     {
-        let changed = changed(alloc, self.servers(), later.servers())?;
-        let removed = missing(alloc, self.servers(), later.servers())?;
-        let added = missing(alloc, later.servers(), self.servers())?;
+        let before = self.servers();
+        let after = later.servers();
+        let changed = changed(alloc, before, after)?;
+        let removed = missing(alloc, before, after)?;
+        let added = missing(alloc, after, before)?;
         if changed.is_empty() && removed.is_empty() && added.is_empty() {
             return Ok(None);
         }

@@ -1,7 +1,7 @@
 //! What a description says of its server, field by field. None of these calls takes memory.
 
 ghost use Rattle.std.specs.Prelude.{◌≡◌, option_copied};
-ghost use Rattle.mdb_describe.specs.Fields.{response, error, topology_version, is_known_type, set_name, set_version, election_id, primary, me, hosts, passives, arbiters, tags, min_wire_version, max_wire_version, session_timeout};
+ghost use Rattle.mdb_describe.specs.Fields.{response, error, topology_version, is_known_type, is_data_bearing, set_name, set_version, election_id, primary, me, hosts, passives, arbiters, tags, min_wire_version, max_wire_version, session_timeout};
 
 use crate::description::ServerDescription;
 use mdb_base::{Error, Items, ObjectId, TagSet, Text, TopologyVersion};
@@ -45,6 +45,21 @@ impl ServerDescription {
         ensures { result ≡ is_known_type self.now.server_type }
     {
         !matches!(self.server_type, ServerType::Unknown)
+    }
+
+    /// The server holds data, by its type: a standalone server, a router, a primary, a secondary or a load balancer
+    /// (SDAM, "data-bearing").
+    pub fn is_data_bearing(&self) -> bool
+        ensures { result ≡ is_data_bearing self.now.server_type }
+    {
+        matches!(
+            self.server_type,
+            ServerType::Standalone
+                | ServerType::Mongos
+                | ServerType::RsPrimary
+                | ServerType::RsSecondary
+                | ServerType::LoadBalancer
+        )
     }
 
     pub(crate) fn set_name(&self) -> Option<&Text>

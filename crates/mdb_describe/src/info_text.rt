@@ -7,9 +7,9 @@ use mdb_base::{DateTime, Nanos, TagSet, Text};
 use mdb_hello::ServerType;
 use std::fmt;
 
-// A type by its name.
+/// A type of a server, printed as its name.
 #[derive(Drop)]
-struct TypeName(ServerType);
+pub struct TypeName(pub ServerType);
 
 impl fmt::Display for TypeName {
     ghost use Rattle.std.specs.Prelude.{Some};

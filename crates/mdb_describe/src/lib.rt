@@ -4,8 +4,8 @@
 
 mod carrying;
 mod change;
-mod clearable;
 mod compatibility;
+mod copies;
 mod decide;
 mod description;
 mod diff;
@@ -14,7 +14,6 @@ mod info_text;
 mod listed;
 mod lowered;
 mod opening;
-mod order;
 mod own_address;
 mod preparation;
 mod primary;
@@ -28,6 +27,7 @@ mod update;
 
 pub use description::ServerDescription;
 pub use diff::Diff;
+pub use info_text::TypeName;
 pub use mdb_srv::TopologyType;
 pub use selection::{Mode, ReadPreference, SelectionCriteria};
 pub use server_info::ServerInfo;

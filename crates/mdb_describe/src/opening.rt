@@ -5,12 +5,11 @@ ghost use Rattle.mdb_describe.specs.Topology.{opened, opened_type, stopped, sync
 ghost use Rattle.mdb_describe.specs.Servers.{add_all, keep_listed, first_incompatible, in_order};
 
 use crate::carrying::follow;
-use crate::clearable::Clearable;
 use crate::description::ServerDescription;
 use crate::preparation::{error_if, unknowns};
 use crate::servers::{is_listed, join};
 use crate::topology::TopologyDescription;
-use mdb_base::{Options, OutOfMemory, ServerAddress, Text};
+use mdb_base::{Items, Options, OutOfMemory, ServerAddress, Text};
 use mdb_srv::{TopologyType, should_poll};
 use std::alloc::Global;
 
@@ -18,8 +17,7 @@ impl TopologyDescription {
     /// What is known as the driver is opened: the seeds, and nothing of them (SDAM, "Initial servers" and "Initial
     /// TopologyType").
     pub fn initialize(alloc: Global, options: &Options) -> Result<TopologyDescription, OutOfMemory>
-        ensures opened { IfOk result (λ t. t ≡ opened options.now) }
-        ensures ordered { IfOk result (λ t. in_order t.servers ≡ true) }
+        ensures { IfOk result (λ t. t ≡ opened options.now) }
     {
         let set_name = name_of(options)?;
         let servers = seeds(alloc, options.seeds.as_slice())?;
@@ -30,7 +28,7 @@ impl TopologyDescription {
             max_election_id: None,
             one_seed: options.seeds.as_slice().len() == 1,
             compatibility_error: None,
-            servers: Clearable::new(servers),
+            servers: Items::new(servers),
             cluster_time: None,
         })
     }
@@ -40,7 +38,6 @@ impl TopologyDescription {
     pub fn sync_hosts(&mut self, alloc: Global, hosts: &[ServerAddress]) -> Result<(), OutOfMemory>
         ensures done { OnOk result (self.new ≡ synced hosts.now self.old) }
         ensures unchanged { OnErr result (self.new ≡ self.old) }
-        ensures ordered { in_order self.old.servers ≡ true → in_order self.new.servers ≡ true }
     {
         if !should_poll(self.topology_type) {
             return Ok(());
@@ -50,7 +47,7 @@ impl TopologyDescription {
         let mut servers = self.servers_with_room(alloc, unknowns.len())?;
         follow(&mut servers, hosts, unknowns);
         self.compatibility_error = error;
-        self.servers = Clearable::new(servers);
+        self.servers = Items::new(servers);
         Ok(())
     }
 
@@ -90,7 +87,8 @@ fn opened_type(options: &Options) -> TopologyType
 
 // The seeds in the order of their addresses.
 fn seeds(alloc: Global, seeds: &[ServerAddress]) -> Result<Vec<ServerDescription>, OutOfMemory>
-    ensures { IfOk result (λ servers. servers.items ≡ add_all seeds.now []) }
+    ensures items { IfOk result (λ servers. servers.items ≡ add_all seeds.now []) }
+    ensures ordered { IfOk result (λ servers. in_order servers.items ≡ true) }
 {
     let mut servers = Vec::new(alloc);
     for seed in seeds {

@@ -1,6 +1,6 @@
 //! What a change needs of memory, which is taken before anything is changed.
 
-ghost use Rattle.std.specs.Prelude.{◌≡◌, ◌+◌, ◌≤◌, ◌++◌, ◌||◌, [], map, IfOk, OnOk, OnErr, if◌then◌else◌};
+ghost use Rattle.std.specs.Prelude.{◌≡◌, ◌+◌, ◌≤◌, ◌++◌, ◌||◌, [], true, map, IfOk, OnOk, OnErr, if◌then◌else◌};
 ghost use Rattle.std.specs.Vec.{vec_len, vec_capacity};
 ghost use Rattle.mdb_describe.specs.Descriptions.{unknown, texts_of};
 ghost use Rattle.mdb_describe.specs.Fields.{set_name};
@@ -8,10 +8,9 @@ ghost use Rattle.mdb_describe.specs.Listed.{addresses, with_address};
 ghost use Rattle.mdb_describe.specs.Update.{listed, name_or};
 ghost use Rattle.mdb_describe.specs.Changes.{changed_servers};
 ghost use Rattle.mdb_describe.specs.Kept.{is_kept, standing, takes_place, reason_if};
-ghost use Rattle.mdb_describe.specs.Servers.{first_incompatible};
+ghost use Rattle.mdb_describe.specs.Servers.{first_incompatible, in_order};
 
 use crate::change::{Change, Fate};
-use crate::clearable::Clearable;
 use crate::description::ServerDescription;
 use crate::listed::parsed;
 use crate::servers::{is_listed, is_primary_type};
@@ -109,13 +108,14 @@ impl TopologyDescription {
     ) -> Result<Vec<ServerDescription>, OutOfMemory>
         ensures emptied { OnOk result (self.new ≡ record self.old { servers = [] }) }
         ensures servers { IfOk result (λ servers. servers.items ≡ self.old.servers) }
+        ensures ordered { IfOk result (λ servers. in_order servers.items ≡ true) }
         ensures room { IfOk result (λ servers. vec_len servers + more ≤ vec_capacity servers) }
         ensures unchanged { OnErr result (self.new ≡ self.old) }
     {
-        let empty = Clearable::new(Vec::new(alloc));
+        let empty = Items::new(Vec::new(alloc));
         let mut servers = mem::replace(&mut self.servers, empty).into_inner();
         if servers.reserve(more).is_err() {
-            self.servers = Clearable::new(servers);
+            self.servers = Items::new(servers);
             return Err(OutOfMemory);
         }
         Ok(servers)

@@ -2,6 +2,7 @@
 
 ghost use Rattle.std.specs.Prelude.{◌≡◌, option_copied, IfOk, string_bytes};
 ghost use Rattle.mdb_describe.specs.Fields.{error, set_name, set_version, tags, min_wire_version, max_wire_version};
+ghost use Rattle.mdb_describe.specs.ServerInfo.{described};
 ghost use Rattle.mdb_describe.specs.InfoText.{info_text, info_text_with};
 
 use crate::description::ServerDescription;
@@ -18,45 +19,45 @@ pub struct ServerInfo<'a> {
 
 impl<'a> ServerInfo<'a> {
     pub fn new(description: &'a ServerDescription) -> ServerInfo<'a>
-        ensures { result.description.now ≡ description.now }
+        ensures { described result ≡ description.now }
     {
         ServerInfo { description }
     }
 
     pub fn address(&self) -> &ServerAddress
-        ensures { result.now ≡ self.now.description.now.address }
+        ensures { result.now ≡ (described self.now).address }
     {
         &self.description.address
     }
 
     /// In nanoseconds.
     pub fn average_round_trip_time(&self) -> Option<Nanos>
-        ensures { result ≡ self.now.description.now.average_round_trip_time }
+        ensures { result ≡ (described self.now).average_round_trip_time }
     {
         self.description.average_round_trip_time
     }
 
     /// The moment of the last reply.
     pub fn last_update_time(&self) -> Option<DateTime>
-        ensures { result ≡ self.now.description.now.last_update_time }
+        ensures { result ≡ (described self.now).last_update_time }
     {
         self.description.last_update_time
     }
 
     pub fn max_wire_version(&self) -> Option<i32>
-        ensures { result ≡ max_wire_version self.now.description.now }
+        ensures { result ≡ max_wire_version (described self.now) }
     {
         self.description.max_wire_version()
     }
 
     pub fn min_wire_version(&self) -> Option<i32>
-        ensures { result ≡ min_wire_version self.now.description.now }
+        ensures { result ≡ min_wire_version (described self.now) }
     {
         self.description.min_wire_version()
     }
 
     pub fn replica_set_name(&self) -> Option<&str>
-        ensures { option_copied result ≡ set_name self.now.description.now }
+        ensures { option_copied result ≡ set_name (described self.now) }
     {
         match self.description.set_name() {
             Some(name) => Some(name.as_str()),
@@ -65,33 +66,33 @@ impl<'a> ServerInfo<'a> {
     }
 
     pub fn replica_set_version(&self) -> Option<i32>
-        ensures { result ≡ set_version self.now.description.now }
+        ensures { result ≡ set_version (described self.now) }
     {
         self.description.set_version()
     }
 
     pub fn server_type(&self) -> ServerType
-        ensures { result ≡ self.now.description.now.server_type }
+        ensures { result ≡ (described self.now).server_type }
     {
         self.description.server_type
     }
 
     pub fn tags(&self) -> Option<&TagSet>
-        ensures { option_copied result ≡ tags self.now.description.now }
+        ensures { option_copied result ≡ tags (described self.now) }
     {
         self.description.tags()
     }
 
     /// The error of the last check or of an operation.
     pub fn error(&self) -> Option<&Error>
-        ensures { option_copied result ≡ error self.now.description.now }
+        ensures { option_copied result ≡ error (described self.now) }
     {
         self.description.error()
     }
 
     /// The address and the type, then what the reply says of the rest, or the error.
     pub fn text(&self, alloc: Global) -> Result<String, OutOfMemory>
-        ensures { IfOk result (λ text. string_bytes text ≡ info_text self.now.description.now) }
+        ensures { IfOk result (λ text. string_bytes text ≡ info_text (described self.now)) }
     {
         let reason = self.description.compatibility_error_message(alloc)?;
         info_text(alloc, self.description, reason.as_deref())

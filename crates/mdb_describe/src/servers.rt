@@ -11,7 +11,6 @@ ghost use Rattle.mdb_describe.specs.Joining.{join};
 ghost use Rattle.mdb_describe.specs.Topology.{server_at};
 
 use crate::description::ServerDescription;
-use crate::order::is_before;
 use mdb_base::{OutOfMemory, ServerAddress};
 use mdb_hello::ServerType;
 use std::mem;
@@ -140,7 +139,7 @@ fn place_for(servers: &[ServerDescription], address: &ServerAddress) -> usize
     ensures place { (d : ServerDescription) → d.address ≡ address.now → put d servers.now ≡ insert servers.now result d }
 {
     for at in 0..servers.len() {
-        if is_before(address, &servers[at].address) {
+        if address.is_before(&servers[at].address) {
             return at;
         }
     }

@@ -1,12 +1,11 @@
 //! The session timeout of a topology.
 
 ghost use Rattle.std.specs.Prelude.{◌≡◌};
-ghost use Rattle.mdb_describe.specs.Topology.{is_data_bearing, lesser, session_timeout};
+ghost use Rattle.mdb_describe.specs.Topology.{lesser, session_timeout};
 ghost use Rattle.mdb_describe.specs.SoFar.{next_least, with_one, least_so_far, or_none};
 
 use crate::description::ServerDescription;
 use crate::topology::TopologyDescription;
-use mdb_hello::ServerType;
 
 impl TopologyDescription {
     /// The least session timeout in minutes of the servers that hold data ("Driver Sessions"). `None` where one of
@@ -43,25 +42,11 @@ fn least_so_far(servers: &[ServerDescription]) -> Option<Option<u64>>
 fn with_one(least: Option<Option<u64>>, server: &ServerDescription) -> Option<Option<u64>>
     ensures { result ≡ with_one least server.now }
 {
-    if is_data_bearing(server.server_type) {
+    if server.is_data_bearing() {
         Some(next_least(least, server.session_timeout()))
     } else {
         least
     }
-}
-
-/// Servers that hold data.
-fn is_data_bearing(kind: ServerType) -> bool
-    ensures { result ≡ is_data_bearing kind }
-{
-    matches!(
-        kind,
-        ServerType::Standalone
-            | ServerType::Mongos
-            | ServerType::RsPrimary
-            | ServerType::RsSecondary
-            | ServerType::LoadBalancer
-    )
 }
 
 // The least timeout with one more server; `None` where there was no server yet.

@@ -1,13 +1,16 @@
 //! What a driver knows of a whole topology.
 
-ghost use Rattle.std.specs.Prelude.{◌≡◌, option_copied};
+ghost use Rattle.std.specs.Prelude.{◌≡◌, ℕ, true, Some, option_copied};
+ghost use Rattle.std.specs.List.{slice_get};
+ghost use Rattle.mdb_describe.specs.declared.description.ServerDescription.{ServerDescription};
+ghost use Rattle.mdb_describe.specs.Servers.{in_order};
 ghost use Rattle.mdb_describe.specs.Topology.{later_time, server_at};
 
-use crate::clearable::Clearable;
 use crate::description::ServerDescription;
 use crate::servers::server_at;
-use mdb_base::{ClusterTime, ObjectId, ServerAddress, Text};
+use mdb_base::{ClusterTime, Items, ObjectId, ServerAddress, Text};
 use mdb_srv::TopologyType;
+use std::marker::Model;
 
 /// What is known of a whole topology (SDAM, "TopologyDescription"). Its servers stand in the order of their
 /// addresses.
@@ -20,8 +23,25 @@ pub struct TopologyDescription {
     // Exactly one seed was opened.
     pub(crate) one_seed: bool,
     pub(crate) compatibility_error: Option<Text>,
-    pub(crate) servers: Clearable<ServerDescription>,
+    pub(crate) servers: Items<ServerDescription>,
     pub(crate) cluster_time: Option<ClusterTime>,
+}
+
+impl Model for TopologyDescription {
+    ghost use Rattle.std.specs.Prelude.{◌≡◌, true};
+    ghost use Rattle.mdb_describe.specs.TopologyView.{Topology};
+    ghost use Rattle.std.specs.Coded.{codes};
+    ghost use Rattle.mdb_describe.specs.contracts.description.ServerDescription as server;
+
+    ghost Value = { Topology };
+
+    ghost coded = { Prim.hlevel (codes, server.the_row.coded) };
+
+    ghost use Rattle.mdb_describe.specs.Servers.{in_order};
+
+    ghost view = { λ t. record { topology_type = t.topology_type; set_name = t.set_name; max_set_version = t.max_set_version; max_election_id = t.max_election_id; one_seed = t.one_seed; compatibility_error = t.compatibility_error; servers = t.servers; cluster_time = t.cluster_time } };
+
+    ghost invariant = { λ t. in_order t.servers ≡ true };
 }
 
 impl TopologyDescription {
@@ -67,7 +87,9 @@ impl TopologyDescription {
 
     /// The servers in the order of their addresses.
     pub fn servers(&self) -> &[ServerDescription]
-        ensures { result.now ≡ self.now.servers }
+        ensures servers { result.now ≡ self.now.servers }
+        ensures ordered { in_order self.now.servers ≡ true }
+        ensures found { (i : ℕ) (s : ServerDescription) → slice_get self.now.servers i ≡ Some s → server_at s.address self.now.servers ≡ Some s }
     {
         self.servers.as_slice()
     }

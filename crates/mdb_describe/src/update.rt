@@ -10,12 +10,11 @@ ghost use Rattle.mdb_describe.specs.Servers.{first_incompatible, in_order};
 
 use crate::carrying::carry_out;
 use crate::change::Change;
-use crate::clearable::Clearable;
 use crate::description::ServerDescription;
 use crate::preparation::{Prepared, error_after, listed, unknowns};
 use crate::servers::has_primary;
 use crate::topology::TopologyDescription;
-use mdb_base::{OutOfMemory, Text, TopologyVersion};
+use mdb_base::{Items, OutOfMemory, Text, TopologyVersion};
 use mdb_hello::ServerType;
 use mdb_srv::TopologyType;
 use std::alloc::Global;
@@ -26,7 +25,6 @@ impl TopologyDescription {
     pub fn update(&mut self, alloc: Global, server: ServerDescription) -> Result<(), OutOfMemory>
         ensures done { OnOk result (self.new ≡ updated self.old server) }
         ensures unchanged { OnErr result (self.new ≡ self.old) }
-        ensures ordered { in_order self.old.servers ≡ true → in_order self.new.servers ≡ true }
     {
         if !self.is_new(&server) {
             return Ok(());
@@ -60,7 +58,6 @@ impl TopologyDescription {
     fn take(&mut self, alloc: Global, server: ServerDescription) -> Result<(), OutOfMemory>
         ensures done { OnOk result (self.new ≡ decided self.old server) }
         ensures unchanged { OnErr result (self.new ≡ self.old) }
-        ensures ordered { in_order self.old.servers ≡ true → in_order self.new.servers ≡ true }
     {
         let change = self.decide(&server);
         match self.prepare(alloc, &change, &server) {
@@ -90,6 +87,7 @@ impl TopologyDescription {
         ensures name { IfOk result (λ p. p.set_name ≡ (if change.now.learns then name_or self.old.set_name (set_name server.now) else self.old.set_name)) }
         ensures error { IfOk result (λ p. p.error ≡ first_incompatible (changed_servers change.now server.now (listed server.now) self.old.servers)) }
         ensures servers { IfOk result (λ p. p.servers.items ≡ self.old.servers) }
+        ensures ordered { IfOk result (λ p. in_order p.servers.items ≡ true) }
         ensures room { IfOk result (λ p. vec_len p.servers + length p.unknowns.items ≤ vec_capacity p.servers) }
     {
         let address = server.address.clone()?;
@@ -113,8 +111,8 @@ impl TopologyDescription {
         requires room { vec_len prepared.servers + length prepared.unknowns.items ≤ vec_capacity prepared.servers }
         requires own { prepared.address ≡ server.address }
         requires unknowns { prepared.unknowns.items ≡ map unknown prepared.listed.items }
+        requires ordered { in_order prepared.servers.items ≡ true }
         ensures carried { let after = changed_servers change.now server prepared.listed.items prepared.servers.items in self.new ≡ record self.old { topology_type = changed_type change.now after; set_name = prepared.set_name; max_set_version = change.now.max_set_version; max_election_id = change.now.max_election_id; compatibility_error = prepared.error; servers = after } }
-        ensures ordered { in_order prepared.servers.items ≡ true → in_order self.new.servers ≡ true }
     {
         let Prepared {
             address,
@@ -137,7 +135,7 @@ impl TopologyDescription {
         self.max_set_version = change.max_set_version;
         self.max_election_id = change.max_election_id;
         self.compatibility_error = error;
-        self.servers = Clearable::new(servers);
+        self.servers = Items::new(servers);
     }
 
     // The set name after the change.

@@ -4,7 +4,6 @@ use Rattle.mdb_base.specs.Spelling.{address}
 use Rattle.mdb_base.specs.ErrorText.{error_text}
 use Rattle.mdb_srv.specs.Polling.{topology_name}
 use Rattle.mdb_describe.specs.InfoText.{type_name}
-use Rattle.mdb_describe.specs.declared.topology.TopologyDescription.{TopologyDescription}
 use Rattle.mdb_events.specs.Words.{signed_or_dash, truth}
 use Rattle.mdb_events.specs.declared.sdam.ServerDescriptionChangedEvent.{ServerDescriptionChangedEvent}
 use Rattle.mdb_events.specs.declared.sdam.ServerOpeningEvent.{ServerOpeningEvent}

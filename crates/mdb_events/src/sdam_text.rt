@@ -8,8 +8,9 @@ use crate::sdam::{
     ServerHeartbeatStartedEvent, ServerHeartbeatSucceededEvent, ServerOpeningEvent,
     TopologyClosedEvent, TopologyDescriptionChangedEvent, TopologyOpeningEvent,
 };
-use crate::words::{SignedOrDash, TypeName};
+use crate::words::SignedOrDash;
 use mdb_base::OutOfMemory;
+use mdb_describe::TypeName;
 use std::alloc::Global;
 use std::fmt;
 

@@ -3,7 +3,6 @@
 ghost use Rattle.std.specs.Prelude.{◌≡◌};
 
 use mdb_base::ObjectId;
-use mdb_hello::ServerType;
 use std::fmt;
 
 #[derive(Drop)]
@@ -64,31 +63,6 @@ impl fmt::Display for SignedOrDash {
         match self.0 {
             Some(number) => write!(f, "{number}"),
             None => write!(f, "-"),
-        }
-    }
-}
-
-// A type of a server by its name.
-#[derive(Drop)]
-pub struct TypeName(pub ServerType);
-
-impl fmt::Display for TypeName {
-    ghost use Rattle.std.specs.Prelude.{Some};
-    ghost use Rattle.mdb_describe.specs.InfoText.{type_name};
-
-    ghost output = { λ name. Some (type_name name.0) };
-
-    fn fmt<W: fmt::Write>(&self, f: &mut fmt::Formatter<W>) -> fmt::Result {
-        match self.0 {
-            ServerType::Standalone => write!(f, "Standalone"),
-            ServerType::Mongos => write!(f, "Mongos"),
-            ServerType::RsPrimary => write!(f, "RsPrimary"),
-            ServerType::RsSecondary => write!(f, "RsSecondary"),
-            ServerType::RsArbiter => write!(f, "RsArbiter"),
-            ServerType::RsOther => write!(f, "RsOther"),
-            ServerType::RsGhost => write!(f, "RsGhost"),
-            ServerType::LoadBalancer => write!(f, "LoadBalancer"),
-            ServerType::Unknown => write!(f, "Unknown"),
         }
     }
 }
