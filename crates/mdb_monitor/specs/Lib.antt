@@ -7,3 +7,4 @@ pub mod Modes
 pub mod RawReply
 pub mod Sessions
 pub mod Standing
+pub mod Times

@@ -4,7 +4,7 @@ ghost use Rattle.std.specs.Prelude.{◌≡◌, length, IfOk, OnOk, OnErr};
 ghost use Rattle.mdb_monitor.specs.Asking.{stands, wanted, unwanted};
 
 use mdb_base::OutOfMemory;
-use std::alloc::Global;
+use std::alloc::{AllocError, Global};
 use std::marker::Model;
 
 /// The watchers who ask for a check now, each once. Contracts see the list of their numbers, in the order in which
@@ -23,6 +23,16 @@ impl Model for CheckCount {
     ghost view = { λ c. c.watchers.items };
 
     ghost invariant = { λ c. IsTrue (each_once c.watchers.items) };
+}
+
+impl Clone for CheckCount {
+    ghost is_clone = { λ s t. t ≡ s };
+
+    fn clone(&self) -> Result<CheckCount, AllocError> {
+        Ok(CheckCount {
+            watchers: self.watchers.clone()?,
+        })
+    }
 }
 
 impl CheckCount {

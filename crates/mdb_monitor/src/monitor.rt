@@ -1,16 +1,16 @@
 //! The monitor of one server, and its steps.
 
 ghost use Rattle.std.specs.Prelude.{◌≡◌, true, false, IfOk, OnOk, OnErr, List, [], ◌∷◌, Some, is_some};
-ghost use Rattle.mdb_monitor.specs.Average.{next_average};
-ghost use Rattle.mdb_monitor.specs.Items.{MonitorItem, began, ended, measured, since};
+ghost use Rattle.mdb_monitor.specs.Average.{mean};
+ghost use Rattle.mdb_monitor.specs.Items.{MonitorItem, began, ended, measured, since, is_running, connection_of, samples};
 ghost use Rattle.mdb_monitor.specs.Beginnings.{begin_row};
 ghost use Rattle.mdb_monitor.specs.Endings.{finish_row};
-ghost use Rattle.mdb_monitor.specs.Standing.{runs, known_connection, known_average, StandsFor};
+ghost use Rattle.mdb_monitor.specs.Standing.{runs, StandsFor};
 
 use crate::check::{Begin, CheckResult, Finish};
 use crate::knowledge::Knowledge;
 use mdb_base::{Moment, Nanos, OutOfMemory, ServerAddress};
-use std::alloc::Global;
+use std::alloc::{AllocError, Global};
 
 /// How a server is monitored. Times are in milliseconds.
 #[derive(Debug, Drop)]
@@ -23,6 +23,19 @@ pub struct Setting {
     pub connect: Moment,
 }
 
+impl Clone for Setting {
+    ghost is_clone = { λ s t. t ≡ s };
+
+    fn clone(&self) -> Result<Setting, AllocError> {
+        Ok(Setting {
+            address: self.address.clone()?,
+            allow_streaming: self.allow_streaming,
+            heartbeat: self.heartbeat,
+            connect: self.connect,
+        })
+    }
+}
+
 /// The monitor of one server (SDAM, "Server Monitoring"): what it knows since its last failure or cancellation. The
 /// one who holds it makes connections, sends and reads; the monitor says what is to be done.
 #[derive(Debug, Drop)]
@@ -31,6 +44,19 @@ pub struct MonitorCore {
     pub(crate) knowledge: Knowledge,
     // The fresh number of the check that runs.
     pub(crate) running: Option<u32>,
+}
+
+// A step of the topology works on a copy, so that want of memory leaves the monitor as it was.
+impl Clone for MonitorCore {
+    ghost is_clone = { λ s t. t ≡ s };
+
+    fn clone(&self) -> Result<MonitorCore, AllocError> {
+        Ok(MonitorCore {
+            setting: self.setting.clone()?,
+            knowledge: self.knowledge,
+            running: self.running,
+        })
+    }
 }
 
 impl MonitorCore {
@@ -103,22 +129,23 @@ impl MonitorCore {
     pub fn rtt_sample(&mut self, sample: Nanos) -> Nanos
         ensures stands { (h : List MonitorItem) → StandsFor self.old h → StandsFor self.new (measured sample ∷ h) }
         ensures setting { self.new.setting ≡ self.old.setting }
-        ensures running { self.new.running ≡ self.old.running }
-        ensures average { result ≡ next_average (known_average self.old.knowledge) sample }
+        ensures running { runs self.new ≡ runs self.old }
+        ensures average { (h : List MonitorItem) → StandsFor self.old h → result ≡ mean (samples self.old.setting.allow_streaming (measured sample ∷ since h)) }
     {
         self.knowledge.add_sample(sample)
     }
 
     /// A check succeeded since the last failure or cancellation, so that there is a connection. No memory is taken.
     pub fn connected(&self) -> bool
-        ensures { result ≡ is_some (known_connection self.now.knowledge) }
+        ensures { (h : List MonitorItem) → StandsFor self.now h → result ≡ is_some (connection_of (since h)) }
     {
         self.knowledge.connection().is_some()
     }
 
     /// A check runs. No memory is taken.
     pub fn running(&self) -> bool
-        ensures { result ≡ runs self.now }
+        ensures machine { result ≡ runs self.now }
+        ensures items { (h : List MonitorItem) → StandsFor self.now h → result ≡ is_running h }
     {
         self.running.is_some()
     }
