@@ -7,7 +7,7 @@ use Rattle.std.proofs.lemmas.Str.Parse.{digit_from_value}
 use Rattle.std.proofs.lemmas.Fmt.{decimal_is_IsNumeral}
 use Rattle.std.proofs.lemmas.Bool.Decides.{nat_tests}
 use Rattle.std.proofs.lemmas.Bool.{ne_eqb, leb-true, and_parts, and_from}
-use Rattle.mdb_pool.specs.declared.step.Step.{Step}
+use Rattle.mdb_log.specs.declared.step.Step.{Step}
 use Rattle.mdb_lines.specs.Spelling.{spelling}
 use Rattle.mdb_lines.specs.Grammar.{is_printable}
 use Rattle.mdb_lines.specs.Script.{lines_of, line_of, AreAllowed}

@@ -1,21 +1,20 @@
 -- The generated scripts are scripts: their lines are those of their steps, each may stand at its place, and they are short enough.
 use Rattle.hex.specs.Hex.{encode_with}
 use Rattle.std.specs.Fmt.{digits, signed_decimal}
-use Rattle.std.specs.Prelude.{pos, Some, None}
+use Rattle.std.specs.Prelude.{pos, Some, None, slice_index, if◌then◌else◌, min}
 use Rattle.mdb_base.specs.Spelling.{object_id}
 use Rattle.std.proofs.lemmas.List.{append-nil}
 use Rattle.std.proofs.Common.{◌≡◌, ℕ, Bool, zero, suc, ◌+◌, ◌-◌, ◌*◌, ◌/◌, ◌%◌, ◌<◌, ◌≤◌, ◌^◌, true, false, eqb, leb, ltb, List, [], ◌∷◌, ◌++◌, length, map, refl, sym, ap, ◌∙◌, arith, append_assoc, length-append, decimal, codes, subst, inl, inr, IsTrue}
-use Rattle.std.specs.Prelude.{slice_index, if◌then◌else◌, min}
 use Rattle.std.specs.List.{flat_map, list_all}
-use Rattle.mdb_pool.specs.declared.step.Act.TheVariants.{Return}
-use Rattle.mdb_pool.specs.declared.step.Use.{Use}
-use Rattle.mdb_pool.specs.declared.step.Use.TheVariants as use_
+use Rattle.mdb_log.specs.declared.step.Act.TheVariants.{Return}
+use Rattle.mdb_log.specs.declared.step.Use.{Use}
+use Rattle.mdb_log.specs.declared.step.Use.TheVariants as use_
 use Rattle.mdb_base.specs.AddressRule.{is_name_host, is_v6_host}
 use Rattle.mdb_lines.specs.Parts.{parts_text}
 use Rattle.std.proofs.lemmas.Grind.{flat_map-append}
 use Rattle.std.proofs.lemmas.Fmt.{length-decimal-le}
 use Rattle.std.proofs.lemmas.Bool.{cases_Bool, leb-true, leb-false, eqb-true, ne_eqb, ltb-true, and_parts}
-use Rattle.mdb_pool.specs.declared.step.Step.{Step}
+use Rattle.mdb_log.specs.declared.step.Step.{Step}
 use Rattle.mdb_lines.specs.Spelling.{spelling, use_text, established_parts}
 use Rattle.mdb_lines.specs.Grammar.{is_step, is_open, is_printable, are_options}
 use Rattle.mdb_lines.specs.Types.{IsStepOfTypes}

@@ -4,7 +4,7 @@ use Rattle.std.specs.List.{count_by, sum_by}
 use Rattle.mdb_events.specs.declared.fact.Fact.{Fact}
 use Rattle.mdb_events.specs.declared.fact.Fact.TheVariants.{Pool, Granted}
 use Rattle.mdb_events.specs.declared.cmap.CmapEvent.TheVariants.{ConnectionCreated, ConnectionClosed}
-use Rattle.mdb_pool.specs.declared.log.Entry.{Entry}
+use Rattle.mdb_log.specs.declared.log.Entry.{Entry}
 use Rattle.mdb_generator.specs.declared.summary.Kind.{Kind}
 use Rattle.mdb_generator.specs.declared.summary.Kind.TheVariants as kind
 use Rattle.mdb_generator.specs.declared.summary.Summary.{Summary}

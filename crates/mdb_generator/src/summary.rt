@@ -4,7 +4,7 @@ ghost use Rattle.std.specs.Prelude.{◌≡◌};
 ghost use Rattle.mdb_generator.specs.Summaries.{is_of, number_of, summary_of};
 
 use mdb_events::{CmapEvent, Fact};
-use mdb_pool::Entry;
+use mdb_log::Entry;
 use std::fmt;
 
 /// The facts that a summary counts.

@@ -2,7 +2,7 @@
 use Rattle.std.proofs.Common.{◌≡◌, true, Option, Some, None, IfSome, ℤ, pos, int_le, FitsSigned, Result, Ok, Err, IsErrAnd, ◌∙◌}
 use Rattle.std.specs.Int.{w64}
 use Rattle.std.proofs.lemmas.Bool.{and_parts}
-use Rattle.mdb_pool.specs.declared.step.Established.{Established}
+use Rattle.mdb_log.specs.declared.step.Established.{Established}
 use Rattle.mdb_lines.specs.Grammar.{is_established, is_not_negative}
 use Rattle.mdb_lines.specs.Types.{IsEstablishedOfTypes}
 use Rattle.mdb_lines.specs.Reading.{Gives}

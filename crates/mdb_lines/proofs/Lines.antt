@@ -4,9 +4,9 @@ use Rattle.std.proofs.lemmas.Bool.{eqb-true, leb-true, and_parts}
 use Rattle.std.proofs.lemmas.List.{append_cancel_right}
 use Rattle.std.proofs.lemmas.Str.{IsUtf8-from_ascii}
 use Rattle.mdb_base.specs.AddressReading.{until, beyond}
-use Rattle.mdb_pool.specs.declared.step.Step.{Step}
-use Rattle.mdb_pool.specs.declared.step.Act.{Act}
-use Rattle.mdb_pool.specs.declared.step.Act.TheVariants as act
+use Rattle.mdb_log.specs.declared.step.Step.{Step}
+use Rattle.mdb_log.specs.declared.step.Act.{Act}
+use Rattle.mdb_log.specs.declared.step.Act.TheVariants as act
 use Rattle.mdb_lines.specs.declared.line_error.LineError.{LineError}
 use Rattle.mdb_lines.specs.Spelling.{act_text, spelling}
 use Rattle.mdb_lines.specs.Grammar.{is_act, is_printable, are_options}

@@ -10,12 +10,12 @@ use Rattle.mdb_base.specs.Spelling.{address, object_id}
 use Rattle.mdb_base.specs.declared.address.ServerAddress.{ServerAddress}
 use Rattle.mdb_base.specs.declared.object_id.ObjectId.{ObjectId}
 use Rattle.mdb_base.specs.declared.options.Options.{Options}
-use Rattle.mdb_pool.specs.declared.step.Step.{Step}
-use Rattle.mdb_pool.specs.declared.step.Act.{Act}
-use Rattle.mdb_pool.specs.declared.step.Act.TheVariants as act
-use Rattle.mdb_pool.specs.declared.step.Established.{Established}
-use Rattle.mdb_pool.specs.declared.step.Use.{Use}
-use Rattle.mdb_pool.specs.declared.step.Use.TheVariants as use_
+use Rattle.mdb_log.specs.declared.step.Step.{Step}
+use Rattle.mdb_log.specs.declared.step.Act.{Act}
+use Rattle.mdb_log.specs.declared.step.Act.TheVariants as act
+use Rattle.mdb_log.specs.declared.step.Established.{Established}
+use Rattle.mdb_log.specs.declared.step.Use.{Use}
+use Rattle.mdb_log.specs.declared.step.Use.TheVariants as use_
 use Rattle.mdb_lines.specs.Parts.{parts_text, addresses, flag}
 use Rattle.mdb_lines.specs.OpenLine.{open_parts, mode_text}
 use Rattle.mdb_lines.specs.Spelling.{use_text, established_parts}

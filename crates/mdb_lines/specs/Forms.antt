@@ -7,11 +7,11 @@ use Rattle.mdb_base.specs.AddressRule.{is_address}
 use Rattle.mdb_base.specs.Spelling.{address}
 use Rattle.mdb_base.specs.declared.address.ServerAddress.{ServerAddress}
 use Rattle.mdb_base.specs.declared.options.Options.{Options}
-use Rattle.mdb_pool.specs.declared.step.Step.{Step}
-use Rattle.mdb_pool.specs.declared.step.Act.{Act}
-use Rattle.mdb_pool.specs.declared.step.Act.TheVariants as act
-use Rattle.mdb_pool.specs.declared.step.Use.{Use}
-use Rattle.mdb_pool.specs.declared.step.Established.{Established}
+use Rattle.mdb_log.specs.declared.step.Step.{Step}
+use Rattle.mdb_log.specs.declared.step.Act.{Act}
+use Rattle.mdb_log.specs.declared.step.Act.TheVariants as act
+use Rattle.mdb_log.specs.declared.step.Use.{Use}
+use Rattle.mdb_log.specs.declared.step.Established.{Established}
 use Rattle.mdb_lines.specs.declared.line_kind.LineKind.{LineKind}
 use Rattle.mdb_lines.specs.declared.line_kind.LineKind.TheVariants as line
 use Rattle.mdb_lines.specs.declared.line_error.LineError.{LineError}

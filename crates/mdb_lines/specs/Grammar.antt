@@ -5,10 +5,10 @@ use Rattle.mdb_base.specs.AddressRule.{is_address}
 use Rattle.mdb_base.specs.OptionRules.{broken_rule}
 use Rattle.mdb_base.specs.declared.object_id.ObjectId.{ObjectId}
 use Rattle.mdb_base.specs.declared.options.Options.{Options}
-use Rattle.mdb_pool.specs.declared.step.Established.{Established}
-use Rattle.mdb_pool.specs.declared.step.Step.{Step}
-use Rattle.mdb_pool.specs.declared.step.Act.{Act}
-use Rattle.mdb_pool.specs.declared.step.Act.TheVariants as act
+use Rattle.mdb_log.specs.declared.step.Established.{Established}
+use Rattle.mdb_log.specs.declared.step.Step.{Step}
+use Rattle.mdb_log.specs.declared.step.Act.{Act}
+use Rattle.mdb_log.specs.declared.step.Act.TheVariants as act
 
 -- the parts that no line of this grammar names
 abbrev pub names_no_other : Options → Bool

@@ -3,13 +3,13 @@ use Rattle.std.specs.Prelude.{ℕ, List, ◌++◌, decimal, codes, Bool, true, f
 use Rattle.std.specs.List.{flat_map}
 use Rattle.mdb_events.specs.declared.fact.Fact.{Fact}
 use Rattle.mdb_events.specs.FactText.{fact_text, end_text}
-use Rattle.mdb_pool.specs.declared.reply.What.{What}
-use Rattle.mdb_pool.specs.declared.reply.What.TheVariants as what
-use Rattle.mdb_pool.specs.declared.reply.Refused.{Refused}
-use Rattle.mdb_pool.specs.declared.reply.Refused.TheVariants as refused
-use Rattle.mdb_pool.specs.declared.reply.Reply.{Reply}
-use Rattle.mdb_pool.specs.declared.reply.Reply.TheVariants as reply
-use Rattle.mdb_pool.specs.declared.log.Entry.{Entry}
+use Rattle.mdb_log.specs.declared.reply.What.{What}
+use Rattle.mdb_log.specs.declared.reply.What.TheVariants as what
+use Rattle.mdb_log.specs.declared.reply.Refused.{Refused}
+use Rattle.mdb_log.specs.declared.reply.Refused.TheVariants as refused
+use Rattle.mdb_log.specs.declared.reply.Reply.{Reply}
+use Rattle.mdb_log.specs.declared.reply.Reply.TheVariants as reply
+use Rattle.mdb_log.specs.declared.log.Entry.{Entry}
 use Rattle.mdb_lines.specs.Spelling.{spelling}
 
 abbrev pub what_text : What → List ℕ

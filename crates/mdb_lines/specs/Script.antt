@@ -1,7 +1,7 @@
 -- The grammar of a script: its lines, and the steps that they spell.
-use Rattle.std.specs.Prelude.{◌≡◌, ℕ, ◌+◌, ◌≤◌, ◌==◌, List, [], ◌∷◌, ◌++◌, length, map, codes, if◌then◌else◌, IsTrue}
+use Rattle.std.specs.Prelude.{◌≡◌, ℕ, ◌+◌, ◌==◌, List, [], ◌∷◌, ◌++◌, codes, if◌then◌else◌, IsTrue}
 use Rattle.std.specs.List.{onto_first}
-use Rattle.mdb_pool.specs.declared.step.Step.{Step}
+use Rattle.mdb_log.specs.declared.step.Step.{Step}
 use Rattle.mdb_lines.specs.Spelling.{spelling}
 use Rattle.mdb_lines.specs.Grammar.{is_step, is_open, is_printable}
 use Rattle.mdb_lines.specs.Types.{IsStepOfTypes}
@@ -23,10 +23,6 @@ lines_of (b ∷ bs) = if b == 10 then (10 ∷ []) ∷ lines_of bs else onto_firs
 abbrev pub line_of : Step → List ℕ
 line_of s = spelling s ++ codes "\n"
 
--- A line of this number, with its newline, is that of the step.
-abbrev pub IsLine : ℕ → List ℕ → Step → Type 0
-IsLine n line s = Spells n (spelling s) s × (line ≡ line_of s)
-
 -- Each step may stand at its number, counted from this one.
 abbrev pub AreAllowed : ℕ → List Step → Type 0
 AreAllowed n [] = Unit {0}
@@ -35,7 +31,3 @@ AreAllowed n (s ∷ ss) = Spells n (spelling s) s × AreAllowed (n + 1) ss
 -- the most bytes that a script may have
 abbrev pub max_input : ℕ
 max_input = 131072
-
--- A script of these steps: its lines are theirs, and each stands where it may. The first opens, and no other.
-abbrev pub IsScript : List ℕ → List Step → Type 0
-IsScript input steps = (length input ≤ max_input) × (lines_of input ≡ map line_of steps) × AreAllowed 1 steps

@@ -3,14 +3,14 @@ use Rattle.std.specs.Prelude.{ℕ, List, [], ◌∷◌, ◌++◌, decimal, codes
 use Rattle.std.specs.Fmt.{signed_decimal}
 use Rattle.mdb_base.specs.Spelling.{address, object_id}
 use Rattle.mdb_base.specs.ErrorText.{error_text}
-use Rattle.mdb_pool.specs.declared.step.Step.{Step}
-use Rattle.mdb_pool.specs.declared.step.Act.{Act}
-use Rattle.mdb_pool.specs.declared.step.Act.TheVariants as act
-use Rattle.mdb_pool.specs.declared.step.Use.{Use}
-use Rattle.mdb_pool.specs.declared.step.Use.TheVariants as use_
-use Rattle.mdb_pool.specs.declared.step.Established.{Established}
-use Rattle.mdb_pool.specs.declared.step.FailedAt.{FailedAt}
-use Rattle.mdb_pool.specs.declared.step.FailedAt.TheVariants as at
+use Rattle.mdb_log.specs.declared.step.Step.{Step}
+use Rattle.mdb_log.specs.declared.step.Act.{Act}
+use Rattle.mdb_log.specs.declared.step.Act.TheVariants as act
+use Rattle.mdb_log.specs.declared.step.Use.{Use}
+use Rattle.mdb_log.specs.declared.step.Use.TheVariants as use_
+use Rattle.mdb_log.specs.declared.step.Established.{Established}
+use Rattle.mdb_log.specs.declared.step.FailedAt.{FailedAt}
+use Rattle.mdb_log.specs.declared.step.FailedAt.TheVariants as at
 use Rattle.mdb_lines.specs.Parts.{Part, part_text, parts_text}
 use Rattle.mdb_lines.specs.OpenLine.{open_text}
 

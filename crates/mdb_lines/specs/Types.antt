@@ -3,10 +3,10 @@ use Rattle.std.specs.Prelude.{◌≡◌, ℕ, ◌<◌, ◌^◌, length, IfSome, 
 use Rattle.std.specs.Int.{w32, w64}
 use Rattle.mdb_base.specs.declared.object_id.ObjectId.{ObjectId}
 use Rattle.mdb_base.specs.declared.options.Options.{Options}
-use Rattle.mdb_pool.specs.declared.step.Established.{Established}
-use Rattle.mdb_pool.specs.declared.step.Step.{Step}
-use Rattle.mdb_pool.specs.declared.step.Act.{Act}
-use Rattle.mdb_pool.specs.declared.step.Act.TheVariants as act
+use Rattle.mdb_log.specs.declared.step.Established.{Established}
+use Rattle.mdb_log.specs.declared.step.Step.{Step}
+use Rattle.mdb_log.specs.declared.step.Act.{Act}
+use Rattle.mdb_log.specs.declared.step.Act.TheVariants as act
 
 abbrev pub IsIdOfTypes : ObjectId → Type 0
 IsIdOfTypes id = (length id.0 ≡ 12) × ((i : ℕ) → slice_index id.0 i < 256)

@@ -1,6 +1,6 @@
 //! Reading the lines of callers and workers.
 
-ghost use Rattle.mdb_pool.specs.declared.step.Act.TheVariants as act;
+ghost use Rattle.mdb_log.specs.declared.step.Act.TheVariants as act;
 ghost use Rattle.mdb_lines.specs.Forms.{ReadsMoment, ReadsParty, ReadsAsked, ReadsAddress, ReadsReturn};
 
 use crate::fields::{u32_field, u64_field};
@@ -8,7 +8,7 @@ use crate::line_error::LineError;
 use crate::shapes::{moment, moment_and_address, moment_and_party, party_at_address};
 use crate::values::use_word;
 use crate::words::last;
-use mdb_pool::{Act, Step};
+use mdb_log::{Act, Step};
 use std::alloc::Global;
 
 /// A request: a moment, a party and an address.

@@ -3,7 +3,7 @@
 ghost use Rattle.std.specs.Prelude.{◌≡◌, ◌++◌, codes, IfSome, FitsSigned, int_le, pos, true};
 ghost use Rattle.std.specs.Int.{w64};
 ghost use Rattle.std.specs.Fmt.{signed_decimal};
-ghost use Rattle.mdb_pool.specs.declared.step.Established.{Established};
+ghost use Rattle.mdb_log.specs.declared.step.Established.{Established};
 ghost use Rattle.mdb_lines.specs.Parts.{parts_text};
 ghost use Rattle.mdb_lines.specs.Spelling.{established_parts};
 ghost use Rattle.mdb_lines.specs.Types.{IsEstablishedOfTypes};
@@ -13,7 +13,7 @@ ghost use Rattle.mdb_lines.specs.Forms.{ReadsEstablished};
 use crate::fields::{i32_field, u32_field, u64_field};
 use crate::line_error::LineError;
 use crate::parts::{i64_part, id_part};
-use mdb_pool::{Act, Established, Step};
+use mdb_log::{Act, Established, Step};
 
 // What was reported of a connection: its wire version, its service and its server's number.
 #[tactic(auto, using(crate::proofs::PartLemmas::parts_follow))]

@@ -7,7 +7,7 @@ ghost use Rattle.mdb_lines.specs.LogText.{text_of_entry, what_text};
 use crate::line_text::LineText;
 use mdb_base::OutOfMemory;
 use mdb_events::Fact;
-use mdb_pool::{Entry, Refused, Reply, What};
+use mdb_log::{Entry, Refused, Reply, What};
 use std::alloc::Global;
 use std::fmt;
 

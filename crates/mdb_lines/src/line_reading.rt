@@ -1,7 +1,7 @@
 //! Reading a line.
 
 ghost use Rattle.std.specs.Prelude.{◌≡◌, true, IfOk, OnOk};
-ghost use Rattle.mdb_pool.specs.declared.step.Step.{Step};
+ghost use Rattle.mdb_log.specs.declared.step.Step.{Step};
 ghost use Rattle.mdb_lines.specs.Grammar.{is_printable};
 ghost use Rattle.mdb_lines.specs.Script.{Spells};
 ghost use Rattle.mdb_lines.specs.Reading.{Gives};
@@ -18,7 +18,7 @@ use crate::rules::{is_printable, keeps_place, keeps_rules};
 use crate::types::step_types;
 use crate::words::cut;
 use mdb_base::OutOfMemory;
-use mdb_pool::Step;
+use mdb_log::Step;
 use std::alloc::Global;
 
 fn read_kind(alloc: Global, kind: LineKind, text: &str) -> Result<Step, LineError>

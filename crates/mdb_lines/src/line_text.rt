@@ -5,7 +5,7 @@ ghost use Rattle.mdb_lines.specs.Spelling.{spelling, use_text, HasSpelling};
 
 use crate::open_text::OpenText;
 use mdb_base::{Error, Moment, ObjectId, OutOfMemory};
-use mdb_pool::{Act, Established, FailedAt, Step, Use};
+use mdb_log::{Act, Established, FailedAt, Step, Use};
 use std::alloc::Global;
 use std::fmt;
 

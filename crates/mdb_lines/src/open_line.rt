@@ -15,7 +15,7 @@ use crate::parts::{flag_part, part, text_part, u32_part, u64_part};
 use crate::values::addresses_word;
 use crate::words::field;
 use mdb_base::{Items, Moment, ObjectId, Options, ServerAddress, Text};
-use mdb_pool::{Act, Step};
+use mdb_log::{Act, Step};
 use std::alloc::Global;
 
 // The first three optional parts.

@@ -1,13 +1,13 @@
 //! Reading the lines of pins.
 
-ghost use Rattle.mdb_pool.specs.declared.step.Act.TheVariants as act;
+ghost use Rattle.mdb_log.specs.declared.step.Act.TheVariants as act;
 ghost use Rattle.mdb_lines.specs.Forms.{ReadsParty, ReadsPlace, ReadsTake};
 
 use crate::fields::{u32_field, u64_field};
 use crate::line_error::LineError;
 use crate::shapes::{connection, moment_and_party};
 use crate::words::{last, number32};
-use mdb_pool::{Act, Step};
+use mdb_log::{Act, Step};
 
 /// A party pins its connection: a moment and the party.
 pub fn pin(text: &str) -> Result<Step, LineError>

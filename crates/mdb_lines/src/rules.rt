@@ -6,7 +6,7 @@ ghost use Rattle.mdb_base.specs.AddressRule.{is_address};
 ghost use Rattle.mdb_lines.specs.Grammar.{names_no_other, names_no_limit, is_zero_id, are_options, is_not_negative, is_established, is_step, is_open, is_printable};
 
 use mdb_base::{ObjectId, Options, ServerAddress};
-use mdb_pool::{Act, Established, Step};
+use mdb_log::{Act, Established, Step};
 
 fn are_addresses(addresses: &[ServerAddress]) -> bool
     ensures { result ≡ list_all is_address addresses.now }

@@ -5,7 +5,7 @@ ghost use Rattle.std.specs.Int.{w64};
 ghost use Rattle.mdb_lines.specs.Types.{IsIdOfTypes, AreOptionsOfTypes, IsEstablishedOfTypes, IsStepOfTypes};
 
 use mdb_base::{ObjectId, Options};
-use mdb_pool::{Act, Established, Step};
+use mdb_log::{Act, Established, Step};
 
 fn narrow(number: Option<u32>)
     ensures { IfSome number (λ n. n < 2 ^ 32) }

@@ -6,7 +6,7 @@ ghost use Rattle.mdb_base.specs.AddressRule.{is_address};
 ghost use Rattle.mdb_base.specs.Spelling.{address, object_id};
 ghost use Rattle.mdb_base.specs.declared.address.ServerAddress.{ServerAddress};
 ghost use Rattle.mdb_base.specs.declared.object_id.ObjectId.{ObjectId};
-ghost use Rattle.mdb_pool.specs.declared.step.Use.{Use};
+ghost use Rattle.mdb_log.specs.declared.step.Use.{Use};
 ghost use Rattle.mdb_lines.specs.Parts.{addresses};
 ghost use Rattle.mdb_lines.specs.Spelling.{use_text};
 ghost use Rattle.mdb_lines.specs.Types.{IsIdOfTypes};
@@ -14,7 +14,7 @@ ghost use Rattle.mdb_lines.specs.Reading.{Gives};
 
 use crate::line_error::LineError;
 use mdb_base::{AddressError, Items, ObjectId, ServerAddress};
-use mdb_pool::Use;
+use mdb_log::Use;
 use std::alloc::Global;
 
 /// An address.

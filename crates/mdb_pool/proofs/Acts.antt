@@ -1,14 +1,14 @@
 -- What an act does is the answer to its step.
-use Rattle.std.proofs.Common.{ℕ, ◌≡◌, ◌<◌, ◌≤◌, Bool, true, false, ◌||◌, List, ◌∷◌, ◌++◌, Option, Some, None, is_some, refl, sym, ◌∙◌, ap, subst, arith, if◌then◌else◌, append_assoc, append-nil, nat_lt, ◌+◌, not, ◌&&◌, ◌==◌}
+use Rattle.std.proofs.Common.{ℕ, ◌≡◌, ◌<◌, ◌≤◌, Bool, true, false, ◌||◌, List, ◌∷◌, ◌++◌, Option, Some, None, is_some, refl, sym, ◌∙◌, ap, subst, arith, if◌then◌else◌, append_assoc, append-nil, nat_lt, not, ◌&&◌}
 use Rattle.std.proofs.lemmas.Bool.Decides.{nat_tests}
 use Rattle.mdb_events.specs.declared.fact.Fact.{Fact}
 use Rattle.mdb_events.specs.declared.end.End.{End}
-use Rattle.mdb_pool.specs.declared.step.Step.{Step}
-use Rattle.mdb_pool.specs.declared.step.Act.{Act}
-use Rattle.mdb_pool.specs.declared.reply.Refused.{Refused}
-use Rattle.mdb_pool.specs.declared.reply.Refused.TheVariants.{TimeBack}
-use Rattle.mdb_pool.specs.declared.reply.Reply.{Reply}
-use Rattle.mdb_pool.specs.declared.reply.Reply.TheVariants.{Pooled, Establishing, Waiting, Ended, Job, NoJob, Changed, Count, Done, Refused as RefusedBy}
+use Rattle.mdb_log.specs.declared.step.Step.{Step}
+use Rattle.mdb_log.specs.declared.step.Act.{Act}
+use Rattle.mdb_log.specs.declared.reply.Refused.{Refused}
+use Rattle.mdb_log.specs.declared.reply.Refused.TheVariants.{TimeBack}
+use Rattle.mdb_log.specs.declared.reply.Reply.{Reply}
+use Rattle.mdb_log.specs.declared.reply.Reply.TheVariants.{Pooled, Establishing, Waiting, Ended, Job, NoJob, Changed, Count, Done, Refused as RefusedBy}
 use Rattle.mdb_pool.specs.declared.connection.Connection.{Connection}
 use Rattle.mdb_pool.specs.declared.connection.Place.{Place}
 use Rattle.mdb_pool.specs.declared.request.Phase.{Phase}
@@ -16,36 +16,26 @@ use Rattle.mdb_pool.specs.declared.connection.Place.TheVariants.{Pending, Availa
 use Rattle.mdb_pool.specs.declared.request.Request.{Request}
 use Rattle.mdb_pool.specs.declared.request.Phase.TheVariants.{Queued, Given, Over, Ended as EndedPhase}
 use Rattle.mdb_pool.specs.declared.pool_core.PoolCore.{PoolCore}
-use Rattle.mdb_pool.specs.History.{Item, did, PoolItem, has_party, of_pool, with_facts, with_answer, after_facts, given, has_asked, open_pool}
-use Rattle.mdb_pool.specs.Connections.{has, pending_list, holding, known_service, last_use, is_errored, is_dropped, pins}
-use Rattle.mdb_pool.specs.Requests.{outcome_of, names_party, is_claimed, asks_how, is_outcome, told, was_asked, leaves, some_act}
+use Rattle.mdb_log.specs.History.{Item, did, PoolItem, has_party, of_pool, with_facts, with_answer, after_facts, given, has_asked, open_pool, with_act}
+use Rattle.mdb_log.specs.Connections.{has, pending_list, holding, known_service, last_use, is_errored, is_dropped, pins}
+use Rattle.mdb_log.specs.Requests.{outcome_of, names_party, is_claimed, asks_how, is_outcome, told, was_asked, leaves, some_act, settles, is_job}
 use Rattle.mdb_pool.specs.Refusal.{refusal_of}
 use Rattle.mdb_pool.specs.Facts.{act_facts}
-use Rattle.mdb_pool.specs.Answer.{all_facts, reply_of, answer, answered, with_act}
-use Rattle.mdb_pool.specs.Serving.{serving}
-use Rattle.mdb_pool.specs.Standing.{Matches, Fits, StandsFor, Serves, Accepts, Answers, SameHome, settles, is_job}
+use Rattle.mdb_pool.specs.Answer.{all_facts, reply_of, answer, answered}
+use Rattle.mdb_pool.specs.Serving.{serving, IsServed}
+use Rattle.mdb_pool.specs.Standing.{Fits, StandsFor, Serves, Accepts, Answers, SameHome}
+use Rattle.mdb_pool.specs.Matching.{Matches}
 use Rattle.mdb_pool.specs.Kept.{connection_at, request_at, held_connection, outcome_now, is_pending_at, given_of, given_in, holder_at, if_held, end_at, is_shut, pins_at}
-use Rattle.mdb_pool.specs.Legal.{IsAccepted, IsFairAnswer, NoneLeftWaiting, IsServed, AllFirstCome, AllOwn, shuts}
+use Rattle.mdb_log.specs.Legal.{IsFairAnswer, NoneLeftWaiting, AllFirstCome}
+use Rattle.mdb_log.specs.Own.{IsAccepted, AllOwn, shuts}
 use Rattle.mdb_pool.specs.Places.{is_pending, is_held, is_available, is_at_pin}
 use Rattle.mdb_pool.proofs.Tables.{has-where, passes, entry_at-key}
 use Rattle.mdb_pool.proofs.Found.{id_or}
 use Rattle.mdb_pool.proofs.Laws.{fair-append, serve-fair, own-append, serve-own, with-serve, size}
 use Rattle.mdb_pool.proofs.Served.{serving-serves, served-settled}
-use Rattle.mdb_pool.proofs.Serving.{of_pool-with_facts, after-append}
-use Rattle.mdb_pool.proofs.Frame.{last-facts, acts-facts, open-facts, open-home, party-facts, asked-facts, told-facts, claimed-facts}
+use Rattle.mdb_log.proofs.Later.{of_pool-with_facts, after-append, with_answer-accepted, opens-after, claimed-reply}
+use Rattle.mdb_log.proofs.Frame.{last-facts, acts-facts, open-facts, open-home, party-facts, asked-facts, told-facts, claimed-facts}
 use Rattle.mdb_base.specs.Equality.{same_address}
-
-pub with_answer-accepted : (step : Step) (reply : Reply) (facts : List Fact) (h : List Item) → IsAccepted reply → with_answer step reply facts h ≡ with_facts step.moment facts (did step reply ∷ h)
-with_answer-accepted step (Pooled p c) facts h i = refl
-with_answer-accepted step (Establishing p c) facts h i = refl
-with_answer-accepted step Waiting facts h i = refl
-with_answer-accepted step (Ended e) facts h i = refl
-with_answer-accepted step (Job p c) facts h i = refl
-with_answer-accepted step NoJob facts h i = refl
-with_answer-accepted step (Changed b) facts h i = refl
-with_answer-accepted step (Count n) facts h i = refl
-with_answer-accepted step Done facts h i = refl
-with_answer-accepted step (RefusedBy why) facts h i = absurd i
 
 fair-accepted : (p : ℕ) (h : List Item) (step : Step) (reply : Reply) (facts : List Fact) → IsAccepted reply → AllFirstCome p step.moment (with_act p h step) facts → IsFairAnswer p h step reply facts
 fair-accepted p h step (Pooled q c) facts i f = f
@@ -107,27 +97,6 @@ accepts s s1 t u before f1 after m act reply acts xs ys facts_of f1_is home fits
       served = subst (λ f. IsServed s.options (after_facts s.pool m f ys)) (sym all) (subst (IsServed s.options) (sym (after-append s.pool m acts (serving s.pool s.address s.options m zs) ys)) (serving-serves s.pool s.address s.options m zs));
     }
 
-pub opens-after : (a b l : Bool) (n : ℕ) (o : Bool) → (n == 0) && not l ≡ not o → ((if a then n + 1 else n) == 0) && not (b || l) ≡ not ((a || b) || o)
-opens-after true b l n o e = let f : (n + 1 == 0) ≡ false = grind arith in rw f refl
-opens-after false true l n o e = and-no (n == 0)
-  where
-    and-no : (k : Bool) → k && false ≡ false
-    and-no true = refl
-    and-no false = refl
-opens-after false false l n o e = e
-
-pub claimed-reply : (p c : ℕ) (step : Step) (reply : Reply) (h : List Item) → is_claimed (did step reply ∷ h) p c ≡ is_job p reply c || is_claimed h p c
-claimed-reply p c step (Pooled q d) h = refl
-claimed-reply p c step (Establishing q d) h = refl
-claimed-reply p c step Waiting h = refl
-claimed-reply p c step (Ended e) h = refl
-claimed-reply p c step (Job q d) h = refl
-claimed-reply p c step NoJob h = refl
-claimed-reply p c step (Changed b) h = refl
-claimed-reply p c step (Count n) h = refl
-claimed-reply p c step Done h = refl
-claimed-reply p c step (RefusedBy why) h = refl
-
 -- on a history of the pool's own an accepted act is the answer
 pub own-answers : (s t : PoolCore) (before after : List Fact) (step : Step) (reply : Reply) (ys : List PoolItem) (h : List Item) → StandsFor s h
     → refusal_of s.pool s.options h step ≡ None
@@ -176,7 +145,7 @@ at_pending (Some x) = refl
 -- what the state says of parties and connections
 module _ (s : PoolCore) (xs : List PoolItem) (z : Fits s xs) where
   pub pending-is : (c : ℕ) → has c (pending_list xs) ≡ is_pending_at (connection_at s c)
-  pending-is c = rw z.matches.pending (has-where (λ (x : Connection). x.id) (λ x. is_pending x.place) c s.connections (z.matches.single c) ∙ at_pending (connection_at s c))
+  pending-is c = rw z.matches.counts.pending (has-where (λ (x : Connection). x.id) (λ x. is_pending x.place) c s.connections (z.matches.counts.single c) ∙ at_pending (connection_at s c))
 
   -- whoever is given a connection holds it, or it is pending
   pub holding-is : (r : ℕ) → holding xs r ≡ id_or (held_connection s r) None
@@ -184,22 +153,22 @@ module _ (s : PoolCore) (xs : List PoolItem) (z : Fits s xs) where
     where
       at_place : (c : ℕ) (x : Connection) (p : Place) → connection_at s c ≡ Some x → x.place ≡ p → holder_at (connection_at s c) ≡ Some r → (if has c (pending_list xs) then None else Some c) ≡ id_or (if is_held x.place then Some x else None) None
       at_place c x Pending e f t = let k : has c (pending_list xs) ≡ true = pending-is c ∙ (ap is_pending_at e ∙ ap is_pending f) in rw (k, f) refl
-      at_place c x Available e f t = let k : holder_at (Some x) ≡ None = z.matches.free c x e (ap is_available f) in let v : holder_at (Some x) ≡ Some r = ap holder_at (sym e) ∙ t in cc
+      at_place c x Available e f t = let k : holder_at (Some x) ≡ None = z.matches.links.free c x e (ap is_available f) in let v : holder_at (Some x) ≡ Some r = ap holder_at (sym e) ∙ t in cc
       at_place c x Held e f t = let k : has c (pending_list xs) ≡ false = pending-is c ∙ (ap is_pending_at e ∙ ap is_pending f) in let v : x.id ≡ c = entry_at-key (λ (y : Connection). y.id) c x s.connections e in rw (k, f) (ap Some (sym v))
-      at_place c x Pinned e f t = let k : holder_at (Some x) ≡ None = z.matches.rests c x e (ap is_at_pin f) in let v : holder_at (Some x) ≡ Some r = ap holder_at (sym e) ∙ t in cc
+      at_place c x Pinned e f t = let k : holder_at (Some x) ≡ None = z.matches.pinning.rests c x e (ap is_at_pin f) in let v : holder_at (Some x) ≡ Some r = ap holder_at (sym e) ∙ t in cc
 
       at_connection : (c : ℕ) (o : Option Connection) → connection_at s c ≡ o → holder_at (connection_at s c) ≡ Some r → (if has c (pending_list xs) then None else Some c) ≡ id_or (if_held o) None
       at_connection c None e t = let v : holder_at None ≡ Some r = ap holder_at (sym e) ∙ t in cc
       at_connection c (Some x) e t = at_place c x x.place e refl t
 
       at_phase : (q : Request) (p : Phase) → request_at s r ≡ Some q → q.phase ≡ p → holding xs r ≡ id_or (held_connection s r) None
-      at_phase q Queued e f = rw (z.matches.given r, e, f) refl
-      at_phase q (Given c) e f = let t : holder_at (connection_at s c) ≡ Some r = z.matches.taken r c (ap given_of e ∙ ap given_in f) in rw (z.matches.given r, e, f) (at_connection c (connection_at s c) refl t)
-      at_phase q Over e f = rw (z.matches.given r, e, f) refl
-      at_phase q (EndedPhase end) e f = rw (z.matches.given r, e, f) refl
+      at_phase q Queued e f = rw (z.matches.requests.given r, e, f) refl
+      at_phase q (Given c) e f = let t : holder_at (connection_at s c) ≡ Some r = z.matches.links.taken r c (ap given_of e ∙ ap given_in f) in rw (z.matches.requests.given r, e, f) (at_connection c (connection_at s c) refl t)
+      at_phase q Over e f = rw (z.matches.requests.given r, e, f) refl
+      at_phase q (EndedPhase end) e f = rw (z.matches.requests.given r, e, f) refl
 
       on : (o : Option Request) → request_at s r ≡ o → holding xs r ≡ id_or (held_connection s r) None
-      on None e = rw (z.matches.given r, e) refl
+      on None e = rw (z.matches.requests.given r, e) refl
       on (Some q) e = at_phase q q.phase e refl
 
 -- an act at an earlier moment is refused
@@ -214,12 +183,12 @@ pub outcome-is : (s : PoolCore) (zs : List PoolItem) (m : Matches s zs) (r : ℕ
 outcome-is s zs m r = on (end_at (request_at s r)) (given_of (request_at s r)) refl refl
   where
     pending-in : (c : ℕ) → has c (pending_list zs) ≡ is_pending_at (connection_at s c)
-    pending-in c = rw m.pending (has-where (λ (x : Connection). x.id) (λ x. is_pending x.place) c s.connections (m.single c) ∙ at_pending (connection_at s c))
+    pending-in c = rw m.counts.pending (has-where (λ (x : Connection). x.id) (λ x. is_pending x.place) c s.connections (m.counts.single c) ∙ at_pending (connection_at s c))
 
     on : (o : Option End) (k : Option ℕ) → end_at (request_at s r) ≡ o → given_of (request_at s r) ≡ k → outcome_of s.pool zs r ≡ outcome_now s r
-    on (Some end) k e f = rw (m.ends r, e) refl
-    on None None e f = rw (m.ends r, m.given r, e, f) refl
-    on None (Some c) e f = rw (m.ends r, m.given r, e, f, pending-in c) refl
+    on (Some end) k e f = rw (m.requests.ends r, e) refl
+    on None None e f = rw (m.requests.ends r, m.requests.given r, e, f) refl
+    on None (Some c) e f = rw (m.requests.ends r, m.requests.given r, e, f, pending-in c) refl
 
 -- the kinds of outcomes
 pub outcome-any : (P : Reply → Type 0) → ((end : End) → P (Ended end)) → P Waiting → ((p c : ℕ) → P (Establishing p c)) → ((p c : ℕ) → P (Pooled p c)) → (s : PoolCore) (r : ℕ) → P (outcome_now s r)
@@ -242,16 +211,16 @@ outcome-no-job s r p c = outcome-any (λ reply. is_job p reply c ≡ false) (λ 
 
 -- how a live connection was used
 pub live-errored : (s : PoolCore) (xs : List PoolItem) (m : Matches s xs) (c : ℕ) (x : Connection) → connection_at s c ≡ Some x → is_errored xs c ≡ x.errored
-live-errored s xs m c x e = grind (arith, m.errored c, e)
+live-errored s xs m c x e = grind (arith, m.uses.errored c, e)
 
 pub live-dropped : (s : PoolCore) (xs : List PoolItem) (m : Matches s xs) (c : ℕ) (x : Connection) → connection_at s c ≡ Some x → is_dropped (last_use xs c) ≡ is_dropped x.used
-live-dropped s xs m c x e = grind (arith, m.dropped c, e)
+live-dropped s xs m c x e = grind (arith, m.uses.dropped c, e)
 
 pub live-pins : (s : PoolCore) (xs : List PoolItem) (m : Matches s xs) (c : ℕ) (x : Connection) → connection_at s c ≡ Some x → pins xs c ≡ x.pins
-live-pins s xs m c x e = m.pins c ∙ ap pins_at e
+live-pins s xs m c x e = m.pinning.pins c ∙ ap pins_at e
 
 pub live-service : (s : PoolCore) (xs : List PoolItem) (m : Matches s xs) (c : ℕ) (x : Connection) → connection_at s c ≡ Some x → known_service xs c ≡ x.service
-live-service s xs m c x e = grind (arith, m.service c, e)
+live-service s xs m c x e = grind (arith, m.told.service c, e)
 
 -- who is given a connection has not ended
 pub given-open : (o : Option Request) (c : ℕ) → given_of o ≡ Some c → end_at o ≡ None

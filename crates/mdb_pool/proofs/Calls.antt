@@ -2,10 +2,10 @@
 use Rattle.std.proofs.Common.{ℕ, ◌≡◌, List, ◌++◌, sym, ◌∙◌, ap, subst, append_assoc}
 use Rattle.mdb_events.specs.declared.fact.Fact.{Fact}
 use Rattle.mdb_pool.specs.declared.pool_core.PoolCore.{PoolCore}
-use Rattle.mdb_pool.specs.History.{PoolItem, after_facts}
+use Rattle.mdb_log.specs.History.{PoolItem, after_facts}
 use Rattle.mdb_pool.specs.Serving.{serving}
 use Rattle.mdb_pool.specs.Standing.{Fits, SameHome, Serves}
-use Rattle.mdb_pool.proofs.Serving.{after-append}
+use Rattle.mdb_log.proofs.Later.{after-append}
 
 -- a call made the facts fs, and the state then fits them too
 pub record Moves (s t : PoolCore) (m : ℕ) (before after : List Fact) (fs : List Fact) (xs : List PoolItem) : Type 0 where

@@ -11,13 +11,13 @@ use Rattle.mdb_events.specs.declared.end.End.TheVariants.{Closed, GaveUp}
 use Rattle.mdb_events.specs.declared.reasons.ConnectionClosedReason.TheVariants.{PoolClosed as PoolClosedReason}
 use Rattle.mdb_events.specs.declared.fact.Fact.{Fact}
 use Rattle.mdb_events.specs.declared.fact.Fact.TheVariants as fact
-use Rattle.mdb_pool.specs.declared.options.PoolOptions.{PoolOptions}
-use Rattle.mdb_pool.specs.declared.step.Act.{Act}
-use Rattle.mdb_pool.specs.declared.step.Act.TheVariants as act
-use Rattle.mdb_pool.specs.History.{PoolItem, after_facts}
-use Rattle.mdb_pool.specs.Connections.{created_total, pending_list, available_list, holding, pins, is_pinned, granted_to}
-use Rattle.mdb_pool.specs.Requests.{requests, queued, is_warm, end_of, is_unserved}
-use Rattle.mdb_pool.specs.State.{State, is_new, is_ready, is_paused, is_closed, state_of, min_size}
+use Rattle.mdb_log.specs.declared.options.PoolOptions.{PoolOptions}
+use Rattle.mdb_log.specs.declared.step.Act.{Act}
+use Rattle.mdb_log.specs.declared.step.Act.TheVariants as act
+use Rattle.mdb_log.specs.History.{PoolItem, after_facts}
+use Rattle.mdb_log.specs.Connections.{created_total, pending_list, available_list, holding, pins, is_pinned, granted_to, known_service}
+use Rattle.mdb_log.specs.Requests.{requests, queued, is_warm, end_of, is_unserved}
+use Rattle.mdb_log.specs.State.{State, is_new, is_ready, is_paused, is_closed, state_of, min_size}
 use Rattle.mdb_pool.specs.Facts.{created_fact, closed_fact, closes, check_in, come_back, hand_over, fail_requester, sweep, fill, clear_facts, close_facts, turned_away, readied, act_facts, end_facts, all_ends, close_reason, perished}
 
 -- the fact grants nothing, and checks in no connection past the number n
@@ -131,15 +131,15 @@ module _ (n : ℕ) where
         on (is_paused cause) (Some t) e = rw e (tt, (tt, tt))
         on is_closed service e = rw e tt
 
-    shut-calm : (xs : List PoolItem) (why : ConnectionClosedReason) (cs : List ℕ) → AreCalm n (map (λ c. closed_fact p a xs c why) cs)
+    shut-calm : (xs : List PoolItem) (why : ConnectionClosedReason) (cs : List ℕ) → AreCalm n (map (λ c. closed_fact p a c why (known_service xs c)) cs)
     shut-calm xs why [] = tt
     shut-calm xs why (c ∷ cs) = (tt, shut-calm xs why cs)
 
     close-calm : (xs : List PoolItem) → AreCalm n (close_facts p a o m xs)
     close-calm xs = on (state_of o xs) refl
       where
-        shut : (s : State) → AreCalm n (map (λ c. closed_fact p a xs c PoolClosedReason) (available_list xs ++ pending_list xs) ++ all_ends p a m xs Closed (filter (is_unserved xs) (requests xs)) ++ fact.Pool p (event.PoolClosed (record { address = a })) ∷ [])
-        shut s = calm-append (map (λ c. closed_fact p a xs c PoolClosedReason) (available_list xs ++ pending_list xs) ++ all_ends p a m xs Closed (filter (is_unserved xs) (requests xs))) _
+        shut : (s : State) → AreCalm n (map (λ c. closed_fact p a c PoolClosedReason (known_service xs c)) (available_list xs ++ pending_list xs) ++ all_ends p a m xs Closed (filter (is_unserved xs) (requests xs)) ++ fact.Pool p (event.PoolClosed (record { address = a })) ∷ [])
+        shut s = calm-append (map (λ c. closed_fact p a c PoolClosedReason (known_service xs c)) (available_list xs ++ pending_list xs) ++ all_ends p a m xs Closed (filter (is_unserved xs) (requests xs))) _
             (calm-append _ _ (shut-calm xs PoolClosedReason (available_list xs ++ pending_list xs)) (ends-calm xs Closed (filter (is_unserved xs) (requests xs)))) (tt, tt)
 
         on : (s : State) → state_of o xs ≡ s → AreCalm n (close_facts p a o m xs)

@@ -5,15 +5,16 @@ use Rattle.mdb_pool.specs.declared.connection.Connection.{Connection}
 use Rattle.mdb_pool.specs.declared.status.Status.{Status}
 use Rattle.mdb_pool.specs.declared.status.Status.TheVariants.{New, Ready, Paused, Closed}
 use Rattle.mdb_pool.specs.declared.pool_core.PoolCore.{PoolCore}
-use Rattle.mdb_pool.specs.History.{PoolItem, closed, checked_in, after_facts}
-use Rattle.mdb_pool.specs.State.{state_of, is_stale}
-use Rattle.mdb_pool.specs.Connections.{known_service, last_use, is_errored, is_dropped}
-use Rattle.mdb_pool.specs.Facts.{check_in, close_reason, closes}
+use Rattle.mdb_log.specs.History.{PoolItem, closed, checked_in, after_facts}
+use Rattle.mdb_log.specs.State.{state_of, is_stale}
+use Rattle.mdb_log.specs.Connections.{known_service, last_use, is_errored, is_dropped}
+use Rattle.mdb_pool.specs.Facts.{check_in, close_reason, closes, checked_in_fact}
 use Rattle.mdb_pool.specs.Kept.{state_in, is_shut, stale_for, reason_of, reason_now}
-use Rattle.mdb_pool.specs.Changes.{in_fact, back_facts}
-use Rattle.mdb_pool.specs.Legal.{AllFirstCome, AllOwn, shuts}
+use Rattle.mdb_pool.specs.Changes.{back_facts}
+use Rattle.mdb_log.specs.Legal.{AllFirstCome}
+use Rattle.mdb_log.specs.Own.{AllOwn, shuts}
 use Rattle.mdb_pool.specs.Standing.{Fits}
-use Rattle.mdb_pool.proofs.Numbers.{same-number}
+use Rattle.mdb_log.proofs.Numbers.{same-number}
 use Rattle.mdb_pool.proofs.Stands.{skip-fits}
 use Rattle.mdb_pool.proofs.Staleness.{shut-status}
 
@@ -23,11 +24,11 @@ module _ (s : PoolCore) (ys : List PoolItem) (x : Connection) (state : state_of 
   reason : close_reason s.options ys x.id ≡ reason_of x.errored (stale_for s x.id x.service) (is_dropped x.used)
   reason = rw (errored, stale, dropped) refl
 
-  open-back : is_shut s.status ≡ false → (o : Option ConnectionClosedReason) → in_fact s x.id ∷ closes s.pool s.address ys x.id o ≡ back_facts s x o
+  open-back : is_shut s.status ≡ false → (o : Option ConnectionClosedReason) → checked_in_fact s.pool s.address x.id ∷ closes s.pool s.address ys x.id o ≡ back_facts s x o
   open-back e None = refl
   open-back e (Some why) = rw (e, known) refl
 
-  open-says : (t : Status) → state_of s.options ys ≡ state_in t → is_shut t ≡ false → check_in s.pool s.address s.options ys x.id ≡ in_fact s x.id ∷ closes s.pool s.address ys x.id (close_reason s.options ys x.id)
+  open-says : (t : Status) → state_of s.options ys ≡ state_in t → is_shut t ≡ false → check_in s.pool s.address s.options ys x.id ≡ checked_in_fact s.pool s.address x.id ∷ closes s.pool s.address ys x.id (close_reason s.options ys x.id)
   open-says New e f = rw e refl
   open-says Ready e f = rw e refl
   open-says (Paused error) e f = rw e refl
@@ -40,7 +41,7 @@ module _ (s : PoolCore) (ys : List PoolItem) (x : Connection) (state : state_of 
       on true e = rw (state, shut-status s.status e, known) refl
       on false e =
           let now : reason_now s x ≡ reason_of x.errored (stale_for s x.id x.service) (is_dropped x.used) = rw e refl in
-          open-says s.status state e ∙ (ap (λ o. in_fact s x.id ∷ closes s.pool s.address ys x.id o) reason ∙ (open-back e (reason_of x.errored (stale_for s x.id x.service) (is_dropped x.used)) ∙ ap (back_facts s x) (sym now)))
+          open-says s.status state e ∙ (ap (λ o. checked_in_fact s.pool s.address x.id ∷ closes s.pool s.address ys x.id o) reason ∙ (open-back e (reason_of x.errored (stale_for s x.id x.service) (is_dropped x.used)) ∙ ap (back_facts s x) (sym now)))
 
 -- the facts of a check-in are fair and the pool's own
 pub back-fair : (s : PoolCore) (n : ℕ) (x : Connection) (o : Option ConnectionClosedReason) (ys : List PoolItem) → AllFirstCome s.pool n ys (back_facts s x o)

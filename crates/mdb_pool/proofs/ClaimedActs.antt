@@ -1,23 +1,24 @@
 -- What a claim does is the answer to its step.
 use Rattle.std.proofs.Common.{ℕ, ◌≡◌, ◌≤◌, Bool, true, false, not, ◌&&◌, ◌||◌, ◌==◌, List, [], ◌∷◌, find, Option, Some, None, refl, sym, ◌∙◌, ap, append-nil}
 use Rattle.mdb_events.specs.declared.fact.Fact.{Fact}
-use Rattle.mdb_pool.specs.declared.step.Act.TheVariants.{Claim}
-use Rattle.mdb_pool.specs.declared.reply.Reply.{Reply}
-use Rattle.mdb_pool.specs.declared.reply.Reply.TheVariants.{Job, NoJob}
+use Rattle.mdb_log.specs.declared.step.Act.TheVariants.{Claim}
+use Rattle.mdb_log.specs.declared.reply.Reply.{Reply}
+use Rattle.mdb_log.specs.declared.reply.Reply.TheVariants.{Job, NoJob}
 use Rattle.mdb_pool.specs.declared.connection.Connection.{Connection}
 use Rattle.mdb_pool.specs.declared.pool_core.PoolCore.{PoolCore}
 use Rattle.mdb_pool.proofs.Acts.{own-answers, not-back, accepts}
 use Rattle.std.proofs.Math.Bool.{or_comm}
-use Rattle.mdb_pool.proofs.Numbers.{has-append, same-number}
+use Rattle.mdb_log.proofs.Numbers.{has-append, same-number}
 use Rattle.mdb_pool.proofs.Stands.{noted-fits}
 use Rattle.mdb_pool.specs.Answer.{first_job}
 use Rattle.mdb_pool.specs.Changes.{claiming}
-use Rattle.mdb_pool.specs.Connections.{has}
-use Rattle.mdb_pool.specs.History.{Item, PoolItem, of_pool}
+use Rattle.mdb_log.specs.Connections.{has}
+use Rattle.mdb_log.specs.History.{Item, PoolItem, of_pool}
 use Rattle.mdb_pool.specs.Kept.{first_unclaimed, job_now, ids_where, is_shut}
-use Rattle.mdb_pool.specs.Legal.{IsAccepted}
+use Rattle.mdb_log.specs.Own.{IsAccepted}
 use Rattle.mdb_pool.specs.Places.{is_pending}
-use Rattle.mdb_pool.specs.Standing.{Fits, StandsFor, SameHome, SameNotes, settles, is_job, Serves, Accepts, Answers}
+use Rattle.mdb_pool.specs.Standing.{Fits, StandsFor, SameHome, SameNotes, Serves, Accepts, Answers}
+use Rattle.mdb_log.specs.Requests.{settles, is_job}
 
 abbrev pub job_of : ℕ → Option Connection → Reply
 job_of p None = NoJob
@@ -67,7 +68,7 @@ claim-accepts s s0 s1 t before after n reply xs z s0_is s1_is home notes serves 
     refl
     (sym (append-nil before)) at_home (rw whole (noted-fits s s.settled (claiming s).claimed n xs z)) serves
     (λ zs v. v)
-    (λ claims own zs m. reply_is ∙ (job-is s ∙ sym (ap (first_job s.pool claims) z.matches.pending ∙ first-job s.pool claims s.claimed own s.connections)))
+    (λ claims own zs m. reply_is ∙ (job-is s ∙ sym (ap (first_job s.pool claims) z.matches.counts.pending ∙ first-job s.pool claims s.claimed own s.connections)))
     (rw reply_is (job-accepted s))
     (ap is_shut (notes.status ∙ ap (λ k. k.status) whole))
     (λ r. ap (has r) (notes.settled ∙ ap (λ k. k.settled) whole))

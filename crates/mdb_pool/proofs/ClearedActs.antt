@@ -7,31 +7,32 @@ use Rattle.mdb_events.specs.declared.fact.Fact.{Fact}
 use Rattle.mdb_events.specs.declared.fact.Fact.TheVariants.{Ended, Raised}
 use Rattle.mdb_events.specs.declared.end.End.{End}
 use Rattle.mdb_events.specs.declared.end.End.TheVariants.{Cleared}
-use Rattle.mdb_pool.specs.declared.step.Act.TheVariants.{Clear as ClearAct}
-use Rattle.mdb_pool.specs.declared.reply.Refused.TheVariants.{WrongMode, Exhausted}
-use Rattle.mdb_pool.specs.declared.reply.What.TheVariants.{Generation}
-use Rattle.mdb_pool.specs.declared.reply.Reply.{Reply}
-use Rattle.mdb_pool.specs.declared.reply.Reply.TheVariants.{Done, Refused as RefusedBy}
+use Rattle.mdb_log.specs.declared.step.Act.TheVariants.{Clear as ClearAct}
+use Rattle.mdb_log.specs.declared.reply.Refused.TheVariants.{WrongMode, Exhausted}
+use Rattle.mdb_log.specs.declared.reply.What.TheVariants.{Generation}
+use Rattle.mdb_log.specs.declared.reply.Reply.{Reply}
+use Rattle.mdb_log.specs.declared.reply.Reply.TheVariants.{Done, Refused as RefusedBy}
 use Rattle.mdb_pool.specs.declared.status.Status.{Status}
 use Rattle.mdb_pool.specs.declared.status.Status.TheVariants.{New, Ready, Paused, Closed}
-use Rattle.mdb_pool.specs.declared.options.PoolOptions.{PoolOptions}
+use Rattle.mdb_log.specs.declared.options.PoolOptions.{PoolOptions}
 use Rattle.mdb_pool.specs.declared.pool_core.PoolCore.{PoolCore}
-use Rattle.mdb_pool.specs.History.{Item, PoolItem, raised, of_pool, after_fact, after_facts, has_asked}
-use Rattle.mdb_pool.specs.Connections.{has}
-use Rattle.mdb_pool.specs.Requests.{queued, is_warm}
-use Rattle.mdb_pool.specs.State.{State, is_new, is_ready, is_paused, is_closed, state_of}
+use Rattle.mdb_log.specs.History.{Item, PoolItem, raised, of_pool, after_fact, after_facts, has_asked}
+use Rattle.mdb_log.specs.Connections.{has}
+use Rattle.mdb_log.specs.Requests.{queued, is_warm}
+use Rattle.mdb_log.specs.State.{State, is_new, is_ready, is_paused, is_closed, state_of}
 use Rattle.mdb_pool.specs.Facts.{end_facts, all_ends, clear_facts, cleared_fact}
 use Rattle.mdb_pool.specs.Refusal.{is_exhausted}
 use Rattle.mdb_pool.specs.Kept.{state_in, is_shut, is_ready_now, exhausted_now}
-use Rattle.mdb_pool.specs.Changes.{raising, pool_cleared_fact}
-use Rattle.mdb_pool.specs.Legal.{AllFirstCome, AllOwn, shuts}
+use Rattle.mdb_pool.specs.Changes.{raising}
+use Rattle.mdb_log.specs.Legal.{AllFirstCome}
+use Rattle.mdb_log.specs.Own.{AllOwn, shuts}
 use Rattle.mdb_pool.specs.Standing.{Fits, StandsFor, Serves, EndsQueue, Clears, Accepts, Answers, SameHome, SameNotes}
 use Rattle.mdb_pool.proofs.Acts.{refuses, accepts, own-answers, not-back}
-use Rattle.mdb_pool.proofs.Numbers.{same-number}
+use Rattle.mdb_log.proofs.Numbers.{same-number}
 use Rattle.mdb_pool.proofs.Stands.{later-fits, raise-fits}
 use Rattle.mdb_pool.proofs.Staleness.{ready-status, shut-status}
-use Rattle.mdb_pool.proofs.Pins.{queued-asked}
-use Rattle.mdb_pool.proofs.Frame.{asked-fact, asked-facts}
+use Rattle.mdb_log.proofs.Pins.{queued-asked}
+use Rattle.mdb_log.proofs.Frame.{asked-fact, asked-facts}
 use Rattle.mdb_pool.proofs.EstablishedActs.{wrong-is, right-is}
 
 pub no-service : (o : Option ObjectId) → is_some o ≡ false → o ≡ None
@@ -47,14 +48,14 @@ module _ (s : PoolCore) (xs : List PoolItem) (z : Fits s xs) (n : ℕ) (error : 
   abbrev said : Option ObjectId → List Fact
   said service = clear_facts s.pool s.address s.options n xs service error
 
-  says-service : (u : Status) (t : ObjectId) → state_of s.options xs ≡ state_in u → is_shut u ≡ false → said (Some t) ≡ Raised s.pool (Some t) error ∷ pool_cleared_fact s (Some t) error ∷ []
+  says-service : (u : Status) (t : ObjectId) → state_of s.options xs ≡ state_in u → is_shut u ≡ false → said (Some t) ≡ Raised s.pool (Some t) error ∷ cleared_fact s.pool s.address (Some t) error ∷ []
   says-service New t e f = rw e refl
   says-service Ready t e f = rw e refl
   says-service (Paused why) t e f = rw e refl
   says-service Closed t e f = cc
 
-  says-ready : s.status ≡ Ready → said None ≡ Raised s.pool None error ∷ pool_cleared_fact s None error ∷ all_ends s.pool s.address n xs (Cleared error) (queued xs)
-  says-ready e = rw (z.matches.status, e) refl
+  says-ready : s.status ≡ Ready → said None ≡ Raised s.pool None error ∷ cleared_fact s.pool s.address None error ∷ all_ends s.pool s.address n xs (Cleared error) (queued xs)
+  says-ready e = rw (z.matches.clearing.status, e) refl
 
   says-paused : (u : Status) → state_of s.options xs ≡ state_in u → is_shut u ≡ false → is_ready_now u ≡ false → said None ≡ Raised s.pool None error ∷ []
   says-paused New e f g = rw e refl
@@ -63,26 +64,26 @@ module _ (s : PoolCore) (xs : List PoolItem) (z : Fits s xs) (n : ℕ) (error : 
   says-paused Closed e f g = cc
 
   pub says-nothing : s.status ≡ Closed → (service : Option ObjectId) → said service ≡ []
-  says-nothing e service = rw (z.matches.status, e) refl
+  says-nothing e service = rw (z.matches.clearing.status, e) refl
 
-  pub clears-service : (s1 : PoolCore) (before f1 f2 : List Fact) (t : ObjectId) → is_shut s.status ≡ false → s1 ≡ raising s n (Some t) error → f1 ≡ before ++ Raised s.pool (Some t) error ∷ [] → f2 ≡ f1 ++ pool_cleared_fact s1 (Some t) error ∷ [] → Clears s s1 n (Some t) error before f2 xs
+  pub clears-service : (s1 : PoolCore) (before f1 f2 : List Fact) (t : ObjectId) → is_shut s.status ≡ false → s1 ≡ raising s n (Some t) error → f1 ≡ before ++ Raised s.pool (Some t) error ∷ [] → f2 ≡ f1 ++ cleared_fact s1.pool s1.address (Some t) error ∷ [] → Clears s s1 n (Some t) error before f2 xs
   clears-service s1 before f1 f2 t unshut s1_is f1_is f2_is =
-      let told : said (Some t) ≡ Raised s.pool (Some t) error ∷ pool_cleared_fact s (Some t) error ∷ [] = says-service s.status t z.matches.status unshut in
+      let told : said (Some t) ≡ Raised s.pool (Some t) error ∷ cleared_fact s.pool s.address (Some t) error ∷ [] = says-service s.status t z.matches.clearing.status unshut in
       record {
-        facts = f2_is ∙ (ap (λ k. f1 ++ pool_cleared_fact k (Some t) error ∷ []) s1_is ∙ (ap (λ k. k ++ pool_cleared_fact s (Some t) error ∷ []) f1_is ∙ (append_assoc before (Raised s.pool (Some t) error ∷ []) (pool_cleared_fact s (Some t) error ∷ []) ∙ ap (λ k. before ++ k) (sym told))));
+        facts = f2_is ∙ (ap (λ k. f1 ++ cleared_fact k.pool k.address (Some t) error ∷ []) s1_is ∙ (ap (λ k. k ++ cleared_fact s.pool s.address (Some t) error ∷ []) f1_is ∙ (append_assoc before (Raised s.pool (Some t) error ∷ []) (cleared_fact s.pool s.address (Some t) error ∷ []) ∙ ap (λ k. before ++ k) (sym told))));
         fits = rw (told, s1_is, same-number s.pool) (raise-fits s xs z n (Some t) error);
         settled = ap (λ k. k.settled) s1_is;
         claimed = ap (λ k. k.claimed) s1_is;
         unshut = ap (λ k. is_shut k.status) s1_is ∙ unshut;
       }
 
-  pub clears-named : (s1 : PoolCore) (before f1 f2 : List Fact) (service : Option ObjectId) → is_some service ≡ true → is_shut s.status ≡ false → s1 ≡ raising s n service error → f1 ≡ before ++ Raised s.pool service error ∷ [] → f2 ≡ f1 ++ pool_cleared_fact s1 service error ∷ [] → Clears s s1 n service error before f2 xs
+  pub clears-named : (s1 : PoolCore) (before f1 f2 : List Fact) (service : Option ObjectId) → is_some service ≡ true → is_shut s.status ≡ false → s1 ≡ raising s n service error → f1 ≡ before ++ Raised s.pool service error ∷ [] → f2 ≡ f1 ++ cleared_fact s1.pool s1.address service error ∷ [] → Clears s s1 n service error before f2 xs
   clears-named s1 before f1 f2 None named unshut s1_is f1_is f2_is = cc
   clears-named s1 before f1 f2 (Some t) named unshut s1_is f1_is f2_is = clears-service s1 before f1 f2 t unshut s1_is f1_is f2_is
 
   pub clears-paused : (s1 : PoolCore) (before f1 : List Fact) → is_shut s.status ≡ false → is_ready_now s.status ≡ false → s1 ≡ raising s n None error → f1 ≡ before ++ Raised s.pool None error ∷ [] → Clears s s1 n None error before f1 xs
   clears-paused s1 before f1 unshut waits s1_is f1_is =
-      let told : said None ≡ Raised s.pool None error ∷ [] = says-paused s.status z.matches.status unshut waits in
+      let told : said None ≡ Raised s.pool None error ∷ [] = says-paused s.status z.matches.clearing.status unshut waits in
       record {
         facts = f1_is ∙ ap (λ k. before ++ k) (sym told);
         fits = rw (told, s1_is, same-number s.pool) (raise-fits s xs z n None error);
@@ -91,17 +92,17 @@ module _ (s : PoolCore) (xs : List PoolItem) (z : Fits s xs) (n : ℕ) (error : 
         unshut = ap (λ k. is_shut k.status) s1_is;
       }
 
-  pub clears-ready : (s1 t : PoolCore) (before f1 f2 after : List Fact) → is_ready_now s.status ≡ true → s1 ≡ raising s n None error → f1 ≡ before ++ Raised s.pool None error ∷ [] → f2 ≡ f1 ++ pool_cleared_fact s1 None error ∷ [] → SameNotes s1 t
+  pub clears-ready : (s1 t : PoolCore) (before f1 f2 after : List Fact) → is_ready_now s.status ≡ true → s1 ≡ raising s n None error → f1 ≡ before ++ Raised s.pool None error ∷ [] → f2 ≡ f1 ++ cleared_fact s1.pool s1.address None error ∷ [] → SameNotes s1 t
       → ((ys : List PoolItem) → Fits s1 ys → EndsQueue s1 t n (Cleared error) f2 after ys) → Clears s t n None error before after xs
   clears-ready s1 t before f1 f2 after unshut s1_is f1_is f2_is notes over =
       let ys : List PoolItem = raised None error ∷ xs in
       let v : EndsQueue s1 t n (Cleared error) f2 after ys = over ys (rw s1_is (raise-fits s xs z n None error)) in
       let all : all_ends s1.pool s1.address n ys (Cleared error) (queued ys) ≡ all_ends s.pool s.address n xs (Cleared error) (queued xs) = ap (λ k. all_ends k.pool k.address n ys (Cleared error) (queued xs)) s1_is ∙ ends-raised s.pool s.address n None error xs (Cleared error) (queued xs) in
-      let told : said None ≡ Raised s.pool None error ∷ pool_cleared_fact s None error ∷ all_ends s.pool s.address n xs (Cleared error) (queued xs) = says-ready (ready-status s.status unshut) in
-      let heard : after_facts s.pool n (Raised s.pool None error ∷ pool_cleared_fact s None error ∷ []) xs ≡ ys = rw (same-number s.pool) refl in
-      let two : f2 ≡ before ++ Raised s.pool None error ∷ pool_cleared_fact s None error ∷ [] = f2_is ∙ (ap (λ k. f1 ++ pool_cleared_fact k None error ∷ []) s1_is ∙ (ap (λ k. k ++ pool_cleared_fact s None error ∷ []) f1_is ∙ append_assoc before (Raised s.pool None error ∷ []) (pool_cleared_fact s None error ∷ []))) in
+      let told : said None ≡ Raised s.pool None error ∷ cleared_fact s.pool s.address None error ∷ all_ends s.pool s.address n xs (Cleared error) (queued xs) = says-ready (ready-status s.status unshut) in
+      let heard : after_facts s.pool n (Raised s.pool None error ∷ cleared_fact s.pool s.address None error ∷ []) xs ≡ ys = rw (same-number s.pool) refl in
+      let two : f2 ≡ before ++ Raised s.pool None error ∷ cleared_fact s.pool s.address None error ∷ [] = f2_is ∙ (ap (λ k. f1 ++ cleared_fact k.pool k.address None error ∷ []) s1_is ∙ (ap (λ k. k ++ cleared_fact s.pool s.address None error ∷ []) f1_is ∙ append_assoc before (Raised s.pool None error ∷ []) (cleared_fact s.pool s.address None error ∷ []))) in
       record {
-        facts = v.facts ∙ (ap (λ k. k ++ all_ends s1.pool s1.address n ys (Cleared error) (queued ys)) two ∙ (append_assoc before (Raised s.pool None error ∷ pool_cleared_fact s None error ∷ []) (all_ends s1.pool s1.address n ys (Cleared error) (queued ys)) ∙ ap (λ k. before ++ k) (ap (λ k. Raised s.pool None error ∷ pool_cleared_fact s None error ∷ k) all ∙ sym told)));
+        facts = v.facts ∙ (ap (λ k. k ++ all_ends s1.pool s1.address n ys (Cleared error) (queued ys)) two ∙ (append_assoc before (Raised s.pool None error ∷ cleared_fact s.pool s.address None error ∷ []) (all_ends s1.pool s1.address n ys (Cleared error) (queued ys)) ∙ ap (λ k. before ++ k) (ap (λ k. Raised s.pool None error ∷ cleared_fact s.pool s.address None error ∷ k) all ∙ sym told)));
         fits = subst (λ k. Fits t (after_facts s.pool n k xs)) (sym told) (subst (λ k. Fits t (after_facts s.pool n (all_ends s.pool s.address n xs (Cleared error) (queued xs)) k)) (sym heard) (subst (λ k. Fits t (after_facts s.pool n k ys)) all (subst (λ p. Fits t (after_facts p n (all_ends s1.pool s1.address n ys (Cleared error) (queued ys)) ys)) (ap (λ k. k.pool) s1_is) v.fits)));
         settled = notes.settled ∙ ap (λ k. k.settled) s1_is;
         claimed = notes.claimed ∙ ap (λ k. k.claimed) s1_is;
@@ -217,10 +218,10 @@ exhausted-is : (s : PoolCore) (xs : List PoolItem) → Fits s xs → (service : 
 exhausted-is s xs z service = on s.status refl
   where
     on : (u : Status) → s.status ≡ u → is_exhausted s.options xs service ≡ exhausted_now s service
-    on New e = rw (z.matches.status, e, z.matches.clears service) refl
-    on Ready e = rw (z.matches.status, e, z.matches.clears service) refl
-    on (Paused why) e = rw (z.matches.status, e, z.matches.clears service) refl
-    on Closed e = rw (z.matches.status, e) refl
+    on New e = rw (z.matches.clearing.status, e, z.matches.clearing.clears service) refl
+    on Ready e = rw (z.matches.clearing.status, e, z.matches.clearing.clears service) refl
+    on (Paused why) e = rw (z.matches.clearing.status, e, z.matches.clearing.clears service) refl
+    on Closed e = rw (z.matches.clearing.status, e) refl
 
 pub refuses-service : (s : PoolCore) (facts : List Fact) (n q : ℕ) (service : Option ObjectId) (error : Error) (h : List Item) → StandsFor s h → s.last ≤ n → is_some service ≢ s.options.load_balanced → Answers s s facts facts (record { moment = n; act = ClearAct q service error }) (RefusedBy WrongMode) h
 refuses-service s facts n q service error h z l differs = refuses s facts (record { moment = n; act = ClearAct q service error }) WrongMode h z (rw (z.last_is, not-back n s.last l, wrong-is s.options.load_balanced service differs) refl)

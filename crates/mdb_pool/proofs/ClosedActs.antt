@@ -3,9 +3,9 @@ use Rattle.std.proofs.Common.{ℕ, ◌≡◌, ◌≤◌, ◌-◌, Bool, true, fa
 use Rattle.mdb_events.specs.declared.fact.Fact.{Fact}
 use Rattle.mdb_events.specs.declared.end.End.TheVariants.{Closed as ClosedEnd}
 use Rattle.mdb_events.specs.declared.reasons.ConnectionClosedReason.TheVariants.{PoolClosed as PoolClosedReason}
-use Rattle.mdb_pool.specs.declared.step.Act.TheVariants.{Close as CloseAct}
-use Rattle.mdb_pool.specs.declared.reply.Reply.{Reply}
-use Rattle.mdb_pool.specs.declared.reply.Reply.TheVariants.{Done}
+use Rattle.mdb_log.specs.declared.step.Act.TheVariants.{Close as CloseAct}
+use Rattle.mdb_log.specs.declared.reply.Reply.{Reply}
+use Rattle.mdb_log.specs.declared.reply.Reply.TheVariants.{Done}
 use Rattle.mdb_pool.specs.declared.status.Status.{Status}
 use Rattle.mdb_pool.specs.declared.status.Status.TheVariants.{New, Ready, Paused, Closed}
 use Rattle.mdb_pool.specs.declared.connection.Connection.{Connection}
@@ -13,24 +13,25 @@ use Rattle.mdb_pool.specs.declared.request.Request.{Request}
 use Rattle.mdb_pool.specs.declared.request.Phase.{Phase}
 use Rattle.mdb_pool.specs.declared.request.Phase.TheVariants.{Queued, Given, Over, Ended as EndedPhase}
 use Rattle.mdb_pool.specs.declared.pool_core.PoolCore.{PoolCore}
-use Rattle.mdb_pool.specs.History.{Item, PoolItem, closed, ended, pool_closed, of_pool, after_fact, after_facts, has_asked, given}
-use Rattle.mdb_pool.specs.Connections.{has, pending_list, available_list}
-use Rattle.mdb_pool.specs.Requests.{requests, is_unserved, queued, end_of}
-use Rattle.mdb_pool.specs.State.{state_of}
-use Rattle.mdb_pool.specs.Facts.{all_ends, close_facts, closed_fact}
+use Rattle.mdb_log.specs.History.{Item, PoolItem, closed, ended, pool_closed, of_pool, after_fact, after_facts, has_asked, given}
+use Rattle.mdb_log.specs.Connections.{has, pending_list, available_list, known_service}
+use Rattle.mdb_log.specs.Requests.{requests, is_unserved, queued, end_of}
+use Rattle.mdb_log.specs.State.{state_of}
+use Rattle.mdb_pool.specs.Facts.{all_ends, close_facts, closed_fact, pool_closed_fact}
 use Rattle.mdb_pool.specs.Kept.{connection_at, request_at, given_in, given_of, end_in, end_at, state_in, is_shut, unserved_in, holder_at, is_asked_at, numbers_asked}
 use Rattle.mdb_pool.specs.Places.{is_pending, is_available, is_queued}
-use Rattle.mdb_pool.specs.Changes.{closing, closing_facts, shut_facts, off_facts, pool_closed_fact, available_ones, pending_ones, unserved_ones, shut_fact, over_facts}
-use Rattle.mdb_pool.specs.Legal.{AllFirstCome, AllOwn, shuts}
+use Rattle.mdb_pool.specs.Changes.{closing, closing_facts, shut_facts, off_facts, available_ones, pending_ones, unserved_ones, over_facts}
+use Rattle.mdb_log.specs.Legal.{AllFirstCome}
+use Rattle.mdb_log.specs.Own.{AllOwn, shuts}
 use Rattle.mdb_pool.specs.Standing.{Fits, StandsFor, Serves, Accepts, Answers, SameHome, SameNotes}
 use Rattle.mdb_pool.proofs.Tables.{In, here, there, passes, has-where, member-at, one_if-le}
 use Rattle.mdb_pool.proofs.Acts.{accepts, own-answers, not-back, live-service, pending-is}
-use Rattle.mdb_pool.proofs.Numbers.{same-number}
-use Rattle.mdb_pool.proofs.Serving.{after-append}
+use Rattle.mdb_log.proofs.Numbers.{same-number}
+use Rattle.mdb_log.proofs.Later.{after-append}
 use Rattle.mdb_pool.proofs.Stands.{later-fits, asked-known}
 use Rattle.mdb_pool.proofs.Staleness.{shut-status}
 use Rattle.mdb_pool.proofs.Moves.{queued-known}
-use Rattle.mdb_pool.proofs.Frame.{asked-facts}
+use Rattle.mdb_log.proofs.Frame.{asked-facts}
 use Rattle.mdb_pool.proofs.Laws.{fair-append, own-append}
 use Rattle.mdb_pool.proofs.Overs.{over-is, over-known, over-fair, over-own}
 use Rattle.mdb_pool.proofs.Closes.{closings, endings}
@@ -70,35 +71,35 @@ module _ {T : Type 0} where
 
 module _ (s : PoolCore) (xs : List PoolItem) (z : Fits s xs) (n : ℕ) where
   conn-at : (x : Connection) → In x s.connections → connection_at s x.id ≡ Some x
-  conn-at x i = member-at id_of x s.connections i (rw (z.matches.single x.id) (one_if-le (is_some (connection_at s x.id))))
+  conn-at x i = member-at id_of x s.connections i (rw (z.matches.counts.single x.id) (one_if-le (is_some (connection_at s x.id))))
 
   req-at : (q : Request) → In q s.requests → request_at s q.number ≡ Some q
-  req-at q i = member-at number_of q s.requests i (rw (z.matches.single_request q.number) (one_if-le (is_some (request_at s q.number))))
+  req-at q i = member-at number_of q s.requests i (rw (z.matches.requests.single_request q.number) (one_if-le (is_some (request_at s q.number))))
 
   -- the closes
-  closes-are : (cs : List Connection) → ((x : Connection) → In x cs → connection_at s x.id ≡ Some x) → map (λ c. closed_fact s.pool s.address xs c PoolClosedReason) (map id_of cs) ≡ shut_facts s cs
+  closes-are : (cs : List Connection) → ((x : Connection) → In x cs → connection_at s x.id ≡ Some x) → map (λ c. closed_fact s.pool s.address c PoolClosedReason (known_service xs c)) (map id_of cs) ≡ shut_facts s cs
   closes-are [] at = refl
-  closes-are (x ∷ cs) at = rw (live-service s xs z.matches x.id x (at x here)) (ap (λ fs. shut_fact s x PoolClosedReason ∷ fs) (closes-are cs (λ y i. at y (there i))))
+  closes-are (x ∷ cs) at = rw (live-service s xs z.matches x.id x (at x here)) (ap (λ fs. closed_fact s.pool s.address x.id PoolClosedReason x.service ∷ fs) (closes-are cs (λ y i. at y (there i))))
 
   ids-append : (cs ds : List Connection) → map id_of cs ++ map id_of ds ≡ map id_of (cs ++ ds)
   ids-append [] ds = refl
   ids-append (x ∷ cs) ds = ap (λ ks. x.id ∷ ks) (ids-append cs ds)
 
-  shut-all : map (λ c. closed_fact s.pool s.address xs c PoolClosedReason) (available_list xs ++ pending_list xs) ≡ shut_facts s (available_ones s ++ pending_ones s)
-  shut-all = rw (z.matches.available, z.matches.pending, ids-append (available_ones s) (pending_ones s)) (closes-are (available_ones s ++ pending_ones s) (in-both (λ x. connection_at s x.id ≡ Some x) (available_ones s) (pending_ones s) (λ x i. conn-at x (in-filter (λ y. is_available y.place) x s.connections i)) (λ x i. conn-at x (in-filter (λ y. is_pending y.place) x s.connections i))))
+  shut-all : map (λ c. closed_fact s.pool s.address c PoolClosedReason (known_service xs c)) (available_list xs ++ pending_list xs) ≡ shut_facts s (available_ones s ++ pending_ones s)
+  shut-all = rw (z.matches.counts.available, z.matches.counts.pending, ids-append (available_ones s) (pending_ones s)) (closes-are (available_ones s ++ pending_ones s) (in-both (λ x. connection_at s x.id ≡ Some x) (available_ones s) (pending_ones s) (λ x i. conn-at x (in-filter (λ y. is_available y.place) x s.connections i)) (λ x i. conn-at x (in-filter (λ y. is_pending y.place) x s.connections i))))
 
   -- the ends
   unserved-is : (q : Request) → request_at s q.number ≡ Some q → is_unserved xs q.number ≡ unserved_in s q.phase
   unserved-is q e = on q.phase refl
     where
       there_queued : has q.number (queued xs) ≡ is_queued q.phase
-      there_queued = ap (has q.number) z.matches.queue ∙ (has-where number_of (λ r. is_queued r.phase) q.number s.requests (z.matches.single_request q.number) ∙ ap (passes number_of (λ r. is_queued r.phase)) e)
+      there_queued = ap (has q.number) z.matches.requests.queue ∙ (has-where number_of (λ r. is_queued r.phase) q.number s.requests (z.matches.requests.single_request q.number) ∙ ap (passes number_of (λ r. is_queued r.phase)) e)
 
       end_is : end_of xs q.number ≡ end_in q.phase
-      end_is = z.matches.ends q.number ∙ ap end_at e
+      end_is = z.matches.requests.ends q.number ∙ ap end_at e
 
       given_is : given xs q.number ≡ given_in q.phase
-      given_is = z.matches.given q.number ∙ ap given_of e
+      given_is = z.matches.requests.given q.number ∙ ap given_of e
 
       on : (p : Phase) → q.phase ≡ p → is_unserved xs q.number ≡ unserved_in s q.phase
       on Queued f = rw (there_queued, f) refl
@@ -112,8 +113,8 @@ module _ (s : PoolCore) (xs : List PoolItem) (z : Fits s xs) (n : ℕ) where
     where
       at_pending : (c : ℕ) (x : Connection) → q.phase ≡ Given c → connection_at s c ≡ Some x → is_pending x.place ≡ true → is_asked_at (request_at s q.number) ≡ true
       at_pending c x f g h =
-          let mine : holder_at (connection_at s c) ≡ Some q.number = z.matches.taken q.number c (ap given_of e ∙ ap given_in f) in
-          z.matches.known c x q.number g (z.matches.waits c x q.number g h (sym (ap holder_at g) ∙ mine))
+          let mine : holder_at (connection_at s c) ≡ Some q.number = z.matches.links.taken q.number c (ap given_of e ∙ ap given_in f) in
+          z.matches.links.known c x q.number g (z.matches.links.waits c x q.number g h (sym (ap holder_at g) ∙ mine))
 
       at_connection : (c : ℕ) (o : Option Connection) → q.phase ≡ Given c → connection_at s c ≡ o → is_asked_at (request_at s q.number) ≡ true
       at_connection c None f g = let k : unserved_in s q.phase ≡ false = rw (f, g) refl in cc
@@ -150,7 +151,7 @@ module _ (s : PoolCore) (xs : List PoolItem) (z : Fits s xs) (n : ℕ) where
   over-all = rw (z.order, numbers-of s.requests (λ q i. req-at q i)) (ends-are (unserved_ones s) (λ q i. unserved-at q i))
 
   pub close-are : is_shut s.status ≡ false → close_facts s.pool s.address s.options n xs ≡ closing_facts s n
-  close-are unshut = on s.status z.matches.status unshut
+  close-are unshut = on s.status z.matches.clearing.status unshut
     where
       on : (u : Status) → state_of s.options xs ≡ state_in u → is_shut u ≡ false → close_facts s.pool s.address s.options n xs ≡ closing_facts s n
       on New e f = rw (e, shut-all, over-all) refl
@@ -159,13 +160,13 @@ module _ (s : PoolCore) (xs : List PoolItem) (z : Fits s xs) (n : ℕ) where
       on Closed e f = cc
 
   pub close-nothing : is_shut s.status ≡ true → close_facts s.pool s.address s.options n xs ≡ []
-  close-nothing shut = rw (z.matches.status, shut-status s.status shut) refl
+  close-nothing shut = rw (z.matches.clearing.status, shut-status s.status shut) refl
 
   -- what the facts say
   shut-known : (cs : List Connection) (ys : List PoolItem) → after_facts s.pool n (shut_facts s cs) ys ≡ closings (map id_of cs) ys
   shut-known [] ys = refl
   shut-known (x ∷ cs) ys =
-      let first : after_fact s.pool n (shut_fact s x PoolClosedReason) ys ≡ closed x.id ∷ ys = rw (same-number s.pool) refl in
+      let first : after_fact s.pool n (closed_fact s.pool s.address x.id PoolClosedReason x.service) ys ≡ closed x.id ∷ ys = rw (same-number s.pool) refl in
       ap (after_facts s.pool n (shut_facts s cs)) first ∙ shut-known cs (closed x.id ∷ ys)
 
   off-known : (qs : List Request) (ys : List PoolItem) → ((q : Request) → In q qs → has_asked ys q.number ≡ true) → after_facts s.pool n (off_facts s n qs) ys ≡ endings ClosedEnd (map number_of qs) ys
@@ -183,11 +184,11 @@ module _ (s : PoolCore) (xs : List PoolItem) (z : Fits s xs) (n : ℕ) where
       let zs : List PoolItem = after_facts s.pool n (off_facts s n (unserved_ones s)) ys in
       let e : ys ≡ closings (shut_ids s xs z.matches n) xs = shut-known (available_ones s ++ pending_ones s) xs in
       let f : zs ≡ endings ClosedEnd (over_numbers s xs z.matches n) ys = off-known (unserved_ones s) ys asked-then in
-      after-append s.pool n (shut_facts s (available_ones s ++ pending_ones s) ++ off_facts s n (unserved_ones s)) (pool_closed_fact s ∷ []) xs
-      ∙ (ap (after_facts s.pool n (pool_closed_fact s ∷ [])) (after-append s.pool n (shut_facts s (available_ones s ++ pending_ones s)) (off_facts s n (unserved_ones s)) xs)
+      after-append s.pool n (shut_facts s (available_ones s ++ pending_ones s) ++ off_facts s n (unserved_ones s)) (pool_closed_fact s.pool s.address ∷ []) xs
+      ∙ (ap (after_facts s.pool n (pool_closed_fact s.pool s.address ∷ [])) (after-append s.pool n (shut_facts s (available_ones s ++ pending_ones s)) (off_facts s n (unserved_ones s)) xs)
       ∙ (last zs ∙ ap (λ ks. pool_closed ∷ ks) (f ∙ ap (endings ClosedEnd (over_numbers s xs z.matches n)) e)))
     where
-      last : (ks : List PoolItem) → after_facts s.pool n (pool_closed_fact s ∷ []) ks ≡ pool_closed ∷ ks
+      last : (ks : List PoolItem) → after_facts s.pool n (pool_closed_fact s.pool s.address ∷ []) ks ≡ pool_closed ∷ ks
       last ks = rw (same-number s.pool) refl
 
   -- they are fair, the pool's own, and close it
@@ -210,44 +211,44 @@ module _ (s : PoolCore) (xs : List PoolItem) (z : Fits s xs) (n : ℕ) where
       own-append s.pool s.address s.options n over (off_facts s n qs) ys (over-own s s.pool n q.number (n - q.asked_at) ClosedEnd q.warm ys refl (asked q here)) (off-own qs (after_facts s.pool n over ys) (λ r i. asked-facts s.pool n r.number over ys ∙ asked r (there i)))
 
   pub close-fair : AllFirstCome s.pool n xs (closing_facts s n)
-  close-fair = fair-append s.pool s.address s.options n (shut_facts s (available_ones s ++ pending_ones s) ++ off_facts s n (unserved_ones s)) (pool_closed_fact s ∷ []) xs
+  close-fair = fair-append s.pool s.address s.options n (shut_facts s (available_ones s ++ pending_ones s) ++ off_facts s n (unserved_ones s)) (pool_closed_fact s.pool s.address ∷ []) xs
       (fair-append s.pool s.address s.options n (shut_facts s (available_ones s ++ pending_ones s)) (off_facts s n (unserved_ones s)) xs (shut-fair (available_ones s ++ pending_ones s) xs) (off-fair (unserved_ones s) (after_facts s.pool n (shut_facts s (available_ones s ++ pending_ones s)) xs)))
       (tt, tt)
 
   pub close-all-own : AllOwn s.pool n xs (closing_facts s n)
-  close-all-own = own-append s.pool s.address s.options n (shut_facts s (available_ones s ++ pending_ones s) ++ off_facts s n (unserved_ones s)) (pool_closed_fact s ∷ []) xs
+  close-all-own = own-append s.pool s.address s.options n (shut_facts s (available_ones s ++ pending_ones s) ++ off_facts s n (unserved_ones s)) (pool_closed_fact s.pool s.address ∷ []) xs
       (own-append s.pool s.address s.options n (shut_facts s (available_ones s ++ pending_ones s)) (off_facts s n (unserved_ones s)) xs (shut-own (available_ones s ++ pending_ones s) xs) (off-own (unserved_ones s) (after_facts s.pool n (shut_facts s (available_ones s ++ pending_ones s)) xs) asked-then))
       (refl, tt)
 
   pub close-shuts : shuts (closing_facts s n) ≡ true
   close-shuts = first (available_ones s ++ pending_ones s)
     where
-      then_off : (qs : List Request) → shuts (off_facts s n qs ++ pool_closed_fact s ∷ []) ≡ true
+      then_off : (qs : List Request) → shuts (off_facts s n qs ++ pool_closed_fact s.pool s.address ∷ []) ≡ true
       then_off [] = refl
       then_off (q ∷ qs) = on q.warm refl (then_off qs)
         where
-          on : (b : Bool) → q.warm ≡ b → shuts (off_facts s n qs ++ pool_closed_fact s ∷ []) ≡ true → shuts (off_facts s n (q ∷ qs) ++ pool_closed_fact s ∷ []) ≡ true
+          on : (b : Bool) → q.warm ≡ b → shuts (off_facts s n qs ++ pool_closed_fact s.pool s.address ∷ []) ≡ true → shuts (off_facts s n (q ∷ qs) ++ pool_closed_fact s.pool s.address ∷ []) ≡ true
           on true e rest = rw e rest
           on false e rest = rw e rest
 
-      first : (cs : List Connection) → shuts ((shut_facts s cs ++ off_facts s n (unserved_ones s)) ++ pool_closed_fact s ∷ []) ≡ true
+      first : (cs : List Connection) → shuts ((shut_facts s cs ++ off_facts s n (unserved_ones s)) ++ pool_closed_fact s.pool s.address ∷ []) ≡ true
       first [] = then_off (unserved_ones s)
       first (x ∷ cs) = first cs
 
 shut-split : (s : PoolCore) (cs ds : List Connection) → shut_facts s (cs ++ ds) ≡ shut_facts s cs ++ shut_facts s ds
 shut-split s [] ds = refl
-shut-split s (x ∷ cs) ds = ap (λ fs. shut_fact s x PoolClosedReason ∷ fs) (shut-split s cs ds)
+shut-split s (x ∷ cs) ds = ap (λ fs. closed_fact s.pool s.address x.id PoolClosedReason x.service ∷ fs) (shut-split s cs ds)
 
 -- an accepted close of a pool that is open
 pub close-accepts : (s s1 t : PoolCore) (before f1 after : List Fact) (n q : ℕ) (xs : List PoolItem) → Fits s xs → is_shut s.status ≡ false → s1 ≡ closing s n
-    → f1 ≡ (((before ++ shut_facts s (available_ones s)) ++ shut_facts s (pending_ones s)) ++ off_facts s n (unserved_ones s)) ++ pool_closed_fact s ∷ []
+    → f1 ≡ (((before ++ shut_facts s (available_ones s)) ++ shut_facts s (pending_ones s)) ++ off_facts s n (unserved_ones s)) ++ pool_closed_fact s.pool s.address ∷ []
     → SameHome s1 t → SameNotes s1 t → ((k : List PoolItem) → Fits s1 k → Serves s1 t n f1 after k)
     → Accepts s t before after n (CloseAct q) Done xs xs
 close-accepts s s1 t before f1 after n q xs z unshut s1_is f1_is home notes serves =
     let split : (before ++ shut_facts s (available_ones s)) ++ shut_facts s (pending_ones s) ≡ before ++ shut_facts s (available_ones s ++ pending_ones s) = append_assoc before (shut_facts s (available_ones s)) (shut_facts s (pending_ones s)) ∙ ap (λ k. before ++ k) (sym (shut-split s (available_ones s) (pending_ones s))) in
     accepts s s1 t t before f1 after n (CloseAct q) Done (closing_facts s n) xs xs
     (close-are s xs z n unshut)
-    (f1_is ∙ (ap (λ k. (k ++ off_facts s n (unserved_ones s)) ++ pool_closed_fact s ∷ []) split ∙ (ap (λ k. k ++ pool_closed_fact s ∷ []) (append_assoc before (shut_facts s (available_ones s ++ pending_ones s)) (off_facts s n (unserved_ones s))) ∙ append_assoc before (shut_facts s (available_ones s ++ pending_ones s) ++ off_facts s n (unserved_ones s)) (pool_closed_fact s ∷ []))))
+    (f1_is ∙ (ap (λ k. (k ++ off_facts s n (unserved_ones s)) ++ pool_closed_fact s.pool s.address ∷ []) split ∙ (ap (λ k. k ++ pool_closed_fact s.pool s.address ∷ []) (append_assoc before (shut_facts s (available_ones s ++ pending_ones s)) (off_facts s n (unserved_ones s))) ∙ append_assoc before (shut_facts s (available_ones s ++ pending_ones s) ++ off_facts s n (unserved_ones s)) (pool_closed_fact s.pool s.address ∷ []))))
     (rw s1_is (record { pool = refl; address = refl; options = refl }))
     (rw s1_is (subst (Fits (closing s n)) (sym (close-known s xs z n)) (close-fits s xs z n)))
     serves

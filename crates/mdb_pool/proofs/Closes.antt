@@ -3,11 +3,11 @@ use Rattle.std.proofs.Common.{ℕ, ◌≡◌, ◌+◌, ◌-◌, ◌≤◌, Bool,
 use Rattle.std.proofs.lemmas.Grind.{common_steps}
 use Rattle.mdb_base.specs.declared.object_id.ObjectId.{ObjectId}
 use Rattle.mdb_events.specs.declared.end.End.{End}
-use Rattle.mdb_pool.specs.declared.options.PoolOptions.{PoolOptions}
-use Rattle.mdb_pool.specs.History.{PoolItem, closed, ended, given, without, has_asked, has_taken}
-use Rattle.mdb_pool.specs.Connections.{one_if, has, live, live_total, created_total, created_at, pending_list, available_list, parties, pins, is_pinned, timeouts_since, granted_to, service_of, known_service, last_use, is_errored, wire_of}
-use Rattle.mdb_pool.specs.Requests.{requests, queued, is_warm, asked_at, end_of}
-use Rattle.mdb_pool.specs.State.{generation_of, generation_before}
+use Rattle.mdb_log.specs.declared.options.PoolOptions.{PoolOptions}
+use Rattle.mdb_log.specs.History.{PoolItem, closed, ended, given, without, has_asked, has_taken}
+use Rattle.mdb_log.specs.Connections.{one_if, has, live, live_total, created_total, created_at, pending_list, available_list, parties, pins, is_pinned, timeouts_since, granted_to, service_of, known_service, last_use, is_errored, wire_of}
+use Rattle.mdb_log.specs.Requests.{requests, queued, is_warm, asked_at, end_of}
+use Rattle.mdb_log.specs.State.{generation_of, generation_before}
 use Rattle.mdb_pool.specs.Keyed.{entry_at}
 use Rattle.mdb_events.specs.declared.end.End.TheVariants.{Closed as ClosedEnd}
 use Rattle.mdb_pool.specs.declared.request.Request.{Request}
@@ -16,8 +16,8 @@ use Rattle.mdb_pool.specs.Changes.{over_facts, off_facts}
 use Rattle.mdb_pool.specs.Kept.{unserved_in}
 use Rattle.std.proofs.lemmas.List.{take_more}
 use Rattle.mdb_pool.proofs.Tables.{named, passes}
-use Rattle.mdb_pool.proofs.Pins.{pinned-again}
-use Rattle.mdb_pool.proofs.Numbers.{same-number, has-without-is}
+use Rattle.mdb_log.proofs.Pins.{pinned-again}
+use Rattle.mdb_log.proofs.Numbers.{same-number, has-without-is}
 use Rattle.std.proofs.Math.Bool.{and-true}
 
 -- the items, those of the first numbers first

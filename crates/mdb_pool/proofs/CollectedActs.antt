@@ -1,21 +1,21 @@
 -- What a question for the outcome does is the answer to its step.
 use Rattle.std.proofs.Common.{ℕ, ◌≡◌, ◌≤◌, true, false, not, ◌&&◌, ◌||◌, ◌==◌, List, [], Some, None, refl, sym, ◌∙◌, ap, if◌then◌else◌, append-nil}
 use Rattle.mdb_events.specs.declared.fact.Fact.{Fact}
-use Rattle.mdb_pool.specs.declared.step.Act.TheVariants.{Collect}
-use Rattle.mdb_pool.specs.declared.reply.Refused.TheVariants.{UnknownRequest}
-use Rattle.mdb_pool.specs.declared.reply.Reply.{Reply}
-use Rattle.mdb_pool.specs.declared.reply.Reply.TheVariants.{Refused as RefusedBy}
+use Rattle.mdb_log.specs.declared.step.Act.TheVariants.{Collect}
+use Rattle.mdb_log.specs.declared.reply.Refused.TheVariants.{UnknownRequest}
+use Rattle.mdb_log.specs.declared.reply.Reply.{Reply}
+use Rattle.mdb_log.specs.declared.reply.Reply.TheVariants.{Refused as RefusedBy}
 use Rattle.mdb_pool.specs.declared.pool_core.PoolCore.{PoolCore}
 use Rattle.mdb_pool.proofs.Acts.{own-answers, not-back, outcome-is, outcome-accepted, outcome-no-job, refuses, accepts}
 use Rattle.std.proofs.Math.Bool.{or-false}
 use Rattle.mdb_pool.proofs.RequestedActs.{telling-settled, telling-fits}
 use Rattle.mdb_pool.proofs.Stands.{noted-fits, asked-known}
 use Rattle.mdb_pool.specs.Changes.{telling}
-use Rattle.mdb_pool.specs.Connections.{has}
-use Rattle.mdb_pool.specs.History.{Item, PoolItem, of_pool}
+use Rattle.mdb_log.specs.Connections.{has}
+use Rattle.mdb_log.specs.History.{Item, PoolItem, of_pool}
 use Rattle.mdb_pool.specs.Kept.{is_open_now, outcome_now, is_shut}
 use Rattle.mdb_pool.specs.Refusal.{refusal_of}
-use Rattle.mdb_pool.specs.Requests.{outcome_of, is_outcome, is_open}
+use Rattle.mdb_log.specs.Requests.{outcome_of, is_outcome, is_open}
 use Rattle.mdb_pool.specs.Standing.{Fits, StandsFor, SameHome, SameNotes, Serves, Accepts, Answers}
 
 -- an open request

@@ -10,9 +10,9 @@ use Rattle.mdb_events.specs.declared.end.End.{End}
 use Rattle.mdb_pool.specs.declared.request.Request.{Request}
 use Rattle.mdb_pool.specs.declared.request.Phase.TheVariants.{Queued, Ended as EndedPhase}
 use Rattle.mdb_pool.specs.declared.pool_core.PoolCore.{PoolCore}
-use Rattle.mdb_pool.specs.History.{PoolItem, ended, after_fact, after_facts, without, has_asked}
-use Rattle.mdb_pool.specs.Connections.{has}
-use Rattle.mdb_pool.specs.Requests.{queued, asked_at, is_warm}
+use Rattle.mdb_log.specs.History.{PoolItem, ended, after_fact, after_facts, without, has_asked}
+use Rattle.mdb_log.specs.Connections.{has}
+use Rattle.mdb_log.specs.Requests.{queued, asked_at, is_warm}
 use Rattle.mdb_pool.specs.Facts.{end_facts, all_ends}
 use Rattle.mdb_pool.specs.Kept.{request_at, first_queued, numbers_where, given_in, asked_at_of, warm_of}
 use Rattle.mdb_pool.specs.Places.{is_queued}
@@ -21,8 +21,8 @@ use Rattle.mdb_pool.specs.Standing.{Fits, SameHome, EndsQueue}
 use Rattle.mdb_pool.proofs.Tables.{named, where-swap_out, length-without, one_if-le}
 use Rattle.mdb_pool.proofs.Overs.{over-known}
 use Rattle.mdb_pool.proofs.Found.{queued-at, queue-head, queue-empty}
-use Rattle.mdb_pool.proofs.Numbers.{same-number}
-use Rattle.mdb_pool.proofs.Serving.{after-append}
+use Rattle.mdb_log.proofs.Numbers.{same-number}
+use Rattle.mdb_log.proofs.Later.{after-append}
 use Rattle.mdb_pool.proofs.Moves.{queued-asked_at}
 use Rattle.mdb_pool.proofs.Stands.{end-fits}
 
@@ -112,7 +112,7 @@ ends-start s n end facts xs z = record { done = []; facts = sym (append-nil fact
 
 pub ends-done : (s t : PoolCore) (n : ℕ) (end : End) (before after : List Fact) (xs : List PoolItem) → Ending s t n end before after xs → first_queued t ≡ None → EndsQueue s t n end before after xs
 ends-done s t n end before after xs g e =
-    let empty : queued (after_facts s.pool n (all_ends s.pool s.address n xs end g.done) xs) ≡ [] = g.fits.matches.queue ∙ queue-empty t.requests e in
+    let empty : queued (after_facts s.pool n (all_ends s.pool s.address n xs end g.done) xs) ≡ [] = g.fits.matches.requests.queue ∙ queue-empty t.requests e in
     let all : queued xs ≡ g.done = g.rest ∙ (ap (λ k. g.done ++ k) empty ∙ append-nil g.done) in
     record {
       facts = g.facts ∙ ap (λ k. before ++ all_ends s.pool s.address n xs end k) (sym all);
@@ -124,11 +124,11 @@ ends-more s t u home n end before after facts xs q z g e new added =
     let ys : List PoolItem = after_facts s.pool n (all_ends s.pool s.address n xs end g.done) xs in
     let at_q : (request_at t q.number ≡ Some q) × (q.phase ≡ Queued) = queued-at t ys g.fits.matches q e in
     let head : (rest : List ℕ) × (numbers_where is_queued t.requests ≡ q.number ∷ rest) = queue-head q t.requests e in
-    let queue : queued ys ≡ q.number ∷ head.0 = g.fits.matches.queue ∙ head.1 in
-    let single : count_by (λ j. j == q.number) (numbers_where is_queued t.requests) ≤ 1 = at-most (part-named q.number t.requests) (rw (g.fits.matches.single_request q.number) (one_if-le (is_some (request_at t q.number)))) in
+    let queue : queued ys ≡ q.number ∷ head.0 = g.fits.matches.requests.queue ∙ head.1 in
+    let single : count_by (λ j. j == q.number) (numbers_where is_queued t.requests) ≤ 1 = at-most (part-named q.number t.requests) (rw (g.fits.matches.requests.single_request q.number) (one_if-le (is_some (request_at t q.number)))) in
     let left : without q.number (queued ys) ≡ head.0 = ap (without q.number) queue ∙ once q.number head.0 (subst (λ k. count_by (λ j. j == q.number) k ≤ 1) head.1 single) in
-    let moment : asked_at xs q.number ≡ q.asked_at = sym (moment-facts s.pool n q.number (all_ends s.pool s.address n xs end g.done) xs) ∙ (g.fits.matches.asked_at q.number ∙ ap asked_at_of at_q.0) in
-    let warm : is_warm xs q.number ≡ q.warm = sym (warm-facts s.pool n q.number (all_ends s.pool s.address n xs end g.done) xs) ∙ (g.fits.matches.warm q.number ∙ ap warm_of at_q.0) in
+    let moment : asked_at xs q.number ≡ q.asked_at = sym (moment-facts s.pool n q.number (all_ends s.pool s.address n xs end g.done) xs) ∙ (g.fits.matches.requests.asked_at q.number ∙ ap asked_at_of at_q.0) in
+    let warm : is_warm xs q.number ≡ q.warm = sym (warm-facts s.pool n q.number (all_ends s.pool s.address n xs end g.done) xs) ∙ (g.fits.matches.requests.warm q.number ∙ ap warm_of at_q.0) in
     let told : end_facts s.pool s.address n xs q.number end ≡ over_facts t q.number q.warm (n - q.asked_at) end = rw (warm, moment, home.pool, home.address) refl in
     let asked : has_asked ys q.number ≡ true = queued-asked_at t ys g.fits.matches q at_q.0 (ap is_queued at_q.1) in
     let more : all_ends s.pool s.address n xs end (g.done ++ q.number ∷ []) ≡ all_ends s.pool s.address n xs end g.done ++ over_facts t q.number q.warm (n - q.asked_at) end = ends-append s.pool s.address n xs end g.done q.number ∙ ap (λ k. all_ends s.pool s.address n xs end g.done ++ k) told in

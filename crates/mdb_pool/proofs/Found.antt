@@ -7,12 +7,12 @@ use Rattle.mdb_pool.specs.declared.request.Request.{Request}
 use Rattle.mdb_pool.specs.declared.request.Phase.{Phase}
 use Rattle.mdb_pool.specs.declared.request.Phase.TheVariants.{Queued, Given, Over, Ended as EndedPhase}
 use Rattle.mdb_pool.specs.declared.pool_core.PoolCore.{PoolCore}
-use Rattle.mdb_pool.specs.History.{PoolItem}
+use Rattle.mdb_log.specs.History.{PoolItem}
 use Rattle.mdb_pool.specs.Serving.{last_of}
-use Rattle.mdb_pool.specs.Standing.{Matches}
+use Rattle.mdb_pool.specs.Matching.{Matches}
 use Rattle.mdb_pool.specs.Kept.{connection_at, request_at, ids_where, numbers_where, first_queued, candidate_now, blocked_now, first_perished, perished_now, last_available, last_from, held_connection, if_held, given_in, given_of, if_pending, pending_connection, holder_at}
 use Rattle.mdb_pool.specs.Places.{is_pending, is_available, is_held, is_at_pin, is_queued}
-use Rattle.mdb_pool.proofs.Bools.{both-left, both-right}
+use Rattle.mdb_log.proofs.Bools.{both-left, both-right}
 use Rattle.mdb_pool.proofs.Tables.{In, here, there, member-at, one_if-le, find-member, entry_at-key}
 
 pub is-queued : (p : Phase) → is_queued p ≡ true → p ≡ Queued
@@ -65,24 +65,24 @@ module _ (s : PoolCore) (xs : List PoolItem) (m : Matches s xs) where
   pub queued-at : (q : Request) → first_queued s ≡ Some q → (request_at s q.number ≡ Some q) × (q.phase ≡ Queued)
   queued-at q e =
       let i : In q s.requests × (is_queued q.phase ≡ true) = find-member (λ (r : Request). is_queued r.phase) q s.requests e in
-      (member-at (λ (r : Request). r.number) q s.requests i.0 (rw (m.single_request q.number) (one_if-le (is_some (request_at s q.number)))), is-queued q.phase i.1)
+      (member-at (λ (r : Request). r.number) q s.requests i.0 (rw (m.requests.single_request q.number) (one_if-le (is_some (request_at s q.number)))), is-queued q.phase i.1)
 
   pub candidate-at : (q : Request) → candidate_now s ≡ Some q → (request_at s q.number ≡ Some q) × (q.phase ≡ Queued)
   candidate-at q e =
       let i : In q s.requests × ((is_queued q.phase && not (q.warm && blocked_now s)) ≡ true) = find-member (λ (r : Request). is_queued r.phase && not (r.warm && blocked_now s)) q s.requests e in
-      (member-at (λ (r : Request). r.number) q s.requests i.0 (rw (m.single_request q.number) (one_if-le (is_some (request_at s q.number)))), is-queued q.phase (both-left (is_queued q.phase) (not (q.warm && blocked_now s)) i.1))
+      (member-at (λ (r : Request). r.number) q s.requests i.0 (rw (m.requests.single_request q.number) (one_if-le (is_some (request_at s q.number)))), is-queued q.phase (both-left (is_queued q.phase) (not (q.warm && blocked_now s)) i.1))
 
   pub perished-at : (n : ℕ) (x : Connection) → first_perished s n ≡ Some x → (connection_at s x.id ≡ Some x) × (x.place ≡ Available) × (is_some (perished_now s n x) ≡ true)
   perished-at n x e =
       let i : In x s.connections × ((is_available x.place && is_some (perished_now s n x)) ≡ true) = find-member (λ (y : Connection). is_available y.place && is_some (perished_now s n y)) x s.connections e in
-      (member-at (λ (y : Connection). y.id) x s.connections i.0 (rw (m.single x.id) (one_if-le (is_some (connection_at s x.id)))), is-available x.place (both-left (is_available x.place) (is_some (perished_now s n x)) i.1), both-right (is_available x.place) (is_some (perished_now s n x)) i.1)
+      (member-at (λ (y : Connection). y.id) x s.connections i.0 (rw (m.counts.single x.id) (one_if-le (is_some (connection_at s x.id)))), is-available x.place (both-left (is_available x.place) (is_some (perished_now s n x)) i.1), both-right (is_available x.place) (is_some (perished_now s n x)) i.1)
 
   pub available-at : (x : Connection) → last_available s ≡ Some x → (connection_at s x.id ≡ Some x) × (x.place ≡ Available)
   available-at x e = on (last-member None x s.connections e)
     where
       on : (◌≡◌ {A = Option Connection} None (Some x)) ⊎ (In x s.connections × (is_available x.place ≡ true)) → (connection_at s x.id ≡ Some x) × (x.place ≡ Available)
       on (inl f) = cc
-      on (inr i) = (member-at (λ (y : Connection). y.id) x s.connections i.0 (rw (m.single x.id) (one_if-le (is_some (connection_at s x.id)))), is-available x.place i.1)
+      on (inr i) = (member-at (λ (y : Connection). y.id) x s.connections i.0 (rw (m.counts.single x.id) (one_if-le (is_some (connection_at s x.id)))), is-available x.place i.1)
 
 -- the first queued one is the first of the queue
 pub queue-head : (q : Request) (qs : List Request) → find (λ r. is_queued r.phase) qs ≡ Some q → (rest : List ℕ) × (numbers_where is_queued qs ≡ q.number ∷ rest)
@@ -172,9 +172,9 @@ not-given s xs m r q f h p = on q.phase refl
   where
     at_place : (c : ℕ) (x : Connection) (l : Place) → connection_at s c ≡ Some x → x.place ≡ l → q.phase ≡ Given c → holder_at (connection_at s c) ≡ Some r → given_in q.phase ≡ None
     at_place c x Pending g l e t = let k : pending_connection s r ≡ Some x = rw (f, e, g, l) refl in cc
-    at_place c x Available g l e t = let k : holder_at (Some x) ≡ None = m.free c x g (ap is_available l) in let v : holder_at (Some x) ≡ Some r = ap holder_at (sym g) ∙ t in cc
+    at_place c x Available g l e t = let k : holder_at (Some x) ≡ None = m.links.free c x g (ap is_available l) in let v : holder_at (Some x) ≡ Some r = ap holder_at (sym g) ∙ t in cc
     at_place c x Held g l e t = let k : held_connection s r ≡ Some x = rw (f, e, g, l) refl in cc
-    at_place c x Pinned g l e t = let k : holder_at (Some x) ≡ None = m.rests c x g (ap is_at_pin l) in let v : holder_at (Some x) ≡ Some r = ap holder_at (sym g) ∙ t in cc
+    at_place c x Pinned g l e t = let k : holder_at (Some x) ≡ None = m.pinning.rests c x g (ap is_at_pin l) in let v : holder_at (Some x) ≡ Some r = ap holder_at (sym g) ∙ t in cc
 
     at_connection : (c : ℕ) (o : Option Connection) → connection_at s c ≡ o → q.phase ≡ Given c → holder_at (connection_at s c) ≡ Some r → given_in q.phase ≡ None
     at_connection c None g e t = let v : holder_at None ≡ Some r = ap holder_at (sym g) ∙ t in cc
@@ -182,6 +182,6 @@ not-given s xs m r q f h p = on q.phase refl
 
     on : (k : Phase) → q.phase ≡ k → given_in q.phase ≡ None
     on Queued e = ap given_in e
-    on (Given c) e = at_connection c (connection_at s c) refl e (m.taken r c (ap given_of f ∙ ap given_in e))
+    on (Given c) e = at_connection c (connection_at s c) refl e (m.links.taken r c (ap given_of f ∙ ap given_in e))
     on Over e = ap given_in e
     on (EndedPhase end) e = ap given_in e

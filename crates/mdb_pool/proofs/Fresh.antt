@@ -10,30 +10,31 @@ use Rattle.mdb_events.specs.declared.end.End.TheVariants.{Warmed}
 use Rattle.mdb_events.specs.declared.cmap.CmapEvent.TheVariants as event
 use Rattle.mdb_events.specs.declared.fact.Fact.{Fact}
 use Rattle.mdb_events.specs.declared.fact.Fact.TheVariants as fact
-use Rattle.mdb_pool.specs.declared.options.PoolOptions.{PoolOptions}
+use Rattle.mdb_log.specs.declared.options.PoolOptions.{PoolOptions}
 use Rattle.mdb_pool.specs.declared.connection.Connection.{Connection}
 use Rattle.mdb_pool.specs.declared.pool_core.PoolCore.{PoolCore}
-use Rattle.mdb_pool.specs.declared.step.Step.{Step}
-use Rattle.mdb_pool.specs.declared.step.Act.{Act}
-use Rattle.mdb_pool.specs.declared.step.Act.TheVariants as act
-use Rattle.mdb_pool.specs.declared.step.FailedAt.TheVariants as at
-use Rattle.mdb_pool.specs.declared.step.Established.{Established as Establishment}
-use Rattle.mdb_pool.specs.declared.reply.Refused.{Refused}
-use Rattle.mdb_pool.specs.declared.reply.Refused.TheVariants.{TimeBack, NotPending, Unpinned, WrongMode}
-use Rattle.mdb_pool.specs.History.{Item, PoolItem, asked, warmed, gave_up, returned, pinned_by, established, failed, replicated, taken, unpinned, created, closed, checked_in, granted, ended, raised, pool_created, pool_ready, pool_closed, if_so, after_act, after_fact, after_facts, of_pool, open_pool, last_moment, without, is_number, given, has_asked}
-use Rattle.mdb_pool.specs.Connections.{has, created_total, pending_list, available_list, holding, pins, granted_to}
-use Rattle.mdb_pool.specs.Requests.{queued, is_warm}
-use Rattle.mdb_pool.specs.State.{state_of, ready, is_stale, is_idle, may_create}
+use Rattle.mdb_log.specs.declared.step.Step.{Step}
+use Rattle.mdb_log.specs.declared.step.Act.{Act}
+use Rattle.mdb_log.specs.declared.step.Act.TheVariants as act
+use Rattle.mdb_log.specs.declared.step.FailedAt.TheVariants as at
+use Rattle.mdb_log.specs.declared.step.Established.{Established as Establishment}
+use Rattle.mdb_log.specs.declared.reply.Refused.{Refused}
+use Rattle.mdb_log.specs.declared.reply.Refused.TheVariants.{TimeBack, NotPending, Unpinned, WrongMode}
+use Rattle.mdb_log.specs.History.{Item, PoolItem, asked, warmed, gave_up, returned, pinned_by, established, failed, replicated, taken, unpinned, created, closed, checked_in, granted, ended, raised, pool_created, pool_ready, pool_closed, if_so, after_act, after_fact, after_facts, of_pool, open_pool, last_moment, without, is_number, given, has_asked, with_act}
+use Rattle.mdb_log.specs.Connections.{has, created_total, pending_list, available_list, holding, pins, granted_to}
+use Rattle.mdb_log.specs.Requests.{queued, is_warm}
+use Rattle.mdb_log.specs.State.{state_of, ready, is_stale, is_idle, may_create}
 use Rattle.mdb_pool.specs.Facts.{act_facts, perished}
 use Rattle.mdb_pool.specs.Serving.{last_of, candidate, next_move, serve, creation, wants_connection}
 use Rattle.mdb_pool.specs.Refusal.{refusal_of, first_row, rows_of, wrong_service}
-use Rattle.mdb_pool.specs.Answer.{all_facts, answer, with_act}
-use Rattle.mdb_pool.specs.Fresh.{IsFresh, GrantsFresh, AllGrantFresh}
-use Rattle.mdb_pool.specs.Standing.{Matches, StandsFor}
+use Rattle.mdb_pool.specs.Answer.{all_facts, answer}
+use Rattle.mdb_log.specs.Fresh.{IsFresh, GrantsFresh, AllGrantFresh}
+use Rattle.mdb_pool.specs.Standing.{StandsFor}
+use Rattle.mdb_pool.specs.Matching.{Matches}
 use Rattle.mdb_pool.specs.Kept.{connection_at, holder_at, pins_at}
 use Rattle.mdb_pool.specs.Places.{is_pending, is_available}
 use Rattle.mdb_pool.proofs.Tables.{has-where}
-use Rattle.mdb_pool.proofs.Numbers.{has-append, same-number}
+use Rattle.mdb_log.proofs.Numbers.{has-append, same-number}
 use Rattle.mdb_pool.proofs.Staleness.{live-created}
 use Rattle.mdb_pool.proofs.Calm.{IsCalm, AreCalm, IsBound, act-calm}
 
@@ -278,8 +279,8 @@ module _ (s : PoolCore) (xs : List PoolItem) (z : Matches s xs) where
   all-created : AllCreated xs
   all-created = record {
     past = λ c l.
-        let unused : connection_at s c ≡ None = z.unused c (omega (arith, l, z.created)) in
-        rw z.available (has-where (λ (x : Connection). x.id) (λ x. is_available x.place) c s.connections (z.single c) ∙ rw unused refl);
+        let unused : connection_at s c ≡ None = z.counts.unused c (omega (arith, l, z.counts.created)) in
+        rw z.counts.available (has-where (λ (x : Connection). x.id) (λ x. is_available x.place) c s.connections (z.counts.single c) ∙ rw unused refl);
   }
 
   pub live-before : (c : ℕ) → (connection_at s c ≡ None → ⊥) → c ≤ created_total xs
@@ -287,22 +288,22 @@ module _ (s : PoolCore) (xs : List PoolItem) (z : Matches s xs) where
     where
       on : (k : Option Connection) → connection_at s c ≡ k → c ≤ created_total xs
       on None e = absurd (some e)
-      on (Some x) e = let l : c ≤ s.created = live-created s xs z c x e in omega (arith, l, z.created)
+      on (Some x) e = let l : c ≤ s.created = live-created s xs z c x e in omega (arith, l, z.counts.created)
 
   pub pending-created : (c : ℕ) → has c (pending_list xs) ≡ true → c ≤ created_total xs
   pending-created c h = live-before c (λ e.
-      let f : has c (pending_list xs) ≡ false = rw z.pending (has-where (λ (x : Connection). x.id) (λ x. is_pending x.place) c s.connections (z.single c) ∙ rw e refl) in
+      let f : has c (pending_list xs) ≡ false = rw z.counts.pending (has-where (λ (x : Connection). x.id) (λ x. is_pending x.place) c s.connections (z.counts.single c) ∙ rw e refl) in
       cc)
 
   -- a pinned connection was created
   pinned-created : (c : ℕ) → nat_lt 0 (pins xs c) ≡ true → c ≤ created_total xs
   pinned-created c h = live-before c (λ e.
-      let f : nat_lt 0 (pins xs c) ≡ false = ap (nat_lt 0) (z.pins c ∙ ap pins_at e) in
+      let f : nat_lt 0 (pins xs c) ≡ false = ap (nat_lt 0) (z.pinning.pins c ∙ ap pins_at e) in
       cc)
 
   given-created : (r c : ℕ) → given xs r ≡ Some c → c ≤ created_total xs
   given-created r c h =
-      let g : holder_at (connection_at s c) ≡ Some r = z.taken r c (sym (z.given r) ∙ h) in
+      let g : holder_at (connection_at s c) ≡ Some r = z.links.taken r c (sym (z.requests.given r) ∙ h) in
       live-before c (λ e. let f : holder_at (connection_at s c) ≡ None = rw e refl in cc)
 
   pub holding-created : (r c : ℕ) → holding xs r ≡ Some c → c ≤ created_total xs

@@ -3,13 +3,13 @@ use Rattle.std.proofs.Common.{ℕ, ◌≡◌, Bool, true, false, List, Option, S
 use Rattle.mdb_base.specs.declared.object_id.ObjectId.{ObjectId}
 use Rattle.mdb_pool.specs.declared.connection.Connection.{Connection}
 use Rattle.mdb_pool.specs.declared.pool_core.PoolCore.{PoolCore}
-use Rattle.mdb_pool.specs.History.{Item, PoolItem, of_pool}
-use Rattle.mdb_pool.specs.Connections.{has, is_live, pending_list, holding, known_service, timeouts_since}
-use Rattle.mdb_pool.specs.State.{generation_of, generation_before, is_interrupted}
+use Rattle.mdb_log.specs.History.{Item, PoolItem, of_pool}
+use Rattle.mdb_log.specs.Connections.{has, is_live, pending_list, holding, known_service, timeouts_since}
+use Rattle.mdb_log.specs.State.{generation_of, generation_before, is_interrupted}
 use Rattle.mdb_pool.specs.Kept.{connection_at, held_connection, is_pending_at, id_at, clears_for, clears_before, generation_at, interrupted_at, timeouts_in, is_held_at, pins_at}
 use Rattle.mdb_pool.specs.Places.{is_held}
-use Rattle.mdb_pool.specs.Generations.{carried}
-use Rattle.mdb_pool.specs.declared.generation.ConnectionGeneration.TheVariants.{Normal, LoadBalanced}
+use Rattle.mdb_log.specs.Generations.{carried}
+use Rattle.mdb_log.specs.declared.generation.ConnectionGeneration.TheVariants.{Normal, LoadBalanced}
 use Rattle.mdb_pool.proofs.TakenActs.{held-is}
 use Rattle.std.proofs.lemmas.Bool.Decides.{nat_tests}
 use Rattle.std.proofs.Math.Bool.{and-false}
@@ -23,10 +23,10 @@ module _ (s : PoolCore) (h : List Item) (z : StandsFor s h) where
   xs = of_pool s.pool h
 
   pub generation-now : (t : Option ObjectId) → clears_for t s.clears ≡ generation_of xs t
-  generation-now t = sym (z.fits.matches.clears t)
+  generation-now t = sym (z.fits.matches.clearing.clears t)
 
   live-is : (c : ℕ) → is_live xs c ≡ is_some (connection_at s c)
-  live-is c = rw (z.fits.matches.live c) (on (is_some (connection_at s c)))
+  live-is c = rw (z.fits.matches.connections.live c) (on (is_some (connection_at s c)))
     where
       on : (b : Bool) → nat_lt 0 (if b then 1 else 0) ≡ b
       on true = refl
@@ -37,7 +37,7 @@ module _ (s : PoolCore) (h : List Item) (z : StandsFor s h) where
     where
       on : (o : Option Connection) → connection_at s c ≡ o → (if is_some (connection_at s c) then Some (clears_before c t s.clears) else None) ≡ (if is_some (connection_at s c) then Some (generation_before xs c t) else None)
       on None e = rw e refl
-      on (Some x) e = rw e (ap Some (sym (z.fits.matches.before c t (live-created s xs z.fits.matches c x e))))
+      on (Some x) e = rw e (ap Some (sym (z.fits.matches.clearing.before c t (live-created s xs z.fits.matches c x e))))
 
   pub held-now : (r : ℕ) → id_at (held_connection s r) ≡ holding xs r
   held-now r = on (held_connection s r) ∙ sym (holding-is s xs z.fits r)
@@ -51,9 +51,9 @@ module _ (s : PoolCore) (h : List Item) (z : StandsFor s h) where
 
   -- the generation that a connection carries
   carried-same : (c : ℕ) (x : Connection) → connection_at s c ≡ Some x → (b : Bool) (o : Option ObjectId) → carried b (λ t. clears_before c t s.clears) o ≡ carried b (generation_before xs c) o
-  carried-same c x e false o = ap Normal (sym (z.fits.matches.before c None (live-created s xs z.fits.matches c x e)))
+  carried-same c x e false o = ap Normal (sym (z.fits.matches.clearing.before c None (live-created s xs z.fits.matches c x e)))
   carried-same c x e true None = refl
-  carried-same c x e true (Some t) = ap (λ n. LoadBalanced (Some (record { generation = n; service_id = t }))) (sym (z.fits.matches.before c (Some t) (live-created s xs z.fits.matches c x e)))
+  carried-same c x e true (Some t) = ap (λ n. LoadBalanced (Some (record { generation = n; service_id = t }))) (sym (z.fits.matches.clearing.before c (Some t) (live-created s xs z.fits.matches c x e)))
 
   pub carried-now : (c : ℕ) → generation_at s c (connection_at s c) ≡ (if is_live xs c then Some (carried s.options.load_balanced (generation_before xs c) (known_service xs c)) else None)
   carried-now c = rw (live-is c) (on (connection_at s c) refl)
@@ -67,11 +67,11 @@ module _ (s : PoolCore) (h : List Item) (z : StandsFor s h) where
   since-now k x e = grind (arith, nat_tests)
 
   pub interrupted-now : (c : ℕ) → interrupted_at s (connection_at s c) ≡ is_interrupted s.options xs c
-  interrupted-now c = sym (rw (held-is s xs z.fits c, z.fits.matches.pins c) (on (connection_at s c) refl))
+  interrupted-now c = sym (rw (held-is s xs z.fits c, z.fits.matches.pinning.pins c) (on (connection_at s c) refl))
     where
       at_held : (x : Connection) (b : Bool) → connection_at s c ≡ Some x → is_held x.place ≡ b → not s.options.load_balanced && (b && ((x.pins == 0) && nat_lt 0 (timeouts_since xs c))) ≡ not s.options.load_balanced && (b && ((x.pins == 0) && nat_lt x.timeouts (timeouts_in s.clears)))
       at_held x false e f = refl
-      at_held x true e f = rw (since-now (timeouts_since xs c) x (z.fits.matches.calm c x e (z.fits.matches.busy c x e f))) refl
+      at_held x true e f = rw (since-now (timeouts_since xs c) x (z.fits.matches.uses.calm c x e (z.fits.matches.links.busy c x e f))) refl
 
       on : (o : Option Connection) → connection_at s c ≡ o → not s.options.load_balanced && (is_held_at o && ((pins_at o == 0) && nat_lt 0 (timeouts_since xs c))) ≡ interrupted_at s o
       on None e = and-false (not s.options.load_balanced)

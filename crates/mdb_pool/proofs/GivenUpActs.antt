@@ -4,28 +4,29 @@ use Rattle.mdb_events.specs.declared.fact.Fact.{Fact}
 use Rattle.mdb_events.specs.declared.fact.Fact.TheVariants.{Ended}
 use Rattle.mdb_events.specs.declared.end.End.{End}
 use Rattle.mdb_events.specs.declared.reasons.ConnectionClosedReason.{ConnectionClosedReason}
-use Rattle.mdb_pool.specs.declared.step.Use.TheVariants.{Ok}
+use Rattle.mdb_log.specs.declared.step.Use.TheVariants.{Ok}
 use Rattle.mdb_events.specs.declared.end.End.TheVariants.{GaveUp}
-use Rattle.mdb_pool.specs.declared.step.Act.TheVariants.{GiveUp}
-use Rattle.mdb_pool.specs.declared.reply.Refused.TheVariants.{UnknownRequest}
-use Rattle.mdb_pool.specs.declared.reply.Reply.{Reply}
-use Rattle.mdb_pool.specs.declared.reply.Reply.TheVariants.{Done, Refused as RefusedBy}
+use Rattle.mdb_log.specs.declared.step.Act.TheVariants.{GiveUp}
+use Rattle.mdb_log.specs.declared.reply.Refused.TheVariants.{UnknownRequest}
+use Rattle.mdb_log.specs.declared.reply.Reply.{Reply}
+use Rattle.mdb_log.specs.declared.reply.Reply.TheVariants.{Done, Refused as RefusedBy}
 use Rattle.mdb_pool.specs.declared.connection.Connection.{Connection}
 use Rattle.mdb_pool.specs.declared.connection.Place.TheVariants.{Pending, Held}
 use Rattle.mdb_pool.specs.declared.request.Request.{Request}
 use Rattle.mdb_pool.specs.declared.request.Phase.{Phase}
 use Rattle.mdb_pool.specs.declared.request.Phase.TheVariants.{Queued, Given, Over, Ended as EndedPhase}
 use Rattle.mdb_pool.specs.declared.pool_core.PoolCore.{PoolCore}
-use Rattle.mdb_pool.specs.History.{Item, PoolItem, given, has_asked, of_pool, after_facts, gave_up, closed, checked_in, ended, after_fact}
+use Rattle.mdb_log.specs.History.{Item, PoolItem, given, has_asked, of_pool, after_facts, gave_up, closed, checked_in, ended, after_fact}
 use Rattle.mdb_pool.specs.Kept.{connection_at, request_at, given_in, given_of, end_in, end_at, is_ended_at, held_connection, pending_connection, is_open_now, is_pending_at, outcome_now, is_shut, reason_now, used_as, is_asked_at}
-use Rattle.mdb_pool.specs.Requests.{end_of, told}
+use Rattle.mdb_log.specs.Requests.{end_of, told}
 use Rattle.mdb_pool.specs.Facts.{act_facts}
 use Rattle.mdb_pool.specs.Standing.{Fits, StandsFor, SameHome, SameNotes, Serves, Accepts, Answers}
-use Rattle.mdb_pool.specs.Connections.{has, pending_list, held}
+use Rattle.mdb_log.specs.Connections.{has, pending_list, held}
 use Rattle.mdb_pool.specs.Places.{is_pending}
 use Rattle.mdb_pool.specs.Refusal.{refusal_of}
 use Rattle.mdb_pool.specs.Changes.{quitting, leaving, handing, back_facts, losing, handing_for, to_pin}
-use Rattle.mdb_pool.specs.Legal.{AllFirstCome, AllOwn, shuts}
+use Rattle.mdb_log.specs.Legal.{AllFirstCome}
+use Rattle.mdb_log.specs.Own.{AllOwn, shuts}
 use Rattle.mdb_pool.proofs.ReturnedActs.{none-above, some-above}
 use Rattle.mdb_pool.proofs.PinStands.{quit-pinned-fits}
 use Rattle.mdb_pool.proofs.Found.{Holder, holder, pender, not-given}
@@ -33,7 +34,7 @@ use Rattle.mdb_pool.proofs.CollectedActs.{open-is}
 use Rattle.mdb_pool.proofs.Stands.{quit-fits, leave-fits, hand-fits, late-fits, lose-fits, asked-known}
 use Rattle.mdb_pool.proofs.Tables.{entry_at-key}
 use Rattle.std.proofs.Math.Bool.{or_comm}
-use Rattle.mdb_pool.proofs.Numbers.{has-append, same-number}
+use Rattle.mdb_log.proofs.Numbers.{has-append, same-number}
 use Rattle.mdb_pool.proofs.Acts.{refuses, accepts, own-answers, not-back, pending-is, holding-is, outcome-is, outcome-accepted, outcome-no-job, live-errored, live-service, live-pins}
 use Rattle.mdb_pool.proofs.CheckIns.{check-in-is, back-fair, back-own, back-open, back-fits}
 use Rattle.mdb_pool.proofs.Staleness.{stale-at}
@@ -44,7 +45,7 @@ module _ (s : PoolCore) (xs : List PoolItem) (z : Fits s xs) (n : ℕ) (q : Requ
   ys = gave_up q.number ∷ xs
 
   still : end_of xs q.number ≡ None
-  still = z.matches.ends q.number ∙ (ap end_at at_q ∙ open_now)
+  still = z.matches.requests.ends q.number ∙ (ap end_at at_q ∙ open_now)
 
   asked : has_asked xs q.number ≡ true
   asked = asked-known s xs z q.number ∙ known
@@ -65,7 +66,7 @@ module _ (s : PoolCore) (xs : List PoolItem) (z : Fits s xs) (n : ℕ) (q : Requ
 
   -- it waits in the queue
   quit-are : given_in q.phase ≡ None → act_facts s.pool s.address s.options n xs ys (GiveUp q.number) ≡ Ended q.number GaveUp ∷ []
-  quit-are none = let g : given xs q.number ≡ None = z.matches.given q.number ∙ (ap given_of at_q ∙ none) in rw (still, g) refl
+  quit-are none = let g : given xs q.number ≡ None = z.matches.requests.given q.number ∙ (ap given_of at_q ∙ none) in rw (still, g) refl
 
   pub quit-accepts : (s1 t : PoolCore) (before f1 after : List Fact) → given_in q.phase ≡ None → s1 ≡ quitting s n q → f1 ≡ before ++ Ended q.number GaveUp ∷ [] → SameHome s1 t → SameNotes s1 t → ((k : List PoolItem) → Fits s1 k → Serves s1 t n f1 after k)
       → Accepts s t before after n (GiveUp q.number) Done xs ys
@@ -76,7 +77,7 @@ module _ (s : PoolCore) (xs : List PoolItem) (z : Fits s xs) (n : ℕ) (q : Requ
   -- its connection is pending
   leave-are : (x : Connection) → connection_at s x.id ≡ Some x → x.place ≡ Pending → q.phase ≡ Given x.id → act_facts s.pool s.address s.options n xs ys (GiveUp q.number) ≡ Ended q.number GaveUp ∷ []
   leave-are x at_x place phase =
-      let g : given xs q.number ≡ Some x.id = z.matches.given q.number ∙ (ap given_of at_q ∙ ap given_in phase) in
+      let g : given xs q.number ≡ Some x.id = z.matches.requests.given q.number ∙ (ap given_of at_q ∙ ap given_in phase) in
       let p : has x.id (pending_list xs) ≡ true = pending-is s xs z x.id ∙ (ap is_pending_at at_x ∙ ap is_pending place) in
       rw (still, g, p) refl
 
@@ -91,11 +92,11 @@ module _ (s : PoolCore) (xs : List PoolItem) (z : Fits s xs) (n : ℕ) (q : Requ
   why x = reason_now s (used_as x Ok)
 
   mine : (x : Connection) → q.phase ≡ Given x.id → given xs q.number ≡ Some x.id
-  mine x phase = z.matches.given q.number ∙ (ap given_of at_q ∙ ap given_in phase)
+  mine x phase = z.matches.requests.given q.number ∙ (ap given_of at_q ∙ ap given_in phase)
 
   hand-are : (x : Connection) → held_connection s q.number ≡ Some x → connection_at s x.id ≡ Some x → q.phase ≡ Given x.id → x.pins ≡ 0 → act_facts s.pool s.address s.options n xs ys (GiveUp q.number) ≡ Ended q.number GaveUp ∷ back_facts s (used_as x Ok) (why x)
   hand-are x held at_x phase loose =
-      rw (still, holding-is s xs z q.number, held, live-pins s xs z.matches x.id x at_x, loose) (ap (λ k. Ended q.number GaveUp ∷ k) (check-in-is s ys (used_as x Ok) z.matches.status (live-service s xs z.matches x.id x at_x) (live-errored s xs z.matches x.id x at_x) (stale-at s xs z.matches x.id x at_x) (rw (mine x phase, same-number x.id) refl)))
+      rw (still, holding-is s xs z q.number, held, live-pins s xs z.matches x.id x at_x, loose) (ap (λ k. Ended q.number GaveUp ∷ k) (check-in-is s ys (used_as x Ok) z.matches.clearing.status (live-service s xs z.matches x.id x at_x) (live-errored s xs z.matches x.id x at_x) (stale-at s xs z.matches x.id x at_x) (rw (mine x phase, same-number x.id) refl)))
 
   -- and a pin stands
   pinned-are : (x : Connection) → held_connection s q.number ≡ Some x → connection_at s x.id ≡ Some x → nat_lt 0 x.pins ≡ true → act_facts s.pool s.address s.options n xs ys (GiveUp q.number) ≡ Ended q.number GaveUp ∷ []
@@ -148,7 +149,7 @@ pub late-accepts : (s s1 t : PoolCore) (before after : List Fact) (n r : ℕ) (r
     → s1 ≡ record s { last = n; settled = s.settled ++ r ∷ [] } → SameHome s1 t → SameNotes s1 t → ((k : List PoolItem) → Fits s1 k → Serves s1 t n before after k) → reply ≡ outcome_now s r
     → Accepts s t before after n (GiveUp r) reply xs (gave_up r ∷ xs)
 late-accepts s s1 t before after n r reply xs z over s1_is home notes serves reply_is =
-    let gone : is_some (end_of xs r) ≡ true = ap is_some (z.matches.ends r) ∙ over in
+    let gone : is_some (end_of xs r) ≡ true = ap is_some (z.matches.requests.ends r) ∙ over in
     accepts s s1 t t before before after n (GiveUp r) reply [] xs (gave_up r ∷ xs)
     (rw gone refl)
     (sym (append-nil before)) (rw s1_is (record { pool = refl; address = refl; options = refl })) (rw s1_is (late-fits s xs z n r (s.settled ++ r ∷ []) (some-end (request_at s r) over))) serves

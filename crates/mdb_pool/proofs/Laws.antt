@@ -1,23 +1,26 @@
 -- The serving is fair, and leaves nobody who could be served.
-use Rattle.std.proofs.Common.{ℕ, zero, suc, ◌≡◌, ◌+◌, ◌<◌, ◌≤◌, Bool, true, false, not, ◌&&◌, ◌||◌, List, [], ◌∷◌, ◌++◌, length, filter, Option, Some, None, ◌⊎◌, inl, inr, refl, sym, ◌∙◌, ap, subst, arith, if◌then◌else◌}
+use Rattle.std.proofs.Common.{ℕ, zero, suc, ◌≡◌, ◌+◌, ◌-◌, ◌<◌, ◌≤◌, Bool, true, false, not, ◌&&◌, ◌||◌, List, [], ◌∷◌, ◌++◌, length, filter, Option, Some, None, ◌⊎◌, inl, inr, refl, sym, ◌∙◌, ap, subst, arith, if◌then◌else◌}
 use Rattle.mdb_base.specs.declared.address.ServerAddress.{ServerAddress}
 use Rattle.mdb_events.specs.declared.fact.Fact.{Fact}
 use Rattle.mdb_events.specs.declared.fact.Fact.TheVariants.{Granted, Ended}
 use Rattle.mdb_events.specs.declared.end.End.TheVariants.{Warmed}
 use Rattle.mdb_events.specs.declared.reasons.ConnectionClosedReason.{ConnectionClosedReason}
 use Rattle.mdb_events.specs.declared.reasons.ConnectionClosedReason.TheVariants.{Stale, Idle}
-use Rattle.mdb_pool.specs.declared.options.PoolOptions.{PoolOptions}
-use Rattle.mdb_pool.specs.History.{PoolItem, after_fact, after_facts, without}
-use Rattle.mdb_pool.specs.Connections.{has, created_total, available_list}
-use Rattle.mdb_pool.specs.State.{is_stale, state_of, ready, may_create, could_be_granted, is_empty, is_idle}
-use Rattle.mdb_pool.specs.Requests.{queued, is_warm}
+use Rattle.mdb_log.specs.declared.options.PoolOptions.{PoolOptions}
+use Rattle.mdb_log.specs.History.{PoolItem, after_fact, after_facts, without}
+use Rattle.mdb_log.specs.Connections.{has, created_total, available_list, known_service}
+use Rattle.mdb_log.specs.State.{is_stale, state_of, ready, may_create, could_be_granted, is_empty, is_idle}
+use Rattle.mdb_log.specs.Requests.{queued, is_warm, asked_at}
 use Rattle.mdb_pool.specs.Serving.{last_of, is_blocked, candidate, next_move, serve, serving, creation, wants_connection}
 use Rattle.mdb_pool.specs.Facts.{closed_fact, checked_out_fact}
-use Rattle.mdb_pool.specs.Legal.{NoneLeftWaiting, IsNext, AllFirstCome, AllOwn, first, is_closing, shuts}
+use Rattle.mdb_log.specs.Legal.{NoneLeftWaiting, IsNext, AllFirstCome, first}
+use Rattle.mdb_log.specs.Own.{AllOwn, is_closing, shuts}
 use Rattle.mdb_pool.proofs.Tables.{length-without, length-without_has}
-use Rattle.mdb_pool.proofs.Serving.{after-append, serve-nothing}
-use Rattle.mdb_pool.proofs.Numbers.{same-number, last_of-has, last_of-none}
-use Rattle.mdb_pool.proofs.Pins.{queued-asked}
+use Rattle.mdb_pool.proofs.Serving.{serve-nothing}
+use Rattle.mdb_log.proofs.Later.{after-append}
+use Rattle.mdb_log.proofs.Numbers.{same-number}
+use Rattle.mdb_pool.proofs.Lasts.{last_of-has, last_of-none}
+use Rattle.mdb_log.proofs.Pins.{queued-asked}
 use Rattle.std.proofs.Math.Bool.{and-false, or-false}
 
 module _ (p : ℕ) (a : ServerAddress) (o : PoolOptions) (n : ℕ) where
@@ -59,8 +62,8 @@ module _ (p : ℕ) (a : ServerAddress) (o : PoolOptions) (n : ℕ) where
   -- the kinds of moves
   pub data Move (xs : List PoolItem) : Type 0 where
     nothing : next_move p a o n xs ≡ [] → NoneLeftWaiting o xs → Move xs
-    closing : (c : ℕ) (why : ConnectionClosedReason) → next_move p a o n xs ≡ closed_fact p a xs c why ∷ [] → has c (available_list xs) ≡ true → Move xs
-    granting : (r c : ℕ) → next_move p a o n xs ≡ Granted r p c ∷ checked_out_fact p a n xs r c ∷ [] → has r (queued xs) ≡ true → IsNext xs r → Move xs
+    closing : (c : ℕ) (why : ConnectionClosedReason) → next_move p a o n xs ≡ closed_fact p a c why (known_service xs c) ∷ [] → has c (available_list xs) ≡ true → Move xs
+    granting : (r c : ℕ) → next_move p a o n xs ≡ Granted r p c ∷ checked_out_fact p a c (n - asked_at xs r) ∷ [] → has r (queued xs) ≡ true → IsNext xs r → Move xs
     creating : (r : ℕ) → next_move p a o n xs ≡ creation p a xs r → has r (queued xs) ≡ true → IsNext xs r → Move xs
     warming : (r : ℕ) → next_move p a o n xs ≡ Ended r Warmed ∷ [] → has r (queued xs) ≡ true → Move xs
 
@@ -182,11 +185,6 @@ module _ (p : ℕ) (a : ServerAddress) (o : PoolOptions) (n : ℕ) where
 
   pub serving-settles : (xs : List PoolItem) → NoneLeftWaiting o (after_facts p n (serving p a o n xs) xs)
   serving-settles xs = serve-settles (size xs) xs (omega arith)
-
--- the own facts come first
-pub own-prefix : (p n : ℕ) (fs gs : List Fact) (xs : List PoolItem) → AllOwn p n xs (fs ++ gs) → AllOwn p n xs fs
-own-prefix p n [] gs xs i = tt
-own-prefix p n (f ∷ fs) gs xs i = (i.0, own-prefix p n fs gs (after_fact p n f xs) i.1)
 
 no-warm-filter : (xs : List PoolItem) → ((r : ℕ) → is_warm xs r ≡ false) → (rs : List ℕ) → filter (λ r. not (is_warm xs r)) rs ≡ rs
 no-warm-filter xs w [] = refl

@@ -1,9 +1,5 @@
 mod Rows
-pub mod Bools
-pub mod Numbers
 pub mod Tables
-pub mod Pins
-pub mod Addresses
 pub mod Moves
 mod Opened
 pub mod MovesBack
@@ -16,7 +12,6 @@ pub mod PinStands
 pub mod Found
 pub mod Staleness
 pub mod Serving
-pub mod Frame
 pub mod Calls
 pub mod Served
 pub mod CheckIns
@@ -29,6 +24,7 @@ pub mod Overs
 pub mod EstablishedActs
 pub mod ReturnedActs
 pub mod Places
+pub mod Lasts
 pub mod Laws
 pub mod Runs
 pub mod CollectedActs

@@ -12,27 +12,26 @@ use Rattle.mdb_events.specs.declared.end.End.TheVariants.{Closed, GaveUp}
 use Rattle.mdb_events.specs.declared.reasons.ConnectionClosedReason.TheVariants.{Error as ErrorReason, PoolClosed as PoolClosedReason}
 use Rattle.mdb_events.specs.declared.fact.Fact.{Fact}
 use Rattle.mdb_events.specs.declared.fact.Fact.TheVariants as fact
-use Rattle.mdb_pool.specs.declared.options.PoolOptions.{PoolOptions}
-use Rattle.mdb_pool.specs.declared.step.Step.{Step}
-use Rattle.mdb_pool.specs.declared.step.Act.{Act}
-use Rattle.mdb_pool.specs.declared.step.Act.TheVariants as act
-use Rattle.mdb_pool.specs.declared.step.FailedAt.TheVariants as at
-use Rattle.mdb_pool.specs.declared.reply.Reply.{Reply}
-use Rattle.mdb_pool.specs.declared.reply.Reply.TheVariants as reply
-use Rattle.mdb_pool.specs.declared.reply.Refused.{Refused}
-use Rattle.mdb_pool.specs.History.{Item, did, PoolItem, asked, warmed, gave_up, returned, pinned_by, established, failed, replicated, taken, unpinned, created, closed, checked_in, granted, ended, raised, pool_created, pool_ready, pool_closed, if_so, after_act, after_fact, after_facts, of_pool, open_pool, with_answer, is_number, given, has_asked}
-use Rattle.mdb_pool.specs.Connections.{has, live_total, created_total, pending_list, available_list, holding, pins, is_pinned, granted_to}
-use Rattle.mdb_pool.specs.Legal.{IsAccepted}
-use Rattle.mdb_pool.proofs.Acts.{with_answer-accepted}
-use Rattle.mdb_pool.specs.Requests.{outcome_of, is_claimed, requests, queued, is_warm, end_of, is_unserved}
-use Rattle.mdb_pool.specs.State.{State, is_new, is_ready, is_paused, is_closed, state_of, ready, min_size, max_size, max_connecting, may_create}
+use Rattle.mdb_log.specs.declared.options.PoolOptions.{PoolOptions}
+use Rattle.mdb_log.specs.declared.step.Step.{Step}
+use Rattle.mdb_log.specs.declared.step.Act.{Act}
+use Rattle.mdb_log.specs.declared.step.Act.TheVariants as act
+use Rattle.mdb_log.specs.declared.step.FailedAt.TheVariants as at
+use Rattle.mdb_log.specs.declared.reply.Reply.{Reply}
+use Rattle.mdb_log.specs.declared.reply.Reply.TheVariants as reply
+use Rattle.mdb_log.specs.declared.reply.Refused.{Refused}
+use Rattle.mdb_log.specs.History.{Item, did, PoolItem, asked, warmed, gave_up, returned, pinned_by, established, failed, replicated, taken, unpinned, created, closed, checked_in, granted, ended, raised, pool_created, pool_ready, pool_closed, if_so, after_act, after_fact, after_facts, of_pool, open_pool, with_answer, is_number, given, has_asked, with_act}
+use Rattle.mdb_log.specs.Connections.{has, live_total, created_total, pending_list, available_list, holding, pins, is_pinned, granted_to, known_service}
+use Rattle.mdb_log.specs.Own.{IsAccepted}
+use Rattle.mdb_log.proofs.Later.{with_answer-accepted, of_pool-with_facts}
+use Rattle.mdb_log.specs.Requests.{outcome_of, is_claimed, requests, queued, is_warm, end_of, is_unserved}
+use Rattle.mdb_log.specs.State.{State, is_new, is_ready, is_paused, is_closed, state_of, ready, min_size, max_size, max_connecting, may_create}
 use Rattle.mdb_pool.specs.Facts.{closed_fact, closes, check_in, come_back, hand_over, fail_requester, sweep, fill, clear_facts, close_facts, turned_away, readied, act_facts, end_facts, all_ends, close_reason, perished}
 use Rattle.mdb_pool.specs.Serving.{last_of, is_blocked, candidate, next_move, serve, wants_connection}
 use Rattle.mdb_pool.specs.Refusal.{refusal_of}
-use Rattle.mdb_pool.specs.Answer.{first_job, reply_of, all_facts, answer, with_act}
-use Rattle.mdb_pool.specs.Limits.{IsWithin, WithinLimits}
+use Rattle.mdb_pool.specs.Answer.{first_job, reply_of, all_facts, answer}
+use Rattle.mdb_log.specs.Limits.{IsWithin, WithinLimits}
 use Rattle.mdb_pool.proofs.Tables.{length-without}
-use Rattle.mdb_pool.proofs.Serving.{of_pool-with_facts}
 
 -- there is room for one more connection
 record HasRoom (o : PoolOptions) (xs : List PoolItem) : Type 0 where
@@ -270,15 +269,15 @@ module _ (p : ℕ) (a : ServerAddress) (o : PoolOptions) (m : ℕ) where
       on (is_paused cause) (Some t) e = rw e (tt, (tt, tt))
       on is_closed service e = rw e tt
 
-  map-quiet : (xs : List PoolItem) (why : ConnectionClosedReason) (cs : List ℕ) → AreQuiet (map (λ c. closed_fact p a xs c why) cs)
+  map-quiet : (xs : List PoolItem) (why : ConnectionClosedReason) (cs : List ℕ) → AreQuiet (map (λ c. closed_fact p a c why (known_service xs c)) cs)
   map-quiet xs why [] = tt
   map-quiet xs why (c ∷ cs) = (tt, map-quiet xs why cs)
 
   close-quiet : (xs : List PoolItem) → AreQuiet (close_facts p a o m xs)
   close-quiet xs = on (state_of o xs) refl
     where
-      shut : (s : State) → AreQuiet (map (λ c. closed_fact p a xs c PoolClosedReason) (available_list xs ++ pending_list xs) ++ all_ends p a m xs Closed (filter (is_unserved xs) (requests xs)) ++ fact.Pool p (event.PoolClosed (record { address = a })) ∷ [])
-      shut s = quiet-append (map (λ c. closed_fact p a xs c PoolClosedReason) (available_list xs ++ pending_list xs) ++ all_ends p a m xs Closed (filter (is_unserved xs) (requests xs))) _
+      shut : (s : State) → AreQuiet (map (λ c. closed_fact p a c PoolClosedReason (known_service xs c)) (available_list xs ++ pending_list xs) ++ all_ends p a m xs Closed (filter (is_unserved xs) (requests xs)) ++ fact.Pool p (event.PoolClosed (record { address = a })) ∷ [])
+      shut s = quiet-append (map (λ c. closed_fact p a c PoolClosedReason (known_service xs c)) (available_list xs ++ pending_list xs) ++ all_ends p a m xs Closed (filter (is_unserved xs) (requests xs))) _
           (quiet-append _ _ (map-quiet xs PoolClosedReason (available_list xs ++ pending_list xs)) (ends-quiet xs Closed (filter (is_unserved xs) (requests xs)))) (tt, tt)
 
       on : (s : State) → state_of o xs ≡ s → AreQuiet (close_facts p a o m xs)
@@ -307,7 +306,7 @@ module _ (p : ℕ) (a : ServerAddress) (o : PoolOptions) (m : ℕ) where
   act-roomy xs ys (act.Warm r b) = quiet-roomy o p m _ ys (away-quiet ys r)
   act-roomy xs ys (act.GiveUp r) = quiet-roomy o p m _ ys (quiet-if (is_some (end_of xs r)) [] (fact.Ended r GaveUp ∷ come_back p a o ys (holding xs r)) tt (tt, come_back-quiet ys (holding xs r)))
   act-roomy xs ys (act.Established q c how) = (tt, quiet-roomy o p m (hand_over p a o m ys c (granted_to ys c)) ys (hand-quiet ys c (granted_to ys c)))
-  act-roomy xs ys (act.Failed q c at error) = quiet-roomy o p m (closed_fact p a ys c ErrorReason ∷ fail_requester p a o m ys error (granted_to ys c)) ys (tt, fail-quiet ys error (granted_to ys c))
+  act-roomy xs ys (act.Failed q c at error) = quiet-roomy o p m (closed_fact p a c ErrorReason (known_service ys c) ∷ fail_requester p a o m ys error (granted_to ys c)) ys (tt, fail-quiet ys error (granted_to ys c))
   act-roomy xs ys (act.Return r used) = quiet-roomy o p m _ ys (come_back-quiet ys (holding xs r))
   act-roomy xs ys (act.Unpin q c) = quiet-roomy o p m _ ys (quiet-if (is_pinned xs c && (pins ys c == 0)) (check_in p a o ys c) [] (check_in-quiet ys c) tt)
   act-roomy xs ys (act.Maintain b) =

@@ -3,22 +3,22 @@ use Rattle.std.proofs.Common.{ℕ, ◌≡◌, ◌≤◌, true, false, ◌||◌, 
 use Rattle.mdb_base.specs.declared.address.ServerAddress.{ServerAddress}
 use Rattle.mdb_base.specs.Equality.{same_address}
 use Rattle.mdb_events.specs.declared.fact.Fact.{Fact}
-use Rattle.mdb_pool.specs.declared.step.Act.TheVariants.{Maintain as MaintainAct}
-use Rattle.mdb_pool.specs.declared.reply.Refused.TheVariants.{UnknownServer}
-use Rattle.mdb_pool.specs.declared.reply.Reply.{Reply}
-use Rattle.mdb_pool.specs.declared.reply.Reply.TheVariants.{Done, Refused as RefusedBy}
+use Rattle.mdb_log.specs.declared.step.Act.TheVariants.{Maintain as MaintainAct}
+use Rattle.mdb_log.specs.declared.reply.Refused.TheVariants.{UnknownServer}
+use Rattle.mdb_log.specs.declared.reply.Reply.{Reply}
+use Rattle.mdb_log.specs.declared.reply.Reply.TheVariants.{Done, Refused as RefusedBy}
 use Rattle.mdb_pool.specs.declared.pool_core.PoolCore.{PoolCore}
-use Rattle.mdb_pool.specs.History.{Item, PoolItem, of_pool, after_facts}
-use Rattle.mdb_pool.specs.Connections.{has, available_list}
-use Rattle.mdb_pool.specs.State.{min_size}
+use Rattle.mdb_log.specs.History.{Item, PoolItem, of_pool, after_facts}
+use Rattle.mdb_log.specs.Connections.{has, available_list}
+use Rattle.mdb_log.specs.State.{min_size}
 use Rattle.mdb_pool.specs.Facts.{sweep, fill}
-use Rattle.mdb_pool.specs.Legal.{shuts}
+use Rattle.mdb_log.specs.Own.{shuts}
 use Rattle.mdb_pool.specs.Kept.{is_shut}
 use Rattle.mdb_pool.specs.Standing.{Fits, StandsFor, Serves, Sweeps, Fills, Accepts, Answers, SameHome, SameNotes}
 use Rattle.mdb_pool.proofs.Acts.{refuses, accepts, own-answers, not-back}
-use Rattle.mdb_pool.proofs.Addresses.{own-address}
-use Rattle.mdb_pool.proofs.Numbers.{same-number}
-use Rattle.mdb_pool.proofs.Serving.{after-append}
+use Rattle.mdb_log.proofs.Addresses.{own-address}
+use Rattle.mdb_log.proofs.Numbers.{same-number}
+use Rattle.mdb_log.proofs.Later.{after-append}
 use Rattle.mdb_pool.proofs.Stands.{later-fits}
 use Rattle.mdb_pool.proofs.Laws.{fair-append, own-append, shut-append}
 use Rattle.mdb_pool.proofs.Maintains.{sweep-fair, sweep-own, sweep-open, fill-fair, fill-own, fill-open}

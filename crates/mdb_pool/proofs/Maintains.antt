@@ -5,26 +5,28 @@ use Rattle.std.proofs.lemmas.Bool.Decides.{nat_tests}
 use Rattle.mdb_base.specs.declared.address.ServerAddress.{ServerAddress}
 use Rattle.mdb_events.specs.declared.fact.Fact.{Fact}
 use Rattle.mdb_events.specs.declared.reasons.ConnectionClosedReason.{ConnectionClosedReason}
-use Rattle.mdb_pool.specs.declared.options.PoolOptions.{PoolOptions}
+use Rattle.mdb_log.specs.declared.options.PoolOptions.{PoolOptions}
 use Rattle.mdb_pool.specs.declared.connection.Connection.{Connection}
 use Rattle.mdb_pool.specs.declared.connection.Place.TheVariants.{Available}
 use Rattle.mdb_pool.specs.declared.pool_core.PoolCore.{PoolCore}
-use Rattle.mdb_pool.specs.History.{PoolItem, created, closed, without, after_facts}
-use Rattle.mdb_pool.specs.Connections.{live_total, created_total, pending_list, available_list, known_service}
-use Rattle.mdb_pool.specs.State.{state_of, ready, min_size, max_connecting}
-use Rattle.mdb_pool.specs.Facts.{created_fact, closes, perished, sweep, fill}
+use Rattle.mdb_log.specs.History.{PoolItem, created, closed, without, after_facts}
+use Rattle.mdb_log.specs.Connections.{live_total, created_total, pending_list, available_list, known_service}
+use Rattle.mdb_log.specs.State.{state_of, ready, min_size, max_connecting}
+use Rattle.mdb_pool.specs.Facts.{created_fact, closes, perished, sweep, fill, closed_fact}
 use Rattle.mdb_pool.specs.Kept.{connection_at, ids_where, perished_now, first_perished, fills_now, pending_count, is_ready_now}
-use Rattle.mdb_pool.specs.Changes.{discarding, spawning, shut_fact, new_fact}
+use Rattle.mdb_pool.specs.Changes.{discarding, spawning}
 use Rattle.mdb_pool.specs.Places.{is_available, is_pending}
-use Rattle.mdb_pool.specs.Legal.{AllFirstCome, AllOwn, shuts}
+use Rattle.mdb_log.specs.Legal.{AllFirstCome}
+use Rattle.mdb_log.specs.Own.{AllOwn, shuts}
 use Rattle.mdb_pool.specs.Standing.{Fits, SameHome, Sweeps, Fills}
 use Rattle.mdb_pool.proofs.Tables.{In, here, there, named, member-at, member-has, find-member, one_if-le, has-none, without-absent, length-without_has, map-filter-others, length-where}
 use Rattle.mdb_pool.proofs.Found.{is-available, perished-at}
 use Rattle.mdb_pool.proofs.Staleness.{ready-is}
 use Rattle.mdb_pool.proofs.Stands.{discard-fits, spawn-fits}
-use Rattle.mdb_pool.proofs.Bools.{both-left, both-right}
-use Rattle.mdb_pool.proofs.Numbers.{same-number}
-use Rattle.mdb_pool.proofs.Serving.{after-append, perished-is}
+use Rattle.mdb_log.proofs.Bools.{both-left, both-right}
+use Rattle.mdb_log.proofs.Numbers.{same-number}
+use Rattle.mdb_pool.proofs.Serving.{perished-is}
+use Rattle.mdb_log.proofs.Later.{after-append}
 use Rattle.mdb_pool.proofs.Acts.{live-service}
 
 abbrev id_of : Connection → ℕ
@@ -67,11 +69,11 @@ module _ (t : PoolCore) (ys : List PoolItem) (z : Fits t ys) (n : ℕ) where
 
   -- what is left is closed after the first
   abbrev Leads : Connection → ConnectionClosedReason → List Connection → Type 0
-  Leads x why cs = swept cs ≡ shut_fact t x why ∷ sweep t.pool t.address t.options n (closed x.id ∷ ys) (without x.id (ids_where is_available cs))
+  Leads x why cs = swept cs ≡ closed_fact t.pool t.address x.id why x.service ∷ sweep t.pool t.address t.options n (closed x.id ∷ ys) (without x.id (ids_where is_available cs))
 
   -- the first that has perished is closed first
   sweep-first : (x : Connection) (why : ConnectionClosedReason) → connection_at t x.id ≡ Some x → perished_now t n x ≡ Some why → (cs : List Connection) → ((y : Connection) → In y cs → connection_at t y.id ≡ Some y) → named id_of x.id cs ≤ 1 → find test cs ≡ Some x
-      → swept cs ≡ shut_fact t x why ∷ sweep t.pool t.address t.options n (closed x.id ∷ ys) (without x.id (ids_where is_available cs))
+      → swept cs ≡ closed_fact t.pool t.address x.id why x.service ∷ sweep t.pool t.address t.options n (closed x.id ∷ ys) (without x.id (ids_where is_available cs))
   sweep-first x why at_x old [] at once e = cc
   sweep-first x why at_x old (y ∷ cs) at once e = on (is_available y.place) (perished_now t n y) refl refl (sweep-first x why at_x old cs (λ k i. at k (there i)) fewer)
     where
@@ -109,7 +111,7 @@ module _ (t : PoolCore) (ys : List PoolItem) (z : Fits t ys) (n : ℕ) where
           let service : known_service ys y.id ≡ x.service = live-service t ys z.matches y.id y (at y here) ∙ ap (λ k. k.service) w in
           let none : named id_of x.id cs ≡ 0 = alone w in
           let gone : without x.id (y.id ∷ ids_where is_available cs) ≡ ids_where is_available cs = taken id_is ∙ without-absent x.id (ids_where is_available cs) (has-none id_of (λ k. is_available k.place) x.id cs none) in
-          rw (f, gone, u, service, id_is) (ap (λ fs. shut_fact t x why ∷ fs) (sym (sweep-closed t.pool t.address t.options n x.id ys (ids_where is_available cs))))
+          rw (f, gone, u, service, id_is) (ap (λ fs. closed_fact t.pool t.address x.id why x.service ∷ fs) (sym (sweep-closed t.pool t.address t.options n x.id ys (ids_where is_available cs))))
         where
           found : test y ≡ true → find test (y ∷ cs) ≡ Some y
           found k = rw k refl
@@ -124,23 +126,23 @@ module _ (t : PoolCore) (ys : List PoolItem) (z : Fits t ys) (n : ℕ) where
           taken i = let s : (y.id == x.id) ≡ true = grind arith in rw s refl
 
   members : (x : Connection) → In x t.connections → connection_at t x.id ≡ Some x
-  members x i = member-at id_of x t.connections i (rw (z.matches.single x.id) (one_if-le (is_some (connection_at t x.id))))
+  members x i = member-at id_of x t.connections i (rw (z.matches.counts.single x.id) (one_if-le (is_some (connection_at t x.id))))
 
   nothing-perished : first_perished t n ≡ None → sweep t.pool t.address t.options n ys (available_list ys) ≡ []
-  nothing-perished e = ap (sweep t.pool t.address t.options n ys) z.matches.available ∙ sweep-none t.connections members e
+  nothing-perished e = ap (sweep t.pool t.address t.options n ys) z.matches.counts.available ∙ sweep-none t.connections members e
 
-  one-perished : (x : Connection) (why : ConnectionClosedReason) → first_perished t n ≡ Some x → perished_now t n x ≡ Some why → sweep t.pool t.address t.options n ys (available_list ys) ≡ shut_fact t x why ∷ sweep t.pool t.address t.options n (closed x.id ∷ ys) (available_list (closed x.id ∷ ys))
+  one-perished : (x : Connection) (why : ConnectionClosedReason) → first_perished t n ≡ Some x → perished_now t n x ≡ Some why → sweep t.pool t.address t.options n ys (available_list ys) ≡ closed_fact t.pool t.address x.id why x.service ∷ sweep t.pool t.address t.options n (closed x.id ∷ ys) (available_list (closed x.id ∷ ys))
   one-perished x why e f =
       let at_x : connection_at t x.id ≡ Some x = (perished-at t ys z.matches n x e).0 in
-      ap (sweep t.pool t.address t.options n ys) z.matches.available
-      ∙ (sweep-first x why at_x f t.connections members (rw (z.matches.single x.id) (one_if-le (is_some (connection_at t x.id)))) e
-      ∙ ap (λ cs. shut_fact t x why ∷ sweep t.pool t.address t.options n (closed x.id ∷ ys) (without x.id cs)) (sym z.matches.available))
+      ap (sweep t.pool t.address t.options n ys) z.matches.counts.available
+      ∙ (sweep-first x why at_x f t.connections members (rw (z.matches.counts.single x.id) (one_if-le (is_some (connection_at t x.id)))) e
+      ∙ ap (λ cs. closed_fact t.pool t.address x.id why x.service ∷ sweep t.pool t.address t.options n (closed x.id ∷ ys) (without x.id cs)) (sym z.matches.counts.available))
 
   -- whether maintenance creates one more
   fills-is : (ready (state_of t.options ys) && (nat_lt (live_total ys) (min_size t.options) && (nat_lt (length (pending_list ys)) (max_connecting t.options) && nat_lt (created_total ys) t.options.limit_id))) ≡ fills_now t
   fills-is =
-      let pending : length (pending_list ys) ≡ pending_count t = ap length z.matches.pending ∙ length-where id_of (λ x. is_pending x.place) t.connections in
-      rw (z.matches.status, ready-is t.status, z.matches.live_all, pending, z.matches.created) refl
+      let pending : length (pending_list ys) ≡ pending_count t = ap length z.matches.counts.pending ∙ length-where id_of (λ x. is_pending x.place) t.connections in
+      rw (z.matches.clearing.status, ready-is t.status, z.matches.counts.live_all, pending, z.matches.counts.created) refl
 
 -- how far the closes are
 pub record Sweeping (s t : PoolCore) (n : ℕ) (before after : List Fact) (xs : List PoolItem) : Type 0 where
@@ -168,18 +170,18 @@ module _ (s t : PoolCore) (home : SameHome s t) (n : ℕ) (before after : List F
         fits = subst (λ k. Fits t (after_facts s.pool n k xs)) (sym all) g.fits;
       }
 
-  pub sweep-more : (u : PoolCore) (facts : List Fact) (x : Connection) (why : ConnectionClosedReason) → first_perished t n ≡ Some x → perished_now t n x ≡ Some why → u ≡ discarding t x → facts ≡ after ++ shut_fact t x why ∷ [] → Sweeping s u n before facts xs
+  pub sweep-more : (u : PoolCore) (facts : List Fact) (x : Connection) (why : ConnectionClosedReason) → first_perished t n ≡ Some x → perished_now t n x ≡ Some why → u ≡ discarding t x → facts ≡ after ++ closed_fact t.pool t.address x.id why x.service ∷ [] → Sweeping s u n before facts xs
   sweep-more u facts x why e f new added =
       let at_x : (connection_at t x.id ≡ Some x) × (x.place ≡ Available) × (is_some (perished_now t n x) ≡ true) = perished-at t ys g.fits.matches n x e in
-      let one : sweep s.pool s.address s.options n ys (available_list ys) ≡ shut_fact t x why ∷ sweep s.pool s.address s.options n (closed x.id ∷ ys) (available_list (closed x.id ∷ ys)) =
-      sym (here-swept ys (available_list ys)) ∙ (one-perished t ys g.fits n x why e f ∙ ap (λ fs. shut_fact t x why ∷ fs) (here-swept (closed x.id ∷ ys) (available_list (closed x.id ∷ ys)))) in
-      let heard : after_facts s.pool n (shut_fact t x why ∷ []) ys ≡ closed x.id ∷ ys = rw (home.pool, same-number s.pool) refl in
-      let known : after_facts s.pool n (g.done ++ shut_fact t x why ∷ []) xs ≡ closed x.id ∷ ys = after-append s.pool n g.done (shut_fact t x why ∷ []) xs ∙ heard in
+      let one : sweep s.pool s.address s.options n ys (available_list ys) ≡ closed_fact t.pool t.address x.id why x.service ∷ sweep s.pool s.address s.options n (closed x.id ∷ ys) (available_list (closed x.id ∷ ys)) =
+      sym (here-swept ys (available_list ys)) ∙ (one-perished t ys g.fits n x why e f ∙ ap (λ fs. closed_fact t.pool t.address x.id why x.service ∷ fs) (here-swept (closed x.id ∷ ys) (available_list (closed x.id ∷ ys)))) in
+      let heard : after_facts s.pool n (closed_fact t.pool t.address x.id why x.service ∷ []) ys ≡ closed x.id ∷ ys = rw (home.pool, same-number s.pool) refl in
+      let known : after_facts s.pool n (g.done ++ closed_fact t.pool t.address x.id why x.service ∷ []) xs ≡ closed x.id ∷ ys = after-append s.pool n g.done (closed_fact t.pool t.address x.id why x.service ∷ []) xs ∙ heard in
       record {
-        done = g.done ++ shut_fact t x why ∷ [];
-        facts = added ∙ (ap (λ k. k ++ shut_fact t x why ∷ []) g.facts ∙ append_assoc before g.done (shut_fact t x why ∷ []));
+        done = g.done ++ closed_fact t.pool t.address x.id why x.service ∷ [];
+        facts = added ∙ (ap (λ k. k ++ closed_fact t.pool t.address x.id why x.service ∷ []) g.facts ∙ append_assoc before g.done (closed_fact t.pool t.address x.id why x.service ∷ []));
         fits = subst (Fits u) (sym known) (rw new (discard-fits t ys g.fits n x at_x.0 at_x.1));
-        rest = g.rest ∙ (ap (λ k. g.done ++ k) one ∙ (sym (append_assoc g.done (shut_fact t x why ∷ []) (sweep s.pool s.address s.options n (closed x.id ∷ ys) (available_list (closed x.id ∷ ys)))) ∙ ap (λ k. (g.done ++ shut_fact t x why ∷ []) ++ sweep s.pool s.address s.options n k (available_list k)) (sym known)));
+        rest = g.rest ∙ (ap (λ k. g.done ++ k) one ∙ (sym (append_assoc g.done (closed_fact t.pool t.address x.id why x.service ∷ []) (sweep s.pool s.address s.options n (closed x.id ∷ ys) (available_list (closed x.id ∷ ys)))) ∙ ap (λ k. (g.done ++ closed_fact t.pool t.address x.id why x.service ∷ []) ++ sweep s.pool s.address s.options n k (available_list k)) (sym known)));
       }
 
 -- one that is available goes with each close
@@ -228,7 +230,7 @@ module _ (s t : PoolCore) (home : SameHome s t) (n : ℕ) (before after : List F
         fits = subst (λ k. Fits t (after_facts s.pool n k xs)) (sym all) g.fits;
       }
 
-  pub fill-more : (u : PoolCore) (facts : List Fact) → fills_now t ≡ true → u ≡ spawning t n → facts ≡ after ++ new_fact t (t.created + 1) ∷ [] → Filling s u n before facts xs
+  pub fill-more : (u : PoolCore) (facts : List Fact) → fills_now t ≡ true → u ≡ spawning t n → facts ≡ after ++ created_fact t.pool t.address (t.created + 1) ∷ [] → Filling s u n before facts xs
   fill-more u facts e new added = on g.left g.rest g.enough
     where
       few : live_total zs < min_size s.options
@@ -245,27 +247,27 @@ module _ (s t : PoolCore) (home : SameHome s t) (n : ℕ) (before after : List F
               less i k h = grind (arith, nat_tests)
           second-test false i k b f = cc
 
-      fact_is : created_fact s.pool s.address (created_total zs + 1) ≡ new_fact t (t.created + 1)
-      fact_is = rw (g.fits.matches.created, home.pool, home.address) refl
+      fact_is : created_fact s.pool s.address (created_total zs + 1) ≡ created_fact t.pool t.address (t.created + 1)
+      fact_is = rw (g.fits.matches.counts.created, home.pool, home.address) refl
 
-      heard : after_facts s.pool n (new_fact t (t.created + 1) ∷ []) zs ≡ created (t.created + 1) n ∷ zs
+      heard : after_facts s.pool n (created_fact t.pool t.address (t.created + 1) ∷ []) zs ≡ created (t.created + 1) n ∷ zs
       heard = rw (home.pool, same-number s.pool) refl
 
-      known : after_facts s.pool n (g.done ++ new_fact t (t.created + 1) ∷ []) xs ≡ created (t.created + 1) n ∷ zs
-      known = after-append s.pool n g.done (new_fact t (t.created + 1) ∷ []) xs ∙ heard
+      known : after_facts s.pool n (g.done ++ created_fact t.pool t.address (t.created + 1) ∷ []) xs ≡ created (t.created + 1) n ∷ zs
+      known = after-append s.pool n g.done (created_fact t.pool t.address (t.created + 1) ∷ []) xs ∙ heard
 
       on : (left : ℕ) → fill s.pool s.address s.options n (min_size s.options) xs ≡ g.done ++ fill s.pool s.address s.options n left zs → min_size s.options ≤ live_total zs + left → Filling s u n before facts xs
       on zero rest enough = let f : live_total zs < min_size s.options = few in absurd (omega arith)
       on (suc left) rest enough =
-          let one : fill s.pool s.address s.options n (suc left) zs ≡ new_fact t (t.created + 1) ∷ fill s.pool s.address s.options n left (after_facts s.pool n (new_fact t (t.created + 1) ∷ []) zs) =
+          let one : fill s.pool s.address s.options n (suc left) zs ≡ created_fact t.pool t.address (t.created + 1) ∷ fill s.pool s.address s.options n left (after_facts s.pool n (created_fact t.pool t.address (t.created + 1) ∷ []) zs) =
           fill-one s.pool s.address s.options n left zs (may-is ∙ e) ∙ ap (λ f. f ∷ fill s.pool s.address s.options n left (after_facts s.pool n (f ∷ []) zs)) fact_is in
-          let after_one : after_facts s.pool n (new_fact t (t.created + 1) ∷ []) zs ≡ after_facts s.pool n (g.done ++ new_fact t (t.created + 1) ∷ []) xs = heard ∙ sym known in
+          let after_one : after_facts s.pool n (created_fact t.pool t.address (t.created + 1) ∷ []) zs ≡ after_facts s.pool n (g.done ++ created_fact t.pool t.address (t.created + 1) ∷ []) xs = heard ∙ sym known in
           record {
-            done = g.done ++ new_fact t (t.created + 1) ∷ [];
+            done = g.done ++ created_fact t.pool t.address (t.created + 1) ∷ [];
             left = left;
-            facts = added ∙ (ap (λ k. k ++ new_fact t (t.created + 1) ∷ []) g.facts ∙ append_assoc before g.done (new_fact t (t.created + 1) ∷ []));
+            facts = added ∙ (ap (λ k. k ++ created_fact t.pool t.address (t.created + 1) ∷ []) g.facts ∙ append_assoc before g.done (created_fact t.pool t.address (t.created + 1) ∷ []));
             fits = subst (Fits u) (sym known) (rw new (spawn-fits t zs g.fits n));
-            rest = rest ∙ (ap (λ k. g.done ++ k) (one ∙ ap (λ k. new_fact t (t.created + 1) ∷ fill s.pool s.address s.options n left k) after_one) ∙ sym (append_assoc g.done (new_fact t (t.created + 1) ∷ []) (fill s.pool s.address s.options n left (after_facts s.pool n (g.done ++ new_fact t (t.created + 1) ∷ []) xs))));
+            rest = rest ∙ (ap (λ k. g.done ++ k) (one ∙ ap (λ k. created_fact t.pool t.address (t.created + 1) ∷ fill s.pool s.address s.options n left k) after_one) ∙ sym (append_assoc g.done (created_fact t.pool t.address (t.created + 1) ∷ []) (fill s.pool s.address s.options n left (after_facts s.pool n (g.done ++ created_fact t.pool t.address (t.created + 1) ∷ []) xs))));
             enough = subst (λ k. min_size s.options ≤ live_total k + left) (sym known) (omega arith);
           }
 

@@ -10,16 +10,17 @@ use Rattle.mdb_pool.specs.declared.request.Request.{Request}
 use Rattle.mdb_pool.specs.declared.request.Phase.{Phase}
 use Rattle.mdb_pool.specs.declared.request.Phase.TheVariants.{Queued, Given, Over, Ended as EndedPhase}
 use Rattle.mdb_pool.specs.declared.pool_core.PoolCore.{PoolCore}
-use Rattle.mdb_pool.specs.History.{PoolItem, pool_closed, given}
-use Rattle.mdb_pool.specs.Connections.{one_if, has, live, live_total, pending_list, available_list, parties, service_of, known_service, is_errored, is_dropped, last_use, wire_of}
-use Rattle.mdb_pool.specs.Requests.{queued, end_of}
+use Rattle.mdb_log.specs.History.{PoolItem, pool_closed, given}
+use Rattle.mdb_log.specs.Connections.{one_if, has, live, live_total, pending_list, available_list, parties, service_of, known_service, is_errored, is_dropped, last_use, wire_of}
+use Rattle.mdb_log.specs.Requests.{queued, end_of}
 use Rattle.mdb_pool.specs.Kept.{connection_at, request_at, given_of, holder_at, service_at, end_at, asked_at_of, warm_of, one_party, numbers_where, is_pending_at, lasts, unserved_in, wire_at, pins_at, is_pinned_at, errored_at, dropped_at, is_asked_at, numbers_asked}
-use Rattle.mdb_pool.specs.Standing.{Matches, Fits}
+use Rattle.mdb_pool.specs.Standing.{Fits}
+use Rattle.mdb_pool.specs.Matching.{Matches}
 use Rattle.mdb_pool.specs.Keyed.{entry_at}
 use Rattle.mdb_pool.specs.Places.{is_pending, is_available, is_queued, stays}
 use Rattle.mdb_pool.specs.Changes.{closing, ended_request, available_ones, pending_ones, unserved_ones}
 use Rattle.mdb_pool.proofs.Tables.{named, passes, has-where, one_if-le}
-use Rattle.mdb_pool.proofs.Pins.{pinned-again}
+use Rattle.mdb_log.proofs.Pins.{pinned-again}
 use Rattle.mdb_pool.proofs.Closes.{closings, endings, Still, still-both, leave, leave-all, leave-none, leave-one, live-closings, total-closings, pending-closings, available-closings, queued-closings, parties-closings, given-closings, end-closings, live-endings, total-endings, pending-endings, available-endings, queued-endings, parties-endings, given-endings, end-endings, entry_at-filter, named-filter, filter-none}
 
 abbrev pub id_of : Connection → ℕ
@@ -121,7 +122,7 @@ module _ (s : PoolCore) (xs : List PoolItem) (m : Matches s xs) (n : ℕ) where
   still = still-both s.options ClosedEnd shut_ids over_numbers xs
 
   once : (c : ℕ) → named id_of c s.connections ≤ 1
-  once c = rw (m.single c) (one_if-le (is_some (connection_at s c)))
+  once c = rw (m.counts.single c) (one_if-le (is_some (connection_at s c)))
 
   abbrev kept_of : Option Connection → Option Connection
   kept_of o = if passes id_of is_kept o then o else None
@@ -134,14 +135,14 @@ module _ (s : PoolCore) (xs : List PoolItem) (m : Matches s xs) (n : ℕ) where
 
   -- which connections are closed, and which requests end
   shut-is : (c : ℕ) → has c shut_ids ≡ passes id_of (λ x. is_available x.place) (connection_at s c) || passes id_of (λ x. is_pending x.place) (connection_at s c)
-  shut-is c = has-ids c (available_ones s) (pending_ones s) ∙ rw (has-where id_of (λ x. is_available x.place) c s.connections (m.single c), has-where id_of (λ x. is_pending x.place) c s.connections (m.single c)) refl
+  shut-is c = has-ids c (available_ones s) (pending_ones s) ∙ rw (has-where id_of (λ x. is_available x.place) c s.connections (m.counts.single c), has-where id_of (λ x. is_pending x.place) c s.connections (m.counts.single c)) refl
 
   over-is : (r : ℕ) → has r over_numbers ≡ passes number_of (λ q. unserved_in s q.phase) (request_at s r)
-  over-is r = has-where number_of (λ q. unserved_in s q.phase) r s.requests (m.single_request r)
+  over-is r = has-where number_of (λ q. unserved_in s q.phase) r s.requests (m.requests.single_request r)
 
   pending-gone : (k : ℕ) → has k (pending_list xs) ≡ true → has k shut_ids ≡ true
   pending-gone k e =
-      let f : passes id_of (λ x. is_pending x.place) (connection_at s k) ≡ true = sym (has-where id_of (λ x. is_pending x.place) k s.connections (m.single k)) ∙ (ap (has k) (sym m.pending) ∙ e) in
+      let f : passes id_of (λ x. is_pending x.place) (connection_at s k) ≡ true = sym (has-where id_of (λ x. is_pending x.place) k s.connections (m.counts.single k)) ∙ (ap (has k) (sym m.counts.pending) ∙ e) in
       shut-is k ∙ rw f (or-true (passes id_of (λ x. is_available x.place) (connection_at s k)))
     where
       or-true : (b : Bool) → b || true ≡ true
@@ -150,12 +151,12 @@ module _ (s : PoolCore) (xs : List PoolItem) (m : Matches s xs) (n : ℕ) where
 
   available-gone : (k : ℕ) → has k (available_list xs) ≡ true → has k shut_ids ≡ true
   available-gone k e =
-      let f : passes id_of (λ x. is_available x.place) (connection_at s k) ≡ true = sym (has-where id_of (λ x. is_available x.place) k s.connections (m.single k)) ∙ (ap (has k) (sym m.available) ∙ e) in
+      let f : passes id_of (λ x. is_available x.place) (connection_at s k) ≡ true = sym (has-where id_of (λ x. is_available x.place) k s.connections (m.counts.single k)) ∙ (ap (has k) (sym m.counts.available) ∙ e) in
       shut-is k ∙ rw f refl
 
   queued-gone : (k : ℕ) → has k (queued xs) ≡ true → has k over_numbers ≡ true
   queued-gone k e =
-      let f : passes number_of (λ q. is_queued q.phase) (request_at s k) ≡ true = sym (has-where number_of (λ q. is_queued q.phase) k s.requests (m.single_request k)) ∙ (ap (has k) (sym m.queue) ∙ e) in
+      let f : passes number_of (λ q. is_queued q.phase) (request_at s k) ≡ true = sym (has-where number_of (λ q. is_queued q.phase) k s.requests (m.requests.single_request k)) ∙ (ap (has k) (sym m.requests.queue) ∙ e) in
       over-is k ∙ on (request_at s k) f
     where
       at_phase : (p : Phase) → is_queued p ≡ true → unserved_in s p ≡ true
@@ -196,8 +197,8 @@ module _ (s : PoolCore) (xs : List PoolItem) (m : Matches s xs) (n : ℕ) where
 
   live-then : (c : ℕ) → live shut_items c ≡ one_if (is_some (connection_at (closing s n) c))
   live-then c =
-      let few : live xs c ≤ 1 = rw (m.live c) (one_if-le (is_some (connection_at s c))) in
-      live-endings ClosedEnd over_numbers (closings shut_ids xs) c ∙ (live-closings shut_ids xs c few ∙ rw (shut-is c, m.live c, at_conn c) (on (connection_at s c)))
+      let few : live xs c ≤ 1 = rw (m.connections.live c) (one_if-le (is_some (connection_at s c))) in
+      live-endings ClosedEnd over_numbers (closings shut_ids xs) c ∙ (live-closings shut_ids xs c few ∙ rw (shut-is c, m.connections.live c, at_conn c) (on (connection_at s c)))
     where
       at_place : (x : Connection) (p : Place) → x.place ≡ p → (if passes id_of (λ y. is_available y.place) (Some x) || passes id_of (λ y. is_pending y.place) (Some x) then 0 else one_if (is_some (Some x))) ≡ one_if (is_some (kept_of (Some x)))
       at_place x Pending e = rw e refl
@@ -214,10 +215,10 @@ module _ (s : PoolCore) (xs : List PoolItem) (m : Matches s xs) (n : ℕ) where
       let a : live_total shut_items ≡ live_total xs - length shut_ids = total-endings ClosedEnd over_numbers (closings shut_ids xs) ∙ total-closings shut_ids xs in
       let b : length shut_ids ≡ length (available_ones s) + length (pending_ones s) = length-ids (available_ones s) (pending_ones s) in
       let d : length (available_ones s) + length (pending_ones s) + length (filter is_kept s.connections) ≡ length s.connections = places s.connections in
-      a ∙ rw (m.live_all, b) (omega arith)
+      a ∙ rw (m.counts.live_all, b) (omega arith)
 
   parties-then : (c : ℕ) → parties shut_items c ≡ one_party (holder_at (connection_at (closing s n) c))
-  parties-then c = parties-endings ClosedEnd over_numbers (closings shut_ids xs) c ∙ (ap (leave over_numbers) (parties-closings shut_ids xs c ∙ m.parties c) ∙ on (connection_at s c) refl)
+  parties-then c = parties-endings ClosedEnd over_numbers (closings shut_ids xs) c ∙ (ap (leave over_numbers) (parties-closings shut_ids xs c ∙ m.connections.parties c) ∙ on (connection_at s c) refl)
     where
       by_holder : (x : Connection) (h : Option ℕ) → connection_at s c ≡ Some x → x.holder ≡ h → leave over_numbers (one_party h) ≡ if is_pending x.place then [] else one_party h
       by_holder x None e f = leave-none over_numbers ∙ same (is_pending x.place)
@@ -225,11 +226,11 @@ module _ (s : PoolCore) (xs : List PoolItem) (m : Matches s xs) (n : ℕ) where
           same : (b : Bool) → ◌≡◌ {A = List ℕ} [] (if b then [] else [])
           same true = refl
           same false = refl
-      by_holder x (Some r) e f = let g : given_of (request_at s r) ≡ Some c = m.owned c r (ap holder_at e ∙ f) in leave-one over_numbers r ∙ rw (given-over c r x e g) refl
+      by_holder x (Some r) e f = let g : given_of (request_at s r) ≡ Some c = m.links.owned c r (ap holder_at e ∙ f) in leave-one over_numbers r ∙ rw (given-over c r x e g) refl
 
       at_place : (x : Connection) (p : Place) → connection_at s c ≡ Some x → x.place ≡ p → leave over_numbers (one_party x.holder) ≡ one_party (holder_at (connection_at (closing s n) c))
       at_place x Pending e f = by_holder x x.holder e refl ∙ rw (f, at_conn c, e, f) refl
-      at_place x Available e f = rw (m.free c x e (ap is_available f), at_conn c, e, f) (leave-none over_numbers)
+      at_place x Available e f = rw (m.links.free c x e (ap is_available f), at_conn c, e, f) (leave-none over_numbers)
       at_place x Held e f = by_holder x x.holder e refl ∙ rw (f, at_conn c, e, f) refl
       at_place x Pinned e f = by_holder x x.holder e refl ∙ rw (f, at_conn c, e, f) refl
 
@@ -238,7 +239,7 @@ module _ (s : PoolCore) (xs : List PoolItem) (m : Matches s xs) (n : ℕ) where
       on (Some x) e = rw e (at_place x x.place e refl)
 
   given-then : (r : ℕ) → given shut_items r ≡ given_of (request_at (closing s n) r)
-  given-then r = given-endings ClosedEnd over_numbers (closings shut_ids xs) r ∙ rw (over-is r, given-closings shut_ids xs r, m.given r, at_request r) (on (request_at s r))
+  given-then r = given-endings ClosedEnd over_numbers (closings shut_ids xs) r ∙ rw (over-is r, given-closings shut_ids xs r, m.requests.given r, at_request r) (on (request_at s r))
     where
       on : (o : Option Request) → (if passes number_of (λ q. unserved_in s q.phase) o then None else given_of o) ≡ given_of (ended_of s o)
       on None = refl
@@ -249,7 +250,7 @@ module _ (s : PoolCore) (xs : List PoolItem) (m : Matches s xs) (n : ℕ) where
           at_phase false e = rw e refl
 
   ends-then : (r : ℕ) → end_of shut_items r ≡ end_at (request_at (closing s n) r)
-  ends-then r = end-endings ClosedEnd over_numbers (closings shut_ids xs) r ∙ rw (over-is r, end-closings shut_ids xs r, m.ends r, at_request r) (on (request_at s r))
+  ends-then r = end-endings ClosedEnd over_numbers (closings shut_ids xs) r ∙ rw (over-is r, end-closings shut_ids xs r, m.requests.ends r, at_request r) (on (request_at s r))
     where
       on : (o : Option Request) → (if passes number_of (λ q. unserved_in s q.phase) o then Some ClosedEnd else end_at o) ≡ end_at (ended_of s o)
       on None = refl
@@ -287,17 +288,17 @@ module _ (s : PoolCore) (xs : List PoolItem) (m : Matches s xs) (n : ℕ) where
 
       at_place : (x : Connection) (p : Place) → given_of (request_at s r) ≡ Some c → has r over_numbers ≡ false → connection_at s c ≡ Some x → x.place ≡ p → holder_at (connection_at (closing s n) c) ≡ Some r
       at_place x Pending f g h p = let k : has r over_numbers ≡ true = given-over c r x h f ∙ ap is_pending p in cc
-      at_place x Available f g h p = let k : holder_at (Some x) ≡ Some r = ap holder_at (sym h) ∙ m.taken r c f in let v : holder_at (Some x) ≡ None = m.free c x h (ap is_available p) in cc
-      at_place x Held f g h p = rw (at_conn c, h, p) (ap holder_at (sym h) ∙ m.taken r c f)
-      at_place x Pinned f g h p = rw (at_conn c, h, p) (ap holder_at (sym h) ∙ m.taken r c f)
+      at_place x Available f g h p = let k : holder_at (Some x) ≡ Some r = ap holder_at (sym h) ∙ m.links.taken r c f in let v : holder_at (Some x) ≡ None = m.links.free c x h (ap is_available p) in cc
+      at_place x Held f g h p = rw (at_conn c, h, p) (ap holder_at (sym h) ∙ m.links.taken r c f)
+      at_place x Pinned f g h p = rw (at_conn c, h, p) (ap holder_at (sym h) ∙ m.links.taken r c f)
 
       at_connection : (o : Option Connection) → given_of (request_at s r) ≡ Some c → has r over_numbers ≡ false → connection_at s c ≡ o → holder_at (connection_at (closing s n) c) ≡ Some r
-      at_connection None f g h = let k : holder_at None ≡ Some r = ap holder_at (sym h) ∙ m.taken r c f in cc
+      at_connection None f g h = let k : holder_at None ≡ Some r = ap holder_at (sym h) ∙ m.links.taken r c f in cc
       at_connection (Some x) f g h = at_place x x.place f g h refl
 
       on : (b : Bool) → has r over_numbers ≡ b → holder_at (connection_at (closing s n) c) ≡ Some r
       on true g = let w : given shut_items r ≡ Some c = was in let k : given shut_items r ≡ None = given-endings ClosedEnd over_numbers (closings shut_ids xs) r ∙ rw g refl in cc
-      on false g = let k : given shut_items r ≡ given_of (request_at s r) = given-endings ClosedEnd over_numbers (closings shut_ids xs) r ∙ rw g (given-closings shut_ids xs r ∙ m.given r) in at_connection (connection_at s c) (sym k ∙ was) g refl
+      on false g = let k : given shut_items r ≡ given_of (request_at s r) = given-endings ClosedEnd over_numbers (closings shut_ids xs) r ∙ rw g (given-closings shut_ids xs r ∙ m.requests.given r) in at_connection (connection_at s c) (sym k ∙ was) g refl
 
   owned-then : (c r : ℕ) → holder_at (connection_at (closing s n) c) ≡ Some r → given_of (request_at (closing s n) r) ≡ Some c
   owned-then c r e = on (connection_at (closing s n) c) refl
@@ -306,16 +307,16 @@ module _ (s : PoolCore) (xs : List PoolItem) (m : Matches s xs) (n : ℕ) where
       on None f = let k : holder_at None ≡ Some r = ap holder_at (sym f) ∙ e in cc
       on (Some x) f =
           let w : (connection_at s c ≡ Some x) × (stays x.place ≡ true) = kept-was c x f in
-          let g : given_of (request_at s r) ≡ Some c = m.owned c r (ap holder_at w.0 ∙ (ap holder_at (sym f) ∙ e)) in
+          let g : given_of (request_at s r) ≡ Some c = m.links.owned c r (ap holder_at w.0 ∙ (ap holder_at (sym f) ∙ e)) in
           let k : has r over_numbers ≡ false = given-over c r x w.0 g ∙ (kept-not x.place w.1).0 in
-          sym (given-then r) ∙ (given-endings ClosedEnd over_numbers (closings shut_ids xs) r ∙ rw k (given-closings shut_ids xs r ∙ (m.given r ∙ g)))
+          sym (given-then r) ∙ (given-endings ClosedEnd over_numbers (closings shut_ids xs) r ∙ rw k (given-closings shut_ids xs r ∙ (m.requests.given r ∙ g)))
 
   -- what is said of a connection that lasts
   lasts-then : {A : Type 0} (c : ℕ) (v none : A) (says : Option Connection → A) → says None ≡ none → (if lasts s c then v else none) ≡ says (connection_at s c) → (if lasts (closing s n) c then v else none) ≡ says (connection_at (closing s n) c)
   lasts-then c v none says e f = on (connection_at s c) refl
     where
       created-yet : (x : Connection) → connection_at s c ≡ Some x → nat_lt s.created c ≡ false
-      created-yet x g = grind (arith, nat_tests, m.unused c, g)
+      created-yet x g = grind (arith, nat_tests, m.counts.unused c, g)
 
       at_place : (x : Connection) (p : Place) → connection_at s c ≡ Some x → x.place ≡ p → (if lasts (closing s n) c then v else none) ≡ says (connection_at (closing s n) c)
       at_place x Pending g p = rw (at_conn c, g, p, created-yet x g) (sym e)
@@ -333,7 +334,7 @@ module _ (s : PoolCore) (xs : List PoolItem) (m : Matches s xs) (n : ℕ) where
     where
       at_kept : (x : Connection) (b : Bool) → connection_at s c ≡ Some x → stays x.place ≡ b → pins_at (connection_at s c) ≡ pins_at (connection_at (closing s n) c)
       at_kept x true e f = rw (at_conn c, e, f) refl
-      at_kept x false e f = rw (at_conn c, e, f) (m.loose c x e f)
+      at_kept x false e f = rw (at_conn c, e, f) (m.pinning.loose c x e f)
 
       on : (o : Option Connection) → connection_at s c ≡ o → pins_at (connection_at s c) ≡ pins_at (connection_at (closing s n) c)
       on None e = rw (at_conn c, e) refl
@@ -362,47 +363,63 @@ module _ (s : PoolCore) (xs : List PoolItem) (m : Matches s xs) (n : ℕ) where
 
   pub close-matches : Matches (closing s n) shut_items
   close-matches = record {
-    created = still.created ∙ m.created;
-    live_all = total-then;
-    pending = pending-endings ClosedEnd over_numbers (closings shut_ids xs) ∙ (pending-closings shut_ids xs ∙ (leave-all shut_ids (pending_list xs) pending-gone ∙ sym (ap (map id_of) (filter-none id_of (λ x. is_pending x.place) is_kept s.connections (λ x e. (kept-not x.place e).0)))));
-    available = available-endings ClosedEnd over_numbers (closings shut_ids xs) ∙ (available-closings shut_ids xs ∙ (leave-all shut_ids (available_list xs) available-gone ∙ sym (ap (map id_of) (filter-none id_of (λ x. is_available x.place) is_kept s.connections (λ x e. (kept-not x.place e).1)))));
-    queue = queued-endings ClosedEnd over_numbers (closings shut_ids xs) ∙ (ap (leave over_numbers) (queued-closings shut_ids xs) ∙ (leave-all over_numbers (queued xs) queued-gone ∙ sym (none-queued s s.requests)));
-    single = λ c. named-filter id_of c is_kept s.connections (once c);
-    unused = λ c h. at_conn c ∙ rw (m.unused c h) refl;
-    live = live-then;
-    parties = parties-then;
-    granted_to = λ c x e. still.granted_to c ∙ m.granted_to c x (kept-was c x e).0;
-    created_at = λ c x e. still.created_at c ∙ m.created_at c x (kept-was c x e).0;
-    served = λ c. rw (still.served c) (lasts-then c (service_of xs c) None service_at refl (m.served c));
-    service = λ c. rw (still.service c) (lasts-then c (known_service xs c) None service_at refl (m.service c));
-    wire = λ c. rw (still.wire c) (lasts-then c (wire_of xs c) None wire_at refl (m.wire c));
-    given = given-then;
-    single_request = λ r. named-ended s r s.requests ∙ (m.single_request r ∙ ap one_if (sym (some-then (request_at s r)) ∙ ap is_some (sym (at_request r))));
-    asked_at = λ r. still.asked_at r ∙ (m.asked_at r ∙ (moment-then (request_at s r) ∙ ap asked_at_of (sym (at_request r))));
-    ends = ends-then;
-    taken = taken-then;
-    owned = owned-then;
-    known = λ c x r e f. sym (asks-then (request_at s r) ∙ ap is_asked_at (sym (at_request r))) ∙ m.known c x r (kept-was c x e).0 f;
-    free = λ c x e f. m.free c x (kept-was c x e).0 f;
-    busy = λ c x e f. m.busy c x (kept-was c x e).0 f;
-    waits = λ c x r e f g. m.waits c x r (kept-was c x e).0 f g;
-    left_by = λ c x r e f g h. let k : is_pending x.place ≡ false = (kept-not x.place (kept-was c x e).1).0 in cc;
-    since = λ c x e f. let k : is_available x.place ≡ false = (kept-not x.place (kept-was c x e).1).1 in cc;
-    status = refl;
-    clears = λ t. still.clears t ∙ m.clears t;
-    before = λ c t h. still.before c t ∙ m.before c t h;
-    seen = m.seen;
-    warm = λ r. still.warm r ∙ (m.warm r ∙ (warm-then (request_at s r) ∙ ap warm_of (sym (at_request r))));
-    fills = λ c x r e f g. m.fills c x r (kept-was c x e).0 f (warm-then (request_at s r) ∙ (ap warm_of (sym (at_request r)) ∙ g));
-    ungranted = λ c h. still.granted_to c ∙ m.ungranted c h;
-    asks = λ r. still.asked r ∙ (m.asks r ∙ (asks-then (request_at s r) ∙ ap is_asked_at (sym (at_request r))));
-    pins = λ c. still.pins c ∙ (m.pins c ∙ pins-then c);
+    counts = record {
+      created = still.created ∙ m.counts.created;
+      live_all = total-then;
+      pending = pending-endings ClosedEnd over_numbers (closings shut_ids xs) ∙ (pending-closings shut_ids xs ∙ (leave-all shut_ids (pending_list xs) pending-gone ∙ sym (ap (map id_of) (filter-none id_of (λ x. is_pending x.place) is_kept s.connections (λ x e. (kept-not x.place e).0)))));
+      available = available-endings ClosedEnd over_numbers (closings shut_ids xs) ∙ (available-closings shut_ids xs ∙ (leave-all shut_ids (available_list xs) available-gone ∙ sym (ap (map id_of) (filter-none id_of (λ x. is_available x.place) is_kept s.connections (λ x e. (kept-not x.place e).1)))));
+      single = λ c. named-filter id_of c is_kept s.connections (once c);
+      unused = λ c h. at_conn c ∙ rw (m.counts.unused c h) refl;
+    };
+    connections = record {
+      live = live-then;
+      parties = parties-then;
+      ungranted = λ c h. still.granted_to c ∙ m.connections.ungranted c h;
+      granted_to = λ c x e. still.granted_to c ∙ m.connections.granted_to c x (kept-was c x e).0;
+      created_at = λ c x e. still.created_at c ∙ m.connections.created_at c x (kept-was c x e).0;
+      since = λ c x e f. let k : is_available x.place ≡ false = (kept-not x.place (kept-was c x e).1).1 in cc;
+    };
+    told = record {
+      served = λ c. rw (still.served c) (lasts-then c (service_of xs c) None service_at refl (m.told.served c));
+      service = λ c. rw (still.service c) (lasts-then c (known_service xs c) None service_at refl (m.told.service c));
+      wire = λ c. rw (still.wire c) (lasts-then c (wire_of xs c) None wire_at refl (m.told.wire c));
+    };
+    requests = record {
+      queue = queued-endings ClosedEnd over_numbers (closings shut_ids xs) ∙ (ap (leave over_numbers) (queued-closings shut_ids xs) ∙ (leave-all over_numbers (queued xs) queued-gone ∙ sym (none-queued s s.requests)));
+      given = given-then;
+      single_request = λ r. named-ended s r s.requests ∙ (m.requests.single_request r ∙ ap one_if (sym (some-then (request_at s r)) ∙ ap is_some (sym (at_request r))));
+      asked_at = λ r. still.asked_at r ∙ (m.requests.asked_at r ∙ (moment-then (request_at s r) ∙ ap asked_at_of (sym (at_request r))));
+      ends = ends-then;
+      asks = λ r. still.asked r ∙ (m.requests.asks r ∙ (asks-then (request_at s r) ∙ ap is_asked_at (sym (at_request r))));
+      warm = λ r. still.warm r ∙ (m.requests.warm r ∙ (warm-then (request_at s r) ∙ ap warm_of (sym (at_request r))));
+    };
+    links = record {
+      taken = taken-then;
+      owned = owned-then;
+      known = λ c x r e f. sym (asks-then (request_at s r) ∙ ap is_asked_at (sym (at_request r))) ∙ m.links.known c x r (kept-was c x e).0 f;
+      free = λ c x e f. m.links.free c x (kept-was c x e).0 f;
+      busy = λ c x e f. m.links.busy c x (kept-was c x e).0 f;
+      waits = λ c x r e f g. m.links.waits c x r (kept-was c x e).0 f g;
+      left_by = λ c x r e f g h. let k : is_pending x.place ≡ false = (kept-not x.place (kept-was c x e).1).0 in cc;
+      fills = λ c x r e f g. m.links.fills c x r (kept-was c x e).0 f (warm-then (request_at s r) ∙ (ap warm_of (sym (at_request r)) ∙ g));
+    };
+    pinning = record {
+      pins = λ c. still.pins c ∙ (m.pinning.pins c ∙ pins-then c);
+      loose = λ c x e f. m.pinning.loose c x (kept-was c x e).0 f;
+      rests = λ c x e f. m.pinning.rests c x (kept-was c x e).0 f;
+    };
+    uses = record {
+      errored = λ c. rw (still.errored c) (lasts-then c (is_errored xs c) false errored_at refl (m.uses.errored c));
+      dropped = λ c. rw (still.use_of c) (lasts-then c (is_dropped (last_use xs c)) false dropped_at refl (m.uses.dropped c));
+      calm = λ c x e f. ap (λ k. k + x.timeouts) (still.timeouts c) ∙ m.uses.calm c x (kept-was c x e).0 f;
+    };
+    clearing = record {
+      status = refl;
+      clears = λ t. still.clears t ∙ m.clearing.clears t;
+      before = λ c t h. still.before c t ∙ m.clearing.before c t h;
+      seen = m.clearing.seen;
+    };
     at_pin = λ c. pinned-again (endings ClosedEnd over_numbers (closings shut_ids xs)) c ∙ (still.pinned c ∙ (m.at_pin c ∙ pinned-then c));
-    loose = λ c x e f. m.loose c x (kept-was c x e).0 f;
-    rests = λ c x e f. m.rests c x (kept-was c x e).0 f;
-    errored = λ c. rw (still.errored c) (lasts-then c (is_errored xs c) false errored_at refl (m.errored c));
-    dropped = λ c. rw (still.use_of c) (lasts-then c (is_dropped (last_use xs c)) false dropped_at refl (m.dropped c));
-    calm = λ c x e f. ap (λ k. k + x.timeouts) (still.timeouts c) ∙ m.calm c x (kept-was c x e).0 f;
   }
 
 pub close-fits : (s : PoolCore) (xs : List PoolItem) (z : Fits s xs) (n : ℕ) → Fits (closing s n) (shut_items s xs z.matches n)

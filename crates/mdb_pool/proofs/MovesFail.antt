@@ -9,15 +9,15 @@ use Rattle.mdb_pool.specs.declared.request.Request.{Request}
 use Rattle.mdb_pool.specs.declared.request.Phase.{Phase}
 use Rattle.mdb_pool.specs.declared.request.Phase.TheVariants.{Queued, Given, Over, Ended as EndedPhase}
 use Rattle.mdb_pool.specs.declared.pool_core.PoolCore.{PoolCore}
-use Rattle.mdb_pool.specs.History.{PoolItem, without, failed, closed, ended}
+use Rattle.mdb_log.specs.History.{PoolItem, without, failed, closed, ended}
 use Rattle.mdb_pool.specs.Kept.{connection_at, request_at, given_in, given_of, holder_at}
-use Rattle.mdb_pool.specs.Requests.{queued}
-use Rattle.mdb_pool.specs.Standing.{Matches}
-use Rattle.mdb_pool.specs.Connections.{pending_list}
+use Rattle.mdb_log.specs.Requests.{queued}
+use Rattle.mdb_pool.specs.Matching.{Matches}
+use Rattle.mdb_log.specs.Connections.{pending_list}
 use Rattle.mdb_pool.specs.Places.{is_pending, is_available, is_queued}
 use Rattle.mdb_pool.specs.Changes.{forgetting, failing}
 use Rattle.mdb_pool.proofs.Moves.{parties-without, holder-given}
-use Rattle.mdb_pool.proofs.Pins.{pinned-again}
+use Rattle.mdb_log.proofs.Pins.{pinned-again}
 use Rattle.mdb_pool.proofs.Tables.{without-absent, entry_at-others, map-filter-others, named-others, length-others, passes, has-where, entry_at-swap, named-swap, where-swap_stay}
 
 abbrev id_of : Connection → ℕ
@@ -38,47 +38,50 @@ module _ (s : PoolCore) (xs : List PoolItem) (m : Matches s xs) (n : ℕ) (x : C
   -- its requester gave up
   pub forget-matches : x.holder ≡ None → Matches (forgetting s n x) (closed x.id ∷ failed x.id service ∷ xs)
   forget-matches alone = record {
-    created = m.created;
-    live_all = grind (arith, m.live_all, length-others id_of x.id s.connections, m.single x.id, at_x);
-    pending = without-twice x.id (pending_list xs) ∙ (ap (without x.id) m.pending ∙ sym (map-filter-others id_of (λ y. is_pending y.place) x.id s.connections));
-    available = ap (without x.id) m.available ∙ sym (map-filter-others id_of (λ y. is_available y.place) x.id s.connections);
-    queue = m.queue;
-    single = λ c. grind (arith, named-others id_of c x.id s.connections, lost_connection c, m.single c);
-    unused = λ c h. grind (arith, lost_connection c, m.unused c h);
-    live = λ c. grind (arith, lost_connection c, m.live c, at_x);
-    parties = λ c. grind (arith, lost_connection c, m.parties c, at_x, alone);
-    granted_to = λ c y e. grind (arith, lost_connection c, m.granted_to c y);
-    created_at = λ c y e. grind (arith, lost_connection c, m.created_at c y);
-    served = λ c. grind (arith, nat_tests, lost_connection c, m.served c, m.unused c, at_x);
-    service = λ c. grind (arith, nat_tests, lost_connection c, m.service c, m.unused c, at_x);
-    wire = λ c. grind (arith, nat_tests, lost_connection c, m.wire c, m.unused c, at_x);
-    given = m.given;
-    single_request = m.single_request;
-    asked_at = m.asked_at;
-    ends = m.ends;
-    taken = λ r c h. grind (arith, lost_connection c, m.taken r c, at_x, alone);
-    owned = λ c r h. grind (arith, lost_connection c, m.owned c r);
-    known = λ c y r e f. grind (arith, lost_connection c, m.known c y r);
-    free = λ c y e f. grind (arith, lost_connection c, m.free c y);
-    busy = λ c y e f. grind (arith, lost_connection c, m.busy c y);
-    waits = λ c y r e f g. grind (arith, lost_connection c, m.waits c y r);
-    left_by = λ c y r e f g h. grind (arith, lost_connection c, m.left_by c y r);
-    since = λ c y e f. grind (arith, lost_connection c, m.since c y);
-    status = m.status;
-    clears = m.clears;
-    before = m.before;
-    seen = m.seen;
-    warm = m.warm;
-    fills = λ c y r e f g. grind (arith, lost_connection c, m.fills c y r);
-    ungranted = m.ungranted;
-    asks = m.asks;
-    pins = λ c. grind (arith, lost_connection c, m.pins c, m.pins x.id, at_x, loose_now);
-    at_pin = λ c. grind (arith, nat_tests, lost_connection c, pinned-again xs c, m.at_pin c, m.pins x.id, at_x, loose_now);
-    loose = λ c y e f. grind (arith, lost_connection c, m.loose c y);
-    rests = λ c y e f. grind (arith, lost_connection c, m.rests c y);
-    errored = λ c. grind (arith, nat_tests, lost_connection c, m.errored c, m.unused c, at_x);
-    dropped = λ c. grind (arith, nat_tests, lost_connection c, m.dropped c, m.unused c, at_x);
-    calm = λ c y e f. grind (arith, lost_connection c, m.calm c y);
+    counts = record {
+      created = m.counts.created;
+      live_all = grind (arith, m.counts.live_all, length-others id_of x.id s.connections, m.counts.single x.id, at_x);
+      pending = without-twice x.id (pending_list xs) ∙ (ap (without x.id) m.counts.pending ∙ sym (map-filter-others id_of (λ y. is_pending y.place) x.id s.connections));
+      available = ap (without x.id) m.counts.available ∙ sym (map-filter-others id_of (λ y. is_available y.place) x.id s.connections);
+      single = λ c. grind (arith, named-others id_of c x.id s.connections, lost_connection c, m.counts.single c);
+      unused = λ c h. grind (arith, lost_connection c, m.counts.unused c h);
+    };
+    connections = record {
+      live = λ c. grind (arith, lost_connection c, m.connections.live c, at_x);
+      parties = λ c. grind (arith, lost_connection c, m.connections.parties c, at_x, alone);
+      ungranted = m.connections.ungranted;
+      granted_to = λ c y e. grind (arith, lost_connection c, m.connections.granted_to c y);
+      created_at = λ c y e. grind (arith, lost_connection c, m.connections.created_at c y);
+      since = λ c y e f. grind (arith, lost_connection c, m.connections.since c y);
+    };
+    told = record {
+      served = λ c. grind (arith, nat_tests, lost_connection c, m.told.served c, m.counts.unused c, at_x);
+      service = λ c. grind (arith, nat_tests, lost_connection c, m.told.service c, m.counts.unused c, at_x);
+      wire = λ c. grind (arith, nat_tests, lost_connection c, m.told.wire c, m.counts.unused c, at_x);
+    };
+    requests = m.requests;
+    links = record {
+      taken = λ r c h. grind (arith, lost_connection c, m.links.taken r c, at_x, alone);
+      owned = λ c r h. grind (arith, lost_connection c, m.links.owned c r);
+      known = λ c y r e f. grind (arith, lost_connection c, m.links.known c y r);
+      free = λ c y e f. grind (arith, lost_connection c, m.links.free c y);
+      busy = λ c y e f. grind (arith, lost_connection c, m.links.busy c y);
+      waits = λ c y r e f g. grind (arith, lost_connection c, m.links.waits c y r);
+      left_by = λ c y r e f g h. grind (arith, lost_connection c, m.links.left_by c y r);
+      fills = λ c y r e f g. grind (arith, lost_connection c, m.links.fills c y r);
+    };
+    pinning = record {
+      pins = λ c. grind (arith, lost_connection c, m.pinning.pins c, m.pinning.pins x.id, at_x, loose_now);
+      loose = λ c y e f. grind (arith, lost_connection c, m.pinning.loose c y);
+      rests = λ c y e f. grind (arith, lost_connection c, m.pinning.rests c y);
+    };
+    uses = record {
+      errored = λ c. grind (arith, nat_tests, lost_connection c, m.uses.errored c, m.counts.unused c, at_x);
+      dropped = λ c. grind (arith, nat_tests, lost_connection c, m.uses.dropped c, m.counts.unused c, at_x);
+      calm = λ c y e f. grind (arith, lost_connection c, m.uses.calm c y);
+    };
+    clearing = m.clearing;
+    at_pin = λ c. grind (arith, nat_tests, lost_connection c, pinned-again xs c, m.at_pin c, m.pinning.pins x.id, at_x, loose_now);
   }
 
 -- and its requester ends
@@ -96,7 +99,7 @@ module _ (s : PoolCore) (xs : List PoolItem) (m : Matches s xs) (n : ℕ) (x : C
   was_held = ap holder_at at_x ∙ held
 
   given_now : given_of (request_at s q.number) ≡ Some x.id
-  given_now = m.owned x.id q.number was_held
+  given_now = m.links.owned x.id q.number was_held
 
   given_phase : given_in q.phase ≡ Some x.id
   given_phase = sym (ap given_of at_q) ∙ given_now
@@ -112,45 +115,56 @@ module _ (s : PoolCore) (xs : List PoolItem) (m : Matches s xs) (n : ℕ) (x : C
 
   pub fail-matches : Matches (failing s n x q end) (ended q.number end ∷ closed x.id ∷ failed x.id service ∷ xs)
   fail-matches = record {
-    created = m.created;
-    live_all = grind (arith, m.live_all, length-others id_of x.id s.connections, m.single x.id, at_x);
-    pending = without-twice x.id (pending_list xs) ∙ (ap (without x.id) m.pending ∙ sym (map-filter-others id_of (λ y. is_pending y.place) x.id s.connections));
-    available = ap (without x.id) m.available ∙ sym (map-filter-others id_of (λ y. is_available y.place) x.id s.connections);
-    queue = without-absent q.number (queued xs) (rw m.queue (has-where number_of (λ y. is_queued y.phase) q.number s.requests (m.single_request q.number) ∙ (ap (passes number_of (λ y. is_queued y.phase)) at_q ∙ not_queued))) ∙ (m.queue ∙ sym (where-swap_stay number_of (λ y. is_queued y.phase) failed_q s.requests refl (m.single_request q.number) (ap (passes number_of (λ y. is_queued y.phase)) at_q ∙ not_queued)));
-    single = λ c. grind (arith, named-others id_of c x.id s.connections, gone_connection c, m.single c);
-    unused = λ c h. grind (arith, gone_connection c, m.unused c h);
-    live = λ c. grind (arith, gone_connection c, m.live c, at_x);
-    parties = λ c. parties-without s xs m q.number c ∙ grind (arith, gone_connection c, m.parties c, holder-given s xs m q.number c, given_now, was_held, at_x);
-    granted_to = λ c y e. grind (arith, gone_connection c, m.granted_to c y);
-    created_at = λ c y e. grind (arith, gone_connection c, m.created_at c y);
-    served = λ c. grind (arith, nat_tests, gone_connection c, m.served c, m.unused c, at_x);
-    service = λ c. grind (arith, nat_tests, gone_connection c, m.service c, m.unused c, at_x);
-    wire = λ c. grind (arith, nat_tests, gone_connection c, m.wire c, m.unused c, at_x);
-    given = λ r. grind (arith, failed_request r, m.given r);
-    single_request = λ r. grind (arith, named-swap number_of r failed_q s.requests, failed_request r, m.single_request r);
-    asked_at = λ r. grind (arith, failed_request r, m.asked_at r);
-    ends = λ r. grind (arith, failed_request r, m.ends r);
-    taken = λ r c h. grind (arith, failed_request r, gone_connection c, m.taken r c, m.owned c r, was_held, at_x, at_q);
-    owned = λ c r h. grind (arith, failed_request r, gone_connection c, m.owned c r, m.taken r c, was_held, at_x, at_q);
-    known = λ c y r e f. grind (arith, gone_connection c, failed_request r, m.known c y r);
-    free = λ c y e f. grind (arith, gone_connection c, m.free c y);
-    busy = λ c y e f. grind (arith, gone_connection c, m.busy c y);
-    waits = λ c y r e f g. grind (arith, gone_connection c, m.waits c y r);
-    left_by = λ c y r e f g h. grind (arith, gone_connection c, m.left_by c y r, failed_request r);
-    since = λ c y e f. grind (arith, gone_connection c, m.since c y);
-    status = m.status;
-    clears = m.clears;
-    before = m.before;
-    seen = m.seen;
-    warm = λ r. grind (arith, failed_request r, m.warm r);
-    fills = λ c y r e f g. grind (arith, gone_connection c, failed_request r, m.fills c y r);
-    ungranted = m.ungranted;
-    asks = λ r. grind (arith, failed_request r, m.asks r);
-    pins = λ c. grind (arith, gone_connection c, m.pins c, m.pins x.id, at_x, loose_now);
-    at_pin = λ c. grind (arith, nat_tests, gone_connection c, pinned-again xs c, m.at_pin c, m.pins x.id, at_x, loose_now);
-    loose = λ c y e f. grind (arith, gone_connection c, m.loose c y);
-    rests = λ c y e f. grind (arith, gone_connection c, m.rests c y);
-    errored = λ c. grind (arith, nat_tests, gone_connection c, m.errored c, m.unused c, at_x);
-    dropped = λ c. grind (arith, nat_tests, gone_connection c, m.dropped c, m.unused c, at_x);
-    calm = λ c y e f. grind (arith, gone_connection c, m.calm c y);
+    counts = record {
+      created = m.counts.created;
+      live_all = grind (arith, m.counts.live_all, length-others id_of x.id s.connections, m.counts.single x.id, at_x);
+      pending = without-twice x.id (pending_list xs) ∙ (ap (without x.id) m.counts.pending ∙ sym (map-filter-others id_of (λ y. is_pending y.place) x.id s.connections));
+      available = ap (without x.id) m.counts.available ∙ sym (map-filter-others id_of (λ y. is_available y.place) x.id s.connections);
+      single = λ c. grind (arith, named-others id_of c x.id s.connections, gone_connection c, m.counts.single c);
+      unused = λ c h. grind (arith, gone_connection c, m.counts.unused c h);
+    };
+    connections = record {
+      live = λ c. grind (arith, gone_connection c, m.connections.live c, at_x);
+      parties = λ c. parties-without s xs m q.number c ∙ grind (arith, gone_connection c, m.connections.parties c, holder-given s xs m q.number c, given_now, was_held, at_x);
+      ungranted = m.connections.ungranted;
+      granted_to = λ c y e. grind (arith, gone_connection c, m.connections.granted_to c y);
+      created_at = λ c y e. grind (arith, gone_connection c, m.connections.created_at c y);
+      since = λ c y e f. grind (arith, gone_connection c, m.connections.since c y);
+    };
+    told = record {
+      served = λ c. grind (arith, nat_tests, gone_connection c, m.told.served c, m.counts.unused c, at_x);
+      service = λ c. grind (arith, nat_tests, gone_connection c, m.told.service c, m.counts.unused c, at_x);
+      wire = λ c. grind (arith, nat_tests, gone_connection c, m.told.wire c, m.counts.unused c, at_x);
+    };
+    requests = record {
+      queue = without-absent q.number (queued xs) (rw m.requests.queue (has-where number_of (λ y. is_queued y.phase) q.number s.requests (m.requests.single_request q.number) ∙ (ap (passes number_of (λ y. is_queued y.phase)) at_q ∙ not_queued))) ∙ (m.requests.queue ∙ sym (where-swap_stay number_of (λ y. is_queued y.phase) failed_q s.requests refl (m.requests.single_request q.number) (ap (passes number_of (λ y. is_queued y.phase)) at_q ∙ not_queued)));
+      given = λ r. grind (arith, failed_request r, m.requests.given r);
+      single_request = λ r. grind (arith, named-swap number_of r failed_q s.requests, failed_request r, m.requests.single_request r);
+      asked_at = λ r. grind (arith, failed_request r, m.requests.asked_at r);
+      ends = λ r. grind (arith, failed_request r, m.requests.ends r);
+      asks = λ r. grind (arith, failed_request r, m.requests.asks r);
+      warm = λ r. grind (arith, failed_request r, m.requests.warm r);
+    };
+    links = record {
+      taken = λ r c h. grind (arith, failed_request r, gone_connection c, m.links.taken r c, m.links.owned c r, was_held, at_x, at_q);
+      owned = λ c r h. grind (arith, failed_request r, gone_connection c, m.links.owned c r, m.links.taken r c, was_held, at_x, at_q);
+      known = λ c y r e f. grind (arith, gone_connection c, failed_request r, m.links.known c y r);
+      free = λ c y e f. grind (arith, gone_connection c, m.links.free c y);
+      busy = λ c y e f. grind (arith, gone_connection c, m.links.busy c y);
+      waits = λ c y r e f g. grind (arith, gone_connection c, m.links.waits c y r);
+      left_by = λ c y r e f g h. grind (arith, gone_connection c, m.links.left_by c y r, failed_request r);
+      fills = λ c y r e f g. grind (arith, gone_connection c, failed_request r, m.links.fills c y r);
+    };
+    pinning = record {
+      pins = λ c. grind (arith, gone_connection c, m.pinning.pins c, m.pinning.pins x.id, at_x, loose_now);
+      loose = λ c y e f. grind (arith, gone_connection c, m.pinning.loose c y);
+      rests = λ c y e f. grind (arith, gone_connection c, m.pinning.rests c y);
+    };
+    uses = record {
+      errored = λ c. grind (arith, nat_tests, gone_connection c, m.uses.errored c, m.counts.unused c, at_x);
+      dropped = λ c. grind (arith, nat_tests, gone_connection c, m.uses.dropped c, m.counts.unused c, at_x);
+      calm = λ c y e f. grind (arith, gone_connection c, m.uses.calm c y);
+    };
+    clearing = m.clearing;
+    at_pin = λ c. grind (arith, nat_tests, gone_connection c, pinned-again xs c, m.at_pin c, m.pinning.pins x.id, at_x, loose_now);
   }

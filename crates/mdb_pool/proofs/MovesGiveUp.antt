@@ -8,16 +8,16 @@ use Rattle.mdb_pool.specs.declared.connection.Place.TheVariants.{Pending, Availa
 use Rattle.mdb_pool.specs.declared.request.Request.{Request}
 use Rattle.mdb_pool.specs.declared.request.Phase.TheVariants.{Given, Ended as EndedPhase}
 use Rattle.mdb_pool.specs.declared.pool_core.PoolCore.{PoolCore}
-use Rattle.mdb_pool.specs.History.{PoolItem, without, given, gave_up, checked_in, ended}
+use Rattle.mdb_log.specs.History.{PoolItem, without, given, gave_up, checked_in, ended}
 use Rattle.mdb_pool.specs.Kept.{connection_at, request_at, given_in, given_of, holder_at, used_as}
-use Rattle.mdb_pool.specs.Requests.{queued}
-use Rattle.mdb_pool.specs.Standing.{Matches}
-use Rattle.mdb_pool.specs.Connections.{holding}
+use Rattle.mdb_log.specs.Requests.{queued}
+use Rattle.mdb_pool.specs.Matching.{Matches}
+use Rattle.mdb_log.specs.Connections.{holding}
 use Rattle.mdb_pool.specs.Places.{is_pending, is_available, is_queued, stays}
 use Rattle.mdb_pool.specs.Changes.{quitting, leaving, parting, handing}
 use Rattle.mdb_pool.proofs.Moves.{parties-without, holder-given, pending-place}
-use Rattle.mdb_pool.proofs.Pins.{pinned-again, holding-none, holding-one, holding-pending}
-use Rattle.mdb_pool.specs.declared.step.Use.TheVariants.{Ok}
+use Rattle.mdb_log.proofs.Pins.{pinned-again, holding-none, holding-one, holding-pending}
+use Rattle.mdb_log.specs.declared.step.Use.TheVariants.{Ok}
 use Rattle.mdb_pool.proofs.Tables.{without-absent, entry_at-put, where-put, named, named-put, length-put, passes, has-where, where-put_stay, entry_at-swap, named-swap, length-swap, where-swap_out, where-swap_stay, where-swap_same, one_if-le}
 
 abbrev id_of : Connection → ℕ
@@ -40,47 +40,43 @@ module _ (s : PoolCore) (xs : List PoolItem) (m : Matches s xs) (n : ℕ) (q : R
 
   pub quit-matches : Matches (quitting s n q) (ended q.number GaveUp ∷ gave_up q.number ∷ xs)
   quit-matches = record {
-    created = m.created;
-    live_all = m.live_all;
-    pending = m.pending;
-    available = m.available;
-    queue = ap (without q.number) m.queue ∙ sym (where-swap_out number_of (λ y. is_queued y.phase) quit_q s.requests refl);
-    single = m.single;
-    unused = m.unused;
-    live = m.live;
-    parties = λ c. parties-without s xs m q.number c ∙ grind (arith, m.parties c, holder-given s xs m q.number c, given_none);
-    granted_to = m.granted_to;
-    created_at = m.created_at;
-    served = m.served;
-    service = m.service;
-    wire = m.wire;
-    given = λ r. grind (arith, quit_request r, m.given r);
-    single_request = λ r. grind (arith, named-swap number_of r quit_q s.requests, quit_request r, m.single_request r);
-    asked_at = λ r. grind (arith, quit_request r, m.asked_at r);
-    ends = λ r. grind (arith, quit_request r, m.ends r);
-    taken = λ k c h. grind (arith, quit_request k, m.taken k c, at_q, none);
-    owned = λ c k h. grind (arith, quit_request k, m.owned c k, at_q, none);
-    known = λ c y r e f. grind (arith, quit_request r, m.known c y r);
-    free = m.free;
-    busy = m.busy;
-    waits = m.waits;
-    left_by = λ c y r e f g h. grind (arith, quit_request r, m.left_by c y r, m.known c y r);
-    since = m.since;
-    status = m.status;
-    clears = m.clears;
-    before = m.before;
-    seen = m.seen;
-    warm = λ r. grind (arith, quit_request r, m.warm r);
-    fills = λ c y r e f g. grind (arith, quit_request r, m.fills c y r);
-    ungranted = m.ungranted;
-    asks = λ r. grind (arith, quit_request r, m.asks r);
-    pins = m.pins;
-    at_pin = λ c. rw (holding-none xs q.number (m.given q.number ∙ given_none)) (grind (arith, pinned-again xs c, m.at_pin c));
-    loose = m.loose;
-    rests = m.rests;
-    errored = m.errored;
-    dropped = λ c. rw (m.given q.number ∙ given_none) (m.dropped c);
-    calm = m.calm;
+    counts = m.counts;
+    connections = record {
+      live = m.connections.live;
+      parties = λ c. parties-without s xs m q.number c ∙ grind (arith, m.connections.parties c, holder-given s xs m q.number c, given_none);
+      ungranted = m.connections.ungranted;
+      granted_to = m.connections.granted_to;
+      created_at = m.connections.created_at;
+      since = m.connections.since;
+    };
+    told = m.told;
+    requests = record {
+      queue = ap (without q.number) m.requests.queue ∙ sym (where-swap_out number_of (λ y. is_queued y.phase) quit_q s.requests refl);
+      given = λ r. grind (arith, quit_request r, m.requests.given r);
+      single_request = λ r. grind (arith, named-swap number_of r quit_q s.requests, quit_request r, m.requests.single_request r);
+      asked_at = λ r. grind (arith, quit_request r, m.requests.asked_at r);
+      ends = λ r. grind (arith, quit_request r, m.requests.ends r);
+      asks = λ r. grind (arith, quit_request r, m.requests.asks r);
+      warm = λ r. grind (arith, quit_request r, m.requests.warm r);
+    };
+    links = record {
+      taken = λ k c h. grind (arith, quit_request k, m.links.taken k c, at_q, none);
+      owned = λ c k h. grind (arith, quit_request k, m.links.owned c k, at_q, none);
+      known = λ c y r e f. grind (arith, quit_request r, m.links.known c y r);
+      free = m.links.free;
+      busy = m.links.busy;
+      waits = m.links.waits;
+      left_by = λ c y r e f g h. grind (arith, quit_request r, m.links.left_by c y r, m.links.known c y r);
+      fills = λ c y r e f g. grind (arith, quit_request r, m.links.fills c y r);
+    };
+    pinning = m.pinning;
+    uses = record {
+      errored = m.uses.errored;
+      dropped = λ c. rw (m.requests.given q.number ∙ given_none) (m.uses.dropped c);
+      calm = m.uses.calm;
+    };
+    clearing = m.clearing;
+    at_pin = λ c. rw (holding-none xs q.number (m.requests.given q.number ∙ given_none)) (grind (arith, pinned-again xs c, m.at_pin c));
   }
 
 -- a request whose connection is pending is given up
@@ -99,64 +95,75 @@ module _ (s : PoolCore) (xs : List PoolItem) (m : Matches s xs) (n : ℕ) (x : C
   left_request r = entry_at-swap number_of r left_q s.requests (ap is_some at_q)
 
   was_given : given xs q.number ≡ Some x.id
-  was_given = m.given q.number ∙ (ap given_of at_q ∙ ap given_in phase)
+  was_given = m.requests.given q.number ∙ (ap given_of at_q ∙ ap given_in phase)
 
   was_held : holder_at (connection_at s x.id) ≡ Some q.number
-  was_held = m.taken q.number x.id (ap given_of at_q ∙ ap given_in phase)
+  was_held = m.links.taken q.number x.id (ap given_of at_q ∙ ap given_in phase)
 
   given_now : given_of (request_at s q.number) ≡ Some x.id
   given_now = ap given_of at_q ∙ ap given_in phase
 
   pub leave-matches : x.place ≡ Pending → Matches (leaving s n x q) (ended q.number GaveUp ∷ gave_up q.number ∷ xs)
   leave-matches place = record {
-    created = m.created;
-    live_all = m.live_all ∙ sym (length-swap id_of left_x s.connections);
-    pending = m.pending ∙ sym (where-swap_same id_of (λ y. is_pending y.place) left_x x s.connections at_x once refl);
-    available = m.available ∙ sym (where-swap_same id_of (λ y. is_available y.place) left_x x s.connections at_x once refl);
-    queue = without-absent q.number (queued xs) (rw m.queue (has-where number_of (λ y. is_queued y.phase) q.number s.requests (m.single_request q.number) ∙ (ap (passes number_of (λ y. is_queued y.phase)) at_q ∙ ap is_queued phase))) ∙ (m.queue ∙ sym (where-swap_stay number_of (λ y. is_queued y.phase) left_q s.requests refl (m.single_request q.number) (ap (passes number_of (λ y. is_queued y.phase)) at_q ∙ ap is_queued phase)));
-    single = λ c. grind (arith, named-swap id_of c left_x s.connections, left_connection c, m.single c);
-    unused = λ c h. grind (arith, left_connection c, m.unused c h);
-    live = λ c. grind (arith, left_connection c, m.live c);
-    parties = λ c. parties-without s xs m q.number c ∙ grind (arith, left_connection c, m.parties c, holder-given s xs m q.number c, given_now, was_held, at_x);
-    granted_to = λ c y e. grind (arith, left_connection c, m.granted_to c y, m.granted_to x.id x at_x);
-    created_at = λ c y e. grind (arith, left_connection c, m.created_at c y, m.created_at x.id x at_x);
-    served = λ c. grind (arith, nat_tests, left_connection c, m.served c, m.served x.id, at_x);
-    service = λ c. grind (arith, nat_tests, left_connection c, m.service c, m.service x.id, at_x);
-    wire = λ c. grind (arith, nat_tests, left_connection c, m.wire c, m.wire x.id, at_x);
-    given = λ r. grind (arith, left_request r, m.given r);
-    single_request = λ r. grind (arith, named-swap number_of r left_q s.requests, left_request r, m.single_request r);
-    asked_at = λ r. grind (arith, left_request r, m.asked_at r);
-    ends = λ r. grind (arith, left_request r, m.ends r);
-    taken = λ r c h. grind (arith, left_request r, left_connection c, m.taken r c, m.owned c r, was_held, at_x, at_q);
-    owned = λ c r h. grind (arith, left_request r, left_connection c, m.owned c r, m.taken r c, was_held, at_x, at_q);
-    known = λ c y r e f. grind (arith, left_connection c, m.known c y r, m.known x.id x r at_x, left_request r);
-    free = λ c y e f. grind (arith, left_connection c, m.free c y);
-    busy = λ c y e f. grind (arith, left_connection c, m.busy c y, place);
-    waits = λ c y r e f g. grind (arith, left_connection c, m.waits c y r);
-    left_by = λ c y r e f g h. grind (arith, left_connection c, m.left_by c y r, left_request r, mine place);
-    since = λ c y e f. grind (arith, left_connection c, m.since c y);
-    status = m.status;
-    clears = m.clears;
-    before = m.before;
-    seen = m.seen;
-    warm = λ r. grind (arith, left_request r, m.warm r);
-    fills = λ c y r e f g. grind (arith, left_connection c, left_request r, m.fills c y r);
-    ungranted = m.ungranted;
-    asks = λ r. grind (arith, left_request r, m.asks r);
-    pins = λ c. grind (arith, left_connection c, m.pins c, m.pins x.id, at_x);
+    counts = record {
+      created = m.counts.created;
+      live_all = m.counts.live_all ∙ sym (length-swap id_of left_x s.connections);
+      pending = m.counts.pending ∙ sym (where-swap_same id_of (λ y. is_pending y.place) left_x x s.connections at_x once refl);
+      available = m.counts.available ∙ sym (where-swap_same id_of (λ y. is_available y.place) left_x x s.connections at_x once refl);
+      single = λ c. grind (arith, named-swap id_of c left_x s.connections, left_connection c, m.counts.single c);
+      unused = λ c h. grind (arith, left_connection c, m.counts.unused c h);
+    };
+    connections = record {
+      live = λ c. grind (arith, left_connection c, m.connections.live c);
+      parties = λ c. parties-without s xs m q.number c ∙ grind (arith, left_connection c, m.connections.parties c, holder-given s xs m q.number c, given_now, was_held, at_x);
+      ungranted = m.connections.ungranted;
+      granted_to = λ c y e. grind (arith, left_connection c, m.connections.granted_to c y, m.connections.granted_to x.id x at_x);
+      created_at = λ c y e. grind (arith, left_connection c, m.connections.created_at c y, m.connections.created_at x.id x at_x);
+      since = λ c y e f. grind (arith, left_connection c, m.connections.since c y);
+    };
+    told = record {
+      served = λ c. grind (arith, nat_tests, left_connection c, m.told.served c, m.told.served x.id, at_x);
+      service = λ c. grind (arith, nat_tests, left_connection c, m.told.service c, m.told.service x.id, at_x);
+      wire = λ c. grind (arith, nat_tests, left_connection c, m.told.wire c, m.told.wire x.id, at_x);
+    };
+    requests = record {
+      queue = without-absent q.number (queued xs) (rw m.requests.queue (has-where number_of (λ y. is_queued y.phase) q.number s.requests (m.requests.single_request q.number) ∙ (ap (passes number_of (λ y. is_queued y.phase)) at_q ∙ ap is_queued phase))) ∙ (m.requests.queue ∙ sym (where-swap_stay number_of (λ y. is_queued y.phase) left_q s.requests refl (m.requests.single_request q.number) (ap (passes number_of (λ y. is_queued y.phase)) at_q ∙ ap is_queued phase)));
+      given = λ r. grind (arith, left_request r, m.requests.given r);
+      single_request = λ r. grind (arith, named-swap number_of r left_q s.requests, left_request r, m.requests.single_request r);
+      asked_at = λ r. grind (arith, left_request r, m.requests.asked_at r);
+      ends = λ r. grind (arith, left_request r, m.requests.ends r);
+      asks = λ r. grind (arith, left_request r, m.requests.asks r);
+      warm = λ r. grind (arith, left_request r, m.requests.warm r);
+    };
+    links = record {
+      taken = λ r c h. grind (arith, left_request r, left_connection c, m.links.taken r c, m.links.owned c r, was_held, at_x, at_q);
+      owned = λ c r h. grind (arith, left_request r, left_connection c, m.links.owned c r, m.links.taken r c, was_held, at_x, at_q);
+      known = λ c y r e f. grind (arith, left_connection c, m.links.known c y r, m.links.known x.id x r at_x, left_request r);
+      free = λ c y e f. grind (arith, left_connection c, m.links.free c y);
+      busy = λ c y e f. grind (arith, left_connection c, m.links.busy c y, place);
+      waits = λ c y r e f g. grind (arith, left_connection c, m.links.waits c y r);
+      left_by = λ c y r e f g h. grind (arith, left_connection c, m.links.left_by c y r, left_request r, mine place);
+      fills = λ c y r e f g. grind (arith, left_connection c, left_request r, m.links.fills c y r);
+    };
+    pinning = record {
+      pins = λ c. grind (arith, left_connection c, m.pinning.pins c, m.pinning.pins x.id, at_x);
+      loose = λ c y e f. grind (arith, left_connection c, m.pinning.loose c y, m.pinning.loose x.id x at_x (ap stays place));
+      rests = λ c y e f. grind (arith, left_connection c, m.pinning.rests c y);
+    };
+    uses = record {
+      errored = λ c. grind (arith, nat_tests, left_connection c, m.uses.errored c, m.uses.errored x.id, at_x);
+      dropped = λ c. rw was_given (grind (arith, nat_tests, left_connection c, m.uses.dropped c, m.uses.dropped x.id, at_x));
+      calm = λ c y e f. grind (arith, left_connection c, m.uses.calm c y);
+    };
+    clearing = m.clearing;
     at_pin = λ c. rw (holding-pending xs q.number x.id was_given (pending-place s xs m x at_x ∙ ap is_pending place)) (grind (arith, left_connection c, pinned-again xs c, m.at_pin c, m.at_pin x.id, at_x, place));
-    loose = λ c y e f. grind (arith, left_connection c, m.loose c y, m.loose x.id x at_x (ap stays place));
-    rests = λ c y e f. grind (arith, left_connection c, m.rests c y);
-    errored = λ c. grind (arith, nat_tests, left_connection c, m.errored c, m.errored x.id, at_x);
-    dropped = λ c. rw was_given (grind (arith, nat_tests, left_connection c, m.dropped c, m.dropped x.id, at_x));
-    calm = λ c y e f. grind (arith, left_connection c, m.calm c y);
   }
     where
       once : named id_of x.id s.connections ≤ 1
-      once = rw (m.single x.id) (one_if-le (is_some (connection_at s x.id)))
+      once = rw (m.counts.single x.id) (one_if-le (is_some (connection_at s x.id)))
 
       mine : x.place ≡ Pending → x.party ≡ Some q.number
-      mine place = m.waits x.id x q.number at_x (ap is_pending place) (sym (ap holder_at at_x) ∙ was_held)
+      mine place = m.links.waits x.id x q.number at_x (ap is_pending place) (sym (ap holder_at at_x) ∙ was_held)
 
 -- a request whose connection is pending ends
 module _ (s : PoolCore) (xs : List PoolItem) (m : Matches s xs) (x : Connection) (q : Request) (end : End)
@@ -174,61 +181,72 @@ module _ (s : PoolCore) (xs : List PoolItem) (m : Matches s xs) (x : Connection)
   apart_request r = entry_at-swap number_of r apart_q s.requests (ap is_some at_q)
 
   kept_for : holder_at (connection_at s x.id) ≡ Some q.number
-  kept_for = m.taken q.number x.id (ap given_of at_q ∙ ap given_in phase)
+  kept_for = m.links.taken q.number x.id (ap given_of at_q ∙ ap given_in phase)
 
   given_then : given_of (request_at s q.number) ≡ Some x.id
   given_then = ap given_of at_q ∙ ap given_in phase
 
   pub part-matches : x.place ≡ Pending → Matches (parting s x q end) (ended q.number end ∷ xs)
   part-matches place = record {
-    created = m.created;
-    live_all = m.live_all ∙ sym (length-swap id_of apart_x s.connections);
-    pending = m.pending ∙ sym (where-swap_same id_of (λ y. is_pending y.place) apart_x x s.connections at_x once refl);
-    available = m.available ∙ sym (where-swap_same id_of (λ y. is_available y.place) apart_x x s.connections at_x once refl);
-    queue = without-absent q.number (queued xs) (rw m.queue (has-where number_of (λ y. is_queued y.phase) q.number s.requests (m.single_request q.number) ∙ (ap (passes number_of (λ y. is_queued y.phase)) at_q ∙ ap is_queued phase))) ∙ (m.queue ∙ sym (where-swap_stay number_of (λ y. is_queued y.phase) apart_q s.requests refl (m.single_request q.number) (ap (passes number_of (λ y. is_queued y.phase)) at_q ∙ ap is_queued phase)));
-    single = λ c. grind (arith, named-swap id_of c apart_x s.connections, apart_connection c, m.single c);
-    unused = λ c h. grind (arith, apart_connection c, m.unused c h);
-    live = λ c. grind (arith, apart_connection c, m.live c);
-    parties = λ c. parties-without s xs m q.number c ∙ grind (arith, apart_connection c, m.parties c, holder-given s xs m q.number c, given_then, kept_for, at_x);
-    granted_to = λ c y e. grind (arith, apart_connection c, m.granted_to c y, m.granted_to x.id x at_x);
-    created_at = λ c y e. grind (arith, apart_connection c, m.created_at c y, m.created_at x.id x at_x);
-    served = λ c. grind (arith, nat_tests, apart_connection c, m.served c, m.served x.id, at_x);
-    service = λ c. grind (arith, nat_tests, apart_connection c, m.service c, m.service x.id, at_x);
-    wire = λ c. grind (arith, nat_tests, apart_connection c, m.wire c, m.wire x.id, at_x);
-    given = λ r. grind (arith, apart_request r, m.given r);
-    single_request = λ r. grind (arith, named-swap number_of r apart_q s.requests, apart_request r, m.single_request r);
-    asked_at = λ r. grind (arith, apart_request r, m.asked_at r);
-    ends = λ r. grind (arith, apart_request r, m.ends r);
-    taken = λ r c h. grind (arith, apart_request r, apart_connection c, m.taken r c, m.owned c r, kept_for, at_x, at_q);
-    owned = λ c r h. grind (arith, apart_request r, apart_connection c, m.owned c r, m.taken r c, kept_for, at_x, at_q);
-    known = λ c y r e f. grind (arith, apart_connection c, m.known c y r, m.known x.id x r at_x, apart_request r);
-    free = λ c y e f. grind (arith, apart_connection c, m.free c y);
-    busy = λ c y e f. grind (arith, apart_connection c, m.busy c y, place);
-    waits = λ c y r e f g. grind (arith, apart_connection c, m.waits c y r);
-    left_by = λ c y r e f g h. grind (arith, apart_connection c, m.left_by c y r, apart_request r, mine place);
-    since = λ c y e f. grind (arith, apart_connection c, m.since c y);
-    status = m.status;
-    clears = m.clears;
-    before = m.before;
-    seen = m.seen;
-    warm = λ r. grind (arith, apart_request r, m.warm r);
-    fills = λ c y r e f g. grind (arith, apart_connection c, apart_request r, m.fills c y r);
-    ungranted = m.ungranted;
-    asks = λ r. grind (arith, apart_request r, m.asks r);
-    pins = λ c. grind (arith, apart_connection c, m.pins c, m.pins x.id, at_x);
+    counts = record {
+      created = m.counts.created;
+      live_all = m.counts.live_all ∙ sym (length-swap id_of apart_x s.connections);
+      pending = m.counts.pending ∙ sym (where-swap_same id_of (λ y. is_pending y.place) apart_x x s.connections at_x once refl);
+      available = m.counts.available ∙ sym (where-swap_same id_of (λ y. is_available y.place) apart_x x s.connections at_x once refl);
+      single = λ c. grind (arith, named-swap id_of c apart_x s.connections, apart_connection c, m.counts.single c);
+      unused = λ c h. grind (arith, apart_connection c, m.counts.unused c h);
+    };
+    connections = record {
+      live = λ c. grind (arith, apart_connection c, m.connections.live c);
+      parties = λ c. parties-without s xs m q.number c ∙ grind (arith, apart_connection c, m.connections.parties c, holder-given s xs m q.number c, given_then, kept_for, at_x);
+      ungranted = m.connections.ungranted;
+      granted_to = λ c y e. grind (arith, apart_connection c, m.connections.granted_to c y, m.connections.granted_to x.id x at_x);
+      created_at = λ c y e. grind (arith, apart_connection c, m.connections.created_at c y, m.connections.created_at x.id x at_x);
+      since = λ c y e f. grind (arith, apart_connection c, m.connections.since c y);
+    };
+    told = record {
+      served = λ c. grind (arith, nat_tests, apart_connection c, m.told.served c, m.told.served x.id, at_x);
+      service = λ c. grind (arith, nat_tests, apart_connection c, m.told.service c, m.told.service x.id, at_x);
+      wire = λ c. grind (arith, nat_tests, apart_connection c, m.told.wire c, m.told.wire x.id, at_x);
+    };
+    requests = record {
+      queue = without-absent q.number (queued xs) (rw m.requests.queue (has-where number_of (λ y. is_queued y.phase) q.number s.requests (m.requests.single_request q.number) ∙ (ap (passes number_of (λ y. is_queued y.phase)) at_q ∙ ap is_queued phase))) ∙ (m.requests.queue ∙ sym (where-swap_stay number_of (λ y. is_queued y.phase) apart_q s.requests refl (m.requests.single_request q.number) (ap (passes number_of (λ y. is_queued y.phase)) at_q ∙ ap is_queued phase)));
+      given = λ r. grind (arith, apart_request r, m.requests.given r);
+      single_request = λ r. grind (arith, named-swap number_of r apart_q s.requests, apart_request r, m.requests.single_request r);
+      asked_at = λ r. grind (arith, apart_request r, m.requests.asked_at r);
+      ends = λ r. grind (arith, apart_request r, m.requests.ends r);
+      asks = λ r. grind (arith, apart_request r, m.requests.asks r);
+      warm = λ r. grind (arith, apart_request r, m.requests.warm r);
+    };
+    links = record {
+      taken = λ r c h. grind (arith, apart_request r, apart_connection c, m.links.taken r c, m.links.owned c r, kept_for, at_x, at_q);
+      owned = λ c r h. grind (arith, apart_request r, apart_connection c, m.links.owned c r, m.links.taken r c, kept_for, at_x, at_q);
+      known = λ c y r e f. grind (arith, apart_connection c, m.links.known c y r, m.links.known x.id x r at_x, apart_request r);
+      free = λ c y e f. grind (arith, apart_connection c, m.links.free c y);
+      busy = λ c y e f. grind (arith, apart_connection c, m.links.busy c y, place);
+      waits = λ c y r e f g. grind (arith, apart_connection c, m.links.waits c y r);
+      left_by = λ c y r e f g h. grind (arith, apart_connection c, m.links.left_by c y r, apart_request r, mine place);
+      fills = λ c y r e f g. grind (arith, apart_connection c, apart_request r, m.links.fills c y r);
+    };
+    pinning = record {
+      pins = λ c. grind (arith, apart_connection c, m.pinning.pins c, m.pinning.pins x.id, at_x);
+      loose = λ c y e f. grind (arith, apart_connection c, m.pinning.loose c y, m.pinning.loose x.id x at_x (ap stays place));
+      rests = λ c y e f. grind (arith, apart_connection c, m.pinning.rests c y);
+    };
+    uses = record {
+      errored = λ c. grind (arith, nat_tests, apart_connection c, m.uses.errored c, m.uses.errored x.id, at_x);
+      dropped = λ c. grind (arith, nat_tests, apart_connection c, m.uses.dropped c, m.uses.dropped x.id, at_x);
+      calm = λ c y e f. grind (arith, apart_connection c, m.uses.calm c y);
+    };
+    clearing = m.clearing;
     at_pin = λ c. grind (arith, apart_connection c, pinned-again xs c, m.at_pin c, m.at_pin x.id, at_x);
-    loose = λ c y e f. grind (arith, apart_connection c, m.loose c y, m.loose x.id x at_x (ap stays place));
-    rests = λ c y e f. grind (arith, apart_connection c, m.rests c y);
-    errored = λ c. grind (arith, nat_tests, apart_connection c, m.errored c, m.errored x.id, at_x);
-    dropped = λ c. grind (arith, nat_tests, apart_connection c, m.dropped c, m.dropped x.id, at_x);
-    calm = λ c y e f. grind (arith, apart_connection c, m.calm c y);
   }
     where
       once : named id_of x.id s.connections ≤ 1
-      once = rw (m.single x.id) (one_if-le (is_some (connection_at s x.id)))
+      once = rw (m.counts.single x.id) (one_if-le (is_some (connection_at s x.id)))
 
       mine : x.place ≡ Pending → x.party ≡ Some q.number
-      mine place = m.waits x.id x q.number at_x (ap is_pending place) (sym (ap holder_at at_x) ∙ kept_for)
+      mine place = m.links.waits x.id x q.number at_x (ap is_pending place) (sym (ap holder_at at_x) ∙ kept_for)
 
 -- a request whose connection is held is given up, and the connection is available
 module _ (s : PoolCore) (xs : List PoolItem) (m : Matches s xs) (n : ℕ) (x : Connection) (q : Request)
@@ -243,10 +261,10 @@ module _ (s : PoolCore) (xs : List PoolItem) (m : Matches s xs) (n : ℕ) (x : C
   handed_request r = entry_at-swap number_of r (left_q s xs m n x q at_x at_q phase) s.requests (ap is_some at_q)
 
   had_given : given xs q.number ≡ Some x.id
-  had_given = m.given q.number ∙ (ap given_of at_q ∙ ap given_in phase)
+  had_given = m.requests.given q.number ∙ (ap given_of at_q ∙ ap given_in phase)
 
   had_held : holder_at (connection_at s x.id) ≡ Some q.number
-  had_held = m.taken q.number x.id (ap given_of at_q ∙ ap given_in phase)
+  had_held = m.links.taken q.number x.id (ap given_of at_q ∙ ap given_in phase)
 
   has_given : given_of (request_at s q.number) ≡ Some x.id
   has_given = ap given_of at_q ∙ ap given_in phase
@@ -256,91 +274,74 @@ module _ (s : PoolCore) (xs : List PoolItem) (m : Matches s xs) (n : ℕ) (x : C
 
   pub hand-matches : x.pins ≡ 0 → Matches (handing s n (used_as x Ok) q) (checked_in x.id n ∷ ended q.number GaveUp ∷ gave_up q.number ∷ xs)
   hand-matches loose_now = record {
-    created = m.created;
-    live_all = grind (arith, m.live_all, length-put id_of handed_x s.connections, m.single x.id);
-    pending = m.pending ∙ sym (where-put_stay id_of (λ y. is_pending y.place) handed_x s.connections refl (m.single x.id) (ap (passes id_of (λ y. is_pending y.place)) at_x ∙ ap is_pending place));
-    available = ap (λ cs. without x.id cs ++ x.id ∷ []) m.available ∙ sym (where-put id_of (λ y. is_available y.place) handed_x s.connections);
-    queue = without-absent q.number (queued xs) (rw m.queue (has-where number_of (λ y. is_queued y.phase) q.number s.requests (m.single_request q.number) ∙ (ap (passes number_of (λ y. is_queued y.phase)) at_q ∙ ap is_queued phase))) ∙ (m.queue ∙ sym (where-swap_stay number_of (λ y. is_queued y.phase) (left_q s xs m n x q at_x at_q phase) s.requests refl (m.single_request q.number) (ap (passes number_of (λ y. is_queued y.phase)) at_q ∙ ap is_queued phase)));
-    single = λ c. grind (arith, named-put id_of c handed_x s.connections, handed_connection c, m.single c);
-    unused = λ c h. grind (arith, handed_connection c, m.unused c h);
-    live = λ c. grind (arith, handed_connection c, m.live c);
-    parties = λ c. parties-without s xs m q.number c ∙ grind (arith, handed_connection c, m.parties c, holder-given s xs m q.number c, has_given, had_held, at_x);
-    granted_to = λ c y e. grind (arith, handed_connection c, m.granted_to c y, m.granted_to x.id x at_x);
-    created_at = λ c y e. grind (arith, handed_connection c, m.created_at c y, m.created_at x.id x at_x);
-    served = λ c. grind (arith, nat_tests, handed_connection c, m.served c, m.served x.id, at_x);
-    service = λ c. grind (arith, nat_tests, handed_connection c, m.service c, m.service x.id, at_x);
-    wire = λ c. grind (arith, nat_tests, handed_connection c, m.wire c, m.wire x.id, at_x);
-    given = λ r. grind (arith, handed_request r, m.given r);
-    single_request = λ r. grind (arith, named-swap number_of r (left_q s xs m n x q at_x at_q phase) s.requests, handed_request r, m.single_request r);
-    asked_at = λ r. grind (arith, handed_request r, m.asked_at r);
-    ends = λ r. grind (arith, handed_request r, m.ends r);
-    taken = λ r c h. grind (arith, handed_request r, handed_connection c, m.taken r c, m.owned c r, had_held, at_x, at_q);
-    owned = λ c r h. grind (arith, handed_request r, handed_connection c, m.owned c r, m.taken r c, had_held, at_x, at_q);
-    known = λ c y r e f. grind (arith, handed_connection c, m.known c y r, m.known x.id x r at_x, handed_request r);
-    free = λ c y e f. grind (arith, handed_connection c, m.free c y);
-    busy = λ c y e f. grind (arith, handed_connection c, m.busy c y);
-    waits = λ c y r e f g. grind (arith, handed_connection c, m.waits c y r);
-    left_by = λ c y r e f g h. grind (arith, handed_connection c, m.left_by c y r, handed_request r);
-    since = λ c y e f. grind (arith, handed_connection c, m.since c y);
-    status = m.status;
-    clears = m.clears;
-    before = m.before;
-    seen = m.seen;
-    warm = λ r. grind (arith, handed_request r, m.warm r);
-    fills = λ c y r e f g. grind (arith, handed_connection c, handed_request r, m.fills c y r);
-    ungranted = m.ungranted;
-    asks = λ r. grind (arith, handed_request r, m.asks r);
-    pins = λ c. grind (arith, handed_connection c, m.pins c, m.pins x.id, at_x);
-    at_pin = λ c. rw held_one (grind (arith, nat_tests, handed_connection c, pinned-again xs c, m.at_pin c, m.pins x.id, at_x, loose_now));
-    loose = λ c y e f. grind (arith, handed_connection c, m.loose c y, loose_now);
-    rests = λ c y e f. grind (arith, handed_connection c, m.rests c y);
-    errored = λ c. grind (arith, nat_tests, handed_connection c, m.errored c, m.errored x.id, at_x);
-    dropped = λ c. rw had_given (grind (arith, nat_tests, handed_connection c, m.dropped c, m.dropped x.id, at_x));
-    calm = λ c y e f. grind (arith, handed_connection c, m.calm c y);
+    counts = record {
+      created = m.counts.created;
+      live_all = grind (arith, m.counts.live_all, length-put id_of handed_x s.connections, m.counts.single x.id);
+      pending = m.counts.pending ∙ sym (where-put_stay id_of (λ y. is_pending y.place) handed_x s.connections refl (m.counts.single x.id) (ap (passes id_of (λ y. is_pending y.place)) at_x ∙ ap is_pending place));
+      available = ap (λ cs. without x.id cs ++ x.id ∷ []) m.counts.available ∙ sym (where-put id_of (λ y. is_available y.place) handed_x s.connections);
+      single = λ c. grind (arith, named-put id_of c handed_x s.connections, handed_connection c, m.counts.single c);
+      unused = λ c h. grind (arith, handed_connection c, m.counts.unused c h);
+    };
+    connections = record {
+      live = λ c. grind (arith, handed_connection c, m.connections.live c);
+      parties = λ c. parties-without s xs m q.number c ∙ grind (arith, handed_connection c, m.connections.parties c, holder-given s xs m q.number c, has_given, had_held, at_x);
+      ungranted = m.connections.ungranted;
+      granted_to = λ c y e. grind (arith, handed_connection c, m.connections.granted_to c y, m.connections.granted_to x.id x at_x);
+      created_at = λ c y e. grind (arith, handed_connection c, m.connections.created_at c y, m.connections.created_at x.id x at_x);
+      since = λ c y e f. grind (arith, handed_connection c, m.connections.since c y);
+    };
+    told = record {
+      served = λ c. grind (arith, nat_tests, handed_connection c, m.told.served c, m.told.served x.id, at_x);
+      service = λ c. grind (arith, nat_tests, handed_connection c, m.told.service c, m.told.service x.id, at_x);
+      wire = λ c. grind (arith, nat_tests, handed_connection c, m.told.wire c, m.told.wire x.id, at_x);
+    };
+    requests = record {
+      queue = without-absent q.number (queued xs) (rw m.requests.queue (has-where number_of (λ y. is_queued y.phase) q.number s.requests (m.requests.single_request q.number) ∙ (ap (passes number_of (λ y. is_queued y.phase)) at_q ∙ ap is_queued phase))) ∙ (m.requests.queue ∙ sym (where-swap_stay number_of (λ y. is_queued y.phase) (left_q s xs m n x q at_x at_q phase) s.requests refl (m.requests.single_request q.number) (ap (passes number_of (λ y. is_queued y.phase)) at_q ∙ ap is_queued phase)));
+      given = λ r. grind (arith, handed_request r, m.requests.given r);
+      single_request = λ r. grind (arith, named-swap number_of r (left_q s xs m n x q at_x at_q phase) s.requests, handed_request r, m.requests.single_request r);
+      asked_at = λ r. grind (arith, handed_request r, m.requests.asked_at r);
+      ends = λ r. grind (arith, handed_request r, m.requests.ends r);
+      asks = λ r. grind (arith, handed_request r, m.requests.asks r);
+      warm = λ r. grind (arith, handed_request r, m.requests.warm r);
+    };
+    links = record {
+      taken = λ r c h. grind (arith, handed_request r, handed_connection c, m.links.taken r c, m.links.owned c r, had_held, at_x, at_q);
+      owned = λ c r h. grind (arith, handed_request r, handed_connection c, m.links.owned c r, m.links.taken r c, had_held, at_x, at_q);
+      known = λ c y r e f. grind (arith, handed_connection c, m.links.known c y r, m.links.known x.id x r at_x, handed_request r);
+      free = λ c y e f. grind (arith, handed_connection c, m.links.free c y);
+      busy = λ c y e f. grind (arith, handed_connection c, m.links.busy c y);
+      waits = λ c y r e f g. grind (arith, handed_connection c, m.links.waits c y r);
+      left_by = λ c y r e f g h. grind (arith, handed_connection c, m.links.left_by c y r, handed_request r);
+      fills = λ c y r e f g. grind (arith, handed_connection c, handed_request r, m.links.fills c y r);
+    };
+    pinning = record {
+      pins = λ c. grind (arith, handed_connection c, m.pinning.pins c, m.pinning.pins x.id, at_x);
+      loose = λ c y e f. grind (arith, handed_connection c, m.pinning.loose c y, loose_now);
+      rests = λ c y e f. grind (arith, handed_connection c, m.pinning.rests c y);
+    };
+    uses = record {
+      errored = λ c. grind (arith, nat_tests, handed_connection c, m.uses.errored c, m.uses.errored x.id, at_x);
+      dropped = λ c. rw had_given (grind (arith, nat_tests, handed_connection c, m.uses.dropped c, m.uses.dropped x.id, at_x));
+      calm = λ c y e f. grind (arith, handed_connection c, m.uses.calm c y);
+    };
+    clearing = m.clearing;
+    at_pin = λ c. rw held_one (grind (arith, nat_tests, handed_connection c, pinned-again xs c, m.at_pin c, m.pinning.pins x.id, at_x, loose_now));
   }
 
 -- a request that ended is given up late
 pub late-matches : (s : PoolCore) (xs : List PoolItem) (m : Matches s xs) (n r : ℕ) (told : List ℕ) → given_of (request_at s r) ≡ None → Matches (record s { last = n; settled = told }) (gave_up r ∷ xs)
 late-matches s xs m n r told none = record {
-  created = m.created;
-  live_all = m.live_all;
-  pending = m.pending;
-  available = m.available;
-  queue = m.queue;
-  single = m.single;
-  unused = m.unused;
-  live = m.live;
-  parties = m.parties;
-  granted_to = m.granted_to;
-  created_at = m.created_at;
-  served = m.served;
-  service = m.service;
-  wire = m.wire;
-  given = m.given;
-  single_request = m.single_request;
-  asked_at = m.asked_at;
-  ends = m.ends;
-  taken = m.taken;
-  owned = m.owned;
-  known = m.known;
-  free = m.free;
-  busy = m.busy;
-  waits = m.waits;
-  left_by = m.left_by;
-  since = m.since;
-  status = m.status;
-  clears = m.clears;
-  before = m.before;
-  seen = m.seen;
-  warm = m.warm;
-  fills = m.fills;
-  ungranted = m.ungranted;
-  asks = m.asks;
-  pins = m.pins;
-  at_pin = λ c. rw (holding-none xs r (m.given r ∙ none)) (grind (arith, pinned-again xs c, m.at_pin c));
-  loose = m.loose;
-  rests = m.rests;
-  errored = m.errored;
-  dropped = λ c. rw (m.given r ∙ none) (m.dropped c);
-  calm = m.calm;
+  counts = m.counts;
+  connections = m.connections;
+  told = m.told;
+  requests = m.requests;
+  links = m.links;
+  pinning = m.pinning;
+  uses = record {
+    errored = m.uses.errored;
+    dropped = λ c. rw (m.requests.given r ∙ none) (m.uses.dropped c);
+    calm = m.uses.calm;
+  };
+  clearing = m.clearing;
+  at_pin = λ c. rw (holding-none xs r (m.requests.given r ∙ none)) (grind (arith, pinned-again xs c, m.at_pin c));
 }

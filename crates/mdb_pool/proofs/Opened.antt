@@ -2,14 +2,15 @@
 use Rattle.std.proofs.Common.{ℕ, ◌≡◌, Bool, true, false, ◌&&◌, [], ◌∷◌, Some, None, refl, sym, subst, if◌then◌else◌}
 use Rattle.mdb_base.specs.declared.address.ServerAddress.{ServerAddress}
 use Rattle.mdb_base.specs.Equality.{same_address}
-use Rattle.mdb_pool.specs.declared.options.PoolOptions.{PoolOptions}
+use Rattle.mdb_log.specs.declared.options.PoolOptions.{PoolOptions}
 use Rattle.mdb_pool.specs.declared.status.Status.{Status}
 use Rattle.mdb_pool.specs.declared.pool_core.PoolCore.{PoolCore}
-use Rattle.mdb_pool.specs.History.{of_pool, opening, pool_created}
-use Rattle.mdb_pool.specs.State.{is_ready, is_new}
+use Rattle.mdb_log.specs.History.{of_pool, opening, pool_created}
+use Rattle.mdb_log.specs.State.{is_ready, is_new}
 use Rattle.mdb_pool.specs.Kept.{state_in, is_shut}
-use Rattle.mdb_pool.specs.Standing.{Matches, Fits, StandsFor}
-use Rattle.mdb_pool.proofs.Numbers.{same-number}
+use Rattle.mdb_pool.specs.Standing.{Fits, StandsFor}
+use Rattle.mdb_pool.specs.Matching.{Matches}
+use Rattle.mdb_log.proofs.Numbers.{same-number}
 
 module _ (p : ℕ) (a : ServerAddress) (o : PoolOptions) (status : Status) where
   abbrev pub opened : PoolCore
@@ -21,47 +22,63 @@ module _ (p : ℕ) (a : ServerAddress) (o : PoolOptions) (status : Status) where
 
   opened-matches : state_in status ≡ (if o.load_balanced then is_ready else is_new) → Matches opened (pool_created ∷ [])
   opened-matches e = record {
-    created = refl;
-    live_all = refl;
-    pending = refl;
-    available = refl;
-    queue = refl;
-    single = λ c. refl;
-    unused = λ c h. refl;
-    live = λ c. refl;
-    parties = λ c. refl;
-    granted_to = λ c y h. cc;
-    created_at = λ c y h. cc;
-    served = λ c. both _ None;
-    service = λ c. both _ None;
-    wire = λ c. both _ None;
-    given = λ r. refl;
-    single_request = λ r. refl;
-    asked_at = λ r. refl;
-    ends = λ r. refl;
-    taken = λ r c h. cc;
-    owned = λ c r h. cc;
-    known = λ c y r h f. cc;
-    free = λ c y h f. cc;
-    busy = λ c y h f. cc;
-    waits = λ c y r h f g. cc;
-    left_by = λ c y r h f g i. cc;
-    since = λ c y h f. cc;
-    status = sym e;
-    clears = λ t. refl;
-    before = λ c t h. refl;
-    seen = λ c t h. refl;
-    warm = λ r. refl;
-    fills = λ c y r h f g. cc;
-    ungranted = λ c h. refl;
-    asks = λ r. refl;
-    pins = λ c. refl;
+    counts = record {
+      created = refl;
+      live_all = refl;
+      pending = refl;
+      available = refl;
+      single = λ c. refl;
+      unused = λ c h. refl;
+    };
+    connections = record {
+      live = λ c. refl;
+      parties = λ c. refl;
+      ungranted = λ c h. refl;
+      granted_to = λ c y h. cc;
+      created_at = λ c y h. cc;
+      since = λ c y h f. cc;
+    };
+    told = record {
+      served = λ c. both _ None;
+      service = λ c. both _ None;
+      wire = λ c. both _ None;
+    };
+    requests = record {
+      queue = refl;
+      given = λ r. refl;
+      single_request = λ r. refl;
+      asked_at = λ r. refl;
+      ends = λ r. refl;
+      asks = λ r. refl;
+      warm = λ r. refl;
+    };
+    links = record {
+      taken = λ r c h. cc;
+      owned = λ c r h. cc;
+      known = λ c y r h f. cc;
+      free = λ c y h f. cc;
+      busy = λ c y h f. cc;
+      waits = λ c y r h f g. cc;
+      left_by = λ c y r h f g i. cc;
+      fills = λ c y r h f g. cc;
+    };
+    pinning = record {
+      pins = λ c. refl;
+      loose = λ c y h f. cc;
+      rests = λ c y h f. cc;
+    };
+    uses = record {
+      errored = λ c. both _ false;
+      dropped = λ c. both _ false;
+      calm = λ c y h f. cc;
+    };
+    clearing = record {
+      status = sym e;
+      clears = λ t. refl;
+      before = λ c t h. refl;
+      seen = λ c t h. refl;
+    };
     at_pin = λ c. refl;
-    loose = λ c y h f. cc;
-    rests = λ c y h f. cc;
-    errored = λ c. both _ false;
-    dropped = λ c. both _ false;
-    calm = λ c y h f. cc;
   }
 
   opened-items : of_pool p (opening p a o) ≡ pool_created ∷ []

@@ -6,17 +6,17 @@ use Rattle.mdb_pool.specs.declared.connection.Connection.{Connection}
 use Rattle.mdb_pool.specs.declared.connection.Place.TheVariants.{Available, Held, Pinned}
 use Rattle.mdb_pool.specs.declared.request.Request.{Request}
 use Rattle.mdb_pool.specs.declared.request.Phase.TheVariants.{Given, Over, Ended as EndedPhase}
-use Rattle.mdb_pool.specs.declared.step.Use.{Use}
-use Rattle.mdb_pool.specs.declared.step.Use.TheVariants.{Ok}
+use Rattle.mdb_log.specs.declared.step.Use.{Use}
+use Rattle.mdb_log.specs.declared.step.Use.TheVariants.{Ok}
 use Rattle.mdb_pool.specs.declared.pool_core.PoolCore.{PoolCore}
-use Rattle.mdb_pool.specs.History.{PoolItem, given, gave_up, returned, ended, pinned_by, replicated, taken, unpinned, checked_in, closed}
+use Rattle.mdb_log.specs.History.{PoolItem, given, gave_up, returned, ended, pinned_by, replicated, taken, unpinned, checked_in, closed}
 use Rattle.mdb_pool.specs.Kept.{connection_at, request_at, used_as}
 use Rattle.mdb_pool.specs.Standing.{Fits}
 use Rattle.mdb_pool.specs.Places.{is_at_pin, stays}
 use Rattle.mdb_pool.specs.Changes.{to_pin, pinning, taking, unpinned_once, unpinning, pin_ending}
 use Rattle.mdb_pool.proofs.MovesPins.{stand-matches, back_request, quit-pinned-matches, left_request, pin-matches, replicate-matches, take-matches, taken_q, taken_request, unpin-matches, pin-end-matches}
 use Rattle.mdb_pool.proofs.Stands.{order-stays, discard-fits}
-use Rattle.mdb_pool.proofs.Numbers.{same-number}
+use Rattle.mdb_log.proofs.Numbers.{same-number}
 use Rattle.mdb_pool.proofs.Tables.{entry_at-put, others-put, where-put_stay, passes}
 
 module _ (s : PoolCore) (xs : List PoolItem) (z : Fits s xs) (n : ℕ) where
@@ -52,7 +52,7 @@ module _ (s : PoolCore) (xs : List PoolItem) (z : Fits s xs) (n : ℕ) where
   take-fits x r at_x place absent = record {
     matches = take-matches s xs z.matches n r x at_x place absent;
     asked = λ k. grind (arith, z.asked k, taken_request s xs z.matches n r x at_x place absent k);
-    order = z.order ∙ sym (where-put_stay (λ (q : Request). q.number) (λ q. not q.took) (taken_q s xs z.matches n r x at_x place absent) s.requests refl (z.matches.single_request r) (ap (passes (λ (q : Request). q.number) (λ q. not q.took)) absent));
+    order = z.order ∙ sym (where-put_stay (λ (q : Request). q.number) (λ q. not q.took) (taken_q s xs z.matches n r x at_x place absent) s.requests refl (z.matches.requests.single_request r) (ap (passes (λ (q : Request). q.number) (λ q. not q.took)) absent));
   }
 
   pub unpin-fits : (x : Connection) → connection_at s x.id ≡ Some x → nat_lt 0 x.pins ≡ true → is_at_pin x.place && (x.pins == 1) ≡ false → Fits (unpinning s n x) (unpinned x.id ∷ xs)

@@ -2,27 +2,28 @@
 use Rattle.std.proofs.Common.{ℕ, ◌≡◌, ◌≤◌, ◌<◌, Bool, true, false, not, ◌==◌, List, [], ◌∷◌, Option, Some, None, is_some, refl, sym, ◌∙◌, ap, subst, if◌then◌else◌, append-nil, nat_lt}
 use Rattle.std.specs.Prelude.{unwrap_or}
 use Rattle.mdb_events.specs.declared.fact.Fact.{Fact}
-use Rattle.mdb_pool.specs.declared.step.Act.TheVariants.{Pin, Replicate}
-use Rattle.mdb_pool.specs.declared.reply.Refused.{Refused}
-use Rattle.mdb_pool.specs.declared.reply.Refused.TheVariants.{NotHolder, PinState, Unpinned}
-use Rattle.mdb_pool.specs.declared.reply.Reply.{Reply}
-use Rattle.mdb_pool.specs.declared.reply.Reply.TheVariants.{Done, Refused as RefusedBy}
+use Rattle.mdb_log.specs.declared.step.Act.TheVariants.{Pin, Replicate}
+use Rattle.mdb_log.specs.declared.reply.Refused.{Refused}
+use Rattle.mdb_log.specs.declared.reply.Refused.TheVariants.{NotHolder, PinState, Unpinned}
+use Rattle.mdb_log.specs.declared.reply.Reply.{Reply}
+use Rattle.mdb_log.specs.declared.reply.Reply.TheVariants.{Done, Refused as RefusedBy}
 use Rattle.mdb_pool.specs.declared.connection.Connection.{Connection}
 use Rattle.mdb_pool.specs.declared.connection.Place.TheVariants.{Held}
 use Rattle.mdb_pool.specs.declared.request.Request.{Request}
 use Rattle.mdb_pool.specs.declared.pool_core.PoolCore.{PoolCore}
-use Rattle.mdb_pool.specs.History.{Item, PoolItem, pinned_by, replicated, of_pool}
+use Rattle.mdb_log.specs.History.{Item, PoolItem, pinned_by, replicated, of_pool}
 use Rattle.mdb_pool.specs.Refusal.{refusal_of}
-use Rattle.mdb_pool.specs.Connections.{has, pins}
-use Rattle.mdb_pool.specs.Standing.{Matches, Fits, StandsFor, Serves, Accepts, Answers, SameHome, SameNotes}
+use Rattle.mdb_log.specs.Connections.{has, pins}
+use Rattle.mdb_pool.specs.Standing.{Fits, StandsFor, Serves, Accepts, Answers, SameHome, SameNotes}
+use Rattle.mdb_pool.specs.Matching.{Matches}
 use Rattle.mdb_pool.specs.Kept.{connection_at, request_at, held_connection, given_of, given_in, is_shut, pins_at}
 use Rattle.mdb_pool.specs.Places.{stays}
 use Rattle.mdb_pool.specs.Changes.{pinning}
 use Rattle.mdb_pool.proofs.Acts.{refuses, accepts, own-answers, not-back, holding-is, holds-given, live-pins}
 use Rattle.mdb_pool.proofs.Found.{id_or, Holder, holder}
 use Rattle.mdb_pool.proofs.Tables.{entry_at-key}
-use Rattle.mdb_pool.proofs.Bools.{if-not}
-use Rattle.mdb_pool.proofs.Numbers.{same-number}
+use Rattle.mdb_log.proofs.Bools.{if-not}
+use Rattle.mdb_log.proofs.Numbers.{same-number}
 use Rattle.mdb_pool.proofs.ReturnedActs.{none-above, some-above}
 use Rattle.mdb_pool.proofs.PinStands.{pin-fits, replicate-fits}
 
@@ -43,7 +44,7 @@ pinned-outside s xs m c x e some_pins = on (stays x.place) refl
   where
     on : (b : Bool) → stays x.place ≡ b → stays x.place ≡ true
     on true f = f
-    on false f = let k : nat_lt 0 x.pins ≡ false = ap (nat_lt 0) (m.loose c x e f) in cc
+    on false f = let k : nat_lt 0 x.pins ≡ false = ap (nat_lt 0) (m.pinning.loose c x e f) in cc
 
 pub pin-accepts : (s s1 t : PoolCore) (before after : List Fact) (n r : ℕ) (x : Connection) (xs : List PoolItem) → Fits s xs → held_connection s r ≡ Some x → s1 ≡ pinning s n x → SameHome s1 t → SameNotes s1 t → ((k : List PoolItem) → Fits s1 k → Serves s1 t n before after k)
     → Accepts s t before after n (Pin r) Done xs (pinned_by r ∷ xs)
@@ -51,7 +52,7 @@ pin-accepts s s1 t before after n r x xs z held s1_is home notes serves =
     let v : (given_of (request_at s r) ≡ Some x.id) × (connection_at s x.id ≡ Some x) × (x.place ≡ Held) = held-at s r x held in
     accepts s s1 t t before before after n (Pin r) Done [] xs (pinned_by r ∷ xs)
     refl
-    (sym (append-nil before)) (rw s1_is (record { pool = refl; address = refl; options = refl })) (rw s1_is (pin-fits s xs z n x r v.1 v.2 (z.matches.given r ∙ v.0))) serves
+    (sym (append-nil before)) (rw s1_is (record { pool = refl; address = refl; options = refl })) (rw s1_is (pin-fits s xs z n x r v.1 v.2 (z.matches.requests.given r ∙ v.0))) serves
     (λ zs v. v)
     (λ claims own zs m. refl)
     tt
@@ -107,7 +108,7 @@ pin-own s t before after n r x reply h z l held none home last_is v =
     (λ k. refl) (λ k. refl) home last_is (v (of_pool s.pool h) z.fits)
 
 replicate-refusal : (s : PoolCore) (h : List Item) → StandsFor s h → (n c : ℕ) → s.last ≤ n → refusal_of s.pool s.options h (record { moment = n; act = Replicate s.pool c }) ≡ if nat_lt 0 (pins_at (connection_at s c)) then None else Some Unpinned
-replicate-refusal s h z n c l = rw (z.last_is, not-back n s.last l, same-number s.pool, z.fits.matches.pins c) (if-not (nat_lt 0 (pins_at (connection_at s c))) (Some Unpinned) None)
+replicate-refusal s h z n c l = rw (z.last_is, not-back n s.last l, same-number s.pool, z.fits.matches.pinning.pins c) (if-not (nat_lt 0 (pins_at (connection_at s c))) (Some Unpinned) None)
 
 pub refuses-unpinned : (s : PoolCore) (facts : List Fact) (n c : ℕ) (h : List Item) → StandsFor s h → s.last ≤ n → nat_lt 0 (pins_at (connection_at s c)) ≡ false → Answers s s facts facts (record { moment = n; act = Replicate s.pool c }) (RefusedBy Unpinned) h
 refuses-unpinned s facts n c h z l e = refuses s facts (record { moment = n; act = Replicate s.pool c }) Unpinned h z (replicate-refusal s h z n c l ∙ rw e refl)

@@ -1,33 +1,32 @@
 -- What a mark as ready does is the answer to its step.
 use Rattle.std.proofs.Common.{ℕ, ◌≡◌, ◌≤◌, ◌||◌, List, [], ◌∷◌, ◌++◌, refl, ◌∙◌, ap, if◌then◌else◌}
 use Rattle.mdb_events.specs.declared.fact.Fact.{Fact}
-use Rattle.mdb_events.specs.declared.fact.Fact.TheVariants.{Pool}
-use Rattle.mdb_events.specs.declared.cmap.CmapEvent.TheVariants.{PoolReady}
-use Rattle.mdb_pool.specs.declared.step.Act.TheVariants.{Ready as ReadyAct}
-use Rattle.mdb_pool.specs.declared.reply.Reply.{Reply}
-use Rattle.mdb_pool.specs.declared.reply.Reply.TheVariants.{Done}
+use Rattle.mdb_log.specs.declared.step.Act.TheVariants.{Ready as ReadyAct}
+use Rattle.mdb_log.specs.declared.reply.Reply.{Reply}
+use Rattle.mdb_log.specs.declared.reply.Reply.TheVariants.{Done}
 use Rattle.mdb_pool.specs.declared.status.Status.{Status}
 use Rattle.mdb_pool.specs.declared.status.Status.TheVariants.{New, Ready, Paused, Closed}
 use Rattle.mdb_pool.specs.declared.pool_core.PoolCore.{PoolCore}
-use Rattle.mdb_pool.specs.History.{Item, PoolItem, of_pool, after_facts}
-use Rattle.mdb_pool.specs.Connections.{has}
-use Rattle.mdb_pool.specs.Facts.{readied}
-use Rattle.mdb_pool.specs.State.{state_of}
+use Rattle.mdb_log.specs.History.{Item, PoolItem, of_pool, after_facts}
+use Rattle.mdb_log.specs.Connections.{has}
+use Rattle.mdb_pool.specs.Facts.{readied, pool_ready_fact}
+use Rattle.mdb_log.specs.State.{state_of}
 use Rattle.mdb_pool.specs.Kept.{state_in, is_shut, is_ready_now}
 use Rattle.mdb_pool.specs.Changes.{readied_to, readied_facts}
-use Rattle.mdb_pool.specs.Legal.{AllFirstCome, AllOwn, shuts}
+use Rattle.mdb_log.specs.Legal.{AllFirstCome}
+use Rattle.mdb_log.specs.Own.{AllOwn, shuts}
 use Rattle.mdb_pool.specs.Standing.{Fits, StandsFor, Serves, Accepts, Answers, SameHome, SameNotes}
 use Rattle.mdb_pool.proofs.Acts.{accepts, own-answers, not-back}
-use Rattle.mdb_pool.proofs.Numbers.{same-number}
+use Rattle.mdb_log.proofs.Numbers.{same-number}
 use Rattle.mdb_pool.proofs.Stands.{later-fits, ready-fits}
 
 module _ (s : PoolCore) (xs : List PoolItem) (z : Fits s xs) (n : ℕ) where
-  abbrev ready_fact : Fact
-  ready_fact = Pool s.pool (PoolReady (record { address = s.address }))
+  abbrev ready_event : Fact
+  ready_event = pool_ready_fact s.pool s.address
 
   -- what the mark says of a pool that is so
   abbrev says : Status → List Fact
-  says t = if is_ready_now t || is_shut t then [] else (ready_fact ∷ [])
+  says t = if is_ready_now t || is_shut t then [] else (ready_event ∷ [])
 
   abbrev leads : Status → Status
   leads t = if is_ready_now t || is_shut t then t else Ready
@@ -38,7 +37,7 @@ module _ (s : PoolCore) (xs : List PoolItem) (z : Fits s xs) (n : ℕ) where
   ready-are (Paused error) e = rw e refl
   ready-are Closed e = rw e refl
 
-  becomes-ready : Fits (record s { last = n; status = Ready }) (after_facts s.pool n (ready_fact ∷ []) xs)
+  becomes-ready : Fits (record s { last = n; status = Ready }) (after_facts s.pool n (ready_event ∷ []) xs)
   becomes-ready = rw (same-number s.pool) (ready-fits (record s { last = n }) xs (later-fits s xs z n) n)
 
   ready-fits-for : (t : Status) → s.status ≡ t → Fits (record s { last = n; status = leads t }) (after_facts s.pool n (says t) xs)
@@ -70,7 +69,7 @@ pub ready-accepts : (s s1 t : PoolCore) (before f1 after : List Fact) (n p : ℕ
     → Accepts s t before after n (ReadyAct p) Done xs xs
 ready-accepts s s1 t before f1 after n p xs z s1_is f1_is home notes serves =
     accepts s s1 t t before f1 after n (ReadyAct p) Done (readied_facts s) xs xs
-    (ready-are s xs z n s.status z.matches.status)
+    (ready-are s xs z n s.status z.matches.clearing.status)
     f1_is (rw s1_is (record { pool = refl; address = refl; options = refl })) (rw s1_is (ready-fits-for s xs z n s.status refl)) serves
     (λ zs v. v)
     (λ claims own zs m. refl)

@@ -6,28 +6,29 @@ use Rattle.mdb_pool.specs.declared.request.Request.{Request}
 use Rattle.mdb_pool.specs.declared.request.Phase.TheVariants.{Queued}
 use Rattle.mdb_pool.specs.declared.status.Status.{Status}
 use Rattle.mdb_pool.specs.declared.status.Status.TheVariants.{New, Ready, Paused, Closed}
-use Rattle.mdb_pool.specs.declared.step.Act.TheVariants.{Request as RequestAct}
-use Rattle.mdb_pool.specs.declared.reply.Refused.TheVariants.{UnknownServer, RequestKnown}
-use Rattle.mdb_pool.specs.declared.reply.Reply.{Reply}
-use Rattle.mdb_pool.specs.declared.reply.Reply.TheVariants.{Refused as RefusedBy}
+use Rattle.mdb_log.specs.declared.step.Act.TheVariants.{Request as RequestAct}
+use Rattle.mdb_log.specs.declared.reply.Refused.TheVariants.{UnknownServer, RequestKnown}
+use Rattle.mdb_log.specs.declared.reply.Reply.{Reply}
+use Rattle.mdb_log.specs.declared.reply.Reply.TheVariants.{Refused as RefusedBy}
 use Rattle.mdb_pool.specs.declared.pool_core.PoolCore.{PoolCore}
-use Rattle.mdb_pool.specs.History.{Item, PoolItem, asked, has_asked, has_taken, of_pool, after_facts}
-use Rattle.mdb_pool.specs.Requests.{outcome_of, is_outcome}
+use Rattle.mdb_log.specs.History.{Item, PoolItem, asked, has_asked, has_taken, of_pool, after_facts}
+use Rattle.mdb_log.specs.Requests.{outcome_of, is_outcome}
 use Rattle.mdb_pool.specs.Refusal.{refusal_of}
 use Rattle.mdb_pool.specs.Standing.{Fits, StandsFor, Serves, Accepts, Answers, SameHome, SameNotes}
 use Rattle.mdb_pool.specs.Kept.{request_at, outcome_now, state_in, is_shut}
-use Rattle.mdb_pool.specs.Changes.{asking, started_fact, telling, away_end, away_facts, away}
+use Rattle.mdb_pool.specs.Changes.{asking, telling, away_end, away_facts, away}
 use Rattle.mdb_pool.proofs.Acts.{refuses, accepts, own-answers, not-back, outcome-is, outcome-accepted, outcome-no-job}
-use Rattle.mdb_pool.proofs.Addresses.{own-address}
+use Rattle.mdb_log.proofs.Addresses.{own-address}
 use Rattle.mdb_base.specs.declared.address.ServerAddress.{ServerAddress}
 use Rattle.mdb_base.specs.Equality.{same_address}
 use Rattle.std.proofs.Math.Bool.{and-false, and-true, or-false, or_assoc, or_comm}
-use Rattle.mdb_pool.proofs.Numbers.{same-number, has-append}
+use Rattle.mdb_log.proofs.Numbers.{same-number, has-append}
 use Rattle.mdb_pool.proofs.Stands.{ask-fits, noted-fits, end-fits}
-use Rattle.mdb_pool.specs.Connections.{has}
-use Rattle.mdb_pool.specs.Facts.{turned_away}
-use Rattle.mdb_pool.specs.State.{state_of}
-use Rattle.mdb_pool.specs.Legal.{AllFirstCome, shuts, AllOwn}
+use Rattle.mdb_log.specs.Connections.{has}
+use Rattle.mdb_pool.specs.Facts.{turned_away, started_fact}
+use Rattle.mdb_log.specs.State.{state_of}
+use Rattle.mdb_log.specs.Legal.{AllFirstCome}
+use Rattle.mdb_log.specs.Own.{shuts, AllOwn}
 use Rattle.mdb_pool.proofs.Tables.{entry_at-put}
 
 -- what was told is noted
@@ -64,7 +65,7 @@ module _ (s : PoolCore) (xs : List PoolItem) (z : Fits s xs) (n r : ℕ) (absent
   there : request_at (asking s r n false) r ≡ Some new_q
   there = entry_at-put (λ (q : Request). q.number) r new_q s.requests ∙ rw (same-number r) refl
 
-  away-fits : (o : Option End) → Fits (away (asking s r n false) r n false o) (after_facts s.pool n (started_fact s ∷ away_facts s r false o) ys)
+  away-fits : (o : Option End) → Fits (away (asking s r n false) r n false o) (after_facts s.pool n (started_fact s.pool s.address ∷ away_facts s r false o) ys)
   away-fits None = ask-fits s xs z n r absent
   away-fits (Some end) = rw (same-number r) (end-fits (asking s r n false) ys (ask-fits s xs z n r absent) n new_q end there refl)
 
@@ -80,31 +81,31 @@ module _ (s : PoolCore) (xs : List PoolItem) (z : Fits s xs) (n r : ℕ) (absent
   away-same None = refl
   away-same (Some end) = refl
 
-  away-open : (o : Option End) → shuts (started_fact s ∷ away_facts s r false o) ≡ false
+  away-open : (o : Option End) → shuts (started_fact s.pool s.address ∷ away_facts s r false o) ≡ false
   away-open None = refl
   away-open (Some end) = refl
 
-  away-fair : (o : Option End) → AllFirstCome s.pool n ys (started_fact s ∷ away_facts s r false o)
+  away-fair : (o : Option End) → AllFirstCome s.pool n ys (started_fact s.pool s.address ∷ away_facts s r false o)
   away-fair None = (tt, tt)
   away-fair (Some end) = (tt, (tt, (tt, tt)))
 
-  away-own : (o : Option End) → AllOwn s.pool n ys (started_fact s ∷ away_facts s r false o)
+  away-own : (o : Option End) → AllOwn s.pool n ys (started_fact s.pool s.address ∷ away_facts s r false o)
   away-own None = (refl, tt)
   away-own (Some end) = (refl, (rw (same-number r) refl, (refl, tt)))
 
 pub request-accepts : (s s0 s1 t u : PoolCore) (before f0 f1 after : List Fact) (n r : ℕ) (reply : Reply) (xs : List PoolItem) → Fits s xs
-    → request_at s r ≡ None → s0 ≡ asking s r n false → f0 ≡ before ++ started_fact s ∷ [] → s1 ≡ away s0 r n false (away_end s0.status) → f1 ≡ f0 ++ away_facts s0 r false (away_end s0.status) → SameHome s1 t → SameNotes s1 t
+    → request_at s r ≡ None → s0 ≡ asking s r n false → f0 ≡ before ++ started_fact s.pool s.address ∷ [] → s1 ≡ away s0 r n false (away_end s0.status) → f1 ≡ f0 ++ away_facts s0 r false (away_end s0.status) → SameHome s1 t → SameNotes s1 t
     → ((k : List PoolItem) → Fits s1 k → Serves s1 t n f1 after k) → u ≡ telling t r → reply ≡ outcome_now t r
     → Accepts s u before after n (RequestAct r s.address) reply xs (asked r n ∷ xs)
 request-accepts s s0 s1 t u before f0 f1 after n r reply xs z absent s0_is f0_is s1_is f1_is home notes serves u_is reply_is =
     let o : Option End = away_end s.status in
     let whole : s1 ≡ away (asking s r n false) r n false o = s1_is ∙ ap (λ k. away k r n false (away_end k.status)) s0_is in
-    let told : f1 ≡ before ++ started_fact s ∷ away_facts s r false o =
-    f1_is ∙ (ap (λ k. f0 ++ away_facts k r false (away_end k.status)) s0_is ∙ (ap (λ f. f ++ away_facts (asking s r n false) r false o) f0_is ∙ (append_assoc before (started_fact s ∷ []) (away_facts (asking s r n false) r false o) ∙ ap (λ f. before ++ started_fact s ∷ f) (away-same s xs z n r absent o)))) in
+    let told : f1 ≡ before ++ started_fact s.pool s.address ∷ away_facts s r false o =
+    f1_is ∙ (ap (λ k. f0 ++ away_facts k r false (away_end k.status)) s0_is ∙ (ap (λ f. f ++ away_facts (asking s r n false) r false o) f0_is ∙ (append_assoc before (started_fact s.pool s.address ∷ []) (away_facts (asking s r n false) r false o) ∙ ap (λ f. before ++ started_fact s.pool s.address ∷ f) (away-same s xs z n r absent o)))) in
     let at_home : SameHome s s1 = rw whole (away-home s xs z n r absent o) in
     let state : t.status ≡ s.status = notes.status ∙ (ap (λ k. k.status) whole ∙ (away-notes s xs z n r absent o).status) in
-    accepts s s1 t u before f1 after n (RequestAct r s.address) reply (started_fact s ∷ away_facts s r false o) xs (asked r n ∷ xs)
-    (ap (λ k. started_fact s ∷ k) (away-are s xs z n r absent s.status z.matches.status))
+    accepts s s1 t u before f1 after n (RequestAct r s.address) reply (started_fact s.pool s.address ∷ away_facts s r false o) xs (asked r n ∷ xs)
+    (ap (λ k. started_fact s.pool s.address ∷ k) (away-are s xs z n r absent s.status z.matches.clearing.status))
     told at_home (rw whole (away-fits s xs z n r absent o)) serves
     (λ zs v. rw u_is (telling-fits t r zs v))
     (λ claims own zs m. reply_is ∙ (sym (outcome-is t zs m r) ∙ ap (λ p. outcome_of p zs r) (home.pool ∙ at_home.pool)))

@@ -1,33 +1,33 @@
 -- What a return does is the answer to its step.
 use Rattle.std.proofs.Common.{ℕ, ◌≡◌, ◌≤◌, ◌<◌, true, not, arith, nat_lt, append-nil, List, [], ◌∷◌, ◌++◌, Option, Some, None, is_some, refl, sym, ◌∙◌, ap, subst, if◌then◌else◌, ◌||◌, ◌==◌}
 use Rattle.mdb_events.specs.declared.fact.Fact.{Fact}
-use Rattle.mdb_pool.specs.declared.step.Act.TheVariants.{Return as ReturnAct}
-use Rattle.mdb_pool.specs.declared.step.Use.{Use}
+use Rattle.mdb_log.specs.declared.step.Act.TheVariants.{Return as ReturnAct}
+use Rattle.mdb_log.specs.declared.step.Use.{Use}
 use Rattle.std.proofs.lemmas.Bool.Decides.{nat_tests}
 use Rattle.mdb_events.specs.declared.reasons.ConnectionClosedReason.{ConnectionClosedReason}
-use Rattle.mdb_pool.specs.declared.reply.Refused.TheVariants.{NotHolder}
-use Rattle.mdb_pool.specs.declared.reply.Reply.{Reply}
-use Rattle.mdb_pool.specs.declared.reply.Reply.TheVariants.{Done, Refused as RefusedBy}
+use Rattle.mdb_log.specs.declared.reply.Refused.TheVariants.{NotHolder}
+use Rattle.mdb_log.specs.declared.reply.Reply.{Reply}
+use Rattle.mdb_log.specs.declared.reply.Reply.TheVariants.{Done, Refused as RefusedBy}
 use Rattle.mdb_pool.specs.declared.connection.Connection.{Connection}
 use Rattle.mdb_pool.specs.declared.connection.Place.TheVariants.{Held}
 use Rattle.mdb_pool.specs.declared.request.Request.{Request}
 use Rattle.mdb_pool.specs.declared.request.Phase.TheVariants.{Given, Over}
 use Rattle.mdb_pool.specs.declared.pool_core.PoolCore.{PoolCore}
-use Rattle.mdb_pool.specs.History.{Item, PoolItem, returned, of_pool, given, after_facts, closed, checked_in}
+use Rattle.mdb_log.specs.History.{Item, PoolItem, returned, of_pool, given, after_facts, closed, checked_in}
 use Rattle.mdb_pool.specs.Refusal.{refusal_of}
 use Rattle.mdb_pool.specs.Facts.{act_facts, check_in}
 use Rattle.mdb_pool.specs.Standing.{Fits, StandsFor, Serves, Accepts, Answers, SameHome, SameNotes}
-use Rattle.mdb_pool.specs.Kept.{connection_at, request_at, held_connection, given_of, given_in, is_shut, reason_now, used_as, is_fault}
+use Rattle.mdb_pool.specs.Kept.{connection_at, request_at, held_connection, given_of, given_in, is_shut, reason_now, used_as}
+use Rattle.mdb_log.specs.Connections.{is_fault, has, held, is_errored}
 use Rattle.mdb_pool.specs.Changes.{returning, dropping, back_facts, returning_for, to_pin}
 use Rattle.mdb_pool.proofs.Acts.{refuses, accepts, own-answers, not-back, holding-is, holds-given, live-errored, live-service, live-pins}
 use Rattle.mdb_pool.proofs.Tables.{entry_at-key}
 use Rattle.mdb_pool.proofs.Found.{id_or, Holder, holder}
 use Rattle.std.proofs.Math.Bool.{or_comm}
-use Rattle.mdb_pool.proofs.Numbers.{same-number, has-append}
+use Rattle.mdb_log.proofs.Numbers.{same-number, has-append}
 use Rattle.mdb_pool.proofs.Stands.{return-fits, drop-fits}
 use Rattle.mdb_pool.proofs.PinStands.{stand-fits}
-use Rattle.mdb_pool.proofs.Pins.{errored-return}
-use Rattle.mdb_pool.specs.Connections.{has, held, is_errored}
+use Rattle.mdb_log.proofs.Pins.{errored-return}
 use Rattle.mdb_pool.proofs.CheckIns.{check-in-is, back-fair, back-own, back-open, back-fits}
 use Rattle.mdb_pool.proofs.Staleness.{stale-at}
 
@@ -49,10 +49,10 @@ module _ (s : PoolCore) (xs : List PoolItem) (z : Fits s xs) (n : ℕ) (x : Conn
   why = reason_now s used_x
 
   mine : request_at s q.number ≡ Some q → q.phase ≡ Given x.id → given xs q.number ≡ Some x.id
-  mine at_q phase = z.matches.given q.number ∙ (ap given_of at_q ∙ ap given_in phase)
+  mine at_q phase = z.matches.requests.given q.number ∙ (ap given_of at_q ∙ ap given_in phase)
 
   check-in-here : connection_at s x.id ≡ Some x → request_at s q.number ≡ Some q → q.phase ≡ Given x.id → check_in s.pool s.address s.options ys x.id ≡ back_facts s used_x why
-  check-in-here at_x at_q phase = check-in-is s ys used_x z.matches.status (live-service s xs z.matches x.id x at_x) errored_now (stale-at s xs z.matches x.id x at_x) (rw (mine at_q phase, same-number x.id) refl)
+  check-in-here at_x at_q phase = check-in-is s ys used_x z.matches.clearing.status (live-service s xs z.matches x.id x at_x) errored_now (stale-at s xs z.matches x.id x at_x) (rw (mine at_q phase, same-number x.id) refl)
     where
       errored_now : is_errored ys x.id ≡ is_fault used || x.errored
       errored_now = errored-return q.number used xs x.id ∙ rw (mine at_q phase, same-number x.id, live-errored s xs z.matches x.id x at_x) refl

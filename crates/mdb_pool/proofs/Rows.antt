@@ -10,20 +10,21 @@ use Rattle.mdb_events.specs.declared.reasons.ConnectionCheckoutFailedReason.TheV
 use Rattle.mdb_events.specs.declared.fact.Fact.{Fact}
 use Rattle.mdb_events.specs.declared.fact.Fact.TheVariants.{Opened, Pool, Granted, Ended, Raised}
 use Rattle.mdb_events.specs.declared.end.End.TheVariants.{Cleared, Failed as FailedEnd, Filled, GaveUp}
-use Rattle.mdb_pool.specs.declared.options.PoolOptions.{PoolOptions}
-use Rattle.mdb_pool.specs.declared.step.Use.TheVariants.{Ok, Errored, Dropped}
-use Rattle.mdb_pool.specs.declared.step.FailedAt.TheVariants.{Post}
-use Rattle.mdb_pool.specs.declared.step.Established.{Established as How}
-use Rattle.mdb_pool.specs.declared.step.Step.{Step}
-use Rattle.mdb_pool.specs.declared.step.Act.{Act}
-use Rattle.mdb_pool.specs.declared.step.Act.TheVariants.{Request, Warm, Collect, Claim, GiveUp, Established, Failed, Return, Pin, Take, Unpin, Maintain, Ready, Clear, Close}
-use Rattle.mdb_pool.specs.declared.reply.Refused.TheVariants.{TimeBack, UnknownServer, RequestKnown, UnknownRequest, NotHolder, NotPending, Unpinned, PinInUse, PinState, WrongMode, Exhausted}
-use Rattle.mdb_pool.specs.declared.reply.What.TheVariants.{Generation}
-use Rattle.mdb_pool.specs.declared.reply.Reply.{Reply}
-use Rattle.mdb_pool.specs.declared.reply.Reply.TheVariants.{Pooled, Establishing, Waiting, Ended as EndedReply, Job, NoJob, Done, Refused as RefusedBy}
-use Rattle.mdb_pool.specs.History.{Item, made, with_answer}
+use Rattle.mdb_log.specs.declared.options.PoolOptions.{PoolOptions}
+use Rattle.mdb_log.specs.declared.step.Use.TheVariants.{Ok, Errored, Dropped}
+use Rattle.mdb_log.specs.declared.step.FailedAt.TheVariants.{Post}
+use Rattle.mdb_log.specs.declared.step.Established.{Established as How}
+use Rattle.mdb_log.specs.declared.step.Step.{Step}
+use Rattle.mdb_log.specs.declared.step.Act.{Act}
+use Rattle.mdb_log.specs.declared.step.Act.TheVariants.{Request, Warm, Collect, Claim, GiveUp, Established, Failed, Return, Pin, Take, Unpin, Maintain, Ready, Clear, Close}
+use Rattle.mdb_log.specs.declared.reply.Refused.TheVariants.{TimeBack, UnknownServer, RequestKnown, UnknownRequest, NotHolder, NotPending, Unpinned, PinInUse, PinState, WrongMode, Exhausted}
+use Rattle.mdb_log.specs.declared.reply.What.TheVariants.{Generation}
+use Rattle.mdb_log.specs.declared.reply.Reply.{Reply}
+use Rattle.mdb_log.specs.declared.reply.Reply.TheVariants.{Pooled, Establishing, Waiting, Ended as EndedReply, Job, NoJob, Done, Refused as RefusedBy}
+use Rattle.mdb_log.specs.History.{Item, made, with_answer}
 use Rattle.mdb_pool.specs.Facts.{new_pool_error}
-use Rattle.mdb_pool.specs.Answer.{Answer, answer}
+use Rattle.mdb_pool.specs.Answer.{answer}
+use Rattle.mdb_log.specs.Answer.{Answer}
 
 abbrev balanced : PoolOptions
 balanced = record { max_pool_size = None; min_pool_size = None; max_idle_time = None; max_connecting = None; load_balanced = true; limit_id = 1000; limit_generation = 1000 }

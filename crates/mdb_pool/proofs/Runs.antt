@@ -1,23 +1,20 @@
 -- Steps one after another.
-use Rattle.std.proofs.Common.{ℕ, ◌≡◌, List, [], ◌∷◌, ◌++◌, map, refl, sym, ◌∙◌, ap, subst, append_assoc, append-nil}
-use Rattle.std.proofs.lemmas.List.Elements.{All-nil, All-push}
-use Rattle.mdb_pool.specs.declared.options.PoolOptions.{PoolOptions}
-use Rattle.mdb_pool.specs.declared.step.Step.{Step}
-use Rattle.mdb_pool.specs.declared.log.Entry.{Entry}
+use Rattle.std.proofs.Common.{ℕ, ◌≡◌, List, [], ◌∷◌, ◌++◌, refl, sym, ◌∙◌, ap, subst, append_assoc, append-nil}
+use Rattle.mdb_base.specs.declared.address.ServerAddress.{ServerAddress}
+use Rattle.mdb_log.specs.declared.options.PoolOptions.{PoolOptions}
+use Rattle.mdb_log.specs.declared.step.Step.{Step}
+use Rattle.mdb_log.specs.declared.log.Entry.{Entry}
 use Rattle.mdb_pool.specs.declared.pool_core.PoolCore.{PoolCore}
-use Rattle.mdb_pool.specs.History.{Item, of_pool, with_answer, with_entries}
-use Rattle.mdb_pool.specs.Answer.{answer, with_act}
-use Rattle.mdb_pool.specs.Legal.{OnePlace, NoneLeftWaiting, IsFairAnswer, IsLegal}
+use Rattle.mdb_log.specs.History.{Item, of_pool, with_answer, with_entries, with_act}
+use Rattle.mdb_pool.specs.Answer.{answer, entry_for, entries_for}
+use Rattle.mdb_log.specs.Legal.{OnePlace, NoneLeftWaiting, IsFairAnswer, IsLegal}
 use Rattle.mdb_pool.specs.Standing.{StandsFor, SameHome, Logs, Runs}
-use Rattle.mdb_pool.specs.Limits.{WithinLimits}
-use Rattle.mdb_pool.specs.Fresh.{AllGrantFresh, EntriesGrantFresh}
+use Rattle.mdb_log.specs.Limits.{WithinLimits}
+use Rattle.mdb_log.specs.Fresh.{AllGrantFresh, EntriesGrantFresh}
+use Rattle.mdb_log.proofs.Later.{with_entries-append}
 use Rattle.mdb_pool.proofs.Limits.{answer-within}
 use Rattle.mdb_pool.proofs.Fresh.{answer-fresh}
 use Rattle.mdb_pool.proofs.Places.{one-place}
-
-pub with_entries-append : (es : List Entry) (e : Entry) (h : List Item) → with_entries (es ++ e ∷ []) h ≡ with_answer e.step e.reply e.facts (with_entries es h)
-with_entries-append [] e h = refl
-with_entries-append (d ∷ es) e h = with_entries-append es e (with_answer d.step d.reply d.facts h)
 
 -- one more legal entry
 legal-append : (p : ℕ) (o : PoolOptions) (es : List Entry) (e : Entry) (h : List Item) → IsLegal p o h es
@@ -33,16 +30,22 @@ fresh-append : (p : ℕ) (o : PoolOptions) (es : List Entry) (e : Entry) (h : Li
 fresh-append p o [] e h l more = (more, tt)
 fresh-append p o (d ∷ es) e h l more = (l.0, fresh-append p o es e (with_answer d.step d.reply d.facts h) l.1 more)
 
-map-append : (es : List Entry) (e : Entry) → map (λ d. d.step) (es ++ e ∷ []) ≡ map (λ d. d.step) es ++ e.step ∷ []
-map-append [] e = refl
-map-append (d ∷ es) e = ap (λ ss. d.step ∷ ss) (map-append es e)
+-- the entries of one step more
+entries-more : (p : ℕ) (a : ServerAddress) (o : PoolOptions) (seat : ℕ) (h : List Item) (steps : List Step) (step : Step)
+    → entries_for p a o seat h (steps ++ step ∷ []) ≡ entries_for p a o seat h steps ++ entry_for p a o seat (with_entries (entries_for p a o seat h steps) h) step ∷ []
+entries-more p a o seat h [] step = refl
+entries-more p a o seat h (s ∷ steps) step = ap (λ es. entry_for p a o seat h s ∷ es) (entries-more p a o seat (with_answer s (answer p a o h s).reply (answer p a o h s).facts h) steps step)
+
+-- a pool that moved on answers alike
+same-entry : (s t : PoolCore) (seat : ℕ) (k : List Item) (step : Step) → SameHome s t → entry_for t.pool t.address t.options seat k step ≡ entry_for s.pool s.address s.options seat k step
+same-entry s t seat k step home =
+    ap (λ p. entry_for p t.address t.options seat k step) home.pool ∙ (ap (λ a. entry_for s.pool a t.options seat k step) home.address ∙ ap (λ o. entry_for s.pool s.address o seat k step) home.options)
 
 pub run-starts : (s : PoolCore) (log : List Entry) (seat : ℕ) (h : List Item) → StandsFor s h → NoneLeftWaiting s.options (of_pool s.pool h) → Runs s s log log seat [] h
 run-starts s log seat h z i = record {
   entries = [];
   logged = sym (append-nil log);
-  by_seat = All-nil (λ (d : Entry). d.seat ≡ seat);
-  in_order = refl;
+  answers = refl;
   legal = tt;
   fresh = tt;
   stands = z;
@@ -67,8 +70,7 @@ run-more s t u before middle after steps seat step h home next r logs =
     record {
       entries = r.entries ++ e ∷ [];
       logged = v.entry ∙ (ap (λ es. es ++ e ∷ []) r.logged ∙ append_assoc before r.entries (e ∷ []));
-      by_seat = All-push (λ (d : Entry). d.seat ≡ seat) r.entries e r.by_seat refl;
-      in_order = map-append r.entries e ∙ ap (λ ss. ss ++ step ∷ []) r.in_order;
+      answers = ap (λ d. r.entries ++ d ∷ []) (same-entry s t seat k step home) ∙ (ap (λ es. es ++ entry_for s.pool s.address s.options seat (with_entries es h) step ∷ []) r.answers ∙ sym (entries-more s.pool s.address s.options seat h steps step));
       legal = legal-append s.pool s.options r.entries e h r.legal
           (subst (λ p. IsFairAnswer p k e.step e.reply e.facts) home.pool v.fair)
           (subst (λ p. OnePlace (of_pool p (with_answer e.step e.reply e.facts k))) (next.pool ∙ home.pool) place)

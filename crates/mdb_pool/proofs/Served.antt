@@ -1,14 +1,15 @@
 -- A pool that has no next move has none at any moment, warm requests and an idle limit included; and the serving ends there.
 use Rattle.std.proofs.Common.{ℕ, zero, suc, ◌≡◌, ◌+◌, ◌<◌, ◌≤◌, Bool, true, false, List, [], ◌∷◌, length, Option, Some, None, ◌⊎◌, inl, inr, refl, sym, ◌∙◌, ap, arith, if◌then◌else◌}
 use Rattle.mdb_base.specs.declared.address.ServerAddress.{ServerAddress}
-use Rattle.mdb_pool.specs.declared.options.PoolOptions.{PoolOptions}
-use Rattle.mdb_pool.specs.History.{PoolItem, after_facts}
-use Rattle.mdb_pool.specs.State.{is_stale, state_of, ready, may_create, is_empty, is_idle}
-use Rattle.mdb_pool.specs.Requests.{queued, is_warm}
-use Rattle.mdb_pool.specs.Connections.{available_list}
-use Rattle.mdb_pool.specs.Serving.{last_of, is_blocked, candidate, next_move, serve, serving, wants_connection}
-use Rattle.mdb_pool.specs.Legal.{NoneLeftWaiting, IsServed}
-use Rattle.mdb_pool.proofs.Serving.{serve-nothing, after-append}
+use Rattle.mdb_log.specs.declared.options.PoolOptions.{PoolOptions}
+use Rattle.mdb_log.specs.History.{PoolItem, after_facts}
+use Rattle.mdb_log.specs.State.{is_stale, state_of, ready, may_create, is_empty, is_idle}
+use Rattle.mdb_log.specs.Requests.{queued, is_warm}
+use Rattle.mdb_log.specs.Connections.{available_list}
+use Rattle.mdb_pool.specs.Serving.{last_of, is_blocked, candidate, next_move, serve, serving, wants_connection, IsServed}
+use Rattle.mdb_log.specs.Legal.{NoneLeftWaiting}
+use Rattle.mdb_pool.proofs.Serving.{serve-nothing}
+use Rattle.mdb_log.proofs.Later.{after-append}
 use Rattle.mdb_pool.proofs.Laws.{Move, nothing, closing, granting, creating, warming, move-of, size, shrinks}
 
 module _ (o : PoolOptions) (xs : List PoolItem) (p q : ℕ) (a b : ServerAddress) (n m : ℕ) where

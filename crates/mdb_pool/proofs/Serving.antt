@@ -4,7 +4,7 @@ use Rattle.mdb_base.specs.declared.address.ServerAddress.{ServerAddress}
 use Rattle.mdb_events.specs.declared.fact.Fact.{Fact}
 use Rattle.mdb_events.specs.declared.fact.Fact.TheVariants.{Granted, Ended}
 use Rattle.mdb_events.specs.declared.end.End.TheVariants.{Warmed}
-use Rattle.mdb_pool.specs.declared.options.PoolOptions.{PoolOptions}
+use Rattle.mdb_log.specs.declared.options.PoolOptions.{PoolOptions}
 use Rattle.mdb_pool.specs.declared.connection.Connection.{Connection}
 use Rattle.mdb_pool.specs.declared.connection.Place.TheVariants.{Pending, Available, Held}
 use Rattle.mdb_pool.specs.declared.status.Status.TheVariants.{Ready}
@@ -13,34 +13,27 @@ use Rattle.mdb_pool.specs.declared.request.Request.{Request}
 use Rattle.mdb_pool.specs.declared.request.Phase.{Phase}
 use Rattle.mdb_pool.specs.declared.request.Phase.TheVariants.{Queued, Given, Ended as EndedPhase}
 use Rattle.mdb_pool.specs.declared.pool_core.PoolCore.{PoolCore}
-use Rattle.mdb_pool.specs.History.{Item, made, PoolItem, granted, created, ended, has_asked, of_pool, with_facts, after_fact, after_facts, without, closed}
-use Rattle.mdb_pool.specs.State.{may_create, is_idle}
-use Rattle.mdb_pool.specs.Requests.{queued, is_warm}
-use Rattle.mdb_pool.specs.Connections.{pending_list, available_list, since, has, known_service}
+use Rattle.mdb_log.specs.History.{PoolItem, granted, created, ended, has_asked, after_facts, without, closed}
+use Rattle.mdb_log.specs.State.{may_create, is_idle}
+use Rattle.mdb_log.specs.Requests.{queued, is_warm, asked_at}
+use Rattle.mdb_log.specs.Connections.{pending_list, available_list, since, has, known_service}
 use Rattle.mdb_pool.specs.Serving.{last_of, wants_connection, is_blocked, candidate, warm_move, caller_move, move_for, next_move, serve, serving}
-use Rattle.mdb_pool.specs.Facts.{created_fact, checked_out_fact, perished}
+use Rattle.mdb_pool.specs.Facts.{created_fact, checked_out_fact, perished, closed_fact}
 use Rattle.mdb_pool.specs.Standing.{Fits, SameHome, SameNotes, Serves}
 use Rattle.mdb_pool.specs.Kept.{connection_at, request_at, ids_where, numbers_where, pending_count, candidate_now, blocked_now, wants_now, last_available, has_room, given_in, asked_at_of, warm_of, timeouts_in, is_ready_now, idle_since, perished_now}
-use Rattle.mdb_pool.specs.Changes.{creating, granting, ending, warming, warming_facts, out_fact, shut_fact, discarding, meeting, meeting_facts}
-use Rattle.mdb_pool.specs.declared.step.Use.TheVariants.{Ok}
+use Rattle.mdb_pool.specs.Changes.{creating, granting, ending, warming, warming_facts, discarding, meeting, meeting_facts}
+use Rattle.mdb_log.specs.declared.step.Use.TheVariants.{Ok}
 use Rattle.mdb_pool.specs.Places.{is_pending, is_available, is_queued}
 use Rattle.mdb_pool.proofs.Tables.{In, member-has, here as head_in, there, find-member, member-at, one_if-le, length-without, length-where, where-put_out, map-filter-others, passes, has-where, where-swap_out, length-without_has}
 use Rattle.mdb_pool.specs.Keyed.{put, swap}
-use Rattle.mdb_pool.proofs.Bools.{both-left}
-use Rattle.mdb_pool.proofs.Numbers.{same-number, last_of-has}
+use Rattle.mdb_log.proofs.Bools.{both-left}
+use Rattle.mdb_log.proofs.Numbers.{same-number}
+use Rattle.mdb_pool.proofs.Lasts.{last_of-has}
+use Rattle.mdb_log.proofs.Later.{after-append}
 use Rattle.mdb_pool.proofs.Found.{candidate-at, available-at, last-id, id_or, or_else}
 use Rattle.mdb_pool.proofs.Moves.{queued-asked_at}
 use Rattle.mdb_pool.proofs.Stands.{grant-fits, create-fits, discard-fits, end-fits}
 use Rattle.mdb_pool.proofs.Staleness.{ready-is, ready-status, stale-at}
-
--- facts after a history are items after it
-pub of_pool-with_facts : (p n : ℕ) (facts : List Fact) (h : List Item) → of_pool p (with_facts n facts h) ≡ after_facts p n facts (of_pool p h)
-of_pool-with_facts p n [] h = refl
-of_pool-with_facts p n (f ∷ fs) h = of_pool-with_facts p n fs (made n f ∷ h)
-
-pub after-append : (p n : ℕ) (fs gs : List Fact) (xs : List PoolItem) → after_facts p n (fs ++ gs) xs ≡ after_facts p n gs (after_facts p n fs xs)
-after-append p n [] gs xs = refl
-after-append p n (f ∷ fs) gs xs = after-append p n fs gs (after_fact p n f xs)
 
 or_else-none : (o : Option ℕ) → or_else o None ≡ o
 or_else-none None = refl
@@ -57,22 +50,22 @@ module _ (s : PoolCore) (xs : List PoolItem) (z : Fits s xs) (n : ℕ) where
 
   -- an available connection has perished as the state says
   pub perished-is : (x : Connection) → connection_at s x.id ≡ Some x → x.place ≡ Available → perished s.options n xs x.id ≡ perished_now s n x
-  perished-is x at_x place = rw (stale-at s xs z.matches x.id x at_x, idle-is s.options.max_idle_time x.id x refl (z.matches.since x.id x at_x (ap is_available place))) refl
+  perished-is x at_x place = rw (stale-at s xs z.matches x.id x at_x, idle-is s.options.max_idle_time x.id x refl (z.matches.connections.since x.id x at_x (ap is_available place))) refl
 
   last-available : last_of (available_list xs) ≡ id_or (last_available s) None
-  last-available = ap last_of z.matches.available ∙ (sym (or_else-none (last_of (ids_where is_available s.connections))) ∙ sym (last-id None s.connections))
+  last-available = ap last_of z.matches.counts.available ∙ (sym (or_else-none (last_of (ids_where is_available s.connections))) ∙ sym (last-id None s.connections))
 
   wants-is : wants_connection s.options xs ≡ wants_now s
-  wants-is = rw (z.matches.created, z.matches.live_all) refl
+  wants-is = rw (z.matches.counts.created, z.matches.counts.live_all) refl
 
   pending-is : length (pending_list xs) ≡ pending_count s
-  pending-is = ap length z.matches.pending ∙ length-where (λ (x : Connection). x.id) (λ x. is_pending x.place) s.connections
+  pending-is = ap length z.matches.counts.pending ∙ length-where (λ (x : Connection). x.id) (λ x. is_pending x.place) s.connections
 
   warm-is : (q : Request) → request_at s q.number ≡ Some q → is_warm xs q.number ≡ q.warm
-  warm-is q at_q = z.matches.warm q.number ∙ ap warm_of at_q
+  warm-is q at_q = z.matches.requests.warm q.number ∙ ap warm_of at_q
 
   blocked-is : (q : Request) → request_at s q.number ≡ Some q → is_blocked s.options xs q.number ≡ (q.warm && blocked_now s)
-  blocked-is q at_q = rw (warm-is q at_q, z.matches.created, z.matches.live_all, pending-is) refl
+  blocked-is q at_q = rw (warm-is q at_q, z.matches.counts.created, z.matches.counts.live_all, pending-is) refl
 
   candidate-in : (qs : List Request) → ((q : Request) → In q qs → request_at s q.number ≡ Some q) → candidate s.options xs (numbers_where is_queued qs) ≡ number_at (find (λ q. is_queued q.phase && not (q.warm && blocked_now s)) qs)
   candidate-in [] at = refl
@@ -84,42 +77,42 @@ module _ (s : PoolCore) (xs : List PoolItem) (z : Fits s xs) (n : ℕ) where
       on true false e f rest = let g : is_blocked s.options xs q.number ≡ false = blocked-is q (at q head_in) ∙ f in rw (e, g, f) refl
 
   candidate-is : candidate s.options xs (queued xs) ≡ number_at (candidate_now s)
-  candidate-is = ap (candidate s.options xs) z.matches.queue ∙ candidate-in s.requests (λ q i. member-at (λ (r : Request). r.number) q s.requests i (rw (z.matches.single_request q.number) (one_if-le (is_some (request_at s q.number)))))
+  candidate-is = ap (candidate s.options xs) z.matches.requests.queue ∙ candidate-in s.requests (λ q i. member-at (λ (r : Request). r.number) q s.requests i (rw (z.matches.requests.single_request q.number) (one_if-le (is_some (request_at s q.number)))))
 
   -- the candidate has the move
   move-for : (q : Request) → s.status ≡ Ready → candidate_now s ≡ Some q → next_move s.pool s.address s.options n xs ≡ (if is_warm xs q.number then warm_move s.pool s.address s.options xs q.number else caller_move s.pool s.address s.options n xs q.number (last_of (available_list xs)))
-  move-for q r e = rw (z.matches.status, r) (ap (move_for s.pool s.address s.options n xs) (candidate-is ∙ ap number_at e))
+  move-for q r e = rw (z.matches.clearing.status, r) (ap (move_for s.pool s.address s.options n xs) (candidate-is ∙ ap number_at e))
 
   caller-for : (q : Request) → s.status ≡ Ready → candidate_now s ≡ Some q → q.warm ≡ false → next_move s.pool s.address s.options n xs ≡ caller_move s.pool s.address s.options n xs q.number (last_of (available_list xs))
   caller-for q r e cold = move-for q r e ∙ rw (warm-is q (candidate-at s xs z.matches q e).0 ∙ cold) refl
 
   pub warming-move : (q : Request) → s.status ≡ Ready → candidate_now s ≡ Some q → q.warm ≡ true → next_move s.pool s.address s.options n xs ≡ warming_facts s q
-  warming-move q r e hot = move-for q r e ∙ rw (warm-is q (candidate-at s xs z.matches q e).0 ∙ hot, wants-is, z.matches.created) refl
+  warming-move q r e hot = move-for q r e ∙ rw (warm-is q (candidate-at s xs z.matches q e).0 ∙ hot, wants-is, z.matches.counts.created) refl
 
   pub no-queue : s.status ≡ Ready → candidate_now s ≡ None → next_move s.pool s.address s.options n xs ≡ []
-  no-queue r e = rw (z.matches.status, r) (ap (move_for s.pool s.address s.options n xs) (candidate-is ∙ ap number_at e))
+  no-queue r e = rw (z.matches.clearing.status, r) (ap (move_for s.pool s.address s.options n xs) (candidate-is ∙ ap number_at e))
 
   pub not-ready : is_ready_now s.status ≡ false → next_move s.pool s.address s.options n xs ≡ []
-  not-ready e = rw (z.matches.status, ready-is s.status, e) refl
+  not-ready e = rw (z.matches.clearing.status, ready-is s.status, e) refl
 
-  pub grant-move : (q : Request) (x : Connection) → s.status ≡ Ready → candidate_now s ≡ Some q → q.warm ≡ false → last_available s ≡ Some x → connection_at s x.id ≡ Some x → x.place ≡ Available → perished_now s n x ≡ None → next_move s.pool s.address s.options n xs ≡ Granted q.number s.pool x.id ∷ checked_out_fact s.pool s.address n xs q.number x.id ∷ []
+  pub grant-move : (q : Request) (x : Connection) → s.status ≡ Ready → candidate_now s ≡ Some q → q.warm ≡ false → last_available s ≡ Some x → connection_at s x.id ≡ Some x → x.place ≡ Available → perished_now s n x ≡ None → next_move s.pool s.address s.options n xs ≡ Granted q.number s.pool x.id ∷ checked_out_fact s.pool s.address x.id (n - asked_at xs q.number) ∷ []
   grant-move q x r e cold f at_x place fresh =
       let g : last_of (available_list xs) ≡ Some x.id = last-available ∙ ap (λ o. id_or o None) f in
       caller-for q r e cold ∙ rw (g, perished-is x at_x place, fresh) refl
 
-  pub discard-move : (q : Request) (x : Connection) (why : ConnectionClosedReason) → s.status ≡ Ready → candidate_now s ≡ Some q → q.warm ≡ false → last_available s ≡ Some x → connection_at s x.id ≡ Some x → x.place ≡ Available → perished_now s n x ≡ Some why → next_move s.pool s.address s.options n xs ≡ shut_fact s x why ∷ []
+  pub discard-move : (q : Request) (x : Connection) (why : ConnectionClosedReason) → s.status ≡ Ready → candidate_now s ≡ Some q → q.warm ≡ false → last_available s ≡ Some x → connection_at s x.id ≡ Some x → x.place ≡ Available → perished_now s n x ≡ Some why → next_move s.pool s.address s.options n xs ≡ closed_fact s.pool s.address x.id why x.service ∷ []
   discard-move q x why r e cold f at_x place old =
       let g : last_of (available_list xs) ≡ Some x.id = last-available ∙ ap (λ o. id_or o None) f in
-      let k : known_service xs x.id ≡ x.service = grind (arith, z.matches.service x.id, at_x) in
+      let k : known_service xs x.id ≡ x.service = grind (arith, z.matches.told.service x.id, at_x) in
       caller-for q r e cold ∙ rw (g, perished-is x at_x place, old, k) refl
 
   room : may_create s.options xs ≡ has_room s
-  room = rw (z.matches.created, z.matches.live_all, z.matches.pending, length-where (λ (x : Connection). x.id) (λ x. is_pending x.place) s.connections) refl
+  room = rw (z.matches.counts.created, z.matches.counts.live_all, z.matches.counts.pending, length-where (λ (x : Connection). x.id) (λ x. is_pending x.place) s.connections) refl
 
   pub create-move : (q : Request) → s.status ≡ Ready → candidate_now s ≡ Some q → q.warm ≡ false → last_available s ≡ None → has_room s ≡ true → next_move s.pool s.address s.options n xs ≡ created_fact s.pool s.address (s.created + 1) ∷ Granted q.number s.pool (s.created + 1) ∷ []
   create-move q t e cold f r =
       let g : last_of (available_list xs) ≡ None = last-available ∙ ap (λ o. id_or o None) f in
-      caller-for q t e cold ∙ rw (g, room, r, z.matches.created) refl
+      caller-for q t e cold ∙ rw (g, room, r, z.matches.counts.created) refl
 
   pub no-move : (q : Request) → s.status ≡ Ready → candidate_now s ≡ Some q → q.warm ≡ false → last_available s ≡ None → has_room s ≡ false → next_move s.pool s.address s.options n xs ≡ []
   no-move q t e cold f r =
@@ -196,21 +189,21 @@ module _ (s t : PoolCore) (home : SameHome s t) (n : ℕ) (before after : List F
           }
 
   shorter : (q : Request) → request_at t q.number ≡ Some q → q.phase ≡ Queued → length (without q.number (queued ys)) < length (queued ys)
-  shorter q at_q phase = length-without_has q.number (queued ys) (ap (has q.number) g.fits.matches.queue ∙ (has-where (λ (r : Request). r.number) (λ r. is_queued r.phase) q.number t.requests (g.fits.matches.single_request q.number) ∙ (ap (passes (λ (r : Request). r.number) (λ r. is_queued r.phase)) at_q ∙ ap is_queued phase)))
+  shorter q at_q phase = length-without_has q.number (queued ys) (ap (has q.number) g.fits.matches.requests.queue ∙ (has-where (λ (r : Request). r.number) (λ r. is_queued r.phase) q.number t.requests (g.fits.matches.requests.single_request q.number) ∙ (ap (passes (λ (r : Request). r.number) (λ r. is_queued r.phase)) at_q ∙ ap is_queued phase)))
 
-  pub turn-grant : (q : Request) (x : Connection) → t.status ≡ Ready → candidate_now t ≡ Some q → q.warm ≡ false → last_available t ≡ Some x → perished_now t n x ≡ None → Progress s (granting t x q) n before (after ++ Granted q.number t.pool x.id ∷ checked_out_fact t.pool t.address n ys q.number x.id ∷ []) xs
+  pub turn-grant : (q : Request) (x : Connection) → t.status ≡ Ready → candidate_now t ≡ Some q → q.warm ≡ false → last_available t ≡ Some x → perished_now t n x ≡ None → Progress s (granting t x q) n before (after ++ Granted q.number t.pool x.id ∷ checked_out_fact t.pool t.address x.id (n - asked_at ys q.number) ∷ []) xs
   turn-grant q x r e cold f fresh =
       let at_q : (request_at t q.number ≡ Some q) × (q.phase ≡ Queued) = candidate-at t ys g.fits.matches q e in
       let at_x : (connection_at t x.id ≡ Some x) × (x.place ≡ Available) = available-at t ys g.fits.matches x f in
-      turn (granting t x q) (Granted q.number t.pool x.id ∷ checked_out_fact t.pool t.address n ys q.number x.id ∷ []) (granted q.number x.id ∷ ys) (grant-move t ys g.fits n q x r e cold f at_x.0 at_x.1 fresh) (rw (same-number t.pool) refl) (grant-fits t ys g.fits n x q at_x.0 at_x.1 at_q.0 at_q.1 cold) (
+      turn (granting t x q) (Granted q.number t.pool x.id ∷ checked_out_fact t.pool t.address x.id (n - asked_at ys q.number) ∷ []) (granted q.number x.id ∷ ys) (grant-move t ys g.fits n q x r e cold f at_x.0 at_x.1 fresh) (rw (same-number t.pool) refl) (grant-fits t ys g.fits n x q at_x.0 at_x.1 at_q.0 at_q.1 cold) (
       let short : length (without q.number (queued ys)) < length (queued ys) = shorter q at_q.0 at_q.1 in
       grind (arith, short, length-without x.id (available_list ys)))
 
-  pub turn-discard : (q : Request) (x : Connection) (why : ConnectionClosedReason) → t.status ≡ Ready → candidate_now t ≡ Some q → q.warm ≡ false → last_available t ≡ Some x → perished_now t n x ≡ Some why → Progress s (discarding t x) n before (after ++ shut_fact t x why ∷ []) xs
+  pub turn-discard : (q : Request) (x : Connection) (why : ConnectionClosedReason) → t.status ≡ Ready → candidate_now t ≡ Some q → q.warm ≡ false → last_available t ≡ Some x → perished_now t n x ≡ Some why → Progress s (discarding t x) n before (after ++ closed_fact t.pool t.address x.id why x.service ∷ []) xs
   turn-discard q x why r e cold f old =
       let at_x : (connection_at t x.id ≡ Some x) × (x.place ≡ Available) = available-at t ys g.fits.matches x f in
-      let there : has x.id (available_list ys) ≡ true = rw (g.fits.matches.available, has-where (λ (y : Connection). y.id) (λ y. is_available y.place) x.id t.connections (g.fits.matches.single x.id)) (ap (passes (λ (y : Connection). y.id) (λ y. is_available y.place)) at_x.0 ∙ ap is_available at_x.1) in
-      turn (discarding t x) (shut_fact t x why ∷ []) (closed x.id ∷ ys) (discard-move t ys g.fits n q x why r e cold f at_x.0 at_x.1 old) (rw (same-number t.pool) refl) (discard-fits t ys g.fits n x at_x.0 at_x.1) (
+      let there : has x.id (available_list ys) ≡ true = rw (g.fits.matches.counts.available, has-where (λ (y : Connection). y.id) (λ y. is_available y.place) x.id t.connections (g.fits.matches.counts.single x.id)) (ap (passes (λ (y : Connection). y.id) (λ y. is_available y.place)) at_x.0 ∙ ap is_available at_x.1) in
+      turn (discarding t x) (closed_fact t.pool t.address x.id why x.service ∷ []) (closed x.id ∷ ys) (discard-move t ys g.fits n q x why r e cold f at_x.0 at_x.1 old) (rw (same-number t.pool) refl) (discard-fits t ys g.fits n x at_x.0 at_x.1) (
       let short : length (without x.id (available_list ys)) < length (available_list ys) = length-without_has x.id (available_list ys) there in
       omega arith)
 
@@ -252,8 +245,8 @@ available-stays : (x : Connection) (xs : List Connection) → is_available x.pla
 available-stays x xs e = rw (where-put_out (λ (y : Connection). y.id) (λ y. is_available y.place) x xs e) (length-without x.id (ids_where is_available xs))
 
 -- the fact of the checkout has the moment of the kept request
-pub checked_out-kept : (t : PoolCore) (zs : List PoolItem) (z : Fits t zs) (n c : ℕ) (q : Request) → request_at t q.number ≡ Some q → checked_out_fact t.pool t.address n zs q.number c ≡ out_fact t c (n - q.asked_at)
-checked_out-kept t zs z n c q at_q = ap (λ k. out_fact t c (n - k)) (z.matches.asked_at q.number ∙ ap asked_at_of at_q)
+pub checked_out-kept : (t : PoolCore) (zs : List PoolItem) (z : Fits t zs) (n c : ℕ) (q : Request) → request_at t q.number ≡ Some q → checked_out_fact t.pool t.address c (n - asked_at zs q.number) ≡ checked_out_fact t.pool t.address c (n - q.asked_at)
+checked_out-kept t zs z n c q at_q = ap (λ k. checked_out_fact t.pool t.address c (n - k)) (z.matches.requests.asked_at q.number ∙ ap asked_at_of at_q)
 
 -- the turns as the code makes them
 pub turn-meet-to : (s t u : PoolCore) (home : SameHome s t) (n : ℕ) (before after facts : List Fact) (xs : List PoolItem) (q : Request) (x : Connection) → Progress s t n before after xs → is_ready_now t.status ≡ true → candidate_now t ≡ Some q → q.warm ≡ false → last_available t ≡ Some x → u ≡ meeting t n x q → facts ≡ after ++ meeting_facts t n x q → Progress s u n before facts xs

@@ -9,10 +9,10 @@ use Rattle.mdb_pool.specs.declared.status.Clear.{Clear}
 use Rattle.mdb_pool.specs.declared.status.Status.{Status}
 use Rattle.mdb_pool.specs.declared.status.Status.TheVariants.{New, Ready, Paused, Closed}
 use Rattle.mdb_pool.specs.declared.pool_core.PoolCore.{PoolCore}
-use Rattle.mdb_pool.specs.History.{PoolItem, same_service}
-use Rattle.mdb_pool.specs.Connections.{service_of}
-use Rattle.mdb_pool.specs.State.{is_stale, ready, generation_of, generation_before}
-use Rattle.mdb_pool.specs.Standing.{Matches}
+use Rattle.mdb_log.specs.History.{PoolItem, same_service}
+use Rattle.mdb_log.specs.Connections.{service_of}
+use Rattle.mdb_log.specs.State.{is_stale, ready, generation_of, generation_before}
+use Rattle.mdb_pool.specs.Matching.{Matches}
 use Rattle.mdb_pool.specs.Kept.{connection_at, clears_for, clears_before, cleared_since, stale_for, state_in, is_ready_now, is_shut}
 use Rattle.mdb_pool.proofs.Tables.{named}
 
@@ -64,16 +64,16 @@ since-is c t ks = rw (← parts c t ks, some-after c t ks) (differ (clears_befor
 
 module _ (s : PoolCore) (xs : List PoolItem) (m : Matches s xs) where
   pub live-created : (c : ℕ) (x : Connection) → connection_at s c ≡ Some x → c ≤ s.created
-  live-created c x e = grind (arith, m.unused c, e)
+  live-created c x e = grind (arith, m.counts.unused c, e)
 
   pub live-served : (c : ℕ) (x : Connection) → connection_at s c ≡ Some x → service_of xs c ≡ x.service
-  live-served c x e = grind (arith, m.served c, e)
+  live-served c x e = grind (arith, m.told.served c, e)
 
   -- whatever items without a clear come after them
   pub stale-in : (ys : List PoolItem) (c : ℕ) (service : Option ObjectId) → c ≤ s.created → service_of ys c ≡ service → ((t : Option ObjectId) → generation_before ys c t ≡ generation_before xs c t) → ((t : Option ObjectId) → generation_of ys t ≡ generation_of xs t) → is_stale s.options ys c ≡ stale_for s c service
   stale-in ys c service l named before now =
       let t : Option ObjectId = if s.options.load_balanced then service else None in
-      rw (named, before t ∙ m.before c t l, now t ∙ m.clears t, since-is c t s.clears) refl
+      rw (named, before t ∙ m.clearing.before c t l, now t ∙ m.clearing.clears t, since-is c t s.clears) refl
 
   pub stale-at : (c : ℕ) (x : Connection) → connection_at s c ≡ Some x → is_stale s.options xs c ≡ stale_for s c x.service
   stale-at c x e = stale-in xs c x.service (live-created c x e) (live-served c x e) (λ t. refl) (λ t. refl)

@@ -9,25 +9,25 @@ use Rattle.mdb_pool.specs.declared.connection.Connection.{Connection}
 use Rattle.mdb_pool.specs.declared.connection.Place.TheVariants.{Pending, Available, Held}
 use Rattle.mdb_pool.specs.declared.request.Request.{Request}
 use Rattle.mdb_pool.specs.declared.request.Phase.TheVariants.{Queued, Given, Over, Ended as EndedPhase}
-use Rattle.mdb_pool.specs.declared.step.Use.{Use}
-use Rattle.mdb_pool.specs.declared.step.Use.TheVariants.{Ok}
+use Rattle.mdb_log.specs.declared.step.Use.{Use}
+use Rattle.mdb_log.specs.declared.step.Use.TheVariants.{Ok}
 use Rattle.mdb_pool.specs.declared.pool_core.PoolCore.{PoolCore}
 use Rattle.mdb_pool.proofs.Moves.{grant-matches, new_request, asked_request, ask-matches, warm_request, warm-matches, made_request, create-matches, spawn-matches}
-use Rattle.mdb_pool.specs.History.{PoolItem, asked, warmed, has_asked, gave_up, returned, established, created, closed, checked_in, granted, ended, failed, raised, pool_ready}
+use Rattle.mdb_log.specs.History.{PoolItem, asked, warmed, has_asked, gave_up, returned, established, created, closed, checked_in, granted, ended, failed, raised, pool_ready}
 use Rattle.mdb_pool.specs.Kept.{connection_at, request_at, warm_of, given_in, given_of, numbers_asked, is_asked_at, used_as}
 use Rattle.mdb_pool.specs.Standing.{Fits}
 use Rattle.mdb_pool.specs.Changes.{asking, creating, spawning, parting, granting, establishing, pooling, returning, dropping, quitting, leaving, handing, failing, forgetting, ending, finishing, discarding, losing, raising}
 use Rattle.mdb_pool.proofs.MovesGiveUp.{quit_request, quit-matches, left_request, leave-matches, apart_request, part-matches, handed_request, hand-matches, late-matches}
 use Rattle.mdb_pool.proofs.MovesBack.{establish-matches, pool-matches, rest-matches, back_request, return-matches, gone_request, drop-matches}
-use Rattle.mdb_pool.specs.Connections.{held}
+use Rattle.mdb_log.specs.Connections.{held}
 use Rattle.mdb_pool.proofs.MovesFail.{forget-matches, failed_request, fail-matches}
 use Rattle.mdb_pool.proofs.MovesPool.{discard-matches, skip-check-in, late-end, late-end_closed, late-end_skipped, over_request, end-matches, ready-matches, later-matches, raise-matches}
-use Rattle.mdb_pool.proofs.Numbers.{same-number}
+use Rattle.mdb_log.proofs.Numbers.{same-number}
 use Rattle.mdb_pool.proofs.Tables.{entry_at-put, others-put, where-put_in, where-swap_same, passes, one_if-le}
-use Rattle.mdb_pool.specs.Requests.{requests}
+use Rattle.mdb_log.specs.Requests.{requests}
 use Rattle.mdb_pool.specs.declared.request.Phase.{Phase}
 use Rattle.mdb_pool.specs.Keyed.{put, swap}
-use Rattle.mdb_pool.specs.declared.step.Established.{Established}
+use Rattle.mdb_log.specs.declared.step.Established.{Established}
 
 abbrev id_of : Connection → ℕ
 id_of x = x.id
@@ -37,16 +37,16 @@ number_of q = q.number
 
 -- the requests made at a pool are those that it keeps
 pub asked-known : (s : PoolCore) (xs : List PoolItem) → Fits s xs → (r : ℕ) → has_asked xs r ≡ is_asked_at (request_at s r)
-asked-known s xs z r = z.matches.asks r
+asked-known s xs z r = z.matches.requests.asks r
 
 module _ (s : PoolCore) (xs : List PoolItem) (z : Fits s xs) (n : ℕ) where
   -- the order of asking stays where a request goes on
   pub order-stays : (q : Request) (p : Phase) → request_at s q.number ≡ Some q → requests xs ≡ numbers_asked (swap number_of (record q { phase = p }) s.requests)
-  order-stays q p at_q = z.order ∙ sym (where-swap_same number_of (λ k. not k.took) (record q { phase = p }) q s.requests at_q (rw (z.matches.single_request q.number) (one_if-le (is_some (request_at s q.number)))) refl)
+  order-stays q p at_q = z.order ∙ sym (where-swap_same number_of (λ k. not k.took) (record q { phase = p }) q s.requests at_q (rw (z.matches.requests.single_request q.number) (one_if-le (is_some (request_at s q.number)))) refl)
 
   -- a new request comes last
   asked-last : (r : ℕ) (w : Bool) → request_at s r ≡ None → numbers_asked s.requests ++ r ∷ [] ≡ numbers_asked (put number_of (record { number = r; asked_at = n; warm = w; took = false; phase = Queued }) s.requests)
-  asked-last r w absent = sym (where-put_in number_of (λ k. not k.took) (record { number = r; asked_at = n; warm = w; took = false; phase = Queued }) s.requests refl (z.matches.single_request r) (ap (passes number_of (λ k. not k.took)) absent))
+  asked-last r w absent = sym (where-put_in number_of (λ k. not k.took) (record { number = r; asked_at = n; warm = w; took = false; phase = Queued }) s.requests refl (z.matches.requests.single_request r) (ap (passes number_of (λ k. not k.took)) absent))
 
   pub grant-fits : (x : Connection) (q : Request) → connection_at s x.id ≡ Some x → x.place ≡ Available → request_at s q.number ≡ Some q → q.phase ≡ Queued → q.warm ≡ false → Fits (granting s x q) (granted q.number x.id ∷ xs)
   grant-fits x q at_x place at_q phase cold = record {
@@ -219,47 +219,63 @@ late-end-fits_skipped s xs c n r how end z = record { matches = late-end_skipped
 pub noted-fits : (s : PoolCore) (told claims : List ℕ) (n : ℕ) (xs : List PoolItem) → Fits s xs → Fits (record s { last = n; settled = told; claimed = claims }) xs
 noted-fits s told claims n xs z = record {
   matches = record {
-    created = z.matches.created;
-    live_all = z.matches.live_all;
-    pending = z.matches.pending;
-    available = z.matches.available;
-    queue = z.matches.queue;
-    single = z.matches.single;
-    unused = z.matches.unused;
-    live = z.matches.live;
-    parties = z.matches.parties;
-    granted_to = z.matches.granted_to;
-    created_at = z.matches.created_at;
-    served = z.matches.served;
-    service = z.matches.service;
-    wire = z.matches.wire;
-    given = z.matches.given;
-    single_request = z.matches.single_request;
-    asked_at = z.matches.asked_at;
-    ends = z.matches.ends;
-    taken = z.matches.taken;
-    owned = z.matches.owned;
-    known = z.matches.known;
-    free = z.matches.free;
-    busy = z.matches.busy;
-    waits = z.matches.waits;
-    left_by = z.matches.left_by;
-    since = z.matches.since;
-    status = z.matches.status;
-    clears = z.matches.clears;
-    before = z.matches.before;
-    seen = z.matches.seen;
-    warm = z.matches.warm;
-    fills = z.matches.fills;
-    ungranted = z.matches.ungranted;
-    asks = z.matches.asks;
-    pins = z.matches.pins;
+    counts = record {
+      created = z.matches.counts.created;
+      live_all = z.matches.counts.live_all;
+      pending = z.matches.counts.pending;
+      available = z.matches.counts.available;
+      single = z.matches.counts.single;
+      unused = z.matches.counts.unused;
+    };
+    connections = record {
+      live = z.matches.connections.live;
+      parties = z.matches.connections.parties;
+      ungranted = z.matches.connections.ungranted;
+      granted_to = z.matches.connections.granted_to;
+      created_at = z.matches.connections.created_at;
+      since = z.matches.connections.since;
+    };
+    told = record {
+      served = z.matches.told.served;
+      service = z.matches.told.service;
+      wire = z.matches.told.wire;
+    };
+    requests = record {
+      queue = z.matches.requests.queue;
+      given = z.matches.requests.given;
+      single_request = z.matches.requests.single_request;
+      asked_at = z.matches.requests.asked_at;
+      ends = z.matches.requests.ends;
+      asks = z.matches.requests.asks;
+      warm = z.matches.requests.warm;
+    };
+    links = record {
+      taken = z.matches.links.taken;
+      owned = z.matches.links.owned;
+      known = z.matches.links.known;
+      free = z.matches.links.free;
+      busy = z.matches.links.busy;
+      waits = z.matches.links.waits;
+      left_by = z.matches.links.left_by;
+      fills = z.matches.links.fills;
+    };
+    pinning = record {
+      pins = z.matches.pinning.pins;
+      loose = z.matches.pinning.loose;
+      rests = z.matches.pinning.rests;
+    };
+    uses = record {
+      errored = z.matches.uses.errored;
+      dropped = z.matches.uses.dropped;
+      calm = z.matches.uses.calm;
+    };
+    clearing = record {
+      status = z.matches.clearing.status;
+      clears = z.matches.clearing.clears;
+      before = z.matches.clearing.before;
+      seen = z.matches.clearing.seen;
+    };
     at_pin = z.matches.at_pin;
-    loose = z.matches.loose;
-    rests = z.matches.rests;
-    errored = z.matches.errored;
-    dropped = z.matches.dropped;
-    calm = z.matches.calm;
   };
   asked = z.asked;
   order = z.order;

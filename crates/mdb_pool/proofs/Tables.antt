@@ -3,8 +3,8 @@ use Rattle.std.proofs.Common.{ℕ, ◌≡◌, ◌+◌, Bool, true, false, ◌==�
 use Rattle.std.specs.Prelude.{count_by}
 use Rattle.std.proofs.lemmas.Grind.{common_steps}
 use Rattle.mdb_pool.specs.Keyed.{entry_at, others, put, swap}
-use Rattle.mdb_pool.specs.History.{without}
-use Rattle.mdb_pool.specs.Connections.{has, one_if}
+use Rattle.mdb_log.specs.History.{without}
+use Rattle.mdb_log.specs.Connections.{has, one_if}
 
 -- x is a member
 pub data In {T : Type 0} : T → List T → Type 0 where

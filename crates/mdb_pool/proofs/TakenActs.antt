@@ -1,24 +1,24 @@
 -- What a take does is the answer to its step.
 use Rattle.std.proofs.Common.{ℕ, ◌≡◌, ◌≤◌, ◌||◌, Bool, true, false, not, ◌==◌, List, [], ◌∷◌, length, Option, Some, None, is_some, refl, sym, ◌∙◌, ap, subst, if◌then◌else◌, append-nil, nat_lt}
 use Rattle.mdb_events.specs.declared.fact.Fact.{Fact}
-use Rattle.mdb_pool.specs.declared.step.Act.TheVariants.{Take}
-use Rattle.mdb_pool.specs.declared.reply.Refused.{Refused}
-use Rattle.mdb_pool.specs.declared.reply.Refused.TheVariants.{RequestKnown, Unpinned, PinInUse}
-use Rattle.mdb_pool.specs.declared.reply.Reply.{Reply}
-use Rattle.mdb_pool.specs.declared.reply.Reply.TheVariants.{Pooled, Refused as RefusedBy}
+use Rattle.mdb_log.specs.declared.step.Act.TheVariants.{Take}
+use Rattle.mdb_log.specs.declared.reply.Refused.{Refused}
+use Rattle.mdb_log.specs.declared.reply.Refused.TheVariants.{RequestKnown, Unpinned, PinInUse}
+use Rattle.mdb_log.specs.declared.reply.Reply.{Reply}
+use Rattle.mdb_log.specs.declared.reply.Reply.TheVariants.{Pooled, Refused as RefusedBy}
 use Rattle.mdb_pool.specs.declared.connection.Connection.{Connection}
 use Rattle.mdb_pool.specs.declared.connection.Place.{Place}
 use Rattle.mdb_pool.specs.declared.connection.Place.TheVariants.{Pending, Available, Held, Pinned}
 use Rattle.mdb_pool.specs.declared.pool_core.PoolCore.{PoolCore}
-use Rattle.mdb_pool.specs.History.{Item, PoolItem, taken, of_pool, has_asked}
+use Rattle.mdb_log.specs.History.{Item, PoolItem, taken, of_pool, has_asked}
 use Rattle.mdb_pool.specs.Refusal.{refusal_of}
-use Rattle.mdb_pool.specs.Connections.{has, held}
+use Rattle.mdb_log.specs.Connections.{has, held}
 use Rattle.mdb_pool.specs.Standing.{Fits, StandsFor, Serves, Accepts, Answers, SameHome, SameNotes}
 use Rattle.mdb_pool.specs.Kept.{connection_at, request_at, is_shut, pins_at, is_held_at, is_pending_at, holder_at, one_party}
 use Rattle.mdb_pool.specs.Places.{is_available, is_held, is_at_pin, stays}
 use Rattle.mdb_pool.specs.Changes.{taking}
 use Rattle.mdb_pool.proofs.Acts.{refuses, accepts, own-answers, not-back, pending-is, no-some}
-use Rattle.mdb_pool.proofs.Numbers.{same-number}
+use Rattle.mdb_log.proofs.Numbers.{same-number}
 use Rattle.mdb_pool.proofs.PinnedActs.{pinned-at, pinned-outside}
 use Rattle.mdb_pool.proofs.PinStands.{take-fits}
 
@@ -34,17 +34,17 @@ pub held-is : (s : PoolCore) (xs : List PoolItem) → Fits s xs → (c : ℕ) �
 held-is s xs z c = ap (nat_lt 0) count ∙ on (connection_at s c) refl
   where
     count : held xs c ≡ (if is_pending_at (connection_at s c) then 0 else length (one_party (holder_at (connection_at s c))))
-    count = rw (pending-is s xs z c, z.matches.parties c) refl
+    count = rw (pending-is s xs z c, z.matches.connections.parties c) refl
 
     at_held : (x : Connection) (o : Option ℕ) → connection_at s c ≡ Some x → is_held x.place ≡ true → x.holder ≡ o → nat_lt 0 (length (one_party x.holder)) ≡ true
-    at_held x None e f g = let k : is_some x.holder ≡ true = z.matches.busy c x e f in let w : is_some x.holder ≡ false = ap is_some g in cc
+    at_held x None e f g = let k : is_some x.holder ≡ true = z.matches.links.busy c x e f in let w : is_some x.holder ≡ false = ap is_some g in cc
     at_held x (Some r) e f g = rw g refl
 
     at_place : (x : Connection) (p : Place) → connection_at s c ≡ Some x → x.place ≡ p → nat_lt 0 (if is_pending_at (Some x) then 0 else length (one_party (holder_at (Some x)))) ≡ is_held_at (Some x)
     at_place x Pending e f = rw f refl
-    at_place x Available e f = rw (f, z.matches.free c x e (ap is_available f)) refl
+    at_place x Available e f = rw (f, z.matches.links.free c x e (ap is_available f)) refl
     at_place x Held e f = rw f (at_held x x.holder e (ap is_held f) refl)
-    at_place x Pinned e f = rw (f, z.matches.rests c x e (ap is_at_pin f)) refl
+    at_place x Pinned e f = rw (f, z.matches.pinning.rests c x e (ap is_at_pin f)) refl
 
     on : (o : Option Connection) → connection_at s c ≡ o → nat_lt 0 (if is_pending_at o then 0 else length (one_party (holder_at o))) ≡ is_held_at o
     on None e = refl
@@ -80,7 +80,7 @@ take_why known pinned in_use =
     else None))
 
 take-refusal : (s : PoolCore) (h : List Item) → StandsFor s h → (n r c : ℕ) → s.last ≤ n → refusal_of s.pool s.options h (record { moment = n; act = Take r s.pool c }) ≡ take_why (is_some (request_at s r)) (nat_lt 0 (pins_at (connection_at s c))) (is_held_at (connection_at s c))
-take-refusal s h z n r c l = rw (z.last_is, not-back n s.last l, (z.asked_once r ∙ z.fits.asked r), same-number s.pool, z.fits.matches.pins c, held-is s (of_pool s.pool h) z.fits c) refl
+take-refusal s h z n r c l = rw (z.last_is, not-back n s.last l, (z.asked_once r ∙ z.fits.asked r), same-number s.pool, z.fits.matches.pinning.pins c, held-is s (of_pool s.pool h) z.fits c) refl
 
 pub refuses-known : (s : PoolCore) (facts : List Fact) (n r c : ℕ) (h : List Item) → StandsFor s h → s.last ≤ n → is_some (request_at s r) ≡ true → Answers s s facts facts (record { moment = n; act = Take r s.pool c }) (RefusedBy RequestKnown) h
 refuses-known s facts n r c h z l e = refuses s facts (record { moment = n; act = Take r s.pool c }) RequestKnown h z (take-refusal s h z n r c l ∙ rw e refl)

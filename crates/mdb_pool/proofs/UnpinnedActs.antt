@@ -3,17 +3,17 @@ use Rattle.std.proofs.Common.{ℕ, ◌≡◌, ◌≤◌, ◌-◌, ◌||◌, ◌&
 use Rattle.std.proofs.lemmas.Bool.Decides.{nat_tests}
 use Rattle.mdb_events.specs.declared.fact.Fact.{Fact}
 use Rattle.mdb_events.specs.declared.reasons.ConnectionClosedReason.{ConnectionClosedReason}
-use Rattle.mdb_pool.specs.declared.step.Act.TheVariants.{Unpin}
-use Rattle.mdb_pool.specs.declared.reply.Refused.TheVariants.{Unpinned}
-use Rattle.mdb_pool.specs.declared.reply.Reply.{Reply}
-use Rattle.mdb_pool.specs.declared.reply.Reply.TheVariants.{Done, Refused as RefusedBy}
+use Rattle.mdb_log.specs.declared.step.Act.TheVariants.{Unpin}
+use Rattle.mdb_log.specs.declared.reply.Refused.TheVariants.{Unpinned}
+use Rattle.mdb_log.specs.declared.reply.Reply.{Reply}
+use Rattle.mdb_log.specs.declared.reply.Reply.TheVariants.{Done, Refused as RefusedBy}
 use Rattle.mdb_pool.specs.declared.connection.Connection.{Connection}
 use Rattle.mdb_pool.specs.declared.connection.Place.TheVariants.{Pinned}
 use Rattle.mdb_pool.specs.declared.pool_core.PoolCore.{PoolCore}
-use Rattle.mdb_pool.specs.History.{Item, PoolItem, unpinned, of_pool, after_facts, closed, checked_in}
+use Rattle.mdb_log.specs.History.{Item, PoolItem, unpinned, of_pool, after_facts, closed, checked_in}
 use Rattle.mdb_pool.specs.Refusal.{refusal_of}
 use Rattle.mdb_pool.specs.Facts.{act_facts}
-use Rattle.mdb_pool.specs.Connections.{has, pins, is_pinned}
+use Rattle.mdb_log.specs.Connections.{has, pins, is_pinned}
 use Rattle.mdb_pool.specs.Standing.{Fits, StandsFor, Serves, Accepts, Answers, SameHome, SameNotes}
 use Rattle.mdb_pool.specs.Kept.{connection_at, is_shut, pins_at, is_pinned_at, reason_now}
 use Rattle.mdb_pool.specs.Places.{is_at_pin}
@@ -21,8 +21,8 @@ use Rattle.mdb_pool.specs.Changes.{unpinning, pin_ending, back_facts}
 use Rattle.mdb_pool.proofs.Acts.{refuses, accepts, own-answers, not-back, live-errored, live-dropped, live-service, live-pins}
 use Rattle.mdb_pool.proofs.CheckIns.{check-in-is, back-fair, back-own, back-open, back-fits}
 use Rattle.mdb_pool.proofs.Staleness.{stale-at}
-use Rattle.mdb_pool.proofs.Numbers.{same-number}
-use Rattle.mdb_pool.proofs.Bools.{both-left, both-right, if-not}
+use Rattle.mdb_log.proofs.Numbers.{same-number}
+use Rattle.mdb_log.proofs.Bools.{both-left, both-right, if-not}
 use Rattle.mdb_pool.proofs.Found.{is-pinned}
 use Rattle.mdb_pool.proofs.PinnedActs.{pinned-at}
 use Rattle.mdb_pool.proofs.PinStands.{unpin-fits, pin-end-fits, pin-lose-fits}
@@ -53,7 +53,7 @@ module _ (s : PoolCore) (xs : List PoolItem) (z : Fits s xs) (n : ℕ) (x : Conn
 
   -- its last pin goes
   ends-are : is_last ≡ true → act_facts s.pool s.address s.options n xs ys (Unpin s.pool x.id) ≡ back_facts s x why
-  ends-are last = rw (at_pin_now, fewer, last-one x.pins some_pins, last) (check-in-is s ys x z.matches.status (live-service s xs z.matches x.id x at_x) (live-errored s xs z.matches x.id x at_x) (stale-at s xs z.matches x.id x at_x) (live-dropped s xs z.matches x.id x at_x))
+  ends-are last = rw (at_pin_now, fewer, last-one x.pins some_pins, last) (check-in-is s ys x z.matches.clearing.status (live-service s xs z.matches x.id x at_x) (live-errored s xs z.matches x.id x at_x) (stale-at s xs z.matches x.id x at_x) (live-dropped s xs z.matches x.id x at_x))
 
   pub unpin-accepts : (s1 t : PoolCore) (before after : List Fact) → is_last ≡ false → s1 ≡ unpinning s n x → SameHome s1 t → SameNotes s1 t → ((k : List PoolItem) → Fits s1 k → Serves s1 t n before after k)
       → Accepts s t before after n (Unpin s.pool x.id) Done xs ys
@@ -117,7 +117,7 @@ pin-end-of s s1 t before f1 after n c x o xs z at_c some_pins last reason s1_is 
 
 -- how it is refused
 unpin-refusal : (s : PoolCore) (h : List Item) → StandsFor s h → (n c : ℕ) → s.last ≤ n → refusal_of s.pool s.options h (record { moment = n; act = Unpin s.pool c }) ≡ if nat_lt 0 (pins_at (connection_at s c)) then None else Some Unpinned
-unpin-refusal s h z n c l = rw (z.last_is, not-back n s.last l, same-number s.pool, z.fits.matches.pins c) (if-not (nat_lt 0 (pins_at (connection_at s c))) (Some Unpinned) None)
+unpin-refusal s h z n c l = rw (z.last_is, not-back n s.last l, same-number s.pool, z.fits.matches.pinning.pins c) (if-not (nat_lt 0 (pins_at (connection_at s c))) (Some Unpinned) None)
 
 pub refuses-unpinned : (s : PoolCore) (facts : List Fact) (n c : ℕ) (h : List Item) → StandsFor s h → s.last ≤ n → nat_lt 0 (pins_at (connection_at s c)) ≡ false → Answers s s facts facts (record { moment = n; act = Unpin s.pool c }) (RefusedBy Unpinned) h
 refuses-unpinned s facts n c h z l e = refuses s facts (record { moment = n; act = Unpin s.pool c }) Unpinned h z (unpin-refusal s h z n c l ∙ rw e refl)

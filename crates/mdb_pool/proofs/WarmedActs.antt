@@ -6,27 +6,28 @@ use Rattle.mdb_pool.specs.declared.request.Request.{Request}
 use Rattle.mdb_pool.specs.declared.request.Phase.TheVariants.{Queued}
 use Rattle.mdb_pool.specs.declared.status.Status.{Status}
 use Rattle.mdb_pool.specs.declared.status.Status.TheVariants.{New, Ready, Paused, Closed}
-use Rattle.mdb_pool.specs.declared.step.Act.TheVariants.{Warm as WarmAct}
-use Rattle.mdb_pool.specs.declared.reply.Refused.TheVariants.{UnknownServer, RequestKnown}
-use Rattle.mdb_pool.specs.declared.reply.Reply.{Reply}
-use Rattle.mdb_pool.specs.declared.reply.Reply.TheVariants.{Refused as RefusedBy}
+use Rattle.mdb_log.specs.declared.step.Act.TheVariants.{Warm as WarmAct}
+use Rattle.mdb_log.specs.declared.reply.Refused.TheVariants.{UnknownServer, RequestKnown}
+use Rattle.mdb_log.specs.declared.reply.Reply.{Reply}
+use Rattle.mdb_log.specs.declared.reply.Reply.TheVariants.{Refused as RefusedBy}
 use Rattle.mdb_pool.specs.declared.pool_core.PoolCore.{PoolCore}
-use Rattle.mdb_pool.specs.History.{Item, PoolItem, warmed, has_asked, has_taken, of_pool, after_facts}
-use Rattle.mdb_pool.specs.Requests.{outcome_of, is_outcome}
+use Rattle.mdb_log.specs.History.{Item, PoolItem, warmed, has_asked, has_taken, of_pool, after_facts}
+use Rattle.mdb_log.specs.Requests.{outcome_of, is_outcome}
 use Rattle.mdb_pool.specs.Refusal.{refusal_of}
 use Rattle.mdb_pool.specs.Standing.{Fits, StandsFor, Serves, Accepts, Answers, SameHome, SameNotes}
 use Rattle.mdb_pool.specs.Kept.{request_at, outcome_now, state_in, is_shut}
 use Rattle.mdb_pool.specs.Changes.{asking, telling, away_end, away_facts, away}
 use Rattle.mdb_pool.proofs.Acts.{refuses, accepts, own-answers, not-back, outcome-is, outcome-accepted, outcome-no-job}
-use Rattle.mdb_pool.proofs.Addresses.{own-address}
+use Rattle.mdb_log.proofs.Addresses.{own-address}
 use Rattle.mdb_base.specs.declared.address.ServerAddress.{ServerAddress}
 use Rattle.mdb_base.specs.Equality.{same_address}
-use Rattle.mdb_pool.proofs.Numbers.{same-number}
+use Rattle.mdb_log.proofs.Numbers.{same-number}
 use Rattle.mdb_pool.proofs.Stands.{warm-fits, end-fits}
-use Rattle.mdb_pool.specs.Connections.{has}
+use Rattle.mdb_log.specs.Connections.{has}
 use Rattle.mdb_pool.specs.Facts.{turned_away}
-use Rattle.mdb_pool.specs.State.{state_of}
-use Rattle.mdb_pool.specs.Legal.{AllFirstCome, shuts, AllOwn}
+use Rattle.mdb_log.specs.State.{state_of}
+use Rattle.mdb_log.specs.Legal.{AllFirstCome}
+use Rattle.mdb_log.specs.Own.{shuts, AllOwn}
 use Rattle.mdb_pool.proofs.Tables.{entry_at-put}
 use Rattle.std.proofs.Math.Bool.{or-false, or_assoc}
 use Rattle.mdb_pool.proofs.RequestedActs.{telling-settled, telling-fits}
@@ -91,7 +92,7 @@ warm-accepts s s0 s1 t u before f1 after n r reply xs z absent s0_is s1_is f1_is
     let at_home : SameHome s s1 = rw whole (away-home s xs z n r absent o) in
     let state : t.status ≡ s.status = notes.status ∙ (ap (λ k. k.status) whole ∙ (away-notes s xs z n r absent o).status) in
     accepts s s1 t u before f1 after n (WarmAct r s.address) reply (away_facts s r true o) xs (warmed r n ∷ xs)
-    (away-are s xs z n r absent s.status z.matches.status)
+    (away-are s xs z n r absent s.status z.matches.clearing.status)
     told at_home (rw whole (away-fits s xs z n r absent o)) serves
     (λ zs v. rw u_is (telling-fits t r zs v))
     (λ claims own zs m. reply_is ∙ (sym (outcome-is t zs m r) ∙ ap (λ p. outcome_of p zs r) (home.pool ∙ at_home.pool)))

@@ -2,16 +2,18 @@
 use Rattle.std.specs.Prelude.{ℕ, Bool, if◌then◌else◌, is_some, List, [], ◌∷◌, ◌++◌, Option, Some, None}
 use Rattle.mdb_base.specs.declared.address.ServerAddress.{ServerAddress}
 use Rattle.mdb_events.specs.declared.fact.Fact.{Fact}
-use Rattle.mdb_pool.specs.declared.options.PoolOptions.{PoolOptions}
-use Rattle.mdb_pool.specs.declared.step.Step.{Step}
-use Rattle.mdb_pool.specs.declared.step.Act.{Act}
-use Rattle.mdb_pool.specs.declared.step.Act.TheVariants.{Request, Warm, Collect, Claim, GiveUp, Take}
-use Rattle.mdb_pool.specs.declared.reply.Refused.{Refused}
-use Rattle.mdb_pool.specs.declared.reply.Reply.{Reply}
-use Rattle.mdb_pool.specs.declared.reply.Reply.TheVariants.{Pooled, Job, NoJob, Done, Refused as RefusedBy}
-use Rattle.mdb_pool.specs.History.{Item, PoolItem, open_pool, after_act, after_facts, of_pool}
-use Rattle.mdb_pool.specs.Connections.{pending_list}
-use Rattle.mdb_pool.specs.Requests.{end_of, outcome_of, is_claimed}
+use Rattle.mdb_log.specs.declared.options.PoolOptions.{PoolOptions}
+use Rattle.mdb_log.specs.declared.step.Step.{Step}
+use Rattle.mdb_log.specs.declared.step.Act.{Act}
+use Rattle.mdb_log.specs.declared.step.Act.TheVariants.{Request, Warm, Collect, Claim, GiveUp, Take}
+use Rattle.mdb_log.specs.declared.reply.Refused.{Refused}
+use Rattle.mdb_log.specs.declared.reply.Reply.{Reply}
+use Rattle.mdb_log.specs.declared.reply.Reply.TheVariants.{Pooled, Job, NoJob, Done, Refused as RefusedBy}
+use Rattle.mdb_log.specs.declared.log.Entry.{Entry}
+use Rattle.mdb_log.specs.Answer.{Answer}
+use Rattle.mdb_log.specs.History.{Item, PoolItem, after_facts, of_pool, with_act, with_answer}
+use Rattle.mdb_log.specs.Connections.{pending_list}
+use Rattle.mdb_log.specs.Requests.{end_of, outcome_of, is_claimed}
 use Rattle.mdb_pool.specs.Refusal.{refusal_of}
 use Rattle.mdb_pool.specs.Facts.{act_facts}
 use Rattle.mdb_pool.specs.Serving.{serving}
@@ -35,14 +37,6 @@ reply_of p claimed xs zs _ = Done
 abbrev pub all_facts : ℕ → ServerAddress → PoolOptions → ℕ → List PoolItem → List PoolItem → Act → List Fact
 all_facts p a o m xs ys act = let facts : List Fact = act_facts p a o m xs ys act in facts ++ serving p a o m (after_facts p m facts ys)
 
-pub record Answer : Type 0 where
-  pub reply : Reply
-  pub facts : List Fact
-
--- what the pool knows with the act of the step
-abbrev pub with_act : ℕ → List Item → Step → List PoolItem
-with_act p h step = after_act p (open_pool h) step.moment step.act (of_pool p h)
-
 -- a refused step has its refusal and no facts
 abbrev pub answered : ℕ → ServerAddress → PoolOptions → List Item → Step → Option Refused → Answer
 answered p a o h step (Some why) = record { reply = RefusedBy why; facts = [] }
@@ -53,3 +47,12 @@ answered p a o h step None =
 -- the answer of the pool p at the address a to the step after the history
 abbrev pub answer : ℕ → ServerAddress → PoolOptions → List Item → Step → Answer
 answer p a o h step = answered p a o h step (refusal_of p o h step)
+
+-- the entry of the step, by the seat
+abbrev pub entry_for : ℕ → ServerAddress → PoolOptions → ℕ → List Item → Step → Entry
+entry_for p a o seat h step = record { seat = seat; step = step; reply = (answer p a o h step).reply; facts = (answer p a o h step).facts }
+
+-- the entries of steps one after another, each the answer after those before it
+abbrev pub entries_for : ℕ → ServerAddress → PoolOptions → ℕ → List Item → List Step → List Entry
+entries_for p a o seat h [] = []
+entries_for p a o seat h (step ∷ steps) = entry_for p a o seat h step ∷ entries_for p a o seat (with_answer step (answer p a o h step).reply (answer p a o h step).facts h) steps

@@ -1,16 +1,14 @@
 -- The single changes of the state of a pool, and the facts that they make.
 use Rattle.std.specs.Prelude.{ℕ, Bool, ◌||◌, ◌+◌, ◌-◌, List, [], ◌∷◌, ◌++◌, Option, Some, None, if◌then◌else◌, map, filter, true, false}
 use Rattle.mdb_events.specs.declared.fact.Fact.{Fact}
-use Rattle.mdb_events.specs.declared.fact.Fact.TheVariants.{Pool, Granted, Ended}
+use Rattle.mdb_events.specs.declared.fact.Fact.TheVariants.{Granted, Ended}
 use Rattle.mdb_base.specs.declared.error.Error.{Error}
 use Rattle.mdb_base.specs.Errors.{is_timeout}
 use Rattle.mdb_pool.specs.declared.status.Status.{Status}
 use Rattle.mdb_pool.specs.declared.status.Status.TheVariants.{New, Ready, Paused, Closed}
-use Rattle.mdb_pool.specs.Facts.{new_pool_error}
-use Rattle.mdb_events.specs.declared.cmap.CmapEvent.TheVariants.{PoolReady, PoolCleared, PoolClosed, ConnectionCreated, ConnectionReady, ConnectionClosed, ConnectionCheckoutStarted, ConnectionCheckoutFailed, ConnectionCheckedOut, ConnectionCheckedIn}
+use Rattle.mdb_pool.specs.Facts.{new_pool_error, checked_in_fact, checked_out_fact, checkout_failed_fact, closed_fact, created_fact, pool_closed_fact, pool_ready_fact}
 use Rattle.mdb_events.specs.declared.reasons.ConnectionClosedReason.{ConnectionClosedReason}
 use Rattle.mdb_events.specs.declared.reasons.ConnectionClosedReason.TheVariants.{PoolClosed as PoolClosedReason}
-use Rattle.mdb_events.specs.declared.reasons.ConnectionCheckoutFailedReason.TheVariants.{ConnectionError}
 use Rattle.mdb_events.specs.declared.end.End.{End}
 use Rattle.mdb_events.specs.declared.end.End.TheVariants.{GaveUp, Cleared, Closed as ClosedEnd, Warmed, Filled}
 use Rattle.mdb_base.specs.declared.object_id.ObjectId.{ObjectId}
@@ -23,40 +21,18 @@ use Rattle.mdb_pool.specs.declared.pool_core.PoolCore.{PoolCore}
 use Rattle.mdb_pool.specs.Keyed.{put, others, swap}
 use Rattle.mdb_pool.specs.Kept.{first_unclaimed, outcome_now, perished_now, wants_now, is_shut, is_ready_now, unserved_in, timeouts_in}
 use Rattle.mdb_pool.specs.Places.{is_pending, is_available, stays}
-use Rattle.mdb_pool.specs.Requests.{is_outcome}
-use Rattle.mdb_pool.specs.declared.step.Established.{Established}
-use Rattle.mdb_pool.specs.declared.step.Use.TheVariants.{Ok}
-
--- the facts that the moves make
-abbrev pub started_fact : PoolCore → Fact
-started_fact s = Pool s.pool (ConnectionCheckoutStarted (record { address = s.address }))
-
-abbrev pub up_fact : PoolCore → ℕ → ℕ → Fact
-up_fact s c d = Pool s.pool (ConnectionReady (record { address = s.address; connection_id = c; duration = d }))
-
-abbrev pub out_fact : PoolCore → ℕ → ℕ → Fact
-out_fact s c d = Pool s.pool (ConnectionCheckedOut (record { address = s.address; connection_id = c; duration = d }))
-
-abbrev pub in_fact : PoolCore → ℕ → Fact
-in_fact s c = Pool s.pool (ConnectionCheckedIn (record { address = s.address; connection_id = c }))
-
-abbrev pub new_fact : PoolCore → ℕ → Fact
-new_fact s c = Pool s.pool (ConnectionCreated (record { address = s.address; connection_id = c }))
-
-abbrev pub shut_fact : PoolCore → Connection → ConnectionClosedReason → Fact
-shut_fact s x why = Pool s.pool (ConnectionClosed (record { address = s.address; connection_id = x.id; reason = why; service_id = x.service }))
-
-abbrev pub off_fact : PoolCore → ℕ → Fact
-off_fact s d = Pool s.pool (ConnectionCheckoutFailed (record { address = s.address; reason = ConnectionError; duration = d }))
+use Rattle.mdb_log.specs.Requests.{is_outcome}
+use Rattle.mdb_log.specs.declared.step.Established.{Established}
+use Rattle.mdb_log.specs.declared.step.Use.TheVariants.{Ok}
 
 -- the facts of a check-in: on a closed pool there is the close alone
 abbrev pub back_facts : PoolCore → Connection → Option ConnectionClosedReason → List Fact
-back_facts s x None = in_fact s x.id ∷ []
-back_facts s x (Some why) = if is_shut s.status then (shut_fact s x why ∷ []) else (in_fact s x.id ∷ shut_fact s x why ∷ [])
+back_facts s x None = checked_in_fact s.pool s.address x.id ∷ []
+back_facts s x (Some why) = if is_shut s.status then (closed_fact s.pool s.address x.id why x.service ∷ []) else (checked_in_fact s.pool s.address x.id ∷ closed_fact s.pool s.address x.id why x.service ∷ [])
 
 -- the end of a request; the checkout of a caller fails right after it
 abbrev pub over_facts : PoolCore → ℕ → Bool → ℕ → End → List Fact
-over_facts s r warm waited end = if warm then (Ended r end ∷ []) else (Ended r end ∷ off_fact s waited ∷ [])
+over_facts s r warm waited end = if warm then (Ended r end ∷ []) else (Ended r end ∷ checkout_failed_fact s.pool s.address waited ∷ [])
 
 -- how a request ends at once, and what that makes
 abbrev pub away_end : Status → Option End
@@ -67,10 +43,6 @@ away_end _ = None
 abbrev pub away_facts : PoolCore → ℕ → Bool → Option End → List Fact
 away_facts s r warm None = []
 away_facts s r warm (Some end) = over_facts s r warm 0 end
-
--- the facts of a clear
-abbrev pub pool_cleared_fact : PoolCore → Option ObjectId → Error → Fact
-pool_cleared_fact s service error = Pool s.pool (PoolCleared (record { address = s.address; service_id = service; interrupt_in_use_connections = is_timeout error.kind }))
 
 -- a connection that comes back is available, or is closed where there is a reason
 abbrev pub placed : ℕ → Connection → Option ConnectionClosedReason → List Connection → List Connection
@@ -114,7 +86,7 @@ abbrev pub warming : PoolCore → ℕ → Request → PoolCore
 warming s m q = if wants_now s then creating s m q else ending s q Warmed
 
 abbrev pub warming_facts : PoolCore → Request → List Fact
-warming_facts s q = if wants_now s then (new_fact s (s.created + 1) ∷ Granted q.number s.pool (s.created + 1) ∷ []) else (Ended q.number Warmed ∷ [])
+warming_facts s q = if wants_now s then (created_fact s.pool s.address (s.created + 1) ∷ Granted q.number s.pool (s.created + 1) ∷ []) else (Ended q.number Warmed ∷ [])
 
 abbrev pub granting : PoolCore → Connection → Request → PoolCore
 granting s x q = record s {
@@ -147,8 +119,8 @@ abbrev pub meeting : PoolCore → ℕ → Connection → Request → PoolCore
 meeting s m x q = met s x q (perished_now s m x)
 
 abbrev pub met_facts : PoolCore → ℕ → Connection → Request → Option ConnectionClosedReason → List Fact
-met_facts s m x q (Some why) = shut_fact s x why ∷ []
-met_facts s m x q None = Granted q.number s.pool x.id ∷ out_fact s x.id (m - q.asked_at) ∷ []
+met_facts s m x q (Some why) = closed_fact s.pool s.address x.id why x.service ∷ []
+met_facts s m x q None = Granted q.number s.pool x.id ∷ checked_out_fact s.pool s.address x.id (m - q.asked_at) ∷ []
 
 abbrev pub meeting_facts : PoolCore → ℕ → Connection → Request → List Fact
 meeting_facts s m x q = met_facts s m x q (perished_now s m x)
@@ -258,7 +230,7 @@ abbrev pub readied_to : PoolCore → ℕ → PoolCore
 readied_to s m = record s { last = m; status = if is_ready_now s.status || is_shut s.status then s.status else Ready }
 
 abbrev pub readied_facts : PoolCore → List Fact
-readied_facts s = if is_ready_now s.status || is_shut s.status then [] else (Pool s.pool (PoolReady (record { address = s.address })) ∷ [])
+readied_facts s = if is_ready_now s.status || is_shut s.status then [] else (pool_ready_fact s.pool s.address ∷ [])
 
 -- a pool is cleared for a service, or as a whole, and is then paused
 abbrev pub cleared_status : PoolCore → Option ObjectId → Error → Status
@@ -285,14 +257,11 @@ closing s m = record s {
 }
 
 abbrev pub shut_facts : PoolCore → List Connection → List Fact
-shut_facts s xs = map (λ x. shut_fact s x PoolClosedReason) xs
+shut_facts s xs = map (λ x. closed_fact s.pool s.address x.id PoolClosedReason x.service) xs
 
 abbrev pub off_facts : PoolCore → ℕ → List Request → List Fact
 off_facts s m [] = []
 off_facts s m (q ∷ qs) = over_facts s q.number q.warm (m - q.asked_at) ClosedEnd ++ off_facts s m qs
-
-abbrev pub pool_closed_fact : PoolCore → Fact
-pool_closed_fact s = Pool s.pool (PoolClosed (record { address = s.address }))
 
 abbrev pub available_ones : PoolCore → List Connection
 available_ones s = filter (λ x. is_available x.place) s.connections
@@ -304,4 +273,4 @@ abbrev pub unserved_ones : PoolCore → List Request
 unserved_ones s = filter (λ q. unserved_in s q.phase) s.requests
 
 abbrev pub closing_facts : PoolCore → ℕ → List Fact
-closing_facts s m = shut_facts s (available_ones s ++ pending_ones s) ++ off_facts s m (unserved_ones s) ++ pool_closed_fact s ∷ []
+closing_facts s m = shut_facts s (available_ones s ++ pending_ones s) ++ off_facts s m (unserved_ones s) ++ pool_closed_fact s.pool s.address ∷ []

@@ -13,13 +13,13 @@ use Rattle.mdb_events.specs.declared.fact.Fact.{Fact}
 use Rattle.mdb_events.specs.declared.fact.Fact.TheVariants.{Pool, Ended, Raised}
 use Rattle.mdb_events.specs.declared.end.End.{End}
 use Rattle.mdb_events.specs.declared.end.End.TheVariants.{Cleared, Failed as FailedEnd, Closed, Filled, GaveUp}
-use Rattle.mdb_pool.specs.declared.options.PoolOptions.{PoolOptions}
-use Rattle.mdb_pool.specs.declared.step.Act.{Act}
-use Rattle.mdb_pool.specs.declared.step.Act.TheVariants.{Request, Warm, GiveUp, Established, Failed, Return, Unpin, Maintain, Ready, Clear, Close}
-use Rattle.mdb_pool.specs.History.{PoolItem, after_facts}
-use Rattle.mdb_pool.specs.Connections.{live_total, created_total, created_at, pending_list, holding, pins, is_pinned, granted_to, available_list, known_service, last_use, is_errored, is_dropped}
-use Rattle.mdb_pool.specs.Requests.{requests, queued, is_warm, asked_at, end_of, is_unserved}
-use Rattle.mdb_pool.specs.State.{State, is_new, is_ready, is_paused, is_closed, state_of, ready, is_stale, is_idle, min_size, max_connecting}
+use Rattle.mdb_log.specs.declared.options.PoolOptions.{PoolOptions}
+use Rattle.mdb_log.specs.declared.step.Act.{Act}
+use Rattle.mdb_log.specs.declared.step.Act.TheVariants.{Request, Warm, GiveUp, Established, Failed, Return, Unpin, Maintain, Ready, Clear, Close}
+use Rattle.mdb_log.specs.History.{PoolItem, after_facts}
+use Rattle.mdb_log.specs.Connections.{live_total, created_total, created_at, pending_list, holding, pins, is_pinned, granted_to, available_list, known_service, last_use, is_errored, is_dropped}
+use Rattle.mdb_log.specs.Requests.{requests, queued, is_warm, asked_at, end_of, is_unserved}
+use Rattle.mdb_log.specs.State.{State, is_new, is_ready, is_paused, is_closed, state_of, ready, is_stale, is_idle, min_size, max_connecting}
 
 -- the error of a request to a pool that was never ready
 abbrev pub new_pool_error : Error
@@ -45,14 +45,25 @@ module _ (p : ℕ) (a : ServerAddress) where
   abbrev pub created_fact : ℕ → Fact
   created_fact c = Pool p (ConnectionCreated (record { address = a; connection_id = c }))
 
-  -- a close tells the service of a connection that was established
-  abbrev pub closed_fact : List PoolItem → ℕ → ConnectionClosedReason → Fact
-  closed_fact xs c why = Pool p (ConnectionClosed (record { address = a; connection_id = c; reason = why; service_id = known_service xs c }))
+  abbrev pub ready_fact : ℕ → ℕ → Fact
+  ready_fact c took = Pool p (ConnectionReady (record { address = a; connection_id = c; duration = took }))
 
-  -- closed where there is a reason
+  abbrev pub closed_fact : ℕ → ConnectionClosedReason → Option ObjectId → Fact
+  closed_fact c why service = Pool p (ConnectionClosed (record { address = a; connection_id = c; reason = why; service_id = service }))
+
+  abbrev pub started_fact : Fact
+  started_fact = Pool p (ConnectionCheckoutStarted (record { address = a }))
+
+  abbrev pub checked_out_fact : ℕ → ℕ → Fact
+  checked_out_fact c took = Pool p (ConnectionCheckedOut (record { address = a; connection_id = c; duration = took }))
+
+  abbrev pub checkout_failed_fact : ℕ → Fact
+  checkout_failed_fact took = Pool p (ConnectionCheckoutFailed (record { address = a; reason = ConnectionError; duration = took }))
+
+  -- closed where there is a reason; a close tells the service of a connection that was established
   abbrev pub closes : List PoolItem → ℕ → Option ConnectionClosedReason → List Fact
   closes xs c None = []
-  closes xs c (Some why) = closed_fact xs c why ∷ []
+  closes xs c (Some why) = closed_fact c why (known_service xs c) ∷ []
 
   abbrev pub checked_in_fact : ℕ → Fact
   checked_in_fact c = Pool p (ConnectionCheckedIn (record { address = a; connection_id = c }))
@@ -60,23 +71,20 @@ module _ (p : ℕ) (a : ServerAddress) where
   abbrev pub pool_ready_fact : Fact
   pool_ready_fact = Pool p (PoolReady (record { address = a }))
 
+  abbrev pub pool_closed_fact : Fact
+  pool_closed_fact = Pool p (PoolClosed (record { address = a }))
+
   abbrev pub cleared_fact : Option ObjectId → Error → Fact
   cleared_fact service error = Pool p (PoolCleared (record { address = a; service_id = service; interrupt_in_use_connections = is_timeout error.kind }))
 
 -- Durations run from the creation or the request to the moment m.
 module _ (p : ℕ) (a : ServerAddress) (m : ℕ) where
-  abbrev pub ready_fact : List PoolItem → ℕ → Fact
-  ready_fact xs c = Pool p (ConnectionReady (record { address = a; connection_id = c; duration = m - created_at xs c }))
-
-  abbrev pub checked_out_fact : List PoolItem → ℕ → ℕ → Fact
-  checked_out_fact xs r c = Pool p (ConnectionCheckedOut (record { address = a; connection_id = c; duration = m - asked_at xs r }))
-
   -- the end of a request; the checkout of a caller fails right after it
   abbrev pub end_facts : List PoolItem → ℕ → End → List Fact
   end_facts xs r end =
       if is_warm xs r
       then (Ended r end ∷ [])
-      else (Ended r end ∷ Pool p (ConnectionCheckoutFailed (record { address = a; reason = ConnectionError; duration = m - asked_at xs r })) ∷ [])
+      else (Ended r end ∷ checkout_failed_fact p a (m - asked_at xs r) ∷ [])
 
   abbrev pub all_ends : List PoolItem → End → List ℕ → List Fact
   all_ends xs end [] = []
@@ -88,7 +96,7 @@ module _ (p : ℕ) (a : ServerAddress) (o : PoolOptions) where
   check_in xs c = on (state_of o xs)
     where
       on : State → List Fact
-      on is_closed = closed_fact p a xs c PoolClosedReason ∷ []
+      on is_closed = closed_fact p a c PoolClosedReason (known_service xs c) ∷ []
       on _ = checked_in_fact p a c ∷ closes p a xs c (close_reason o xs c)
 
   -- a connection that comes back goes to its pin, or is checked in
@@ -104,7 +112,7 @@ module _ (p : ℕ) (a : ServerAddress) (o : PoolOptions) (m : ℕ) where
   hand_over xs c (Some r) =
       if is_some (end_of xs r) then check_in p a o xs c
       else (if is_warm xs r then (check_in p a o xs c ++ Ended r Filled ∷ [])
-      else (checked_out_fact p a m xs r c ∷ []))
+      else (checked_out_fact p a c (m - asked_at xs r) ∷ []))
 
   -- the requester of a connection that failed ends, unless it has ended
   abbrev pub fail_requester : List PoolItem → Error → Option ℕ → List Fact
@@ -141,9 +149,9 @@ module _ (p : ℕ) (a : ServerAddress) (o : PoolOptions) (m : ℕ) where
       on : State → List Fact
       on is_closed = []
       on _ =
-          map (λ c. closed_fact p a xs c PoolClosedReason) (available_list xs ++ pending_list xs)
+          map (λ c. closed_fact p a c PoolClosedReason (known_service xs c)) (available_list xs ++ pending_list xs)
           ++ all_ends p a m xs Closed (filter (is_unserved xs) (requests xs))
-          ++ Pool p (PoolClosed (record { address = a })) ∷ []
+          ++ pool_closed_fact p a ∷ []
 
   -- a request to a new or paused pool ends at once
   abbrev pub turned_away : List PoolItem → ℕ → List Fact
@@ -165,11 +173,11 @@ module _ (p : ℕ) (a : ServerAddress) (o : PoolOptions) (m : ℕ) where
 
   -- the facts of an act; xs is what the pool knew, and ys what it knows with the act
   abbrev pub act_facts : List PoolItem → List PoolItem → Act → List Fact
-  act_facts xs ys (Request r b) = Pool p (ConnectionCheckoutStarted (record { address = a })) ∷ turned_away ys r
+  act_facts xs ys (Request r b) = started_fact p a ∷ turned_away ys r
   act_facts xs ys (Warm r b) = turned_away ys r
   act_facts xs ys (GiveUp r) = if is_some (end_of xs r) then [] else (Ended r GaveUp ∷ come_back p a o ys (holding xs r))
-  act_facts xs ys (Established q c how) = ready_fact p a m ys c ∷ hand_over ys c (granted_to ys c)
-  act_facts xs ys (Failed q c at error) = closed_fact p a ys c ErrorReason ∷ fail_requester ys error (granted_to ys c)
+  act_facts xs ys (Established q c how) = ready_fact p a c (m - created_at ys c) ∷ hand_over ys c (granted_to ys c)
+  act_facts xs ys (Failed q c at error) = closed_fact p a c ErrorReason (known_service ys c) ∷ fail_requester ys error (granted_to ys c)
   act_facts xs ys (Return r used) = come_back p a o ys (holding xs r)
   act_facts xs ys (Unpin q c) = if is_pinned xs c && (pins ys c == 0) then check_in p a o ys c else []
   act_facts xs ys (Maintain b) = let closed : List Fact = sweep ys (available_list ys) in closed ++ fill (min_size o) (after_facts p m closed ys)

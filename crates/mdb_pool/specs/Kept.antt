@@ -1,8 +1,8 @@
 -- What the state of a pool has of connections and requests.
 use Rattle.std.specs.List.{list_any}
 use Rattle.std.specs.Prelude.{ℕ, nat_le, true, Bool, false, ◌&&◌, if◌then◌else◌, nat_lt, ◌-◌, ◌==◌, List, [], ◌∷◌, length, map, filter, find, count_by, Option, Some, None, not, is_some, ◌||◌, ℤ}
-use Rattle.mdb_pool.specs.declared.reply.Reply.{Reply}
-use Rattle.mdb_pool.specs.declared.reply.Reply.TheVariants.{Waiting, Establishing as EstablishingReply, Pooled, Job, NoJob, Ended as EndedReply}
+use Rattle.mdb_log.specs.declared.reply.Reply.{Reply}
+use Rattle.mdb_log.specs.declared.reply.Reply.TheVariants.{Waiting, Establishing as EstablishingReply, Pooled, Job, NoJob, Ended as EndedReply}
 use Rattle.mdb_pool.specs.declared.connection.Connection.{Connection}
 use Rattle.mdb_pool.specs.declared.connection.Place.{Place}
 use Rattle.mdb_pool.specs.declared.request.Request.{Request}
@@ -11,10 +11,10 @@ use Rattle.mdb_pool.specs.declared.request.Phase.TheVariants.{Queued, Given, Ove
 use Rattle.mdb_pool.specs.declared.pool_core.PoolCore.{PoolCore}
 use Rattle.mdb_pool.specs.Places.{is_pending, is_available, is_held, is_at_pin, is_queued}
 use Rattle.mdb_pool.specs.Keyed.{entry_at}
-use Rattle.mdb_pool.specs.Generations.{carried}
-use Rattle.mdb_pool.specs.declared.generation.ConnectionGeneration.{ConnectionGeneration}
-use Rattle.mdb_pool.specs.State.{State, is_new, is_ready, is_paused, is_closed, min_size, max_size, max_connecting}
-use Rattle.mdb_pool.specs.Connections.{has, is_dropped}
+use Rattle.mdb_log.specs.Generations.{carried}
+use Rattle.mdb_log.specs.declared.generation.ConnectionGeneration.{ConnectionGeneration}
+use Rattle.mdb_log.specs.State.{State, is_new, is_ready, is_paused, is_closed, min_size, max_size, max_connecting}
+use Rattle.mdb_log.specs.Connections.{has, is_dropped, is_fault}
 use Rattle.mdb_base.specs.declared.object_id.ObjectId.{ObjectId}
 use Rattle.mdb_events.specs.declared.end.End.{End}
 use Rattle.mdb_events.specs.declared.reasons.ConnectionClosedReason.{ConnectionClosedReason}
@@ -25,17 +25,21 @@ use Rattle.mdb_pool.specs.declared.status.Clear.{Clear}
 use Rattle.mdb_pool.specs.declared.status.PoolState.{PoolState}
 use Rattle.mdb_pool.specs.declared.status.PoolState.TheVariants.{New as NewState, Ready as ReadyState, Paused as PausedState, Closed as ClosedState}
 use Rattle.mdb_base.specs.declared.error.Error.{Error}
-use Rattle.mdb_pool.specs.History.{same_service}
-use Rattle.mdb_pool.specs.declared.step.FailedAt.{FailedAt}
-use Rattle.mdb_pool.specs.declared.step.FailedAt.TheVariants.{Pre, Post}
-use Rattle.mdb_pool.specs.declared.step.Use.{Use}
-use Rattle.mdb_pool.specs.declared.step.Use.TheVariants.{Errored}
+use Rattle.mdb_log.specs.History.{same_service}
+use Rattle.mdb_log.specs.declared.step.Use.{Use}
+
+-- the connection with the id, and the request with the number
+abbrev pub connection_in : List Connection → ℕ → Option Connection
+connection_in cs c = entry_at (λ x. x.id) c cs
+
+abbrev pub request_in : List Request → ℕ → Option Request
+request_in qs r = entry_at (λ q. q.number) r qs
 
 abbrev pub connection_at : PoolCore → ℕ → Option Connection
-connection_at s c = entry_at (λ x. x.id) c s.connections
+connection_at s c = connection_in s.connections c
 
 abbrev pub request_at : PoolCore → ℕ → Option Request
-request_at s r = entry_at (λ q. q.number) r s.requests
+request_at s r = request_in s.requests r
 
 abbrev pub first_queued : PoolCore → Option Request
 first_queued s = find (λ q. is_queued q.phase) s.requests
@@ -224,8 +228,11 @@ dropped_at None = false
 dropped_at (Some x) = is_dropped x.used
 
 -- the connection is live, or was never created
+abbrev pub lasts_in : ℕ → List Connection → ℕ → Bool
+lasts_in made cs c = is_some (connection_in cs c) || nat_lt made c
+
 abbrev pub lasts : PoolCore → ℕ → Bool
-lasts s c = is_some (connection_at s c) || nat_lt s.created c
+lasts s c = lasts_in s.created s.connections c
 
 -- what the pool is
 abbrev pub state_in : Status → State
@@ -296,10 +303,6 @@ perished_now s m x =
 abbrev pub first_perished : PoolCore → ℕ → Option Connection
 first_perished s m = find (λ x. is_available x.place && is_some (perished_now s m x)) s.connections
 
-abbrev pub is_fault : Use → Bool
-is_fault Errored = true
-is_fault _ = false
-
 -- the connection with one more use
 abbrev pub used_as : Connection → Use → Connection
 used_as x used = record x { errored = is_fault used || x.errored; used = used }
@@ -315,11 +318,6 @@ reason_of errored stale dropped =
 -- the same in the pool as it is
 abbrev pub reason_now : PoolCore → Connection → Option ConnectionClosedReason
 reason_now s x = if is_shut s.status then Some PoolClosedReason else reason_of x.errored (stale_for s x.id x.service) (is_dropped x.used)
-
--- the service that the server named before the connection failed
-abbrev pub service_in : FailedAt → Option ObjectId
-service_in Pre = None
-service_in (Post service) = service
 
 -- one more clear would pass the limit of the generation
 abbrev pub exhausted_now : PoolCore → Option ObjectId → Bool

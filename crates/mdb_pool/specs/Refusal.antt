@@ -1,18 +1,18 @@
 -- When a pool refuses a step: the first row whose condition holds.
 use Rattle.std.specs.Prelude.{ℕ, Bool, true, false, not, ◌&&◌, if◌then◌else◌, ◌==◌, nat_lt, nat_le, is_some, List, [], ◌∷◌, Option, Some, None, unwrap_or}
 use Rattle.mdb_base.specs.declared.object_id.ObjectId.{ObjectId}
-use Rattle.mdb_pool.specs.declared.options.PoolOptions.{PoolOptions}
-use Rattle.mdb_pool.specs.declared.step.Step.{Step}
-use Rattle.mdb_pool.specs.declared.step.Act.{Act}
-use Rattle.mdb_pool.specs.declared.step.Act.TheVariants.{Request, Warm, Collect, GiveUp, Established, Failed, Return, Pin, Replicate, Take, Unpin, Maintain, Clear}
-use Rattle.mdb_pool.specs.declared.step.FailedAt.TheVariants.{Pre, Post}
-use Rattle.mdb_pool.specs.declared.reply.What.TheVariants.{Generation}
-use Rattle.mdb_pool.specs.declared.reply.Refused.{Refused}
-use Rattle.mdb_pool.specs.declared.reply.Refused.TheVariants.{TimeBack, UnknownServer, RequestKnown, UnknownRequest, NotHolder, NotPending, Unpinned, PinInUse, PinState, WrongMode, Exhausted}
-use Rattle.mdb_pool.specs.History.{Item, PoolItem, is_number, open_pool, last_moment, of_pool}
-use Rattle.mdb_pool.specs.Connections.{has, pending_list, holding, held, pins}
-use Rattle.mdb_pool.specs.Requests.{some_act, names_party, is_open}
-use Rattle.mdb_pool.specs.State.{State, is_closed, state_of, generation_of}
+use Rattle.mdb_log.specs.declared.options.PoolOptions.{PoolOptions}
+use Rattle.mdb_log.specs.declared.step.Step.{Step}
+use Rattle.mdb_log.specs.declared.step.Act.{Act}
+use Rattle.mdb_log.specs.declared.step.Act.TheVariants.{Request, Warm, Collect, GiveUp, Established, Failed, Return, Pin, Replicate, Take, Unpin, Maintain, Clear}
+use Rattle.mdb_log.specs.declared.step.FailedAt.TheVariants.{Pre, Post}
+use Rattle.mdb_log.specs.declared.reply.What.TheVariants.{Generation}
+use Rattle.mdb_log.specs.declared.reply.Refused.{Refused}
+use Rattle.mdb_log.specs.declared.reply.Refused.TheVariants.{TimeBack, UnknownServer, RequestKnown, UnknownRequest, NotHolder, NotPending, Unpinned, PinInUse, PinState, WrongMode, Exhausted}
+use Rattle.mdb_log.specs.History.{Item, PoolItem, is_number, open_pool, last_moment, of_pool}
+use Rattle.mdb_log.specs.Connections.{has, pending_list, holding, held, pins}
+use Rattle.mdb_log.specs.Requests.{some_act, names_party, is_open}
+use Rattle.mdb_log.specs.State.{State, is_closed, state_of, generation_of}
 
 -- a service goes with load balancing, and none with a normal pool
 abbrev pub wrong_service : Bool → Option ObjectId → Bool

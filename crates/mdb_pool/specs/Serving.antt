@@ -1,15 +1,15 @@
 -- The serving of a pool's queue, which follows each accepted step.
-use Rattle.std.specs.Prelude.{ℕ, zero, suc, ◌+◌, Bool, not, ◌&&◌, if◌then◌else◌, nat_lt, List, [], ◌∷◌, ◌++◌, length, Option, Some, None}
+use Rattle.std.specs.Prelude.{◌≡◌, ℕ, zero, suc, ◌+◌, ◌-◌, Bool, not, ◌&&◌, if◌then◌else◌, nat_lt, List, [], ◌∷◌, ◌++◌, length, Option, Some, None}
 use Rattle.mdb_base.specs.declared.address.ServerAddress.{ServerAddress}
 use Rattle.mdb_events.specs.declared.reasons.ConnectionClosedReason.{ConnectionClosedReason}
 use Rattle.mdb_events.specs.declared.fact.Fact.{Fact}
 use Rattle.mdb_events.specs.declared.fact.Fact.TheVariants.{Granted, Ended}
 use Rattle.mdb_events.specs.declared.end.End.TheVariants.{Warmed}
-use Rattle.mdb_pool.specs.declared.options.PoolOptions.{PoolOptions}
-use Rattle.mdb_pool.specs.History.{PoolItem, after_facts}
-use Rattle.mdb_pool.specs.Connections.{live_total, created_total, pending_list, available_list}
-use Rattle.mdb_pool.specs.Requests.{queued, is_warm}
-use Rattle.mdb_pool.specs.State.{state_of, ready, min_size, max_size, max_connecting, may_create}
+use Rattle.mdb_log.specs.declared.options.PoolOptions.{PoolOptions}
+use Rattle.mdb_log.specs.History.{PoolItem, after_facts}
+use Rattle.mdb_log.specs.Connections.{live_total, created_total, pending_list, available_list, known_service}
+use Rattle.mdb_log.specs.Requests.{queued, is_warm, asked_at}
+use Rattle.mdb_log.specs.State.{state_of, ready, min_size, max_size, max_connecting, may_create}
 use Rattle.mdb_pool.specs.Facts.{created_fact, closed_fact, checked_out_fact, perished}
 
 -- the last of the list
@@ -45,8 +45,8 @@ warm_move p a o xs r = if wants_connection o xs then creation p a xs r else (End
 module _ (p : ℕ) (a : ServerAddress) (o : PoolOptions) (m : ℕ) where
   -- the available connection that a caller meets is closed where it has perished, and else granted
   abbrev pub meet : List PoolItem → ℕ → ℕ → Option ConnectionClosedReason → List Fact
-  meet xs r c (Some why) = closed_fact p a xs c why ∷ []
-  meet xs r c None = Granted r p c ∷ checked_out_fact p a m xs r c ∷ []
+  meet xs r c (Some why) = closed_fact p a c why (known_service xs c) ∷ []
+  meet xs r c None = Granted r p c ∷ checked_out_fact p a c (m - asked_at xs r) ∷ []
 
   -- a caller meets the available connection that came back last; with none left one is created, where that may be
   abbrev pub caller_move : List PoolItem → ℕ → Option ℕ → List Fact
@@ -69,3 +69,7 @@ module _ (p : ℕ) (a : ServerAddress) (o : PoolOptions) (m : ℕ) where
   -- Moves until none is left: each takes a queued request or an available connection away.
   abbrev pub serving : List PoolItem → List Fact
   serving xs = serve (length (queued xs) + length (available_list xs)) xs
+
+-- the pool has no next move, whatever its number, its address and the moment
+abbrev pub IsServed : PoolOptions → List PoolItem → Type 0
+IsServed o xs = (p : ℕ) (a : ServerAddress) (n : ℕ) → next_move p a o n xs ≡ []

@@ -1,6 +1,6 @@
 //! The single changes of a pool, each with its facts.
 
-ghost use Rattle.mdb_pool.specs.Facts.{new_pool_error};
+ghost use Rattle.mdb_pool.specs.Facts.{new_pool_error, checked_out_fact, closed_fact, created_fact, started_fact, ready_fact};
 ghost use Rattle.std.specs.Prelude.{false, ◌≡◌, ◌++◌, ◌∷◌, ◌+◌, ◌-◌, ◌<◌, [], OnOk, IfOk};
 
 use super::connection::{Connection, Place};
@@ -30,7 +30,7 @@ fn new_pool_error(alloc: Global) -> Result<Error, AllocError>
 impl PoolCore {
     ghost use Rattle.mdb_pool.specs.Keyed.{swap};
     ghost use Rattle.mdb_pool.specs.Kept.{outcome_now};
-    ghost use Rattle.mdb_pool.specs.Changes.{asking, away, away_end, away_facts, discarding, shut_fact, creating, spawning, ending, new_fact, granting, establishing, telling, started_fact, up_fact, out_fact};
+    ghost use Rattle.mdb_pool.specs.Changes.{asking, away, away_end, away_facts, discarding, creating, spawning, ending, granting, establishing, telling};
     ghost use Rattle.mdb_events.specs.declared.fact.Fact.TheVariants.{Pool, Granted, Ended};
     ghost use Rattle.mdb_events.specs.declared.cmap.CmapEvent.TheVariants.{ConnectionCreated, ConnectionCheckedOut};
 
@@ -96,7 +96,7 @@ impl PoolCore {
         request: u32,
     ) -> Result<(), AllocError>
         ensures core { OnOk result (self.new ≡ asking self.old request moment false) }
-        ensures facts { OnOk result (facts.new.items ≡ facts.old.items ++ started_fact self.old ∷ []) }
+        ensures facts { OnOk result (facts.new.items ≡ facts.old.items ++ started_fact self.old.pool self.old.address ∷ []) }
     {
         let address = self.address.clone()?;
         self.enqueue(alloc, moment, request, false)?;
@@ -155,7 +155,7 @@ impl PoolCore {
     }
 
     fn push_created(&self, facts: &mut Vec<Fact>, id: u32) -> Result<(), AllocError>
-        ensures { OnOk result (facts.new.items ≡ facts.old.items ++ new_fact self.now id ∷ []) }
+        ensures { OnOk result (facts.new.items ≡ facts.old.items ++ created_fact self.now.pool self.now.address id ∷ []) }
     {
         let address = self.address.clone()?;
         facts.push(Fact::Pool(
@@ -174,7 +174,7 @@ impl PoolCore {
         id: u32,
         waited: Moment,
     ) -> Result<(), AllocError>
-        ensures { OnOk result (facts.new.items ≡ facts.old.items ++ out_fact self.now id waited ∷ []) }
+        ensures { OnOk result (facts.new.items ≡ facts.old.items ++ checked_out_fact self.now.pool self.now.address id waited ∷ []) }
     {
         let address = self.address.clone()?;
         facts.push(Fact::Pool(
@@ -195,7 +195,7 @@ impl PoolCore {
         moment: Moment,
         connection: Connection,
     ) -> Result<(), AllocError>
-        ensures { OnOk result (facts.new.items ≡ facts.old.items ++ up_fact self.now connection.id (moment - connection.created_at) ∷ []) }
+        ensures { OnOk result (facts.new.items ≡ facts.old.items ++ ready_fact self.now.pool self.now.address connection.id (moment - connection.created_at) ∷ []) }
     {
         let address = self.address.clone()?;
         facts.push(Fact::Pool(
@@ -244,7 +244,7 @@ impl PoolCore {
     ) -> Result<(), AllocError>
         requires { self.old.created < self.old.options.limit_id }
         ensures core { OnOk result (self.new ≡ spawning self.old moment) }
-        ensures facts { OnOk result (facts.new.items ≡ facts.old.items ++ new_fact self.old (self.old.created + 1) ∷ []) }
+        ensures facts { OnOk result (facts.new.items ≡ facts.old.items ++ created_fact self.old.pool self.old.address (self.old.created + 1) ∷ []) }
     {
         // The id is at most the limit, which bounds it.
         let _limit = self.options.limit_id;
@@ -315,7 +315,7 @@ impl PoolCore {
         reason: ConnectionClosedReason,
     ) -> Result<(), AllocError>
         ensures core { OnOk result (self.new ≡ discarding self.old connection) }
-        ensures facts { OnOk result (facts.new.items ≡ facts.old.items ++ shut_fact self.old connection reason ∷ []) }
+        ensures facts { OnOk result (facts.new.items ≡ facts.old.items ++ closed_fact self.old.pool self.old.address connection.id reason connection.service ∷ []) }
     {
         self.push_close(facts, connection, reason)?;
         self.connections.remove(alloc, connection.id)?;
@@ -333,7 +333,7 @@ impl PoolCore {
         asked_at: Moment,
     ) -> Result<(), AllocError>
         ensures core { OnOk result (self.new ≡ establishing self.old moment connection made) }
-        ensures facts { OnOk result (facts.new.items ≡ facts.old.items ++ up_fact self.old connection.id (moment - connection.created_at) ∷ out_fact self.old connection.id (moment - asked_at) ∷ []) }
+        ensures facts { OnOk result (facts.new.items ≡ facts.old.items ++ ready_fact self.old.pool self.old.address connection.id (moment - connection.created_at) ∷ checked_out_fact self.old.pool self.old.address connection.id (moment - asked_at) ∷ []) }
     {
         self.last = moment;
         self.connections.put(

@@ -11,8 +11,8 @@ impl PoolCore {
     ghost use Rattle.mdb_pool.specs.Kept.{job_now};
     ghost use Rattle.mdb_pool.specs.Changes.{claiming};
     ghost use Rattle.mdb_pool.specs.Standing.{SameHome, Fits, Accepts, StandsFor, Answers};
-    ghost use Rattle.mdb_pool.specs.History.{Item, PoolItem};
-    ghost use Rattle.mdb_pool.specs.declared.step.Act.TheVariants.{Claim};
+    ghost use Rattle.mdb_log.specs.History.{Item, PoolItem};
+    ghost use Rattle.mdb_log.specs.declared.step.Act.TheVariants.{Claim};
 
     // The first job that no claim was told of.
     fn take_job(&mut self) -> Result<Reply, AllocError>

@@ -11,14 +11,15 @@ use mdb_events::{CmapEvent, End, Fact, PoolClearedEvent};
 use std::alloc::{AllocError, Global};
 
 impl PoolCore {
-    ghost use Rattle.mdb_pool.specs.Changes.{ending, raising, pool_cleared_fact, over_facts};
+    ghost use Rattle.mdb_pool.specs.Changes.{ending, raising, over_facts};
     ghost use Rattle.mdb_pool.specs.Standing.{SameHome, SameNotes, Fits, EndsQueue, Clears, Accepts, StandsFor, Answers};
-    ghost use Rattle.mdb_pool.specs.History.{Item, PoolItem};
+    ghost use Rattle.mdb_log.specs.History.{Item, PoolItem};
     ghost use Rattle.mdb_pool.specs.Kept.{is_ready_now, is_shut, exhausted_now};
     ghost use Rattle.std.specs.Prelude.{true, None};
-    ghost use Rattle.mdb_pool.specs.declared.step.Act.TheVariants.{Clear as ClearAct};
+    ghost use Rattle.mdb_log.specs.declared.step.Act.TheVariants.{Clear as ClearAct};
     ghost use Rattle.mdb_events.specs.declared.fact.Fact.TheVariants.{Raised};
     ghost use Rattle.mdb_events.specs.declared.end.End.TheVariants.{Cleared};
+    ghost use Rattle.mdb_pool.specs.Facts.{cleared_fact};
 
     // A queued request ends.
     fn end_cleared(
@@ -94,7 +95,7 @@ impl PoolCore {
         service: Option<ObjectId>,
         cause: &Error,
     ) -> Result<(), AllocError>
-        ensures { OnOk result (facts.new.items ≡ facts.old.items ++ pool_cleared_fact self.now service cause.now ∷ []) }
+        ensures { OnOk result (facts.new.items ≡ facts.old.items ++ cleared_fact self.now.pool self.now.address service cause.now ∷ []) }
     {
         let address = self.address.clone()?;
         facts.push(Fact::Pool(

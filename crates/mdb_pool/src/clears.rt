@@ -1,9 +1,9 @@
 //! The clears of a pool, and why its connections are closed.
 
 ghost use Rattle.std.specs.Prelude.{◌≡◌};
-ghost use Rattle.mdb_pool.specs.History.{same_service};
+ghost use Rattle.mdb_log.specs.History.{same_service};
 ghost use Rattle.mdb_pool.specs.Kept.{clears_for, clears_before, cleared_since, timeouts_in, used_as};
-ghost use Rattle.mdb_pool.specs.Connections.{is_dropped};
+ghost use Rattle.mdb_log.specs.Connections.{is_dropped};
 
 use super::connection::Connection;
 use super::status::Clear;
@@ -76,11 +76,11 @@ pub(super) fn used_as(connection: Connection, used: Use) -> Connection
 impl PoolCore {
     ghost use Rattle.std.specs.Prelude.{is_some, if◌then◌else◌, Some, None, List};
     ghost use Rattle.mdb_pool.specs.Kept.{connection_at, stale_for, idle_since, perished_now, reason_now, generation_at, interrupted_at};
-    ghost use Rattle.mdb_pool.specs.Generations.{carried};
+    ghost use Rattle.mdb_log.specs.Generations.{carried};
     ghost use Rattle.mdb_pool.specs.Standing.{StandsFor};
-    ghost use Rattle.mdb_pool.specs.History.{Item, of_pool};
-    ghost use Rattle.mdb_pool.specs.Connections.{is_live, known_service};
-    ghost use Rattle.mdb_pool.specs.State.{generation_of, generation_before, is_interrupted};
+    ghost use Rattle.mdb_log.specs.History.{Item, of_pool};
+    ghost use Rattle.mdb_log.specs.Connections.{is_live, known_service};
+    ghost use Rattle.mdb_log.specs.State.{generation_of, generation_before, is_interrupted};
 
     // A connection of the service would be stale.
     pub(super) fn stale_for(&self, id: u32, service: Option<ObjectId>) -> bool

@@ -26,11 +26,12 @@ fn kept_ones(alloc: Global, connections: &[Connection]) -> Result<Vec<Connection
 }
 
 impl PoolCore {
-    ghost use Rattle.mdb_pool.specs.Changes.{closing, shut_facts, off_facts, ended_request, available_ones, pending_ones, unserved_ones, pool_closed_fact};
+    ghost use Rattle.mdb_pool.specs.Changes.{closing, shut_facts, off_facts, ended_request, available_ones, pending_ones, unserved_ones};
     ghost use Rattle.mdb_pool.specs.Standing.{SameHome, Fits, Accepts, StandsFor, Answers};
-    ghost use Rattle.mdb_pool.specs.History.{Item, PoolItem};
+    ghost use Rattle.mdb_log.specs.History.{Item, PoolItem};
     ghost use Rattle.mdb_pool.specs.Kept.{unserved_in};
-    ghost use Rattle.mdb_pool.specs.declared.step.Act.TheVariants.{Close};
+    ghost use Rattle.mdb_log.specs.declared.step.Act.TheVariants.{Close};
+    ghost use Rattle.mdb_pool.specs.Facts.{pool_closed_fact};
 
     // The available connections are closed.
     fn push_available(&self, facts: &mut Vec<Fact>) -> Result<(), AllocError>
@@ -113,7 +114,7 @@ impl PoolCore {
         moment: Moment,
     ) -> Result<(), AllocError>
         ensures core { OnOk result (self.new ≡ closing self.old moment) }
-        ensures facts { OnOk result (facts.new.items ≡ (((facts.old.items ++ shut_facts self.old (available_ones self.old)) ++ shut_facts self.old (pending_ones self.old)) ++ off_facts self.old moment (unserved_ones self.old)) ++ pool_closed_fact self.old ∷ []) }
+        ensures facts { OnOk result (facts.new.items ≡ (((facts.old.items ++ shut_facts self.old (available_ones self.old)) ++ shut_facts self.old (pending_ones self.old)) ++ off_facts self.old moment (unserved_ones self.old)) ++ pool_closed_fact self.old.pool self.old.address ∷ []) }
     {
         self.push_available(facts)?;
         self.push_pending(facts)?;

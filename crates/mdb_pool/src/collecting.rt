@@ -10,8 +10,8 @@ use std::alloc::{AllocError, Global};
 impl PoolCore {
     ghost use Rattle.mdb_pool.specs.Kept.{is_open_now};
     ghost use Rattle.mdb_pool.specs.Standing.{SameHome, Fits, Accepts, StandsFor, Answers};
-    ghost use Rattle.mdb_pool.specs.History.{Item, PoolItem};
-    ghost use Rattle.mdb_pool.specs.declared.step.Act.TheVariants.{Collect};
+    ghost use Rattle.mdb_log.specs.History.{Item, PoolItem};
+    ghost use Rattle.mdb_log.specs.declared.step.Act.TheVariants.{Collect};
 
     /// An open request is told how it stands. Whoever calls has tested the refusals.
     pub fn accept_collect(

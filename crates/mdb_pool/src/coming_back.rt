@@ -23,13 +23,14 @@ pub(super) fn as_made(connection: Connection, made: Established) -> Connection
 }
 
 impl PoolCore {
-    ghost use Rattle.mdb_pool.specs.Changes.{returning_for, pooling, pooling_for, filling_for, quitting, leaving, handing_for, to_pin, up_fact, in_fact, shut_fact, back_facts, placed, finishing};
+    ghost use Rattle.mdb_pool.specs.Changes.{returning_for, pooling, pooling_for, filling_for, quitting, leaving, handing_for, to_pin, back_facts, placed, finishing};
     ghost use Rattle.mdb_pool.specs.declared.request.Phase.TheVariants.{Ended as EndedPhase};
     ghost use Rattle.mdb_events.specs.declared.fact.Fact.TheVariants.{Ended};
     ghost use Rattle.mdb_events.specs.declared.end.End.TheVariants.{GaveUp, Filled};
+    ghost use Rattle.mdb_pool.specs.Facts.{checked_in_fact, closed_fact, ready_fact};
 
     fn push_check_in(&self, facts: &mut Vec<Fact>, id: u32) -> Result<(), AllocError>
-        ensures { OnOk result (facts.new.items ≡ facts.old.items ++ in_fact self.now id ∷ []) }
+        ensures { OnOk result (facts.new.items ≡ facts.old.items ++ checked_in_fact self.now.pool self.now.address id ∷ []) }
     {
         let address = self.address.clone()?;
         facts.push(Fact::Pool(
@@ -48,7 +49,7 @@ impl PoolCore {
         connection: Connection,
         reason: ConnectionClosedReason,
     ) -> Result<(), AllocError>
-        ensures { OnOk result (facts.new.items ≡ facts.old.items ++ shut_fact self.now connection reason ∷ []) }
+        ensures { OnOk result (facts.new.items ≡ facts.old.items ++ closed_fact self.now.pool self.now.address connection.id reason connection.service ∷ []) }
     {
         let address = self.address.clone()?;
         facts.push(Fact::Pool(
@@ -122,7 +123,7 @@ impl PoolCore {
         reason: Option<ConnectionClosedReason>,
     ) -> Result<(), AllocError>
         ensures core { OnOk result (self.new ≡ pooling_for self.old moment connection made reason) }
-        ensures facts { OnOk result (facts.new.items ≡ facts.old.items ++ up_fact self.old connection.id (moment - connection.created_at) ∷ back_facts self.old (record connection { service = made.service_id; wire = Some made.wire }) reason) }
+        ensures facts { OnOk result (facts.new.items ≡ facts.old.items ++ ready_fact self.old.pool self.old.address connection.id (moment - connection.created_at) ∷ back_facts self.old (record connection { service = made.service_id; wire = Some made.wire }) reason) }
     {
         let connection = as_made(connection, made);
         self.push_ready(facts, moment, connection)?;
@@ -142,7 +143,7 @@ impl PoolCore {
         made: Established,
     ) -> Result<(), AllocError>
         ensures core { OnOk result (self.new ≡ pooling self.old moment connection made) }
-        ensures facts { OnOk result (facts.new.items ≡ facts.old.items ++ up_fact self.old connection.id (moment - connection.created_at) ∷ []) }
+        ensures facts { OnOk result (facts.new.items ≡ facts.old.items ++ ready_fact self.old.pool self.old.address connection.id (moment - connection.created_at) ∷ []) }
     {
         self.push_ready(facts, moment, connection)?;
         self.last = moment;
@@ -163,7 +164,7 @@ impl PoolCore {
         reason: Option<ConnectionClosedReason>,
     ) -> Result<(), AllocError>
         ensures core { OnOk result (self.new ≡ filling_for self.old moment connection made request reason) }
-        ensures facts { OnOk result (facts.new.items ≡ facts.old.items ++ (up_fact self.old connection.id (moment - connection.created_at) ∷ back_facts self.old (record connection { service = made.service_id; wire = Some made.wire }) reason) ++ Ended request.number Filled ∷ []) }
+        ensures facts { OnOk result (facts.new.items ≡ facts.old.items ++ (ready_fact self.old.pool self.old.address connection.id (moment - connection.created_at) ∷ back_facts self.old (record connection { service = made.service_id; wire = Some made.wire }) reason) ++ Ended request.number Filled ∷ []) }
     {
         self.pool_connection(alloc, facts, moment, connection, made, reason)?;
         self.end_warm(alloc, facts, request, &End::Filled)

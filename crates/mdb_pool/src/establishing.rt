@@ -12,8 +12,8 @@ use std::alloc::{AllocError, Global};
 impl PoolCore {
     ghost use Rattle.mdb_pool.specs.Kept.{connection_at, is_pending_at};
     ghost use Rattle.mdb_pool.specs.Standing.{SameHome, Fits, Accepts, StandsFor, Answers};
-    ghost use Rattle.mdb_pool.specs.History.{Item, PoolItem, established};
-    ghost use Rattle.mdb_pool.specs.declared.step.Act.TheVariants.{Established as EstablishedAct};
+    ghost use Rattle.mdb_log.specs.History.{Item, PoolItem, established};
+    ghost use Rattle.mdb_log.specs.declared.step.Act.TheVariants.{Established as EstablishedAct};
 
     /// A pending connection is handed over, or goes into the pool. Whoever calls has tested the refusals.
     pub fn accept_established(
@@ -103,7 +103,8 @@ impl PoolCore {
         Ok(Reply::Refused(Refused::NotPending))
     }
 
-    /// A pending connection was established. Refused as `TimeBack`, `NotPending`, or `WrongMode` where it names no service.
+    /// A pending connection was established (CMAP, "Establishing a Connection"). Refused as `TimeBack`, `NotPending`, or `WrongMode` where a load-balanced
+    /// pool is given no service, or a normal one a service.
     pub fn established(
         &mut self,
         alloc: Global,

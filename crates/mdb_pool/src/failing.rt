@@ -14,13 +14,15 @@ use mdb_events::{
 use std::alloc::{AllocError, Global};
 
 impl PoolCore {
-    ghost use Rattle.mdb_pool.specs.Kept.{connection_at, is_pending_at, service_in};
-    ghost use Rattle.mdb_pool.specs.Changes.{failing, forgetting, shut_fact, over_facts};
+    ghost use Rattle.mdb_pool.specs.Kept.{connection_at, is_pending_at};
+    ghost use Rattle.mdb_log.specs.History.{service_in};
+    ghost use Rattle.mdb_pool.specs.Changes.{failing, forgetting, over_facts};
     ghost use Rattle.mdb_pool.specs.Standing.{SameHome, Fits, Accepts, StandsFor, Answers};
-    ghost use Rattle.mdb_pool.specs.History.{Item, PoolItem, failed};
-    ghost use Rattle.mdb_pool.specs.declared.step.Act.TheVariants.{Failed as FailedAct};
+    ghost use Rattle.mdb_log.specs.History.{Item, PoolItem, failed};
+    ghost use Rattle.mdb_log.specs.declared.step.Act.TheVariants.{Failed as FailedAct};
     ghost use Rattle.mdb_events.specs.declared.end.End.TheVariants.{Failed as FailedEnd};
     ghost use Rattle.mdb_events.specs.declared.reasons.ConnectionClosedReason.TheVariants.{Error as ErrorReason};
+    ghost use Rattle.mdb_pool.specs.Facts.{closed_fact};
 
     // A request ends without a connection; of a caller, its checkout fails.
     pub(super) fn push_end(
@@ -60,7 +62,7 @@ impl PoolCore {
         cause: &Error,
     ) -> Result<(), AllocError>
         ensures core { OnOk result (self.new ≡ failing self.old moment connection request (FailedEnd cause.now)) }
-        ensures facts { OnOk result (facts.new.items ≡ facts.old.items ++ shut_fact self.old connection ErrorReason ∷ over_facts self.old request.number request.warm (moment - request.asked_at) (FailedEnd cause.now)) }
+        ensures facts { OnOk result (facts.new.items ≡ facts.old.items ++ closed_fact self.old.pool self.old.address connection.id ErrorReason connection.service ∷ over_facts self.old request.number request.warm (moment - request.asked_at) (FailedEnd cause.now)) }
     {
         let (number, warm) = (request.number, request.warm);
         let waited = moment.saturating_sub(request.asked_at);
@@ -83,7 +85,7 @@ impl PoolCore {
         connection: Connection,
     ) -> Result<(), AllocError>
         ensures core { OnOk result (self.new ≡ forgetting self.old moment connection) }
-        ensures facts { OnOk result (facts.new.items ≡ facts.old.items ++ shut_fact self.old connection ErrorReason ∷ []) }
+        ensures facts { OnOk result (facts.new.items ≡ facts.old.items ++ closed_fact self.old.pool self.old.address connection.id ErrorReason connection.service ∷ []) }
     {
         self.push_close(facts, connection, ConnectionClosedReason::Error)?;
         self.last = moment;

@@ -9,7 +9,7 @@ use mdb_base::Moment;
 use std::alloc::AllocError;
 
 impl PoolCore {
-    ghost use Rattle.mdb_pool.specs.State.{max_connecting};
+    ghost use Rattle.mdb_log.specs.State.{max_connecting};
     ghost use Rattle.mdb_pool.specs.Kept.{wants_now, blocked_now, candidate_now, fills_now, first_perished, first_queued, last_available, pending_count, has_room, held_connection, pending_connection, holder_request, outcome_now, first_unclaimed};
 
     pub(super) fn first_queued(&self) -> Option<&Request>

@@ -14,8 +14,8 @@ use std::alloc::{AllocError, Global};
 impl PoolCore {
     ghost use Rattle.mdb_pool.specs.Kept.{request_at, is_ended_at, is_asked_at, held_connection};
     ghost use Rattle.mdb_pool.specs.Standing.{SameHome, Fits, Accepts, StandsFor, Answers};
-    ghost use Rattle.mdb_pool.specs.History.{Item, PoolItem, gave_up};
-    ghost use Rattle.mdb_pool.specs.declared.step.Act.TheVariants.{GiveUp};
+    ghost use Rattle.mdb_log.specs.History.{Item, PoolItem, gave_up};
+    ghost use Rattle.mdb_log.specs.declared.step.Act.TheVariants.{GiveUp};
 
     // The request ended in another way.
     fn is_ended(&self, request: u32) -> bool

@@ -1,8 +1,7 @@
-//! Pools of connections: their steps, replies and logs, and the core of one pool.
+//! The core of one pool of connections: what it answers to its steps. Steps, replies and logs are those of `mdb_log`.
 #![tactic(auto)]
 
 mod changes;
-mod checked;
 mod claiming;
 mod clearing;
 mod clears;
@@ -10,43 +9,31 @@ mod closing;
 mod collecting;
 mod coming_back;
 mod connection;
-mod driver;
 mod establishing;
 mod failing;
 mod finding;
-mod generation;
 mod giving_up;
-mod job;
 mod jobs;
-mod log;
 mod maintaining;
-mod options;
 mod pinning;
 mod pool_core;
-mod pooled;
 mod queue;
 mod readying;
-mod reply;
 mod request;
 mod requesting;
 mod returning;
 mod sequence;
 mod status;
-mod step;
 mod stepping;
 mod table;
 mod taking;
 mod unpinning;
 mod warming;
 
-pub use checked::{BeatenResult, HelloResult};
-pub use driver::Core;
-pub use generation::{ConnectionGeneration, LoadBalancedGeneration, PoolGeneration, PoolStamp};
-pub use job::Job;
-pub use log::{Entry, Log};
-pub use options::PoolOptions;
+pub use mdb_log::{
+    Act, BeatenResult, ConnectionGeneration, Core, Entry, Established, FailedAt, HelloResult, Job,
+    LoadBalancedGeneration, Log, PinnedConnectionHandle, PoolGeneration, PoolOptions, PoolStamp,
+    PooledConnection, Refused, Reply, Step, Use, What,
+};
 pub use pool_core::PoolCore;
-pub use pooled::{PinnedConnectionHandle, PooledConnection};
-pub use reply::{Refused, Reply, What};
 pub use status::PoolState;
-pub use step::{Act, Established, FailedAt, Step, Use};

@@ -9,8 +9,8 @@ use std::alloc::{AllocError, Global};
 
 impl PoolCore {
     ghost use Rattle.mdb_pool.specs.Standing.{SameHome, SameNotes, Fits, Sweeps, Fills, Accepts, StandsFor, Answers};
-    ghost use Rattle.mdb_pool.specs.History.{Item, PoolItem};
-    ghost use Rattle.mdb_pool.specs.declared.step.Act.TheVariants.{Maintain as MaintainAct};
+    ghost use Rattle.mdb_log.specs.History.{Item, PoolItem};
+    ghost use Rattle.mdb_log.specs.declared.step.Act.TheVariants.{Maintain as MaintainAct};
 
     // Closes the available connections that have perished, those that came back first before the others.
     fn sweep(

@@ -12,8 +12,8 @@ impl PoolCore {
     ghost use Rattle.mdb_pool.specs.Changes.{pinning};
     ghost use Rattle.mdb_pool.specs.Kept.{held_connection, connection_at, pins_at};
     ghost use Rattle.mdb_pool.specs.Standing.{SameHome, Fits, Accepts, StandsFor, Answers};
-    ghost use Rattle.mdb_pool.specs.History.{Item, PoolItem, pinned_by, replicated};
-    ghost use Rattle.mdb_pool.specs.declared.step.Act.TheVariants.{Pin, Replicate};
+    ghost use Rattle.mdb_log.specs.History.{Item, PoolItem, pinned_by, replicated};
+    ghost use Rattle.mdb_log.specs.declared.step.Act.TheVariants.{Pin, Replicate};
 
     /// The connection is one of this pool and has a pin.
     pub fn has_pin(&self, id: u32) -> bool

@@ -32,13 +32,13 @@ pub struct PoolCore {
 
 impl PoolCore {
     ghost use Rattle.mdb_pool.specs.Kept.{held_connection, request_at, connection_at, is_pending_at, is_open_now, is_asked_at, id_at, wire_at, name_of, cause_of, state_in};
-    ghost use Rattle.mdb_pool.specs.Connections.{has, is_live, pending_list, holding, wire_of};
-    ghost use Rattle.mdb_pool.specs.Requests.{is_open};
-    ghost use Rattle.mdb_pool.specs.State.{state_of};
+    ghost use Rattle.mdb_log.specs.Connections.{has, is_live, pending_list, holding, wire_of};
+    ghost use Rattle.mdb_log.specs.Requests.{is_open};
+    ghost use Rattle.mdb_log.specs.State.{state_of};
     ghost use Rattle.mdb_pool.specs.Standing.{StandsFor};
-    ghost use Rattle.mdb_pool.specs.Legal.{NoneLeftWaiting};
-    ghost use Rattle.mdb_pool.specs.Limits.{WithinLimits};
-    ghost use Rattle.mdb_pool.specs.History.{Item, of_pool, opening};
+    ghost use Rattle.mdb_log.specs.Legal.{NoneLeftWaiting};
+    ghost use Rattle.mdb_log.specs.Limits.{WithinLimits};
+    ghost use Rattle.mdb_log.specs.History.{Item, of_pool, opening};
 
     /// A pool that was just made: a load-balanced one is ready, a normal one new. Its sizes are at most 65,535.
     pub fn new(alloc: Global, pool: u32, address: ServerAddress, options: PoolOptions) -> PoolCore

@@ -12,7 +12,7 @@ use std::alloc::{AllocError, Global};
 
 impl PoolCore {
     ghost use Rattle.mdb_pool.specs.Standing.{SameHome, SameNotes, Fits, Serves};
-    ghost use Rattle.mdb_pool.specs.History.{PoolItem};
+    ghost use Rattle.mdb_log.specs.History.{PoolItem};
     ghost use Rattle.mdb_pool.specs.Changes.{meeting, meeting_facts, warming, warming_facts};
 
     // A caller meets the available connection that came back last.

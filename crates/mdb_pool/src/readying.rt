@@ -11,8 +11,8 @@ use std::alloc::{AllocError, Global};
 impl PoolCore {
     ghost use Rattle.mdb_pool.specs.Changes.{readied_to, readied_facts};
     ghost use Rattle.mdb_pool.specs.Standing.{SameHome, Fits, Accepts, StandsFor, Answers};
-    ghost use Rattle.mdb_pool.specs.History.{Item, PoolItem};
-    ghost use Rattle.mdb_pool.specs.declared.step.Act.TheVariants.{Ready as ReadyAct};
+    ghost use Rattle.mdb_log.specs.History.{Item, PoolItem};
+    ghost use Rattle.mdb_log.specs.declared.step.Act.TheVariants.{Ready as ReadyAct};
 
     // A pool that is new or paused becomes ready.
     fn make_ready(&mut self, facts: &mut Vec<Fact>, moment: Moment) -> Result<(), AllocError>

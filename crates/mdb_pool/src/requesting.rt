@@ -10,8 +10,8 @@ use std::alloc::{AllocError, Global};
 impl PoolCore {
     ghost use Rattle.mdb_pool.specs.Kept.{request_at};
     ghost use Rattle.mdb_pool.specs.Standing.{SameHome, Fits, Accepts, StandsFor, Answers};
-    ghost use Rattle.mdb_pool.specs.History.{Item, PoolItem, asked};
-    ghost use Rattle.mdb_pool.specs.declared.step.Act.TheVariants.{Request as RequestAct};
+    ghost use Rattle.mdb_log.specs.History.{Item, PoolItem, asked};
+    ghost use Rattle.mdb_log.specs.declared.step.Act.TheVariants.{Request as RequestAct};
 
     /// A new caller is served. Whoever calls has tested the refusals.
     pub fn accept_request(

@@ -13,8 +13,8 @@ use std::alloc::{AllocError, Global};
 impl PoolCore {
     ghost use Rattle.mdb_pool.specs.Kept.{held_connection};
     ghost use Rattle.mdb_pool.specs.Standing.{SameHome, Fits, Accepts, StandsFor, Answers};
-    ghost use Rattle.mdb_pool.specs.History.{Item, PoolItem, returned};
-    ghost use Rattle.mdb_pool.specs.declared.step.Act.TheVariants.{Return as ReturnAct};
+    ghost use Rattle.mdb_log.specs.History.{Item, PoolItem, returned};
+    ghost use Rattle.mdb_log.specs.declared.step.Act.TheVariants.{Return as ReturnAct};
 
     /// A held connection comes back, or goes to its pin. Whoever calls has tested the refusals.
     pub fn accept_return(

@@ -1,7 +1,7 @@
 //! Values in the order in which they came.
 
 ghost use Rattle.std.specs.Prelude.{◌≡◌, ◌++◌, ◌∷◌, [], OnOk, IfOk};
-ghost use Rattle.mdb_pool.specs.Connections.{has};
+ghost use Rattle.mdb_log.specs.Connections.{has};
 
 use std::alloc::{AllocError, Global};
 use std::marker::Model;

@@ -36,7 +36,7 @@ pub struct Clear {
 impl Status {
     ghost use Rattle.std.specs.Prelude.{◌≡◌, IfOk};
     ghost use Rattle.mdb_pool.specs.Kept.{is_ready_now, is_shut, state_in};
-    ghost use Rattle.mdb_pool.specs.State.{is_ready, is_new};
+    ghost use Rattle.mdb_log.specs.State.{is_ready, is_new};
     ghost use Rattle.std.specs.Prelude.{if◌then◌else◌, false};
 
     /// A load-balanced pool is ready from the first, a normal one new.

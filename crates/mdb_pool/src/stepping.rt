@@ -35,9 +35,10 @@ fn log_step(
 }
 
 impl PoolCore {
-    ghost use Rattle.mdb_pool.specs.Standing.{SameHome, StandsFor, Answers, Logs, IsPoolAct, Runs};
-    ghost use Rattle.mdb_pool.specs.Legal.{NoneLeftWaiting};
-    ghost use Rattle.mdb_pool.specs.History.{Item, of_pool};
+    ghost use Rattle.mdb_pool.specs.Standing.{SameHome, StandsFor, Answers, Logs, Runs, RunsFront};
+    ghost use Rattle.mdb_log.specs.Acts.{IsPoolAct};
+    ghost use Rattle.mdb_log.specs.Legal.{NoneLeftWaiting};
+    ghost use Rattle.mdb_log.specs.History.{Item, of_pool};
 
     // Does what the step says.
     fn perform(
@@ -46,7 +47,7 @@ impl PoolCore {
         facts: &mut Vec<Fact>,
         step: &Step,
     ) -> Result<Reply, AllocError>
-        requires { IsPoolAct step.now.act }
+        requires { IsPoolAct self.old.pool step.now.act }
         ensures home { OnOk result (SameHome self.old self.new) }
         ensures answers { IfOk result (λ reply. (h : List Item) → StandsFor self.old h → Answers self.old self.new facts.old.items facts.new.items step.now reply h) }
     {
@@ -91,7 +92,7 @@ impl PoolCore {
         facts: &mut Vec<Fact>,
         step: &Step,
     ) -> Result<Reply, OutOfMemory>
-        requires { IsPoolAct step.now.act }
+        requires { IsPoolAct self.old.pool step.now.act }
         ensures home { OnOk result (SameHome self.old self.new) }
         ensures answers { IfOk result (λ reply. (h : List Item) → StandsFor self.old h → Answers self.old self.new facts.old.items facts.new.items step.now reply h) }
         ensures err_core { OnErr result (self.new ≡ self.old) }
@@ -113,7 +114,7 @@ impl PoolCore {
         seat: u32,
         step: &Step,
     ) -> Result<(), AllocError>
-        requires { IsPoolAct step.now.act }
+        requires { IsPoolAct self.old.pool step.now.act }
         ensures home { OnOk result (SameHome self.old self.new) }
         ensures logs { OnOk result ((h : List Item) → StandsFor self.old h → Logs self.old self.new log.old log.new seat step.now h) }
         ensures err { OnErr result (log.new ≡ log.old) }
@@ -131,7 +132,7 @@ impl PoolCore {
         seat: u32,
         step: &Step,
     ) -> Result<PoolCore, AllocError>
-        requires { IsPoolAct step.now.act }
+        requires { IsPoolAct self.now.pool step.now.act }
         ensures home { IfOk result (λ next. SameHome self.now next) }
         ensures logs { IfOk result (λ next. (h : List Item) → StandsFor self.now h → Logs self.now next log.old log.new seat step.now h) }
         ensures err { OnErr result (log.new ≡ log.old) }
@@ -154,7 +155,7 @@ impl PoolCore {
         seat: u32,
         step: &Step,
     ) -> Result<(), OutOfMemory>
-        requires { IsPoolAct step.now.act }
+        requires { IsPoolAct self.old.pool step.now.act }
         ensures home { OnOk result (SameHome self.old self.new) }
         ensures logs { OnOk result ((h : List Item) → StandsFor self.old h → Logs self.old self.new log.old log.new seat step.now h) }
         ensures err_core { OnErr result (self.new ≡ self.old) }
@@ -165,7 +166,8 @@ impl PoolCore {
         Ok(())
     }
 
-    /// Steps one after another; the entries that the log gets are legal.
+    /// Steps one after another: the log gets the answer to each after those before it, and these entries are legal. After `OutOfMemory` it has got
+    /// those of the first steps, for which the pool stands.
     pub fn run(
         &mut self,
         alloc: Global,
@@ -173,8 +175,10 @@ impl PoolCore {
         seat: u32,
         steps: &[Step],
     ) -> Result<(), OutOfMemory>
-        requires { All (λ step. IsPoolAct step.act) steps.now }
+        requires { All (λ step. IsPoolAct self.old.pool step.act) steps.now }
+        ensures home { SameHome self.old self.new }
         ensures legal { OnOk result ((h : List Item) → StandsFor self.old h → NoneLeftWaiting self.old.options (of_pool self.old.pool h) → Runs self.old self.new log.old log.new seat steps.now h) }
+        ensures begun { OnErr result ((h : List Item) → StandsFor self.old h → NoneLeftWaiting self.old.options (of_pool self.old.pool h) → RunsFront self.old self.new log.old log.new seat steps.now h) }
     {
         for step in steps {
             self.step(alloc, log, seat, step)?;

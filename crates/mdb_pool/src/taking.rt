@@ -13,8 +13,8 @@ impl PoolCore {
     ghost use Rattle.mdb_pool.specs.Changes.{taking};
     ghost use Rattle.mdb_pool.specs.Kept.{connection_at, request_at, pins_at, is_held_at};
     ghost use Rattle.mdb_pool.specs.Standing.{SameHome, Fits, Accepts, StandsFor, Answers};
-    ghost use Rattle.mdb_pool.specs.History.{Item, PoolItem, taken};
-    ghost use Rattle.mdb_pool.specs.declared.step.Act.TheVariants.{Take};
+    ghost use Rattle.mdb_log.specs.History.{Item, PoolItem, taken};
+    ghost use Rattle.mdb_log.specs.declared.step.Act.TheVariants.{Take};
 
     /// The connection is one of this pool, and a party has it since it was established.
     pub fn is_held(&self, id: u32) -> bool

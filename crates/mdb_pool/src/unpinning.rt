@@ -12,8 +12,8 @@ impl PoolCore {
     ghost use Rattle.mdb_pool.specs.Changes.{unpinned_once, unpinning, pin_ending, back_facts};
     ghost use Rattle.mdb_pool.specs.Kept.{connection_at, pins_at};
     ghost use Rattle.mdb_pool.specs.Standing.{SameHome, Fits, Accepts, StandsFor, Answers};
-    ghost use Rattle.mdb_pool.specs.History.{Item, PoolItem, unpinned};
-    ghost use Rattle.mdb_pool.specs.declared.step.Act.TheVariants.{Unpin};
+    ghost use Rattle.mdb_log.specs.History.{Item, PoolItem, unpinned};
+    ghost use Rattle.mdb_log.specs.declared.step.Act.TheVariants.{Unpin};
 
     // The connection with one pin less.
     fn unpinned_once(&self, connection: Connection) -> Connection

@@ -10,8 +10,8 @@ use std::alloc::{AllocError, Global};
 impl PoolCore {
     ghost use Rattle.mdb_pool.specs.Kept.{request_at};
     ghost use Rattle.mdb_pool.specs.Standing.{SameHome, Fits, Accepts, StandsFor, Answers};
-    ghost use Rattle.mdb_pool.specs.History.{Item, PoolItem, warmed};
-    ghost use Rattle.mdb_pool.specs.declared.step.Act.TheVariants.{Warm as WarmAct};
+    ghost use Rattle.mdb_log.specs.History.{Item, PoolItem, warmed};
+    ghost use Rattle.mdb_log.specs.declared.step.Act.TheVariants.{Warm as WarmAct};
 
     /// A new warm request is served. Whoever calls has tested the refusals.
     pub fn accept_warm(

@@ -4,8 +4,8 @@ use Rattle.std.proofs.lemmas.List.{append-nil, append_cancel_right}
 use Rattle.std.proofs.lemmas.List.Elements.{All-nil, All-push}
 use Rattle.std.proofs.Math.Seq.{take-append-add, take-length}
 use Rattle.mdb_base.specs.Outside.{Rose, Held, Took}
-use Rattle.mdb_pool.specs.declared.step.Step.{Step}
-use Rattle.mdb_pool.specs.declared.log.Entry.{Entry}
+use Rattle.mdb_log.specs.declared.step.Step.{Step}
+use Rattle.mdb_log.specs.declared.log.Entry.{Entry}
 use Rattle.mdb_lines.specs.declared.run_error.RunError.{RunError}
 use Rattle.mdb_lines.specs.declared.run_error.RunError.TheVariants as errors
 use Rattle.mdb_lines.specs.Spelling.{spelling}
@@ -14,7 +14,9 @@ use Rattle.mdb_lines.specs.Script.{Spells, lines_of, line_of, AreAllowed, max_in
 use Rattle.mdb_base.specs.AddressReading.{beyond}
 use Rattle.mdb_lines.specs.Loops.{ReadsAll, ReadEnds}
 use Rattle.mdb_lines.proofs.Loops.{took_nothing, took_more, took_no_more, line_not_last}
-use Rattle.mdb_world.specs.Lines.{is_later, may_come, entry_after, log_of, log_after, steps_of, IsLegalLog}
+use Rattle.mdb_world.specs.Lines.{is_later, may_come, entry_after, log_of, log_after, steps_of}
+use Rattle.mdb_log.specs.LegalLog.{IsLegalLog}
+use Rattle.mdb_log.specs.Beside.{IsKept}
 use Rattle.mdb_runs.specs.Runs.{IsWithin, Begins, IsNextLine, IsBad, LineRuns, Ran, RunEnds, Seen, Ended}
 
 -- what holds between two lines
@@ -94,41 +96,41 @@ goes_on input rest line behind n log new_log held mid new_held faults old_faults
     }
 
 pub done : (input : List ℕ) (n : ℕ) (log : List Entry) (held new_held : Option Held) (faults new_faults : ℕ) (rest : List ℕ) → length rest ≡ 0
-    → Between input rest n log held new_held faults new_faults → IsLegalLog log → Ran input log held new_held faults new_faults
+    → Between input rest n log held new_held faults new_faults → IsLegalLog log → IsKept log → Ran input log held new_held faults new_faults
 unfolding lines_of
-done input n log held new_held faults new_faults [] none s legal = record { begins = s.begins; answers = s.answers; legal = legal; taken = s.taken; same = s.same }
-done input n log held new_held faults new_faults (b ∷ bs) none s legal = absurd (omega arith)
+done input n log held new_held faults new_faults [] none s legal kept = record { begins = s.begins; answers = s.answers; legal = legal; kept = kept; taken = s.taken; same = s.same }
+done input n log held new_held faults new_faults (b ∷ bs) none s legal kept = absurd (omega arith)
 
 -- the line that is next ends the run
 pub line_ends : (input rest line behind : List ℕ) (n : ℕ) (log new_log : List Entry) (held mid new_held : Option Held) (faults old_faults new_faults : ℕ) (e : RunError)
     → lines_of rest ≡ (line ++ codes "\n") ∷ lines_of behind
-    → Between input rest n log held mid faults old_faults → LineRuns n line log new_log mid new_held old_faults new_faults (Err e)
+    → Between input rest n log held mid faults old_faults → IsLegalLog log → IsLegalLog new_log → LineRuns n line log new_log mid new_held old_faults new_faults (Err e)
     → RunEnds input held new_held faults new_faults e
-line_ends input rest line behind n log new_log held mid new_held faults old_faults new_faults errors.OutOfMemory cut s (taken, same) =
-    (steps_of log, lines_of rest, s.begins, rw (← s.answers) (took_no_more held mid new_held (text_of log) s.taken taken), same ∙ s.same)
-line_ends input rest line behind n log new_log held mid new_held faults old_faults new_faults errors.ReadFault cut s h = h
-line_ends input rest line behind n log new_log held mid new_held faults old_faults new_faults errors.WriteFault cut s (step, next, (k, front), rose) =
+line_ends input rest line behind n log new_log held mid new_held faults old_faults new_faults errors.OutOfMemory cut s legal new_legal (taken, same) =
+    (steps_of log, lines_of rest, s.begins, subst IsLegalLog s.answers legal, rw (← s.answers) (took_no_more held mid new_held (text_of log) s.taken taken), same ∙ s.same)
+line_ends input rest line behind n log new_log held mid new_held faults old_faults new_faults errors.ReadFault cut s legal new_legal h = h
+line_ends input rest line behind n log new_log held mid new_held faults old_faults new_faults errors.WriteFault cut s legal new_legal (step, next, added, (k, front), rose) =
     let e = entry_after log step in
     let log_is : log_of (steps_of log ++ step ∷ []) ≡ log ++ e ∷ [] = rw (log_push [] (steps_of log) step, ← s.answers) refl in
     let text : take (length (text_of log) + k) (text_of (log ++ e ∷ [])) ≡ text_of log ++ take k (text_of_entry e) = rw (text_push log e, take-append-add (text_of log) (text_of_entry e) k) refl in
     let took : Took held new_held (take (length (text_of log) + k) (text_of (log ++ e ∷ []))) = rw text (took_more held mid new_held (text_of log) (take k (text_of_entry e)) s.taken front) in
-    (steps_of log ++ step ∷ [], lines_of behind, begins_more input rest line behind n log held mid faults old_faults step cut s next, (length (text_of log) + k, rw log_is took), subst (λ (f : ℕ). Rose f new_faults) s.same rose)
-line_ends input rest line behind n log new_log held mid new_held faults old_faults new_faults (errors.Malformed m) cut s (at, never, taken, same) =
+    (steps_of log ++ step ∷ [], lines_of behind, begins_more input rest line behind n log held mid faults old_faults step cut s next, subst IsLegalLog (added ∙ sym log_is) new_legal, (length (text_of log) + k, rw log_is took), subst (λ (f : ℕ). Rose f new_faults) s.same rose)
+line_ends input rest line behind n log new_log held mid new_held faults old_faults new_faults (errors.Malformed m) cut s legal new_legal (at, never, taken, same) =
     let begins : Begins input (steps_of log) ((line ++ codes "\n") ∷ lines_of behind) = rw (← cut) s.begins in
-    (steps_of log, line ++ codes "\n", lines_of behind, begins, at ∙ s.number ∙ ap (λ (k : ℕ). 1 + k) (sym (length_steps log)), bad, rw (← s.answers) (took_no_more held mid new_held (text_of log) s.taken taken), same ∙ s.same)
+    (steps_of log, line ++ codes "\n", lines_of behind, begins, subst IsLegalLog s.answers legal, at ∙ s.number ∙ ap (λ (k : ℕ). 1 + k) (sym (length_steps log)), bad, rw (← s.answers) (took_no_more held mid new_held (text_of log) s.taken taken), same ∙ s.same)
   where
     bad : IsBad m (steps_of log) (line ++ codes "\n")
     bad t (sp, may) eq =
         let w : line ≡ spelling t = append_cancel_right line (spelling t) (codes "\n") eq in
         never t (subst (λ (xs : List ℕ). Spells n xs t) (sym w) (subst (λ (k : ℕ). Spells k (spelling t) t) at sp), may)
-line_ends input rest line behind n log new_log held mid new_held faults old_faults new_faults errors.TooLong cut s h = h
+line_ends input rest line behind n log new_log held mid new_held faults old_faults new_faults errors.TooLong cut s legal new_legal h = h
 
 -- bytes without a newline end the run
 pub last_ends : (input rest : List ℕ) (n : ℕ) (log : List Entry) (held new_held : Option Held) (faults new_faults : ℕ) → (lines_of rest ≡ rest ∷ []) × (beyond 10 rest ≡ [])
-    → Between input rest n log held new_held faults new_faults → RunEnds input held new_held faults new_faults (errors.Malformed n)
-last_ends input rest n log held new_held faults new_faults cut s =
+    → Between input rest n log held new_held faults new_faults → IsLegalLog log → RunEnds input held new_held faults new_faults (errors.Malformed n)
+last_ends input rest n log held new_held faults new_faults cut s legal =
     let begins : Begins input (steps_of log) (rest ∷ []) = rw (← cut.0) s.begins in
-    (steps_of log, rest, [], begins, s.number ∙ ap (λ (k : ℕ). 1 + k) (sym (length_steps log)), λ t sp eq. line_not_last (spelling t) (rw eq at cut.1), rw (← s.answers) s.taken, s.same)
+    (steps_of log, rest, [], begins, subst IsLegalLog s.answers legal, s.number ∙ ap (λ (k : ℕ). 1 + k) (sym (length_steps log)), λ t sp eq. line_not_last (spelling t) (rw eq at cut.1), rw (← s.answers) s.taken, s.same)
 
 -- whole runs
 
@@ -137,7 +139,7 @@ pub flush_fails : (old new : Seen) (input : List ℕ) (log : List Entry) (mid : 
 flush_fails old new input log mid count read ran took rose =
     let text = text_of log in
     let all : Took old.held new.held (take (length text) text) = rw (take-length text) (took_no_more old.held mid new.held text ran.taken took) in
-    (input, read, (steps_of log, [], ran.begins, (length text, rw (← ran.answers) all), subst (λ (f : ℕ). Rose f new.writes) ran.same rose))
+    (input, read, (steps_of log, [], ran.begins, subst IsLegalLog ran.answers ran.legal, (length text, rw (← ran.answers) all), subst (λ (f : ℕ). Rose f new.writes) ran.same rose))
 
 pub read_ends : (old new : Seen) (e : RunError) → new.held ≡ old.held → new.writes ≡ old.writes → ReadEnds old.left new.left old.reads new.reads e → Ended old new e
 read_ends old new errors.OutOfMemory held writes h = (h, writes, inl (rw held (took_nothing old.held)))
@@ -147,7 +149,7 @@ read_ends old new (errors.Malformed n) held writes h = absurd h
 read_ends old new errors.TooLong held writes (bytes, consumed, long, same) = (same, writes, rw held (took_nothing old.held), (bytes, consumed, long))
 
 pub lines_end : (old new : Seen) (input : List ℕ) (e : RunError) → ReadsAll old.left new.left old.reads new.reads input → RunEnds input old.held new.held old.writes new.writes e → Ended old new e
-lines_end old new input errors.OutOfMemory read h = (read.same, h.4, inr (input, read, h))
+lines_end old new input errors.OutOfMemory read h = (read.same, h.5, inr (input, read, h))
 lines_end old new input errors.ReadFault read h = absurd h
 lines_end old new input errors.WriteFault read h = (input, read, h)
 lines_end old new input (errors.Malformed n) read h = (input, read, h)

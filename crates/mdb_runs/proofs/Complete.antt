@@ -4,8 +4,8 @@ use Rattle.std.proofs.lemmas.List.{append-nil}
 use Rattle.std.proofs.lemmas.List.Elements.{All-head, All-tail}
 use Rattle.std.specs.Io.KnownBytes.{Consumes, IsAtEnd}
 use Rattle.mdb_base.specs.Outside.{Rose}
-use Rattle.mdb_pool.specs.declared.step.Step.{Step}
-use Rattle.mdb_pool.specs.declared.log.Entry.{Entry}
+use Rattle.mdb_log.specs.declared.step.Step.{Step}
+use Rattle.mdb_log.specs.declared.log.Entry.{Entry}
 use Rattle.mdb_lines.specs.declared.run_error.RunError.{RunError}
 use Rattle.mdb_lines.specs.declared.run_error.RunError.TheVariants as errors
 use Rattle.mdb_lines.specs.Spelling.{spelling}
@@ -70,8 +70,8 @@ completes old new (Ok log) input steps left short script read write finished end
     all_same 1 (steps_of log) steps finished.ran.begins.allowed script.allowed cut
 completes old new (Err errors.OutOfMemory) input steps left short script read write finished ended = refl
 completes old new (Err errors.ReadFault) input steps left short script read write finished ended = absurd (read ended.0)
-completes old new (Err errors.WriteFault) input steps left short script read write finished (found, all, (done, more, begins, front, rose)) = absurd (write rose)
-completes old new (Err (errors.Malformed n)) input steps left short script read write finished (found, all, (done, bad, more, begins, at, never, took, same)) =
+completes old new (Err errors.WriteFault) input steps left short script read write finished (found, all, (done, more, begins, legal, front, rose)) = absurd (write rose)
+completes old new (Err (errors.Malformed n)) input steps left short script read write finished (found, all, (done, bad, more, begins, legal, at, never, took, same)) =
     let whole = told old.left new.left input found left all.consumed all.ended in
     let cut : map line_of done ++ bad ∷ more ≡ map line_of steps = sym begins.cut ∙ ap lines_of whole ∙ script.lines in
     absurd (bad_not done steps bad more cut begins.allowed script.allowed script.within (subst (λ (k : ℕ). IsBad k done bad) at never))

@@ -1,7 +1,7 @@
 -- Generated scripts are scripts that the tool takes.
 use Rattle.std.proofs.Common.{◌≡◌, ℕ, zero, suc, ◌≤◌, Bool, true, false, eqb, leb, ◌%◌, [], All, refl}
 use Rattle.std.proofs.lemmas.List.Elements.{All-nil, All-cons, All-append}
-use Rattle.mdb_pool.specs.declared.step.Step.{Step}
+use Rattle.mdb_log.specs.declared.step.Step.{Step}
 use Rattle.mdb_generator.specs.Generated.{requested, returned, replaced, rest, round, rounds, generated, script}
 use Rattle.mdb_generator.proofs.Scripts.{script_lines, generated_allowed}
 use Rattle.mdb_world.specs.Lines.{is_later}

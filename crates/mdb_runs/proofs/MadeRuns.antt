@@ -2,12 +2,11 @@
 use Rattle.std.proofs.Common.{◌≡◌, ℕ, List, [], length, Option, sym, ap, ◌∙◌, arith, subst}
 use Rattle.std.proofs.Math.Seq.{take-length}
 use Rattle.mdb_base.specs.Outside.{Rose, Held, Took}
-use Rattle.mdb_pool.specs.declared.step.Step.{Step}
-use Rattle.mdb_pool.specs.declared.log.Entry.{Entry}
+use Rattle.mdb_log.specs.declared.step.Step.{Step}
+use Rattle.mdb_log.specs.declared.log.Entry.{Entry}
 use Rattle.mdb_lines.specs.Loops.{TookFront}
 use Rattle.mdb_lines.proofs.Loops.{took_no_more}
-use Rattle.mdb_world.specs.Lines.{log_of}
-use Rattle.mdb_world.specs.Lines.{steps_of}
+use Rattle.mdb_world.specs.Lines.{log_of, steps_of}
 use Rattle.mdb_runs.specs.Runs.{Seen, Finished}
 use Rattle.mdb_runs.specs.Made.{summary_line}
 

@@ -2,15 +2,17 @@
 use Rattle.std.specs.Prelude.{◌≡◌, ℕ, ◌+◌, ◌<◌, List, [], ◌∷◌, ◌++◌, length, map, true, All, Option, Result, Ok, Err, ◌⊎◌}
 use Rattle.std.specs.Io.KnownBytes.{Consumes}
 use Rattle.mdb_base.specs.Outside.{Rose, Held, Took, IsFlushed}
-use Rattle.mdb_pool.specs.declared.step.Step.{Step}
-use Rattle.mdb_pool.specs.declared.log.Entry.{Entry}
+use Rattle.mdb_log.specs.declared.step.Step.{Step}
+use Rattle.mdb_log.specs.declared.log.Entry.{Entry}
 use Rattle.mdb_lines.specs.declared.run_error.RunError.{RunError}
 use Rattle.mdb_lines.specs.declared.run_error.RunError.TheVariants as errors
 use Rattle.mdb_lines.specs.Spelling.{spelling}
 use Rattle.mdb_lines.specs.LogText.{text_of_entry, text_of}
 use Rattle.mdb_lines.specs.Script.{Spells, lines_of, line_of, AreAllowed, max_input}
 use Rattle.mdb_lines.specs.Loops.{TookFront, ReadsAll}
-use Rattle.mdb_world.specs.Lines.{opens_seeds, is_later, may_come, entry_after, log_of, steps_of, IsLegalLog}
+use Rattle.mdb_world.specs.Lines.{opens_seeds, is_later, may_come, entry_after, log_of, steps_of}
+use Rattle.mdb_log.specs.LegalLog.{IsLegalLog}
+use Rattle.mdb_log.specs.Beside.{IsKept}
 
 -- the first step opens seeds, and every later step is one that may come after it
 abbrev pub IsWithin : List Step → Type 0
@@ -42,7 +44,8 @@ abbrev pub StepRuns : Step → List Entry → List Entry → Option Held → Opt
 StepRuns s log new_log held new_held faults new_faults (Ok u) =
     (new_log ≡ log ++ entry_after log s ∷ []) × Took held new_held (text_of_entry (entry_after log s)) × (new_faults ≡ faults)
 StepRuns s log new_log held new_held faults new_faults (Err errors.OutOfMemory) = Took held new_held [] × (new_faults ≡ faults)
-StepRuns s log new_log held new_held faults new_faults (Err errors.WriteFault) = TookFront held new_held (text_of_entry (entry_after log s)) × Rose faults new_faults
+StepRuns s log new_log held new_held faults new_faults (Err errors.WriteFault) =
+    (new_log ≡ log ++ entry_after log s ∷ []) × TookFront held new_held (text_of_entry (entry_after log s)) × Rose faults new_faults
 StepRuns s log new_log held new_held faults new_faults (Err _) = ⊥
 
 -- What one line does to the log and the sink.
@@ -52,28 +55,29 @@ LineRuns n line log new_log held new_held faults new_faults (Ok u) =
 LineRuns n line log new_log held new_held faults new_faults (Err errors.OutOfMemory) = Took held new_held [] × (new_faults ≡ faults)
 LineRuns n line log new_log held new_held faults new_faults (Err errors.ReadFault) = ⊥
 LineRuns n line log new_log held new_held faults new_faults (Err errors.WriteFault) =
-    (s : Step) × IsNextLine n (steps_of log) line s × TookFront held new_held (text_of_entry (entry_after log s)) × Rose faults new_faults
+    (s : Step) × IsNextLine n (steps_of log) line s × (new_log ≡ log ++ entry_after log s ∷ []) × TookFront held new_held (text_of_entry (entry_after log s)) × Rose faults new_faults
 LineRuns n line log new_log held new_held faults new_faults (Err (errors.Malformed m)) =
     (m ≡ n) × ((s : Step) → IsNextLine n (steps_of log) line s → ⊥) × Took held new_held [] × (new_faults ≡ faults)
 LineRuns n line log new_log held new_held faults new_faults (Err errors.TooLong) = ⊥
 
--- The lines of the input are those of the log's steps, the log is theirs and legal, and the sink took its text.
+-- The lines of the input are those of the log's steps, the log is theirs, legal and kept, and the sink took its text.
 pub record Ran (input : List ℕ) (log : List Entry) (held new_held : Option Held) (faults new_faults : ℕ) : Type 0 where
   pub begins : Begins input (steps_of log) []
   pub answers : log ≡ log_of (steps_of log)
   pub legal : IsLegalLog log
+  pub kept : IsKept log
   pub taken : Took held new_held (text_of log)
   pub same : new_faults ≡ faults
 
--- The lines ended before their end: for want of memory, at a fault of the sink, or at a line that spells no step.
+-- The lines ended before their end: for want of memory, at a fault of the sink, or at a line that spells no step. The log so far is legal.
 abbrev pub RunEnds : List ℕ → Option Held → Option Held → ℕ → ℕ → RunError → Type 0
 RunEnds input held new_held faults new_faults errors.OutOfMemory =
-    (steps : List Step) × (more : List (List ℕ)) × Begins input steps more × Took held new_held (text_of (log_of steps)) × (new_faults ≡ faults)
+    (steps : List Step) × (more : List (List ℕ)) × Begins input steps more × IsLegalLog (log_of steps) × Took held new_held (text_of (log_of steps)) × (new_faults ≡ faults)
 RunEnds input held new_held faults new_faults errors.ReadFault = ⊥
 RunEnds input held new_held faults new_faults errors.WriteFault =
-    (steps : List Step) × (more : List (List ℕ)) × Begins input steps more × TookFront held new_held (text_of (log_of steps)) × Rose faults new_faults
+    (steps : List Step) × (more : List (List ℕ)) × Begins input steps more × IsLegalLog (log_of steps) × TookFront held new_held (text_of (log_of steps)) × Rose faults new_faults
 RunEnds input held new_held faults new_faults (errors.Malformed n) =
-    (steps : List Step) × (bad : List ℕ) × (more : List (List ℕ)) × Begins input steps (bad ∷ more) × (n ≡ 1 + length steps) × IsBad n steps bad
+    (steps : List Step) × (bad : List ℕ) × (more : List (List ℕ)) × Begins input steps (bad ∷ more) × IsLegalLog (log_of steps) × (n ≡ 1 + length steps) × IsBad n steps bad
     × Took held new_held (text_of (log_of steps)) × (new_faults ≡ faults)
 RunEnds input held new_held faults new_faults errors.TooLong = ⊥
 

@@ -1,7 +1,8 @@
 -- What the tool answers.
 use Rattle.std.specs.Prelude.{◌≡◌, ℕ, List, codes, ◌⊎◌, Ok, Err}
-use Rattle.mdb_pool.specs.declared.log.Entry.{Entry}
+use Rattle.mdb_log.specs.declared.log.Entry.{Entry}
 use Rattle.mdb_lines.specs.declared.run_error.RunError.{RunError}
+use Rattle.mdb_lines.specs.declared.run_error.RunError.TheVariants as errors
 use Rattle.mdb_lines.specs.Status.{Told, Tells, status, message}
 use Rattle.mdb_generator.specs.declared.words.ToolCommand.{ToolCommand}
 use Rattle.mdb_generator.specs.declared.words.ToolCommand.TheVariants as command
@@ -38,3 +39,7 @@ EndsAs command.Usage old new told new_told answer = ToolRefuses old new told new
 -- The tool ends as the command that the words say. Parts that share a script are not built yet: `share` is a usage.
 abbrev pub ToolEnds : List (List ℕ) → Seen → Seen → Told → Told → ℕ → Type 0
 ToolEnds words old new told new_told answer = (c : ToolCommand) × Says words c × EndsAs c old new told new_told answer
+
+-- the script ran to its end, or memory ran out
+abbrev pub EndsWell : ℕ → Type 0
+EndsWell answer = (answer ≡ 0) ⊎ (answer ≡ status errors.OutOfMemory)

@@ -1,7 +1,7 @@
 //! Runs of a script.
 
 ghost use Rattle.std.specs.Prelude.{◌≡◌, ◌+◌, ◌≤◌, [], ◌∷◌, ◌++◌, ℕ, List, IfOk, IfErr, MatchResult, length, Some};
-ghost use Rattle.mdb_pool.specs.declared.step.Step.{Step};
+ghost use Rattle.mdb_log.specs.declared.step.Step.{Step};
 ghost use Rattle.mdb_base.specs.Outside.{Rose};
 ghost use Rattle.mdb_lines.specs.declared.run_error.RunError.TheVariants.{OutOfMemory as NoMemory};
 ghost use Rattle.mdb_world.specs.Lines.{steps_of};
@@ -12,7 +12,7 @@ use mdb_base::{Sink, Source};
 use mdb_lines::{
     LineError, MAX_INPUT, RunError, cut_line, read_all, read_line, write_all, write_entry,
 };
-use mdb_pool::{Log, Step};
+use mdb_log::{Log, Step};
 use mdb_world::World;
 use std::alloc::Global;
 

@@ -1,14 +1,17 @@
 //! The tool: its words, its statuses, and what it says of an error.
 
-ghost use Rattle.std.specs.Prelude.{◌≡◌, map};
+ghost use Rattle.std.specs.Prelude.{◌≡◌, ◌≤◌, ℕ, List, [], length, map, Some};
+ghost use Rattle.mdb_log.specs.declared.step.Step.{Step};
+ghost use Rattle.mdb_base.specs.Outside.{Rose};
 ghost use Rattle.mdb_lines.specs.Status.{Tells, message, status};
-ghost use Rattle.mdb_runs.specs.Tool.{ToolEnds, usage};
+ghost use Rattle.mdb_runs.specs.Runs.{IsScript};
+ghost use Rattle.mdb_runs.specs.Tool.{ToolEnds, EndsWell, usage};
 
 use crate::made::run_made;
 use crate::run::run_script;
 use mdb_base::{Sink, Source};
 use mdb_generator::{ToolCommand, read_words};
-use mdb_lines::{RunError, Status, status_of, tell_error, tell_usage};
+use mdb_lines::{MAX_INPUT, RunError, Status, status_of, tell_error, tell_usage};
 use std::alloc::Global;
 
 const USAGE: &str = "usage: mdb_script [make N | share K]\n";
@@ -42,10 +45,14 @@ pub fn run_tool<S: Source, K: Sink, E: Sink>(
     sink: &mut K,
     errors: &mut E,
 ) -> Status
-    ensures { ToolEnds (map (λ w. w.now) words.now)
+    ensures ends { ToolEnds (map (λ w. w.now) words.now)
         (record { left = S.left source.old; reads = S.faults source.old; held = K.held sink.old; writes = K.faults sink.old })
         (record { left = S.left source.new; reads = S.faults source.new; held = K.held sink.new; writes = K.faults sink.new })
         (record { held = E.held errors.old; faults = E.faults errors.old }) (record { held = E.held errors.new; faults = E.faults errors.new }) result }
+
+    // A script on the source is run to its end where nothing fails, unless memory runs out.
+    ensures complete { (input : List ℕ) (steps : List Step) → words.now ≡ [] → S.left source.old ≡ Some input → length input ≤ MAX_INPUT → IsScript input steps
+        → ¬ (Rose (S.faults source.old) (S.faults source.new)) → ¬ (Rose (K.faults sink.old) (K.faults sink.new)) → EndsWell result }
 {
     match read_words(words) {
         ToolCommand::Script => match run_script(alloc, source, sink) {

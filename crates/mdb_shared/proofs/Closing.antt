@@ -7,10 +7,10 @@ use lib.ListN.{get_elem?}
 use Rattle.atomic_table.specs.Seated.{TableId}
 use Rattle.atomic_table.specs.Table.{Me, Final, Seen}
 use Rattle.atomic_table.proofs.Lists.{at_longer, at_last}
-use Rattle.mdb_pool.specs.declared.log.Entry.{Entry}
+use Rattle.mdb_log.specs.declared.log.Entry.{Entry}
 use Rattle.mdb_shared.specs.declared.rule.Part.{Part}
 use Rattle.mdb_shared.specs.declared.rule.View.{View}
-use Rattle.mdb_pool.specs.Driver.{StartsWith}
+use Rattle.mdb_log.specs.Driver.{StartsWith}
 use Rattle.mdb_shared.specs.Turning.{own, part, Keeps, Held, Settles}
 use Rattle.mdb_shared.specs.Seats.{SeatView, seat_view, mine_of, IsReady, AllOf, part_of, behind, Each, ByOne, Accounts}
 use Rattle.mdb_shared.proofs.Keeping.{turn_of, true_not_false}

@@ -19,7 +19,6 @@ use Rattle.mdb_base.proofs.topology_version.TopologyVersion.TheSendSync.{the_fie
 use Rattle.mdb_base.specs.contracts.document.Doc as Doc
 use Rattle.mdb_base.specs.contracts.held_document.Document as Document
 use Rattle.mdb_base.specs.contracts.held_document.Document.TheInside as Inside
-use Rattle.mdb_describe.proofs.clearable.Clearable.TheSendSync.{the_send as clearable}
 use Rattle.mdb_describe.specs.contracts.description.ServerDescription as Server
 use Rattle.mdb_describe.specs.contracts.topology.TopologyDescription as Topology
 use Rattle.mdb_events.proofs.cmap.CmapEvent.TheSendSync.{the_field_send as cmap}
@@ -37,20 +36,20 @@ use Rattle.mdb_events.specs.contracts.sdam.ServerHeartbeatSucceededEvent as Succ
 use Rattle.mdb_events.specs.contracts.sdam.TopologyDescriptionChangedEvent as TopologyChanged
 use Rattle.mdb_hello.specs.contracts.response.HelloCommandResponse as Response
 use Rattle.mdb_hello.specs.contracts.response.HelloReply as Reply
-use Rattle.mdb_pool.proofs.reply.Reply.TheSendSync.{the_field_send as answer}
-use Rattle.mdb_pool.proofs.step.Established.TheSendSync.{the_field_send as established}
-use Rattle.mdb_pool.proofs.step.FailedAt.TheSendSync.{the_field_send as failed_at}
-use Rattle.mdb_pool.proofs.step.Use.TheSendSync.{the_field_send as used}
-use Rattle.mdb_pool.specs.declared.driver.Core as Core
+use Rattle.mdb_log.proofs.reply.Reply.TheSendSync.{the_field_send as answer}
+use Rattle.mdb_log.proofs.step.Established.TheSendSync.{the_field_send as established}
+use Rattle.mdb_log.proofs.step.FailedAt.TheSendSync.{the_field_send as failed_at}
+use Rattle.mdb_log.proofs.step.Use.TheSendSync.{the_field_send as used}
+use Rattle.mdb_log.specs.declared.driver.Core as Core
 use Rattle.mdb_shared.specs.contracts.driver.SharedDriver as Driver
 use Rattle.mdb_shared.specs.contracts.driver.SharedDriver.TheInside as DriverInside
 use Rattle.mdb_shared.specs.contracts.seat.Seat as Seat
 use Rattle.mdb_shared.specs.contracts.seat.Seat.TheInside as SeatInside
-use Rattle.mdb_pool.specs.contracts.checked.BeatenResult as BeatenResult
-use Rattle.mdb_pool.specs.contracts.checked.HelloResult as HelloResult
-use Rattle.mdb_pool.specs.contracts.log.Entry as Entry
-use Rattle.mdb_pool.specs.contracts.log.Log as Log
-use Rattle.mdb_pool.specs.contracts.step.Act as Act
+use Rattle.mdb_log.specs.contracts.checked.BeatenResult as BeatenResult
+use Rattle.mdb_log.specs.contracts.checked.HelloResult as HelloResult
+use Rattle.mdb_log.specs.contracts.log.Entry as Entry
+use Rattle.mdb_log.specs.contracts.log.Log as Log
+use Rattle.mdb_log.specs.contracts.step.Act as Act
 
 number : IsSend u32
 number = search sendable
@@ -64,7 +63,7 @@ doc = search (send-Doc, crosses, sendable) depth 20
 document : IsSend Document.the_row
 document = view_send Inside.the_row _ _ _ _ (recorded_send Inside.the_field.row _ _ Inside.the_type.to_one (struct_send (shape Inside.the_type) (doc, tt)))
 
-ruleset rules = (text, tags, items, clearable, error, address, id, version, document, crosses, sendable)
+ruleset rules = (text, tags, items, error, address, id, version, document, crosses, sendable)
 
 response : IsSend Response.the_field.row
 response = struct_send (shape Response.the_type) (search rules depth 20, (search rules depth 20, (search rules depth 20, (search rules depth 20, (search rules depth 20, (search rules depth 20, (search rules depth 20, (search rules depth 20, (search rules depth 20, (search rules depth 20, (search rules depth 20, (search rules depth 20, (search rules depth 20, (search rules depth 20, (search rules depth 20, (search rules depth 20, (search rules depth 20, (search rules depth 20, (search rules depth 20, (search rules depth 20, (search rules depth 20, (search rules depth 20, (search rules depth 20, (search rules depth 20, (search rules depth 20, (search rules depth 20, (search rules depth 20, (search rules depth 20, (search rules depth 20, (search rules depth 20, tt))))))))))))))))))))))))))))))
@@ -75,7 +74,7 @@ reply = search (response, rules) depth 20
 server : IsSend Server.the_field.row
 server = search (reply, rules) depth 20
 
-pub topology : IsSend Topology.the_field.row
+pub topology : IsSend Topology.the_row
 topology = search (server, rules) depth 20
 
 -- what facts tell

@@ -9,15 +9,16 @@ use lib.Seq.{set-get_or}
 use prog.Atomic.{either}
 use Rattle.atomic_table.specs.Table.{State, Me, step, keeps, takes, gives, stepped, put_back, homes_after, Allows, opening, rest}
 use Rattle.atomic_table.proofs.Lists.{at_set, set_here, set_else}
-use Rattle.mdb_pool.specs.declared.log.Entry.{Entry}
+use Rattle.mdb_log.specs.declared.log.Entry.{Entry}
 use Rattle.mdb_shared.specs.declared.rule.Part.{Part}
 use Rattle.mdb_shared.specs.declared.rule.View.{View}
-use Rattle.mdb_pool.specs.declared.reply.Reply.{Reply}
-use Rattle.mdb_pool.specs.declared.step.Step.{Step}
+use Rattle.mdb_log.specs.declared.reply.Reply.{Reply}
+use Rattle.mdb_log.specs.declared.step.Step.{Step}
 use Rattle.atomic_table.specs.Seated.{TableId}
-use Rattle.mdb_pool.specs.Driver.{StartsWith, IsEntry, is_in_time}
-use Rattle.mdb_shared.specs.Seats.{SeatView, mine_of, seat_view, Stepped, OnlySaw, raised}
-use Rattle.mdb_shared.specs.Turning.{own, part, first_view, Fits, Keeps, Held, with_turn, found_busy, without_turn, grown_parts, with_entry, having_seen, claimed, added, let_go, looked}
+use Rattle.mdb_log.specs.Driver.{StartsWith, IsEntry, is_in_time}
+use Rattle.mdb_shared.specs.Seats.{SeatView, mine_of, seat_view, Stepped, OnlySaw, raised, Each, FoundBusy, last_in}
+use Rattle.mdb_shared.specs.Turning.{own, part, first_view, Fits, Keeps, HasNumber, Held, with_turn, found_busy, without_turn, grown_parts, with_entry, having_seen, claimed, added, let_go, looked}
+use Rattle.mdb_shared.proofs.Places.{here, stays}
 
 -- ---- lists
 
@@ -100,14 +101,6 @@ pub others_fit : (P Q : ℕ → View → Type 0) (vs : List View) (id : ℕ) (w 
 others_fit P Q vs id w mine go all j d e = ⊎_elim (λ (t : (j ≡ id) × (w ≡ d)). subst (λ (x : ℕ × View). Q x.0 x.1) (λ i. (sym t.0 i, t.1 i)) mine)
     (λ (t : (j ≢ id) × (get_elem? vs j ≡ some d)). go j d t.0 t.1 (all j d t.1)) (at_set vs id j w d e)
 
-pub inside : (vs : List View) (id : ℕ) (v : View) → get_elem? vs id ≡ some v → id < length vs
-inside [] id v e = absurd (some-ne-none v (sym e))
-inside (x ∷ xs) zero v e = omega arith
-inside (x ∷ xs) (suc id) v e = let h = inside xs id v e in omega arith
-
-pub here : (vs : List View) (id : ℕ) (v w : View) → get_elem? vs id ≡ some v → get_elem? (set vs id w) id ≡ some w
-here vs id v w at = set_here vs id w (inside vs id v at)
-
 -- a view's fit where the turn goes from one number to another, the view having no turn
 turned : (base past : List Entry) (turn turn' next keeper : ℕ) (owner : ℕ → ℕ) (id : ℕ) (v : View) → v.turn ≢ true → Fits base past turn next keeper owner id v → Fits base past turn' next keeper owner id v
 turned base past turn turn' next keeper owner id v off f = record { seen = f.seen; told = f.told; parts = f.parts; apart = f.apart; holds_turn = λ on. absurd (off on); keeps_next = f.keeps_next }
@@ -151,6 +144,9 @@ module _ {T : Type 0} (stands : T → List Entry → Type 0) (base : List Entry)
       holds_turn = λ on. absurd (true_not_false false on refl);
       keeps_next = λ k is. (refl, cc);
     };
+    owned = λ n low. absurd (omega arith);
+    kept = (first_view base, refl, refl);
+    whole = (0, (first_view base, refl, sym (append-nil base)));
     taken = λ not. absurd (not refl);
     free = λ _. (c, ap (λ (l : List Entry). some (some (Some (c, l)))) (sym (append-nil base)), subst (stands c) (sym (append-nil base)) fits);
   }
@@ -182,6 +178,9 @@ module _ {T : Type 0} (stands : T → List Entry → Type 0) (base : List Entry)
               (others_fit (Fits base r.past x r.next r.keeper r.owner) (Fits base r.past (n + 1) r.next r.keeper r.owner) s.views id w
               record { seen = starts_itself log; told = f.told; parts = f.parts; apart = f.apart; holds_turn = λ _. (n, mine, one, refl, refl); keeps_next = f.keeps_next }
               (λ j d _ _ g. turned base r.past x (n + 1) r.next r.keeper r.owner j d (λ on. let t = (turn_of base r.past x r.next r.keeper r.owner j d g on).1 in omega arith) g) r.fits);
+          owned = λ m low. stays (HasNumber m) s.views id (r.owner m) v w at (λ h. h) (r.owned m low);
+          kept = stays (λ u. u.next ≡ Some r.next) s.views id r.keeper v w at (λ h. h) r.kept;
+          whole = (id, (w, here s.views id v w at, refl));
           taken = λ _. (id, w, here s.views id v w at, refl);
           free = λ z. absurd (omega arith);
         },
@@ -204,6 +203,9 @@ module _ {T : Type 0} (stands : T → List Entry → Type 0) (base : List Entry)
               few = r.few;
               fits = others_fit (Fits base r.past x r.next r.keeper r.owner) (Fits base r.past x r.next r.keeper r.owner) s.views id w
                   record { seen = f.seen; told = f.told; parts = f.parts; apart = f.apart; holds_turn = f.holds_turn; keeps_next = f.keeps_next } (λ j d _ _ g. g) r.fits;
+              owned = λ m low. stays (HasNumber m) s.views id (r.owner m) v w at (λ h. h) (r.owned m low);
+              kept = stays (λ u. u.next ≡ Some r.next) s.views id r.keeper v w at (λ h. h) r.kept;
+              whole = (r.whole.0, stays (λ u. u.seen ≡ log) s.views id r.whole.0 v w at (λ h. h) r.whole.1);
               taken = λ _. (t.0, t.1, set_else s.views id t.0 w apart ∙ t.2, t.3);
               free = λ z. absurd (other z);
             }),
@@ -269,6 +271,10 @@ module _ {T : Type 0} (stands : T → List Entry → Type 0) (base : List Entry)
                 holds_turn = λ too. absurd (no_turn too);
                 keeps_next = g.keeps_next;
               }) r.fits);
+          owned = λ m low. stays (HasNumber m) s.views id (r.owner m) v w at
+              (λ h. let o = only_one (part n mine) h.1 h.0 (ap (λ (ps : List Part). get_elem? ps h.0) (sym one) ∙ h.2) in (0, part n (mine ++ e ∷ []), ap (λ (ps : List Part). get_elem? ps 0) parts_are, ap (λ (p : Part). p.number) o.1 ∙ h.3)) (r.owned m low);
+          kept = stays (λ u. u.next ≡ Some r.next) s.views id r.keeper v w at (λ h. h) r.kept;
+          whole = (id, (w, here s.views id v w at, ap (λ (l : List Entry). l ++ e ∷ []) t.3 ∙ sym grown));
           taken = λ _. (id, w, here s.views id v w at, on);
           free = λ z. absurd (omega arith);
         },
@@ -298,6 +304,9 @@ module _ {T : Type 0} (stands : T → List Entry → Type 0) (base : List Entry)
               (others_fit (Fits base r.past x r.next r.keeper r.owner) (Fits base r.past 0 r.next r.keeper r.owner) s.views id w
               record { seen = f.seen; told = f.told; parts = f.parts; apart = f.apart; holds_turn = λ y. absurd (true_not_false false y refl); keeps_next = f.keeps_next }
               (λ j d apart _ g. turned base r.past x 0 r.next r.keeper r.owner j d (λ too. apart (sym (one_turn base r.past x r.next r.keeper r.owner id j v d f g on too))) g) r.fits);
+          owned = λ m low. stays (HasNumber m) s.views id (r.owner m) v w at (λ h. h) (r.owned m low);
+          kept = stays (λ u. u.next ≡ Some r.next) s.views id r.keeper v w at (λ h. h) r.kept;
+          whole = (r.whole.0, stays (λ u. u.seen ≡ log) s.views id r.whole.0 v w at (λ h. h) r.whole.1);
           taken = λ not. absurd (not now);
           free = λ _. (c, ap (λ (hs : List (mathlib.Core.Option.Option S)). get_elem? hs 0) back ∙ (set_here s.homes 0 (some (Some (c, v.seen))) (omega arith) ∙ ap (λ (l : List Entry). some (some (Some (c, l)))) t.3), subst (stands c) t.3 fits);
         },
@@ -322,6 +331,9 @@ module _ {T : Type 0} (stands : T → List Entry → Type 0) (base : List Entry)
           few = r.few;
           fits = others_fit (Fits base r.past x r.next r.keeper r.owner) (Fits base r.past x r.next r.keeper r.owner) s.views id w
               record { seen = starts_itself log; told = f.told; parts = f.parts; apart = f.apart; holds_turn = λ on. let h = f.holds_turn on in (h.0, h.1, h.2, h.3, refl); keeps_next = f.keeps_next } (λ j d _ _ g. g) r.fits;
+          owned = λ m low. stays (HasNumber m) s.views id (r.owner m) v w at (λ h. h) (r.owned m low);
+          kept = stays (λ u. u.next ≡ Some r.next) s.views id r.keeper v w at (λ h. h) r.kept;
+          whole = (id, (w, here s.views id v w at, refl));
           taken = λ other. let t = r.taken other in dite (ℕ_discrete t.0 id)
               (λ same. (id, w, here s.views id v w at, ap (λ (u : View). u.turn) (some-injective v t.1 (sym at ∙ (ap (λ (k : ℕ). get_elem? s.views k) (sym same) ∙ t.2))) ∙ t.3))
               (λ apart. (t.0, t.1, set_else s.views id t.0 w apart ∙ t.2, t.3));
@@ -356,24 +368,43 @@ module _ {T : Type 0} where
   let_go_me me me' v x is told = told ∙ ap (λ (m : Me (Held T) View). (without_turn m.0, rest m.1)) is
 
   -- a step that went well
-  pub stepped_well : (stands : T → List Entry → Type 0) (last : List Entry → ℕ) (y z : TableId) (n : ℕ) (step now : Step) (reply : Reply) (v : View) (me me' : Me (Held T) View) (log log' : List Entry) (core : T) (e : Entry)
-      → me ≡ (with_turn v log, (0, None) ∷ []) → me' ≡ (without_turn (with_entry me.0 e), []) → now ≡ raised (last log) step → IsEntry n now reply e → log' ≡ log ++ e ∷ [] → stands core log' → StartsWith log v.seen → v.parts ≡ part n (mine_of v.parts) ∷ []
-      → Stepped stands last (seat_view y n v) (seat_view z n me'.0) step reply
-  stepped_well stands last y z n step now reply v me me' log log' core e took done is says more fits front one =
+  pub stepped_well : (stands : T → List Entry → Type 0) (y z : TableId) (n : ℕ) (step now : Step) (reply : Reply) (v : View) (me me' : Me (Held T) View) (log log' : List Entry) (core : T) (e : Entry)
+      → me ≡ (with_turn v log, (0, None) ∷ []) → me' ≡ (without_turn (with_entry me.0 e), []) → now ≡ raised (last_in log) step → IsEntry n now reply e → log' ≡ log ++ e ∷ [] → stands core log' → StartsWith log v.seen → v.parts ≡ part n (mine_of v.parts) ∷ []
+      → Stepped stands (seat_view y n v) (seat_view z n me'.0) step reply
+  stepped_well stands y z n step now reply v me me' log log' core e took done is says more fits front one =
       let view : me'.0 ≡ without_turn (with_entry (with_turn v log) e) = ap (λ (m : Me (Held T) View). m.0) done ∙ ap (λ (m : Me (Held T) View). without_turn (with_entry m.0 e)) took in
-      subst (λ (w : View). Stepped stands last (seat_view y n v) (seat_view z n w) step reply) (sym view)
+      subst (λ (w : View). Stepped stands (seat_view y n v) (seat_view z n w) step reply) (sym view)
       (log, e, front, (says.0, says.1 ∙ is, says.2), refl, ap (λ (ps : List Part). mine_of (grown_parts ps e)) one, (core, subst (stands core) more fits))
 
-  pub stepped_after : (stands : T → List Entry → Type 0) (last : List Entry → ℕ) (s t u : SeatView) (step now : Step) (reply : Reply) → Waited s t → now ≡ step → Stepped stands last t u now reply → Stepped stands last s u step reply
-  stepped_after stands last s t u step now reply w is done =
-      subst (λ (x : ℕ × List Entry × List Entry × Step). (before : List Entry) × (e : Entry) × StartsWith before x.1 × IsEntry x.0 (raised (last before) x.3) reply e × (u.seen ≡ before ++ e ∷ []) × (u.mine ≡ x.2 ++ e ∷ []) × ((core : T) × stands core u.seen))
+  pub stepped_after : (stands : T → List Entry → Type 0) (s t u : SeatView) (step now : Step) (reply : Reply) → Waited s t → now ≡ step → Stepped stands t u now reply → Stepped stands s u step reply
+  stepped_after stands s t u step now reply w is done =
+      subst (λ (x : ℕ × List Entry × List Entry × Step). (before : List Entry) × (e : Entry) × StartsWith before x.1 × IsEntry x.0 (raised (last_in before) x.3) reply e × (u.seen ≡ before ++ e ∷ []) × (u.mine ≡ x.2 ++ e ∷ []) × ((core : T) × stands core u.seen))
       (λ i. (w.1 i, w.2 i, w.3 i, is i)) done
 
 pub saw_after : (s t u : SeatView) → Waited s t → OnlySaw t u → OnlySaw s u
 saw_after s t u w saw = (subst (λ (l : List Entry). StartsWith u.seen l) w.2 saw.0, saw.1 ∙ w.3)
 
 -- a raised step is no earlier than the last one
-pub raised_enough : (last : List Entry → ℕ) (log : List Entry) (m : ℕ) (asked now : Step) (reply : Reply) → now ≡ raised m asked → m ≡ last log → (last log ≤ now.moment → IsTrue (is_in_time now.act reply)) → IsTrue (is_in_time asked.act reply)
-raised_enough last log m asked now reply is at says =
-    let more : (k : ℕ) → k ≡ last log → last log ≤ (raised k asked).moment = λ k e. subst (λ (x : ℕ). x ≤ (raised k asked).moment) e (le-max_right asked.moment k) in
-    subst (λ (s : Step). last log ≤ s.moment → IsTrue (is_in_time s.act reply)) is says (more m at)
+pub raised_enough : (log : List Entry) (m : ℕ) (asked now : Step) (reply : Reply) → now ≡ raised m asked → m ≡ last_in log → (last_in log ≤ now.moment → IsTrue (is_in_time now.act reply)) → IsTrue (is_in_time asked.act reply)
+raised_enough log m asked now reply is at says =
+    let more : (k : ℕ) → k ≡ last_in log → last_in log ≤ (raised k asked).moment = λ k e. subst (λ (x : ℕ). x ≤ (raised k asked).moment) e (le-max_right asked.moment k) in
+    subst (λ (s : Step). last_in log ≤ s.moment → IsTrue (is_in_time s.act reply)) is says (more m at)
+
+-- ---- the turn words that failed tries found
+
+pub found_nothing : (s : SeatView) → FoundBusy s s
+found_nothing s = ([], sym (append-nil s.busy), tt)
+
+each_push : {X : Type 0} (P : X → Type 0) (xs : List X) (x : X) → Each P xs → P x → Each P (xs ++ x ∷ [])
+each_push P [] x h p = (p, tt)
+each_push P (y ∷ xs) x h p = (h.0, each_push P xs x h.1 p)
+
+pub found_more : (s t u : SeatView) (word : ℕ) → FoundBusy s t → t.number ≡ s.number → word ≢ 0 → word ≢ t.number + 1 → u.busy ≡ t.busy ++ word ∷ [] → FoundBusy s u
+found_more s t u word f same taken other is = (
+  f.0 ++ word ∷ [],
+  is ∙ (ap (λ (l : List ℕ). l ++ word ∷ []) f.1 ∙ append_assoc s.busy f.0 (word ∷ [])),
+  each_push (λ (w : ℕ). (w ≢ 0) × (w ≢ s.number + 1)) f.0 word f.2 (taken, λ e. other (e ∙ ap (λ (n : ℕ). n + 1) (sym same))),
+)
+
+pub found_as : (s t u : SeatView) → FoundBusy s t → u.busy ≡ t.busy → FoundBusy s u
+found_as s t u f is = (f.0, is ∙ f.1, f.2)

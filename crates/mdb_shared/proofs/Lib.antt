@@ -1,4 +1,5 @@
-pub mod Keeping
-pub mod Sharing
 pub mod Closing
 pub mod Crossing
+pub mod Keeping
+pub mod Places
+pub mod Sharing

@@ -2,6 +2,7 @@
 use Rattle.std.proofs.Common.{◌≡◌, ℕ, zero, suc, ◌+◌, ◌<◌, ◌≤◌, eqb, ◌≢◌, Bool, true, false, Option, Some, None, if◌then◌else◌, List, [], ◌∷◌, ◌++◌, length, set, slice_get, All, sym, refl, ap, ◌∙◌, subst, ◌⊎◌, inl, inr, ⊎_elim, arith, length-set, eq-eqb, ne_eqb}
 use Rattle.std.proofs.lemmas.List.Elements.{All-from_get_or}
 use Rattle.std.proofs.lemmas.Option.{get_or_from_slice_get}
+use Rattle.std.proofs.lemmas.Bool.{cases_Bool}
 use mathlib.Core.Logic.{dite}
 use mathlib.Core.Option.{some, some-injective, some-ne-none}
 use native.Mathlib.Decide.{ℕ_discrete}
@@ -9,13 +10,14 @@ use lib.ListN.{get_elem?}
 use Rattle.atomic_table.specs.Seated.{TableId}
 use Rattle.mdb_shared.specs.Seats.{SeatView, seat_view, fresh_seat, IsReady}
 use Rattle.atomic_table.specs.Table.{State, Me, Splits, Joins}
-use Rattle.atomic_table.proofs.Lists.{set_else, at_longer}
-use Rattle.mdb_pool.specs.declared.log.Entry.{Entry}
+use Rattle.atomic_table.proofs.Lists.{set_else, at_longer, at_last}
+use Rattle.mdb_log.specs.declared.log.Entry.{Entry}
 use Rattle.mdb_shared.specs.declared.rule.Part.{Part}
 use Rattle.mdb_shared.specs.declared.rule.View.{View}
-use Rattle.mdb_pool.specs.Driver.{StartsWith}
-use Rattle.mdb_shared.specs.Turning.{own, part, Fits, Keeps, Held, keeper_view, numbering, numbered, bumped, number_of, copied, absorbed, spent, either_next, no_longer}
-use Rattle.mdb_shared.proofs.Keeping.{at_end, only_one, others_fit, here, elsewhere, true_not_false}
+use Rattle.mdb_log.specs.Driver.{StartsWith}
+use Rattle.mdb_shared.specs.Turning.{own, part, Fits, Keeps, HasNumber, At, Held, keeper_view, numbering, numbered, bumped, number_of, copied, absorbed, spent, either_next, no_longer}
+use Rattle.mdb_shared.proofs.Keeping.{at_end, only_one, others_fit, elsewhere, true_not_false}
+use Rattle.mdb_shared.proofs.Places.{here, stays, stays_before, other_joins, one_joins}
 
 own_none : (n : ℕ) (xs : List Entry) → ((k : ℕ) (e : Entry) → get_elem? xs k ≡ some e → e.seat < n) → own n xs ≡ []
 own_none n [] below = refl
@@ -34,6 +36,34 @@ either_cases : (a b : Option ℕ) (k : ℕ) → either_next a b ≡ Some k → (
 either_cases (Some x) b k e = inl e
 either_cases None b k e = inr e
 
+either_right : (a b : Option ℕ) (n : ℕ) → b ≡ Some n → ((k : ℕ) → a ≡ Some k → k ≡ n) → either_next a b ≡ Some n
+either_right (Some k) b n e same = ap Some (same k refl)
+either_right None b n e same = e
+
+at_after : {A : Type 0} (xs ys : List A) (i j : ℕ) (a : A) → j ≡ length xs + i → get_elem? ys i ≡ some a → get_elem? (xs ++ ys) j ≡ some a
+at_after [] ys i j a is e = let same : i ≡ j = omega arith in subst (λ (k : ℕ). get_elem? ys k ≡ some a) same e
+at_after (x ∷ xs) ys i zero a is e = absurd (omega arith)
+at_after (x ∷ xs) ys i (suc j) a is e = at_after xs ys i j a (omega arith) e
+
+front_no_longer : (xs rest : List Entry) → no_longer xs (xs ++ rest) ≡ true
+front_no_longer [] rest = refl
+front_no_longer (x ∷ xs) rest = front_no_longer xs rest
+
+as_long : (xs rest : List Entry) → no_longer (xs ++ rest) xs ≡ true → xs ++ rest ≡ xs
+as_long [] [] h = refl
+as_long [] (r ∷ rest) h = absurd (cc)
+as_long (x ∷ xs) rest h = ap (λ (l : List Entry). x ∷ l) (as_long xs rest h)
+
+-- the longer of two is the log, where one is and the other is its front
+longer_left : (log x y : List Entry) → x ≡ log → StartsWith log y → (if no_longer x y then y else x) ≡ log
+longer_left log x y is front = elim (cases_Bool (no_longer x y)) [
+  | inl shorter ↦ ap (λ (b : Bool). if b then y else x) shorter ∙ (sym (as_long y front.0 (ap (λ (l : List Entry). no_longer l y) (sym (is ∙ front.1)) ∙ shorter)) ∙ sym front.1)
+  | inr longer ↦ ap (λ (b : Bool). if b then y else x) longer ∙ is
+]
+
+longer_right : (log x y : List Entry) → y ≡ log → StartsWith log x → (if no_longer x y then y else x) ≡ log
+longer_right log x y is front = ap (λ (b : Bool). if b then y else x) (ap (no_longer x) (is ∙ front.1) ∙ front_no_longer x front.0) ∙ is
+
 -- where it is `from`, it becomes `to`
 abbrev moved : ℕ → ℕ → ℕ → ℕ
 moved from to n = if eqb n from then to else n
@@ -43,6 +73,12 @@ moved_there from to n e = ap (λ (b : Bool). if b then to else n) (eq-eqb n from
 
 moved_not : (from to n : ℕ) → n ≢ from → moved from to n ≡ n
 moved_not from to n e = ap (λ (b : Bool). if b then to else n) (ne_eqb n from e)
+
+-- one takes in the other, and places move with it
+joins : (P : View → Type 0) (vs : List View) (id other : ℕ) (v w both spent : View) → get_elem? vs id ≡ some v → get_elem? vs other ≡ some w → other ≢ id → (P v → P both) → (P w → P both) → (j : ℕ) → At P vs j → At P (set (set vs id both) other spent) (moved other id j)
+joins P vs id other v w both spent at at' apart one two j t = dite (ℕ_discrete j other)
+    (λ same. subst (λ (k : ℕ). At P (set (set vs id both) other spent) k) (sym (moved_there other id j same)) (other_joins P vs id other v w both spent at at' apart two j same t))
+    (λ not. subst (λ (k : ℕ). At P (set (set vs id both) other spent) k) (sym (moved_not other id j not)) (one_joins P vs id other v w both spent at at' apart one j not t))
 
 -- the number `new` has the owner `to`
 abbrev given : ℕ → ℕ → (ℕ → ℕ) → ℕ → ℕ
@@ -90,6 +126,9 @@ module _ {T : Type 0} (stands : T → List Entry → Type 0) (base : List Entry)
     few = r.few;
     fits = λ j d there. ⊎_elim (λ (old : get_elem? (set s.views id v) j ≡ some d). others_fit F F s.views id v f (λ i u _ _ g. g) r.fits j d old)
         (λ (new : (j ≡ length (set s.views id v)) × (copied v ≡ d)). subst (F j) new.1 (no_number r.past x r.next r.keeper r.owner j v.seen f.seen)) (at_end (set s.views id v) (copied v) d j there);
+    owned = λ m low. stays_before (HasNumber m) (set s.views id v) (copied v ∷ []) (r.owner m) (stays (HasNumber m) s.views id (r.owner m) v v at (λ h. h) (r.owned m low));
+    kept = stays_before (λ u. u.next ≡ Some r.next) (set s.views id v) (copied v ∷ []) r.keeper (stays (λ u. u.next ≡ Some r.next) s.views id r.keeper v v at (λ h. h) r.kept);
+    whole = (r.whole.0, stays_before (λ u. u.seen ≡ base ++ r.past) (set s.views id v) (copied v ∷ []) r.whole.0 (stays (λ u. u.seen ≡ base ++ r.past) s.views id r.whole.0 v v at (λ h. h) r.whole.1));
     taken = λ other. still_taken s id v v (copied v ∷ []) at refl (r.taken other);
     free = r.free;
   }
@@ -97,7 +136,7 @@ module _ {T : Type 0} (stands : T → List Entry → Type 0) (base : List Entry)
   -- kind 7, a new number
   pub numbers : (id k : ℕ) (v : View) → v.next ≡ Some k → k < seats → Splits Rule id v (numbering v) (numbered v)
   numbers id k v is room s r at =
-      let x : ℕ = turn s in let f = r.fits id v at in let l : ℕ = length s.views in let next : ℕ = r.next in
+      let x : ℕ = turn s in let f = r.fits id v at in let l : ℕ = length s.views in let next : ℕ = r.next in let w : View = numbering v in
       let kept = f.keeps_next k is in let k_is : k ≡ next = kept.1 in
       let owner : ℕ → ℕ = given next l r.owner in
       let F : ℕ → View → Type 0 = Fits base r.past x next r.keeper r.owner in let G : ℕ → View → Type 0 = Fits base r.past x (next + 1) r.keeper owner in
@@ -134,6 +173,11 @@ module _ {T : Type 0} (stands : T → List Entry → Type 0) (base : List Entry)
               keeps_next = λ n e. cc;
             })
             (at_end (set s.views id (numbering v)) (numbered v) d j there);
+        owned = λ m low. dite (ℕ_discrete m next)
+            (λ e. (numbered v, subst (λ (j : ℕ). get_elem? (set s.views id w ++ numbered v ∷ []) j ≡ some (numbered v)) (sym (ap (λ (b : Bool). if b then l else r.owner m) (eq-eqb m next e))) (at_last (set s.views id w) (numbered v) l (length-set s.views id w)), (0, part k [], ap (λ (ps : List Part). get_elem? ps 0) parts_are, k_is ∙ sym e)))
+            (λ ne. let below : m < next = omega arith in subst (λ (j : ℕ). At (HasNumber m) (set s.views id w ++ numbered v ∷ []) j) (sym (old_owner m below)) (stays_before (HasNumber m) (set s.views id w) (numbered v ∷ []) (r.owner m) (stays (HasNumber m) s.views id (r.owner m) v w at (λ h. h) (r.owned m below))));
+        kept = subst (λ (j : ℕ). At (λ u. u.next ≡ Some (next + 1)) (set s.views id w ++ numbered v ∷ []) j) (sym kept.0) (w, at_longer (set s.views id w) (numbered v ∷ []) id w (here s.views id v w at), ap bumped is ∙ ap (λ (n : ℕ). Some (n + 1)) k_is);
+        whole = (r.whole.0, stays_before (λ u. u.seen ≡ base ++ r.past) (set s.views id w) (numbered v ∷ []) r.whole.0 (stays (λ u. u.seen ≡ base ++ r.past) s.views id r.whole.0 v w at (λ h. h) r.whole.1));
         taken = λ other. still_taken s id v (numbering v) (numbered v ∷ []) at refl (r.taken other);
         free = r.free;
       }
@@ -185,6 +229,9 @@ module _ {T : Type 0} (stands : T → List Entry → Type 0) (base : List Entry)
               holds_turn = g.holds_turn;
               keeps_next = λ k e. let h = g.keeps_next k e in (moved_not other id r.keeper (λ z. not_other (sym h.0 ∙ z)) ∙ h.0, h.1);
             }) r.fits);
+        owned = λ m low. joins (HasNumber m) s.views id other v w both spent at at' apart (λ h. (h.0, h.1, at_longer v.parts w.parts h.0 h.1 h.2, h.3)) (λ h. (length v.parts + h.0, h.1, at_after v.parts w.parts h.0 (length v.parts + h.0) h.1 refl h.2, h.3)) (r.owner m) (r.owned m low);
+        kept = joins (λ u. u.next ≡ Some r.next) s.views id other v w both spent at at' apart (λ h. ap (λ (o : Option ℕ). either_next o w.next) h) (λ h. either_right v.next w.next r.next h (λ k e. (f.keeps_next k e).1)) r.keeper r.kept;
+        whole = (moved other id r.whole.0, joins (λ u. u.seen ≡ log) s.views id other v w both spent at at' apart (λ h. longer_left log v.seen w.seen h f'.seen) (λ h. longer_right log v.seen w.seen h f.seen) r.whole.0 r.whole.1);
         taken = λ taken. let t = r.taken taken in (
           t.0,
           t.1,
@@ -214,10 +261,6 @@ module _ {A : Type 0} where
 both_fronts : (b : Bool) (log x y : List Entry) → StartsWith log (if b then y else x) → StartsWith log (if b then x else y) → StartsWith log x × StartsWith log y
 both_fronts true log x y p q = (q, p)
 both_fronts false log x y p q = (p, q)
-
-front_no_longer : (xs rest : List Entry) → no_longer xs (xs ++ rest) ≡ true
-front_no_longer [] rest = refl
-front_no_longer (x ∷ xs) rest = front_no_longer xs rest
 
 -- one tells the other, which looks and tells one
 pub met : (one other told saw last : View) → told ≡ absorbed other (copied one) → StartsWith saw.seen told.seen → StartsWith saw.seen told.told → last ≡ absorbed one (copied saw)

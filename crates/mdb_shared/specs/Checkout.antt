@@ -1,12 +1,14 @@
 -- The steps of checking out and in, and what is told of their replies.
 use Rattle.std.specs.Prelude.{◌≡◌, ℕ, true, false, Bool, IsTrue, List, ⊤}
-use Rattle.mdb_pool.specs.declared.log.Entry.{Entry}
-use Rattle.mdb_pool.specs.declared.pooled.PooledConnection.{PooledConnection}
-use Rattle.mdb_pool.specs.declared.step.Act.TheVariants.{Collect, GiveUp, Return}
-use Rattle.mdb_pool.specs.declared.step.Step.{Step}
-use Rattle.mdb_pool.specs.declared.step.Use.{Use}
-use Rattle.mdb_pool.specs.declared.reply.Reply.{Reply}
-use Rattle.mdb_pool.specs.declared.reply.Reply.TheVariants.{Pooled, Establishing, Waiting, Ended, Refused}
+use Rattle.mdb_log.specs.declared.log.Entry.{Entry}
+use Rattle.mdb_log.specs.declared.pooled.PooledConnection.{PooledConnection}
+use Rattle.mdb_log.specs.declared.step.Act.{Act}
+use Rattle.mdb_log.specs.declared.step.Act.TheVariants.{Collect, GiveUp, Return}
+use Rattle.mdb_log.specs.declared.step.Step.{Step}
+use Rattle.mdb_log.specs.declared.step.Use.{Use}
+use Rattle.mdb_log.specs.declared.reply.Reply.{Reply}
+use Rattle.mdb_log.specs.declared.reply.Reply.TheVariants.{Pooled, Establishing, Waiting, Ended, Refused}
+use Rattle.mdb_log.specs.Driver.{is_in_time}
 use Rattle.mdb_shared.specs.declared.checkout.Poll.{Poll}
 use Rattle.mdb_shared.specs.declared.checkout.Poll.TheVariants.{Ready, NotYet, Ended as PollEnded, Refused as PollRefused}
 use Rattle.mdb_shared.specs.declared.checkout.BackWhy.{BackWhy}
@@ -41,8 +43,13 @@ Names request (Ready connection) = connection.party ≡ request
 Names request (NotYet reply) = IsTrue (is_pending reply)
 Names request _ = ⊤
 
-module _ {T : Type 0} (stands : T → List Entry → Type 0) (last : List Entry → ℕ) where
+-- a return that was refused was in time
+abbrev pub is_back_in_time : Act → BackWhy → Bool
+is_back_in_time act (BackRefused why) = is_in_time act (Refused why)
+is_back_in_time act OutOfMemory = true
+
+module _ {T : Type 0} (stands : T → List Entry → Type 0) where
   -- the return was refused, and that is its entry's reply; or there was no memory, and no entry
   abbrev pub ComesBack : SeatView → SeatView → Step → BackWhy → Type 0
-  ComesBack s s' step (BackRefused why) = Stepped stands last s s' step (Refused why)
+  ComesBack s s' step (BackRefused why) = Stepped stands s s' step (Refused why)
   ComesBack s s' step OutOfMemory = OnlySaw s s'

@@ -2,14 +2,15 @@
 use Rattle.std.specs.Prelude.{◌≡◌, ◌≢◌, ℕ, ◌+◌, false, List, [], ◌∷◌, ◌++◌, All, Some, slice_get, max}
 use Rattle.atomic_table.specs.Table.{Me}
 use Rattle.atomic_table.specs.Seated.{TableId}
-use Rattle.mdb_pool.specs.declared.log.Entry.{Entry}
-use Rattle.mdb_pool.specs.declared.step.Step.{Step}
-use Rattle.mdb_pool.specs.declared.reply.Reply.{Reply}
+use Rattle.mdb_log.specs.declared.log.Entry.{Entry}
+use Rattle.mdb_log.specs.declared.step.Step.{Step}
+use Rattle.mdb_log.specs.declared.reply.Reply.{Reply}
 use Rattle.mdb_shared.specs.declared.rule.Part.{Part}
 use Rattle.mdb_shared.specs.declared.rule.View.{View}
 use Rattle.mdb_shared.specs.declared.answers.TryError.{TryError}
 use Rattle.mdb_shared.specs.declared.answers.TryError.TheVariants.{Busy, OutOfMemory}
-use Rattle.mdb_pool.specs.Driver.{StartsWith, IsEntry}
+use Rattle.mdb_log.specs.Driver.{StartsWith, IsEntry}
+use Rattle.mdb_log.specs.History.{history_of, last_moment}
 use Rattle.mdb_shared.specs.Turning.{Held, part, own}
 
 -- the step, with its moment raised where it was smaller
@@ -43,12 +44,16 @@ IsReady {T} n me = (me.1 ≡ []) × (me.0.turn ≡ false) × (me.0.parts ≡ par
 abbrev pub seat_view : TableId → ℕ → View → SeatView
 seat_view z n v = record { driver = z; number = n; seen = v.seen; mine = mine_of v.parts; busy = v.busy }
 
-module _ {T : Type 0} (stands : T → List Entry → Type 0) (last : List Entry → ℕ) where
+-- the moment of the last accepted step of a log, 0 where there was none
+abbrev pub last_in : List Entry → ℕ
+last_in log = last_moment (history_of log)
+
+module _ {T : Type 0} (stands : T → List Entry → Type 0) where
   -- the step stands at the end of one log, after all that the seat had seen, and is one more of its own entries. A core stands for that log
   abbrev pub Stepped : SeatView → SeatView → Step → Reply → Type 0
   Stepped s s' step reply =
       (before : List Entry) × (e : Entry) × StartsWith before s.seen
-      × IsEntry s.number (raised (last before) step) reply e
+      × IsEntry s.number (raised (last_in before) step) reply e
       × (s'.seen ≡ before ++ e ∷ [])
       × (s'.mine ≡ s.mine ++ e ∷ [])
       × ((core : T) × stands core s'.seen)
@@ -84,6 +89,10 @@ module _ {X : Type 0} where
   abbrev pub Each : (X → Type 0) → List X → Type 0
   Each P [] = Unit {0}
   Each P (x ∷ xs) = P x × Each P xs
+
+-- failed tries found turn words, each of them another seat's, and nothing else changed these words
+abbrev pub FoundBusy : SeatView → SeatView → Type 0
+FoundBusy s s' = (words : List ℕ) × (s'.busy ≡ s.busy ++ words) × Each (λ w. (w ≢ 0) × (w ≢ s.number + 1)) words
 
 -- the entry has the number of one of the seats
 abbrev pub ByOne : List SeatView → Entry → Type 0

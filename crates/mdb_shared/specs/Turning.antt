@@ -3,10 +3,10 @@ use Rattle.std.specs.Prelude.{◌≡◌, ◌≢◌, ℕ, ◌+◌, ◌<◌, ◌�
 use mathlib.Core.Option.{some}
 use lib.ListN.{get_elem?}
 use Rattle.atomic_table.specs.Table.{State, Me, Step, rest}
-use Rattle.mdb_pool.specs.declared.log.Entry.{Entry}
+use Rattle.mdb_log.specs.declared.log.Entry.{Entry}
 use Rattle.mdb_shared.specs.declared.rule.Part.{Part}
 use Rattle.mdb_shared.specs.declared.rule.View.{View}
-use Rattle.mdb_pool.specs.Driver.{StartsWith}
+use Rattle.mdb_log.specs.Driver.{StartsWith}
 
 -- the entries of the seat n
 abbrev pub own : ℕ → List Entry → List Entry
@@ -83,6 +83,14 @@ pub record Fits (base past : List Entry) (turn next keeper : ℕ) (owner : ℕ �
   -- the next number stands in one view alone
   pub keeps_next : (k : ℕ) → v.next ≡ Some k → (keeper ≡ id) × (k ≡ next)
 
+-- the number is one of the view's
+abbrev pub HasNumber : ℕ → View → Type 0
+HasNumber n v = (k : ℕ) × (p : Part) × (get_elem? v.parts k ≡ some p) × (p.number ≡ n)
+
+-- there is a view at this place, and P holds of it
+abbrev pub At : (View → Type 0) → List View → ℕ → Type 0
+At P views id = (v : View) × (get_elem? views id ≡ some v) × P v
+
 -- What holds between any two atomic steps.
 module _ {T : Type 0} (stands : T → List Entry → Type 0) (base : List Entry) (seats : ℕ) where
   pub record Keeps (s : State (Option (T × List Entry)) View) : Type 0 where
@@ -98,6 +106,11 @@ module _ {T : Type 0} (stands : T → List Entry → Type 0) (base : List Entry)
     pub authors : (k : ℕ) (e : Entry) → get_elem? past k ≡ some e → e.seat < next
     pub few : next ≤ seats
     pub fits : (id : ℕ) (v : View) → get_elem? s.views id ≡ some v → Fits base past (slice_index s.words 0) next keeper owner id v
+    -- every number that was made stands in its owner's view, and the next one in its keeper's
+    pub owned : (n : ℕ) → n < next → At (HasNumber n) s.views (owner n)
+    pub kept : At (λ v. v.next ≡ Some next) s.views keeper
+    -- a view has seen the whole log
+    pub whole : (id : ℕ) × At (λ v. v.seen ≡ base ++ past) s.views id
     -- where the turn word isn't 0, a view has the turn
     pub taken : slice_index s.words 0 ≢ 0 → (id : ℕ) × (v : View) × (get_elem? s.views id ≡ some v) × (v.turn ≡ true)
     -- where it is 0, the slot has a core that stands for the log, with that log

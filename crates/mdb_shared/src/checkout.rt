@@ -1,16 +1,16 @@
 //! Checking connections out and in (CMAP, "Checking Out a Connection" and "Checking In a Connection").
 
 ghost use Rattle.std.specs.Prelude.{◌≡◌, IsTrue, IfOk, IfErr, OnOk, OnErr};
-ghost use Rattle.mdb_pool.specs.Driver.{is_reply_to, is_in_time};
-ghost use Rattle.mdb_pool.specs.declared.reply.Reply.TheVariants.{Done};
-ghost use Rattle.mdb_shared.specs.Seats.{Stepped, OnlySaw};
-ghost use Rattle.mdb_shared.specs.Checkout.{collecting, returning, giving_up, told_by, Names, ComesBack};
+ghost use Rattle.mdb_log.specs.Driver.{is_reply_to, is_in_time};
+ghost use Rattle.mdb_log.specs.declared.reply.Reply.TheVariants.{Done};
+ghost use Rattle.mdb_shared.specs.Seats.{Stepped, OnlySaw, FoundBusy};
+ghost use Rattle.mdb_shared.specs.Checkout.{collecting, returning, giving_up, told_by, is_back_in_time, Names, ComesBack};
 
 use crate::driver::SharedDriver;
 use crate::seat::Seat;
 use mdb_base::OutOfMemory;
 use mdb_events::End;
-use mdb_pool::{Act, Core, PooledConnection, Refused, Reply, Step, Use};
+use mdb_log::{Act, Core, PooledConnection, Refused, Reply, Step, Use};
 use std::alloc::Global;
 use std::sync::Wait;
 
@@ -50,8 +50,10 @@ impl<C: Core> SharedDriver<C> {
     ) -> Result<Poll, OutOfMemory>
         requires own { seat.old.driver ≡ self.now.id }
         ensures same { (seat.new.driver ≡ seat.old.driver) × (seat.new.number ≡ seat.old.number) }
-        ensures entry { IfOk result (λ poll. Stepped C.stands C.last seat.old seat.new (collecting request) (told_by poll)) }
+        ensures busy { FoundBusy seat.old seat.new }
+        ensures entry { IfOk result (λ poll. Stepped C.stands seat.old seat.new (collecting request) (told_by poll)) }
         ensures names { IfOk result (λ poll. Names request poll) }
+        ensures in_time { IfOk result (λ poll. IsTrue (is_in_time (collecting request).act (told_by poll))) }
         ensures err { OnErr result (OnlySaw seat.old seat.new) }
     {
         let step = Step {
@@ -83,9 +85,11 @@ impl<C: Core> SharedDriver<C> {
     ) -> Result<(), Back>
         requires own { seat.old.driver ≡ self.now.id }
         ensures same { (seat.new.driver ≡ seat.old.driver) × (seat.new.number ≡ seat.old.number) }
-        ensures entry { OnOk result (Stepped C.stands C.last seat.old seat.new (returning connection used) Done) }
+        ensures busy { FoundBusy seat.old seat.new }
+        ensures entry { OnOk result (Stepped C.stands seat.old seat.new (returning connection used) Done) }
         ensures connection { IfErr result (λ back. back.connection ≡ connection) }
-        ensures why { IfErr result (λ back. ComesBack C.stands C.last seat.old seat.new (returning connection used) back.why) }
+        ensures why { IfErr result (λ back. ComesBack C.stands seat.old seat.new (returning connection used) back.why) }
+        ensures in_time { IfErr result (λ back. IsTrue (is_back_in_time (returning connection used).act back.why)) }
     {
         let step = Step {
             moment: 0,
@@ -122,7 +126,8 @@ impl<C: Core> SharedDriver<C> {
     ) -> Result<Reply, OutOfMemory>
         requires own { seat.old.driver ≡ self.now.id }
         ensures same { (seat.new.driver ≡ seat.old.driver) × (seat.new.number ≡ seat.old.number) }
-        ensures entry { IfOk result (λ reply. Stepped C.stands C.last seat.old seat.new (giving_up request) reply) }
+        ensures busy { FoundBusy seat.old seat.new }
+        ensures entry { IfOk result (λ reply. Stepped C.stands seat.old seat.new (giving_up request) reply) }
         ensures kind { IfOk result (λ reply. IsTrue (is_reply_to (giving_up request).act reply)) }
         ensures in_time { IfOk result (λ reply. IsTrue (is_in_time (giving_up request).act reply)) }
         ensures err { OnErr result (OnlySaw seat.old seat.new) }

@@ -1,8 +1,9 @@
 //! The shared driver.
 
 ghost use Rattle.std.specs.Prelude.{◌≡◌, ◌+◌, ◌<◌, ◌≤◌, ℕ, IsTrue, length, slice_get, Some, IfOk, IfErr, OnOk, OnErr};
-ghost use Rattle.mdb_pool.specs.Driver.{StartsWith, IsDriverAct, is_reply_to, is_in_time};
-ghost use Rattle.mdb_shared.specs.Seats.{Stepped, OnlySaw, Failed, fresh_seat, IsSameSeat, AllOf, Accounts};
+ghost use Rattle.mdb_log.specs.Driver.{StartsWith, is_reply_to, is_in_time};
+ghost use Rattle.mdb_log.specs.Acts.{IsDriverAct};
+ghost use Rattle.mdb_shared.specs.Seats.{Stepped, OnlySaw, Failed, FoundBusy, fresh_seat, IsSameSeat, AllOf, Accounts};
 
 use crate::answers::{TryError, Unclosed};
 use crate::ending::{end, gather};
@@ -13,7 +14,7 @@ use crate::seat::Seat;
 use crate::turn::one_step;
 use atomic_table::{Refused, Table};
 use mdb_base::OutOfMemory;
-use mdb_pool::{Core, Log, Reply, Step};
+use mdb_log::{Core, Log, Reply, Step};
 use std::alloc::Global;
 use std::marker::Model;
 use std::snapshot::Snapshot;
@@ -80,7 +81,7 @@ impl<C: Core> SharedDriver<C> {
         requires own { seat.old.driver ≡ self.now.id }
         requires act { IsDriverAct step.act }
         ensures same { (seat.new.driver ≡ seat.old.driver) × (seat.new.number ≡ seat.old.number) }
-        ensures ok { IfOk result (λ reply. Stepped C.stands C.last seat.old seat.new step reply × (seat.new.busy ≡ seat.old.busy)) }
+        ensures ok { IfOk result (λ reply. Stepped C.stands seat.old seat.new step reply × (seat.new.busy ≡ seat.old.busy)) }
         ensures kind { IfOk result (λ reply. IsTrue (is_reply_to step.act reply)) }
         ensures in_time { IfOk result (λ reply. IsTrue (is_in_time step.act reply)) }
         ensures err { IfErr result (λ why. Failed seat.old seat.new step why) }
@@ -99,7 +100,8 @@ impl<C: Core> SharedDriver<C> {
         requires own { seat.old.driver ≡ self.now.id }
         requires act { IsDriverAct step.act }
         ensures same { (seat.new.driver ≡ seat.old.driver) × (seat.new.number ≡ seat.old.number) }
-        ensures ok { IfOk result (λ reply. Stepped C.stands C.last seat.old seat.new step reply) }
+        ensures busy { FoundBusy seat.old seat.new }
+        ensures ok { IfOk result (λ reply. Stepped C.stands seat.old seat.new step reply) }
         ensures kind { IfOk result (λ reply. IsTrue (is_reply_to step.act reply)) }
         ensures in_time { IfOk result (λ reply. IsTrue (is_in_time step.act reply)) }
         ensures err { OnErr result (OnlySaw seat.old seat.new) }

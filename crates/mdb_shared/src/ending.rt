@@ -1,14 +1,14 @@
 //! The end of a driver: all seats as one, and what they leave.
 
 ghost use Rattle.std.specs.Prelude.{◌≡◌, ◌≤◌, ◌<◌, false, [], ◌++◌, length};
-ghost use Rattle.mdb_pool.specs.Driver.{StartsWith};
+ghost use Rattle.mdb_log.specs.Driver.{StartsWith};
 ghost use Rattle.mdb_shared.specs.Turning.{Settles};
 ghost use Rattle.mdb_shared.specs.Seats.{Each, behind, AllOf};
 
 use crate::meeting::look;
 use crate::rule::{Absorb, Lock, Place};
 use crate::seat::Seat;
-use mdb_pool::{Core, Log};
+use mdb_log::{Core, Log};
 
 // One takes in the other, and looks.
 pub(super) fn take_in<C: Core>(table: &Lock<C>, all: &mut Place<C>, place: Place<C>)

@@ -7,7 +7,7 @@ ghost use Rattle.mdb_shared.specs.Seats.{fresh_seat};
 use crate::rule::{Lock, Number, Place};
 use crate::seat::Seat;
 use mdb_base::OutOfMemory;
-use mdb_pool::Core;
+use mdb_log::Core;
 use std::alloc::Global;
 
 // The seats, by number.

@@ -1,11 +1,11 @@
 //! What seats have seen of the log, and how two of them meet.
 
 ghost use Rattle.std.specs.Prelude.{◌≡◌, false, length};
-ghost use Rattle.mdb_pool.specs.Driver.{StartsWith};
+ghost use Rattle.mdb_log.specs.Driver.{StartsWith};
 ghost use Rattle.mdb_shared.specs.Turning.{absorbed, copied, IsSamePlace, having_seen};
 
 use crate::rule::{Absorb, Copied, Lock, Look, Place};
-use mdb_pool::Core;
+use mdb_log::Core;
 
 // One load of the count: the seat has seen the whole log then.
 pub(super) fn look<C: Core>(table: &Lock<C>, place: &mut Place<C>) -> u64

@@ -1,10 +1,10 @@
 //! The rule of the shared driver, and what each kind of atomic step tells.
 
 ghost use Rattle.std.specs.Prelude.{List};
-ghost use Rattle.mdb_pool.specs.declared.log.Entry.{Entry};
+ghost use Rattle.mdb_log.specs.declared.log.Entry.{Entry};
 
 use atomic_table::{Join, Play, Split, Table, TableRule};
-use mdb_pool::{Core, Entry, Log};
+use mdb_log::{Core, Entry, Log};
 use std::alloc::Global;
 use std::collections::LinkedList;
 use std::marker::PhantomData;

@@ -1,7 +1,7 @@
 //! Seats at a shared driver.
 
 use crate::rule::Place;
-use mdb_pool::Core;
+use mdb_log::Core;
 use std::marker::Model;
 
 /// A thread's place at one driver. It has a number, which its entries carry. Contracts see what it has seen of the log, its own entries, and

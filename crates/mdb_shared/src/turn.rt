@@ -1,15 +1,16 @@
 //! What a seat does while it has the turn.
 
 ghost use Rattle.std.specs.Prelude.{◌≡◌, ◌≢◌, ◌+◌, true, List, [], ◌∷◌, ◌++◌, IsTrue, IfOk, IfErr, None};
-ghost use Rattle.mdb_pool.specs.declared.log.Entry.{Entry};
-ghost use Rattle.mdb_pool.specs.Driver.{StartsWith, IsDriverAct, is_reply_to, is_in_time};
+ghost use Rattle.mdb_log.specs.declared.log.Entry.{Entry};
+ghost use Rattle.mdb_log.specs.Driver.{StartsWith, is_reply_to, is_in_time};
+ghost use Rattle.mdb_log.specs.Acts.{IsDriverAct};
 ghost use Rattle.mdb_shared.specs.Turning.{part, with_turn, without_turn, with_entry, found_busy};
 ghost use Rattle.mdb_shared.specs.Seats.{IsReady, mine_of, seat_view, Stepped, Failed, raised};
 
 use crate::answers::TryError;
 use crate::rule::{Add, Claim, Lock, Place, Release};
 use mdb_base::{Moment, OutOfMemory};
-use mdb_pool::{Core, Log, Reply, Step};
+use mdb_log::{Core, Log, Reply, Step};
 use std::alloc::Global;
 
 // Takes the turn and the state, unless the turn is taken.
@@ -82,7 +83,7 @@ pub(super) fn one_step<C: Core>(
     requires ready { IsReady number place.old.me }
     requires act { IsDriverAct step.act }
     ensures same { (place.new.table_id ≡ place.old.table_id) × (place.new.id ≡ place.old.id) × IsReady number place.new.me }
-    ensures ok { IfOk result (λ reply. Stepped C.stands C.last (seat_view place.old.table_id number place.old.me.0) (seat_view place.new.table_id number place.new.me.0) step reply × (place.new.me.0.busy ≡ place.old.me.0.busy)) }
+    ensures ok { IfOk result (λ reply. Stepped C.stands (seat_view place.old.table_id number place.old.me.0) (seat_view place.new.table_id number place.new.me.0) step reply × (place.new.me.0.busy ≡ place.old.me.0.busy)) }
     ensures kind { IfOk result (λ reply. IsTrue (is_reply_to step.act reply)) }
     ensures in_time { IfOk result (λ reply. IsTrue (is_in_time step.act reply)) }
     ensures err { IfErr result (λ why. Failed (seat_view place.old.table_id number place.old.me.0) (seat_view place.new.table_id number place.new.me.0) step why) }

@@ -1,22 +1,20 @@
 -- A running total still stands for the log after one more entry, and its replies go with their acts.
 use Rattle.std.proofs.Common.{◌≡◌, ℕ, Bool, Option, true, false, nat_lt, eqb, if◌then◌else◌, List, [], ◌∷◌, ◌++◌, refl, sym, ap, ◌∙◌, subst}
-use Rattle.mdb_pool.specs.declared.job.Job.{Job}
-use Rattle.mdb_pool.specs.declared.log.Entry.{Entry}
-use Rattle.mdb_pool.specs.declared.reply.Reply.{Reply}
-use Rattle.mdb_pool.specs.declared.step.Act.{Act}
-use Rattle.mdb_pool.specs.declared.step.Act.TheVariants as act
-use Rattle.mdb_pool.specs.declared.step.Step.{Step}
-use Rattle.mdb_pool.specs.Driver.{IsEntry, is_refusal, is_reply_to, is_in_time, IsThere}
+use Rattle.mdb_log.specs.declared.job.Job.{Job}
+use Rattle.mdb_log.specs.declared.log.Entry.{Entry}
+use Rattle.mdb_log.specs.declared.reply.Reply.{Reply}
+use Rattle.mdb_log.specs.declared.step.Act.{Act}
+use Rattle.mdb_log.specs.declared.step.Act.TheVariants as act
+use Rattle.mdb_log.specs.declared.step.Step.{Step}
+use Rattle.mdb_log.specs.Driver.{IsEntry, is_refusal, is_reply_to, is_in_time, IsThere}
+use Rattle.mdb_log.specs.History.{history_of, last_moment}
+use Rattle.mdb_log.proofs.Later.{last-entry}
 use Rattle.mdb_total.specs.declared.total.Total.{Total}
-use Rattle.mdb_total.specs.Totals.{after, reply_of, total_from, moment_after, last_from, Replies, StandsFor}
+use Rattle.mdb_total.specs.Totals.{after, reply_of, total_from, Replies, StandsFor}
 
 total_more : (t : ℕ) (log : List Entry) (e : Entry) → total_from t (log ++ e ∷ []) ≡ after (total_from t log) e.step.act
 total_more t [] e = refl
 total_more t (x ∷ xs) e = total_more (after t x.step.act) xs e
-
-last_more : (m : ℕ) (log : List Entry) (e : Entry) → last_from m (log ++ e ∷ []) ≡ moment_after (last_from m log) e
-last_more m [] e = refl
-last_more m (x ∷ xs) e = last_more (moment_after m x) xs e
 
 replies_more : (t : ℕ) (log : List Entry) (e : Entry) → Replies t log → e.reply ≡ reply_of (after (total_from t log) e.step.act) e.step.act → Replies t (log ++ e ∷ [])
 replies_more t [] e rs is = (is, tt)
@@ -28,11 +26,11 @@ still_stands c d log n step r e more is grown old gives sum last description =
     let said : e.reply ≡ reply_of (after c.sum e.step.act) e.step.act = is.2 ∙ (gives ∙ ap (λ (s : Step). reply_of (after c.sum s.act) s.act) (sym is.1)) in
     let now : e.reply ≡ reply_of (after (total_from 0 log) e.step.act) e.step.act = said ∙ ap (λ (k : ℕ). reply_of (after k e.step.act) e.step.act) old.sum in
     let same : after c.sum step.act ≡ after (total_from 0 log) e.step.act = ap (λ (s : Step). after c.sum s.act) (sym is.1) ∙ ap (λ (k : ℕ). after k e.step.act) old.sum in
-    let moment : (if is_refusal r then c.last else step.moment) ≡ moment_after (last_from 0 log) e =
+    let moment : (if is_refusal r then c.last else step.moment) ≡ (if is_refusal e.reply then last_moment (history_of log) else e.step.moment) =
     ap (λ (x : Reply). if is_refusal x then c.last else step.moment) (sym is.2) ∙ (ap (λ (s : Step). if is_refusal e.reply then c.last else s.moment) (sym is.1) ∙ ap (λ (k : ℕ). if is_refusal e.reply then k else e.step.moment) old.last) in
     subst (StandsFor d) (sym grown) record {
       sum = sum ∙ (same ∙ sym (total_more 0 log e));
-      last = last ∙ (moment ∙ sym (last_more 0 log e));
+      last = last ∙ (moment ∙ sym (last-entry log e));
       description = description ∙ old.description;
       replies = replies_more 0 log e old.replies now;
     }

@@ -3,13 +3,13 @@ use Rattle.std.specs.Prelude.{◌≡◌, ℕ, ◌+◌, ◌%◌, ◌^◌, ◌==�
 use Rattle.mdb_base.specs.declared.options.Options.{Options}
 use Rattle.mdb_describe.specs.Topology.{opened}
 use Rattle.mdb_events.specs.declared.end.End.TheVariants.{Closed}
-use Rattle.mdb_pool.specs.declared.log.Entry.{Entry}
-use Rattle.mdb_pool.specs.declared.reply.Refused.TheVariants.{UnknownRequest, NotHolder}
-use Rattle.mdb_pool.specs.declared.reply.Reply.{Reply}
-use Rattle.mdb_pool.specs.declared.reply.Reply.TheVariants.{Pooled, Waiting, Ended, NoJob, Changed, Count, Done, Refused}
-use Rattle.mdb_pool.specs.declared.step.Act.{Act}
-use Rattle.mdb_pool.specs.declared.step.Act.TheVariants.{Request, Warm, Collect, Claim, GiveUp, Return, Take, Error, Hello, Beaten, Rtt, Hosts, Want, Unwant}
-use Rattle.mdb_pool.specs.Driver.{is_refusal}
+use Rattle.mdb_log.specs.declared.log.Entry.{Entry}
+use Rattle.mdb_log.specs.declared.reply.Refused.TheVariants.{UnknownRequest, NotHolder}
+use Rattle.mdb_log.specs.declared.reply.Reply.{Reply}
+use Rattle.mdb_log.specs.declared.reply.Reply.TheVariants.{Pooled, Waiting, Ended, NoJob, Changed, Count, Done, Refused}
+use Rattle.mdb_log.specs.declared.step.Act.{Act}
+use Rattle.mdb_log.specs.declared.step.Act.TheVariants.{Request, Warm, Collect, Claim, GiveUp, Return, Take, Error, Hello, Beaten, Rtt, Hosts, Want, Unwant}
+use Rattle.mdb_log.specs.History.{history_of, last_moment}
 use Rattle.mdb_total.specs.declared.total.Total.{Total}
 
 -- the total after an act
@@ -44,14 +44,6 @@ abbrev pub total_from : ℕ → List Entry → ℕ
 total_from t [] = t
 total_from t (e ∷ es) = total_from (after t e.step.act) es
 
--- a refused step doesn't move the last moment
-abbrev pub moment_after : ℕ → Entry → ℕ
-moment_after m e = if is_refusal e.reply then m else e.step.moment
-
-abbrev pub last_from : ℕ → List Entry → ℕ
-last_from m [] = m
-last_from m (e ∷ es) = last_from (moment_after m e) es
-
 -- each entry has the reply of its act, there
 abbrev pub Replies : ℕ → List Entry → Type 0
 Replies t [] = Unit {0}
@@ -80,6 +72,6 @@ no_options = record {
 
 pub record StandsFor (c : Total) (log : List Entry) : Type 0 where
   pub sum : c.sum ≡ total_from 0 log
-  pub last : c.last ≡ last_from 0 log
+  pub last : c.last ≡ last_moment (history_of log)
   pub description : c.description ≡ opened no_options
   pub replies : Replies 0 log

@@ -1,13 +1,13 @@
 //! A shared driver over a running total. The scenes are written for any core, and each test runs one over a total.
 
 ghost use Rattle.std.specs.Prelude.{◌≡◌, ◌≤◌, [], All, IfSome, length};
-ghost use Rattle.mdb_pool.specs.Driver.{IsDriverAct};
+ghost use Rattle.mdb_log.specs.Acts.{IsDriverAct};
 
 mod calls;
 mod sharing;
 
 use super::Total;
-use mdb_pool::{Act, Core, Log, Step};
+use mdb_log::{Act, Core, Log, Step};
 use mdb_shared::{Seat, SharedDriver};
 use std::alloc::Global;
 use std::test::Fail;

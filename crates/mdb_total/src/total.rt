@@ -2,14 +2,14 @@
 
 ghost use Rattle.std.specs.Prelude.{◌≡◌, if◌then◌else◌, [], None, IfOk};
 ghost use Rattle.mdb_describe.specs.Topology.{opened};
-ghost use Rattle.mdb_pool.specs.declared.step.Act.TheVariants.{Collect};
-ghost use Rattle.mdb_pool.specs.Driver.{is_refusal};
-ghost use Rattle.mdb_total.specs.Totals.{after, reply_of, last_from, no_options, StandsFor};
+ghost use Rattle.mdb_log.specs.declared.step.Act.TheVariants.{Collect};
+ghost use Rattle.mdb_log.specs.Driver.{is_refusal};
+ghost use Rattle.mdb_total.specs.Totals.{after, reply_of, no_options, StandsFor};
 
 use mdb_base::{Items, Moment, ObjectId, Options, OutOfMemory};
 use mdb_describe::TopologyDescription;
 use mdb_events::End;
-use mdb_pool::{Act, Core, Entry, Job, Log, Refused, Reply, Step};
+use mdb_log::{Act, Core, Entry, Job, Log, Refused, Reply, Step};
 use std::alloc::Global;
 
 /// A core that adds the numbers of the watchers that want something. What else is asked is answered by the total: a request is in hand once the
@@ -115,8 +115,6 @@ impl Core for Total {
     ghost use Rattle.std.proofs.Math.Nat.{le_refl};
 
     ghost stands = { StandsFor };
-
-    ghost last = { last_from 0 };
 
     ghost described = { λ log. opened no_options };
 

@@ -6,21 +6,21 @@ use Rattle.std.proofs.lemmas.Option.{slice_get_past}
 use Rattle.std.proofs.lemmas.Bool.Decides.{nat_tests}
 use Rattle.mdb_base.specs.declared.address.ServerAddress.{ServerAddress}
 use Rattle.mdb_base.specs.declared.object_id.ObjectId.{ObjectId}
-use Rattle.mdb_pool.specs.declared.step.Step.{Step}
-use Rattle.mdb_pool.specs.declared.step.Established.{Established as How}
-use Rattle.mdb_pool.specs.declared.step.Use.{Use}
-use Rattle.mdb_pool.specs.declared.step.Act.{Act}
-use Rattle.mdb_pool.specs.declared.step.Act.TheVariants.{Request, Warm, Maintain, Collect, Claim, GiveUp, Established, Return, Pin, Replicate, Take, Unpin}
-use Rattle.mdb_pool.specs.declared.reply.Refused.{Refused}
-use Rattle.mdb_pool.specs.declared.reply.Refused.TheVariants.{TimeBack, UnknownServer, RequestKnown, UnknownRequest, NotHolder, NotPending, Unpinned, PinInUse, PinState, WrongMode}
-use Rattle.mdb_pool.specs.declared.reply.Reply.{Reply}
-use Rattle.mdb_pool.specs.declared.reply.Reply.TheVariants.{Job}
+use Rattle.mdb_log.specs.declared.step.Step.{Step}
+use Rattle.mdb_log.specs.declared.step.Established.{Established as How}
+use Rattle.mdb_log.specs.declared.step.Use.{Use}
+use Rattle.mdb_log.specs.declared.step.Act.{Act}
+use Rattle.mdb_log.specs.declared.step.Act.TheVariants.{Request, Warm, Maintain, Collect, Claim, GiveUp, Established, Return, Pin, Replicate, Take, Unpin}
+use Rattle.mdb_log.specs.declared.reply.Refused.{Refused}
+use Rattle.mdb_log.specs.declared.reply.Refused.TheVariants.{TimeBack, UnknownServer, RequestKnown, UnknownRequest, NotHolder, NotPending, Unpinned, PinInUse, PinState, WrongMode}
+use Rattle.mdb_log.specs.declared.reply.Reply.{Reply}
+use Rattle.mdb_log.specs.declared.reply.Reply.TheVariants.{Job}
 use Rattle.mdb_pool.specs.declared.connection.Connection.{Connection}
 use Rattle.mdb_pool.specs.declared.request.Request.{Request as Asker}
 use Rattle.mdb_pool.specs.declared.pool_core.PoolCore.{PoolCore}
-use Rattle.mdb_pool.specs.History.{Item, of_pool, has_asked}
-use Rattle.mdb_pool.specs.Connections.{has, pending_list, holding, held, pins}
-use Rattle.mdb_pool.specs.Requests.{is_open, is_claimed}
+use Rattle.mdb_log.specs.History.{Item, of_pool, has_asked}
+use Rattle.mdb_log.specs.Connections.{has, pending_list, holding, held, pins}
+use Rattle.mdb_log.specs.Requests.{is_open, is_claimed}
 use Rattle.mdb_pool.specs.Refusal.{wrong_service}
 use Rattle.mdb_pool.specs.Answer.{first_job}
 use Rattle.mdb_pool.specs.Kept.{request_at, connection_at, held_connection, is_pending_at, is_open_now, first_unclaimed, is_asked_at, is_held_at, pins_at, id_at}
@@ -32,7 +32,7 @@ use Rattle.mdb_pool.proofs.PinnedActs.{held-at}
 use Rattle.mdb_pool.proofs.TakenActs.{held-is}
 use Rattle.mdb_pool.proofs.ClaimedActs.{job_of, first-job}
 use Rattle.mdb_world.specs.declared.pools.Pools.{Pools}
-use Rattle.mdb_world.specs.Homes.{has_job, concerns, home_of}
+use Rattle.mdb_log.specs.Homes.{has_job, concerns, home_of}
 use Rattle.mdb_world.specs.Refusal.{has_home, has_pin, refusal}
 use Rattle.mdb_world.specs.Standing.{home, at_address, knows, requested, settled, holds_pin, PoolFits, StandsFor}
 use Rattle.mdb_world.proofs.Lists.{find-at, find-none, any-position, any-nowhere, any-map}
@@ -140,7 +140,7 @@ module _ (w : Pools) (h : List Item) (z : StandsFor w h) where
   job-at i s at_i =
       let p : ℕ = s.pool in
       let claims : (c : ℕ) → is_claimed h p c ≡ has c s.claimed = λ c. ap (λ q. is_claimed h q c) (number-at i s at_i) ∙ z.pools.fit.claims i s c at_i in
-      any-job p (is_claimed h p) (pending_list (of_pool p h)) ∙ (ap (λ cs. is_told (first_job p (is_claimed h p) cs)) (fits-at i s at_i).matches.pending ∙ (ap is_told (first-job p (is_claimed h p) s.claimed claims s.connections) ∙ told-some p (first_unclaimed s)))
+      any-job p (is_claimed h p) (pending_list (of_pool p h)) ∙ (ap (λ cs. is_told (first_job p (is_claimed h p) cs)) (fits-at i s at_i).matches.counts.pending ∙ (ap is_told (first-job p (is_claimed h p) s.claimed claims s.connections) ∙ told-some p (first_unclaimed s)))
 
   -- what only a pool that knows the party says of it, is said where the party is known
   known-says : (f : PoolCore → Bool) (r i : ℕ) (s : PoolCore) → slice_get pools i ≡ Some s → is_some (request_at s r) ≡ true → ((j : ℕ) (x : PoolCore) → slice_get pools j ≡ Some x → f x ≡ true → is_some (request_at x r) ≡ true) → list_any f pools ≡ f s
@@ -238,7 +238,7 @@ module _ (w : Pools) (h : List Item) (z : StandsFor w h) where
   no-holder n r l nobody = rw (z.last_is, not-back n w.last l, no-home (Pin r) (λ j x f. holds-at r j x f ∙ nobody j x f)) refl
 
   pub pin-at : (q c : ℕ) (s : PoolCore) → slice_get pools q ≡ Some s → has_pin h q c ≡ nat_lt 0 (pins_at (connection_at s c))
-  pin-at q c s at_q = ap (nat_lt 0) ((z.pools.fit.each q s at_q).fits.matches.pins c)
+  pin-at q c s at_q = ap (nat_lt 0) ((z.pools.fit.each q s at_q).fits.matches.pinning.pins c)
 
   pub no-pin : (q c : ℕ) → length pools ≤ q → has_pin h q c ≡ false
   no-pin q c past = ap (λ xs. nat_lt 0 (pins xs c)) (z.pools.fit.rest q (slice_get_past pools q past))

@@ -3,14 +3,14 @@ use Rattle.std.proofs.Common.{ℕ, ◌≡◌, ◌≢◌, ◌==◌, ◌||◌, ◌
 use Rattle.std.specs.Prelude.{slice_get}
 use Rattle.mdb_base.specs.Equality.{same_address}
 use Rattle.mdb_base.specs.declared.address.ServerAddress.{ServerAddress}
-use Rattle.mdb_pool.specs.declared.options.PoolOptions.{PoolOptions}
+use Rattle.mdb_log.specs.declared.options.PoolOptions.{PoolOptions}
 use Rattle.mdb_pool.specs.declared.pool_core.PoolCore.{PoolCore}
-use Rattle.mdb_pool.specs.History.{Item, PoolItem, of_pool, has_party, has_asked, open_pool}
-use Rattle.mdb_pool.specs.Connections.{has}
-use Rattle.mdb_pool.specs.Requests.{some_act, names_party, was_asked, leaves, told, is_claimed}
+use Rattle.mdb_log.specs.History.{Item, PoolItem, of_pool, has_party, has_asked, open_pool}
+use Rattle.mdb_log.specs.Connections.{has}
+use Rattle.mdb_log.specs.Requests.{some_act, names_party, was_asked, leaves, told, is_claimed}
 use Rattle.mdb_pool.specs.Kept.{request_at, is_asked_at}
 use Rattle.mdb_pool.specs.Standing.{Fits, SameHome}
-use Rattle.mdb_world.specs.Homes.{homes}
+use Rattle.mdb_log.specs.Homes.{homes}
 use Rattle.mdb_world.specs.Standing.{home, knows, settled, PoolFits, IsApart, PoolsFit}
 use Rattle.mdb_world.proofs.Lists.{any-set, any-none, position-set, map-set}
 use Rattle.mdb_world.proofs.Places.{Place, at_it, beside, place, some-same}
@@ -47,7 +47,7 @@ module _ (o : PoolOptions) (pools : List PoolCore) (h : List Item) (z : PoolsFit
   known-t r = sym (v.fits.asked r) ∙ (v.parties r ∙ (ap (λ p. new r || has_party (of_pool p h) r) d.number ∙ ap (λ b. new r || b) (d.fits.asked r)))
 
   asked-t : (r : ℕ) → is_asked_at (request_at t r) ≡ asking r || is_asked_at (request_at s r)
-  asked-t r = sym (v.fits.matches.asks r) ∙ (v.asks r ∙ (ap (λ p. asking r || has_asked (of_pool p h) r) d.number ∙ ap (λ b. asking r || b) (d.fits.matches.asks r)))
+  asked-t r = sym (v.fits.matches.requests.asks r) ∙ (v.asks r ∙ (ap (λ p. asking r || has_asked (of_pool p h) r) d.number ∙ ap (λ b. asking r || b) (d.fits.matches.requests.asks r)))
 
   each-k : (j : ℕ) (u : PoolCore) → slice_get (set pools i t) j ≡ Some u → PoolFits o k j u
   each-k j u e = on (place pools i s t at_i j)

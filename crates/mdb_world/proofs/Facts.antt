@@ -3,18 +3,19 @@ use Rattle.std.proofs.Common.{ℕ, ◌≡◌, ◌≢◌, Bool, true, false, List
 use Rattle.std.specs.Prelude.{slice_get}
 use Rattle.mdb_events.specs.declared.fact.Fact.{Fact}
 use Rattle.mdb_events.specs.declared.fact.Fact.TheVariants.{Opened, Granted}
-use Rattle.mdb_pool.specs.declared.options.PoolOptions.{PoolOptions}
-use Rattle.mdb_pool.specs.declared.step.Step.{Step}
-use Rattle.mdb_pool.specs.declared.reply.Reply.{Reply}
-use Rattle.mdb_pool.specs.declared.reply.Reply.TheVariants.{Refused}
+use Rattle.mdb_log.specs.declared.options.PoolOptions.{PoolOptions}
+use Rattle.mdb_log.specs.declared.step.Step.{Step}
+use Rattle.mdb_log.specs.declared.reply.Reply.{Reply}
+use Rattle.mdb_log.specs.declared.reply.Reply.TheVariants.{Refused}
 use Rattle.mdb_pool.specs.declared.pool_core.PoolCore.{PoolCore}
-use Rattle.mdb_pool.specs.History.{Item, did, made, PoolItem, of_pool, after_fact, with_facts, has_party}
-use Rattle.mdb_pool.specs.Legal.{IsOwn, AllOwn, IsAccepted, IsNext}
-use Rattle.mdb_pool.specs.Legal.{AllFirstCome as PoolFirstCome}
+use Rattle.mdb_log.specs.History.{Item, did, made, PoolItem, of_pool, after_fact, with_facts, has_party}
+use Rattle.mdb_log.specs.Legal.{IsNext, AllFirstCome as PoolFirstCome}
+use Rattle.mdb_log.specs.Own.{IsOwn, AllOwn, IsAccepted}
 use Rattle.mdb_pool.specs.Kept.{request_at}
-use Rattle.mdb_world.specs.Homes.{homes}
-use Rattle.mdb_pool.specs.Fresh.{GrantsFresh, AllGrantFresh}
-use Rattle.mdb_world.specs.Legal.{FirstCome, AllFirstCome, IsFairAnswer, FreshGrant, AllFreshGrants}
+use Rattle.mdb_log.specs.Homes.{homes}
+use Rattle.mdb_log.specs.Fresh.{GrantsFresh, AllGrantFresh}
+use Rattle.mdb_log.specs.LegalLog.{FirstCome, AllFirstCome, IsFairAnswer}
+use Rattle.mdb_log.specs.Beside.{FreshGrant, AllFreshGrants}
 use Rattle.mdb_world.specs.Standing.{PoolsFit}
 
 -- they open no pool

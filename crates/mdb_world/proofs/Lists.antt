@@ -1,13 +1,12 @@
 -- One place of a list is set, and one place is found.
 use Rattle.std.proofs.Common.{ℕ, zero, suc, ◌≡◌, ◌≢◌, ◌+◌, ◌<◌, ◌≤◌, Bool, true, false, ◌||◌, List, [], ◌∷◌, length, map, set, find, Option, Some, None, refl, sym, ◌∙◌, ap, subst, arith, append-nil, get_or, position}
-use Rattle.std.specs.Prelude.{flat_map, slice_get}
+use Rattle.std.specs.Prelude.{flat_map, slice_get, cond, nat_lt}
 use Rattle.std.specs.List.{list_any, position_or_len}
 use Rattle.std.proofs.lemmas.List.Folds.{position_or_len-set}
 use Rattle.std.proofs.lemmas.List.Quantifiers.{position-Some}
 use Rattle.std.proofs.lemmas.List.{length-set}
 use Rattle.std.proofs.lemmas.Option.{get_or_from_slice_get, slice_get_read}
 use Rattle.std.proofs.lemmas.Bool.Decides.{nat_tests}
-use Rattle.std.specs.Prelude.{cond, nat_lt}
 
 module _ {T : Type 0} where
   pub get-set_same : (xs : List T) (i : ℕ) (s t : T) → slice_get xs i ≡ Some s → slice_get (set xs i t) i ≡ Some t

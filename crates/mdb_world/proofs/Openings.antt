@@ -1,25 +1,23 @@
 -- The pools of one address after another are opened.
-use Rattle.std.proofs.Common.{ℕ, ◌≡◌, ◌+◌, ◌<◌, Bool, true, false, List, [], ◌∷◌, ◌++◌, length, map, None, refl, sym, ◌∙◌, ap, subst, arith}
+use Rattle.std.proofs.Common.{ℕ, ◌≡◌, ◌+◌, ◌<◌, Bool, true, false, List, [], ◌∷◌, ◌++◌, length, map, None, refl, sym, ◌∙◌, ap, subst, arith, suc, take, drop, get_or, drop-cons}
 use Rattle.std.specs.Prelude.{not}
-use Rattle.std.proofs.Common.{suc, take, drop, get_or, drop-cons}
 use Rattle.std.proofs.lemmas.List.{take-append-drop}
 use Rattle.mdb_events.specs.declared.fact.Fact.{Fact}
 use Rattle.mdb_events.specs.declared.cmap.CmapEvent.{CmapEvent}
 use Rattle.mdb_base.specs.declared.address.ServerAddress.{ServerAddress}
 use Rattle.mdb_base.specs.declared.options.Options.{Options}
 use Rattle.mdb_events.specs.declared.fact.Fact.TheVariants.{Opened, Pool}
-use Rattle.mdb_pool.specs.declared.options.PoolOptions.{PoolOptions}
-use Rattle.mdb_pool.specs.declared.step.Act.TheVariants.{Open}
-use Rattle.mdb_pool.specs.declared.reply.Reply.TheVariants.{Done}
+use Rattle.mdb_log.specs.declared.options.PoolOptions.{PoolOptions}
+use Rattle.mdb_log.specs.declared.step.Act.TheVariants.{Open}
+use Rattle.mdb_log.specs.declared.reply.Reply.TheVariants.{Done}
 use Rattle.mdb_pool.specs.declared.pool_core.PoolCore.{PoolCore}
-use Rattle.mdb_pool.specs.History.{Item, did, made, pool_created, of_pool, with_facts, opening}
-use Rattle.mdb_pool.specs.Connections.{has}
+use Rattle.mdb_log.specs.History.{Item, did, made, pool_created, of_pool, with_facts, opening}
+use Rattle.mdb_log.specs.Connections.{has}
 use Rattle.mdb_pool.specs.Serving.{next_move}
-use Rattle.mdb_pool.specs.Standing.{Fits}
-use Rattle.mdb_pool.specs.Standing.{StandsFor as PoolStandsFor}
-use Rattle.mdb_pool.proofs.Numbers.{same-number}
+use Rattle.mdb_pool.specs.Standing.{Fits, StandsFor as PoolStandsFor}
+use Rattle.mdb_log.proofs.Numbers.{same-number}
 use Rattle.mdb_world.specs.declared.pools.Pools.{Pools}
-use Rattle.mdb_world.specs.Opening.{created, opening_facts}
+use Rattle.mdb_log.specs.Opening.{created, opening_facts}
 use Rattle.mdb_world.specs.Standing.{at_address, opened, PoolsStand, StandsFor}
 use Rattle.mdb_base.specs.Equality.{same_address}
 use Rattle.mdb_base.specs.OptionRules.{all_different}

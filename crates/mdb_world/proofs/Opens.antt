@@ -12,18 +12,18 @@ use Rattle.mdb_base.specs.declared.address.ServerAddress.{ServerAddress}
 use Rattle.mdb_events.specs.declared.fact.Fact.TheVariants.{Opened, Pool}
 use Rattle.mdb_events.specs.declared.cmap.PoolCreatedEvent.{PoolCreatedEvent}
 use Rattle.mdb_events.specs.declared.cmap.CmapEvent.TheVariants.{PoolCreated}
-use Rattle.mdb_pool.specs.declared.options.PoolOptions.{PoolOptions}
+use Rattle.mdb_log.specs.declared.options.PoolOptions.{PoolOptions}
 use Rattle.mdb_pool.specs.declared.pool_core.PoolCore.{PoolCore}
-use Rattle.mdb_pool.specs.History.{Item, made, pool_created, of_pool, open_pool}
-use Rattle.mdb_pool.specs.Connections.{has}
-use Rattle.mdb_pool.specs.Requests.{is_claimed}
+use Rattle.mdb_log.specs.History.{Item, made, pool_created, of_pool, open_pool}
+use Rattle.mdb_log.specs.Connections.{has}
+use Rattle.mdb_log.specs.Requests.{is_claimed}
 use Rattle.mdb_pool.specs.Kept.{request_at, is_asked_at}
-use Rattle.mdb_pool.specs.Legal.{IsServed}
-use Rattle.mdb_pool.specs.Limits.{WithinLimits}
+use Rattle.mdb_pool.specs.Serving.{IsServed}
+use Rattle.mdb_log.specs.Limits.{WithinLimits}
 use Rattle.mdb_pool.specs.Standing.{Fits}
-use Rattle.mdb_pool.proofs.Addresses.{same-address}
-use Rattle.mdb_pool.proofs.Frame.{other-number}
-use Rattle.mdb_pool.proofs.Numbers.{same-number}
+use Rattle.mdb_log.proofs.Addresses.{same-address}
+use Rattle.mdb_log.proofs.Frame.{other-number}
+use Rattle.mdb_log.proofs.Numbers.{same-number}
 use Rattle.mdb_world.specs.Standing.{home, at_address, PoolFits, IsApart, PoolsFit, PoolsStand}
 use Rattle.mdb_world.proofs.Places.{some-same}
 
@@ -90,7 +90,7 @@ module _ (o : PoolOptions) (pools : List PoolCore) (h : List Item) (z : PoolsSta
   knows-none r = sym (fresh.fits.asked r)
 
   asked-none : (r : ℕ) → is_asked_at (request_at s r) ≡ false
-  asked-none r = sym (fresh.fits.matches.asks r)
+  asked-none r = sym (fresh.fits.matches.requests.asks r)
 
   each-k : (j : ℕ) (u : PoolCore) → slice_get (pools ++ s ∷ []) j ≡ Some u → PoolFits o k j u
   each-k j u f = on (place pools s j)

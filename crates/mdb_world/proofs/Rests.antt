@@ -2,16 +2,16 @@
 use Rattle.std.proofs.Common.{ℕ, ◌≡◌, ◌≤◌, false, List, [], ◌∷◌, Some, None, is_some, refl, ◌∙◌, ap}
 use Rattle.std.specs.Prelude.{slice_get}
 use Rattle.mdb_events.specs.declared.fact.Fact.{Fact}
-use Rattle.mdb_pool.specs.declared.options.PoolOptions.{PoolOptions}
-use Rattle.mdb_pool.specs.declared.step.Act.TheVariants.{Claim}
-use Rattle.mdb_pool.specs.declared.reply.Reply.TheVariants.{NoJob}
+use Rattle.mdb_log.specs.declared.options.PoolOptions.{PoolOptions}
+use Rattle.mdb_log.specs.declared.step.Act.TheVariants.{Claim}
+use Rattle.mdb_log.specs.declared.reply.Reply.TheVariants.{NoJob}
 use Rattle.mdb_pool.specs.declared.pool_core.PoolCore.{PoolCore}
-use Rattle.mdb_pool.specs.History.{Item, did, of_pool}
+use Rattle.mdb_log.specs.History.{Item, did, of_pool}
 use Rattle.mdb_pool.specs.Kept.{first_unclaimed}
 use Rattle.mdb_pool.specs.Serving.{serving}
 use Rattle.mdb_pool.proofs.Served.{served-serving}
 use Rattle.mdb_world.specs.declared.pools.Pools.{Pools}
-use Rattle.mdb_world.specs.Homes.{Home, home_of}
+use Rattle.mdb_log.specs.Homes.{Home, home_of}
 use Rattle.mdb_world.specs.Answer.{step_facts, answered}
 use Rattle.mdb_world.specs.Standing.{home, PoolFits, PoolsFit, PoolsStand, StandsFor, Rests}
 use Rattle.mdb_world.proofs.Lists.{flat-none}

@@ -5,15 +5,15 @@ use Rattle.mdb_base.specs.declared.options.Options.{Options}
 use Rattle.mdb_events.specs.declared.cmap.CmapEvent.TheVariants.{ConnectionCreated, ConnectionCheckoutStarted, ConnectionCheckedOut, ConnectionCheckedIn, ConnectionClosed}
 use Rattle.mdb_events.specs.declared.reasons.ConnectionClosedReason.TheVariants.{Error as ErrorReason}
 use Rattle.mdb_events.specs.declared.fact.Fact.TheVariants.{Opened, Pool, Granted}
-use Rattle.mdb_pool.specs.declared.step.Established.{Established as How}
-use Rattle.mdb_pool.specs.declared.step.Step.{Step}
-use Rattle.mdb_pool.specs.declared.step.Act.{Act}
-use Rattle.mdb_pool.specs.declared.step.Act.TheVariants.{Open, Request, Collect, Claim, Established, Return, Pin, Take, Unpin}
-use Rattle.mdb_pool.specs.declared.step.Use.TheVariants.{Ok, Errored}
-use Rattle.mdb_pool.specs.declared.reply.Refused.TheVariants.{TimeBack, UnknownServer, RequestKnown, UnknownRequest, NotHolder, NotPending, Unpinned, PinInUse, PinState, WrongMode}
-use Rattle.mdb_pool.specs.declared.reply.Reply.TheVariants.{Pooled, Establishing, Job, NoJob, Done, Refused}
-use Rattle.mdb_pool.specs.Answer.{Answer}
-use Rattle.mdb_world.specs.Opening.{created, pool_options, in_order}
+use Rattle.mdb_log.specs.declared.step.Established.{Established as How}
+use Rattle.mdb_log.specs.declared.step.Step.{Step}
+use Rattle.mdb_log.specs.declared.step.Act.{Act}
+use Rattle.mdb_log.specs.declared.step.Act.TheVariants.{Open, Request, Collect, Claim, Established, Return, Pin, Take, Unpin}
+use Rattle.mdb_log.specs.declared.step.Use.TheVariants.{Ok, Errored}
+use Rattle.mdb_log.specs.declared.reply.Refused.TheVariants.{TimeBack, UnknownServer, RequestKnown, UnknownRequest, NotHolder, NotPending, Unpinned, PinInUse, PinState, WrongMode}
+use Rattle.mdb_log.specs.declared.reply.Reply.TheVariants.{Pooled, Establishing, Job, NoJob, Done, Refused}
+use Rattle.mdb_log.specs.Answer.{Answer}
+use Rattle.mdb_log.specs.Opening.{created, pool_options, ascending}
 use Rattle.mdb_world.specs.Lines.{answer_after, log_of}
 
 abbrev a : ServerAddress
@@ -63,7 +63,7 @@ three = at_moment 1 (Request 1 b) ∷ at_moment 2 (Request 2 a) ∷ at_moment 3 
 row1 : answer_after [] (at_moment 0 (Open options)) ≡ record { reply = Done; facts = Opened 0 a ∷ Pool 0 (created (pool_options options) a) ∷ Opened 1 b ∷ Pool 1 (created (pool_options options) b) ∷ [] }
 row1 = refl
 
-row2 : in_order (c ∷ a ∷ b ∷ []) ≡ a ∷ b ∷ c ∷ []
+row2 : ascending (c ∷ a ∷ b ∷ []) ≡ a ∷ b ∷ c ∷ []
 row2 = refl
 
 -- each pool numbers its own connections

@@ -2,25 +2,24 @@
 use Rattle.std.proofs.Common.{ℕ, ◌≡◌, ◌≢◌, ◌||◌, Bool, true, false, List, [], ◌∷◌, ◌++◌, map, Option, Some, None, is_some, refl, sym, ◌∙◌, ap, subst}
 use Rattle.std.specs.Prelude.{slice_get, flat_map}
 use Rattle.mdb_events.specs.declared.fact.Fact.{Fact}
-use Rattle.mdb_pool.specs.declared.options.PoolOptions.{PoolOptions}
-use Rattle.mdb_pool.specs.declared.step.Step.{Step}
-use Rattle.mdb_pool.specs.declared.reply.Reply.{Reply}
+use Rattle.mdb_log.specs.declared.options.PoolOptions.{PoolOptions}
+use Rattle.mdb_log.specs.declared.step.Step.{Step}
+use Rattle.mdb_log.specs.declared.reply.Reply.{Reply}
 use Rattle.mdb_pool.specs.declared.pool_core.PoolCore.{PoolCore}
-use Rattle.mdb_pool.specs.History.{Item, did, PoolItem, of_pool, with_facts, after_facts, has_party, has_asked}
+use Rattle.mdb_log.specs.History.{Item, did, PoolItem, of_pool, with_facts, after_facts, has_party, has_asked, with_act}
 use Rattle.mdb_pool.specs.Facts.{act_facts}
 use Rattle.mdb_pool.specs.Serving.{serving}
-use Rattle.mdb_pool.specs.Answer.{all_facts, reply_of, with_act}
-use Rattle.mdb_pool.specs.Requests.{names_party, was_asked, asks_how, leaves, is_claimed}
-use Rattle.mdb_pool.specs.Legal.{AllOwn}
-use Rattle.mdb_pool.specs.Connections.{created_total}
+use Rattle.mdb_pool.specs.Answer.{all_facts, reply_of}
+use Rattle.mdb_log.specs.Requests.{names_party, was_asked, asks_how, leaves, is_claimed}
+use Rattle.mdb_log.specs.Own.{AllOwn}
+use Rattle.mdb_log.specs.Connections.{created_total}
 use Rattle.mdb_pool.proofs.Calm.{IsBound}
 use Rattle.mdb_pool.specs.Kept.{request_at}
 use Rattle.mdb_pool.specs.Standing.{Accepts}
-use Rattle.mdb_pool.proofs.Serving.{of_pool-with_facts}
-use Rattle.mdb_pool.proofs.Laws.{own-prefix}
+use Rattle.mdb_log.proofs.Later.{of_pool-with_facts, own-prefix}
 use Rattle.mdb_pool.proofs.Served.{served-serving}
-use Rattle.mdb_pool.proofs.Frame.{other-facts}
-use Rattle.mdb_world.specs.Homes.{Home, homes, home_of}
+use Rattle.mdb_log.proofs.Frame.{other-facts}
+use Rattle.mdb_log.specs.Homes.{Home, homes, home_of}
 use Rattle.mdb_world.specs.Refusal.{refusal}
 use Rattle.mdb_world.specs.Lines.{is_later}
 use Rattle.mdb_world.specs.Answer.{serving_all, step_facts, answered, answer}

@@ -4,20 +4,20 @@ use Rattle.std.specs.Prelude.{slice_get}
 use Rattle.mdb_base.specs.Equality.{same_address}
 use Rattle.mdb_base.specs.declared.address.ServerAddress.{ServerAddress}
 use Rattle.mdb_events.specs.declared.fact.Fact.{Fact}
-use Rattle.mdb_pool.specs.declared.step.Established.{Established as How}
-use Rattle.mdb_pool.specs.declared.step.Use.{Use}
-use Rattle.mdb_pool.specs.declared.step.Act.TheVariants.{Request, Warm, Maintain, Collect, Claim, GiveUp, Established, Return, Pin, Replicate, Take, Unpin}
-use Rattle.mdb_pool.specs.declared.reply.Reply.{Reply}
+use Rattle.mdb_log.specs.declared.step.Established.{Established as How}
+use Rattle.mdb_log.specs.declared.step.Use.{Use}
+use Rattle.mdb_log.specs.declared.step.Act.TheVariants.{Request, Warm, Maintain, Collect, Claim, GiveUp, Established, Return, Pin, Replicate, Take, Unpin}
+use Rattle.mdb_log.specs.declared.reply.Reply.{Reply}
 use Rattle.mdb_pool.specs.declared.request.Request.{Request as Asker}
 use Rattle.mdb_pool.specs.declared.pool_core.PoolCore.{PoolCore}
-use Rattle.mdb_pool.specs.History.{Item, PoolItem, of_pool, open_pool, has_asked, has_taken, has_party, given, asked, warmed, gave_up, returned, established, pinned_by, replicated, taken, unpinned}
+use Rattle.mdb_log.specs.History.{Item, PoolItem, of_pool, open_pool, has_asked, has_taken, has_party, given, asked, warmed, gave_up, returned, established, pinned_by, replicated, taken, unpinned}
 use Rattle.mdb_pool.specs.Refusal.{wrong_service}
 use Rattle.mdb_pool.specs.Kept.{request_at, connection_at, held_connection, given_of, is_pending_at, is_held_at, pins_at, is_open_now, first_unclaimed}
 use Rattle.mdb_pool.specs.Standing.{Fits, Accepts, SameHome}
-use Rattle.mdb_pool.proofs.Addresses.{same-address}
+use Rattle.mdb_log.proofs.Addresses.{same-address}
 use Rattle.mdb_pool.proofs.Acts.{holds-given, held-known}
-use Rattle.mdb_pool.proofs.Frame.{other-number, no-party-asked}
-use Rattle.mdb_pool.proofs.Numbers.{same-number}
+use Rattle.mdb_log.proofs.Frame.{other-number, no-party-asked}
+use Rattle.mdb_log.proofs.Numbers.{same-number}
 use Rattle.mdb_pool.proofs.Fresh.{holding-created, live-before}
 use Rattle.mdb_world.specs.declared.pools.Pools.{Pools}
 use Rattle.mdb_world.specs.Refusal.{refusal}
@@ -238,7 +238,7 @@ module _ (w : Pools) (h : List Item) (z : StandsFor w h) (i : ℕ) (s t : PoolCo
   not-given r q known ne = on (slice_get pools q) refl
     where
       at_request : (u : PoolCore) (b : Option Asker) → slice_get pools q ≡ Some u → request_at u r ≡ b → is_some (given (of_pool q h) r) ≡ false
-      at_request u None f g = ap is_some ((z.pools.fit.each q u f).fits.matches.given r ∙ ap given_of g)
+      at_request u None f g = ap is_some ((z.pools.fit.each q u f).fits.matches.requests.given r ∙ ap given_of g)
       at_request u (Some k) f g = absurd (other-place q ne (z.pools.fit.apart r i q s u at_i f known (ap is_some g)))
 
       on : (a : Option PoolCore) → slice_get pools q ≡ a → is_some (given (of_pool q h) r) ≡ false

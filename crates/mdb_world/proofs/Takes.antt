@@ -2,30 +2,30 @@
 use Rattle.std.proofs.Common.{ℕ, ◌≡◌, ◌≢◌, ◌==◌, ◌||◌, ◌&&◌, Bool, true, false, not, List, [], ◌∷◌, set, Option, Some, None, is_some, refl, sym, ◌∙◌, ap, subst, arith}
 use Rattle.std.specs.Prelude.{slice_get}
 use Rattle.mdb_events.specs.declared.fact.Fact.{Fact}
-use Rattle.mdb_pool.specs.declared.options.PoolOptions.{PoolOptions}
-use Rattle.mdb_pool.specs.declared.step.Step.{Step}
-use Rattle.mdb_pool.specs.declared.step.Act.{Act}
-use Rattle.mdb_pool.specs.declared.step.Act.TheVariants.{Request, Warm, Collect, Claim, GiveUp}
-use Rattle.mdb_pool.specs.declared.reply.Reply.{Reply}
+use Rattle.mdb_log.specs.declared.options.PoolOptions.{PoolOptions}
+use Rattle.mdb_log.specs.declared.step.Step.{Step}
+use Rattle.mdb_log.specs.declared.step.Act.{Act}
+use Rattle.mdb_log.specs.declared.step.Act.TheVariants.{Request, Warm, Collect, Claim, GiveUp}
+use Rattle.mdb_log.specs.declared.reply.Reply.{Reply}
 use Rattle.mdb_events.specs.declared.end.End.{End}
 use Rattle.mdb_pool.specs.declared.pool_core.PoolCore.{PoolCore}
-use Rattle.mdb_pool.specs.History.{Item, did, PoolItem, of_pool, with_facts, with_answer, after_facts, last_moment, given, open_pool}
-use Rattle.mdb_pool.specs.Connections.{has, pending_list}
-use Rattle.mdb_pool.specs.Requests.{some_act, names_party, was_asked, leaves, told, asks_how, is_outcome, is_claimed, end_of, outcome_of}
+use Rattle.mdb_log.specs.History.{Item, did, PoolItem, of_pool, with_facts, with_answer, after_facts, last_moment, given, open_pool, with_act}
+use Rattle.mdb_log.specs.Connections.{has, pending_list}
+use Rattle.mdb_log.specs.Requests.{some_act, names_party, was_asked, leaves, told, asks_how, is_outcome, is_claimed, end_of, outcome_of, settles, is_job}
 use Rattle.mdb_pool.specs.Answer.{all_facts, first_job, reply_of}
 use Rattle.mdb_pool.specs.Kept.{request_at}
-use Rattle.mdb_pool.specs.Legal.{IsServed, shuts}
+use Rattle.mdb_pool.specs.Serving.{IsServed}
+use Rattle.mdb_log.specs.Own.{shuts}
 use Rattle.mdb_pool.specs.Facts.{act_facts}
 use Rattle.mdb_pool.proofs.Laws.{with-serve, size}
-use Rattle.mdb_pool.specs.Legal.{AllFirstCome as PoolFirstCome}
-use Rattle.mdb_pool.specs.Answer.{with_act}
-use Rattle.mdb_pool.specs.Limits.{WithinLimits}
-use Rattle.mdb_pool.specs.Fresh.{AllGrantFresh}
-use Rattle.mdb_pool.specs.Standing.{Fits, Accepts, SameHome, settles, is_job}
-use Rattle.mdb_pool.proofs.Acts.{with_answer-accepted, opens-after, claimed-reply}
+use Rattle.mdb_log.specs.Legal.{AllFirstCome as PoolFirstCome}
+use Rattle.mdb_log.specs.Limits.{WithinLimits}
+use Rattle.mdb_log.specs.Fresh.{AllGrantFresh}
+use Rattle.mdb_pool.specs.Standing.{Fits, Accepts, SameHome}
+use Rattle.mdb_log.proofs.Later.{with_answer-accepted, opens-after, claimed-reply}
 use Rattle.mdb_pool.proofs.Limits.{act-kept, accepted-within}
 use Rattle.mdb_pool.proofs.Fresh.{accepted-fresh}
-use Rattle.mdb_pool.proofs.Frame.{party-facts, asked-facts, last-facts, acts-facts, open-facts, told-facts, claimed-facts, other-number}
+use Rattle.mdb_log.proofs.Frame.{party-facts, asked-facts, last-facts, acts-facts, open-facts, told-facts, claimed-facts, other-number}
 use Rattle.mdb_world.specs.Standing.{PoolFits, PoolsStand, Takes}
 use Rattle.mdb_world.proofs.Facts.{homes-facts, fair-facts, fair-accepted, fresh-facts}
 use Rattle.mdb_world.proofs.Unshut.{act-open}

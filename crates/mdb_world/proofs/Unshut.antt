@@ -6,15 +6,15 @@ use Rattle.mdb_events.specs.declared.fact.Fact.{Fact}
 use Rattle.mdb_events.specs.declared.fact.Fact.TheVariants.{Ended}
 use Rattle.mdb_events.specs.declared.end.End.TheVariants.{Filled}
 use Rattle.mdb_events.specs.declared.reasons.ConnectionClosedReason.{ConnectionClosedReason}
-use Rattle.mdb_pool.specs.declared.options.PoolOptions.{PoolOptions}
-use Rattle.mdb_pool.specs.declared.step.Act.{Act}
-use Rattle.mdb_pool.specs.declared.step.Act.TheVariants.{Request, Warm, Maintain, Collect, Claim, GiveUp, Established, Return, Pin, Replicate, Take, Unpin}
-use Rattle.mdb_pool.specs.History.{PoolItem, after_facts}
-use Rattle.mdb_pool.specs.Connections.{available_list, holding, pins, is_pinned, granted_to}
-use Rattle.mdb_pool.specs.Requests.{is_warm, end_of}
-use Rattle.mdb_pool.specs.State.{State, is_new, is_ready, is_paused, is_closed, state_of, min_size}
+use Rattle.mdb_log.specs.declared.options.PoolOptions.{PoolOptions}
+use Rattle.mdb_log.specs.declared.step.Act.{Act}
+use Rattle.mdb_log.specs.declared.step.Act.TheVariants.{Request, Warm, Maintain, Collect, Claim, GiveUp, Established, Return, Pin, Replicate, Take, Unpin}
+use Rattle.mdb_log.specs.History.{PoolItem, after_facts}
+use Rattle.mdb_log.specs.Connections.{available_list, holding, pins, is_pinned, granted_to}
+use Rattle.mdb_log.specs.Requests.{is_warm, end_of}
+use Rattle.mdb_log.specs.State.{State, is_new, is_ready, is_paused, is_closed, state_of, min_size}
 use Rattle.mdb_pool.specs.Facts.{closes, close_reason, end_facts, check_in, come_back, hand_over, turned_away, sweep, fill, act_facts}
-use Rattle.mdb_pool.specs.Legal.{is_closing, shuts}
+use Rattle.mdb_log.specs.Own.{is_closing, shuts}
 use Rattle.mdb_pool.proofs.Laws.{shut-append}
 use Rattle.mdb_pool.proofs.Maintains.{sweep-open, fill-open}
 use Rattle.mdb_world.specs.Lines.{is_later}

@@ -1,17 +1,18 @@
 -- What the pools of one driver answer to a step after their history: the reply, and the facts that the step makes.
 use Rattle.std.specs.Prelude.{ℕ, List, [], ◌++◌, flat_map, Option, Some, None}
 use Rattle.mdb_events.specs.declared.fact.Fact.{Fact}
-use Rattle.mdb_pool.specs.declared.options.PoolOptions.{PoolOptions}
-use Rattle.mdb_pool.specs.declared.step.Step.{Step}
-use Rattle.mdb_pool.specs.declared.reply.Refused.{Refused}
-use Rattle.mdb_pool.specs.declared.reply.Reply.{Reply}
-use Rattle.mdb_pool.specs.declared.reply.Reply.TheVariants.{NoJob, Refused as RefusedBy}
-use Rattle.mdb_pool.specs.History.{Item, PoolItem, of_pool, after_facts}
-use Rattle.mdb_pool.specs.Requests.{is_claimed}
+use Rattle.mdb_log.specs.declared.options.PoolOptions.{PoolOptions}
+use Rattle.mdb_log.specs.declared.step.Step.{Step}
+use Rattle.mdb_log.specs.declared.reply.Refused.{Refused}
+use Rattle.mdb_log.specs.declared.reply.Reply.{Reply}
+use Rattle.mdb_log.specs.declared.reply.Reply.TheVariants.{NoJob, Refused as RefusedBy}
+use Rattle.mdb_log.specs.History.{Item, PoolItem, of_pool, after_facts, with_act}
+use Rattle.mdb_log.specs.Requests.{is_claimed}
 use Rattle.mdb_pool.specs.Facts.{act_facts}
 use Rattle.mdb_pool.specs.Serving.{serving}
-use Rattle.mdb_pool.specs.Answer.{Answer, reply_of, with_act}
-use Rattle.mdb_world.specs.Homes.{Home, homes, home_of}
+use Rattle.mdb_pool.specs.Answer.{reply_of}
+use Rattle.mdb_log.specs.Answer.{Answer}
+use Rattle.mdb_log.specs.Homes.{Home, homes, home_of}
 use Rattle.mdb_world.specs.Refusal.{refusal}
 
 -- the facts of the act itself, in the pool that it concerns

@@ -1,15 +1,14 @@
 -- What the lines of a script are answered: the first opens the pools of its seeds, and each later one is a step of theirs.
-use Rattle.std.specs.Prelude.{◌≡◌, Bool, true, false, List, [], ◌∷◌, ◌++◌, map, ⊤, All}
-use Rattle.mdb_pool.specs.declared.step.Step.{Step}
-use Rattle.mdb_pool.specs.declared.step.Act.{Act}
-use Rattle.mdb_pool.specs.declared.step.Act.TheVariants as act
-use Rattle.mdb_pool.specs.declared.reply.Reply.TheVariants.{Done}
-use Rattle.mdb_pool.specs.declared.log.Entry.{Entry}
-use Rattle.mdb_pool.specs.History.{Item, history_of}
-use Rattle.mdb_pool.specs.Answer.{Answer}
+use Rattle.std.specs.Prelude.{Bool, true, false, List, [], ◌∷◌, ◌++◌, map}
+use Rattle.mdb_log.specs.declared.step.Step.{Step}
+use Rattle.mdb_log.specs.declared.step.Act.{Act}
+use Rattle.mdb_log.specs.declared.step.Act.TheVariants as act
+use Rattle.mdb_log.specs.declared.reply.Reply.TheVariants.{Done}
+use Rattle.mdb_log.specs.declared.log.Entry.{Entry}
+use Rattle.mdb_log.specs.History.{Item, history_of}
+use Rattle.mdb_log.specs.Answer.{Answer}
 use Rattle.mdb_world.specs.Answer.{answer}
-use Rattle.mdb_world.specs.Opening.{is_opening, pool_options, opening_answer}
-use Rattle.mdb_world.specs.Legal.{IsOrderly, IsLegal}
+use Rattle.mdb_log.specs.Opening.{pool_options, opening_answer}
 
 -- the answer of the pools that the first act opened
 abbrev pub later_answer : Act → List Item → Step → Answer
@@ -61,13 +60,3 @@ is_later _ = false
 abbrev pub may_come : List Step → Step → Bool
 may_come [] step = opens_seeds step.act
 may_come (first ∷ steps) step = is_later step.act
-
--- the entries after the first are legal steps of the pools that it opened, which were in order
-abbrev pub AreLegal : Act → List Item → List Entry → Type 0
-AreLegal (act.Open o) h log = IsOrderly (pool_options o) h × IsLegal (pool_options o) h log
-AreLegal _ h log = ⊥
-
--- Legal: the log is empty, or its first entry opens the seeds in the order of their addresses, no other opens, and each grants first come and only what is fresh, and leaves in each pool each connection in one place, nobody waiting who could be granted one, and the limits kept.
-abbrev pub IsLegalLog : List Entry → Type 0
-IsLegalLog [] = ⊤
-IsLegalLog (first ∷ log) = (first.facts ≡ (opening_answer first.step.act).facts) × All (λ e. is_opening e.step.act ≡ false) log × AreLegal first.step.act (history_of (first ∷ [])) log

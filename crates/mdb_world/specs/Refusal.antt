@@ -1,17 +1,17 @@
 -- Why a step is refused that comes after the history of all pools.
 use Rattle.std.specs.Prelude.{ℕ, Bool, false, not, nat_lt, is_some, List, [], ◌∷◌, Option, Some, None, unwrap_or}
 use Rattle.std.specs.List.{list_any}
-use Rattle.mdb_pool.specs.declared.options.PoolOptions.{PoolOptions}
-use Rattle.mdb_pool.specs.declared.step.Step.{Step}
-use Rattle.mdb_pool.specs.declared.step.Act.{Act}
-use Rattle.mdb_pool.specs.declared.step.Act.TheVariants.{Request, Warm, Maintain, Collect, GiveUp, Established, Return, Pin, Replicate, Take, Unpin}
-use Rattle.mdb_pool.specs.declared.reply.Refused.{Refused}
-use Rattle.mdb_pool.specs.declared.reply.Refused.TheVariants.{TimeBack, UnknownServer, RequestKnown, UnknownRequest, NotHolder, NotPending, Unpinned, PinInUse, PinState, WrongMode}
-use Rattle.mdb_pool.specs.History.{Item, of_pool, open_pool, last_moment}
-use Rattle.mdb_pool.specs.Connections.{has, pending_list, holding, held, pins}
-use Rattle.mdb_pool.specs.Requests.{some_act, names_party, is_open}
+use Rattle.mdb_log.specs.declared.options.PoolOptions.{PoolOptions}
+use Rattle.mdb_log.specs.declared.step.Step.{Step}
+use Rattle.mdb_log.specs.declared.step.Act.{Act}
+use Rattle.mdb_log.specs.declared.step.Act.TheVariants.{Request, Warm, Maintain, Collect, GiveUp, Established, Return, Pin, Replicate, Take, Unpin}
+use Rattle.mdb_log.specs.declared.reply.Refused.{Refused}
+use Rattle.mdb_log.specs.declared.reply.Refused.TheVariants.{TimeBack, UnknownServer, RequestKnown, UnknownRequest, NotHolder, NotPending, Unpinned, PinInUse, PinState, WrongMode}
+use Rattle.mdb_log.specs.History.{Item, of_pool, open_pool, last_moment}
+use Rattle.mdb_log.specs.Connections.{has, pending_list, holding, held, pins}
+use Rattle.mdb_log.specs.Requests.{some_act, names_party, is_open}
 use Rattle.mdb_pool.specs.Refusal.{wrong_service, first_row}
-use Rattle.mdb_world.specs.Homes.{Home, homes, concerns, home_of}
+use Rattle.mdb_log.specs.Homes.{Home, homes, concerns, home_of}
 
 -- some pool is one that the act concerns
 abbrev pub has_home : List Item → Act → Bool

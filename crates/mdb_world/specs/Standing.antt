@@ -6,29 +6,30 @@ use Rattle.mdb_base.specs.declared.address.ServerAddress.{ServerAddress}
 use Rattle.mdb_base.specs.declared.options.Options.{Options}
 use Rattle.mdb_base.specs.OptionRules.{all_different}
 use Rattle.mdb_events.specs.declared.fact.Fact.{Fact}
-use Rattle.mdb_pool.specs.declared.options.PoolOptions.{PoolOptions}
-use Rattle.mdb_pool.specs.declared.step.Step.{Step}
-use Rattle.mdb_pool.specs.declared.step.Act.TheVariants.{Open}
-use Rattle.mdb_pool.specs.declared.log.Entry.{Entry}
-use Rattle.mdb_pool.specs.declared.reply.Reply.{Reply}
-use Rattle.mdb_pool.specs.declared.reply.Reply.TheVariants.{NoJob, Done}
+use Rattle.mdb_log.specs.declared.options.PoolOptions.{PoolOptions}
+use Rattle.mdb_log.specs.declared.step.Step.{Step}
+use Rattle.mdb_log.specs.declared.step.Act.TheVariants.{Open}
+use Rattle.mdb_log.specs.declared.log.Entry.{Entry}
+use Rattle.mdb_log.specs.declared.reply.Reply.{Reply}
+use Rattle.mdb_log.specs.declared.reply.Reply.TheVariants.{NoJob, Done}
 use Rattle.mdb_pool.specs.declared.pool_core.PoolCore.{PoolCore}
-use Rattle.mdb_pool.specs.History.{Item, did, of_pool, open_pool, last_moment, with_facts, with_answer, history_of}
-use Rattle.mdb_pool.specs.Connections.{has}
-use Rattle.mdb_pool.specs.Requests.{some_act, names_party, was_asked, leaves, told, is_claimed}
+use Rattle.mdb_log.specs.History.{Item, did, of_pool, open_pool, last_moment, with_facts, with_answer, history_of}
+use Rattle.mdb_log.specs.Connections.{has}
+use Rattle.mdb_log.specs.Requests.{some_act, names_party, was_asked, leaves, told, is_claimed}
 use Rattle.mdb_pool.specs.Kept.{request_at, held_connection, first_unclaimed, is_asked_at, pins_at}
-use Rattle.mdb_pool.specs.Legal.{IsServed}
-use Rattle.mdb_pool.specs.Limits.{WithinLimits}
+use Rattle.mdb_pool.specs.Serving.{IsServed}
+use Rattle.mdb_log.specs.Limits.{WithinLimits}
 use Rattle.mdb_pool.specs.Standing.{Fits}
 use Rattle.mdb_world.specs.declared.pools.Pools.{Pools}
 use Rattle.mdb_world.specs.declared.outcome.Outcome.{Outcome}
 use Rattle.mdb_world.specs.declared.outcome.Outcome.TheVariants.{Refused, Idle, Accepted}
 use Rattle.mdb_world.specs.declared.world.World.{World}
-use Rattle.mdb_world.specs.Homes.{Home, homes}
+use Rattle.mdb_log.specs.Homes.{Home, homes}
 use Rattle.mdb_world.specs.Refusal.{refusal}
 use Rattle.mdb_world.specs.Answer.{answer}
-use Rattle.mdb_world.specs.Opening.{is_opening, pool_options, opening_facts, opening_answer}
-use Rattle.mdb_world.specs.Legal.{IsFairAnswer, AllFreshGrants, IsOrderly, IsLegal}
+use Rattle.mdb_log.specs.Opening.{is_opening, pool_options, opening_facts, opening_answer}
+use Rattle.mdb_log.specs.LegalLog.{IsFairAnswer, IsOrderly, IsLegal}
+use Rattle.mdb_log.specs.Beside.{AllFreshGrants, EntriesGrantFresh}
 use Rattle.mdb_world.specs.Lines.{is_later}
 
 abbrev pub home : PoolCore → Home
@@ -154,12 +155,14 @@ opening_entry o = record { seat = 0; step = record { moment = 0; act = Open o };
 -- The log is that of pools which were opened by its first entry, and then took the steps of the others.
 pub record IsOpened (w : Pools) (log : List Entry) : Type 0 where
   pub options : Options
+  pub different : all_different options.seeds ≡ true
   pub made_with : w.options ≡ pool_options options
   pub entries : List Entry
   pub logged : log ≡ opening_entry options ∷ entries
   pub later : All (λ e. is_opening e.step.act ≡ false) entries
   pub orderly : IsOrderly (pool_options options) (history_of (opening_entry options ∷ []))
   pub legal : IsLegal (pool_options options) (history_of (opening_entry options ∷ [])) entries
+  pub fresh : EntriesGrantFresh (pool_options options) (history_of (opening_entry options ∷ [])) entries
   pub stands : StandsFor w (history_of log)
 
 abbrev pub Holds : Option Pools → List Entry → Type 0

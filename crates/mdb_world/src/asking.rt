@@ -6,12 +6,12 @@ use crate::outcome::Outcome;
 use crate::pools::Pools;
 use mdb_base::{Moment, ServerAddress};
 use mdb_events::Fact;
-use mdb_pool::{Refused, Use};
+use mdb_log::{Refused, Use};
 use std::alloc::{AllocError, Global};
 
 impl Pools {
-    ghost use Rattle.mdb_pool.specs.History.{Item};
-    ghost use Rattle.mdb_pool.specs.declared.step.Act.TheVariants.{Request as RequestAct, Warm as WarmAct, Collect as CollectAct, GiveUp as GiveUpAct, Return as ReturnAct};
+    ghost use Rattle.mdb_log.specs.History.{Item};
+    ghost use Rattle.mdb_log.specs.declared.step.Act.TheVariants.{Request as RequestAct, Warm as WarmAct, Collect as CollectAct, GiveUp as GiveUpAct, Return as ReturnAct};
     ghost use Rattle.mdb_world.specs.Standing.{IsWithin, StandsFor, Performs};
 
     // A caller asks the pool at the address.

@@ -6,12 +6,12 @@ use crate::outcome::Outcome;
 use crate::pools::Pools;
 use mdb_base::{Moment, ServerAddress};
 use mdb_events::Fact;
-use mdb_pool::Refused;
+use mdb_log::Refused;
 use std::alloc::{AllocError, Global};
 
 impl Pools {
-    ghost use Rattle.mdb_pool.specs.History.{Item};
-    ghost use Rattle.mdb_pool.specs.declared.step.Act.TheVariants.{Maintain as MaintainAct};
+    ghost use Rattle.mdb_log.specs.History.{Item};
+    ghost use Rattle.mdb_log.specs.declared.step.Act.TheVariants.{Maintain as MaintainAct};
     ghost use Rattle.mdb_world.specs.Standing.{IsWithin, StandsFor, Performs};
 
     // The pool at the address is maintained.

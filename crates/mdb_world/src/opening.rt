@@ -2,12 +2,13 @@
 
 ghost use Rattle.std.specs.Prelude.{◌≡◌, ◌≤◌, ◌<◌, ◌+◌, ◌++◌, ◌∷◌, [], List, length, map, IfOk, OnOk, None, true};
 ghost use Rattle.mdb_base.specs.OptionRules.{all_different};
-ghost use Rattle.mdb_world.specs.Opening.{created, opening_facts};
+ghost use Rattle.mdb_log.specs.Opening.{created, opening_facts};
 
 use crate::pools::Pools;
 use mdb_base::ServerAddress;
 use mdb_events::{CmapEvent, ConnectionPoolOptions, Fact, PoolCreatedEvent};
-use mdb_pool::{PoolCore, PoolOptions};
+use mdb_log::PoolOptions;
+use mdb_pool::PoolCore;
 use std::alloc::{AllocError, Global};
 
 // A pool was created.

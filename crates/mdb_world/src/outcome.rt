@@ -1,6 +1,7 @@
 //! What becomes of a step.
 
-use mdb_pool::{PoolCore, Refused, Reply};
+use mdb_log::{Refused, Reply};
+use mdb_pool::PoolCore;
 
 /// What becomes of a step.
 #[derive(Drop)]

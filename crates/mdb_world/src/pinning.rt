@@ -7,7 +7,8 @@ use crate::outcome::Outcome;
 use crate::pools::Pools;
 use mdb_base::Moment;
 use mdb_events::Fact;
-use mdb_pool::{PoolCore, Refused};
+use mdb_log::Refused;
+use mdb_pool::PoolCore;
 use std::alloc::{AllocError, Global};
 
 // The connection that the party holds of the pool has a pin.
@@ -21,8 +22,8 @@ fn holds_pin(pool: &PoolCore, party: u32) -> bool
 }
 
 impl Pools {
-    ghost use Rattle.mdb_pool.specs.History.{Item};
-    ghost use Rattle.mdb_pool.specs.declared.step.Act.TheVariants.{Pin as PinAct, Replicate as ReplicateAct, Take as TakeAct, Unpin as UnpinAct};
+    ghost use Rattle.mdb_log.specs.History.{Item};
+    ghost use Rattle.mdb_log.specs.declared.step.Act.TheVariants.{Pin as PinAct, Replicate as ReplicateAct, Take as TakeAct, Unpin as UnpinAct};
     ghost use Rattle.mdb_world.specs.Standing.{IsWithin, StandsFor, Performs};
 
     // A party pins its connection.

@@ -1,7 +1,8 @@
 //! The pools of one driver.
 
 use mdb_base::Moment;
-use mdb_pool::{PoolCore, PoolOptions};
+use mdb_log::PoolOptions;
+use mdb_pool::PoolCore;
 
 /// The pools of one driver, by number, and the moment of its last accepted step.
 #[derive(Drop)]

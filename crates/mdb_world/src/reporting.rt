@@ -6,12 +6,12 @@ use crate::outcome::Outcome;
 use crate::pools::Pools;
 use mdb_base::Moment;
 use mdb_events::Fact;
-use mdb_pool::{Established, Refused};
+use mdb_log::{Established, Refused};
 use std::alloc::{AllocError, Global};
 
 impl Pools {
-    ghost use Rattle.mdb_pool.specs.History.{Item};
-    ghost use Rattle.mdb_pool.specs.declared.step.Act.TheVariants.{Claim as ClaimAct, Established as EstablishedAct};
+    ghost use Rattle.mdb_log.specs.History.{Item};
+    ghost use Rattle.mdb_log.specs.declared.step.Act.TheVariants.{Claim as ClaimAct, Established as EstablishedAct};
     ghost use Rattle.mdb_world.specs.Standing.{IsWithin, StandsFor, Performs};
 
     // A worker asks for a connection to establish.

@@ -6,7 +6,7 @@ use crate::outcome::Outcome;
 use crate::pools::Pools;
 use mdb_base::{Items, OutOfMemory};
 use mdb_events::Fact;
-use mdb_pool::{Act, Entry, Log, Refused, Reply, Step};
+use mdb_log::{Act, Entry, Log, Refused, Reply, Step};
 use std::alloc::{AllocError, Global};
 
 // The log gets one entry more.
@@ -29,7 +29,7 @@ fn enter(
 }
 
 impl Pools {
-    ghost use Rattle.mdb_pool.specs.History.{Item};
+    ghost use Rattle.mdb_log.specs.History.{Item};
     ghost use Rattle.mdb_world.specs.Lines.{is_later};
     ghost use Rattle.mdb_world.specs.Standing.{IsWithin, StandsFor, Performs, Logs};
 

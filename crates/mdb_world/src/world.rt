@@ -1,14 +1,14 @@
 //! What answers the lines of a script: the pools that the first line opened.
 
 ghost use Rattle.std.specs.Prelude.{◌≡◌, ◌++◌, ◌∷◌, [], OnOk, OnErr, IfOk, None, true, List};
-ghost use Rattle.mdb_world.specs.Opening.{pool_options};
+ghost use Rattle.mdb_log.specs.Opening.{pool_options};
 ghost use Rattle.mdb_world.specs.Lines.{entry_after, opens_seeds, is_later, may_come, steps_of};
 
 use crate::opening::opening_facts;
 use crate::pools::Pools;
 use crate::seeds::in_order;
 use mdb_base::{Items, Options, OutOfMemory};
-use mdb_pool::{Act, Entry, Log, PoolOptions, Reply, Step};
+use mdb_log::{Act, Entry, Log, PoolOptions, Reply, Step};
 use std::alloc::Global;
 
 /// The pools of a script, once its first line has opened them.
@@ -60,7 +60,7 @@ fn is_later(act: &Act) -> bool
 }
 
 impl World {
-    ghost use Rattle.mdb_pool.specs.declared.log.Entry.{Entry};
+    ghost use Rattle.mdb_log.specs.declared.log.Entry.{Entry};
     ghost use Rattle.mdb_world.specs.Standing.{Stands, IsTaken, OpensSeeds};
 
     /// Nothing is open before the first line.

@@ -6,8 +6,8 @@ use super::{has_stepped, opened, pair, want};
 use crate::Total;
 use mdb_base::OutOfMemory;
 use mdb_events::End;
-use mdb_pool::{Core, Log, PooledConnection, Refused, Reply, Use};
-use mdb_shared::{Back, Poll, Seat, SharedDriver};
+use mdb_log::{Core, Log, PooledConnection, Refused, Reply, Use};
+use mdb_shared::{Back, Poll, Seat, SharedDriver, TryError};
 use std::alloc::Global;
 use std::sync::Wait;
 use std::test::Fail;
@@ -172,5 +172,26 @@ fn seats_meet_and_close_together(rt: HostRuntime) -> Result<(), Fail> {
     assert!(rt; seen == 2 && missing == 1);
     let last = log.entries().last().map(|entry| entry.step.moment);
     assert!(rt; core.last_moment() == 9 && last == Some(9));
+    Ok(())
+}
+
+fn text_of(alloc: Global, error: &TryError) -> Option<String> {
+    error.to_string(alloc).ok()
+}
+
+#[test]
+fn tries_that_failed_tell_why(rt: HostRuntime) -> Result<(), Fail> {
+    let alloc = rt.alloc();
+    let busy = TryError::Busy(1, want(0, 1));
+    let Some(taken) = text_of(alloc, &busy) else {
+        panic!(rt; "memory")
+    };
+    drop(busy);
+    let Some(memory) = text_of(alloc, &TryError::OutOfMemory) else {
+        panic!(rt; "memory")
+    };
+    assert!(rt;
+        taken.as_str() == "another seat has the turn" && memory.as_str() == "out of memory"
+    );
     Ok(())
 }

@@ -4,7 +4,7 @@ ghost use Rattle.std.specs.Prelude.{◌≡◌, [], All, IfSome};
 
 use super::{has_stepped, opened, pair, want};
 use crate::Total;
-use mdb_pool::{Core, Log, Reply};
+use mdb_log::{Core, Log, Reply};
 use mdb_shared::{Seat, SharedDriver};
 use std::alloc::Global;
 use std::sync::Wait;

@@ -1,6 +1,6 @@
 use Rattle.std.proofs.Common.{◌≡◌, ℕ, List, ◌++◌, ap, ◌∙◌, Some, codes}
 use Rattle.std.specs.Prelude.{string_bytes}
-use Rattle.mdb_pool.specs.declared.log.Entry.{Entry}
+use Rattle.mdb_log.specs.declared.log.Entry.{Entry}
 use Rattle.mdb_generator.specs.Generated.{generated, script}
 use Rattle.mdb_generator.specs.Summaries.{summary_of, summary_text}
 use Rattle.mdb_generator.specs.declared.summary.Summary.{Summary}

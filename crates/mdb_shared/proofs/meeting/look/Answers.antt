@@ -1,8 +1,8 @@
 use Rattle.std.proofs.Common.{rules, List, length, ap, sym, subst, ◌∙◌}
 use Rattle.atomic_table.specs.Table.{Me}
-use Rattle.mdb_pool.specs.declared.log.Entry.{Entry}
+use Rattle.mdb_log.specs.declared.log.Entry.{Entry}
 use Rattle.mdb_shared.specs.declared.rule.View.{View}
-use Rattle.mdb_pool.specs.Driver.{StartsWith}
+use Rattle.mdb_log.specs.Driver.{StartsWith}
 use Rattle.mdb_shared.specs.Turning.{Held, having_seen}
 use Rattle.mdb_shared.proofs.Keeping.{looks}
 use Rattle.mdb_shared.proofs.meeting.look.Goals as goal

@@ -1,7 +1,7 @@
 use Rattle.std.proofs.Common.{◌≡◌, ap, sym, subst, ◌∙◌}
 use Rattle.atomic_table.specs.Table.{Me}
 use Rattle.mdb_shared.specs.declared.rule.View.{View}
-use Rattle.mdb_pool.specs.Driver.{StartsWith}
+use Rattle.mdb_log.specs.Driver.{StartsWith}
 use Rattle.mdb_shared.specs.Turning.{Held, absorbed, copied}
 use Rattle.mdb_shared.proofs.Sharing.{met}
 use Rattle.mdb_shared.proofs.meeting.meet_at.Goals as goal

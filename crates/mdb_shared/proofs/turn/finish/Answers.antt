@@ -1,5 +1,5 @@
 use Rattle.std.proofs.Common.{rules, arith, ◌≡◌, ◌+◌, [], ◌∷◌, length, ap, sym, subst, ◌∙◌, length-append}
-use Rattle.mdb_pool.specs.declared.log.Entry.{Entry}
+use Rattle.mdb_log.specs.declared.log.Entry.{Entry}
 use Rattle.mdb_shared.specs.Turning.{with_entry, without_turn}
 use Rattle.mdb_shared.proofs.Keeping.{filled, adds_at, releases_at, grown_me, let_go_me, last_same}
 use Rattle.mdb_shared.proofs.turn.finish.Goals as goal

@@ -1,5 +1,5 @@
 use Rattle.std.proofs.Common.{◌≡◌, take}
-use Rattle.mdb_world.specs.Opening.{opening_facts}
+use Rattle.mdb_log.specs.Opening.{opening_facts}
 use Rattle.mdb_world.proofs.opening.opening_facts.Given as goal
 
 abbrev pub invariant-loop-address : goal.invariant-loop-address

@@ -1,7 +1,7 @@
 use Rattle.std.proofs.Common.{◌≡◌, List, ◌∷◌, Some, sym, ◌∙◌, ap, subst, true, false}
 use Rattle.mdb_pool.specs.declared.request.Request.{Request}
-use Rattle.mdb_pool.specs.declared.step.Act.TheVariants.{GiveUp}
-use Rattle.mdb_pool.specs.History.{PoolItem, gave_up}
+use Rattle.mdb_log.specs.declared.step.Act.TheVariants.{GiveUp}
+use Rattle.mdb_log.specs.History.{PoolItem, gave_up}
 use Rattle.mdb_pool.specs.Kept.{held_connection, request_at, is_ended_at, is_asked_at}
 use Rattle.mdb_pool.specs.Standing.{Fits, Accepts}
 use Rattle.mdb_pool.proofs.Tables.{entry_at-key}

@@ -1,6 +1,6 @@
 use Rattle.std.proofs.Common.{◌≡◌, List, length}
 use Rattle.mdb_events.specs.declared.end.End.TheVariants.{Cleared}
-use Rattle.mdb_pool.specs.History.{PoolItem}
+use Rattle.mdb_log.specs.History.{PoolItem}
 use Rattle.mdb_pool.specs.Standing.{Fits, SameHome, SameNotes}
 use Rattle.mdb_pool.specs.Kept.{numbers_where}
 use Rattle.mdb_pool.specs.Places.{is_queued}

@@ -1,5 +1,5 @@
 use Rattle.std.proofs.Common.{◌≡◌, ◌-◌, List}
-use Rattle.mdb_pool.specs.History.{PoolItem}
+use Rattle.mdb_log.specs.History.{PoolItem}
 use Rattle.mdb_pool.specs.Standing.{Fits, SameHome, SameNotes}
 use Rattle.mdb_pool.proofs.Maintains.{Filling}
 use Rattle.mdb_pool.proofs.pool_core.PoolCore.fill.Given as goal

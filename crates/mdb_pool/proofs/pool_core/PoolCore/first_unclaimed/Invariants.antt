@@ -1,5 +1,5 @@
 use Rattle.std.proofs.Common.{◌≡◌, ◌&&◌, not, drop, find}
-use Rattle.mdb_pool.specs.Connections.{has}
+use Rattle.mdb_log.specs.Connections.{has}
 use Rattle.mdb_pool.specs.Places.{is_pending}
 use Rattle.mdb_pool.proofs.pool_core.PoolCore.first_unclaimed.Given as goal
 

@@ -1,7 +1,7 @@
 use Rattle.std.proofs.Common.{subst, List}
 use Rattle.std.specs.Prelude.{IfOk}
-use Rattle.mdb_pool.specs.declared.step.Act.TheVariants.{Maintain as MaintainAct}
-use Rattle.mdb_pool.specs.History.{Item}
+use Rattle.mdb_log.specs.declared.step.Act.TheVariants.{Maintain as MaintainAct}
+use Rattle.mdb_log.specs.History.{Item}
 use Rattle.mdb_pool.specs.Standing.{StandsFor, Answers}
 use Rattle.mdb_pool.proofs.pool_core.PoolCore.maintain.Goals as goal
 

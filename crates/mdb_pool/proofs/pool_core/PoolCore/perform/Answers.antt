@@ -2,10 +2,10 @@ use Rattle.std.proofs.Common.{sym, subst, List, ◌≡◌}
 use Rattle.std.specs.Prelude.{IfOk, Result}
 use Rattle.mdb_events.specs.declared.fact.Fact.{Fact}
 use Rattle.mdb_pool.specs.declared.pool_core.PoolCore.{PoolCore}
-use Rattle.mdb_pool.specs.declared.reply.Reply.{Reply}
-use Rattle.mdb_pool.specs.declared.step.Act.{Act}
-use Rattle.mdb_pool.specs.declared.step.Step.{Step}
-use Rattle.mdb_pool.specs.History.{Item}
+use Rattle.mdb_log.specs.declared.reply.Reply.{Reply}
+use Rattle.mdb_log.specs.declared.step.Act.{Act}
+use Rattle.mdb_log.specs.declared.step.Step.{Step}
+use Rattle.mdb_log.specs.History.{Item}
 use Rattle.mdb_pool.specs.Standing.{StandsFor, Answers}
 use Rattle.mdb_pool.proofs.pool_core.PoolCore.perform.Goals as goal
 

@@ -1,8 +1,16 @@
-use Rattle.std.proofs.Common.{◌≡◌, ◌++◌, ◌∷◌, [], take, ◌+◌, sym, ◌∙◌, subst, arith}
+use Rattle.std.proofs.Common.{rules, ℕ, List, Result, Ok, Err, OnErr, ◌≡◌, ◌++◌, ◌∷◌, [], take, ◌+◌, sym, ◌∙◌, subst, arith}
 use Rattle.std.proofs.lemmas.Grind.{common_steps}
-use Rattle.mdb_pool.specs.Standing.{Runs}
+use Rattle.mdb_log.specs.Acts.{IsPoolAct}
+use Rattle.mdb_log.specs.declared.step.Step.{Step}
+use Rattle.mdb_log.specs.declared.log.Entry.{Entry}
+use Rattle.mdb_pool.specs.declared.pool_core.PoolCore.{PoolCore}
+use Rattle.mdb_pool.specs.Standing.{SameHome, Runs}
 use Rattle.mdb_pool.proofs.Runs.{run-more}
 use Rattle.mdb_pool.proofs.pool_core.PoolCore.run.Goals as goal
+
+on-error : {T E : Type 0} (r : Result T E) {P : Type 0} → P → OnErr r P
+on-error (Ok v) p = tt
+on-error (Err e) p = p
 
 pub loop-step-preserved : goal.loop-step-preserved
 loop-step-preserved c =
@@ -15,3 +23,20 @@ loop-step-preserved c =
       };
       runs = λ h z i. subst (λ steps. Runs c.args.self.now c.step.new.self c.args.log.now c.step.new.log c.args.seat steps h) (sym more) (run-more c.args.self.now c.loop-step.self c.step.new.self c.args.log.now c.loop-step.log c.step.new.log (take c.loop-step.step-index c.args.steps.now) c.args.seat c.step-item.result h c.loop-step.invariant.home c.in_ok-step.ensures.home (c.loop-step.invariant.runs h z i) c.in_ok-step.ensures.logs);
     }
+
+pub step-requires : goal.step-requires
+step-requires c =
+    let taken : IsPoolAct c.args.self.now.pool c.step-item.result.act = search rules in
+    subst (λ p. IsPoolAct p c.step-item.result.act) (sym c.loop-step.invariant.home.pool) taken
+
+pub returns-in_err-step-clause-begun : goal.returns-in_err-step-clause-begun
+returns-in_err-step-clause-begun c =
+    let s = c.args.self.now in let n : ℕ = c.loop-step.step-index in
+    let first : List Step = take n c.args.steps.now in
+    on-error c.from_residual.result (λ h z i. (
+      n,
+      subst (λ (t : PoolCore). Runs s t c.args.log.now c.step.new.log c.args.seat first h) (sym c.in_err-step.ensures.err_core) (subst (λ (log : List Entry). Runs s c.loop-step.self c.args.log.now log c.args.seat first h) (sym c.in_err-step.ensures.err_log) (c.loop-step.invariant.runs h z i)),
+    ))
+
+pub returns-in_err-step-clause-home : goal.returns-in_err-step-clause-home
+returns-in_err-step-clause-home c = subst (λ (t : PoolCore). SameHome c.args.self.now t) (sym c.in_err-step.ensures.err_core) c.loop-step.invariant.home

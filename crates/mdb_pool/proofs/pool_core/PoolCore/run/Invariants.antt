@@ -1,6 +1,6 @@
 use Rattle.std.proofs.Common.{List, take}
-use Rattle.mdb_pool.specs.History.{Item, of_pool}
-use Rattle.mdb_pool.specs.Legal.{NoneLeftWaiting}
+use Rattle.mdb_log.specs.History.{Item, of_pool}
+use Rattle.mdb_log.specs.Legal.{NoneLeftWaiting}
 use Rattle.mdb_pool.specs.Standing.{StandsFor, SameHome, Runs}
 use Rattle.mdb_pool.proofs.pool_core.PoolCore.run.Given as goal
 

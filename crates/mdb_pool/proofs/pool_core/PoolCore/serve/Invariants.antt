@@ -1,5 +1,5 @@
 use Rattle.std.proofs.Common.{◌≡◌, true, List}
-use Rattle.mdb_pool.specs.History.{PoolItem}
+use Rattle.mdb_log.specs.History.{PoolItem}
 use Rattle.mdb_pool.specs.Standing.{Fits, SameHome, SameNotes}
 use Rattle.mdb_pool.specs.Kept.{is_ready_now}
 use Rattle.mdb_pool.proofs.Serving.{Progress, load}

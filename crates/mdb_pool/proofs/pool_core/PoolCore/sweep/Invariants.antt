@@ -1,5 +1,5 @@
 use Rattle.std.proofs.Common.{◌≡◌, List, length}
-use Rattle.mdb_pool.specs.History.{PoolItem}
+use Rattle.mdb_log.specs.History.{PoolItem}
 use Rattle.mdb_pool.specs.Standing.{Fits, SameHome, SameNotes}
 use Rattle.mdb_pool.specs.Kept.{ids_where}
 use Rattle.mdb_pool.specs.Places.{is_available}

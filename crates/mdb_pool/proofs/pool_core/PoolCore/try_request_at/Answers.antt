@@ -1,9 +1,9 @@
 use Rattle.std.proofs.Common.{◌≡◌, sym, ◌∙◌, subst, List}
 use Rattle.std.specs.Prelude.{IfOk}
-use Rattle.mdb_pool.specs.declared.step.Act.TheVariants.{Request as RequestAct}
-use Rattle.mdb_pool.specs.History.{Item}
+use Rattle.mdb_log.specs.declared.step.Act.TheVariants.{Request as RequestAct}
+use Rattle.mdb_log.specs.History.{Item}
 use Rattle.mdb_pool.specs.Standing.{StandsFor, Answers}
-use Rattle.mdb_pool.proofs.Addresses.{same-address}
+use Rattle.mdb_log.proofs.Addresses.{same-address}
 use Rattle.mdb_pool.proofs.Acts.{refuses-back}
 use Rattle.mdb_pool.proofs.RequestedActs.{refuses-server}
 use Rattle.mdb_pool.proofs.pool_core.PoolCore.try_request_at.Goals as goal

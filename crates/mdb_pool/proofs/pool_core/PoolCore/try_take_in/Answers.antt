@@ -1,9 +1,9 @@
 use Rattle.std.proofs.Common.{subst, sym, ◌∙◌, List}
 use Rattle.std.specs.Prelude.{IfOk}
-use Rattle.mdb_pool.specs.declared.step.Act.TheVariants.{Take}
-use Rattle.mdb_pool.specs.History.{Item}
+use Rattle.mdb_log.specs.declared.step.Act.TheVariants.{Take}
+use Rattle.mdb_log.specs.History.{Item}
 use Rattle.mdb_pool.specs.Standing.{StandsFor, Answers}
-use Rattle.mdb_pool.proofs.Frame.{other-number}
+use Rattle.mdb_log.proofs.Frame.{other-number}
 use Rattle.mdb_pool.proofs.TakenActs.{refuses-known_other, refuses-other}
 use Rattle.mdb_pool.proofs.pool_core.PoolCore.try_take_in.Goals as goal
 

@@ -1,9 +1,9 @@
 use Rattle.std.proofs.Common.{sym, ◌∙◌, subst}
-use Rattle.mdb_pool.specs.declared.step.Act.TheVariants.{Unpin}
-use Rattle.mdb_pool.specs.declared.reply.Reply.TheVariants.{Refused}
-use Rattle.mdb_pool.specs.declared.reply.Refused.TheVariants.{Unpinned}
+use Rattle.mdb_log.specs.declared.step.Act.TheVariants.{Unpin}
+use Rattle.mdb_log.specs.declared.reply.Reply.TheVariants.{Refused}
+use Rattle.mdb_log.specs.declared.reply.Refused.TheVariants.{Unpinned}
 use Rattle.mdb_pool.specs.Standing.{Answers}
-use Rattle.mdb_pool.proofs.Frame.{other-number}
+use Rattle.mdb_log.proofs.Frame.{other-number}
 use Rattle.mdb_pool.proofs.UnpinnedActs.{unpin-own, refuses-unpinned, refuses-other}
 use Rattle.mdb_pool.proofs.pool_core.PoolCore.try_unpin.Goals as goal
 

@@ -1,9 +1,9 @@
 use Rattle.std.proofs.Common.{◌≡◌, sym, ◌∙◌, subst, List}
 use Rattle.std.specs.Prelude.{IfOk}
-use Rattle.mdb_pool.specs.declared.step.Act.TheVariants.{Warm as WarmAct}
-use Rattle.mdb_pool.specs.History.{Item}
+use Rattle.mdb_log.specs.declared.step.Act.TheVariants.{Warm as WarmAct}
+use Rattle.mdb_log.specs.History.{Item}
 use Rattle.mdb_pool.specs.Standing.{StandsFor, Answers}
-use Rattle.mdb_pool.proofs.Addresses.{same-address}
+use Rattle.mdb_log.proofs.Addresses.{same-address}
 use Rattle.mdb_pool.proofs.Acts.{refuses-back}
 use Rattle.mdb_pool.proofs.WarmedActs.{warm-server}
 use Rattle.mdb_pool.proofs.pool_core.PoolCore.try_warm_at.Goals as goal

@@ -1,6 +1,6 @@
 use Rattle.std.proofs.Common.{rules, ℕ, refl, ap, ◌∙◌}
-use Rattle.mdb_pool.specs.declared.log.Entry.{Entry}
-use Rattle.mdb_pool.specs.Driver.{IsEntry}
+use Rattle.mdb_log.specs.declared.log.Entry.{Entry}
+use Rattle.mdb_log.specs.Driver.{IsEntry}
 use Rattle.mdb_total.specs.Totals.{reply_of}
 use Rattle.mdb_total.proofs.Totalled.{still_stands}
 use Rattle.mdb_total.proofs.total.TotalCore.step.Goals as goal

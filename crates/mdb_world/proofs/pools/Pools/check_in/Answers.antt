@@ -1,6 +1,6 @@
 use Rattle.std.proofs.Common.{◌≡◌, ◌<◌, ◌∙◌, length, refl, sym, Some, is_some}
 use Rattle.std.specs.Prelude.{slice_get}
-use Rattle.mdb_pool.specs.declared.step.Act.TheVariants.{Return}
+use Rattle.mdb_log.specs.declared.step.Act.TheVariants.{Return}
 use Rattle.mdb_pool.specs.Kept.{held_connection}
 use Rattle.mdb_world.proofs.Lists.{position-within, position-at, position-none, at-index}
 use Rattle.mdb_world.proofs.Acts.{no-home, holds-at, return-refusal}

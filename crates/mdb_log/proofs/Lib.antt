@@ -1,0 +1,9 @@
+pub mod Bools
+pub mod Numbers
+pub mod Addresses
+pub mod Ascending
+pub mod Sorted
+pub mod Pins
+pub mod Frame
+pub mod Later
+pub mod Opened

@@ -1,0 +1,16 @@
+pub mod History
+pub mod Connections
+pub mod Requests
+pub mod State
+pub mod Generations
+pub mod Limits
+pub mod Fresh
+pub mod Own
+pub mod Legal
+pub mod Answer
+pub mod Acts
+pub mod Driver
+pub mod Homes
+pub mod Opening
+pub mod LegalLog
+pub mod Beside
