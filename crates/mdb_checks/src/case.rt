@@ -4,8 +4,8 @@ use crate::objects::Objects;
 use crate::page::Page;
 use crate::words::parted;
 use crate::{
-    base, deliveries, describe, entries, errors, events, generator, hello, lines, monitor, pool,
-    pool_values, runs, scripts, srv,
+    base, deliveries, entries, errors, events, generator, hello, lines, monitor, pool, pool_values,
+    runs, scripts, servers, srv, topologies,
 };
 
 fn of_base(page: &mut Page, kind: &str, given: &str) {
@@ -54,10 +54,11 @@ fn of_srv(page: &mut Page, kind: &str, given: &str) {
 
 fn of_describe(page: &mut Page, kind: &str, given: &str) {
     match kind {
-        "info" | "told" | "compatible" | "own" | "available" | "fault" => {
-            describe::tell_of_server(page, kind, given)
+        "info" | "told" | "compatible" | "own" | "available" | "bearing" | "fault" => {
+            servers::tell_of_server(page, kind, given)
         }
-        "alike" => describe::alike(page, given),
+        "alike" => servers::alike(page, given),
+        "literal" => servers::literal(page, given),
         _ => of_srv(page, kind, given),
     }
 }
@@ -116,7 +117,7 @@ fn of_value(page: &mut Page, kind: &str, given: &str) {
 pub fn answer(page: &mut Page, objects: &mut Objects, case: &str) {
     let (kind, given) = parted(case);
     match kind {
-        "topology" => describe::follow(page, &mut objects.topology, given),
+        "topology" => topologies::follow(page, &mut objects.topology, given),
         "monitor" => monitor::follow(page, &mut objects.monitor, given),
         "pool" => pool::follow(page, &mut objects.pool, given),
         "script" => scripts::begin(page, &mut objects.script, given),

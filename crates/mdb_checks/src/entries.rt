@@ -6,7 +6,7 @@ use crate::words::{number, parted, small};
 use mdb_base::Items;
 use mdb_events::Fact;
 use mdb_lines::write_entry;
-use mdb_pool::{Act, Entry, Refused, Reply, Step, What};
+use mdb_log::{Act, Entry, Refused, Reply, Step, What};
 
 fn what(word: &str) -> What {
     match word {

@@ -6,7 +6,7 @@ use crate::words::small;
 use mdb_base::Items;
 use mdb_events::Fact;
 use mdb_generator::{Summary, make_script, read_words};
-use mdb_pool::{Act, Entry, Reply, Step};
+use mdb_log::{Act, Entry, Reply, Step};
 
 // The script of so many rounds; nothing where there are none, or more than 2,000.
 fn script(page: &mut Page, rounds: u32) -> Vec<u8> {

@@ -5,7 +5,6 @@
 mod base;
 mod case;
 mod deliveries;
-mod describe;
 mod entries;
 mod errors;
 mod events;
@@ -23,7 +22,9 @@ mod pool_values;
 mod runs;
 mod scripts;
 mod server_events;
+mod servers;
 mod srv;
+mod topologies;
 mod words;
 
 use objects::Objects;

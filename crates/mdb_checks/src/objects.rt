@@ -1,8 +1,8 @@
 //! What the cases of sequences are about.
 
-use crate::describe::Topology;
 use crate::monitor::Monitor;
 use crate::pool::Pool;
+use crate::topologies::Topology;
 use std::alloc::Global;
 
 /// The object that the last `open` of each sequence made, and the script so far.

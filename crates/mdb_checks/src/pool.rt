@@ -7,7 +7,8 @@ use crate::pool_told::{tell, tell_facts, tell_reply};
 use crate::words::{number, parted, signed, small, value_of};
 use mdb_base::{Error, Moment, ObjectId, OutOfMemory};
 use mdb_events::Fact;
-use mdb_pool::{Established, FailedAt, Log, PoolCore, PoolOptions, Reply, Use};
+use mdb_log::{Established, FailedAt, Log, PoolOptions, Reply, Use};
+use mdb_pool::PoolCore;
 
 /// The pool 0 of the address `a:1`, the facts of the last call, and the log of the steps.
 #[derive(Drop)]

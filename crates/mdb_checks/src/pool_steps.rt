@@ -1,19 +1,19 @@
 //! Cases of mdb_pool: the acts of one pool as steps, which a log keeps.
 
-ghost use Rattle.mdb_pool.specs.Standing.{IsPoolAct};
+ghost use Rattle.mdb_log.specs.Acts.{IsPoolAct};
 
 use crate::page::Page;
 use crate::pool::{Pool, cause, failed_at, made, service, used};
 use crate::pool_told::tell_entry;
 use crate::words::{number, parted, small};
 use mdb_base::{Moment, OutOfMemory};
-use mdb_pool::{Act, Step};
+use mdb_log::{Act, Step};
 
 type Stepped = Result<(), OutOfMemory>;
 
 // The functions that make an act do not drop it, since a drop there looks at every kind of act.
 fn take_step(page: &mut Page, pool: &mut Pool, moment: Moment, act: Act) -> Stepped
-    requires { IsPoolAct act }
+    requires { IsPoolAct pool.old.core.pool act }
 {
     let step = Step { moment, act };
     let stepped = pool.core.step(page.alloc, &mut pool.log, 0, &step);
@@ -98,21 +98,32 @@ fn maintain(page: &mut Page, pool: &mut Pool, moment: Moment, words: &str) -> St
     take_step(page, pool, moment, act)
 }
 
+// The number of a pool that is not this one is malformed here: a pool takes such a step on its own number alone.
 fn ready(page: &mut Page, pool: &mut Pool, moment: Moment, words: &str) -> Stepped {
-    let act = Act::Ready(small(words));
-    take_step(page, pool, moment, act)
+    let number = pool.core.number();
+    if small(words) != number {
+        page.put("malformed ");
+    }
+    take_step(page, pool, moment, Act::Ready(number))
 }
 
 fn clear(page: &mut Page, pool: &mut Pool, moment: Moment, words: &str) -> Stepped {
     let (home, words) = parted(words);
+    let number = pool.core.number();
+    if small(home) != number {
+        page.put("malformed ");
+    }
     let cause = cause(page, words);
-    let act = Act::Clear(small(home), service(words), cause);
+    let act = Act::Clear(number, service(words), cause);
     take_step(page, pool, moment, act)
 }
 
 fn close(page: &mut Page, pool: &mut Pool, moment: Moment, words: &str) -> Stepped {
-    let act = Act::Close(small(words));
-    take_step(page, pool, moment, act)
+    let number = pool.core.number();
+    if small(words) != number {
+        page.put("malformed ");
+    }
+    take_step(page, pool, moment, Act::Close(number))
 }
 
 fn of_pool(page: &mut Page, pool: &mut Pool, moment: Moment, act: &str, words: &str) -> Stepped {
@@ -160,8 +171,8 @@ pub fn step(page: &mut Page, pool: &mut Pool, words: &str) {
 }
 
 fn run_two(page: &mut Page, pool: &mut Pool, first: Act, second: Act) -> Stepped
-    requires first { IsPoolAct first }
-    requires second { IsPoolAct second }
+    requires first { IsPoolAct pool.old.core.pool first }
+    requires second { IsPoolAct pool.old.core.pool second }
 {
     let first = Step {
         moment: 0,

@@ -4,7 +4,8 @@ use crate::page::Page;
 use crate::pool::service;
 use crate::words::{parted, small};
 use mdb_events::Fact;
-use mdb_pool::{Entry, PoolCore, Reply};
+use mdb_log::{Entry, Reply};
+use mdb_pool::PoolCore;
 
 fn pair(page: &mut Page, word: &str, pool: u32, id: u32) {
     page.put(word);

@@ -4,7 +4,7 @@ use crate::page::Page;
 use crate::words::{number, parted, small, value_of};
 use mdb_base::{Items, ObjectId};
 use mdb_events::ConnectionInfo;
-use mdb_pool::{
+use mdb_log::{
     ConnectionGeneration, LoadBalancedGeneration, PinnedConnectionHandle, PoolGeneration,
     PooledConnection,
 };

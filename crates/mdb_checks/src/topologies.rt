@@ -1,80 +1,19 @@
-//! Cases of mdb_describe.
+//! Cases of mdb_describe: topologies.
 
 use crate::base::made_options;
-use crate::hello::{down, response};
 use crate::page::Page;
+use crate::servers::server;
 use crate::words::{number, parted};
-use mdb_base::{ClusterTime, Doc, Document, Items, OutOfMemory, ServerAddress, TagSet, Text};
+use mdb_base::{ClusterTime, Items, TagSet, Text};
 use mdb_describe::{
-    Diff, Mode, ReadPreference, SelectionCriteria, ServerDescription, ServerInfo,
-    TopologyDescription,
+    Diff, Mode, ReadPreference, SelectionCriteria, ServerDescription, TopologyDescription,
 };
-use mdb_hello::{HelloReply, ServerType};
 
 /// A topology as it was opened, and as it is.
 #[derive(Drop)]
 pub struct Topology {
     opened: TopologyDescription,
     now: TopologyDescription,
-}
-
-fn made(
-    page: &mut Page,
-    made: Result<ServerDescription, OutOfMemory>,
-) -> Option<ServerDescription> {
-    match made {
-        Ok(description) => Some(description),
-        Err(_) => {
-            page.fail();
-            None
-        }
-    }
-}
-
-fn failed(page: &mut Page, address: ServerAddress, words: &str) -> ServerDescription {
-    let mut error = down(page);
-    error.topology_version = response(page, words).topology_version;
-    ServerDescription::new_from_error(address, error)
-}
-
-fn reply(page: &mut Page, address: &ServerAddress, words: &str) -> HelloReply {
-    HelloReply {
-        server_address: page.same_address(address),
-        command_response: response(page, words),
-        raw_command_response: Document::new(Doc {
-            fields: Vec::new(page.alloc),
-        }),
-        cluster_time: None,
-    }
-}
-
-fn replied(page: &mut Page, address: ServerAddress, words: &str) -> Option<ServerDescription> {
-    let reply = reply(page, &address, words);
-    let description = ServerDescription::new_from_hello_reply(page.alloc, address, reply, 1, 2);
-    made(page, description)
-}
-
-fn unknown(page: &mut Page, address: &ServerAddress) -> Option<ServerDescription> {
-    let description = ServerDescription::new(page.alloc, address);
-    made(page, description)
-}
-
-fn balancer(page: &mut Page, address: &ServerAddress) -> Option<ServerDescription> {
-    let mut description = unknown(page, address)?;
-    description.server_type = ServerType::LoadBalancer;
-    Some(description)
-}
-
-// The description of a server by its address, its kind and its fields; none where memory is short.
-fn server(page: &mut Page, given: &str) -> Option<ServerDescription> {
-    let (host, words) = parted(given);
-    let address = page.address(host);
-    match words {
-        "" => unknown(page, &address),
-        "balancer" => balancer(page, &address),
-        _ if words.starts_with("error") => Some(failed(page, address, words)),
-        _ => replied(page, address, words),
-    }
 }
 
 fn tell_server(page: &mut Page, server: &ServerDescription) {
@@ -214,6 +153,17 @@ fn server_of(page: &mut Page, topology: &TopologyDescription, given: &str) {
     }
 }
 
+// What a copy of it tells.
+fn copy(page: &mut Page, topology: &TopologyDescription) {
+    match topology.clone() {
+        Ok(copy) => {
+            tell(page, &copy);
+            drop(copy);
+        }
+        Err(_) => page.fail(),
+    }
+}
+
 fn step(page: &mut Page, topology: &mut Topology, kind: &str, given: &str) {
     match kind {
         "update" => update(page, &mut topology.now, given),
@@ -224,6 +174,7 @@ fn step(page: &mut Page, topology: &mut Topology, kind: &str, given: &str) {
         "readable" if given == "any" => page.answer(topology.now.has_readable_server(None)),
         "readable" => readable(page, &topology.now, given),
         "diff" => diff(page, topology),
+        "copy" => copy(page, &topology.now),
         "timeout" => page.debug(&topology.now.logical_session_timeout()),
         "error" => page.put(topology.now.compatibility_error().unwrap_or("none")),
         "server" => server_of(page, &topology.now, given),
@@ -242,95 +193,5 @@ pub fn follow(page: &mut Page, topology: &mut Option<Topology>, given: &str) {
     }
     if let Some(topology) = topology {
         step(page, topology, kind, given);
-    }
-}
-
-fn show_info(page: &mut Page, server: &ServerDescription) {
-    match ServerInfo::new(server).text(page.alloc) {
-        Ok(text) => page.put(text.as_str()),
-        Err(_) => page.fail(),
-    }
-}
-
-fn show_compatible(page: &mut Page, server: &ServerDescription) {
-    match server.compatibility_error_message(page.alloc) {
-        Ok(Some(message)) => page.put(message.as_str()),
-        Ok(None) => page.put("yes"),
-        Err(_) => page.fail(),
-    }
-}
-
-fn show_fault(page: &mut Page, server: &ServerDescription) {
-    match server.error() {
-        Some(error) => page.show(error),
-        None => page.put("none"),
-    }
-}
-
-fn show_versions(page: &mut Page, info: &ServerInfo) {
-    page.debug(&info.min_wire_version());
-    page.put(" ");
-    page.debug(&info.max_wire_version());
-    page.put(" ");
-    page.debug(&info.replica_set_version());
-}
-
-fn show_times(page: &mut Page, info: &ServerInfo) {
-    page.debug(&info.average_round_trip_time());
-    page.put(" ");
-    page.debug(&info.last_update_time());
-}
-
-// Each single thing that is told of a server.
-fn show_told(page: &mut Page, info: &ServerInfo) {
-    page.show(info.address());
-    page.put(" ");
-    page.debug(&info.server_type());
-    page.put(" ");
-    show_times(page, info);
-    page.put(" ");
-    show_versions(page, info);
-    page.put(" ");
-    page.put(info.replica_set_name().unwrap_or("-"));
-    page.put_if(info.tags().is_some(), " tags");
-    page.put_if(info.error().is_some(), " error");
-}
-
-fn show_server(page: &mut Page, kind: &str, server: &ServerDescription) {
-    match kind {
-        "info" => show_info(page, server),
-        "compatible" => show_compatible(page, server),
-        "told" => show_told(page, &ServerInfo::new(server)),
-        "own" => page.answer(!server.invalid_me()),
-        "available" => page.answer(server.is_available()),
-        "fault" => show_fault(page, server),
-        _ => page.put("malformed"),
-    }
-}
-
-fn alike_to(page: &mut Page, one: &ServerDescription, words: &str) {
-    if let Some(other) = server(page, words) {
-        page.answer(one.same(&other));
-        drop(other);
-    }
-}
-
-/// `alike a:1 standalone, a:1 standalone wire=7`: whether the two descriptions say the same.
-pub fn alike(page: &mut Page, given: &str) {
-    let (one, other) = given.split_once(", ").unwrap_or((given, ""));
-    if let Some(one) = server(page, one) {
-        alike_to(page, &one, other);
-        drop(one);
-    }
-}
-
-/// Of the server that the words describe: `info a:1 secondary`, its text; `told a:1 secondary`, each thing by itself;
-/// `available a:1 secondary`, whether it can be used; `compatible a:1 standalone wire=7`, why the
-/// driver cannot speak to it; `own a:1 secondary me=a:1`, whether it names its own address or none; `fault a:1 primary
-/// hosts=a:0`, its error.
-pub fn tell_of_server(page: &mut Page, kind: &str, given: &str) {
-    if let Some(server) = server(page, given) {
-        show_server(page, kind, &server);
-        drop(server);
     }
 }
