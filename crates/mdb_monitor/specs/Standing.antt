@@ -5,6 +5,7 @@ use Rattle.mdb_monitor.specs.declared.knowledge.Connection.{Connection}
 use Rattle.mdb_monitor.specs.declared.knowledge.Knowledge.{Knowledge}
 use Rattle.mdb_monitor.specs.declared.knowledge.Knowledge.TheVariants.{Unconnected, Connected}
 use Rattle.mdb_monitor.specs.declared.monitor.MonitorCore.{MonitorCore}
+use Rattle.mdb_monitor.specs.declared.monitor.Setting.{Setting}
 use Rattle.mdb_monitor.specs.Average.{average_of}
 use Rattle.mdb_monitor.specs.Items.{MonitorItem, since, is_running, fresh_of, version_of, more_follows, connection_of, samples}
 
@@ -26,6 +27,10 @@ known_average (Connected session) = Some session.average
 abbrev pub says_more : Knowledge → Bool
 says_more (Unconnected round_trips) = false
 says_more (Connected session) = session.more_to_come
+
+-- how the server is monitored
+abbrev pub setting_of : MonitorCore → Setting
+setting_of m = m.setting
 
 -- a check runs
 abbrev pub runs : MonitorCore → Bool

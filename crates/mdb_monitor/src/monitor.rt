@@ -5,7 +5,7 @@ ghost use Rattle.mdb_monitor.specs.Average.{mean};
 ghost use Rattle.mdb_monitor.specs.Items.{MonitorItem, began, ended, measured, since, is_running, connection_of, samples};
 ghost use Rattle.mdb_monitor.specs.Beginnings.{begin_row};
 ghost use Rattle.mdb_monitor.specs.Endings.{finish_row};
-ghost use Rattle.mdb_monitor.specs.Standing.{runs, StandsFor};
+ghost use Rattle.mdb_monitor.specs.Standing.{runs, setting_of, StandsFor};
 
 use crate::check::{Begin, CheckResult, Finish};
 use crate::knowledge::Knowledge;
@@ -67,7 +67,7 @@ impl MonitorCore {
         heartbeat: Moment,
         connect: Moment,
     ) -> MonitorCore
-        ensures setting { result.setting ≡ record { address = address; allow_streaming = allow_streaming; heartbeat = heartbeat; connect = connect } }
+        ensures setting { setting_of result ≡ record { address = address; allow_streaming = allow_streaming; heartbeat = heartbeat; connect = connect } }
         ensures stands { StandsFor result [] }
         ensures idle { runs result ≡ false }
     {
@@ -86,9 +86,9 @@ impl MonitorCore {
     /// A check begins. Where there is no connection the check makes one, and its number is `fresh`.
     pub fn begin(&mut self, alloc: Global, fresh: u32) -> Result<Begin, OutOfMemory>
         requires idle { runs self.old ≡ false }
-        ensures begins { IfOk result (λ b. (h : List MonitorItem) → StandsFor self.old h → b ≡ begin_row self.old.setting (since h) fresh) }
+        ensures begins { IfOk result (λ b. (h : List MonitorItem) → StandsFor self.old h → b ≡ begin_row (setting_of self.old) (since h) fresh) }
         ensures stands { OnOk result ((h : List MonitorItem) → StandsFor self.old h → StandsFor self.new (began fresh ∷ h)) }
-        ensures setting { self.new.setting ≡ self.old.setting }
+        ensures setting { setting_of self.new ≡ setting_of self.old }
         ensures running { OnOk result (runs self.new ≡ true) }
         ensures unchanged { OnErr result (self.new ≡ self.old) }
     {
@@ -107,9 +107,9 @@ impl MonitorCore {
         available: bool,
     ) -> Result<Finish, OutOfMemory>
         requires running { runs self.old ≡ true }
-        ensures finishes { IfOk result (λ f. (h : List MonitorItem) → StandsFor self.old h → f ≡ finish_row self.old.setting (since h) duration ended available) }
+        ensures finishes { IfOk result (λ f. (h : List MonitorItem) → StandsFor self.old h → f ≡ finish_row (setting_of self.old) (since h) duration ended available) }
         ensures stands { OnOk result ((h : List MonitorItem) → StandsFor self.old h → StandsFor self.new (MonitorItem.ended duration ended ∷ h)) }
-        ensures setting { self.new.setting ≡ self.old.setting }
+        ensures setting { setting_of self.new ≡ setting_of self.old }
         ensures idle { OnOk result (runs self.new ≡ false) }
         ensures unchanged { OnErr result (self.new ≡ self.old) }
     {
@@ -128,9 +128,9 @@ impl MonitorCore {
     /// taken.
     pub fn rtt_sample(&mut self, sample: Nanos) -> Nanos
         ensures stands { (h : List MonitorItem) → StandsFor self.old h → StandsFor self.new (measured sample ∷ h) }
-        ensures setting { self.new.setting ≡ self.old.setting }
+        ensures setting { setting_of self.new ≡ setting_of self.old }
         ensures running { runs self.new ≡ runs self.old }
-        ensures average { (h : List MonitorItem) → StandsFor self.old h → result ≡ mean (samples self.old.setting.allow_streaming (measured sample ∷ since h)) }
+        ensures average { (h : List MonitorItem) → StandsFor self.old h → result ≡ mean (samples (setting_of self.old).allow_streaming (measured sample ∷ since h)) }
     {
         self.knowledge.add_sample(sample)
     }
