@@ -1,14 +1,15 @@
 //! The host and the port of an address, as its text has them. No memory is taken.
 
-ghost use Rattle.std.specs.Prelude.{◌≡◌, ◌<◌, ◌==◌, ◌↔◌, ℕ, List, length, option_copied, map, if◌then◌else◌, IfSome, IsTrue, MatchOption, Some, None};
+ghost use Rattle.std.specs.Prelude.{◌≡◌, ◌==◌, ◌↔◌, ℕ, List, length, option_copied, map, if◌then◌else◌, IfSome, IsTrue, MatchOption, Some, None};
 ghost use Rattle.std.specs.List.{list_all};
 ghost use Rattle.std.specs.Char.{to_ascii_lowercase};
-ghost use Rattle.mdb_base.specs.AddressReading.{after as after_name, until, beyond, number_of};
+ghost use Rattle.mdb_base.specs.AddressReading.{after as after_name, number_of};
 ghost use Rattle.mdb_base.specs.AddressRule.{is_name_byte, is_v6_byte, is_name_host, is_v6_host};
 ghost use Rattle.mdb_base.specs.AddressText.{IsPort, EndsAs, EndsBracketed, IsPlain, IsBracketed, IsWritten};
 
 use crate::address::has_colon;
 use crate::address_rule::{is_name_byte as name_byte, is_v6_byte as v6_byte};
+use crate::cutting::cut;
 use itoa::Buffer;
 
 // What stands after a name, where the text begins with it.
@@ -16,18 +17,6 @@ fn after<'a>(text: &'a str, name: &str) -> Option<&'a str>
     ensures { option_copied result ≡ after_name name.now text.now }
 {
     text.strip_prefix(name)
-}
-
-// What stands before the first such character, and what stands from it on.
-fn cut(text: &str, at: char) -> (&str, &str)
-    requires { at < 128 }
-    ensures front { result.0.now ≡ until at text.now }
-    ensures rest { result.1.now ≡ beyond at text.now }
-{
-    match text.find(at) {
-        Some(place) => (&text[..place], &text[place..]),
-        None => (text, ""),
-    }
 }
 
 fn number16(word: &str) -> Option<u16>

@@ -8,6 +8,7 @@ mod address_order;
 mod address_parse;
 mod address_rule;
 mod address_text;
+mod cutting;
 mod document;
 mod document_copy;
 mod error;
@@ -35,6 +36,7 @@ pub use acknowledgment::{
 };
 pub use address::{ServerAddress, has_colon};
 pub use address_parse::AddressError;
+pub use cutting::cut;
 pub use document::{Doc, Value};
 pub use error::{Error, ErrorKind};
 pub use held_document::Document;

@@ -20,6 +20,8 @@ pub struct Options {
     pub min_pool_size: Option<u32>,
     pub max_connecting: Option<u32>,
     pub max_idle_time: Option<Moment>,
+    /// How long a caller may wait in the queue of a pool, in milliseconds. 0, as no limit, ends nobody.
+    pub max_wait: Option<Moment>,
     pub heartbeat: Option<Moment>,
     pub connect: Option<Moment>,
     pub streaming: Option<bool>,
@@ -48,6 +50,7 @@ impl Clone for Options {
             min_pool_size: self.min_pool_size,
             max_connecting: self.max_connecting,
             max_idle_time: self.max_idle_time,
+            max_wait: self.max_wait,
             heartbeat: self.heartbeat,
             connect: self.connect,
             streaming: self.streaming,

@@ -2,7 +2,7 @@ use Rattle.std.proofs.Common.{◌≡◌, ◌∙◌, sym, take, Some, None, arith
 use Rattle.std.proofs.lemmas.Grind.{common_steps}
 use Rattle.std.proofs.lemmas.Str.Pattern.{find_char}
 use Rattle.mdb_base.proofs.Words.{until_found, until_missing}
-use Rattle.mdb_base.proofs.address_text.cut.Goals as goal
+use Rattle.mdb_base.proofs.cutting.cut.Goals as goal
 
 pub returns-in-Some-clause-front : goal.returns-in-Some-clause-front
 returns-in-Some-clause-front c =
