@@ -6,7 +6,7 @@ use Rattle.mdb_events.specs.Words.{service_or_dash}
 use Rattle.mdb_events.specs.EventText.{event_text}
 use Rattle.mdb_events.specs.SdamText.{sdam_text}
 use Rattle.mdb_events.specs.declared.end.End.{End}
-use Rattle.mdb_events.specs.declared.end.End.TheVariants.{Cleared, Failed, Closed, Warmed, Filled, GaveUp}
+use Rattle.mdb_events.specs.declared.end.End.TheVariants.{Cleared, Failed, Closed, Warmed, Filled, GaveUp, TimedOut}
 use Rattle.mdb_events.specs.declared.fact.Fact.{Fact}
 use Rattle.mdb_events.specs.declared.fact.Fact.TheVariants.{Opened, Pool, Granted, Ended, Raised, Sdam, CheckNow, Cancel}
 
@@ -17,6 +17,7 @@ end_text Closed = codes "Closed"
 end_text Warmed = codes "Warmed"
 end_text Filled = codes "Filled"
 end_text GaveUp = codes "GaveUp"
+end_text TimedOut = codes "TimedOut"
 
 abbrev pub fact_text : Fact → List ℕ
 fact_text (Opened p a) = codes "Opened " ++ (decimal p ++ (codes " " ++ address a))

@@ -21,6 +21,8 @@ pub enum End {
     Filled,
     /// The one who asked gave up.
     GaveUp,
+    /// A caller waited for as long as a caller may.
+    TimedOut,
 }
 
 impl Clone for End {
@@ -34,6 +36,7 @@ impl Clone for End {
             End::Warmed => End::Warmed,
             End::Filled => End::Filled,
             End::GaveUp => End::GaveUp,
+            End::TimedOut => End::TimedOut,
         })
     }
 }
@@ -52,6 +55,7 @@ impl fmt::Display for End {
             End::Warmed => write!(f, "Warmed"),
             End::Filled => write!(f, "Filled"),
             End::GaveUp => write!(f, "GaveUp"),
+            End::TimedOut => write!(f, "TimedOut"),
         }
     }
 }

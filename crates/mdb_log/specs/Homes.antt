@@ -4,7 +4,7 @@ use Rattle.std.specs.List.{list_any}
 use Rattle.mdb_base.specs.declared.address.ServerAddress.{ServerAddress}
 use Rattle.mdb_events.specs.declared.fact.Fact.TheVariants.{Opened}
 use Rattle.mdb_log.specs.declared.step.Act.{Act}
-use Rattle.mdb_log.specs.declared.step.Act.TheVariants.{Request, Warm, Maintain, Collect, Claim, GiveUp, Established, Return, Pin, Replicate, Take, Unpin}
+use Rattle.mdb_log.specs.declared.step.Act.TheVariants.{Request, Warm, Maintain, Expire, Collect, Claim, GiveUp, Established, Return, Pin, Replicate, Take, Unpin}
 use Rattle.mdb_log.specs.History.{Item, made, of_pool, open_pool, is_number, has_asked}
 use Rattle.mdb_log.specs.Connections.{pending_list, holding}
 use Rattle.mdb_log.specs.Requests.{is_claimed}
@@ -29,6 +29,7 @@ abbrev pub concerns : List Item → Act → ℕ → Bool
 concerns h (Request r a) p = is_number (open_pool h a) p
 concerns h (Warm r a) p = is_number (open_pool h a) p
 concerns h (Maintain a) p = is_number (open_pool h a) p
+concerns h (Expire a) p = is_number (open_pool h a) p
 concerns h (Collect r) p = has_asked (of_pool p h) r
 concerns h (GiveUp r) p = has_asked (of_pool p h) r
 concerns h Claim p = has_job h p

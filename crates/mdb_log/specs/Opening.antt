@@ -23,6 +23,7 @@ pool_options o = record {
   max_pool_size = o.max_pool_size;
   min_pool_size = o.min_pool_size;
   max_idle_time = o.max_idle_time;
+  max_wait = o.max_wait;
   max_connecting = o.max_connecting;
   load_balanced = o.load_balanced;
   limit_id = unwrap_or o.limit_id 4294967295;

@@ -13,6 +13,8 @@ pub struct PoolOptions {
     pub max_idle_time: Option<Moment>,
     /// The most connections that are pending at a time, 2 where it isn't named.
     pub max_connecting: Option<u32>,
+    /// How long a caller may wait in the queue, in milliseconds. 0, as no limit, ends nobody.
+    pub max_wait: Option<Moment>,
     /// The address is a load balancer's.
     pub load_balanced: bool,
     /// The greatest id of a connection.

@@ -100,6 +100,8 @@ pub enum Act {
     Stop,
     /// The pool of the address is maintained.
     Maintain(ServerAddress),
+    /// The callers of the address's pool that waited too long end.
+    Expire(ServerAddress),
     /// A pool may be used.
     Ready(u32),
     /// The connections of a pool, or those of a service of it, become stale.
@@ -143,6 +145,7 @@ impl Clone for Act {
             Act::Unwant(watcher) => Act::Unwant(*watcher),
             Act::Stop => Act::Stop,
             Act::Maintain(address) => Act::Maintain(address.clone()?),
+            Act::Expire(address) => Act::Expire(address.clone()?),
             Act::Ready(pool) => Act::Ready(*pool),
             Act::Clear(pool, service, error) => Act::Clear(*pool, *service, error.clone()?),
             Act::Close(pool) => Act::Close(*pool),
