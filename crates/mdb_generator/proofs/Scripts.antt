@@ -171,7 +171,7 @@ rounds_later (suc n) few = later_join (rounds n) (round (suc n)) (rounds_later n
 opened_spells : Spells 1 (spelling opened) opened
 unfolding digits parts_text are_options is_name_host is_v6_host
 opened_spells = record {
-  types = (omega arith, record { max = omega arith; min = tt; connecting = omega arith; idle = tt; heartbeat = tt; connect = tt; limit_id = tt; limit_generation = tt; limit_pool = tt; limit_monitor = tt });
+  types = (omega arith, record { max = omega arith; min = tt; connecting = omega arith; idle = tt; wait = tt; heartbeat = tt; connect = tt; limit_id = tt; limit_generation = tt; limit_pool = tt; limit_monitor = tt });
   rules = refl;
   place = refl;
   printable = refl;

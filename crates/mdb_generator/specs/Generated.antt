@@ -29,6 +29,7 @@ options = record {
   min_pool_size = None;
   max_connecting = Some 2;
   max_idle_time = None;
+  max_wait = None;
   heartbeat = None;
   connect = None;
   streaming = None;

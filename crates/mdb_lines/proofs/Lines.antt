@@ -34,6 +34,7 @@ act_read m (act.Replicate p c) r lm types rules reads = reads m p c lm types.0 t
 act_read m (act.Take party p c) r lm types rules reads = reads m party p c lm types.0 types.1 types.2 refl
 act_read m (act.Unpin p c) r lm types rules reads = reads m p c lm types.0 types.1 refl
 act_read m (act.Maintain a) r lm types rules reads = reads m a lm rules refl
+act_read m (act.Expire a) r lm types rules reads = reads m a lm rules refl
 act_read m _ r lm types rules reads = absurd (cc)
 
 pub step_read : (number : ℕ) (line : List ℕ) (s : Step) (r : Result Step LineError) → Spells number line s → ReadsLine line r → Gives s r
@@ -65,6 +66,7 @@ act_reads m (act.Replicate p c) lm types rules = place_same (λ q k. act.Replica
 act_reads m (act.Take party p c) lm types rules = take_same m party p c lm types.0 types.1 types.2
 act_reads m (act.Unpin p c) lm types rules = place_same (λ q k. act.Unpin q k) m p c lm types.0 types.1
 act_reads m (act.Maintain a) lm types rules = address_line_same (λ b. act.Maintain b) m a lm rules
+act_reads m (act.Expire a) lm types rules = address_line_same (λ b. act.Expire b) m a lm rules
 act_reads m _ lm types rules = absurd (cc)
 
 -- a line spells one step

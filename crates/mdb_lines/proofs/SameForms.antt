@@ -163,13 +163,14 @@ open_same o t h q u k e =
     let e5 = part_same (codes " min=") (option_map decimal o.min_pool_size) (option_map decimal q.min_pool_size) (drop 5 os) (drop 5 qs) (words_lack-32 _ t.min) (words_lack-32 _ u.min) refl refl e4.1 in
     let e6 = part_same (codes " connecting=") (option_map decimal o.max_connecting) (option_map decimal q.max_connecting) (drop 6 os) (drop 6 qs) (words_lack-32 _ t.connecting) (words_lack-32 _ u.connecting) refl refl e5.1 in
     let e7 = part_same (codes " idle=") (option_map decimal o.max_idle_time) (option_map decimal q.max_idle_time) (drop 7 os) (drop 7 qs) (words_lack-64 _ t.idle) (words_lack-64 _ u.idle) refl refl e6.1 in
-    let e8 = part_same (codes " heartbeat=") (option_map decimal o.heartbeat) (option_map decimal q.heartbeat) (drop 8 os) (drop 8 qs) (words_lack-64 _ t.heartbeat) (words_lack-64 _ u.heartbeat) refl refl e7.1 in
-    let e9 = part_same (codes " connect=") (option_map decimal o.connect) (option_map decimal q.connect) (drop 9 os) (drop 9 qs) (words_lack-64 _ t.connect) (words_lack-64 _ u.connect) refl refl e8.1 in
-    let e10 = part_same (codes " mode=") (option_map mode_text o.streaming) (option_map mode_text q.streaming) (drop 10 os) (drop 10 qs) (mode_lacks o.streaming) (mode_lacks q.streaming) refl refl e9.1 in
-    let e11 = part_same (codes " limit_id=") (option_map decimal o.limit_id) (option_map decimal q.limit_id) (drop 11 os) (drop 11 qs) (words_lack-32 _ t.limit_id) (words_lack-32 _ u.limit_id) refl refl e10.1 in
-    let e12 = part_same (codes " limit_generation=") (option_map decimal o.limit_generation) (option_map decimal q.limit_generation) (drop 12 os) (drop 12 qs) (words_lack-64 _ t.limit_generation) (words_lack-64 _ u.limit_generation) refl refl e11.1 in
-    let e13 = part_same (codes " limit_pool=") (option_map decimal o.limit_pool) (option_map decimal q.limit_pool) (drop 13 os) (drop 13 qs) (words_lack-32 _ t.limit_pool) (words_lack-32 _ u.limit_pool) refl refl e12.1 in
-    let e14 = part_same (codes " limit_monitor=") (option_map decimal o.limit_monitor) (option_map decimal q.limit_monitor) [] [] (words_lack-32 _ t.limit_monitor) (words_lack-32 _ u.limit_monitor) refl refl e13.1 in
+    let e8 = part_same (codes " wait=") (option_map decimal o.max_wait) (option_map decimal q.max_wait) (drop 8 os) (drop 8 qs) (words_lack-64 _ t.wait) (words_lack-64 _ u.wait) refl refl e7.1 in
+    let e9 = part_same (codes " heartbeat=") (option_map decimal o.heartbeat) (option_map decimal q.heartbeat) (drop 9 os) (drop 9 qs) (words_lack-64 _ t.heartbeat) (words_lack-64 _ u.heartbeat) refl refl e8.1 in
+    let e10 = part_same (codes " connect=") (option_map decimal o.connect) (option_map decimal q.connect) (drop 10 os) (drop 10 qs) (words_lack-64 _ t.connect) (words_lack-64 _ u.connect) refl refl e9.1 in
+    let e11 = part_same (codes " mode=") (option_map mode_text o.streaming) (option_map mode_text q.streaming) (drop 11 os) (drop 11 qs) (mode_lacks o.streaming) (mode_lacks q.streaming) refl refl e10.1 in
+    let e12 = part_same (codes " limit_id=") (option_map decimal o.limit_id) (option_map decimal q.limit_id) (drop 12 os) (drop 12 qs) (words_lack-32 _ t.limit_id) (words_lack-32 _ u.limit_id) refl refl e11.1 in
+    let e13 = part_same (codes " limit_generation=") (option_map decimal o.limit_generation) (option_map decimal q.limit_generation) (drop 13 os) (drop 13 qs) (words_lack-64 _ t.limit_generation) (words_lack-64 _ u.limit_generation) refl refl e12.1 in
+    let e14 = part_same (codes " limit_pool=") (option_map decimal o.limit_pool) (option_map decimal q.limit_pool) (drop 14 os) (drop 14 qs) (words_lack-32 _ t.limit_pool) (words_lack-32 _ u.limit_pool) refl refl e13.1 in
+    let e15 = part_same (codes " limit_monitor=") (option_map decimal o.limit_monitor) (option_map decimal q.limit_monitor) [] [] (words_lack-32 _ t.limit_monitor) (words_lack-32 _ u.limit_monitor) refl refl e14.1 in
     let seeds = addresses_same o.seeds q.seeds r.some s.some r.seeds s.seeds e0.0 in
     let direct = flags_same o.direct q.direct e2.0 in
     let load_balanced = flags_same o.load_balanced q.load_balanced e3.0 in
@@ -177,14 +178,15 @@ open_same o t h q u k e =
     let min = numbers_same-32 o.min_pool_size q.min_pool_size t.min u.min e5.0 in
     let connecting = numbers_same-32 o.max_connecting q.max_connecting t.connecting u.connecting e6.0 in
     let idle = numbers_same-64 o.max_idle_time q.max_idle_time t.idle u.idle e7.0 in
-    let heartbeat = numbers_same-64 o.heartbeat q.heartbeat t.heartbeat u.heartbeat e8.0 in
-    let connect = numbers_same-64 o.connect q.connect t.connect u.connect e9.0 in
-    let streaming = modes_same o.streaming q.streaming e10.0 in
-    let limit_id = numbers_same-32 o.limit_id q.limit_id t.limit_id u.limit_id e11.0 in
-    let limit_generation = numbers_same-64 o.limit_generation q.limit_generation t.limit_generation u.limit_generation e12.0 in
-    let limit_pool = numbers_same-32 o.limit_pool q.limit_pool t.limit_pool u.limit_pool e13.0 in
-    let limit_monitor = numbers_same-32 o.limit_monitor q.limit_monitor t.limit_monitor u.limit_monitor e14.0 in
+    let wait = numbers_same-64 o.max_wait q.max_wait t.wait u.wait e8.0 in
+    let heartbeat = numbers_same-64 o.heartbeat q.heartbeat t.heartbeat u.heartbeat e9.0 in
+    let connect = numbers_same-64 o.connect q.connect t.connect u.connect e10.0 in
+    let streaming = modes_same o.streaming q.streaming e11.0 in
+    let limit_id = numbers_same-32 o.limit_id q.limit_id t.limit_id u.limit_id e12.0 in
+    let limit_generation = numbers_same-64 o.limit_generation q.limit_generation t.limit_generation u.limit_generation e13.0 in
+    let limit_pool = numbers_same-32 o.limit_pool q.limit_pool t.limit_pool u.limit_pool e14.0 in
+    let limit_monitor = numbers_same-32 o.limit_monitor q.limit_monitor t.limit_monitor u.limit_monitor e15.0 in
     let id = zero_same o.topology_id q.topology_id r.id s.id in
-    let all : ◌≡◌ {A = Options} (record { seeds = o.seeds; set_name = o.set_name; direct = o.direct; load_balanced = o.load_balanced; max_pool_size = o.max_pool_size; min_pool_size = o.min_pool_size; max_connecting = o.max_connecting; max_idle_time = o.max_idle_time; heartbeat = o.heartbeat; connect = o.connect; streaming = o.streaming; limit_id = o.limit_id; limit_generation = o.limit_generation; limit_pool = o.limit_pool; limit_monitor = o.limit_monitor; topology_id = o.topology_id }) q =
-    rw (seeds, e1.0, direct, load_balanced, max, min, connecting, idle, heartbeat, connect, streaming, limit_id, limit_generation, limit_pool, limit_monitor, id) refl in
+    let all : ◌≡◌ {A = Options} (record { seeds = o.seeds; set_name = o.set_name; direct = o.direct; load_balanced = o.load_balanced; max_pool_size = o.max_pool_size; min_pool_size = o.min_pool_size; max_connecting = o.max_connecting; max_idle_time = o.max_idle_time; max_wait = o.max_wait; heartbeat = o.heartbeat; connect = o.connect; streaming = o.streaming; limit_id = o.limit_id; limit_generation = o.limit_generation; limit_pool = o.limit_pool; limit_monitor = o.limit_monitor; topology_id = o.topology_id }) q =
+    rw (seeds, e1.0, direct, load_balanced, max, min, connecting, idle, wait, heartbeat, connect, streaming, limit_id, limit_generation, limit_pool, limit_monitor, id) refl in
     ap (λ (x : Options). let step : Step = record { moment = 0; act = act.Open x } in step) all

@@ -46,6 +46,7 @@ unfoldable pub kind_of : List ℕ → Option LineKind
 kind_of word =
     if bytes_eq word (codes "open") then Some line.Open
     else if bytes_eq word (codes "maintain") then Some line.Maintain
+    else if bytes_eq word (codes "expire") then Some line.Expire
     else option_or (caller_kind word) (connection_kind word)
 
 abbrev pub ReadsOpen : List ℕ → Result Step LineError → Type 0
@@ -119,6 +120,7 @@ ReadsKind line.Replicate text r = ReadsPlace (λ p c. act.Replicate p c) text r
 ReadsKind line.Take text r = ReadsTake text r
 ReadsKind line.Unpin text r = ReadsPlace (λ p c. act.Unpin p c) text r
 ReadsKind line.Maintain text r = ReadsAddress (λ a. act.Maintain a) text r
+ReadsKind line.Expire text r = ReadsAddress (λ a. act.Expire a) text r
 
 -- A line is read by its kind. One of no kind gives nothing.
 abbrev pub ReadsLine : List ℕ → Result Step LineError → Type 0

@@ -50,6 +50,7 @@ is_act m (act.Replicate p c) = true
 is_act m (act.Take r p c) = true
 is_act m (act.Unpin p c) = true
 is_act m (act.Maintain a) = is_address a
+is_act m (act.Expire a) = is_address a
 is_act m _ = false
 
 -- the step keeps the rules of the grammar

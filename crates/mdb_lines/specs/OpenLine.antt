@@ -17,6 +17,7 @@ open_parts o =
     ∷ (codes " min=", option_map decimal o.min_pool_size)
     ∷ (codes " connecting=", option_map decimal o.max_connecting)
     ∷ (codes " idle=", option_map decimal o.max_idle_time)
+    ∷ (codes " wait=", option_map decimal o.max_wait)
     ∷ (codes " heartbeat=", option_map decimal o.heartbeat)
     ∷ (codes " connect=", option_map decimal o.connect)
     ∷ (codes " mode=", option_map mode_text o.streaming)

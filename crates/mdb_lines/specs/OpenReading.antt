@@ -9,7 +9,7 @@ abbrev pub kind_of_set : Options → SetKind
 kind_of_set o = record { name = o.set_name; direct = o.direct; load_balanced = o.load_balanced }
 
 abbrev pub sizes_of : Options → PoolSizes
-sizes_of o = record { max = o.max_pool_size; min = o.min_pool_size; connecting = o.max_connecting; idle = o.max_idle_time }
+sizes_of o = record { max = o.max_pool_size; min = o.min_pool_size; connecting = o.max_connecting; idle = o.max_idle_time; wait = o.max_wait }
 
 abbrev pub checks_of : Options → CheckOptions
 checks_of o = record { heartbeat = o.heartbeat; connect = o.connect; streaming = o.streaming }

@@ -44,6 +44,7 @@ act_text m (act.Replicate p c) = codes "replicate " ++ (decimal m ++ (codes " " 
 act_text m (act.Take r p c) = codes "take " ++ (decimal m ++ (codes " " ++ (decimal r ++ (codes " " ++ (decimal p ++ (codes " " ++ decimal c))))))
 act_text m (act.Unpin p c) = codes "unpin " ++ (decimal m ++ (codes " " ++ (decimal p ++ (codes " " ++ decimal c))))
 act_text m (act.Maintain a) = codes "maintain " ++ (decimal m ++ (codes " " ++ address a))
+act_text m (act.Expire a) = codes "expire " ++ (decimal m ++ (codes " " ++ address a))
 act_text m _ = []
 
 -- a step's line, without the newline

@@ -16,6 +16,7 @@ pub record AreOptionsOfTypes (o : Options) : Type 0 where
   pub min : IfSome o.min_pool_size (λ n. n < 2 ^ 32)
   pub connecting : IfSome o.max_connecting (λ n. n < 2 ^ 32)
   pub idle : IfSome o.max_idle_time (λ n. n < 2 ^ 64)
+  pub wait : IfSome o.max_wait (λ n. n < 2 ^ 64)
   pub heartbeat : IfSome o.heartbeat (λ n. n < 2 ^ 64)
   pub connect : IfSome o.connect (λ n. n < 2 ^ 64)
   pub limit_id : IfSome o.limit_id (λ n. n < 2 ^ 32)

@@ -77,3 +77,12 @@ pub fn maintain(alloc: Global, text: &str) -> Result<Step, LineError>
     let act = Act::Maintain(address);
     Ok(Step { moment, act })
 }
+
+/// The end of the callers of a pool that waited too long: a moment and an address.
+pub fn expire(alloc: Global, text: &str) -> Result<Step, LineError>
+    ensures { ReadsAddress (λ a. act.Expire a) text.now result }
+{
+    let (moment, address) = moment_and_address(alloc, text)?;
+    let act = Act::Expire(address);
+    Ok(Step { moment, act })
+}

@@ -19,6 +19,7 @@ pub enum LineKind {
     Take,
     Unpin,
     Maintain,
+    Expire,
 }
 
 #[tactic(auto, unfolding(crate::specs::Forms::caller_kind))]
@@ -70,6 +71,8 @@ pub fn kind_of(word: &str) -> Option<LineKind>
         Some(LineKind::Open)
     } else if word == "maintain" {
         Some(LineKind::Maintain)
+    } else if word == "expire" {
+        Some(LineKind::Expire)
     } else {
         caller_kind(word).or(connection_kind(word))
     }

@@ -7,7 +7,7 @@ ghost use Rattle.mdb_lines.specs.Script.{Spells};
 ghost use Rattle.mdb_lines.specs.Reading.{Gives};
 ghost use Rattle.mdb_lines.specs.Forms.{ReadsKind, ReadsLine};
 
-use crate::caller_lines::{claim, collect, give_up, maintain, request, returned, warm};
+use crate::caller_lines::{claim, collect, expire, give_up, maintain, request, returned, warm};
 use crate::connection_lines::established;
 use crate::line_error::LineError;
 use crate::line_kind::{LineKind, kind_of};
@@ -16,8 +16,7 @@ use crate::open_line::opened;
 use crate::pin_lines::{pin, replicate, take, unpin};
 use crate::rules::{is_printable, keeps_place, keeps_rules};
 use crate::types::step_types;
-use crate::words::cut;
-use mdb_base::OutOfMemory;
+use mdb_base::{OutOfMemory, cut};
 use mdb_log::Step;
 use std::alloc::Global;
 
@@ -38,6 +37,7 @@ fn read_kind(alloc: Global, kind: LineKind, text: &str) -> Result<Step, LineErro
         LineKind::Take => take(text),
         LineKind::Unpin => unpin(text),
         LineKind::Maintain => maintain(alloc, text),
+        LineKind::Expire => expire(alloc, text),
     }
 }
 

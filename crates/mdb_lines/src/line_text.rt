@@ -162,6 +162,7 @@ impl fmt::Display for LineText<'_> {
             }
             Act::Unpin(p, c) => write!(f, "unpin {m} {p} {c}"),
             Act::Maintain(address) => write!(f, "maintain {m} {address}"),
+            Act::Expire(address) => write!(f, "expire {m} {address}"),
             _ => Ok(()),
         }
     }

@@ -26,13 +26,14 @@ struct SetKind {
     load_balanced: bool,
 }
 
-// The next four, which are about pools.
+// The next five, which are about pools.
 #[derive(Clone, Copy)]
 struct PoolSizes {
     max: Option<u32>,
     min: Option<u32>,
     connecting: Option<u32>,
     idle: Option<Moment>,
+    wait: Option<Moment>,
 }
 
 // The next three, which are about monitoring.
@@ -87,24 +88,26 @@ fn set_kind(alloc: Global, text: &str) -> Result<(SetKind, &str), LineError>
 
 fn pool_sizes(text: &str) -> (PoolSizes, &str)
     ensures { (o : Options) → AreOptionsOfTypes o → text.now ≡ parts_text (drop 3 (open_parts o))
-        → (result.0 ≡ sizes_of o) × (result.1.now ≡ parts_text (drop 7 (open_parts o))) }
+        → (result.0 ≡ sizes_of o) × (result.1.now ≡ parts_text (drop 8 (open_parts o))) }
 {
     let (max, rest) = u32_part(text, " max=");
     let (min, rest) = u32_part(rest, " min=");
     let (connecting, rest) = u32_part(rest, " connecting=");
     let (idle, rest) = u64_part(rest, " idle=");
+    let (wait, rest) = u64_part(rest, " wait=");
     let sizes = PoolSizes {
         max,
         min,
         connecting,
         idle,
+        wait,
     };
     (sizes, rest)
 }
 
 fn check_options(text: &str) -> (CheckOptions, &str)
-    ensures { (o : Options) → AreOptionsOfTypes o → text.now ≡ parts_text (drop 7 (open_parts o))
-        → (result.0 ≡ checks_of o) × (result.1.now ≡ parts_text (drop 10 (open_parts o))) }
+    ensures { (o : Options) → AreOptionsOfTypes o → text.now ≡ parts_text (drop 8 (open_parts o))
+        → (result.0 ≡ checks_of o) × (result.1.now ≡ parts_text (drop 11 (open_parts o))) }
 {
     let (heartbeat, rest) = u64_part(text, " heartbeat=");
     let (connect, rest) = u64_part(rest, " connect=");
@@ -118,7 +121,7 @@ fn check_options(text: &str) -> (CheckOptions, &str)
 }
 
 fn limit_options(text: &str) -> LimitOptions
-    ensures { (o : Options) → AreOptionsOfTypes o → text.now ≡ parts_text (drop 10 (open_parts o)) → result ≡ limits_of o }
+    ensures { (o : Options) → AreOptionsOfTypes o → text.now ≡ parts_text (drop 11 (open_parts o)) → result ≡ limits_of o }
 {
     let (id, rest) = u32_part(text, " limit_id=");
     let (generation, rest) = u64_part(rest, " limit_generation=");
@@ -151,6 +154,7 @@ fn options_of(
         min_pool_size: sizes.min,
         max_connecting: sizes.connecting,
         max_idle_time: sizes.idle,
+        max_wait: sizes.wait,
         heartbeat: checks.heartbeat,
         connect: checks.connect,
         streaming: checks.streaming,

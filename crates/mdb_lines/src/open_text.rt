@@ -65,7 +65,7 @@ impl fmt::Display for Kind<'_> {
     }
 }
 
-// The next four: the sizes of a pool and its idle time.
+// The next five: the sizes of a pool, its idle time and its wait limit.
 #[derive(Drop)]
 struct Sizes<'a>(&'a Options);
 
@@ -74,7 +74,7 @@ impl fmt::Display for Sizes<'_> {
     ghost use Rattle.mdb_lines.specs.Parts.{parts_text};
     ghost use Rattle.mdb_lines.specs.OpenLine.{open_parts};
 
-    ghost output = { λ x. Some (parts_text (take 4 (drop 3 (open_parts x.0.now)))) };
+    ghost output = { λ x. Some (parts_text (take 5 (drop 3 (open_parts x.0.now)))) };
 
     #[tactic(auto, unfolding(crate::specs::Parts::parts_text))]
     fn fmt<W: fmt::Write>(&self, f: &mut fmt::Formatter<W>) -> fmt::Result {
@@ -82,7 +82,8 @@ impl fmt::Display for Sizes<'_> {
         let min = narrow(" min=", self.0.min_pool_size);
         let connecting = narrow(" connecting=", self.0.max_connecting);
         let idle = NumberPart(" idle=", self.0.max_idle_time);
-        write!(f, "{max}{min}{connecting}{idle}")
+        let wait = NumberPart(" wait=", self.0.max_wait);
+        write!(f, "{max}{min}{connecting}{idle}{wait}")
     }
 }
 
@@ -95,7 +96,7 @@ impl fmt::Display for Checks<'_> {
     ghost use Rattle.mdb_lines.specs.Parts.{parts_text};
     ghost use Rattle.mdb_lines.specs.OpenLine.{open_parts};
 
-    ghost output = { λ x. Some (parts_text (take 3 (drop 7 (open_parts x.0.now)))) };
+    ghost output = { λ x. Some (parts_text (take 3 (drop 8 (open_parts x.0.now)))) };
 
     #[tactic(auto, unfolding(crate::specs::Parts::parts_text))]
     fn fmt<W: fmt::Write>(&self, f: &mut fmt::Formatter<W>) -> fmt::Result {
@@ -115,7 +116,7 @@ impl fmt::Display for Limits<'_> {
     ghost use Rattle.mdb_lines.specs.Parts.{parts_text};
     ghost use Rattle.mdb_lines.specs.OpenLine.{open_parts};
 
-    ghost output = { λ x. Some (parts_text (drop 10 (open_parts x.0.now))) };
+    ghost output = { λ x. Some (parts_text (drop 11 (open_parts x.0.now))) };
 
     #[tactic(auto, unfolding(crate::specs::Parts::parts_text))]
     fn fmt<W: fmt::Write>(&self, f: &mut fmt::Formatter<W>) -> fmt::Result {

@@ -12,8 +12,8 @@ ghost use Rattle.mdb_lines.specs.Reading.{lacks, Gives, GivesFirst};
 
 use crate::line_error::LineError;
 use crate::values::id_word;
-use crate::words::{after, cut, number32, number64, signed64};
-use mdb_base::{ObjectId, Text};
+use crate::words::{after, number32, number64, signed64};
+use mdb_base::{ObjectId, Text, cut};
 use std::alloc::Global;
 
 /// The word of a part, if its name is there.

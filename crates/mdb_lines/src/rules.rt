@@ -83,6 +83,7 @@ pub fn keeps_rules(step: &Step) -> bool
         Act::Take(_, _, _) => true,
         Act::Unpin(_, _) => true,
         Act::Maintain(address) => address.is_regular(),
+        Act::Expire(address) => address.is_regular(),
         _ => false,
     }
 }

@@ -62,6 +62,7 @@ fn options(o: &Options)
     narrow(o.min_pool_size);
     narrow(o.max_connecting);
     wide(o.max_idle_time);
+    wide(o.max_wait);
     wide(o.heartbeat);
     wide(o.connect);
     narrow(o.limit_id);

@@ -3,29 +3,18 @@
 ghost use Rattle.std.specs.Prelude.{◌≡◌, ◌<◌, ◌^◌, ◌++◌, ℕ, List, decimal, option_copied, true, ℤ, pos, int_le, FitsSigned, MatchResult};
 ghost use Rattle.std.specs.Int.{w32, w64};
 ghost use Rattle.std.specs.Fmt.{signed_decimal};
-ghost use Rattle.mdb_base.specs.AddressReading.{after as after_name, until, beyond};
+ghost use Rattle.mdb_base.specs.AddressReading.{after as after_name};
 ghost use Rattle.mdb_lines.specs.declared.line_error.LineError.TheVariants.{OutOfMemory as NoMemory};
 ghost use Rattle.mdb_lines.specs.Reading.{lacks, Follows, GivesText};
 
 use crate::line_error::LineError;
+use mdb_base::cut;
 
 /// What stands after a name, where the text begins with it.
 pub fn after<'a>(text: &'a str, name: &str) -> Option<&'a str>
     ensures { option_copied result ≡ after_name name.now text.now }
 {
     text.strip_prefix(name)
-}
-
-/// What stands before the first such character, and what stands from it on.
-pub fn cut(text: &str, at: char) -> (&str, &str)
-    requires { at < 128 }
-    ensures front { result.0.now ≡ until at text.now }
-    ensures rest { result.1.now ≡ beyond at text.now }
-{
-    match text.find(at) {
-        Some(place) => (&text[..place], &text[place..]),
-        None => (text, ""),
-    }
 }
 
 /// A word behind a name, and what is left from the next space on.

@@ -101,7 +101,7 @@ beaten : IsSend BeatenResult.the_field.row
 beaten = search (response, rules) depth 20
 
 act : IsSend Act.the_field.row
-act = enum_send (variants Act.the_type) ((options, tt), ((number, (address, tt)), ((number, (address, tt)), ((number, tt), (tt, ((number, tt), ((number, (number, (established, tt))), ((number, (number, (failed_at, (error, tt)))), ((number, (used, tt)), ((number, tt), ((number, (number, tt)), ((number, (number, (number, tt))), ((number, (number, tt)), ((number, (error, tt)), ((address, (number, (hello, tt))), ((address, (number, tt)), ((address, (number, (duration, (beaten, tt)))), ((address, (number, (duration, tt))), ((search rules depth 20, tt), ((search rules depth 20, tt), ((number, tt), ((number, tt), (tt, ((address, tt), ((number, tt), ((number, (search rules depth 20, (error, tt))), ((number, tt), tt)))))))))))))))))))))))))))
+act = enum_send (variants Act.the_type) ((options, tt), ((number, (address, tt)), ((number, (address, tt)), ((number, tt), (tt, ((number, tt), ((number, (number, (established, tt))), ((number, (number, (failed_at, (error, tt)))), ((number, (used, tt)), ((number, tt), ((number, (number, tt)), ((number, (number, (number, tt))), ((number, (number, tt)), ((number, (error, tt)), ((address, (number, (hello, tt))), ((address, (number, tt)), ((address, (number, (duration, (beaten, tt)))), ((address, (number, (duration, tt))), ((search rules depth 20, tt), ((search rules depth 20, tt), ((number, tt), ((number, tt), (tt, ((address, tt), ((address, tt), ((number, tt), ((number, (search rules depth 20, (error, tt))), ((number, tt), tt))))))))))))))))))))))))))))
 
 entry : IsSend Entry.the_field.row
 entry = search (act, answer, fact, rules) depth 20

@@ -60,6 +60,7 @@ no_options = record {
   min_pool_size = None;
   max_connecting = None;
   max_idle_time = None;
+  max_wait = None;
   heartbeat = None;
   connect = None;
   streaming = None;
