@@ -1,0 +1,110 @@
+-- What a table holds after a value came or went.
+use Rattle.std.proofs.Common.{◌≡◌, ◌≢◌, ℕ, zero, suc, ◌+◌, ◌<◌, ◌≤◌, ◌==◌, if◌then◌else◌, true, false, Option, Some, None, IfSome, List, [], ◌∷◌, ◌++◌, length, refl, sym, ap, arith, set, length-set, length-append}
+use Rattle.mdb_slots.specs.Lists.{has, without}
+use Rattle.mdb_slots.specs.Links.{Order}
+use Rattle.mdb_slots.specs.SlotIndex.{slot_of}
+use Rattle.mdb_slots.specs.Keyed.{entry_at, others, swap}
+use Rattle.mdb_slots.specs.Cells.{cell_at, at_place, values}
+use Rattle.mdb_slots.specs.Table.{Holds}
+use Rattle.mdb_slots.proofs.Lists.{length-without}
+use Rattle.mdb_slots.proofs.TableChanges.{get-some, get-none, slot-within, removed, removed-values, indexed-same, values-same}
+use Rattle.mdb_slots.proofs.TablePuts.{pushed, pushed-values, replaced, replaced-values, same-values, leads-nowhere}
+
+cell-append : {T : Type 0} (cs : List (Option T)) (k : ℕ) → cell_at (cs ++ None ∷ []) k ≡ cell_at cs k
+cell-append [] zero = refl
+cell-append [] (suc k) = refl
+cell-append (c ∷ cs) zero = refl
+cell-append (c ∷ cs) (suc k) = cell-append cs k
+
+module _ {T : Type 0} (key : T → ℕ) where
+  -- the value in the slot that the index leads to
+  pub entry-there : {cs : List (Option T)} {ns : List (Option ℕ)} {o : Order} → Holds key cs ns o → (k : ℕ) → entry_at key k (values cs o.used) ≡ at_place cs (slot_of k ns)
+  entry-there {cs = cs} {ns = ns} {o = o} h k = on (slot_of k ns) refl
+    where
+      on : (s : Option ℕ) → slot_of k ns ≡ s → entry_at key k (values cs o.used) ≡ at_place cs s
+      on None e = get-none key h.indexed k e
+      on (Some s) e = get-some key h.indexed k s e
+
+  pub there-within : {cs : List (Option T)} {ns : List (Option ℕ)} {o : Order} → Holds key cs ns o → (k : ℕ) → IfSome (slot_of k ns) (λ j. j < length cs)
+  there-within {cs = cs} {ns = ns} h k = on (slot_of k ns) refl
+    where
+      on : (s : Option ℕ) → slot_of k ns ≡ s → IfSome s (λ j. j < length cs)
+      on None e = tt
+      on (Some s) e = slot-within key h.indexed k s e
+
+  there-member : {cs : List (Option T)} {ns : List (Option ℕ)} {o : Order} → Holds key cs ns o → (k s : ℕ) → slot_of k ns ≡ Some s → has s o.used ≡ true
+  there-member h k s e = h.indexed.member k s e
+
+  -- a value goes
+  pub taken : {cs : List (Option T)} {ns : List (Option ℕ)} {o : Order} → Holds key cs ns o → (ms : List (Option ℕ)) (p : Order) (k s : ℕ) → slot_of k ns ≡ Some s → ((q : ℕ) → slot_of q ms ≡ if k == q then None else slot_of q ns) → length ms ≡ length ns → p.used ≡ without s o.used → p.spare ≡ o.spare + 1 → Holds key (set cs s None) ms p
+  taken {cs = cs} {ns = ns} {o = o} h ms p k s e g l u v =
+      let m : has s o.used ≡ true = h.indexed.member k s e in
+      let w : length p.used + 1 ≤ length o.used = rw u (length-without s o.used m) in
+      record {
+        cells_long = rw (length-set cs s None) (omega (arith, w, v, h.cells_long));
+        numbers_long = omega (arith, w, v, l, h.numbers_long);
+        indexed = rw u (removed key h.indexed (λ q. slot_of q ms) k s e g);
+      }
+
+  pub taken-values : {cs : List (Option T)} {ns : List (Option ℕ)} {o : Order} → Holds key cs ns o → (p : Order) (k s : ℕ) → slot_of k ns ≡ Some s → p.used ≡ without s o.used → values (set cs s None) p.used ≡ others key k (values cs o.used)
+  taken-values h p k s e u = rw u (removed-values key h.indexed k s e)
+
+  -- a value comes
+  pub brought : {cs : List (Option T)} {ns : List (Option ℕ)} {o : Order} → Holds key cs ns o → (ms : List (Option ℕ)) (p : Order) (x : T) (s : ℕ) → s < length o.used + o.spare → has s o.used ≡ false → slot_of (key x) ns ≡ None → ((q : ℕ) → slot_of q ms ≡ if key x == q then Some s else slot_of q ns) → length ms ≡ length ns → p.used ≡ o.used ++ s ∷ [] → p.spare + 1 ≡ o.spare → Holds key (set cs s (Some x)) ms p
+  brought {cs = cs} {ns = ns} {o = o} h ms p x s b n e g l u v =
+      let w : length p.used ≡ length o.used + 1 = rw u (length-append o.used (s ∷ [])) in
+      let c : s < length cs = omega (arith, b, h.cells_long) in
+      record {
+        cells_long = rw (length-set cs s (Some x)) (omega (arith, w, v, h.cells_long));
+        numbers_long = omega (arith, w, v, l, h.numbers_long);
+        indexed = rw u (pushed key h.indexed (λ q. slot_of q ms) x s c n e g);
+      }
+
+  pub brought-values : {cs : List (Option T)} {ns : List (Option ℕ)} {o : Order} → Holds key cs ns o → (p : Order) (x : T) (s : ℕ) → s < length o.used + o.spare → has s o.used ≡ false → p.used ≡ o.used ++ s ∷ [] → values (set cs s (Some x)) p.used ≡ values cs o.used ++ x ∷ []
+  brought-values {cs = cs} {o = o} h p x s b n u = rw u (pushed-values key cs o.used x s (omega (arith, b, h.cells_long)) n)
+
+  -- no number leads to a slot that is not in use
+  pub nothing-leads : {cs : List (Option T)} {ns : List (Option ℕ)} {o : Order} → Holds key cs ns o → (s : ℕ) → has s o.used ≡ false → (q : ℕ) → slot_of q ns ≢ Some s
+  nothing-leads h s n q e = let m = h.indexed.member q s e in cc
+
+  -- a number of no value leads nowhere
+  pub absent-slot : {cs : List (Option T)} {ns : List (Option ℕ)} {o : Order} → Holds key cs ns o → (k : ℕ) → entry_at key k (values cs o.used) ≡ None → slot_of k ns ≡ None
+  absent-slot h k e = leads-nowhere key h.indexed k (λ s f. get-some key h.indexed k s f) e
+
+  -- a value takes the place of another
+  pub swapped : {cs : List (Option T)} {ns : List (Option ℕ)} {o : Order} → Holds key cs ns o → (x : T) (s : ℕ) → slot_of (key x) ns ≡ Some s → Holds key (set cs s (Some x)) ns o
+  swapped {cs = cs} h x s e =
+      record {
+        cells_long = rw (length-set cs s (Some x)) h.cells_long;
+        numbers_long = h.numbers_long;
+        indexed = replaced key h.indexed x s (slot-within key h.indexed (key x) s e) e;
+      }
+
+  pub swapped-values : {cs : List (Option T)} {ns : List (Option ℕ)} {o : Order} → Holds key cs ns o → (x : T) (s : ℕ) → slot_of (key x) ns ≡ Some s → values (set cs s (Some x)) o.used ≡ swap key x (values cs o.used)
+  swapped-values h x s e = replaced-values key h.indexed x s (slot-within key h.indexed (key x) s e) e
+
+  pub unswapped-values : {cs : List (Option T)} {ns : List (Option ℕ)} {o : Order} → Holds key cs ns o → (x : T) → slot_of (key x) ns ≡ None → values cs o.used ≡ swap key x (values cs o.used)
+  unswapped-values h x e = sym (same-values key h.indexed x e)
+
+  -- more cells and entries, and perhaps more free slots
+  pub widened : {cs : List (Option T)} {ns : List (Option ℕ)} {o : Order} → Holds key cs ns o → (ms : List (Option ℕ)) (p : Order) → ((q : ℕ) → slot_of q ms ≡ slot_of q ns) → p.used ≡ o.used → p.spare ≤ o.spare + 1 → length p.used + p.spare ≤ length ms → Holds key (cs ++ None ∷ []) ms p
+  widened {cs = cs} {ns = ns} {o = o} h ms p g u v l =
+      let d : length (cs ++ None ∷ []) ≡ length cs + 1 = length-append cs (None ∷ []) in
+      let w : length p.used ≡ length o.used = ap (λ (xs : List ℕ). length xs) u in
+      record {
+        cells_long = omega (arith, d, w, v, h.cells_long);
+        numbers_long = l;
+        indexed = rw u (indexed-same key h.indexed (cs ++ None ∷ []) (λ q. slot_of q ms) (cell-append cs) g (omega (arith, d)));
+      }
+
+  pub widened-values : (cs : List (Option T)) (us : List ℕ) → values (cs ++ None ∷ []) us ≡ values cs us
+  widened-values cs us = values-same key cs (cs ++ None ∷ []) us (cell-append cs)
+
+  -- a table without values
+  pub nothing-held : (o : Order) → o.used ≡ [] → o.spare ≡ 0 → Holds key [] [] o
+  nothing-held o u v =
+      record {
+        cells_long = rw (u, v) (omega arith);
+        numbers_long = rw (u, v) (omega arith);
+        indexed = rw u (record { points = tt; member = λ k s e. cc; back = λ k s e. cc; below = tt });
+      }

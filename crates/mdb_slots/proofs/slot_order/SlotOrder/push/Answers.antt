@@ -1,0 +1,35 @@
+use Rattle.std.proofs.Common.{◌<◌, ap, length}
+use Rattle.mdb_slots.specs.SlotOrder.{OpenOrder}
+use Rattle.mdb_slots.proofs.Layouts.{laid-keeps, laid-order, length-lead_to}
+use Rattle.mdb_slots.proofs.Moves.{push-laid, some-free, free-within, free-new, last-within}
+use Rattle.mdb_slots.proofs.slot_order.SlotOrder.push.Goals as goal
+
+pub unwrap-at-requires : goal.unwrap-at-requires
+unwrap-at-requires c =
+    let p : 0 < c.self.inside.ends.spare = rw (ap (λ (o : OpenOrder). o.now.spare) c.self.view_is) c.requires.spare in
+    some-free _ _ _ c.self.invariant.0.free_is c.self.invariant.0.spare_is p
+
+pub node_of-node-requires : goal.node_of-node-requires
+node_of-node-requires c = free-within _ c.self.invariant.0 c.unwrap-at.ensures
+
+pub set_after-requires-clause-within : goal.set_after-requires-clause-within
+set_after-requires-clause-within c = last-within c.self.invariant.0
+
+pub set_ready-requires-clause-within : goal.set_ready-requires-clause-within
+set_ready-requires-clause-within c = rw (c.set_after.ensures.now, length-lead_to) (free-within _ c.self.invariant.0 c.unwrap-at.ensures)
+
+pub invariant_of-self : goal.invariant_of-self
+invariant_of-self c =
+    rw (c.where_none.ensures, c.node_of-node.ensures, c.set_ready.ensures.now, c.set_ready.ensures.base, c.set_after.ensures.now, c.set_after.ensures.base) (laid-keeps (push-laid _ c.self.invariant.0 c.unwrap-at.ensures), c.self.invariant.1)
+
+pub returns-clause-used : goal.returns-clause-used
+returns-clause-used c =
+    rw (c.where_none.ensures, c.set_ready.ensures.now, c.set_after.ensures.now, ← ap (λ (o : OpenOrder). o.now.used) c.self.view_is) (laid-order (push-laid _ c.self.invariant.0 c.unwrap-at.ensures))
+
+pub returns-clause-new : goal.returns-clause-new
+returns-clause-new c = rw (← ap (λ (o : OpenOrder). o.now.used) c.self.view_is) (free-new _ c.self.invariant.0 c.unwrap-at.ensures)
+
+pub returns-clause-within : goal.returns-clause-within
+returns-clause-within c =
+    let w : c.unwrap-at.result < length c.self.inside.nodes.now = free-within _ c.self.invariant.0 c.unwrap-at.ensures in
+    rw (← ap (λ (o : OpenOrder). o.now.used) c.self.view_is, ← ap (λ (o : OpenOrder). o.now.spare) c.self.view_is, ← c.self.invariant.0.len_is, ← c.self.invariant.0.all) w

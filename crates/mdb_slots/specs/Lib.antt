@@ -1,0 +1,11 @@
+pub mod Chain
+pub mod Lists
+pub mod Links
+pub mod Items
+pub mod Change
+pub mod Open
+pub mod SlotOrder
+pub mod SlotIndex
+pub mod Keyed
+pub mod Cells
+pub mod Table

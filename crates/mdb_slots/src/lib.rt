@@ -1,0 +1,29 @@
+//! What changes in place: records in slots that are used again, tables of values by number, and open lists, whose changes can be taken back and
+//! made again without memory.
+#![tactic(auto)]
+
+mod bucket;
+mod change;
+mod ends;
+mod entry;
+mod keyed;
+mod links;
+mod naming;
+mod node;
+mod parts;
+mod records;
+mod slot_index;
+mod slot_order;
+mod slot_table;
+mod table;
+mod touches;
+mod turned;
+mod turned_nodes;
+
+pub use change::Change;
+pub use keyed::Keyed;
+pub use records::{Record, SlotRef};
+pub use slot_table::SlotTable;
+pub use table::{Table, TableRedo};
+pub use touches::Touches;
+pub use turned::{Redo, Turned};

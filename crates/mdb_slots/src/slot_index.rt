@@ -1,0 +1,190 @@
+//! The slots by number, whose changes can be taken back and made again.
+
+ghost use Rattle.std.specs.Prelude.{◌≡◌, ◌≢◌, ◌==◌, ◌+◌, ◌<◌, ◌≤◌, ◌^◌, [], ℕ, None, Some, length, OnOk, if◌then◌else◌};
+ghost use Rattle.mdb_slots.specs.SlotIndex.{slot_of, numbers_of, nothing_indexed, indexing_after, IndexFits, AreWithin, LeavesAll, both};
+
+use crate::bucket::{Buckets, bucket_of, empty, lengthen};
+use crate::entry::{Entry, find_before, find_number, set_same};
+use crate::links::where_none;
+use crate::turned::{Redo, Turned};
+use mdb_base::OutOfMemory;
+use std::alloc::Global;
+use std::marker::Model;
+
+/// At most one slot for each number. The slots whose numbers have the same bucket are a chain.
+#[derive(Drop)]
+pub struct SlotIndex {
+    buckets: Buckets,
+}
+
+impl Model for SlotIndex {
+    ghost use Rattle.mdb_slots.specs.SlotIndex.{OpenIndex, KeepsIndex, numbers_of, base_of, capacity_of, room_of};
+    ghost use Rattle.std.specs.Prelude.{length};
+
+    ghost Value = { OpenIndex };
+
+    ghost view = { λ t. record { now = numbers_of t.buckets.entries.now; width = length t.buckets.heads.now; base = base_of t.buckets; capacity = capacity_of t.buckets; room = room_of t.buckets } };
+
+    ghost invariant = { λ t. KeepsIndex (record { heads = t.buckets.heads.now; entries = t.buckets.entries.now }) × KeepsIndex (base_of t.buckets) };
+}
+
+/// Changes of an index that were taken back, to be made again.
+#[derive(Drop)]
+pub struct IndexRedo {
+    heads: Redo<Option<u32>>,
+    entries: Redo<Entry>,
+}
+
+impl Model for IndexRedo {
+    ghost use Rattle.mdb_slots.specs.SlotIndex.{IndexSteps};
+
+    ghost Value = { IndexSteps };
+
+    ghost view = { λ t. record { heads = t.heads; entries = t.entries } };
+}
+
+impl SlotIndex {
+    pub fn new(alloc: Global) -> SlotIndex
+        ensures now { result.now ≡ [] }
+        ensures base { result.base ≡ nothing_indexed }
+    {
+        SlotIndex {
+            buckets: Buckets {
+                heads: Turned::new(alloc),
+                entries: Turned::new(alloc),
+            },
+        }
+    }
+
+    /// The slot that has the number.
+    pub fn get(&self, number: u32) -> Option<u32>
+        ensures { result ≡ slot_of number self.now.now }
+    {
+        let width = self.buckets.heads.as_slice().len();
+        if width == 0 {
+            return None;
+        }
+        let first = self.buckets.heads.as_slice()[bucket_of(number, width)];
+        find_number(self.buckets.entries.as_slice(), first, number)
+    }
+
+    /// One more slot, without a number.
+    pub fn grow(&mut self) -> Result<(), OutOfMemory>
+        ensures now { (q : ℕ) → slot_of q self.new.now ≡ slot_of q self.old.now }
+        ensures len { OnOk result (length self.new.now ≡ length self.old.now + 1) }
+        ensures longer { length self.old.now ≤ length self.new.now }
+        ensures base { self.new.base ≡ self.old.base }
+        ensures capacity { AreWithin self.old.capacity self.new.capacity }
+    {
+        self.buckets.entries.push(Entry {
+            number: None,
+            same: None,
+        })?;
+        Ok(())
+    }
+
+    // More buckets.
+    fn widen(&mut self) -> Result<(), OutOfMemory>
+        requires { self.old.width ≤ length self.old.now }
+        ensures now { self.new.now ≡ self.old.now }
+        ensures width { OnOk result (0 < self.new.width) }
+        ensures base { self.new.base ≡ self.old.base }
+        ensures capacity { AreWithin self.old.capacity self.new.capacity }
+    {
+        let slots = self.buckets.entries.as_slice().len();
+        if slots > u32::MAX as usize {
+            return Err(OutOfMemory);
+        }
+        let more = slots + 8;
+        self.buckets.heads.ready(3 * slots + 8)?;
+        self.buckets.heads.reserve(more)?;
+        self.buckets.entries.ready(slots)?;
+        empty(&mut self.buckets.heads);
+        lengthen(&mut self.buckets.heads, more);
+        self.buckets.chain_all(slots as u32);
+        Ok(())
+    }
+
+    /// One number may go and one may come without memory.
+    pub fn ready(&mut self) -> Result<(), OutOfMemory>
+        ensures now { self.new.now ≡ self.old.now }
+        ensures width { OnOk result (0 < self.new.width) }
+        ensures room { OnOk result (AreWithin (both 2 3) self.new.room) }
+        ensures base { self.new.base ≡ self.old.base }
+        ensures capacity { AreWithin self.old.capacity self.new.capacity }
+    {
+        if self.buckets.heads.as_slice().len() <= self.buckets.entries.as_slice().len() {
+            self.widen()?;
+        }
+        self.buckets.heads.ready(2)?;
+        self.buckets.entries.ready(3)
+    }
+
+    /// The slot has the number from now on.
+    pub fn insert(&mut self, number: u32, slot: u32)
+        requires width { 0 < self.old.width }
+        requires within { slot < length self.old.now }
+        requires absent { slot_of number self.old.now ≡ None }
+        requires free { (q : ℕ) → slot_of q self.old.now ≢ Some slot }
+        requires room { AreWithin (both 1 1) self.old.room }
+        ensures now { (q : ℕ) → slot_of q self.new.now ≡ if number == q then Some slot else slot_of q self.old.now }
+        ensures len { length self.new.now ≡ length self.old.now }
+        ensures base { self.new.base ≡ self.old.base }
+        ensures capacity { AreWithin self.old.capacity self.new.capacity }
+    {
+        self.buckets.put_first(number, slot);
+    }
+
+    /// The slot of the number has none from now on.
+    pub fn remove(&mut self, number: u32, slot: u32)
+        requires slot { slot_of number self.old.now ≡ Some slot }
+        requires room { AreWithin (both 1 2) self.old.room }
+        ensures now { (q : ℕ) → slot_of q self.new.now ≡ if number == q then None else slot_of q self.old.now }
+        ensures len { length self.new.now ≡ length self.old.now }
+        ensures width { self.new.width ≡ self.old.width }
+        ensures room { LeavesAll self.new.room (both 1 2) self.old.room }
+        ensures base { self.new.base ≡ self.old.base }
+        ensures capacity { AreWithin self.old.capacity self.new.capacity }
+    {
+        let bucket = bucket_of(number, self.buckets.heads.as_slice().len());
+        let first = self.buckets.heads.as_slice()[bucket];
+        let before = find_before(self.buckets.entries.as_slice(), first, slot);
+        let same = self.buckets.entries.as_slice()[slot as usize].same;
+        set_same(&mut self.buckets.entries, before, same);
+        let freed = Entry {
+            number: None,
+            same: None,
+        };
+        self.buckets.entries.set_ready(slot as usize, freed);
+        self.buckets
+            .heads
+            .set_ready(bucket, where_none(before, same, first));
+    }
+
+    /// The changes go, and what comes back makes them again.
+    pub fn turn(&mut self, alloc: Global) -> IndexRedo
+        ensures now { self.new.now ≡ numbers_of self.old.base.entries }
+        ensures base { self.new.base ≡ self.old.base }
+        ensures capacity { self.new.capacity ≡ self.old.capacity }
+        ensures fits { IndexFits result self.new.base self.new.capacity }
+        ensures onto { numbers_of (indexing_after result self.new.base).entries ≡ self.old.now }
+    {
+        let heads = self.buckets.heads.turn(alloc);
+        let entries = self.buckets.entries.turn(alloc);
+        IndexRedo { heads, entries }
+    }
+
+    /// Whatever was changed goes, and the changes are made again and stay.
+    pub fn redo(&mut self, alloc: Global, redo: IndexRedo)
+        requires { IndexFits redo self.old.base self.old.capacity }
+        ensures base { self.new.base ≡ indexing_after redo self.old.base }
+        ensures now { self.new.now ≡ numbers_of self.new.base.entries }
+        ensures capacity { self.new.capacity ≡ self.old.capacity }
+    {
+        let IndexRedo { heads, entries } = redo;
+        let _heads_gone = self.buckets.heads.turn(alloc);
+        let _entries_gone = self.buckets.entries.turn(alloc);
+        self.buckets.heads.redo(heads);
+        self.buckets.entries.redo(entries);
+    }
+}

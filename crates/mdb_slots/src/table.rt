@@ -1,0 +1,183 @@
+//! Values named by numbers, in the order in which they were put. Changes are made in place, and can be taken back.
+
+ghost use Rattle.std.specs.Prelude.{◌≡◌, [], length, OnOk, OnErr, option_copied};
+ghost use Rattle.mdb_slots.specs.Keyed.{entry_at, entry_after, entry_before, first_of, last_of, others, put, swap};
+ghost use Rattle.mdb_slots.specs.Table.{AreKept, Fits, Plans, items, nothing_shelved, shelf_after};
+
+use crate::keyed::Keyed;
+use crate::parts::Parts;
+use crate::slot_index::{IndexRedo, SlotIndex};
+use crate::slot_order::{OrderRedo, SlotOrder};
+use crate::turned::{Redo, Turned};
+use mdb_base::OutOfMemory;
+use std::alloc::Global;
+use std::marker::Model;
+
+/// At most one value for each number: as they are, and as they were when they were last settled.
+#[derive(Drop)]
+pub struct Table<T: Keyed> {
+    parts: Parts<T>,
+}
+
+impl<T: Keyed> Model for Table<T> {
+    ghost use Rattle.mdb_slots.specs.Table.{OpenTable, HoldsParts, HoldsShelf, base_of, capacity_of, values_of};
+
+    ghost Value = { OpenTable T };
+
+    ghost view = { λ t. record { now = values_of t.parts; base = base_of t.parts; capacity = capacity_of t.parts } };
+
+    ghost invariant = { λ t. HoldsParts T.key t.parts × HoldsShelf T.key (base_of t.parts) };
+}
+
+/// Changes of a table that were taken back, to be made again.
+#[derive(Drop)]
+pub struct TableRedo<T: Keyed> {
+    order: OrderRedo,
+    index: IndexRedo,
+    cells: Redo<Option<T>>,
+}
+
+impl<T: Keyed> Model for TableRedo<T> {
+    ghost use Rattle.mdb_slots.specs.Table.{TableSteps};
+
+    ghost Value = { TableSteps T };
+
+    ghost view = { λ t. record { order = t.order; index = t.index; cells = t.cells } };
+}
+
+impl<T: Keyed> Table<T> {
+    /// No values. It takes no memory.
+    pub fn new(alloc: Global) -> Table<T>
+        ensures now { result.now ≡ [] }
+        ensures base { result.base ≡ nothing_shelved }
+    {
+        Table {
+            parts: Parts {
+                order: SlotOrder::new(alloc),
+                index: SlotIndex::new(alloc),
+                cells: Turned::new(alloc),
+            },
+        }
+    }
+
+    /// How many values there are.
+    pub fn len(&self) -> usize
+        ensures { result ≡ length self.now.now }
+    {
+        self.parts.order.len()
+    }
+
+    /// The value that has the number.
+    pub fn get(&self, key: u32) -> Option<&T>
+        ensures { option_copied result ≡ entry_at T.key key self.now.now }
+    {
+        self.parts.cell(self.parts.index.get(key))
+    }
+
+    /// The value that was put before all others.
+    pub fn first(&self) -> Option<&T>
+        ensures { option_copied result ≡ first_of self.now.now }
+    {
+        self.parts.cell(self.parts.order.first())
+    }
+
+    /// The value that was put after all others.
+    pub fn last(&self) -> Option<&T>
+        ensures { option_copied result ≡ last_of self.now.now }
+    {
+        self.parts.cell(self.parts.order.last())
+    }
+
+    /// The value that follows the one that has the number. `None` where there is none.
+    pub fn next(&self, key: u32) -> Option<&T>
+        ensures { option_copied result ≡ entry_after T.key key self.now.now }
+    {
+        match self.parts.index.get(key) {
+            Some(slot) => self.parts.cell(self.parts.order.after(slot)),
+            None => None,
+        }
+    }
+
+    /// The value that precedes the one that has the number. `None` where there is none.
+    pub fn previous(&self, key: u32) -> Option<&T>
+        ensures { option_copied result ≡ entry_before T.key key self.now.now }
+    {
+        match self.parts.index.get(key) {
+            Some(slot) => self.parts.cell(self.parts.order.before(slot)),
+            None => None,
+        }
+    }
+
+    /// The item comes last, in place of the one that had its number.
+    pub fn put(&mut self, item: T) -> Result<(), OutOfMemory>
+        ensures now { OnOk result (self.new.now ≡ put T.key item self.old.now) }
+        ensures same { OnErr result (self.new.now ≡ self.old.now) }
+        ensures base { self.new.base ≡ self.old.base }
+        ensures capacity { AreKept self.old.capacity self.new.capacity }
+    {
+        self.parts.make_slot()?;
+        self.parts.make_room()?;
+        self.parts.take_out(item.key());
+        self.parts.put_in(item);
+        Ok(())
+    }
+
+    /// The item takes the place of the one that had its number. Nothing changes where there was none.
+    pub fn replace(&mut self, item: T) -> Result<(), OutOfMemory>
+        ensures now { OnOk result (self.new.now ≡ swap T.key item self.old.now) }
+        ensures same { OnErr result (self.new.now ≡ self.old.now) }
+        ensures base { self.new.base ≡ self.old.base }
+        ensures capacity { AreKept self.old.capacity self.new.capacity }
+    {
+        self.parts.cells.ready(1)?;
+        match self.parts.index.get(item.key()) {
+            Some(slot) => self.parts.cells.set_ready(slot as usize, Some(item)),
+            None => {}
+        }
+        Ok(())
+    }
+
+    /// The value that has the number goes.
+    pub fn remove(&mut self, key: u32) -> Result<(), OutOfMemory>
+        ensures now { OnOk result (self.new.now ≡ others T.key key self.old.now) }
+        ensures same { OnErr result (self.new.now ≡ self.old.now) }
+        ensures base { self.new.base ≡ self.old.base }
+        ensures capacity { AreKept self.old.capacity self.new.capacity }
+    {
+        self.parts.make_room()?;
+        self.parts.take_out(key);
+        Ok(())
+    }
+
+    /// The changes go, and what comes back makes them again. It takes no memory.
+    pub fn turn(&mut self, alloc: Global) -> TableRedo<T>
+        ensures now { self.new.now ≡ items self.old.base }
+        ensures base { self.new.base ≡ self.old.base }
+        ensures capacity { self.new.capacity ≡ self.old.capacity }
+        ensures plan { Plans T.key result self.new.base self.new.capacity self.old.now }
+    {
+        TableRedo {
+            order: self.parts.order.turn(alloc),
+            index: self.parts.index.turn(alloc),
+            cells: self.parts.cells.turn(alloc),
+        }
+    }
+
+    /// Whatever was changed goes, and the changes are made again and stay. It takes no memory.
+    pub fn redo(&mut self, alloc: Global, redo: TableRedo<T>)
+        requires { Fits T.key redo self.old.base self.old.capacity }
+        ensures base { self.new.base ≡ shelf_after redo self.old.base }
+        ensures now { self.new.now ≡ items self.new.base }
+        ensures capacity { self.new.capacity ≡ self.old.capacity }
+    {
+        let TableRedo {
+            order,
+            index,
+            cells,
+        } = redo;
+        let _cells_gone = self.parts.cells.turn(alloc);
+        self.parts.order.redo(alloc, order);
+        self.parts.index.redo(alloc, index);
+        self.parts.cells.redo(cells);
+    }
+}
