@@ -1,12 +1,11 @@
 -- What an act does is the answer to its step.
-use Rattle.std.proofs.Common.{ℕ, ◌≡◌, ◌<◌, ◌≤◌, Bool, true, false, ◌||◌, List, ◌∷◌, ◌++◌, Option, Some, None, is_some, refl, sym, ◌∙◌, ap, subst, arith, if◌then◌else◌, append_assoc, append-nil, nat_lt, not, ◌&&◌}
+use Rattle.std.proofs.Common.{ℕ, ◌≡◌, ◌≤◌, Bool, true, false, ◌||◌, List, ◌∷◌, ◌++◌, Option, Some, None, is_some, refl, sym, ◌∙◌, ap, subst, arith, if◌then◌else◌, append_assoc, append-nil, nat_lt, not, ◌&&◌}
 use Rattle.std.proofs.lemmas.Bool.Decides.{nat_tests}
 use Rattle.mdb_events.specs.declared.fact.Fact.{Fact}
 use Rattle.mdb_events.specs.declared.end.End.{End}
 use Rattle.mdb_log.specs.declared.step.Step.{Step}
 use Rattle.mdb_log.specs.declared.step.Act.{Act}
 use Rattle.mdb_log.specs.declared.reply.Refused.{Refused}
-use Rattle.mdb_log.specs.declared.reply.Refused.TheVariants.{TimeBack}
 use Rattle.mdb_log.specs.declared.reply.Reply.{Reply}
 use Rattle.mdb_log.specs.declared.reply.Reply.TheVariants.{Pooled, Establishing, Waiting, Ended, Job, NoJob, Changed, Count, Done, Refused as RefusedBy}
 use Rattle.mdb_pool.specs.declared.connection.Connection.{Connection}
@@ -135,9 +134,6 @@ own-answers s t before after step reply ys h z none same names asks home last_is
 pub not-back : (n m : ℕ) → m ≤ n → nat_lt n m ≡ false
 not-back n m l = grind (arith, nat_tests)
 
-back : (n m : ℕ) → n < m → nat_lt n m ≡ true
-back n m l = grind (arith, nat_tests)
-
 at_pending : (o : Option Connection) → passes (λ (x : Connection). x.id) (λ x. is_pending x.place) o ≡ is_pending_at o
 at_pending None = refl
 at_pending (Some x) = refl
@@ -170,13 +166,6 @@ module _ (s : PoolCore) (xs : List PoolItem) (z : Fits s xs) where
       on : (o : Option Request) → request_at s r ≡ o → holding xs r ≡ id_or (held_connection s r) None
       on None e = rw (z.matches.requests.given r, e) refl
       on (Some q) e = at_phase q q.phase e refl
-
--- an act at an earlier moment is refused
-pub time-back : (s : PoolCore) (h : List Item) → StandsFor s h → (step : Step) → step.moment < s.last → refusal_of s.pool s.options h step ≡ Some (TimeBack s.last)
-time-back s h z step l = rw (z.last_is, back step.moment s.last l) refl
-
-pub refuses-back : (s : PoolCore) (facts : List Fact) (step : Step) (h : List Item) → StandsFor s h → step.moment < s.last → Answers s s facts facts step (RefusedBy (TimeBack s.last)) h
-refuses-back s facts step h z l = refuses s facts step (TimeBack s.last) h z (time-back s h z step l)
 
 -- what the request is told
 pub outcome-is : (s : PoolCore) (zs : List PoolItem) (m : Matches s zs) (r : ℕ) → outcome_of s.pool zs r ≡ outcome_now s r

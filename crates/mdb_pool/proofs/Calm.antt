@@ -18,7 +18,7 @@ use Rattle.mdb_log.specs.History.{PoolItem, after_facts}
 use Rattle.mdb_log.specs.Connections.{created_total, pending_list, available_list, holding, pins, is_pinned, granted_to, known_service}
 use Rattle.mdb_log.specs.Requests.{requests, queued, is_warm, end_of, is_unserved}
 use Rattle.mdb_log.specs.State.{State, is_new, is_ready, is_paused, is_closed, state_of, min_size}
-use Rattle.mdb_pool.specs.Facts.{created_fact, closed_fact, closes, check_in, come_back, hand_over, fail_requester, sweep, fill, clear_facts, close_facts, turned_away, readied, act_facts, end_facts, all_ends, close_reason, perished}
+use Rattle.mdb_pool.specs.Facts.{created_fact, closed_fact, closes, check_in, come_back, hand_over, fail_requester, sweep, fill, clear_facts, close_facts, turned_away, readied, act_facts, end_facts, all_ends, overdue, close_reason, perished}
 
 -- the fact grants nothing, and checks in no connection past the number n
 abbrev pub IsCalm : ℕ → Fact → Type 0
@@ -157,6 +157,7 @@ module _ (n : ℕ) where
     act-calm xs ys (act.Return r used) l = come_back-calm ys (holding xs r) l
     act-calm xs ys (act.Unpin q c) l = calm-if (is_pinned xs c && (pins ys c == 0)) (check_in p a o ys c) [] (check_in-calm ys c l) tt
     act-calm xs ys (act.Maintain b) l = calm-append (sweep p a o m ys (available_list ys)) _ (sweep-calm ys (available_list ys)) (fill-calm (min_size o) (after_facts p m (sweep p a o m ys (available_list ys)) ys))
+    act-calm xs ys (act.Expire b) l = ends-calm ys _ (overdue o m ys)
     act-calm xs ys (act.Ready q) l = readied-calm ys
     act-calm xs ys (act.Clear q service error) l = clear-calm ys service error
     act-calm xs ys (act.Close q) l = close-calm ys

@@ -1,23 +1,23 @@
 -- What a claim does is the answer to its step.
-use Rattle.std.proofs.Common.{ℕ, ◌≡◌, ◌≤◌, Bool, true, false, not, ◌&&◌, ◌||◌, ◌==◌, List, [], ◌∷◌, find, Option, Some, None, refl, sym, ◌∙◌, ap, append-nil}
+use Rattle.std.proofs.Common.{ℕ, ◌≡◌, Bool, true, false, not, ◌&&◌, ◌||◌, ◌==◌, List, [], ◌∷◌, find, Option, Some, None, refl, sym, ◌∙◌, ap, append-nil}
 use Rattle.mdb_events.specs.declared.fact.Fact.{Fact}
 use Rattle.mdb_log.specs.declared.step.Act.TheVariants.{Claim}
 use Rattle.mdb_log.specs.declared.reply.Reply.{Reply}
 use Rattle.mdb_log.specs.declared.reply.Reply.TheVariants.{Job, NoJob}
 use Rattle.mdb_pool.specs.declared.connection.Connection.{Connection}
 use Rattle.mdb_pool.specs.declared.pool_core.PoolCore.{PoolCore}
-use Rattle.mdb_pool.proofs.Acts.{own-answers, not-back, accepts}
+use Rattle.mdb_pool.proofs.Acts.{accepts}
 use Rattle.std.proofs.Math.Bool.{or_comm}
 use Rattle.mdb_log.proofs.Numbers.{has-append, same-number}
 use Rattle.mdb_pool.proofs.Stands.{noted-fits}
 use Rattle.mdb_pool.specs.Answer.{first_job}
 use Rattle.mdb_pool.specs.Changes.{claiming}
 use Rattle.mdb_log.specs.Connections.{has}
-use Rattle.mdb_log.specs.History.{Item, PoolItem, of_pool}
+use Rattle.mdb_log.specs.History.{PoolItem}
 use Rattle.mdb_pool.specs.Kept.{first_unclaimed, job_now, ids_where, is_shut}
 use Rattle.mdb_log.specs.Own.{IsAccepted}
 use Rattle.mdb_pool.specs.Places.{is_pending}
-use Rattle.mdb_pool.specs.Standing.{Fits, StandsFor, SameHome, SameNotes, Serves, Accepts, Answers}
+use Rattle.mdb_pool.specs.Standing.{Fits, SameHome, SameNotes, Serves, Accepts}
 use Rattle.mdb_log.specs.Requests.{settles, is_job}
 
 abbrev pub job_of : ℕ → Option Connection → Reply
@@ -75,11 +75,3 @@ claim-accepts s s0 s1 t before after n reply xs z s0_is s1_is home notes serves 
     (λ c. ap (has c) (notes.claimed ∙ ap (λ k. k.claimed) whole) ∙ rw reply_is (claiming-has s c))
     tt
     tt
-
-pub claim-own : (s t : PoolCore) (before after : List Fact) (n : ℕ) (reply : Reply) (h : List Item) → StandsFor s h → s.last ≤ n → SameHome s t → t.last ≡ n
-    → ((xs : List PoolItem) → Fits s xs → Accepts s t before after n Claim reply xs xs)
-    → Answers s t before after (record { moment = n; act = Claim }) reply h
-claim-own s t before after n reply h z l home last_is v =
-    own-answers s t before after (record { moment = n; act = Claim }) reply (of_pool s.pool h) h z
-    (rw (z.last_is, not-back n s.last l) refl)
-    refl (λ k. refl) (λ k. refl) home last_is (v (of_pool s.pool h) z.fits)

@@ -1,5 +1,5 @@
 -- What a clear does is the answer to its step.
-use Rattle.std.proofs.Common.{ℕ, ◌≡◌, ◌≢◌, ◌≤◌, Bool, true, false, ◌||◌, ◌==◌, List, [], ◌∷◌, ◌++◌, Option, Some, None, is_some, refl, sym, ◌∙◌, ap, subst, append_assoc, append-nil}
+use Rattle.std.proofs.Common.{ℕ, ◌≡◌, Bool, true, false, ◌||◌, ◌==◌, List, [], ◌∷◌, ◌++◌, Option, Some, None, is_some, refl, sym, ◌∙◌, ap, subst, append_assoc, append-nil}
 use Rattle.mdb_base.specs.declared.address.ServerAddress.{ServerAddress}
 use Rattle.mdb_base.specs.declared.object_id.ObjectId.{ObjectId}
 use Rattle.mdb_base.specs.declared.error.Error.{Error}
@@ -8,15 +8,12 @@ use Rattle.mdb_events.specs.declared.fact.Fact.TheVariants.{Ended, Raised}
 use Rattle.mdb_events.specs.declared.end.End.{End}
 use Rattle.mdb_events.specs.declared.end.End.TheVariants.{Cleared}
 use Rattle.mdb_log.specs.declared.step.Act.TheVariants.{Clear as ClearAct}
-use Rattle.mdb_log.specs.declared.reply.Refused.TheVariants.{WrongMode, Exhausted}
-use Rattle.mdb_log.specs.declared.reply.What.TheVariants.{Generation}
-use Rattle.mdb_log.specs.declared.reply.Reply.{Reply}
-use Rattle.mdb_log.specs.declared.reply.Reply.TheVariants.{Done, Refused as RefusedBy}
+use Rattle.mdb_log.specs.declared.reply.Reply.TheVariants.{Done}
 use Rattle.mdb_pool.specs.declared.status.Status.{Status}
 use Rattle.mdb_pool.specs.declared.status.Status.TheVariants.{New, Ready, Paused, Closed}
 use Rattle.mdb_log.specs.declared.options.PoolOptions.{PoolOptions}
 use Rattle.mdb_pool.specs.declared.pool_core.PoolCore.{PoolCore}
-use Rattle.mdb_log.specs.History.{Item, PoolItem, raised, of_pool, after_fact, after_facts, has_asked}
+use Rattle.mdb_log.specs.History.{PoolItem, raised, after_fact, after_facts, has_asked}
 use Rattle.mdb_log.specs.Connections.{has}
 use Rattle.mdb_log.specs.Requests.{queued, is_warm}
 use Rattle.mdb_log.specs.State.{State, is_new, is_ready, is_paused, is_closed, state_of}
@@ -26,14 +23,13 @@ use Rattle.mdb_pool.specs.Kept.{state_in, is_shut, is_ready_now, exhausted_now}
 use Rattle.mdb_pool.specs.Changes.{raising}
 use Rattle.mdb_log.specs.Legal.{AllFirstCome}
 use Rattle.mdb_log.specs.Own.{AllOwn, shuts}
-use Rattle.mdb_pool.specs.Standing.{Fits, StandsFor, Serves, EndsQueue, Clears, Accepts, Answers, SameHome, SameNotes}
-use Rattle.mdb_pool.proofs.Acts.{refuses, accepts, own-answers, not-back}
+use Rattle.mdb_pool.specs.Standing.{Fits, Serves, EndsQueue, Clears, Accepts, SameHome, SameNotes}
+use Rattle.mdb_pool.proofs.Acts.{accepts}
 use Rattle.mdb_log.proofs.Numbers.{same-number}
 use Rattle.mdb_pool.proofs.Stands.{later-fits, raise-fits}
 use Rattle.mdb_pool.proofs.Staleness.{ready-status, shut-status}
 use Rattle.mdb_log.proofs.Pins.{queued-asked}
 use Rattle.mdb_log.proofs.Frame.{asked-fact, asked-facts}
-use Rattle.mdb_pool.proofs.EstablishedActs.{wrong-is, right-is}
 
 pub no-service : (o : Option ObjectId) → is_some o ≡ false → o ≡ None
 no-service None e = refl
@@ -115,7 +111,7 @@ or-yes false e = e
 
 -- ends are fair, the pool's own, and leave it unshut
 module _ (p : ℕ) (a : ServerAddress) (n : ℕ) (end : End) where
-  ends-fair : (xs zs : List PoolItem) (rs : List ℕ) → AllFirstCome p n zs (all_ends p a n xs end rs)
+  pub ends-fair : (xs zs : List PoolItem) (rs : List ℕ) → AllFirstCome p n zs (all_ends p a n xs end rs)
   ends-fair xs zs [] = tt
   ends-fair xs zs (r ∷ rs) = on (is_warm xs r) refl (ends-fair xs (after_fact p n (Ended r end) zs) rs)
     where
@@ -123,7 +119,7 @@ module _ (p : ℕ) (a : ServerAddress) (n : ℕ) (end : End) where
       on true e rest = rw e (tt, rest)
       on false e rest = rw e (tt, (tt, rest))
 
-  ends-open : (xs : List PoolItem) (rs : List ℕ) → shuts (all_ends p a n xs end rs) ≡ false
+  pub ends-open : (xs : List PoolItem) (rs : List ℕ) → shuts (all_ends p a n xs end rs) ≡ false
   ends-open xs [] = refl
   ends-open xs (r ∷ rs) = on (is_warm xs r) refl (ends-open xs rs)
     where
@@ -131,7 +127,7 @@ module _ (p : ℕ) (a : ServerAddress) (n : ℕ) (end : End) where
       on true e rest = rw e rest
       on false e rest = rw e rest
 
-  ends-own : (xs zs : List PoolItem) (rs : List ℕ) → ((r : ℕ) → has r rs ≡ true → has_asked zs r ≡ true) → AllOwn p n zs (all_ends p a n xs end rs)
+  pub ends-own : (xs zs : List PoolItem) (rs : List ℕ) → ((r : ℕ) → has r rs ≡ true → has_asked zs r ≡ true) → AllOwn p n zs (all_ends p a n xs end rs)
   ends-own xs zs [] known = tt
   ends-own xs zs (r ∷ rs) known = on (is_warm xs r) refl (λ later. ends-own xs (after_fact p n (Ended r end) zs) rs later)
     where
@@ -157,7 +153,7 @@ module _ (p : ℕ) (a : ServerAddress) (o : PoolOptions) (n : ℕ) (xs : List Po
   clear-open (Some t) (is_paused why) e = rw e refl
   clear-open (Some t) is_closed e = rw e refl
 
-  clear-fair : (service : Option ObjectId) (u : State) → state_of o xs ≡ u → AllFirstCome p n xs (clear_facts p a o n xs service error)
+  pub clear-fair : (service : Option ObjectId) (u : State) → state_of o xs ≡ u → AllFirstCome p n xs (clear_facts p a o n xs service error)
   clear-fair None is_new e = rw e (tt, tt)
   clear-fair None is_ready e = rw e (tt, (tt, ends-fair p a n (Cleared error) xs _ (queued xs)))
   clear-fair None (is_paused why) e = rw e (tt, tt)
@@ -170,7 +166,7 @@ module _ (p : ℕ) (a : ServerAddress) (o : PoolOptions) (n : ℕ) (xs : List Po
   asked-then : (r : ℕ) → has r (queued xs) ≡ true → has_asked (after_facts p n (Raised p None error ∷ cleared_fact p a None error ∷ []) xs) r ≡ true
   asked-then r e = asked-facts p n r (Raised p None error ∷ cleared_fact p a None error ∷ []) xs ∙ queued-asked xs r e
 
-  clear-all-own : (service : Option ObjectId) (u : State) → state_of o xs ≡ u → AllOwn p n xs (clear_facts p a o n xs service error)
+  pub clear-all-own : (service : Option ObjectId) (u : State) → state_of o xs ≡ u → AllOwn p n xs (clear_facts p a o n xs service error)
   clear-all-own None is_new e = rw e (refl, tt)
   clear-all-own None is_ready e = rw e (refl, (refl, ends-own p a n (Cleared error) xs (after_facts p n (Raised p None error ∷ cleared_fact p a None error ∷ []) xs) (queued xs) asked-then))
   clear-all-own None (is_paused why) e = rw e (refl, tt)
@@ -214,7 +210,7 @@ shut-accepts s s1 t before after n q service error xs z shut s1_is home notes se
     tt
 
 -- how a clear is refused: by its mode, or as its generation is at the limit
-exhausted-is : (s : PoolCore) (xs : List PoolItem) → Fits s xs → (service : Option ObjectId) → is_exhausted s.options xs service ≡ exhausted_now s service
+pub exhausted-is : (s : PoolCore) (xs : List PoolItem) → Fits s xs → (service : Option ObjectId) → is_exhausted s.options xs service ≡ exhausted_now s service
 exhausted-is s xs z service = on s.status refl
   where
     on : (u : Status) → s.status ≡ u → is_exhausted s.options xs service ≡ exhausted_now s service
@@ -222,17 +218,3 @@ exhausted-is s xs z service = on s.status refl
     on Ready e = rw (z.matches.clearing.status, e, z.matches.clearing.clears service) refl
     on (Paused why) e = rw (z.matches.clearing.status, e, z.matches.clearing.clears service) refl
     on Closed e = rw (z.matches.clearing.status, e) refl
-
-pub refuses-service : (s : PoolCore) (facts : List Fact) (n q : ℕ) (service : Option ObjectId) (error : Error) (h : List Item) → StandsFor s h → s.last ≤ n → is_some service ≢ s.options.load_balanced → Answers s s facts facts (record { moment = n; act = ClearAct q service error }) (RefusedBy WrongMode) h
-refuses-service s facts n q service error h z l differs = refuses s facts (record { moment = n; act = ClearAct q service error }) WrongMode h z (rw (z.last_is, not-back n s.last l, wrong-is s.options.load_balanced service differs) refl)
-
-pub refuses-exhausted : (s : PoolCore) (facts : List Fact) (n q : ℕ) (service : Option ObjectId) (error : Error) (h : List Item) → StandsFor s h → s.last ≤ n → is_some service ≡ s.options.load_balanced → exhausted_now s service ≡ true → Answers s s facts facts (record { moment = n; act = ClearAct q service error }) (RefusedBy (Exhausted Generation)) h
-refuses-exhausted s facts n q service error h z l named full = refuses s facts (record { moment = n; act = ClearAct q service error }) (Exhausted Generation) h z (rw (z.last_is, not-back n s.last l, right-is s.options.load_balanced service named, exhausted-is s (of_pool s.pool h) z.fits service ∙ full) refl)
-
-pub clear-own : (s t : PoolCore) (before after : List Fact) (n q : ℕ) (service : Option ObjectId) (error : Error) (reply : Reply) (h : List Item) → StandsFor s h → s.last ≤ n → is_some service ≡ s.options.load_balanced → exhausted_now s service ≡ false → SameHome s t → t.last ≡ n
-    → ((xs : List PoolItem) → Fits s xs → Accepts s t before after n (ClearAct q service error) reply xs xs)
-    → Answers s t before after (record { moment = n; act = ClearAct q service error }) reply h
-clear-own s t before after n q service error reply h z l named room home last_is v =
-    own-answers s t before after (record { moment = n; act = ClearAct q service error }) reply (of_pool s.pool h) h z
-    (rw (z.last_is, not-back n s.last l, right-is s.options.load_balanced service named, exhausted-is s (of_pool s.pool h) z.fits service ∙ room) refl)
-    refl (λ k. refl) (λ k. refl) home last_is (v (of_pool s.pool h) z.fits)

@@ -1,10 +1,9 @@
 -- What a close does is the answer to its step.
-use Rattle.std.proofs.Common.{ℕ, ◌≡◌, ◌≤◌, ◌-◌, Bool, true, false, ◌||◌, List, [], ◌∷◌, ◌++◌, map, filter, Option, Some, None, is_some, not, refl, sym, ◌∙◌, ap, subst, append_assoc, append-nil, if◌then◌else◌}
+use Rattle.std.proofs.Common.{ℕ, ◌≡◌, ◌-◌, Bool, true, false, ◌||◌, List, [], ◌∷◌, ◌++◌, map, filter, Option, Some, None, is_some, not, refl, sym, ◌∙◌, ap, subst, append_assoc, append-nil, if◌then◌else◌}
 use Rattle.mdb_events.specs.declared.fact.Fact.{Fact}
 use Rattle.mdb_events.specs.declared.end.End.TheVariants.{Closed as ClosedEnd}
 use Rattle.mdb_events.specs.declared.reasons.ConnectionClosedReason.TheVariants.{PoolClosed as PoolClosedReason}
 use Rattle.mdb_log.specs.declared.step.Act.TheVariants.{Close as CloseAct}
-use Rattle.mdb_log.specs.declared.reply.Reply.{Reply}
 use Rattle.mdb_log.specs.declared.reply.Reply.TheVariants.{Done}
 use Rattle.mdb_pool.specs.declared.status.Status.{Status}
 use Rattle.mdb_pool.specs.declared.status.Status.TheVariants.{New, Ready, Paused, Closed}
@@ -13,7 +12,7 @@ use Rattle.mdb_pool.specs.declared.request.Request.{Request}
 use Rattle.mdb_pool.specs.declared.request.Phase.{Phase}
 use Rattle.mdb_pool.specs.declared.request.Phase.TheVariants.{Queued, Given, Over, Ended as EndedPhase}
 use Rattle.mdb_pool.specs.declared.pool_core.PoolCore.{PoolCore}
-use Rattle.mdb_log.specs.History.{Item, PoolItem, closed, ended, pool_closed, of_pool, after_fact, after_facts, has_asked, given}
+use Rattle.mdb_log.specs.History.{PoolItem, closed, ended, pool_closed, after_fact, after_facts, has_asked, given}
 use Rattle.mdb_log.specs.Connections.{has, pending_list, available_list, known_service}
 use Rattle.mdb_log.specs.Requests.{requests, is_unserved, queued, end_of}
 use Rattle.mdb_log.specs.State.{state_of}
@@ -23,9 +22,9 @@ use Rattle.mdb_pool.specs.Places.{is_pending, is_available, is_queued}
 use Rattle.mdb_pool.specs.Changes.{closing, closing_facts, shut_facts, off_facts, available_ones, pending_ones, unserved_ones, over_facts}
 use Rattle.mdb_log.specs.Legal.{AllFirstCome}
 use Rattle.mdb_log.specs.Own.{AllOwn, shuts}
-use Rattle.mdb_pool.specs.Standing.{Fits, StandsFor, Serves, Accepts, Answers, SameHome, SameNotes}
+use Rattle.mdb_pool.specs.Standing.{Fits, Serves, Accepts, SameHome, SameNotes}
 use Rattle.mdb_pool.proofs.Tables.{In, here, there, passes, has-where, member-at, one_if-le}
-use Rattle.mdb_pool.proofs.Acts.{accepts, own-answers, not-back, live-service, pending-is}
+use Rattle.mdb_pool.proofs.Acts.{accepts, live-service, pending-is}
 use Rattle.mdb_log.proofs.Numbers.{same-number}
 use Rattle.mdb_log.proofs.Later.{after-append}
 use Rattle.mdb_pool.proofs.Stands.{later-fits, asked-known}
@@ -277,11 +276,3 @@ closed-accepts s s1 t before after n q xs z shut s1_is home notes serves =
     (λ c. ap (has c) (notes.claimed ∙ ap (λ k. k.claimed) s1_is))
     tt
     tt
-
-pub close-own : (s t : PoolCore) (before after : List Fact) (n p : ℕ) (reply : Reply) (h : List Item) → StandsFor s h → s.last ≤ n → SameHome s t → t.last ≡ n
-    → ((xs : List PoolItem) → Fits s xs → Accepts s t before after n (CloseAct p) reply xs xs)
-    → Answers s t before after (record { moment = n; act = CloseAct p }) reply h
-close-own s t before after n p reply h z l home last_is v =
-    own-answers s t before after (record { moment = n; act = CloseAct p }) reply (of_pool s.pool h) h z
-    (rw (z.last_is, not-back n s.last l) refl)
-    refl (λ k. refl) (λ k. refl) home last_is (v (of_pool s.pool h) z.fits)

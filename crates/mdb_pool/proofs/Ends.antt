@@ -75,7 +75,7 @@ pub warm-facts : (p m r : ℕ) (fs : List Fact) (xs : List PoolItem) → is_warm
 warm-facts p m r [] xs = refl
 warm-facts p m r (f ∷ fs) xs = warm-facts p m r fs (after_fact p m f xs) ∙ warm-fact p m r f xs
 
-ends-append : (p : ℕ) (a : ServerAddress) (m : ℕ) (xs : List PoolItem) (end : End) (rs : List ℕ) (r : ℕ) → all_ends p a m xs end (rs ++ r ∷ []) ≡ all_ends p a m xs end rs ++ end_facts p a m xs r end
+pub ends-append : (p : ℕ) (a : ServerAddress) (m : ℕ) (xs : List PoolItem) (end : End) (rs : List ℕ) (r : ℕ) → all_ends p a m xs end (rs ++ r ∷ []) ≡ all_ends p a m xs end rs ++ end_facts p a m xs r end
 ends-append p a m xs end [] r = append-nil (end_facts p a m xs r end)
 ends-append p a m xs end (k ∷ rs) r = ap (λ f. end_facts p a m xs k end ++ f) (ends-append p a m xs end rs r) ∙ sym (append_assoc (end_facts p a m xs k end) (all_ends p a m xs end rs) (end_facts p a m xs r end))
 
@@ -89,7 +89,7 @@ has-count k [] e = cc
 has-count k (j ∷ ks) e = grind (arith, common_steps, has-count k ks)
 
 -- a number that stands once is not behind itself
-once : (k : ℕ) (ks : List ℕ) → count_by (λ j. j == k) (k ∷ ks) ≤ 1 → without k (k ∷ ks) ≡ ks
+pub once : (k : ℕ) (ks : List ℕ) → count_by (λ j. j == k) (k ∷ ks) ≤ 1 → without k (k ∷ ks) ≡ ks
 once k ks l = on (has k ks) refl
   where
     absent : (js : List ℕ) → has k js ≡ false → without k js ≡ js
@@ -119,6 +119,32 @@ ends-done s t n end before after xs g e =
       fits = subst (λ k. Fits t (after_facts s.pool n (all_ends s.pool s.address n xs end k) xs)) (sym all) g.fits;
     }
 
+-- one more request ended: what is said, and what the pool then knows
+module _ (s t : PoolCore) (home : SameHome s t) (n : ℕ) (end : End) (xs : List PoolItem) (done : List ℕ) (z : Fits t (after_facts s.pool n (all_ends s.pool s.address n xs end done) xs)) (q : Request) (at_q : request_at t q.number ≡ Some q) (waits : q.phase ≡ Queued) where
+  abbrev ys : List PoolItem
+  ys = after_facts s.pool n (all_ends s.pool s.address n xs end done) xs
+
+  abbrev over : List Fact
+  over = over_facts t q.number q.warm (n - q.asked_at) end
+
+  more-said : all_ends s.pool s.address n xs end (done ++ q.number ∷ []) ≡ all_ends s.pool s.address n xs end done ++ over
+  more-said =
+      let moment : asked_at xs q.number ≡ q.asked_at = sym (moment-facts s.pool n q.number (all_ends s.pool s.address n xs end done) xs) ∙ (z.matches.requests.asked_at q.number ∙ ap asked_at_of at_q) in
+      let warm : is_warm xs q.number ≡ q.warm = sym (warm-facts s.pool n q.number (all_ends s.pool s.address n xs end done) xs) ∙ (z.matches.requests.warm q.number ∙ ap warm_of at_q) in
+      let told : end_facts s.pool s.address n xs q.number end ≡ over = rw (warm, moment, home.pool, home.address) refl in
+      ends-append s.pool s.address n xs end done q.number ∙ ap (λ k. all_ends s.pool s.address n xs end done ++ k) told
+
+  pub more-known : after_facts s.pool n (all_ends s.pool s.address n xs end (done ++ q.number ∷ [])) xs ≡ ended q.number end ∷ ys
+  more-known =
+      let asked : has_asked ys q.number ≡ true = queued-asked_at t ys z.matches q at_q (ap is_queued waits) in
+      ap (λ k. after_facts s.pool n k xs) more-said ∙ (after-append s.pool n (all_ends s.pool s.address n xs end done) over xs ∙ over-known t s.pool n q.number (n - q.asked_at) end q.warm ys asked)
+
+  pub more-facts : (before after facts : List Fact) → after ≡ before ++ all_ends s.pool s.address n xs end done → facts ≡ after ++ over → facts ≡ before ++ all_ends s.pool s.address n xs end (done ++ q.number ∷ [])
+  more-facts before after facts earlier added = added ∙ (ap (λ k. k ++ over) earlier ∙ (append_assoc before (all_ends s.pool s.address n xs end done) over ∙ ap (λ k. before ++ k) (sym more-said)))
+
+  pub more-fits : (u : PoolCore) → u ≡ ending t q end → Fits u (after_facts s.pool n (all_ends s.pool s.address n xs end (done ++ q.number ∷ [])) xs)
+  more-fits u new = subst (Fits u) (sym more-known) (rw new (end-fits t ys z n q end at_q (ap given_in waits)))
+
 pub ends-more : (s t u : PoolCore) (home : SameHome s t) (n : ℕ) (end : End) (before after facts : List Fact) (xs : List PoolItem) (q : Request) → Fits s xs → Ending s t n end before after xs → first_queued t ≡ Some q → u ≡ ending t q end → facts ≡ after ++ over_facts t q.number q.warm (n - q.asked_at) end → Ending s u n end before facts xs
 ends-more s t u home n end before after facts xs q z g e new added =
     let ys : List PoolItem = after_facts s.pool n (all_ends s.pool s.address n xs end g.done) xs in
@@ -127,16 +153,11 @@ ends-more s t u home n end before after facts xs q z g e new added =
     let queue : queued ys ≡ q.number ∷ head.0 = g.fits.matches.requests.queue ∙ head.1 in
     let single : count_by (λ j. j == q.number) (numbers_where is_queued t.requests) ≤ 1 = at-most (part-named q.number t.requests) (rw (g.fits.matches.requests.single_request q.number) (one_if-le (is_some (request_at t q.number)))) in
     let left : without q.number (queued ys) ≡ head.0 = ap (without q.number) queue ∙ once q.number head.0 (subst (λ k. count_by (λ j. j == q.number) k ≤ 1) head.1 single) in
-    let moment : asked_at xs q.number ≡ q.asked_at = sym (moment-facts s.pool n q.number (all_ends s.pool s.address n xs end g.done) xs) ∙ (g.fits.matches.requests.asked_at q.number ∙ ap asked_at_of at_q.0) in
-    let warm : is_warm xs q.number ≡ q.warm = sym (warm-facts s.pool n q.number (all_ends s.pool s.address n xs end g.done) xs) ∙ (g.fits.matches.requests.warm q.number ∙ ap warm_of at_q.0) in
-    let told : end_facts s.pool s.address n xs q.number end ≡ over_facts t q.number q.warm (n - q.asked_at) end = rw (warm, moment, home.pool, home.address) refl in
-    let asked : has_asked ys q.number ≡ true = queued-asked_at t ys g.fits.matches q at_q.0 (ap is_queued at_q.1) in
-    let more : all_ends s.pool s.address n xs end (g.done ++ q.number ∷ []) ≡ all_ends s.pool s.address n xs end g.done ++ over_facts t q.number q.warm (n - q.asked_at) end = ends-append s.pool s.address n xs end g.done q.number ∙ ap (λ k. all_ends s.pool s.address n xs end g.done ++ k) told in
-    let known : after_facts s.pool n (all_ends s.pool s.address n xs end (g.done ++ q.number ∷ [])) xs ≡ ended q.number end ∷ ys = ap (λ k. after_facts s.pool n k xs) more ∙ (after-append s.pool n (all_ends s.pool s.address n xs end g.done) (over_facts t q.number q.warm (n - q.asked_at) end) xs ∙ over-known t s.pool n q.number (n - q.asked_at) end q.warm ys asked) in
+    let known : after_facts s.pool n (all_ends s.pool s.address n xs end (g.done ++ q.number ∷ [])) xs ≡ ended q.number end ∷ ys = more-known s t home n end xs g.done g.fits q at_q.0 at_q.1 in
     record {
       done = g.done ++ q.number ∷ [];
-      facts = added ∙ (ap (λ k. k ++ over_facts t q.number q.warm (n - q.asked_at) end) g.facts ∙ (append_assoc before (all_ends s.pool s.address n xs end g.done) (over_facts t q.number q.warm (n - q.asked_at) end) ∙ ap (λ k. before ++ k) (sym more)));
-      fits = subst (Fits u) (sym known) (rw new (end-fits t ys g.fits n q end at_q.0 (ap given_in at_q.1)));
+      facts = more-facts s t home n end xs g.done g.fits q at_q.0 at_q.1 before after facts g.facts added;
+      fits = more-fits s t home n end xs g.done g.fits q at_q.0 at_q.1 u new;
       rest = g.rest ∙ (ap (λ k. g.done ++ k) queue ∙ (sym (append_assoc g.done (q.number ∷ []) head.0) ∙ ap (λ k. (g.done ++ q.number ∷ []) ++ k) (sym (ap queued known ∙ left))));
     }
   where

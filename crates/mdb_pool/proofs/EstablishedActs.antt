@@ -1,39 +1,34 @@
 -- What an established connection does is the answer to its step.
-use Rattle.std.proofs.Common.{ℕ, ◌≡◌, ◌-◌, ◌≤◌, Bool, true, false, ◌==◌, List, [], ◌∷◌, ◌++◌, Some, None, is_some, ◌≢◌, refl, sym, ◌∙◌, subst, if◌then◌else◌, ap, Option, ◌||◌, append_assoc}
+use Rattle.std.proofs.Common.{ℕ, ◌≡◌, ◌-◌, Bool, true, false, List, [], ◌∷◌, ◌++◌, Some, None, is_some, refl, sym, ◌∙◌, subst, ap, Option, ◌||◌, append_assoc}
 use Rattle.mdb_events.specs.declared.fact.Fact.{Fact}
 use Rattle.mdb_events.specs.declared.fact.Fact.TheVariants.{Ended}
 use Rattle.mdb_events.specs.declared.end.End.TheVariants.{Filled}
 use Rattle.mdb_log.specs.declared.step.Act.TheVariants.{Established as EstablishedAct}
 use Rattle.mdb_log.specs.declared.step.Established.{Established}
-use Rattle.mdb_log.specs.declared.reply.Refused.TheVariants.{NotPending, WrongMode}
-use Rattle.mdb_log.specs.declared.reply.Reply.{Reply}
-use Rattle.mdb_log.specs.declared.reply.Reply.TheVariants.{Done, Refused as RefusedBy}
+use Rattle.mdb_log.specs.declared.reply.Reply.TheVariants.{Done}
 use Rattle.mdb_pool.specs.declared.connection.Connection.{Connection}
 use Rattle.mdb_pool.specs.declared.connection.Place.TheVariants.{Pending, Available}
 use Rattle.mdb_pool.specs.declared.request.Request.{Request}
 use Rattle.mdb_pool.specs.declared.request.Phase.{Phase}
 use Rattle.mdb_pool.specs.declared.request.Phase.TheVariants.{Queued, Given, Over, Ended as EndedPhase}
 use Rattle.mdb_pool.specs.declared.pool_core.PoolCore.{PoolCore}
-use Rattle.mdb_log.specs.History.{Item, PoolItem, established, ended, of_pool, after_facts, has_asked, closed, checked_in}
-use Rattle.mdb_pool.specs.Refusal.{refusal_of, wrong_service}
+use Rattle.mdb_log.specs.History.{PoolItem, established, ended, after_facts, has_asked, closed, checked_in}
 use Rattle.mdb_pool.specs.Facts.{act_facts, check_in, checked_out_fact, ready_fact}
 use Rattle.mdb_pool.specs.Keyed.{others}
 use Rattle.mdb_log.specs.Own.{shuts}
 use Rattle.mdb_pool.proofs.Laws.{fair-append, own-append, shut-append}
 use Rattle.mdb_log.proofs.Frame.{asked-facts}
 use Rattle.mdb_pool.proofs.FailedActs.{holder-some, holder-none}
-use Rattle.mdb_pool.specs.Standing.{Fits, StandsFor, Serves, Accepts, Answers, SameHome, SameNotes}
-use Rattle.mdb_pool.specs.Kept.{connection_at, request_at, is_pending_at, asked_at_of, warm_of, given_in, given_of, holder_at, holder_request, is_shut, reason_now}
+use Rattle.mdb_pool.specs.Standing.{Fits, Serves, Accepts, SameHome, SameNotes}
+use Rattle.mdb_pool.specs.Kept.{connection_at, request_at, asked_at_of, warm_of, given_in, given_of, holder_at, holder_request, is_shut, reason_now}
 use Rattle.mdb_pool.specs.Changes.{establishing, pooling, back_facts, forgetting, pooling_for, filling_for, parting, ending}
-use Rattle.mdb_pool.proofs.Acts.{refuses, accepts, own-answers, not-back, pending-is, live-errored, live-dropped, given-open}
-use Rattle.mdb_pool.proofs.Tables.{entry_at-key, entry_at-swap, others-swap, named}
-use Rattle.mdb_log.proofs.Bools.{if-not}
+use Rattle.mdb_pool.proofs.Acts.{accepts, live-errored, live-dropped, given-open}
+use Rattle.mdb_pool.proofs.Tables.{entry_at-key, entry_at-swap, others-swap}
 use Rattle.mdb_log.proofs.Numbers.{same-number}
 use Rattle.mdb_pool.proofs.Stands.{establish-fits, pool-fits, pool-drop-fits, rest-fits, part-fits, skip-fits, late-end-fits, late-end-fits_closed, late-end-fits_skipped, asked-known}
-use Rattle.mdb_log.specs.Connections.{has, pending, held, granted_to, service_of, known_service}
+use Rattle.mdb_log.specs.Connections.{has, held, granted_to, service_of, known_service}
 use Rattle.mdb_log.specs.Requests.{end_of}
 use Rattle.mdb_pool.specs.Places.{is_pending}
-use Rattle.mdb_base.specs.declared.object_id.ObjectId.{ObjectId}
 use Rattle.mdb_events.specs.declared.reasons.ConnectionClosedReason.{ConnectionClosedReason}
 use Rattle.mdb_pool.proofs.CheckIns.{check-in-is, back-fair, back-own, back-open, back-fits}
 use Rattle.mdb_pool.proofs.Staleness.{live-created, stale-in}
@@ -262,39 +257,3 @@ rest-of s s1 t before f1 after n c x how xs z at_c place none no_party s1_is f1_
     no-number : (o : Option ℕ) → is_some o ≡ false → o ≡ None
     no-number None f = refl
     no-number (Some k) f = cc
-
--- how an established connection is refused: it isn't pending, or it names no service
-established-refusal : (s : PoolCore) (h : List Item) → StandsFor s h → (n c : ℕ) (how : Established) → s.last ≤ n → refusal_of s.pool s.options h (record { moment = n; act = EstablishedAct s.pool c how }) ≡ if is_pending_at (connection_at s c) then (if wrong_service s.options.load_balanced how.service_id then Some WrongMode else None) else Some NotPending
-established-refusal s h z n c how l = rw (z.last_is, not-back n s.last l, same-number s.pool, pending-is s (of_pool s.pool h) z.fits c) (if-not (is_pending_at (connection_at s c)) (Some NotPending) (if wrong_service s.options.load_balanced how.service_id then Some WrongMode else None))
-
--- the mode goes with the service
-pub wrong-is : (b : Bool) (o : Option ObjectId) → is_some o ≢ b → wrong_service b o ≡ true
-wrong-is true None ne = refl
-wrong-is true (Some t) ne = absurd (ne refl)
-wrong-is false None ne = absurd (ne refl)
-wrong-is false (Some t) ne = refl
-
-pub right-is : (b : Bool) (o : Option ObjectId) → is_some o ≡ b → wrong_service b o ≡ false
-right-is true None e = cc
-right-is true (Some t) e = refl
-right-is false None e = refl
-right-is false (Some t) e = cc
-
-pub refuses-pending : (s : PoolCore) (facts : List Fact) (n c : ℕ) (how : Established) (h : List Item) → StandsFor s h → s.last ≤ n → is_pending_at (connection_at s c) ≡ false → Answers s s facts facts (record { moment = n; act = EstablishedAct s.pool c how }) (RefusedBy NotPending) h
-refuses-pending s facts n c how h z l e = refuses s facts (record { moment = n; act = EstablishedAct s.pool c how }) NotPending h z (established-refusal s h z n c how l ∙ rw e refl)
-
-pub refuses-mode : (s : PoolCore) (facts : List Fact) (n c : ℕ) (how : Established) (h : List Item) → StandsFor s h → s.last ≤ n → is_pending_at (connection_at s c) ≡ true → is_some how.service_id ≢ s.options.load_balanced → Answers s s facts facts (record { moment = n; act = EstablishedAct s.pool c how }) (RefusedBy WrongMode) h
-refuses-mode s facts n c how h z l e differs = refuses s facts (record { moment = n; act = EstablishedAct s.pool c how }) WrongMode h z (established-refusal s h z n c how l ∙ rw (e, wrong-is s.options.load_balanced how.service_id differs) refl)
-
--- an established connection of another pool is refused
-pub refuses-other : (s : PoolCore) (facts : List Fact) (n q c : ℕ) (how : Established) (h : List Item) → StandsFor s h → s.last ≤ n → (q == s.pool) ≡ false → Answers s s facts facts (record { moment = n; act = EstablishedAct q c how }) (RefusedBy NotPending) h
-refuses-other s facts n q c how h z l e = refuses s facts (record { moment = n; act = EstablishedAct q c how }) NotPending h z (rw (z.last_is, not-back n s.last l, e) refl)
-
-pub established-own : (s t : PoolCore) (before after : List Fact) (n c : ℕ) (how : Established) (reply : Reply) (h : List Item) → StandsFor s h → s.last ≤ n → is_some how.service_id ≡ s.options.load_balanced → is_pending_at (connection_at s c) ≡ true → SameHome s t → t.last ≡ n
-    → ((xs : List PoolItem) → Fits s xs → Accepts s t before after n (EstablishedAct s.pool c how) reply xs (established c how n ∷ xs))
-    → Answers s t before after (record { moment = n; act = EstablishedAct s.pool c how }) reply h
-established-own s t before after n c how reply h z l named pending home last_is v =
-    own-answers s t before after (record { moment = n; act = EstablishedAct s.pool c how }) reply (established c how n ∷ of_pool s.pool h) h z
-    (established-refusal s h z n c how l ∙ rw (pending, right-is s.options.load_balanced how.service_id named) refl)
-    (rw (same-number s.pool) refl)
-    (λ k. refl) (λ k. refl) home last_is (v (of_pool s.pool h) z.fits)

@@ -1,32 +1,27 @@
 -- What a failed connection does is the answer to its step.
-use Rattle.std.proofs.Common.{ℕ, ◌≡◌, ◌-◌, ◌≤◌, Bool, true, false, not, ◌&&◌, ◌||◌, ◌==◌, List, [], ◌∷◌, ◌++◌, Some, None, is_some, refl, sym, ◌∙◌, subst, if◌then◌else◌, ap, Option}
+use Rattle.std.proofs.Common.{ℕ, ◌≡◌, ◌-◌, true, ◌||◌, List, [], ◌∷◌, ◌++◌, Some, None, is_some, refl, sym, ◌∙◌, subst, ap, Option}
 use Rattle.mdb_base.specs.declared.error.Error.{Error}
 use Rattle.mdb_events.specs.declared.fact.Fact.{Fact}
 use Rattle.mdb_events.specs.declared.end.End.TheVariants.{Failed as FailedEnd}
 use Rattle.mdb_events.specs.declared.reasons.ConnectionClosedReason.TheVariants.{Error as ErrorReason}
 use Rattle.mdb_log.specs.declared.step.Act.TheVariants.{Failed as FailedAct}
 use Rattle.mdb_log.specs.declared.step.FailedAt.{FailedAt}
-use Rattle.mdb_log.specs.declared.step.FailedAt.TheVariants.{Pre, Post}
-use Rattle.mdb_log.specs.declared.reply.Refused.TheVariants.{NotPending, WrongMode}
-use Rattle.mdb_log.specs.declared.reply.Reply.{Reply}
-use Rattle.mdb_log.specs.declared.reply.Reply.TheVariants.{Done, Refused as RefusedBy}
+use Rattle.mdb_log.specs.declared.reply.Reply.TheVariants.{Done}
 use Rattle.mdb_pool.specs.declared.connection.Connection.{Connection}
 use Rattle.mdb_pool.specs.declared.connection.Place.TheVariants.{Pending}
 use Rattle.mdb_pool.specs.declared.request.Request.{Request}
 use Rattle.mdb_pool.specs.declared.pool_core.PoolCore.{PoolCore}
-use Rattle.mdb_log.specs.History.{Item, PoolItem, failed, closed, ended, of_pool, after_fact, after_facts, has_asked, with_act, service_in}
-use Rattle.mdb_pool.specs.Refusal.{refusal_of}
+use Rattle.mdb_log.specs.History.{PoolItem, failed, closed, ended, after_fact, after_facts, has_asked, service_in}
 use Rattle.mdb_pool.specs.Facts.{act_facts, closed_fact}
-use Rattle.mdb_pool.specs.Standing.{Fits, StandsFor, Serves, Accepts, Answers, SameHome, SameNotes}
-use Rattle.mdb_pool.specs.Kept.{connection_at, request_at, is_pending_at, given_of, holder_at, holder_request, is_shut}
+use Rattle.mdb_pool.specs.Standing.{Fits, Serves, Accepts, SameHome, SameNotes}
+use Rattle.mdb_pool.specs.Kept.{connection_at, request_at, given_of, holder_at, holder_request, is_shut}
 use Rattle.mdb_pool.specs.Changes.{failing, forgetting, over_facts}
-use Rattle.mdb_pool.proofs.Acts.{refuses, accepts, own-answers, not-back, pending-is, live-service, given-open}
-use Rattle.mdb_pool.proofs.Tables.{entry_at-key, named}
+use Rattle.mdb_pool.proofs.Acts.{accepts, live-service, given-open}
+use Rattle.mdb_pool.proofs.Tables.{entry_at-key}
 use Rattle.mdb_pool.proofs.Overs.{over-is, over-known, over-fair, over-own, over-open}
-use Rattle.mdb_log.proofs.Bools.{if-not}
 use Rattle.mdb_log.proofs.Numbers.{same-number}
 use Rattle.mdb_pool.proofs.Stands.{fail-fits, forget-fits, asked-known}
-use Rattle.mdb_log.specs.Connections.{has, pending, held}
+use Rattle.mdb_log.specs.Connections.{has, held}
 use Rattle.mdb_log.specs.Requests.{end_of}
 use Rattle.mdb_pool.specs.Places.{is_pending, stays}
 
@@ -133,37 +128,3 @@ forget-of s s1 t before f1 after n c x at error xs z at_c place none s1_is f1_is
     let e : x.id ≡ c = entry_at-key (λ (y : Connection). y.id) c x s.connections at_c in
     let at_x : connection_at s x.id ≡ Some x = subst (λ d. connection_at s d ≡ Some x) (sym e) at_c in
     subst (λ d. Accepts s t before after n (FailedAct s.pool d at error) Done xs (failed d (service_in at) ∷ xs)) e (forget-accepts s xs z n x at error s1 t before f1 after at_x place (holder-none s xs z x at_x none) s1_is f1_is home notes serves)
-
--- how a failed connection is refused: it isn't pending, or it names a service and the pool is normal
-failed-refusal : (s : PoolCore) (h : List Item) → StandsFor s h → (n c : ℕ) (at : FailedAt) (error : Error) → s.last ≤ n → refusal_of s.pool s.options h (record { moment = n; act = FailedAct s.pool c at error }) ≡ if is_pending_at (connection_at s c) then (if not s.options.load_balanced && is_some (service_in at) then Some WrongMode else None) else Some NotPending
-failed-refusal s h z n c Pre error l = rw (z.last_is, not-back n s.last l, same-number s.pool, pending-is s (of_pool s.pool h) z.fits c) (on (is_pending_at (connection_at s c)) (not s.options.load_balanced))
-  where
-    on : (b k : Bool) → (if not b then Some NotPending else None) ≡ (if b then (if k && false then Some WrongMode else None) else Some NotPending)
-    on true true = refl
-    on true false = refl
-    on false k = refl
-failed-refusal s h z n c (Post service) error l = rw (z.last_is, not-back n s.last l, same-number s.pool, pending-is s (of_pool s.pool h) z.fits c) (if-not (is_pending_at (connection_at s c)) (Some NotPending) (if not s.options.load_balanced && is_some service then Some WrongMode else None))
-
-pub fails-pending : (s : PoolCore) (facts : List Fact) (n c : ℕ) (at : FailedAt) (error : Error) (h : List Item) → StandsFor s h → s.last ≤ n → is_pending_at (connection_at s c) ≡ false → Answers s s facts facts (record { moment = n; act = FailedAct s.pool c at error }) (RefusedBy NotPending) h
-fails-pending s facts n c at error h z l e = refuses s facts (record { moment = n; act = FailedAct s.pool c at error }) NotPending h z (failed-refusal s h z n c at error l ∙ rw e refl)
-
-pub fails-mode : (s : PoolCore) (facts : List Fact) (n c : ℕ) (at : FailedAt) (error : Error) (h : List Item) → StandsFor s h → s.last ≤ n → is_pending_at (connection_at s c) ≡ true → (not s.options.load_balanced && is_some (service_in at)) ≡ true → Answers s s facts facts (record { moment = n; act = FailedAct s.pool c at error }) (RefusedBy WrongMode) h
-fails-mode s facts n c at error h z l e f = refuses s facts (record { moment = n; act = FailedAct s.pool c at error }) WrongMode h z (failed-refusal s h z n c at error l ∙ rw (e, f) refl)
-
--- a failed connection of another pool is refused
-pub fails-other : (s : PoolCore) (facts : List Fact) (n q c : ℕ) (at : FailedAt) (error : Error) (h : List Item) → StandsFor s h → s.last ≤ n → (q == s.pool) ≡ false → Answers s s facts facts (record { moment = n; act = FailedAct q c at error }) (RefusedBy NotPending) h
-fails-other s facts n q c Pre error h z l e = refuses s facts (record { moment = n; act = FailedAct q c Pre error }) NotPending h z (rw (z.last_is, not-back n s.last l, e) refl)
-fails-other s facts n q c (Post service) error h z l e = refuses s facts (record { moment = n; act = FailedAct q c (Post service) error }) NotPending h z (rw (z.last_is, not-back n s.last l, e) refl)
-
-with-failed : (s : PoolCore) (h : List Item) (n c : ℕ) (at : FailedAt) (error : Error) → with_act s.pool h (record { moment = n; act = FailedAct s.pool c at error }) ≡ failed c (service_in at) ∷ of_pool s.pool h
-with-failed s h n c Pre error = rw (same-number s.pool) refl
-with-failed s h n c (Post service) error = rw (same-number s.pool) refl
-
-pub failed-own : (s t : PoolCore) (before after : List Fact) (n c : ℕ) (at : FailedAt) (error : Error) (reply : Reply) (h : List Item) → StandsFor s h → s.last ≤ n → (not s.options.load_balanced && is_some (service_in at)) ≡ false → is_pending_at (connection_at s c) ≡ true → SameHome s t → t.last ≡ n
-    → ((xs : List PoolItem) → Fits s xs → Accepts s t before after n (FailedAct s.pool c at error) reply xs (failed c (service_in at) ∷ xs))
-    → Answers s t before after (record { moment = n; act = FailedAct s.pool c at error }) reply h
-failed-own s t before after n c at error reply h z l named pending home last_is v =
-    own-answers s t before after (record { moment = n; act = FailedAct s.pool c at error }) reply (failed c (service_in at) ∷ of_pool s.pool h) h z
-    (failed-refusal s h z n c at error l ∙ rw (pending, named) refl)
-    (with-failed s h n c at error)
-    (λ k. refl) (λ k. refl) home last_is (v (of_pool s.pool h) z.fits)

@@ -93,6 +93,7 @@ module _ (p m : ℕ) (here : ServerAddress → Option ℕ) (xs : List PoolItem) 
   act-kept (act.Collect r) b = i
   act-kept act.Claim b = i
   act-kept (act.Maintain a) b = i
+  act-kept (act.Expire a) b = i
   act-kept (act.Ready q) b = i
   act-kept (act.Clear q service error) b = i
   act-kept (act.Close q) b = i
@@ -149,6 +150,7 @@ act-grows p m here xs (act.Open options) = omega arith
 act-grows p m here xs (act.Collect r) = omega arith
 act-grows p m here xs act.Claim = omega arith
 act-grows p m here xs (act.Maintain a) = omega arith
+act-grows p m here xs (act.Expire a) = omega arith
 act-grows p m here xs (act.Ready q) = omega arith
 act-grows p m here xs (act.Clear q service error) = omega arith
 act-grows p m here xs (act.Close q) = omega arith

@@ -1,20 +1,24 @@
 -- What the calls that only look at a pool answer, by its history.
-use Rattle.std.proofs.Common.{ℕ, ◌≡◌, Bool, true, false, List, Option, Some, None, is_some, refl, sym, ◌∙◌, ap, if◌then◌else◌, nat_lt, not, ◌&&◌, ◌==◌, ◌+◌, arith}
+use Rattle.std.proofs.Common.{ℕ, ◌≡◌, Bool, true, false, List, [], ◌∷◌, Option, Some, None, is_some, refl, sym, ◌∙◌, ap, if◌then◌else◌, nat_lt, not, ◌&&◌, ◌==◌, ◌+◌, arith}
 use Rattle.mdb_base.specs.declared.object_id.ObjectId.{ObjectId}
 use Rattle.mdb_pool.specs.declared.connection.Connection.{Connection}
 use Rattle.mdb_pool.specs.declared.pool_core.PoolCore.{PoolCore}
-use Rattle.mdb_log.specs.History.{Item, PoolItem, of_pool}
-use Rattle.mdb_log.specs.Connections.{has, is_live, pending_list, holding, known_service, timeouts_since}
+use Rattle.std.specs.List.{list_any}
+use Rattle.std.specs.Prelude.{find}
+use Rattle.mdb_log.specs.History.{Item, PoolItem, has_asked, has_party, of_pool}
+use Rattle.mdb_log.specs.Requests.{is_claimed}
+use Rattle.mdb_log.specs.Connections.{has, is_live, pending_list, held, holding, known_service, pins, timeouts_since}
 use Rattle.mdb_log.specs.State.{generation_of, generation_before, is_interrupted}
-use Rattle.mdb_pool.specs.Kept.{connection_at, held_connection, is_pending_at, id_at, clears_for, clears_before, generation_at, interrupted_at, timeouts_in, is_held_at, pins_at}
-use Rattle.mdb_pool.specs.Places.{is_held}
+use Rattle.mdb_pool.specs.Kept.{request_at, is_asked_at, first_unclaimed, ids_where, connection_at, held_connection, is_pending_at, id_at, clears_for, clears_before, generation_at, interrupted_at, timeouts_in, is_held_at, pins_at}
+use Rattle.mdb_pool.specs.Places.{is_held, is_pending}
 use Rattle.mdb_log.specs.Generations.{carried}
 use Rattle.mdb_log.specs.declared.generation.ConnectionGeneration.TheVariants.{Normal, LoadBalanced}
 use Rattle.mdb_pool.proofs.TakenActs.{held-is}
 use Rattle.std.proofs.lemmas.Bool.Decides.{nat_tests}
 use Rattle.std.proofs.Math.Bool.{and-false}
 use Rattle.mdb_pool.specs.Standing.{StandsFor}
-use Rattle.mdb_pool.proofs.Acts.{holding-is, pending-is, live-service}
+use Rattle.mdb_pool.proofs.Acts.{holding-is, holds-is, pending-is, live-service}
+use Rattle.mdb_pool.proofs.Stands.{asked-known}
 use Rattle.mdb_pool.proofs.Found.{id_or}
 use Rattle.mdb_pool.proofs.Staleness.{live-created}
 
@@ -45,6 +49,34 @@ module _ (s : PoolCore) (h : List Item) (z : StandsFor s h) where
       on : (o : Option Connection) → id_at o ≡ id_or o None
       on None = refl
       on (Some x) = refl
+
+  pub knows-now : (r : ℕ) → is_some (request_at s r) ≡ has_party xs r
+  knows-now r = sym (z.fits.asked r)
+
+  pub holds-now : (r : ℕ) → is_some (held_connection s r) ≡ is_some (holding xs r)
+  holds-now r = sym (holds-is s xs z.fits r)
+
+  pub asked-now : (r : ℕ) → is_asked_at (request_at s r) ≡ has_asked xs r
+  asked-now r = sym (asked-known s xs z.fits r)
+
+  pub pins-now : (c : ℕ) → nat_lt 0 (pins_at (connection_at s c)) ≡ nat_lt 0 (pins xs c)
+  pins-now c = ap (nat_lt 0) (sym (z.fits.matches.pinning.pins c))
+
+  pub in-use-now : (c : ℕ) → is_held_at (connection_at s c) ≡ nat_lt 0 (held xs c)
+  in-use-now c = sym (held-is s xs z.fits c)
+
+  -- some pending connection is not claimed
+  unclaimed-in : (cs : List Connection) → is_some (find (λ x. is_pending x.place && not (has x.id s.claimed)) cs) ≡ list_any (λ c. not (is_claimed h s.pool c)) (ids_where is_pending cs)
+  unclaimed-in [] = refl
+  unclaimed-in (x ∷ cs) = on (is_pending x.place) (has x.id s.claimed) refl refl (unclaimed-in cs)
+    where
+      on : (b k : Bool) → is_pending x.place ≡ b → has x.id s.claimed ≡ k → is_some (find (λ y. is_pending y.place && not (has y.id s.claimed)) cs) ≡ list_any (λ c. not (is_claimed h s.pool c)) (ids_where is_pending cs) → is_some (find (λ y. is_pending y.place && not (has y.id s.claimed)) (x ∷ cs)) ≡ list_any (λ c. not (is_claimed h s.pool c)) (ids_where is_pending (x ∷ cs))
+      on false k e f rest = rw e rest
+      on true true e f rest = rw (e, z.claims x.id, f) rest
+      on true false e f rest = rw (e, z.claims x.id, f) refl
+
+  pub job-now : is_some (first_unclaimed s) ≡ list_any (λ c. not (is_claimed h s.pool c)) (pending_list xs)
+  job-now = rw z.fits.matches.counts.pending (unclaimed-in s.connections)
 
   pub pending-now : (c : ℕ) → is_pending_at (connection_at s c) ≡ has c (pending_list xs)
   pending-now c = sym (pending-is s xs z.fits c)

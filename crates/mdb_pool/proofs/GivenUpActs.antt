@@ -1,5 +1,5 @@
 -- What a give-up does is the answer to its step.
-use Rattle.std.proofs.Common.{ℕ, ◌≡◌, ◌≤◌, ◌<◌, Bool, true, false, not, ◌==◌, List, [], ◌∷◌, ◌++◌, Option, Some, None, is_some, refl, sym, ◌∙◌, ap, subst, if◌then◌else◌, append-nil, ◌||◌, nat_lt}
+use Rattle.std.proofs.Common.{ℕ, ◌≡◌, ◌≤◌, ◌<◌, Bool, true, false, ◌==◌, List, [], ◌∷◌, ◌++◌, Option, Some, None, is_some, refl, sym, ◌∙◌, ap, subst, append-nil, ◌||◌, nat_lt}
 use Rattle.mdb_events.specs.declared.fact.Fact.{Fact}
 use Rattle.mdb_events.specs.declared.fact.Fact.TheVariants.{Ended}
 use Rattle.mdb_events.specs.declared.end.End.{End}
@@ -7,35 +7,32 @@ use Rattle.mdb_events.specs.declared.reasons.ConnectionClosedReason.{ConnectionC
 use Rattle.mdb_log.specs.declared.step.Use.TheVariants.{Ok}
 use Rattle.mdb_events.specs.declared.end.End.TheVariants.{GaveUp}
 use Rattle.mdb_log.specs.declared.step.Act.TheVariants.{GiveUp}
-use Rattle.mdb_log.specs.declared.reply.Refused.TheVariants.{UnknownRequest}
 use Rattle.mdb_log.specs.declared.reply.Reply.{Reply}
-use Rattle.mdb_log.specs.declared.reply.Reply.TheVariants.{Done, Refused as RefusedBy}
+use Rattle.mdb_log.specs.declared.reply.Reply.TheVariants.{Done}
 use Rattle.mdb_pool.specs.declared.connection.Connection.{Connection}
 use Rattle.mdb_pool.specs.declared.connection.Place.TheVariants.{Pending, Held}
 use Rattle.mdb_pool.specs.declared.request.Request.{Request}
 use Rattle.mdb_pool.specs.declared.request.Phase.{Phase}
 use Rattle.mdb_pool.specs.declared.request.Phase.TheVariants.{Queued, Given, Over, Ended as EndedPhase}
 use Rattle.mdb_pool.specs.declared.pool_core.PoolCore.{PoolCore}
-use Rattle.mdb_log.specs.History.{Item, PoolItem, given, has_asked, of_pool, after_facts, gave_up, closed, checked_in, ended, after_fact}
+use Rattle.mdb_log.specs.History.{PoolItem, given, has_asked, after_facts, gave_up, closed, checked_in, ended, after_fact}
 use Rattle.mdb_pool.specs.Kept.{connection_at, request_at, given_in, given_of, end_in, end_at, is_ended_at, held_connection, pending_connection, is_open_now, is_pending_at, outcome_now, is_shut, reason_now, used_as, is_asked_at}
 use Rattle.mdb_log.specs.Requests.{end_of, told}
 use Rattle.mdb_pool.specs.Facts.{act_facts}
-use Rattle.mdb_pool.specs.Standing.{Fits, StandsFor, SameHome, SameNotes, Serves, Accepts, Answers}
+use Rattle.mdb_pool.specs.Standing.{Fits, SameHome, SameNotes, Serves, Accepts}
 use Rattle.mdb_log.specs.Connections.{has, pending_list, held}
 use Rattle.mdb_pool.specs.Places.{is_pending}
-use Rattle.mdb_pool.specs.Refusal.{refusal_of}
 use Rattle.mdb_pool.specs.Changes.{quitting, leaving, handing, back_facts, losing, handing_for, to_pin}
 use Rattle.mdb_log.specs.Legal.{AllFirstCome}
 use Rattle.mdb_log.specs.Own.{AllOwn, shuts}
 use Rattle.mdb_pool.proofs.ReturnedActs.{none-above, some-above}
 use Rattle.mdb_pool.proofs.PinStands.{quit-pinned-fits}
 use Rattle.mdb_pool.proofs.Found.{Holder, holder, pender, not-given}
-use Rattle.mdb_pool.proofs.CollectedActs.{open-is}
 use Rattle.mdb_pool.proofs.Stands.{quit-fits, leave-fits, hand-fits, late-fits, lose-fits, asked-known}
 use Rattle.mdb_pool.proofs.Tables.{entry_at-key}
 use Rattle.std.proofs.Math.Bool.{or_comm}
 use Rattle.mdb_log.proofs.Numbers.{has-append, same-number}
-use Rattle.mdb_pool.proofs.Acts.{refuses, accepts, own-answers, not-back, pending-is, holding-is, outcome-is, outcome-accepted, outcome-no-job, live-errored, live-service, live-pins}
+use Rattle.mdb_pool.proofs.Acts.{accepts, pending-is, holding-is, outcome-is, outcome-accepted, outcome-no-job, live-errored, live-service, live-pins}
 use Rattle.mdb_pool.proofs.CheckIns.{check-in-is, back-fair, back-own, back-open, back-fits}
 use Rattle.mdb_pool.proofs.Staleness.{stale-at}
 
@@ -161,12 +158,6 @@ late-accepts s s1 t before after n r reply xs z over s1_is home notes serves rep
     (λ c. rw (reply_is, outcome-no-job s r s.pool c) (ap (has c) (notes.claimed ∙ ap (λ x. x.claimed) s1_is)))
     tt tt
 
-give-up-refusal : (s : PoolCore) (h : List Item) → StandsFor s h → (n r : ℕ) → s.last ≤ n → refusal_of s.pool s.options h (record { moment = n; act = GiveUp r }) ≡ if not (is_open_now s r) then Some UnknownRequest else None
-give-up-refusal s h z n r l = rw (z.last_is, not-back n s.last l, open-is s h z r) refl
-
-pub refuses-closed : (s : PoolCore) (facts : List Fact) (n r : ℕ) (h : List Item) → StandsFor s h → s.last ≤ n → is_open_now s r ≡ false → Answers s s facts facts (record { moment = n; act = GiveUp r }) (RefusedBy UnknownRequest) h
-refuses-closed s facts n r h z l e = refuses s facts (record { moment = n; act = GiveUp r }) UnknownRequest h z (give-up-refusal s h z n r l ∙ ap (λ b. if not b then Some UnknownRequest else None) e)
-
 -- who has an open request asked
 pub open-known : (s : PoolCore) (r : ℕ) → is_open_now s r ≡ true → is_asked_at (request_at s r) ≡ true
 open-known s r e = on (is_asked_at (request_at s r)) refl
@@ -174,15 +165,6 @@ open-known s r e = on (is_asked_at (request_at s r)) refl
     on : (b : Bool) → is_asked_at (request_at s r) ≡ b → is_asked_at (request_at s r) ≡ true
     on true f = f
     on false f = let k : is_open_now s r ≡ false = rw f refl in cc
-
-pub give-up-own : (s t : PoolCore) (before after : List Fact) (n r : ℕ) (reply : Reply) (h : List Item) → StandsFor s h → s.last ≤ n → is_open_now s r ≡ true → SameHome s t → t.last ≡ n
-    → ((xs : List PoolItem) → Fits s xs → Accepts s t before after n (GiveUp r) reply xs (gave_up r ∷ xs))
-    → Answers s t before after (record { moment = n; act = GiveUp r }) reply h
-give-up-own s t before after n r reply h z l opened home last_is v =
-    own-answers s t before after (record { moment = n; act = GiveUp r }) reply (gave_up r ∷ of_pool s.pool h) h z
-    (give-up-refusal s h z n r l ∙ ap (λ b. if not b then Some UnknownRequest else None) opened)
-    (rw (asked-known s (of_pool s.pool h) z.fits r ∙ open-known s r opened) refl)
-    (λ k. refl) (λ k. refl) home last_is (v (of_pool s.pool h) z.fits)
 
 no-end : (s : PoolCore) (r : ℕ) (q : Request) → request_at s r ≡ Some q → is_ended_at (request_at s r) ≡ false → end_in q.phase ≡ None
 no-end s r q at_r e = none (end_in q.phase) (sym (ap is_ended_at at_r) ∙ e)

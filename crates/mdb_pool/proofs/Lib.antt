@@ -1,4 +1,5 @@
 mod Rows
+mod RowsJobs
 pub mod Tables
 pub mod Moves
 mod Opened
@@ -16,6 +17,10 @@ pub mod Calls
 pub mod Served
 pub mod CheckIns
 pub mod Acts
+pub mod Refusals
+pub mod Items
+pub mod Accepting
+pub mod Answering
 pub mod RequestedActs
 pub mod WarmedActs
 pub mod MaintainedActs
@@ -29,6 +34,9 @@ pub mod Laws
 pub mod Runs
 pub mod CollectedActs
 mod Getters
+pub mod Ids
+pub mod Named
+pub mod PendingJobs
 pub mod ClaimedActs
 pub mod GivenUpActs
 pub mod PinnedActs
@@ -37,6 +45,8 @@ pub mod UnpinnedActs
 pub mod FailedActs
 pub mod ReadiedActs
 pub mod Ends
+pub mod Expires
+pub mod ExpiredActs
 pub mod ClearedActs
 pub mod Limits
 pub mod Calm
@@ -44,3 +54,15 @@ pub mod Fresh
 pub mod Closes
 pub mod MovesClose
 pub mod ClosedActs
+pub mod Gentle
+pub mod Quiet
+pub mod QuietActs
+pub mod Alone
+pub mod Alike
+pub mod AlikeItems
+pub mod AlikeFacts
+pub mod AlikeServing
+pub mod AlikeFits
+pub mod AlikeRefusals
+pub mod FailedItems
+pub mod FailedAfterClear

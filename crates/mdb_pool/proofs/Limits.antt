@@ -26,7 +26,7 @@ use Rattle.mdb_log.specs.Own.{IsAccepted}
 use Rattle.mdb_log.proofs.Later.{with_answer-accepted, of_pool-with_facts}
 use Rattle.mdb_log.specs.Requests.{outcome_of, is_claimed, requests, queued, is_warm, end_of, is_unserved}
 use Rattle.mdb_log.specs.State.{State, is_new, is_ready, is_paused, is_closed, state_of, ready, min_size, max_size, max_connecting, may_create}
-use Rattle.mdb_pool.specs.Facts.{closed_fact, closes, check_in, come_back, hand_over, fail_requester, sweep, fill, clear_facts, close_facts, turned_away, readied, act_facts, end_facts, all_ends, close_reason, perished}
+use Rattle.mdb_pool.specs.Facts.{closed_fact, closes, check_in, come_back, hand_over, fail_requester, sweep, fill, clear_facts, close_facts, turned_away, readied, act_facts, end_facts, all_ends, overdue, close_reason, perished}
 use Rattle.mdb_pool.specs.Serving.{last_of, is_blocked, candidate, next_move, serve, wants_connection}
 use Rattle.mdb_pool.specs.Refusal.{refusal_of}
 use Rattle.mdb_pool.specs.Answer.{first_job, reply_of, all_facts, answer}
@@ -89,6 +89,7 @@ act-kept o p here m (act.Open options) xs i = i
 act-kept o p here m (act.Collect r) xs i = i
 act-kept o p here m act.Claim xs i = i
 act-kept o p here m (act.Maintain a) xs i = i
+act-kept o p here m (act.Expire a) xs i = i
 act-kept o p here m (act.Ready q) xs i = i
 act-kept o p here m (act.Clear q service error) xs i = i
 act-kept o p here m (act.Close q) xs i = i
@@ -311,6 +312,7 @@ module _ (p : ℕ) (a : ServerAddress) (o : PoolOptions) (m : ℕ) where
   act-roomy xs ys (act.Unpin q c) = quiet-roomy o p m _ ys (quiet-if (is_pinned xs c && (pins ys c == 0)) (check_in p a o ys c) [] (check_in-quiet ys c) tt)
   act-roomy xs ys (act.Maintain b) =
       roomy-append o p m (sweep p a o m ys (available_list ys)) _ ys (quiet-roomy o p m _ ys (sweep-quiet ys (available_list ys))) (fill-roomy (min_size o) (after_facts p m (sweep p a o m ys (available_list ys)) ys))
+  act-roomy xs ys (act.Expire b) = quiet-roomy o p m _ ys (ends-quiet ys _ (overdue o m ys))
   act-roomy xs ys (act.Ready q) = quiet-roomy o p m _ ys (readied-quiet ys)
   act-roomy xs ys (act.Clear q service error) = quiet-roomy o p m _ ys (clear-quiet ys service error)
   act-roomy xs ys (act.Close q) = quiet-roomy o p m _ ys (close-quiet ys)
@@ -437,6 +439,7 @@ reply-accepted p claimed xs zs (act.Failed q c at error) = tt
 reply-accepted p claimed xs zs (act.Return r used) = tt
 reply-accepted p claimed xs zs (act.Unpin q c) = tt
 reply-accepted p claimed xs zs (act.Maintain b) = tt
+reply-accepted p claimed xs zs (act.Expire b) = tt
 reply-accepted p claimed xs zs (act.Ready q) = tt
 reply-accepted p claimed xs zs (act.Clear q service error) = tt
 reply-accepted p claimed xs zs (act.Close q) = tt

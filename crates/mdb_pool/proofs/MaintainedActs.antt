@@ -1,23 +1,17 @@
 -- What a maintenance does is the answer to its step.
-use Rattle.std.proofs.Common.{ℕ, ◌≡◌, ◌≤◌, true, false, ◌||◌, List, ◌++◌, refl, sym, ◌∙◌, ap, subst, append_assoc}
-use Rattle.mdb_base.specs.declared.address.ServerAddress.{ServerAddress}
-use Rattle.mdb_base.specs.Equality.{same_address}
+use Rattle.std.proofs.Common.{ℕ, ◌≡◌, false, ◌||◌, List, ◌++◌, refl, sym, ◌∙◌, ap, subst, append_assoc}
 use Rattle.mdb_events.specs.declared.fact.Fact.{Fact}
 use Rattle.mdb_log.specs.declared.step.Act.TheVariants.{Maintain as MaintainAct}
-use Rattle.mdb_log.specs.declared.reply.Refused.TheVariants.{UnknownServer}
-use Rattle.mdb_log.specs.declared.reply.Reply.{Reply}
-use Rattle.mdb_log.specs.declared.reply.Reply.TheVariants.{Done, Refused as RefusedBy}
+use Rattle.mdb_log.specs.declared.reply.Reply.TheVariants.{Done}
 use Rattle.mdb_pool.specs.declared.pool_core.PoolCore.{PoolCore}
-use Rattle.mdb_log.specs.History.{Item, PoolItem, of_pool, after_facts}
+use Rattle.mdb_log.specs.History.{PoolItem, after_facts}
 use Rattle.mdb_log.specs.Connections.{has, available_list}
 use Rattle.mdb_log.specs.State.{min_size}
 use Rattle.mdb_pool.specs.Facts.{sweep, fill}
 use Rattle.mdb_log.specs.Own.{shuts}
 use Rattle.mdb_pool.specs.Kept.{is_shut}
-use Rattle.mdb_pool.specs.Standing.{Fits, StandsFor, Serves, Sweeps, Fills, Accepts, Answers, SameHome, SameNotes}
-use Rattle.mdb_pool.proofs.Acts.{refuses, accepts, own-answers, not-back}
-use Rattle.mdb_log.proofs.Addresses.{own-address}
-use Rattle.mdb_log.proofs.Numbers.{same-number}
+use Rattle.mdb_pool.specs.Standing.{Fits, Serves, Sweeps, Fills, Accepts, SameHome, SameNotes}
+use Rattle.mdb_pool.proofs.Acts.{accepts}
 use Rattle.mdb_log.proofs.Later.{after-append}
 use Rattle.mdb_pool.proofs.Stands.{later-fits}
 use Rattle.mdb_pool.proofs.Laws.{fair-append, own-append, shut-append}
@@ -55,18 +49,3 @@ maintain-accepts s s0 s1 s2 t before f1 f2 after n xs z s0_is home1 notes1 sweep
     (λ c. ap (has c) (notes.claimed ∙ (notes2.claimed ∙ (notes1.claimed ∙ ap (λ k. k.claimed) s0_is))))
     (fair-append s.pool s.address s.options n gone come xs (sweep-fair s.pool s.address s.options n xs xs (available_list xs)) (fill-fair s.pool s.address s.options n (min_size s.options) zs))
     (own-append s.pool s.address s.options n gone come xs (sweep-own s.pool s.address s.options n xs xs (available_list xs)) (fill-own s.pool s.address s.options n (min_size s.options) zs))
-
--- how a maintenance is refused: the pool is closed, or it has another address
-pub maintain-shut : (s : PoolCore) (facts : List Fact) (n : ℕ) (h : List Item) → StandsFor s h → s.last ≤ n → is_shut s.status ≡ true → Answers s s facts facts (record { moment = n; act = MaintainAct s.address }) (RefusedBy UnknownServer) h
-maintain-shut s facts n h z l shut = refuses s facts (record { moment = n; act = MaintainAct s.address }) UnknownServer h z (rw (z.last_is, not-back n s.last l, z.open_here s.address, own-address s.address, shut) refl)
-
-pub maintain-server : (s : PoolCore) (facts : List Fact) (n : ℕ) (a : ServerAddress) (h : List Item) → StandsFor s h → s.last ≤ n → same_address s.address a ≡ false → Answers s s facts facts (record { moment = n; act = MaintainAct a }) (RefusedBy UnknownServer) h
-maintain-server s facts n a h z l e = refuses s facts (record { moment = n; act = MaintainAct a }) UnknownServer h z (rw (z.last_is, not-back n s.last l, z.open_here a, e) refl)
-
-pub maintain-own : (s t : PoolCore) (before after : List Fact) (n : ℕ) (reply : Reply) (h : List Item) → StandsFor s h → s.last ≤ n → is_shut s.status ≡ false → SameHome s t → t.last ≡ n
-    → ((xs : List PoolItem) → Fits s xs → Accepts s t before after n (MaintainAct s.address) reply xs xs)
-    → Answers s t before after (record { moment = n; act = MaintainAct s.address }) reply h
-maintain-own s t before after n reply h z l unshut home last_is v =
-    own-answers s t before after (record { moment = n; act = MaintainAct s.address }) reply (of_pool s.pool h) h z
-    (rw (z.last_is, not-back n s.last l, z.open_here s.address, own-address s.address, unshut, same-number s.pool) refl)
-    refl (λ k. refl) (λ k. refl) home last_is (v (of_pool s.pool h) z.fits)

@@ -312,28 +312,28 @@ module _ (p : ℕ) (a : ServerAddress) (o : PoolOptions) (n : ℕ) where
       on (Some why) e rest = rw e rest
 
   abbrev may : List PoolItem → Bool
-  may ys = ready (state_of o ys) && (nat_lt (live_total ys) (min_size o) && (nat_lt (length (pending_list ys)) (max_connecting o) && nat_lt (created_total ys) o.limit_id))
+  may ws = ready (state_of o ws) && (nat_lt (live_total ws) (min_size o) && (nat_lt (length (pending_list ws)) (max_connecting o) && nat_lt (created_total ws) o.limit_id))
 
-  pub fill-fair : (k : ℕ) (ys : List PoolItem) → AllFirstCome p n ys (fill p a o n k ys)
-  fill-fair zero ys = tt
-  fill-fair (suc k) ys = on (may ys) refl (fill-fair k (after_facts p n (created_fact p a (created_total ys + 1) ∷ []) ys))
+  pub fill-fair : (k : ℕ) (ws : List PoolItem) → AllFirstCome p n ws (fill p a o n k ws)
+  fill-fair zero ws = tt
+  fill-fair (suc k) ws = on (may ws) refl (fill-fair k (after_facts p n (created_fact p a (created_total ws + 1) ∷ []) ws))
     where
-      on : (b : Bool) → may ys ≡ b → AllFirstCome p n (after_facts p n (created_fact p a (created_total ys + 1) ∷ []) ys) (fill p a o n k (after_facts p n (created_fact p a (created_total ys + 1) ∷ []) ys)) → AllFirstCome p n ys (fill p a o n (suc k) ys)
-      on true e rest = subst (AllFirstCome p n ys) (sym (fill-one p a o n k ys e)) (tt, rest)
-      on false e rest = subst (AllFirstCome p n ys) (sym (fill-none p a o n (suc k) ys e)) tt
+      on : (b : Bool) → may ws ≡ b → AllFirstCome p n (after_facts p n (created_fact p a (created_total ws + 1) ∷ []) ws) (fill p a o n k (after_facts p n (created_fact p a (created_total ws + 1) ∷ []) ws)) → AllFirstCome p n ws (fill p a o n (suc k) ws)
+      on true e rest = subst (AllFirstCome p n ws) (sym (fill-one p a o n k ws e)) (tt, rest)
+      on false e rest = subst (AllFirstCome p n ws) (sym (fill-none p a o n (suc k) ws e)) tt
 
-  pub fill-own : (k : ℕ) (ys : List PoolItem) → AllOwn p n ys (fill p a o n k ys)
-  fill-own zero ys = tt
-  fill-own (suc k) ys = on (may ys) refl (fill-own k (after_facts p n (created_fact p a (created_total ys + 1) ∷ []) ys))
+  pub fill-own : (k : ℕ) (ws : List PoolItem) → AllOwn p n ws (fill p a o n k ws)
+  fill-own zero ws = tt
+  fill-own (suc k) ws = on (may ws) refl (fill-own k (after_facts p n (created_fact p a (created_total ws + 1) ∷ []) ws))
     where
-      on : (b : Bool) → may ys ≡ b → AllOwn p n (after_facts p n (created_fact p a (created_total ys + 1) ∷ []) ys) (fill p a o n k (after_facts p n (created_fact p a (created_total ys + 1) ∷ []) ys)) → AllOwn p n ys (fill p a o n (suc k) ys)
-      on true e rest = subst (AllOwn p n ys) (sym (fill-one p a o n k ys e)) (refl, rest)
-      on false e rest = subst (AllOwn p n ys) (sym (fill-none p a o n (suc k) ys e)) tt
+      on : (b : Bool) → may ws ≡ b → AllOwn p n (after_facts p n (created_fact p a (created_total ws + 1) ∷ []) ws) (fill p a o n k (after_facts p n (created_fact p a (created_total ws + 1) ∷ []) ws)) → AllOwn p n ws (fill p a o n (suc k) ws)
+      on true e rest = subst (AllOwn p n ws) (sym (fill-one p a o n k ws e)) (refl, rest)
+      on false e rest = subst (AllOwn p n ws) (sym (fill-none p a o n (suc k) ws e)) tt
 
-  pub fill-open : (k : ℕ) (ys : List PoolItem) → shuts (fill p a o n k ys) ≡ false
-  fill-open zero ys = refl
-  fill-open (suc k) ys = on (may ys) refl (fill-open k (after_facts p n (created_fact p a (created_total ys + 1) ∷ []) ys))
+  pub fill-open : (k : ℕ) (ws : List PoolItem) → shuts (fill p a o n k ws) ≡ false
+  fill-open zero ws = refl
+  fill-open (suc k) ws = on (may ws) refl (fill-open k (after_facts p n (created_fact p a (created_total ws + 1) ∷ []) ws))
     where
-      on : (b : Bool) → may ys ≡ b → shuts (fill p a o n k (after_facts p n (created_fact p a (created_total ys + 1) ∷ []) ys)) ≡ false → shuts (fill p a o n (suc k) ys) ≡ false
-      on true e rest = ap shuts (fill-one p a o n k ys e) ∙ rest
-      on false e rest = ap shuts (fill-none p a o n (suc k) ys e)
+      on : (b : Bool) → may ws ≡ b → shuts (fill p a o n k (after_facts p n (created_fact p a (created_total ws + 1) ∷ []) ws)) ≡ false → shuts (fill p a o n (suc k) ws) ≡ false
+      on true e rest = ap shuts (fill-one p a o n k ws e) ∙ rest
+      on false e rest = ap shuts (fill-none p a o n (suc k) ws e)

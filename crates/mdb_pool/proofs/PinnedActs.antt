@@ -1,30 +1,22 @@
 -- What a pin and a replicate do is the answer to their steps.
-use Rattle.std.proofs.Common.{ℕ, ◌≡◌, ◌≤◌, ◌<◌, Bool, true, false, not, ◌==◌, List, [], ◌∷◌, Option, Some, None, is_some, refl, sym, ◌∙◌, ap, subst, if◌then◌else◌, append-nil, nat_lt}
-use Rattle.std.specs.Prelude.{unwrap_or}
+use Rattle.std.proofs.Common.{ℕ, ◌≡◌, Bool, true, false, List, [], ◌∷◌, Option, Some, None, refl, sym, ◌∙◌, ap, subst, append-nil, nat_lt}
 use Rattle.mdb_events.specs.declared.fact.Fact.{Fact}
 use Rattle.mdb_log.specs.declared.step.Act.TheVariants.{Pin, Replicate}
-use Rattle.mdb_log.specs.declared.reply.Refused.{Refused}
-use Rattle.mdb_log.specs.declared.reply.Refused.TheVariants.{NotHolder, PinState, Unpinned}
-use Rattle.mdb_log.specs.declared.reply.Reply.{Reply}
-use Rattle.mdb_log.specs.declared.reply.Reply.TheVariants.{Done, Refused as RefusedBy}
+use Rattle.mdb_log.specs.declared.reply.Reply.TheVariants.{Done}
 use Rattle.mdb_pool.specs.declared.connection.Connection.{Connection}
 use Rattle.mdb_pool.specs.declared.connection.Place.TheVariants.{Held}
 use Rattle.mdb_pool.specs.declared.request.Request.{Request}
 use Rattle.mdb_pool.specs.declared.pool_core.PoolCore.{PoolCore}
-use Rattle.mdb_log.specs.History.{Item, PoolItem, pinned_by, replicated, of_pool}
-use Rattle.mdb_pool.specs.Refusal.{refusal_of}
-use Rattle.mdb_log.specs.Connections.{has, pins}
-use Rattle.mdb_pool.specs.Standing.{Fits, StandsFor, Serves, Accepts, Answers, SameHome, SameNotes}
+use Rattle.mdb_log.specs.History.{PoolItem, pinned_by, replicated}
+use Rattle.mdb_log.specs.Connections.{has}
+use Rattle.mdb_pool.specs.Standing.{Fits, Serves, Accepts, SameHome, SameNotes}
 use Rattle.mdb_pool.specs.Matching.{Matches}
 use Rattle.mdb_pool.specs.Kept.{connection_at, request_at, held_connection, given_of, given_in, is_shut, pins_at}
 use Rattle.mdb_pool.specs.Places.{stays}
 use Rattle.mdb_pool.specs.Changes.{pinning}
-use Rattle.mdb_pool.proofs.Acts.{refuses, accepts, own-answers, not-back, holding-is, holds-given, live-pins}
-use Rattle.mdb_pool.proofs.Found.{id_or, Holder, holder}
+use Rattle.mdb_pool.proofs.Acts.{accepts}
+use Rattle.mdb_pool.proofs.Found.{Holder, holder}
 use Rattle.mdb_pool.proofs.Tables.{entry_at-key}
-use Rattle.mdb_log.proofs.Bools.{if-not}
-use Rattle.mdb_log.proofs.Numbers.{same-number}
-use Rattle.mdb_pool.proofs.ReturnedActs.{none-above, some-above}
 use Rattle.mdb_pool.proofs.PinStands.{pin-fits, replicate-fits}
 
 -- the connection that a party holds was given to it
@@ -79,48 +71,3 @@ replicate-accepts s s1 t before after n c x xs z at_c some_pins s1_is home notes
     (λ c. ap (has c) (notes.claimed ∙ ap (λ k. k.claimed) s1_is))
     tt
     tt
-
--- how they are refused
-abbrev pin_why : Option Connection → Option Refused
-pin_why None = Some NotHolder
-pin_why (Some x) = if nat_lt 0 x.pins then Some PinState else None
-
-pin-refusal : (s : PoolCore) (h : List Item) → StandsFor s h → (n r : ℕ) → s.last ≤ n → refusal_of s.pool s.options h (record { moment = n; act = Pin r }) ≡ pin_why (held_connection s r)
-pin-refusal s h z n r l = rw (z.last_is, not-back n s.last l, holding-is s (of_pool s.pool h) z.fits r) (on (held_connection s r) refl)
-  where
-    on : (o : Option Connection) → held_connection s r ≡ o → (if not (is_some (id_or o None)) then Some NotHolder else (if nat_lt 0 (pins (of_pool s.pool h) (unwrap_or (id_or o None) 0)) then Some PinState else None)) ≡ pin_why o
-    on None e = refl
-    on (Some x) e = rw (live-pins s (of_pool s.pool h) z.fits.matches x.id x (held-at s r x e).1) refl
-
-pub refuses-holder : (s : PoolCore) (facts : List Fact) (n r : ℕ) (h : List Item) → StandsFor s h → s.last ≤ n → held_connection s r ≡ None → Answers s s facts facts (record { moment = n; act = Pin r }) (RefusedBy NotHolder) h
-refuses-holder s facts n r h z l e = refuses s facts (record { moment = n; act = Pin r }) NotHolder h z (pin-refusal s h z n r l ∙ ap pin_why e)
-
-pub refuses-state : (s : PoolCore) (facts : List Fact) (n r : ℕ) (x : Connection) (h : List Item) → StandsFor s h → s.last ≤ n → held_connection s r ≡ Some x → 0 < x.pins → Answers s s facts facts (record { moment = n; act = Pin r }) (RefusedBy PinState) h
-refuses-state s facts n r x h z l e f = refuses s facts (record { moment = n; act = Pin r }) PinState h z (pin-refusal s h z n r l ∙ (ap pin_why e ∙ rw (some-above x.pins f) refl))
-
-pub pin-own : (s t : PoolCore) (before after : List Fact) (n r : ℕ) (x : Connection) (reply : Reply) (h : List Item) → StandsFor s h → s.last ≤ n → held_connection s r ≡ Some x → x.pins ≤ 0 → SameHome s t → t.last ≡ n
-    → ((xs : List PoolItem) → Fits s xs → Accepts s t before after n (Pin r) reply xs (pinned_by r ∷ xs))
-    → Answers s t before after (record { moment = n; act = Pin r }) reply h
-pin-own s t before after n r x reply h z l held none home last_is v =
-    own-answers s t before after (record { moment = n; act = Pin r }) reply (pinned_by r ∷ of_pool s.pool h) h z
-    (pin-refusal s h z n r l ∙ (ap pin_why held ∙ rw (none-above x.pins none) refl))
-    (rw (holds-given s (of_pool s.pool h) z.fits r (ap is_some held)) refl)
-    (λ k. refl) (λ k. refl) home last_is (v (of_pool s.pool h) z.fits)
-
-replicate-refusal : (s : PoolCore) (h : List Item) → StandsFor s h → (n c : ℕ) → s.last ≤ n → refusal_of s.pool s.options h (record { moment = n; act = Replicate s.pool c }) ≡ if nat_lt 0 (pins_at (connection_at s c)) then None else Some Unpinned
-replicate-refusal s h z n c l = rw (z.last_is, not-back n s.last l, same-number s.pool, z.fits.matches.pinning.pins c) (if-not (nat_lt 0 (pins_at (connection_at s c))) (Some Unpinned) None)
-
-pub refuses-unpinned : (s : PoolCore) (facts : List Fact) (n c : ℕ) (h : List Item) → StandsFor s h → s.last ≤ n → nat_lt 0 (pins_at (connection_at s c)) ≡ false → Answers s s facts facts (record { moment = n; act = Replicate s.pool c }) (RefusedBy Unpinned) h
-refuses-unpinned s facts n c h z l e = refuses s facts (record { moment = n; act = Replicate s.pool c }) Unpinned h z (replicate-refusal s h z n c l ∙ rw e refl)
-
-pub refuses-other : (s : PoolCore) (facts : List Fact) (n q c : ℕ) (h : List Item) → StandsFor s h → s.last ≤ n → (q == s.pool) ≡ false → Answers s s facts facts (record { moment = n; act = Replicate q c }) (RefusedBy Unpinned) h
-refuses-other s facts n q c h z l e = refuses s facts (record { moment = n; act = Replicate q c }) Unpinned h z (rw (z.last_is, not-back n s.last l, e) refl)
-
-pub replicate-own : (s t : PoolCore) (before after : List Fact) (n c : ℕ) (reply : Reply) (h : List Item) → StandsFor s h → s.last ≤ n → nat_lt 0 (pins_at (connection_at s c)) ≡ true → SameHome s t → t.last ≡ n
-    → ((xs : List PoolItem) → Fits s xs → Accepts s t before after n (Replicate s.pool c) reply xs (replicated c ∷ xs))
-    → Answers s t before after (record { moment = n; act = Replicate s.pool c }) reply h
-replicate-own s t before after n c reply h z l some_pins home last_is v =
-    own-answers s t before after (record { moment = n; act = Replicate s.pool c }) reply (replicated c ∷ of_pool s.pool h) h z
-    (replicate-refusal s h z n c l ∙ rw some_pins refl)
-    (rw (same-number s.pool) refl)
-    (λ k. refl) (λ k. refl) home last_is (v (of_pool s.pool h) z.fits)

@@ -1,13 +1,12 @@
 -- What a mark as ready does is the answer to its step.
-use Rattle.std.proofs.Common.{ℕ, ◌≡◌, ◌≤◌, ◌||◌, List, [], ◌∷◌, ◌++◌, refl, ◌∙◌, ap, if◌then◌else◌}
+use Rattle.std.proofs.Common.{ℕ, ◌≡◌, ◌||◌, List, [], ◌∷◌, ◌++◌, refl, ◌∙◌, ap, if◌then◌else◌}
 use Rattle.mdb_events.specs.declared.fact.Fact.{Fact}
 use Rattle.mdb_log.specs.declared.step.Act.TheVariants.{Ready as ReadyAct}
-use Rattle.mdb_log.specs.declared.reply.Reply.{Reply}
 use Rattle.mdb_log.specs.declared.reply.Reply.TheVariants.{Done}
 use Rattle.mdb_pool.specs.declared.status.Status.{Status}
 use Rattle.mdb_pool.specs.declared.status.Status.TheVariants.{New, Ready, Paused, Closed}
 use Rattle.mdb_pool.specs.declared.pool_core.PoolCore.{PoolCore}
-use Rattle.mdb_log.specs.History.{Item, PoolItem, of_pool, after_facts}
+use Rattle.mdb_log.specs.History.{PoolItem, after_facts}
 use Rattle.mdb_log.specs.Connections.{has}
 use Rattle.mdb_pool.specs.Facts.{readied, pool_ready_fact}
 use Rattle.mdb_log.specs.State.{state_of}
@@ -15,8 +14,8 @@ use Rattle.mdb_pool.specs.Kept.{state_in, is_shut, is_ready_now}
 use Rattle.mdb_pool.specs.Changes.{readied_to, readied_facts}
 use Rattle.mdb_log.specs.Legal.{AllFirstCome}
 use Rattle.mdb_log.specs.Own.{AllOwn, shuts}
-use Rattle.mdb_pool.specs.Standing.{Fits, StandsFor, Serves, Accepts, Answers, SameHome, SameNotes}
-use Rattle.mdb_pool.proofs.Acts.{accepts, own-answers, not-back}
+use Rattle.mdb_pool.specs.Standing.{Fits, Serves, Accepts, SameHome, SameNotes}
+use Rattle.mdb_pool.proofs.Acts.{accepts}
 use Rattle.mdb_log.proofs.Numbers.{same-number}
 use Rattle.mdb_pool.proofs.Stands.{later-fits, ready-fits}
 
@@ -79,11 +78,3 @@ ready-accepts s s1 t before f1 after n p xs z s1_is f1_is home notes serves =
     (λ c. ap (has c) (notes.claimed ∙ ap (λ k. k.claimed) s1_is))
     (says-fair s xs z n s.status)
     (says-own s xs z n s.status)
-
-pub ready-own : (s t : PoolCore) (before after : List Fact) (n p : ℕ) (reply : Reply) (h : List Item) → StandsFor s h → s.last ≤ n → SameHome s t → t.last ≡ n
-    → ((xs : List PoolItem) → Fits s xs → Accepts s t before after n (ReadyAct p) reply xs xs)
-    → Answers s t before after (record { moment = n; act = ReadyAct p }) reply h
-ready-own s t before after n p reply h z l home last_is v =
-    own-answers s t before after (record { moment = n; act = ReadyAct p }) reply (of_pool s.pool h) h z
-    (rw (z.last_is, not-back n s.last l) refl)
-    refl (λ k. refl) (λ k. refl) home last_is (v (of_pool s.pool h) z.fits)

@@ -1,5 +1,5 @@
 -- What a request does is the answer to its step.
-use Rattle.std.proofs.Common.{ℕ, ◌≡◌, ◌≤◌, Bool, true, false, ◌||◌, ◌==◌, List, [], ◌∷◌, ◌++◌, Some, None, is_some, refl, sym, ◌∙◌, ap, if◌then◌else◌, ◌&&◌, ◌-◌, Option, arith, append_assoc}
+use Rattle.std.proofs.Common.{ℕ, ◌≡◌, Bool, true, false, ◌||◌, ◌==◌, List, [], ◌∷◌, ◌++◌, Some, None, refl, sym, ◌∙◌, ap, if◌then◌else◌, ◌&&◌, ◌-◌, Option, arith, append_assoc}
 use Rattle.mdb_events.specs.declared.fact.Fact.{Fact}
 use Rattle.mdb_events.specs.declared.end.End.{End}
 use Rattle.mdb_pool.specs.declared.request.Request.{Request}
@@ -7,21 +7,15 @@ use Rattle.mdb_pool.specs.declared.request.Phase.TheVariants.{Queued}
 use Rattle.mdb_pool.specs.declared.status.Status.{Status}
 use Rattle.mdb_pool.specs.declared.status.Status.TheVariants.{New, Ready, Paused, Closed}
 use Rattle.mdb_log.specs.declared.step.Act.TheVariants.{Request as RequestAct}
-use Rattle.mdb_log.specs.declared.reply.Refused.TheVariants.{UnknownServer, RequestKnown}
 use Rattle.mdb_log.specs.declared.reply.Reply.{Reply}
-use Rattle.mdb_log.specs.declared.reply.Reply.TheVariants.{Refused as RefusedBy}
 use Rattle.mdb_pool.specs.declared.pool_core.PoolCore.{PoolCore}
-use Rattle.mdb_log.specs.History.{Item, PoolItem, asked, has_asked, has_taken, of_pool, after_facts}
+use Rattle.mdb_log.specs.History.{PoolItem, asked, after_facts}
 use Rattle.mdb_log.specs.Requests.{outcome_of, is_outcome}
-use Rattle.mdb_pool.specs.Refusal.{refusal_of}
-use Rattle.mdb_pool.specs.Standing.{Fits, StandsFor, Serves, Accepts, Answers, SameHome, SameNotes}
+use Rattle.mdb_pool.specs.Standing.{Fits, Serves, Accepts, SameHome, SameNotes}
 use Rattle.mdb_pool.specs.Kept.{request_at, outcome_now, state_in, is_shut}
 use Rattle.mdb_pool.specs.Changes.{asking, telling, away_end, away_facts, away}
-use Rattle.mdb_pool.proofs.Acts.{refuses, accepts, own-answers, not-back, outcome-is, outcome-accepted, outcome-no-job}
-use Rattle.mdb_log.proofs.Addresses.{own-address}
-use Rattle.mdb_base.specs.declared.address.ServerAddress.{ServerAddress}
-use Rattle.mdb_base.specs.Equality.{same_address}
-use Rattle.std.proofs.Math.Bool.{and-false, and-true, or-false, or_assoc, or_comm}
+use Rattle.mdb_pool.proofs.Acts.{accepts, outcome-is, outcome-accepted, outcome-no-job}
+use Rattle.std.proofs.Math.Bool.{and-false, and-true, or-false, or_comm}
 use Rattle.mdb_log.proofs.Numbers.{same-number, has-append}
 use Rattle.mdb_pool.proofs.Stands.{ask-fits, noted-fits, end-fits}
 use Rattle.mdb_log.specs.Connections.{has}
@@ -115,27 +109,3 @@ request-accepts s s0 s1 t u before f0 f1 after n r reply xs z absent s0_is f0_is
     (λ c. rw (u_is, reply_is, outcome-no-job t r s.pool c) (ap (has c) (notes.claimed ∙ (ap (λ x. x.claimed) whole ∙ (away-notes s xs z n r absent o).claimed))))
     (away-fair s xs z n r absent o)
     (away-own s xs z n r absent o)
-
--- how a request to the pool itself is refused
-request-refusal : (s : PoolCore) (h : List Item) → StandsFor s h → (n r : ℕ) → s.last ≤ n → is_shut s.status ≡ false → refusal_of s.pool s.options h (record { moment = n; act = RequestAct r s.address }) ≡ if is_some (request_at s r) then Some RequestKnown else None
-request-refusal s h z n r l unshut = rw (z.last_is, not-back n s.last l, z.open_here s.address, own-address s.address, unshut, same-number s.pool, (z.asked_once r ∙ z.fits.asked r)) refl
-
--- a request to a closed pool
-pub refuses-shut : (s : PoolCore) (facts : List Fact) (n r : ℕ) (h : List Item) → StandsFor s h → s.last ≤ n → is_shut s.status ≡ true → Answers s s facts facts (record { moment = n; act = RequestAct r s.address }) (RefusedBy UnknownServer) h
-refuses-shut s facts n r h z l shut = refuses s facts (record { moment = n; act = RequestAct r s.address }) UnknownServer h z (rw (z.last_is, not-back n s.last l, z.open_here s.address, own-address s.address, shut) refl)
-
--- a request to an address where the pool isn't
-pub refuses-server : (s : PoolCore) (facts : List Fact) (n r : ℕ) (a : ServerAddress) (h : List Item) → StandsFor s h → s.last ≤ n → same_address s.address a ≡ false → Answers s s facts facts (record { moment = n; act = RequestAct r a }) (RefusedBy UnknownServer) h
-refuses-server s facts n r a h z l e = refuses s facts (record { moment = n; act = RequestAct r a }) UnknownServer h z (rw (z.last_is, not-back n s.last l, z.open_here a, e) refl)
-
-pub refuses-known : (s : PoolCore) (facts : List Fact) (n r : ℕ) (h : List Item) → StandsFor s h → s.last ≤ n → is_shut s.status ≡ false → is_some (request_at s r) ≡ true → Answers s s facts facts (record { moment = n; act = RequestAct r s.address }) (RefusedBy RequestKnown) h
-refuses-known s facts n r h z l unshut e = refuses s facts (record { moment = n; act = RequestAct r s.address }) RequestKnown h z (request-refusal s h z n r l unshut ∙ rw e refl)
-
-pub request-own : (s t : PoolCore) (before after : List Fact) (n r : ℕ) (reply : Reply) (h : List Item) → StandsFor s h → s.last ≤ n → is_shut s.status ≡ false → request_at s r ≡ None → SameHome s t → t.last ≡ n
-    → ((xs : List PoolItem) → Fits s xs → Accepts s t before after n (RequestAct r s.address) reply xs (asked r n ∷ xs))
-    → Answers s t before after (record { moment = n; act = RequestAct r s.address }) reply h
-request-own s t before after n r reply h z l unshut absent home last_is v =
-    own-answers s t before after (record { moment = n; act = RequestAct r s.address }) reply (asked r n ∷ of_pool s.pool h) h z
-    (request-refusal s h z n r l unshut ∙ rw absent refl)
-    (rw (z.open_here s.address, own-address s.address, unshut, same-number s.pool) refl)
-    (λ k. or_assoc (r == k) (has_asked (of_pool s.pool h) k) (has_taken (of_pool s.pool h) k)) (λ k. refl) home last_is (v (of_pool s.pool h) z.fits)

@@ -1,28 +1,25 @@
 -- What a return does is the answer to its step.
-use Rattle.std.proofs.Common.{ℕ, ◌≡◌, ◌≤◌, ◌<◌, true, not, arith, nat_lt, append-nil, List, [], ◌∷◌, ◌++◌, Option, Some, None, is_some, refl, sym, ◌∙◌, ap, subst, if◌then◌else◌, ◌||◌, ◌==◌}
+use Rattle.std.proofs.Common.{ℕ, ◌≡◌, ◌≤◌, ◌<◌, true, arith, nat_lt, append-nil, List, [], ◌∷◌, ◌++◌, Option, Some, None, refl, sym, ◌∙◌, ap, subst, ◌||◌, ◌==◌}
 use Rattle.mdb_events.specs.declared.fact.Fact.{Fact}
 use Rattle.mdb_log.specs.declared.step.Act.TheVariants.{Return as ReturnAct}
 use Rattle.mdb_log.specs.declared.step.Use.{Use}
 use Rattle.std.proofs.lemmas.Bool.Decides.{nat_tests}
 use Rattle.mdb_events.specs.declared.reasons.ConnectionClosedReason.{ConnectionClosedReason}
-use Rattle.mdb_log.specs.declared.reply.Refused.TheVariants.{NotHolder}
-use Rattle.mdb_log.specs.declared.reply.Reply.{Reply}
-use Rattle.mdb_log.specs.declared.reply.Reply.TheVariants.{Done, Refused as RefusedBy}
+use Rattle.mdb_log.specs.declared.reply.Reply.TheVariants.{Done}
 use Rattle.mdb_pool.specs.declared.connection.Connection.{Connection}
 use Rattle.mdb_pool.specs.declared.connection.Place.TheVariants.{Held}
 use Rattle.mdb_pool.specs.declared.request.Request.{Request}
 use Rattle.mdb_pool.specs.declared.request.Phase.TheVariants.{Given, Over}
 use Rattle.mdb_pool.specs.declared.pool_core.PoolCore.{PoolCore}
-use Rattle.mdb_log.specs.History.{Item, PoolItem, returned, of_pool, given, after_facts, closed, checked_in}
-use Rattle.mdb_pool.specs.Refusal.{refusal_of}
+use Rattle.mdb_log.specs.History.{PoolItem, returned, given, after_facts, closed, checked_in}
 use Rattle.mdb_pool.specs.Facts.{act_facts, check_in}
-use Rattle.mdb_pool.specs.Standing.{Fits, StandsFor, Serves, Accepts, Answers, SameHome, SameNotes}
+use Rattle.mdb_pool.specs.Standing.{Fits, Serves, Accepts, SameHome, SameNotes}
 use Rattle.mdb_pool.specs.Kept.{connection_at, request_at, held_connection, given_of, given_in, is_shut, reason_now, used_as}
 use Rattle.mdb_log.specs.Connections.{is_fault, has, held, is_errored}
 use Rattle.mdb_pool.specs.Changes.{returning, dropping, back_facts, returning_for, to_pin}
-use Rattle.mdb_pool.proofs.Acts.{refuses, accepts, own-answers, not-back, holding-is, holds-given, live-errored, live-service, live-pins}
+use Rattle.mdb_pool.proofs.Acts.{accepts, holding-is, live-errored, live-service, live-pins}
 use Rattle.mdb_pool.proofs.Tables.{entry_at-key}
-use Rattle.mdb_pool.proofs.Found.{id_or, Holder, holder}
+use Rattle.mdb_pool.proofs.Found.{Holder, holder}
 use Rattle.std.proofs.Math.Bool.{or_comm}
 use Rattle.mdb_log.proofs.Numbers.{same-number, has-append}
 use Rattle.mdb_pool.proofs.Stands.{return-fits, drop-fits}
@@ -131,23 +128,3 @@ stand-of s s1 t before after n r x y q used xs z held at_r y_is some_pins s1_is 
     let e : q.number ≡ r = entry_at-key (λ (k : Request). k.number) r q s.requests at_r in
     let v : Holder s r x q = holder s r x q held at_r in
     subst (λ d. Accepts s t before after n (ReturnAct d used) Done xs (returned d used ∷ xs)) e (stand-accepts s xs z n x q used s1 t before after (subst (λ d. held_connection s d ≡ Some x) (sym e) held) v.at_x v.place (subst (λ d. request_at s d ≡ Some q) (sym e) at_r) v.phase (ap (λ k. nat_lt 0 k.pins) (sym y_is) ∙ some-above y.pins some_pins) (s1_is ∙ rw y_is refl) home notes serves)
-
--- how a return is refused
-return-refusal : (s : PoolCore) (h : List Item) → StandsFor s h → (n r : ℕ) (used : Use) → s.last ≤ n → refusal_of s.pool s.options h (record { moment = n; act = ReturnAct r used }) ≡ if is_some (held_connection s r) then None else Some NotHolder
-return-refusal s h z n r used l = rw (z.last_is, not-back n s.last l, holding-is s (of_pool s.pool h) z.fits r) (on (held_connection s r))
-  where
-    on : (o : Option Connection) → (if not (is_some (id_or o None)) then Some NotHolder else None) ≡ (if is_some o then None else Some NotHolder)
-    on None = refl
-    on (Some x) = refl
-
-pub refuses-holder : (s : PoolCore) (facts : List Fact) (n r : ℕ) (used : Use) (h : List Item) → StandsFor s h → s.last ≤ n → held_connection s r ≡ None → Answers s s facts facts (record { moment = n; act = ReturnAct r used }) (RefusedBy NotHolder) h
-refuses-holder s facts n r used h z l e = refuses s facts (record { moment = n; act = ReturnAct r used }) NotHolder h z (return-refusal s h z n r used l ∙ rw e refl)
-
-pub return-own : (s t : PoolCore) (before after : List Fact) (n r : ℕ) (used : Use) (reply : Reply) (h : List Item) → StandsFor s h → s.last ≤ n → is_some (held_connection s r) ≡ true → SameHome s t → t.last ≡ n
-    → ((xs : List PoolItem) → Fits s xs → Accepts s t before after n (ReturnAct r used) reply xs (returned r used ∷ xs))
-    → Answers s t before after (record { moment = n; act = ReturnAct r used }) reply h
-return-own s t before after n r used reply h z l held home last_is v =
-    own-answers s t before after (record { moment = n; act = ReturnAct r used }) reply (returned r used ∷ of_pool s.pool h) h z
-    (return-refusal s h z n r used l ∙ rw held refl)
-    (rw (holds-given s (of_pool s.pool h) z.fits r held) refl)
-    (λ k. refl) (λ k. refl) home last_is (v (of_pool s.pool h) z.fits)

@@ -6,17 +6,17 @@ use Rattle.mdb_base.specs.declared.error.Error.{Error}
 use Rattle.mdb_base.specs.declared.error.ErrorKind.TheVariants.{Network, NetworkTimeout}
 use Rattle.mdb_events.specs.declared.cmap.CmapEvent.TheVariants.{PoolCreated, PoolCleared, ConnectionCreated, ConnectionReady, ConnectionClosed, ConnectionCheckoutStarted, ConnectionCheckoutFailed, ConnectionCheckedOut, ConnectionCheckedIn}
 use Rattle.mdb_events.specs.declared.reasons.ConnectionClosedReason.TheVariants.{Stale, Idle, Error as ErrorReason, Dropped as DroppedReason, PoolClosed as PoolClosedReason}
-use Rattle.mdb_events.specs.declared.reasons.ConnectionCheckoutFailedReason.TheVariants.{ConnectionError}
+use Rattle.mdb_events.specs.declared.reasons.ConnectionCheckoutFailedReason.TheVariants.{Timeout, ConnectionError}
 use Rattle.mdb_events.specs.declared.fact.Fact.{Fact}
 use Rattle.mdb_events.specs.declared.fact.Fact.TheVariants.{Opened, Pool, Granted, Ended, Raised}
-use Rattle.mdb_events.specs.declared.end.End.TheVariants.{Cleared, Failed as FailedEnd, Filled, GaveUp}
+use Rattle.mdb_events.specs.declared.end.End.TheVariants.{Cleared, Failed as FailedEnd, Warmed, Filled, GaveUp, TimedOut}
 use Rattle.mdb_log.specs.declared.options.PoolOptions.{PoolOptions}
 use Rattle.mdb_log.specs.declared.step.Use.TheVariants.{Ok, Errored, Dropped}
 use Rattle.mdb_log.specs.declared.step.FailedAt.TheVariants.{Post}
 use Rattle.mdb_log.specs.declared.step.Established.{Established as How}
 use Rattle.mdb_log.specs.declared.step.Step.{Step}
 use Rattle.mdb_log.specs.declared.step.Act.{Act}
-use Rattle.mdb_log.specs.declared.step.Act.TheVariants.{Request, Warm, Collect, Claim, GiveUp, Established, Failed, Return, Pin, Take, Unpin, Maintain, Ready, Clear, Close}
+use Rattle.mdb_log.specs.declared.step.Act.TheVariants.{Request, Warm, Collect, Claim, GiveUp, Established, Failed, Return, Pin, Take, Unpin, Maintain, Expire, Ready, Clear, Close}
 use Rattle.mdb_log.specs.declared.reply.Refused.TheVariants.{TimeBack, UnknownServer, RequestKnown, UnknownRequest, NotHolder, NotPending, Unpinned, PinInUse, PinState, WrongMode, Exhausted}
 use Rattle.mdb_log.specs.declared.reply.What.TheVariants.{Generation}
 use Rattle.mdb_log.specs.declared.reply.Reply.{Reply}
@@ -27,10 +27,10 @@ use Rattle.mdb_pool.specs.Answer.{answer}
 use Rattle.mdb_log.specs.Answer.{Answer}
 
 abbrev balanced : PoolOptions
-balanced = record { max_pool_size = None; min_pool_size = None; max_idle_time = None; max_connecting = None; load_balanced = true; limit_id = 1000; limit_generation = 1000 }
+balanced = record { max_pool_size = None; min_pool_size = None; max_idle_time = None; max_wait = None; max_connecting = None; load_balanced = true; limit_id = 1000; limit_generation = 1000 }
 
 abbrev normal : PoolOptions
-normal = record { max_pool_size = None; min_pool_size = None; max_idle_time = None; max_connecting = None; load_balanced = false; limit_id = 1000; limit_generation = 1000 }
+normal = record { max_pool_size = None; min_pool_size = None; max_idle_time = None; max_wait = None; max_connecting = None; load_balanced = false; limit_id = 1000; limit_generation = 1000 }
 
 abbrev address : ServerAddress
 address = record { host = 97 ∷ []; port = 1 }
@@ -271,3 +271,64 @@ stale-is-not-granted = refl
 -- a dropped use closes the connection
 dropped-is-closed : final balanced one_pinned (at_moment 7 (Return 1 Dropped)) ≡ answered Done (in_ 1 ∷ Pool 0 (ConnectionClosed (record { address = address; connection_id = 1; reason = DroppedReason; service_id = Some S })) ∷ [])
 dropped-is-closed = refl
+
+-- a caller that waited for the limit ends, and not before; one that came later waits on, and is served
+abbrev waits_ten : PoolOptions
+waits_ten = record one_only { max_wait = Some 10 }
+
+abbrev wait_since_two_and_five : List Step
+wait_since_two_and_five = at_moment 0 (Request 1 address) ∷ at_moment 0 (Established 0 1 how) ∷ at_moment 2 (Request 2 address) ∷ at_moment 5 (Request 3 address) ∷ []
+
+abbrev waited_in_vain : ℕ → Fact
+waited_in_vain d = Pool 0 (ConnectionCheckoutFailed (record { address = address; reason = Timeout; duration = d }))
+
+not-yet-overdue : final waits_ten wait_since_two_and_five (at_moment 11 (Expire address)) ≡ answered Done []
+not-yet-overdue = refl
+
+overdue-ends : final waits_ten (wait_since_two_and_five ++ at_moment 11 (Expire address) ∷ []) (at_moment 12 (Expire address)) ≡ answered Done (Ended 2 TimedOut ∷ waited_in_vain 10 ∷ [])
+overdue-ends = refl
+
+abbrev second_timed_out : List Step
+second_timed_out = wait_since_two_and_five ++ at_moment 11 (Expire address) ∷ at_moment 12 (Expire address) ∷ []
+
+timed-out-is-told : final waits_ten second_timed_out (at_moment 12 (Collect 2)) ≡ answered (EndedReply TimedOut) []
+timed-out-is-told = refl
+
+later-one-waits-on : final waits_ten (second_timed_out ++ at_moment 12 (Collect 2) ∷ []) (at_moment 12 (Collect 3)) ≡ answered Waiting []
+later-one-waits-on = refl
+
+later-one-is-served : final waits_ten (second_timed_out ++ at_moment 12 (Collect 2) ∷ at_moment 12 (Collect 3) ∷ []) (at_moment 13 (Return 1 Ok)) ≡ answered Done (in_ 1 ∷ Granted 3 0 1 ∷ out 1 8 ∷ [])
+later-one-is-served = refl
+
+-- a warm request does not expire: it is served when the caller before it ended
+abbrev warm_waits_one : PoolOptions
+warm_waits_one = record one_only { min_pool_size = Some 1; max_wait = Some 1 }
+
+abbrev one_up : List Step
+one_up = at_moment 0 (Request 1 address) ∷ at_moment 0 (Established 0 1 how) ∷ []
+
+caller-waits : final warm_waits_one one_up (at_moment 0 (Request 2 address)) ≡ answered Waiting (started ∷ [])
+caller-waits = refl
+
+warm-waits-behind-it : final warm_waits_one (one_up ++ at_moment 0 (Request 2 address) ∷ []) (at_moment 0 (Warm 3 address)) ≡ answered Waiting []
+warm-waits-behind-it = refl
+
+warm-is-served-after-it : final warm_waits_one (one_up ++ at_moment 0 (Request 2 address) ∷ at_moment 0 (Warm 3 address) ∷ []) (at_moment 1 (Expire address)) ≡ answered Done (Ended 2 TimedOut ∷ waited_in_vain 1 ∷ Ended 3 Warmed ∷ [])
+warm-is-served-after-it = refl
+
+-- a limit of 0, as none, ends nobody
+zero-ends-nobody : final (record one_only { max_wait = Some 0 }) wait_since_two_and_five (at_moment 11 (Expire address)) ≡ answered Done []
+zero-ends-nobody = refl
+
+nor-does-it-later : final (record one_only { max_wait = Some 0 }) (wait_since_two_and_five ++ at_moment 11 (Expire address) ∷ []) (at_moment 12 (Expire address)) ≡ answered Done []
+nor-does-it-later = refl
+
+no-limit-ends-nobody : final one_only wait_since_two_and_five (at_moment 12 (Expire address)) ≡ answered Done []
+no-limit-ends-nobody = refl
+
+nobody-expires-elsewhere : final (record one_only { max_wait = Some 0 }) wait_since_two_and_five (at_moment 12 (Expire elsewhere)) ≡ answered (RefusedBy UnknownServer) []
+nobody-expires-elsewhere = refl
+
+-- a caller whose connection is pending does not expire
+pending-one-stays : final waits_ten (at_moment 0 (Request 1 address) ∷ []) (at_moment 20 (Expire address)) ≡ answered Done []
+pending-one-stays = refl

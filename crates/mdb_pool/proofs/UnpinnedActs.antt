@@ -1,28 +1,25 @@
 -- What an unpin does is the answer to its step.
-use Rattle.std.proofs.Common.{ℕ, ◌≡◌, ◌≤◌, ◌-◌, ◌||◌, ◌&&◌, Bool, true, false, ◌==◌, arith, List, [], ◌∷◌, ◌++◌, Option, Some, None, refl, sym, ◌∙◌, ap, subst, if◌then◌else◌, append-nil, nat_lt}
+use Rattle.std.proofs.Common.{ℕ, ◌≡◌, ◌-◌, ◌||◌, ◌&&◌, Bool, true, false, ◌==◌, arith, List, [], ◌∷◌, ◌++◌, Option, Some, None, refl, sym, ◌∙◌, ap, subst, append-nil, nat_lt}
 use Rattle.std.proofs.lemmas.Bool.Decides.{nat_tests}
 use Rattle.mdb_events.specs.declared.fact.Fact.{Fact}
 use Rattle.mdb_events.specs.declared.reasons.ConnectionClosedReason.{ConnectionClosedReason}
 use Rattle.mdb_log.specs.declared.step.Act.TheVariants.{Unpin}
-use Rattle.mdb_log.specs.declared.reply.Refused.TheVariants.{Unpinned}
-use Rattle.mdb_log.specs.declared.reply.Reply.{Reply}
-use Rattle.mdb_log.specs.declared.reply.Reply.TheVariants.{Done, Refused as RefusedBy}
+use Rattle.mdb_log.specs.declared.reply.Reply.TheVariants.{Done}
 use Rattle.mdb_pool.specs.declared.connection.Connection.{Connection}
 use Rattle.mdb_pool.specs.declared.connection.Place.TheVariants.{Pinned}
 use Rattle.mdb_pool.specs.declared.pool_core.PoolCore.{PoolCore}
-use Rattle.mdb_log.specs.History.{Item, PoolItem, unpinned, of_pool, after_facts, closed, checked_in}
-use Rattle.mdb_pool.specs.Refusal.{refusal_of}
+use Rattle.mdb_log.specs.History.{PoolItem, unpinned, after_facts, closed, checked_in}
 use Rattle.mdb_pool.specs.Facts.{act_facts}
 use Rattle.mdb_log.specs.Connections.{has, pins, is_pinned}
-use Rattle.mdb_pool.specs.Standing.{Fits, StandsFor, Serves, Accepts, Answers, SameHome, SameNotes}
+use Rattle.mdb_pool.specs.Standing.{Fits, Serves, Accepts, SameHome, SameNotes}
 use Rattle.mdb_pool.specs.Kept.{connection_at, is_shut, pins_at, is_pinned_at, reason_now}
 use Rattle.mdb_pool.specs.Places.{is_at_pin}
 use Rattle.mdb_pool.specs.Changes.{unpinning, pin_ending, back_facts}
-use Rattle.mdb_pool.proofs.Acts.{refuses, accepts, own-answers, not-back, live-errored, live-dropped, live-service, live-pins}
+use Rattle.mdb_pool.proofs.Acts.{accepts, live-errored, live-dropped, live-service, live-pins}
 use Rattle.mdb_pool.proofs.CheckIns.{check-in-is, back-fair, back-own, back-open, back-fits}
 use Rattle.mdb_pool.proofs.Staleness.{stale-at}
 use Rattle.mdb_log.proofs.Numbers.{same-number}
-use Rattle.mdb_log.proofs.Bools.{both-left, both-right, if-not}
+use Rattle.mdb_log.proofs.Bools.{both-left, both-right}
 use Rattle.mdb_pool.proofs.Found.{is-pinned}
 use Rattle.mdb_pool.proofs.PinnedActs.{pinned-at}
 use Rattle.mdb_pool.proofs.PinStands.{unpin-fits, pin-end-fits, pin-lose-fits}
@@ -114,22 +111,3 @@ pin-end-of s s1 t before f1 after n c x o xs z at_c some_pins last reason s1_is 
     let place : is_at_pin x.place ≡ true = both-left (is_at_pin x.place) (x.pins == 1) last in
     let one : x.pins ≡ 1 = only-one x.pins (both-right (is_at_pin x.place) (x.pins == 1) last) in
     subst (λ d. Accepts s t before after n (Unpin s.pool d) Done xs (unpinned d ∷ xs)) e (pin-end-accepts s xs z n x (subst (λ d. connection_at s d ≡ Some x) (sym e) at_c) (ap (λ o. nat_lt 0 (pins_at o)) (sym at_c) ∙ some_pins) s1 t before f1 after place one (s1_is ∙ ap (pin_ending s n x) reason) (f1_is ∙ ap (λ k. before ++ back_facts s x k) reason) home notes serves)
-
--- how it is refused
-unpin-refusal : (s : PoolCore) (h : List Item) → StandsFor s h → (n c : ℕ) → s.last ≤ n → refusal_of s.pool s.options h (record { moment = n; act = Unpin s.pool c }) ≡ if nat_lt 0 (pins_at (connection_at s c)) then None else Some Unpinned
-unpin-refusal s h z n c l = rw (z.last_is, not-back n s.last l, same-number s.pool, z.fits.matches.pinning.pins c) (if-not (nat_lt 0 (pins_at (connection_at s c))) (Some Unpinned) None)
-
-pub refuses-unpinned : (s : PoolCore) (facts : List Fact) (n c : ℕ) (h : List Item) → StandsFor s h → s.last ≤ n → nat_lt 0 (pins_at (connection_at s c)) ≡ false → Answers s s facts facts (record { moment = n; act = Unpin s.pool c }) (RefusedBy Unpinned) h
-refuses-unpinned s facts n c h z l e = refuses s facts (record { moment = n; act = Unpin s.pool c }) Unpinned h z (unpin-refusal s h z n c l ∙ rw e refl)
-
-pub refuses-other : (s : PoolCore) (facts : List Fact) (n q c : ℕ) (h : List Item) → StandsFor s h → s.last ≤ n → (q == s.pool) ≡ false → Answers s s facts facts (record { moment = n; act = Unpin q c }) (RefusedBy Unpinned) h
-refuses-other s facts n q c h z l e = refuses s facts (record { moment = n; act = Unpin q c }) Unpinned h z (rw (z.last_is, not-back n s.last l, e) refl)
-
-pub unpin-own : (s t : PoolCore) (before after : List Fact) (n c : ℕ) (reply : Reply) (h : List Item) → StandsFor s h → s.last ≤ n → nat_lt 0 (pins_at (connection_at s c)) ≡ true → SameHome s t → t.last ≡ n
-    → ((xs : List PoolItem) → Fits s xs → Accepts s t before after n (Unpin s.pool c) reply xs (unpinned c ∷ xs))
-    → Answers s t before after (record { moment = n; act = Unpin s.pool c }) reply h
-unpin-own s t before after n c reply h z l some_pins home last_is v =
-    own-answers s t before after (record { moment = n; act = Unpin s.pool c }) reply (unpinned c ∷ of_pool s.pool h) h z
-    (unpin-refusal s h z n c l ∙ rw some_pins refl)
-    (rw (same-number s.pool) refl)
-    (λ k. refl) (λ k. refl) home last_is (v (of_pool s.pool h) z.fits)

@@ -6,7 +6,7 @@ use Rattle.mdb_base.specs.declared.error.Error.{Error}
 use Rattle.mdb_base.specs.Errors.{is_timeout}
 use Rattle.mdb_pool.specs.declared.status.Status.{Status}
 use Rattle.mdb_pool.specs.declared.status.Status.TheVariants.{New, Ready, Paused, Closed}
-use Rattle.mdb_pool.specs.Facts.{new_pool_error, checked_in_fact, checked_out_fact, checkout_failed_fact, closed_fact, created_fact, pool_closed_fact, pool_ready_fact}
+use Rattle.mdb_pool.specs.Facts.{new_pool_error, checked_in_fact, checked_out_fact, checkout_failed_fact, failure_of, closed_fact, created_fact, pool_closed_fact, pool_ready_fact}
 use Rattle.mdb_events.specs.declared.reasons.ConnectionClosedReason.{ConnectionClosedReason}
 use Rattle.mdb_events.specs.declared.reasons.ConnectionClosedReason.TheVariants.{PoolClosed as PoolClosedReason}
 use Rattle.mdb_events.specs.declared.end.End.{End}
@@ -32,7 +32,7 @@ back_facts s x (Some why) = if is_shut s.status then (closed_fact s.pool s.addre
 
 -- the end of a request; the checkout of a caller fails right after it
 abbrev pub over_facts : PoolCore → ℕ → Bool → ℕ → End → List Fact
-over_facts s r warm waited end = if warm then (Ended r end ∷ []) else (Ended r end ∷ checkout_failed_fact s.pool s.address waited ∷ [])
+over_facts s r warm waited end = if warm then (Ended r end ∷ []) else (Ended r end ∷ checkout_failed_fact s.pool s.address (failure_of end) waited ∷ [])
 
 -- how a request ends at once, and what that makes
 abbrev pub away_end : Status → Option End

@@ -1,5 +1,5 @@
 -- The facts that an accepted act makes in its pool, before the serving.
-use Rattle.std.specs.Prelude.{ℕ, zero, suc, ◌+◌, ◌-◌, ◌&&◌, if◌then◌else◌, ◌==◌, nat_lt, is_some, List, [], ◌∷◌, ◌++◌, length, map, filter, Option, Some, None, codes}
+use Rattle.std.specs.Prelude.{ℕ, zero, suc, ◌+◌, ◌-◌, Bool, false, ◌&&◌, if◌then◌else◌, ◌==◌, nat_lt, nat_le, is_some, List, [], ◌∷◌, ◌++◌, length, map, filter, Option, Some, None, codes}
 use Rattle.mdb_base.specs.declared.address.ServerAddress.{ServerAddress}
 use Rattle.mdb_base.specs.declared.object_id.ObjectId.{ObjectId}
 use Rattle.mdb_base.specs.declared.error.Error.{Error}
@@ -8,17 +8,18 @@ use Rattle.mdb_base.specs.Errors.{is_timeout}
 use Rattle.mdb_events.specs.declared.cmap.CmapEvent.TheVariants.{PoolReady, PoolCleared, PoolClosed, ConnectionCreated, ConnectionReady, ConnectionClosed, ConnectionCheckoutStarted, ConnectionCheckoutFailed, ConnectionCheckedOut, ConnectionCheckedIn}
 use Rattle.mdb_events.specs.declared.reasons.ConnectionClosedReason.{ConnectionClosedReason}
 use Rattle.mdb_events.specs.declared.reasons.ConnectionClosedReason.TheVariants.{Stale, Idle, Error as ErrorReason, Dropped as DroppedReason, PoolClosed as PoolClosedReason}
-use Rattle.mdb_events.specs.declared.reasons.ConnectionCheckoutFailedReason.TheVariants.{ConnectionError}
+use Rattle.mdb_events.specs.declared.reasons.ConnectionCheckoutFailedReason.{ConnectionCheckoutFailedReason}
+use Rattle.mdb_events.specs.declared.reasons.ConnectionCheckoutFailedReason.TheVariants.{Timeout, ConnectionError}
 use Rattle.mdb_events.specs.declared.fact.Fact.{Fact}
 use Rattle.mdb_events.specs.declared.fact.Fact.TheVariants.{Pool, Ended, Raised}
 use Rattle.mdb_events.specs.declared.end.End.{End}
-use Rattle.mdb_events.specs.declared.end.End.TheVariants.{Cleared, Failed as FailedEnd, Closed, Filled, GaveUp}
+use Rattle.mdb_events.specs.declared.end.End.TheVariants.{Cleared, Failed as FailedEnd, Closed, Filled, GaveUp, TimedOut}
 use Rattle.mdb_log.specs.declared.options.PoolOptions.{PoolOptions}
 use Rattle.mdb_log.specs.declared.step.Act.{Act}
-use Rattle.mdb_log.specs.declared.step.Act.TheVariants.{Request, Warm, GiveUp, Established, Failed, Return, Unpin, Maintain, Ready, Clear, Close}
+use Rattle.mdb_log.specs.declared.step.Act.TheVariants.{Request, Warm, GiveUp, Established, Failed, Return, Unpin, Maintain, Expire, Ready, Clear, Close}
 use Rattle.mdb_log.specs.History.{PoolItem, after_facts}
 use Rattle.mdb_log.specs.Connections.{live_total, created_total, created_at, pending_list, holding, pins, is_pinned, granted_to, available_list, known_service, last_use, is_errored, is_dropped}
-use Rattle.mdb_log.specs.Requests.{requests, queued, is_warm, asked_at, end_of, is_unserved}
+use Rattle.mdb_log.specs.Requests.{requests, queued, waiting, is_warm, asked_at, end_of, is_unserved}
 use Rattle.mdb_log.specs.State.{State, is_new, is_ready, is_paused, is_closed, state_of, ready, is_stale, is_idle, min_size, max_connecting}
 
 -- the error of a request to a pool that was never ready
@@ -40,6 +41,20 @@ perished o m xs c =
     else (if is_idle o m xs c then Some Idle
     else None)
 
+-- the moment n plus the limit of waiting, where there is one above 0, is at most the moment m
+abbrev pub is_over : Option ℕ → ℕ → ℕ → Bool
+is_over None n m = false
+is_over (Some limit) n m = nat_lt 0 limit && nat_le (n + limit) m
+
+-- Overdue: the callers that wait, and have waited for the limit at the moment m. In the order of their steps.
+abbrev pub overdue : PoolOptions → ℕ → List PoolItem → List ℕ
+overdue o m xs = filter (λ r. is_over o.max_wait (asked_at xs r) m) (waiting xs)
+
+-- why the checkout of a caller failed that ended so
+abbrev pub failure_of : End → ConnectionCheckoutFailedReason
+failure_of TimedOut = Timeout
+failure_of _ = ConnectionError
+
 -- The events of the pool p at the address a.
 module _ (p : ℕ) (a : ServerAddress) where
   abbrev pub created_fact : ℕ → Fact
@@ -57,8 +72,8 @@ module _ (p : ℕ) (a : ServerAddress) where
   abbrev pub checked_out_fact : ℕ → ℕ → Fact
   checked_out_fact c took = Pool p (ConnectionCheckedOut (record { address = a; connection_id = c; duration = took }))
 
-  abbrev pub checkout_failed_fact : ℕ → Fact
-  checkout_failed_fact took = Pool p (ConnectionCheckoutFailed (record { address = a; reason = ConnectionError; duration = took }))
+  abbrev pub checkout_failed_fact : ConnectionCheckoutFailedReason → ℕ → Fact
+  checkout_failed_fact why took = Pool p (ConnectionCheckoutFailed (record { address = a; reason = why; duration = took }))
 
   -- closed where there is a reason; a close tells the service of a connection that was established
   abbrev pub closes : List PoolItem → ℕ → Option ConnectionClosedReason → List Fact
@@ -84,7 +99,7 @@ module _ (p : ℕ) (a : ServerAddress) (m : ℕ) where
   end_facts xs r end =
       if is_warm xs r
       then (Ended r end ∷ [])
-      else (Ended r end ∷ checkout_failed_fact p a (m - asked_at xs r) ∷ [])
+      else (Ended r end ∷ checkout_failed_fact p a (failure_of end) (m - asked_at xs r) ∷ [])
 
   abbrev pub all_ends : List PoolItem → End → List ℕ → List Fact
   all_ends xs end [] = []
@@ -181,6 +196,7 @@ module _ (p : ℕ) (a : ServerAddress) (o : PoolOptions) (m : ℕ) where
   act_facts xs ys (Return r used) = come_back p a o ys (holding xs r)
   act_facts xs ys (Unpin q c) = if is_pinned xs c && (pins ys c == 0) then check_in p a o ys c else []
   act_facts xs ys (Maintain b) = let closed : List Fact = sweep ys (available_list ys) in closed ++ fill (min_size o) (after_facts p m closed ys)
+  act_facts xs ys (Expire b) = all_ends p a m ys TimedOut (overdue o m ys)
   act_facts xs ys (Ready q) = readied ys
   act_facts xs ys (Clear q service error) = clear_facts ys service error
   act_facts xs ys (Close q) = close_facts ys

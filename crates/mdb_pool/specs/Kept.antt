@@ -303,6 +303,19 @@ perished_now s m x =
 abbrev pub first_perished : PoolCore → ℕ → Option Connection
 first_perished s m = find (λ x. is_available x.place && is_some (perished_now s m x)) s.connections
 
+-- a caller that asked then has waited for too long at the moment m
+abbrev pub overdue_since : Option ℕ → ℕ → ℕ → Bool
+overdue_since None m asked = false
+overdue_since (Some limit) m asked = nat_lt 0 limit && nat_le limit (m - asked)
+
+-- the request is a queued caller that has waited for too long
+abbrev pub overdue_now : PoolCore → ℕ → Request → Bool
+overdue_now s m q = is_queued q.phase && (not q.warm && overdue_since s.options.max_wait m q.asked_at)
+
+-- the first of them in the queue
+abbrev pub first_overdue : PoolCore → ℕ → Option Request
+first_overdue s m = find (overdue_now s m) s.requests
+
 -- the connection with one more use
 abbrev pub used_as : Connection → Use → Connection
 used_as x used = record x { errored = is_fault used || x.errored; used = used }

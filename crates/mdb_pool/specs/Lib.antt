@@ -5,6 +5,11 @@ pub mod Answer
 pub mod Keyed
 pub mod Places
 pub mod Kept
+pub mod Refusing
 pub mod Changes
 pub mod Matching
+pub mod Jobs
 pub mod Standing
+pub mod Quiet
+pub mod Parts
+pub mod Composing

@@ -4,7 +4,7 @@ use Rattle.mdb_base.specs.declared.object_id.ObjectId.{ObjectId}
 use Rattle.mdb_log.specs.declared.options.PoolOptions.{PoolOptions}
 use Rattle.mdb_log.specs.declared.step.Step.{Step}
 use Rattle.mdb_log.specs.declared.step.Act.{Act}
-use Rattle.mdb_log.specs.declared.step.Act.TheVariants.{Request, Warm, Collect, GiveUp, Established, Failed, Return, Pin, Replicate, Take, Unpin, Maintain, Clear}
+use Rattle.mdb_log.specs.declared.step.Act.TheVariants.{Request, Warm, Collect, GiveUp, Established, Failed, Return, Pin, Replicate, Take, Unpin, Maintain, Expire, Clear}
 use Rattle.mdb_log.specs.declared.step.FailedAt.TheVariants.{Pre, Post}
 use Rattle.mdb_log.specs.declared.reply.What.TheVariants.{Generation}
 use Rattle.mdb_log.specs.declared.reply.Refused.{Refused}
@@ -46,6 +46,7 @@ rows_of p o h xs (Replicate q c) = (not ((q == p) && nat_lt 0 (pins xs c)), Unpi
 rows_of p o h xs (Take r q c) = (some_act names_party h r, RequestKnown) ∷ (not ((q == p) && nat_lt 0 (pins xs c)), Unpinned) ∷ (nat_lt 0 (held xs c), PinInUse) ∷ []
 rows_of p o h xs (Unpin q c) = (not ((q == p) && nat_lt 0 (pins xs c)), Unpinned) ∷ []
 rows_of p o h xs (Maintain a) = (not (is_number (open_pool h a) p), UnknownServer) ∷ []
+rows_of p o h xs (Expire a) = (not (is_number (open_pool h a) p), UnknownServer) ∷ []
 rows_of p o h xs (Clear q service error) = (wrong_service o.load_balanced service, WrongMode) ∷ (is_exhausted o xs service, Exhausted Generation) ∷ []
 rows_of p o h xs _ = []
 

@@ -23,7 +23,8 @@ use Rattle.mdb_pool.specs.Kept.{request_at, is_shut, numbers_asked}
 use Rattle.mdb_base.specs.Equality.{same_address}
 use Rattle.mdb_base.specs.declared.error.Error.{Error}
 use Rattle.mdb_events.specs.declared.end.End.{End}
-use Rattle.mdb_pool.specs.Facts.{all_ends, clear_facts, sweep, fill}
+use Rattle.mdb_events.specs.declared.end.End.TheVariants.{TimedOut}
+use Rattle.mdb_pool.specs.Facts.{all_ends, overdue, clear_facts, sweep, fill}
 
 -- The state of a pool is that of the pool's items.
 pub record Fits (s : PoolCore) (xs : List PoolItem) : Type 0 where
@@ -62,6 +63,11 @@ pub record Serves (s t : PoolCore) (m : ℕ) (before after : List Fact) (xs : Li
 pub record EndsQueue (s t : PoolCore) (m : ℕ) (end : End) (before after : List Fact) (xs : List PoolItem) : Type 0 where
   pub facts : after ≡ before ++ all_ends s.pool s.address m xs end (queued xs)
   pub fits : Fits t (after_facts s.pool m (all_ends s.pool s.address m xs end (queued xs)) xs)
+
+-- the callers that waited for too long ended: the facts after the old ones are those of their ends, and the state then fits them too
+pub record Expires (s t : PoolCore) (m : ℕ) (before after : List Fact) (xs : List PoolItem) : Type 0 where
+  pub facts : after ≡ before ++ all_ends s.pool s.address m xs TimedOut (overdue s.options m xs)
+  pub fits : Fits t (after_facts s.pool m (all_ends s.pool s.address m xs TimedOut (overdue s.options m xs)) xs)
 
 -- the pool, or a service of it, was cleared: the facts after the old ones are those of the clear, and the state then fits them too
 pub record Clears (s t : PoolCore) (m : ℕ) (service : Option ObjectId) (error : Error) (before after : List Fact) (xs : List PoolItem) : Type 0 where

@@ -2,7 +2,7 @@
 
 ghost use Rattle.std.specs.Prelude.{◌≡◌, OnOk, OnErr, IfOk, List};
 
-use super::{Act, PoolCore, Refused, Reply, Step};
+use super::{Act, PoolCore, Reply, Step};
 use mdb_base::{Moment, OutOfMemory};
 use mdb_events::Fact;
 use std::alloc::{AllocError, Global};
@@ -11,6 +11,7 @@ impl PoolCore {
     ghost use Rattle.mdb_pool.specs.Kept.{job_now};
     ghost use Rattle.mdb_pool.specs.Changes.{claiming};
     ghost use Rattle.mdb_pool.specs.Standing.{SameHome, Fits, Accepts, StandsFor, Answers};
+    ghost use Rattle.mdb_pool.specs.Parts.{Passes};
     ghost use Rattle.mdb_log.specs.History.{Item, PoolItem};
     ghost use Rattle.mdb_log.specs.declared.step.Act.TheVariants.{Claim};
 
@@ -43,23 +44,6 @@ impl PoolCore {
         Ok(reply)
     }
 
-    // Refuses the claim, or answers it.
-    pub(super) fn try_claim(
-        &mut self,
-        alloc: Global,
-        facts: &mut Vec<Fact>,
-        moment: Moment,
-    ) -> Result<Reply, AllocError>
-        ensures home { OnOk result (SameHome self.old self.new) }
-        ensures answers { IfOk result (λ reply. (h : List Item) → StandsFor self.old h → Answers self.old self.new facts.old.items facts.new.items (record { moment = moment; act = Claim }) reply h) }
-    {
-        if moment < self.last {
-            return Ok(Reply::Refused(Refused::TimeBack(self.last)));
-        }
-        let reply = self.accept_claim(alloc, facts, moment)?;
-        Ok(reply)
-    }
-
     /// A worker asks for a connection to establish. Refused as `TimeBack`.
     pub fn claim(
         &mut self,
@@ -71,6 +55,7 @@ impl PoolCore {
         ensures answers { IfOk result (λ reply. (h : List Item) → StandsFor self.old h → Answers self.old self.new facts.old.items facts.new.items (record { moment = moment; act = Claim }) reply h) }
         ensures err_core { OnErr result (self.new ≡ self.old) }
         ensures err_facts { OnErr result (facts.new.items ≡ facts.old.items) }
+        ensures passes { OnErr result (Passes self.old (record { moment = moment; act = Claim })) }
     {
         let step = Step {
             moment,

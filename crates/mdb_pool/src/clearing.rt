@@ -5,7 +5,7 @@ ghost use Rattle.std.specs.Prelude.{◌≡◌, ◌++◌, ◌∷◌, ◌-◌, [],
 use super::request::{Phase, Request};
 use super::status::{Clear, Status};
 use super::table::Keyed;
-use super::{Act, PoolCore, Refused, Reply, Step, What};
+use super::{Act, PoolCore, Reply, Step, What};
 use mdb_base::{Error, Moment, ObjectId, OutOfMemory};
 use mdb_events::{CmapEvent, End, Fact, PoolClearedEvent};
 use std::alloc::{AllocError, Global};
@@ -13,6 +13,7 @@ use std::alloc::{AllocError, Global};
 impl PoolCore {
     ghost use Rattle.mdb_pool.specs.Changes.{ending, raising, over_facts};
     ghost use Rattle.mdb_pool.specs.Standing.{SameHome, SameNotes, Fits, EndsQueue, Clears, Accepts, StandsFor, Answers};
+    ghost use Rattle.mdb_pool.specs.Parts.{Passes};
     ghost use Rattle.mdb_log.specs.History.{Item, PoolItem};
     ghost use Rattle.mdb_pool.specs.Kept.{is_ready_now, is_shut, exhausted_now};
     ghost use Rattle.std.specs.Prelude.{true, None};
@@ -180,36 +181,10 @@ impl PoolCore {
     }
 
     // One more clear would pass the limit of the generation.
-    fn is_exhausted(&self, service: Option<ObjectId>) -> bool
+    pub(super) fn is_exhausted(&self, service: Option<ObjectId>) -> bool
         ensures { result ≡ exhausted_now self.now service }
     {
         !self.status.is_closed() && self.options.limit_generation <= self.generation(service)
-    }
-
-    // Refuses the clear, or accepts it.
-    pub(super) fn try_clear(
-        &mut self,
-        alloc: Global,
-        facts: &mut Vec<Fact>,
-        moment: Moment,
-        pool: u32,
-        service: Option<ObjectId>,
-        cause: &Error,
-    ) -> Result<Reply, AllocError>
-        ensures home { OnOk result (SameHome self.old self.new) }
-        ensures answers { IfOk result (λ reply. (h : List Item) → StandsFor self.old h → Answers self.old self.new facts.old.items facts.new.items (record { moment = moment; act = ClearAct pool service cause.now }) reply h) }
-    {
-        if moment < self.last {
-            return Ok(Reply::Refused(Refused::TimeBack(self.last)));
-        }
-        if service.is_some() != self.options.load_balanced {
-            return Ok(Reply::Refused(Refused::WrongMode));
-        }
-        if self.is_exhausted(service) {
-            return Ok(Reply::Refused(Refused::Exhausted(What::Generation)));
-        }
-        let reply = self.accept_clear(alloc, facts, moment, pool, service, cause)?;
-        Ok(reply)
     }
 
     /// The connections of the pool, or those of a service where it is load balanced, become stale; a normal pool is paused, and its queued requests
@@ -227,6 +202,7 @@ impl PoolCore {
         ensures answers { IfOk result (λ reply. (h : List Item) → StandsFor self.old h → Answers self.old self.new facts.old.items facts.new.items (record { moment = moment; act = ClearAct self.old.pool service cause }) reply h) }
         ensures err_core { OnErr result (self.new ≡ self.old) }
         ensures err_facts { OnErr result (facts.new.items ≡ facts.old.items) }
+        ensures passes { OnErr result (Passes self.old (record { moment = moment; act = ClearAct self.old.pool service cause })) }
     {
         let step = Step {
             moment,

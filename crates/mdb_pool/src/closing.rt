@@ -7,7 +7,7 @@ use super::connection::Connection;
 use super::request::{Phase, Request};
 use super::status::Status;
 use super::table::Keyed;
-use super::{Act, PoolCore, Refused, Reply, Step};
+use super::{Act, PoolCore, Reply, Step};
 use mdb_base::{Moment, OutOfMemory};
 use mdb_events::{CmapEvent, ConnectionClosedReason, End, Fact, PoolClosedEvent};
 use std::alloc::{AllocError, Global};
@@ -28,6 +28,7 @@ fn kept_ones(alloc: Global, connections: &[Connection]) -> Result<Vec<Connection
 impl PoolCore {
     ghost use Rattle.mdb_pool.specs.Changes.{closing, shut_facts, off_facts, ended_request, available_ones, pending_ones, unserved_ones};
     ghost use Rattle.mdb_pool.specs.Standing.{SameHome, Fits, Accepts, StandsFor, Answers};
+    ghost use Rattle.mdb_pool.specs.Parts.{Passes};
     ghost use Rattle.mdb_log.specs.History.{Item, PoolItem};
     ghost use Rattle.mdb_pool.specs.Kept.{unserved_in};
     ghost use Rattle.mdb_log.specs.declared.step.Act.TheVariants.{Close};
@@ -155,24 +156,6 @@ impl PoolCore {
         Ok(Reply::Done)
     }
 
-    // Refuses the close, or accepts it.
-    pub(super) fn try_close(
-        &mut self,
-        alloc: Global,
-        facts: &mut Vec<Fact>,
-        moment: Moment,
-        pool: u32,
-    ) -> Result<Reply, AllocError>
-        ensures home { OnOk result (SameHome self.old self.new) }
-        ensures answers { IfOk result (λ reply. (h : List Item) → StandsFor self.old h → Answers self.old self.new facts.old.items facts.new.items (record { moment = moment; act = Close pool }) reply h) }
-    {
-        if moment < self.last {
-            return Ok(Reply::Refused(Refused::TimeBack(self.last)));
-        }
-        let reply = self.accept_close(alloc, facts, moment, pool)?;
-        Ok(reply)
-    }
-
     /// The pool is closed for good: its available and pending connections are closed, its held ones as they come back, and the requests end that
     /// nothing was handed to (CMAP, "Closing a Connection Pool"). A closed pool stays as it is. Refused as `TimeBack`.
     pub fn close(
@@ -185,6 +168,7 @@ impl PoolCore {
         ensures answers { IfOk result (λ reply. (h : List Item) → StandsFor self.old h → Answers self.old self.new facts.old.items facts.new.items (record { moment = moment; act = Close self.old.pool }) reply h) }
         ensures err_core { OnErr result (self.new ≡ self.old) }
         ensures err_facts { OnErr result (facts.new.items ≡ facts.old.items) }
+        ensures passes { OnErr result (Passes self.old (record { moment = moment; act = Close self.old.pool })) }
     {
         let step = Step {
             moment,

@@ -4,7 +4,7 @@ ghost use Rattle.std.specs.Prelude.{◌≡◌, ◌∷◌, OnOk, OnErr, IfOk, Lis
 
 use super::coming_back::as_made;
 use super::table::Keyed;
-use super::{Act, Established, PoolCore, Refused, Reply, Step};
+use super::{Act, Established, PoolCore, Reply, Step};
 use mdb_base::{Moment, OutOfMemory};
 use mdb_events::Fact;
 use std::alloc::{AllocError, Global};
@@ -12,6 +12,7 @@ use std::alloc::{AllocError, Global};
 impl PoolCore {
     ghost use Rattle.mdb_pool.specs.Kept.{connection_at, is_pending_at};
     ghost use Rattle.mdb_pool.specs.Standing.{SameHome, Fits, Accepts, StandsFor, Answers};
+    ghost use Rattle.mdb_pool.specs.Parts.{Passes};
     ghost use Rattle.mdb_log.specs.History.{Item, PoolItem, established};
     ghost use Rattle.mdb_log.specs.declared.step.Act.TheVariants.{Established as EstablishedAct};
 
@@ -56,53 +57,6 @@ impl PoolCore {
         Ok(Reply::Done)
     }
 
-    // Refuses the connection, or hands it over.
-    pub(super) fn try_established(
-        &mut self,
-        alloc: Global,
-        facts: &mut Vec<Fact>,
-        moment: Moment,
-        id: u32,
-        made: Established,
-    ) -> Result<Reply, AllocError>
-        ensures home { OnOk result (SameHome self.old self.new) }
-        ensures answers { IfOk result (λ reply. (h : List Item) → StandsFor self.old h → Answers self.old self.new facts.old.items facts.new.items (record { moment = moment; act = EstablishedAct self.old.pool id made }) reply h) }
-    {
-        if moment < self.last {
-            return Ok(Reply::Refused(Refused::TimeBack(self.last)));
-        }
-        if !self.is_pending(id) {
-            return Ok(Reply::Refused(Refused::NotPending));
-        }
-        if made.service_id.is_some() != self.options.load_balanced {
-            return Ok(Reply::Refused(Refused::WrongMode));
-        }
-        let reply = self.accept_established(alloc, facts, moment, id, made)?;
-        Ok(reply)
-    }
-
-    // Refuses a connection of another pool, or takes it.
-    pub(super) fn try_established_in(
-        &mut self,
-        alloc: Global,
-        facts: &mut Vec<Fact>,
-        moment: Moment,
-        pool: u32,
-        id: u32,
-        made: Established,
-    ) -> Result<Reply, AllocError>
-        ensures home { OnOk result (SameHome self.old self.new) }
-        ensures answers { IfOk result (λ reply. (h : List Item) → StandsFor self.old h → Answers self.old self.new facts.old.items facts.new.items (record { moment = moment; act = EstablishedAct pool id made }) reply h) }
-    {
-        if pool == self.pool {
-            return self.try_established(alloc, facts, moment, id, made);
-        }
-        if moment < self.last {
-            return Ok(Reply::Refused(Refused::TimeBack(self.last)));
-        }
-        Ok(Reply::Refused(Refused::NotPending))
-    }
-
     /// A pending connection was established (CMAP, "Establishing a Connection"). Refused as `TimeBack`, `NotPending`, or `WrongMode` where a load-balanced
     /// pool is given no service, or a normal one a service.
     pub fn established(
@@ -117,6 +71,7 @@ impl PoolCore {
         ensures answers { IfOk result (λ reply. (h : List Item) → StandsFor self.old h → Answers self.old self.new facts.old.items facts.new.items (record { moment = moment; act = EstablishedAct self.old.pool id made }) reply h) }
         ensures err_core { OnErr result (self.new ≡ self.old) }
         ensures err_facts { OnErr result (facts.new.items ≡ facts.old.items) }
+        ensures passes { OnErr result (Passes self.old (record { moment = moment; act = EstablishedAct self.old.pool id made })) }
     {
         let step = Step {
             moment,

@@ -1,11 +1,12 @@
 //! A pending connection of a pool failed.
 
 ghost use Rattle.std.specs.Prelude.{◌≡◌, ◌++◌, ◌∷◌, ◌-◌, ◌&&◌, [], OnOk, OnErr, IfOk, List, true, not, is_some};
+ghost use Rattle.mdb_pool.specs.Facts.{failure_of};
 
 use super::connection::Connection;
 use super::request::{Phase, Request};
 use super::table::Keyed;
-use super::{Act, FailedAt, PoolCore, Refused, Reply, Step};
+use super::{Act, FailedAt, PoolCore, Reply, Step};
 use mdb_base::{Error, Moment, OutOfMemory};
 use mdb_events::{
     CmapEvent, ConnectionCheckoutFailedEvent, ConnectionCheckoutFailedReason,
@@ -13,11 +14,22 @@ use mdb_events::{
 };
 use std::alloc::{AllocError, Global};
 
+// Why the checkout of a caller failed that ended so.
+fn failure_of(end: &End) -> ConnectionCheckoutFailedReason
+    ensures { result ≡ failure_of end.now }
+{
+    match end {
+        End::TimedOut => ConnectionCheckoutFailedReason::Timeout,
+        _ => ConnectionCheckoutFailedReason::ConnectionError,
+    }
+}
+
 impl PoolCore {
     ghost use Rattle.mdb_pool.specs.Kept.{connection_at, is_pending_at};
     ghost use Rattle.mdb_log.specs.History.{service_in};
     ghost use Rattle.mdb_pool.specs.Changes.{failing, forgetting, over_facts};
     ghost use Rattle.mdb_pool.specs.Standing.{SameHome, Fits, Accepts, StandsFor, Answers};
+    ghost use Rattle.mdb_pool.specs.Parts.{Passes};
     ghost use Rattle.mdb_log.specs.History.{Item, PoolItem, failed};
     ghost use Rattle.mdb_log.specs.declared.step.Act.TheVariants.{Failed as FailedAct};
     ghost use Rattle.mdb_events.specs.declared.end.End.TheVariants.{Failed as FailedEnd};
@@ -36,6 +48,7 @@ impl PoolCore {
         ensures { OnOk result (facts.new.items ≡ facts.old.items ++ over_facts self.now request warm waited end) }
     {
         let address = self.address.clone()?;
+        let reason = failure_of(&end);
         facts.push(Fact::Ended(request, end))?;
         if warm {
             return Ok(());
@@ -44,7 +57,7 @@ impl PoolCore {
             self.pool,
             CmapEvent::ConnectionCheckoutFailed(ConnectionCheckoutFailedEvent {
                 address,
-                reason: ConnectionCheckoutFailedReason::ConnectionError,
+                reason,
                 duration: waited,
             }),
         ))?;
@@ -122,62 +135,6 @@ impl PoolCore {
         Ok(Reply::Done)
     }
 
-    // The pool is normal, and a service was named.
-    fn is_wrong_mode(&self, at: FailedAt) -> bool
-        ensures { result ≡ not self.now.options.load_balanced && is_some (service_in at) }
-    {
-        !self.options.load_balanced && at.service_id().is_some()
-    }
-
-    // Refuses the failure, or accepts it.
-    pub(super) fn try_failed(
-        &mut self,
-        alloc: Global,
-        facts: &mut Vec<Fact>,
-        moment: Moment,
-        id: u32,
-        at: FailedAt,
-        cause: &Error,
-    ) -> Result<Reply, AllocError>
-        ensures home { OnOk result (SameHome self.old self.new) }
-        ensures answers { IfOk result (λ reply. (h : List Item) → StandsFor self.old h → Answers self.old self.new facts.old.items facts.new.items (record { moment = moment; act = FailedAct self.old.pool id at cause.now }) reply h) }
-    {
-        if moment < self.last {
-            return Ok(Reply::Refused(Refused::TimeBack(self.last)));
-        }
-        if !self.is_pending(id) {
-            return Ok(Reply::Refused(Refused::NotPending));
-        }
-        if self.is_wrong_mode(at) {
-            return Ok(Reply::Refused(Refused::WrongMode));
-        }
-        let reply = self.accept_failed(alloc, facts, moment, id, at, cause)?;
-        Ok(reply)
-    }
-
-    // Refuses a connection of another pool, or takes its failure.
-    pub(super) fn try_failed_in(
-        &mut self,
-        alloc: Global,
-        facts: &mut Vec<Fact>,
-        moment: Moment,
-        pool: u32,
-        id: u32,
-        at: FailedAt,
-        cause: &Error,
-    ) -> Result<Reply, AllocError>
-        ensures home { OnOk result (SameHome self.old self.new) }
-        ensures answers { IfOk result (λ reply. (h : List Item) → StandsFor self.old h → Answers self.old self.new facts.old.items facts.new.items (record { moment = moment; act = FailedAct pool id at cause.now }) reply h) }
-    {
-        if pool == self.pool {
-            return self.try_failed(alloc, facts, moment, id, at, cause);
-        }
-        if moment < self.last {
-            return Ok(Reply::Refused(Refused::TimeBack(self.last)));
-        }
-        Ok(Reply::Refused(Refused::NotPending))
-    }
-
     /// A pending connection failed: it is closed, and its caller's request ends (CMAP, "Checking Out a Connection"). Refused as `TimeBack`,
     /// `NotPending`, or `WrongMode` where a normal pool is given a service.
     pub fn failed(
@@ -193,6 +150,7 @@ impl PoolCore {
         ensures answers { IfOk result (λ reply. (h : List Item) → StandsFor self.old h → Answers self.old self.new facts.old.items facts.new.items (record { moment = moment; act = FailedAct self.old.pool id at error }) reply h) }
         ensures err_core { OnErr result (self.new ≡ self.old) }
         ensures err_facts { OnErr result (facts.new.items ≡ facts.old.items) }
+        ensures passes { OnErr result (Passes self.old (record { moment = moment; act = FailedAct self.old.pool id at error })) }
     {
         let step = Step {
             moment,

@@ -8,6 +8,9 @@ use super::{PoolCore, Reply};
 use mdb_base::Moment;
 use std::alloc::AllocError;
 
+/// The most connections that callers make in a pool whose options name no maximum (CMAP, "Connection Pool Options").
+pub const DEFAULT_MAX_POOL_SIZE: u32 = 10;
+
 impl PoolCore {
     ghost use Rattle.mdb_log.specs.State.{max_connecting};
     ghost use Rattle.mdb_pool.specs.Kept.{wants_now, blocked_now, candidate_now, fills_now, first_perished, first_queued, last_available, pending_count, has_room, held_connection, pending_connection, holder_request, outcome_now, first_unclaimed};
@@ -29,7 +32,7 @@ impl PoolCore {
     {
         let live = self.connections.as_slice().len();
         live < self.options.min_pool_size.unwrap_or(0) as usize
-            && live < self.options.max_pool_size.unwrap_or(10) as usize
+            && live < self.options.max_pool_size.unwrap_or(DEFAULT_MAX_POOL_SIZE) as usize
             && self.created < self.options.limit_id
     }
 
@@ -109,7 +112,8 @@ impl PoolCore {
         ensures { result ≡ has_room self.now }
     {
         self.created < self.options.limit_id
-            && self.connections.as_slice().len() < self.options.max_pool_size.unwrap_or(10) as usize
+            && self.connections.as_slice().len()
+                < self.options.max_pool_size.unwrap_or(DEFAULT_MAX_POOL_SIZE) as usize
             && self.may_connect()
     }
 

@@ -6,7 +6,7 @@ use super::clears::used_as;
 use super::connection::Connection;
 use super::request::{Phase, Request};
 use super::table::Keyed;
-use super::{Act, PoolCore, Refused, Reply, Step, Use};
+use super::{Act, PoolCore, Reply, Step, Use};
 use mdb_base::{Moment, OutOfMemory};
 use mdb_events::Fact;
 use std::alloc::{AllocError, Global};
@@ -14,6 +14,7 @@ use std::alloc::{AllocError, Global};
 impl PoolCore {
     ghost use Rattle.mdb_pool.specs.Kept.{request_at, is_ended_at, is_asked_at, held_connection};
     ghost use Rattle.mdb_pool.specs.Standing.{SameHome, Fits, Accepts, StandsFor, Answers};
+    ghost use Rattle.mdb_pool.specs.Parts.{Passes};
     ghost use Rattle.mdb_log.specs.History.{Item, PoolItem, gave_up};
     ghost use Rattle.mdb_log.specs.declared.step.Act.TheVariants.{GiveUp};
 
@@ -111,27 +112,6 @@ impl PoolCore {
         Ok(Reply::Done)
     }
 
-    // Refuses the give-up, or accepts it.
-    pub(super) fn try_give_up(
-        &mut self,
-        alloc: Global,
-        facts: &mut Vec<Fact>,
-        moment: Moment,
-        request: u32,
-    ) -> Result<Reply, AllocError>
-        ensures home { OnOk result (SameHome self.old self.new) }
-        ensures answers { IfOk result (λ reply. (h : List Item) → StandsFor self.old h → Answers self.old self.new facts.old.items facts.new.items (record { moment = moment; act = GiveUp request }) reply h) }
-    {
-        if moment < self.last {
-            return Ok(Reply::Refused(Refused::TimeBack(self.last)));
-        }
-        if !self.is_open(request) {
-            return Ok(Reply::Refused(Refused::UnknownRequest));
-        }
-        let reply = self.accept_give_up(alloc, facts, moment, request)?;
-        Ok(reply)
-    }
-
     /// The caller of a request no longer wants its connection. Refused as `TimeBack`, or as `UnknownRequest` where the request isn't open. A request
     /// that ended before is told how.
     pub fn give_up(
@@ -145,6 +125,7 @@ impl PoolCore {
         ensures answers { IfOk result (λ reply. (h : List Item) → StandsFor self.old h → Answers self.old self.new facts.old.items facts.new.items (record { moment = moment; act = GiveUp request }) reply h) }
         ensures err_core { OnErr result (self.new ≡ self.old) }
         ensures err_facts { OnErr result (facts.new.items ≡ facts.old.items) }
+        ensures passes { OnErr result (Passes self.old (record { moment = moment; act = GiveUp request })) }
     {
         let step = Step {
             moment,

@@ -8,17 +8,21 @@ mod clears;
 mod closing;
 mod collecting;
 mod coming_back;
+pub mod composing;
 mod connection;
 mod establishing;
+mod expiring;
 mod failing;
 mod finding;
 mod giving_up;
-mod jobs;
+mod job;
 mod maintaining;
+pub mod parts;
 mod pinning;
 mod pool_core;
 mod queue;
 mod readying;
+mod refusing;
 mod request;
 mod requesting;
 mod returning;
@@ -30,6 +34,7 @@ mod taking;
 mod unpinning;
 mod warming;
 
+pub use finding::DEFAULT_MAX_POOL_SIZE;
 pub use mdb_log::{
     Act, BeatenResult, ConnectionGeneration, Core, Entry, Established, FailedAt, HelloResult, Job,
     LoadBalancedGeneration, Log, PinnedConnectionHandle, PoolGeneration, PoolOptions, PoolStamp,

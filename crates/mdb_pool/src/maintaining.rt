@@ -2,13 +2,14 @@
 
 ghost use Rattle.std.specs.Prelude.{◌≡◌, OnOk, OnErr, IfOk, List};
 
-use super::{Act, PoolCore, Refused, Reply, Step};
+use super::{Act, PoolCore, Reply, Step};
 use mdb_base::{Moment, OutOfMemory, ServerAddress};
 use mdb_events::Fact;
 use std::alloc::{AllocError, Global};
 
 impl PoolCore {
     ghost use Rattle.mdb_pool.specs.Standing.{SameHome, SameNotes, Fits, Sweeps, Fills, Accepts, StandsFor, Answers};
+    ghost use Rattle.mdb_pool.specs.Parts.{Passes};
     ghost use Rattle.mdb_log.specs.History.{Item, PoolItem};
     ghost use Rattle.mdb_log.specs.declared.step.Act.TheVariants.{Maintain as MaintainAct};
 
@@ -69,46 +70,6 @@ impl PoolCore {
         Ok(Reply::Done)
     }
 
-    // Refuses the maintenance, or accepts it.
-    pub(super) fn try_maintain(
-        &mut self,
-        alloc: Global,
-        facts: &mut Vec<Fact>,
-        moment: Moment,
-    ) -> Result<Reply, AllocError>
-        ensures home { OnOk result (SameHome self.old self.new) }
-        ensures answers { IfOk result (λ reply. (h : List Item) → StandsFor self.old h → Answers self.old self.new facts.old.items facts.new.items (record { moment = moment; act = MaintainAct self.old.address }) reply h) }
-    {
-        if moment < self.last {
-            return Ok(Reply::Refused(Refused::TimeBack(self.last)));
-        }
-        if self.status.is_closed() {
-            return Ok(Reply::Refused(Refused::UnknownServer));
-        }
-        let reply = self.accept_maintain(alloc, facts, moment)?;
-        Ok(reply)
-    }
-
-    // Refuses the maintenance of another address, or maintains the pool.
-    pub(super) fn try_maintain_at(
-        &mut self,
-        alloc: Global,
-        facts: &mut Vec<Fact>,
-        moment: Moment,
-        address: &ServerAddress,
-    ) -> Result<Reply, AllocError>
-        ensures home { OnOk result (SameHome self.old self.new) }
-        ensures answers { IfOk result (λ reply. (h : List Item) → StandsFor self.old h → Answers self.old self.new facts.old.items facts.new.items (record { moment = moment; act = MaintainAct address.now }) reply h) }
-    {
-        if self.address.is(address) {
-            return self.try_maintain(alloc, facts, moment);
-        }
-        if moment < self.last {
-            return Ok(Reply::Refused(Refused::TimeBack(self.last)));
-        }
-        Ok(Reply::Refused(Refused::UnknownServer))
-    }
-
     /// Available connections that are stale or idle for too long are closed, and connections are created in the background while fewer live than
     /// the minimum and fewer are pending than may be (CMAP, "Background Thread"). Refused as `TimeBack`, or as `UnknownServer` where the pool is
     /// closed.
@@ -122,7 +83,12 @@ impl PoolCore {
         ensures answers { IfOk result (λ reply. (h : List Item) → StandsFor self.old h → Answers self.old self.new facts.old.items facts.new.items (record { moment = moment; act = MaintainAct self.old.address }) reply h) }
         ensures err_core { OnErr result (self.new ≡ self.old) }
         ensures err_facts { OnErr result (facts.new.items ≡ facts.old.items) }
+        ensures passes { OnErr result (Passes self.old (record { moment = moment; act = MaintainAct self.old.address })) }
     {
+        let row = self.server_refusal(&self.address);
+        if let Some(why) = self.refusal_at(moment, row) {
+            return Ok(Reply::Refused(why));
+        }
         let address = self.address.clone()?;
         let step = Step {
             moment,

@@ -3,7 +3,7 @@
 ghost use Rattle.std.specs.Prelude.{◌≡◌, ◌∷◌, OnOk, OnErr, IfOk, List, true, is_some, nat_lt};
 
 use super::connection::Connection;
-use super::{Act, PoolCore, Refused, Reply, Step};
+use super::{Act, PoolCore, Reply, Step};
 use mdb_base::{Moment, OutOfMemory};
 use mdb_events::Fact;
 use std::alloc::{AllocError, Global};
@@ -12,12 +12,15 @@ impl PoolCore {
     ghost use Rattle.mdb_pool.specs.Changes.{pinning};
     ghost use Rattle.mdb_pool.specs.Kept.{held_connection, connection_at, pins_at};
     ghost use Rattle.mdb_pool.specs.Standing.{SameHome, Fits, Accepts, StandsFor, Answers};
-    ghost use Rattle.mdb_log.specs.History.{Item, PoolItem, pinned_by, replicated};
+    ghost use Rattle.mdb_pool.specs.Parts.{Passes};
+    ghost use Rattle.mdb_log.specs.Connections.{pins};
+    ghost use Rattle.mdb_log.specs.History.{Item, PoolItem, of_pool, pinned_by, replicated};
     ghost use Rattle.mdb_log.specs.declared.step.Act.TheVariants.{Pin, Replicate};
 
     /// The connection is one of this pool and has a pin.
     pub fn has_pin(&self, id: u32) -> bool
-        ensures { result ≡ nat_lt 0 (pins_at (connection_at self.now id)) }
+        ensures kept { result ≡ nat_lt 0 (pins_at (connection_at self.now id)) }
+        ensures history { (h : List Item) → StandsFor self.now h → result ≡ nat_lt 0 (pins (of_pool self.now.pool h) id) }
     {
         match self.connections.get(id) {
             Some(connection) => 0 < connection.pins,
@@ -64,30 +67,6 @@ impl PoolCore {
         Ok(Reply::Done)
     }
 
-    // Refuses the pin, or adds it.
-    pub(super) fn try_pin(
-        &mut self,
-        alloc: Global,
-        facts: &mut Vec<Fact>,
-        moment: Moment,
-        party: u32,
-    ) -> Result<Reply, AllocError>
-        ensures home { OnOk result (SameHome self.old self.new) }
-        ensures answers { IfOk result (λ reply. (h : List Item) → StandsFor self.old h → Answers self.old self.new facts.old.items facts.new.items (record { moment = moment; act = Pin party }) reply h) }
-    {
-        if moment < self.last {
-            return Ok(Reply::Refused(Refused::TimeBack(self.last)));
-        }
-        let Some(connection) = self.held_connection(party) else {
-            return Ok(Reply::Refused(Refused::NotHolder));
-        };
-        if 0 < connection.pins {
-            return Ok(Reply::Refused(Refused::PinState));
-        }
-        let reply = self.accept_pin(alloc, facts, moment, party)?;
-        Ok(reply)
-    }
-
     /// A party pins its connection: while a pin stands, a return puts the connection at its pin. Refused as `TimeBack`, as `NotHolder` where the
     /// party holds none, or as `PinState` where a pin stands.
     pub fn pin(
@@ -101,6 +80,7 @@ impl PoolCore {
         ensures answers { IfOk result (λ reply. (h : List Item) → StandsFor self.old h → Answers self.old self.new facts.old.items facts.new.items (record { moment = moment; act = Pin party }) reply h) }
         ensures err_core { OnErr result (self.new ≡ self.old) }
         ensures err_facts { OnErr result (facts.new.items ≡ facts.old.items) }
+        ensures passes { OnErr result (Passes self.old (record { moment = moment; act = Pin party })) }
     {
         let step = Step {
             moment,
@@ -132,31 +112,6 @@ impl PoolCore {
         Ok(Reply::Done)
     }
 
-    // Refuses the pin, or adds it. The pool of the connection is tested here too.
-    pub(super) fn try_replicate(
-        &mut self,
-        alloc: Global,
-        facts: &mut Vec<Fact>,
-        moment: Moment,
-        pool: u32,
-        id: u32,
-    ) -> Result<Reply, AllocError>
-        ensures home { OnOk result (SameHome self.old self.new) }
-        ensures answers { IfOk result (λ reply. (h : List Item) → StandsFor self.old h → Answers self.old self.new facts.old.items facts.new.items (record { moment = moment; act = Replicate pool id }) reply h) }
-    {
-        if moment < self.last {
-            return Ok(Reply::Refused(Refused::TimeBack(self.last)));
-        }
-        if pool != self.pool {
-            return Ok(Reply::Refused(Refused::Unpinned));
-        }
-        if !self.has_pin(id) {
-            return Ok(Reply::Refused(Refused::Unpinned));
-        }
-        let reply = self.accept_replicate(alloc, facts, moment, id)?;
-        Ok(reply)
-    }
-
     /// A pinned connection gets one more pin. Refused as `TimeBack`, or as `Unpinned` where no pin stands.
     pub fn replicate(
         &mut self,
@@ -169,6 +124,7 @@ impl PoolCore {
         ensures answers { IfOk result (λ reply. (h : List Item) → StandsFor self.old h → Answers self.old self.new facts.old.items facts.new.items (record { moment = moment; act = Replicate self.old.pool id }) reply h) }
         ensures err_core { OnErr result (self.new ≡ self.old) }
         ensures err_facts { OnErr result (facts.new.items ≡ facts.old.items) }
+        ensures passes { OnErr result (Passes self.old (record { moment = moment; act = Replicate self.old.pool id })) }
     {
         let step = Step {
             moment,

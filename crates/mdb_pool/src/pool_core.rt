@@ -38,7 +38,7 @@ impl PoolCore {
     ghost use Rattle.mdb_pool.specs.Standing.{StandsFor};
     ghost use Rattle.mdb_log.specs.Legal.{NoneLeftWaiting};
     ghost use Rattle.mdb_log.specs.Limits.{WithinLimits};
-    ghost use Rattle.mdb_log.specs.History.{Item, of_pool, opening};
+    ghost use Rattle.mdb_log.specs.History.{Item, has_asked, has_party, of_pool, opening};
 
     /// A pool that was just made: a load-balanced one is ready, a normal one new. Its sizes are at most 65,535.
     pub fn new(alloc: Global, pool: u32, address: ServerAddress, options: PoolOptions) -> PoolCore
@@ -116,21 +116,24 @@ impl PoolCore {
 
     /// The party asked this pool, or took a pinned connection of it.
     pub fn knows(&self, party: u32) -> bool
-        ensures { result ≡ is_some (request_at self.now party) }
+        ensures kept { result ≡ is_some (request_at self.now party) }
+        ensures history { (h : List Item) → StandsFor self.now h → result ≡ has_party (of_pool self.now.pool h) party }
     {
         self.requests.get(party).is_some()
     }
 
     /// The party holds a connection of this pool.
     pub fn holds(&self, party: u32) -> bool
-        ensures { result ≡ is_some (held_connection self.now party) }
+        ensures kept { result ≡ is_some (held_connection self.now party) }
+        ensures history { (h : List Item) → StandsFor self.now h → result ≡ is_some (holding (of_pool self.now.pool h) party) }
     {
         self.held_connection(party).is_some()
     }
 
     /// The party asked this pool for a connection, and did not take a pinned one.
     pub fn has_asked(&self, party: u32) -> bool
-        ensures { result ≡ is_asked_at (request_at self.now party) }
+        ensures kept { result ≡ is_asked_at (request_at self.now party) }
+        ensures history { (h : List Item) → StandsFor self.now h → result ≡ has_asked (of_pool self.now.pool h) party }
     {
         match self.requests.get(party) {
             Some(request) => !request.took,

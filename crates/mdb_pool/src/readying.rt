@@ -3,7 +3,7 @@
 ghost use Rattle.std.specs.Prelude.{◌≡◌, ◌++◌, ◌∷◌, [], OnOk, OnErr, IfOk, List};
 
 use super::status::Status;
-use super::{Act, PoolCore, Refused, Reply, Step};
+use super::{Act, PoolCore, Reply, Step};
 use mdb_base::{Moment, OutOfMemory};
 use mdb_events::{CmapEvent, Fact, PoolReadyEvent};
 use std::alloc::{AllocError, Global};
@@ -11,6 +11,7 @@ use std::alloc::{AllocError, Global};
 impl PoolCore {
     ghost use Rattle.mdb_pool.specs.Changes.{readied_to, readied_facts};
     ghost use Rattle.mdb_pool.specs.Standing.{SameHome, Fits, Accepts, StandsFor, Answers};
+    ghost use Rattle.mdb_pool.specs.Parts.{Passes};
     ghost use Rattle.mdb_log.specs.History.{Item, PoolItem};
     ghost use Rattle.mdb_log.specs.declared.step.Act.TheVariants.{Ready as ReadyAct};
 
@@ -46,24 +47,6 @@ impl PoolCore {
         Ok(Reply::Done)
     }
 
-    // Refuses the mark, or accepts it.
-    pub(super) fn try_ready(
-        &mut self,
-        alloc: Global,
-        facts: &mut Vec<Fact>,
-        moment: Moment,
-        pool: u32,
-    ) -> Result<Reply, AllocError>
-        ensures home { OnOk result (SameHome self.old self.new) }
-        ensures answers { IfOk result (λ reply. (h : List Item) → StandsFor self.old h → Answers self.old self.new facts.old.items facts.new.items (record { moment = moment; act = ReadyAct pool }) reply h) }
-    {
-        if moment < self.last {
-            return Ok(Reply::Refused(Refused::TimeBack(self.last)));
-        }
-        let reply = self.accept_ready(alloc, facts, moment, pool)?;
-        Ok(reply)
-    }
-
     /// The pool may be used from now on (CMAP, "Marking a Connection Pool as Ready"). A ready one stays ready, a closed one closed. Refused as
     /// `TimeBack`.
     pub fn mark_as_ready(
@@ -76,6 +59,7 @@ impl PoolCore {
         ensures answers { IfOk result (λ reply. (h : List Item) → StandsFor self.old h → Answers self.old self.new facts.old.items facts.new.items (record { moment = moment; act = ReadyAct self.old.pool }) reply h) }
         ensures err_core { OnErr result (self.new ≡ self.old) }
         ensures err_facts { OnErr result (facts.new.items ≡ facts.old.items) }
+        ensures passes { OnErr result (Passes self.old (record { moment = moment; act = ReadyAct self.old.pool })) }
     {
         let step = Step {
             moment,

@@ -5,7 +5,7 @@ ghost use Rattle.std.specs.Prelude.{◌≡◌, ◌∷◌, OnOk, OnErr, IfOk, Lis
 use super::clears::used_as;
 use super::request::Phase;
 use super::table::Keyed;
-use super::{Act, PoolCore, Refused, Reply, Step, Use};
+use super::{Act, PoolCore, Reply, Step, Use};
 use mdb_base::{Moment, OutOfMemory};
 use mdb_events::Fact;
 use std::alloc::{AllocError, Global};
@@ -13,6 +13,7 @@ use std::alloc::{AllocError, Global};
 impl PoolCore {
     ghost use Rattle.mdb_pool.specs.Kept.{held_connection};
     ghost use Rattle.mdb_pool.specs.Standing.{SameHome, Fits, Accepts, StandsFor, Answers};
+    ghost use Rattle.mdb_pool.specs.Parts.{Passes};
     ghost use Rattle.mdb_log.specs.History.{Item, PoolItem, returned};
     ghost use Rattle.mdb_log.specs.declared.step.Act.TheVariants.{Return as ReturnAct};
 
@@ -49,28 +50,6 @@ impl PoolCore {
         Ok(Reply::Done)
     }
 
-    // Refuses the return, or accepts it.
-    pub(super) fn try_return(
-        &mut self,
-        alloc: Global,
-        facts: &mut Vec<Fact>,
-        moment: Moment,
-        party: u32,
-        used: Use,
-    ) -> Result<Reply, AllocError>
-        ensures home { OnOk result (SameHome self.old self.new) }
-        ensures answers { IfOk result (λ reply. (h : List Item) → StandsFor self.old h → Answers self.old self.new facts.old.items facts.new.items (record { moment = moment; act = ReturnAct party used }) reply h) }
-    {
-        if moment < self.last {
-            return Ok(Reply::Refused(Refused::TimeBack(self.last)));
-        }
-        if !self.holds(party) {
-            return Ok(Reply::Refused(Refused::NotHolder));
-        }
-        let reply = self.accept_return(alloc, facts, moment, party, used)?;
-        Ok(reply)
-    }
-
     /// A party returns its connection, which goes to its pin where one stands, and else is checked in (CMAP, "Checking In a Connection"). Refused as `TimeBack` or `NotHolder`.
     pub fn check_in(
         &mut self,
@@ -84,6 +63,7 @@ impl PoolCore {
         ensures answers { IfOk result (λ reply. (h : List Item) → StandsFor self.old h → Answers self.old self.new facts.old.items facts.new.items (record { moment = moment; act = ReturnAct party used }) reply h) }
         ensures err_core { OnErr result (self.new ≡ self.old) }
         ensures err_facts { OnErr result (facts.new.items ≡ facts.old.items) }
+        ensures passes { OnErr result (Passes self.old (record { moment = moment; act = ReturnAct party used })) }
     {
         let step = Step {
             moment,

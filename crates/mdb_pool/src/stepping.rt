@@ -1,8 +1,8 @@
 //! The steps of a pool.
 
-ghost use Rattle.std.specs.Prelude.{◌≡◌, ◌++◌, ◌∷◌, [], OnOk, OnErr, IfOk, All, List};
+ghost use Rattle.std.specs.Prelude.{◌≡◌, ◌++◌, ◌∷◌, [], OnOk, OnErr, IfOk, All, List, Some, None};
 
-use super::{Act, Entry, Log, PoolCore, Reply, Step};
+use super::{Act, Entry, Log, PoolCore, Refused, Reply, Step};
 use mdb_base::{Items, OutOfMemory};
 use mdb_events::Fact;
 use std::alloc::{AllocError, Global};
@@ -36,56 +36,71 @@ fn log_step(
 
 impl PoolCore {
     ghost use Rattle.mdb_pool.specs.Standing.{SameHome, StandsFor, Answers, Logs, Runs, RunsFront};
+    ghost use Rattle.mdb_pool.specs.Refusing.{refusal_now};
+    ghost use Rattle.mdb_pool.specs.Parts.{Does, Passes};
     ghost use Rattle.mdb_log.specs.Acts.{IsPoolAct};
     ghost use Rattle.mdb_log.specs.Legal.{NoneLeftWaiting};
     ghost use Rattle.mdb_log.specs.History.{Item, of_pool};
 
-    // Does what the step says.
+    // Does the act of a step that is not refused.
+    pub(super) fn accept(
+        &mut self,
+        alloc: Global,
+        facts: &mut Vec<Fact>,
+        step: &Step,
+    ) -> Result<Reply, AllocError>
+        requires act { IsPoolAct self.old.pool step.now.act }
+        requires passes { refusal_now self.old step.now ≡ None }
+        ensures home { OnOk result (SameHome self.old self.new) }
+        ensures last { OnOk result (self.new.last ≡ step.now.moment) }
+        ensures does { IfOk result (λ reply. Does self.old self.new facts.old.items facts.new.items step.now reply) }
+    {
+        let moment = step.moment;
+        match &step.act {
+            Act::Request(request, _) => self.accept_request(alloc, facts, moment, *request),
+            Act::Collect(request) => self.accept_collect(alloc, facts, moment, *request),
+            Act::Claim => self.accept_claim(alloc, facts, moment),
+            Act::GiveUp(request) => self.accept_give_up(alloc, facts, moment, *request),
+            Act::Established(_, id, made) => {
+                self.accept_established(alloc, facts, moment, *id, *made)
+            }
+            Act::Failed(_, id, at, cause) => {
+                self.accept_failed(alloc, facts, moment, *id, *at, cause)
+            }
+            Act::Return(party, used) => self.accept_return(alloc, facts, moment, *party, *used),
+            Act::Pin(party) => self.accept_pin(alloc, facts, moment, *party),
+            Act::Replicate(_, id) => self.accept_replicate(alloc, facts, moment, *id),
+            Act::Take(party, _, id) => self.accept_take(alloc, facts, moment, *party, *id),
+            Act::Unpin(_, id) => self.accept_unpin(alloc, facts, moment, *id),
+            Act::Ready(pool) => self.accept_ready(alloc, facts, moment, *pool),
+            Act::Clear(pool, service, cause) => {
+                self.accept_clear(alloc, facts, moment, *pool, *service, cause)
+            }
+            Act::Close(pool) => self.accept_close(alloc, facts, moment, *pool),
+            Act::Warm(request, _) => self.accept_warm(alloc, facts, moment, *request),
+            Act::Maintain(_) => self.accept_maintain(alloc, facts, moment),
+            Act::Expire(_) => self.accept_expire(alloc, facts, moment),
+            _ => unreachable!(),
+        }
+    }
+
+    // The same, told by the pool's history.
     fn perform(
         &mut self,
         alloc: Global,
         facts: &mut Vec<Fact>,
         step: &Step,
     ) -> Result<Reply, AllocError>
-        requires { IsPoolAct self.old.pool step.now.act }
+        requires act { IsPoolAct self.old.pool step.now.act }
+        requires passes { refusal_now self.old step.now ≡ None }
         ensures home { OnOk result (SameHome self.old self.new) }
         ensures answers { IfOk result (λ reply. (h : List Item) → StandsFor self.old h → Answers self.old self.new facts.old.items facts.new.items step.now reply h) }
     {
-        let moment = step.moment;
-        match &step.act {
-            Act::Request(request, address) => {
-                self.try_request_at(alloc, facts, moment, *request, address)
-            }
-            Act::Collect(request) => self.try_collect(alloc, facts, moment, *request),
-            Act::Claim => self.try_claim(alloc, facts, moment),
-            Act::GiveUp(request) => self.try_give_up(alloc, facts, moment, *request),
-            Act::Established(pool, id, made) => {
-                self.try_established_in(alloc, facts, moment, *pool, *id, *made)
-            }
-            Act::Failed(pool, id, at, cause) => {
-                self.try_failed_in(alloc, facts, moment, *pool, *id, *at, cause)
-            }
-            Act::Return(party, used) => self.try_return(alloc, facts, moment, *party, *used),
-            Act::Pin(party) => self.try_pin(alloc, facts, moment, *party),
-            Act::Replicate(pool, id) => self.try_replicate(alloc, facts, moment, *pool, *id),
-            Act::Take(party, pool, id) => {
-                self.try_take_in(alloc, facts, moment, *party, *pool, *id)
-            }
-            Act::Unpin(pool, id) => self.try_unpin(alloc, facts, moment, *pool, *id),
-            Act::Ready(pool) => self.try_ready(alloc, facts, moment, *pool),
-            Act::Clear(pool, service, cause) => {
-                self.try_clear(alloc, facts, moment, *pool, *service, cause)
-            }
-            Act::Close(pool) => self.try_close(alloc, facts, moment, *pool),
-            Act::Warm(request, address) => {
-                self.try_warm_at(alloc, facts, moment, *request, address)
-            }
-            Act::Maintain(address) => self.try_maintain_at(alloc, facts, moment, address),
-            _ => unreachable!(),
-        }
+        let reply = self.accept(alloc, facts, step)?;
+        Ok(reply)
     }
 
-    // Does what the step says, on a copy that takes the state's place at its end.
+    // Refuses the step, or does what it says, on a copy that takes the state's place at its end.
     pub(super) fn attempt(
         &mut self,
         alloc: Global,
@@ -97,7 +112,11 @@ impl PoolCore {
         ensures answers { IfOk result (λ reply. (h : List Item) → StandsFor self.old h → Answers self.old self.new facts.old.items facts.new.items step.now reply h) }
         ensures err_core { OnErr result (self.new ≡ self.old) }
         ensures err_facts { OnErr result (facts.new.items ≡ facts.old.items) }
+        ensures passes { OnErr result (Passes self.old step.now) }
     {
+        if let Some(why) = self.refusal_now(step) {
+            return Ok(Reply::Refused(why));
+        }
         let mut worked = self.copy(alloc)?;
         let mut made = Vec::new(alloc);
         let reply = worked.perform(alloc, &mut made, step)?;
@@ -106,7 +125,7 @@ impl PoolCore {
         Ok(reply)
     }
 
-    // Does what the step says, and logs it.
+    // Does what the step says, which is not refused, and logs it.
     fn enter(
         &mut self,
         alloc: Global,
@@ -114,7 +133,8 @@ impl PoolCore {
         seat: u32,
         step: &Step,
     ) -> Result<(), AllocError>
-        requires { IsPoolAct self.old.pool step.now.act }
+        requires act { IsPoolAct self.old.pool step.now.act }
+        requires passes { refusal_now self.old step.now ≡ None }
         ensures home { OnOk result (SameHome self.old self.new) }
         ensures logs { OnOk result ((h : List Item) → StandsFor self.old h → Logs self.old self.new log.old log.new seat step.now h) }
         ensures err { OnErr result (log.new ≡ log.old) }
@@ -132,7 +152,8 @@ impl PoolCore {
         seat: u32,
         step: &Step,
     ) -> Result<PoolCore, AllocError>
-        requires { IsPoolAct self.now.pool step.now.act }
+        requires act { IsPoolAct self.now.pool step.now.act }
+        requires passes { refusal_now self.now step.now ≡ None }
         ensures home { IfOk result (λ next. SameHome self.now next) }
         ensures logs { IfOk result (λ next. (h : List Item) → StandsFor self.now h → Logs self.now next log.old log.new seat step.now h) }
         ensures err { OnErr result (log.new ≡ log.old) }
@@ -147,7 +168,24 @@ impl PoolCore {
         }
     }
 
-    /// One step of the pool, on a copy that takes the state's place at its end.
+    // The refused step gets its entry, and nothing else changes.
+    fn refuse(
+        &self,
+        alloc: Global,
+        log: &mut Log,
+        seat: u32,
+        step: &Step,
+        why: Refused,
+    ) -> Result<(), AllocError>
+        requires { refusal_now self.now step.now ≡ Some why }
+        ensures logs { OnOk result ((h : List Item) → StandsFor self.now h → Logs self.now self.now log.old log.new seat step.now h) }
+        ensures err { OnErr result (log.new ≡ log.old) }
+    {
+        log_step(log, seat, step, Reply::Refused(why), Vec::new(alloc))?;
+        Ok(())
+    }
+
+    /// One step of the pool, on a copy that takes the state's place at its end. A refused one takes memory for its entry alone.
     pub fn step(
         &mut self,
         alloc: Global,
@@ -161,6 +199,10 @@ impl PoolCore {
         ensures err_core { OnErr result (self.new ≡ self.old) }
         ensures err_log { OnErr result (log.new ≡ log.old) }
     {
+        if let Some(why) = self.refusal_now(step) {
+            self.refuse(alloc, log, seat, step, why)?;
+            return Ok(());
+        }
         let next = self.stepped(alloc, log, seat, step)?;
         drop(mem::replace(self, next));
         Ok(())

@@ -4,7 +4,7 @@ ghost use Rattle.std.specs.Prelude.{◌≡◌, ◌∷◌, OnOk, OnErr, IfOk, Lis
 
 use super::connection::{Connection, Place};
 use super::request::{Phase, Request};
-use super::{Act, PoolCore, Refused, Reply, Step};
+use super::{Act, PoolCore, Reply, Step};
 use mdb_base::{Moment, OutOfMemory};
 use mdb_events::Fact;
 use std::alloc::{AllocError, Global};
@@ -13,12 +13,15 @@ impl PoolCore {
     ghost use Rattle.mdb_pool.specs.Changes.{taking};
     ghost use Rattle.mdb_pool.specs.Kept.{connection_at, request_at, pins_at, is_held_at};
     ghost use Rattle.mdb_pool.specs.Standing.{SameHome, Fits, Accepts, StandsFor, Answers};
-    ghost use Rattle.mdb_log.specs.History.{Item, PoolItem, taken};
+    ghost use Rattle.mdb_pool.specs.Parts.{Passes};
+    ghost use Rattle.mdb_log.specs.Connections.{held};
+    ghost use Rattle.mdb_log.specs.History.{Item, PoolItem, of_pool, taken};
     ghost use Rattle.mdb_log.specs.declared.step.Act.TheVariants.{Take};
 
     /// The connection is one of this pool, and a party has it since it was established.
     pub fn is_held(&self, id: u32) -> bool
-        ensures { result ≡ is_held_at (connection_at self.now id) }
+        ensures kept { result ≡ is_held_at (connection_at self.now id) }
+        ensures history { (h : List Item) → StandsFor self.now h → result ≡ nat_lt 0 (held (of_pool self.now.pool h) id) }
     {
         match self.connections.get(id) {
             Some(connection) => connection.is_held(),
@@ -84,59 +87,6 @@ impl PoolCore {
         Ok(Reply::Pooled(self.pool, id))
     }
 
-    // Refuses the take, or hands the connection over.
-    fn try_take(
-        &mut self,
-        alloc: Global,
-        facts: &mut Vec<Fact>,
-        moment: Moment,
-        party: u32,
-        id: u32,
-    ) -> Result<Reply, AllocError>
-        ensures home { OnOk result (SameHome self.old self.new) }
-        ensures answers { IfOk result (λ reply. (h : List Item) → StandsFor self.old h → Answers self.old self.new facts.old.items facts.new.items (record { moment = moment; act = Take party self.old.pool id }) reply h) }
-    {
-        if moment < self.last {
-            return Ok(Reply::Refused(Refused::TimeBack(self.last)));
-        }
-        if self.knows(party) {
-            return Ok(Reply::Refused(Refused::RequestKnown));
-        }
-        if !self.has_pin(id) {
-            return Ok(Reply::Refused(Refused::Unpinned));
-        }
-        if self.is_held(id) {
-            return Ok(Reply::Refused(Refused::PinInUse));
-        }
-        let reply = self.accept_take(alloc, facts, moment, party, id)?;
-        Ok(reply)
-    }
-
-    // Refuses the take of another pool's connection, or does it.
-    pub(super) fn try_take_in(
-        &mut self,
-        alloc: Global,
-        facts: &mut Vec<Fact>,
-        moment: Moment,
-        party: u32,
-        pool: u32,
-        id: u32,
-    ) -> Result<Reply, AllocError>
-        ensures home { OnOk result (SameHome self.old self.new) }
-        ensures answers { IfOk result (λ reply. (h : List Item) → StandsFor self.old h → Answers self.old self.new facts.old.items facts.new.items (record { moment = moment; act = Take party pool id }) reply h) }
-    {
-        if pool == self.pool {
-            return self.try_take(alloc, facts, moment, party, id);
-        }
-        if moment < self.last {
-            return Ok(Reply::Refused(Refused::TimeBack(self.last)));
-        }
-        if self.knows(party) {
-            return Ok(Reply::Refused(Refused::RequestKnown));
-        }
-        Ok(Reply::Refused(Refused::Unpinned))
-    }
-
     /// A new party takes a connection that is at its pin. Refused as `TimeBack`, as `RequestKnown` where the number was used, as `Unpinned` where no
     /// pin stands, or as `PinInUse` where the connection is held.
     pub fn take_connection(
@@ -151,6 +101,7 @@ impl PoolCore {
         ensures answers { IfOk result (λ reply. (h : List Item) → StandsFor self.old h → Answers self.old self.new facts.old.items facts.new.items (record { moment = moment; act = Take party self.old.pool id }) reply h) }
         ensures err_core { OnErr result (self.new ≡ self.old) }
         ensures err_facts { OnErr result (facts.new.items ≡ facts.old.items) }
+        ensures passes { OnErr result (Passes self.old (record { moment = moment; act = Take party self.old.pool id })) }
     {
         let step = Step {
             moment,

@@ -3,7 +3,7 @@
 ghost use Rattle.std.specs.Prelude.{◌≡◌, ◌∷◌, ◌++◌, OnOk, OnErr, IfOk, List, true, nat_lt};
 
 use super::connection::Connection;
-use super::{Act, PoolCore, Refused, Reply, Step};
+use super::{Act, PoolCore, Reply, Step};
 use mdb_base::{Moment, OutOfMemory};
 use mdb_events::{ConnectionClosedReason, Fact};
 use std::alloc::{AllocError, Global};
@@ -12,6 +12,7 @@ impl PoolCore {
     ghost use Rattle.mdb_pool.specs.Changes.{unpinned_once, unpinning, pin_ending, back_facts};
     ghost use Rattle.mdb_pool.specs.Kept.{connection_at, pins_at};
     ghost use Rattle.mdb_pool.specs.Standing.{SameHome, Fits, Accepts, StandsFor, Answers};
+    ghost use Rattle.mdb_pool.specs.Parts.{Passes};
     ghost use Rattle.mdb_log.specs.History.{Item, PoolItem, unpinned};
     ghost use Rattle.mdb_log.specs.declared.step.Act.TheVariants.{Unpin};
 
@@ -87,31 +88,6 @@ impl PoolCore {
         Ok(Reply::Done)
     }
 
-    // Refuses the unpin, or does it. The pool of the connection is tested here too.
-    pub(super) fn try_unpin(
-        &mut self,
-        alloc: Global,
-        facts: &mut Vec<Fact>,
-        moment: Moment,
-        pool: u32,
-        id: u32,
-    ) -> Result<Reply, AllocError>
-        ensures home { OnOk result (SameHome self.old self.new) }
-        ensures answers { IfOk result (λ reply. (h : List Item) → StandsFor self.old h → Answers self.old self.new facts.old.items facts.new.items (record { moment = moment; act = Unpin pool id }) reply h) }
-    {
-        if moment < self.last {
-            return Ok(Reply::Refused(Refused::TimeBack(self.last)));
-        }
-        if pool != self.pool {
-            return Ok(Reply::Refused(Refused::Unpinned));
-        }
-        if !self.has_pin(id) {
-            return Ok(Reply::Refused(Refused::Unpinned));
-        }
-        let reply = self.accept_unpin(alloc, facts, moment, id)?;
-        Ok(reply)
-    }
-
     /// A pinned connection loses a pin; with the last one it is checked in where it is at its pin (CMAP, "Checking In a Connection"). Refused as
     /// `TimeBack`, or as `Unpinned` where no pin stands.
     pub fn unpin(
@@ -125,6 +101,7 @@ impl PoolCore {
         ensures answers { IfOk result (λ reply. (h : List Item) → StandsFor self.old h → Answers self.old self.new facts.old.items facts.new.items (record { moment = moment; act = Unpin self.old.pool id }) reply h) }
         ensures err_core { OnErr result (self.new ≡ self.old) }
         ensures err_facts { OnErr result (facts.new.items ≡ facts.old.items) }
+        ensures passes { OnErr result (Passes self.old (record { moment = moment; act = Unpin self.old.pool id })) }
     {
         let step = Step {
             moment,

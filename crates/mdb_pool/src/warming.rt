@@ -2,7 +2,7 @@
 
 ghost use Rattle.std.specs.Prelude.{◌≡◌, ◌∷◌, OnOk, OnErr, IfOk, List, None};
 
-use super::{Act, PoolCore, Refused, Reply, Step};
+use super::{Act, PoolCore, Reply, Step};
 use mdb_base::{Moment, OutOfMemory, ServerAddress};
 use mdb_events::Fact;
 use std::alloc::{AllocError, Global};
@@ -10,6 +10,7 @@ use std::alloc::{AllocError, Global};
 impl PoolCore {
     ghost use Rattle.mdb_pool.specs.Kept.{request_at};
     ghost use Rattle.mdb_pool.specs.Standing.{SameHome, Fits, Accepts, StandsFor, Answers};
+    ghost use Rattle.mdb_pool.specs.Parts.{Passes};
     ghost use Rattle.mdb_log.specs.History.{Item, PoolItem, warmed};
     ghost use Rattle.mdb_log.specs.declared.step.Act.TheVariants.{Warm as WarmAct};
 
@@ -33,51 +34,6 @@ impl PoolCore {
         Ok(reply)
     }
 
-    // Refuses the request, or accepts it.
-    pub(super) fn try_warm(
-        &mut self,
-        alloc: Global,
-        facts: &mut Vec<Fact>,
-        moment: Moment,
-        request: u32,
-    ) -> Result<Reply, AllocError>
-        ensures home { OnOk result (SameHome self.old self.new) }
-        ensures answers { IfOk result (λ reply. (h : List Item) → StandsFor self.old h → Answers self.old self.new facts.old.items facts.new.items (record { moment = moment; act = WarmAct request self.old.address }) reply h) }
-    {
-        if moment < self.last {
-            return Ok(Reply::Refused(Refused::TimeBack(self.last)));
-        }
-        if self.status.is_closed() {
-            return Ok(Reply::Refused(Refused::UnknownServer));
-        }
-        if self.knows(request) {
-            return Ok(Reply::Refused(Refused::RequestKnown));
-        }
-        let reply = self.accept_warm(alloc, facts, moment, request)?;
-        Ok(reply)
-    }
-
-    // Refuses a warm request to another address, or takes it.
-    pub(super) fn try_warm_at(
-        &mut self,
-        alloc: Global,
-        facts: &mut Vec<Fact>,
-        moment: Moment,
-        request: u32,
-        address: &ServerAddress,
-    ) -> Result<Reply, AllocError>
-        ensures home { OnOk result (SameHome self.old self.new) }
-        ensures answers { IfOk result (λ reply. (h : List Item) → StandsFor self.old h → Answers self.old self.new facts.old.items facts.new.items (record { moment = moment; act = WarmAct request address.now }) reply h) }
-    {
-        if self.address.is(address) {
-            return self.try_warm(alloc, facts, moment, request);
-        }
-        if moment < self.last {
-            return Ok(Reply::Refused(Refused::TimeBack(self.last)));
-        }
-        Ok(Reply::Refused(Refused::UnknownServer))
-    }
-
     /// One more connection is asked for where fewer live than the minimum (CMAP, "minPoolSize"): it waits only while as many are pending as may be, is
     /// over once its connection is established (`Filled`), and at once where none is wanted (`Warmed`). Refused as `TimeBack`, `UnknownServer`
     /// where the pool is closed, or `RequestKnown`. It ends at once where the pool is new or paused.
@@ -92,7 +48,12 @@ impl PoolCore {
         ensures answers { IfOk result (λ reply. (h : List Item) → StandsFor self.old h → Answers self.old self.new facts.old.items facts.new.items (record { moment = moment; act = WarmAct request self.old.address }) reply h) }
         ensures err_core { OnErr result (self.new ≡ self.old) }
         ensures err_facts { OnErr result (facts.new.items ≡ facts.old.items) }
+        ensures passes { OnErr result (Passes self.old (record { moment = moment; act = WarmAct request self.old.address })) }
     {
+        let row = self.request_refusal(request, &self.address);
+        if let Some(why) = self.refusal_at(moment, row) {
+            return Ok(Reply::Refused(why));
+        }
         let address = self.address.clone()?;
         let step = Step {
             moment,

@@ -1,0 +1,9 @@
+use Rattle.std.proofs.Common.{rules, ◌∙◌}
+use Rattle.mdb_pool.proofs.Refusals.{refused-now}
+use Rattle.mdb_pool.proofs.pool_core.PoolCore.refusal_now.Goals as goal
+
+pub returns-clause-kept : goal.returns-clause-kept
+returns-clause-kept c = search rules
+
+pub returns-clause-history : goal.returns-clause-history
+returns-clause-history c = λ h z. returns-clause-kept c ∙ refused-now c.args.self.now h z c.args.step.now

@@ -1,0 +1,115 @@
+//! What a worker has to know that establishes a pending connection.
+
+ghost use Rattle.std.specs.Prelude.{◌≡◌, IfOk, nat_lt, Some};
+ghost use Rattle.std.specs.List.Sorted.{IsStrictlySortedBy};
+ghost use Rattle.mdb_base.specs.declared.object_id.ObjectId.{ObjectId};
+ghost use Rattle.mdb_pool.specs.Kept.{clears_before};
+ghost use Rattle.mdb_pool.specs.Jobs.{has_id, id_order};
+
+use super::status::Clear;
+use super::{Job, PoolCore, PoolGeneration, PoolStamp};
+use mdb_base::{Items, ObjectId, OutOfMemory};
+use std::alloc::{AllocError, Global};
+
+// The services of the clears before the connection was created.
+fn named_before(alloc: Global, clears: &[Clear], id: u32) -> Result<Vec<ObjectId>, AllocError>
+    ensures { IfOk result (λ named. (t : ObjectId) → has_id t named.items ≡ nat_lt 0 (clears_before id (Some t) clears.now)) }
+{
+    let mut named = Vec::new(alloc);
+    for clear in clears {
+        if let Some(service) = clear.service
+            && clear.after < id
+        {
+            named.push(service)?;
+        }
+    }
+    Ok(named)
+}
+
+// Each of them once, in the order of the ids.
+fn services_before(alloc: Global, clears: &[Clear], id: u32) -> Result<Vec<ObjectId>, AllocError>
+    ensures ascend { IfOk result (λ services. IsStrictlySortedBy id_order services.items) }
+    ensures members { IfOk result (λ services. (t : ObjectId) → has_id t services.items ≡ nat_lt 0 (clears_before id (Some t) clears.now)) }
+{
+    let mut services = named_before(alloc, clears, id)?;
+    services.sort_unstable();
+    services.dedup();
+    Ok(services)
+}
+
+impl PoolCore {
+    ghost use Rattle.std.specs.Prelude.{map, List, true, not, is_some};
+    ghost use Rattle.std.specs.List.{list_any};
+    ghost use Rattle.mdb_log.specs.Requests.{is_claimed};
+    ghost use Rattle.mdb_pool.specs.Kept.{first_unclaimed};
+    ghost use Rattle.mdb_pool.specs.Jobs.{count_at, items_before, generations, job_in};
+    ghost use Rattle.mdb_log.specs.History.{Item, of_pool};
+    ghost use Rattle.mdb_log.specs.Connections.{has, pending_list};
+    ghost use Rattle.mdb_pool.specs.Standing.{StandsFor};
+
+    // How often the pool was cleared so before the connection was created, 0 where it isn't live.
+    fn count_at(&self, id: u32, service: Option<ObjectId>) -> u64
+        ensures { result ≡ count_at self.now id service }
+    {
+        self.generation_before(id, service).unwrap_or(0)
+    }
+
+    // Each service, with how often it was cleared before the connection was created.
+    fn counted(
+        &self,
+        alloc: Global,
+        id: u32,
+        services: &[ObjectId],
+    ) -> Result<Vec<(ObjectId, u64)>, AllocError>
+        ensures { IfOk result (λ counted. counted.items ≡ map (λ t. (t, count_at self.now id (Some t))) services.now) }
+    {
+        let mut counted = Vec::new(alloc);
+        for service in services {
+            counted.push((*service, self.count_at(id, Some(*service))))?;
+        }
+        Ok(counted)
+    }
+
+    // The generation of the pool before the connection was created.
+    fn generations_before(&self, alloc: Global, id: u32) -> Result<PoolGeneration, AllocError>
+        ensures { IfOk result (λ before. (h : List Item) → StandsFor self.now h → has id (pending_list (of_pool self.now.pool h)) ≡ true → before ≡ generations self.now.options.load_balanced (items_before (of_pool self.now.pool h) id)) }
+    {
+        if !self.options.load_balanced {
+            return Ok(PoolGeneration::Normal(self.count_at(id, None)));
+        }
+        let services = services_before(alloc, self.clears.as_slice(), id)?;
+        let counted = self.counted(alloc, id, services.as_slice())?;
+        Ok(PoolGeneration::LoadBalanced(Items::new(counted)))
+    }
+
+    /// What a worker needs that establishes the connection (CMAP, "Establishing a Connection"): the pool, the address, and how often the pool was
+    /// cleared before the connection was created, so that the pool can tell whether it was cleared since. `None` where no connection of this id is
+    /// pending: none was created, or it is established or closed. `OutOfMemory` where there is no memory for the copy of the address or for the
+    /// list of services; the pool is as it was.
+    pub fn job(&self, alloc: Global, id: u32) -> Result<Option<Job>, OutOfMemory>
+        ensures history { IfOk result (λ job. (h : List Item) → StandsFor self.now h → job ≡ job_in self.now.pool self.now.address self.now.options (of_pool self.now.pool h) id) }
+    {
+        if !self.is_pending(id) {
+            return Ok(None);
+        }
+        let address = self.address.clone()?;
+        let generation = self.generations_before(alloc, id)?;
+        Ok(Some(Job {
+            pool: self.pool,
+            id,
+            address,
+            generation: PoolStamp {
+                pool: self.pool,
+                generation,
+            },
+        }))
+    }
+
+    /// Some pending connection was told by no claim: the next claim is told a job.
+    pub fn has_job(&self) -> bool
+        ensures kept { result ≡ is_some (first_unclaimed self.now) }
+        ensures history { (h : List Item) → StandsFor self.now h → result ≡ list_any (λ c. not (is_claimed h self.now.pool c)) (pending_list (of_pool self.now.pool h)) }
+    {
+        self.first_unclaimed().is_some()
+    }
+}

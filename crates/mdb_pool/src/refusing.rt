@@ -1,0 +1,203 @@
+//! When a pool refuses a step. Refusals are tested before all else, and take no memory.
+
+ghost use Rattle.std.specs.Prelude.{◌≡◌, ℕ, List, Some, nat_lt, if◌then◌else◌};
+
+use super::{Act, Established, FailedAt, PoolCore, Refused, Step, What};
+use mdb_base::{Moment, ObjectId, ServerAddress};
+
+impl PoolCore {
+    ghost use Rattle.mdb_pool.specs.Refusal.{first_row, wrong_service, refusal_of};
+    ghost use Rattle.mdb_pool.specs.Refusing.{is_here, is_pending_here, is_pinned_here, rows_now, refusal_now};
+    ghost use Rattle.mdb_pool.specs.Standing.{StandsFor};
+    ghost use Rattle.mdb_log.specs.Acts.{IsPoolAct};
+    ghost use Rattle.mdb_log.specs.History.{Item};
+    ghost use Rattle.mdb_base.specs.declared.error.Error.{Error};
+    ghost use Rattle.mdb_log.specs.declared.step.Use.{Use};
+    ghost use Rattle.mdb_log.specs.declared.reply.Refused.TheVariants.{TimeBack};
+    ghost use Rattle.mdb_log.specs.declared.step.Act.TheVariants.{Request, Collect, Established as EstablishedAct, Failed as FailedAct, Return, Pin, Replicate, Take, Maintain, Clear};
+
+    // The pool is open, and this is its address.
+    fn is_here(&self, address: &ServerAddress) -> bool
+        ensures { result ≡ is_here self.now address.now }
+    {
+        self.address.is(address) && !self.status.is_closed()
+    }
+
+    // The connection is one of this pool, and pending.
+    fn is_pending_here(&self, pool: u32, id: u32) -> bool
+        ensures { result ≡ is_pending_here self.now pool id }
+    {
+        pool == self.pool && self.is_pending(id)
+    }
+
+    // The connection is one of this pool, and has a pin.
+    fn is_pinned_here(&self, pool: u32, id: u32) -> bool
+        ensures { result ≡ is_pinned_here self.now pool id }
+    {
+        pool == self.pool && self.has_pin(id)
+    }
+
+    // A service goes with load balancing, and none with a normal pool.
+    fn is_wrong_service(&self, service: Option<ObjectId>) -> bool
+        ensures { result ≡ wrong_service self.now.options.load_balanced service }
+    {
+        if self.options.load_balanced {
+            return service.is_none();
+        }
+        service.is_some()
+    }
+
+    pub(super) fn request_refusal(&self, request: u32, address: &ServerAddress) -> Option<Refused>
+        ensures { result ≡ first_row (rows_now self.now (Request request address.now)) }
+    {
+        if !self.is_here(address) {
+            return Some(Refused::UnknownServer);
+        }
+        if self.knows(request) {
+            return Some(Refused::RequestKnown);
+        }
+        None
+    }
+
+    pub(super) fn server_refusal(&self, address: &ServerAddress) -> Option<Refused>
+        ensures { result ≡ first_row (rows_now self.now (Maintain address.now)) }
+    {
+        if !self.is_here(address) {
+            return Some(Refused::UnknownServer);
+        }
+        None
+    }
+
+    fn open_refusal(&self, request: u32) -> Option<Refused>
+        ensures { result ≡ first_row (rows_now self.now (Collect request)) }
+    {
+        if !self.is_open(request) {
+            return Some(Refused::UnknownRequest);
+        }
+        None
+    }
+
+    fn established_refusal(&self, pool: u32, id: u32, made: Established) -> Option<Refused>
+        ensures { result ≡ first_row (rows_now self.now (EstablishedAct pool id made)) }
+    {
+        if !self.is_pending_here(pool, id) {
+            return Some(Refused::NotPending);
+        }
+        if self.is_wrong_service(made.service_id) {
+            return Some(Refused::WrongMode);
+        }
+        None
+    }
+
+    // A pool that is not load balanced is told of no service.
+    fn failed_refusal(&self, pool: u32, id: u32, at: FailedAt) -> Option<Refused>
+        ensures { (error : Error) → result ≡ first_row (rows_now self.now (FailedAct pool id at error)) }
+    {
+        if !self.is_pending_here(pool, id) {
+            return Some(Refused::NotPending);
+        }
+        if !self.options.load_balanced && at.service_id().is_some() {
+            return Some(Refused::WrongMode);
+        }
+        None
+    }
+
+    fn holder_refusal(&self, party: u32) -> Option<Refused>
+        ensures { (used : Use) → result ≡ first_row (rows_now self.now (Return party used)) }
+    {
+        if !self.holds(party) {
+            return Some(Refused::NotHolder);
+        }
+        None
+    }
+
+    fn pin_refusal(&self, party: u32) -> Option<Refused>
+        ensures { result ≡ first_row (rows_now self.now (Pin party)) }
+    {
+        let Some(connection) = self.held_connection(party) else {
+            return Some(Refused::NotHolder);
+        };
+        if 0 < connection.pins {
+            return Some(Refused::PinState);
+        }
+        None
+    }
+
+    fn pinned_refusal(&self, pool: u32, id: u32) -> Option<Refused>
+        ensures { result ≡ first_row (rows_now self.now (Replicate pool id)) }
+    {
+        if !self.is_pinned_here(pool, id) {
+            return Some(Refused::Unpinned);
+        }
+        None
+    }
+
+    fn take_refusal(&self, party: u32, pool: u32, id: u32) -> Option<Refused>
+        ensures { result ≡ first_row (rows_now self.now (Take party pool id)) }
+    {
+        if self.knows(party) {
+            return Some(Refused::RequestKnown);
+        }
+        if !self.is_pinned_here(pool, id) {
+            return Some(Refused::Unpinned);
+        }
+        if self.is_held(id) {
+            return Some(Refused::PinInUse);
+        }
+        None
+    }
+
+    fn clear_refusal(&self, service: Option<ObjectId>) -> Option<Refused>
+        ensures { (pool : ℕ) (error : Error) → result ≡ first_row (rows_now self.now (Clear pool service error)) }
+    {
+        if self.is_wrong_service(service) {
+            return Some(Refused::WrongMode);
+        }
+        if self.is_exhausted(service) {
+            return Some(Refused::Exhausted(What::Generation));
+        }
+        None
+    }
+
+    // The first row that holds of those of the act.
+    fn row_refusal(&self, act: &Act) -> Option<Refused>
+        ensures { result ≡ first_row (rows_now self.now act.now) }
+    {
+        match act {
+            Act::Request(request, address) => self.request_refusal(*request, address),
+            Act::Warm(request, address) => self.request_refusal(*request, address),
+            Act::Maintain(address) => self.server_refusal(address),
+            Act::Expire(address) => self.server_refusal(address),
+            Act::Collect(request) => self.open_refusal(*request),
+            Act::GiveUp(request) => self.open_refusal(*request),
+            Act::Established(pool, id, made) => self.established_refusal(*pool, *id, *made),
+            Act::Failed(pool, id, at, _) => self.failed_refusal(*pool, *id, *at),
+            Act::Return(party, _) => self.holder_refusal(*party),
+            Act::Pin(party) => self.pin_refusal(*party),
+            Act::Replicate(pool, id) => self.pinned_refusal(*pool, *id),
+            Act::Take(party, pool, id) => self.take_refusal(*party, *pool, *id),
+            Act::Unpin(pool, id) => self.pinned_refusal(*pool, *id),
+            Act::Clear(_, service, _) => self.clear_refusal(*service),
+            _ => None,
+        }
+    }
+
+    // The same before any other test: no step is earlier than the last.
+    pub(super) fn refusal_at(&self, moment: Moment, row: Option<Refused>) -> Option<Refused>
+        ensures { result ≡ if nat_lt moment self.now.last then Some (TimeBack self.now.last) else row }
+    {
+        if moment < self.last {
+            return Some(Refused::TimeBack(self.last));
+        }
+        row
+    }
+
+    /// Why the pool refuses the step, `None` where it accepts it. It only looks, and takes no memory.
+    pub fn refusal_now(&self, step: &Step) -> Option<Refused>
+        requires { IsPoolAct self.now.pool step.now.act }
+        ensures kept { result ≡ refusal_now self.now step.now }
+        ensures history { (h : List Item) → StandsFor self.now h → result ≡ refusal_of self.now.pool self.now.options h step.now }
+    {
+        self.refusal_at(step.moment, self.row_refusal(&step.act))
+    }
+}
