@@ -10,7 +10,7 @@ use Rattle.mdb_log.specs.declared.step.Step.{Step}
 use Rattle.mdb_log.specs.declared.step.Established.{Established as How}
 use Rattle.mdb_log.specs.declared.step.Use.{Use}
 use Rattle.mdb_log.specs.declared.step.Act.{Act}
-use Rattle.mdb_log.specs.declared.step.Act.TheVariants.{Request, Warm, Maintain, Collect, Claim, GiveUp, Established, Return, Pin, Replicate, Take, Unpin}
+use Rattle.mdb_log.specs.declared.step.Act.TheVariants.{Request, Warm, Maintain, Expire, Collect, Claim, GiveUp, Established, Return, Pin, Replicate, Take, Unpin}
 use Rattle.mdb_log.specs.declared.reply.Refused.{Refused}
 use Rattle.mdb_log.specs.declared.reply.Refused.TheVariants.{TimeBack, UnknownServer, RequestKnown, UnknownRequest, NotHolder, NotPending, Unpinned, PinInUse, PinState, WrongMode}
 use Rattle.mdb_log.specs.declared.reply.Reply.{Reply}
@@ -189,6 +189,13 @@ module _ (w : Pools) (h : List Item) (z : StandsFor w h) where
 
   pub maintain-refusal : (n : ℕ) (a : ServerAddress) → w.last ≤ n → refusal w.options h (record { moment = n; act = Maintain a }) ≡ if is_some (at_address pools a) then None else Some UnknownServer
   maintain-refusal n a l = rw (z.last_is, not-back n w.last l, z.pools.fit.open_are a) (on (is_some (at_address pools a)))
+    where
+      on : (b : Bool) → (if not b then Some UnknownServer else None) ≡ (if b then None else Some UnknownServer)
+      on true = refl
+      on false = refl
+
+  pub expire-refusal : (n : ℕ) (a : ServerAddress) → w.last ≤ n → refusal w.options h (record { moment = n; act = Expire a }) ≡ if is_some (at_address pools a) then None else Some UnknownServer
+  expire-refusal n a l = rw (z.last_is, not-back n w.last l, z.pools.fit.open_are a) (on (is_some (at_address pools a)))
     where
       on : (b : Bool) → (if not b then Some UnknownServer else None) ≡ (if b then None else Some UnknownServer)
       on true = refl

@@ -24,7 +24,7 @@ use Rattle.mdb_log.specs.LegalLog.{IsFairAnswer, IsOrderly, IsLegal, IsLegalLog}
 use Rattle.mdb_log.specs.Beside.{AllFreshGrants, EntriesGrantFresh, IsKept}
 use Rattle.mdb_log.proofs.Opened.{opening-opens}
 use Rattle.mdb_world.specs.Lines.{answer_after, entry_after, is_later}
-use Rattle.mdb_world.specs.Standing.{PoolFits, StandsFor, Logs, OpensSeeds, opened, opening_entry, IsOpened, IsTaken, Holds}
+use Rattle.mdb_world.specs.Standing.{PoolFits, StandsFor, Logs, IsFirstStep, opened, opening_entry, IsOpened, IsTaken, Holds}
 
 -- a pool that isn't there is in order
 nothing-placed : OnePlace []
@@ -103,7 +103,7 @@ stepped w v log after step (Ok u) z same l pools logs later = (adds w v log afte
 stepped w v log after step (Err e) z same l pools logs later = subst (λ es. IsOpened v es) (sym logs) (subst (λ u. IsOpened u log) (sym pools) z)
 
 -- the pools that were just opened
-pub opens : (v : Pools) (log : List Entry) (step : Step) (w : OpensSeeds step) (o : PoolOptions) (list : List ServerAddress) → o ≡ pool_options w.options → list ≡ ascending w.options.seeds → v.options ≡ o
+pub opens : (v : Pools) (log : List Entry) (step : Step) (w : IsFirstStep step) (o : PoolOptions) (list : List ServerAddress) → o ≡ pool_options w.options → list ≡ ascending w.options.seeds → v.options ≡ o
     → ((options : Options) → StandsFor v (opened o options list)) → log ≡ entry_after [] step ∷ [] → IsOpened v log
 opens v log step w o list with here made stands logged =
     let first : Entry = opening_entry w.options in

@@ -36,6 +36,7 @@ options = record {
   min_pool_size = None;
   max_connecting = None;
   max_idle_time = None;
+  max_wait = None;
   heartbeat = None;
   connect = None;
   streaming = None;

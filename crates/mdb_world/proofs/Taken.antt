@@ -6,7 +6,7 @@ use Rattle.mdb_base.specs.declared.address.ServerAddress.{ServerAddress}
 use Rattle.mdb_events.specs.declared.fact.Fact.{Fact}
 use Rattle.mdb_log.specs.declared.step.Established.{Established as How}
 use Rattle.mdb_log.specs.declared.step.Use.{Use}
-use Rattle.mdb_log.specs.declared.step.Act.TheVariants.{Request, Warm, Maintain, Collect, Claim, GiveUp, Established, Return, Pin, Replicate, Take, Unpin}
+use Rattle.mdb_log.specs.declared.step.Act.TheVariants.{Request, Warm, Maintain, Expire, Collect, Claim, GiveUp, Established, Return, Pin, Replicate, Take, Unpin}
 use Rattle.mdb_log.specs.declared.reply.Reply.{Reply}
 use Rattle.mdb_pool.specs.declared.request.Request.{Request as Asker}
 use Rattle.mdb_pool.specs.declared.pool_core.PoolCore.{PoolCore}
@@ -26,7 +26,7 @@ use Rattle.mdb_world.proofs.Lists.{position-at}
 use Rattle.mdb_world.proofs.Facts.{apart-items}
 use Rattle.mdb_world.proofs.Steps.{Concerns}
 use Rattle.mdb_world.proofs.Takes.{takes}
-use Rattle.mdb_world.proofs.Acts.{fits-at, number-at, home-at, some-home, asked-at, unasked-at, open-asked, holds-at, job-at, open-at, pin-at, busy-at, pin-refusal, replicate-refusal, unpin-refusal, take-refusal, request-refusal, warm-refusal, maintain-refusal, collect-refusal, give-up-refusal, claim-refusal, return-refusal, established-refusal}
+use Rattle.mdb_world.proofs.Acts.{fits-at, number-at, home-at, some-home, asked-at, unasked-at, open-asked, holds-at, job-at, open-at, pin-at, busy-at, pin-refusal, replicate-refusal, unpin-refusal, take-refusal, request-refusal, warm-refusal, maintain-refusal, expire-refusal, collect-refusal, give-up-refusal, claim-refusal, return-refusal, established-refusal}
 
 or-first : (a b c : Bool) → (a || b) || c ≡ a || (b || c)
 or-first true b c = refl
@@ -152,6 +152,34 @@ module _ (w : Pools) (h : List Item) (z : StandsFor w h) (i : ℕ) (s t : PoolCo
       let e : s.address ≡ a = same-address s.address a (position-at (λ u. same_address u.address a) pools i s here at_i).0 in
       subst (λ b. Takes w.options pools i t before after (record { moment = n; act = Maintain b }) reply h) e
       (maintain-named (subst (λ b. at_address pools b ≡ Some i) (sym e) here) accepts)
+
+  -- callers that waited too long end
+  expire-named : at_address pools s.address ≡ Some i
+      → ((xs : List PoolItem) → Fits s xs → Accepts s t before after n (Expire s.address) reply xs xs)
+      → Takes w.options pools i t before after (record { moment = n; act = Expire s.address }) reply h
+  expire-named here accepts =
+      let e : open_pool h s.address ≡ Some s.pool = z.pools.fit.open_are s.address ∙ (here ∙ ap Some (sym number)) in
+      let concerned : Concerns w.options pools h s (record { moment = n; act = Expire s.address }) xs = record {
+        mine = refl;
+        others = λ q ne. refl;
+        names = λ k. refl;
+        asks = λ k. refl;
+        fresh = λ k f. cc;
+        parties = λ k f. cc;
+        later = refl;
+        bound = tt;
+        accepted = expire-refusal w h z n s.address l ∙ rw here refl;
+        place = home-at w h z (Expire s.address) i s at_i (rw (e, same-number s.pool) refl) (λ j x f m. let ne : i ≢ j = omega arith in rw (e, number, number-at w h z j x f, other-number i j ne) refl);
+      } in
+      takes w.options pools h z.pools i s t at_i (record { moment = n; act = Expire s.address }) reply xs before after same concerned (accepts xs fits)
+
+  pub expire-takes : (a : ServerAddress) → at_address pools a ≡ Some i
+      → ((xs : List PoolItem) → Fits s xs → Accepts s t before after n (Expire s.address) reply xs xs)
+      → Takes w.options pools i t before after (record { moment = n; act = Expire a }) reply h
+  expire-takes a here accepts =
+      let e : s.address ≡ a = same-address s.address a (position-at (λ u. same_address u.address a) pools i s here at_i).0 in
+      subst (λ b. Takes w.options pools i t before after (record { moment = n; act = Expire b }) reply h) e
+      (expire-named (subst (λ b. at_address pools b ≡ Some i) (sym e) here) accepts)
 
   -- a caller asks how its request stands
   pub collect-takes : (r : ℕ) → known_by pools r ≡ Some i → is_open_now s r ≡ true

@@ -8,14 +8,16 @@ use Rattle.mdb_events.specs.declared.end.End.TheVariants.{Filled}
 use Rattle.mdb_events.specs.declared.reasons.ConnectionClosedReason.{ConnectionClosedReason}
 use Rattle.mdb_log.specs.declared.options.PoolOptions.{PoolOptions}
 use Rattle.mdb_log.specs.declared.step.Act.{Act}
-use Rattle.mdb_log.specs.declared.step.Act.TheVariants.{Request, Warm, Maintain, Collect, Claim, GiveUp, Established, Return, Pin, Replicate, Take, Unpin}
+use Rattle.mdb_log.specs.declared.step.Act.TheVariants.{Request, Warm, Maintain, Expire, Collect, Claim, GiveUp, Established, Return, Pin, Replicate, Take, Unpin}
+use Rattle.mdb_events.specs.declared.end.End.TheVariants.{TimedOut}
 use Rattle.mdb_log.specs.History.{PoolItem, after_facts}
 use Rattle.mdb_log.specs.Connections.{available_list, holding, pins, is_pinned, granted_to}
 use Rattle.mdb_log.specs.Requests.{is_warm, end_of}
 use Rattle.mdb_log.specs.State.{State, is_new, is_ready, is_paused, is_closed, state_of, min_size}
-use Rattle.mdb_pool.specs.Facts.{closes, close_reason, end_facts, check_in, come_back, hand_over, turned_away, sweep, fill, act_facts}
+use Rattle.mdb_pool.specs.Facts.{closes, close_reason, end_facts, check_in, come_back, hand_over, turned_away, sweep, fill, overdue, act_facts}
 use Rattle.mdb_log.specs.Own.{is_closing, shuts}
 use Rattle.mdb_pool.proofs.Laws.{shut-append}
+use Rattle.mdb_pool.proofs.ClearedActs.{ends-open as all-ends-open}
 use Rattle.mdb_pool.proofs.Maintains.{sweep-open, fill-open}
 use Rattle.mdb_world.specs.Lines.{is_later}
 
@@ -85,6 +87,7 @@ module _ (p : ℕ) (a : ServerAddress) (o : PoolOptions) (m : ℕ) where
   act-open xs ys (Request r b) e = turned-open ys r
   act-open xs ys (Warm r b) e = turned-open ys r
   act-open xs ys (Maintain b) e = shut-append p a o m (sweep p a o m ys (available_list ys)) (fill p a o m (min_size o) (after_facts p m (sweep p a o m ys (available_list ys)) ys)) ∙ rw (sweep-open p a o m ys (available_list ys), fill-open p a o m (min_size o) (after_facts p m (sweep p a o m ys (available_list ys)) ys)) refl
+  act-open xs ys (Expire b) e = all-ends-open p a m TimedOut ys (overdue o m ys)
   act-open xs ys (Collect r) e = refl
   act-open xs ys Claim e = refl
   act-open xs ys (GiveUp r) e = give-up-open xs ys r

@@ -40,11 +40,12 @@ abbrev pub opens_seeds : Act → Bool
 opens_seeds (act.Open o) = true
 opens_seeds _ = false
 
--- The acts that lines after that one have so far: a caller or a warm request asks, a pool is maintained, a caller asks how its request stands, gives up, pins its connection or comes back, a cursor or transaction pins it once more, takes it or unpins it, and a worker claims or reports.
+-- The acts that lines after that one have so far: a caller or a warm request asks, a pool is maintained, callers that waited too long end, a caller asks how its request stands, gives up, pins its connection or comes back, a cursor or transaction pins it once more, takes it or unpins it, and a worker claims or reports.
 abbrev pub is_later : Act → Bool
 is_later (act.Request r a) = true
 is_later (act.Warm r a) = true
 is_later (act.Maintain a) = true
+is_later (act.Expire a) = true
 is_later (act.Collect r) = true
 is_later act.Claim = true
 is_later (act.GiveUp r) = true

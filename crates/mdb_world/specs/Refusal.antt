@@ -4,7 +4,7 @@ use Rattle.std.specs.List.{list_any}
 use Rattle.mdb_log.specs.declared.options.PoolOptions.{PoolOptions}
 use Rattle.mdb_log.specs.declared.step.Step.{Step}
 use Rattle.mdb_log.specs.declared.step.Act.{Act}
-use Rattle.mdb_log.specs.declared.step.Act.TheVariants.{Request, Warm, Maintain, Collect, GiveUp, Established, Return, Pin, Replicate, Take, Unpin}
+use Rattle.mdb_log.specs.declared.step.Act.TheVariants.{Request, Warm, Maintain, Expire, Collect, GiveUp, Established, Return, Pin, Replicate, Take, Unpin}
 use Rattle.mdb_log.specs.declared.reply.Refused.{Refused}
 use Rattle.mdb_log.specs.declared.reply.Refused.TheVariants.{TimeBack, UnknownServer, RequestKnown, UnknownRequest, NotHolder, NotPending, Unpinned, PinInUse, PinState, WrongMode}
 use Rattle.mdb_log.specs.History.{Item, of_pool, open_pool, last_moment}
@@ -31,6 +31,7 @@ abbrev pub rows_of : PoolOptions → List Item → Act → List (Bool × Refused
 rows_of o h (Request r a) = (not (is_some (open_pool h a)), UnknownServer) ∷ (some_act names_party h r, RequestKnown) ∷ []
 rows_of o h (Warm r a) = (not (is_some (open_pool h a)), UnknownServer) ∷ (some_act names_party h r, RequestKnown) ∷ []
 rows_of o h (Maintain a) = (not (is_some (open_pool h a)), UnknownServer) ∷ []
+rows_of o h (Expire a) = (not (is_some (open_pool h a)), UnknownServer) ∷ []
 rows_of o h (Collect r) = (not (is_open h r), UnknownRequest) ∷ []
 rows_of o h (GiveUp r) = (not (is_open h r), UnknownRequest) ∷ []
 rows_of o h (Established q c how) = (not (has c (pending_list (of_pool q h))), NotPending) ∷ (wrong_service o.load_balanced how.service_id, WrongMode) ∷ []

@@ -138,7 +138,7 @@ pub record Logs (w v : Pools) (before after : List Entry) (seat : ℕ) (step : S
   pub fresh : AllFreshGrants w.options step.moment (did step (answer w.options h step).reply ∷ h) (answer w.options h step).facts
 
 -- The step opens different seeds.
-pub record OpensSeeds (s : Step) : Type 0 where
+pub record IsFirstStep (s : Step) : Type 0 where
   pub options : Options
   pub step_is : s ≡ record { moment = 0; act = Open options }
   pub few : length options.seeds ≤ 128
@@ -174,5 +174,5 @@ Stands w log = Holds w.pools log
 
 -- the step may be taken after the log
 abbrev pub IsTaken : List Entry → Step → Type 0
-IsTaken [] s = OpensSeeds s
+IsTaken [] s = IsFirstStep s
 IsTaken (first ∷ log) s = is_later s.act ≡ true

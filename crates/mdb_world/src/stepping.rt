@@ -45,6 +45,7 @@ impl Pools {
             Act::Request(party, address) => self.request(alloc, facts, moment, *party, address),
             Act::Warm(party, address) => self.warm(alloc, facts, moment, *party, address),
             Act::Maintain(address) => self.maintain(alloc, facts, moment, address),
+            Act::Expire(address) => self.expire(alloc, facts, moment, address),
             Act::Collect(request) => self.collect(alloc, facts, moment, *request),
             Act::Claim => self.claim(alloc, facts, moment),
             Act::GiveUp(request) => self.give_up(alloc, facts, moment, *request),

@@ -24,6 +24,7 @@ fn pool_options(options: &Options) -> PoolOptions
         max_pool_size: options.max_pool_size,
         min_pool_size: options.min_pool_size,
         max_idle_time: options.max_idle_time,
+        max_wait: options.max_wait,
         max_connecting: options.max_connecting,
         load_balanced: options.load_balanced,
         limit_id: options.limit_id.unwrap_or(u32::MAX),
@@ -46,6 +47,7 @@ fn is_later(act: &Act) -> bool
         Act::Request(_, _) => true,
         Act::Warm(_, _) => true,
         Act::Maintain(_) => true,
+        Act::Expire(_) => true,
         Act::Collect(_) => true,
         Act::Claim => true,
         Act::Established(_, _, _) => true,
@@ -61,7 +63,7 @@ fn is_later(act: &Act) -> bool
 
 impl World {
     ghost use Rattle.mdb_log.specs.declared.log.Entry.{Entry};
-    ghost use Rattle.mdb_world.specs.Standing.{Stands, IsTaken, OpensSeeds};
+    ghost use Rattle.mdb_world.specs.Standing.{Stands, IsTaken, IsFirstStep};
 
     /// Nothing is open before the first line.
     pub fn new() -> World
@@ -84,7 +86,7 @@ impl World {
     fn open(&mut self, alloc: Global, log: &mut Log, step: &Step) -> Result<(), OutOfMemory>
         requires first { log.old ≡ [] }
         requires none { self.old.pools ≡ None }
-        requires opens { OpensSeeds step.now }
+        requires opens { IsFirstStep step.now }
         ensures ok { OnOk result (log.new ≡ entry_after [] step.now ∷ []) }
         ensures stands { OnOk result (Stands self.new log.new) }
         ensures err_log { OnErr result (log.new ≡ log.old) }

@@ -40,6 +40,9 @@ returns-in-Warm-clause-performs c = at-act c.args.self.now c.args.facts.now.item
 pub returns-in-Maintain-clause-performs : goal.returns-in-Maintain-clause-performs
 returns-in-Maintain-clause-performs c = at-act c.args.self.now c.args.facts.now.items c.maintain.new.facts.items c.args.step.now _ c.maintain.result c.in-Maintain.is c.maintain.ensures.performs
 
+pub returns-in-Expire-clause-performs : goal.returns-in-Expire-clause-performs
+returns-in-Expire-clause-performs c = at-act c.args.self.now c.args.facts.now.items c.expire.new.facts.items c.args.step.now _ c.expire.result c.in-Expire.is c.expire.ensures.performs
+
 pub returns-in-Pin-clause-performs : goal.returns-in-Pin-clause-performs
 returns-in-Pin-clause-performs c = at-act c.args.self.now c.args.facts.now.items c.pin.new.facts.items c.args.step.now _ c.pin.result c.in-Pin.is c.pin.ensures.performs
 

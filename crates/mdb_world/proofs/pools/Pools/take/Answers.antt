@@ -25,7 +25,7 @@ returns-then-not-has_pin-clause-performs c =
     let within : c.args.number < length pools = omega arith in
     let at_i : slice_get pools c.args.number ≡ Some s = at-index pools c.args.number s s within c.index-named.ensures refl in
     let new : knows pools c.args.party ≡ false = sym c.knows.ensures ∙ c.if-knows.false in
-    let loose : nat_lt 0 (pins_at (connection_at s c.args.id)) ≡ false = sym c.has_pin.ensures ∙ c.if-not-has_pin.true in
+    let loose : nat_lt 0 (pins_at (connection_at s c.args.id)) ≡ false = sym c.has_pin.ensures.kept ∙ c.if-not-has_pin.true in
     λ h z. (refl, take-refusal c.args.self.now h z c.args.moment c.args.party c.args.number c.args.id c.requires ∙ rw (new, pin-at c.args.self.now h z c.args.number c.args.id s at_i, loose) refl)
 
 pub returns-then-is_held-clause-performs : goal.returns-then-is_held-clause-performs
@@ -35,8 +35,8 @@ returns-then-is_held-clause-performs c =
     let within : c.args.number < length pools = omega arith in
     let at_i : slice_get pools c.args.number ≡ Some s = at-index pools c.args.number s s within c.index-named.ensures refl in
     let new : knows pools c.args.party ≡ false = sym c.knows.ensures ∙ c.if-knows.false in
-    let pinned : nat_lt 0 (pins_at (connection_at s c.args.id)) ≡ true = sym c.has_pin.ensures ∙ c.if-not-has_pin.false in
-    let busy : is_held_at (connection_at s c.args.id) ≡ true = sym c.is_held.ensures ∙ c.if-is_held.true in
+    let pinned : nat_lt 0 (pins_at (connection_at s c.args.id)) ≡ true = sym c.has_pin.ensures.kept ∙ c.if-not-has_pin.false in
+    let busy : is_held_at (connection_at s c.args.id) ≡ true = sym c.is_held.ensures.kept ∙ c.if-is_held.true in
     λ h z. (refl, take-refusal c.args.self.now h z c.args.moment c.args.party c.args.number c.args.id c.requires ∙ rw (new, pin-at c.args.self.now h z c.args.number c.args.id s at_i, pinned, busy-at c.args.self.now h z c.args.number c.args.id s at_i, busy) refl)
 
 pub accept_take-requires-clause-unknown : goal.accept_take-requires-clause-unknown
@@ -54,7 +54,7 @@ returns-clause-performs c =
     let within : c.args.number < length w.cores.items = omega arith in
     let at_i : slice_get w.cores.items c.args.number ≡ Some s = at-index w.cores.items c.args.number c.index-named.result.now s within c.index-named.ensures c.in_ok-pool.ensures in
     let new : knows w.cores.items c.args.party ≡ false = sym c.knows.ensures ∙ c.if-knows.false in
-    let pinned : nat_lt 0 (pins_at (connection_at s c.args.id)) ≡ true = ap (λ u. nat_lt 0 (pins_at (connection_at u c.args.id))) c.in_ok-pool.ensures ∙ (sym c.has_pin.ensures ∙ c.if-not-has_pin.false) in
-    let free : is_held_at (connection_at s c.args.id) ≡ false = ap (λ u. is_held_at (connection_at u c.args.id)) c.in_ok-pool.ensures ∙ (sym c.is_held.ensures ∙ c.if-is_held.false) in
+    let pinned : nat_lt 0 (pins_at (connection_at s c.args.id)) ≡ true = ap (λ u. nat_lt 0 (pins_at (connection_at u c.args.id))) c.in_ok-pool.ensures ∙ (sym c.has_pin.ensures.kept ∙ c.if-not-has_pin.false) in
+    let free : is_held_at (connection_at s c.args.id) ≡ false = ap (λ u. is_held_at (connection_at u c.args.id)) c.in_ok-pool.ensures ∙ (sym c.is_held.ensures.kept ∙ c.if-is_held.false) in
     λ h z. take-takes w h z c.args.number s c.accept_take.new.self c.in_ok-reply.reply c.args.facts.now.items c.accept_take.new.facts.items c.args.moment c.requires at_i c.in_ok-reply.ensures.home
     c.args.party c.args.id new pinned free c.in_ok-reply.ensures.accepts

@@ -17,7 +17,7 @@ returns-then-not-has_pin-clause-performs c =
     let s = c.index-named.result.now in
     let within : c.args.number < length pools = omega arith in
     let at_i : slice_get pools c.args.number ≡ Some s = at-index pools c.args.number s s within c.index-named.ensures refl in
-    let loose : nat_lt 0 (pins_at (connection_at s c.args.id)) ≡ false = sym c.has_pin.ensures ∙ c.if-not-has_pin.true in
+    let loose : nat_lt 0 (pins_at (connection_at s c.args.id)) ≡ false = sym c.has_pin.ensures.kept ∙ c.if-not-has_pin.true in
     λ h z. (refl, unpin-refusal c.args.self.now h z c.args.moment c.args.number c.args.id c.requires ∙ rw (pin-at c.args.self.now h z c.args.number c.args.id s at_i, loose) refl)
 
 pub returns-clause-performs : goal.returns-clause-performs
@@ -26,6 +26,6 @@ returns-clause-performs c =
     let s = c.in_ok-pool.pool in
     let within : c.args.number < length w.cores.items = omega arith in
     let at_i : slice_get w.cores.items c.args.number ≡ Some s = at-index w.cores.items c.args.number c.index-named.result.now s within c.index-named.ensures c.in_ok-pool.ensures in
-    let pinned : nat_lt 0 (pins_at (connection_at s c.args.id)) ≡ true = ap (λ u. nat_lt 0 (pins_at (connection_at u c.args.id))) c.in_ok-pool.ensures ∙ (sym c.has_pin.ensures ∙ c.if-not-has_pin.false) in
+    let pinned : nat_lt 0 (pins_at (connection_at s c.args.id)) ≡ true = ap (λ u. nat_lt 0 (pins_at (connection_at u c.args.id))) c.in_ok-pool.ensures ∙ (sym c.has_pin.ensures.kept ∙ c.if-not-has_pin.false) in
     λ h z. unpin-takes w h z c.args.number s c.accept_unpin.new.self c.in_ok-reply.reply c.args.facts.now.items c.accept_unpin.new.facts.items c.args.moment c.requires at_i c.in_ok-reply.ensures.home
     c.args.id pinned c.in_ok-reply.ensures.accepts

@@ -4,12 +4,12 @@ use Rattle.mdb_log.specs.declared.step.Act.TheVariants.{Open}
 use Rattle.mdb_log.specs.declared.step.Step.{Step}
 use Rattle.mdb_log.specs.Opening.{pool_options, ascending}
 use Rattle.mdb_world.specs.Lines.{entry_after}
-use Rattle.mdb_world.specs.Standing.{OpensSeeds}
+use Rattle.mdb_world.specs.Standing.{IsFirstStep}
 use Rattle.mdb_log.proofs.Ascending.{ascending-length, ascending-different}
 use Rattle.mdb_world.proofs.Logged.{opens}
 use Rattle.mdb_world.proofs.world.World.open.Goals as goal
 
-same-options : (step : Step) (o : Options) (w : OpensSeeds step) → step.act ≡ Open o → o ≡ w.options
+same-options : (step : Step) (o : Options) (w : IsFirstStep step) → step.act ≡ Open o → o ≡ w.options
 same-options step o w e = let k : Open o ≡ Open w.options = sym e ∙ ap (λ (t : Step). t.act) w.step_is in cc
 
 pub opening_facts-requires : goal.opening_facts-requires
