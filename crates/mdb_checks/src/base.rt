@@ -103,6 +103,7 @@ fn opened(page: &mut Page, seeds: &str) -> Options {
         min_pool_size: None,
         max_connecting: None,
         max_idle_time: None,
+        max_wait: None,
         heartbeat: None,
         connect: None,
         streaming: None,

@@ -5,7 +5,7 @@ use crate::page::Page;
 use crate::words::parted;
 use crate::{
     base, deliveries, entries, errors, events, generator, hello, lines, monitor, pool, pool_values,
-    runs, scripts, servers, srv, topologies,
+    runs, scripts, servers, slots, srv, topologies,
 };
 
 fn of_base(page: &mut Page, kind: &str, given: &str) {
@@ -108,6 +108,9 @@ fn of_value(page: &mut Page, kind: &str, given: &str) {
         "command" => generator::command(page, given),
         "run" => runs::tell(page, given),
         "stale" => pool_values::stale(page, given),
+        "chain" => slots::chain(page, given),
+        "turned" => slots::turned(page, given),
+        "table" => slots::table(page, given),
         "handle" => pool_values::handle(page, given),
         _ => of_lines(page, kind, given),
     }

@@ -58,6 +58,7 @@ pub fn made_end(page: &mut Page, word: &str) -> End {
         "Closed" => End::Closed,
         "Warmed" => End::Warmed,
         "Filled" => End::Filled,
+        "TimedOut" => End::TimedOut,
         _ => End::GaveUp,
     }
 }

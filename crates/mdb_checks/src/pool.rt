@@ -2,6 +2,7 @@
 
 use crate::base::made_error;
 use crate::page::Page;
+use crate::pool_parts::{request_in_parts, would};
 use crate::pool_steps::{run, step};
 use crate::pool_told::{tell, tell_facts, tell_reply};
 use crate::words::{number, parted, signed, small, value_of};
@@ -67,6 +68,7 @@ fn options(words: &str) -> PoolOptions {
         max_pool_size: value_of(words, "max").parse::<u32>().ok(),
         min_pool_size: value_of(words, "min").parse::<u32>().ok(),
         max_idle_time: value_of(words, "idle").parse::<u64>().ok(),
+        max_wait: value_of(words, "wait").parse::<u64>().ok(),
         max_connecting: value_of(words, "connecting").parse::<u32>().ok(),
         load_balanced: words.starts_with("lb"),
         limit_id: value_of(words, "limit_id").parse::<u32>().unwrap_or(1000),
@@ -103,6 +105,7 @@ fn of_pool(page: &mut Page, pool: &mut Pool, moment: Moment, act: &str) -> Answe
     match act {
         "claim" => pool.core.claim(page.alloc, facts, moment),
         "maintain" => pool.core.maintain(page.alloc, facts, moment),
+        "expire" => pool.core.expire(page.alloc, facts, moment),
         "ready" => pool.core.mark_as_ready(page.alloc, facts, moment),
         "close" => pool.core.close(page.alloc, facts, moment),
         _ => {
@@ -165,6 +168,9 @@ fn act_on(page: &mut Page, pool: &mut Pool, act: &str, words: &str) {
         "open" => page.debug(&pool.core.state()),
         "tell" => tell(page, &pool.core, words),
         "step" => step(page, pool, words),
+        "would" => would(page, &pool.core, words),
+        "plan" => request_in_parts(page, pool, words, false),
+        "do" => request_in_parts(page, pool, words, true),
         "run" => run(page, pool, words),
         "log" => page.show(&pool.log.len()),
         _ => call(page, pool, act, words),
@@ -172,7 +178,7 @@ fn act_on(page: &mut Page, pool: &mut Pool, act: &str, words: &str) {
 }
 
 /// `pool open lb max=1`: the state of the pool that this makes. `pool ACT MOMENT ..` is a call, and `pool step ACT MOMENT ..`
-/// a step: its reply, and each of its facts. `pool tell WHAT ..`: what the pool then answers. `pool log`: how many entries
+/// a step: its reply, and each of its facts. `pool would`, `pool plan` and `pool do` are about a request. `pool tell WHAT ..`: what the pool then answers. `pool log`: how many entries
 /// the steps made.
 pub fn follow(page: &mut Page, pool: &mut Option<Pool>, given: &str) {
     let (act, words) = parted(given);

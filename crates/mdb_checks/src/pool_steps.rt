@@ -98,6 +98,11 @@ fn maintain(page: &mut Page, pool: &mut Pool, moment: Moment, words: &str) -> St
     take_step(page, pool, moment, act)
 }
 
+fn expire(page: &mut Page, pool: &mut Pool, moment: Moment, words: &str) -> Stepped {
+    let act = Act::Expire(page.address(words));
+    take_step(page, pool, moment, act)
+}
+
 // The number of a pool that is not this one is malformed here: a pool takes such a step on its own number alone.
 fn ready(page: &mut Page, pool: &mut Pool, moment: Moment, words: &str) -> Stepped {
     let number = pool.core.number();
@@ -131,6 +136,7 @@ fn of_pool(page: &mut Page, pool: &mut Pool, moment: Moment, act: &str, words: &
         "established" => establish(page, pool, moment, words),
         "failed" => fail(page, pool, moment, words),
         "maintain" => maintain(page, pool, moment, words),
+        "expire" => expire(page, pool, moment, words),
         "ready" => ready(page, pool, moment, words),
         "clear" => clear(page, pool, moment, words),
         "close" => close(page, pool, moment, words),

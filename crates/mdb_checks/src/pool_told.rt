@@ -2,10 +2,11 @@
 
 use crate::page::Page;
 use crate::pool::service;
+use crate::pool_parts::pending_job;
 use crate::words::{parted, small};
 use mdb_events::Fact;
 use mdb_log::{Entry, Reply};
-use mdb_pool::PoolCore;
+use mdb_pool::{DEFAULT_MAX_POOL_SIZE, PoolCore};
 
 fn pair(page: &mut Page, word: &str, pool: u32, id: u32) {
     page.put(word);
@@ -56,6 +57,7 @@ fn tell_cause(page: &mut Page, core: &PoolCore) {
 fn tell_pool(page: &mut Page, core: &PoolCore, what: &str, words: &str) {
     match what {
         "number" => page.show(&core.number()),
+        "default_size" => page.show(&DEFAULT_MAX_POOL_SIZE),
         "address" => page.show(core.address()),
         "state" => page.debug(&core.state()),
         "cause" => tell_cause(page, core),
@@ -73,6 +75,7 @@ fn tell_connection(page: &mut Page, core: &PoolCore, what: &str, words: &str) {
         "is_held" => page.answer(core.is_held(id)),
         "has_pin" => page.answer(core.has_pin(id)),
         "is_interrupted" => page.answer(core.is_interrupted(id)),
+        "job" => pending_job(page, core, id),
         "wire_version" => page.debug(&core.wire_version(id)),
         "generation_before" => page.debug(&core.generation_before(id, service(rest))),
         "connection_generation" => page.debug(&core.connection_generation(id)),
