@@ -10,7 +10,7 @@ use Rattle.mdb_log.specs.declared.step.Act.TheVariants.{Return}
 use Rattle.mdb_log.specs.declared.step.Use.{Use}
 use Rattle.mdb_log.specs.declared.step.Use.TheVariants as use_
 use Rattle.mdb_base.specs.AddressRule.{is_name_host, is_v6_host}
-use Rattle.mdb_lines.specs.Parts.{parts_text}
+use Rattle.mdb_parts.specs.Parts.{parts_text}
 use Rattle.std.proofs.lemmas.Grind.{flat_map-append}
 use Rattle.std.proofs.lemmas.Fmt.{length-decimal-le}
 use Rattle.std.proofs.lemmas.Bool.{cases_Bool, leb-true, leb-false, eqb-true, ne_eqb, ltb-true, and_parts}

@@ -1,18 +1,10 @@
 -- The rules of a line, as reading needs them.
-use Rattle.std.proofs.Common.{◌≡◌, true, Option, Some, None, IfSome, ℤ, pos, int_le, FitsSigned, Result, Ok, Err, IsErrAnd, ◌∙◌}
+use Rattle.std.proofs.Common.{◌≡◌, true, Option, Some, None, IfSome, ℤ, pos, int_le, FitsSigned}
 use Rattle.std.specs.Int.{w64}
 use Rattle.std.proofs.lemmas.Bool.{and_parts}
 use Rattle.mdb_log.specs.declared.step.Established.{Established}
 use Rattle.mdb_lines.specs.Grammar.{is_established, is_not_negative}
 use Rattle.mdb_lines.specs.Types.{IsEstablishedOfTypes}
-use Rattle.mdb_lines.specs.Reading.{Gives}
-use Rattle.mdb_lines.specs.declared.line_error.LineError.{LineError}
-use Rattle.mdb_lines.specs.declared.line_error.LineError.TheVariants.{OutOfMemory}
-
--- want of memory, handed on
-pub handed_on : {A : Type 0} (x : A) (r : Result A LineError) (e : LineError) → e ≡ OutOfMemory → IsErrAnd r (λ y. y ≡ e) → Gives x r
-handed_on x (Ok y) e wanting h = absurd h
-handed_on x (Err y) e wanting h = h ∙ wanting
 
 not_negative_fits : (o : Option ℤ) → IfSome o (FitsSigned w64) → is_not_negative o ≡ true → IfSome o (λ z. FitsSigned w64 z × (int_le (pos 0) z ≡ true))
 not_negative_fits None fits h = tt

@@ -1,9 +1,7 @@
-pub mod TextLemmas
-pub mod AddressLemmas
-pub mod PartLemmas
 pub mod FormLemmas
+pub mod FailureLemmas
+pub mod OutcomeLemmas
 pub mod OpenLemmas
-pub mod Same
 pub mod SameForms
 pub mod Lines
 pub mod Loops

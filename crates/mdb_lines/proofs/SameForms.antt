@@ -10,23 +10,36 @@ use Rattle.mdb_base.specs.Spelling.{address, object_id}
 use Rattle.mdb_base.specs.declared.address.ServerAddress.{ServerAddress}
 use Rattle.mdb_base.specs.declared.object_id.ObjectId.{ObjectId}
 use Rattle.mdb_base.specs.declared.options.Options.{Options}
+use Rattle.mdb_log.specs.declared.checked.HelloResult.{HelloResult}
+use Rattle.mdb_log.specs.declared.checked.BeatenResult.{BeatenResult}
 use Rattle.mdb_log.specs.declared.step.Step.{Step}
 use Rattle.mdb_log.specs.declared.step.Act.{Act}
 use Rattle.mdb_log.specs.declared.step.Act.TheVariants as act
 use Rattle.mdb_log.specs.declared.step.Established.{Established}
 use Rattle.mdb_log.specs.declared.step.Use.{Use}
 use Rattle.mdb_log.specs.declared.step.Use.TheVariants as use_
-use Rattle.mdb_lines.specs.Parts.{parts_text, addresses, flag}
+use Rattle.mdb_parts.specs.Parts.{parts_text, addresses, flag}
+use Rattle.mdb_parts.specs.Reading.{Follows}
+use Rattle.mdb_parts.specs.ErrorParts.{is_error, IsErrorOfTypes}
+use Rattle.mdb_base.specs.ErrorText.{error_text}
+use Rattle.mdb_base.specs.declared.error.Error.{Error}
+use Rattle.mdb_base.specs.declared.times.ClusterTime.{ClusterTime}
+use Rattle.mdb_log.specs.declared.step.FailedAt.{FailedAt}
+use Rattle.std.specs.List.{list_all}
 use Rattle.mdb_lines.specs.OpenLine.{open_parts, mode_text}
-use Rattle.mdb_lines.specs.Spelling.{use_text, established_parts}
-use Rattle.mdb_lines.specs.Grammar.{are_options, is_established, is_zero_id}
-use Rattle.mdb_lines.specs.Types.{AreOptionsOfTypes, IsEstablishedOfTypes}
-use Rattle.mdb_lines.specs.Forms.{ReadsOpen, ReadsMoment, ReadsParty, ReadsAsked, ReadsAddress, ReadsPlace, ReadsTake, ReadsEstablished, ReadsReturn}
-use Rattle.mdb_lines.proofs.TextLemmas.{signed_lacks, short_32}
-use Rattle.mdb_lines.proofs.PartLemmas.{parts_follow, words_lack-32, words_lack-64, words_lack-signed, words_lack-id, words_lack-flag}
+use Rattle.mdb_lines.specs.Spelling.{use_text, established_parts, failed_at_text, hello_text, beaten_text}
+use Rattle.mdb_lines.specs.Grammar.{are_options, is_established, is_zero_id, is_hello, is_beaten}
+use Rattle.mdb_lines.specs.Types.{AreOptionsOfTypes, IsEstablishedOfTypes, IsFailedAtOfTypes, IsHelloOfTypes, IsBeatenOfTypes}
+use Rattle.mdb_lines.specs.Forms.{ReadsOpen, ReadsMoment, ReadsParty, ReadsAsked, ReadsAddress, ReadsPlace, ReadsTake, ReadsEstablished, ReadsReturn, ReadsFailed, ReadsError, ReadsHello, ReadsBeaten, ReadsBeat, ReadsRtt, ReadsHosts, ReadsTime}
+use Rattle.mdb_parts.proofs.TextLemmas.{signed_lacks, short_32}
+use Rattle.mdb_parts.proofs.PartLemmas.{parts_follow, words_lack-32, words_lack-64, words_lack-signed, words_lack-id, words_lack-flag}
 use Rattle.mdb_lines.proofs.FormLemmas.{server_fits}
-use Rattle.mdb_lines.proofs.OpenLemmas.{mode_lacks, addresses_lack, open_rules}
-use Rattle.mdb_lines.proofs.Same.{word_same, number_same, address_same, addresses_same, part_same, numbers_same-32, numbers_same-64, numbers_same-signed, ids_same, values_same}
+use Rattle.mdb_lines.proofs.OpenLemmas.{mode_lacks, open_rules}
+use Rattle.mdb_parts.proofs.AddressLemmas.{addresses_lack, address_lacks}
+use Rattle.mdb_parts.proofs.SameErrors.{error_same}
+use Rattle.mdb_lines.proofs.OutcomeLemmas.{hello_follows, beaten_follows, hellos_same, checks_same}
+use Rattle.mdb_lines.proofs.FailureLemmas.{failure_follows, failures_same}
+use Rattle.mdb_parts.proofs.Same.{word_same, number_same, address_same, addresses_same, part_same, numbers_same-32, numbers_same-64, numbers_same-signed, ids_same, values_same}
 
 pub moment_same : (done : Act) (m : ℕ) → m < 2 ^ 64 → ReadsMoment done (codes " " ++ decimal m) (Ok (record { moment = m; act = done }))
 moment_same done m lm n ln e =
@@ -120,6 +133,83 @@ established_same m p c d lm lp lc td hd n q k e ln lq lk te he same =
     let p3 = number_same c k tail other (omega arith) (omega arith) refl refl (append_cancel_left (codes " ") _ _ p2.1) in
     let p4 = made_same d e td te hd he (append_cancel_left (codes " wire=") _ _ p3.1) in
     rw (p1.0, p2.0, p3.0, p4) refl
+
+pub failed_same : (m p c : ℕ) (a : FailedAt) (d : Error) → m < 2 ^ 64 → p < 2 ^ 32 → c < 2 ^ 32 → IsFailedAtOfTypes a → IsErrorOfTypes d → is_error d ≡ true
+    → ReadsFailed (codes " " ++ (decimal m ++ (codes " " ++ (decimal p ++ (codes " " ++ (decimal c ++ (failed_at_text a ++ (codes " " ++ error_text d)))))))) (Ok (record { moment = m; act = act.Failed p c a d }))
+failed_same m p c a d lm lp lc ta td hd n q k b e ln lq lk tb te he same =
+    let tail = failed_at_text a ++ (codes " " ++ error_text d) in
+    let other = failed_at_text b ++ (codes " " ++ error_text e) in
+    let p1 = number_same m n (codes " " ++ (decimal p ++ (codes " " ++ (decimal c ++ tail)))) (codes " " ++ (decimal q ++ (codes " " ++ (decimal k ++ other)))) lm ln refl refl (append_cancel_left (codes " ") _ _ same) in
+    let p2 = number_same p q (codes " " ++ (decimal c ++ tail)) (codes " " ++ (decimal k ++ other)) (omega arith) (omega arith) refl refl (append_cancel_left (codes " ") _ _ p1.1) in
+    let p3 = number_same c k tail other (omega arith) (omega arith) (failure_follows a _) (failure_follows b _) (append_cancel_left (codes " ") _ _ p2.1) in
+    let p4 = failures_same a b d e ta tb td te hd he p3.1 in
+    rw (p1.0, p2.0, p3.0, p4.0, p4.1) refl
+
+pub error_line_same : (m r : ℕ) (d : Error) → m < 2 ^ 64 → r < 2 ^ 32 → IsErrorOfTypes d → is_error d ≡ true
+    → ReadsError (codes " " ++ (decimal m ++ (codes " " ++ (decimal r ++ (codes " " ++ error_text d))))) (Ok (record { moment = m; act = act.Error r d }))
+error_line_same m r d lm lr td hd n q e ln lq te he same =
+    let p1 = number_same m n (codes " " ++ (decimal r ++ (codes " " ++ error_text d))) (codes " " ++ (decimal q ++ (codes " " ++ error_text e))) lm ln refl refl (append_cancel_left (codes " ") _ _ same) in
+    let p2 = number_same r q (codes " " ++ error_text d) (codes " " ++ error_text e) (omega arith) (omega arith) refl refl (append_cancel_left (codes " ") _ _ p1.1) in
+    let p3 = error_same d e td te hd he (append_cancel_left (codes " ") _ _ p2.1) in
+    rw (p1.0, p2.0, p3) refl
+
+-- monitors and the topology
+
+place_and_rest : (a b : ServerAddress) (rest more : List ℕ) → is_address a ≡ true → is_address b ≡ true → Follows rest → Follows more → address a ++ rest ≡ address b ++ more → (a ≡ b) × (rest ≡ more)
+place_and_rest a b rest more h k r m e =
+    let p = word_same (address a) (address b) rest more (address_lacks a h) (address_lacks b k) r m e in
+    (address_same a b h k p.0, p.1)
+
+pub hello_same : (m p : ℕ) (a : ServerAddress) (c : HelloResult) → m < 2 ^ 64 → p < 2 ^ 32 → is_address a ≡ true → IsHelloOfTypes c → is_hello c ≡ true
+    → ReadsHello (codes " " ++ (decimal m ++ (codes " " ++ (address a ++ (codes " " ++ (decimal p ++ hello_text c)))))) (Ok (record { moment = m; act = act.Hello a p c }))
+hello_same m p a c lm lp h tc hc n q b d ln lq k td hd e =
+    let p1 = number_same m n (codes " " ++ (address a ++ (codes " " ++ (decimal p ++ hello_text c)))) (codes " " ++ (address b ++ (codes " " ++ (decimal q ++ hello_text d)))) lm ln refl refl (append_cancel_left (codes " ") _ _ e) in
+    let p2 = place_and_rest a b (codes " " ++ (decimal p ++ hello_text c)) (codes " " ++ (decimal q ++ hello_text d)) h k refl refl (append_cancel_left (codes " ") _ _ p1.1) in
+    let p3 = number_same p q (hello_text c) (hello_text d) (omega arith) (omega arith) (hello_follows c) (hello_follows d) (append_cancel_left (codes " ") _ _ p2.1) in
+    let p4 = hellos_same c d tc td hc hd p3.1 in
+    rw (p1.0, p2.0, p3.0, p4) refl
+
+pub beaten_same : (m p t : ℕ) (a : ServerAddress) (c : BeatenResult) → m < 2 ^ 64 → p < 2 ^ 32 → t < 2 ^ 64 → is_address a ≡ true → IsBeatenOfTypes c → is_beaten c ≡ true
+    → ReadsBeaten (codes " " ++ (decimal m ++ (codes " " ++ (address a ++ (codes " " ++ (decimal p ++ (codes " " ++ (decimal t ++ beaten_text c)))))))) (Ok (record { moment = m; act = act.Beaten a p t c }))
+beaten_same m p t a c lm lp lt h tc hc n q u b d ln lq lu k td hd e =
+    let p1 = number_same m n (codes " " ++ (address a ++ (codes " " ++ (decimal p ++ (codes " " ++ (decimal t ++ beaten_text c)))))) (codes " " ++ (address b ++ (codes " " ++ (decimal q ++ (codes " " ++ (decimal u ++ beaten_text d)))))) lm ln refl refl (append_cancel_left (codes " ") _ _ e) in
+    let p2 = place_and_rest a b (codes " " ++ (decimal p ++ (codes " " ++ (decimal t ++ beaten_text c)))) (codes " " ++ (decimal q ++ (codes " " ++ (decimal u ++ beaten_text d)))) h k refl refl (append_cancel_left (codes " ") _ _ p1.1) in
+    let p3 = number_same p q (codes " " ++ (decimal t ++ beaten_text c)) (codes " " ++ (decimal u ++ beaten_text d)) (omega arith) (omega arith) refl refl (append_cancel_left (codes " ") _ _ p2.1) in
+    let p4 = number_same t u (beaten_text c) (beaten_text d) lt lu (beaten_follows c) (beaten_follows d) (append_cancel_left (codes " ") _ _ p3.1) in
+    let p5 = checks_same c d tc td hc hd p4.1 in
+    rw (p1.0, p2.0, p3.0, p4.0, p5) refl
+
+pub beat_same : (m p : ℕ) (a : ServerAddress) → m < 2 ^ 64 → p < 2 ^ 32 → is_address a ≡ true
+    → ReadsBeat (codes " " ++ (decimal m ++ (codes " " ++ (address a ++ (codes " " ++ decimal p))))) (Ok (record { moment = m; act = act.Beat a p }))
+beat_same m p a lm lp h n q b ln lq k e =
+    let p1 = number_same m n (codes " " ++ (address a ++ (codes " " ++ decimal p))) (codes " " ++ (address b ++ (codes " " ++ decimal q))) lm ln refl refl (append_cancel_left (codes " ") _ _ e) in
+    let p2 = place_and_rest a b (codes " " ++ decimal p) (codes " " ++ decimal q) h k refl refl (append_cancel_left (codes " ") _ _ p1.1) in
+    let p3 = decimal_injective p q (omega arith) (omega arith) (append_cancel_left (codes " ") (decimal p) (decimal q) p2.1) in
+    rw (p1.0, p2.0, p3) refl
+
+pub rtt_same : (m p t : ℕ) (a : ServerAddress) → m < 2 ^ 64 → p < 2 ^ 32 → t < 2 ^ 64 → is_address a ≡ true
+    → ReadsRtt (codes " " ++ (decimal m ++ (codes " " ++ (address a ++ (codes " " ++ (decimal p ++ (codes " " ++ decimal t))))))) (Ok (record { moment = m; act = act.Rtt a p t }))
+rtt_same m p t a lm lp lt h n q u b ln lq lu k e =
+    let p1 = number_same m n (codes " " ++ (address a ++ (codes " " ++ (decimal p ++ (codes " " ++ decimal t))))) (codes " " ++ (address b ++ (codes " " ++ (decimal q ++ (codes " " ++ decimal u))))) lm ln refl refl (append_cancel_left (codes " ") _ _ e) in
+    let p2 = place_and_rest a b (codes " " ++ (decimal p ++ (codes " " ++ decimal t))) (codes " " ++ (decimal q ++ (codes " " ++ decimal u))) h k refl refl (append_cancel_left (codes " ") _ _ p1.1) in
+    let p3 = number_same p q (codes " " ++ decimal t) (codes " " ++ decimal u) (omega arith) (omega arith) refl refl (append_cancel_left (codes " ") _ _ p2.1) in
+    let p4 = decimal_injective t u lt lu (append_cancel_left (codes " ") (decimal t) (decimal u) p3.1) in
+    rw (p1.0, p2.0, p3.0, p4) refl
+
+pub hosts_same : (m : ℕ) (hosts : List ServerAddress) → m < 2 ^ 64 → 0 < length hosts → list_all is_address hosts ≡ true
+    → ReadsHosts (codes " " ++ (decimal m ++ (codes " " ++ addresses hosts))) (Ok (record { moment = m; act = act.Hosts hosts }))
+hosts_same m hosts lm some h n others ln more k e =
+    let p1 = number_same m n (codes " " ++ addresses hosts) (codes " " ++ addresses others) lm ln refl refl (append_cancel_left (codes " ") _ _ e) in
+    let p2 = addresses_same hosts others some more h k (append_cancel_left (codes " ") _ _ p1.1) in
+    rw (p1.0, p2) refl
+
+pub time_same : (m : ℕ) (time : ClusterTime) → m < 2 ^ 64 → time.0 < 2 ^ 64
+    → ReadsTime (codes " " ++ (decimal m ++ (codes " " ++ decimal time.0))) (Ok (record { moment = m; act = act.ClusterTime time }))
+time_same m time lm lt n other ln lo e =
+    let p1 = number_same m n (codes " " ++ decimal time.0) (codes " " ++ decimal other.0) lm ln refl refl (append_cancel_left (codes " ") _ _ e) in
+    let p2 = decimal_injective time.0 other.0 lt lo (append_cancel_left (codes " ") (decimal time.0) (decimal other.0) p1.1) in
+    let p3 : time ≡ other = ap (λ (t : ℕ). let made : ClusterTime = record { 0 = t } in made) p2 in
+    rw (p1.0, p3) refl
 
 -- the first line
 

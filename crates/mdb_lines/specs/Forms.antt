@@ -1,12 +1,20 @@
 -- What reading gives for each kind of line, from what stands behind its first word: the step that the line spells.
-use Rattle.std.specs.Prelude.{◌≡◌, ℕ, ◌<◌, ◌^◌, List, ◌++◌, codes, decimal, Option, Some, None, Result, true, if◌then◌else◌, bytes_eq, MatchOption}
+use Rattle.std.specs.Prelude.{◌≡◌, ℕ, ◌<◌, ◌^◌, List, ◌++◌, length, codes, decimal, Option, Some, None, Result, true, if◌then◌else◌, bytes_eq, MatchOption}
+use Rattle.std.specs.List.{list_all}
 use Rattle.std.specs.Option.{option_or}
 use Rattle.std.specs.Fmt.{signed_decimal}
 use Rattle.mdb_base.specs.AddressReading.{until, beyond}
 use Rattle.mdb_base.specs.AddressRule.{is_address}
 use Rattle.mdb_base.specs.Spelling.{address}
 use Rattle.mdb_base.specs.declared.address.ServerAddress.{ServerAddress}
+use Rattle.mdb_base.specs.ErrorText.{error_text}
+use Rattle.mdb_base.specs.declared.error.Error.{Error}
 use Rattle.mdb_base.specs.declared.options.Options.{Options}
+use Rattle.mdb_base.specs.declared.times.ClusterTime.{ClusterTime}
+use Rattle.mdb_log.specs.declared.step.FailedAt.{FailedAt}
+use Rattle.mdb_parts.specs.ErrorParts.{is_error, IsErrorOfTypes}
+use Rattle.mdb_log.specs.declared.checked.HelloResult.{HelloResult}
+use Rattle.mdb_log.specs.declared.checked.BeatenResult.{BeatenResult}
 use Rattle.mdb_log.specs.declared.step.Step.{Step}
 use Rattle.mdb_log.specs.declared.step.Act.{Act}
 use Rattle.mdb_log.specs.declared.step.Act.TheVariants as act
@@ -14,13 +22,13 @@ use Rattle.mdb_log.specs.declared.step.Use.{Use}
 use Rattle.mdb_log.specs.declared.step.Established.{Established}
 use Rattle.mdb_lines.specs.declared.line_kind.LineKind.{LineKind}
 use Rattle.mdb_lines.specs.declared.line_kind.LineKind.TheVariants as line
-use Rattle.mdb_lines.specs.declared.line_error.LineError.{LineError}
-use Rattle.mdb_lines.specs.Parts.{parts_text, addresses}
+use Rattle.mdb_parts.specs.declared.line_error.LineError.{LineError}
+use Rattle.mdb_parts.specs.Parts.{parts_text, addresses}
 use Rattle.mdb_lines.specs.OpenLine.{open_parts}
-use Rattle.mdb_lines.specs.Spelling.{established_parts, use_text}
-use Rattle.mdb_lines.specs.Grammar.{are_options, is_established}
-use Rattle.mdb_lines.specs.Types.{AreOptionsOfTypes, IsEstablishedOfTypes}
-use Rattle.mdb_lines.specs.Reading.{Gives}
+use Rattle.mdb_lines.specs.Spelling.{established_parts, use_text, failed_at_text, hello_text, beaten_text}
+use Rattle.mdb_lines.specs.Grammar.{are_options, is_established, is_hello, is_beaten}
+use Rattle.mdb_lines.specs.Types.{AreOptionsOfTypes, IsEstablishedOfTypes, IsFailedAtOfTypes, IsHelloOfTypes, IsBeatenOfTypes}
+use Rattle.mdb_parts.specs.Reading.{Gives}
 
 unfoldable pub caller_kind : List ℕ → Option LineKind
 caller_kind word =
@@ -30,15 +38,34 @@ caller_kind word =
     else if bytes_eq word (codes "claim") then Some line.Claim
     else if bytes_eq word (codes "giveup") then Some line.GiveUp
     else if bytes_eq word (codes "return") then Some line.Return
+    else if bytes_eq word (codes "error") then Some line.Error
     else None
 
 unfoldable pub connection_kind : List ℕ → Option LineKind
 connection_kind word =
     if bytes_eq word (codes "established") then Some line.Established
+    else if bytes_eq word (codes "failed") then Some line.Failed
     else if bytes_eq word (codes "pin") then Some line.Pin
     else if bytes_eq word (codes "replicate") then Some line.Replicate
     else if bytes_eq word (codes "take") then Some line.Take
     else if bytes_eq word (codes "unpin") then Some line.Unpin
+    else None
+
+unfoldable pub monitor_kind : List ℕ → Option LineKind
+monitor_kind word =
+    if bytes_eq word (codes "hello") then Some line.Hello
+    else if bytes_eq word (codes "beat") then Some line.Beat
+    else if bytes_eq word (codes "beaten") then Some line.Beaten
+    else if bytes_eq word (codes "rtt") then Some line.Rtt
+    else None
+
+unfoldable pub topology_kind : List ℕ → Option LineKind
+topology_kind word =
+    if bytes_eq word (codes "hosts") then Some line.Hosts
+    else if bytes_eq word (codes "ctime") then Some line.ClusterTime
+    else if bytes_eq word (codes "want") then Some line.Want
+    else if bytes_eq word (codes "unwant") then Some line.Unwant
+    else if bytes_eq word (codes "stop") then Some line.Stop
     else None
 
 -- the kind of line that begins with this word
@@ -47,7 +74,7 @@ kind_of word =
     if bytes_eq word (codes "open") then Some line.Open
     else if bytes_eq word (codes "maintain") then Some line.Maintain
     else if bytes_eq word (codes "expire") then Some line.Expire
-    else option_or (caller_kind word) (connection_kind word)
+    else option_or (option_or (caller_kind word) (connection_kind word)) (option_or (monitor_kind word) (topology_kind word))
 
 abbrev pub ReadsOpen : List ℕ → Result Step LineError → Type 0
 ReadsOpen text r =
@@ -106,6 +133,58 @@ ReadsReturn text r =
     → text ≡ codes " " ++ (decimal m ++ (codes " " ++ (decimal party ++ (codes " " ++ use_text used))))
     → Gives (record { moment = m; act = act.Return party used }) r
 
+abbrev pub ReadsFailed : List ℕ → Result Step LineError → Type 0
+ReadsFailed text r =
+    (m p c : ℕ) (at : FailedAt) (e : Error) → m < 2 ^ 64 → p < 2 ^ 32 → c < 2 ^ 32 → IsFailedAtOfTypes at → IsErrorOfTypes e → is_error e ≡ true
+    → text ≡ codes " " ++ (decimal m ++ (codes " " ++ (decimal p ++ (codes " " ++ (decimal c ++ (failed_at_text at ++ (codes " " ++ error_text e)))))))
+    → Gives (record { moment = m; act = act.Failed p c at e }) r
+
+abbrev pub ReadsError : List ℕ → Result Step LineError → Type 0
+ReadsError text r =
+    (m party : ℕ) (e : Error) → m < 2 ^ 64 → party < 2 ^ 32 → IsErrorOfTypes e → is_error e ≡ true
+    → text ≡ codes " " ++ (decimal m ++ (codes " " ++ (decimal party ++ (codes " " ++ error_text e))))
+    → Gives (record { moment = m; act = act.Error party e }) r
+
+abbrev pub ReadsHello : List ℕ → Result Step LineError → Type 0
+ReadsHello text r =
+    (m p : ℕ) (a : ServerAddress) (came : HelloResult) → m < 2 ^ 64 → p < 2 ^ 32 → is_address a ≡ true → IsHelloOfTypes came → is_hello came ≡ true
+    → text ≡ codes " " ++ (decimal m ++ (codes " " ++ (address a ++ (codes " " ++ (decimal p ++ hello_text came)))))
+    → Gives (record { moment = m; act = act.Hello a p came }) r
+
+abbrev pub ReadsBeaten : List ℕ → Result Step LineError → Type 0
+ReadsBeaten text r =
+    (m p n : ℕ) (a : ServerAddress) (came : BeatenResult) → m < 2 ^ 64 → p < 2 ^ 32 → n < 2 ^ 64 → is_address a ≡ true → IsBeatenOfTypes came → is_beaten came ≡ true
+    → text ≡ codes " " ++ (decimal m ++ (codes " " ++ (address a ++ (codes " " ++ (decimal p ++ (codes " " ++ (decimal n ++ beaten_text came)))))))
+    → Gives (record { moment = m; act = act.Beaten a p n came }) r
+
+-- a moment, an address and a pool
+abbrev pub ReadsBeat : List ℕ → Result Step LineError → Type 0
+ReadsBeat text r =
+    (m p : ℕ) (a : ServerAddress) → m < 2 ^ 64 → p < 2 ^ 32 → is_address a ≡ true
+    → text ≡ codes " " ++ (decimal m ++ (codes " " ++ (address a ++ (codes " " ++ decimal p))))
+    → Gives (record { moment = m; act = act.Beat a p }) r
+
+-- a moment, an address, a pool and nanoseconds
+abbrev pub ReadsRtt : List ℕ → Result Step LineError → Type 0
+ReadsRtt text r =
+    (m p n : ℕ) (a : ServerAddress) → m < 2 ^ 64 → p < 2 ^ 32 → n < 2 ^ 64 → is_address a ≡ true
+    → text ≡ codes " " ++ (decimal m ++ (codes " " ++ (address a ++ (codes " " ++ (decimal p ++ (codes " " ++ decimal n))))))
+    → Gives (record { moment = m; act = act.Rtt a p n }) r
+
+-- a moment and addresses
+abbrev pub ReadsHosts : List ℕ → Result Step LineError → Type 0
+ReadsHosts text r =
+    (m : ℕ) (hosts : List ServerAddress) → m < 2 ^ 64 → 0 < length hosts → list_all is_address hosts ≡ true
+    → text ≡ codes " " ++ (decimal m ++ (codes " " ++ addresses hosts))
+    → Gives (record { moment = m; act = act.Hosts hosts }) r
+
+-- a moment and a time of the cluster
+abbrev pub ReadsTime : List ℕ → Result Step LineError → Type 0
+ReadsTime text r =
+    (m : ℕ) (time : ClusterTime) → m < 2 ^ 64 → time.0 < 2 ^ 64
+    → text ≡ codes " " ++ (decimal m ++ (codes " " ++ decimal time.0))
+    → Gives (record { moment = m; act = act.ClusterTime time }) r
+
 abbrev pub ReadsKind : LineKind → List ℕ → Result Step LineError → Type 0
 ReadsKind line.Open text r = ReadsOpen text r
 ReadsKind line.Request text r = ReadsAsked (λ party a. act.Request party a) text r
@@ -121,6 +200,17 @@ ReadsKind line.Take text r = ReadsTake text r
 ReadsKind line.Unpin text r = ReadsPlace (λ p c. act.Unpin p c) text r
 ReadsKind line.Maintain text r = ReadsAddress (λ a. act.Maintain a) text r
 ReadsKind line.Expire text r = ReadsAddress (λ a. act.Expire a) text r
+ReadsKind line.Failed text r = ReadsFailed text r
+ReadsKind line.Error text r = ReadsError text r
+ReadsKind line.Hello text r = ReadsHello text r
+ReadsKind line.Beaten text r = ReadsBeaten text r
+ReadsKind line.Beat text r = ReadsBeat text r
+ReadsKind line.Rtt text r = ReadsRtt text r
+ReadsKind line.Hosts text r = ReadsHosts text r
+ReadsKind line.ClusterTime text r = ReadsTime text r
+ReadsKind line.Want text r = ReadsParty (λ watcher. act.Want watcher) text r
+ReadsKind line.Unwant text r = ReadsParty (λ watcher. act.Unwant watcher) text r
+ReadsKind line.Stop text r = ReadsMoment act.Stop text r
 
 -- A line is read by its kind. One of no kind gives nothing.
 abbrev pub ReadsLine : List ℕ → Result Step LineError → Type 0

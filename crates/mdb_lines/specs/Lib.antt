@@ -1,11 +1,9 @@
-pub mod Parts
 pub mod OpenLine
 pub mod Spelling
 pub mod LogText
 pub mod Grammar
 pub mod Types
 pub mod Script
-pub mod Reading
 pub mod Forms
 pub mod OpenReading
 pub mod Loops

@@ -1,7 +1,7 @@
 -- How the first line of a script is spelled.
 use Rattle.std.specs.Prelude.{ℕ, List, [], ◌∷◌, ◌++◌, decimal, codes, option_map, Bool, true, false}
 use Rattle.mdb_base.specs.declared.options.Options.{Options}
-use Rattle.mdb_lines.specs.Parts.{Part, parts_text, flag, addresses}
+use Rattle.mdb_parts.specs.Parts.{Part, parts_text, flag, addresses}
 
 abbrev pub mode_text : Bool → List ℕ
 mode_text true = codes "stream"

@@ -3,12 +3,12 @@
 ghost use Rattle.mdb_log.specs.declared.step.Act.TheVariants as act;
 ghost use Rattle.mdb_lines.specs.Forms.{ReadsMoment, ReadsParty, ReadsAsked, ReadsAddress, ReadsReturn};
 
-use crate::fields::{u32_field, u64_field};
-use crate::line_error::LineError;
 use crate::shapes::{moment, moment_and_address, moment_and_party, party_at_address};
-use crate::values::use_word;
-use crate::words::last;
+use crate::use_word::use_word;
 use mdb_log::{Act, Step};
+use mdb_parts::LineError;
+use mdb_parts::fields::{u32_field, u64_field};
+use mdb_parts::words::last;
 use std::alloc::Global;
 
 /// A request: a moment, a party and an address.
@@ -57,7 +57,7 @@ pub fn give_up(text: &str) -> Result<Step, LineError>
 }
 
 /// A return: a moment, a party and how the connection was used.
-#[tactic(auto, using(crate::proofs::TextLemmas::follows))]
+#[tactic(auto, using(mdb_parts::proofs::TextLemmas::follows))]
 pub fn returned(text: &str) -> Result<Step, LineError>
     ensures { ReadsReturn text.now result }
 {

@@ -1,7 +1,7 @@
 //! Which kind of line it is.
 
 ghost use Rattle.std.specs.Prelude.{◌≡◌};
-ghost use Rattle.mdb_lines.specs.Forms.{kind_of, caller_kind, connection_kind};
+ghost use Rattle.mdb_lines.specs.Forms.{kind_of, caller_kind, connection_kind, monitor_kind, topology_kind};
 
 /// The kinds of lines, by their first word.
 #[derive(Clone, Copy, Debug, PartialEq, Eq)]
@@ -13,13 +13,24 @@ pub enum LineKind {
     Claim,
     GiveUp,
     Established,
+    Failed,
     Return,
+    Error,
     Pin,
     Replicate,
     Take,
     Unpin,
     Maintain,
     Expire,
+    Hello,
+    Beat,
+    Beaten,
+    Rtt,
+    Hosts,
+    ClusterTime,
+    Want,
+    Unwant,
+    Stop,
 }
 
 #[tactic(auto, unfolding(crate::specs::Forms::caller_kind))]
@@ -38,6 +49,8 @@ fn caller_kind(word: &str) -> Option<LineKind>
         Some(LineKind::GiveUp)
     } else if word == "return" {
         Some(LineKind::Return)
+    } else if word == "error" {
+        Some(LineKind::Error)
     } else {
         None
     }
@@ -49,6 +62,8 @@ fn connection_kind(word: &str) -> Option<LineKind>
 {
     if word == "established" {
         Some(LineKind::Established)
+    } else if word == "failed" {
+        Some(LineKind::Failed)
     } else if word == "pin" {
         Some(LineKind::Pin)
     } else if word == "replicate" {
@@ -57,6 +72,42 @@ fn connection_kind(word: &str) -> Option<LineKind>
         Some(LineKind::Take)
     } else if word == "unpin" {
         Some(LineKind::Unpin)
+    } else {
+        None
+    }
+}
+
+#[tactic(auto, unfolding(crate::specs::Forms::monitor_kind))]
+fn monitor_kind(word: &str) -> Option<LineKind>
+    ensures { result ≡ monitor_kind word.now }
+{
+    if word == "hello" {
+        Some(LineKind::Hello)
+    } else if word == "beat" {
+        Some(LineKind::Beat)
+    } else if word == "beaten" {
+        Some(LineKind::Beaten)
+    } else if word == "rtt" {
+        Some(LineKind::Rtt)
+    } else {
+        None
+    }
+}
+
+#[tactic(auto, unfolding(crate::specs::Forms::topology_kind))]
+fn topology_kind(word: &str) -> Option<LineKind>
+    ensures { result ≡ topology_kind word.now }
+{
+    if word == "hosts" {
+        Some(LineKind::Hosts)
+    } else if word == "ctime" {
+        Some(LineKind::ClusterTime)
+    } else if word == "want" {
+        Some(LineKind::Want)
+    } else if word == "unwant" {
+        Some(LineKind::Unwant)
+    } else if word == "stop" {
+        Some(LineKind::Stop)
     } else {
         None
     }
@@ -74,6 +125,7 @@ pub fn kind_of(word: &str) -> Option<LineKind>
     } else if word == "expire" {
         Some(LineKind::Expire)
     } else {
-        caller_kind(word).or(connection_kind(word))
+        let of_pools = caller_kind(word).or(connection_kind(word));
+        of_pools.or(monitor_kind(word).or(topology_kind(word)))
     }
 }

@@ -4,20 +4,23 @@ ghost use Rattle.std.specs.Prelude.{◌≡◌, true, IfOk, OnOk};
 ghost use Rattle.mdb_log.specs.declared.step.Step.{Step};
 ghost use Rattle.mdb_lines.specs.Grammar.{is_printable};
 ghost use Rattle.mdb_lines.specs.Script.{Spells};
-ghost use Rattle.mdb_lines.specs.Reading.{Gives};
+ghost use Rattle.mdb_parts.specs.Reading.{Gives};
 ghost use Rattle.mdb_lines.specs.Forms.{ReadsKind, ReadsLine};
 
 use crate::caller_lines::{claim, collect, expire, give_up, maintain, request, returned, warm};
 use crate::connection_lines::established;
-use crate::line_error::LineError;
+use crate::error_lines::{failed, met};
 use crate::line_kind::{LineKind, kind_of};
 use crate::line_text::write_line;
+use crate::monitor_lines::{beat, beaten, hello, rtt};
 use crate::open_line::opened;
 use crate::pin_lines::{pin, replicate, take, unpin};
 use crate::rules::{is_printable, keeps_place, keeps_rules};
+use crate::topology_lines::{cluster_time, hosts, stop, unwant, want};
 use crate::types::step_types;
 use mdb_base::{OutOfMemory, cut};
 use mdb_log::Step;
+use mdb_parts::LineError;
 use std::alloc::Global;
 
 fn read_kind(alloc: Global, kind: LineKind, text: &str) -> Result<Step, LineError>
@@ -38,6 +41,17 @@ fn read_kind(alloc: Global, kind: LineKind, text: &str) -> Result<Step, LineErro
         LineKind::Unpin => unpin(text),
         LineKind::Maintain => maintain(alloc, text),
         LineKind::Expire => expire(alloc, text),
+        LineKind::Failed => failed(alloc, text),
+        LineKind::Error => met(alloc, text),
+        LineKind::Hello => hello(alloc, text),
+        LineKind::Beat => beat(alloc, text),
+        LineKind::Beaten => beaten(alloc, text),
+        LineKind::Rtt => rtt(alloc, text),
+        LineKind::Hosts => hosts(alloc, text),
+        LineKind::ClusterTime => cluster_time(text),
+        LineKind::Want => want(text),
+        LineKind::Unwant => unwant(text),
+        LineKind::Stop => stop(text),
     }
 }
 
@@ -72,7 +86,8 @@ fn is_spelled(alloc: Global, step: &Step, line: &[u8], number: u32) -> Result<bo
     ensures no { IfOk result (λ spelled. Spells number line.now step.now → spelled ≡ true) }
 {
     step_types(step);
-    if !keeps_rules(step) || !keeps_place(step, number) {
+    let keeps = keeps_rules(alloc, step)?;
+    if !keeps || !keeps_place(step, number) {
         return Ok(false);
     }
     let spelled = write_line(alloc, step)?;

@@ -4,6 +4,7 @@ ghost use Rattle.std.specs.Prelude.{◌≡◌, IfOk, string_bytes};
 ghost use Rattle.mdb_lines.specs.Spelling.{spelling, use_text, HasSpelling};
 
 use crate::open_text::OpenText;
+use crate::topology_text::TopologyText;
 use mdb_base::{Error, Moment, ObjectId, OutOfMemory};
 use mdb_log::{Act, Established, FailedAt, Step, Use};
 use std::alloc::Global;
@@ -16,7 +17,7 @@ struct ServicePart(Option<ObjectId>);
 impl fmt::Display for ServicePart {
     ghost use Rattle.std.specs.Prelude.{Some, codes, option_map};
     ghost use Rattle.mdb_base.specs.Spelling.{object_id};
-    ghost use Rattle.mdb_lines.specs.Parts.{part_text};
+    ghost use Rattle.mdb_parts.specs.Parts.{part_text};
 
     ghost output = { λ x. Some (part_text (codes " sid=") (option_map object_id x.0)) };
 
@@ -35,7 +36,7 @@ struct ServerPart(Option<i64>);
 impl fmt::Display for ServerPart {
     ghost use Rattle.std.specs.Prelude.{Some, codes, option_map};
     ghost use Rattle.std.specs.Fmt.{signed_decimal};
-    ghost use Rattle.mdb_lines.specs.Parts.{part_text};
+    ghost use Rattle.mdb_parts.specs.Parts.{part_text};
 
     ghost output = { λ x. Some (part_text (codes " server=") (option_map signed_decimal x.0)) };
 
@@ -54,12 +55,12 @@ struct Made<'a>(u32, &'a Established);
 impl fmt::Display for Made<'_> {
     ghost use Rattle.std.specs.Prelude.{Some, decimal, codes, ◌++◌};
     ghost use Rattle.std.specs.Fmt.{signed_decimal};
-    ghost use Rattle.mdb_lines.specs.Parts.{parts_text};
+    ghost use Rattle.mdb_parts.specs.Parts.{parts_text};
     ghost use Rattle.mdb_lines.specs.Spelling.{established_parts};
 
     ghost output = { λ x. Some (decimal x.0 ++ (codes " wire=" ++ (signed_decimal x.1.now.wire ++ parts_text (established_parts x.1.now)))) };
 
-    #[tactic(auto, unfolding(crate::specs::Parts::parts_text))]
+    #[tactic(auto, unfolding(mdb_parts::specs::Parts::parts_text))]
     fn fmt<W: fmt::Write>(&self, f: &mut fmt::Formatter<W>) -> fmt::Result {
         let id = self.0;
         let wire = self.1.wire;
@@ -163,7 +164,11 @@ impl fmt::Display for LineText<'_> {
             Act::Unpin(p, c) => write!(f, "unpin {m} {p} {c}"),
             Act::Maintain(address) => write!(f, "maintain {m} {address}"),
             Act::Expire(address) => write!(f, "expire {m} {address}"),
-            _ => Ok(()),
+            Act::Error(r, error) => write!(f, "error {m} {r} {error}"),
+            act => {
+                let line = TopologyText(m, act);
+                write!(f, "{line}")
+            }
         }
     }
 }

@@ -2,20 +2,20 @@
 
 ghost use Rattle.std.specs.Prelude.{◌≡◌, Option, Bool, option_copied, option_map, IfSome, true, drop, ◌∷◌, List};
 ghost use Rattle.mdb_base.specs.declared.options.Options.{Options};
-ghost use Rattle.mdb_lines.specs.Parts.{Part, parts_text, may_follow};
+ghost use Rattle.mdb_parts.specs.Parts.{Part, parts_text, may_follow};
 ghost use Rattle.mdb_lines.specs.OpenLine.{mode_text, open_parts};
 ghost use Rattle.mdb_lines.specs.Grammar.{is_zero_id};
 ghost use Rattle.mdb_lines.specs.OpenReading.{kind_of_set, sizes_of, checks_of, limits_of};
 ghost use Rattle.mdb_lines.specs.Types.{AreOptionsOfTypes};
-ghost use Rattle.mdb_lines.specs.Reading.{lacks, Gives, GivesFirst};
+ghost use Rattle.mdb_parts.specs.Reading.{lacks, Gives, GivesFirst};
 ghost use Rattle.mdb_lines.specs.Forms.{ReadsOpen};
 
-use crate::line_error::LineError;
-use crate::parts::{flag_part, part, text_part, u32_part, u64_part};
-use crate::values::addresses_word;
-use crate::words::field;
 use mdb_base::{Items, Moment, ObjectId, Options, ServerAddress, Text};
 use mdb_log::{Act, Step};
+use mdb_parts::LineError;
+use mdb_parts::parts::{flag_part, part, text_part, u32_part, u64_part};
+use mdb_parts::values::addresses_word;
+use mdb_parts::words::field;
 use std::alloc::Global;
 
 // The first three optional parts.

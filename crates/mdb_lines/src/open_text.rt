@@ -1,7 +1,7 @@
 //! The text of the first line.
 
-use crate::part_text::{Addresses, FlagPart, NumberPart, narrow};
 use mdb_base::{Options, Text};
+use mdb_parts::part_text::{Addresses, FlagPart, NumberPart, narrow};
 use std::fmt;
 
 // The name of a set, if there is one.
@@ -10,7 +10,7 @@ struct SetPart<'a>(&'a Option<Text>);
 
 impl fmt::Display for SetPart<'_> {
     ghost use Rattle.std.specs.Prelude.{Some, codes};
-    ghost use Rattle.mdb_lines.specs.Parts.{part_text};
+    ghost use Rattle.mdb_parts.specs.Parts.{part_text};
 
     ghost output = { λ x. Some (part_text (codes " set=") x.0.now) };
 
@@ -31,7 +31,7 @@ struct ModePart(Option<bool>);
 
 impl fmt::Display for ModePart {
     ghost use Rattle.std.specs.Prelude.{Some, codes, option_map};
-    ghost use Rattle.mdb_lines.specs.Parts.{part_text};
+    ghost use Rattle.mdb_parts.specs.Parts.{part_text};
     ghost use Rattle.mdb_lines.specs.OpenLine.{mode_text};
 
     ghost output = { λ x. Some (part_text (codes " mode=") (option_map mode_text x.0)) };
@@ -51,12 +51,12 @@ struct Kind<'a>(&'a Options);
 
 impl fmt::Display for Kind<'_> {
     ghost use Rattle.std.specs.Prelude.{Some, take};
-    ghost use Rattle.mdb_lines.specs.Parts.{parts_text};
+    ghost use Rattle.mdb_parts.specs.Parts.{parts_text};
     ghost use Rattle.mdb_lines.specs.OpenLine.{open_parts};
 
     ghost output = { λ x. Some (parts_text (take 3 (open_parts x.0.now))) };
 
-    #[tactic(auto, unfolding(crate::specs::Parts::parts_text))]
+    #[tactic(auto, unfolding(mdb_parts::specs::Parts::parts_text))]
     fn fmt<W: fmt::Write>(&self, f: &mut fmt::Formatter<W>) -> fmt::Result {
         let set = SetPart(&self.0.set_name);
         let direct = FlagPart(" direct", self.0.direct);
@@ -71,12 +71,12 @@ struct Sizes<'a>(&'a Options);
 
 impl fmt::Display for Sizes<'_> {
     ghost use Rattle.std.specs.Prelude.{Some, take, drop};
-    ghost use Rattle.mdb_lines.specs.Parts.{parts_text};
+    ghost use Rattle.mdb_parts.specs.Parts.{parts_text};
     ghost use Rattle.mdb_lines.specs.OpenLine.{open_parts};
 
     ghost output = { λ x. Some (parts_text (take 5 (drop 3 (open_parts x.0.now)))) };
 
-    #[tactic(auto, unfolding(crate::specs::Parts::parts_text))]
+    #[tactic(auto, unfolding(mdb_parts::specs::Parts::parts_text))]
     fn fmt<W: fmt::Write>(&self, f: &mut fmt::Formatter<W>) -> fmt::Result {
         let max = narrow(" max=", self.0.max_pool_size);
         let min = narrow(" min=", self.0.min_pool_size);
@@ -93,12 +93,12 @@ struct Checks<'a>(&'a Options);
 
 impl fmt::Display for Checks<'_> {
     ghost use Rattle.std.specs.Prelude.{Some, take, drop};
-    ghost use Rattle.mdb_lines.specs.Parts.{parts_text};
+    ghost use Rattle.mdb_parts.specs.Parts.{parts_text};
     ghost use Rattle.mdb_lines.specs.OpenLine.{open_parts};
 
     ghost output = { λ x. Some (parts_text (take 3 (drop 8 (open_parts x.0.now)))) };
 
-    #[tactic(auto, unfolding(crate::specs::Parts::parts_text))]
+    #[tactic(auto, unfolding(mdb_parts::specs::Parts::parts_text))]
     fn fmt<W: fmt::Write>(&self, f: &mut fmt::Formatter<W>) -> fmt::Result {
         let heartbeat = NumberPart(" heartbeat=", self.0.heartbeat);
         let connect = NumberPart(" connect=", self.0.connect);
@@ -113,12 +113,12 @@ struct Limits<'a>(&'a Options);
 
 impl fmt::Display for Limits<'_> {
     ghost use Rattle.std.specs.Prelude.{Some, drop};
-    ghost use Rattle.mdb_lines.specs.Parts.{parts_text};
+    ghost use Rattle.mdb_parts.specs.Parts.{parts_text};
     ghost use Rattle.mdb_lines.specs.OpenLine.{open_parts};
 
     ghost output = { λ x. Some (parts_text (drop 11 (open_parts x.0.now))) };
 
-    #[tactic(auto, unfolding(crate::specs::Parts::parts_text))]
+    #[tactic(auto, unfolding(mdb_parts::specs::Parts::parts_text))]
     fn fmt<W: fmt::Write>(&self, f: &mut fmt::Formatter<W>) -> fmt::Result {
         let limit_id = narrow(" limit_id=", self.0.limit_id);
         let limit_generation = NumberPart(" limit_generation=", self.0.limit_generation);
@@ -138,7 +138,7 @@ impl fmt::Display for OpenText<'_> {
 
     ghost output = { λ x. Some (open_text x.0.now) };
 
-    #[tactic(auto, unfolding(crate::specs::Parts::parts_text))]
+    #[tactic(auto, unfolding(mdb_parts::specs::Parts::parts_text))]
     fn fmt<W: fmt::Write>(&self, f: &mut fmt::Formatter<W>) -> fmt::Result {
         let seeds = Addresses(self.0.seeds.as_slice());
         let kind = Kind(self.0);

@@ -3,11 +3,11 @@
 ghost use Rattle.mdb_log.specs.declared.step.Act.TheVariants as act;
 ghost use Rattle.mdb_lines.specs.Forms.{ReadsParty, ReadsPlace, ReadsTake};
 
-use crate::fields::{u32_field, u64_field};
-use crate::line_error::LineError;
 use crate::shapes::{connection, moment_and_party};
-use crate::words::{last, number32};
 use mdb_log::{Act, Step};
+use mdb_parts::LineError;
+use mdb_parts::fields::{u32_field, u64_field};
+use mdb_parts::words::{last, number32};
 
 /// A party pins its connection: a moment and the party.
 pub fn pin(text: &str) -> Result<Step, LineError>
@@ -28,7 +28,7 @@ pub fn replicate(text: &str) -> Result<Step, LineError>
 }
 
 /// A new party takes a pinned connection: a moment, the party, the pool and the connection.
-#[tactic(auto, using(crate::proofs::TextLemmas::follows))]
+#[tactic(auto, using(mdb_parts::proofs::TextLemmas::follows))]
 pub fn take(text: &str) -> Result<Step, LineError>
     ensures { ReadsTake text.now result }
 {

@@ -4,13 +4,13 @@ ghost use Rattle.std.specs.Prelude.{◌≡◌, ◌<◌, ◌^◌, ◌++◌, ℕ, 
 ghost use Rattle.mdb_base.specs.AddressRule.{is_address};
 ghost use Rattle.mdb_base.specs.Spelling.{address};
 ghost use Rattle.mdb_base.specs.declared.address.ServerAddress.{ServerAddress};
-ghost use Rattle.mdb_lines.specs.Reading.{Gives};
+ghost use Rattle.mdb_parts.specs.Reading.{Gives};
 
-use crate::fields::{u32_field, u64_field};
-use crate::line_error::LineError;
-use crate::values::address_word;
-use crate::words::{last, number32, number64};
 use mdb_base::{Moment, ServerAddress};
+use mdb_parts::LineError;
+use mdb_parts::fields::{u32_field, u64_field};
+use mdb_parts::values::address_word;
+use mdb_parts::words::{last, number32, number64};
 use std::alloc::Global;
 
 /// A moment.
@@ -22,7 +22,7 @@ pub fn moment(text: &str) -> Result<Moment, LineError>
 }
 
 /// A moment and a party.
-#[tactic(auto, using(crate::proofs::TextLemmas::follows))]
+#[tactic(auto, using(mdb_parts::proofs::TextLemmas::follows))]
 pub fn moment_and_party(text: &str) -> Result<(Moment, u32), LineError>
     ensures { (m party : ℕ) → m < 2 ^ 64 → party < 2 ^ 32 → text.now ≡ codes " " ++ (decimal m ++ (codes " " ++ decimal party)) → Gives (m, party) result }
 {
@@ -33,7 +33,7 @@ pub fn moment_and_party(text: &str) -> Result<(Moment, u32), LineError>
 }
 
 /// A moment and an address.
-#[tactic(auto, using(crate::proofs::TextLemmas::follows))]
+#[tactic(auto, using(mdb_parts::proofs::TextLemmas::follows))]
 pub fn moment_and_address(alloc: Global, text: &str) -> Result<(Moment, ServerAddress), LineError>
     ensures { (m : ℕ) (a : ServerAddress) → m < 2 ^ 64 → is_address a ≡ true → text.now ≡ codes " " ++ (decimal m ++ (codes " " ++ address a)) → Gives (m, a) result }
 {
@@ -44,7 +44,7 @@ pub fn moment_and_address(alloc: Global, text: &str) -> Result<(Moment, ServerAd
 }
 
 /// A moment, a party and an address.
-#[tactic(auto, using(crate::proofs::TextLemmas::follows))]
+#[tactic(auto, using(mdb_parts::proofs::TextLemmas::follows))]
 pub fn party_at_address(
     alloc: Global,
     text: &str,
@@ -60,7 +60,7 @@ pub fn party_at_address(
 }
 
 /// A moment, a pool and a connection.
-#[tactic(auto, using(crate::proofs::TextLemmas::follows))]
+#[tactic(auto, using(mdb_parts::proofs::TextLemmas::follows))]
 pub fn connection(text: &str) -> Result<(Moment, u32, u32), LineError>
     ensures { (m p c : ℕ) → m < 2 ^ 64 → p < 2 ^ 32 → c < 2 ^ 32
         → text.now ≡ codes " " ++ (decimal m ++ (codes " " ++ (decimal p ++ (codes " " ++ decimal c)))) → Gives (m, p, c) result }

@@ -1,59 +1,13 @@
 //! That the numbers of a step are those of its types.
 
-ghost use Rattle.std.specs.Prelude.{◌<◌, ◌^◌, IfSome, FitsSigned, ℕ, slice_index};
-ghost use Rattle.std.specs.Int.{w64};
-ghost use Rattle.mdb_lines.specs.Types.{IsIdOfTypes, AreOptionsOfTypes, IsEstablishedOfTypes, IsStepOfTypes};
+ghost use Rattle.std.specs.Prelude.{◌<◌, ◌^◌};
+ghost use Rattle.mdb_lines.specs.Types.{AreOptionsOfTypes, IsEstablishedOfTypes, IsFailedAtOfTypes, IsHelloOfTypes, IsBeatenOfTypes, IsTopologyActOfTypes, IsStepOfTypes};
 
-use mdb_base::{ObjectId, Options};
-use mdb_log::{Act, Established, Step};
-
-fn narrow(number: Option<u32>)
-    ensures { IfSome number (λ n. n < 2 ^ 32) }
-{
-    match number {
-        Some(_n) => {}
-        None => {}
-    }
-}
-
-fn wide(number: Option<u64>)
-    ensures { IfSome number (λ n. n < 2 ^ 64) }
-{
-    match number {
-        Some(_n) => {}
-        None => {}
-    }
-}
-
-fn signed(number: Option<i64>)
-    ensures { IfSome number (FitsSigned w64) }
-{
-    match number {
-        Some(_n) => {}
-        None => {}
-    }
-}
-
-fn bytes(bytes: &[u8])
-    ensures { (i : ℕ) → slice_index bytes.now i < 256 }
-{}
-
-fn id(id: &ObjectId)
-    ensures { IsIdOfTypes id.now }
-{
-    let held: &[u8] = &id.0;
-    let _len = held.len();
-    bytes(held);
-}
-
-fn service(service: Option<ObjectId>)
-    ensures { IfSome service IsIdOfTypes }
-{
-    match service {
-        Some(service) => id(&service),
-        None => {}
-    }
-}
+use mdb_base::Options;
+use mdb_log::{Act, BeatenResult, Established, FailedAt, HelloResult, Step};
+use mdb_parts::error_types;
+use mdb_parts::number_types::{narrow, optional_id, signed, wide};
+use mdb_replies::reply_types;
 
 fn options(o: &Options)
     ensures { AreOptionsOfTypes o.now }
@@ -75,8 +29,76 @@ fn established(made: &Established)
     ensures { IsEstablishedOfTypes made.now }
 {
     let _wire = made.wire;
-    service(made.service_id);
+    optional_id(made.service_id);
     signed(made.server_id);
+}
+
+fn failed_at(at: FailedAt)
+    ensures { IsFailedAtOfTypes at }
+{
+    match at {
+        FailedAt::Pre => {}
+        FailedAt::Post(service) => optional_id(service),
+    }
+}
+
+fn hello_types(came: &HelloResult)
+    ensures { IsHelloOfTypes came.now }
+{
+    match came {
+        HelloResult::Ok(rtt, reply) => {
+            let _number = *rtt;
+            reply_types(reply);
+        }
+        HelloResult::Err(e) => error_types(e),
+    }
+}
+
+fn beaten_types(came: &BeatenResult)
+    ensures { IsBeatenOfTypes came.now }
+{
+    match came {
+        BeatenResult::Ok(reply, _) => reply_types(reply),
+        BeatenResult::Err(e) => error_types(e),
+        BeatenResult::Cancelled(e) => error_types(e),
+    }
+}
+
+fn topology_types(act: &Act)
+    ensures { IsTopologyActOfTypes act.now }
+{
+    match act {
+        Act::Hello(_, p, came) => {
+            let _number = *p;
+            hello_types(came);
+        }
+        Act::Beaten(_, p, n, came) => {
+            let _numbers = (*p, *n);
+            beaten_types(came);
+        }
+        Act::Beat(_, p) => {
+            let _number = *p;
+        }
+        Act::Rtt(_, p, n) => {
+            let _numbers = (*p, *n);
+        }
+        Act::ClusterTime(time) => {
+            wide(Some(time.0));
+        }
+        Act::Want(w) => {
+            let _number = *w;
+        }
+        Act::Unwant(w) => {
+            let _number = *w;
+        }
+        _ => {}
+    }
+}
+
+fn number(number: &u32)
+    ensures { number.now < 2 ^ 32 }
+{
+    let _number = *number;
 }
 
 /// The numbers of a step are those of its types.
@@ -86,28 +108,25 @@ pub fn step_types(step: &Step)
     let _moment = step.moment;
     match &step.act {
         Act::Open(o) => options(o),
-        Act::Request(r, _) => {
-            let _number = *r;
-        }
-        Act::Warm(r, _) => {
-            let _number = *r;
-        }
-        Act::Collect(r) => {
-            let _number = *r;
-        }
-        Act::GiveUp(r) => {
-            let _number = *r;
-        }
+        Act::Request(r, _) => number(r),
+        Act::Warm(r, _) => number(r),
+        Act::Collect(r) => number(r),
+        Act::GiveUp(r) => number(r),
         Act::Established(p, c, made) => {
             let _numbers = (*p, *c);
             established(made);
         }
-        Act::Return(r, _) => {
-            let _number = *r;
+        Act::Failed(p, c, at, e) => {
+            let _numbers = (*p, *c);
+            failed_at(*at);
+            error_types(e);
         }
-        Act::Pin(r) => {
-            let _number = *r;
+        Act::Error(r, e) => {
+            number(r);
+            error_types(e);
         }
+        Act::Return(r, _) => number(r),
+        Act::Pin(r) => number(r),
         Act::Replicate(p, c) => {
             let _numbers = (*p, *c);
         }
@@ -117,6 +136,6 @@ pub fn step_types(step: &Step)
         Act::Unpin(p, c) => {
             let _numbers = (*p, *c);
         }
-        _ => {}
+        act => topology_types(act),
     }
 }

@@ -1,6 +1,6 @@
 use Rattle.std.proofs.Common.{◌≡◌, ◌<◌, ◌^◌, Some, ap, sym, ◌∙◌, arith, decimal}
 use Rattle.std.proofs.lemmas.Slice.Eq.{bytes_eq-Decides}
-use Rattle.mdb_lines.proofs.TextLemmas.{number_given, number_refused}
+use Rattle.mdb_parts.proofs.TextLemmas.{number_given, number_refused}
 use Rattle.mdb_generator.proofs.words.number.Goals as goal
 
 pub returns-in-Err-clause-all : goal.returns-in-Err-clause-all

@@ -1,9 +1,9 @@
 use Rattle.std.proofs.Common.{[], drop, refl}
 use Rattle.std.specs.Int.{w32}
 use Rattle.std.proofs.lemmas.Int.{to_z-of_z}
-use Rattle.mdb_lines.specs.Parts.{parts_text}
+use Rattle.mdb_parts.specs.Parts.{parts_text}
 use Rattle.mdb_lines.specs.Spelling.{established_parts}
-use Rattle.mdb_lines.proofs.PartLemmas.{parts_follow}
+use Rattle.mdb_parts.proofs.PartLemmas.{parts_follow}
 use Rattle.mdb_lines.proofs.connection_lines.made.Goals as goal
 
 pub returns : goal.returns

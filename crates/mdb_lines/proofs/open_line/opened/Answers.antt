@@ -1,9 +1,10 @@
 use Rattle.std.proofs.Common.{refl}
-use Rattle.mdb_lines.specs.Parts.{parts_text, addresses}
+use Rattle.mdb_parts.specs.Parts.{parts_text, addresses}
 use Rattle.mdb_lines.specs.OpenLine.{open_parts}
-use Rattle.mdb_lines.proofs.PartLemmas.{parts_follow}
-use Rattle.mdb_lines.proofs.FormLemmas.{handed_on}
-use Rattle.mdb_lines.proofs.OpenLemmas.{addresses_lack, open_rules}
+use Rattle.mdb_parts.proofs.PartLemmas.{parts_follow}
+use Rattle.mdb_parts.proofs.Wanting.{handed_on}
+use Rattle.mdb_lines.proofs.OpenLemmas.{open_rules}
+use Rattle.mdb_parts.proofs.AddressLemmas.{addresses_lack}
 use Rattle.mdb_lines.proofs.open_line.opened.Goals as goal
 
 pub returns-in_err-word : goal.returns-in_err-word

@@ -1,9 +1,0 @@
-use Rattle.std.proofs.Common.{◌++◌, take, codes}
-use Rattle.std.specs.List.{flat_map}
-use Rattle.std.specs.Fmt.{HasWritten, IsPlainFormatter}
-use Rattle.mdb_base.specs.Spelling.{address}
-use Rattle.mdb_lines.proofs.part_text.AddressesDisplay.fmt.Given as goal
-
-abbrev pub invariant-loop-address : goal.invariant-loop-address
-invariant-loop-address g l =
-    IsPlainFormatter l.initial.f → HasWritten g.W.Write.write_str_gives l.initial.f (flat_map (λ b. codes "," ++ address b) (take l.address-index l.more)) l.f

@@ -1,0 +1,9 @@
+pub mod CommaLemmas
+pub mod TextLemmas
+pub mod AddressLemmas
+pub mod PartLemmas
+pub mod WordLemmas
+pub mod Wanting
+pub mod ErrorLemmas
+pub mod Same
+pub mod SameErrors

@@ -1,0 +1,5 @@
+pub mod Parts
+pub mod Reading
+pub mod Types
+pub mod WordRule
+pub mod ErrorParts

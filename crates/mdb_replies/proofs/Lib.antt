@@ -1,0 +1,4 @@
+pub mod ValueLemmas
+pub mod ReplyLemmas
+pub mod Handed
+pub mod SameReplies
