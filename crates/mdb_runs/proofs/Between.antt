@@ -14,9 +14,11 @@ use Rattle.mdb_lines.specs.Script.{Spells, lines_of, line_of, AreAllowed, max_in
 use Rattle.mdb_base.specs.AddressReading.{beyond}
 use Rattle.mdb_lines.specs.Loops.{ReadsAll, ReadEnds}
 use Rattle.mdb_lines.proofs.Loops.{took_nothing, took_more, took_no_more, line_not_last}
-use Rattle.mdb_world.specs.Lines.{is_later, may_come, entry_after, log_of, log_after, steps_of}
+use Rattle.mdb_topology.specs.Stepping.{is_built}
+use Rattle.mdb_topology.specs.Driving.{may_come}
+use Rattle.mdb_topology.specs.Lines.{entry_after, log_of, log_after, steps_of}
 use Rattle.mdb_log.specs.LegalLog.{IsLegalLog}
-use Rattle.mdb_log.specs.Beside.{IsKept}
+use Rattle.mdb_topology.specs.Logging.{IsKept}
 use Rattle.mdb_runs.specs.Runs.{IsWithin, Begins, IsNextLine, IsBad, LineRuns, Ran, RunEnds, Seen, Ended}
 
 -- what holds between two lines
@@ -32,9 +34,9 @@ steps_push : (log : List Entry) (e : Entry) → steps_of (log ++ e ∷ []) ≡ s
 steps_push [] e = refl
 steps_push (f ∷ log) e = ap (λ (ss : List Step). f.step ∷ ss) (steps_push log e)
 
-log_push : (log : List Entry) (ss : List Step) (s : Step) → log_after log (ss ++ s ∷ []) ≡ log_after log ss ++ entry_after (log_after log ss) s ∷ []
+log_push : (log : List Entry) (ss : List Step) (s : Step) → log_after log (ss ++ s ∷ []) ≡ log_after log ss ++ entry_after 0 (log_after log ss) s ∷ []
 log_push log [] s = refl
-log_push log (t ∷ ss) s = log_push (log ++ entry_after log t ∷ []) ss s
+log_push log (t ∷ ss) s = log_push (log ++ entry_after 0 log t ∷ []) ss s
 
 text_push : (log : List Entry) (e : Entry) → text_of (log ++ e ∷ []) ≡ text_of log ++ text_of_entry e
 text_push [] e = append-nil (text_of_entry e)
@@ -49,8 +51,8 @@ allowed_push n [] s h t = (subst (λ (k : ℕ). Spells k (spelling s) s) (omega 
 allowed_push n (u ∷ ss) s h t = (h.0, allowed_push (n + 1) ss s h.1 (subst (λ (k : ℕ). Spells k (spelling s) s) (omega arith) t))
 
 within_push : (ss : List Step) (s : Step) → IsWithin ss → may_come ss s ≡ true → IsWithin (ss ++ s ∷ [])
-within_push [] s w m = (m, All-nil (λ (t : Step). is_later t.act ≡ true))
-within_push (u ∷ ss) s w m = (w.0, All-push (λ (t : Step). is_later t.act ≡ true) ss s w.1 m)
+within_push [] s w m = (m, All-nil (λ (t : Step). is_built t.act ≡ true))
+within_push (u ∷ ss) s w m = (w.0, All-push (λ (t : Step). is_built t.act ≡ true) ss s w.1 m)
 
 length_steps : (log : List Entry) → length (steps_of log) ≡ length log
 length_steps [] = refl
@@ -84,7 +86,7 @@ pub goes_on : (input rest line behind : List ℕ) (n : ℕ) (log new_log : List 
     → Between input rest n log held mid faults old_faults → LineRuns n line log new_log mid new_held old_faults new_faults (Ok u)
     → Between input behind (n + 1) new_log held new_held faults new_faults
 goes_on input rest line behind n log new_log held mid new_held faults old_faults new_faults u cut shorter s (step, next, added, taken, same) =
-    let e = entry_after log step in
+    let e = entry_after 0 log step in
     let steps : steps_of new_log ≡ steps_of log ++ step ∷ [] = rw added (steps_push log e) in
     record {
       begins = rw steps (begins_more input rest line behind n log held mid faults old_faults step cut s next);
@@ -110,7 +112,7 @@ line_ends input rest line behind n log new_log held mid new_held faults old_faul
     (steps_of log, lines_of rest, s.begins, subst IsLegalLog s.answers legal, rw (← s.answers) (took_no_more held mid new_held (text_of log) s.taken taken), same ∙ s.same)
 line_ends input rest line behind n log new_log held mid new_held faults old_faults new_faults errors.ReadFault cut s legal new_legal h = h
 line_ends input rest line behind n log new_log held mid new_held faults old_faults new_faults errors.WriteFault cut s legal new_legal (step, next, added, (k, front), rose) =
-    let e = entry_after log step in
+    let e = entry_after 0 log step in
     let log_is : log_of (steps_of log ++ step ∷ []) ≡ log ++ e ∷ [] = rw (log_push [] (steps_of log) step, ← s.answers) refl in
     let text : take (length (text_of log) + k) (text_of (log ++ e ∷ [])) ≡ text_of log ++ take k (text_of_entry e) = rw (text_push log e, take-append-add (text_of log) (text_of_entry e) k) refl in
     let took : Took held new_held (take (length (text_of log) + k) (text_of (log ++ e ∷ []))) = rw text (took_more held mid new_held (text_of log) (take k (text_of_entry e)) s.taken front) in

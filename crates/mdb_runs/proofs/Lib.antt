@@ -4,3 +4,4 @@ pub mod Taken
 pub mod MadeRuns
 pub mod Generation
 pub mod Stepping
+pub mod Spelled

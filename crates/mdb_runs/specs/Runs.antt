@@ -10,14 +10,16 @@ use Rattle.mdb_lines.specs.Spelling.{spelling}
 use Rattle.mdb_lines.specs.LogText.{text_of_entry, text_of}
 use Rattle.mdb_lines.specs.Script.{Spells, lines_of, line_of, AreAllowed, max_input}
 use Rattle.mdb_lines.specs.Loops.{TookFront, ReadsAll}
-use Rattle.mdb_world.specs.Lines.{opens_seeds, is_later, may_come, entry_after, log_of, steps_of}
+use Rattle.mdb_topology.specs.Stepping.{is_built}
+use Rattle.mdb_topology.specs.Driving.{opens_seeds, may_come}
+use Rattle.mdb_topology.specs.Lines.{entry_after, log_of, steps_of}
 use Rattle.mdb_log.specs.LegalLog.{IsLegalLog}
-use Rattle.mdb_log.specs.Beside.{IsKept}
+use Rattle.mdb_topology.specs.Logging.{IsKept}
 
 -- the first step opens seeds, and every later step is one that may come after it
 abbrev pub IsWithin : List Step → Type 0
 IsWithin [] = Unit {0}
-IsWithin (first ∷ steps) = (opens_seeds first.act ≡ true) × All (λ s. is_later s.act ≡ true) steps
+IsWithin (first ∷ steps) = (opens_seeds first.act ≡ true) × All (λ s. is_built s.act ≡ true) steps
 
 -- The input is a script of these steps, all of which are lines of this stage.
 pub record IsScript (input : List ℕ) (steps : List Step) : Type 0 where
@@ -42,20 +44,20 @@ IsBad n steps line = (s : Step) → IsNextLine n steps (spelling s) s → line �
 -- What one step does to the log and the sink.
 abbrev pub StepRuns : Step → List Entry → List Entry → Option Held → Option Held → ℕ → ℕ → Result (Unit {0}) RunError → Type 0
 StepRuns s log new_log held new_held faults new_faults (Ok u) =
-    (new_log ≡ log ++ entry_after log s ∷ []) × Took held new_held (text_of_entry (entry_after log s)) × (new_faults ≡ faults)
+    (new_log ≡ log ++ entry_after 0 log s ∷ []) × Took held new_held (text_of_entry (entry_after 0 log s)) × (new_faults ≡ faults)
 StepRuns s log new_log held new_held faults new_faults (Err errors.OutOfMemory) = Took held new_held [] × (new_faults ≡ faults)
 StepRuns s log new_log held new_held faults new_faults (Err errors.WriteFault) =
-    (new_log ≡ log ++ entry_after log s ∷ []) × TookFront held new_held (text_of_entry (entry_after log s)) × Rose faults new_faults
+    (new_log ≡ log ++ entry_after 0 log s ∷ []) × TookFront held new_held (text_of_entry (entry_after 0 log s)) × Rose faults new_faults
 StepRuns s log new_log held new_held faults new_faults (Err _) = ⊥
 
 -- What one line does to the log and the sink.
 abbrev pub LineRuns : ℕ → List ℕ → List Entry → List Entry → Option Held → Option Held → ℕ → ℕ → Result (Unit {0}) RunError → Type 0
 LineRuns n line log new_log held new_held faults new_faults (Ok u) =
-    (s : Step) × IsNextLine n (steps_of log) line s × (new_log ≡ log ++ entry_after log s ∷ []) × Took held new_held (text_of_entry (entry_after log s)) × (new_faults ≡ faults)
+    (s : Step) × IsNextLine n (steps_of log) line s × (new_log ≡ log ++ entry_after 0 log s ∷ []) × Took held new_held (text_of_entry (entry_after 0 log s)) × (new_faults ≡ faults)
 LineRuns n line log new_log held new_held faults new_faults (Err errors.OutOfMemory) = Took held new_held [] × (new_faults ≡ faults)
 LineRuns n line log new_log held new_held faults new_faults (Err errors.ReadFault) = ⊥
 LineRuns n line log new_log held new_held faults new_faults (Err errors.WriteFault) =
-    (s : Step) × IsNextLine n (steps_of log) line s × (new_log ≡ log ++ entry_after log s ∷ []) × TookFront held new_held (text_of_entry (entry_after log s)) × Rose faults new_faults
+    (s : Step) × IsNextLine n (steps_of log) line s × (new_log ≡ log ++ entry_after 0 log s ∷ []) × TookFront held new_held (text_of_entry (entry_after 0 log s)) × Rose faults new_faults
 LineRuns n line log new_log held new_held faults new_faults (Err (errors.Malformed m)) =
     (m ≡ n) × ((s : Step) → IsNextLine n (steps_of log) line s → ⊥) × Took held new_held [] × (new_faults ≡ faults)
 LineRuns n line log new_log held new_held faults new_faults (Err errors.TooLong) = ⊥

@@ -4,8 +4,8 @@ ghost use Rattle.std.specs.Prelude.{◌≡◌, ◌+◌, ◌≤◌, [], ◌∷◌
 ghost use Rattle.mdb_log.specs.declared.step.Step.{Step};
 ghost use Rattle.mdb_base.specs.Outside.{Rose};
 ghost use Rattle.mdb_lines.specs.declared.run_error.RunError.TheVariants.{OutOfMemory as NoMemory};
-ghost use Rattle.mdb_world.specs.Lines.{steps_of};
-ghost use Rattle.mdb_world.specs.Standing.{Stands, IsTaken};
+ghost use Rattle.mdb_topology.specs.Lines.{steps_of};
+ghost use Rattle.mdb_topology.specs.Driving.{Stands, IsTaken};
 ghost use Rattle.mdb_runs.specs.Runs.{StepRuns, LineRuns, Ran, RunEnds, Finished, Ended, IsScript};
 
 use mdb_base::{Sink, Source};
@@ -13,23 +13,23 @@ use mdb_lines::{
     LineError, MAX_INPUT, RunError, cut_line, read_all, read_line, write_all, write_entry,
 };
 use mdb_log::{Log, Step};
-use mdb_world::World;
+use mdb_topology::Driver;
 use std::alloc::Global;
 
 // Adds the entry of one step, and writes its text.
 fn one_step<K: Sink>(
     alloc: Global,
     step: &Step,
-    world: &mut World,
+    driver: &mut Driver,
     log: &mut Log,
     sink: &mut K,
 ) -> Result<(), RunError>
-    requires stands { Stands world.old log.old }
+    requires stands { Stands driver.old log.old }
     requires taken { IsTaken log.old step.now }
-    ensures stands { Stands world.new log.new }
+    ensures stands { Stands driver.new log.new }
     ensures runs { StepRuns step.now log.old log.new (K.held sink.old) (K.held sink.new) (K.faults sink.old) (K.faults sink.new) result }
 {
-    world.step(alloc, log, step)?;
+    driver.step(alloc, log, step)?;
     let mut text = Vec::new(alloc);
     match log.entries().last() {
         Some(entry) => write_entry(alloc, entry, &mut text)?,
@@ -46,13 +46,13 @@ fn one_line<K: Sink>(
     alloc: Global,
     line: &[u8],
     number: u32,
-    world: &mut World,
+    driver: &mut Driver,
     log: &mut Log,
     sink: &mut K,
 ) -> Result<(), RunError>
-    requires stands { Stands world.old log.old }
+    requires stands { Stands driver.old log.old }
     requires number { number ≡ 1 + length log.old }
-    ensures stands { Stands world.new log.new }
+    ensures stands { Stands driver.new log.new }
     ensures runs { LineRuns number line.now log.old log.new (K.held sink.old) (K.held sink.new) (K.faults sink.old) (K.faults sink.new) result }
 {
     let step = match read_line(alloc, line, number) {
@@ -60,11 +60,11 @@ fn one_line<K: Sink>(
         Err(LineError::Bad) => return Err(RunError::Malformed(number)),
         Err(LineError::OutOfMemory) => return Err(RunError::OutOfMemory),
     };
-    if !world.may_come(&step) {
+    if !driver.may_come(&step) {
         drop(step);
         return Err(RunError::Malformed(number));
     }
-    let answer = one_step(alloc, &step, world, log, sink);
+    let answer = one_step(alloc, &step, driver, log, sink);
     drop(step);
     answer
 }
@@ -76,14 +76,14 @@ fn run_lines<K: Sink>(alloc: Global, input: &[u8], sink: &mut K) -> Result<Log, 
     ensures ends { IfErr result (RunEnds input.now (K.held sink.old) (K.held sink.new) (K.faults sink.old) (K.faults sink.new)) }
 {
     let mut log = Log::new(alloc);
-    let mut world = World::new();
+    let mut driver = Driver::new();
     let mut rest = input;
     let mut number = 1u32;
     while !rest.is_empty() {
         match cut_line(rest) {
             None => return Err(RunError::Malformed(number)),
             Some((line, behind)) => {
-                match one_line(alloc, line, number, &mut world, &mut log, sink) {
+                match one_line(alloc, line, number, &mut driver, &mut log, sink) {
                     Ok(()) => {}
                     Err(e) => return Err(e),
                 }

@@ -1,11 +1,11 @@
 use Rattle.std.proofs.Common.{length}
-use Rattle.mdb_world.specs.Standing.{Stands}
+use Rattle.mdb_topology.specs.Driving.{Stands}
 use Rattle.mdb_runs.proofs.Between.{Between}
 use Rattle.mdb_runs.proofs.run.run_lines.Given as goal
 
 abbrev pub invariant-loop-rest : goal.invariant-loop-rest
 invariant-loop-rest g l = record {
-  stands : Stands l.world l.log;
+  stands : Stands l.driver l.log;
   between : Between l.input l.rest l.number l.log (g.K.Sink.held l.initial.sink) (g.K.Sink.held l.sink) (g.K.Sink.faults l.initial.sink) (g.K.Sink.faults l.sink);
 }
 

@@ -1,0 +1,101 @@
+-- Accepted steps that change no pool.
+use Rattle.std.proofs.Common.{◌≡◌, ◌≤◌, ◌+◌, ◌^◌, ◌||◌, true, false, List, [], ◌∷◌, ◌++◌, length, None, is_some, refl, sym, ◌∙◌, ap, subst, arith}
+use Rattle.std.specs.Prelude.{unwrap_or, All}
+use Rattle.std.proofs.Common.{append-nil}
+use Rattle.std.proofs.lemmas.List.Elements.{All-nil}
+use Rattle.mdb_base.specs.declared.options.Options.{Options}
+use Rattle.mdb_describe.specs.Servers.{in_order, is_known}
+use Rattle.mdb_monitor.specs.Standing.{StandsFor as MonitorStands}
+use Rattle.mdb_log.specs.declared.step.Step.{Step}
+use Rattle.mdb_log.specs.declared.reply.Reply.TheVariants.{NoJob}
+use Rattle.mdb_log.specs.Connections.{one_if}
+use Rattle.mdb_log.specs.History.{Item, did, with_answer}
+use Rattle.mdb_log.specs.Homes.{homes}
+use Rattle.mdb_log.specs.Opening.{pool_options}
+use Rattle.mdb_pool.specs.declared.pool_core.PoolCore.{PoolCore}
+use Rattle.mdb_topology.specs.declared.topology.TopologyCore.{TopologyCore}
+use Rattle.mdb_topology.specs.declared.next.Next.{Next}
+use Rattle.mdb_topology.specs.Description.{is_stop}
+use Rattle.mdb_topology.specs.Finding.{is_pool_act}
+use Rattle.mdb_topology.specs.Planned.{LeadsAll}
+use Rattle.mdb_topology.specs.Standing.{at_address, PoolsStand, MonitorsFit, Describes, Counts, StandsFor}
+use Rattle.mdb_topology.specs.Stepping.{known_after, Follows}
+use Rattle.mdb_topology.specs.Taking.{Rests}
+use Rattle.mdb_topology.specs.Changing.{IsChanging, IsTold}
+use Rattle.mdb_topology.proofs.Differing.{open-known}
+use Rattle.mdb_topology.proofs.Following.{follows, early-later}
+use Rattle.mdb_topology.proofs.PlannedOne.{planned-still}
+use Rattle.mdb_topology.proofs.Same.{IsPlain}
+use Rattle.mdb_topology.proofs.Still.{IsStill, known-still, counts-still, monitors-still}
+use Rattle.mdb_topology.proofs.Tame.{no-rule, pool-still, pool-goes-on}
+use Rattle.mdb_topology.proofs.Telling.{tells-none}
+
+module _ (w : TopologyCore) (h : List Item) (z : StandsFor w h) (step : Step) (l : w.pools.last ≤ step.moment) (n : Next) (changes : n.changes.items ≡ []) (facts : n.facts.items ≡ []) (none : n.monitors.items ≡ []) where
+  abbrev o : Options
+  o = w.options
+
+  abbrev pools : List PoolCore
+  pools = w.pools.cores.items
+
+  -- a step of the topology that tells nothing
+  pub follows-quiet : IsPlain n.reply → (unwrap_or n.description w.description).servers ≡ w.description.servers → IsChanging o h w.description n.description step n.reply n.stops [] → Follows w n step h
+  follows-quiet plain same c =
+      follows w h z step l n plain [] c told
+      (subst (λ xs. in_order xs ≡ true) (sym same) z.described.ordered) (subst (λ xs. length xs ≤ 128) (sym same) z.described.few) (rw (none, changes) refl)
+      (subst (All (λ x. MonitorStands x [])) (sym none) (All-nil (λ x. MonitorStands x []))) refl
+    where
+      told : IsTold o step.moment pools (length pools) (unwrap_or n.description w.description) [] n.changes.items n.facts.items
+      told = rw (changes, facts) (record {
+        touched = λ a. false;
+        planned = planned-still o step.moment pools (length pools) (λ a. false) [] [] [] (λ now can. tells-none o step.moment now []);
+        few = omega (arith, z.numbers);
+        open_for = λ later k can leads y a. ap (λ xs. is_some (at_address xs a)) leads ∙ (open-known w (h, z) a ∙ ap (is_known a) (sym same));
+      })
+
+  -- an act of a pool that concerns none
+  module _ (act : is_pool_act step.act ≡ true) (reply : n.reply ≡ NoJob) (known : n.description ≡ None) (goes_on : n.stops ≡ false) (r : Rests o pools step h) where
+    abbrev k : List Item
+    k = did step NoJob ∷ h
+
+    k-is : with_answer step n.reply n.facts.items h ≡ k
+    k-is = rw (reply, facts) refl
+
+    still : IsStill step.act
+    still = pool-still step.act act
+
+    homes-are : homes k ≡ homes h ++ []
+    homes-are = sym (append-nil (homes h))
+
+    monitors-fit : MonitorsFit o (w.monitors.items ++ n.monitors.items) k
+    monitors-fit = subst (λ ns. MonitorsFit o (w.monitors.items ++ ns) k) (sym none) (monitors-still o h step.moment step.act still NoJob [] w.monitors.items [] [] z.monitors homes-are refl (All-nil (λ x. MonitorStands x [])))
+
+    describes : Describes o (unwrap_or n.description w.description) k
+    describes = subst (λ x. Describes o (unwrap_or x w.description) k) (sym known) (record {
+      known = known-still o h step.moment step.act still NoJob [] w.description z.described.known ∙ ap (λ x. unwrap_or (known_after x w.description) w.description) (no-rule o h step act);
+      ordered = z.described.ordered;
+      few = z.described.few;
+      open_for = z.described.open_for;
+    })
+
+    counted : Counts o step.moment (w.published + one_if (is_some n.description)) w.fresh (n.stops || w.stopped) w.watchers k
+    counted =
+        subst (λ b. Counts o step.moment (w.published + one_if (is_some n.description)) w.fresh (b || w.stopped) w.watchers k) (sym goes_on)
+        (subst (λ x. Counts o step.moment (w.published + one_if (is_some x)) w.fresh w.stopped w.watchers k) (sym known)
+        (subst (λ b. Counts o step.moment (w.published + one_if false) w.fresh (b || w.stopped) w.watchers k) (pool-goes-on step.act act)
+        (subst (λ x. Counts o step.moment (w.published + one_if (is_some x)) w.fresh (is_stop step.act || w.stopped) w.watchers k) (no-rule o h step act)
+        (counts-still o h step.moment step.act still NoJob [] w.pools.last w.published w.fresh w.stopped w.watchers z.counts))))
+
+    pub follows-idle : Follows w n step h
+    follows-idle = record {
+      answer_is = rw (reply, facts) r.answer_is;
+      fair = rw (reply, facts) r.fair;
+      fresh = rw facts tt;
+      leads = rw changes (pools, refl);
+      pools = λ later leads. let e : later ≡ pools = subst (λ cs. LeadsAll cs pools later) changes leads in subst (λ xs. PoolsStand (pool_options o) xs (with_answer step n.reply n.facts.items h)) (sym e) (rw (reply, facts) r.stands);
+      numbers = λ later leads. let e : later ≡ pools = subst (λ cs. LeadsAll cs pools later) changes leads in subst (λ xs. length xs ≤ 2 ^ 32) (sym e) z.numbers;
+      early = λ later leads. let e : later ≡ pools = subst (λ cs. LeadsAll cs pools later) changes leads in subst (All (λ s. s.last ≤ step.moment)) (sym e) (early-later pools w.pools.last step.moment l z.early);
+      each_opened = rw (none, changes) refl;
+      monitors = subst (MonitorsFit o (w.monitors.items ++ n.monitors.items)) (sym k-is) monitors-fit;
+      described = subst (Describes o (unwrap_or n.description w.description)) (sym k-is) describes;
+      counts = subst (Counts o step.moment (w.published + one_if (is_some n.description)) w.fresh (n.stops || w.stopped) w.watchers) (sym k-is) counted;
+    }

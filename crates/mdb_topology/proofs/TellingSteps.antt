@@ -1,0 +1,184 @@
+-- A step that tells of the topology and does nothing in a pool by itself: its facts are those of its rule.
+use Rattle.std.proofs.Common.{ℕ, ◌≡◌, ◌≤◌, true, false, if◌then◌else◌, List, [], ◌∷◌, ◌++◌, length, Option, Some, None, nat_lt, refl, sym, ◌∙◌, ap, subst, arith}
+use Rattle.std.specs.Prelude.{flat_map}
+use Rattle.std.proofs.Common.{append-nil}
+use Rattle.std.proofs.lemmas.Bool.Decides.{nat_tests}
+use Rattle.mdb_base.specs.declared.options.Options.{Options}
+use Rattle.mdb_events.specs.declared.fact.Fact.{Fact}
+use Rattle.mdb_events.specs.declared.fact.Fact.TheVariants.{Granted}
+use Rattle.mdb_log.specs.declared.options.PoolOptions.{PoolOptions}
+use Rattle.mdb_log.specs.declared.step.Step.{Step}
+use Rattle.mdb_log.specs.declared.step.Act.{Act}
+use Rattle.mdb_log.specs.declared.step.Act.TheVariants as Do
+use Rattle.mdb_log.specs.declared.reply.Refused.TheVariants.{Exhausted}
+use Rattle.mdb_log.specs.declared.reply.What.{What}
+use Rattle.mdb_log.specs.declared.reply.What.TheVariants.{Servers}
+use Rattle.mdb_log.specs.declared.reply.Reply.{Reply}
+use Rattle.mdb_log.specs.declared.reply.Reply.TheVariants.{Changed, Count, Done}
+use Rattle.mdb_log.specs.History.{Item, did, made, of_pool, with_facts, with_answer}
+use Rattle.mdb_log.specs.Homes.{Home}
+use Rattle.mdb_log.specs.LegalLog.{FirstCome, AllFirstCome, IsFairAnswer}
+use Rattle.mdb_log.specs.Legal.{IsNext}
+use Rattle.mdb_log.specs.Fresh.{GrantsFresh}
+use Rattle.mdb_log.specs.Beside.{FreshGrant, AllFreshGrants}
+use Rattle.mdb_log.specs.Opening.{pool_options}
+use Rattle.mdb_log.specs.Own.{IsAccepted}
+use Rattle.mdb_log.proofs.Later.{with_answer-accepted}
+use Rattle.mdb_pool.specs.declared.pool_core.PoolCore.{PoolCore}
+use Rattle.mdb_pool.specs.Serving.{serving}
+use Rattle.mdb_pool.proofs.Served.{served-serving}
+use Rattle.mdb_topology.specs.Homes.{home_of, begun}
+use Rattle.mdb_topology.specs.Turns.{in_turn}
+use Rattle.mdb_topology.specs.Monitors.{heartbeat}
+use Rattle.mdb_topology.specs.Description.{rule_after, description_of}
+use Rattle.mdb_topology.specs.Publishing.{told_by}
+use Rattle.mdb_topology.specs.Facts.{trouble, clear_of, clearing, asking, own_facts, serve_all, step_facts}
+use Rattle.mdb_topology.specs.Refusal.{first_refusal, first_past, sooner, exhausted, ran_out, refused_by, refusal}
+use Rattle.mdb_topology.specs.Answer.{reply_to, answered, answer}
+use Rattle.mdb_topology.specs.Standing.{home, PoolsStand}
+use Rattle.mdb_topology.specs.Telling.{Comes, Tells}
+use Rattle.mdb_topology.proofs.Laws.{turn-append}
+use Rattle.mdb_topology.proofs.Limits.{past-append}
+use Rattle.mdb_topology.proofs.Lists.{flat-none}
+use Rattle.mdb_topology.proofs.Same.{SameFor, IsOutside, IsPlain, outside, same-fact, same-trans, same-sym, same-reply}
+use Rattle.mdb_topology.proofs.Telling.{same-stand}
+
+-- grants are as fair, and of connections as fresh, where the pools know the same
+pub same-fair : (m : ℕ) (fs : List Fact) (h k : List Item) → SameFor h k → AllFirstCome m h fs → AllFirstCome m k fs
+same-fair m [] h k e a = tt
+same-fair m (f ∷ fs) h k e a = (one f a.0, same-fair m fs (made m f ∷ h) (made m f ∷ k) (same-fact m f h k e) a.1)
+  where
+    one : (f : Fact) → FirstCome h f → FirstCome k f
+    one (Granted r q c) b = subst (λ xs. IsNext xs r) (sym (e.items q)) b
+    one _ b = tt
+
+pub same-fresh : (o : PoolOptions) (m : ℕ) (fs : List Fact) (h k : List Item) → SameFor h k → AllFreshGrants o m h fs → AllFreshGrants o m k fs
+same-fresh o m [] h k e a = tt
+same-fresh o m (f ∷ fs) h k e a = (one f a.0, same-fresh o m fs (made m f ∷ h) (made m f ∷ k) (same-fact m f h k e) a.1)
+  where
+    one : (f : Fact) → FreshGrant o m h f → FreshGrant o m k f
+    one (Granted r q c) b = subst (λ xs. GrantsFresh o m xs (Granted r q c)) (sym (e.items q)) b
+    one _ b = tt
+
+-- an act of no pool has no facts of its own
+no-own : (o : Options) (h : List Item) (m : ℕ) (act : Act) → IsOutside act → (x : Option Home) (k : List Item) → own_facts o h (record { moment = m; act = act }) x k ≡ []
+no-own o h m act c None k = refl
+no-own o h m (Do.Error r e) c (Some x) k = refl
+no-own o h m (Do.Hello a p came) c (Some x) k = refl
+no-own o h m (Do.Beat a p) c (Some x) k = refl
+no-own o h m (Do.Beaten a p d came) c (Some x) k = refl
+no-own o h m (Do.Rtt a p d) c (Some x) k = refl
+no-own o h m (Do.Hosts hosts) c (Some x) k = refl
+no-own o h m (Do.ClusterTime t) c (Some x) k = refl
+no-own o h m (Do.Want w) c (Some x) k = refl
+no-own o h m (Do.Unwant w) c (Some x) k = refl
+no-own o h m Do.Stop c (Some x) k = refl
+no-own o h m _ c (Some x) k = elim c [ ]
+
+pub accepted-plain : (reply : Reply) → IsPlain reply → IsAccepted reply
+accepted-plain Done c = tt
+accepted-plain (Changed b) c = tt
+accepted-plain (Count n) c = tt
+accepted-plain _ c = elim c [ ]
+
+fair-plain : (h : List Item) (step : Step) (reply : Reply) (fs : List Fact) → IsPlain reply → AllFirstCome step.moment (did step reply ∷ h) fs → IsFairAnswer h step reply fs
+fair-plain h step Done fs c a = a
+fair-plain h step (Changed b) fs c a = a
+fair-plain h step (Count n) fs c a = a
+fair-plain h step _ fs c a = elim c [ ]
+
+-- pools that are served have nothing to serve
+pub served-all : (o : Options) (m : ℕ) (pools : List PoolCore) (k : List Item) → PoolsStand (pool_options o) pools k → serve_all o m k ≡ []
+served-all o m pools k z =
+    ap (flat_map (λ (x : Home). serving x.number x.address (pool_options o) m (of_pool x.number k))) z.fit.homes_are
+    ∙ flat-none home (λ (x : Home). serving x.number x.address (pool_options o) m (of_pool x.number k)) pools (λ j s at. served-serving (pool_options o) (of_pool s.pool k) (z.served s.pool) s.pool s.address m)
+
+module _ (o : Options) (h : List Item) (m : ℕ) (act : Act) where
+  abbrev step : Step
+  step = record { moment = m; act = act }
+
+  abbrev k : List Item
+  k = begun h step
+
+  -- what its rule tells
+  abbrev pub told : List (List Item → List Fact)
+  told = told_by o m (rule_after o h step) (description_of o h)
+
+  abbrev pub F : List Fact
+  F = in_turn m told k
+
+  -- the parts after those of the rule
+  abbrev rest : List (List Item → List Fact)
+  rest = clearing o m (trouble o h step) (clear_of o h step) ∷ asking o (trouble o h step) (clear_of o h step) ∷ own_facts o h step (home_of h act) ∷ serve_all o m ∷ []
+
+  module _ (quiet : heartbeat o h act ≡ []) where
+    pub told-first : step_facts o h step ≡ F ++ in_turn m rest (with_facts m F k)
+    told-first = rw quiet (turn-append m told rest k)
+
+    -- a number that its rule takes past a limit is the first
+    pub past-told : (what : What) → first_past o m k F ≡ Some what → first_past o m k (step_facts o h step) ≡ Some what
+    past-told what e =
+        ap (first_past o m k) told-first
+        ∙ (past-append o m k F (in_turn m rest (with_facts m F k))
+        ∙ ap (λ x. sooner x (first_past o m (with_facts m F k) (in_turn m rest (with_facts m F k)))) e)
+
+    pub refused-told : (what : What) → first_refusal o h step ≡ None → length (description_of o k).servers ≤ 128 → first_past o m k F ≡ Some what → refusal o h step ≡ Some (Exhausted what)
+    refused-told what first few e =
+        let less : nat_lt 128 (length (description_of o k).servers) ≡ false = grind (arith, nat_tests) in
+        let past : first_past o m k (step_facts o h step) ≡ Some what = past-told what e in
+        let all : exhausted o h step (step_facts o h step) ≡ Some what = ap (λ b. if b then Some Servers else first_past o m k (step_facts o h step)) less ∙ past in
+        ap (λ x. refused_by x (ran_out (exhausted o h step (step_facts o h step)))) first ∙ ap ran_out all
+
+  -- more than 128 servers
+  pub refused-servers : first_refusal o h step ≡ None → nat_lt 128 (length (description_of o k).servers) ≡ true → refusal o h step ≡ Some (Exhausted Servers)
+  refused-servers first many =
+      let all : exhausted o h step (step_facts o h step) ≡ Some Servers = ap (λ b. if b then Some Servers else first_past o m k (step_facts o h step)) many in
+      ap (λ x. refused_by x (ran_out (exhausted o h step (step_facts o h step)))) first ∙ ap ran_out all
+
+  module _ (pools later : List PoolCore) (facts : List Fact) (z : PoolsStand (pool_options o) pools h) (out : IsOutside act) (quiet : heartbeat o h act ≡ []) (calm : trouble o h step ≡ None)
+      (tells : Tells o m told pools later [] facts) where
+    begins : SameFor h k
+    begins = outside m act Done h out tt
+
+    comes : Comes o m F later [] facts k
+    comes = tells k (same-stand (pool_options o) pools h k begins z)
+
+    pub facts-told : facts ≡ F
+    facts-told = comes.added
+
+    pub step-told : step_facts o h step ≡ F
+    step-told =
+        told-first quiet
+        ∙ (rw (calm, no-own o h m act out (home_of h act) (with_facts m F k)) (ap (λ fs. F ++ (fs ++ [])) (served-all o m later (with_facts m F k) comes.stand))
+        ∙ append-nil F)
+
+    module _ (reply : Reply) (plain : IsPlain reply) where
+      same : SameFor (with_facts m F k) (with_facts m F (did step reply ∷ h))
+      same = same-reply m act reply h F out plain
+
+      pub stands-told : PoolsStand (pool_options o) later (with_answer step reply facts h)
+      stands-told =
+          subst (λ fs. PoolsStand (pool_options o) later (with_answer step reply fs h)) (sym facts-told)
+          (subst (PoolsStand (pool_options o) later) (sym (with_answer-accepted step reply F h (accepted-plain reply plain)))
+          (same-stand (pool_options o) later (with_facts m F k) (with_facts m F (did step reply ∷ h)) same comes.stand))
+
+      begins-true : SameFor k (did step reply ∷ h)
+      begins-true = same-trans k h (did step reply ∷ h) (same-sym h k begins) (outside m act reply h out plain)
+
+      pub fair-told : IsFairAnswer h step reply facts
+      fair-told = fair-plain h step reply facts plain (subst (AllFirstCome m (did step reply ∷ h)) (sym facts-told) (same-fair m F k (did step reply ∷ h) begins-true comes.fair))
+
+      pub fresh-told : AllFreshGrants (pool_options o) m (did step reply ∷ h) facts
+      fresh-told = subst (AllFreshGrants (pool_options o) m (did step reply ∷ h)) (sym facts-told) (same-fresh (pool_options o) m F k (did step reply ∷ h) begins-true comes.fresh)
+
+      -- the answer, where no row and no limit refuses the step
+      pub answer-told : first_refusal o h step ≡ None → length (description_of o k).servers ≤ 128 → first_past o m k F ≡ None → reply_to o h step (with_facts m F k) act ≡ reply
+          → answer o h step ≡ record { reply = reply; facts = facts }
+      answer-told first few past replies =
+          let less : nat_lt 128 (length (description_of o k).servers) ≡ false = grind (arith, nat_tests) in
+          let spare : exhausted o h step F ≡ None = ap (λ b. if b then Some Servers else first_past o m k F) less ∙ past in
+          let none : refusal o h step ≡ None = ap (λ fs. refused_by (first_refusal o h step) (ran_out (exhausted o h step fs))) step-told ∙ (ap (λ x. refused_by (first_refusal o h step) (ran_out x)) spare ∙ ap (λ x. refused_by x None) first) in
+          ap (λ x. answered o h step x (step_facts o h step)) none
+          ∙ (ap (answered o h step None) step-told
+          ∙ (ap (λ b. record { reply = b; facts = F }) replies
+          ∙ ap (λ fs. record { reply = reply; facts = fs }) (sym facts-told)))

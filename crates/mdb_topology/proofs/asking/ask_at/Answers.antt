@@ -1,0 +1,30 @@
+use Rattle.std.proofs.Common.{◌≡◌, None, refl, sym, ◌∙◌, subst}
+use Rattle.std.specs.Prelude.{All}
+use Rattle.mdb_log.specs.Acts.{IsPoolAct}
+use Rattle.mdb_log.specs.declared.step.Step.{Step}
+use Rattle.mdb_pool.specs.Parts.{DoesAll}
+use Rattle.mdb_pool.specs.Refusing.{refusal_now}
+use Rattle.mdb_topology.proofs.Told.{takes-act, one-takes, some-told, done-told}
+use Rattle.mdb_topology.proofs.asking.ask_at.Goals as goal
+
+pub refusal_now-requires : goal.refusal_now-requires
+refusal_now-requires c = takes-act c.args.pool.now.pool c.args.step.now.act c.requires
+
+pub prepare-requires : goal.prepare-requires
+prepare-requires c = subst (All (λ (step : Step). IsPoolAct c.args.pool.now.pool step.act)) (sym c.from_ref.ensures.value) (one-takes c.args.pool.now.pool c.args.step.now c.requires)
+
+pub unreachable-requires : goal.unreachable-requires
+unreachable-requires c =
+    let plan = c.in_ok-answers.ensures.plan in
+    some-told c.args.pool.now plan.0 c.args.step.now c.in_ok-answers.answers.items (subst (λ steps. DoesAll c.args.pool.now plan.0 steps c.in_ok-answers.answers.items) c.from_ref.ensures.value (c.in_ok-answers.ensures.does plan.0 plan.1))
+    (sym c.in_ok-answers.answers.ok.0 ∙ c.in_default-pop.ensures.cases.0)
+
+pub returns-clause-asked : goal.returns-clause-asked
+returns-clause-asked c =
+    let n : refusal_now c.args.pool.now c.args.step.now ≡ None = sym c.refusal_now.ensures.kept ∙ c.in_default.is in (
+      refl,
+      n,
+      c.in_ok-answers.ensures.plan,
+      λ t p. done-told c.args.pool.now t c.args.step.now c.pop.new.self.items c.in_ok-answers.answers.items c.in-Some-pop.told n c.in-Some-pop.ensures.items
+          (subst (λ steps. DoesAll c.args.pool.now t steps c.in_ok-answers.answers.items) c.from_ref.ensures.value (c.in_ok-answers.ensures.does t p)),
+    )

@@ -1,0 +1,30 @@
+use Rattle.std.proofs.Common.{◌≡◌, ◌∙◌, ◌++◌, ◌∷◌, [], None, true, ap, sym, subst, refl}
+use Rattle.mdb_log.specs.declared.reply.Reply.TheVariants.{Done}
+use Rattle.mdb_topology.specs.declared.topology.TopologyCore.{TopologyCore}
+use Rattle.mdb_describe.specs.Servers.{in_order}
+use Rattle.mdb_topology.specs.Publishing.{topology_closed_fact}
+use Rattle.mdb_topology.specs.declared.next.Next.{Next}
+use Rattle.mdb_topology.specs.Changing.{IsChanging}
+use Rattle.mdb_topology.proofs.Becoming.{as-next, stops-next}
+use Rattle.mdb_topology.proofs.Same.{IsPlain}
+use Rattle.mdb_topology.proofs.Updating.{stop-resting}
+use Rattle.mdb_topology.proofs.FollowingQuiet.{follows-quiet}
+use Rattle.mdb_topology.proofs.topology.TopologyCore.stop_all.Goals as goal
+
+pub returns-then-self-clause-becomes : goal.returns-then-self-clause-becomes
+returns-then-self-clause-becomes c h z =
+    let w = c.args.self.now in
+    let m = c.args.step.now.moment in
+    let r = c.of_reply.result in
+    let e = c.of_reply.ensures in
+    let n : Next = record { reply = r.reply; facts = r.facts; changes = r.changes; description = r.description; monitors = r.monitors; stops = true } in
+    let rests = subst (λ a. IsChanging w.options h w.description None (record { moment = m; act = a }) Done true []) (sym c.requires.act) (stop-resting w h z m c.requires.in_time c.if-self.true) in
+    follows-quiet w h z c.args.step.now c.requires.in_time n e.changes e.facts e.monitors (subst IsPlain (sym e.reply) tt) (rw e.description refl) (as-next rests e.description e.reply refl)
+
+pub returns-clause-becomes : goal.returns-clause-becomes
+returns-clause-becomes c h z =
+    let w = c.args.self.now in
+    let made = c.into_next.ensures in
+    let told = c.in_ok-told.ensures in
+    stops-next w h z c.args.step.now c.requires.in_time c.requires.act c.if-self.false c.in_ok-later.later c.in_ok-later.ensures c.in_ok-diff.diff (sym c.in_ok-diff.ensures.difference) c.in_ok-told.told.changes.items c.in_ok-told.told.facts.items told.told
+    c.into_next.result made.reply made.description made.stops (rw made.changes refl) (ap (λ v. v.items) made.facts ∙ subst (λ (x : TopologyCore). c.tell_closed.new.facts.items ≡ c.in_ok-told.told.facts.items ++ topology_closed_fact x.options ∷ []) told.same c.in_ok-tell_closed.ensures) (subst (λ x. in_order x.servers ≡ true) (sym c.in_ok-later.ensures) refl) (rw (made.monitors, made.changes) told.settings) (rw made.monitors told.stand)

@@ -1,0 +1,82 @@
+-- Which of the pools an act concerns, by what they keep, and why it is refused where it concerns none.
+use Rattle.std.specs.Prelude.{ℕ, Bool, true, false, if◌then◌else◌, nat_lt, is_some, List, length, position, Option, Some, None}
+use Rattle.mdb_log.specs.declared.step.Act.{Act}
+use Rattle.mdb_log.specs.declared.step.Act.TheVariants.{Request, Warm, Maintain, Expire, Collect, Claim, GiveUp, Established, Return, Pin, Replicate, Take, Unpin}
+use Rattle.mdb_log.specs.declared.reply.Refused.{Refused}
+use Rattle.mdb_log.specs.declared.reply.Refused.TheVariants.{UnknownServer, RequestKnown, UnknownRequest, NotHolder, NotPending, Unpinned}
+use Rattle.mdb_pool.specs.declared.pool_core.PoolCore.{PoolCore}
+use Rattle.mdb_pool.specs.Kept.{request_at, is_asked_at, held_connection, first_unclaimed}
+use Rattle.mdb_topology.specs.Standing.{at_address, knows}
+
+-- The acts of one pool that clear none.
+abbrev pub is_pool_act : Act → Bool
+is_pool_act (Request r a) = true
+is_pool_act (Warm r a) = true
+is_pool_act (Maintain a) = true
+is_pool_act (Expire a) = true
+is_pool_act (Collect r) = true
+is_pool_act Claim = true
+is_pool_act (GiveUp r) = true
+is_pool_act (Established q c how) = true
+is_pool_act (Return r used) = true
+is_pool_act (Pin r) = true
+is_pool_act (Replicate q c) = true
+is_pool_act (Take r q c) = true
+is_pool_act (Unpin q c) = true
+is_pool_act _ = false
+
+-- the first pool that was asked by the party
+abbrev pub asked_by : List PoolCore → ℕ → Option ℕ
+asked_by pools r = position (λ s. is_asked_at (request_at s r)) pools
+
+-- the first pool of which the party holds a connection
+abbrev pub holder : List PoolCore → ℕ → Option ℕ
+holder pools r = position (λ s. is_some (held_connection s r)) pools
+
+-- the first pool that has a job
+abbrev pub first_job : List PoolCore → Option ℕ
+first_job pools = position (λ s. is_some (first_unclaimed s)) pools
+
+-- the pool with the number
+abbrev pub numbered : List PoolCore → ℕ → Option ℕ
+numbered pools p = if nat_lt p (length pools) then Some p else None
+
+-- the pool that the act concerns
+abbrev pub place_of : List PoolCore → Act → Option ℕ
+place_of pools (Request r a) = at_address pools a
+place_of pools (Warm r a) = at_address pools a
+place_of pools (Maintain a) = at_address pools a
+place_of pools (Expire a) = at_address pools a
+place_of pools (Collect r) = asked_by pools r
+place_of pools (GiveUp r) = asked_by pools r
+place_of pools Claim = first_job pools
+place_of pools (Established q c how) = numbered pools q
+place_of pools (Return r used) = holder pools r
+place_of pools (Pin r) = holder pools r
+place_of pools (Replicate q c) = numbered pools q
+place_of pools (Take r q c) = numbered pools q
+place_of pools (Unpin q c) = numbered pools q
+place_of pools _ = None
+
+-- the act uses up the number of a party that some pool knows
+abbrev pub names_known : List PoolCore → Act → Bool
+names_known pools (Request r a) = knows pools r
+names_known pools (Warm r a) = knows pools r
+names_known pools (Take r q c) = knows pools r
+names_known pools _ = false
+
+-- Why an act that concerns no pool is refused; a claim is not.
+abbrev pub missing_pool : List PoolCore → Act → Option Refused
+missing_pool pools (Request r a) = Some UnknownServer
+missing_pool pools (Warm r a) = Some UnknownServer
+missing_pool pools (Maintain a) = Some UnknownServer
+missing_pool pools (Expire a) = Some UnknownServer
+missing_pool pools (Collect r) = Some UnknownRequest
+missing_pool pools (GiveUp r) = Some UnknownRequest
+missing_pool pools (Established q c how) = Some NotPending
+missing_pool pools (Return r used) = Some NotHolder
+missing_pool pools (Pin r) = Some NotHolder
+missing_pool pools (Replicate q c) = Some Unpinned
+missing_pool pools (Take r q c) = Some (if knows pools r then RequestKnown else Unpinned)
+missing_pool pools (Unpin q c) = Some Unpinned
+missing_pool pools _ = None

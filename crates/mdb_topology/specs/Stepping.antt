@@ -1,0 +1,80 @@
+-- What an accepted step makes of a driver.
+use Rattle.std.specs.Prelude.{ℕ, ◌≡◌, ◌≤◌, ◌+◌, ◌^◌, ◌||◌, All, Bool, true, false, List, [], ◌∷◌, ◌++◌, length, Option, Some, None, is_some, unwrap_or}
+use Rattle.mdb_base.specs.declared.address.ServerAddress.{ServerAddress}
+use Rattle.mdb_describe.specs.declared.topology.TopologyDescription.{TopologyDescription}
+use Rattle.mdb_log.specs.declared.log.Entry.{Entry}
+use Rattle.mdb_log.specs.declared.step.Step.{Step}
+use Rattle.mdb_log.specs.declared.step.Act.{Act}
+use Rattle.mdb_log.specs.declared.step.Act.TheVariants as Do
+use Rattle.mdb_log.specs.declared.checked.HelloResult.TheVariants as Hello
+use Rattle.mdb_topology.specs.Finding.{is_pool_act}
+use Rattle.mdb_log.specs.History.{Item, did, is_number, with_answer}
+use Rattle.mdb_log.specs.LegalLog.{IsFairAnswer}
+use Rattle.mdb_log.specs.Beside.{AllFreshGrants}
+use Rattle.mdb_log.specs.Connections.{one_if}
+use Rattle.mdb_log.specs.Opening.{pool_options}
+use Rattle.mdb_pool.specs.declared.pool_core.PoolCore.{PoolCore}
+use Rattle.mdb_topology.specs.declared.topology.TopologyCore.{TopologyCore}
+use Rattle.mdb_topology.specs.declared.next.Next.{Next}
+use Rattle.mdb_topology.specs.declared.next.Stepped.{Stepped}
+use Rattle.mdb_topology.specs.declared.next.Stepped.TheVariants.{Refused, Accepted}
+use Rattle.mdb_topology.specs.Answer.{answer}
+use Rattle.mdb_topology.specs.Refusal.{refusal}
+use Rattle.mdb_topology.specs.Description.{Rule, applied}
+use Rattle.mdb_topology.specs.Planned.{LeadsAll, opened_by}
+use Rattle.mdb_topology.specs.Standing.{at_address, PoolsStand, MonitorsFit, Describes, Counts, StandsFor}
+
+-- the pool with the number is the open one of the address
+abbrev pub is_here_among : List PoolCore → ServerAddress → ℕ → Bool
+is_here_among pools a p = is_number (at_address pools a) p
+
+-- what is known after a rule, and nothing new where there is none
+abbrev pub known_after : Option Rule → TopologyDescription → Option TopologyDescription
+known_after None t = None
+known_after (Some rule) t = Some (applied (Some rule) t)
+
+-- The acts of the topology that are built so far.
+abbrev pub is_topology_act : Act → Bool
+is_topology_act (Do.Hello a p (Hello.Ok rtt r)) = true
+is_topology_act (Do.Hosts hosts) = true
+is_topology_act (Do.ClusterTime time) = true
+is_topology_act Do.Stop = true
+is_topology_act _ = false
+
+-- The acts of a driver that are built so far.
+abbrev pub is_built : Act → Bool
+is_built act = is_pool_act act || is_topology_act act
+
+-- An accepted step: its answer, and what each part of the driver then is, where its pools are those to which the changes lead.
+pub record Follows (w : TopologyCore) (n : Next) (step : Step) (h : List Item) : Type 0 where
+  pub answer_is : answer w.options h step ≡ record { reply = n.reply; facts = n.facts.items }
+  pub fair : IsFairAnswer h step n.reply n.facts.items
+  pub fresh : AllFreshGrants (pool_options w.options) step.moment (did step n.reply ∷ h) n.facts.items
+  pub leads : (later : List PoolCore) × LeadsAll n.changes.items w.pools.cores.items later
+  pub pools : (later : List PoolCore) → LeadsAll n.changes.items w.pools.cores.items later → PoolsStand (pool_options w.options) later (with_answer step n.reply n.facts.items h)
+  pub numbers : (later : List PoolCore) → LeadsAll n.changes.items w.pools.cores.items later → length later ≤ 2 ^ 32
+  pub early : (later : List PoolCore) → LeadsAll n.changes.items w.pools.cores.items later → All (λ s. s.last ≤ step.moment) later
+  pub each_opened : length n.monitors.items ≡ length (opened_by n.changes.items)
+  pub monitors : MonitorsFit w.options (w.monitors.items ++ n.monitors.items) (with_answer step n.reply n.facts.items h)
+  pub described : Describes w.options (unwrap_or n.description w.description) (with_answer step n.reply n.facts.items h)
+  pub counts : Counts w.options step.moment (w.published + one_if (is_some n.description)) w.fresh (n.stops || w.stopped) w.watchers (with_answer step n.reply n.facts.items h)
+
+-- so it is after some history
+abbrev pub FollowsSome : TopologyCore → Next → Step → Type 0
+FollowsSome w n step = (h : List Item) × StandsFor w h × Follows w n step h
+
+-- What becomes of a step after the history.
+abbrev pub BecomesOf : TopologyCore → Step → Stepped → List Item → Type 0
+BecomesOf w step (Refused why) h = refusal w.options h step ≡ Some why
+BecomesOf w step (Accepted n) h = Follows w n step h
+
+-- The log has one entry more, of the seat, with the answer to the step, and the driver stands for the longer history.
+pub record Logs (w v : TopologyCore) (before after : List Entry) (seat : ℕ) (step : Step) (h : List Item) : Type 0 where
+  pub entry : after ≡ before ++ record { seat = seat; step = step; reply = (answer w.options h step).reply; facts = (answer w.options h step).facts } ∷ []
+  pub stands : StandsFor v (with_answer step (answer w.options h step).reply (answer w.options h step).facts h)
+  pub fair : IsFairAnswer h step (answer w.options h step).reply (answer w.options h step).facts
+  pub fresh : AllFreshGrants (pool_options w.options) step.moment (did step (answer w.options h step).reply ∷ h) (answer w.options h step).facts
+
+-- the log got the entry of the step, whatever history the driver stood for
+abbrev pub IsLogged : TopologyCore → TopologyCore → List Entry → List Entry → ℕ → Step → Type 0
+IsLogged w v before after seat step = (h : List Item) → StandsFor w h → Logs w v before after seat step h

@@ -1,0 +1,54 @@
+//! One of the pools is asked a step.
+
+ghost use Rattle.std.specs.Prelude.{◌≡◌, ◌<◌, IfOk, length, true};
+ghost use Rattle.mdb_topology.specs.Asking.{Asked};
+ghost use Rattle.mdb_topology.specs.Finding.{is_pool_act};
+
+use crate::outcome::Outcome;
+use crate::pools::Pools;
+use mdb_base::OutOfMemory;
+use mdb_log::Step;
+use mdb_pool::PoolCore;
+use mdb_pool::parts::prepare;
+use std::alloc::Global;
+use std::slice;
+
+// The pool, which stands at the index, is asked, and stays as it is.
+fn ask_at(
+    alloc: Global,
+    pool: &mut PoolCore,
+    index: usize,
+    step: &Step,
+) -> Result<Outcome, OutOfMemory>
+    requires { is_pool_act step.now.act ≡ true }
+    ensures same { pool.new ≡ pool.old }
+    ensures asked { IfOk result (λ outcome. Asked pool.old index step.now outcome) }
+{
+    if let Some(why) = pool.refusal_now(step) {
+        return Ok(Outcome::Refused(why));
+    }
+    let (mut answers, plan) = prepare(alloc, pool, slice::from_ref(step))?;
+    let Some(told) = answers.pop() else {
+        unreachable!();
+    };
+    Ok(Outcome::Planned(index, plan, told))
+}
+
+impl Pools {
+    ghost use Rattle.mdb_topology.specs.Asking.{IsAsked};
+
+    /// The pool at the index is asked, and stays as it is.
+    pub(crate) fn ask(
+        &mut self,
+        alloc: Global,
+        index: usize,
+        step: &Step,
+    ) -> Result<Outcome, OutOfMemory>
+        requires within { index < length self.old.cores.items }
+        requires act { is_pool_act step.now.act ≡ true }
+        ensures same { self.new ≡ self.old }
+        ensures asked { IfOk result (λ outcome. IsAsked self.old.cores.items index step.now outcome) }
+    {
+        ask_at(alloc, &mut self.cores[index], index, step)
+    }
+}

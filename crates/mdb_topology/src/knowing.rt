@@ -1,0 +1,61 @@
+//! What a driver knows, as its log tells it.
+
+ghost use Rattle.std.specs.Prelude.{◌≡◌, List, option_copied, slice_get};
+
+use crate::topology::TopologyCore;
+use mdb_base::{Moment, ServerAddress};
+use mdb_describe::TopologyDescription;
+use mdb_pool::PoolCore;
+
+impl TopologyCore {
+    ghost use Rattle.mdb_log.specs.History.{Item, last_moment, open_pool};
+    ghost use Rattle.mdb_topology.specs.Description.{description_of, published};
+    ghost use Rattle.mdb_topology.specs.Monitors.{check_count};
+    ghost use Rattle.mdb_topology.specs.Standing.{StandsFor};
+
+    /// What is known of the topology.
+    pub fn description(&self) -> &TopologyDescription
+        ensures kept { result.now ≡ self.now.description }
+        ensures history { (h : List Item) → StandsFor self.now h → result.now ≡ description_of self.now.options h }
+    {
+        &self.description
+    }
+
+    /// The pool with the number. A pool that was closed keeps its number.
+    pub fn pool(&self, number: u32) -> Option<&PoolCore>
+        ensures { option_copied result ≡ slice_get self.now.pools.cores.items number }
+    {
+        self.pools.cores.get(number as usize)
+    }
+
+    /// The number of the pool that is open at the address.
+    pub fn open_pool(&self, address: &ServerAddress) -> Option<u32>
+        ensures { (h : List Item) → StandsFor self.now h → result ≡ open_pool h address.now }
+    {
+        match self.pools.at_address(address) {
+            Some(place) => u32::try_from(place).ok(),
+            None => None,
+        }
+    }
+
+    /// The moment of the last step that was accepted.
+    pub fn last_moment(&self) -> Moment
+        ensures { (h : List Item) → StandsFor self.now h → result ≡ last_moment h }
+    {
+        self.pools.last
+    }
+
+    /// How often an accepted step told of the topology, its opening included.
+    pub fn published(&self) -> u64
+        ensures { (h : List Item) → StandsFor self.now h → result ≡ published self.now.options h }
+    {
+        self.published
+    }
+
+    /// How many watchers want the servers checked at once.
+    pub fn check_count(&self) -> u64
+        ensures { (h : List Item) → StandsFor self.now h → result ≡ check_count h }
+    {
+        self.watchers.count()
+    }
+}

@@ -1,0 +1,34 @@
+//! The worker over all pools of one driver: what it knows of its servers, and what it answers to each step.
+#![tactic(auto)]
+
+mod acting;
+mod applying;
+mod asking;
+mod change;
+mod changing;
+mod driver;
+mod finding;
+mod knowing;
+mod next;
+mod opening;
+mod opening_seeds;
+mod opening_server;
+mod outcome;
+mod planning;
+mod pool_options;
+mod pools;
+mod publishing;
+mod readiness;
+mod readying;
+mod removing;
+mod rules;
+mod stepping;
+mod telling_changes;
+mod topology;
+mod topology_acts;
+mod updater;
+
+pub use changing::MAX_SERVERS;
+pub use driver::Driver;
+pub use readiness::is_ready_type;
+pub use topology::TopologyCore;

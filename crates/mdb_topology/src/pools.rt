@@ -1,0 +1,11 @@
+//! The pools of one driver.
+
+use mdb_base::Moment;
+use mdb_pool::PoolCore;
+
+/// The pools of one driver, by number, and the moment of its last accepted step. A pool that was closed keeps its place.
+#[derive(Drop)]
+pub struct Pools {
+    pub(crate) cores: Vec<PoolCore>,
+    pub(crate) last: Moment,
+}

@@ -1,0 +1,115 @@
+//! What a step makes known of the topology (SDAM, "Updating the TopologyDescription").
+
+ghost use Rattle.std.specs.Prelude.{◌≡◌, IfOk};
+ghost use Rattle.mdb_topology.specs.Monitors.{hello_reply};
+
+use crate::topology::TopologyCore;
+use mdb_base::{ClusterTime, Doc, Document, Moment, Nanos, OutOfMemory, ServerAddress};
+use mdb_describe::{ServerDescription, TopologyDescription};
+use mdb_hello::{HelloCommandResponse, HelloReply};
+use std::alloc::{AllocError, Global};
+
+// The reply of a step, which has no document and no time of the cluster.
+fn hello_reply(
+    alloc: Global,
+    address: &ServerAddress,
+    reply: &HelloCommandResponse,
+) -> Result<HelloReply, AllocError>
+    ensures { IfOk result (λ made. made ≡ hello_reply address.now reply.now) }
+{
+    let server_address = address.clone()?;
+    let command_response = reply.clone()?;
+    let nothing = Doc {
+        fields: Vec::new(alloc),
+    };
+    Ok(HelloReply {
+        server_address,
+        command_response,
+        raw_command_response: Document::new(nothing),
+        cluster_time: None,
+    })
+}
+
+impl TopologyCore {
+    ghost use Rattle.mdb_describe.specs.Descriptions.{from_reply};
+    ghost use Rattle.mdb_describe.specs.Topology.{synced, stopped, later_time};
+    ghost use Rattle.mdb_describe.specs.Update.{updated};
+
+    // What is known after a new description of a server.
+    fn updated(
+        &self,
+        alloc: Global,
+        server: ServerDescription,
+    ) -> Result<TopologyDescription, OutOfMemory>
+        ensures { IfOk result (λ next. next ≡ updated self.now.description server) }
+    {
+        match self.description.clone() {
+            Ok(mut next) => match next.update(alloc, server) {
+                Ok(()) => Ok(next),
+                Err(e) => {
+                    drop(next);
+                    Err(e)
+                }
+            },
+            Err(_) => {
+                drop(server);
+                Err(OutOfMemory)
+            }
+        }
+    }
+
+    // What is known after the reply of a server.
+    pub(crate) fn after_reply(
+        &self,
+        alloc: Global,
+        address: &ServerAddress,
+        rtt: Nanos,
+        reply: &HelloCommandResponse,
+        at: Moment,
+    ) -> Result<TopologyDescription, OutOfMemory>
+        ensures { IfOk result (λ next. next ≡ updated self.now.description (from_reply address.now (hello_reply address.now reply.now) rtt at)) }
+    {
+        let copy = address.clone()?;
+        let reply = hello_reply(alloc, address, reply)?;
+        let server = ServerDescription::new_from_hello_reply(alloc, copy, reply, rtt, at)?;
+        self.updated(alloc, server)
+    }
+
+    // What is known after the names of the hosts.
+    pub(crate) fn after_hosts(
+        &self,
+        alloc: Global,
+        hosts: &[ServerAddress],
+    ) -> Result<TopologyDescription, OutOfMemory>
+        ensures { IfOk result (λ next. next ≡ synced hosts.now self.now.description) }
+    {
+        match self.description.clone() {
+            Ok(mut next) => match next.sync_hosts(alloc, hosts) {
+                Ok(()) => Ok(next),
+                Err(e) => {
+                    drop(next);
+                    Err(e)
+                }
+            },
+            Err(_) => Err(OutOfMemory),
+        }
+    }
+
+    // What is known after a time of the cluster.
+    pub(crate) fn after_time(&self, time: ClusterTime) -> Result<TopologyDescription, OutOfMemory>
+        ensures { IfOk result (λ next. next ≡ record self.now.description { cluster_time = later_time self.now.description.cluster_time time }) }
+    {
+        let mut next = self.description.clone()?;
+        next.advance_cluster_time(time);
+        Ok(next)
+    }
+
+    // What is known after the stop.
+    pub(crate) fn after_stop(&self) -> Result<TopologyDescription, OutOfMemory>
+        ensures { IfOk result (λ next. next ≡ stopped self.now.description) }
+    {
+        let mut next = self.description.clone()?;
+        next.stop();
+        Ok(next)
+    }
+}

@@ -1,0 +1,255 @@
+//! The steps of a driver.
+
+ghost use Rattle.std.specs.Prelude.{◌≡◌, ◌≤◌, ◌+◌, ◌++◌, ◌∷◌, [], OnOk, OnErr, IfOk, List, Option, is_some, unwrap_or, length, vec_capacity, true};
+ghost use Rattle.mdb_log.specs.Connections.{one_if};
+ghost use Rattle.mdb_topology.specs.Stepping.{is_built};
+
+use crate::acting::is_pool_act;
+use crate::change::Change;
+use crate::next::{Next, Stepped};
+use crate::outcome::Outcome;
+use crate::topology::TopologyCore;
+use mdb_base::{Items, Moment, OutOfMemory};
+use mdb_describe::TopologyDescription;
+use mdb_events::Fact;
+use mdb_log::{Act, Entry, HelloResult, Log, Refused, Reply, Step};
+use mdb_monitor::MonitorCore;
+use std::alloc::{AllocError, Global};
+
+// The log gets one entry more, of a copy of the step. The answer is a copy of the reply.
+fn enter(
+    log: &mut Log,
+    seat: u32,
+    step: &Step,
+    reply: Reply,
+    facts: Vec<Fact>,
+) -> Result<Reply, AllocError>
+    ensures ok { OnOk result (log.new ≡ log.old ++ record { seat = seat; step = step.now; reply = reply; facts = facts.items } ∷ []) }
+    ensures reply { IfOk result (λ told. told ≡ reply) }
+    ensures err { OnErr result (log.new ≡ log.old) }
+{
+    let copies = copies(step, &reply);
+    match copies {
+        Ok((step, told)) => {
+            log.push(Entry {
+                seat,
+                step,
+                reply,
+                facts: Items::new(facts),
+            })?;
+            Ok(told)
+        }
+        Err(e) => {
+            drop(reply);
+            drop(facts);
+            Err(e)
+        }
+    }
+}
+
+fn copies(step: &Step, reply: &Reply) -> Result<(Step, Reply), AllocError>
+    ensures { IfOk result (λ made. made ≡ (step.now, reply.now)) }
+{
+    let step = step.clone()?;
+    let reply = reply.clone()?;
+    Ok((step, reply))
+}
+
+// More monitors, for which there is room.
+fn push_all(monitors: &mut Vec<MonitorCore>, more: Vec<MonitorCore>)
+    requires { length monitors.old.items + length more.items ≤ vec_capacity monitors.old }
+    ensures { monitors.new.items ≡ monitors.old.items ++ more.items }
+{
+    for monitor in more {
+        monitors.push_reserved(monitor);
+    }
+}
+
+/// The act is one of those that are built so far.
+pub(crate) fn is_built(act: &Act) -> bool
+    ensures { result ≡ is_built act.now }
+{
+    match act {
+        Act::Hello(_, _, HelloResult::Ok(_, _)) => true,
+        Act::Hosts(_) | Act::ClusterTime(_) | Act::Stop => true,
+        _ => is_pool_act(act),
+    }
+}
+
+impl TopologyCore {
+    ghost use Rattle.mdb_describe.specs.declared.topology.TopologyDescription.{TopologyDescription as Description};
+    ghost use Rattle.mdb_log.specs.History.{Item};
+    ghost use Rattle.mdb_pool.specs.declared.pool_core.PoolCore.{PoolCore};
+    ghost use Rattle.mdb_topology.specs.Planned.{LeadsAll, opened_by};
+    ghost use Rattle.mdb_topology.specs.Standing.{StandsFor, StandsForSome, IsSame};
+    ghost use Rattle.mdb_topology.specs.Answer.{answer};
+    ghost use Rattle.mdb_topology.specs.Finding.{is_pool_act};
+    ghost use Rattle.mdb_topology.specs.Stepping.{is_topology_act, is_built, BecomesOf, Follows, FollowsSome, Logs};
+
+    // Room for the pools and monitors that come, and the number of publications afterwards.
+    fn make_room(&mut self, next: &Next) -> Result<u64, OutOfMemory>
+        ensures same { IsSame self.old self.new }
+        ensures pools { OnOk result (length self.new.pools.cores.items + length next.now.monitors.items ≤ vec_capacity self.new.pools.cores) }
+        ensures monitors { OnOk result (length self.new.monitors.items + length next.now.monitors.items ≤ vec_capacity self.new.monitors) }
+        ensures published { IfOk result (λ n. n ≡ self.old.published + one_if (is_some next.now.description)) }
+    {
+        let more = next.monitors.len();
+        self.pools.reserve(more)?;
+        self.monitors.reserve(more)?;
+        if next.description.is_none() {
+            return Ok(self.published);
+        }
+        match self.published.checked_add(1) {
+            Some(published) => Ok(published),
+            None => Err(OutOfMemory),
+        }
+    }
+
+    // What is known changes, and the pools as it was planned. No memory is taken.
+    fn take(
+        &mut self,
+        moment: Moment,
+        changes: Vec<Change>,
+        description: Option<TopologyDescription>,
+        monitors: Vec<MonitorCore>,
+    )
+        requires leads { (later : List PoolCore) × LeadsAll changes.items self.old.pools.cores.items later }
+        requires pools { length self.old.pools.cores.items + length (opened_by changes.items) ≤ vec_capacity self.old.pools.cores }
+        requires monitors { length self.old.monitors.items + length monitors.items ≤ vec_capacity self.old.monitors }
+        ensures led { (later : List PoolCore) → LeadsAll changes.items self.old.pools.cores.items later → later ≡ self.new.pools.cores.items }
+        ensures last { self.new.pools.last ≡ moment }
+        ensures monitors { self.new.monitors.items ≡ self.old.monitors.items ++ monitors.items }
+        ensures description { self.new.description ≡ unwrap_or description self.old.description }
+        ensures others { self.new ≡ record self.old { pools = self.new.pools; monitors = self.new.monitors; description = self.new.description } }
+    {
+        self.pools.apply_all(changes);
+        self.pools.last = moment;
+        push_all(&mut self.monitors, monitors);
+        if let Some(known) = description {
+            self.description = known;
+        }
+    }
+
+    // An accepted step is logged and done.
+    fn accept(
+        &mut self,
+        log: &mut Log,
+        seat: u32,
+        step: &Step,
+        next: Next,
+    ) -> Result<Reply, OutOfMemory>
+        requires follows { FollowsSome self.old next step.now }
+        ensures options { self.new.options ≡ self.old.options }
+        ensures logs { OnOk result ((h : List Item) → StandsFor self.old h → Follows self.old next step.now h → Logs self.old self.new log.old log.new seat step.now h) }
+        ensures reply { IfOk result (λ reply. reply ≡ next.reply) }
+        ensures err_core { OnErr result (IsSame self.old self.new) }
+        ensures err_log { OnErr result (log.new ≡ log.old) }
+    {
+        let published = match self.make_room(&next) {
+            Ok(published) => published,
+            Err(e) => {
+                drop(next);
+                return Err(e);
+            }
+        };
+        let Next {
+            reply,
+            facts,
+            changes,
+            description,
+            monitors,
+            stops,
+        } = next;
+        match enter(log, seat, step, reply, facts) {
+            Ok(told) => {
+                self.take(step.moment, changes, description, monitors);
+                self.published = published;
+                self.stopped = stops || self.stopped;
+                Ok(told)
+            }
+            Err(_) => {
+                drop(changes);
+                drop(description);
+                drop(monitors);
+                Err(OutOfMemory)
+            }
+        }
+    }
+
+    // What becomes of an act that concerns the topology.
+    fn topology_act(&mut self, alloc: Global, step: &Step) -> Result<Stepped, OutOfMemory>
+        requires stands { StandsForSome self.old }
+        requires in_time { self.old.pools.last ≤ step.now.moment }
+        requires act { is_topology_act step.now.act ≡ true }
+        ensures same { self.new ≡ self.old }
+        ensures becomes { IfOk result (λ stepped. (h : List Item) → StandsFor self.old h → BecomesOf self.old step.now stepped h) }
+    {
+        match &step.act {
+            Act::Hello(address, pool, HelloResult::Ok(rtt, reply)) => {
+                self.hello(alloc, step, address, *pool, *rtt, reply)
+            }
+            Act::Hosts(hosts) => self.hosts(alloc, step, hosts.as_slice()),
+            Act::ClusterTime(time) => self.cluster_time(alloc, step, *time),
+            Act::Stop => self.stop_all(alloc, step),
+            _ => unreachable!(),
+        }
+    }
+
+    // What becomes of an act of one pool.
+    fn pool_act(&mut self, alloc: Global, step: &Step) -> Result<Stepped, OutOfMemory>
+        requires stands { StandsForSome self.old }
+        requires in_time { self.old.pools.last ≤ step.now.moment }
+        requires act { is_pool_act step.now.act ≡ true }
+        ensures same { self.new ≡ self.old }
+        ensures becomes { IfOk result (λ stepped. (h : List Item) → StandsFor self.old h → BecomesOf self.old step.now stepped h) }
+    {
+        match self.pools.act(alloc, step)? {
+            Outcome::Refused(why) => Ok(Stepped::Refused(why)),
+            Outcome::Idle => Ok(Stepped::Accepted(Next::of_reply(alloc, Reply::NoJob))),
+            Outcome::Planned(index, plan, told) => {
+                Ok(Stepped::Accepted(Next::of_pool(alloc, index, plan, told)?))
+            }
+        }
+    }
+
+    // What becomes of the step, before any of it is done.
+    fn becomes(&mut self, alloc: Global, step: &Step) -> Result<Stepped, OutOfMemory>
+        requires stands { StandsForSome self.old }
+        requires act { is_built step.now.act ≡ true }
+        ensures same { self.new ≡ self.old }
+        ensures becomes { IfOk result (λ stepped. (h : List Item) → StandsFor self.old h → BecomesOf self.old step.now stepped h) }
+    {
+        if step.moment < self.pools.last {
+            return Ok(Stepped::Refused(Refused::TimeBack(self.pools.last)));
+        }
+        if is_pool_act(&step.act) {
+            return self.pool_act(alloc, step);
+        }
+        self.topology_act(alloc, step)
+    }
+
+    /// One step of the driver: the log gets its entry, of the seat. After `OutOfMemory` the driver and the log are as before, but for the room of lists.
+    pub fn step(
+        &mut self,
+        alloc: Global,
+        log: &mut Log,
+        seat: u32,
+        step: &Step,
+    ) -> Result<Reply, OutOfMemory>
+        requires stands { StandsForSome self.old }
+        requires act { is_built step.now.act ≡ true }
+        ensures options { self.new.options ≡ self.old.options }
+        ensures logs { OnOk result ((h : List Item) → StandsFor self.old h → Logs self.old self.new log.old log.new seat step.now h) }
+        ensures reply { IfOk result (λ reply. (h : List Item) → StandsFor self.old h → reply ≡ (answer self.old.options h step.now).reply) }
+        ensures err_core { OnErr result (IsSame self.old self.new) }
+        ensures err_log { OnErr result (log.new ≡ log.old) }
+    {
+        match self.becomes(alloc, step)? {
+            Stepped::Refused(why) => {
+                let reply = Reply::Refused(why);
+                Ok(enter(log, seat, step, reply, Vec::new(alloc))?)
+            }
+            Stepped::Accepted(next) => self.accept(log, seat, step, next),
+        }
+    }
+}

@@ -1,4 +1,0 @@
-pub mod Refusal
-pub mod Answer
-pub mod Lines
-pub mod Standing
