@@ -4,7 +4,8 @@
 usage: bench.py PROGRAM
 
 It builds nothing. For each n it runs `PROGRAM make n` five times and takes the best; then it runs scripts of almost
-131,072 bytes on pools of three sizes. Times are of whole runs, with the start of the process.
+131,072 bytes on pools of three sizes. These times are of whole runs, with the start of the process. At last it times the
+replies of hellos in replica sets of two sizes: what a script of them takes more than its first lines alone.
 """
 import os
 import subprocess
@@ -14,6 +15,7 @@ import time
 
 ROUNDS = (125, 250, 500, 1000, 2000)
 SIZES = (10, 100, 1000)
+MEMBERS = (3, 50)
 REPEATS = 5
 MAX_INPUT = 131072
 SERVICE = "0102030405060708090a0b0c"
@@ -85,6 +87,31 @@ def long_scripts(program):
         print(f"{most:>5} {entries:>8} {entries / seconds:>10.0f} {len(written) / seconds / 1e6:>9.2f} {size:>7.1f}")
 
 
+def greeting(members, member, wire):
+    """The reply of a member of a replica set, of which the first is the primary."""
+    hosts = ",".join(f"m{i:02}:1" for i in range(members))
+    if member == 0:
+        return f"hello 1 m00:1 0 ok rtt=5 isWritablePrimary=true hosts={hosts} setName=rs minWireVersion=0 maxWireVersion={wire}"
+    return f"hello 1 m{member:02}:1 {member} ok rtt=5 hosts={hosts} setName=rs secondary=true minWireVersion=0 maxWireVersion={wire}"
+
+
+def hellos(program):
+    """Replies of hellos that change nothing, and replies that change their server."""
+    print(f"{'members':>7} {'replies':>9} {'replies/s':>10} {'us/reply':>9}")
+    for members in MEMBERS:
+        first = ["open seeds=" + ",".join(f"m{i:02}:1" for i in range(members)) + " set=rs"]
+        first += [greeting(members, member, 21) for member in range(members)]
+        start = "".join(line + "\n" for line in first).encode()
+        before, _, _ = best([program], start)
+        for name, wires in (("same", (21, 21)), ("changed", (20, 21))):
+            count = (MAX_INPUT - len(start)) // (len(greeting(members, members - 1, 21)) + 1)
+            more = [greeting(members, 1 + i // 2 % (members - 1), wires[i % 2]) for i in range(count)]
+            seconds, _, written = best([program], start + "".join(line + "\n" for line in more).encode())
+            if written.count(b" | Changed true") != members + (count if name == "changed" else 0):
+                raise SystemExit("the log is not that of the script")
+            print(f"{members:>7} {name:>9} {count / (seconds - before):>10.0f} {1e6 * (seconds - before) / count:>9.2f}")
+
+
 def main():
     if len(sys.argv) != 2:
         raise SystemExit(__doc__)
@@ -92,6 +119,8 @@ def main():
     generated(program)
     print()
     long_scripts(program)
+    print()
+    hellos(program)
 
 
 if __name__ == "__main__":
