@@ -5,15 +5,15 @@ use Rattle.std.proofs.lemmas.Bool.Decides.{nat_tests}
 use Rattle.mdb_base.specs.Equality.{same_id}
 use Rattle.mdb_base.specs.declared.object_id.ObjectId.{ObjectId}
 use Rattle.mdb_log.specs.declared.generation.PoolGeneration.TheVariants.{Normal, LoadBalanced}
-use Rattle.mdb_log.specs.History.{Item, PoolItem, created, raised, of_pool}
+use Rattle.mdb_log.specs.History.{PoolItem, created, raised}
 use Rattle.mdb_log.specs.Connections.{one_if, has, pending_list}
 use Rattle.mdb_log.specs.State.{generation_of, generation_before}
 use Rattle.mdb_pool.specs.declared.connection.Connection.{Connection}
 use Rattle.mdb_pool.specs.declared.pool_core.PoolCore.{PoolCore}
 use Rattle.mdb_pool.specs.Kept.{connection_at, is_pending_at, clears_before}
-use Rattle.mdb_pool.specs.Standing.{StandsFor}
+use Rattle.mdb_pool.specs.Standing.{Fits}
 use Rattle.mdb_pool.specs.Jobs.{items_before, cleared_services, generations, has_id, count_at}
-use Rattle.mdb_pool.proofs.Getters.{pending-now}
+use Rattle.mdb_pool.proofs.Acts.{pending-is}
 use Rattle.mdb_pool.proofs.Staleness.{live-created}
 use Rattle.mdb_pool.proofs.Ids.{Ascends, same-back, ascends-put, has-put, one-ascent}
 use Rattle.mdb_pool.proofs.Named.{AreNamed}
@@ -49,17 +49,14 @@ map-same : {A B : Type 0} (f g : A → B) → ((a : A) → f a ≡ g a) → (xs 
 map-same f g same [] = refl
 map-same f g same (x ∷ xs) = rw (same x, map-same f g same xs) refl
 
-module _ (s : PoolCore) (h : List Item) (z : StandsFor s h) (c : ℕ) (waits : has c (pending_list (of_pool s.pool h)) ≡ true) where
-  abbrev xs : List PoolItem
-  xs = of_pool s.pool h
-
+module _ (s : PoolCore) (xs : List PoolItem) (z : Fits s xs) (c : ℕ) (waits : has c (pending_list xs) ≡ true) where
   counts : (t : Option ObjectId) → (count_at s c t ≡ generation_of (items_before xs c) t) × (clears_before c t s.clears ≡ generation_of (items_before xs c) t)
-  counts t = on (connection_at s c) refl (pending-now s h z c ∙ waits)
+  counts t = on (connection_at s c) refl (sym (pending-is s xs z c) ∙ waits)
     where
       on : (o : Option Connection) → connection_at s c ≡ o → is_pending_at (connection_at s c) ≡ true → (count_at s c t ≡ generation_of (items_before xs c) t) × (clears_before c t s.clears ≡ generation_of (items_before xs c) t)
       on None e f = absurd (true≢false (sym f ∙ ap is_pending_at e))
       on (Some x) e f =
-          let same : clears_before c t s.clears ≡ generation_of (items_before xs c) t = sym (z.fits.matches.clearing.before c t (live-created s xs z.fits.matches c x e)) ∙ sym (before-items xs c t) in
+          let same : clears_before c t s.clears ≡ generation_of (items_before xs c) t = sym (z.matches.clearing.before c t (live-created s xs z.matches c x e)) ∙ sym (before-items xs c t) in
           (rw e same, same)
 
   pub normal-generation : s.options.load_balanced ≡ false → Normal (count_at s c None) ≡ generations s.options.load_balanced (items_before xs c)

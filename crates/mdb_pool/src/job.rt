@@ -43,9 +43,9 @@ impl PoolCore {
     ghost use Rattle.mdb_log.specs.Requests.{is_claimed};
     ghost use Rattle.mdb_pool.specs.Kept.{first_unclaimed};
     ghost use Rattle.mdb_pool.specs.Jobs.{count_at, items_before, generations, job_in};
-    ghost use Rattle.mdb_log.specs.History.{Item, of_pool};
+    ghost use Rattle.mdb_log.specs.History.{Item, PoolItem, of_pool};
     ghost use Rattle.mdb_log.specs.Connections.{has, pending_list};
-    ghost use Rattle.mdb_pool.specs.Standing.{StandsFor};
+    ghost use Rattle.mdb_pool.specs.Standing.{Fits, StandsFor};
 
     // How often the pool was cleared so before the connection was created, 0 where it isn't live.
     fn count_at(&self, id: u32, service: Option<ObjectId>) -> u64
@@ -72,7 +72,7 @@ impl PoolCore {
 
     // The generation of the pool before the connection was created.
     fn generations_before(&self, alloc: Global, id: u32) -> Result<PoolGeneration, AllocError>
-        ensures { IfOk result (λ before. (h : List Item) → StandsFor self.now h → has id (pending_list (of_pool self.now.pool h)) ≡ true → before ≡ generations self.now.options.load_balanced (items_before (of_pool self.now.pool h) id)) }
+        ensures { IfOk result (λ before. (xs : List PoolItem) → Fits self.now xs → has id (pending_list xs) ≡ true → before ≡ generations self.now.options.load_balanced (items_before xs id)) }
     {
         if !self.options.load_balanced {
             return Ok(PoolGeneration::Normal(self.count_at(id, None)));
@@ -87,6 +87,7 @@ impl PoolCore {
     /// pending: none was created, or it is established or closed. `OutOfMemory` where there is no memory for the copy of the address or for the
     /// list of services; the pool is as it was.
     pub fn job(&self, alloc: Global, id: u32) -> Result<Option<Job>, OutOfMemory>
+        ensures kept { IfOk result (λ job. (xs : List PoolItem) → Fits self.now xs → job ≡ job_in self.now.pool self.now.address self.now.options xs id) }
         ensures history { IfOk result (λ job. (h : List Item) → StandsFor self.now h → job ≡ job_in self.now.pool self.now.address self.now.options (of_pool self.now.pool h) id) }
     {
         if !self.is_pending(id) {
