@@ -4,8 +4,8 @@ use crate::objects::Objects;
 use crate::page::Page;
 use crate::words::parted;
 use crate::{
-    base, deliveries, entries, errors, events, generator, hello, lines, monitor, pool, pool_values,
-    runs, scripts, servers, slots, srv, topologies,
+    base, deliveries, drivers, entries, errors, events, generator, hello, lines, monitor, pool,
+    pool_values, runs, scripts, servers, slots, srv, topologies,
 };
 
 fn of_base(page: &mut Page, kind: &str, given: &str) {
@@ -85,6 +85,14 @@ fn of_monitor(page: &mut Page, kind: &str, given: &str) {
     }
 }
 
+fn of_driver(page: &mut Page, kind: &str, given: &str) {
+    match kind {
+        "driver" => drivers::driver(page, given),
+        "handshake" => drivers::handshake(page, given),
+        _ => of_monitor(page, kind, given),
+    }
+}
+
 fn of_lines(page: &mut Page, kind: &str, given: &str) {
     match kind {
         "line" => lines::line(page, given),
@@ -96,7 +104,7 @@ fn of_lines(page: &mut Page, kind: &str, given: &str) {
         "status" => lines::status(page, given),
         "entry" => entries::entry(page, given),
         "text" => errors::text(page, given),
-        _ => of_monitor(page, kind, given),
+        _ => of_driver(page, kind, given),
     }
 }
 

@@ -5,6 +5,7 @@
 mod base;
 mod case;
 mod deliveries;
+mod drivers;
 mod entries;
 mod errors;
 mod events;

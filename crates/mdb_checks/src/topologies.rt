@@ -23,8 +23,8 @@ fn tell_server(page: &mut Page, server: &ServerDescription) {
     page.debug(&server.server_type);
 }
 
-// The type, the set name, and each server with its type.
-fn tell(page: &mut Page, topology: &TopologyDescription) {
+/// The type, the set name, and each server with its type.
+pub fn tell(page: &mut Page, topology: &TopologyDescription) {
     page.show(&topology.topology_type());
     page.put(" ");
     page.put(topology.set_name().unwrap_or("-"));

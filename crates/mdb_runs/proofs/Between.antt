@@ -14,7 +14,7 @@ use Rattle.mdb_lines.specs.Script.{Spells, lines_of, line_of, AreAllowed, max_in
 use Rattle.mdb_base.specs.AddressReading.{beyond}
 use Rattle.mdb_lines.specs.Loops.{ReadsAll, ReadEnds}
 use Rattle.mdb_lines.proofs.Loops.{took_nothing, took_more, took_no_more, line_not_last}
-use Rattle.mdb_topology.specs.Stepping.{is_built}
+use Rattle.mdb_topology.specs.Stepping.{is_driver_act}
 use Rattle.mdb_topology.specs.Driving.{may_come}
 use Rattle.mdb_topology.specs.Lines.{entry_after, log_of, log_after, steps_of}
 use Rattle.mdb_log.specs.LegalLog.{IsLegalLog}
@@ -51,8 +51,8 @@ allowed_push n [] s h t = (subst (λ (k : ℕ). Spells k (spelling s) s) (omega 
 allowed_push n (u ∷ ss) s h t = (h.0, allowed_push (n + 1) ss s h.1 (subst (λ (k : ℕ). Spells k (spelling s) s) (omega arith) t))
 
 within_push : (ss : List Step) (s : Step) → IsWithin ss → may_come ss s ≡ true → IsWithin (ss ++ s ∷ [])
-within_push [] s w m = (m, All-nil (λ (t : Step). is_built t.act ≡ true))
-within_push (u ∷ ss) s w m = (w.0, All-push (λ (t : Step). is_built t.act ≡ true) ss s w.1 m)
+within_push [] s w m = (m, All-nil (λ (t : Step). is_driver_act t.act ≡ true))
+within_push (u ∷ ss) s w m = (w.0, All-push (λ (t : Step). is_driver_act t.act ≡ true) ss s w.1 m)
 
 length_steps : (log : List Entry) → length (steps_of log) ≡ length log
 length_steps [] = refl

@@ -11,7 +11,7 @@ use Rattle.mdb_lines.specs.declared.run_error.RunError.TheVariants as errors
 use Rattle.mdb_lines.specs.Spelling.{spelling}
 use Rattle.mdb_lines.specs.Script.{Spells, lines_of, line_of, max_input, AreAllowed}
 use Rattle.mdb_lines.proofs.Lines.{line_same}
-use Rattle.mdb_topology.specs.Stepping.{is_built}
+use Rattle.mdb_topology.specs.Stepping.{is_driver_act}
 use Rattle.mdb_topology.specs.Lines.{steps_of}
 use Rattle.mdb_runs.specs.Runs.{IsWithin, IsBad, IsScript, Seen, Finished, Ended}
 
@@ -49,7 +49,7 @@ bad_not [] (s ∷ ss) bad more e before allowed within never = never s (allowed.
 bad_not (t ∷ done) [] bad more e before allowed within never = cc
 bad_not (t ∷ done) (s ∷ ss) bad more e before allowed within never =
     let first : t ≡ s = line_same 1 t s before.0 allowed.0 (cons_head (line_of t) (line_of s) (map line_of done ++ bad ∷ more) (map line_of ss) e) in
-    let next = next_spelled (λ (u : Step). is_built u.act ≡ true) 2 done ss bad more (cons_tail (line_of t) (line_of s) (map line_of done ++ bad ∷ more) (map line_of ss) e) allowed.1 within.1 in
+    let next = next_spelled (λ (u : Step). is_driver_act u.act ≡ true) 2 done ss bad more (cons_tail (line_of t) (line_of s) (map line_of done ++ bad ∷ more) (map line_of ss) e) allowed.1 within.1 in
     let spelled : Spells (1 + length (t ∷ done)) (spelling next.0) next.0 = subst (λ (k : ℕ). Spells k (spelling next.0) next.0) (omega arith) next.1 in
     never next.0 (spelled, next.2) next.3
 

@@ -4,12 +4,12 @@ use Rattle.std.proofs.lemmas.List.Elements.{All-nil, All-cons, All-append}
 use Rattle.mdb_log.specs.declared.step.Step.{Step}
 use Rattle.mdb_generator.specs.Generated.{requested, returned, replaced, rest, round, rounds, generated, script}
 use Rattle.mdb_generator.proofs.Scripts.{script_lines, generated_allowed}
-use Rattle.mdb_topology.specs.Stepping.{is_built}
+use Rattle.mdb_topology.specs.Stepping.{is_driver_act}
 use Rattle.mdb_runs.specs.Runs.{IsScript}
 
 -- the step may come behind the first line
 abbrev May : Step → Type 0
-May s = is_built s.act ≡ true
+May s = is_driver_act s.act ≡ true
 
 replaced_may : (i : ℕ) → All May (replaced i)
 replaced_may i = on (eqb (i % 10) 0) refl

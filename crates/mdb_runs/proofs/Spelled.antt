@@ -8,9 +8,9 @@ use Rattle.mdb_log.specs.declared.step.Act.{Act}
 use Rattle.mdb_log.specs.declared.step.Act.TheVariants as act
 use Rattle.mdb_lines.specs.Spelling.{is_spelled, HasSpelling}
 use Rattle.mdb_topology.specs.Driving.{IsTaken}
-use Rattle.mdb_topology.specs.Stepping.{is_built}
+use Rattle.mdb_topology.specs.Stepping.{is_driver_act}
 
-built-spelled : (a : Act) → is_built a ≡ true → IsTrue (is_spelled a)
+built-spelled : (a : Act) → is_driver_act a ≡ true → IsTrue (is_spelled a)
 built-spelled (act.Ready p) e = absurd (cc)
 built-spelled (act.Clear p s w) e = absurd (cc)
 built-spelled (act.Close p) e = absurd (cc)

@@ -10,7 +10,7 @@ use Rattle.mdb_lines.specs.Spelling.{spelling}
 use Rattle.mdb_lines.specs.LogText.{text_of_entry, text_of}
 use Rattle.mdb_lines.specs.Script.{Spells, lines_of, line_of, AreAllowed, max_input}
 use Rattle.mdb_lines.specs.Loops.{TookFront, ReadsAll}
-use Rattle.mdb_topology.specs.Stepping.{is_built}
+use Rattle.mdb_topology.specs.Stepping.{is_driver_act}
 use Rattle.mdb_topology.specs.Driving.{opens_seeds, may_come}
 use Rattle.mdb_topology.specs.Lines.{entry_after, log_of, steps_of}
 use Rattle.mdb_log.specs.LegalLog.{IsLegalLog}
@@ -19,7 +19,7 @@ use Rattle.mdb_topology.specs.Logging.{IsKept}
 -- the first step opens seeds, and every later step is one that may come after it
 abbrev pub IsWithin : List Step → Type 0
 IsWithin [] = Unit {0}
-IsWithin (first ∷ steps) = (opens_seeds first.act ≡ true) × All (λ s. is_built s.act ≡ true) steps
+IsWithin (first ∷ steps) = (opens_seeds first.act ≡ true) × All (λ s. is_driver_act s.act ≡ true) steps
 
 -- The input is a script of these steps, all of which are lines of this stage.
 pub record IsScript (input : List ℕ) (steps : List Step) : Type 0 where

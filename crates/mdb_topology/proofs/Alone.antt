@@ -55,7 +55,7 @@ module _ (o : PoolOptions) (pools : List PoolCore) (h : List Item) (z : PoolsFit
           let l : ◌≡◌ {A = State} _ is_closed = rw g at k in
           cc
 
-  is-there : (a : ServerAddress) (p : ℕ) → open_pool h a ≡ Some p → slice_get pools p ≡ None → ⊥
+  pub is-there : (a : ServerAddress) (p : ℕ) → open_pool h a ≡ Some p → slice_get pools p ≡ None → ⊥
   is-there a p e f = at-place pools p (position-within (is_open_at a) pools p (sym (z.open_are a) ∙ e)) f
 
   one-address : (a b : ServerAddress) (p : ℕ) → open_pool h a ≡ Some p → open_pool h b ≡ Some p → a ≡ b

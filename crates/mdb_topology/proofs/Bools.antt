@@ -5,6 +5,10 @@ pub not-back : (b : Bool) → not b ≡ true → b ≡ false
 not-back true e = cc
 not-back false e = refl
 
+pub not-front : (b : Bool) → not b ≡ false → b ≡ true
+not-front true e = refl
+not-front false e = cc
+
 pub or-false : (b : Bool) → b || false ≡ b
 or-false true = refl
 or-false false = refl

@@ -23,7 +23,7 @@ apart a b e = on (same_address b a) refl
         cc
 
 -- what stands before the others is none of them
-none-same : (a : ServerAddress) (xs : List ServerAddress) → is_before_first a xs ≡ true → in_order xs ≡ true → list_any (λ b. same_address b a) xs ≡ false
+pub none-same : (a : ServerAddress) (xs : List ServerAddress) → is_before_first a xs ≡ true → in_order xs ≡ true → list_any (λ b. same_address b a) xs ≡ false
 none-same a [] e f = refl
 none-same a (b ∷ xs) e f =
     let both : (is_before_first b xs ≡ true) × (in_order xs ≡ true) = both-true (is_before_first b xs) (in_order xs) f in

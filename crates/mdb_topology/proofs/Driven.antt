@@ -14,25 +14,25 @@ use Rattle.mdb_log.specs.Opening.{is_opening, pool_options}
 use Rattle.mdb_topology.specs.declared.topology.TopologyCore.{TopologyCore}
 use Rattle.mdb_topology.specs.Lines.{entry_after, options_in}
 use Rattle.mdb_topology.specs.Standing.{StandsFor, IsSame}
-use Rattle.mdb_topology.specs.Stepping.{is_built, Logs}
-use Rattle.mdb_topology.specs.Logging.{opening_step, IsOpened, IsKept}
+use Rattle.mdb_topology.specs.Stepping.{is_driver_act, Logs}
+use Rattle.mdb_topology.specs.Logging.{opening_step, IsDriverOf, IsKept}
 use Rattle.mdb_topology.specs.Driving.{IsTaken, IsFirstStep, Holds}
 use Rattle.mdb_topology.proofs.Logged.{same-stands, adds}
 
 -- an act that is built opens nothing
-pub built-later : (a : Act) → is_built a ≡ true → is_opening a ≡ false
+pub built-later : (a : Act) → is_driver_act a ≡ true → is_opening a ≡ false
 built-later (Do.Open o) e = cc
 built-later _ e = refl
 
-legal-opened : (w : TopologyCore) (log : List Entry) → IsOpened w log → IsLegalLog log
+legal-opened : (w : TopologyCore) (log : List Entry) → IsDriverOf w log → IsLegalLog log
 legal-opened w log z = subst IsLegalLog (sym z.logged) (record { opens = z.opens; alone = z.later; orderly = z.orderly; legal = z.legal })
 
-kept-opened : (w : TopologyCore) (log : List Entry) → IsOpened w log → IsKept log
+kept-opened : (w : TopologyCore) (log : List Entry) → IsDriverOf w log → IsKept log
 kept-opened w log z =
     subst IsKept (sym z.logged) (record { within = subst (λ es. (p : ℕ) → WithinLimits (pool_options w.options) (of_pool p (history_of es))) z.logged z.stands.pools.within; fresh = z.fresh })
 
 -- a step that is taken after the first is one that is built
-pub taken-built : (w : TopologyCore) (log : List Entry) (step : Step) → IsOpened w log → IsTaken log step → is_built step.act ≡ true
+pub taken-built : (w : TopologyCore) (log : List Entry) (step : Step) → IsDriverOf w log → IsTaken log step → is_driver_act step.act ≡ true
 taken-built w [] step z t = let e : ◌≡◌ {A = List Entry} [] (entry_after z.seat [] (opening_step w.options) ∷ z.entries) = z.logged in absurd (cc)
 taken-built w (first ∷ log) step z t = t
 
@@ -45,7 +45,7 @@ kept-log None log h = subst IsKept (sym h) (record { within = tt; fresh = tt })
 kept-log (Some w) log h = kept-opened w log h
 
 -- the same state is that of the same log
-pub still-opened : (w v : TopologyCore) (log : List Entry) → IsOpened w log → IsSame w v → IsOpened v log
+pub still-opened : (w v : TopologyCore) (log : List Entry) → IsDriverOf w log → IsSame w v → IsDriverOf v log
 still-opened w v log z e =
     let back : w.options ≡ v.options = sym e.options in
     record {
@@ -62,12 +62,12 @@ still-opened w v log z e =
     }
 
 -- a step of the driver
-pub steps-opened : (w v : TopologyCore) (log after : List Entry) (step : Step) → IsOpened w log → IsTaken log step → v.options ≡ w.options
-    → ((h : List Item) → StandsFor w h → Logs w v log after 0 step h) → (after ≡ log ++ entry_after 0 log step ∷ []) × IsOpened v after
+pub steps-opened : (w v : TopologyCore) (log after : List Entry) (step : Step) → IsDriverOf w log → IsTaken log step → v.options ≡ w.options
+    → ((h : List Item) → StandsFor w h → Logs w v log after 0 step h) → (after ≡ log ++ entry_after 0 log step ∷ []) × IsDriverOf v after
 steps-opened w v log after step z t same logs = adds w v log after 0 step z same (logs (history_of log) z.stands) (built-later step.act (taken-built w log step z t))
 
 -- an open driver stands for the log
-pub opened-of : (core : Option TopologyCore) (w : TopologyCore) (log : List Entry) → core ≡ Some w → Holds core log → IsOpened w log
+pub opened-of : (core : Option TopologyCore) (w : TopologyCore) (log : List Entry) → core ≡ Some w → Holds core log → IsDriverOf w log
 opened-of core w log e h = subst (λ k. Holds k log) e h
 
 -- a step that opens a driver is known by its options

@@ -24,6 +24,7 @@ use Rattle.mdb_topology.specs.declared.change.Change.TheVariants.{Alter}
 use Rattle.mdb_topology.specs.declared.topology.TopologyCore.{TopologyCore}
 use Rattle.mdb_topology.specs.declared.next.Next.{Next}
 use Rattle.mdb_topology.specs.declared.outcome.Outcome.TheVariants.{Planned}
+use Rattle.mdb_topology.specs.declared.monitoring.Monitoring.TheVariants.{Same}
 use Rattle.mdb_topology.specs.Answer.{answer}
 use Rattle.mdb_topology.specs.Refusal.{refusal}
 use Rattle.mdb_topology.specs.Finding.{is_pool_act}
@@ -34,7 +35,7 @@ use Rattle.mdb_topology.specs.Taking.{Takes, Performs, IsReady}
 use Rattle.mdb_topology.proofs.Following.{early-later}
 use Rattle.mdb_topology.proofs.Free.{any_out, out-open}
 use Rattle.mdb_topology.proofs.Lists.{map-set}
-use Rattle.mdb_topology.proofs.Still.{IsStill, known-still, counts-still, monitors-still}
+use Rattle.mdb_topology.proofs.Still.{IsStill, known-then, counts-still, monitors-still}
 use Rattle.mdb_topology.specs.Description.{description_of, is_stop}
 use Rattle.mdb_topology.specs.Stepping.{known_after}
 use Rattle.mdb_log.specs.LegalLog.{IsFairAnswer}
@@ -43,7 +44,7 @@ use Rattle.mdb_topology.proofs.Tame.{no-rule, facts-out, pool-still, pool-goes-o
 
 module _ (w : TopologyCore) (h : List Item) (z : StandsFor w h) (step : Step) (l : w.pools.last ≤ step.moment) (act : is_pool_act step.act ≡ true)
     (i : ℕ) (plan : Plan) (told : Answered) (ready : IsReady w.pools.cores.items step (Planned i plan told)) (performs : Performs w.options w.pools.cores.items step (Planned i plan told) h)
-    (n : Next) (reply : n.reply ≡ told.reply) (facts : n.facts.items ≡ told.facts) (changes : n.changes.items ≡ Alter i plan ∷ []) (known : n.description ≡ None) (none : n.monitors.items ≡ []) (goes_on : n.stops ≡ false) where
+    (n : Next) (reply : n.reply ≡ told.reply) (facts : n.facts.items ≡ told.facts) (changes : n.changes.items ≡ Alter i plan ∷ []) (known : n.description ≡ None) (none : n.monitors.items ≡ []) (nothing : n.monitoring ≡ Same) (goes_on : n.stops ≡ false) where
   abbrev o : Options
   o = w.options
 
@@ -134,7 +135,7 @@ module _ (w : TopologyCore) (h : List Item) (z : StandsFor w h) (step : Step) (l
         (subst (Describes o w.description) then-is (record {
           known =
               ap (description_of o) k-is
-              ∙ (known-still o h step.moment step.act still told.reply told.facts w.description z.described.known
+              ∙ (known-then o h step.moment step.act told.reply told.facts w.description z.described.known
               ∙ ap (λ r. unwrap_or (known_after r w.description) w.description) (no-rule o h step act));
           ordered = z.described.ordered;
           few = z.described.few;
@@ -167,9 +168,10 @@ module _ (w : TopologyCore) (h : List Item) (z : StandsFor w h) (step : Step) (l
       numbers = λ later leads. let r = led t plans later leads in subst (λ xs. length xs ≤ 2 ^ 32) (sym r.2) (subst (λ x. x ≤ 2 ^ 32) (sym (length-set pools i r.0)) z.numbers);
       early = λ later leads. let r = led t plans later leads in subst (All (λ x. x.last ≤ step.moment)) (sym r.2) (early-at t plans r.0 (home-of r.0 r.1).1);
       each_opened = rw (none, changes) refl;
-      monitors = monitors-fit t plans;
+      placed = rw nothing tt;
+      monitors = rw nothing (monitors-fit t plans);
       described = describes t plans;
-      counts = counted t plans;
+      counts = rw nothing (counted t plans);
     }
 
   pub follows-pool : Follows w n step h

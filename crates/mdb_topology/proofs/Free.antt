@@ -22,6 +22,7 @@ use Rattle.mdb_log.specs.State.{State, is_new, is_ready, is_paused, is_closed, s
 use Rattle.mdb_pool.specs.Facts.{closes, close_reason, perished, overdue, end_facts, all_ends, check_in, come_back, hand_over, fail_requester, turned_away, sweep, fill, created_fact, act_facts}
 use Rattle.mdb_pool.specs.Serving.{next_move, serve, serving}
 use Rattle.mdb_pool.proofs.Laws.{Move, nothing, closing, granting, creating, warming, move-of}
+use Rattle.mdb_topology.specs.OfServers.{is_of_server}
 use Rattle.mdb_topology.specs.Refusal.{past_limit, first_past}
 
 -- a fact that takes a number
@@ -57,50 +58,45 @@ free-append (f ∷ fs) gs = on (takes_number f) refl (free-append fs gs)
     on true e rest = rw e refl
     on false e rest = rw e rest
 
--- a fact that takes a number or closes a pool
-abbrev pub stands_out : Fact → Bool
-stands_out (Pool p (PoolClosed e)) = true
-stands_out f = takes_number f
-
 abbrev pub any_out : List Fact → Bool
-any_out facts = list_any stands_out facts
+any_out facts = list_any is_of_server facts
 
 pub out-append : (fs gs : List Fact) → any_out (fs ++ gs) ≡ any_out fs || any_out gs
 out-append [] gs = refl
-out-append (f ∷ fs) gs = on (stands_out f) refl (out-append fs gs)
+out-append (f ∷ fs) gs = on (is_of_server f) refl (out-append fs gs)
   where
-    on : (b : Bool) → stands_out f ≡ b → any_out (fs ++ gs) ≡ any_out fs || any_out gs → any_out ((f ∷ fs) ++ gs) ≡ any_out (f ∷ fs) || any_out gs
+    on : (b : Bool) → is_of_server f ≡ b → any_out (fs ++ gs) ≡ any_out fs || any_out gs → any_out ((f ∷ fs) ++ gs) ≡ any_out (f ∷ fs) || any_out gs
     on true e rest = rw e refl
     on false e rest = rw e rest
 
--- facts of which none stands out take no number, and leave the open pools
+-- facts of which none is of a server take no number, and leave the open pools
 pub out-free : (fs : List Fact) → any_out fs ≡ false → take_numbers fs ≡ false
 out-free [] e = refl
-out-free (f ∷ fs) e = on (stands_out f) refl e (out-free fs)
+out-free (f ∷ fs) e = on (is_of_server f) refl e (out-free fs)
   where
-    one : (f : Fact) → stands_out f ≡ false → takes_number f ≡ false
+    one : (f : Fact) → is_of_server f ≡ false → takes_number f ≡ false
     one (Pool p (PoolClosed v)) e = refl
     one (Pool p _) e = refl
     one (Opened p a) e = e
     one (Raised p s error) e = e
-    one (Sdam v) e = e
+    one (Sdam v) e = cc
     one _ e = refl
 
-    on : (b : Bool) → stands_out f ≡ b → any_out (f ∷ fs) ≡ false → (any_out fs ≡ false → take_numbers fs ≡ false) → take_numbers (f ∷ fs) ≡ false
+    on : (b : Bool) → is_of_server f ≡ b → any_out (f ∷ fs) ≡ false → (any_out fs ≡ false → take_numbers fs ≡ false) → take_numbers (f ∷ fs) ≡ false
     on true g d rest = let w : any_out (f ∷ fs) ≡ true = rw g refl in let t : true ≡ false = sym w ∙ d in cc
     on false g d rest = let w : any_out fs ≡ false = sym (rw g refl) ∙ d in rw (one f g) (rest w)
 
 pub out-open : (m : ℕ) (a : ServerAddress) (fs : List Fact) (k : List Item) → any_out fs ≡ false → open_pool (with_facts m fs k) a ≡ open_pool k a
 out-open m a [] k e = refl
-out-open m a (f ∷ fs) k e = on (stands_out f) refl e (out-open m a fs (made m f ∷ k))
+out-open m a (f ∷ fs) k e = on (is_of_server f) refl e (out-open m a fs (made m f ∷ k))
   where
-    one : (f : Fact) → stands_out f ≡ false → open_pool (made m f ∷ k) a ≡ open_pool k a
+    one : (f : Fact) → is_of_server f ≡ false → open_pool (made m f ∷ k) a ≡ open_pool k a
     one (Opened p b) e = cc
     one (Pool p (PoolClosed v)) e = cc
     one (Pool p _) e = refl
     one _ e = refl
 
-    on : (b : Bool) → stands_out f ≡ b → any_out (f ∷ fs) ≡ false → (any_out fs ≡ false → open_pool (with_facts m fs (made m f ∷ k)) a ≡ open_pool (made m f ∷ k) a) → open_pool (with_facts m (f ∷ fs) k) a ≡ open_pool k a
+    on : (b : Bool) → is_of_server f ≡ b → any_out (f ∷ fs) ≡ false → (any_out fs ≡ false → open_pool (with_facts m fs (made m f ∷ k)) a ≡ open_pool (made m f ∷ k) a) → open_pool (with_facts m (f ∷ fs) k) a ≡ open_pool k a
     on true g d rest = let w : any_out (f ∷ fs) ≡ true = rw g refl in let t : true ≡ false = sym w ∙ d in cc
     on false g d rest = let w : any_out fs ≡ false = sym (rw g refl) ∙ d in rest w ∙ one f g
 
@@ -155,9 +151,9 @@ module _ (p : ℕ) (a : ServerAddress) (o : PoolOptions) (m : ℕ) where
 
   more-free : (fs : List Fact) (r : ℕ) → any_out fs ≡ false → any_out (fs ++ Ended r Filled ∷ []) ≡ false
   more-free [] r e = refl
-  more-free (f ∷ fs) r e = on (stands_out f) refl e (more-free fs r)
+  more-free (f ∷ fs) r e = on (is_of_server f) refl e (more-free fs r)
     where
-      on : (b : Bool) → stands_out f ≡ b → any_out (f ∷ fs) ≡ false → (any_out fs ≡ false → any_out (fs ++ Ended r Filled ∷ []) ≡ false) → any_out ((f ∷ fs) ++ Ended r Filled ∷ []) ≡ false
+      on : (b : Bool) → is_of_server f ≡ b → any_out (f ∷ fs) ≡ false → (any_out fs ≡ false → any_out (fs ++ Ended r Filled ∷ []) ≡ false) → any_out ((f ∷ fs) ++ Ended r Filled ∷ []) ≡ false
       on true g k rest = let w : any_out (f ∷ fs) ≡ true = rw g refl in cc
       on false g k rest = let d : any_out fs ≡ false = sym (rw g refl) ∙ k in rw g (rest d)
 

@@ -1,6 +1,6 @@
-mod Laws
+pub mod Laws
 mod Checks
-mod Steps
+pub mod Steps
 mod Same
 mod Fit
 pub mod Lists
@@ -11,36 +11,39 @@ mod Facts
 mod Opens
 mod Telling
 mod OpensStand
-mod Different
+pub mod Different
 mod Absent
 mod Calls
+mod FailedFresh
 mod Inner
+mod FailedPools
+mod FailedDone
 mod Parts
-mod Known
-mod Bools
+pub mod Known
+pub mod Bools
 mod OpenAfter
 mod Changes
 mod PlannedBoth
 mod PlannedOne
 mod PlannedParts
 mod PlannedLists
-mod PlannedAll
+pub mod PlannedAll
 mod SameVec
 mod PlannedActs
 mod Balancers
 mod Published
 mod Opened
-mod Alone
+pub mod Alone
 mod Beats
 mod Limits
-mod Free
+pub mod Free
 mod Plain
 mod Acts
 mod Takes
 mod Past
-mod TellingSteps
+pub mod TellingSteps
 mod Still
-mod Tame
+pub mod Tame
 mod Placed
 mod PoolRows
 mod PoolActs
@@ -48,18 +51,62 @@ mod Rests
 mod Performed
 mod Told
 mod Monitored
+mod Heartbeats
 mod Following
-mod Differing
+pub mod Differing
 mod FollowingQuiet
+mod Watching
 mod FollowingOne
 mod Updating
+mod AtMonitor
+mod Wanting
+mod Sampling
+mod Connected
+mod Beating
+mod MakesKnown
+mod Ending
 mod Becoming
+pub mod SameSelf
+pub mod MarkedServers
+mod FailedMarks
+mod FailedFacts
+mod FailedStands
+mod FollowingFailed
+mod FailedPast
+mod FailedStays
+mod ClearedPools
+mod MarkTelling
+mod MarkPast
+mod MarkBecoming
+mod MarkedSteps
+mod ErringSteps
+mod FailedChecks
+mod ComplaintSteps
+mod ComplaintMarks
+mod ServiceClears
+mod OutdatedConnections
+mod BalancedComplaints
+mod PlannedTwo
+mod FailedAgain
+mod FailedRows
+mod FailedTroubles
+mod FailedMeans
+mod FailedPlans
+mod FailedBecoming
+mod FailedActs
 mod Seeds
 mod OpeningHomes
 mod OpenedStands
 mod Logged
 mod OpenedLog
 pub mod Driven
+mod DriverActs
+mod ReplyKinds
+mod Timely
+mod WarmPending
+mod HomeJobs
+mod CoreSteps
+mod CoreLog
 mod Script
 mod RowsBalanced
 mod RowsHosts

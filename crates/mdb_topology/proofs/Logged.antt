@@ -24,10 +24,11 @@ use Rattle.mdb_topology.specs.Answer.{answer, answered}
 use Rattle.mdb_topology.specs.Refusal.{refusal}
 use Rattle.mdb_topology.specs.Facts.{step_facts}
 use Rattle.mdb_topology.specs.Lines.{answer_after, entry_after}
+use Rattle.mdb_topology.specs.Checking.{monitors_after, numbers_after, watchers_after}
 use Rattle.mdb_topology.specs.Planned.{LeadsAll}
 use Rattle.mdb_topology.specs.Standing.{PoolFits, PoolsStand, StandsFor, IsSame}
 use Rattle.mdb_topology.specs.Stepping.{Follows, Logs}
-use Rattle.mdb_topology.specs.Logging.{opening_step, IsOpened}
+use Rattle.mdb_topology.specs.Logging.{opening_step, IsDriverOf}
 
 -- the same state stands for the same
 pub same-stands : (w v : TopologyCore) (h : List Item) → IsSame w v → StandsFor w h → StandsFor v h
@@ -57,12 +58,12 @@ pub record IsTaken (w v : TopologyCore) (n : Next) (step : Step) : Type 0 where
   pub options : v.options ≡ w.options
   pub led : (later : List PoolCore) → LeadsAll n.changes.items w.pools.cores.items later → later ≡ v.pools.cores.items
   pub last : v.pools.last ≡ step.moment
-  pub monitors : v.monitors.items ≡ w.monitors.items ++ n.monitors.items
+  pub monitors : v.monitors.items ≡ monitors_after n.monitoring w.monitors.items ++ n.monitors.items
   pub description : v.description ≡ unwrap_or n.description w.description
   pub published : v.published ≡ w.published + one_if (is_some n.description)
   pub stopped : v.stopped ≡ n.stops || w.stopped
-  pub fresh : v.fresh ≡ w.fresh
-  pub watchers : v.watchers ≡ w.watchers
+  pub fresh : v.fresh ≡ numbers_after n.monitoring w.fresh
+  pub watchers : v.watchers ≡ watchers_after n.monitoring w.watchers
 
 pub taken-logs : (w v : TopologyCore) (log after : List Entry) (seat : ℕ) (step : Step) (h : List Item) (n : Next) → IsTaken w v n step → Follows w n step h
     → after ≡ log ++ record { seat = seat; step = step; reply = n.reply; facts = n.facts.items } ∷ [] → Logs w v log after seat step h
@@ -115,8 +116,8 @@ fresh-append o [] e h l fresh = (fresh, tt)
 fresh-append o (d ∷ es) e h l fresh = (l.0, fresh-append o es e (with_answer d.step d.reply d.facts h) l.1 fresh)
 
 -- the entry of one more step
-pub adds : (w v : TopologyCore) (log after : List Entry) (seat : ℕ) (step : Step) → IsOpened w log → v.options ≡ w.options → Logs w v log after seat step (history_of log) → is_opening step.act ≡ false
-    → (after ≡ log ++ entry_after seat log step ∷ []) × IsOpened v after
+pub adds : (w v : TopologyCore) (log after : List Entry) (seat : ℕ) (step : Step) → IsDriverOf w log → v.options ≡ w.options → Logs w v log after seat step (history_of log) → is_opening step.act ≡ false
+    → (after ≡ log ++ entry_after seat log step ∷ []) × IsDriverOf v after
 adds w v log after seat step z same l others =
     let o : PoolOptions = pool_options w.options in
     let h : List Item = history_of log in

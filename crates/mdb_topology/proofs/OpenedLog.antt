@@ -20,7 +20,7 @@ use Rattle.mdb_pool.specs.declared.pool_core.PoolCore.{PoolCore}
 use Rattle.mdb_topology.specs.declared.topology.TopologyCore.{TopologyCore}
 use Rattle.mdb_topology.specs.Description.{begins_with}
 use Rattle.mdb_topology.specs.Lines.{entry_after}
-use Rattle.mdb_topology.specs.Logging.{opening_step, IsOpened as IsDriverOf}
+use Rattle.mdb_topology.specs.Logging.{opening_step, IsDriverOf}
 use Rattle.mdb_topology.specs.Monitors.{setting}
 use Rattle.mdb_topology.specs.Opening.{IsOpened}
 use Rattle.mdb_topology.specs.Standing.{StandsFor}

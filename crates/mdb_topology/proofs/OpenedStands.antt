@@ -215,7 +215,7 @@ module _ (o : Options) (kept : broken_rule o ≡ None) where
 
     step-told : step_facts o [] step ≡ F
     step-told =
-        told-first o [] 0 (Open o) refl
+        told-first o [] 0 (Open o)
         ∙ (ap (λ fs. F ++ (fs ++ [])) (served-all o 0 pools k comes.stand)
         ∙ append-nil F)
 

@@ -33,10 +33,10 @@ use Rattle.mdb_topology.proofs.Lists.{position-at}
 use Rattle.mdb_topology.proofs.Telling.{comes-as, comes-none, comes-calm, makes-then}
 
 -- the facts of the pool that is open at the address, by what it knows
-abbrev Gives : Type 0
+abbrev pub Gives : Type 0
 Gives = ℕ → ServerAddress → PoolOptions → List PoolItem → List Fact
 
-abbrev of_open : Gives → Options → ServerAddress → Option ℕ → List Item → List Fact
+abbrev pub of_open : Gives → Options → ServerAddress → Option ℕ → List Item → List Fact
 of_open gives o a None k = []
 of_open gives o a (Some p) k = gives p a (pool_options o) (of_pool p k)
 
@@ -52,7 +52,7 @@ module _ (o : Options) (m : ℕ) (a : ServerAddress) (pools : List PoolCore) (gi
       (alone : (xs : List PoolItem) → IsQuiet s.options xs → IsServed s.options xs → all_facts s.pool s.address s.options m xs xs act ≡ gives s.pool s.address s.options xs)
       (fs : List Fact) (reply : Reply) (does : Does s t [] fs (record { moment = m; act = act }) reply)
       (before after : List Fact) (added : after ≡ before ++ fs) where
-    inner-made : Makes o m (λ k. of_open gives o a (open_pool k a) k) pools (set pools i t) before after
+    pub inner-made : Makes o m (λ k. of_open gives o a (open_pool k a) k) pools (set pools i t) before after
     inner-made k z =
         let xs : List PoolItem = of_pool s.pool k in
         let d : PoolFits (pool_options o) k i s = z.fit.each i s at_i in

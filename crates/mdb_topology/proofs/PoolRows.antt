@@ -75,7 +75,7 @@ module _ (o : Options) (pools : List PoolCore) (h : List Item) (z : PoolsFit (po
       rw (z.requested r, unknown) refl
 
   -- past the last pool there is none
-  past-pool : (q : ℕ) → numbered pools q ≡ None → of_pool q h ≡ []
+  pub past-pool : (q : ℕ) → numbered pools q ≡ None → of_pool q h ≡ []
   past-pool q e =
       let past : nat_lt q (length pools) ≡ false = numbered-past pools q e in
       let over : length pools ≤ q = grind (arith, nat_tests) in
@@ -122,7 +122,7 @@ module _ (o : Options) (pools : List PoolCore) (h : List Item) (z : PoolsFit (po
     pinned-is : (q c : ℕ) → q ≡ s.pool → has_pin h q c ≡ is_pinned_here s q c
     pinned-is q c e = subst (λ n. has_pin h n c ≡ is_pinned_here s n c) (sym e) (rw ((fits-at (pool_options o) pools h z i s at_i).matches.pinning.pins c, same-number s.pool) refl)
 
-    pending-here : (q c : ℕ) → q ≡ s.pool → is_pending h q c ≡ is_pending_here s q c
+    pub pending-here : (q c : ℕ) → q ≡ s.pool → is_pending h q c ≡ is_pending_here s q c
     pending-here q c e = subst (λ n. is_pending h n c ≡ is_pending_here s n c) (sym e) (rw (pending-is s xs (fits-at (pool_options o) pools h z i s at_i) c, same-number s.pool) refl)
 
     held-here : (q c : ℕ) → q ≡ s.pool → nat_lt 0 (held (of_pool q h) c) ≡ is_held_at (connection_at s c)

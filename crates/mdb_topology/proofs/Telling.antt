@@ -39,13 +39,13 @@ pub fresh-both : (o : PoolOptions) (m : ℕ) (fs gs : List Fact) (k : List Item)
 fresh-both o m [] gs k a b = b
 fresh-both o m (f ∷ fs) gs k a b = (a.0, fresh-both o m fs gs (made m f ∷ k) a.1 b)
 
-calm-fair : (m : ℕ) (f : Fact) (k : List Item) → IsCalm f → FirstCome k f
+pub calm-fair : (m : ℕ) (f : Fact) (k : List Item) → IsCalm f → FirstCome k f
 calm-fair m (Sdam e) k c = tt
 calm-fair m (CheckNow a) k c = tt
 calm-fair m (Cancel a) k c = tt
 calm-fair m _ k c = elim c [ ]
 
-calm-fresh : (o : PoolOptions) (m : ℕ) (f : Fact) (k : List Item) → IsCalm f → FreshGrant o m k f
+pub calm-fresh : (o : PoolOptions) (m : ℕ) (f : Fact) (k : List Item) → IsCalm f → FreshGrant o m k f
 calm-fresh o m (Sdam e) k c = tt
 calm-fresh o m (CheckNow a) k c = tt
 calm-fresh o m (Cancel a) k c = tt

@@ -1,7 +1,8 @@
--- A step that tells of the topology and does nothing in a pool by itself: its facts are those of its rule.
+-- A step that does nothing in a pool by itself: its facts are that of a check, and those of its rule.
 use Rattle.std.proofs.Common.{ℕ, ◌≡◌, ◌≤◌, true, false, if◌then◌else◌, List, [], ◌∷◌, ◌++◌, length, Option, Some, None, nat_lt, refl, sym, ◌∙◌, ap, subst, arith}
 use Rattle.std.specs.Prelude.{flat_map}
 use Rattle.std.proofs.Common.{append-nil}
+use Rattle.std.proofs.lemmas.List.{append_assoc}
 use Rattle.std.proofs.lemmas.Bool.Decides.{nat_tests}
 use Rattle.mdb_base.specs.declared.options.Options.{Options}
 use Rattle.mdb_events.specs.declared.fact.Fact.{Fact}
@@ -37,6 +38,7 @@ use Rattle.mdb_topology.specs.Refusal.{first_refusal, first_past, sooner, exhaus
 use Rattle.mdb_topology.specs.Answer.{reply_to, answered, answer}
 use Rattle.mdb_topology.specs.Standing.{home, PoolsStand}
 use Rattle.mdb_topology.specs.Telling.{Comes, Tells}
+use Rattle.mdb_topology.specs.Marking.{spoken}
 use Rattle.mdb_topology.proofs.Laws.{turn-append}
 use Rattle.mdb_topology.proofs.Limits.{past-append}
 use Rattle.mdb_topology.proofs.Lists.{flat-none}
@@ -100,9 +102,9 @@ module _ (o : Options) (h : List Item) (m : ℕ) (act : Act) where
   abbrev k : List Item
   k = begun h step
 
-  -- what its rule tells
+  -- what a check and its rule tell
   abbrev pub told : List (List Item → List Fact)
-  told = told_by o m (rule_after o h step) (description_of o h)
+  told = (λ k. heartbeat o h act) ∷ told_by o m (rule_after o h step) (description_of o h)
 
   abbrev pub F : List Fact
   F = in_turn m told k
@@ -111,23 +113,25 @@ module _ (o : Options) (h : List Item) (m : ℕ) (act : Act) where
   abbrev rest : List (List Item → List Fact)
   rest = clearing o m (trouble o h step) (clear_of o h step) ∷ asking o (trouble o h step) (clear_of o h step) ∷ own_facts o h step (home_of h act) ∷ serve_all o m ∷ []
 
-  module _ (quiet : heartbeat o h act ≡ []) where
-    pub told-first : step_facts o h step ≡ F ++ in_turn m rest (with_facts m F k)
-    told-first = rw quiet (turn-append m told rest k)
+  pub told-first : step_facts o h step ≡ F ++ in_turn m rest (with_facts m F k)
+  told-first = turn-append m told rest k
 
-    -- a number that its rule takes past a limit is the first
-    pub past-told : (what : What) → first_past o m k F ≡ Some what → first_past o m k (step_facts o h step) ≡ Some what
-    past-told what e =
-        ap (first_past o m k) told-first
-        ∙ (past-append o m k F (in_turn m rest (with_facts m F k))
-        ∙ ap (λ x. sooner x (first_past o m (with_facts m F k) (in_turn m rest (with_facts m F k)))) e)
+  -- the first number past a limit refuses the step
+  refused-first : (what : What) → first_refusal o h step ≡ None → length (description_of o k).servers ≤ 128 → first_past o m k (step_facts o h step) ≡ Some what → refusal o h step ≡ Some (Exhausted what)
+  refused-first what first few past =
+      let less : nat_lt 128 (length (description_of o k).servers) ≡ false = grind (arith, nat_tests) in
+      let all : exhausted o h step (step_facts o h step) ≡ Some what = ap (λ b. if b then Some Servers else first_past o m k (step_facts o h step)) less ∙ past in
+      ap (λ x. refused_by x (ran_out (exhausted o h step (step_facts o h step)))) first ∙ ap ran_out all
 
-    pub refused-told : (what : What) → first_refusal o h step ≡ None → length (description_of o k).servers ≤ 128 → first_past o m k F ≡ Some what → refusal o h step ≡ Some (Exhausted what)
-    refused-told what first few e =
-        let less : nat_lt 128 (length (description_of o k).servers) ≡ false = grind (arith, nat_tests) in
-        let past : first_past o m k (step_facts o h step) ≡ Some what = past-told what e in
-        let all : exhausted o h step (step_facts o h step) ≡ Some what = ap (λ b. if b then Some Servers else first_past o m k (step_facts o h step)) less ∙ past in
-        ap (λ x. refused_by x (ran_out (exhausted o h step (step_facts o h step)))) first ∙ ap ran_out all
+  -- a number that its rule takes past a limit is the first
+  pub past-told : (what : What) → first_past o m k F ≡ Some what → first_past o m k (step_facts o h step) ≡ Some what
+  past-told what e =
+      ap (first_past o m k) told-first
+      ∙ (past-append o m k F (in_turn m rest (with_facts m F k))
+      ∙ ap (λ x. sooner x (first_past o m (with_facts m F k) (in_turn m rest (with_facts m F k)))) e)
+
+  pub refused-told : (what : What) → first_refusal o h step ≡ None → length (description_of o k).servers ≤ 128 → first_past o m k F ≡ Some what → refusal o h step ≡ Some (Exhausted what)
+  refused-told what first few e = refused-first what first few (past-told what e)
 
   -- more than 128 servers
   pub refused-servers : first_refusal o h step ≡ None → nat_lt 128 (length (description_of o k).servers) ≡ true → refusal o h step ≡ Some (Exhausted Servers)
@@ -135,50 +139,75 @@ module _ (o : Options) (h : List Item) (m : ℕ) (act : Act) where
       let all : exhausted o h step (step_facts o h step) ≡ Some Servers = ap (λ b. if b then Some Servers else first_past o m k (step_facts o h step)) many in
       ap (λ x. refused_by x (ran_out (exhausted o h step (step_facts o h step)))) first ∙ ap ran_out all
 
-  module _ (pools later : List PoolCore) (facts : List Fact) (z : PoolsStand (pool_options o) pools h) (out : IsOutside act) (quiet : heartbeat o h act ≡ []) (calm : trouble o h step ≡ None)
-      (tells : Tells o m told pools later [] facts) where
+  -- with what an error clears and asks
+  abbrev pub said : List (List Item → List Fact)
+  said = (λ k. heartbeat o h act) ∷ spoken o h step
+
+  abbrev pub G : List Fact
+  G = in_turn m said k
+
+  -- the parts after those
+  abbrev own_then_served : List (List Item → List Fact)
+  own_then_served = own_facts o h step (home_of h act) ∷ serve_all o m ∷ []
+
+  said-first : step_facts o h step ≡ G ++ in_turn m own_then_served (with_facts m G k)
+  said-first =
+      ap (λ ps. in_turn m ps k) (sym (append_assoc told (clearing o m (trouble o h step) (clear_of o h step) ∷ asking o (trouble o h step) (clear_of o h step) ∷ []) own_then_served))
+      ∙ turn-append m said own_then_served k
+
+  -- a number that they take past a limit
+  pub refused-said : (what : What) → first_refusal o h step ≡ None → length (description_of o k).servers ≤ 128 → first_past o m k G ≡ Some what → refusal o h step ≡ Some (Exhausted what)
+  refused-said what first few e =
+      refused-first what first few (ap (first_past o m k) said-first
+      ∙ (past-append o m k G (in_turn m own_then_served (with_facts m G k))
+      ∙ ap (λ x. sooner x (first_past o m (with_facts m G k) (in_turn m own_then_served (with_facts m G k)))) e))
+
+  pub refused-spoken : heartbeat o h act ≡ [] → (what : What) → first_refusal o h step ≡ None → length (description_of o k).servers ≤ 128 → first_past o m k (in_turn m (spoken o h step) k) ≡ Some what → refusal o h step ≡ Some (Exhausted what)
+  refused-spoken quiet what first few e = refused-said what first few (ap (λ fs. first_past o m k (in_turn m ((λ k. fs) ∷ spoken o h step) k)) quiet ∙ e)
+
+  module _ (pools later : List PoolCore) (facts : List Fact) (z : PoolsStand (pool_options o) pools h) (out : IsOutside act) (tells : Tells o m said pools later [] facts) where
     begins : SameFor h k
     begins = outside m act Done h out tt
 
-    comes : Comes o m F later [] facts k
+    comes : Comes o m G later [] facts k
     comes = tells k (same-stand (pool_options o) pools h k begins z)
 
-    pub facts-told : facts ≡ F
+    pub facts-told : facts ≡ G
     facts-told = comes.added
 
-    pub step-told : step_facts o h step ≡ F
+    pub step-told : step_facts o h step ≡ G
     step-told =
-        told-first quiet
-        ∙ (rw (calm, no-own o h m act out (home_of h act) (with_facts m F k)) (ap (λ fs. F ++ (fs ++ [])) (served-all o m later (with_facts m F k) comes.stand))
-        ∙ append-nil F)
+        said-first
+        ∙ (rw (no-own o h m act out (home_of h act) (with_facts m G k)) (ap (λ fs. G ++ (fs ++ [])) (served-all o m later (with_facts m G k) comes.stand))
+        ∙ append-nil G)
 
     module _ (reply : Reply) (plain : IsPlain reply) where
-      same : SameFor (with_facts m F k) (with_facts m F (did step reply ∷ h))
-      same = same-reply m act reply h F out plain
+      same : SameFor (with_facts m G k) (with_facts m G (did step reply ∷ h))
+      same = same-reply m act reply h G out plain
 
       pub stands-told : PoolsStand (pool_options o) later (with_answer step reply facts h)
       stands-told =
           subst (λ fs. PoolsStand (pool_options o) later (with_answer step reply fs h)) (sym facts-told)
-          (subst (PoolsStand (pool_options o) later) (sym (with_answer-accepted step reply F h (accepted-plain reply plain)))
-          (same-stand (pool_options o) later (with_facts m F k) (with_facts m F (did step reply ∷ h)) same comes.stand))
+          (subst (PoolsStand (pool_options o) later) (sym (with_answer-accepted step reply G h (accepted-plain reply plain)))
+          (same-stand (pool_options o) later (with_facts m G k) (with_facts m G (did step reply ∷ h)) same comes.stand))
 
       begins-true : SameFor k (did step reply ∷ h)
       begins-true = same-trans k h (did step reply ∷ h) (same-sym h k begins) (outside m act reply h out plain)
 
       pub fair-told : IsFairAnswer h step reply facts
-      fair-told = fair-plain h step reply facts plain (subst (AllFirstCome m (did step reply ∷ h)) (sym facts-told) (same-fair m F k (did step reply ∷ h) begins-true comes.fair))
+      fair-told = fair-plain h step reply facts plain (subst (AllFirstCome m (did step reply ∷ h)) (sym facts-told) (same-fair m G k (did step reply ∷ h) begins-true comes.fair))
 
       pub fresh-told : AllFreshGrants (pool_options o) m (did step reply ∷ h) facts
-      fresh-told = subst (AllFreshGrants (pool_options o) m (did step reply ∷ h)) (sym facts-told) (same-fresh (pool_options o) m F k (did step reply ∷ h) begins-true comes.fresh)
+      fresh-told = subst (AllFreshGrants (pool_options o) m (did step reply ∷ h)) (sym facts-told) (same-fresh (pool_options o) m G k (did step reply ∷ h) begins-true comes.fresh)
 
       -- the answer, where no row and no limit refuses the step
-      pub answer-told : first_refusal o h step ≡ None → length (description_of o k).servers ≤ 128 → first_past o m k F ≡ None → reply_to o h step (with_facts m F k) act ≡ reply
+      pub answer-told : first_refusal o h step ≡ None → length (description_of o k).servers ≤ 128 → first_past o m k G ≡ None → reply_to o h step (with_facts m G k) act ≡ reply
           → answer o h step ≡ record { reply = reply; facts = facts }
       answer-told first few past replies =
           let less : nat_lt 128 (length (description_of o k).servers) ≡ false = grind (arith, nat_tests) in
-          let spare : exhausted o h step F ≡ None = ap (λ b. if b then Some Servers else first_past o m k F) less ∙ past in
+          let spare : exhausted o h step G ≡ None = ap (λ b. if b then Some Servers else first_past o m k G) less ∙ past in
           let none : refusal o h step ≡ None = ap (λ fs. refused_by (first_refusal o h step) (ran_out (exhausted o h step fs))) step-told ∙ (ap (λ x. refused_by (first_refusal o h step) (ran_out x)) spare ∙ ap (λ x. refused_by x None) first) in
           ap (λ x. answered o h step x (step_facts o h step)) none
           ∙ (ap (answered o h step None) step-told
-          ∙ (ap (λ b. record { reply = b; facts = F }) replies
+          ∙ (ap (λ b. record { reply = b; facts = G }) replies
           ∙ ap (λ fs. record { reply = reply; facts = fs }) (sym facts-told)))

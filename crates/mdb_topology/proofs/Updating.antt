@@ -36,13 +36,13 @@ use Rattle.mdb_topology.specs.Standing.{StandsFor}
 use Rattle.mdb_topology.specs.Stepping.{is_here_among, known_after}
 use Rattle.mdb_topology.specs.Changing.{IsTelling, IsChanging, IsUpdating}
 
-or-not : (b c : Bool) → b || not c ≡ false → (b ≡ false) × (c ≡ true)
+pub or-not : (b c : Bool) → b || not c ≡ false → (b ≡ false) × (c ≡ true)
 or-not true c e = cc
 or-not false true e = (refl, refl)
 or-not false false e = cc
 
 -- nothing is found that never is
-find-never : {T : Type 0} (xs : List T) → find (λ (x : T). false) xs ≡ None
+pub find-never : {T : Type 0} (xs : List T) → find (λ (x : T). false) xs ≡ None
 find-never [] = refl
 find-never (x ∷ xs) = find-never xs
 
@@ -53,18 +53,26 @@ module _ (w : TopologyCore) (h : List Item) (z : StandsFor w h) (m : ℕ) (l : w
   abbrev t : TopologyDescription
   t = w.description
 
-  in-time : nat_lt m (last_moment h) ≡ false
+  pub in-time : nat_lt m (last_moment h) ≡ false
   in-time = let e : last_moment h ≤ m = subst (λ n. n ≤ m) (sym z.counts.last_is) l in grind (arith, nat_tests)
 
-  abbrev at_m : Act → Step
+  abbrev pub at_m : Act → Step
   at_m act = record { moment = m; act = act }
 
   -- the rule, where the driver was not stopped
-  rule-unstopped : (act : Act) → w.stopped ≡ false → rule_after o h (at_m act) ≡ rule_of o (begun h (at_m act)) t m act
+  pub rule-unstopped : (act : Act) → w.stopped ≡ false → rule_after o h (at_m act) ≡ rule_of o (begun h (at_m act)) t m act
   rule-unstopped act e = rw (z.counts.stopped_is, e) (ap (λ d. rule_of o (begun h (at_m act)) d m act) z.described.known)
 
-  rule-stopped : (act : Act) → w.stopped ≡ true → rule_after o h (at_m act) ≡ None
+  pub rule-stopped : (act : Act) → w.stopped ≡ true → rule_after o h (at_m act) ≡ None
   rule-stopped act e = rw (z.counts.stopped_is, e) refl
+
+  -- an act of no rule applies none
+  pub unruled : (act : Act) → rule_of o (begun h (at_m act)) t m act ≡ None → rule_after o h (at_m act) ≡ None
+  unruled act e = on w.stopped refl
+    where
+      on : (b : Bool) → w.stopped ≡ b → rule_after o h (at_m act) ≡ None
+      on true f = rule-stopped act f
+      on false f = rule-unstopped act f ∙ e
 
   or-false : (b : Bool) → b || false ≡ b
   or-false true = refl
@@ -89,7 +97,7 @@ module _ (w : TopologyCore) (h : List Item) (z : StandsFor w h) (m : ℕ) (l : w
       }
 
   -- a step without a rule makes nothing known, and tells nothing
-  resting-by : (act : Act) (reply : Reply) → IsTelling act → trouble o h (at_m act) ≡ None → first_refusal o h (at_m act) ≡ None → rule_after o h (at_m act) ≡ None
+  pub resting-by : (act : Act) (reply : Reply) → IsTelling act → trouble o h (at_m act) ≡ None → first_refusal o h (at_m act) ≡ None → rule_after o h (at_m act) ≡ None
       → ((k : List Item) → reply_to o h (at_m act) k act ≡ reply) → (ends : Bool) → is_stop act ≡ ends → IsChanging o h t None (at_m act) reply ends []
   resting-by act reply telling calm passes ruled replied ends e = record {
     act = telling;
@@ -101,13 +109,13 @@ module _ (w : TopologyCore) (h : List Item) (z : StandsFor w h) (m : ℕ) (l : w
     stop = e;
   }
 
-  unchanged : (act : Act) → trouble o h (at_m act) ≡ None → rule_after o h (at_m act) ≡ None → Changed (changed o h (at_m act) || is_clear (clear_of o h (at_m act))) ≡ Changed false
+  pub unchanged : (act : Act) → trouble o h (at_m act) ≡ None → rule_after o h (at_m act) ≡ None → Changed (changed o h (at_m act) || is_clear (clear_of o h (at_m act))) ≡ Changed false
   unchanged act calm ruled =
       let unclear : is_clear (clear_of o h (at_m act)) ≡ false = rw calm refl in
       ap (λ b. Changed (changed o h (at_m act) || b)) unclear ∙ ap (λ r. Changed (is_some (change_by r (description_of o h)) || false)) ruled
 
   -- the first row is that of the time
-  passes-time : (act : Act) → first_row (rows_of o h act) ≡ None → first_refusal o h (at_m act) ≡ None
+  pub passes-time : (act : Act) → first_row (rows_of o h act) ≡ None → first_refusal o h (at_m act) ≡ None
   passes-time act e = rw in-time e
 
   -- The reply of a server.

@@ -1,11 +1,29 @@
 -- Steps that change what is known of the topology, and do nothing in a pool by themselves.
-use Rattle.std.specs.Prelude.{ℕ, ◌≡◌, ◌≤◌, ◌+◌, ◌^◌, Bool, false, List, [], length, Option, Some, None, is_some, ⊤}
+use Rattle.std.specs.Prelude.{ℕ, ◌≡◌, ◌≤◌, ◌+◌, ◌^◌, Bool, true, false, if◌then◌else◌, nat_lt, All, map, List, [], ◌∷◌, length, Option, Some, None, is_some, ⊤}
 use Rattle.mdb_base.specs.declared.address.ServerAddress.{ServerAddress}
 use Rattle.mdb_base.specs.declared.options.Options.{Options}
 use Rattle.mdb_describe.specs.declared.topology.TopologyDescription.{TopologyDescription}
 use Rattle.mdb_describe.specs.declared.diff.Diff.{Diff}
 use Rattle.mdb_describe.specs.Differences.{difference}
-use Rattle.mdb_describe.specs.Servers.{is_known}
+use Rattle.mdb_describe.specs.Servers.{is_known, in_order}
+use Rattle.mdb_monitor.specs.Standing.{StandsFor as MonitorStands}
+use Rattle.mdb_log.specs.declared.reply.What.{What}
+use Rattle.mdb_log.specs.declared.reply.What.TheVariants.{Servers, Pool}
+use Rattle.mdb_log.specs.declared.reply.Refused.TheVariants.{Exhausted}
+use Rattle.mdb_topology.specs.declared.next.Next.{Next}
+use Rattle.mdb_topology.specs.declared.next.Stepped.{Stepped}
+use Rattle.mdb_topology.specs.declared.next.Stepped.TheVariants.{Refused, Accepted}
+use Rattle.mdb_topology.specs.declared.monitoring.Monitoring.TheVariants.{Same}
+use Rattle.mdb_topology.specs.Monitors.{setting, hello_reply}
+use Rattle.mdb_topology.specs.declared.monitoring.Monitoring.{Monitoring}
+use Rattle.mdb_events.specs.declared.fact.Fact.TheVariants.{Sdam}
+use Rattle.mdb_events.specs.declared.sdam.SdamEvent.{SdamEvent}
+use Rattle.mdb_monitor.specs.declared.check.Report.{Report}
+use Rattle.mdb_monitor.specs.declared.check.Report.TheVariants.{Update}
+use Rattle.mdb_log.specs.declared.checked.BeatenResult.{BeatenResult}
+use Rattle.mdb_log.specs.declared.checked.BeatenResult.TheVariants as Beaten
+use Rattle.mdb_describe.specs.Descriptions.{from_reply}
+use Rattle.mdb_describe.specs.Update.{updated}
 use Rattle.mdb_events.specs.declared.fact.Fact.{Fact}
 use Rattle.mdb_log.specs.declared.step.Step.{Step}
 use Rattle.mdb_log.specs.declared.step.Act.{Act}
@@ -30,6 +48,7 @@ use Rattle.mdb_topology.specs.Stepping.{known_after}
 -- an act of the topology alone: no pool, monitor or watcher is concerned by itself
 abbrev pub IsTelling : Act → Type 0
 IsTelling (Do.Hello a p came) = ⊤
+IsTelling (Do.Error r error) = ⊤
 IsTelling (Do.Hosts hosts) = ⊤
 IsTelling (Do.ClusterTime time) = ⊤
 IsTelling Do.Stop = ⊤
@@ -66,3 +85,65 @@ passes_limit w (Some d) = is_some (past_last w.options (length w.pools.cores.ite
 abbrev pub AreFew : TopologyCore → Option Diff → Type 0
 AreFew w None = ⊤
 AreFew w (Some d) = length w.pools.cores.items + length d.added ≤ 2 ^ 32
+
+-- The limit that a change to u would pass: more than 128 servers, or a pool's number.
+abbrev pub change_past : TopologyCore → TopologyDescription → Option What
+change_past w u =
+    if nat_lt 128 (length u.servers) then Some Servers
+    else if passes_limit w (difference w.description.servers u.servers) then Some Pool
+    else None
+
+-- What a change to u at the moment m comes to, but for what the step does at the monitors.
+pub record IsChanged (w : TopologyCore) (m : ℕ) (u : TopologyDescription) (n : Next) : Type 0 where
+  pub past : change_past w u ≡ None
+  pub ordered : in_order u.servers ≡ true
+  pub reply : n.reply ≡ Changed (is_some (difference w.description.servers u.servers))
+  pub known : n.description ≡ Some u
+  pub goes_on : n.stops ≡ false
+  pub nothing : n.monitoring ≡ Same
+  pub told : IsTold w.options m w.pools.cores.items (length w.pools.cores.items) u (publication w.options m w.description u) n.changes.items n.facts.items
+  pub settings : map (λ x. x.setting) n.monitors.items ≡ map (λ x. setting w.options x.address) (opened_by n.changes.items)
+  pub new : All (λ x. MonitorStands x []) n.monitors.items
+
+-- It is refused by the limit that it would pass, or comes to what is told.
+abbrev pub ChangesTo : TopologyCore → ℕ → TopologyDescription → Stepped → Type 0
+ChangesTo w m u (Refused why) = (what : What) × (why ≡ Exhausted what) × (change_past w u ≡ Some what)
+ChangesTo w m u (Accepted n) = IsChanged w m u n
+
+-- The same step with what it does at the monitors, and the event of its check before its facts.
+pub record IsWithCheck (y n : Next) (monitoring : Monitoring) (event : SdamEvent) : Type 0 where
+  pub others : n ≡ record y { facts = n.facts; monitoring = monitoring }
+  pub facts : n.facts.items ≡ Sdam event ∷ y.facts.items
+
+-- nothing changes
+pub record IsUnchanged (n : Next) : Type 0 where
+  pub reply : n.reply ≡ Changed false
+  pub facts : n.facts.items ≡ []
+  pub changes : n.changes.items ≡ []
+  pub known : n.description ≡ None
+  pub monitors : n.monitors.items ≡ []
+  pub goes_on : n.stops ≡ false
+
+-- A change, or none.
+abbrev pub ChangesIf : TopologyCore → ℕ → Option TopologyDescription → Stepped → Type 0
+ChangesIf w m (Some u) stepped = ChangesTo w m u stepped
+ChangesIf w m None (Refused why) = ⊥
+ChangesIf w m None (Accepted n) = IsUnchanged n
+
+-- a check that did not fail tells of no trouble
+abbrev pub IsUntroubled : BeatenResult → Type 0
+IsUntroubled (Beaten.Ok r more) = ⊤
+IsUntroubled (Beaten.Err error) = ⊥
+IsUntroubled (Beaten.Cancelled error) = ⊤
+
+-- What the reply of a check makes known, where it has one and the driver was not stopped.
+abbrev pub reply_known : TopologyCore → ServerAddress → ℕ → BeatenResult → Report → Option TopologyDescription
+reply_known w a m (Beaten.Ok r more) (Update v average) = if w.stopped then None else Some (updated w.description (from_reply a (hello_reply a r) average m))
+reply_known w a m came report = None
+
+-- What a check that ended comes to, by what is known after it.
+abbrev pub ConcludesAs : TopologyCore → ℕ → Monitoring → SdamEvent → Option TopologyDescription → Stepped → Type 0
+ConcludesAs w m monitoring event None (Refused why) = ⊥
+ConcludesAs w m monitoring event None (Accepted n) = (y : Next) × IsUnchanged y × IsWithCheck y n monitoring event
+ConcludesAs w m monitoring event (Some u) (Refused why) = ChangesTo w m u (Refused why)
+ConcludesAs w m monitoring event (Some u) (Accepted n) = (y : Next) × IsChanged w m u y × IsWithCheck y n monitoring event

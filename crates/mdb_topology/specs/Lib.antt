@@ -7,6 +7,7 @@ pub mod Description
 pub mod Ready
 pub mod Publishing
 pub mod Facts
+pub mod OfServers
 pub mod Refusal
 pub mod Answer
 pub mod Lines
@@ -21,8 +22,14 @@ pub mod Taking
 pub mod Finding
 pub mod Asking
 pub mod Limits
+pub mod Checking
 pub mod Stepping
 pub mod Changing
+pub mod Marking
+pub mod Complaining
+pub mod Failing
 pub mod Logging
 pub mod Driving
 pub mod Jobs
+pub mod Handshake
+pub mod Growing

@@ -18,7 +18,7 @@ abbrev pub opening_step : Options → Step
 opening_step o = record { moment = 0; act = act.Open o }
 
 -- The log is that of a driver which was opened by its first entry, and then took the steps of the others.
-pub record IsOpened (w : TopologyCore) (log : List Entry) : Type 0 where
+pub record IsDriverOf (w : TopologyCore) (log : List Entry) : Type 0 where
   pub fits : broken_rule w.options ≡ None
   pub seat : ℕ
   pub entries : List Entry

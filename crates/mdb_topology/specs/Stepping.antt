@@ -6,7 +6,6 @@ use Rattle.mdb_log.specs.declared.log.Entry.{Entry}
 use Rattle.mdb_log.specs.declared.step.Step.{Step}
 use Rattle.mdb_log.specs.declared.step.Act.{Act}
 use Rattle.mdb_log.specs.declared.step.Act.TheVariants as Do
-use Rattle.mdb_log.specs.declared.checked.HelloResult.TheVariants as Hello
 use Rattle.mdb_topology.specs.Finding.{is_pool_act}
 use Rattle.mdb_log.specs.History.{Item, did, is_number, with_answer}
 use Rattle.mdb_log.specs.LegalLog.{IsFairAnswer}
@@ -22,6 +21,7 @@ use Rattle.mdb_topology.specs.Answer.{answer}
 use Rattle.mdb_topology.specs.Refusal.{refusal}
 use Rattle.mdb_topology.specs.Description.{Rule, applied}
 use Rattle.mdb_topology.specs.Planned.{LeadsAll, opened_by}
+use Rattle.mdb_topology.specs.Checking.{monitors_after, numbers_after, watchers_after, IsPlaced}
 use Rattle.mdb_topology.specs.Standing.{at_address, PoolsStand, MonitorsFit, Describes, Counts, StandsFor}
 
 -- the pool with the number is the open one of the address
@@ -33,17 +33,24 @@ abbrev pub known_after : Option Rule → TopologyDescription → Option Topology
 known_after None t = None
 known_after (Some rule) t = Some (applied (Some rule) t)
 
--- The acts of the topology that are built so far.
+-- The acts of the topology.
 abbrev pub is_topology_act : Act → Bool
-is_topology_act (Do.Hello a p (Hello.Ok rtt r)) = true
+is_topology_act (Do.Hello a p came) = true
 is_topology_act (Do.Hosts hosts) = true
 is_topology_act (Do.ClusterTime time) = true
 is_topology_act Do.Stop = true
+is_topology_act (Do.Want w) = true
+is_topology_act (Do.Unwant w) = true
+is_topology_act (Do.Rtt a p sample) = true
+is_topology_act (Do.Beat a p) = true
+is_topology_act (Do.Beaten a p duration came) = true
+is_topology_act (Do.Error r error) = true
+is_topology_act (Do.Failed q c at error) = true
 is_topology_act _ = false
 
--- The acts of a driver that are built so far.
-abbrev pub is_built : Act → Bool
-is_built act = is_pool_act act || is_topology_act act
+-- The acts of a driver.
+abbrev pub is_driver_act : Act → Bool
+is_driver_act act = is_pool_act act || is_topology_act act
 
 -- An accepted step: its answer, and what each part of the driver then is, where its pools are those to which the changes lead.
 pub record Follows (w : TopologyCore) (n : Next) (step : Step) (h : List Item) : Type 0 where
@@ -55,9 +62,10 @@ pub record Follows (w : TopologyCore) (n : Next) (step : Step) (h : List Item) :
   pub numbers : (later : List PoolCore) → LeadsAll n.changes.items w.pools.cores.items later → length later ≤ 2 ^ 32
   pub early : (later : List PoolCore) → LeadsAll n.changes.items w.pools.cores.items later → All (λ s. s.last ≤ step.moment) later
   pub each_opened : length n.monitors.items ≡ length (opened_by n.changes.items)
-  pub monitors : MonitorsFit w.options (w.monitors.items ++ n.monitors.items) (with_answer step n.reply n.facts.items h)
+  pub placed : IsPlaced n.monitoring (length w.monitors.items)
+  pub monitors : MonitorsFit w.options (monitors_after n.monitoring w.monitors.items ++ n.monitors.items) (with_answer step n.reply n.facts.items h)
   pub described : Describes w.options (unwrap_or n.description w.description) (with_answer step n.reply n.facts.items h)
-  pub counts : Counts w.options step.moment (w.published + one_if (is_some n.description)) w.fresh (n.stops || w.stopped) w.watchers (with_answer step n.reply n.facts.items h)
+  pub counts : Counts w.options step.moment (w.published + one_if (is_some n.description)) (numbers_after n.monitoring w.fresh) (n.stops || w.stopped) (watchers_after n.monitoring w.watchers) (with_answer step n.reply n.facts.items h)
 
 -- so it is after some history
 abbrev pub FollowsSome : TopologyCore → Next → Step → Type 0

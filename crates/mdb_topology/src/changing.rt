@@ -17,13 +17,11 @@ use std::alloc::Global;
 pub const MAX_SERVERS: usize = 128;
 
 impl TopologyCore {
-    ghost use Rattle.mdb_log.specs.History.{Item};
     ghost use Rattle.mdb_monitor.specs.Standing.{StandsFor as MonitorStands};
     ghost use Rattle.mdb_topology.specs.Monitors.{setting};
     ghost use Rattle.mdb_topology.specs.Planned.{opened_by};
-    ghost use Rattle.mdb_topology.specs.Standing.{StandsFor, StandsForSome};
-    ghost use Rattle.mdb_topology.specs.Stepping.{BecomesOf};
-    ghost use Rattle.mdb_topology.specs.Changing.{IsTold, IsUpdating, AreFew, passes_limit};
+    ghost use Rattle.mdb_topology.specs.Standing.{StandsForSome};
+    ghost use Rattle.mdb_topology.specs.Changing.{IsTold, ChangesTo, AreFew, passes_limit};
 
     // Some pool that would come has a number past the limit.
     fn passes_limit(&self, diff: &Option<Diff>) -> bool
@@ -108,7 +106,7 @@ impl TopologyCore {
         requires stands { StandsForSome self.old }
         requires in_time { self.old.pools.last ≤ step.now.moment }
         ensures same { self.new ≡ self.old }
-        ensures becomes { IfOk result (λ stepped. (h : List Item) → StandsFor self.old h → IsUpdating self.old h step.now later → BecomesOf self.old step.now stepped h) }
+        ensures changes { IfOk result (λ stepped. ChangesTo self.old step.now.moment later stepped) }
     {
         if MAX_SERVERS < later.servers().len() {
             drop(later);
@@ -138,7 +136,7 @@ impl TopologyCore {
         requires few { length later.servers ≤ 128 }
         requires ordered { in_order later.servers ≡ true }
         ensures same { self.new ≡ self.old }
-        ensures becomes { IfOk result (λ stepped. (h : List Item) → StandsFor self.old h → IsUpdating self.old h step.now later → BecomesOf self.old step.now stepped h) }
+        ensures changes { IfOk result (λ stepped. ChangesTo self.old step.now.moment later stepped) }
     {
         if self.passes_limit(&diff) {
             drop(later);

@@ -3,9 +3,9 @@
 ghost use Rattle.std.specs.Prelude.{◌≡◌, ◌++◌, ◌∷◌, [], OnOk, OnErr, List};
 ghost use Rattle.mdb_topology.specs.Driving.{opens_seeds, may_come};
 ghost use Rattle.mdb_topology.specs.Lines.{entry_after, steps_of};
-ghost use Rattle.mdb_topology.specs.Stepping.{is_built};
+ghost use Rattle.mdb_topology.specs.Stepping.{is_driver_act};
 
-use crate::stepping::is_built;
+use crate::stepping::is_driver_act;
 use crate::topology::TopologyCore;
 use mdb_base::OutOfMemory;
 use mdb_log::{Act, Log, Step};
@@ -35,13 +35,13 @@ impl Driver {
         Driver { core: None }
     }
 
-    /// The step is one that lines have so far: the first opens a driver.
+    /// The step may come: the first one opens a driver, and no later one does.
     pub fn may_come(&self, step: &Step) -> bool
         ensures { (log : List Entry) → Stands self.now log → result ≡ may_come (steps_of log) step.now }
     {
         match &self.core {
             None => opens_seeds(&step.act),
-            Some(_) => is_built(&step.act),
+            Some(_) => is_driver_act(&step.act),
         }
     }
 

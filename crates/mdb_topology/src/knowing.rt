@@ -1,15 +1,20 @@
 //! What a driver knows, as its log tells it.
 
-ghost use Rattle.std.specs.Prelude.{◌≡◌, List, option_copied, slice_get};
+ghost use Rattle.std.specs.Prelude.{◌≡◌, IfOk, List, option_copied, slice_get};
 
 use crate::topology::TopologyCore;
-use mdb_base::{Moment, ServerAddress};
+use mdb_base::{Moment, OutOfMemory, ServerAddress};
 use mdb_describe::TopologyDescription;
+use mdb_log::Job;
 use mdb_pool::PoolCore;
+use std::alloc::Global;
 
 impl TopologyCore {
+    ghost use Rattle.mdb_log.specs.declared.log.Entry.{Entry};
     ghost use Rattle.mdb_log.specs.History.{Item, last_moment, open_pool};
     ghost use Rattle.mdb_topology.specs.Description.{description_of, published};
+    ghost use Rattle.mdb_topology.specs.Jobs.{job_after};
+    ghost use Rattle.mdb_topology.specs.Logging.{IsDriverOf};
     ghost use Rattle.mdb_topology.specs.Monitors.{check_count};
     ghost use Rattle.mdb_topology.specs.Standing.{StandsFor};
 
@@ -57,5 +62,16 @@ impl TopologyCore {
         ensures { (h : List Item) → StandsFor self.now h → result ≡ check_count h }
     {
         self.watchers.count()
+    }
+
+    /// What a worker needs that establishes the connection of the pool (CMAP, "Establishing a Connection"). `None` where there is no such pool or the
+    /// connection isn't pending.
+    pub fn job(&self, alloc: Global, pool: u32, id: u32) -> Result<Option<Job>, OutOfMemory>
+        ensures { IfOk result (λ job. (log : List Entry) → IsDriverOf self.now log → job ≡ job_after log pool id) }
+    {
+        match self.pool(pool) {
+            Some(known) => known.job(alloc, id),
+            None => Ok(None),
+        }
     }
 }

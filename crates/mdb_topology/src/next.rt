@@ -2,10 +2,12 @@
 
 ghost use Rattle.std.specs.Prelude.{◌≡◌, ◌∷◌, [], IfOk, false, None};
 ghost use Rattle.mdb_topology.specs.declared.change.Change.TheVariants.{Alter};
+ghost use Rattle.mdb_topology.specs.declared.monitoring.Monitoring.TheVariants.{Same};
 
 use crate::change::Change;
+use crate::monitoring::Monitoring;
 use mdb_describe::TopologyDescription;
-use mdb_events::Fact;
+use mdb_events::{Fact, SdamEvent};
 use mdb_log::{Refused, Reply};
 use mdb_monitor::MonitorCore;
 use mdb_pool::parts::{Answered, Plan};
@@ -21,6 +23,8 @@ pub struct Next {
     pub description: Option<TopologyDescription>,
     /// The monitors of the pools that it opens.
     pub monitors: Vec<MonitorCore>,
+    /// What it does at the monitors that there are.
+    pub monitoring: Monitoring,
     /// The driver is stopped.
     pub stops: bool,
 }
@@ -33,6 +37,7 @@ impl Next {
         ensures changes { result.changes.items ≡ [] }
         ensures description { result.description ≡ None }
         ensures monitors { result.monitors.items ≡ [] }
+        ensures monitoring { result.monitoring ≡ Same }
         ensures stops { result.stops ≡ false }
     {
         Next {
@@ -41,6 +46,7 @@ impl Next {
             changes: Vec::new(alloc),
             description: None,
             monitors: Vec::new(alloc),
+            monitoring: Monitoring::Same,
             stops: false,
         }
     }
@@ -59,6 +65,7 @@ impl Next {
         ensures changes { IfOk result (λ next. next.changes.items ≡ Alter index plan ∷ []) }
         ensures description { IfOk result (λ next. next.description ≡ None) }
         ensures monitors { IfOk result (λ next. next.monitors.items ≡ []) }
+        ensures monitoring { IfOk result (λ next. next.monitoring ≡ Same) }
         ensures stops { IfOk result (λ next. next.stops ≡ false) }
     {
         let mut changes = Vec::new(alloc);
@@ -74,6 +81,24 @@ impl Next {
                 Err(e.into())
             }
         }
+    }
+}
+
+impl Next {
+    ghost use Rattle.mdb_topology.specs.Changing.{IsWithCheck};
+
+    /// The same with what is done at the monitors, and the event of a check before its facts.
+    pub(crate) fn with_check(
+        self,
+        monitoring: Monitoring,
+        event: SdamEvent,
+    ) -> Result<Next, AllocError>
+        ensures { IfOk result (λ next. IsWithCheck self next monitoring event) }
+    {
+        let mut next = self;
+        next.facts.insert(0, Fact::Sdam(event))?;
+        next.monitoring = monitoring;
+        Ok(next)
     }
 }
 

@@ -111,7 +111,7 @@ fn begin(alloc: Global, log: &mut Log, seat: u32, options: &Options) -> Result<B
 
 impl TopologyCore {
     ghost use Rattle.mdb_topology.specs.Lines.{entry_after};
-    ghost use Rattle.mdb_topology.specs.Logging.{IsOpened as IsDriverOf};
+    ghost use Rattle.mdb_topology.specs.Logging.{IsDriverOf};
 
     /// Opens a driver, and begins its log with the entry of that, by the seat. `OutOfMemory` comes where there is no memory for it; the log then has no entry.
     pub fn open_seeds(

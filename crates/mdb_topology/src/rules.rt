@@ -4,13 +4,13 @@ ghost use Rattle.std.specs.Prelude.{◌≡◌, IfOk};
 ghost use Rattle.mdb_topology.specs.Monitors.{hello_reply};
 
 use crate::topology::TopologyCore;
-use mdb_base::{ClusterTime, Doc, Document, Moment, Nanos, OutOfMemory, ServerAddress};
+use mdb_base::{ClusterTime, Doc, Document, Error, Moment, Nanos, OutOfMemory, ServerAddress};
 use mdb_describe::{ServerDescription, TopologyDescription};
 use mdb_hello::{HelloCommandResponse, HelloReply};
 use std::alloc::{AllocError, Global};
 
 // The reply of a step, which has no document and no time of the cluster.
-fn hello_reply(
+pub(crate) fn hello_reply(
     alloc: Global,
     address: &ServerAddress,
     reply: &HelloCommandResponse,
@@ -31,7 +31,7 @@ fn hello_reply(
 }
 
 impl TopologyCore {
-    ghost use Rattle.mdb_describe.specs.Descriptions.{from_reply};
+    ghost use Rattle.mdb_describe.specs.Descriptions.{from_reply, failed};
     ghost use Rattle.mdb_describe.specs.Topology.{synced, stopped, later_time};
     ghost use Rattle.mdb_describe.specs.Update.{updated};
 
@@ -73,6 +73,20 @@ impl TopologyCore {
         let reply = hello_reply(alloc, address, reply)?;
         let server = ServerDescription::new_from_hello_reply(alloc, copy, reply, rtt, at)?;
         self.updated(alloc, server)
+    }
+
+    // What is known after an error about a server.
+    pub(crate) fn after_error(
+        &self,
+        alloc: Global,
+        address: &ServerAddress,
+        error: &Error,
+    ) -> Result<TopologyDescription, OutOfMemory>
+        ensures { IfOk result (λ next. next ≡ updated self.now.description (failed address.now error.now)) }
+    {
+        let address = address.clone()?;
+        let error = error.clone()?;
+        self.updated(alloc, ServerDescription::new_from_error(address, error))
     }
 
     // What is known after the names of the hosts.

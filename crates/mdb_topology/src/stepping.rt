@@ -2,10 +2,11 @@
 
 ghost use Rattle.std.specs.Prelude.{◌≡◌, ◌≤◌, ◌+◌, ◌++◌, ◌∷◌, [], OnOk, OnErr, IfOk, List, Option, is_some, unwrap_or, length, vec_capacity, true};
 ghost use Rattle.mdb_log.specs.Connections.{one_if};
-ghost use Rattle.mdb_topology.specs.Stepping.{is_built};
+ghost use Rattle.mdb_topology.specs.Stepping.{is_driver_act};
 
 use crate::acting::is_pool_act;
 use crate::change::Change;
+use crate::monitoring::Monitoring;
 use crate::next::{Next, Stepped};
 use crate::outcome::Outcome;
 use crate::topology::TopologyCore;
@@ -65,26 +66,29 @@ fn push_all(monitors: &mut Vec<MonitorCore>, more: Vec<MonitorCore>)
     }
 }
 
-/// The act is one of those that are built so far.
-pub(crate) fn is_built(act: &Act) -> bool
-    ensures { result ≡ is_built act.now }
+/// The act is one of a driver: of one pool, or of the topology.
+pub(crate) fn is_driver_act(act: &Act) -> bool
+    ensures { result ≡ is_driver_act act.now }
 {
     match act {
-        Act::Hello(_, _, HelloResult::Ok(_, _)) => true,
-        Act::Hosts(_) | Act::ClusterTime(_) | Act::Stop => true,
+        Act::Hello(_, _, _) | Act::Hosts(_) | Act::ClusterTime(_) | Act::Stop => true,
+        Act::Want(_) | Act::Unwant(_) | Act::Rtt(_, _, _) | Act::Error(_, _) => true,
+        Act::Beat(_, _) | Act::Beaten(_, _, _, _) | Act::Failed(_, _, _, _) => true,
         _ => is_pool_act(act),
     }
 }
 
 impl TopologyCore {
     ghost use Rattle.mdb_describe.specs.declared.topology.TopologyDescription.{TopologyDescription as Description};
+    ghost use Rattle.mdb_log.specs.Acts.{IsDriverAct};
     ghost use Rattle.mdb_log.specs.History.{Item};
     ghost use Rattle.mdb_pool.specs.declared.pool_core.PoolCore.{PoolCore};
     ghost use Rattle.mdb_topology.specs.Planned.{LeadsAll, opened_by};
     ghost use Rattle.mdb_topology.specs.Standing.{StandsFor, StandsForSome, IsSame};
     ghost use Rattle.mdb_topology.specs.Answer.{answer};
+    ghost use Rattle.mdb_topology.specs.Checking.{monitors_after, numbers_after, watchers_after, IsPlaced};
     ghost use Rattle.mdb_topology.specs.Finding.{is_pool_act};
-    ghost use Rattle.mdb_topology.specs.Stepping.{is_topology_act, is_built, BecomesOf, Follows, FollowsSome, Logs};
+    ghost use Rattle.mdb_topology.specs.Stepping.{is_topology_act, BecomesOf, Follows, FollowsSome, Logs};
 
     // Room for the pools and monitors that come, and the number of publications afterwards.
     fn make_room(&mut self, next: &Next) -> Result<u64, OutOfMemory>
@@ -105,6 +109,27 @@ impl TopologyCore {
         }
     }
 
+    // The monitors, and who asks for a check, become as it was planned. No memory is taken.
+    fn watch(&mut self, monitoring: Monitoring)
+        requires placed { IsPlaced monitoring (length self.old.monitors.items) }
+        ensures monitors { self.new.monitors.items ≡ monitors_after monitoring self.old.monitors.items }
+        ensures room { vec_capacity self.new.monitors ≡ vec_capacity self.old.monitors }
+        ensures fresh { self.new.fresh ≡ numbers_after monitoring self.old.fresh }
+        ensures watchers { self.new.watchers ≡ watchers_after monitoring self.old.watchers }
+        ensures others { self.new ≡ record self.old { monitors = self.new.monitors; fresh = self.new.fresh; watchers = self.new.watchers } }
+    {
+        match monitoring {
+            Monitoring::Same => {}
+            Monitoring::Checked(index, monitor, numbers) => {
+                self.monitors[index] = monitor;
+                self.fresh = numbers;
+            }
+            Monitoring::Asked(watchers) => {
+                self.watchers = watchers;
+            }
+        }
+    }
+
     // What is known changes, and the pools as it was planned. No memory is taken.
     fn take(
         &mut self,
@@ -112,18 +137,23 @@ impl TopologyCore {
         changes: Vec<Change>,
         description: Option<TopologyDescription>,
         monitors: Vec<MonitorCore>,
+        monitoring: Monitoring,
     )
         requires leads { (later : List PoolCore) × LeadsAll changes.items self.old.pools.cores.items later }
         requires pools { length self.old.pools.cores.items + length (opened_by changes.items) ≤ vec_capacity self.old.pools.cores }
         requires monitors { length self.old.monitors.items + length monitors.items ≤ vec_capacity self.old.monitors }
+        requires placed { IsPlaced monitoring (length self.old.monitors.items) }
         ensures led { (later : List PoolCore) → LeadsAll changes.items self.old.pools.cores.items later → later ≡ self.new.pools.cores.items }
         ensures last { self.new.pools.last ≡ moment }
-        ensures monitors { self.new.monitors.items ≡ self.old.monitors.items ++ monitors.items }
+        ensures monitors { self.new.monitors.items ≡ monitors_after monitoring self.old.monitors.items ++ monitors.items }
+        ensures fresh { self.new.fresh ≡ numbers_after monitoring self.old.fresh }
+        ensures watchers { self.new.watchers ≡ watchers_after monitoring self.old.watchers }
         ensures description { self.new.description ≡ unwrap_or description self.old.description }
-        ensures others { self.new ≡ record self.old { pools = self.new.pools; monitors = self.new.monitors; description = self.new.description } }
+        ensures others { self.new ≡ record self.old { pools = self.new.pools; monitors = self.new.monitors; description = self.new.description; fresh = self.new.fresh; watchers = self.new.watchers } }
     {
         self.pools.apply_all(changes);
         self.pools.last = moment;
+        self.watch(monitoring);
         push_all(&mut self.monitors, monitors);
         if let Some(known) = description {
             self.description = known;
@@ -158,11 +188,12 @@ impl TopologyCore {
             changes,
             description,
             monitors,
+            monitoring,
             stops,
         } = next;
         match enter(log, seat, step, reply, facts) {
             Ok(told) => {
-                self.take(step.moment, changes, description, monitors);
+                self.take(step.moment, changes, description, monitors, monitoring);
                 self.published = published;
                 self.stopped = stops || self.stopped;
                 Ok(told)
@@ -171,6 +202,7 @@ impl TopologyCore {
                 drop(changes);
                 drop(description);
                 drop(monitors);
+                drop(monitoring);
                 Err(OutOfMemory)
             }
         }
@@ -188,9 +220,23 @@ impl TopologyCore {
             Act::Hello(address, pool, HelloResult::Ok(rtt, reply)) => {
                 self.hello(alloc, step, address, *pool, *rtt, reply)
             }
+            Act::Hello(address, pool, HelloResult::Err(error)) => {
+                self.hello_error(alloc, step, address, *pool, error)
+            }
+            Act::Error(party, error) => self.operation_error(alloc, step, *party, error),
+            Act::Failed(pool, id, at, error) => {
+                self.connection_failed(alloc, step, *pool, *id, *at, error)
+            }
             Act::Hosts(hosts) => self.hosts(alloc, step, hosts.as_slice()),
             Act::ClusterTime(time) => self.cluster_time(alloc, step, *time),
             Act::Stop => self.stop_all(alloc, step),
+            Act::Want(watcher) => self.want(alloc, step, *watcher),
+            Act::Unwant(watcher) => self.unwant(alloc, step, *watcher),
+            Act::Beaten(address, pool, duration, came) => {
+                self.beaten(alloc, step, address, *pool, *duration, came)
+            }
+            Act::Beat(address, pool) => self.beat(alloc, step, address, *pool),
+            Act::Rtt(address, pool, sample) => self.rtt(alloc, step, address, *pool, *sample),
             _ => unreachable!(),
         }
     }
@@ -215,7 +261,7 @@ impl TopologyCore {
     // What becomes of the step, before any of it is done.
     fn becomes(&mut self, alloc: Global, step: &Step) -> Result<Stepped, OutOfMemory>
         requires stands { StandsForSome self.old }
-        requires act { is_built step.now.act ≡ true }
+        requires act { IsDriverAct step.now.act }
         ensures same { self.new ≡ self.old }
         ensures becomes { IfOk result (λ stepped. (h : List Item) → StandsFor self.old h → BecomesOf self.old step.now stepped h) }
     {
@@ -237,7 +283,7 @@ impl TopologyCore {
         step: &Step,
     ) -> Result<Reply, OutOfMemory>
         requires stands { StandsForSome self.old }
-        requires act { is_built step.now.act ≡ true }
+        requires act { IsDriverAct step.now.act }
         ensures options { self.new.options ≡ self.old.options }
         ensures logs { OnOk result ((h : List Item) → StandsFor self.old h → Logs self.old self.new log.old log.new seat step.now h) }
         ensures reply { IfOk result (λ reply. (h : List Item) → StandsFor self.old h → reply ≡ (answer self.old.options h step.now).reply) }

@@ -5,8 +5,10 @@ ghost use Rattle.mdb_monitor.specs.Standing.{StandsFor as MonitorStands};
 ghost use Rattle.mdb_topology.specs.Limits.{past_last};
 ghost use Rattle.mdb_topology.specs.Monitors.{setting};
 ghost use Rattle.mdb_topology.specs.Planned.{opened_by};
+ghost use Rattle.mdb_topology.specs.declared.monitoring.Monitoring.TheVariants.{Same};
 
 use crate::change::Change;
+use crate::monitoring::Monitoring;
 use crate::next::Next;
 use crate::topology::TopologyCore;
 use mdb_base::{Options, ServerAddress};
@@ -46,6 +48,7 @@ impl Told {
         ensures changes { result.changes ≡ self.changes }
         ensures description { result.description ≡ Some known }
         ensures monitors { result.monitors ≡ self.monitors }
+        ensures monitoring { result.monitoring ≡ Same }
         ensures stops { result.stops ≡ stops }
     {
         Next {
@@ -54,6 +57,7 @@ impl Told {
             changes: self.changes,
             description: Some(known),
             monitors: self.monitors,
+            monitoring: Monitoring::Same,
             stops,
         }
     }

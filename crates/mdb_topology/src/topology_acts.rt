@@ -21,7 +21,7 @@ impl TopologyCore {
     ghost use Rattle.mdb_topology.specs.Stepping.{is_here_among, BecomesOf};
 
     // A reply for the pool makes nothing known: the driver was stopped, or the pool is not the open one of the address.
-    fn leaves_reply(&self, address: &ServerAddress, pool: u32) -> bool
+    pub(crate) fn leaves_reply(&self, address: &ServerAddress, pool: u32) -> bool
         ensures { result ≡ self.now.stopped || not (is_here_among self.now.pools.cores.items address.now pool) }
     {
         self.stopped || !self.pools.is_here(address, pool)

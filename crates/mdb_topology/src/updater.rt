@@ -5,7 +5,7 @@ ghost use Rattle.mdb_log.specs.declared.step.Act.TheVariants as act;
 ghost use Rattle.mdb_log.specs.declared.checked.HelloResult.TheVariants as hello;
 
 use crate::topology::TopologyCore;
-use mdb_base::{ClusterTime, Items, Moment, Nanos, OutOfMemory, ServerAddress};
+use mdb_base::{ClusterTime, Error, Items, Moment, Nanos, OutOfMemory, ServerAddress};
 use mdb_hello::HelloCommandResponse;
 use mdb_log::{Act, HelloResult, Log, Reply, Step};
 use std::alloc::Global;
@@ -38,6 +38,52 @@ impl TopologyCore {
     {
         let came = HelloResult::Ok(rtt, reply);
         let act = Act::Hello(address, pool, came);
+        self.step(alloc, log, seat, &Step { moment, act })
+    }
+
+    /// The hello of the monitor of the address met an error; it was begun for the pool with the number (SDAM, "Network error during server check").
+    /// `Changed` says whether the description changed or the pool was cleared.
+    pub fn handle_monitor_error(
+        &mut self,
+        alloc: Global,
+        log: &mut Log,
+        seat: u32,
+        moment: Moment,
+        address: ServerAddress,
+        pool: u32,
+        error: Error,
+    ) -> Result<Reply, OutOfMemory>
+        requires stands { StandsForSome self.old }
+        ensures options { self.new.options ≡ self.old.options }
+        ensures logs { OnOk result (IsLogged self.old self.new log.old log.new seat (record { moment = moment; act = act.Hello address pool (hello.Err error) })) }
+        ensures reply { IfOk result (λ told. (h : List Item) → StandsFor self.old h → told ≡ (answer self.old.options h (record { moment = moment; act = act.Hello address pool (hello.Err error) })).reply) }
+        ensures err_core { OnErr result (IsSame self.old self.new) }
+        ensures err_log { OnErr result (log.new ≡ log.old) }
+    {
+        let came = HelloResult::Err(error);
+        let act = Act::Hello(address, pool, came);
+        self.step(alloc, log, seat, &Step { moment, act })
+    }
+
+    /// An operation on the connection that the party holds met an error (SDAM, "Error handling pseudocode"). `Changed` says whether the description
+    /// changed or the pool was cleared.
+    pub fn handle_application_error(
+        &mut self,
+        alloc: Global,
+        log: &mut Log,
+        seat: u32,
+        moment: Moment,
+        party: u32,
+        error: Error,
+    ) -> Result<Reply, OutOfMemory>
+        requires stands { StandsForSome self.old }
+        ensures options { self.new.options ≡ self.old.options }
+        ensures logs { OnOk result (IsLogged self.old self.new log.old log.new seat (record { moment = moment; act = act.Error party error })) }
+        ensures reply { IfOk result (λ told. (h : List Item) → StandsFor self.old h → told ≡ (answer self.old.options h (record { moment = moment; act = act.Error party error })).reply) }
+        ensures err_core { OnErr result (IsSame self.old self.new) }
+        ensures err_log { OnErr result (log.new ≡ log.old) }
+    {
+        let act = Act::Error(party, error);
         self.step(alloc, log, seat, &Step { moment, act })
     }
 

@@ -16,7 +16,7 @@ returns-then-self c = record {
       let m = c.args.step.now.moment in
       let e = c.of_reply.ensures in
       let rests = subst (λ a. IsChanging w.options h w.description None (record { moment = m; act = a }) Done false []) (sym c.requires.act) (time-resting w h z m c.requires.in_time c.args.time c.if-self.true) in
-      follows-quiet w h z c.args.step.now c.requires.in_time c.of_reply.result e.changes e.facts e.monitors (subst IsPlain (sym e.reply) tt) (rw e.description refl) (as-next rests e.description e.reply e.stops);
+      follows-quiet w h z c.args.step.now c.requires.in_time c.of_reply.result e.changes e.facts e.monitors e.monitoring (subst IsPlain (sym e.reply) tt) (rw e.description refl) (as-next rests e.description e.reply e.stops);
 }
 
 pub returns : goal.returns
@@ -26,8 +26,8 @@ returns c = record {
       let m = c.args.step.now.moment in
       let r = c.of_reply-2.result in
       let e = c.of_reply-2.ensures in
-      let n : Next = record { reply = r.reply; facts = r.facts; changes = r.changes; description = Some c.in_ok-later.later; monitors = r.monitors; stops = r.stops } in
+      let n : Next = record { reply = r.reply; facts = r.facts; changes = r.changes; description = Some c.in_ok-later.later; monitors = r.monitors; monitoring = r.monitoring; stops = r.stops } in
       let changing = subst (λ a. IsChanging w.options h w.description (Some (record w.description { cluster_time = later_time w.description.cluster_time c.args.time })) (record { moment = m; act = a }) Done false []) (sym c.requires.act)
       (time-changing w h z m c.requires.in_time c.args.time c.if-self.false) in
-      follows-quiet w h z c.args.step.now c.requires.in_time n e.changes e.facts e.monitors (subst IsPlain (sym e.reply) tt) (ap (λ u. u.servers) c.in_ok-later.ensures) (as-next changing (ap Some c.in_ok-later.ensures) e.reply e.stops);
+      follows-quiet w h z c.args.step.now c.requires.in_time n e.changes e.facts e.monitors e.monitoring (subst IsPlain (sym e.reply) tt) (ap (λ u. u.servers) c.in_ok-later.ensures) (as-next changing (ap Some c.in_ok-later.ensures) e.reply e.stops);
 }

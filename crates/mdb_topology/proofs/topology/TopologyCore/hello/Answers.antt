@@ -9,6 +9,7 @@ use Rattle.mdb_topology.proofs.Becoming.{as-next}
 use Rattle.mdb_topology.proofs.Same.{IsPlain}
 use Rattle.mdb_topology.proofs.Updating.{hello-updating, hello-resting}
 use Rattle.mdb_topology.proofs.FollowingQuiet.{follows-quiet}
+use Rattle.mdb_topology.proofs.MakesKnown.{changes-become}
 use Rattle.mdb_topology.proofs.topology.TopologyCore.hello.Goals as goal
 
 pub returns-then-leaves_reply-clause-becomes : goal.returns-then-leaves_reply-clause-becomes
@@ -19,13 +20,13 @@ returns-then-leaves_reply-clause-becomes c h z =
     let left = sym c.leaves_reply.ensures ∙ c.if-leaves_reply.true in
     let rests = subst (λ a. IsChanging w.options h w.description None (record { moment = m; act = a }) (Changed false) false []) (sym c.requires.act)
     (hello-resting w h z m c.requires.in_time c.args.address.now c.args.pool c.args.rtt c.args.reply.now c.if-self.false left) in
-    follows-quiet w h z c.args.step.now c.requires.in_time c.of_reply.result e.changes e.facts e.monitors (subst IsPlain (sym e.reply) tt) (rw e.description refl) (as-next rests e.description e.reply e.stops)
+    follows-quiet w h z c.args.step.now c.requires.in_time c.of_reply.result e.changes e.facts e.monitors e.monitoring (subst IsPlain (sym e.reply) tt) (rw e.description refl) (as-next rests e.description e.reply e.stops)
 
 pub returns-clause-becomes : goal.returns-clause-becomes
 returns-clause-becomes c =
     let w = c.args.self.now in
     let m = c.args.step.now.moment in
     let left = sym c.leaves_reply.ensures ∙ c.if-leaves_reply.false in
-    IfOk-weaker c.change.result _ _ (λ stepped f h z. f h z (subst (λ u. IsUpdating w h c.args.step.now u) (sym c.in_ok-later.ensures)
+    IfOk-weaker c.change.result _ _ (λ stepped f h z. changes-become w h z c.args.step.now c.requires.in_time c.in_ok-later.later (subst (λ u. IsUpdating w h c.args.step.now u) (sym c.in_ok-later.ensures)
     (subst (λ a. IsUpdating w h (record { moment = m; act = a }) (updated w.description (from_reply c.args.address.now (hello_reply c.args.address.now c.args.reply.now) c.args.rtt m))) (sym c.requires.act)
-    (hello-updating w h z m c.requires.in_time c.args.address.now c.args.pool c.args.rtt c.args.reply.now c.if-self.false left)))) c.change.ensures.becomes
+    (hello-updating w h z m c.requires.in_time c.args.address.now c.args.pool c.args.rtt c.args.reply.now c.if-self.false left))) stepped f) c.change.ensures.changes

@@ -7,6 +7,7 @@ use Rattle.mdb_topology.proofs.Becoming.{as-next}
 use Rattle.mdb_topology.proofs.Same.{IsPlain}
 use Rattle.mdb_topology.proofs.Updating.{hosts-updating, hosts-resting}
 use Rattle.mdb_topology.proofs.FollowingQuiet.{follows-quiet}
+use Rattle.mdb_topology.proofs.MakesKnown.{changes-become}
 use Rattle.mdb_topology.proofs.topology.TopologyCore.hosts.Goals as goal
 
 pub returns-then-leaves_hosts-clause-becomes : goal.returns-then-leaves_hosts-clause-becomes
@@ -17,13 +18,13 @@ returns-then-leaves_hosts-clause-becomes c h z =
     let left = sym c.leaves_hosts.ensures ∙ c.if-leaves_hosts.true in
     let rests = subst (λ a. IsChanging w.options h w.description None (record { moment = m; act = a }) (Changed false) false []) (sym c.requires.act)
     (hosts-resting w h z m c.requires.in_time c.args.hosts.now left) in
-    follows-quiet w h z c.args.step.now c.requires.in_time c.of_reply.result e.changes e.facts e.monitors (subst IsPlain (sym e.reply) tt) (rw e.description refl) (as-next rests e.description e.reply e.stops)
+    follows-quiet w h z c.args.step.now c.requires.in_time c.of_reply.result e.changes e.facts e.monitors e.monitoring (subst IsPlain (sym e.reply) tt) (rw e.description refl) (as-next rests e.description e.reply e.stops)
 
 pub returns-clause-becomes : goal.returns-clause-becomes
 returns-clause-becomes c =
     let w = c.args.self.now in
     let m = c.args.step.now.moment in
     let left = sym c.leaves_hosts.ensures ∙ c.if-leaves_hosts.false in
-    IfOk-weaker c.change.result _ _ (λ stepped f h z. f h z (subst (λ u. IsUpdating w h c.args.step.now u) (sym c.in_ok-later.ensures)
+    IfOk-weaker c.change.result _ _ (λ stepped f h z. changes-become w h z c.args.step.now c.requires.in_time c.in_ok-later.later (subst (λ u. IsUpdating w h c.args.step.now u) (sym c.in_ok-later.ensures)
     (subst (λ a. IsUpdating w h (record { moment = m; act = a }) (synced c.args.hosts.now w.description)) (sym c.requires.act)
-    (hosts-updating w h z m c.requires.in_time c.args.hosts.now left)))) c.change.ensures.becomes
+    (hosts-updating w h z m c.requires.in_time c.args.hosts.now left))) stepped f) c.change.ensures.changes

@@ -1,5 +1,5 @@
 use Rattle.std.proofs.Common.{refl, sym, subst, false}
-use Rattle.mdb_topology.specs.Logging.{IsOpened as IsDriverOf}
+use Rattle.mdb_topology.specs.Logging.{IsDriverOf}
 use Rattle.mdb_topology.specs.declared.topology.TopologyCore.{TopologyCore}
 use Rattle.mdb_topology.proofs.topology.TopologyCore.open_seeds.Goals as goal
 use Rattle.mdb_topology.proofs.OpenedLog.{begins-log, opening-log}

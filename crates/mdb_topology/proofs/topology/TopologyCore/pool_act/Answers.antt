@@ -12,7 +12,7 @@ returns-in-Idle-clause-becomes c h z =
     let few : length (description_of w.options h).servers ≤ 128 = subst (λ t. length t.servers ≤ 128) (sym z.described.known) z.described.few in
     let performs = c.in_ok-why.ensures.performs w.options h z.pools z.counts.last_is few in
     let rests = subst (λ x. Performs w.options w.pools.cores.items c.args.step.now x h) c.in-Idle.is performs in
-    follows-idle w h z c.args.step.now c.requires.in_time c.of_reply.result e.changes e.facts e.monitors c.requires.act e.reply e.description e.stops rests
+    follows-idle w h z c.args.step.now c.requires.in_time c.of_reply.result e.changes e.facts e.monitors e.monitoring c.requires.act e.reply e.description e.stops rests
 
 pub returns-in_ok-of_pool-in-Planned-clause-becomes : goal.returns-in_ok-of_pool-in-Planned-clause-becomes
 returns-in_ok-of_pool-in-Planned-clause-becomes c h z =
@@ -22,4 +22,4 @@ returns-in_ok-of_pool-in-Planned-clause-becomes c h z =
     let performs = c.in_ok-why.ensures.performs w.options h z.pools z.counts.last_is few in
     follows-pool w h z c.args.step.now c.requires.in_time c.requires.act c.in-Planned.index c.in-Planned.plan c.in-Planned.told
     (subst (IsReady w.pools.cores.items c.args.step.now) c.in-Planned.is c.in_ok-why.ensures.ready) (subst (λ x. Performs w.options w.pools.cores.items c.args.step.now x h) c.in-Planned.is performs)
-    c.in_ok-of_pool-in-Planned.field-0 e.reply e.facts e.changes e.description e.monitors e.stops
+    c.in_ok-of_pool-in-Planned.field-0 e.reply e.facts e.changes e.description e.monitors e.monitoring e.stops

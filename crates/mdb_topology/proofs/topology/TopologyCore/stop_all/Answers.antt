@@ -17,9 +17,9 @@ returns-then-self-clause-becomes c h z =
     let m = c.args.step.now.moment in
     let r = c.of_reply.result in
     let e = c.of_reply.ensures in
-    let n : Next = record { reply = r.reply; facts = r.facts; changes = r.changes; description = r.description; monitors = r.monitors; stops = true } in
+    let n : Next = record { reply = r.reply; facts = r.facts; changes = r.changes; description = r.description; monitors = r.monitors; monitoring = r.monitoring; stops = true } in
     let rests = subst (λ a. IsChanging w.options h w.description None (record { moment = m; act = a }) Done true []) (sym c.requires.act) (stop-resting w h z m c.requires.in_time c.if-self.true) in
-    follows-quiet w h z c.args.step.now c.requires.in_time n e.changes e.facts e.monitors (subst IsPlain (sym e.reply) tt) (rw e.description refl) (as-next rests e.description e.reply refl)
+    follows-quiet w h z c.args.step.now c.requires.in_time n e.changes e.facts e.monitors e.monitoring (subst IsPlain (sym e.reply) tt) (rw e.description refl) (as-next rests e.description e.reply refl)
 
 pub returns-clause-becomes : goal.returns-clause-becomes
 returns-clause-becomes c h z =
@@ -27,4 +27,4 @@ returns-clause-becomes c h z =
     let made = c.into_next.ensures in
     let told = c.in_ok-told.ensures in
     stops-next w h z c.args.step.now c.requires.in_time c.requires.act c.if-self.false c.in_ok-later.later c.in_ok-later.ensures c.in_ok-diff.diff (sym c.in_ok-diff.ensures.difference) c.in_ok-told.told.changes.items c.in_ok-told.told.facts.items told.told
-    c.into_next.result made.reply made.description made.stops (rw made.changes refl) (ap (λ v. v.items) made.facts ∙ subst (λ (x : TopologyCore). c.tell_closed.new.facts.items ≡ c.in_ok-told.told.facts.items ++ topology_closed_fact x.options ∷ []) told.same c.in_ok-tell_closed.ensures) (subst (λ x. in_order x.servers ≡ true) (sym c.in_ok-later.ensures) refl) (rw (made.monitors, made.changes) told.settings) (rw made.monitors told.stand)
+    c.into_next.result made.reply made.description made.stops (rw made.changes refl) (ap (λ v. v.items) made.facts ∙ subst (λ (x : TopologyCore). c.tell_closed.new.facts.items ≡ c.in_ok-told.told.facts.items ++ topology_closed_fact x.options ∷ []) told.same c.in_ok-tell_closed.ensures) (subst (λ x. in_order x.servers ≡ true) (sym c.in_ok-later.ensures) refl) (rw (made.monitors, made.changes) told.settings) (rw made.monitors told.stand) made.monitoring

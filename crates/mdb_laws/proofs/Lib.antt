@@ -1,0 +1,15 @@
+mod Alike
+mod Stale
+mod Spared
+mod Ordered
+mod Marks
+mod Runs
+mod Parts
+mod Published
+mod Rules
+mod Gone
+mod Said
+mod Caused
+mod OpenFor
+mod Risen
+mod Causes

@@ -1,0 +1,50 @@
+-- Errors about connections that concern the server no more.
+use Rattle.std.specs.Prelude.{ℕ, ◌≡◌, Bool, false, not, List, Option, Some, None, All}
+use Rattle.mdb_base.specs.declared.object_id.ObjectId.{ObjectId}
+use Rattle.mdb_base.specs.declared.address.ServerAddress.{ServerAddress}
+use Rattle.mdb_base.specs.declared.options.Options.{Options}
+use Rattle.mdb_describe.specs.declared.topology.TopologyDescription.{TopologyDescription}
+use Rattle.mdb_log.specs.declared.step.Step.{Step}
+use Rattle.mdb_log.specs.declared.step.Act.{Act}
+use Rattle.mdb_log.specs.declared.step.Act.TheVariants as Do
+use Rattle.mdb_log.specs.History.{Item, of_pool, open_pool, with_answer}
+use Rattle.mdb_log.specs.State.{state_of, generation_of}
+use Rattle.mdb_log.specs.Opening.{pool_options}
+use Rattle.mdb_topology.specs.Homes.{begun}
+use Rattle.mdb_topology.specs.Current.{Complaint, complaint_of, is_current}
+use Rattle.mdb_topology.specs.Description.{description_of}
+use Rattle.mdb_topology.specs.OfServers.{is_of_server}
+use Rattle.mdb_topology.specs.Answer.{answer}
+
+-- there is a complaint, and it is not current
+abbrev pub is_outdated : Options → List Item → TopologyDescription → Option Complaint → Bool
+is_outdated o k t None = false
+is_outdated o k t (Some x) = not (is_current o k t x)
+
+-- the error of an operation that concerns its server no more
+abbrev pub is_stale_error : Options → List Item → Step → Bool
+is_stale_error o h step = on step.act
+  where
+    on : Act → Bool
+    on (Do.Error r e) = is_outdated o (begun h step) (description_of o h) (complaint_of (begun h step) (Do.Error r e))
+    on _ = false
+
+-- so of a connection that failed to be established
+abbrev pub is_stale_failure : Options → List Item → Step → Bool
+is_stale_failure o h step = on step.act
+  where
+    on : Act → Bool
+    on (Do.Failed q c at e) = is_outdated o (begun h step) (description_of o h) (complaint_of (begun h step) (Do.Failed q c at e))
+    on _ = false
+
+-- the history with the step and its answer
+abbrev pub after : Options → List Item → Step → List Item
+after o h step = with_answer step (answer o h step).reply (answer o h step).facts h
+
+-- The step makes no fact of a server, and leaves what is known of the servers, which pools are open, and the states and generations of all pools.
+pub record SparesServer (o : Options) (h : List Item) (step : Step) : Type 0 where
+  pub facts_are : All (λ f. is_of_server f ≡ false) (answer o h step).facts
+  pub described_is : description_of o (after o h step) ≡ description_of o h
+  pub open_is : (a : ServerAddress) → open_pool (after o h step) a ≡ open_pool h a
+  pub state_is : (p : ℕ) → state_of (pool_options o) (of_pool p (after o h step)) ≡ state_of (pool_options o) (of_pool p h)
+  pub generation_is : (p : ℕ) (s : Option ObjectId) → generation_of (of_pool p (after o h step)) s ≡ generation_of (of_pool p h) s

@@ -1,0 +1,34 @@
+use Rattle.std.proofs.Common.{◌≡◌, ◌++◌, false, length, Some, None, refl, sym, ◌∙◌, ap, subst}
+use Rattle.std.specs.Prelude.{slice_get}
+use Rattle.std.proofs.lemmas.Option.{slice_get_read}
+use Rattle.std.proofs.lemmas.Result.{on_ok_weaker}
+use Rattle.mdb_log.specs.Acts.{IsPoolAct}
+use Rattle.mdb_log.specs.declared.step.Step.{Step}
+use Rattle.mdb_pool.specs.Refusing.{refusal_now}
+use Rattle.mdb_topology.specs.Acting.{PlansOne}
+use Rattle.mdb_topology.specs.Marking.{asked_of}
+use Rattle.mdb_topology.proofs.pools.Pools.plan_failed.Goals as goal
+
+pub plan_act-requires-clause-accepted : goal.plan_act-requires-clause-accepted
+plan_act-requires-clause-accepted c = λ s at.
+    let d = c.requires.failing s at in
+    (subst (λ a. IsPoolAct s.pool a) (sym (ap (λ (x : Step). x.act) c.in_ok-step.ensures.cases ∙ d.act_is)) tt, subst (λ x. refusal_now s x ≡ None) (sym c.in_ok-step.ensures.cases) d.accepted)
+
+pub returns-clause-planned : goal.returns-clause-planned
+returns-clause-planned c =
+    let pools = c.args.self.now.cores.items in
+    let s = c.index.result.now in
+    let i = c.args.place in
+    let before = c.args.facts.now.items in
+    let after = c.plan_act.new.facts.items in
+    let earlier = c.args.changes.now.items in
+    let changes = c.plan_act.new.changes.items in
+    let at_i : slice_get pools i ≡ Some s = slice_get_read pools (length pools) i s refl c.requires.there c.index.ensures in
+    let asks : c.ask.new.facts.items ≡ before ++ asked_of c.args.asked false s.address = c.in_ok-ask.ensures ∙ ap (λ a. before ++ asked_of c.args.asked false a) c.address.ensures in
+    on_ok_weaker c.plan_act.result (λ one. record {
+      pool = s;
+      there = at_i;
+      one =
+          subst (λ fs. PlansOne pools i c.args.step.now.moment (λ p. c.args.step.now.act) earlier changes fs after) asks
+          (subst (λ (x : Step). PlansOne pools i x.moment (λ p. x.act) earlier changes c.ask.new.facts.items after) c.in_ok-step.ensures.cases one);
+    }) c.plan_act.ensures.planned

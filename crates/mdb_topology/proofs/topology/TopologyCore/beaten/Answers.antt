@@ -1,0 +1,116 @@
+use Rattle.std.proofs.Common.{◌≡◌, length, slice_get, true, false, Some, sym, refl, subst}
+use Rattle.std.proofs.lemmas.Option.{slice_get_read}
+use Rattle.std.proofs.lemmas.Result.{IfOk-weaker}
+use Rattle.mdb_describe.specs.Descriptions.{failed}
+use Rattle.mdb_describe.specs.Update.{updated}
+use Rattle.mdb_log.specs.declared.checked.BeatenResult.TheVariants.{Err}
+use Rattle.mdb_log.specs.declared.step.Act.TheVariants.{Beaten}
+use Rattle.mdb_topology.specs.declared.marked.Asked.TheVariants.{Nothing}
+use Rattle.mdb_log.specs.declared.reply.Refused.TheVariants.{NotChecking, WrongMode}
+use Rattle.mdb_monitor.specs.Standing.{runs}
+use Rattle.mdb_topology.specs.declared.monitoring.Monitoring.TheVariants.{Checked}
+use Rattle.mdb_topology.specs.Changing.{ConcludesAs}
+use Rattle.mdb_topology.specs.Marking.{IsOfPool, FailsAs}
+use Rattle.mdb_topology.specs.Checking.{Ends}
+use Rattle.mdb_topology.specs.Monitors.{runs as runs_at, check_result, monitor_items}
+use Rattle.mdb_topology.specs.Refusal.{refusal}
+use Rattle.mdb_topology.specs.Stepping.{is_here_among, BecomesOf, Follows}
+use Rattle.mdb_topology.proofs.Ending.{follows-beaten-away, beaten-idle, beaten-mode, concluded}
+use Rattle.mdb_topology.proofs.FailedChecks.{here-at, untroubled-else, its_trouble, failure-of-pool, fails-become}
+use Rattle.mdb_topology.proofs.Places.{some-same}
+use Rattle.mdb_topology.proofs.topology.TopologyCore.beaten.Goals as goal
+
+pub returns-in_default-clause-becomes : goal.returns-in_default-clause-becomes
+returns-in_default-clause-becomes c h z =
+    let w = c.args.self.now in
+    let m = c.args.step.now.moment in
+    let a = c.args.address.now in
+    let p = c.args.pool in
+    let e = c.of_reply.ensures in
+    let away : is_here_among w.pools.cores.items a p ≡ false = sym c.in_default.ensures.here in
+    subst (λ x. Follows w c.of_reply.result (record { moment = m; act = x }) h) (sym c.requires.act)
+    (follows-beaten-away w h z m c.requires.in_time a p c.args.duration c.args.came.now away c.if-self.false c.of_reply.result e.changes e.monitors e.description e.stops e.facts e.monitoring e.reply)
+
+pub returns-then-not-running-clause-becomes : goal.returns-then-not-running-clause-becomes
+returns-then-not-running-clause-becomes c h z =
+    let w = c.args.self.now in
+    let m = c.args.step.now.moment in
+    let a = c.args.address.now in
+    let p = c.args.pool in
+    let ms = w.monitors.items in
+    let x = c.index.result.now in
+    let own : c.in-Some.index ≡ p = c.in-Some.ensures.place in
+    let at_p : slice_get ms p ≡ Some x = subst (λ q. slice_get ms q ≡ Some x) own (slice_get_read ms (length ms) c.in-Some.index x refl c.in-Some.ensures.within c.index.ensures) in
+    let idle : runs_at h p ≡ false = sym (c.if-not-running.ensures.items (monitor_items h p) (z.monitors.each p x at_p)) in
+    subst (λ v. refusal w.options h (record { moment = m; act = v }) ≡ Some NotChecking) (sym c.requires.act)
+    (beaten-idle w h z m c.requires.in_time a p c.args.duration (sym c.in-Some.ensures.here) c.args.came.now idle)
+
+pub returns-then-self-2-clause-becomes : goal.returns-then-self-2-clause-becomes
+returns-then-self-2-clause-becomes c h z =
+    let w = c.args.self.now in
+    let m = c.args.step.now.moment in
+    let a = c.args.address.now in
+    let p = c.args.pool in
+    let ms = w.monitors.items in
+    let x = c.index.result.now in
+    let own : c.in-Some.index ≡ p = c.in-Some.ensures.place in
+    let at_p : slice_get ms p ≡ Some x = subst (λ q. slice_get ms q ≡ Some x) own (slice_get_read ms (length ms) c.in-Some.index x refl c.in-Some.ensures.within c.index.ensures) in
+    let running : runs_at h p ≡ true = sym (c.if-not-running.ensures.items (monitor_items h p) (z.monitors.each p x at_p)) in
+    subst (λ v. refusal w.options h (record { moment = m; act = v }) ≡ Some WrongMode) (sym c.requires.act)
+    (beaten-mode w h z m c.requires.in_time a p c.args.duration (sym c.in-Some.ensures.here) c.args.came.now running c.if-self-2.true)
+
+pub with_end-requires-clause-running : goal.with_end-requires-clause-running
+with_end-requires-clause-running c x at_i =
+    let ms = c.args.self.now.monitors.items in
+    let s = c.index.result.now in
+    let here : slice_get ms c.in-Some.index ≡ Some s = slice_get_read ms (length ms) c.in-Some.index s refl c.in-Some.ensures.within c.index.ensures in
+    subst (λ v. runs v ≡ true) (some-same s x (slice_get ms c.in-Some.index) here at_i) (sym c.if-not-running.ensures.machine)
+
+pub returns-in-Ok-clause-becomes : goal.returns-in-Ok-clause-becomes
+returns-in-Ok-clause-becomes c =
+    let w = c.args.self.now in
+    let m = c.args.step.now.moment in
+    let a = c.args.address.now in
+    let p = c.args.pool in
+    let ms = w.monitors.items in
+    let x = c.index.result.now in
+    let y = c.in_ok-monitor.monitor in
+    let f = c.in_ok-monitor.finish in
+    let own : c.in-Some.index ≡ p = c.in-Some.ensures.place in
+    let at_i : slice_get ms c.in-Some.index ≡ Some x = slice_get_read ms (length ms) c.in-Some.index x refl c.in-Some.ensures.within c.index.ensures in
+    let at_p : slice_get ms p ≡ Some x = subst (λ q. slice_get ms q ≡ Some x) own at_i in
+    let ends : Ends x y c.args.duration (check_result a c.args.came.now) f = c.in_ok-monitor.ensures x at_i in
+    IfOk-weaker c.conclude.result _ _ (λ stepped r h z.
+    let running : runs_at h p ≡ true = sym (c.if-not-running.ensures.items (monitor_items h p) (z.monitors.each p x at_p)) in
+    subst (λ v. BecomesOf w (record { moment = m; act = v }) stepped h) (sym c.requires.act)
+    (concluded w h z m c.requires.in_time a p c.args.duration (sym c.in-Some.ensures.here) c.args.came.now running c.if-self-2.false x y f at_p ends (untroubled-else c.args.came.now c.in_default-came.not-Err) c.in-Ok.later c.in-Ok.ensures stepped
+    (subst (λ q. ConcludesAs w m (Checked q y w.fresh) f.event c.in-Ok.later stepped) own r))) c.conclude.ensures.concludes
+
+pub fail-requires-clause-here : goal.fail-requires-clause-here
+fail-requires-clause-here c = here-at c.args.self.now c.args.address.now c.args.pool c.in-Some.index c.in-Some.ensures.place (sym c.in-Some.ensures.here)
+
+pub returns-in-Err-clause-becomes : goal.returns-in-Err-clause-becomes
+returns-in-Err-clause-becomes c =
+    let w = c.args.self.now in
+    let m = c.args.step.now.moment in
+    let a = c.args.address.now in
+    let p = c.args.pool in
+    let d = c.args.duration in
+    let e = c.in-Err.error in
+    let ms = w.monitors.items in
+    let x = c.index.result.now in
+    let y = c.in_ok-monitor.monitor in
+    let f = c.in_ok-monitor.finish in
+    let own : c.in-Some.index ≡ p = c.in-Some.ensures.place in
+    let at_i : slice_get ms c.in-Some.index ≡ Some x = slice_get_read ms (length ms) c.in-Some.index x refl c.in-Some.ensures.within c.index.ensures in
+    let at_p : slice_get ms p ≡ Some x = subst (λ q. slice_get ms q ≡ Some x) own at_i in
+    let ends : Ends x y d (check_result a (Err e)) f = subst (λ v. Ends x y d (check_result a v) f) c.in-Err.is (c.in_ok-monitor.ensures x at_i) in
+    let there = sym c.in-Some.ensures.here in
+    IfOk-weaker c.fail.result _ _ (λ stepped r h z.
+    let running : runs_at h p ≡ true = sym (c.if-not-running.ensures.items (monitor_items h p) (z.monitors.each p x at_p)) in
+    let met = its_trouble w h z m c.requires.in_time a p d e there running c.if-self-2.false x y f at_p ends in
+    subst (λ v. BecomesOf w (record { moment = m; act = v }) stepped h) (sym c.requires.act)
+    (subst (λ v. BecomesOf w (record { moment = m; act = Beaten a p d v }) stepped h) (sym c.in-Err.is)
+    (fails-become w h z m c.requires.in_time a p d e there running c.if-self-2.false x y f at_p ends stepped
+    (subst (λ q. FailsAs w m (Checked q y w.fresh) f.event (updated w.description (failed a e)) met stepped) own
+    (r met (subst (λ q. IsOfPool w.options met q a e true Nothing) (sym own) (failure-of-pool w h z m c.requires.in_time a p d e there running c.if-self-2.false x y f at_p ends))))))) c.fail.ensures.fails

@@ -1,0 +1,114 @@
+use Rattle.std.proofs.Common.{ℕ, ◌≡◌, ◌&&◌, Bool, true, false, not, List, [], Option, Some, None, is_some, get_or, refl, sym, ◌∙◌, ap, subst}
+use Rattle.std.specs.Prelude.{slice_get, unwrap_or}
+use Rattle.std.proofs.lemmas.Result.{IfOk-weaker}
+use Rattle.mdb_log.specs.declared.reply.Refused.TheVariants.{NotHolder}
+use Rattle.mdb_log.specs.declared.reply.Reply.TheVariants.{Changed}
+use Rattle.mdb_pool.specs.declared.pool_core.PoolCore.{PoolCore}
+use Rattle.mdb_pool.specs.Kept.{connection_at, held_connection, id_at}
+use Rattle.mdb_pool.proofs.Items.{both-true}
+use Rattle.mdb_pool.proofs.PinnedActs.{held-at}
+use Rattle.mdb_topology.specs.Complaining.{concerns_now, service_cleared}
+use Rattle.mdb_topology.specs.Current.{operating}
+use Rattle.mdb_topology.specs.Errors.{case_of, for_service}
+use Rattle.mdb_topology.specs.Finding.{holder}
+use Rattle.mdb_topology.specs.Marking.{IsClearing}
+use Rattle.mdb_topology.proofs.BalancedComplaints.{balanced-clearing}
+use Rattle.mdb_topology.proofs.Bools.{not-back}
+use Rattle.mdb_topology.proofs.Lists.{position-within, at-index}
+use Rattle.mdb_topology.proofs.Places.{some-same}
+use Rattle.mdb_topology.specs.Changing.{IsChanging}
+use Rattle.mdb_topology.specs.Refusal.{refusal}
+use Rattle.mdb_topology.proofs.Becoming.{as-next}
+use Rattle.mdb_topology.proofs.ComplaintSteps.{Held, held-there, complaint-homeless}
+use Rattle.mdb_topology.proofs.ComplaintMarks.{complaint-here, row_trouble, complaint-resting}
+use Rattle.mdb_topology.proofs.FollowingQuiet.{follows-quiet}
+use Rattle.mdb_topology.proofs.Same.{IsPlain}
+use Rattle.mdb_topology.proofs.topology.TopologyCore.operation_error.Goals as goal
+
+pub returns-in_default-clause-becomes : goal.returns-in_default-clause-becomes
+returns-in_default-clause-becomes c h z =
+    let w = c.args.self.now in
+    let m = c.args.step.now.moment in
+    subst (λ a. refusal w.options h (record { moment = m; act = a }) ≡ Some NotHolder) (sym c.requires.act)
+    (complaint-homeless w h z m c.requires.in_time c.args.party c.args.error.now (sym c.holder.ensures ∙ c.in_default.is))
+
+not-front : (b : Bool) → not b ≡ false → b ≡ true
+not-front true e = refl
+not-front false e = cc
+
+-- the pool that is read is the one of which the party holds a connection
+module _ (pools : List PoolCore) (r i : ℕ) (held : holder pools r ≡ Some i) where
+  abbrev q : Held pools r i
+  q = held-there pools r i held
+
+  module _ (p : PoolCore) (value : p ≡ get_or pools i p) where
+    same : q.pool ≡ p
+    same = some-same q.pool p (slice_get pools i) q.there (at-index pools i p p (position-within (λ u. is_some (held_connection u r)) pools i held) value refl)
+
+    id-is : (found : Option ℕ) → found ≡ id_at (held_connection p r) → Some q.connection.id ≡ found
+    id-is found kept = sym (ap id_at q.has) ∙ (ap (λ u. id_at (held_connection u r)) same ∙ sym kept)
+
+    live : (id : ℕ) → q.connection.id ≡ id → connection_at p id ≡ Some q.connection
+    live id e = subst (λ u. connection_at u id ≡ Some q.connection) same (subst (λ n. connection_at q.pool n ≡ Some q.connection) e (held-at q.pool r q.connection q.has).1)
+
+pub returns-in_default-held_by-clause-becomes : goal.returns-in_default-held_by-clause-becomes
+returns-in_default-held_by-clause-becomes c h z =
+    let none : ◌≡◌ {A = Option ℕ} (Some (held-there c.args.self.now.pools.cores.items c.args.party c.in-Some.place (sym c.holder.ensures ∙ c.in-Some.is)).connection.id) None =
+    id-is c.args.self.now.pools.cores.items c.args.party c.in-Some.place (sym c.holder.ensures ∙ c.in-Some.is) c.index.result.now c.index.ensures c.held_by.result c.held_by.ensures.kept ∙ c.in_default-held_by.is in
+    cc
+
+pub returns-then-leaves_complaint-clause-becomes : goal.returns-then-leaves_complaint-clause-becomes
+returns-then-leaves_complaint-clause-becomes c h z =
+    let w = c.args.self.now in
+    let m = c.args.step.now.moment in
+    let r = c.args.party in
+    let x = c.args.error.now in
+    let i = c.in-Some.place in
+    let e = c.of_reply.ensures in
+    let pools = w.pools.cores.items in
+    let held = sym c.holder.ensures ∙ c.in-Some.is in
+    let there = held-there pools r i held in
+    let id = ap (λ y. unwrap_or y 0) (id-is pools r i held c.index.result.now c.index.ensures c.held_by.result c.held_by.ensures.kept ∙ c.in-Some-held_by.is) in
+    let left = not-back _ (sym (c.leaves_complaint.ensures there.connection (live pools r i held c.index-2.result.now c.index-2.ensures c.in-Some-held_by.id id) id) ∙ c.if-leaves_complaint.true) in
+    let none = subst (λ u. concerns_now w u there.connection x && is_some (case_of operating x) ≡ false) (sym (same pools r i held c.index-2.result.now c.index-2.ensures)) left in
+    let rests = subst (λ a. IsChanging w.options h w.description None (record { moment = m; act = a }) (Changed false) false []) (sym c.requires.act)
+    (complaint-resting w h z m c.requires.in_time r x i there.pool there.connection held there.there there.has none) in
+    follows-quiet w h z c.args.step.now c.requires.in_time c.of_reply.result e.changes e.facts e.monitors e.monitoring (subst IsPlain (sym e.reply) tt) (rw e.description refl) (as-next rests e.description e.reply e.stops)
+
+pub mark_complaint-requires-clause-complains : goal.mark_complaint-requires-clause-complains
+mark_complaint-requires-clause-complains c =
+    let w = c.args.self.now in
+    let r = c.args.party in
+    let x = c.args.error.now in
+    let i = c.in-Some.place in
+    let pools = w.pools.cores.items in
+    let held = sym c.holder.ensures ∙ c.in-Some.is in
+    let there = held-there pools r i held in
+    let id = ap (λ y. unwrap_or y 0) (id-is pools r i held c.index.result.now c.index.ensures c.held_by.result c.held_by.ensures.kept ∙ c.in-Some-held_by.is) in
+    let left = not-front _ (sym (c.leaves_complaint.ensures there.connection (live pools r i held c.index-2.result.now c.index-2.ensures c.in-Some-held_by.id id) id) ∙ c.if-leaves_complaint.false) in
+    let both = both-true _ _ (subst (λ u. concerns_now w u there.connection x && is_some (case_of operating x) ≡ true) (sym (same pools r i held c.index-2.result.now c.index-2.ensures)) left) in
+    record { pool = there.pool; connection = there.connection; held = held; there = there.there; has = there.has; id_is = id; current = both.0; row = both.1 }
+
+pub returns-then-self-clause-becomes : goal.returns-then-self-clause-becomes
+returns-then-self-clause-becomes c =
+    let w = c.args.self.now in
+    let m = c.args.step.now.moment in
+    let r = c.args.party in
+    let x = c.args.error.now in
+    let i = c.in-Some.place in
+    let l = c.requires.in_time in
+    let pools = w.pools.cores.items in
+    let held = sym c.holder.ensures ∙ c.in-Some.is in
+    let there = held-there pools r i held in
+    let id = ap (λ y. unwrap_or y 0) (id-is pools r i held c.index.result.now c.index.ensures c.held_by.result c.held_by.ensures.kept ∙ c.in-Some-held_by.is) in
+    let left = not-front _ (sym (c.leaves_complaint.ensures there.connection (live pools r i held c.index-2.result.now c.index-2.ensures c.in-Some-held_by.id id) id) ∙ c.if-leaves_complaint.false) in
+    let both = both-true _ _ (subst (λ u. concerns_now w u there.connection x && is_some (case_of operating x) ≡ true) (sym (same pools r i held c.index-2.result.now c.index-2.ensures)) left) in
+    let balanced = c.if-self.true in
+    let mode = ap (λ (u : PoolCore). u.options.load_balanced) (sym (same pools r i held c.index-then-self.result.now c.index-then-self.ensures)) ∙ (ap (λ p. p.load_balanced) (c.requires.stands.1.pools.fit.each i there.pool there.there).options ∙ balanced) in
+    let service = c.service_cleared-service.ensures there.connection mode (live pools r i held c.index-then-self.result.now c.index-then-self.ensures c.in-Some-held_by.id id) in
+    IfOk-weaker c.clear_service.result _ _ (λ stepped f h z.
+    let b = balanced-clearing w h z m l r x i there.pool there.connection held there.there there.has both.0 balanced both.1 in
+    let t = row_trouble w h z m l r x i there.pool there.connection held there.there there.has both.0 b.row in
+    f h there.pool t z there.there (complaint-here w h z m l r x i there.pool there.connection held there.there there.has both.0) refl refl refl
+    (subst (λ y. IsClearing w h c.args.step.now t (for_service y)) (sym service)
+    (subst (λ a. IsClearing w h (record { moment = m; act = a }) t (for_service (service_cleared there.connection x))) (sym c.requires.act) b.clears_it))) c.clear_service.ensures.becomes

@@ -1,0 +1,47 @@
+use Rattle.std.proofs.Common.{◌≡◌, ◌&&◌, [], length, Some, None, is_some, sym, ◌∙◌, ap, subst}
+use Rattle.std.specs.Prelude.{slice_get}
+use Rattle.mdb_describe.specs.Differences.{difference}
+use Rattle.mdb_topology.specs.Failing.{asked_after, Fails, IsToldOf}
+use Rattle.mdb_topology.specs.Planned.{PlansMore}
+use Rattle.mdb_topology.specs.Publishing.{telling}
+use Rattle.mdb_topology.specs.Touching.{touched_by}
+use Rattle.mdb_topology.proofs.FailedActs.{still-at, told-of}
+use Rattle.mdb_topology.proofs.topology.TopologyCore.tell_failure.Goals.{then-changed, else-changed}
+use Rattle.mdb_topology.proofs.topology.TopologyCore.tell_failure.Goals as goal
+
+pub plan_failure-requires-clause-still : goal.plan_failure-requires-clause-still
+plan_failure-requires-clause-still c = λ s at.
+    let there : slice_get c.args.self.now.pools.cores.items c.args.place ≡ Some s = subst (λ v. slice_get v.pools.cores.items c.args.place ≡ Some s) c.in_ok-planned.ensures.same at in
+    still-at c.args.self.now c.requires.stands c.args.place s there c.args.step.now c.args.error.now (c.requires.failing s there) None
+
+pub returns-clause-comes : goal.returns-clause-comes
+returns-clause-comes c =
+    let w = c.args.self.now in
+    let o = w.options in
+    let t = w.description in
+    let u = c.args.later.now in
+    let step = c.args.step.now in
+    let m = step.moment in
+    let i = c.args.place in
+    let e = c.args.error.now in
+    let pools = w.pools.cores.items in
+    let d = c.in_ok-diff.diff in
+    let planned = c.in_ok-planned.planned.items in
+    let before = c.publish_mark.new.facts.items in
+    let changes = c.plan_failure.new.changes.items in
+    let after = c.plan_failure.new.facts.items in
+    let differs : difference t.servers u.servers ≡ d = sym c.in_ok-diff.ensures.difference in
+    let p : PlansMore o m pools (length pools) (touched_by u d) (telling o m t u d) [] [] [] planned [] before =
+    subst (λ fs. PlansMore o m pools (length pools) (touched_by u d) (telling o m t u d) [] [] [] planned fs before) c.new-facts.ensures.items c.in_ok-planned.ensures.planned in
+    let told : IsToldOf w m u before = told-of w c.requires.stands m c.requires.in_time u d (touched_by u d) planned before differs p in
+    let cleared : c.if-changed.cleared ≡ is_some (difference t.servers u.servers) && c.args.clears = elim c.if-changed.branch [
+      | then-changed w ↦ w.cleared-is ∙ ap (λ b. b && c.args.clears) (sym (ap is_some differs ∙ (sym c.is_some-changed.ensures ∙ w.if-changed.true)))
+      | else-changed w ↦ w.cleared-is ∙ (w.if-changed.false ∙ ap (λ b. b && c.args.clears) (sym (ap is_some differs ∙ (sym c.is_some-changed.ensures ∙ w.if-changed.false))))
+    ] in
+    let fails : Fails (is_some (difference t.servers u.servers) && c.args.clears) pools i step None e (asked_after e) [] changes before after None =
+    subst (λ b. Fails b pools i step None e (asked_after e) [] changes before after None) cleared
+    (subst (λ a. Fails c.if-changed.cleared pools i step None e a [] changes before after None) c.asked_after-asked.ensures
+    (subst (λ cs. Fails c.if-changed.cleared pools i step None e c.asked_after-asked.result cs changes before after None) c.new-changes.ensures.items
+    (subst (λ r. Fails c.if-changed.cleared pools i step None e c.asked_after-asked.result c.new-changes.result.items changes before after r) c.in_default.is
+    (subst (λ v. Fails c.if-changed.cleared v.pools.cores.items i step None e c.asked_after-asked.result c.new-changes.result.items changes before after c.in_ok-refused.refused) c.in_ok-planned.ensures.same c.in_ok-refused.ensures.fails)))) in
+    (before, told, fails)

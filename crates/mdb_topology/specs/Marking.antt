@@ -1,0 +1,158 @@
+-- Steps that tell of an error: what its rule tells, what is cleared, and what the monitor is asked.
+use Rattle.std.specs.Prelude.{ℕ, ◌≡◌, ◌&&◌, Bool, true, false, List, [], ◌∷◌, ◌++◌, length, slice_get, Option, Some, None, is_some}
+use Rattle.mdb_base.specs.declared.address.ServerAddress.{ServerAddress}
+use Rattle.mdb_base.specs.declared.options.Options.{Options}
+use Rattle.mdb_base.specs.declared.error.Error.{Error}
+use Rattle.mdb_base.specs.declared.object_id.ObjectId.{ObjectId}
+use Rattle.mdb_describe.specs.declared.topology.TopologyDescription.{TopologyDescription}
+use Rattle.mdb_describe.specs.Differences.{difference}
+use Rattle.mdb_events.specs.declared.fact.Fact.{Fact}
+use Rattle.mdb_events.specs.declared.fact.Fact.TheVariants.{CheckNow as CheckNowFact, Cancel}
+use Rattle.mdb_log.specs.declared.step.Step.{Step}
+use Rattle.mdb_log.specs.declared.step.Act.{Act}
+use Rattle.mdb_log.specs.declared.step.Act.TheVariants.{Clear as ClearAct}
+use Rattle.mdb_log.specs.declared.reply.Refused.{Refused as Cause}
+use Rattle.mdb_log.specs.declared.reply.Refused.TheVariants.{Exhausted}
+use Rattle.mdb_log.specs.declared.reply.What.{What}
+use Rattle.mdb_log.specs.declared.reply.What.TheVariants.{Generation}
+use Rattle.mdb_log.specs.declared.reply.Reply.{Reply}
+use Rattle.mdb_log.specs.declared.reply.Reply.TheVariants.{Changed}
+use Rattle.mdb_log.specs.History.{Item}
+use Rattle.mdb_pool.specs.declared.pool_core.PoolCore.{PoolCore}
+use Rattle.mdb_pool.specs.Refusing.{refusal_now}
+use Rattle.mdb_topology.specs.declared.change.Change.{Change}
+use Rattle.mdb_topology.specs.declared.marked.Asked.{Asked}
+use Rattle.mdb_topology.specs.declared.marked.Asked.TheVariants.{Nothing, CheckNow, CancelIfCleared}
+use Rattle.mdb_topology.specs.declared.marked.Marked.{Marked}
+use Rattle.mdb_topology.specs.declared.marked.Marked.TheVariants.{Refused, Told}
+use Rattle.mdb_topology.specs.declared.monitoring.Monitoring.{Monitoring}
+use Rattle.mdb_topology.specs.declared.monitoring.Monitoring.TheVariants.{Same}
+use Rattle.mdb_topology.specs.declared.next.Next.{Next}
+use Rattle.mdb_topology.specs.declared.next.Stepped.{Stepped}
+use Rattle.mdb_topology.specs.declared.next.Stepped.TheVariants as Then
+use Rattle.mdb_topology.specs.declared.topology.TopologyCore.{TopologyCore}
+use Rattle.mdb_events.specs.declared.sdam.SdamEvent.{SdamEvent}
+use Rattle.mdb_log.specs.Opening.{pool_options}
+use Rattle.mdb_topology.specs.Acting.{step_of, PlansOne}
+use Rattle.mdb_topology.specs.Turns.{in_turn}
+use Rattle.mdb_topology.specs.Errors.{Trouble, Clear, whole, only, where_so, asks}
+use Rattle.mdb_topology.specs.Description.{rule_after, description_of, is_stop}
+use Rattle.mdb_topology.specs.Facts.{trouble, clear_by, clear_of, is_clear, clearing, asking}
+use Rattle.mdb_topology.specs.Publishing.{told_by, publication}
+use Rattle.mdb_topology.specs.Refusal.{first_refusal, first_past}
+use Rattle.mdb_topology.specs.Answer.{reply_to}
+use Rattle.mdb_topology.specs.Stepping.{known_after}
+use Rattle.mdb_topology.specs.Changing.{IsTelling, IsTold, IsUnchanged, IsWithCheck}
+use Rattle.mdb_topology.specs.Standing.{PoolsStand}
+use Rattle.mdb_topology.specs.Planned.{opened_by}
+
+-- what an act that concerns no pool by itself tells
+abbrev pub spoken : Options → List Item → Step → List (List Item → List Fact)
+spoken o h step =
+    told_by o step.moment (rule_after o h step) (description_of o h)
+    ++ clearing o step.moment (trouble o h step) (clear_of o h step)
+    ∷ asking o (trouble o h step) (clear_of o h step)
+    ∷ []
+
+-- The step is accepted but for its numbers, and tells these parts after the facts of its check; next is what is known after it, where it applies a rule.
+pub record HasParts (o : Options) (h : List Item) (t : TopologyDescription) (next : Option TopologyDescription) (step : Step) (reply : Reply) (stops : Bool) (parts : List (List Item → List Fact)) : Type 0 where
+  pub passes : first_refusal o h step ≡ None
+  pub known : known_after (rule_after o h step) t ≡ next
+  pub tells : (k : List Item) → in_turn step.moment (spoken o h step) k ≡ in_turn step.moment parts k
+  pub replies : (z : List Item) → reply_to o h step z step.act ≡ reply
+  pub stop : is_stop step.act ≡ stops
+
+-- the clear of a whole pool, or for a service of it
+abbrev pub clear_with : Option ObjectId → Clear
+clear_with None = whole
+clear_with (Some s) = only s
+
+-- the act, by the number of the pool
+abbrev pub clear_act : Option ObjectId → Error → ℕ → Act
+clear_act service error p = ClearAct p service error
+
+-- The pool at the place is cleared, where that is wanted, or refuses it by its cause.
+abbrev pub Clears : Bool → List PoolCore → ℕ → ℕ → Option ObjectId → Error → List Change → List Change → List Fact → List Fact → Option Cause → Type 0
+Clears false pools i m service error earlier changes before after None = (changes ≡ earlier) × (after ≡ before)
+Clears false pools i m service error earlier changes before after (Some why) = ⊥
+Clears true pools i m service error earlier changes before after None =
+    (d : PlansOne pools i m (clear_act service error) earlier changes before after) × (refusal_now d.pool (step_of m (clear_act service error) d.pool.pool) ≡ None)
+Clears true pools i m service error earlier changes before after (Some why) =
+    (s : PoolCore) × (slice_get pools i ≡ Some s) × (refusal_now s (step_of m (clear_act service error) s.pool) ≡ Some why)
+
+-- what the monitor of the address is asked, by whether the pool was cleared
+abbrev pub asked_of : Asked → Bool → ServerAddress → List Fact
+asked_of Nothing cleared a = []
+asked_of CheckNow cleared a = CheckNowFact a ∷ []
+asked_of CancelIfCleared true a = Cancel a ∷ []
+asked_of CancelIfCleared false a = []
+
+-- The trouble is of the pool with the number at the address: where its server changes, the pool is cleared, if it clears.
+pub record IsOfPool (o : Options) (x : Trouble) (p : ℕ) (a : ServerAddress) (error : Error) (clears : Bool) (asked : Asked) : Type 0 where
+  pub pool : x.pool ≡ p
+  pub address : x.address ≡ a
+  pub error_is : x.error ≡ error
+  pub clear : (b : Bool) → clear_by o b (Some x) ≡ where_so (b && clears) whole
+  pub asks_are : (b : Bool) → asks o.load_balanced x.row x.error (where_so b whole) x.address ≡ asked_of asked b a
+
+-- what is cleared and asked after a change from t to u
+abbrev pub after_trouble : Options → ℕ → TopologyDescription → TopologyDescription → Trouble → List (List Item → List Fact)
+after_trouble o m t u x =
+    clearing o m (Some x) (clear_by o (is_some (difference t.servers u.servers)) (Some x))
+    ∷ asking o (Some x) (clear_by o (is_some (difference t.servers u.servers)) (Some x))
+    ∷ []
+
+-- what a trouble tells that marks a server, which makes u known
+abbrev pub mark_parts : TopologyCore → ℕ → TopologyDescription → Trouble → List (List Item → List Fact)
+mark_parts w m u x = publication w.options m w.description u ++ after_trouble w.options m w.description u x
+
+-- The trouble of the step marks a server, which makes u known.
+abbrev pub IsMarking : TopologyCore → List Item → Step → TopologyDescription → Trouble → Type 0
+IsMarking w h step u x =
+    HasParts w.options h w.description (Some u) step (Changed (is_some (difference w.description.servers u.servers))) false (mark_parts w step.moment u x)
+
+-- The trouble of the step marks nothing, and clears c.
+abbrev pub IsClearing : TopologyCore → List Item → Step → Trouble → Clear → Type 0
+IsClearing w h step x c = IsTelling step.act × HasParts w.options h w.description None step (Changed (is_clear c)) false (clearing w.options step.moment (Some x) c ∷ [])
+
+-- what the mark takes past a limit
+abbrev pub MarkPasses : TopologyCore → ℕ → TopologyDescription → Trouble → Option What → Type 0
+MarkPasses w m u x past = (k : List Item) → PoolsStand (pool_options w.options) w.pools.cores.items k → first_past w.options m k (in_turn m (mark_parts w m u x) k) ≡ past
+
+-- The change to u by the trouble is told, with what is cleared and asked; it opens no pool, and takes no number past a limit.
+pub record MarkTold (w : TopologyCore) (m : ℕ) (u : TopologyDescription) (x : Trouble) (facts : List Fact) (changes : List Change) (changed : Bool) : Type 0 where
+  pub told : IsTold w.options m w.pools.cores.items (length w.pools.cores.items) u (mark_parts w m u x) changes facts
+  pub opens : opened_by changes ≡ []
+  pub changed_is : changed ≡ is_some (difference w.description.servers u.servers)
+  pub spare : MarkPasses w m u x None
+
+-- what the mark comes to: a generation is at its limit, or it is told
+abbrev pub MarkComes : TopologyCore → ℕ → TopologyDescription → Trouble → Marked → Type 0
+MarkComes w m u x (Refused why) = (why ≡ Exhausted Generation) × MarkPasses w m u x (Some Generation)
+MarkComes w m u x (Told facts changes changed) = MarkTold w m u x facts.items changes.items changed
+
+-- What a step makes of a driver by a mark that is told, but for what it does at the monitors.
+pub record IsMarked (w : TopologyCore) (m : ℕ) (u : TopologyDescription) (x : Trouble) (n : Next) : Type 0 where
+  pub changed : Bool
+  pub told : MarkTold w m u x n.facts.items n.changes.items changed
+  pub reply : n.reply ≡ Changed changed
+  pub known : n.description ≡ Some u
+  pub goes_on : n.stops ≡ false
+  pub monitors : n.monitors.items ≡ []
+  pub nothing : n.monitoring ≡ Same
+
+-- what becomes of the step by it
+abbrev pub MarksTo : TopologyCore → ℕ → TopologyDescription → Trouble → Stepped → Type 0
+MarksTo w m u x (Then.Refused why) = (why ≡ Exhausted Generation) × MarkPasses w m u x (Some Generation)
+MarksTo w m u x (Then.Accepted n) = IsMarked w m u x n
+
+-- A failed check marks its server, and makes nothing known once the driver was stopped.
+abbrev pub FailsTo : TopologyCore → ℕ → TopologyDescription → Trouble → Bool → Stepped → Type 0
+FailsTo w m u x false stepped = MarksTo w m u x stepped
+FailsTo w m u x true (Then.Refused why) = ⊥
+FailsTo w m u x true (Then.Accepted n) = IsUnchanged n
+
+-- the same with what the check does at the monitors, and its event first
+abbrev pub FailsAs : TopologyCore → ℕ → Monitoring → SdamEvent → TopologyDescription → Trouble → Stepped → Type 0
+FailsAs w m monitoring event u x (Then.Refused why) = FailsTo w m u x w.stopped (Then.Refused why)
+FailsAs w m monitoring event u x (Then.Accepted n) = (y : Next) × FailsTo w m u x w.stopped (Then.Accepted y) × IsWithCheck y n monitoring event

@@ -1,0 +1,170 @@
+//! Steps that tell of an error.
+
+ghost use Rattle.std.specs.Prelude.{◌≡◌, ◌≤◌, ◌<◌, ◌&&◌, IfOk, List, Some, is_some, length, not, slice_get, true, false};
+ghost use Rattle.mdb_log.specs.declared.step.Act.TheVariants.{Hello as HelloAct, Error as ErrorAct};
+ghost use Rattle.mdb_log.specs.declared.checked.HelloResult.TheVariants.{Err as Erred};
+ghost use Rattle.mdb_pool.specs.declared.connection.Connection.{Connection};
+ghost use Rattle.mdb_pool.specs.declared.pool_core.PoolCore.{PoolCore as Core};
+ghost use Rattle.mdb_pool.specs.Kept.{connection_at};
+ghost use Rattle.mdb_topology.specs.Current.{operating};
+ghost use Rattle.mdb_topology.specs.Errors.{case_of, for_service};
+
+use crate::complaining::{has_row, is_hard, service_cleared};
+use crate::marked::Asked;
+use crate::next::{Next, Stepped};
+use crate::topology::TopologyCore;
+use mdb_base::{Error, ObjectId, OutOfMemory, ServerAddress};
+use mdb_log::{Refused, Reply, Step};
+use mdb_pool::PoolCore;
+use std::alloc::Global;
+
+impl TopologyCore {
+    ghost use Rattle.mdb_log.specs.History.{Item};
+    ghost use Rattle.mdb_topology.specs.Complaining.{concerns_now, Complains};
+    ghost use Rattle.mdb_topology.specs.Errors.{Trouble};
+    ghost use Rattle.mdb_topology.specs.Marking.{IsClearing};
+    ghost use Rattle.mdb_topology.specs.Standing.{at_address, StandsFor, StandsForSome};
+    ghost use Rattle.mdb_topology.specs.Stepping.{BecomesOf};
+
+    // The hello of a server failed (SDAM, "Network error during server check").
+    pub(crate) fn hello_error(
+        &mut self,
+        alloc: Global,
+        step: &Step,
+        address: &ServerAddress,
+        pool: u32,
+        error: &Error,
+    ) -> Result<Stepped, OutOfMemory>
+        requires stands { StandsForSome self.old }
+        requires in_time { self.old.pools.last ≤ step.now.moment }
+        requires act { step.now.act ≡ HelloAct address.now pool (Erred error.now) }
+        ensures same { self.new ≡ self.old }
+        ensures becomes { IfOk result (λ stepped. (h : List Item) → StandsFor self.old h → BecomesOf self.old step.now stepped h) }
+    {
+        if self.options.load_balanced {
+            return Ok(Stepped::Refused(Refused::WrongMode));
+        }
+        if self.leaves_reply(address, pool) {
+            let reply = Reply::Changed(false);
+            return Ok(Stepped::Accepted(Next::of_reply(alloc, reply)));
+        }
+        let place = pool as usize;
+        self.mark(alloc, step, place, address, error, true, Asked::Nothing)
+    }
+
+    // Under load balancing no server is marked: the service of the pool at the place is cleared, where there is one.
+    fn clear_service(
+        &mut self,
+        alloc: Global,
+        step: &Step,
+        place: usize,
+        service: Option<ObjectId>,
+        error: &Error,
+    ) -> Result<Stepped, OutOfMemory>
+        requires in_time { self.old.pools.last ≤ step.now.moment }
+        requires balanced { self.old.options.load_balanced ≡ true }
+        requires there { place < length self.old.pools.cores.items }
+        ensures same { self.new ≡ self.old }
+        ensures becomes { IfOk result (λ stepped. (h : List Item) (s : Core) (x : Trouble) → StandsFor self.old h → slice_get self.old.pools.cores.items place ≡ Some s → at_address self.old.pools.cores.items s.address ≡ Some place → x.pool ≡ s.pool → x.address ≡ s.address → x.error ≡ error.now → IsClearing self.old h step.now x (for_service service) → BecomesOf self.old step.now stepped h) }
+    {
+        let mut facts = Vec::new(alloc);
+        let mut changes = Vec::new(alloc);
+        let cleared = service.is_some();
+        let refused = self.pools.plan_clear(
+            alloc,
+            step.moment,
+            cleared,
+            place,
+            service,
+            error,
+            &mut facts,
+            &mut changes,
+        )?;
+        match refused {
+            Some(why) => {
+                drop(facts);
+                drop(changes);
+                Ok(Stepped::Refused(why))
+            }
+            None => Ok(Stepped::Accepted(Next {
+                facts,
+                changes,
+                ..Next::of_reply(alloc, Reply::Changed(cleared))
+            })),
+        }
+    }
+
+    // The server is marked Unknown by the current error of the party, about the connection that it holds of the pool at the place.
+    fn mark_complaint(
+        &mut self,
+        alloc: Global,
+        step: &Step,
+        place: usize,
+        party: u32,
+        id: u32,
+        error: &Error,
+    ) -> Result<Stepped, OutOfMemory>
+        requires stands { StandsForSome self.old }
+        requires in_time { self.old.pools.last ≤ step.now.moment }
+        requires there { place < length self.old.pools.cores.items }
+        requires act { step.now.act ≡ ErrorAct party error.now }
+        requires normal { self.old.options.load_balanced ≡ false }
+        requires complains { Complains self.old party place id error.now }
+        ensures same { self.new ≡ self.old }
+        ensures becomes { IfOk result (λ stepped. (h : List Item) → StandsFor self.old h → BecomesOf self.old step.now stepped h) }
+    {
+        let pool = &self.pools.cores[place];
+        let address = pool.address().clone()?;
+        let hard = is_hard(pool, id, error);
+        if error.is_state_change_error() {
+            return self.mark(alloc, step, place, &address, error, hard, Asked::CheckNow);
+        }
+        self.mark(
+            alloc,
+            step,
+            place,
+            &address,
+            error,
+            true,
+            Asked::CancelIfCleared,
+        )
+    }
+
+    // An error about the connection of the pool tells nothing: it is not current, or it has no row.
+    fn leaves_complaint(&self, pool: &PoolCore, id: u32, error: &Error) -> bool
+        ensures { (x : Connection) → connection_at pool.now id ≡ Some x → x.id ≡ id → result ≡ not (concerns_now self.now pool.now x error.now && is_some (case_of operating error.now)) }
+    {
+        !(self.is_current(pool, id, error) && has_row(error))
+    }
+
+    // An operation on the connection that the party holds met an error (SDAM, "Error handling pseudocode").
+    pub(crate) fn operation_error(
+        &mut self,
+        alloc: Global,
+        step: &Step,
+        party: u32,
+        error: &Error,
+    ) -> Result<Stepped, OutOfMemory>
+        requires stands { StandsForSome self.old }
+        requires in_time { self.old.pools.last ≤ step.now.moment }
+        requires act { step.now.act ≡ ErrorAct party error.now }
+        ensures same { self.new ≡ self.old }
+        ensures becomes { IfOk result (λ stepped. (h : List Item) → StandsFor self.old h → BecomesOf self.old step.now stepped h) }
+    {
+        let Some(place) = self.pools.holder(party) else {
+            return Ok(Stepped::Refused(Refused::NotHolder));
+        };
+        let Some(id) = self.pools.cores[place].held_by(party) else {
+            return Ok(Stepped::Refused(Refused::NotHolder));
+        };
+        if self.leaves_complaint(&self.pools.cores[place], id, error) {
+            let reply = Reply::Changed(false);
+            return Ok(Stepped::Accepted(Next::of_reply(alloc, reply)));
+        }
+        if self.options.load_balanced {
+            let service = service_cleared(&self.pools.cores[place], id, error);
+            return self.clear_service(alloc, step, place, service, error);
+        }
+        self.mark_complaint(alloc, step, place, party, id, error)
+    }
+}

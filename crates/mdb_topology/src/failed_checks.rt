@@ -1,0 +1,79 @@
+//! A check of a monitor failed.
+
+ghost use Rattle.std.specs.Prelude.{◌≡◌, ◌≤◌, IfOk, List, Some, true, false};
+ghost use Rattle.mdb_describe.specs.Descriptions.{failed};
+ghost use Rattle.mdb_describe.specs.Update.{updated};
+ghost use Rattle.mdb_topology.specs.declared.marked.Asked.TheVariants.{Nothing};
+
+use crate::marked::Asked;
+use crate::monitoring::Monitoring;
+use crate::next::{Next, Stepped};
+use crate::topology::TopologyCore;
+use mdb_base::{Error, OutOfMemory, ServerAddress};
+use mdb_events::SdamEvent;
+use mdb_log::{Reply, Step};
+use std::alloc::Global;
+
+impl TopologyCore {
+    ghost use Rattle.mdb_topology.specs.Errors.{Trouble};
+    ghost use Rattle.mdb_topology.specs.Marking.{IsOfPool, FailsTo, FailsAs};
+    ghost use Rattle.mdb_topology.specs.Standing.{at_address, StandsForSome};
+
+    // The server whose check failed is marked Unknown, unless the driver was stopped.
+    fn mark_failed(
+        &mut self,
+        alloc: Global,
+        step: &Step,
+        place: usize,
+        address: &ServerAddress,
+        error: &Error,
+    ) -> Result<Stepped, OutOfMemory>
+        requires stands { StandsForSome self.old }
+        requires in_time { self.old.pools.last ≤ step.now.moment }
+        requires normal { self.old.options.load_balanced ≡ false }
+        requires here { at_address self.old.pools.cores.items address.now ≡ Some place }
+        ensures same { self.new ≡ self.old }
+        ensures fails { IfOk result (λ stepped. (x : Trouble) → IsOfPool self.old.options x place address.now error.now true Nothing → FailsTo self.old step.now.moment (updated self.old.description (failed address.now error.now)) x self.old.stopped stepped) }
+    {
+        if self.stopped {
+            let reply = Reply::Changed(false);
+            return Ok(Stepped::Accepted(Next::of_reply(alloc, reply)));
+        }
+        self.mark(alloc, step, place, address, error, true, Asked::Nothing)
+    }
+
+    /// The mark with what the check does at the monitors, and its event first.
+    pub(crate) fn fail(
+        &mut self,
+        alloc: Global,
+        step: &Step,
+        place: usize,
+        address: &ServerAddress,
+        error: &Error,
+        monitoring: Monitoring,
+        event: SdamEvent,
+    ) -> Result<Stepped, OutOfMemory>
+        requires stands { StandsForSome self.old }
+        requires in_time { self.old.pools.last ≤ step.now.moment }
+        requires normal { self.old.options.load_balanced ≡ false }
+        requires here { at_address self.old.pools.cores.items address.now ≡ Some place }
+        ensures same { self.new ≡ self.old }
+        ensures fails { IfOk result (λ stepped. (x : Trouble) → IsOfPool self.old.options x place address.now error.now true Nothing → FailsAs self.old step.now.moment monitoring event (updated self.old.description (failed address.now error.now)) x stepped) }
+    {
+        match self.mark_failed(alloc, step, place, address, error) {
+            Ok(Stepped::Accepted(next)) => {
+                Ok(Stepped::Accepted(next.with_check(monitoring, event)?))
+            }
+            Ok(Stepped::Refused(why)) => {
+                drop(monitoring);
+                drop(event);
+                Ok(Stepped::Refused(why))
+            }
+            Err(e) => {
+                drop(monitoring);
+                drop(event);
+                Err(e)
+            }
+        }
+    }
+}

@@ -1,0 +1,322 @@
+//! Steps by which a pending connection failed to be established.
+
+ghost use Rattle.std.specs.Prelude.{◌≡◌, ◌≤◌, ◌<◌, ◌&&◌, nat_le, IfOk, List, Some, None, is_some, length, not, slice_get, true, false};
+ghost use Rattle.mdb_describe.specs.Descriptions.{failed};
+ghost use Rattle.mdb_describe.specs.Differences.{difference};
+ghost use Rattle.mdb_describe.specs.Update.{updated};
+ghost use Rattle.mdb_log.specs.declared.step.Act.TheVariants.{Failed as FailedAct};
+ghost use Rattle.mdb_log.specs.declared.step.FailedAt.{FailedAt as At};
+ghost use Rattle.mdb_log.specs.declared.step.FailedAt.TheVariants.{Post as PostAt};
+ghost use Rattle.mdb_pool.specs.declared.connection.Connection.{Connection};
+ghost use Rattle.mdb_pool.specs.declared.pool_core.PoolCore.{PoolCore as Core};
+ghost use Rattle.mdb_pool.specs.Kept.{clears_before, clears_for, connection_at};
+ghost use Rattle.mdb_topology.specs.Current.{establishing};
+ghost use Rattle.mdb_topology.specs.Errors.{case_of};
+ghost use Rattle.mdb_topology.specs.Failing.{is_timely, is_uncleared, clears_after, service_after, asked_after};
+
+use crate::complaining::is_hard;
+use crate::marked::{Asked, Marked};
+use crate::next::{Next, Stepped};
+use crate::topology::TopologyCore;
+use mdb_base::{Error, ObjectId, OutOfMemory, ServerAddress};
+use mdb_describe::TopologyDescription;
+use mdb_log::{FailedAt, Refused, Reply, Step};
+use mdb_pool::PoolCore;
+use std::alloc::Global;
+
+// The error has a row: it changes the state of the server, or the connection is lost.
+fn has_row(error: &Error) -> bool
+    ensures { (at : At) → result ≡ is_some (case_of (establishing at) error.now) }
+{
+    error.is_state_change_error() || !error.contains_label("SystemOverloadedError")
+}
+
+// What the monitor is asked after the error.
+fn asked_after(error: &Error) -> Asked
+    ensures { result ≡ asked_after error.now }
+{
+    if error.is_state_change_error() {
+        return Asked::CheckNow;
+    }
+    if error.is_auth_error() {
+        return Asked::Nothing;
+    }
+    Asked::CancelIfCleared
+}
+
+// The error about the connection clears its pool, or its service.
+fn clears_after(pool: &PoolCore, id: u32, error: &Error) -> bool
+    ensures { (x : Connection) → connection_at pool.now id ≡ Some x → result ≡ clears_after x error.now }
+{
+    let hard = is_hard(pool, id, error);
+    !error.is_state_change_error() || hard
+}
+
+// The service that the error clears under load balancing.
+fn service_after(pool: &PoolCore, id: u32, at: FailedAt, error: &Error) -> Option<ObjectId>
+    ensures { (x : Connection) → connection_at pool.now id ≡ Some x → result ≡ service_after x at error.now }
+{
+    if clears_after(pool, id, error) {
+        return at.service_id();
+    }
+    None
+}
+
+// The pool was not cleared, or not for the service, since the connection was created.
+fn is_uncleared(pool: &PoolCore, id: u32, service: Option<ObjectId>) -> bool
+    ensures { (x : Connection) → connection_at pool.now id ≡ Some x → result ≡ is_uncleared pool.now id service }
+{
+    match pool.generation_before(id, service) {
+        Some(own) => own == pool.generation(service),
+        None => false,
+    }
+}
+
+// Under load balancing a connection without a service is never cleared.
+fn is_kept(pool: &PoolCore, id: u32, service: Option<ObjectId>) -> bool
+    ensures { (x : Connection) → connection_at pool.now id ≡ Some x → result ≡ is_timely true pool.now id (PostAt service) }
+{
+    match service {
+        Some(_) => is_uncleared(pool, id, service),
+        None => true,
+    }
+}
+
+// The generation of the connection is not below that of its pool.
+fn is_not_below(pool: &PoolCore, id: u32) -> bool
+    ensures { (x : Connection) → connection_at pool.now id ≡ Some x → result ≡ nat_le (clears_for None pool.now.clears) (clears_before id None pool.now.clears) }
+{
+    match pool.generation_before(id, None) {
+        Some(own) => pool.generation(None) <= own,
+        None => false,
+    }
+}
+
+impl TopologyCore {
+    ghost use Rattle.mdb_log.specs.History.{Item};
+    ghost use Rattle.mdb_topology.specs.Description.{updates};
+    ghost use Rattle.mdb_topology.specs.Failing.{is_timely, regards_now, TellsFailure, FailureComes, IsFailing};
+    ghost use Rattle.mdb_topology.specs.Marking.{asked_of};
+    ghost use Rattle.mdb_topology.specs.declared.marked.Asked.TheVariants.{Nothing};
+    ghost use Rattle.mdb_topology.specs.Standing.{at_address, StandsFor, StandsForSome};
+    ghost use Rattle.mdb_topology.specs.Stepping.{BecomesOf};
+
+    // The connection is of the generation that its pool has.
+    fn is_timely(&self, pool: &PoolCore, id: u32, at: FailedAt) -> bool
+        ensures { (x : Connection) → connection_at pool.now id ≡ Some x → result ≡ is_timely self.now.options.load_balanced pool.now id at }
+    {
+        match at {
+            FailedAt::Pre => !self.options.load_balanced && is_not_below(pool, id),
+            FailedAt::Post(service) if self.options.load_balanced => is_kept(pool, id, service),
+            FailedAt::Post(_) => is_uncleared(pool, id, None),
+        }
+    }
+
+    // The error about the pending connection of the pool is current.
+    fn regards(&self, pool: &PoolCore, id: u32, at: FailedAt, error: &Error) -> bool
+        ensures { (x : Connection) → connection_at pool.now id ≡ Some x → result ≡ regards_now self.now pool.now id at error.now }
+    {
+        if error.is_incompatible_server() {
+            return false;
+        }
+        if !self.pools.is_here(pool.address(), pool.number()) {
+            return false;
+        }
+        if !self.may_tell(pool.address(), error) {
+            return false;
+        }
+        self.is_timely(pool, id, at)
+    }
+
+    // The error tells nothing: it is not current, or it has no row.
+    fn leaves_failure(&self, pool: &PoolCore, id: u32, at: FailedAt, error: &Error) -> bool
+        ensures { (x : Connection) → connection_at pool.now id ≡ Some x → result ≡ not (regards_now self.now pool.now id at error.now && is_some (case_of (establishing at) error.now)) }
+    {
+        !(self.regards(pool, id, at, error) && has_row(error))
+    }
+
+    // No server is marked. The service is cleared, where there is one, and the connection fails.
+    fn fail_unmarked(
+        &mut self,
+        alloc: Global,
+        step: &Step,
+        place: usize,
+        service: Option<ObjectId>,
+        error: &Error,
+    ) -> Result<Stepped, OutOfMemory>
+        requires stands { StandsForSome self.old }
+        requires in_time { self.old.pools.last ≤ step.now.moment }
+        requires there { place < length self.old.pools.cores.items }
+        requires failing { (s : Core) → slice_get self.old.pools.cores.items place ≡ Some s → IsFailing s step.now error.now }
+        ensures same { self.new ≡ self.old }
+        ensures becomes { IfOk result (λ stepped. (h : List Item) (s : Core) → StandsFor self.old h → slice_get self.old.pools.cores.items place ≡ Some s → TellsFailure self.old.options h step.now s None (is_some service) service error.now Nothing → BecomesOf self.old step.now stepped h) }
+    {
+        let mut facts = Vec::new(alloc);
+        let mut changes = Vec::new(alloc);
+        let cleared = service.is_some();
+        let refused = self.pools.plan_failure(
+            alloc,
+            place,
+            step,
+            cleared,
+            service,
+            error,
+            Asked::Nothing,
+            &mut facts,
+            &mut changes,
+        )?;
+        match refused {
+            Some(why) => {
+                drop(facts);
+                drop(changes);
+                Ok(Stepped::Refused(why))
+            }
+            None => Ok(Stepped::Accepted(Next {
+                facts,
+                changes,
+                ..Next::of_reply(alloc, Reply::Done)
+            })),
+        }
+    }
+
+    // The mark is told, and the connection fails, after a clear of its pool where something changed and the error clears.
+    fn tell_failure(
+        &mut self,
+        alloc: Global,
+        step: &Step,
+        place: usize,
+        address: &ServerAddress,
+        error: &Error,
+        clears: bool,
+        later: &TopologyDescription,
+    ) -> Result<Marked, OutOfMemory>
+        requires stands { StandsForSome self.old }
+        requires in_time { self.old.pools.last ≤ step.now.moment }
+        requires there { place < length self.old.pools.cores.items }
+        requires failing { (s : Core) → slice_get self.old.pools.cores.items place ≡ Some s → IsFailing s step.now error.now }
+        requires here { at_address self.old.pools.cores.items address.now ≡ Some place }
+        requires marked { later.now ≡ updated self.old.description (failed address.now error.now) }
+        ensures same { self.new ≡ self.old }
+        ensures comes { IfOk result (λ marked. FailureComes self.old step.now place later.now error.now clears (asked_after error.now) marked) }
+    {
+        let diff = self.description.diff(alloc, later)?;
+        let mut facts = Vec::new(alloc);
+        let moment = step.moment;
+        let planned = self.publish_mark(alloc, moment, address, error, later, &diff, &mut facts)?;
+        drop(planned);
+        let changed = diff.is_some();
+        drop(diff);
+        let mut changes = Vec::new(alloc);
+        let cleared = changed && clears;
+        let asked = asked_after(error);
+        let refused = self.pools.plan_failure(
+            alloc,
+            place,
+            step,
+            cleared,
+            None,
+            error,
+            asked,
+            &mut facts,
+            &mut changes,
+        )?;
+        if let Some(why) = refused {
+            drop(facts);
+            drop(changes);
+            return Ok(Marked::Refused(why));
+        }
+        Ok(Marked::Told(facts, changes, changed))
+    }
+
+    // The server is marked Unknown by the error, and the connection fails.
+    fn fail_marked(
+        &mut self,
+        alloc: Global,
+        step: &Step,
+        place: usize,
+        error: &Error,
+        clears: bool,
+    ) -> Result<Stepped, OutOfMemory>
+        requires stands { StandsForSome self.old }
+        requires in_time { self.old.pools.last ≤ step.now.moment }
+        requires there { place < length self.old.pools.cores.items }
+        requires failing { (s : Core) → slice_get self.old.pools.cores.items place ≡ Some s → IsFailing s step.now error.now }
+        requires here { (s : Core) → slice_get self.old.pools.cores.items place ≡ Some s → at_address self.old.pools.cores.items s.address ≡ Some place }
+        ensures same { self.new ≡ self.old }
+        ensures becomes { IfOk result (λ stepped. (h : List Item) (s : Core) → StandsFor self.old h → slice_get self.old.pools.cores.items place ≡ Some s → TellsFailure self.old.options h step.now s (Some (updates (failed s.address error.now))) (is_some (difference self.old.description.servers (updated self.old.description (failed s.address error.now)).servers) && clears) None error.now (asked_after error.now) → BecomesOf self.old step.now stepped h) }
+    {
+        let address = self.pools.cores[place].address().clone()?;
+        let later = self.after_error(alloc, &address, error)?;
+        let marked = self.tell_failure(alloc, step, place, &address, error, clears, &later);
+        match marked {
+            Ok(Marked::Told(facts, changes, _)) => Ok(Stepped::Accepted(Next {
+                facts,
+                changes,
+                description: Some(later),
+                ..Next::of_reply(alloc, Reply::Done)
+            })),
+            Ok(Marked::Refused(why)) => {
+                drop(later);
+                Ok(Stepped::Refused(why))
+            }
+            Err(e) => {
+                drop(later);
+                Err(e)
+            }
+        }
+    }
+
+    // A pending connection of the pool at the place fails.
+    fn fail_at(
+        &mut self,
+        alloc: Global,
+        step: &Step,
+        place: usize,
+        id: u32,
+        at: FailedAt,
+        error: &Error,
+    ) -> Result<Stepped, OutOfMemory>
+        requires stands { StandsForSome self.old }
+        requires in_time { self.old.pools.last ≤ step.now.moment }
+        requires act { step.now.act ≡ FailedAct place id at error.now }
+        requires there { place < length self.old.pools.cores.items }
+        requires failing { (s : Core) → slice_get self.old.pools.cores.items place ≡ Some s → IsFailing s step.now error.now }
+        ensures same { self.new ≡ self.old }
+        ensures becomes { IfOk result (λ stepped. (h : List Item) → StandsFor self.old h → BecomesOf self.old step.now stepped h) }
+    {
+        if self.leaves_failure(&self.pools.cores[place], id, at, error) {
+            return self.fail_unmarked(alloc, step, place, None, error);
+        }
+        if self.options.load_balanced {
+            let service = service_after(&self.pools.cores[place], id, at, error);
+            return self.fail_unmarked(alloc, step, place, service, error);
+        }
+        let clears = clears_after(&self.pools.cores[place], id, error);
+        self.fail_marked(alloc, step, place, error, clears)
+    }
+
+    /// A pending connection failed to be established (SDAM, "Error handling pseudocode").
+    pub(crate) fn connection_failed(
+        &mut self,
+        alloc: Global,
+        step: &Step,
+        number: u32,
+        id: u32,
+        at: FailedAt,
+        error: &Error,
+    ) -> Result<Stepped, OutOfMemory>
+        requires stands { StandsForSome self.old }
+        requires in_time { self.old.pools.last ≤ step.now.moment }
+        requires act { step.now.act ≡ FailedAct number id at error.now }
+        ensures same { self.new ≡ self.old }
+        ensures becomes { IfOk result (λ stepped. (h : List Item) → StandsFor self.old h → BecomesOf self.old step.now stepped h) }
+    {
+        let Some(place) = self.pools.numbered(number) else {
+            return Ok(Stepped::Refused(Refused::NotPending));
+        };
+        if let Some(why) = self.pools.cores[place].refusal_now(step) {
+            return Ok(Stepped::Refused(why));
+        }
+        self.fail_at(alloc, step, place, id, at, error)
+    }
+}
