@@ -28,7 +28,7 @@ use Rattle.mdb_topology.proofs.Alone.{here-alone, open-unclosed, is-there}
 use Rattle.mdb_topology.proofs.Free.{act-free}
 use Rattle.mdb_topology.proofs.Laws.{with-append}
 use Rattle.mdb_topology.proofs.TellingSteps.{told-first}
-use Rattle.mdb_laws.specs.Causes.{marks_of, changes, clears, known_after, difference_by, caused}
+use Rattle.mdb_laws.specs.Causes.{marks_of, changes, clears, described_after, difference_by, caused}
 use Rattle.mdb_laws.proofs.Marks.{Seen, own-number, same-number, marks-append, out-marks, is_opened, touches, spared, below-facts, same-homes}
 use Rattle.mdb_laws.proofs.Published.{IsSound, IsFresh}
 use Rattle.mdb_laws.proofs.Rules.{IsLater, rule-later, rule-marks, trouble-here, rule-says, marking-spares}
@@ -97,7 +97,7 @@ module _ (o : Options) (h : List Item) (m : ℕ) (act : Act) (driver : IsDriverA
   abbrev F : List Fact
   F = beat ++ in_turn m told j
 
-  first-marks : marks_of F ≡ changes o h (known_after o h step) (difference_by o h step)
+  first-marks : marks_of F ≡ changes o h (described_after o h step) (difference_by o h step)
   first-marks = marks-append beat (in_turn m told j) ∙ rw (heartbeat-marks o h act) (rule-says o m t h sound (rule_after o h step) later j fresh)
 
   abbrev n : List Item

@@ -28,7 +28,7 @@ use Rattle.mdb_topology.specs.Refusal.{refusal}
 use Rattle.mdb_topology.specs.Answer.{answer, answered, reply_to, pool_reply}
 use Rattle.mdb_topology.specs.Standing.{StandsFor}
 use Rattle.mdb_laws.specs.Stale.{after}
-use Rattle.mdb_laws.specs.Causes.{marks_of, changes, clears, known_after, difference_by, caused, gone, clears_among, HasCauses}
+use Rattle.mdb_laws.specs.Causes.{marks_of, changes, clears, described_after, difference_by, caused, gone, clears_among, HasCauses}
 use Rattle.mdb_laws.proofs.Gone.{open_after, open-marks, cleared-same}
 use Rattle.mdb_laws.proofs.OpenFor.{open-known}
 use Rattle.mdb_laws.proofs.Risen.{act-generation, raised_among, facts-generation}
@@ -96,10 +96,10 @@ module _ (w : TopologyCore) (h : List Item) (z : StandsFor w h) (m : ℕ) (act :
     open-is : (a : ServerAddress) → open_pool (after o h step) a ≡ open_after a (caused o h step) (open_pool h a)
     open-is a = ap (λ k. open_pool k a) after-is ∙ (open-marks a m F (did step reply ∷ h) ∙ ap (λ ms. open_after a ms (open_pool h a)) marks)
 
-    described : description_of o (after o h step) ≡ known_after o h step
+    described : description_of o (after o h step) ≡ described_after o h step
     described = ap (description_of o) after-is ∙ description-facts o m F (did step reply ∷ h)
 
-    open-then : (a : ServerAddress) → is_some (open_pool (after o h step) a) ≡ is_known a (known_after o h step).servers
+    open-then : (a : ServerAddress) → is_some (open_pool (after o h step) a) ≡ is_known a (described_after o h step).servers
     open-then a = ap is_some (open-is a) ∙ on (rule_after o h step)
       where
         on : (rule : Option Rule) → is_some (open_after a (changes o h (applied rule t) (change_by rule t) ++ clears o h (trouble o h step) (clear_of o h step)) (open_pool h a)) ≡ is_known a (applied rule t).servers
@@ -113,9 +113,9 @@ module _ (w : TopologyCore) (h : List Item) (z : StandsFor w h) (m : ℕ) (act :
         none None f = refl
         none (Some p) f = cc
 
-        on : (x : Option Diff) → difference_by o h step ≡ x → is_listed (gone x) a ≡ true → is_known a (known_after o h step).servers ≡ false
+        on : (x : Option Diff) → difference_by o h step ≡ x → is_listed (gone x) a ≡ true → is_known a (described_after o h step).servers ≡ false
         on None f g = cc
-        on (Some d) f g = (removed-known t.servers (known_after o h step).servers d (changed-by (rule_after o h step) t d f) a g).1
+        on (Some d) f g = (removed-known t.servers (described_after o h step).servers d (changed-by (rule_after o h step) t d f) a g).1
 
     risen : (p : ℕ) (s : Option ObjectId) → generation_of (of_pool p (after o h step)) s ≡ generation_of (of_pool p h) s + clears_among p s (caused o h step)
     risen p s = ap (λ k. generation_of (of_pool p k) s) after-is

@@ -20,11 +20,11 @@ use Rattle.mdb_topology.specs.Standing.{StandsFor}
 use Rattle.mdb_topology.proofs.Steps.{stale-error}
 use Rattle.mdb_topology.proofs.TellingSteps.{served-all}
 use Rattle.mdb_laws.specs.Alike.{IsWithoutEffect}
-use Rattle.mdb_laws.specs.Stale.{is_outdated, is_stale_error}
+use Rattle.mdb_laws.specs.Stale.{concerns_no_more, is_stale_error}
 use Rattle.mdb_laws.proofs.Alike.{error-alike}
 
 -- a complaint that is not current is no trouble
-pub outdated-none : (o : Options) (k : List Item) (t : TopologyDescription) (x : Option Complaint) → is_outdated o k t x ≡ true → complaint_trouble o k t x ≡ None
+pub outdated-none : (o : Options) (k : List Item) (t : TopologyDescription) (x : Option Complaint) → concerns_no_more o k t x ≡ true → complaint_trouble o k t x ≡ None
 outdated-none o k t None e = refl
 outdated-none o k t (Some x) e = on (is_current o k t x) refl e
   where

@@ -90,12 +90,12 @@ abbrev pub difference_by : Options → List Item → Step → Option Diff
 difference_by o h step = change_by (rule_after o h step) (description_of o h)
 
 -- what is known after it
-abbrev pub known_after : Options → List Item → Step → TopologyDescription
-known_after o h step = applied (rule_after o h step) (description_of o h)
+abbrev pub described_after : Options → List Item → Step → TopologyDescription
+described_after o h step = applied (rule_after o h step) (description_of o h)
 
 -- What becomes of pools by their causes, in order.
 abbrev pub caused : Options → List Item → Step → List Mark
-caused o h step = changes o h (known_after o h step) (difference_by o h step) ++ clears o h (trouble o h step) (clear_of o h step)
+caused o h step = changes o h (described_after o h step) (difference_by o h step) ++ clears o h (trouble o h step) (clear_of o h step)
 
 -- the servers that the step takes away
 abbrev pub gone : Option Diff → List ServerAddress

@@ -17,16 +17,16 @@ use Rattle.mdb_topology.specs.OfServers.{is_of_server}
 use Rattle.mdb_topology.specs.Answer.{answer}
 
 -- there is a complaint, and it is not current
-abbrev pub is_outdated : Options → List Item → TopologyDescription → Option Complaint → Bool
-is_outdated o k t None = false
-is_outdated o k t (Some x) = not (is_current o k t x)
+abbrev pub concerns_no_more : Options → List Item → TopologyDescription → Option Complaint → Bool
+concerns_no_more o k t None = false
+concerns_no_more o k t (Some x) = not (is_current o k t x)
 
 -- the error of an operation that concerns its server no more
 abbrev pub is_stale_error : Options → List Item → Step → Bool
 is_stale_error o h step = on step.act
   where
     on : Act → Bool
-    on (Do.Error r e) = is_outdated o (begun h step) (description_of o h) (complaint_of (begun h step) (Do.Error r e))
+    on (Do.Error r e) = concerns_no_more o (begun h step) (description_of o h) (complaint_of (begun h step) (Do.Error r e))
     on _ = false
 
 -- so of a connection that failed to be established
@@ -34,7 +34,7 @@ abbrev pub is_stale_failure : Options → List Item → Step → Bool
 is_stale_failure o h step = on step.act
   where
     on : Act → Bool
-    on (Do.Failed q c at e) = is_outdated o (begun h step) (description_of o h) (complaint_of (begun h step) (Do.Failed q c at e))
+    on (Do.Failed q c at e) = concerns_no_more o (begun h step) (description_of o h) (complaint_of (begun h step) (Do.Failed q c at e))
     on _ = false
 
 -- the history with the step and its answer
