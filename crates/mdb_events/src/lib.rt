@@ -32,3 +32,4 @@ pub use sdam::{
     TopologyClosedEvent, TopologyDescriptionChangedEvent, TopologyOpeningEvent,
 };
 pub use sdam_text::write_sdam;
+pub use words::{ServiceOrDash, SignedOrDash};

@@ -5,6 +5,7 @@ ghost use Rattle.std.specs.Prelude.{◌≡◌};
 use mdb_base::ObjectId;
 use std::fmt;
 
+/// A number, or a dash where there is none.
 #[derive(Drop)]
 pub struct NumberOrDash(pub Option<u64>);
 
@@ -33,6 +34,7 @@ impl fmt::Display for NumberOrDash {
     }
 }
 
+/// The id of a service, or a dash where there is none.
 #[derive(Drop)]
 pub struct ServiceOrDash(pub Option<ObjectId>);
 
@@ -50,6 +52,7 @@ impl fmt::Display for ServiceOrDash {
     }
 }
 
+/// A signed number, or a dash where there is none.
 #[derive(Drop)]
 pub struct SignedOrDash(pub Option<i64>);
 

@@ -54,9 +54,9 @@ impl fmt::Display for RefusedText {
     }
 }
 
-// A reply.
+/// A reply, as it stands in an entry's text.
 #[derive(Drop)]
-struct ReplyText<'a>(&'a Reply);
+pub struct ReplyText<'a>(pub &'a Reply);
 
 impl fmt::Display for ReplyText<'_> {
     ghost use Rattle.std.specs.Prelude.{Some};

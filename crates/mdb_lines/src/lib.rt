@@ -25,11 +25,12 @@ mod types;
 mod use_word;
 mod writing_loop;
 
-pub use entry_text::write_entry;
+pub use entry_text::{ReplyText, write_entry};
 pub use line_reading::read_line;
 pub use line_text::write_line;
 pub use mdb_parts::LineError;
 pub use reading_loop::{MAX_INPUT, cut_line, read_all};
+pub use rules::is_printable;
 pub use run_error::{RunError, Status, status_of};
 pub use status::{tell_error, tell_usage};
 pub use writing_loop::write_all;

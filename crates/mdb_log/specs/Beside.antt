@@ -1,21 +1,15 @@
--- What the log of a driver keeps beside its legality: the exact facts of its opening, the limits, and fresh grants.
-use Rattle.std.specs.Prelude.{ℕ, ◌≡◌, List, [], ◌∷◌, ⊤}
+-- What the log of a driver keeps beside its legality: the limits, and fresh grants.
+use Rattle.std.specs.Prelude.{ℕ, List, [], ◌∷◌, ⊤}
 use Rattle.mdb_events.specs.declared.fact.Fact.{Fact}
 use Rattle.mdb_events.specs.declared.fact.Fact.TheVariants.{Granted}
 use Rattle.mdb_log.specs.declared.options.PoolOptions.{PoolOptions}
 use Rattle.mdb_log.specs.declared.step.Act.{Act}
 use Rattle.mdb_log.specs.declared.step.Act.TheVariants.{Open}
 use Rattle.mdb_log.specs.declared.log.Entry.{Entry}
-use Rattle.mdb_log.specs.declared.reply.Reply.TheVariants.{Done}
 use Rattle.mdb_log.specs.History.{Item, did, made, of_pool, with_answer, history_of}
 use Rattle.mdb_log.specs.Limits.{WithinLimits}
 use Rattle.mdb_log.specs.Fresh.{GrantsFresh}
-use Rattle.mdb_log.specs.Opening.{pool_options, opening_answer}
-
--- The first entry is done, and has exactly the facts of opening its seeds.
-abbrev pub OpensExactly : List Entry → Type 0
-OpensExactly [] = ⊤
-OpensExactly (first ∷ log) = (first.reply ≡ Done) × (first.facts ≡ (opening_answer first.step.act).facts)
+use Rattle.mdb_log.specs.Opening.{pool_options}
 
 -- in every pool, within the limits at each of its items
 abbrev pub IsWithinLimits : PoolOptions → List Item → Type 0
@@ -53,9 +47,3 @@ FreshOf _ h log = ⊤
 abbrev pub GrantsAllFresh : List Entry → Type 0
 GrantsAllFresh [] = ⊤
 GrantsAllFresh (first ∷ log) = FreshOf first.step.act (history_of (first ∷ [])) log
-
--- What a log keeps beside its legality.
-pub record IsKept (log : List Entry) : Type 0 where
-  pub exact : OpensExactly log
-  pub within : KeepsLimits log
-  pub fresh : GrantsAllFresh log

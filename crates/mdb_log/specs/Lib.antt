@@ -14,3 +14,8 @@ pub mod Homes
 pub mod Opening
 pub mod LegalLog
 pub mod Beside
+pub mod PlainConnections
+pub mod PlainRequests
+pub mod PlainHolders
+pub mod PlainState
+pub mod PlainLegal
