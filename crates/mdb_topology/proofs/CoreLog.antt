@@ -38,11 +38,6 @@ pub in-either : {T E : Type 0} (r : Result T E) (L M K : Type 0) → OnOk r L �
 in-either (Ok x) L M K l m f g = f l
 in-either (Err e) L M K l m f g = g m
 
--- an act of a caller opens no driver
-pub driver-later : (act : Act) → IsDriverAct act → is_opening act ≡ false
-driver-later (Do.Open q) d = absurd d
-driver-later _ d = refl
-
 -- what a driver knows is what its log tells
 pub described-is : (w : TopologyCore) (log : List Entry) → IsDriverOf w log → w.description ≡ described log
 described-is w log z = sym z.stands.described.known ∙ ap (λ q. description_of q (history_of log)) (sym (options-are w log z))
@@ -64,7 +59,7 @@ module _ (w v : TopologyCore) (log later : List Entry) (seat : ℕ) (step : Step
   logged = logs h z.stands
 
   pub still-driver : IsDriverOf v later
-  still-driver = (adds w v log later seat step z same logged (driver-later step.act d)).1
+  still-driver = (adds w v log later seat step z same logged d).1
 
   module _ (reply : Reply) (told : reply ≡ its_reply) where
     pub core-entry : (e : Entry) × IsEntry seat step reply e × (later ≡ log ++ e ∷ [])

@@ -15,14 +15,10 @@ use Rattle.mdb_topology.specs.declared.topology.TopologyCore.{TopologyCore}
 use Rattle.mdb_topology.specs.Lines.{entry_after, options_in}
 use Rattle.mdb_topology.specs.Standing.{StandsFor, IsSame}
 use Rattle.mdb_topology.specs.Stepping.{is_driver_act, Logs}
-use Rattle.mdb_topology.specs.Logging.{opening_step, IsDriverOf, IsKept}
+use Rattle.mdb_topology.specs.Logging.{opening_step, Stood, AreDriven, IsDriverOf, IsKept}
 use Rattle.mdb_topology.specs.Driving.{IsTaken, IsFirstStep, Holds}
+use Rattle.mdb_topology.proofs.DriverActs.{driver-act}
 use Rattle.mdb_topology.proofs.Logged.{same-stands, adds}
-
--- an act that is built opens nothing
-pub built-later : (a : Act) → is_driver_act a ≡ true → is_opening a ≡ false
-built-later (Do.Open o) e = cc
-built-later _ e = refl
 
 legal-opened : (w : TopologyCore) (log : List Entry) → IsDriverOf w log → IsLegalLog log
 legal-opened w log z = subst IsLegalLog (sym z.logged) (record { opens = z.opens; alone = z.later; orderly = z.orderly; legal = z.legal })
@@ -31,10 +27,10 @@ kept-opened : (w : TopologyCore) (log : List Entry) → IsDriverOf w log → IsK
 kept-opened w log z =
     subst IsKept (sym z.logged) (record { within = subst (λ es. (p : ℕ) → WithinLimits (pool_options w.options) (of_pool p (history_of es))) z.logged z.stands.pools.within; fresh = z.fresh })
 
--- a step that is taken after the first is one that is built
-pub taken-built : (w : TopologyCore) (log : List Entry) (step : Step) → IsDriverOf w log → IsTaken log step → is_driver_act step.act ≡ true
-taken-built w [] step z t = let e : ◌≡◌ {A = List Entry} [] (entry_after z.seat [] (opening_step w.options) ∷ z.entries) = z.logged in absurd (cc)
-taken-built w (first ∷ log) step z t = t
+-- a step that is taken after the first has an act of a driver
+pub taken-act : (w : TopologyCore) (log : List Entry) (step : Step) → IsDriverOf w log → IsTaken log step → is_driver_act step.act ≡ true
+taken-act w [] step z t = let e : ◌≡◌ {A = List Entry} [] (entry_after z.seat [] (opening_step w.options) ∷ z.entries) = z.logged in absurd (cc)
+taken-act w (first ∷ log) step z t = t
 
 pub legal-log : (core : Option TopologyCore) (log : List Entry) → Holds core log → IsLegalLog log
 legal-log None log h = subst IsLegalLog (sym h) tt
@@ -53,6 +49,8 @@ still-opened w v log z e =
       seat = z.seat;
       entries = z.entries;
       logged = subst (λ q. log ≡ entry_after z.seat [] (opening_step q) ∷ z.entries) back z.logged;
+      began = subst (λ q. Stood q (entry_after z.seat [] (opening_step q) ∷ [])) back z.began;
+      driven = subst (λ q. AreDriven q (entry_after z.seat [] (opening_step q) ∷ []) z.entries) back z.driven;
       opens = subst (λ q. OpensSeeds q (history_of (entry_after z.seat [] (opening_step q) ∷ []))) back z.opens;
       later = z.later;
       orderly = subst (λ q. IsOrderly (pool_options q) (history_of (entry_after z.seat [] (opening_step q) ∷ []))) back z.orderly;
@@ -64,7 +62,7 @@ still-opened w v log z e =
 -- a step of the driver
 pub steps-opened : (w v : TopologyCore) (log after : List Entry) (step : Step) → IsDriverOf w log → IsTaken log step → v.options ≡ w.options
     → ((h : List Item) → StandsFor w h → Logs w v log after 0 step h) → (after ≡ log ++ entry_after 0 log step ∷ []) × IsDriverOf v after
-steps-opened w v log after step z t same logs = adds w v log after 0 step z same (logs (history_of log) z.stands) (built-later step.act (taken-built w log step z t))
+steps-opened w v log after step z t same logs = adds w v log after 0 step z same (logs (history_of log) z.stands) (driver-act step.act (taken-act w log step z t))
 
 -- an open driver stands for the log
 pub opened-of : (core : Option TopologyCore) (w : TopologyCore) (log : List Entry) → core ≡ Some w → Holds core log → IsDriverOf w log

@@ -27,9 +27,9 @@ topology-rest (Do.Unpin q c) d e = cc
 topology-rest _ d e = refl
 
 -- a line that may come is one of them
-pub built-driver : (a : Act) → is_driver_act a ≡ true → IsDriverAct a
-built-driver (Do.Open o) e = absurd (cc)
-built-driver (Do.Ready p) e = absurd (cc)
-built-driver (Do.Clear p service error) e = absurd (cc)
-built-driver (Do.Close p) e = absurd (cc)
-built-driver _ e = tt
+pub driver-act : (a : Act) → is_driver_act a ≡ true → IsDriverAct a
+driver-act (Do.Open o) e = absurd (cc)
+driver-act (Do.Ready p) e = absurd (cc)
+driver-act (Do.Clear p service error) e = absurd (cc)
+driver-act (Do.Close p) e = absurd (cc)
+driver-act _ e = tt

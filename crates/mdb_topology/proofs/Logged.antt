@@ -1,13 +1,18 @@
 -- The log of a driver, and one more step of it.
-use Rattle.std.proofs.Common.{ℕ, ◌≡◌, ◌≤◌, ◌+◌, ◌^◌, ◌||◌, false, List, [], ◌∷◌, ◌++◌, length, Option, Some, None, is_some, refl, sym, ◌∙◌, ap, subst, arith, inl}
+use Rattle.std.proofs.Common.{ℕ, ◌≡◌, ◌≤◌, ◌+◌, ◌^◌, ◌||◌, false, List, [], ◌∷◌, ◌++◌, length, Option, Some, None, is_some, refl, sym, ◌∙◌, ap, subst, arith, inl, append_assoc}
 use Rattle.std.specs.Prelude.{slice_get, unwrap_or, All}
+use Rattle.std.proofs.lemmas.List.{append-nil}
 use Rattle.std.proofs.lemmas.List.Elements.{All-push}
 use Rattle.mdb_base.specs.OptionRules.{broken_rule}
+use Rattle.mdb_base.specs.declared.options.Options.{Options}
 use Rattle.mdb_log.specs.declared.options.PoolOptions.{PoolOptions}
 use Rattle.mdb_log.specs.declared.log.Entry.{Entry}
 use Rattle.mdb_log.specs.declared.step.Step.{Step}
 use Rattle.mdb_log.specs.declared.reply.Reply.TheVariants.{Refused as RefusedBy}
 use Rattle.mdb_log.specs.declared.reply.Refused.{Refused}
+use Rattle.mdb_log.specs.declared.step.Act.{Act}
+use Rattle.mdb_log.specs.declared.step.Act.TheVariants as Do
+use Rattle.mdb_log.specs.Acts.{IsDriverAct}
 use Rattle.mdb_log.specs.Connections.{one_if}
 use Rattle.mdb_log.specs.History.{Item, did, of_pool, with_answer, with_entries, history_of}
 use Rattle.mdb_log.specs.Opening.{is_opening, pool_options}
@@ -28,7 +33,7 @@ use Rattle.mdb_topology.specs.Checking.{monitors_after, numbers_after, watchers_
 use Rattle.mdb_topology.specs.Planned.{LeadsAll}
 use Rattle.mdb_topology.specs.Standing.{PoolFits, PoolsStand, StandsFor, IsSame}
 use Rattle.mdb_topology.specs.Stepping.{Follows, Logs}
-use Rattle.mdb_topology.specs.Logging.{opening_step, IsDriverOf}
+use Rattle.mdb_topology.specs.Logging.{opening_step, Stood, IsDriven, AreDriven, IsDriverOf}
 
 -- the same state stands for the same
 pub same-stands : (w v : TopologyCore) (h : List Item) → IsSame w v → StandsFor w h → StandsFor v h
@@ -115,10 +120,20 @@ fresh-append : (o : PoolOptions) (es : List Entry) (e : Entry) (h : List Item) �
 fresh-append o [] e h l fresh = (fresh, tt)
 fresh-append o (d ∷ es) e h l fresh = (l.0, fresh-append o es e (with_answer d.step d.reply d.facts h) l.1 fresh)
 
+-- one more entry that a driver made
+driven-append : (o : Options) (log es : List Entry) (e : Entry) → AreDriven o log es → IsDriven o (log ++ es) e → AreDriven o log (es ++ e ∷ [])
+driven-append o log [] e are is = (subst (λ l. IsDriven o l e) (append-nil log) is, tt)
+driven-append o log (d ∷ es) e are is = (are.0, driven-append o (log ++ d ∷ []) es e are.1 (subst (λ l. IsDriven o l e) (sym (append_assoc log (d ∷ []) es)) is))
+
+-- an act of a driver's callers opens nothing
+pub opens-nothing : (act : Act) → IsDriverAct act → is_opening act ≡ false
+opens-nothing (Do.Open q) d = absurd d
+opens-nothing _ d = refl
+
 -- the entry of one more step
-pub adds : (w v : TopologyCore) (log after : List Entry) (seat : ℕ) (step : Step) → IsDriverOf w log → v.options ≡ w.options → Logs w v log after seat step (history_of log) → is_opening step.act ≡ false
+pub adds : (w v : TopologyCore) (log after : List Entry) (seat : ℕ) (step : Step) → IsDriverOf w log → v.options ≡ w.options → Logs w v log after seat step (history_of log) → IsDriverAct step.act
     → (after ≡ log ++ entry_after seat log step ∷ []) × IsDriverOf v after
-adds w v log after seat step z same l others =
+adds w v log after seat step z same l d =
     let o : PoolOptions = pool_options w.options in
     let h : List Item = history_of log in
     let first : Entry = entry_after z.seat [] (opening_step w.options) in
@@ -130,6 +145,11 @@ adds w v log after seat step z same l others =
     let mine : entry_after seat log step ≡ e = ap (λ a. record { seat = seat; step = step; reply = a.reply; facts = a.facts }) told in
     let added : after ≡ first ∷ (z.entries ++ e ∷ []) = l.entry ∙ ap (λ es. es ++ e ∷ []) z.logged in
     let now : with_answer e.step e.reply e.facts h ≡ history_of after = ap (with_answer e.step e.reply e.facts) known ∙ (sym (with_entries-append z.entries e h0) ∙ ap history_of (sym added)) in
+    let is : IsDriven w.options (first ∷ z.entries) e = record {
+      answers = sym (subst (λ es. entry_after seat es step ≡ e) z.logged mine);
+      taken = d;
+      stood = record { driver = v; own = same; stands = subst (StandsFor v) (now ∙ ap history_of added) l.stands };
+    } in
     let order : IsOrderly o (with_answer e.step e.reply e.facts h) = subst (λ q. IsOrderly (pool_options q) (with_answer e.step e.reply e.facts h)) same (orderly (pool_options v.options) v.pools.cores.items (with_answer e.step e.reply e.facts h) l.stands.pools) in (
       l.entry ∙ ap (λ d. log ++ d ∷ []) (sym mine),
       record {
@@ -137,8 +157,10 @@ adds w v log after seat step z same l others =
         seat = z.seat;
         entries = z.entries ++ e ∷ [];
         logged = subst (λ q. after ≡ entry_after z.seat [] (opening_step q) ∷ (z.entries ++ e ∷ [])) back added;
+        began = subst (λ q. Stood q (entry_after z.seat [] (opening_step q) ∷ [])) back z.began;
+        driven = subst (λ q. AreDriven q (entry_after z.seat [] (opening_step q) ∷ []) (z.entries ++ e ∷ [])) back (driven-append w.options (first ∷ []) z.entries e z.driven is);
         opens = subst (λ q. OpensSeeds q (history_of (entry_after z.seat [] (opening_step q) ∷ []))) back z.opens;
-        later = All-push (λ (d : Entry). is_opening d.step.act ≡ false) z.entries e z.later others;
+        later = All-push (λ (d : Entry). is_opening d.step.act ≡ false) z.entries e z.later (opens-nothing step.act d);
         orderly = subst (λ q. IsOrderly (pool_options q) (history_of (entry_after z.seat [] (opening_step q) ∷ []))) back z.orderly;
         legal = subst (λ q. IsLegal (pool_options q) (history_of (entry_after z.seat [] (opening_step q) ∷ [])) (z.entries ++ e ∷ [])) back
             (legal-append o z.entries e h0 z.legal (subst (λ k. IsFairAnswer k e.step e.reply e.facts) known l.fair) (subst (λ k. IsOrderly o (with_answer e.step e.reply e.facts k)) known order));

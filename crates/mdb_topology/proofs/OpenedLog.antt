@@ -20,7 +20,7 @@ use Rattle.mdb_pool.specs.declared.pool_core.PoolCore.{PoolCore}
 use Rattle.mdb_topology.specs.declared.topology.TopologyCore.{TopologyCore}
 use Rattle.mdb_topology.specs.Description.{begins_with}
 use Rattle.mdb_topology.specs.Lines.{entry_after}
-use Rattle.mdb_topology.specs.Logging.{opening_step, IsDriverOf}
+use Rattle.mdb_topology.specs.Logging.{opening_step, Stood, IsDriverOf}
 use Rattle.mdb_topology.specs.Monitors.{setting}
 use Rattle.mdb_topology.specs.Opening.{IsOpened}
 use Rattle.mdb_topology.specs.Standing.{StandsFor}
@@ -51,6 +51,8 @@ module _ (o : Options) (kept : broken_rule o ≡ None) (pools : List PoolCore) (
         seat = seat;
         entries = [];
         logged = subst (λ q. entry_after seat [] (opening_step o) ∷ [] ≡ entry_after seat [] (opening_step q) ∷ []) back refl;
+        began = subst (λ q. Stood q (entry_after seat [] (opening_step q) ∷ [])) back (record { driver = w; own = e1; stands = subst (λ e. StandsFor w (history_of (e ∷ []))) same stands });
+        driven = tt;
         opens = subst (λ q. OpensSeeds q (history_of (entry_after seat [] (opening_step q) ∷ []))) back (subst (λ e. OpensSeeds o (history_of (e ∷ []))) same seeds);
         later = All-nil (λ (d : Entry). is_opening d.step.act ≡ false);
         orderly = subst (λ q. IsOrderly (pool_options q) (history_of (entry_after seat [] (opening_step q) ∷ []))) back (subst (λ e. IsOrderly (pool_options o) (history_of (e ∷ []))) same order);

@@ -1,10 +1,11 @@
 -- When a driver stands for a log, and which steps may come after one.
-use Rattle.std.specs.Prelude.{ℕ, ◌≡◌, false, List, [], ◌∷◌, All, None}
+use Rattle.std.specs.Prelude.{ℕ, ◌≡◌, false, List, [], ◌∷◌, ◌++◌, All, None, ⊤}
 use Rattle.mdb_base.specs.declared.options.Options.{Options}
 use Rattle.mdb_base.specs.OptionRules.{broken_rule}
 use Rattle.mdb_log.specs.declared.log.Entry.{Entry}
 use Rattle.mdb_log.specs.declared.step.Step.{Step}
 use Rattle.mdb_log.specs.declared.step.Act.TheVariants as act
+use Rattle.mdb_log.specs.Acts.{IsDriverAct}
 use Rattle.mdb_log.specs.History.{history_of}
 use Rattle.mdb_log.specs.Opening.{is_opening, pool_options}
 use Rattle.mdb_log.specs.LegalLog.{IsOrderly, IsLegal, OpensSeeds}
@@ -17,12 +18,31 @@ use Rattle.mdb_topology.specs.Standing.{StandsFor}
 abbrev pub opening_step : Options → Step
 opening_step o = record { moment = 0; act = act.Open o }
 
--- The log is that of a driver which was opened by its first entry, and then took the steps of the others.
+-- Some driver with these options stood for the log.
+pub record Stood (o : Options) (log : List Entry) : Type 0 where
+  pub driver : TopologyCore
+  pub own : driver.options ≡ o
+  pub stands : StandsFor driver (history_of log)
+
+-- The entry is the answer to its step after the log, whichever seat made it. The step is one that a driver takes, and some driver stood for the log with the entry.
+pub record IsDriven (o : Options) (log : List Entry) (e : Entry) : Type 0 where
+  pub answers : e ≡ entry_after e.seat log e.step
+  pub taken : IsDriverAct e.step.act
+  pub stood : Stood o (log ++ e ∷ [])
+
+-- so is each of the entries, after the log and those before it
+abbrev pub AreDriven : Options → List Entry → List Entry → Type 0
+AreDriven o log [] = ⊤
+AreDriven o log (e ∷ es) = IsDriven o log e × AreDriven o (log ++ e ∷ []) es
+
+-- The log is that of a driver which was opened by its first entry, and then took the steps of the others, each with its answer.
 pub record IsDriverOf (w : TopologyCore) (log : List Entry) : Type 0 where
   pub fits : broken_rule w.options ≡ None
   pub seat : ℕ
   pub entries : List Entry
   pub logged : log ≡ entry_after seat [] (opening_step w.options) ∷ entries
+  pub began : Stood w.options (entry_after seat [] (opening_step w.options) ∷ [])
+  pub driven : AreDriven w.options (entry_after seat [] (opening_step w.options) ∷ []) entries
   pub opens : OpensSeeds w.options (history_of (entry_after seat [] (opening_step w.options) ∷ []))
   pub later : All (λ e. is_opening e.step.act ≡ false) entries
   pub orderly : IsOrderly (pool_options w.options) (history_of (entry_after seat [] (opening_step w.options) ∷ []))

@@ -11,17 +11,23 @@ use mdb_log::{ConnectionGeneration, PoolStamp};
 pub enum HandshakePhase {
     /// The server has not answered the hello: the connection carries the generation of its pool.
     PreHello {
+        /// That of the pool when the connection was created.
         generation: PoolStamp,
     },
     /// The server answered the hello, and the handshake isn't over.
     PostHello {
+        /// The number of the pool.
         pool: u32,
+        /// That of the pool when the connection was created; behind a load balancer that of its service.
         generation: ConnectionGeneration,
     },
     /// The handshake is over, and told the greatest wire version of the server.
     AfterCompletion {
+        /// The number of the pool.
         pool: u32,
+        /// That of the pool when the connection was created; behind a load balancer that of its service.
         generation: ConnectionGeneration,
+        /// What the server told as `maxWireVersion`.
         max_wire_version: i32,
     },
 }

@@ -1,8 +1,8 @@
 use Rattle.std.proofs.Common.{sym, subst}
 use Rattle.mdb_topology.proofs.driver.Driver.step.Goals as goal
 use Rattle.mdb_topology.specs.Logging.{IsDriverOf}
-use Rattle.mdb_topology.proofs.Driven.{opened-of, still-opened, steps-opened, taken-built}
-use Rattle.mdb_topology.proofs.DriverActs.{built-driver}
+use Rattle.mdb_topology.proofs.Driven.{opened-of, still-opened, steps-opened, taken-act}
+use Rattle.mdb_topology.proofs.DriverActs.{driver-act}
 
 pub returns-in_err-reply-in-Some-clause-stands : goal.returns-in_err-reply-in-Some-clause-stands
 returns-in_err-reply-in-Some-clause-stands c =
@@ -28,4 +28,4 @@ returns-in_ok-reply-in-Some-clause-stands c =
     both.1
 
 pub step-requires-clause-act : goal.step-requires-clause-act
-step-requires-clause-act c = built-driver c.args.step.now.act (taken-built c.in-Some.core c.args.log.now c.args.step.now (opened-of c.args.self.now.core c.in-Some.core c.args.log.now c.in-Some.is c.requires.stands) c.requires.taken)
+step-requires-clause-act c = driver-act c.args.step.now.act (taken-act c.in-Some.core c.args.log.now c.args.step.now (opened-of c.args.self.now.core c.in-Some.core c.args.log.now c.in-Some.is c.requires.stands) c.requires.taken)
