@@ -53,7 +53,7 @@ module _ (p : ℕ) (a : ServerAddress) (o : PoolOptions) (m : ℕ) (xs : List Po
   fine = (s, calm-rested xs z)
 
   -- the facts of the act itself
-  act-fine : (act : Act) (ys : List PoolItem) → Done m xs act ys → Fine (after_facts p m (act_facts p a o m xs ys act) ys)
+  pub act-fine : (act : Act) (ys : List PoolItem) → Done m xs act ys → Fine (after_facts p m (act_facts p a o m xs ys act) ys)
   act-fine act ys (requests r b w) = asked-fine p a o m xs fine r w
   act-fine act ys (warms r b w) = warmed-fine p a o m xs fine r w
   act-fine act ys (gives_up r w) = on (is_some (end_of xs r)) refl

@@ -92,7 +92,7 @@ module _ (p : ℕ) (a : ServerAddress) (o : PoolOptions) (m : ℕ) where
   unshut-state ws s not_closed = on (was_closed ws) refl
     where
       on : (b : Bool) → was_closed ws ≡ b → was_closed ws ≡ false
-      on true f = absurd (not_closed (closed-for-good o ws s f))
+      on true f = absurd (not_closed ((closed-for-good o ws s f).stays_closed))
       on false f = f
 
   pub back-of : (ws ys : List PoolItem) (c : ℕ) → Sound ws → Back ws ys c

@@ -28,7 +28,7 @@ pub open-ready : (o : PoolOptions) (xs : List PoolItem) → Sound xs → ready (
 open-ready o xs s e = on (was_closed xs) refl
   where
     on : (b : Bool) → was_closed xs ≡ b → was_closed xs ≡ false
-    on true f = let g : state_of o xs ≡ is_closed = closed-for-good o xs s f in let h : ready (state_of o xs) ≡ false = ap ready g in cc
+    on true f = let g : state_of o xs ≡ is_closed = (closed-for-good o xs s f).stays_closed in let h : ready (state_of o xs) ≡ false = ap ready g in cc
     on false f = f
 
 pub unused-free : (xs : List PoolItem) (c : ℕ) → parties xs c ≡ [] → in_use xs c ≡ false

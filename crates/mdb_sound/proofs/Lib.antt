@@ -18,3 +18,4 @@ pub mod Closings
 pub mod Acts
 pub mod Leaving
 pub mod Pools
+pub mod Earlier

@@ -157,7 +157,7 @@ module _ (s : PoolCore) (h : List Item) (z : StandsFor s h) (sound : Sound (of_p
       on : (b : Bool) → was_closed (of_pool s.pool h) ≡ b → was_closed (of_pool s.pool h) ≡ false
       on false f = f
       on true f =
-          let t : state_in s.status ≡ is_closed = sym z.fits.matches.clearing.status ∙ closed-for-good s.options (of_pool s.pool h) sound f in
+          let t : state_in s.status ≡ is_closed = sym z.fits.matches.clearing.status ∙ (closed-for-good s.options (of_pool s.pool h) sound f).stays_closed in
           let k : is_shut s.status ≡ true = state-shut s.status t in
           let none : open_pool h a ≡ None = z.open_here a ∙ rw k (shut-none (same_address s.address a)) in
           let g : is_number (open_pool h a) s.pool ≡ false = rw none refl in

@@ -1,5 +1,5 @@
 -- The laws of a pool's history, each a sentence.
-use Rattle.std.specs.Prelude.{ℕ, ◌≡◌, ◌+◌, ◌<◌, ◌≤◌, true, false, not, ◌&&◌, nat_lt, nat_le, is_some, List, ◌∷◌, ◌++◌, Option, length, filter}
+use Rattle.std.specs.Prelude.{[], ℕ, ◌≡◌, ◌+◌, ◌<◌, ◌≤◌, true, false, not, ◌&&◌, nat_lt, nat_le, is_some, List, ◌∷◌, ◌++◌, Option, length, filter}
 use Rattle.mdb_base.specs.declared.object_id.ObjectId.{ObjectId}
 use Rattle.mdb_base.specs.declared.error.Error.{Error}
 use Rattle.mdb_log.specs.declared.options.PoolOptions.{PoolOptions}
@@ -52,6 +52,12 @@ pub record GenerationLaws (xs : List PoolItem) (s : Option ObjectId) : Type 0 wh
   pub others_stay : (t : Option ObjectId) (error : Error) → same_service t s ≡ false → generation_of (raised t error ∷ xs) s ≡ generation_of xs s
   pub own_rises : (t : Option ObjectId) (error : Error) → same_service t s ≡ true → generation_of (raised t error ∷ xs) s ≡ generation_of xs s + 1
 
--- A pool that was closed stays so.
+-- A pool that was closed stays so, without pending and available connections and without a queue.
+pub record IsOver (o : PoolOptions) (xs : List PoolItem) : Type 0 where
+  pub stays_closed : state_of o xs ≡ is_closed
+  pub none_pending : pending_list xs ≡ []
+  pub none_available : available_list xs ≡ []
+  pub none_queued : queued xs ≡ []
+
 abbrev pub ClosedForGood : PoolOptions → List PoolItem → Type 0
-ClosedForGood o xs = was_closed xs ≡ true → state_of o xs ≡ is_closed
+ClosedForGood o xs = was_closed xs ≡ true → IsOver o xs

@@ -19,9 +19,11 @@ abbrev pub just_created : List PoolItem → ℕ → Bool
 just_created (created d m ∷ xs) c = d == c
 just_created _ c = false
 
--- the last item says that it could not be established
+-- the last item but for a clear and ends says that it could not be established: such a failure may clear the pool before its connection is closed
 abbrev pub just_failed : List PoolItem → ℕ → Bool
 just_failed (failed d service ∷ xs) c = d == c
+just_failed (raised service error ∷ xs) c = just_failed xs c
+just_failed (ended r end ∷ xs) c = just_failed xs c
 just_failed _ c = false
 
 -- the last item is the give-up of the party
@@ -37,10 +39,11 @@ has_left (returned q used ∷ xs) r = (q == r) || has_left xs r
 has_left (_ ∷ xs) r = has_left xs r
 
 -- In use: a caller holds the connection, not a warm request, and it isn't the one that just failed, whose request is about to end.
+-- That no one holds a connection that is closed would be too much: by created 1, granted 2 1, failed 1 the request 2 holds it, for it ends only after closed 1; and a warm request ends as filled only after the check-in.
 abbrev pub in_use : List PoolItem → ℕ → Bool
 in_use xs c = not (has c (pending_list xs)) && (not (just_failed xs c) && list_any (λ r. not (is_warm xs r)) (parties xs c))
 
--- the connection that the request has was closed while it waited for it
+-- the connection that the request has was closed while it waited for it; so it is not pending any more when the request ends
 abbrev pub lost : List PoolItem → ℕ → Bool
 lost xs r = on (given xs r)
   where
@@ -56,7 +59,7 @@ is_filled xs r = on (given xs r)
     on None = false
     on (Some c) = not (has c (pending_list xs))
 
--- A party holds a connection, which lives.
+-- A party holds a connection, which lives. Between a pool's close and the ends of its requests the pending connections are held and closed.
 pub record Holds (xs : List PoolItem) (r : ℕ) : Type 0 where
   pub connection : ℕ
   pub holds : holding xs r ≡ Some connection
@@ -107,6 +110,13 @@ pub record MayGrant (xs : List PoolItem) (r c : ℕ) : Type 0 where
   pub warmly : is_warm xs r ≡ true → just_created xs c ≡ true
   pub unshut : was_closed xs ≡ false
 
+-- A pool is closed once; then none of its connections is pending or available, and no request is queued.
+pub record MayShut (xs : List PoolItem) : Type 0 where
+  pub unshut : was_closed xs ≡ false
+  pub none_pending : pending_list xs ≡ []
+  pub none_available : available_list xs ≡ []
+  pub none_queued : queued xs ≡ []
+
 -- How a request ends: cleared or closed while it is queued, after too long a wait as a caller, as a warm one that isn't wanted or whose connection is established, with its connection, or right at its give-up.
 abbrev pub EndsSo : List PoolItem → ℕ → End → Type 0
 EndsSo xs r (Cleared error) = has r (queued xs) ≡ true
@@ -147,7 +157,7 @@ IsSound xs (ended r end) = MayEnd xs r end
 IsSound xs (raised service error) = was_closed xs ≡ false
 IsSound xs pool_created = xs ≡ []
 IsSound xs pool_ready = was_closed xs ≡ false
-IsSound xs pool_closed = was_closed xs ≡ false
+IsSound xs pool_closed = MayShut xs
 
 -- Sound: each of the items may come after those before it.
 abbrev pub Sound : List PoolItem → Type 0

@@ -1,6 +1,6 @@
 //! What holds of a sound history of a pool: each of its items may come after those before it (CMAP, "Connection", "Connection Pool").
 
-ghost use Rattle.std.specs.Prelude.{ℕ, List, ◌∷◌, Option};
+ghost use Rattle.std.specs.Prelude.{ℕ, List, ◌∷◌, ◌++◌, Option};
 ghost use Rattle.mdb_base.specs.declared.object_id.ObjectId.{ObjectId};
 ghost use Rattle.mdb_log.specs.declared.options.PoolOptions.{PoolOptions};
 ghost use Rattle.mdb_log.specs.History.{PoolItem};
@@ -38,7 +38,12 @@ pub fn generations_never_fall()
     ensures { (xs : List PoolItem) (s : Option ObjectId) → GenerationLaws xs s }
 {}
 
-/// A pool that was closed stays closed.
+/// A pool that was closed stays closed. It has no pending and no available connection, and no request is queued.
 pub fn closed_pools_stay_closed()
     ensures { (o : PoolOptions) (xs : List PoolItem) → Sound xs → ClosedForGood o xs }
+{}
+
+/// A history is sound at every moment before, so that each law holds then too.
+pub fn earlier_histories_are_sound()
+    ensures { (later xs : List PoolItem) → Sound (later ++ xs) → Sound xs }
 {}

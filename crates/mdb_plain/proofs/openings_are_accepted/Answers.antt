@@ -1,0 +1,5 @@
+use Rattle.mdb_plain.proofs.Accepted.{opening-accepted}
+use Rattle.mdb_plain.proofs.openings_are_accepted.Goals as goal
+
+pub returns : goal.returns
+returns c = opening-accepted
