@@ -1,0 +1,4 @@
+pub mod Hands
+pub mod Living
+pub mod Rising
+pub mod Slips

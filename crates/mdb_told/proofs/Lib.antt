@@ -1,0 +1,4 @@
+mod Accepted
+mod Once
+mod Outcomes
+mod Logs
