@@ -18,7 +18,10 @@ use Rattle.mdb_topology.specs.Stepping.{is_driver_act}
 use Rattle.mdb_topology.specs.Driving.{may_come}
 use Rattle.mdb_topology.specs.Lines.{entry_after, log_of, log_after, steps_of}
 use Rattle.mdb_log.specs.LegalLog.{IsLegalLog}
+use Rattle.mdb_log.specs.History.{history_of}
+use Rattle.mdb_log.specs.PlainLegal.{LegalLog}
 use Rattle.mdb_topology.specs.Logging.{IsKept}
+use Rattle.mdb_histories.specs.SoundHistory.{SoundHistory}
 use Rattle.mdb_runs.specs.Runs.{IsWithin, Begins, IsNextLine, IsBad, LineRuns, Ran, RunEnds, Seen, Ended}
 
 -- what holds between two lines
@@ -98,10 +101,10 @@ goes_on input rest line behind n log new_log held mid new_held faults old_faults
     }
 
 pub done : (input : List ℕ) (n : ℕ) (log : List Entry) (held new_held : Option Held) (faults new_faults : ℕ) (rest : List ℕ) → length rest ≡ 0
-    → Between input rest n log held new_held faults new_faults → IsLegalLog log → IsKept log → Ran input log held new_held faults new_faults
+    → Between input rest n log held new_held faults new_faults → IsLegalLog log → LegalLog log → IsKept log → SoundHistory (history_of log) → Ran input log held new_held faults new_faults
 unfolding lines_of
-done input n log held new_held faults new_faults [] none s legal kept = record { begins = s.begins; answers = s.answers; legal = legal; kept = kept; taken = s.taken; same = s.same }
-done input n log held new_held faults new_faults (b ∷ bs) none s legal kept = absurd (omega arith)
+done input n log held new_held faults new_faults [] none s legal plain kept sound = record { begins = s.begins; answers = s.answers; legal = legal; plain = plain; kept = kept; sound = sound; taken = s.taken; same = s.same }
+done input n log held new_held faults new_faults (b ∷ bs) none s legal plain kept sound = absurd (omega arith)
 
 -- the line that is next ends the run
 pub line_ends : (input rest line behind : List ℕ) (n : ℕ) (log new_log : List Entry) (held mid new_held : Option Held) (faults old_faults new_faults : ℕ) (e : RunError)

@@ -14,7 +14,10 @@ use Rattle.mdb_topology.specs.Stepping.{is_driver_act}
 use Rattle.mdb_topology.specs.Driving.{opens_seeds, may_come}
 use Rattle.mdb_topology.specs.Lines.{entry_after, log_of, steps_of}
 use Rattle.mdb_log.specs.LegalLog.{IsLegalLog}
+use Rattle.mdb_log.specs.History.{history_of}
+use Rattle.mdb_log.specs.PlainLegal.{LegalLog}
 use Rattle.mdb_topology.specs.Logging.{IsKept}
+use Rattle.mdb_histories.specs.SoundHistory.{SoundHistory}
 
 -- the first step opens seeds, and every later step is one that may come after it
 abbrev pub IsWithin : List Step → Type 0
@@ -62,12 +65,14 @@ LineRuns n line log new_log held new_held faults new_faults (Err (errors.Malform
     (m ≡ n) × ((s : Step) → IsNextLine n (steps_of log) line s → ⊥) × Took held new_held [] × (new_faults ≡ faults)
 LineRuns n line log new_log held new_held faults new_faults (Err errors.TooLong) = ⊥
 
--- The lines of the input are those of the log's steps, the log is theirs, legal and kept, and the sink took its text.
+-- The lines of the input are those of the log's steps, the log is theirs, legal, by the plain sentences too, kept and sound, and the sink took its text.
 pub record Ran (input : List ℕ) (log : List Entry) (held new_held : Option Held) (faults new_faults : ℕ) : Type 0 where
   pub begins : Begins input (steps_of log) []
   pub answers : log ≡ log_of (steps_of log)
   pub legal : IsLegalLog log
+  pub plain : LegalLog log
   pub kept : IsKept log
+  pub sound : SoundHistory (history_of log)
   pub taken : Took held new_held (text_of log)
   pub same : new_faults ≡ faults
 
@@ -108,3 +113,17 @@ Ended old new (errors.Malformed n) = (input : List ℕ) × ReadsAll old.left new
 Ended old new errors.TooLong =
     (new.reads ≡ old.reads) × (new.writes ≡ old.writes) × Took old.held new.held []
     × ((bytes : List ℕ) × Consumes old.left new.left bytes × (max_input < length bytes))
+
+-- The answer is this error, unless memory ran out.
+abbrev pub EndsWith : RunError → Result (List Entry) RunError → Type 0
+EndsWith e (Ok log) = ⊥
+EndsWith e (Err f) = (f ≡ e) ⊎ (f ≡ errors.OutOfMemory)
+
+-- The first line of the input that spells no step that may come is the one with this number.
+pub record IsBadAt (input : List ℕ) (number : ℕ) : Type 0 where
+  pub steps : List Step
+  pub bad : List ℕ
+  pub more : List (List ℕ)
+  pub begins : Begins input steps (bad ∷ more)
+  pub at : number ≡ 1 + length steps
+  pub never : IsBad number steps bad

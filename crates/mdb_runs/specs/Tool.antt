@@ -43,3 +43,7 @@ ToolEnds words old new told new_told answer = (c : ToolCommand) × Says words c 
 -- the script ran to its end, or memory ran out
 abbrev pub EndsWell : ℕ → Type 0
 EndsWell answer = (answer ≡ 0) ⊎ (answer ≡ status errors.OutOfMemory)
+
+-- this error was told, with its status, or memory ran out
+abbrev pub ToolTells : RunError → Told → Told → ℕ → Type 0
+ToolTells e told new_told answer = ((answer ≡ status e) × Tells told new_told (message e)) ⊎ (answer ≡ status errors.OutOfMemory)

@@ -1,12 +1,12 @@
 //! Runs of a script.
 
-ghost use Rattle.std.specs.Prelude.{◌≡◌, ◌+◌, ◌≤◌, [], ◌∷◌, ◌++◌, ℕ, List, IfOk, IfErr, MatchResult, length, Some};
+ghost use Rattle.std.specs.Prelude.{◌≡◌, ◌+◌, ◌≤◌, ◌<◌, [], ◌∷◌, ◌++◌, ℕ, List, IfOk, IfErr, MatchResult, length, Some};
 ghost use Rattle.mdb_log.specs.declared.step.Step.{Step};
 ghost use Rattle.mdb_base.specs.Outside.{Rose};
-ghost use Rattle.mdb_lines.specs.declared.run_error.RunError.TheVariants.{OutOfMemory as NoMemory};
+ghost use Rattle.mdb_lines.specs.declared.run_error.RunError.TheVariants.{OutOfMemory as NoMemory, Malformed, TooLong};
 ghost use Rattle.mdb_topology.specs.Lines.{steps_of};
 ghost use Rattle.mdb_topology.specs.Driving.{Stands, IsTaken};
-ghost use Rattle.mdb_runs.specs.Runs.{StepRuns, LineRuns, Ran, RunEnds, Finished, Ended, IsScript};
+ghost use Rattle.mdb_runs.specs.Runs.{StepRuns, LineRuns, Ran, RunEnds, Finished, Ended, EndsWith, IsBadAt, IsScript};
 
 use mdb_base::{Sink, Source};
 use mdb_lines::{
@@ -137,6 +137,14 @@ pub fn run_script<S: Source, K: Sink>(
     ensures complete { (input : List ℕ) (steps : List Step) → S.left source.old ≡ Some input → length input ≤ MAX_INPUT → IsScript input steps
         → ¬ (Rose (S.faults source.old) (S.faults source.new)) → ¬ (Rose (K.faults sink.old) (K.faults sink.new))
         → MatchResult result (λ log. steps_of log ≡ steps) (λ e. e ≡ NoMemory) }
+
+    // The first line that spells no step is named where nothing fails, unless memory runs out.
+    ensures malformed { (input : List ℕ) (number : ℕ) → S.left source.old ≡ Some input → length input ≤ MAX_INPUT → IsBadAt input number
+        → ¬ (Rose (S.faults source.old) (S.faults source.new)) → ¬ (Rose (K.faults sink.old) (K.faults sink.new)) → EndsWith (Malformed number) result }
+
+    // An input of more bytes is too long where the source does not fail, unless memory runs out.
+    ensures too_long { (input : List ℕ) → S.left source.old ≡ Some input → MAX_INPUT < length input
+        → ¬ (Rose (S.faults source.old) (S.faults source.new)) → EndsWith TooLong result }
 {
     run(alloc, source, sink)
 }

@@ -1,11 +1,12 @@
 //! The tool: its words, its statuses, and what it says of an error.
 
-ghost use Rattle.std.specs.Prelude.{◌≡◌, ◌≤◌, ℕ, List, [], length, map, Some};
+ghost use Rattle.std.specs.Prelude.{◌≡◌, ◌≤◌, ◌<◌, ℕ, List, [], length, map, Some};
 ghost use Rattle.mdb_log.specs.declared.step.Step.{Step};
 ghost use Rattle.mdb_base.specs.Outside.{Rose};
+ghost use Rattle.mdb_lines.specs.declared.run_error.RunError.TheVariants.{Malformed, TooLong};
 ghost use Rattle.mdb_lines.specs.Status.{Tells, message, status};
-ghost use Rattle.mdb_runs.specs.Runs.{IsScript};
-ghost use Rattle.mdb_runs.specs.Tool.{ToolEnds, EndsWell, usage};
+ghost use Rattle.mdb_runs.specs.Runs.{IsBadAt, IsScript};
+ghost use Rattle.mdb_runs.specs.Tool.{ToolEnds, ToolTells, EndsWell, usage};
 
 use crate::made::run_made;
 use crate::run::run_script;
@@ -53,6 +54,13 @@ pub fn run_tool<S: Source, K: Sink, E: Sink>(
     // A script on the source is run to its end where nothing fails, unless memory runs out.
     ensures complete { (input : List ℕ) (steps : List Step) → words.now ≡ [] → S.left source.old ≡ Some input → length input ≤ MAX_INPUT → IsScript input steps
         → ¬ (Rose (S.faults source.old) (S.faults source.new)) → ¬ (Rose (K.faults sink.old) (K.faults sink.new)) → EndsWell result }
+
+    // The first line that spells no step is told where nothing fails, and so is an input of more bytes, unless memory runs out.
+    ensures malformed { (input : List ℕ) (number : ℕ) → words.now ≡ [] → S.left source.old ≡ Some input → length input ≤ MAX_INPUT → IsBadAt input number
+        → ¬ (Rose (S.faults source.old) (S.faults source.new)) → ¬ (Rose (K.faults sink.old) (K.faults sink.new))
+        → ToolTells (Malformed number) (record { held = E.held errors.old; faults = E.faults errors.old }) (record { held = E.held errors.new; faults = E.faults errors.new }) result }
+    ensures too_long { (input : List ℕ) → words.now ≡ [] → S.left source.old ≡ Some input → MAX_INPUT < length input → ¬ (Rose (S.faults source.old) (S.faults source.new))
+        → ToolTells TooLong (record { held = E.held errors.old; faults = E.faults errors.old }) (record { held = E.held errors.new; faults = E.faults errors.new }) result }
 {
     match read_words(words) {
         ToolCommand::Script => match run_script(alloc, source, sink) {

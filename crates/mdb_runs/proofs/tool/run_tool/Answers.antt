@@ -1,5 +1,8 @@
 use Rattle.std.proofs.Common.{refl, inl, inr}
+use Rattle.mdb_lines.specs.declared.run_error.RunError.TheVariants.{Malformed}
+use Rattle.mdb_lines.specs.Status.{Told}
 use Rattle.mdb_generator.specs.declared.words.ToolCommand.TheVariants.{Make, Script}
+use Rattle.mdb_runs.proofs.Complete.{tells_so}
 use Rattle.mdb_runs.proofs.tool.run_tool.Goals as goal
 
 pub returns-in-Ok-run_made-clause-ends : goal.returns-in-Ok-run_made-clause-ends
@@ -10,3 +13,18 @@ returns-in-Err-run_made-clause-ends g c = (Make c.in-Make.n, c.in-Make.ensures, 
 
 pub returns-in-Usage-clause-complete : goal.returns-in-Usage-clause-complete
 returns-in-Usage-clause-complete g c = λ input steps none left short script read write. absurd (c.in-Usage.ensures Script (rw none refl))
+
+pub returns-in-Ok-clause-malformed : goal.returns-in-Ok-clause-malformed
+returns-in-Ok-clause-malformed g c = λ input number none left short found read write. absurd (c.in-Ok.ensures.malformed input number left short found read write)
+
+pub returns-in-Err-clause-malformed : goal.returns-in-Err-clause-malformed
+returns-in-Err-clause-malformed g c =
+    let old : Told = record { held = g.E.Sink.held c.args.errors.now; faults = g.E.Sink.faults c.args.errors.now } in
+    let new : Told = record { held = g.E.Sink.held c.ended.new.errors; faults = g.E.Sink.faults c.ended.new.errors } in
+    λ input number none left short found read write. tells_so (Malformed number) c.in-Err.e old new c.ended.result c.ended.ensures.status c.ended.ensures.told (c.in-Err.ensures.malformed input number left short found read write)
+
+pub returns-in-Usage-clause-malformed : goal.returns-in-Usage-clause-malformed
+returns-in-Usage-clause-malformed g c = λ input number none left short found read write. absurd (c.in-Usage.ensures Script (rw none refl))
+
+pub returns-in-Usage-clause-too_long : goal.returns-in-Usage-clause-too_long
+returns-in-Usage-clause-too_long g c = λ input none left long read. absurd (c.in-Usage.ensures Script (rw none refl))
