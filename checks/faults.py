@@ -1,11 +1,12 @@
 #!/usr/bin/env python3
 """Runs built programs with one call of the C library failing: each allocation, each read and each write in turn.
 
-usage: checks/faults.py [--script PROGRAM] [--checks PROGRAM] [--jobs N]
+usage: checks/faults.py [--script PROGRAM] [--checks PROGRAM] [--jobs N] [--seconds N] [--every]
 
 PROGRAM is crates/mdb_script/out/mdb_script and crates/mdb_checks/out/mdb_checks where it is left out; nothing is built.
-mdb_script runs its stored script and `make 10`, mdb_checks its stored cases: once as they are, and then, up to N runs side
-by side (as many as there are processors), once for each call and each of these faults:
+mdb_script runs its stored script, `make 10` and the scripts of mdb_checks that SWEPT names (with --every all of them);
+mdb_checks runs its stored cases. Each runs once as it is, and then, up to N runs side by side (as many as there are
+processors) and for at most N seconds (900), once for each call and each of these faults:
 
   allocation   is refused. The program tells want of memory, with status 1, after whole entries or lines, the first of the
                stored output; or the run recovers: status 0 and the stored output.
@@ -15,8 +16,8 @@ by side (as many as there are processors), once for each call and each of these 
 
 A case of mdb_checks may answer want of memory where it runs the tool (counted as answered). One that is answered otherwise
 for want of memory is known where its kind is in KNOWN, and else a finding. Cases of more than LONG allocations are left out.
-Each finding has a line, and the counts come last. The status is 0 where nothing was found, 1 where something was, and 2
-where a program is missing or can't be run so. Needs gcc, and programs that are linked with the C library (by `rt run`).
+Each finding has a line, and the counts come last; runs for which there was no time are counted as left. The status is 0
+where nothing was found, 1 where something was, and 2 where a program is missing or can't be run so. Needs gcc, and programs that are linked with the C library (by `rt run`).
 """
 import argparse
 import concurrent.futures
@@ -38,6 +39,10 @@ WANT = b'"out of memory\\n"'
 REST = 30  # seconds between two lines of progress
 LIMIT = 120  # seconds for one run
 LONG = 2000  # allocations of one case; one that takes more is left out
+# The scripts of mdb_checks that mdb_script runs too, by the beginnings of the remarks above them: a set that drops a member,
+# one that takes it back, pins.
+SWEPT = ('A primary that lists one server less', 'An error of a connection of a pool that was closed', 'The connection stands at its pin',
+         'Pins are refused')
 
 Subject = namedtuple('Subject', 'name program words input wanted ends')
 Run = namedtuple('Run', 'status written told counts')
@@ -54,12 +59,44 @@ def stored(crate):
         return os.path.join(CRATES, crate, 'stdin'), file.read()
 
 
-def subjects(script, checks):
+def scripts():
+    """The scripts of mdb_checks that run to their end: the remark above, the lines, and the lines of the log."""
+    remark, found = '', []
+    with open(os.path.join(CRATES, 'mdb_checks', 'stdin'), encoding='utf-8', newline='\n') as file:
+        for case in file.read().split('\n'):
+            kind, _, given = case.partition(' ')
+            line, _, wanted = given.partition(' => ')
+            if kind == '#':
+                remark = given
+            elif kind == 'script':
+                found.append((remark, [line], [line + ' | ' + wanted]))
+            elif kind == 'then':
+                found[-1][1].append(line)
+                found[-1][2].append(line + ' | ' + wanted)
+    return [it for it in found if not any(' | status ' in line for line in it[2])]
+
+
+def swept(program, folder, is_every):
+    """The runs of scripts of mdb_checks. Their inputs are written to the folder."""
+    found = []
+    for number, (remark, lines, log) in enumerate(scripts()):
+        if is_every or remark.startswith(SWEPT):
+            path = os.path.join(folder, 'script%d' % number)
+            with open(path, 'w', encoding='utf-8', newline='\n') as file:
+                file.writelines(line + '\n' for line in lines)
+            wanted = ''.join(line + '\n' for line in log).encode()
+            found.append(Subject('mdb_script (%s)' % remark[:40], program, [], path, wanted, SCRIPT_ENDS))
+    return found
+
+
+def subjects(script, checks, folder, is_every):
     """The runs that are disturbed, of the programs that are there; and the programs that are missing."""
     found, missing = [], [program for program in (script, checks) if not os.path.isfile(program)]
     if script not in missing:
         found.append(Subject('mdb_script', script, [], *stored('mdb_script'), SCRIPT_ENDS))
         found.append(Subject('mdb_script make 10', script, ['make', '10'], os.devnull, MADE, SCRIPT_ENDS))
+        found.extend(swept(script, folder, is_every))
+        # A run on threads, `share K`, stands here once the program takes these words.
     if checks not in missing:
         found.append(Subject('mdb_checks', checks, [], *stored('mdb_checks'), CHECKS_ENDS))
     return found, missing
@@ -181,8 +218,13 @@ def plain_run(subject, library, folder):
     return plain
 
 
-def sweep(subject, library, folder, jobs):
-    """Runs a subject with each fault; what the runs of each kind count as."""
+def unless_late(until, *words):
+    """One run with a fault, or nothing after the end of the time."""
+    return one(*words) if time.monotonic() < until else ('left', [])
+
+
+def sweep(subject, library, folder, jobs, until):
+    """Runs a subject with each fault until the time is over; what the runs of each kind count as."""
     plain = plain_run(subject, library, folder)
     if plain:
         subject = shortened(subject, plain, folder)
@@ -193,7 +235,7 @@ def sweep(subject, library, folder, jobs):
     tally, begun = Counter(), time.monotonic()
     todo, told = list(faults(plain.counts[-1])), begun
     with concurrent.futures.ThreadPoolExecutor(jobs) as pool:
-        ended = pool.map(lambda fault: one(subject, library, folder, *fault), todo)
+        ended = pool.map(lambda fault: unless_late(until, subject, library, folder, *fault), todo)
         for number, (fault, (verdict, lines)) in enumerate(zip(todo, ended)):
             tally[fault[0], verdict] += 1
             for line in lines:
@@ -209,7 +251,7 @@ def tell(subject, tally, seconds):
     """Prints what the runs of each kind count as."""
     for kind in SORTS:
         verdicts = ['%d %s' % (tally[kind, verdict], verdict)
-                    for verdict in ('ended', 'unharmed', 'answered', 'known', 'found') if tally[kind, verdict]]
+                    for verdict in ('ended', 'unharmed', 'answered', 'known', 'found', 'left') if tally[kind, verdict]]
         if verdicts:
             print('%s: %s: %s' % (subject.name, kind, ', '.join(verdicts)))
     print('%s: %d runs in %.0f seconds' % (subject.name, sum(tally.values()), seconds), flush=True)
@@ -233,22 +275,27 @@ def options():
     reader.add_argument('--script', default=os.path.join(CRATES, 'mdb_script/out/mdb_script'))
     reader.add_argument('--checks', default=os.path.join(CRATES, 'mdb_checks/out/mdb_checks'))
     reader.add_argument('--jobs', type=int, default=os.cpu_count())
+    reader.add_argument('--seconds', type=int, default=900)
+    reader.add_argument('--every', action='store_true')
     return reader.parse_args()
 
 
 def main():
     """Sweeps each program that is there, and says what was found."""
-    given = options()
-    found, missing = subjects(os.path.abspath(given.script), os.path.abspath(given.checks))
-    tally = Counter()
+    given, tally = options(), Counter()
+    until = time.monotonic() + given.seconds
     with tempfile.TemporaryDirectory() as folder:
+        found, missing = subjects(os.path.abspath(given.script), os.path.abspath(given.checks), folder, given.every)
         library = build(folder) if found else None
         for subject in found:
-            tally.update(sweep(subject, library, folder, given.jobs))
+            tally.update(sweep(subject, library, folder, given.jobs, until))
     for program in missing:
         print('missing: %s' % program)
-    count = sum(number for (_, verdict), number in tally.items() if verdict == 'found')
-    print('%d runs, %d findings' % (sum(tally.values()), count))
+    verdicts = Counter()
+    for (_, verdict), number in tally.items():
+        verdicts[verdict] += number
+    count, left = verdicts['found'], verdicts.pop('left', 0)
+    print('%d runs, %d left, %d findings' % (sum(verdicts.values()), left, count))
     sys.exit(2 if missing else 1 if count else 0)
 
 
