@@ -50,6 +50,10 @@ source_left s = Some (source_state s).left
 abbrev pub source_faults : MemSource → ℕ
 source_faults s = s.faults
 
+-- how many reads of a source were made
+abbrev pub source_calls : MemSource → Option ℕ
+source_calls s = Some (source_state s).calls
+
 -- A sink in memory: the bytes that it took and how many of them are flushed, the room that is left, how many bytes a write takes at most, the numbers of the calls that fail, and how many calls were made and how many faults there were.
 pub record SinkState : Type 0 where
   pub taken : List ℕ

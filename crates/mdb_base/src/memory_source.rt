@@ -52,17 +52,20 @@ impl MemSource {
 impl Source for MemSource {
     ghost use Rattle.std.specs.Io.{ReadsAtMost};
     ghost use Rattle.std.specs.Io.KnownBytes.{ReadConsumes};
-    ghost use Rattle.mdb_base.specs.Outside.{HasCause};
-    ghost use Rattle.mdb_base.specs.Memory.{source_state, source_left, source_faults, SourceReads};
+    ghost use Rattle.mdb_base.specs.Outside.{HasCause, Counts};
+    ghost use Rattle.mdb_base.specs.Memory.{source_state, source_left, source_faults, source_calls, SourceReads};
 
     ghost left = { source_left };
 
     ghost faults = { source_faults };
 
+    ghost calls = { source_calls };
+
     fn read(&mut self, into: &mut [u8]) -> Result<usize, Failed>
         ensures bound { ReadsAtMost result into.new }
         ensures bytes { ReadConsumes (source_left self.old) (source_left self.new) result into.new }
         ensures cause { HasCause (source_faults self.old) (source_faults self.new) result }
+        ensures counts { Counts (source_calls self.old) (source_calls self.new) }
         ensures reads { SourceReads (source_state self.old) (source_state self.new) (length into.old) result }
     {
         self.calls = self.calls.saturating_add(1);

@@ -3,7 +3,7 @@
 ghost use Rattle.std.specs.Prelude.{◌≡◌, ℕ, List, OnOk, [], Option};
 ghost use Rattle.std.specs.Io.{ReadsAtMost};
 ghost use Rattle.std.specs.Io.KnownBytes.{ReadConsumes};
-ghost use Rattle.mdb_base.specs.Outside.{HasCause, Held, Took, IsFlushed, WriteTakes, WriteCause};
+ghost use Rattle.mdb_base.specs.Outside.{HasCause, Counts, Held, Took, IsFlushed, WriteTakes, WriteCause};
 
 /// The outside failed, and took and gave nothing.
 #[derive(Clone, Copy, Debug, PartialEq, Eq)]
@@ -17,10 +17,14 @@ pub trait Source {
     /// How often it failed. The count never falls.
     ghost faults: { Self → ℕ };
 
+    /// How many reads were made, where the object counts them.
+    ghost calls: { Self → Option ℕ };
+
     fn read(&mut self, into: &mut [u8]) -> Result<usize, Failed>
         ensures bound { ReadsAtMost result into.new }
         ensures bytes { ReadConsumes (left self.old) (left self.new) result into.new }
-        ensures cause { HasCause (faults self.old) (faults self.new) result };
+        ensures cause { HasCause (faults self.old) (faults self.new) result }
+        ensures counts { Counts (calls self.old) (calls self.new) };
 }
 
 /// Where bytes go to.

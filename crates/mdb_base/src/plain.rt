@@ -25,7 +25,7 @@ impl PlainSource {
 }
 
 impl Source for PlainSource {
-    ghost use Rattle.std.specs.Prelude.{drop};
+    ghost use Rattle.std.specs.Prelude.{drop, None};
     ghost use Rattle.std.specs.Io.{ReadsAtMost};
     ghost use Rattle.std.specs.Io.KnownBytes.{ReadConsumes};
     ghost use Rattle.mdb_base.specs.Memory.{plain_left, plain_rest, plain_count};
@@ -33,6 +33,8 @@ impl Source for PlainSource {
     ghost left = { plain_left };
 
     ghost faults = { λ s. 0 };
+
+    ghost calls = { λ s. None };
 
     fn read(&mut self, into: &mut [u8]) -> Result<usize, Failed>
         ensures bound { ReadsAtMost result into.new }

@@ -31,6 +31,8 @@ impl<R: Read> Source for Reading<R> {
 
     ghost faults = { reading_faults };
 
+    ghost calls = { λ s. None };
+
     fn read(&mut self, into: &mut [u8]) -> Result<usize, Failed> {
         match self.inner.read(into) {
             Ok(count) => Ok(count),

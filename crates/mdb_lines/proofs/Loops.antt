@@ -1,16 +1,17 @@
 -- What calls of a sink or a source come to, one after another, and how an input is cut into lines.
-use Rattle.std.proofs.Common.{◌≡◌, ℕ, zero, suc, ◌+◌, ◌<◌, List, [], ◌∷◌, ◌++◌, length, take, drop, Option, Some, None, Ok, refl, sym, ap, ◌∙◌, arith, append_assoc, eqb, ltb, inl, inr, position, length-drop}
+use Rattle.std.proofs.Common.{◌≡◌, ℕ, zero, suc, ◌+◌, ◌<◌, List, [], ◌∷◌, ◌++◌, length, take, drop, ◌≤◌, Option, Some, None, Ok, refl, sym, ap, ◌∙◌, arith, append_assoc, eqb, ltb, inl, inr, position, length-append, length-drop}
 use Rattle.std.specs.List.{onto_first, position_or_len}
 use Rattle.std.proofs.lemmas.Bool.{cases_Bool, eqb-true, eqb-false, ltb-true, ltb-false}
 use Rattle.std.proofs.lemmas.Option.{cond_some}
 use Rattle.std.proofs.lemmas.List.Sums.{fails_before_first, passes_at_first}
 use Rattle.std.proofs.lemmas.List.{append-nil}
 use Rattle.std.proofs.Math.Seq.{take-add}
-use Rattle.std.specs.Io.KnownBytes.{Consumes}
+use Rattle.std.specs.Io.KnownBytes.{Consumes, Keeps}
 use Rattle.mdb_base.specs.AddressReading.{until, beyond}
 use Rattle.mdb_base.proofs.Words.{until_found, until_missing}
-use Rattle.mdb_base.specs.Outside.{Rose, Held, Took, WriteCause}
-use Rattle.mdb_lines.specs.Script.{lines_of}
+use Rattle.mdb_base.specs.Outside.{Rose, Counts, Held, Took, WriteCause}
+use Rattle.mdb_lines.specs.Script.{lines_of, max_input}
+use Rattle.mdb_lines.specs.Loops.{CalledWithin, ReadsFew}
 
 pub took_nothing : (a : Option Held) → Took a a []
 took_nothing None = tt
@@ -48,6 +49,47 @@ consumes_more None b c x y p q = tt
 consumes_more (Some xs) None c x y p q = absurd p
 consumes_more (Some xs) (Some ys) None x y p q = absurd q
 consumes_more (Some xs) (Some ys) (Some zs) x y p q = p ∙ ap (λ (l : List ℕ). x ++ l) q ∙ sym (append_assoc x y zs)
+
+pub consumes_kept : (a b : Option (List ℕ)) → Keeps a b → Consumes a b []
+consumes_kept None b h = tt
+consumes_kept (Some xs) None h = absurd h
+consumes_kept (Some xs) (Some ys) h = sym h
+
+pub called_none : (a : Option ℕ) → CalledWithin a a 0
+called_none None = tt
+called_none (Some n) = omega arith
+
+called_wider : (a b : Option ℕ) (k most : ℕ) → CalledWithin a b k → k ≤ most → CalledWithin a b most
+called_wider None None k most p l = tt
+called_wider None (Some m) k most p l = absurd p
+called_wider (Some n) None k most p l = absurd p
+called_wider (Some n) (Some m) k most p l = omega (arith, p, l)
+
+pub called_more : (a b c : Option ℕ) (k : ℕ) → CalledWithin a b k → Counts b c → CalledWithin a c (k + 1)
+called_more None None None k p q = tt
+called_more None None (Some z) k p q = absurd q
+called_more None (Some y) c k p q = absurd p
+called_more (Some x) None c k p q = absurd p
+called_more (Some x) (Some y) None k p q = absurd q
+called_more (Some x) (Some y) (Some z) k p q = omega (arith, p, q)
+
+-- reads that took a byte each
+pub reads_so_far : (a b : Option (List ℕ)) (p q : Option ℕ) (turn : ℕ) (x : List ℕ) → Consumes a b x → CalledWithin p q turn → turn ≤ length x → length x ≤ max_input → ReadsFew a b p q
+reads_so_far a b p q turn x h n each short = record {
+  bytes = x;
+  consumed = h;
+  each = called_wider p q turn (1 + length x) n (omega (arith, each));
+  few = called_wider p q turn (1 + max_input) n (omega (arith, each, short));
+}
+
+-- reads that took a byte each, and one more
+pub reads_few : (a b c : Option (List ℕ)) (p q r : Option ℕ) (turn : ℕ) (x y : List ℕ) → Consumes a b x → Consumes b c y → CalledWithin p q turn → Counts q r → turn ≤ length x → length x ≤ max_input → ReadsFew a c p r
+reads_few a b c p q r turn x y h k n m each short = record {
+  bytes = x ++ y;
+  consumed = consumes_more a b c x y h k;
+  each = called_wider p r (turn + 1) (1 + length (x ++ y)) (called_more p q r turn n m) (omega (arith, each, length-append x y));
+  few = called_wider p r (turn + 1) (1 + max_input) (called_more p q r turn n m) (omega (arith, each, short));
+}
 
 -- lines
 

@@ -1,5 +1,5 @@
 -- What the loops that read and write do.
-use Rattle.std.specs.Prelude.{◌≡◌, ℕ, ◌<◌, ◌≤◌, List, [], ◌∷◌, ◌++◌, length, take, codes, Option, Some, None}
+use Rattle.std.specs.Prelude.{◌≡◌, ℕ, ◌+◌, ◌<◌, ◌≤◌, List, [], ◌∷◌, ◌++◌, length, take, codes, Option, Some, None}
 use Rattle.std.specs.Borrow.{Bor}
 use Rattle.std.specs.Io.KnownBytes.{Consumes, IsAtEnd}
 use Rattle.mdb_base.specs.AddressReading.{beyond}
@@ -24,6 +24,20 @@ ReadEnds left new_left faults new_faults errors.ReadFault = Rose faults new_faul
 ReadEnds left new_left faults new_faults errors.WriteFault = ⊥
 ReadEnds left new_left faults new_faults (errors.Malformed n) = ⊥
 ReadEnds left new_left faults new_faults errors.TooLong = (bytes : List ℕ) × Consumes left new_left bytes × (max_input < length bytes) × (new_faults ≡ faults)
+
+-- At most so many calls were counted, where the object counts its calls.
+abbrev pub CalledWithin : Option ℕ → Option ℕ → ℕ → Type 0
+CalledWithin None None most = Unit {0}
+CalledWithin None (Some m) most = ⊥
+CalledWithin (Some n) None most = ⊥
+CalledWithin (Some n) (Some m) most = m ≤ n + most
+
+-- These bytes were read by at most one call more than they are, and by at most one more than a script may have bytes.
+pub record ReadsFew (left new_left : Option (List ℕ)) (calls new_calls : Option ℕ) : Type 0 where
+  pub bytes : List ℕ
+  pub consumed : Consumes left new_left bytes
+  pub each : CalledWithin calls new_calls (1 + length bytes)
+  pub few : CalledWithin calls new_calls (1 + max_input)
 
 -- All was read, and it isn't too long.
 pub record ReadsAll (left new_left : Option (List ℕ)) (faults new_faults : ℕ) (input : List ℕ) : Type 0 where

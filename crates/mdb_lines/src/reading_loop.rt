@@ -1,7 +1,7 @@
 //! Reading an input to its end, and cutting it into lines.
 
 ghost use Rattle.std.specs.Prelude.{◌≡◌, IfOk, IfErr, length, ◌<◌, position, ◌==◌};
-ghost use Rattle.mdb_lines.specs.Loops.{CutsLine, ReadsAll, ReadEnds};
+ghost use Rattle.mdb_lines.specs.Loops.{CutsLine, ReadsAll, ReadEnds, ReadsFew};
 
 use crate::run_error::RunError;
 use mdb_base::Source;
@@ -10,11 +10,12 @@ use std::alloc::Global;
 /// The most bytes that a script may have.
 pub const MAX_INPUT: usize = 131_072;
 
-/// Reads to the end, in at most one turn more than there may be bytes; each turn takes a byte or finds the end. `ReadFault` only where
-/// the source failed, `TooLong` only past `MAX_INPUT` bytes.
+/// Reads to the end, in at most 131,073 reads, one more than there may be bytes; each takes a byte, finds the end or fails.
+/// `ReadFault` only where the source failed, `TooLong` only past `MAX_INPUT` bytes.
 pub fn read_all<S: Source>(alloc: Global, source: &mut S) -> Result<Vec<u8>, RunError>
     ensures all { IfOk result (λ v. ReadsAll (S.left source.old) (S.left source.new) (S.faults source.old) (S.faults source.new) v.items) }
     ensures ends { IfErr result (ReadEnds (S.left source.old) (S.left source.new) (S.faults source.old) (S.faults source.new)) }
+    ensures few { ReadsFew (S.left source.old) (S.left source.new) (S.calls source.old) (S.calls source.new) }
 {
     let mut input = Vec::new(alloc);
     let mut buffer = [0u8; 1024];

@@ -88,10 +88,11 @@ RunEnds input held new_held faults new_faults (errors.Malformed n) =
     × Took held new_held (text_of (log_of steps)) × (new_faults ≡ faults)
 RunEnds input held new_held faults new_faults errors.TooLong = ⊥
 
--- What a run saw of its source and did to its sink.
+-- What a run saw of its source and did to its sink: bytes left, reads that failed and reads that were made, bytes taken, and writes that failed.
 pub record Seen : Type 0 where
   pub left : Option (List ℕ)
   pub reads : ℕ
+  pub calls : Option ℕ
   pub held : Option Held
   pub writes : ℕ
 

@@ -22,7 +22,7 @@ ToolRuns old new told new_told answer =
 -- what a run of a generated script comes to: the source is left alone
 abbrev pub ToolMakes : ℕ → Seen → Seen → Told → Told → ℕ → Type 0
 ToolMakes n old new told new_told answer =
-    (new.left ≡ old.left) × (new.reads ≡ old.reads)
+    (new.left ≡ old.left) × (new.reads ≡ old.reads) × (new.calls ≡ old.calls)
     × (((answer ≡ 0) × MadeRuns n old.held new.held old.writes new.writes (Ok tt) × (new_told ≡ told))
     ⊎ ((e : RunError) × (answer ≡ status e) × MadeRuns n old.held new.held old.writes new.writes (Err e) × Tells told new_told (message e)))
 

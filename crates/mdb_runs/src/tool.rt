@@ -3,6 +3,7 @@
 ghost use Rattle.std.specs.Prelude.{◌≡◌, ◌≤◌, ◌<◌, ℕ, List, [], length, map, Some};
 ghost use Rattle.mdb_log.specs.declared.step.Step.{Step};
 ghost use Rattle.mdb_base.specs.Outside.{Rose};
+ghost use Rattle.mdb_lines.specs.Loops.{ReadsFew};
 ghost use Rattle.mdb_lines.specs.declared.run_error.RunError.TheVariants.{Malformed, TooLong};
 ghost use Rattle.mdb_lines.specs.Status.{Tells, message, status};
 ghost use Rattle.mdb_runs.specs.Runs.{IsBadAt, IsScript};
@@ -47,9 +48,12 @@ pub fn run_tool<S: Source, K: Sink, E: Sink>(
     errors: &mut E,
 ) -> Status
     ensures ends { ToolEnds (map (λ w. w.now) words.now)
-        (record { left = S.left source.old; reads = S.faults source.old; held = K.held sink.old; writes = K.faults sink.old })
-        (record { left = S.left source.new; reads = S.faults source.new; held = K.held sink.new; writes = K.faults sink.new })
+        (record { left = S.left source.old; reads = S.faults source.old; calls = S.calls source.old; held = K.held sink.old; writes = K.faults sink.old })
+        (record { left = S.left source.new; reads = S.faults source.new; calls = S.calls source.new; held = K.held sink.new; writes = K.faults sink.new })
         (record { held = E.held errors.old; faults = E.faults errors.old }) (record { held = E.held errors.new; faults = E.faults errors.new }) result }
+
+    // The source is read at most once more than there are bytes, and at most 131,073 times.
+    ensures few { ReadsFew (S.left source.old) (S.left source.new) (S.calls source.old) (S.calls source.new) }
 
     // A script on the source is run to its end where nothing fails, unless memory runs out.
     ensures complete { (input : List ℕ) (steps : List Step) → words.now ≡ [] → S.left source.old ≡ Some input → length input ≤ MAX_INPUT → IsScript input steps
