@@ -27,8 +27,8 @@ impl PoolCore {
         Ok(Reply::Job(self.pool, connection.id))
     }
 
-    /// A worker is told the pending connection that came first among those that no other is told of. Whoever calls has tested the refusals.
-    pub fn accept_claim(
+    // A worker is told the pending connection that came first among those that no other is told of. Whoever calls has tested the refusals.
+    pub(super) fn accept_claim(
         &mut self,
         alloc: Global,
         facts: &mut Vec<Fact>,

@@ -156,8 +156,8 @@ impl PoolCore {
         Ok(())
     }
 
-    /// The pool, or a service of it, is cleared (CMAP, "Clearing a Connection Pool"). Whoever calls has tested the refusals.
-    pub fn accept_clear(
+    // The pool, or a service of it, is cleared (CMAP, "Clearing a Connection Pool"). Whoever calls has tested the refusals.
+    pub(super) fn accept_clear(
         &mut self,
         alloc: Global,
         facts: &mut Vec<Fact>,

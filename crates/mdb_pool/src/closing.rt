@@ -134,8 +134,8 @@ impl PoolCore {
         Ok(())
     }
 
-    /// The pool is closed (CMAP, "Closing a Connection Pool"). Whoever calls has tested the refusals.
-    pub fn accept_close(
+    // The pool is closed (CMAP, "Closing a Connection Pool"). Whoever calls has tested the refusals.
+    pub(super) fn accept_close(
         &mut self,
         alloc: Global,
         facts: &mut Vec<Fact>,

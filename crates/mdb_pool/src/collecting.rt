@@ -14,8 +14,8 @@ impl PoolCore {
     ghost use Rattle.mdb_log.specs.History.{Item, PoolItem};
     ghost use Rattle.mdb_log.specs.declared.step.Act.TheVariants.{Collect};
 
-    /// An open request is told how it stands. Whoever calls has tested the refusals.
-    pub fn accept_collect(
+    // An open request is told how it stands. Whoever calls has tested the refusals.
+    pub(super) fn accept_collect(
         &mut self,
         alloc: Global,
         facts: &mut Vec<Fact>,

@@ -16,8 +16,8 @@ impl PoolCore {
     ghost use Rattle.mdb_log.specs.History.{Item, PoolItem, established};
     ghost use Rattle.mdb_log.specs.declared.step.Act.TheVariants.{Established as EstablishedAct};
 
-    /// A pending connection is handed over, or goes into the pool. Whoever calls has tested the refusals.
-    pub fn accept_established(
+    // A pending connection is handed over, or goes into the pool. Whoever calls has tested the refusals.
+    pub(super) fn accept_established(
         &mut self,
         alloc: Global,
         facts: &mut Vec<Fact>,

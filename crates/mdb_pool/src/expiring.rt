@@ -77,8 +77,8 @@ impl PoolCore {
         Ok(())
     }
 
-    /// The callers of the pool that have waited for too long end. Whoever calls has tested the refusals.
-    pub fn accept_expire(
+    // The callers of the pool that have waited for too long end. Whoever calls has tested the refusals.
+    pub(super) fn accept_expire(
         &mut self,
         alloc: Global,
         facts: &mut Vec<Fact>,

@@ -106,8 +106,8 @@ impl PoolCore {
         Ok(())
     }
 
-    /// A pending connection failed, at any point. Whoever calls has tested the refusals.
-    pub fn accept_failed(
+    // A pending connection failed, at any point. Whoever calls has tested the refusals.
+    pub(super) fn accept_failed(
         &mut self,
         alloc: Global,
         facts: &mut Vec<Fact>,

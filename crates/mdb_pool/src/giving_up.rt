@@ -77,8 +77,8 @@ impl PoolCore {
         Ok(Reply::Done)
     }
 
-    /// The caller of a request no longer wants its connection. Whoever calls has tested the refusals.
-    pub fn accept_give_up(
+    // The caller of a request no longer wants its connection. Whoever calls has tested the refusals.
+    pub(super) fn accept_give_up(
         &mut self,
         alloc: Global,
         facts: &mut Vec<Fact>,

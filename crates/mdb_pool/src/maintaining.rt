@@ -52,8 +52,8 @@ impl PoolCore {
         Ok(())
     }
 
-    /// The pool is maintained. Whoever calls has tested the refusals.
-    pub fn accept_maintain(
+    // The pool is maintained. Whoever calls has tested the refusals.
+    pub(super) fn accept_maintain(
         &mut self,
         alloc: Global,
         facts: &mut Vec<Fact>,

@@ -46,8 +46,8 @@ impl PoolCore {
         Ok(())
     }
 
-    /// A held connection is pinned. Whoever calls has tested the refusals.
-    pub fn accept_pin(
+    // A held connection is pinned. Whoever calls has tested the refusals.
+    pub(super) fn accept_pin(
         &mut self,
         alloc: Global,
         facts: &mut Vec<Fact>,
@@ -91,8 +91,8 @@ impl PoolCore {
         answer
     }
 
-    /// A pinned connection gets one more pin. Whoever calls has tested the refusals.
-    pub fn accept_replicate(
+    // A pinned connection gets one more pin. Whoever calls has tested the refusals.
+    pub(super) fn accept_replicate(
         &mut self,
         alloc: Global,
         facts: &mut Vec<Fact>,

@@ -30,8 +30,8 @@ impl PoolCore {
         Ok(())
     }
 
-    /// A new or paused pool becomes ready, and is then served. Whoever calls has tested the refusals.
-    pub fn accept_ready(
+    // A new or paused pool becomes ready, and is then served. Whoever calls has tested the refusals.
+    pub(super) fn accept_ready(
         &mut self,
         alloc: Global,
         facts: &mut Vec<Fact>,

@@ -14,8 +14,8 @@ impl PoolCore {
     ghost use Rattle.mdb_log.specs.History.{Item, PoolItem, asked};
     ghost use Rattle.mdb_log.specs.declared.step.Act.TheVariants.{Request as RequestAct};
 
-    /// A new caller is served. Whoever calls has tested the refusals.
-    pub fn accept_request(
+    // A new caller is served. Whoever calls has tested the refusals.
+    pub(super) fn accept_request(
         &mut self,
         alloc: Global,
         facts: &mut Vec<Fact>,

@@ -17,8 +17,8 @@ impl PoolCore {
     ghost use Rattle.mdb_log.specs.History.{Item, PoolItem, returned};
     ghost use Rattle.mdb_log.specs.declared.step.Act.TheVariants.{Return as ReturnAct};
 
-    /// A held connection comes back, or goes to its pin. Whoever calls has tested the refusals.
-    pub fn accept_return(
+    // A held connection comes back, or goes to its pin. Whoever calls has tested the refusals.
+    pub(super) fn accept_return(
         &mut self,
         alloc: Global,
         facts: &mut Vec<Fact>,

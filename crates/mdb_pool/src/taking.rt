@@ -63,8 +63,8 @@ impl PoolCore {
         Ok(())
     }
 
-    /// A new party takes a connection from its pin. Whoever calls has tested the refusals.
-    pub fn accept_take(
+    // A new party takes a connection from its pin. Whoever calls has tested the refusals.
+    pub(super) fn accept_take(
         &mut self,
         alloc: Global,
         facts: &mut Vec<Fact>,

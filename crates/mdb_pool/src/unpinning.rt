@@ -61,8 +61,8 @@ impl PoolCore {
         Ok(())
     }
 
-    /// A pinned connection loses a pin. Whoever calls has tested the refusals.
-    pub fn accept_unpin(
+    // A pinned connection loses a pin. Whoever calls has tested the refusals.
+    pub(super) fn accept_unpin(
         &mut self,
         alloc: Global,
         facts: &mut Vec<Fact>,

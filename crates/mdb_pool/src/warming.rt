@@ -14,8 +14,8 @@ impl PoolCore {
     ghost use Rattle.mdb_log.specs.History.{Item, PoolItem, warmed};
     ghost use Rattle.mdb_log.specs.declared.step.Act.TheVariants.{Warm as WarmAct};
 
-    /// A new warm request is served. Whoever calls has tested the refusals.
-    pub fn accept_warm(
+    // A new warm request is served. Whoever calls has tested the refusals.
+    pub(super) fn accept_warm(
         &mut self,
         alloc: Global,
         facts: &mut Vec<Fact>,
