@@ -8,6 +8,8 @@ use Rattle.mdb_log.specs.History.{Item, made, PoolItem, if_so, of_pool, after_fa
 use Rattle.mdb_log.specs.Own.{IsOwn, AllOwn}
 use Rattle.mdb_log.proofs.Frame.{other-fact}
 use Rattle.mdb_sound.specs.Sound.{Sound}
+use Rattle.mdb_topology.proofs.Same.{IsCalm}
+use Rattle.mdb_topology.proofs.Heartbeats.{AreCalm}
 use Rattle.mdb_histories.specs.SoundHistory.{SoundHistory, MayCome, FactNames, was_opened}
 use Rattle.mdb_histories.proofs.Parties.{each-sound, apart}
 use Rattle.mdb_histories.proofs.Opened.{still-opened}
@@ -24,17 +26,6 @@ come-sound m (f ∷ fs) k s c = come-sound m fs (made m f ∷ k) (c.0, s) c.1
 pub come-both : (m : ℕ) (fs gs : List Fact) (k : List Item) → AllMayCome m k fs → AllMayCome m (with_facts m fs k) gs → AllMayCome m k (fs ++ gs)
 come-both m [] gs k a b = b
 come-both m (f ∷ fs) gs k a b = (a.0, come-both m fs gs (made m f ∷ k) a.1 b)
-
--- facts of no pool
-abbrev pub IsCalm : Fact → Type 0
-IsCalm (Sdam e) = ⊤
-IsCalm (CheckNow a) = ⊤
-IsCalm (Cancel a) = ⊤
-IsCalm _ = ⊥
-
-abbrev pub AreCalm : List Fact → Type 0
-AreCalm [] = ⊤
-AreCalm (f ∷ fs) = IsCalm f × AreCalm fs
 
 calm-comes : (m : ℕ) (f : Fact) (k : List Item) → SoundHistory k → IsCalm f → MayCome k (made m f)
 calm-comes m (Sdam e) k s c = record { in_each = each-sound k s; names = tt }

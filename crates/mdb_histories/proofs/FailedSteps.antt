@@ -31,13 +31,13 @@ use Rattle.mdb_topology.specs.Homes.{concerns, home_of, begun}
 use Rattle.mdb_topology.specs.Publishing.{told_by}
 use Rattle.mdb_topology.specs.Refusal.{rows_of}
 use Rattle.mdb_topology.specs.Turns.{in_turn}
+use Rattle.mdb_topology.proofs.FailedMarks.{Constant, constant-none, mark-constant}
 use Rattle.mdb_histories.specs.SoundHistory.{SoundHistory, was_opened}
 use Rattle.mdb_histories.proofs.Begins.{number-is}
 use Rattle.mdb_histories.proofs.Beside.{alike-none, alike-beside}
 use Rattle.mdb_histories.proofs.Clearing.{behind-clearing}
 use Rattle.mdb_histories.proofs.Comes.{AllMayCome, come-sound, come-both}
 use Rattle.mdb_histories.proofs.Failing.{Behind, behind-first, failing-fine, failing-own}
-use Rattle.mdb_histories.proofs.Marks.{Constant, constant-none, mark-constant}
 use Rattle.mdb_histories.proofs.Opened.{home-opened}
 use Rattle.mdb_histories.proofs.Outside.{last_parts, told, parts-are, trouble-known, last-come}
 use Rattle.mdb_histories.proofs.Parties.{each-sound}

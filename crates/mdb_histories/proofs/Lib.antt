@@ -7,7 +7,6 @@ pub mod Comes
 pub mod FailedSteps
 pub mod Failing
 pub mod Logs
-pub mod Marks
 pub mod Numbered
 pub mod Opened
 pub mod Outside

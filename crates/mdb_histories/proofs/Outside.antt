@@ -1,5 +1,5 @@
 -- The answer to an accepted act of no pool may come after a sound history.
-use Rattle.std.proofs.Common.{ℕ, ◌≡◌, Bool, true, false, List, [], ◌∷◌, ◌++◌, Option, Some, None, refl, sym, ◌∙◌, ap, subst, append-nil}
+use Rattle.std.proofs.Common.{ℕ, ◌≡◌, true, List, [], ◌∷◌, ◌++◌, Option, Some, None, refl, sym, ◌∙◌, ap, subst, append-nil}
 use Rattle.std.specs.Prelude.{⊤}
 use Rattle.mdb_base.specs.declared.options.Options.{Options}
 use Rattle.mdb_events.specs.declared.fact.Fact.{Fact}
@@ -15,30 +15,21 @@ use Rattle.mdb_sound.proofs.Served.{Fine}
 use Rattle.mdb_topology.specs.Description.{description_of, rule_after}
 use Rattle.mdb_topology.specs.Errors.{Trouble}
 use Rattle.mdb_topology.specs.Facts.{trouble, clear_of, clearing, asking, own_facts, serve_all, step_facts}
-use Rattle.mdb_topology.specs.Homes.{home_of, begun, is_here}
+use Rattle.mdb_topology.specs.Homes.{home_of, begun}
 use Rattle.mdb_topology.specs.Monitors.{heartbeat}
 use Rattle.mdb_topology.specs.Publishing.{told_by}
 use Rattle.mdb_topology.specs.Refusal.{rows_of}
 use Rattle.mdb_topology.specs.Turns.{in_turn}
+use Rattle.mdb_topology.proofs.Heartbeats.{heartbeat-calm}
 use Rattle.mdb_topology.proofs.Laws.{turn-append}
 use Rattle.mdb_histories.specs.SoundHistory.{SoundHistory, was_opened}
-use Rattle.mdb_histories.proofs.Comes.{AllMayCome, AreCalm, come-sound, come-both}
+use Rattle.mdb_histories.proofs.Comes.{AllMayCome, come-sound, come-both}
 use Rattle.mdb_histories.proofs.Parties.{each-sound}
 use Rattle.mdb_histories.proofs.PoolSteps.{ComeFine, begun-sound}
 use Rattle.mdb_histories.proofs.Publications.{told-good}
 use Rattle.mdb_histories.proofs.Servings.{serve-all-come, opened-facts}
 use Rattle.mdb_histories.proofs.Troubles.{calm-fine, asking-calm, trouble-here, trouble-opened, clearing-come}
 use Rattle.mdb_histories.proofs.Turns.{Turn, ComeTurn, turns, calm-turn}
-
--- the facts of a check are of no pool
-pub heartbeat-calm : (o : Options) (h : List Item) (act : Act) → AreCalm (heartbeat o h act)
-heartbeat-calm o h (Do.Beat a p) = (tt, tt)
-heartbeat-calm o h (Do.Beaten a p d came) = on (is_here h a p) refl
-  where
-    on : (b : Bool) → is_here h a p ≡ b → AreCalm (heartbeat o h (Do.Beaten a p d came))
-    on true e = rw e (tt, tt)
-    on false e = rw e tt
-heartbeat-calm o h _ = tt
 
 -- an act of no pool
 abbrev pub IsOutside : Act → Type 0

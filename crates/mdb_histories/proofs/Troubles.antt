@@ -22,10 +22,11 @@ use Rattle.mdb_topology.specs.Current.{Complaint, complaint_of, is_current, may_
 use Rattle.mdb_topology.specs.Errors.{Case, monitored, state_change, lost, Clear, nothing, whole, only, Trouble, asks, case_of, current_trouble, monitor_trouble, complaint_trouble, trouble_of}
 use Rattle.mdb_topology.specs.Facts.{clearing, asking}
 use Rattle.mdb_topology.specs.Homes.{is_here}
+use Rattle.mdb_topology.proofs.Heartbeats.{AreCalm}
 use Rattle.mdb_topology.proofs.Laws.{with-append}
 use Rattle.mdb_histories.specs.SoundHistory.{SoundHistory, was_opened}
 use Rattle.mdb_histories.proofs.Begins.{number-is}
-use Rattle.mdb_histories.proofs.Comes.{AreCalm, calm-come, come-both}
+use Rattle.mdb_histories.proofs.Comes.{calm-come, come-both}
 use Rattle.mdb_histories.proofs.Opened.{open-opened}
 use Rattle.mdb_histories.proofs.Owns.{clear-own}
 use Rattle.mdb_histories.proofs.PoolSteps.{ComeFine, own-fine}

@@ -20,7 +20,7 @@ use Rattle.mdb_topology.specs.Monitors.{heartbeat}
 use Rattle.mdb_topology.specs.Publishing.{told_by}
 use Rattle.mdb_topology.specs.Turns.{in_turn}
 use Rattle.mdb_topology.proofs.Tame.{plain-facts}
-use Rattle.mdb_histories.proofs.Outside.{heartbeat-calm}
+use Rattle.mdb_topology.proofs.Heartbeats.{heartbeat-calm}
 use Rattle.mdb_histories.proofs.Steps.{home-concerned}
 use Rattle.mdb_histories.proofs.Troubles.{asking-calm}
 use Rattle.mdb_named.proofs.Plain.{ArePlain, calm-plain, is_establishing, act-plain}

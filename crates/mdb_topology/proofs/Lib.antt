@@ -1,7 +1,7 @@
 pub mod Laws
 mod Checks
 pub mod Steps
-mod Same
+pub mod Same
 mod Fit
 pub mod Lists
 pub mod Places
@@ -51,7 +51,7 @@ mod Rests
 mod Performed
 mod Told
 mod Monitored
-mod Heartbeats
+pub mod Heartbeats
 mod Following
 pub mod Differing
 mod FollowingQuiet
@@ -68,7 +68,7 @@ mod Ending
 mod Becoming
 pub mod SameSelf
 pub mod MarkedServers
-mod FailedMarks
+pub mod FailedMarks
 mod FailedFacts
 mod FailedStands
 mod FollowingFailed

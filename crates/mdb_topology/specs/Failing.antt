@@ -90,6 +90,13 @@ StillFails s step service error = (t : PoolCore) (a : Answered) → IsDone s t (
 abbrev pub DoesBoth : PoolCore → PoolCore → Step → Step → Answered → Answered → Type 0
 DoesBoth s u first second a b = (t : PoolCore) × IsDone s t first a × IsDone t u second b
 
+-- The plan of the pool does the two steps, and is the last change.
+pub record PlansBoth (pool : PoolCore) (i : ℕ) (first second : Step) (a b : Answered) (earlier changes : List Change) : Type 0 where
+  pub plan : Plan
+  pub made : IsPlanOf plan pool
+  pub does : (u : PoolCore) → Plans plan pool u → DoesBoth pool u first second a b
+  pub behind : changes ≡ earlier ++ Alter i plan ∷ []
+
 -- The pool at the place does the first act and then fails: the facts of the first, of what is asked, and of the failure come after those before them.
 pub record PlansTwo (pools : List PoolCore) (i : ℕ) (first : ℕ → Act) (step : Step) (asked : Asked) (earlier changes : List Change) (before after : List Fact) : Type 0 where
   pub pool : PoolCore

@@ -2,40 +2,43 @@
 
 ghost use Rattle.std.specs.Prelude.{◌≡◌, ◌<◌, ◌++◌, ◌∷◌, [], IfOk, OnOk, None, Some, slice_get, length, true, false};
 ghost use Rattle.mdb_log.specs.Acts.{IsPoolAct};
-ghost use Rattle.mdb_pool.specs.Parts.{Plans, IsPlanOf, IsDone};
+ghost use Rattle.mdb_pool.specs.Parts.{IsDone};
 ghost use Rattle.mdb_pool.specs.Refusing.{refusal_now};
 ghost use Rattle.mdb_pool.specs.declared.pool_core.PoolCore.{PoolCore as Core};
 ghost use Rattle.mdb_pool.specs.declared.parts.Answered.{Answered as Answer};
-ghost use Rattle.mdb_topology.specs.Failing.{DoesBoth};
+ghost use Rattle.mdb_topology.specs.Failing.{PlansBoth};
+ghost use Rattle.mdb_topology.specs.Marking.{asked_of};
 
 use crate::change::Change;
 use crate::marked::Asked;
 use crate::marking::ask;
 use crate::pools::Pools;
-use mdb_base::{Error, ObjectId, OutOfMemory};
+use mdb_base::{Error, ObjectId, OutOfMemory, ServerAddress};
 use mdb_events::Fact;
 use mdb_log::{Act, Refused, Step};
 use mdb_pool::PoolCore;
-use mdb_pool::parts::{Answered, Plan, prepare};
-use std::alloc::Global;
+use mdb_pool::parts::{Answered, prepare};
+use std::alloc::{AllocError, Global};
 
-// Two steps, which the pool accepts one after the other, are answered, with the change that they make.
+// Two steps, which the pool accepts one after the other, are answered, and their change comes after those before it.
 fn plan_two(
     alloc: Global,
     pool: &mut PoolCore,
+    place: usize,
     first: Step,
-    second: Step,
-) -> Result<(Answered, Answered, Plan), OutOfMemory>
+    second: &Step,
+    changes: &mut Vec<Change>,
+) -> Result<(Answered, Answered), OutOfMemory>
     requires first_act { IsPoolAct pool.old.pool first.act }
-    requires second_act { IsPoolAct pool.old.pool second.act }
+    requires second_act { IsPoolAct pool.old.pool second.now.act }
     requires first_accepted { refusal_now pool.old first ≡ None }
-    requires second_accepted { (t : Core) (a : Answer) → IsDone pool.old t first a → refusal_now t second ≡ None }
+    requires second_accepted { (t : Core) (a : Answer) → IsDone pool.old t first a → refusal_now t second.now ≡ None }
     ensures same { pool.new ≡ pool.old }
-    ensures plan { IfOk result (λ made. IsPlanOf made.2 pool.new) }
-    ensures does { IfOk result (λ made. (u : Core) → Plans made.2 pool.new u → DoesBoth pool.old u first second made.0 made.1) }
+    ensures planned { IfOk result (λ made. PlansBoth pool.old place first second.now made.0 made.1 changes.old.items changes.new.items) }
 {
     let mut steps = Vec::new(alloc);
     steps.push(first)?;
+    let second = second.clone()?;
     steps.push(second)?;
     let (mut answers, plan) = prepare(alloc, pool, &steps)?;
     let Some(later) = answers.pop() else {
@@ -44,7 +47,31 @@ fn plan_two(
     let Some(sooner) = answers.pop() else {
         unreachable!();
     };
-    Ok((sooner, later, plan))
+    changes.push(Change::Alter(place, plan))?;
+    Ok((sooner, later))
+}
+
+// What an answer told comes after what was told before.
+fn tell(facts: &mut Vec<Fact>, answered: Answered) -> Result<(), AllocError>
+    ensures { OnOk result (facts.new.items ≡ facts.old.items ++ answered.facts) }
+{
+    let mut told = answered.facts.into_inner();
+    facts.append(&mut told)
+}
+
+// What the clear told, what is asked, and what the failure told.
+fn tell_both(
+    facts: &mut Vec<Fact>,
+    address: &ServerAddress,
+    asked: Asked,
+    cleared: Answered,
+    failed: Answered,
+) -> Result<(), AllocError>
+    ensures { OnOk result (facts.new.items ≡ ((facts.old.items ++ cleared.facts) ++ asked_of asked true address.now) ++ failed.facts) }
+{
+    tell(facts, cleared)?;
+    ask(facts, asked, true, address)?;
+    tell(facts, failed)
 }
 
 impl Pools {
@@ -92,16 +119,18 @@ impl Pools {
         ensures same { self.new ≡ self.old }
         ensures planned { OnOk result (PlansTwo self.old.cores.items place (λ p. clear.act) step.now asked changes.old.items changes.new.items facts.old.items facts.new.items) }
     {
-        let step = step.clone()?;
-        let (cleared, failed, plan) = plan_two(alloc, &mut self.cores[place], clear, step)?;
-        let mut told = cleared.facts.into_inner();
-        facts.append(&mut told)?;
-        ask(facts, asked, true, self.cores[place].address())?;
-        let mut told = failed.facts.into_inner();
-        facts.append(&mut told)?;
-        changes.push(Change::Alter(place, plan))?;
+        let (cleared, failed) = plan_two(
+            alloc,
+            &mut self.cores[place],
+            place,
+            clear,
+            step,
+            changes,
+        )?;
+        tell_both(facts, self.cores[place].address(), asked, cleared, failed)?;
         Ok(())
     }
+
     /// A pending connection of the pool at the place fails by the step, after a clear by the error where that is wanted. `Some` tells why it cannot be cleared.
     pub(crate) fn plan_failure(
         &mut self,

@@ -3,8 +3,6 @@ use Rattle.std.specs.Prelude.{slice_get, get_or}
 use Rattle.std.specs.Vec.{with_item}
 use Rattle.std.proofs.lemmas.Option.{slice_get_read}
 use Rattle.mdb_pool.specs.declared.pool_core.PoolCore.{PoolCore}
-use Rattle.mdb_pool.specs.Parts.{Plans, IsPlanOf}
-use Rattle.mdb_pool.specs.Refusing.{refusal_now}
 use Rattle.mdb_topology.specs.Failing.{DoesBoth}
 use Rattle.mdb_topology.specs.Marking.{asked_of}
 use Rattle.mdb_topology.proofs.Places.{some-same}
@@ -16,7 +14,7 @@ plan_two-requires-clause-second_accepted c =
     let pools = c.args.self.now.cores.items in
     let s = c.index_mut.result.now in
     let at_i : slice_get pools c.args.place ≡ Some s = slice_get_read pools (length pools) c.args.place s refl c.requires.there c.index_mut.ensures.value in
-    λ t a d. subst (λ x. refusal_now t x ≡ None) (sym c.in_ok-step.ensures.cases) (c.requires.still s at_i t a d)
+    λ t a d. c.requires.still s at_i t a d
 
 pub returns-in_err-cleared-clause-same : goal.returns-in_err-cleared-clause-same
 returns-in_err-cleared-clause-same c =
@@ -25,29 +23,8 @@ returns-in_err-cleared-clause-same c =
     let at_i : slice_get pools c.args.place ≡ Some s = slice_get_read pools (length pools) c.args.place s refl c.requires.there c.index_mut.ensures.value in
     ap (λ v. record { cores = v; last = c.args.self.now.last }) (ap (with_item c.args.self.now.cores c.args.place) c.in_err-cleared.ensures.same ∙ put-back c.args.self.now.cores c.args.place s at_i)
 
-pub returns-in_err-append-clause-same : goal.returns-in_err-append-clause-same
-returns-in_err-append-clause-same c =
-    let pools = c.args.self.now.cores.items in
-    let s = c.index_mut.result.now in
-    let at_i : slice_get pools c.args.place ≡ Some s = slice_get_read pools (length pools) c.args.place s refl c.requires.there c.index_mut.ensures.value in
-    ap (λ v. record { cores = v; last = c.args.self.now.last }) (ap (with_item c.args.self.now.cores c.args.place) c.in_ok-cleared.ensures.same ∙ put-back c.args.self.now.cores c.args.place s at_i)
-
-pub returns-in_err-ask-clause-same : goal.returns-in_err-ask-clause-same
-returns-in_err-ask-clause-same c =
-    let pools = c.args.self.now.cores.items in
-    let s = c.index_mut.result.now in
-    let at_i : slice_get pools c.args.place ≡ Some s = slice_get_read pools (length pools) c.args.place s refl c.requires.there c.index_mut.ensures.value in
-    ap (λ v. record { cores = v; last = c.args.self.now.last }) (ap (with_item c.args.self.now.cores c.args.place) c.in_ok-cleared.ensures.same ∙ put-back c.args.self.now.cores c.args.place s at_i)
-
-pub returns-in_err-append-2-clause-same : goal.returns-in_err-append-2-clause-same
-returns-in_err-append-2-clause-same c =
-    let pools = c.args.self.now.cores.items in
-    let s = c.index_mut.result.now in
-    let at_i : slice_get pools c.args.place ≡ Some s = slice_get_read pools (length pools) c.args.place s refl c.requires.there c.index_mut.ensures.value in
-    ap (λ v. record { cores = v; last = c.args.self.now.last }) (ap (with_item c.args.self.now.cores c.args.place) c.in_ok-cleared.ensures.same ∙ put-back c.args.self.now.cores c.args.place s at_i)
-
-pub returns-in_err-push-clause-same : goal.returns-in_err-push-clause-same
-returns-in_err-push-clause-same c =
+pub returns-in_err-tell_both-clause-same : goal.returns-in_err-tell_both-clause-same
+returns-in_err-tell_both-clause-same c =
     let pools = c.args.self.now.cores.items in
     let s = c.index_mut.result.now in
     let at_i : slice_get pools c.args.place ≡ Some s = slice_get_read pools (length pools) c.args.place s refl c.requires.there c.index_mut.ensures.value in
@@ -66,33 +43,23 @@ returns-clause-planned c =
     let i = c.args.place in
     let s = c.index_mut.result.now in
     let m = c.args.step.now.moment in
-    let plan = c.in_ok-cleared.plan in
     let cleared = c.in_ok-cleared.cleared in
     let failed = c.in_ok-cleared.failed in
     let before = c.args.facts.now.items in
     let at_i : slice_get pools i ≡ Some s = slice_get_read pools (length pools) i s refl c.requires.there c.index_mut.ensures.value in
-    let same = c.in_ok-cleared.ensures.same in
-    let back : with_item c.args.self.now.cores i c.plan_two.new.pool ≡ c.args.self.now.cores = ap (with_item c.args.self.now.cores i) same ∙ put-back c.args.self.now.cores i s at_i in
+    let back : with_item c.args.self.now.cores i c.plan_two.new.pool ≡ c.args.self.now.cores = ap (with_item c.args.self.now.cores i) c.in_ok-cleared.ensures.same ∙ put-back c.args.self.now.cores i s at_i in
     let p = c.index.result.now in
     let there : slice_get pools i ≡ Some p = slice_get_read pools (length pools) i p refl c.requires.there (c.index.ensures ∙ ap (λ v. get_or v.items i p) back) in
     let address : c.address.result.now ≡ s.address = c.address.ensures ∙ ap (λ (x : PoolCore). x.address) (some-same p s (slice_get pools i) there at_i) in
+    let planned = c.in_ok-cleared.ensures.planned in
     record {
       pool = s;
       there = at_i;
-      plan = plan;
-      made = subst (λ (u : PoolCore). IsPlanOf plan u) same c.in_ok-cleared.ensures.plan;
+      plan = planned.plan;
+      made = planned.made;
       clear = cleared;
       failure = failed;
-      does = λ u q.
-          subst (λ x. DoesBoth s u (record { moment = m; act = c.args.clear.act }) x cleared failed) c.in_ok-step.ensures.cases
-          (subst (λ k. DoesBoth s u (record { moment = k; act = c.args.clear.act }) c.in_ok-step.step cleared failed) c.requires.moment
-          (c.in_ok-cleared.ensures.does u (subst (λ (v : PoolCore). Plans plan v u) (sym same) q)));
-      behind = c.in_ok-push.ensures.items;
-      told =
-          c.in_ok-append-2.ensures.items
-          ∙ (ap (λ fs. c.ask.new.facts.items ++ fs) c.into_inner-told-2.ensures
-          ∙ ap (λ fs. fs ++ failed.facts)
-          (c.in_ok-ask.ensures
-          ∙ (ap (λ fs. fs ++ asked_of c.args.asked true c.address.result.now) (c.in_ok-append.ensures.items ∙ ap (λ fs. before ++ fs) c.into_inner-told.ensures)
-          ∙ ap (λ a. (before ++ cleared.facts) ++ asked_of c.args.asked true a) address)));
+      does = λ u q. subst (λ k. DoesBoth s u (record { moment = k; act = c.args.clear.act }) c.args.step.now cleared failed) c.requires.moment (planned.does u q);
+      behind = planned.behind;
+      told = c.in_ok-tell_both.ensures ∙ ap (λ a. ((before ++ cleared.facts) ++ asked_of c.args.asked true a) ++ failed.facts) address;
     }
