@@ -1,0 +1,45 @@
+-- What is touched once more is touched.
+use Rattle.std.proofs.Common.{ℕ, ◌≡◌, ◌==◌, Bool, true, false, ◌&&◌, ◌||◌, List, [], ◌∷◌, ◌++◌, refl, sym, ap, ◌∙◌}
+use Rattle.mdb_audit.specs.declared.connection.Place.{Place}
+use Rattle.mdb_audit.specs.declared.touched.Touched.{Touched}
+use Rattle.mdb_audit.specs.Lists.{is_place}
+use Rattle.mdb_audit.specs.Touching.{has_place, Adds}
+use Rattle.mdb_log.specs.Connections.{has}
+use Rattle.mdb_log.proofs.Numbers.{has-append}
+
+pub or-none : (b : Bool) → b ≡ b || false
+or-none true = refl
+or-none false = refl
+
+pub swapped : (a b : Bool) → a || b ≡ b || a
+swapped true true = refl
+swapped true false = refl
+swapped false true = refl
+swapped false false = refl
+
+pub or-or : (a b c : Bool) → (a || b) || c ≡ a || (c || b)
+or-or true b c = refl
+or-or false b c = swapped b c
+
+or-over : (a b c : Bool) → a || (b || c) ≡ (a || b) || c
+or-over true b c = refl
+or-over false b c = refl
+
+-- one place more, the last
+pub has_place-append : (xs : List Place) (x : Place) (p c : ℕ) → has_place (xs ++ x ∷ []) p c ≡ has_place xs p c || is_place x p c
+has_place-append [] x p c = sym (or-none (is_place x p c))
+has_place-append (y ∷ ys) x p c = ap (λ b. is_place y p c || b) (has_place-append ys x p c) ∙ or-over (is_place y p c) (has_place ys p c) (is_place x p c)
+
+pub adds_none : (t : Touched) → Adds (λ p c. false) (λ p. false) t t
+adds_none t = record { places = λ p c. or-none (has_place t.places.items p c); pools = λ p. or-none (has p t.pools.items) }
+
+pub adds_pool : (old new : Touched) (q : ℕ) → new.places ≡ old.places → new.pools.items ≡ old.pools.items ++ q ∷ [] → Adds (λ p c. false) (λ p. q == p) old new
+adds_pool old new q same e = record { places = λ p c. ap (λ xs. has_place xs.items p c) same ∙ or-none (has_place old.places.items p c); pools = λ p. ap (has p) e ∙ has-append p q old.pools.items }
+
+pub adds_place : (old new : Touched) (x : Place) (q d : ℕ) → x ≡ record { pool = q; id = d } → new.places.items ≡ old.places.items ++ x ∷ [] → new.pools.items ≡ old.pools.items ++ q ∷ [] → Adds (λ p c. (q == p) && (d == c)) (λ p. q == p) old new
+adds_place old new x q d is f e = record { places = λ p c. ap (λ xs. has_place xs p c) f ∙ has_place-append old.places.items x p c ∙ ap (λ y. has_place old.places.items p c || is_place y p c) is; pools = λ p. ap (has p) e ∙ has-append p q old.pools.items }
+
+pub adds_all : (old new : Touched) (f : ℕ → ℕ → Bool) → ((p c : ℕ) → has_place new.places.items p c ≡ has_place old.places.items p c || f p c) → new.pools ≡ old.pools → Adds f (λ p. false) old new
+adds_all old new f e same = record { places = e; pools = λ p. ap (λ xs. has p xs.items) same ∙ or-none (has p old.pools.items) }
+
+pub ruleset adds = (adds_none, adds_pool, adds_all)

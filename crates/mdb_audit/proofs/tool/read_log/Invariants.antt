@@ -1,0 +1,12 @@
+use Rattle.std.proofs.Common.{◌≡◌, ◌≤◌, length}
+use Rattle.std.specs.Io.KnownBytes.{Consumes}
+use Rattle.mdb_audit.specs.AuditRuns.{max_log}
+use Rattle.mdb_audit.proofs.tool.read_log.Given as goal
+
+abbrev pub invariant-loop-turn : goal.invariant-loop-turn
+invariant-loop-turn g l = record {
+  consumed : Consumes (g.S.Source.left l.initial.source) (g.S.Source.left l.source) l.input.items;
+  long : l._turn ≤ length l.input.items;
+  short : length l.input.items ≤ max_log;
+  faults : g.S.Source.faults l.source ≡ g.S.Source.faults l.initial.source;
+}

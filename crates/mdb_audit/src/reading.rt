@@ -1,0 +1,47 @@
+//! What steps and facts say, of all that the auditor keeps.
+
+ghost use Rattle.std.specs.Prelude.{◌≡◌, List};
+ghost use Rattle.mdb_log.specs.History.{Item, open_pool};
+ghost use Rattle.mdb_audit.specs.Opens.{HomesStand};
+ghost use Rattle.mdb_audit.specs.Reading.{of_act};
+ghost use Rattle.mdb_audit.specs.Shown.{shown_change};
+
+use crate::apply::of_event;
+use crate::change::Change;
+use crate::homes::Homes;
+use mdb_entries::ShownFact;
+use mdb_log::Act;
+
+/// What a fact says.
+pub fn of_fact(fact: &ShownFact) -> Change
+    ensures { result ≡ shown_change fact.now }
+{
+    match fact {
+        ShownFact::Opened(pool, _) => Change::Opened(*pool),
+        ShownFact::Pool(pool, event) => of_event(*pool, event),
+        ShownFact::Granted(party, pool, id) => Change::Granted(*party, *pool, *id),
+        ShownFact::Ended(party, _) => Change::Ended(*party),
+        ShownFact::Raised(pool, None, _) => Change::Turned(*pool, false),
+        _ => Change::Nothing,
+    }
+}
+
+/// What an accepted step says, where these pools are open.
+#[tactic(auto, using(crate::proofs::Read::asked_same))]
+pub fn of_act(homes: &Homes, act: &Act) -> Change
+    ensures { (h : List Item) → HomesStand h homes.now → result ≡ of_act (open_pool h) act.now }
+{
+    match act {
+        Act::Request(party, address) => Change::Asked(*party, homes.open_pool(address), false),
+        Act::Warm(party, address) => Change::Asked(*party, homes.open_pool(address), true),
+        Act::GiveUp(party) => Change::GivenUp(*party),
+        Act::Established(pool, id, _) => Change::Established(*pool, *id),
+        Act::Failed(pool, id, _, _) => Change::Failed(*pool, *id),
+        Act::Return(party, _) => Change::Returned(*party),
+        Act::Pin(party) => Change::Pinned(*party),
+        Act::Replicate(pool, id) => Change::Replicated(*pool, *id),
+        Act::Take(party, pool, id) => Change::Taken(*party, *pool, *id),
+        Act::Unpin(pool, id) => Change::Unpinned(*pool, *id),
+        _ => Change::Nothing,
+    }
+}

@@ -1,0 +1,23 @@
+//! What an audit comes to.
+
+/// What is wrong with an entry: the first of these that applies.
+#[derive(Clone, Copy, Debug, PartialEq, Eq)]
+pub enum Why {
+    /// The line is no entry's text, or has no newline.
+    Spelling,
+    /// The first entry doesn't open exactly the seeds.
+    Opening,
+    /// A grant isn't to who comes first.
+    Grant,
+    /// A connection has no place, or more than one.
+    Place,
+    /// A caller waits who could be granted a connection.
+    Waiting,
+}
+
+/// A legal log with so many entries, or the number of the first entry at fault, and why.
+#[derive(Clone, Copy, Debug, PartialEq, Eq)]
+pub enum Verdict {
+    Legal(u32),
+    Bad(u32, Why),
+}

@@ -1,0 +1,13 @@
+pub mod PieceLemmas
+pub mod PlaceLemmas
+pub mod ReplyLemmas
+pub mod FactLemmas
+pub mod ShowLemmas
+pub mod SpellingLemmas
+pub mod LogLemmas
+pub mod SameReplies
+pub mod SameFacts
+pub mod OneEntry
+pub mod PlainLemmas
+pub mod PlainPrints
+pub mod AnswerLemmas

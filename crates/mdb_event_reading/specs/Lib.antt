@@ -1,0 +1,3 @@
+pub mod EndForms
+pub mod EventTypes
+pub mod EventForms

@@ -1,0 +1,3 @@
+pub mod SdamTexts
+pub mod SdamForms
+pub mod OfEvents
