@@ -2,10 +2,11 @@
 
 use crate::objects::Objects;
 use crate::page::Page;
+use crate::runs::Tool;
 use crate::words::parted;
 use crate::{
     base, deliveries, drivers, entries, errors, events, generator, hello, lines, monitor, pool,
-    pool_values, runs, scripts, servers, slots, srv, topologies,
+    pool_values, runs, scripts, servers, shown, slots, srv, topologies,
 };
 
 fn of_base(page: &mut Page, kind: &str, given: &str) {
@@ -114,7 +115,9 @@ fn of_value(page: &mut Page, kind: &str, given: &str) {
         "length" => generator::length(page, given),
         "summary" => generator::summary(page, given),
         "command" => generator::command(page, given),
-        "run" => runs::tell(page, given),
+        "run" => runs::tell(page, Tool::Script, given),
+        "audit" => runs::tell(page, Tool::Audit, given),
+        "shown" => shown::shown(page, given),
         "stale" => pool_values::stale(page, given),
         "chain" => slots::chain(page, given),
         "turned" => slots::turned(page, given),

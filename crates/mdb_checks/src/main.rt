@@ -25,6 +25,7 @@ mod runs;
 mod scripts;
 mod server_events;
 mod servers;
+mod shown;
 mod slots;
 mod srv;
 mod topologies;

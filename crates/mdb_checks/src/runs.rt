@@ -1,9 +1,17 @@
-//! Cases of mdb_runs: one run of the tool over memory.
+//! Cases of mdb_runs and mdb_audit: one run of a tool over memory.
 
 use crate::page::Page;
 use crate::words::{number, parted, small, value_of};
+use mdb_audit::run_audit;
 use mdb_base::{MemSink, MemSource};
 use mdb_runs::run_tool;
+
+/// What is run.
+#[derive(Clone, Copy)]
+pub enum Tool {
+    Script,
+    Audit,
+}
 
 /// Puts the letters behind the text.
 pub fn add(page: &mut Page, text: &mut String, letters: &str) {
@@ -115,32 +123,42 @@ fn command_line<'a>(page: &mut Page, words: &'a str) -> Vec<&'a str> {
 
 fn run(
     page: &mut Page,
+    tool: Tool,
     words: &str,
     source: &mut MemSource,
     sink: &mut MemSink,
     errors: &mut MemSink,
 ) {
     let list = command_line(page, words);
-    let status = run_tool(page.alloc, list.as_slice(), source, sink, errors);
+    let status = match tool {
+        Tool::Script => run_tool(page.alloc, list.as_slice(), source, sink, errors),
+        Tool::Audit => run_audit(page.alloc, list.as_slice(), source, sink, errors),
+    };
     page.show(&status);
     put_lines(page, sink.taken());
     page.put(";");
     put_lines(page, errors.taken());
 }
 
-fn run_telling(page: &mut Page, words: &str, source: &mut MemSource, sink: &mut MemSink) {
+fn run_telling(
+    page: &mut Page,
+    tool: Tool,
+    words: &str,
+    source: &mut MemSource,
+    sink: &mut MemSink,
+) {
     match MemSink::new(page.alloc, 100, 100, Vec::new(page.alloc)) {
-        Ok(mut errors) => run(page, words, source, sink, &mut errors),
+        Ok(mut errors) => run(page, tool, words, source, sink, &mut errors),
         Err(_) => page.fail(),
     }
 }
 
-fn run_writing(page: &mut Page, words: &str, source: &mut MemSource) {
+fn run_writing(page: &mut Page, tool: Tool, words: &str, source: &mut MemSource) {
     let room = limit(words, "room", 10_000);
     let piece = limit(words, "writes", 1000);
     let fails = page.numbers(value_of(words, "unwritten"));
     match MemSink::new(page.alloc, room, piece, fails) {
-        Ok(mut sink) => run_telling(page, words, source, &mut sink),
+        Ok(mut sink) => run_telling(page, tool, words, source, &mut sink),
         Err(_) => page.fail(),
     }
 }
@@ -148,10 +166,10 @@ fn run_writing(page: &mut Page, words: &str, source: &mut MemSource) {
 /// `run words=make,1 reads=10 unread=2 room=10 writes=10 unwritten=2 script=TEXT filled=3 TEXT`: a run of the tool with
 /// these words on its command line, where the source gives and the sink takes so many bytes at once, these calls of them
 /// fail, and the second text stands three times behind the first one (`filled` may stand more than once). The answer is the status, the lines that were
-/// written, and behind `;` what was told of an error.
-pub fn tell(page: &mut Page, given: &str) {
+/// written, and behind `;` what was told of an error. `audit ..`: the same of the auditor, which reads the text of a log.
+pub fn tell(page: &mut Page, tool: Tool, given: &str) {
     let (words, text) = given.split_once("script=").unwrap_or((given, ""));
     let script = script(page, text);
     let mut source = source(page, words, script.as_str());
-    run_writing(page, words, &mut source);
+    run_writing(page, tool, words, &mut source);
 }
