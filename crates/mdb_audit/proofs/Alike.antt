@@ -15,13 +15,13 @@ use Rattle.mdb_log.specs.History.{Item, did, made, open_pool, is_number}
 use Rattle.mdb_log.specs.Homes.{Home, homes}
 use Rattle.mdb_log.specs.Connections.{has}
 use Rattle.mdb_log.specs.PlainRequests.{requests}
-use Rattle.mdb_audit.specs.Standing.{connection_of, gift_of, party_of, pool_stands}
-use Rattle.mdb_audit.specs.Changes.{connection_after, gift_after, party_after, pool_after}
-use Rattle.mdb_audit.specs.Reading.{of_fact, of_act}
-use Rattle.mdb_audit.proofs.Facts.{fact-connection}
-use Rattle.mdb_audit.proofs.Steps.{step-connection}
-use Rattle.mdb_audit.proofs.Parties.{fact-gift, fact-party, step-gift, step-party}
-use Rattle.mdb_audit.proofs.PoolCounts.{fact-pool, step-pool}
+use Rattle.mdb_tallies.specs.Standing.{connection_of, gift_of, party_of, pool_stands}
+use Rattle.mdb_tallies.specs.Changes.{connection_after, gift_after, party_after, pool_after}
+use Rattle.mdb_tallies.specs.Reading.{of_fact, of_act}
+use Rattle.mdb_tallies.proofs.Facts.{fact-connection}
+use Rattle.mdb_tallies.proofs.Steps.{step-connection}
+use Rattle.mdb_tallies.proofs.Parties.{fact-gift, fact-party, step-gift, step-party}
+use Rattle.mdb_tallies.proofs.PoolCounts.{fact-pool, step-pool}
 
 -- the two say the same of each connection, gift, party and pool, of the pools in their order and of the requests in theirs
 pub record Alike (o : PoolOptions) (h k : List Item) : Type 0 where

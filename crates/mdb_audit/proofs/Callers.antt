@@ -6,15 +6,15 @@ use Rattle.mdb_log.specs.History.{Item}
 use Rattle.mdb_log.specs.Legal.{first}
 use Rattle.mdb_log.specs.PlainRequests.{waiting}
 use Rattle.mdb_audit.specs.declared.queues.Queues.{Queues}
-use Rattle.mdb_audit.specs.declared.table.Table.{Table}
-use Rattle.mdb_audit.specs.declared.tables.Tables.{Tables}
-use Rattle.mdb_audit.specs.Tables.{at, same_key}
-use Rattle.mdb_audit.specs.Lists.{nth, len}
-use Rattle.mdb_audit.specs.Standing.{party_of}
-use Rattle.mdb_audit.specs.Kept.{Stands}
-use Rattle.mdb_audit.specs.Verdicts.{waits_now}
+use Rattle.mdb_tallies.specs.declared.table.Table.{Table}
+use Rattle.mdb_tallies.specs.declared.tables.Tables.{Tables}
+use Rattle.mdb_tallies.specs.Tables.{at, same_key}
+use Rattle.mdb_tallies.specs.Lists.{nth, len}
+use Rattle.mdb_tallies.specs.Standing.{party_of}
+use Rattle.mdb_tallies.specs.Kept.{Stands}
+use Rattle.mdb_tallies.specs.Verdicts.{waits_now}
 use Rattle.mdb_audit.specs.Queueing.{callers_of, QueuesStand, Passes}
-use Rattle.mdb_audit.proofs.Placed.{same}
+use Rattle.mdb_tallies.proofs.Placed.{same}
 use Rattle.mdb_audit.proofs.Firsts.{filter-first, filter-none, first-at}
 
 -- the party waits at the pool, as the tables say

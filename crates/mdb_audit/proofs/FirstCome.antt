@@ -8,14 +8,14 @@ use Rattle.mdb_log.specs.PlainConnections.{is_created}
 use Rattle.mdb_log.specs.PlainRequests.{requests, pool_of, is_warm, is_granted, is_ended, queued, waiting}
 use Rattle.mdb_log.specs.PlainLegal.{IsNext}
 use Rattle.mdb_log.proofs.Numbers.{same-number}
-use Rattle.mdb_audit.specs.declared.connection.Connection.{Connection}
-use Rattle.mdb_audit.specs.declared.party.Party.{Party}
-use Rattle.mdb_audit.specs.Standing.{connection_of, party_of}
-use Rattle.mdb_audit.specs.Verdicts.{queued_now}
+use Rattle.mdb_tallies.specs.declared.connection.Connection.{Connection}
+use Rattle.mdb_tallies.specs.declared.party.Party.{Party}
+use Rattle.mdb_tallies.specs.Standing.{connection_of, party_of}
+use Rattle.mdb_tallies.specs.Verdicts.{queued_now}
 use Rattle.mdb_audit.specs.Fairness.{FairGrant}
 use Rattle.mdb_audit.specs.Taking.{Tells}
-use Rattle.mdb_audit.proofs.Parties.{unasked-pool}
-use Rattle.mdb_audit.proofs.Placed.{same}
+use Rattle.mdb_tallies.proofs.Parties.{unasked-pool}
+use Rattle.mdb_tallies.proofs.Placed.{same}
 use Rattle.mdb_audit.proofs.Queued.{requests-asked}
 
 pub tells-is : (b : Bool) → Tells b (b ≡ true)

@@ -5,7 +5,7 @@ use Rattle.std.proofs.lemmas.List.Elements.{filter-append}
 use Rattle.mdb_log.specs.Connections.{has}
 use Rattle.mdb_log.specs.Legal.{first}
 use Rattle.mdb_audit.specs.Queueing.{first_of}
-use Rattle.mdb_audit.proofs.Placed.{same}
+use Rattle.mdb_tallies.proofs.Placed.{same}
 
 abbrev one_of : Bool → ℕ → List ℕ
 one_of b v = if b then (v ∷ []) else []

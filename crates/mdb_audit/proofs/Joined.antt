@@ -6,13 +6,13 @@ use Rattle.mdb_log.specs.History.{Item}
 use Rattle.mdb_log.specs.Requests.{some_act, was_asked}
 use Rattle.mdb_log.specs.PlainRequests.{waiting}
 use Rattle.mdb_audit.specs.declared.queues.Queues.{Queues}
-use Rattle.mdb_audit.specs.Lists.{nth, len, Pushes}
-use Rattle.mdb_audit.specs.Tables.{at}
-use Rattle.mdb_audit.specs.Standing.{party_of}
-use Rattle.mdb_audit.specs.Verdicts.{waits_now}
+use Rattle.mdb_tallies.specs.Lists.{nth, len, Pushes}
+use Rattle.mdb_tallies.specs.Tables.{at}
+use Rattle.mdb_tallies.specs.Standing.{party_of}
+use Rattle.mdb_tallies.specs.Verdicts.{waits_now}
 use Rattle.mdb_audit.specs.Queueing.{callers_of, QueuesStand}
-use Rattle.mdb_audit.proofs.Placed.{same}
-use Rattle.mdb_audit.proofs.Pushed.{pushed-len, pushed-last, pushed-below, apart-len, apart-nth}
+use Rattle.mdb_tallies.proofs.Placed.{same}
+use Rattle.mdb_tallies.proofs.Pushed.{pushed-len, pushed-last, pushed-below, apart-len, apart-nth}
 use Rattle.mdb_audit.proofs.Firsts.{first-same}
 use Rattle.mdb_audit.proofs.Queueing.{waits, AsksFirst, callers-before, grown, append-none}
 

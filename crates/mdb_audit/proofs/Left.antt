@@ -10,20 +10,20 @@ use Rattle.mdb_log.specs.PlainRequests.{requests, pool_of, waiting}
 use Rattle.mdb_log.specs.PlainState.{could_be_granted}
 use Rattle.mdb_log.specs.PlainLegal.{OnePlace, NoneLeftWaiting}
 use Rattle.mdb_log.proofs.Numbers.{same-number}
-use Rattle.mdb_audit.specs.declared.connection.Place.{Place}
-use Rattle.mdb_audit.specs.declared.pools.Pool.{Pool}
-use Rattle.mdb_audit.specs.declared.tables.Tables.{Tables}
+use Rattle.mdb_tallies.specs.declared.connection.Place.{Place}
+use Rattle.mdb_tallies.specs.declared.pools.Pool.{Pool}
+use Rattle.mdb_tallies.specs.declared.tables.Tables.{Tables}
 use Rattle.mdb_audit.specs.declared.touched.Touched.{Touched}
-use Rattle.mdb_audit.specs.Standing.{party_of, pool_stands}
-use Rattle.mdb_audit.specs.Tables.{at}
-use Rattle.mdb_audit.specs.Kept.{Stands}
+use Rattle.mdb_tallies.specs.Standing.{party_of, pool_stands}
+use Rattle.mdb_tallies.specs.Tables.{at}
+use Rattle.mdb_tallies.specs.Kept.{Stands}
 use Rattle.mdb_audit.specs.Taking.{all_in_place, is_left_at, is_left}
 use Rattle.mdb_audit.specs.Touching.{has_place, Tracks}
-use Rattle.mdb_audit.specs.Verdicts.{in_place_now, could_grant_now, waits_now}
-use Rattle.mdb_audit.proofs.Counted.{in-place, in-place-not, could-grant}
+use Rattle.mdb_tallies.specs.Verdicts.{in_place_now, could_grant_now, waits_now}
+use Rattle.mdb_tallies.proofs.Counted.{in-place, in-place-not, could-grant}
 use Rattle.mdb_audit.proofs.FirstCome.{asked-here, is-some}
-use Rattle.mdb_audit.proofs.Placed.{same}
-use Rattle.mdb_audit.proofs.PartyDoings.{left-false, right-false}
+use Rattle.mdb_tallies.proofs.Placed.{same}
+use Rattle.mdb_tallies.proofs.PartyDoings.{left-false, right-false}
 use Rattle.mdb_audit.proofs.Queued.{waiting-filter, requests-asked}
 use Rattle.mdb_audit.proofs.Tracked.{left-true}
 

@@ -18,7 +18,7 @@ use Rattle.mdb_audit.specs.declared.verdict.Why.TheVariants.{Spelling, Opening, 
 use Rattle.mdb_audit.specs.Audited.{Keeps, HasOpened, MayHave, Audits, TakenFor}
 use Rattle.mdb_audit.specs.Faults.{after_entries, OpensWell, OpensRight, OpensOnce, OpensWith, HasOptions}
 use Rattle.mdb_audit.specs.Judging.{FaultAs, FaultFor, first_why}
-use Rattle.mdb_audit.specs.Kept.{Stands}
+use Rattle.mdb_tallies.specs.Kept.{Stands}
 use Rattle.mdb_audit.specs.Opens.{HomesStand}
 
 pub after-push : (h : List Item) (before : List Entry) (e : Entry) → after_entries h (before ++ e ∷ []) ≡ with_entry (after_entries h before) e

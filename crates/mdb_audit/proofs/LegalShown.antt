@@ -26,11 +26,11 @@ use Rattle.mdb_log.specs.State.{State}
 use Rattle.mdb_log.specs.PlainState.{pools, last_state, has_ready, is_ready_pool, could_be_granted}
 use Rattle.mdb_entries.specs.OfLog.{shown_of_fact, shown_of}
 use Rattle.mdb_audit.specs.Shown.{facts_of, entry_of, entries_of}
-use Rattle.mdb_audit.specs.Standing.{connection_of, party_of, pool_stands}
-use Rattle.mdb_audit.specs.Verdicts.{in_place_now, could_grant_now}
-use Rattle.mdb_audit.specs.declared.party.Party.{Party}
+use Rattle.mdb_tallies.specs.Standing.{connection_of, party_of, pool_stands}
+use Rattle.mdb_tallies.specs.Verdicts.{in_place_now, could_grant_now}
+use Rattle.mdb_tallies.specs.declared.party.Party.{Party}
 use Rattle.mdb_audit.proofs.Alike.{Alike, alike-none, alike-fact, alike-told, alike-step}
-use Rattle.mdb_audit.proofs.Counted.{in-place, in-place-not, could-grant}
+use Rattle.mdb_tallies.proofs.Counted.{in-place, in-place-not, could-grant}
 
 -- the facts that the printed ones show
 abbrev told_of : List Fact → List Fact

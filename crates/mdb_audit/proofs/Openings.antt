@@ -11,11 +11,11 @@ use Rattle.mdb_log.specs.Homes.{Home, homes}
 use Rattle.mdb_log.specs.Opening.{pool_options}
 use Rattle.mdb_log.specs.PlainLegal.{counts_from, is_ascending, has_address, opens_seeds}
 use Rattle.mdb_log.specs.PlainState.{pools, last_state, has_ready, is_ready_pool}
-use Rattle.mdb_audit.specs.Kept.{Stands}
+use Rattle.mdb_tallies.specs.Kept.{Stands}
 use Rattle.mdb_audit.specs.Opens.{HomesStand, home_of, address_of, is_ready_now, is_opened_at, opens_now}
 use Rattle.mdb_audit.specs.declared.homes.OpenedPool.{OpenedPool}
 use Rattle.mdb_audit.specs.declared.homes.Homes.{Homes}
-use Rattle.mdb_audit.specs.declared.tables.Tables.{Tables}
+use Rattle.mdb_tallies.specs.declared.tables.Tables.{Tables}
 
 -- no address comes after the last one
 pub ascends-end : (xs : List OpenedPool) (i : ℕ) → length xs ≤ i + 1 → is_ascending (map address_of (drop i xs)) ≡ true

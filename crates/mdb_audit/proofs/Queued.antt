@@ -10,13 +10,13 @@ use Rattle.mdb_log.specs.Connections.{has}
 use Rattle.mdb_log.specs.Requests.{some_act, was_asked}
 use Rattle.mdb_log.specs.PlainRequests.{requests, pool_of, is_warm, is_granted, is_ended, waiting}
 use Rattle.mdb_log.proofs.Numbers.{has-append}
-use Rattle.mdb_audit.specs.declared.change.Change.{Change}
-use Rattle.mdb_audit.specs.declared.change.Change.TheVariants as change
-use Rattle.mdb_audit.specs.declared.party.Party.{Party}
-use Rattle.mdb_audit.specs.Standing.{party_of}
-use Rattle.mdb_audit.specs.Changes.{party_after}
-use Rattle.mdb_audit.specs.Verdicts.{waits_now}
-use Rattle.mdb_audit.proofs.Placed.{same}
+use Rattle.mdb_tallies.specs.declared.change.Change.{Change}
+use Rattle.mdb_tallies.specs.declared.change.Change.TheVariants as change
+use Rattle.mdb_tallies.specs.declared.party.Party.{Party}
+use Rattle.mdb_tallies.specs.Standing.{party_of}
+use Rattle.mdb_tallies.specs.Changes.{party_after}
+use Rattle.mdb_tallies.specs.Verdicts.{waits_now}
+use Rattle.mdb_tallies.proofs.Placed.{same}
 
 filter-step : (g : ℕ → Bool) (k : ℕ) (ks js : List ℕ) (a b : Bool) → g k ≡ b → filter g ks ≡ js → filter g (if a then (k ∷ ks) else ks) ≡ (if a && b then (k ∷ js) else js)
 filter-step g k ks js true true u e = rw (u, e) refl

@@ -5,12 +5,12 @@ use Rattle.mdb_log.specs.History.{Item}
 use Rattle.mdb_log.specs.Requests.{some_act, was_asked}
 use Rattle.mdb_log.specs.PlainRequests.{requests, waiting}
 use Rattle.mdb_audit.specs.declared.queues.Queues.{Queues}
-use Rattle.mdb_audit.specs.Lists.{nth, len}
-use Rattle.mdb_audit.specs.Tables.{at}
-use Rattle.mdb_audit.specs.Standing.{party_of}
-use Rattle.mdb_audit.specs.Verdicts.{waits_now}
+use Rattle.mdb_tallies.specs.Lists.{nth, len}
+use Rattle.mdb_tallies.specs.Tables.{at}
+use Rattle.mdb_tallies.specs.Standing.{party_of}
+use Rattle.mdb_tallies.specs.Verdicts.{waits_now}
 use Rattle.mdb_audit.specs.Queueing.{callers_of, QueuesStand}
-use Rattle.mdb_audit.proofs.Placed.{same}
+use Rattle.mdb_tallies.proofs.Placed.{same}
 use Rattle.mdb_audit.proofs.Firsts.{filter-first, filter-but}
 use Rattle.mdb_audit.proofs.Queued.{waiting-filter, still-same, requests-asked}
 

@@ -14,21 +14,21 @@ use Rattle.mdb_log.specs.Connections.{has}
 use Rattle.mdb_log.specs.Requests.{some_act, was_asked}
 use Rattle.mdb_log.specs.PlainRequests.{requests}
 use Rattle.mdb_log.proofs.Numbers.{same-number}
-use Rattle.mdb_audit.specs.declared.change.Change.{Change}
-use Rattle.mdb_audit.specs.declared.change.Change.TheVariants as change
-use Rattle.mdb_audit.specs.declared.party.Party.{Party}
+use Rattle.mdb_tallies.specs.declared.change.Change.{Change}
+use Rattle.mdb_tallies.specs.declared.change.Change.TheVariants as change
+use Rattle.mdb_tallies.specs.declared.party.Party.{Party}
 use Rattle.mdb_audit.specs.declared.queues.Queues.{Queues}
-use Rattle.mdb_audit.specs.declared.tables.Tables.{Tables}
-use Rattle.mdb_audit.specs.Tables.{at}
-use Rattle.mdb_audit.specs.Lists.{PushesIf}
-use Rattle.mdb_audit.specs.Standing.{party_of}
-use Rattle.mdb_audit.specs.Changes.{party_after}
-use Rattle.mdb_audit.specs.Reading.{of_fact, of_event, of_act}
-use Rattle.mdb_audit.specs.Kept.{Stands}
-use Rattle.mdb_audit.specs.Verdicts.{waits_now}
+use Rattle.mdb_tallies.specs.declared.tables.Tables.{Tables}
+use Rattle.mdb_tallies.specs.Tables.{at}
+use Rattle.mdb_tallies.specs.Lists.{PushesIf}
+use Rattle.mdb_tallies.specs.Standing.{party_of}
+use Rattle.mdb_tallies.specs.Changes.{party_after}
+use Rattle.mdb_tallies.specs.Reading.{of_fact, of_event, of_act}
+use Rattle.mdb_tallies.specs.Kept.{Stands}
+use Rattle.mdb_tallies.specs.Verdicts.{waits_now}
 use Rattle.mdb_audit.specs.Queueing.{QueuesStand, QueuesFollow}
-use Rattle.mdb_audit.proofs.Placed.{same}
-use Rattle.mdb_audit.proofs.Parties.{fact-party, step-party}
+use Rattle.mdb_tallies.proofs.Placed.{same}
+use Rattle.mdb_tallies.proofs.Parties.{fact-party, step-party}
 use Rattle.mdb_audit.proofs.Queued.{requests-asked, is_asking, keeps_waiting, waits-after}
 use Rattle.mdb_audit.proofs.Queueing.{waits, AsksFirst, queues-kept, queues-unjoined}
 use Rattle.mdb_audit.proofs.Joined.{queues-joined}

@@ -3,9 +3,9 @@ use Rattle.std.proofs.Common.{ℕ, ◌≡◌, Bool, List, [], ◌∷◌, Option,
 use Rattle.mdb_events.specs.declared.fact.Fact.{Fact}
 use Rattle.mdb_entries.specs.declared.shown.ShownFact.{ShownFact}
 use Rattle.mdb_entries.specs.declared.shown.ShownFact.TheVariants as shown
-use Rattle.mdb_audit.specs.declared.change.Change.{Change}
-use Rattle.mdb_audit.specs.declared.change.Change.TheVariants as change
-use Rattle.mdb_audit.specs.Reading.{of_fact}
+use Rattle.mdb_tallies.specs.declared.change.Change.{Change}
+use Rattle.mdb_tallies.specs.declared.change.Change.TheVariants as change
+use Rattle.mdb_tallies.specs.Reading.{of_fact}
 use Rattle.mdb_audit.specs.Shown.{facts_of, shown_change}
 
 pub asked_same : (r : ℕ) (x y : Option ℕ) (warm : Bool) → x ≡ y → change.Asked r x warm ≡ change.Asked r y warm

@@ -10,22 +10,22 @@ use Rattle.mdb_log.specs.History.{Item, did, open_pool, with_answer, with_facts}
 use Rattle.mdb_log.specs.PlainLegal.{with_entry, is_refused, AllFirstCome, IsFairAnswer, OnePlace, NoneLeftWaiting}
 use Rattle.mdb_entries.specs.declared.shown.Shown.{Shown}
 use Rattle.mdb_audit.specs.declared.auditor.Auditor.{Auditor}
-use Rattle.mdb_audit.specs.declared.change.Change.{Change}
-use Rattle.mdb_audit.specs.declared.tables.Tables.{Tables}
+use Rattle.mdb_tallies.specs.declared.change.Change.{Change}
+use Rattle.mdb_tallies.specs.declared.tables.Tables.{Tables}
 use Rattle.mdb_audit.specs.declared.verdict.Why.{Why}
 use Rattle.mdb_audit.specs.declared.verdict.Why.TheVariants.{Spelling, Opening, Grant, Place, Waiting}
 use Rattle.mdb_audit.specs.Audited.{Keeps}
 use Rattle.mdb_audit.specs.Judging.{TakesEntry, Judges, FaultAs, FaultFor}
-use Rattle.mdb_audit.specs.Kept.{Stands, Follows}
+use Rattle.mdb_tallies.specs.Kept.{Stands, Follows}
 use Rattle.mdb_audit.specs.Opens.{HomesStand}
 use Rattle.mdb_audit.specs.Queueing.{QueuesFollow}
-use Rattle.mdb_audit.specs.Reading.{of_act}
+use Rattle.mdb_tallies.specs.Reading.{of_act}
 use Rattle.mdb_audit.specs.Shown.{entry_of, facts_of}
 use Rattle.mdb_audit.specs.Taking.{Tells, TakesChange, Reaches, TakesFacts, all_in_place, is_left, why_of, JudgedAs}
 use Rattle.mdb_audit.proofs.HomesOn.{homes-step}
 use Rattle.mdb_audit.proofs.Left.{one-place, not-one-place, none-left, not-none-left}
 use Rattle.mdb_audit.proofs.QueuesStand.{queues-step}
-use Rattle.mdb_audit.proofs.StandsOn.{stands-step}
+use Rattle.mdb_tallies.proofs.StandsOn.{stands-step}
 use Rattle.mdb_audit.proofs.Tracked.{tracks-none, tracks-next}
 
 with-accepted : (step : Step) (reply : Reply) (facts : List Fact) (h : List Item) → is_refused reply ≡ false → with_answer step reply facts h ≡ with_facts step.moment facts (did step reply ∷ h)

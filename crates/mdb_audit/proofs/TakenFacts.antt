@@ -8,24 +8,24 @@ use Rattle.mdb_log.specs.PlainLegal.{AllFirstCome}
 use Rattle.mdb_entries.specs.declared.shown.ShownFact.{ShownFact}
 use Rattle.mdb_entries.specs.declared.shown.ShownFact.TheVariants as shown
 use Rattle.mdb_audit.specs.declared.auditor.Auditor.{Auditor}
-use Rattle.mdb_audit.specs.declared.change.Change.{Change}
-use Rattle.mdb_audit.specs.declared.change.Change.TheVariants as change
+use Rattle.mdb_tallies.specs.declared.change.Change.{Change}
+use Rattle.mdb_tallies.specs.declared.change.Change.TheVariants as change
 use Rattle.mdb_audit.specs.declared.homes.Homes.{Homes}
 use Rattle.mdb_audit.specs.declared.queues.Queues.{Queues}
-use Rattle.mdb_audit.specs.declared.tables.Tables.{Tables}
+use Rattle.mdb_tallies.specs.declared.tables.Tables.{Tables}
 use Rattle.mdb_audit.specs.Audited.{Keeps}
 use Rattle.mdb_audit.specs.Fairness.{FairFact}
-use Rattle.mdb_audit.specs.Kept.{Stands, Follows}
+use Rattle.mdb_tallies.specs.Kept.{Stands, Follows}
 use Rattle.mdb_audit.specs.Opens.{HomesStand, HomesFollow}
 use Rattle.mdb_audit.specs.Queueing.{QueuesStand, QueuesFollow}
-use Rattle.mdb_audit.specs.Reading.{of_fact}
+use Rattle.mdb_tallies.specs.Reading.{of_fact}
 use Rattle.mdb_audit.specs.Shown.{facts_of, shown_change}
 use Rattle.mdb_audit.specs.Taking.{Tells, TakesChange, Reaches, TakesFacts}
 use Rattle.mdb_audit.specs.TakingOn.{Fares, Between, TookSoFar}
 use Rattle.mdb_audit.proofs.HomesOn.{homes-fact, homes-told}
 use Rattle.mdb_audit.proofs.QueuesStand.{queues-fact, queues-same}
 use Rattle.mdb_audit.proofs.Read.{shown-says}
-use Rattle.mdb_audit.proofs.StandsOn.{stands-fact}
+use Rattle.mdb_tallies.proofs.StandsOn.{stands-fact}
 use Rattle.mdb_audit.proofs.Tracked.{tracks-none, tracks-next}
 
 -- tables that follow nothing stand for the same history

@@ -1,8 +1,8 @@
 -- What is touched once more is touched.
 use Rattle.std.proofs.Common.{ℕ, ◌≡◌, ◌==◌, Bool, true, false, ◌&&◌, ◌||◌, List, [], ◌∷◌, ◌++◌, refl, sym, ap, ◌∙◌}
-use Rattle.mdb_audit.specs.declared.connection.Place.{Place}
+use Rattle.mdb_tallies.specs.declared.connection.Place.{Place}
 use Rattle.mdb_audit.specs.declared.touched.Touched.{Touched}
-use Rattle.mdb_audit.specs.Lists.{is_place}
+use Rattle.mdb_tallies.specs.Lists.{is_place}
 use Rattle.mdb_audit.specs.Touching.{has_place, Adds}
 use Rattle.mdb_log.specs.Connections.{has}
 use Rattle.mdb_log.proofs.Numbers.{has-append}

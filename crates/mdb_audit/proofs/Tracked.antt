@@ -2,22 +2,22 @@
 use Rattle.std.proofs.Common.{ℕ, ◌≡◌, ◌==◌, Bool, true, false, not, ◌&&◌, ◌||◌, if◌then◌else◌, Option, refl, sym, ap, ◌∙◌}
 use Rattle.mdb_log.specs.History.{is_number}
 use Rattle.mdb_log.specs.Connections.{has}
-use Rattle.mdb_audit.specs.declared.connection.Connection.{Connection}
-use Rattle.mdb_audit.specs.declared.party.Party.{Party}
-use Rattle.mdb_audit.specs.declared.pools.Pool.{Pool}
-use Rattle.mdb_audit.specs.declared.change.Change.{Change}
-use Rattle.mdb_audit.specs.declared.change.Change.TheVariants as change
-use Rattle.mdb_audit.specs.declared.change.How.{How}
-use Rattle.mdb_audit.specs.declared.change.How.TheVariants.{GaveUp, GaveBack, Pinned, Over}
-use Rattle.mdb_audit.specs.declared.tables.Tables.{Tables}
+use Rattle.mdb_tallies.specs.declared.connection.Connection.{Connection}
+use Rattle.mdb_tallies.specs.declared.party.Party.{Party}
+use Rattle.mdb_tallies.specs.declared.pools.Pool.{Pool}
+use Rattle.mdb_tallies.specs.declared.change.Change.{Change}
+use Rattle.mdb_tallies.specs.declared.change.Change.TheVariants as change
+use Rattle.mdb_tallies.specs.declared.change.How.{How}
+use Rattle.mdb_tallies.specs.declared.change.How.TheVariants.{GaveUp, GaveBack, Pinned, Over}
+use Rattle.mdb_tallies.specs.declared.tables.Tables.{Tables}
 use Rattle.mdb_audit.specs.declared.touched.Touched.{Touched}
-use Rattle.mdb_audit.specs.Standing.{is_lent}
-use Rattle.mdb_audit.specs.Tables.{at}
-use Rattle.mdb_audit.specs.Changes.{connection_after, party_after, pool_after, by_party, changed_if, pool_if, kept_now, lent_now, once_created, once_closed, once_checked_in, once_established, once_failed, once_pinned, once_unpinned, once_granted, once_taken}
-use Rattle.mdb_audit.specs.Kept.{Covers, Follows}
+use Rattle.mdb_tallies.specs.Standing.{is_lent}
+use Rattle.mdb_tallies.specs.Tables.{at}
+use Rattle.mdb_tallies.specs.Changes.{connection_after, party_after, pool_after, by_party, changed_if, pool_if, kept_now, lent_now, once_created, once_closed, once_checked_in, once_established, once_failed, once_pinned, once_unpinned, once_granted, once_taken}
+use Rattle.mdb_tallies.specs.Kept.{Covers, Follows}
 use Rattle.mdb_audit.specs.Touching.{has_place, was_given, touches_place, touches_pool, Touches, Tracks}
-use Rattle.mdb_audit.specs.Verdicts.{waits_now}
-use Rattle.mdb_audit.proofs.PartyDoings.{left-false, right-false, nothing-given}
+use Rattle.mdb_tallies.specs.Verdicts.{waits_now}
+use Rattle.mdb_tallies.proofs.PartyDoings.{left-false, right-false, nothing-given}
 use Rattle.mdb_audit.proofs.Queued.{waits-after, keeps_waiting}
 
 pub tracks-none : (t : Tables) (x : Touched) → Tracks t t x

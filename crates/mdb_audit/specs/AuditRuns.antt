@@ -1,11 +1,11 @@
 -- What the tool reads, writes and answers.
-use Rattle.std.specs.Prelude.{◌≡◌, ℕ, ◌≤◌, ◌<◌, List, [], ◌∷◌, ◌++◌, length, codes, decimal, Option, Result, Ok, Err, ◌⊎◌}
+use Rattle.std.specs.Prelude.{◌≡◌, ℕ, ◌+◌, ◌≤◌, ◌<◌, List, [], ◌∷◌, ◌++◌, length, codes, decimal, Option, Result, Ok, Err, ◌⊎◌}
 use Rattle.std.specs.Io.KnownBytes.{Consumes, IsAtEnd}
 use Rattle.mdb_base.specs.Outside.{Rose, Held, Took, IsFlushed}
 use Rattle.mdb_lines.specs.declared.run_error.RunError.{RunError}
 use Rattle.mdb_lines.specs.declared.run_error.RunError.TheVariants as errors
 use Rattle.mdb_lines.specs.Status.{Told, Tells, status, message}
-use Rattle.mdb_lines.specs.Loops.{TookFront}
+use Rattle.mdb_lines.specs.Loops.{TookFront, CalledWithin}
 use Rattle.mdb_audit.specs.LegalText.{IsVerdict}
 use Rattle.mdb_audit.specs.declared.verdict.Why.{Why}
 use Rattle.mdb_audit.specs.declared.verdict.Why.TheVariants.{Spelling, Opening, Grant, Place, Waiting}
@@ -49,6 +49,13 @@ LogReadEnds left new_left faults new_faults errors.ReadFault = Rose faults new_f
 LogReadEnds left new_left faults new_faults errors.WriteFault = ⊥
 LogReadEnds left new_left faults new_faults (errors.Malformed n) = ⊥
 LogReadEnds left new_left faults new_faults errors.TooLong = (bytes : List ℕ) × Consumes left new_left bytes × (max_log < length bytes) × (new_faults ≡ faults)
+
+-- These bytes were read by at most one call more than they are, and by at most one more than a log may have bytes.
+pub record ReadsLogFew (left new_left : Option (List ℕ)) (calls new_calls : Option ℕ) : Type 0 where
+  pub bytes : List ℕ
+  pub consumed : Consumes left new_left bytes
+  pub each : CalledWithin calls new_calls (1 + length bytes)
+  pub few : CalledWithin calls new_calls (1 + max_log)
 
 -- The sink took the line, flushed; or it failed.
 abbrev pub LineWritten : List ℕ → Option Held → Option Held → ℕ → ℕ → Result (Unit {0}) RunError → Type 0

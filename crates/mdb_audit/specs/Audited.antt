@@ -7,7 +7,7 @@ use Rattle.mdb_log.specs.History.{Item}
 use Rattle.mdb_log.specs.PlainLegal.{LegalLog}
 use Rattle.mdb_audit.specs.declared.auditor.Auditor.{Auditor}
 use Rattle.mdb_audit.specs.declared.verdict.Why.{Why}
-use Rattle.mdb_audit.specs.Kept.{Stands}
+use Rattle.mdb_tallies.specs.Kept.{Stands}
 use Rattle.mdb_audit.specs.Queueing.{QueuesStand}
 use Rattle.mdb_audit.specs.Opens.{HomesStand}
 use Rattle.mdb_audit.specs.Faults.{after_entries, HasOptions, IsEntryFault}

@@ -5,11 +5,11 @@ use Rattle.mdb_log.specs.declared.options.PoolOptions.{PoolOptions}
 use Rattle.mdb_log.specs.History.{Item}
 use Rattle.mdb_log.specs.PlainLegal.{with_entry, is_refused, IsFairAnswer, OnePlace, NoneLeftWaiting}
 use Rattle.mdb_audit.specs.declared.auditor.Auditor.{Auditor}
-use Rattle.mdb_audit.specs.declared.tables.Tables.{Tables}
+use Rattle.mdb_tallies.specs.declared.tables.Tables.{Tables}
 use Rattle.mdb_audit.specs.declared.verdict.Why.{Why}
 use Rattle.mdb_audit.specs.declared.verdict.Why.TheVariants.{Opening, Grant, Place, Waiting}
 use Rattle.mdb_audit.specs.Audited.{Keeps}
-use Rattle.mdb_audit.specs.Kept.{Stands}
+use Rattle.mdb_tallies.specs.Kept.{Stands}
 use Rattle.mdb_audit.specs.Taking.{Tells, Reaches, JudgedAs}
 
 -- the auditor stands for the history with the entry too, and the truth value tells whether its grants are fair

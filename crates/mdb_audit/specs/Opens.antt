@@ -12,8 +12,8 @@ use Rattle.mdb_entries.specs.declared.shown.ShownFact.{ShownFact}
 use Rattle.mdb_entries.specs.declared.shown.ShownFact.TheVariants.{Opened, Pool}
 use Rattle.mdb_audit.specs.declared.homes.OpenedPool.{OpenedPool}
 use Rattle.mdb_audit.specs.declared.homes.Homes.{Homes}
-use Rattle.mdb_audit.specs.declared.tables.Tables.{Tables}
-use Rattle.mdb_audit.specs.Tables.{at}
+use Rattle.mdb_tallies.specs.declared.tables.Tables.{Tables}
+use Rattle.mdb_tallies.specs.Tables.{at}
 
 abbrev pub home_of : OpenedPool → Home
 home_of x = record { number = x.number; address = x.address }

@@ -3,14 +3,14 @@ use Rattle.std.specs.Prelude.{ℕ, ◌≡◌, ◌<◌, ◌≤◌, Bool, true, fa
 use Rattle.mdb_log.specs.History.{Item}
 use Rattle.mdb_log.specs.Requests.{some_act, was_asked}
 use Rattle.mdb_log.specs.PlainRequests.{waiting}
-use Rattle.mdb_audit.specs.declared.change.Change.{Change}
-use Rattle.mdb_audit.specs.declared.change.Change.TheVariants as change
+use Rattle.mdb_tallies.specs.declared.change.Change.{Change}
+use Rattle.mdb_tallies.specs.declared.change.Change.TheVariants as change
 use Rattle.mdb_audit.specs.declared.queues.Queues.{Queues}
-use Rattle.mdb_audit.specs.declared.tables.Tables.{Tables}
-use Rattle.mdb_audit.specs.Tables.{at, same_key}
-use Rattle.mdb_audit.specs.Lists.{nth, len, PushesIf}
-use Rattle.mdb_audit.specs.Standing.{party_of}
-use Rattle.mdb_audit.specs.Verdicts.{waits_now}
+use Rattle.mdb_tallies.specs.declared.tables.Tables.{Tables}
+use Rattle.mdb_tallies.specs.Tables.{at, same_key}
+use Rattle.mdb_tallies.specs.Lists.{nth, len, PushesIf}
+use Rattle.mdb_tallies.specs.Standing.{party_of}
+use Rattle.mdb_tallies.specs.Verdicts.{waits_now}
 
 -- the first n values
 abbrev pub first_of : ℕ → (ℕ → ℕ) → List ℕ

@@ -6,9 +6,9 @@ use Rattle.mdb_log.specs.declared.log.Entry.{Entry}
 use Rattle.mdb_entries.specs.declared.shown.Shown.{Shown}
 use Rattle.mdb_entries.specs.declared.shown.ShownFact.{ShownFact}
 use Rattle.mdb_entries.specs.declared.shown.ShownFact.TheVariants as shown
-use Rattle.mdb_audit.specs.declared.change.Change.{Change}
-use Rattle.mdb_audit.specs.declared.change.Change.TheVariants as change
-use Rattle.mdb_audit.specs.Reading.{of_event}
+use Rattle.mdb_tallies.specs.declared.change.Change.{Change}
+use Rattle.mdb_tallies.specs.declared.change.Change.TheVariants as change
+use Rattle.mdb_tallies.specs.Reading.{of_event}
 
 -- Events of servers and of the topology say nothing of pools: their facts are left out.
 abbrev pub facts_of : List ShownFact → List Fact

@@ -9,18 +9,18 @@ use Rattle.mdb_log.specs.PlainState.{could_be_granted}
 use Rattle.mdb_log.specs.PlainLegal.{AllFirstCome, OnePlace, NoneLeftWaiting}
 use Rattle.mdb_entries.specs.declared.shown.ShownFact.{ShownFact}
 use Rattle.mdb_audit.specs.declared.auditor.Auditor.{Auditor}
-use Rattle.mdb_audit.specs.declared.change.Change.{Change}
-use Rattle.mdb_audit.specs.declared.connection.Place.{Place}
-use Rattle.mdb_audit.specs.declared.tables.Tables.{Tables}
+use Rattle.mdb_tallies.specs.declared.change.Change.{Change}
+use Rattle.mdb_tallies.specs.declared.connection.Place.{Place}
+use Rattle.mdb_tallies.specs.declared.tables.Tables.{Tables}
 use Rattle.mdb_audit.specs.declared.verdict.Why.{Why}
 use Rattle.mdb_audit.specs.declared.verdict.Why.TheVariants.{Grant, Place as Misplaced, Waiting}
-use Rattle.mdb_audit.specs.Tables.{at}
-use Rattle.mdb_audit.specs.Kept.{Covers, Follows}
+use Rattle.mdb_tallies.specs.Tables.{at}
+use Rattle.mdb_tallies.specs.Kept.{Covers, Follows}
 use Rattle.mdb_audit.specs.Queueing.{QueuesFollow}
 use Rattle.mdb_audit.specs.Audited.{Keeps}
 use Rattle.mdb_audit.specs.Shown.{facts_of}
 use Rattle.mdb_audit.specs.Touching.{Touches, Tracks}
-use Rattle.mdb_audit.specs.Verdicts.{in_place_now}
+use Rattle.mdb_tallies.specs.Verdicts.{in_place_now}
 
 -- the truth value tells whether this holds
 abbrev pub Tells : Bool → Type 0 → Type 0

@@ -5,7 +5,7 @@ use Rattle.mdb_log.specs.History.{Item, with_facts}
 use Rattle.mdb_log.specs.PlainLegal.{AllFirstCome}
 use Rattle.mdb_entries.specs.declared.shown.ShownFact.{ShownFact}
 use Rattle.mdb_audit.specs.declared.auditor.Auditor.{Auditor}
-use Rattle.mdb_audit.specs.declared.tables.Tables.{Tables}
+use Rattle.mdb_tallies.specs.declared.tables.Tables.{Tables}
 use Rattle.mdb_audit.specs.Shown.{facts_of}
 use Rattle.mdb_audit.specs.Taking.{Reaches}
 

@@ -2,14 +2,14 @@
 use Rattle.std.specs.Prelude.{ℕ, ◌≡◌, Bool, true, false, ◌&&◌, ◌||◌, ◌==◌, List, [], ◌∷◌}
 use Rattle.mdb_log.specs.History.{is_number}
 use Rattle.mdb_log.specs.Connections.{has}
-use Rattle.mdb_audit.specs.declared.connection.Place.{Place}
-use Rattle.mdb_audit.specs.declared.change.Change.{Change}
-use Rattle.mdb_audit.specs.declared.change.Change.TheVariants as change
-use Rattle.mdb_audit.specs.declared.tables.Tables.{Tables}
+use Rattle.mdb_tallies.specs.declared.connection.Place.{Place}
+use Rattle.mdb_tallies.specs.declared.change.Change.{Change}
+use Rattle.mdb_tallies.specs.declared.change.Change.TheVariants as change
+use Rattle.mdb_tallies.specs.declared.tables.Tables.{Tables}
 use Rattle.mdb_audit.specs.declared.touched.Touched.{Touched}
-use Rattle.mdb_audit.specs.Tables.{at}
-use Rattle.mdb_audit.specs.Lists.{nth, len, listed, is_place}
-use Rattle.mdb_audit.specs.Verdicts.{waits_now}
+use Rattle.mdb_tallies.specs.Tables.{at}
+use Rattle.mdb_tallies.specs.Lists.{nth, len, listed, is_place}
+use Rattle.mdb_tallies.specs.Verdicts.{waits_now}
 
 -- one of the places is the connection c of pool p
 abbrev pub has_place : List Place → ℕ → ℕ → Bool

@@ -10,19 +10,18 @@ ghost use Rattle.mdb_audit.specs.Shown.{entry_of};
 ghost use Rattle.mdb_audit.specs.Taking.{TakesChange, TakesFacts, why_of};
 ghost use Rattle.mdb_audit.specs.Judging.{TakesEntry, Judges, FaultFor, first_why};
 
-use crate::change::Change;
 use crate::grants::is_fair;
 use crate::homes::Homes;
 use crate::leftovers::{are_in_place, is_left};
 use crate::opening::{opens_seeds, pool_options};
 use crate::queues::Queues;
 use crate::reading::{of_act, of_fact};
-use crate::tables::Tables;
 use crate::touched::Touched;
 use crate::verdict::Why;
 use mdb_base::{Options, OutOfMemory};
 use mdb_entries::{Shown, ShownFact};
 use mdb_log::{Act, PoolOptions, Reply};
+use mdb_tallies::{Change, Tables};
 use std::alloc::Global;
 
 /// What was read of a log so far.

@@ -5,17 +5,15 @@ ghost use Rattle.mdb_log.specs.History.{Item, is_number};
 ghost use Rattle.mdb_log.specs.PlainLegal.{IsNext};
 ghost use Rattle.mdb_log.specs.PlainRequests.{pool_of};
 ghost use Rattle.mdb_log.specs.declared.options.PoolOptions.{PoolOptions};
-ghost use Rattle.mdb_audit.specs.Kept.{Stands};
+ghost use Rattle.mdb_tallies.specs.Kept.{Stands};
 ghost use Rattle.mdb_audit.specs.Queueing.{QueuesStand};
 ghost use Rattle.mdb_audit.specs.Fairness.{FairGrant, FairFact};
 ghost use Rattle.mdb_audit.specs.Taking.{Tells};
 
-use crate::connection::Connection;
-use crate::party::Party;
 use crate::queues::Queues;
-use crate::tables::Tables;
 use mdb_base::OutOfMemory;
 use mdb_entries::ShownFact;
+use mdb_tallies::{Connection, Party, Tables};
 
 fn is_number(number: Option<u32>, other: u32) -> bool
     ensures { result ≡ is_number number other }

@@ -2,15 +2,14 @@
 
 ghost use Rattle.std.specs.Prelude.{◌≡◌, ◌&&◌, is_some, List, IfOk, OnOk};
 ghost use Rattle.mdb_log.specs.History.{Item};
-ghost use Rattle.mdb_audit.specs.Kept.{Stands};
+ghost use Rattle.mdb_tallies.specs.Kept.{Stands};
 ghost use Rattle.mdb_audit.specs.Queueing.{QueuesStand};
 ghost use Rattle.mdb_audit.specs.Taking.{all_in_place, is_left_at, is_left};
 
-use crate::connection::Place;
 use crate::queues::Queues;
-use crate::tables::Tables;
 use mdb_base::OutOfMemory;
 use mdb_log::PoolOptions;
+use mdb_tallies::{Place, Tables};
 
 /// Each of these connections is in place.
 pub fn are_in_place(tables: &Tables, places: &[Place]) -> Result<bool, OutOfMemory>

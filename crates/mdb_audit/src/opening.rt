@@ -5,13 +5,13 @@ ghost use Rattle.std.specs.List.{list_all};
 ghost use Rattle.mdb_log.specs.History.{Item};
 ghost use Rattle.mdb_log.specs.Opening.{pool_options};
 ghost use Rattle.mdb_log.specs.PlainLegal.{counts_from, is_ascending, has_address, opens_seeds};
-ghost use Rattle.mdb_audit.specs.Kept.{Stands};
+ghost use Rattle.mdb_tallies.specs.Kept.{Stands};
 ghost use Rattle.mdb_audit.specs.Opens.{HomesStand, home_of, address_of, is_ready_now, is_opened_at, opens_now};
 
 use crate::homes::{Homes, OpenedPool};
-use crate::tables::Tables;
 use mdb_base::{Options, ServerAddress};
 use mdb_log::PoolOptions;
+use mdb_tallies::Tables;
 
 /// The options of each pool that these options open.
 pub fn pool_options(o: &Options) -> PoolOptions

@@ -5,15 +5,12 @@ ghost use Rattle.mdb_log.specs.declared.options.PoolOptions.{PoolOptions};
 ghost use Rattle.mdb_log.specs.History.{Item};
 ghost use Rattle.mdb_log.specs.Legal.{first};
 ghost use Rattle.mdb_log.specs.PlainRequests.{waiting};
-ghost use Rattle.mdb_audit.specs.Tables.{at};
-ghost use Rattle.mdb_audit.specs.Kept.{Stands};
+ghost use Rattle.mdb_tallies.specs.Tables.{at};
+ghost use Rattle.mdb_tallies.specs.Kept.{Stands};
 ghost use Rattle.mdb_audit.specs.Queueing.{QueuesStand, QueuesFollow, JoinsIf};
 
-use crate::change::Change;
-use crate::lists::Lists;
-use crate::table::Table;
-use crate::tables::Tables;
 use mdb_base::OutOfMemory;
+use mdb_tallies::{Change, Lists, Table, Tables};
 use std::alloc::Global;
 
 /// The callers of each pool, and how many of the first of them wait no more.

@@ -3,14 +3,13 @@
 ghost use Rattle.std.specs.Prelude.{◌≡◌, List};
 ghost use Rattle.mdb_log.specs.History.{Item, open_pool};
 ghost use Rattle.mdb_audit.specs.Opens.{HomesStand};
-ghost use Rattle.mdb_audit.specs.Reading.{of_act};
+ghost use Rattle.mdb_tallies.specs.Reading.{of_act};
 ghost use Rattle.mdb_audit.specs.Shown.{shown_change};
 
-use crate::apply::of_event;
-use crate::change::Change;
 use crate::homes::Homes;
 use mdb_entries::ShownFact;
 use mdb_log::Act;
+use mdb_tallies::{Change, of_event};
 
 /// What a fact says.
 pub fn of_fact(fact: &ShownFact) -> Change

@@ -3,7 +3,7 @@
 ghost use Rattle.std.specs.Prelude.{◌≡◌, ◌≤◌, ◌<◌, ℕ, List, [], length, map, Some, IfOk, IfErr, string_bytes};
 ghost use Rattle.mdb_base.specs.Outside.{Rose};
 ghost use Rattle.mdb_lines.specs.Status.{Tells, message, status};
-ghost use Rattle.mdb_audit.specs.AuditRuns.{ReadsLog, LogReadEnds, LineWritten, RunsAudit, AuditEnds, EndsAudit, TellsTooLong, why_word, verdict_line, verdict_status, usage};
+ghost use Rattle.mdb_audit.specs.AuditRuns.{ReadsLog, LogReadEnds, ReadsLogFew, LineWritten, RunsAudit, AuditEnds, EndsAudit, TellsTooLong, why_word, verdict_line, verdict_status, usage};
 ghost use Rattle.mdb_audit.specs.LegalText.{IsVerdict};
 
 use crate::text::{MAX_LOG, audit};
@@ -18,6 +18,7 @@ const USAGE: &str = "usage: mdb_audit\n";
 fn read_log<S: Source>(alloc: Global, source: &mut S) -> Result<Vec<u8>, RunError>
     ensures all { IfOk result (λ v. ReadsLog (S.left source.old) (S.left source.new) (S.faults source.old) (S.faults source.new) v.items) }
     ensures ends { IfErr result (LogReadEnds (S.left source.old) (S.left source.new) (S.faults source.old) (S.faults source.new)) }
+    ensures few { ReadsLogFew (S.left source.old) (S.left source.new) (S.calls source.old) (S.calls source.new) }
 {
     let mut input = Vec::new(alloc);
     let mut buffer = [0u8; 1024];
@@ -94,9 +95,10 @@ fn put<K: Sink>(sink: &mut K, line: &[u8]) -> Result<(), RunError>
 }
 
 fn run<S: Source, K: Sink>(alloc: Global, source: &mut S, sink: &mut K) -> Result<Verdict, RunError>
-    ensures { RunsAudit
+    ensures runs { RunsAudit
         (record { left = S.left source.old; reads = S.faults source.old; held = K.held sink.old; writes = K.faults sink.old })
         (record { left = S.left source.new; reads = S.faults source.new; held = K.held sink.new; writes = K.faults sink.new }) result }
+    ensures few { ReadsLogFew (S.left source.old) (S.left source.new) (S.calls source.old) (S.calls source.new) }
 {
     let text = match read_log(alloc, source) {
         Ok(text) => text,
@@ -141,6 +143,9 @@ pub fn run_audit<S: Source, K: Sink, E: Sink>(
         (record { left = S.left source.old; reads = S.faults source.old; held = K.held sink.old; writes = K.faults sink.old })
         (record { left = S.left source.new; reads = S.faults source.new; held = K.held sink.new; writes = K.faults sink.new })
         (record { held = E.held errors.old; faults = E.faults errors.old }) (record { held = E.held errors.new; faults = E.faults errors.new }) result }
+
+    // The source is read at most once more than there are bytes, and at most 8,388,609 times.
+    ensures few { ReadsLogFew (S.left source.old) (S.left source.new) (S.calls source.old) (S.calls source.new) }
 
     // A log on the source gets its verdict where nothing fails, unless memory runs out.
     ensures complete { (text : List ℕ) → words.now ≡ [] → S.left source.old ≡ Some text → length text ≤ MAX_LOG

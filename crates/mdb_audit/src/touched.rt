@@ -3,10 +3,8 @@
 ghost use Rattle.std.specs.Prelude.{◌≡◌, ◌&&◌, ◌||◌, ◌==◌, ℕ, [], false, OnOk};
 ghost use Rattle.mdb_audit.specs.Touching.{Adds, Touches, has_place, was_given};
 
-use crate::change::Change;
-use crate::connection::Place;
-use crate::tables::Tables;
 use mdb_base::OutOfMemory;
+use mdb_tallies::{Change, Place, Tables};
 use std::alloc::Global;
 
 /// What an entry touched.

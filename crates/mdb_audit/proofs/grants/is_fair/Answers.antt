@@ -2,7 +2,7 @@ use Rattle.std.proofs.Common.{List, subst, sym, IfOk}
 use Rattle.mdb_log.specs.History.{Item}
 use Rattle.mdb_log.specs.declared.options.PoolOptions.{PoolOptions}
 use Rattle.mdb_audit.specs.Fairness.{FairFact}
-use Rattle.mdb_audit.specs.Kept.{Stands}
+use Rattle.mdb_tallies.specs.Kept.{Stands}
 use Rattle.mdb_audit.specs.Queueing.{QueuesStand}
 use Rattle.mdb_audit.specs.Taking.{Tells}
 use Rattle.mdb_audit.proofs.grants.is_fair.Goals as goal

@@ -1,6 +1,6 @@
 use Rattle.std.proofs.Common.{◌≡◌, List, length}
 use Rattle.mdb_log.specs.History.{Item}
-use Rattle.mdb_audit.specs.Kept.{Stands}
+use Rattle.mdb_tallies.specs.Kept.{Stands}
 use Rattle.mdb_audit.specs.Queueing.{QueuesStand}
 use Rattle.mdb_audit.specs.Taking.{is_left}
 use Rattle.mdb_audit.proofs.leftovers.is_left.Given as goal

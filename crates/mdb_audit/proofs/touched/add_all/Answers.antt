@@ -1,5 +1,5 @@
 use Rattle.std.proofs.Common.{ℕ, ◌||◌, ap, ◌∙◌, add-one}
-use Rattle.mdb_audit.specs.Lists.{nth, listed, is_place}
+use Rattle.mdb_tallies.specs.Lists.{nth, listed, is_place}
 use Rattle.mdb_audit.specs.Touching.{has_place}
 use Rattle.mdb_audit.proofs.Touches.{has_place-append, or-or}
 use Rattle.mdb_audit.proofs.touched.add_all.Goals as goal

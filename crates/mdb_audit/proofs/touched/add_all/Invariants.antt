@@ -1,5 +1,5 @@
 use Rattle.std.proofs.Common.{ℕ, ◌≡◌, ◌||◌}
-use Rattle.mdb_audit.specs.Lists.{nth, listed}
+use Rattle.mdb_tallies.specs.Lists.{nth, listed}
 use Rattle.mdb_audit.specs.Touching.{has_place}
 use Rattle.mdb_audit.proofs.touched.add_all.Given as goal
 

@@ -1,7 +1,7 @@
 use Rattle.std.proofs.Common.{◌≡◌, ◌<◌, ◌≤◌, ◌+◌, if◌then◌else◌, arith, ap, sym, ◌∙◌}
-use Rattle.mdb_audit.specs.Tables.{at, same_key}
-use Rattle.mdb_audit.specs.Lists.{len}
-use Rattle.mdb_audit.specs.Verdicts.{waits_now}
+use Rattle.mdb_tallies.specs.Tables.{at, same_key}
+use Rattle.mdb_tallies.specs.Lists.{len}
+use Rattle.mdb_tallies.specs.Verdicts.{waits_now}
 use Rattle.mdb_audit.proofs.Callers.{finds, finds-none, walked, passes-next}
 use Rattle.mdb_audit.proofs.queues.Queues.first.Goals as goal
 

@@ -1,0 +1,17 @@
+pub mod Alone
+pub mod Counted
+pub mod Covered
+pub mod Facts
+pub mod Given
+pub mod GivenTo
+pub mod Lent
+pub mod Noted
+pub mod Parties
+pub mod PartyDoings
+pub mod Placed
+pub mod PoolCounts
+pub mod Pooled
+pub mod Pushed
+pub mod StandsOn
+pub mod Steps
+pub mod Totals

@@ -1,0 +1,26 @@
+//! What an auditor of logs counts of each connection, party and pool.
+#![tactic(auto)]
+
+mod apply;
+mod change;
+mod connection;
+mod counts;
+mod doings;
+mod giving;
+mod judged;
+mod lists;
+mod notes;
+mod party;
+mod places;
+mod pools;
+mod table;
+mod tables;
+
+pub use apply::of_event;
+pub use change::{Change, How};
+pub use connection::{Connection, Place};
+pub use lists::Lists;
+pub use party::{Gift, Party};
+pub use pools::Pool;
+pub use table::Table;
+pub use tables::Tables;
