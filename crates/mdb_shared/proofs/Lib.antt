@@ -3,3 +3,4 @@ pub mod Crossing
 pub mod Keeping
 pub mod Places
 pub mod Sharing
+mod Jobs

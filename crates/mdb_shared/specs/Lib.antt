@@ -1,3 +1,4 @@
 pub mod Turning
 pub mod Seats
 pub mod Checkout
+pub mod Claims

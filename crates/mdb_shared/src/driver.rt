@@ -24,7 +24,7 @@ use std::sync::Wait;
 /// at a time. Contracts see the log that the driver was given and the number of its seats.
 #[derive(Drop)]
 pub struct SharedDriver<C: Core> {
-    table: Lock<C>,
+    pub(crate) table: Lock<C>,
     made: u32,
 }
 

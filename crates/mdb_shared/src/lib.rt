@@ -3,8 +3,10 @@
 
 mod answers;
 mod checkout;
+mod claiming;
 mod driver;
 mod ending;
+mod looking;
 mod making;
 mod meeting;
 mod rule;
@@ -13,5 +15,7 @@ mod turn;
 
 pub use answers::{TryError, Unclosed};
 pub use checkout::{Back, BackWhy, Poll};
+pub use claiming::Claimed;
 pub use driver::SharedDriver;
+pub use looking::Look;
 pub use seat::Seat;

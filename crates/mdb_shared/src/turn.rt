@@ -34,7 +34,7 @@ pub(super) fn take<C: Core>(
 }
 
 // Puts the state back, with one more entry, and lets the turn go.
-fn finish<C: Core>(table: &Lock<C>, place: &mut Place<C>, core: C, log: Log, number: u32)
+pub(super) fn finish<C: Core>(table: &Lock<C>, place: &mut Place<C>, core: C, log: Log, number: u32)
     requires table { (table.now.shared.table_id.words ≡ 2) × (table.now.shared.table_id.slots ≡ 1) × (place.old.table_id ≡ table.now.shared.table_id) }
     requires turn { (place.old.me.0.turn ≡ true) × (place.old.me.1 ≡ (0, None) ∷ []) × (place.old.me.0.parts ≡ part number (mine_of place.old.me.0.parts) ∷ []) }
     requires log { (e : Entry) × (e.seat ≡ number) × (log ≡ place.old.me.0.seen ++ e ∷ []) }
@@ -61,7 +61,7 @@ pub(super) fn give_back<C: Core>(table: &Lock<C>, place: &mut Place<C>, core: C,
 }
 
 // The step, no earlier than `last`.
-fn raise(step: Step, last: Moment) -> Step
+pub(super) fn raise(step: Step, last: Moment) -> Step
     ensures { result ≡ raised last step }
 {
     if step.moment < last {

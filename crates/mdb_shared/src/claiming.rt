@@ -1,0 +1,132 @@
+//! Claims of connections to establish. The job is read before the turn is let go: later it may be gone.
+
+ghost use Rattle.std.specs.Prelude.{◌≡◌, IsTrue, IfOk, IfErr, OnErr};
+ghost use Rattle.mdb_log.specs.Driver.{tells_job, IsThere};
+ghost use Rattle.mdb_shared.specs.Seats.{IsReady, seat_view, Stepped, OnlySaw, FoundBusy};
+ghost use Rattle.mdb_shared.specs.Claims.{claiming, claimed_by, Holds, Missed};
+
+use crate::driver::SharedDriver;
+use crate::rule::{Lock, Place};
+use crate::seat::Seat;
+use crate::turn::{finish, give_back, raise, take};
+use mdb_base::OutOfMemory;
+use mdb_log::{Act, Core, Job, Log, Reply, Step};
+use std::alloc::Global;
+use std::sync::Wait;
+
+/// What a claim came to.
+#[derive(Debug, Drop)]
+pub enum Claimed {
+    /// The connection of this pool and number is to be established: its job.
+    Job(u32, u32, Job),
+    /// The same, and there was no memory for the job.
+    Unread(u32, u32),
+    /// There is none to establish.
+    NoJob,
+}
+
+// Why a try made no claim: another seat had the turn, with the turn word that was found, or there was no memory.
+#[derive(Clone, Copy)]
+enum NoClaim {
+    Busy(u64),
+    OutOfMemory,
+}
+
+// The reply to a claim, with the job that it names.
+fn with_job<C: Core>(core: &C, alloc: Global, log: &Log, reply: Reply) -> Claimed
+    requires stands { C.stands core.now log.now }
+    requires kind { IsTrue (tells_job reply) }
+    requires there { IsThere (C.job_after log.now) reply }
+    ensures reply { claimed_by result ≡ reply }
+    ensures job { Holds (C.job_after log.now) result }
+{
+    match reply {
+        Reply::Job(pool, id) => match core.job(alloc, pool, id) {
+            Ok(Some(job)) => Claimed::Job(pool, id, job),
+            Ok(None) => unreachable!(),
+            Err(OutOfMemory) => Claimed::Unread(pool, id),
+        },
+        Reply::NoJob => Claimed::NoJob,
+        _ => unreachable!(),
+    }
+}
+
+// One claim by the seat of this number, if the turn isn't taken.
+fn one_claim<C: Core>(
+    table: &Lock<C>,
+    place: &mut Place<C>,
+    alloc: Global,
+    number: u32,
+) -> Result<Claimed, NoClaim>
+    requires table { (table.now.shared.table_id.words ≡ 2) × (table.now.shared.table_id.slots ≡ 1) × (place.old.table_id ≡ table.now.shared.table_id) }
+    requires ready { IsReady number place.old.me }
+    ensures same { (place.new.table_id ≡ place.old.table_id) × (place.new.id ≡ place.old.id) × IsReady number place.new.me }
+    ensures ok { IfOk result (λ claimed. Stepped C.stands (seat_view place.old.table_id number place.old.me.0) (seat_view place.new.table_id number place.new.me.0) claiming (claimed_by claimed) × (place.new.me.0.busy ≡ place.old.me.0.busy)) }
+    ensures job { IfOk result (Holds (C.job_after place.new.me.0.seen)) }
+    ensures err { IfErr result (λ why. Missed (seat_view place.old.table_id number place.old.me.0) (seat_view place.new.table_id number place.new.me.0) why) }
+{
+    let (mut core, mut log) = match take(table, place, number) {
+        Ok(state) => state,
+        Err(word) => return Err(NoClaim::Busy(word)),
+    };
+    let step = Step {
+        moment: 0,
+        act: Act::Claim,
+    };
+    let raised = raise(step, core.last_moment());
+    let stepped = core.step(alloc, &mut log, number, &raised);
+    drop(raised);
+    match stepped {
+        Ok(reply) => {
+            let claimed = with_job(&core, alloc, &log, reply);
+            finish(table, place, core, log, number);
+            table.shared.wake_one(1);
+            table.shared.wake_one(0);
+            Ok(claimed)
+        }
+        Err(OutOfMemory) => {
+            give_back(table, place, core, log);
+            table.shared.wake_one(0);
+            Err(NoClaim::OutOfMemory)
+        }
+    }
+}
+
+impl<C: Core> SharedDriver<C> {
+    // A claim, unless another seat has the turn.
+    fn try_claim(&self, alloc: Global, seat: &mut Seat<C>) -> Result<Claimed, NoClaim>
+        requires own { seat.old.driver ≡ self.now.id }
+        ensures same { (seat.new.driver ≡ seat.old.driver) × (seat.new.number ≡ seat.old.number) }
+        ensures ok { IfOk result (λ claimed. Stepped C.stands seat.old seat.new claiming (claimed_by claimed) × (seat.new.busy ≡ seat.old.busy)) }
+        ensures job { IfOk result (Holds (C.job_after seat.new.seen)) }
+        ensures err { IfErr result (Missed seat.old seat.new) }
+    {
+        one_claim(&self.table, &mut seat.place, alloc, seat.number)
+    }
+
+    /// Claims a connection to establish. Nothing is claimed where there is no memory for the step. It may wait for the turn.
+    pub fn claim<R: Wait>(
+        &self,
+        rt: &R,
+        alloc: Global,
+        seat: &mut Seat<C>,
+    ) -> Result<Claimed, OutOfMemory>
+        requires own { seat.old.driver ≡ self.now.id }
+        ensures same { (seat.new.driver ≡ seat.old.driver) × (seat.new.number ≡ seat.old.number) }
+        ensures busy { FoundBusy seat.old seat.new }
+        ensures ok { IfOk result (λ claimed. Stepped C.stands seat.old seat.new claiming (claimed_by claimed)) }
+        ensures job { IfOk result (Holds (C.job_after seat.new.seen)) }
+        ensures err { OnErr result (OnlySaw seat.old seat.new) }
+    {
+        for _ in rt.forever() {
+            match self.try_claim(alloc, seat) {
+                Ok(claimed) => return Ok(claimed),
+                Err(NoClaim::OutOfMemory) => return Err(OutOfMemory),
+                Err(NoClaim::Busy(word)) => {
+                    self.table.shared.park(rt, 0, (word % (1 << 32)) as u32);
+                }
+            }
+        }
+        unreachable!()
+    }
+}

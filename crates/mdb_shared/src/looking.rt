@@ -1,0 +1,91 @@
+//! Looks at the core and its log, which add no entry, and sleeps until the log grows.
+
+ghost use Rattle.std.specs.Prelude.{◌≡◌, ◌≢◌, ◌+◌, ◌∷◌, ◌++◌, [], IfOk, IfErr};
+ghost use Rattle.mdb_shared.specs.Seats.{IsReady, seat_view, OnlySaw, FoundBusy};
+ghost use Rattle.mdb_shared.specs.Turning.{found_busy};
+
+use crate::driver::SharedDriver;
+use crate::rule::{Lock, Place};
+use crate::seat::Seat;
+use crate::turn::{give_back, take};
+use mdb_log::{Core, Log};
+use std::sync::Wait;
+
+/// What one looks for in a driver.
+pub trait Look<C: Core> {
+    ghost use Rattle.std.specs.Prelude.{List};
+    ghost use Rattle.mdb_log.specs.declared.log.Entry.{Entry};
+
+    /// What a look finds out.
+    type Found: Drop;
+
+    /// What it says of the log.
+    ghost tells: { Self → List Entry → Self.Found → Type 0 };
+
+    /// Looks at the core and the log that it stands for.
+    fn look(&self, core: &C, log: &Log) -> Self::Found
+        requires { C.stands core.now log.now }
+        ensures { tells self.now log.now result };
+}
+
+// A look by the seat of this number, unless the turn is taken.
+fn one_look<C: Core, L: Look<C>>(
+    table: &Lock<C>,
+    place: &mut Place<C>,
+    number: u32,
+    look: &L,
+) -> Result<L::Found, u64>
+    requires table { (table.now.shared.table_id.words ≡ 2) × (table.now.shared.table_id.slots ≡ 1) × (place.old.table_id ≡ table.now.shared.table_id) }
+    requires ready { IsReady number place.old.me }
+    ensures same { (place.new.table_id ≡ place.old.table_id) × (place.new.id ≡ place.old.id) × IsReady number place.new.me }
+    ensures ok { IfOk result (λ found. OnlySaw (seat_view place.old.table_id number place.old.me.0) (seat_view place.new.table_id number place.new.me.0) × (place.new.me.0.busy ≡ place.old.me.0.busy) × L.tells look.now place.new.me.0.seen found) }
+    ensures err { IfErr result (λ word. (place.new.me ≡ (found_busy place.old.me.0 word, [])) × (word ≢ 0) × (word ≢ number + 1)) }
+{
+    let (core, log) = match take(table, place, number) {
+        Ok(state) => state,
+        Err(word) => return Err(word),
+    };
+    let found = look.look(&core, &log);
+    give_back(table, place, core, log);
+    table.shared.wake_one(0);
+    Ok(found)
+}
+
+impl<C: Core> SharedDriver<C> {
+    // A look, unless another seat has the turn.
+    fn try_look<L: Look<C>>(&self, seat: &mut Seat<C>, look: &L) -> Result<L::Found, u64>
+        requires own { seat.old.driver ≡ self.now.id }
+        ensures same { (seat.new.driver ≡ seat.old.driver) × (seat.new.number ≡ seat.old.number) }
+        ensures ok { IfOk result (λ found. OnlySaw seat.old seat.new × (seat.new.busy ≡ seat.old.busy) × L.tells look.now seat.new.seen found) }
+        ensures err { IfErr result (λ word. (word ≢ 0) × (word ≢ seat.old.number + 1) × (seat.new.seen ≡ seat.old.seen) × (seat.new.mine ≡ seat.old.mine) × (seat.new.busy ≡ seat.old.busy ++ word ∷ [])) }
+    {
+        one_look(&self.table, &mut seat.place, seat.number, look)
+    }
+
+    /// Looks at the driver: what it finds is of all that the seat has seen then. It adds no entry. It may wait for the turn.
+    pub fn look<R: Wait, L: Look<C>>(&self, rt: &R, seat: &mut Seat<C>, look: &L) -> L::Found
+        requires own { seat.old.driver ≡ self.now.id }
+        ensures same { (seat.new.driver ≡ seat.old.driver) × (seat.new.number ≡ seat.old.number) }
+        ensures busy { FoundBusy seat.old seat.new }
+        ensures saw { OnlySaw seat.old seat.new }
+        ensures told { L.tells look.now seat.new.seen result }
+    {
+        for _ in rt.forever() {
+            match self.try_look(seat, look) {
+                Ok(found) => return found,
+                Err(word) => self.table.shared.park(rt, 0, (word % (1 << 32)) as u32),
+            }
+        }
+        unreachable!()
+    }
+
+    /// Sleeps while the log has this many entries, until a step wakes it. It may also return for no reason.
+    pub fn sleep<R: Wait>(&self, rt: &R, count: u64) {
+        self.table.shared.park(rt, 1, (count % (1 << 32)) as u32);
+    }
+
+    /// Wakes one that sleeps, if there is one.
+    pub fn wake(&self) {
+        self.table.shared.wake_one(1);
+    }
+}

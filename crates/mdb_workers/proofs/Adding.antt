@@ -1,0 +1,130 @@
+-- What several steps make is what each of them makes, one after the other.
+use Rattle.std.proofs.Common.{◌≡◌, ◌≢◌, ℕ, ◌+◌, List, [], ◌∷◌, ◌++◌, length, append_assoc, append-nil, ap, sym, subst, ◌∙◌, refl, arith, Option, Some, None, IsTrue, not, ◌<◌, length-append}
+use Rattle.mdb_base.specs.declared.address.ServerAddress.{ServerAddress}
+use Rattle.mdb_log.specs.declared.log.Entry.{Entry}
+use Rattle.mdb_log.specs.declared.step.Act.TheVariants.{Warm}
+use Rattle.mdb_log.specs.declared.reply.Reply.{Reply}
+use Rattle.mdb_log.specs.declared.reply.Reply.TheVariants.{Pooled, Establishing, Waiting, Ended, Job, NoJob, Changed, Count, Done, Refused}
+use Rattle.mdb_log.specs.declared.step.Step.{Step}
+use Rattle.mdb_log.specs.Driver.{StartsWith}
+use Rattle.mdb_shared.specs.Seats.{SeatView, Each, FoundBusy, Stepped, OnlySaw}
+use Rattle.mdb_workers.specs.Making.{Made}
+use Rattle.mdb_workers.specs.Filling.{AreWarm, EndsIn, GoesOn, is_establishing, told_reply, Filled, FilledInPart}
+
+pub each_more : {X : Type 0} (P : X → Type 0) (xs ys : List X) → Each P xs → Each P ys → Each P (xs ++ ys)
+each_more P [] ys h k = k
+each_more P (x ∷ xs) ys h k = (h.0, each_more P xs ys h.1 k)
+
+found_then : (s t u : SeatView) → t.number ≡ s.number → FoundBusy s t → FoundBusy t u → FoundBusy s u
+found_then s t u same f g = (
+  f.0 ++ g.0,
+  g.1 ∙ (ap (λ (l : List ℕ). l ++ g.0) f.1 ∙ append_assoc s.busy f.0 g.0),
+  each_more (λ (w : ℕ). (w ≢ 0) × (w ≢ s.number + 1)) f.0 g.0 f.2 (subst (λ (n : ℕ). Each (λ (w : ℕ). (w ≢ 0) × (w ≢ n + 1)) g.0) same g.2),
+)
+
+pub starts_then : (a b c : List Entry) → StartsWith b a → StartsWith c b → StartsWith c a
+starts_then a b c f g = (f.0 ++ g.0, g.1 ∙ (ap (λ (l : List Entry). l ++ g.0) f.1 ∙ append_assoc a f.0 g.0))
+
+-- nothing yet
+pub made_none : (s : SeatView) → Made s s []
+made_none s = (refl, refl, ([], sym (append-nil s.seen)), sym (append-nil s.mine), ([], sym (append-nil s.busy), tt))
+
+-- some entries, and then some more
+pub made_then : (s t u : SeatView) (es fs : List Entry) → Made s t es → Made t u fs → Made s u (es ++ fs)
+made_then s t u es fs f g = (
+  g.0 ∙ f.0,
+  g.1 ∙ f.1,
+  starts_then s.seen t.seen u.seen f.2 g.2,
+  g.3 ∙ (ap (λ (l : List Entry). l ++ fs) f.3 ∙ append_assoc s.mine es fs),
+  found_then s t u f.1 f.4 g.4,
+)
+
+-- a call that added nothing
+pub made_nothing : (s s' : SeatView) → s'.driver ≡ s.driver → s'.number ≡ s.number → FoundBusy s s' → OnlySaw s s' → Made s s' []
+made_nothing s s' d n f o = (d, n, o.0, o.1 ∙ sym (append-nil s.mine), f)
+
+-- one step: its entry is the last one
+pub made_entry : {T : Type 0} (stands : T → List Entry → Type 0) (s s' : SeatView) (step : Step) (reply : Reply) → s'.driver ≡ s.driver → s'.number ≡ s.number → FoundBusy s s' → (t : Stepped stands s s' step reply) → Made s s' (t.1 ∷ [])
+made_entry stands s s' step reply d n f t = (d, n, starts_then s.seen t.0 s'.seen t.2 (t.1 ∷ [], t.4), t.5, f)
+
+pub made_step : {T : Type 0} (stands : T → List Entry → Type 0) (s s' : SeatView) (step : Step) (reply : Reply) → s'.driver ≡ s.driver → s'.number ≡ s.number → FoundBusy s s' → Stepped stands s s' step reply
+    → (e : Entry) × (e.step.act ≡ step.act) × (e.reply ≡ reply) × Made s s' (e ∷ [])
+made_step stands s s' step reply d n f t = (t.1, ap (λ (x : Step). x.act) t.3.1, t.3.2, made_entry stands s s' step reply d n f t)
+
+-- ---- warm requests
+
+each_one_more : (es : List Entry) (e : Entry) → Each GoesOn es → GoesOn e → Each GoesOn (es ++ e ∷ [])
+each_one_more es e h g = each_more GoesOn es (e ∷ []) h (g, tt)
+
+warm_more : (address : ServerAddress) (first : ℕ) (es : List Entry) (e : Entry) → AreWarm address first es → e.step.act ≡ Warm (first + length es) address → AreWarm address first (es ++ e ∷ [])
+warm_more address first [] e h is = (subst (λ (n : ℕ). e.step.act ≡ Warm n address) (omega arith) is, tt)
+warm_more address first (x ∷ es) e h is = (h.0, warm_more address (first + 1) es e h.1 (subst (λ (n : ℕ). e.step.act ≡ Warm n address) (omega arith) is))
+
+ends_more : (es : List Entry) (e : Entry) → Each GoesOn es → EndsIn (Some e.reply) (es ++ e ∷ [])
+ends_more [] e h = refl
+ends_more (x ∷ []) e h = (h.0, refl)
+ends_more (x ∷ y ∷ es) e h = (h.0, ends_more (y ∷ es) e h.1)
+
+-- what was made so far
+abbrev pub SoFar : ServerAddress → ℕ → ℕ → SeatView → SeatView → Option (ℕ × ℕ) → Type 0
+SoFar address first made s s' last = (es : List Entry) × Made s s' es × AreWarm address first es × EndsIn (told_reply last) es × Each GoesOn es × (length es ≡ made)
+
+-- the entry that one warm request adds
+abbrev pub OneWarm : ServerAddress → ℕ → SeatView → SeatView → Reply → Type 0
+OneWarm address request s s' reply = (e : Entry) × (e.step.act ≡ Warm request address) × (e.reply ≡ reply) × Made s s' (e ∷ [])
+
+pub so_far_none : (address : ServerAddress) (first : ℕ) (s : SeatView) → SoFar address first 0 s s None
+so_far_none address first s = ([], made_none s, tt, refl, tt, refl)
+
+module _ (address : ServerAddress) (first made : ℕ) (s t u : SeatView) (last : Option (ℕ × ℕ)) (so : SoFar address first made s t last) where
+  abbrev es : List Entry
+  es = so.0
+
+  all_warm : (reply : Reply) (w : OneWarm address (first + made) t u reply) → AreWarm address first (es ++ w.0 ∷ [])
+  all_warm reply w = warm_more address first es w.0 so.2 (subst (λ (n : ℕ). w.0.step.act ≡ Warm (first + n) address) (sym so.5) w.1)
+
+  one_longer : (e : Entry) → length (es ++ e ∷ []) ≡ made + 1
+  one_longer e = length-append es (e ∷ []) ∙ ap (λ (n : ℕ). n + 1) so.5
+
+  pub so_far_more : (pool id : ℕ) → OneWarm address (first + made) t u (Establishing pool id) → SoFar address first (made + 1) s u (Some (pool, id))
+  so_far_more pool id w = (
+    es ++ w.0 ∷ [],
+    made_then s t u es (w.0 ∷ []) so.1 w.3,
+    all_warm (Establishing pool id) w,
+    subst (λ (r : Reply). EndsIn (Some r) (es ++ w.0 ∷ [])) w.2 (ends_more es w.0 so.4),
+    each_one_more es w.0 so.4 (subst (λ (r : Reply). IsTrue (is_establishing r)) (sym w.2) refl),
+    one_longer w.0,
+  )
+
+  pub filled_by : (budget : ℕ) (reply : Reply) → made < budget → IsTrue (not (is_establishing reply)) → OneWarm address (first + made) t u reply → Filled address first budget s u record { made = made + 1; last = Some reply }
+  filled_by budget reply low other w = (
+    es ++ w.0 ∷ [],
+    made_then s t u es (w.0 ∷ []) so.1 w.3,
+    all_warm reply w,
+    subst (λ (r : Reply). EndsIn (Some r) (es ++ w.0 ∷ [])) w.2 (ends_more es w.0 so.4),
+    one_longer w.0,
+    omega arith,
+    λ _. other,
+  )
+
+  pub filled_in_part : (budget : ℕ) → made < budget → Made t u [] → FilledInPart address first budget s u
+  filled_in_part budget low none = (es, subst (Made s u) (append-nil es) (made_then s t u es [] so.1 none), so.2, so.4, subst (λ (n : ℕ). n < budget) (sym so.5) low)
+
+pub filled_up : (address : ServerAddress) (first made budget : ℕ) (s t : SeatView) (last : Option (ℕ × ℕ)) → made ≡ budget → SoFar address first made s t last → Filled address first budget s t record { made = budget; last = told_reply last }
+filled_up address first made budget s t last all so = (so.0, so.1, so.2, so.3, so.5 ∙ all, omega arith, λ low. absurd (omega arith))
+
+pub not_made : (reply : Reply) → ((pool id : ℕ) → reply ≢ Establishing pool id) → IsTrue (not (is_establishing reply))
+not_made (Establishing pool id) other = absurd (other pool id refl)
+not_made (Pooled pool id) other = refl
+not_made Waiting other = refl
+not_made (Ended end) other = refl
+not_made (Job pool id) other = refl
+not_made NoJob other = refl
+not_made (Changed changed) other = refl
+not_made (Count count) other = refl
+not_made Done other = refl
+not_made (Refused why) other = refl
+
+-- a look, after nothing was added
+pub made_saw : (s t u : SeatView) → Made s t [] → u.driver ≡ t.driver → u.number ≡ t.number → FoundBusy t u → OnlySaw t u → Made s u []
+made_saw s t u m d n f o = made_then s t u [] [] m (made_nothing t u d n f o)

@@ -1,0 +1,4 @@
+mod Adding
+mod Questions
+mod Laboring
+mod Looking
