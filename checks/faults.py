@@ -1,9 +1,9 @@
 #!/usr/bin/env python3
 """Runs built programs with one call of the C library failing: each allocation, each read and each write in turn.
 
-usage: checks/faults.py [--script PROGRAM] [--checks PROGRAM] [--jobs N] [--seconds N] [--every]
+usage: checks/faults.py [--script PROGRAM] [--checks PROGRAM] [--tests PROGRAM] [--jobs N] [--seconds N] [--every]
 
-PROGRAM is crates/mdb_script/out/mdb_script and crates/mdb_checks/out/mdb_checks where it is left out; nothing is built.
+PROGRAM is crates/mdb_script/out/mdb_script, crates/mdb_checks/out/mdb_checks and crates/mdb_total/out/mdb_total_tests where it is left out; nothing is built.
 mdb_script runs its stored script, `make 10` and the scripts of mdb_checks that SWEPT names (with --every all of them);
 mdb_checks runs its stored cases. Each runs once as it is, and then, up to N runs side by side (as many as there are
 processors) and for at most N seconds (900), once for each call and each of these faults:
@@ -14,6 +14,9 @@ processors) and for at most N seconds (900), once for each call and each of thes
                read leaves mdb_script with no output.
   short_read, short_write   moves one byte, and so does each of them in a further run. Nothing changes.
 
+The tests of mdb_total share a driver among threads and seats. Each runs once for each of its first allocations, which is refused: it
+ends well, or stops where it has no memory, or in the test of two threads where one of them made a step less; it never hangs.
+
 A case of mdb_checks may answer want of memory where it runs the tool (counted as answered). One that is answered otherwise
 for want of memory is known where its kind is in KNOWN, and else a finding. Cases of more than LONG allocations are left out.
 Each finding has a line, and the counts come last; runs for which there was no time are counted as left. The status is 0
@@ -22,6 +25,7 @@ where nothing was found, 1 where something was, and 2 where a program is missing
 import argparse
 import concurrent.futures
 import os
+import signal
 import subprocess
 import sys
 import tempfile
@@ -36,6 +40,8 @@ MADE = b'lines=22 granted=10 created=4 closed=1 live=3\n'
 KNOWN = (b'writing',)
 # The end of an answer that is itself want of memory, told by a run of the tool within a case.
 WANT = b'"out of memory\\n"'
+FIRST = 1000  # allocations of a test that are refused in turn
+THREADS = 'two_threads_make_one_log'
 REST = 30  # seconds between two lines of progress
 LIMIT = 120  # seconds for one run
 LONG = 2000  # allocations of one case; one that takes more is left out
@@ -96,7 +102,6 @@ def subjects(script, checks, folder, is_every):
         found.append(Subject('mdb_script', script, [], *stored('mdb_script'), SCRIPT_ENDS))
         found.append(Subject('mdb_script make 10', script, ['make', '10'], os.devnull, MADE, SCRIPT_ENDS))
         found.extend(swept(script, folder, is_every))
-        # A run on threads, `share K`, stands here once the program takes these words.
     if checks not in missing:
         found.append(Subject('mdb_checks', checks, [], *stored('mdb_checks'), CHECKS_ENDS))
     return found, missing
@@ -257,6 +262,40 @@ def tell(subject, tally, seconds):
     print('%s: %d runs in %.0f seconds' % (subject.name, sum(tally.values()), seconds), flush=True)
 
 
+def tests_of(program):
+    """The names of the tests of a program of tests."""
+    told = subprocess.run([program, '--list'], capture_output=True, text=True, timeout=LIMIT).stdout
+    return [line[:-len(': test')] for line in told.splitlines() if line.endswith(': test')]
+
+
+def one_test(program, library, name, at):
+    """What a run of a test counts as whose allocation of this number is refused, and the line to print of it."""
+    env = {'LD_PRELOAD': library, 'FAULT_KIND': 'allocation', 'FAULT_AT': str(at)}
+    try:
+        ended = subprocess.run([program, name], capture_output=True, env=env, timeout=LIMIT)
+    except subprocess.TimeoutExpired:
+        return 'found', ['found: %s: allocation %d: no end' % (name, at)]
+    if ended.returncode == 0 and ended.stdout.endswith(b'test result: ok\n'):
+        return 'unharmed', []
+    is_told = b'memory' in ended.stderr or (name.endswith(THREADS) and ended.stderr.startswith(b'assertion failed: one =='))
+    if ended.returncode == -signal.SIGABRT and is_told:
+        return 'ended', []
+    return 'found', ['found: %s: allocation %d: status %s, told %r' % (name, at, ended.returncode, ended.stderr)]
+
+
+def sweep_tests(program, library, jobs):
+    """Runs each test with each of its first allocations refused."""
+    tally, begun = Counter(), time.monotonic()
+    todo = [(name, at) for name in tests_of(program) for at in range(1, FIRST + 1)]
+    with concurrent.futures.ThreadPoolExecutor(jobs) as pool:
+        for verdict, lines in pool.map(lambda it: one_test(program, library, *it), todo):
+            tally['allocation', verdict] += 1
+            for line in lines:
+                print(line, flush=True)
+    tell(Subject('mdb_total_tests', program, [], os.devnull, b'', CHECKS_ENDS), tally, time.monotonic() - begun)
+    return tally
+
+
 def build(folder):
     """Compiles what stands before the C library."""
     library = os.path.join(folder, 'faults.so')
@@ -274,6 +313,7 @@ def options():
     reader = argparse.ArgumentParser(usage=__doc__.split('usage: ')[1])
     reader.add_argument('--script', default=os.path.join(CRATES, 'mdb_script/out/mdb_script'))
     reader.add_argument('--checks', default=os.path.join(CRATES, 'mdb_checks/out/mdb_checks'))
+    reader.add_argument('--tests', default=os.path.join(CRATES, 'mdb_total/out/mdb_total_tests'))
     reader.add_argument('--jobs', type=int, default=os.cpu_count())
     reader.add_argument('--seconds', type=int, default=900)
     reader.add_argument('--every', action='store_true')
@@ -289,6 +329,11 @@ def main():
         library = build(folder) if found else None
         for subject in found:
             tally.update(sweep(subject, library, folder, given.jobs, until))
+        tests = os.path.abspath(given.tests)
+        if not os.path.isfile(tests):
+            missing.append(tests)
+        elif library:
+            tally.update(sweep_tests(tests, library, given.jobs))
     for program in missing:
         print('missing: %s' % program)
     verdicts = Counter()
