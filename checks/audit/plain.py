@@ -65,8 +65,8 @@ def fact(text):
     return ('other',)
 
 
-class Items:
-    """What a history says of one pool, newest first."""
+class Newest:
+    """Items, each before the older ones."""
 
     def __init__(self, item=None, older=None):
         self.item, self.older, self.known = item, older, {}
@@ -76,6 +76,10 @@ class Items:
         while at.older is not None:
             yield at.item
             at = at.older
+
+
+class Items(Newest):
+    """What a history says of one pool, newest first."""
 
     @kept
     def creations(self, c):
@@ -133,17 +137,8 @@ class Items:
         return next((it[0] for it in self if it[0] in ('pool created', 'pool ready', 'raised', 'pool closed')), None)
 
 
-class History:
+class History(Newest):
     """Accepted steps and facts, newest first."""
-
-    def __init__(self, item=None, older=None):
-        self.item, self.older, self.known = item, older, {}
-
-    def __iter__(self):
-        at = self
-        while at.older is not None:
-            yield at.item
-            at = at.older
 
     @kept
     def open_pool(self, a):
