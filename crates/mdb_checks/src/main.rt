@@ -25,6 +25,7 @@ mod runs;
 mod scripts;
 mod server_events;
 mod servers;
+mod shares;
 mod shown;
 mod slots;
 mod srv;
@@ -35,13 +36,32 @@ use objects::Objects;
 use page::Page;
 use std::alloc::AllocError;
 use std::io;
+use std::sync::Wait;
+use std::thread::Threads;
+use words::parted;
 
-fn judge(rt: &HostRuntime, objects: &mut Objects, line: &str) -> io::Result<()> {
+// What runs in threads needs the runtime; no other case does.
+fn answer<R: Threads + Wait + Sync>(rt: &R, page: &mut Page, objects: &mut Objects, case: &str) {
+    let (kind, given) = parted(case);
+    match kind {
+        "share" => shares::share(rt, page, given),
+        "alone" => shares::alone(rt, page, given),
+        "gated" => shares::gated(rt, page, given),
+        _ => case::answer(page, objects, case),
+    }
+}
+
+fn judge<R: Threads + Wait + Sync>(
+    rt: &HostRuntime,
+    threads: &R,
+    objects: &mut Objects,
+    line: &str,
+) -> io::Result<()> {
     let Some((case, wanted)) = line.split_once(" => ") else {
         return println!(rt; "{line}");
     };
     let mut page = Page::new(rt.alloc());
-    case::answer(&mut page, objects, case);
+    answer(threads, &mut page, objects, case);
     if !page.is_whole {
         return Err(AllocError.into());
     }
@@ -53,16 +73,20 @@ fn judge(rt: &HostRuntime, objects: &mut Objects, line: &str) -> io::Result<()> 
     }
 }
 
-fn judge_all(rt: &HostRuntime, objects: &mut Objects) -> io::Result<()> {
+fn judge_all<R: Threads + Wait + Sync>(
+    rt: &HostRuntime,
+    threads: &R,
+    objects: &mut Objects,
+) -> io::Result<()> {
     for line in rt.lines(rt.alloc()) {
-        judge(rt, objects, line?.as_str())?;
+        judge(rt, threads, objects, line?.as_str())?;
     }
     Ok(())
 }
 
 fn main(rt: HostRuntime) -> io::Result<()> {
     let mut objects = Objects::new(rt.alloc());
-    let judged = judge_all(&rt, &mut objects);
+    let judged = judge_all(&rt, &rt, &mut objects);
     drop(objects);
     judged
 }

@@ -59,7 +59,8 @@ fn fill(page: &mut Page, script: &mut String, filled: &str) {
     }
 }
 
-fn script(page: &mut Page, words: &str) -> String {
+/// The text of a script: `filled=3 TEXT` stands for three times the text.
+pub fn script(page: &mut Page, words: &str) -> String {
     let (front, rest) = words.split_once(" filled=").unwrap_or((words, ""));
     let mut script = page.string("");
     add_decoded(page, &mut script, front);
@@ -77,7 +78,8 @@ fn limit(words: &str, name: &str, usual: usize) -> usize {
     }
 }
 
-fn source(page: &mut Page, words: &str, script: &str) -> MemSource {
+/// A source of the script, which gives so many bytes at once and fails at these calls.
+pub fn source(page: &mut Page, words: &str, script: &str) -> MemSource {
     let piece = limit(words, "reads", 1000).max(1);
     let fails = page.numbers(value_of(words, "unread"));
     MemSource::new(page.bytes(script), piece, fails)

@@ -45,15 +45,15 @@ text_push : (log : List Entry) (e : Entry) → text_of (log ++ e ∷ []) ≡ tex
 text_push [] e = append-nil (text_of_entry e)
 text_push (f ∷ log) e = ap (λ (xs : List ℕ). text_of_entry f ++ xs) (text_push log e) ∙ sym (append_assoc (text_of_entry f) (text_of log) (text_of_entry e))
 
-lines_push : (ss : List Step) (s : Step) → map line_of (ss ++ s ∷ []) ≡ map line_of ss ++ line_of s ∷ []
+pub lines_push : (ss : List Step) (s : Step) → map line_of (ss ++ s ∷ []) ≡ map line_of ss ++ line_of s ∷ []
 lines_push [] s = refl
 lines_push (t ∷ ss) s = ap (λ (ls : List (List ℕ)). line_of t ∷ ls) (lines_push ss s)
 
-allowed_push : (n : ℕ) (ss : List Step) (s : Step) → AreAllowed n ss → Spells (n + length ss) (spelling s) s → AreAllowed n (ss ++ s ∷ [])
+pub allowed_push : (n : ℕ) (ss : List Step) (s : Step) → AreAllowed n ss → Spells (n + length ss) (spelling s) s → AreAllowed n (ss ++ s ∷ [])
 allowed_push n [] s h t = (subst (λ (k : ℕ). Spells k (spelling s) s) (omega arith) t, tt)
 allowed_push n (u ∷ ss) s h t = (h.0, allowed_push (n + 1) ss s h.1 (subst (λ (k : ℕ). Spells k (spelling s) s) (omega arith) t))
 
-within_push : (ss : List Step) (s : Step) → IsWithin ss → may_come ss s ≡ true → IsWithin (ss ++ s ∷ [])
+pub within_push : (ss : List Step) (s : Step) → IsWithin ss → may_come ss s ≡ true → IsWithin (ss ++ s ∷ [])
 within_push [] s w m = (m, All-nil (λ (t : Step). is_driver_act t.act ≡ true))
 within_push (u ∷ ss) s w m = (w.0, All-push (λ (t : Step). is_driver_act t.act ≡ true) ss s w.1 m)
 

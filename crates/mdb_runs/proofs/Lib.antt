@@ -1,5 +1,6 @@
 pub mod Between
 pub mod Complete
+pub mod ScriptLaws
 pub mod Taken
 pub mod MadeRuns
 pub mod Generation

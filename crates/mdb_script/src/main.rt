@@ -1,14 +1,16 @@
-//! Runs scripts of steps over connection pools: the real source and sinks of `run_tool`.
+//! Runs scripts of steps over connection pools: the real source and sinks of `run_program`.
 #![tactic(auto)]
 
 use mdb_base::{Reading, Writing};
 use mdb_lines::{RunError, Status, status_of, tell_error};
-use mdb_runs::run_tool;
+use mdb_share::run_program;
 use std::alloc::AllocError;
 use std::env;
 use std::io::ErrorKind;
 use std::process::ExitCode;
 use std::rt::Env;
+use std::sync::Wait;
+use std::thread::Threads;
 
 // The words of the command line; where one of them is no text, a word that is no command.
 fn words<R: Env + AllocGlobal>(rt: &R) -> Result<Vec<String>, AllocError> {
@@ -29,7 +31,7 @@ fn words<R: Env + AllocGlobal>(rt: &R) -> Result<Vec<String>, AllocError> {
     Ok(words)
 }
 
-fn status<R: AllocGlobal>(
+fn status<R: AllocGlobal + Threads + Wait + Sync>(
     rt: &R,
     words: &[String],
     host: &HostRuntime,
@@ -41,7 +43,8 @@ fn status<R: AllocGlobal>(
     let mut source = Reading::new(host.stdin());
     let mut sink = Writing::new(host.stdout());
     let mut errors = Writing::new(host.stderr());
-    Ok(run_tool(
+    Ok(run_program(
+        rt,
         rt.alloc(),
         texts.as_slice(),
         &mut source,
@@ -50,13 +53,16 @@ fn status<R: AllocGlobal>(
     ))
 }
 
-fn answer(rt: &HostRuntime) -> Result<Status, AllocError> {
+fn answer<R: Env + AllocGlobal + Threads + Wait + Sync>(
+    rt: &R,
+    host: &HostRuntime,
+) -> Result<Status, AllocError> {
     let words = words(rt)?;
-    status(rt, words.as_slice(), rt)
+    status(rt, words.as_slice(), host)
 }
 
 fn main(rt: HostRuntime) -> ExitCode {
-    match answer(&rt) {
+    match answer(&rt, &rt) {
         Ok(status) => ExitCode::from(status),
         Err(_) => {
             let mut errors = Writing::new(rt.stderr());

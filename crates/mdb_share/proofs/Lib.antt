@@ -1,0 +1,12 @@
+pub mod Dealing
+pub mod Playing
+pub mod Joined
+pub mod Lending
+pub mod Crossing
+pub mod Gathering
+pub mod Opened
+pub mod Endings
+pub mod Complete
+pub mod Programs
+pub mod Texts
+pub mod DriverCrossing
