@@ -189,3 +189,10 @@ __attribute__((destructor)) static void end(void) {
     is_counting = 0;
     tell_counts();
 }
+
+// A program that may start threads ends so, with no call of a destructor.
+void _exit(int status) {
+    end();
+    syscall(SYS_exit_group, status);
+    __builtin_unreachable();
+}

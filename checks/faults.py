@@ -1,17 +1,18 @@
 #!/usr/bin/env python3
 """Runs built programs with one call of the C library failing: each allocation, each read and each write in turn.
 
-usage: checks/faults.py [--script PROGRAM] [--checks PROGRAM] [--tests PROGRAM] [--jobs N] [--seconds N] [--every]
+usage: checks/faults.py [--script PROGRAM] [--checks PROGRAM] [--demo PROGRAM] [--tests PROGRAM] [--jobs N] [--seconds N] [--every]
 
-PROGRAM is crates/mdb_script/out/mdb_script, crates/mdb_checks/out/mdb_checks and crates/mdb_total/out/mdb_total_tests where it is left out; nothing is built.
-mdb_script runs its stored script, `make 10` and the scripts of mdb_checks that SWEPT names (with --every all of them);
-mdb_checks runs its stored cases. Each runs once as it is, and then, up to N runs side by side (as many as there are
+PROGRAM is crates/CRATE/out/CRATE, of mdb_script, mdb_checks and mdb_pool_demo, and crates/mdb_total/out/mdb_total_tests, where it is left out; nothing is built.
+mdb_script runs its stored script, also with `share 1` and `share 2`, `make 10`, and the scripts of mdb_checks that SWEPT names (with --every all of them);
+mdb_checks runs its stored cases, and mdb_pool_demo its threads: of its allocations the first DEMO_FIRST fail in turn, and then each DEMO_STEP-th. Each runs once as it is, and then, up to N runs side by side (as many as there are
 processors) and for at most N seconds (900), once for each call and each of these faults:
 
   allocation   is refused. The program tells want of memory, with status 1, after whole entries or lines, the first of the
                stored output; or the run recovers: status 0 and the stored output.
   read, write  fails with an error. The program tells it, with its status, after a front of the stored output; a failing
-               read leaves mdb_script with no output.
+               read leaves mdb_script with no output, and so does want of memory with `share K`. Of `share 2`, whose log is the
+               schedule's, only the number of lines is compared.
   short_read, short_write   moves one byte, and so does each of them in a further run. Nothing changes.
 
 The tests of mdb_total share a driver among threads and seats. Each runs once for each of its first allocations, which is refused: it
@@ -57,6 +58,9 @@ Run = namedtuple('Run', 'status written told counts')
 SCRIPT_ENDS = {'allocation': (1, b'out of memory\n'), 'read': (3, b'read fault\n'), 'write': (4, b'write fault\n')}
 FAULT = b'Error: Os { code: 5, kind: Uncategorized, message: "Input/output error" }\n'
 CHECKS_ENDS = {'allocation': (1, b'Error: Kind(OutOfMemory)\n'), 'read': (1, FAULT), 'write': (1, FAULT)}
+SHARE_ENDS = dict(SCRIPT_ENDS)
+DEMO_ENDS = dict(CHECKS_ENDS)
+DEMO_FIRST, DEMO_STEP = 200, 4999  # which allocations of the demo fail; how many it makes is up to the schedule
 
 
 def stored(crate):
@@ -95,15 +99,19 @@ def swept(program, folder, is_every):
     return found
 
 
-def subjects(script, checks, folder, is_every):
+def subjects(script, checks, demo, folder, is_every):
     """The runs that are disturbed, of the programs that are there; and the programs that are missing."""
-    found, missing = [], [program for program in (script, checks) if not os.path.isfile(program)]
+    found, missing = [], [program for program in (script, checks, demo) if not os.path.isfile(program)]
     if script not in missing:
         found.append(Subject('mdb_script', script, [], *stored('mdb_script'), SCRIPT_ENDS))
+        for parts in ('1', '2'):
+            found.append(Subject('mdb_script share ' + parts, script, ['share', parts], *stored('mdb_script'), SHARE_ENDS))
         found.append(Subject('mdb_script make 10', script, ['make', '10'], os.devnull, MADE, SCRIPT_ENDS))
         found.extend(swept(script, folder, is_every))
     if checks not in missing:
         found.append(Subject('mdb_checks', checks, [], *stored('mdb_checks'), CHECKS_ENDS))
+    if demo not in missing:
+        found.append(Subject('mdb_pool_demo', demo, [], os.devnull, stored('mdb_pool_demo')[1], DEMO_ENDS))
     return found, missing
 
 
@@ -121,9 +129,23 @@ def run(subject, library, folder, **fault):
     return Run(ended.returncode, ended.stdout, ended.stderr, told)
 
 
-def is_front(written, wanted, by_lines):
+def is_by_schedule(subject):
+    """Whether the output is the schedule's: that of several parts."""
+    return subject.ends is SHARE_ENDS and subject.words[1] != '1'
+
+
+def is_whole(subject, written):
+    """Whether this is what the subject is to write."""
+    if is_by_schedule(subject):
+        return written.endswith(b'\n') and written.count(b'\n') == subject.wanted.count(b'\n')
+    return written == subject.wanted
+
+
+def is_front(subject, written, by_lines):
     """Whether what was written is a front of what is wanted; by lines: of whole lines."""
-    return wanted.startswith(written) and (not by_lines or not written or written.endswith(b'\n'))
+    if is_by_schedule(subject):
+        return written.count(b'\n') <= subject.wanted.count(b'\n')
+    return subject.wanted.startswith(written) and (not by_lines or not written or written.endswith(b'\n'))
 
 
 def changed_cases(written, wanted):
@@ -155,8 +177,9 @@ def judge_change(subject, ended):
 def judge_end(subject, kind, ended):
     """What a run counts as that did not come to its end."""
     is_told = (ended.status, ended.told) == subject.ends[kind]
-    is_silent = subject.ends is not SCRIPT_ENDS or kind != 'read' or not ended.written
-    is_good = is_told and is_silent and is_front(ended.written, subject.wanted, kind == 'allocation')
+    owes_silence = {id(SCRIPT_ENDS): ('read',), id(SHARE_ENDS): ('read', 'allocation')}.get(id(subject.ends), ())
+    is_silent = kind not in owes_silence or not ended.written
+    is_good = is_told and is_silent and is_front(subject, ended.written, kind == 'allocation')
     return ('ended' if is_good else 'found'), []
 
 
@@ -164,7 +187,7 @@ def judge(subject, kind, at, ended):
     """What a run with a fault counts as, 'ended', 'unharmed', 'answered', 'known' or 'found', and the cases that changed."""
     if not ended.counts or ended.counts[-1][SORTS[kind]] < max(at, 1):
         return 'found', []
-    is_unharmed = (ended.status, ended.written, ended.told) == (0, subject.wanted, b'')
+    is_unharmed = (ended.status, ended.told) == (0, b'') and is_whole(subject, ended.written)
     if kind in ('short_read', 'short_write'):
         return ('unharmed' if is_unharmed else 'found'), []
     if kind == 'allocation' and ended.status == 0:
@@ -193,10 +216,18 @@ def faults(counts):
             yield kind, 0
 
 
+def chosen(subject, counts):
+    """The faults that a subject is run with: of the demo the first allocations, and later ones far apart."""
+    for kind, at in faults(counts):
+        is_far = at > DEMO_FIRST and (at % DEMO_STEP or at > 0.9 * counts[0])
+        if subject.ends is not DEMO_ENDS or not (kind == 'allocation' and is_far):
+            yield kind, at
+
+
 def shortened(subject, plain, folder):
     """The subject without its long cases, which are told. A case is a line of the input, and is answered by one write."""
     lines, took = subject.wanted.splitlines(keepends=True), [counts[0] for counts in plain.counts[:-1]]
-    if subject.words or len(took) != len(lines):
+    if subject.words or subject.ends is DEMO_ENDS or len(took) != len(lines):
         return subject
     is_long = [after - before > LONG for before, after in zip([0] + took, took)]
     if subject.ends is SCRIPT_ENDS or not any(is_long):
@@ -214,7 +245,7 @@ def shortened(subject, plain, folder):
 def plain_run(subject, library, folder):
     """A run with no fault, or None where it is not as stored, which is told."""
     plain = run(subject, library, folder, FAULT_EACH='yes')
-    if (plain.status, plain.written, plain.told) != (0, subject.wanted, b''):
+    if (plain.status, plain.told) != (0, b'') or not is_whole(subject, plain.written):
         print('found: %s: with no fault: status %s, told %r, not the stored output' % (subject.name, plain.status, plain.told))
         return None
     if not plain.counts or not plain.counts[-1][0]:
@@ -238,7 +269,7 @@ def sweep(subject, library, folder, jobs, until):
         return Counter({('none', 'found'): 1})
     print('%s: %d allocations, %d reads, %d writes' % (subject.name, *plain.counts[-1]), flush=True)
     tally, begun = Counter(), time.monotonic()
-    todo, told = list(faults(plain.counts[-1])), begun
+    todo, told = list(chosen(subject, plain.counts[-1])), begun
     with concurrent.futures.ThreadPoolExecutor(jobs) as pool:
         ended = pool.map(lambda fault: unless_late(until, subject, library, folder, *fault), todo)
         for number, (fault, (verdict, lines)) in enumerate(zip(todo, ended)):
@@ -313,6 +344,7 @@ def options():
     reader = argparse.ArgumentParser(usage=__doc__.split('usage: ')[1])
     reader.add_argument('--script', default=os.path.join(CRATES, 'mdb_script/out/mdb_script'))
     reader.add_argument('--checks', default=os.path.join(CRATES, 'mdb_checks/out/mdb_checks'))
+    reader.add_argument('--demo', default=os.path.join(CRATES, 'mdb_pool_demo/out/mdb_pool_demo'))
     reader.add_argument('--tests', default=os.path.join(CRATES, 'mdb_total/out/mdb_total_tests'))
     reader.add_argument('--jobs', type=int, default=os.cpu_count())
     reader.add_argument('--seconds', type=int, default=900)
@@ -325,7 +357,8 @@ def main():
     given, tally = options(), Counter()
     until = time.monotonic() + given.seconds
     with tempfile.TemporaryDirectory() as folder:
-        found, missing = subjects(os.path.abspath(given.script), os.path.abspath(given.checks), folder, given.every)
+        programs = [os.path.abspath(it) for it in (given.script, given.checks, given.demo)]
+        found, missing = subjects(*programs, folder, given.every)
         library = build(folder) if found else None
         for subject in found:
             tally.update(sweep(subject, library, folder, given.jobs, until))
