@@ -1,0 +1,75 @@
+//! What a log tells of its connections.
+
+use mdb_events::{CmapEvent, Fact};
+use mdb_log::{Act, Entry, Log, Reply};
+
+/// Counts that don't depend on the schedule.
+#[derive(Clone, Copy, Debug, PartialEq, Eq)]
+pub struct Counts {
+    /// Requests of callers, and grants to them.
+    pub requested: u64,
+    pub granted: u64,
+    /// Connections that came back.
+    pub returned: u64,
+    /// Connections that were created, and closed.
+    pub created: u64,
+    pub closed: u64,
+    /// Reports of workers.
+    pub established: u64,
+    /// All entries but those of collects, claims and warm requests: the schedule decides how many of these there are.
+    pub entries: u64,
+}
+
+fn one_if(is: bool) -> u64 {
+    if is { 1 } else { 0 }
+}
+
+// Whether the schedule decides how many of these acts there are.
+fn is_by_schedule(act: &Act) -> bool {
+    matches!(act, Act::Collect(_) | Act::Claim | Act::Warm(_, _))
+}
+
+fn count_fact(counts: &mut Counts, fact: &Fact) {
+    match fact {
+        Fact::Pool(_, CmapEvent::ConnectionCreated(_)) => {
+            counts.created = counts.created.wrapping_add(1);
+        }
+        Fact::Pool(_, CmapEvent::ConnectionClosed(_)) => {
+            counts.closed = counts.closed.wrapping_add(1);
+        }
+        _ => {}
+    }
+}
+
+fn count_entry(counts: &mut Counts, entry: &Entry) {
+    let requested = matches!(&entry.step.act, Act::Request(_, _));
+    let granted = matches!(&entry.reply, Reply::Pooled(_, _));
+    let returned = matches!(&entry.step.act, Act::Return(_, _));
+    let established = matches!(&entry.step.act, Act::Established(_, _, _));
+    counts.requested = counts.requested.wrapping_add(one_if(requested));
+    counts.granted = counts.granted.wrapping_add(one_if(granted));
+    counts.returned = counts.returned.wrapping_add(one_if(returned));
+    counts.established = counts.established.wrapping_add(one_if(established));
+    let fixed = !is_by_schedule(&entry.step.act);
+    counts.entries = counts.entries.wrapping_add(one_if(fixed));
+    for fact in entry.facts.as_slice() {
+        count_fact(counts, fact);
+    }
+}
+
+/// The counts of the log.
+pub fn count(log: &Log) -> Counts {
+    let mut counts = Counts {
+        requested: 0,
+        granted: 0,
+        returned: 0,
+        created: 0,
+        closed: 0,
+        established: 0,
+        entries: 0,
+    };
+    for entry in log.entries() {
+        count_entry(&mut counts, entry);
+    }
+    counts
+}
