@@ -11,7 +11,7 @@ use mdb_runs::run_script;
 use mdb_share::{LineGate, run_gated, run_program, run_shared};
 use std::sync::Wait;
 use std::sync::atomic::{AtomicU64, Ordering};
-use std::thread::Threads;
+use std::thread::{Threads, yield_now};
 
 // The line of an entry.
 fn front(entry: &str) -> &str {
@@ -185,6 +185,7 @@ impl LineGate for Both {
             if self.other(part).load(Ordering::SeqCst) == 1 {
                 return;
             }
+            yield_now();
         }
         self.late.store(1, Ordering::SeqCst);
     }

@@ -12,7 +12,7 @@ use std::alloc::Global;
 use std::sync::Wait;
 use std::sync::atomic::{AtomicU64, Ordering};
 use std::test::Fail;
-use std::thread::{Threads, join};
+use std::thread::{Threads, join, yield_now};
 
 // How long the gate waits.
 const TURNS: u32 = 100_000_000;
@@ -34,6 +34,7 @@ impl<'a> Gate for Held<'a> {
             if self.flag.load(Ordering::SeqCst) != 0 {
                 return;
             }
+            yield_now();
         }
         self.ran_out = true;
     }
