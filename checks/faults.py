@@ -18,6 +18,9 @@ processors) and for at most N seconds (900), once for each call and each of thes
 The tests of mdb_total share a driver among threads and seats. Each runs once for each of its first allocations, which is refused: it
 ends well, or stops where it has no memory, or in the test of two threads where one of them made a step less; it never hangs.
 
+A run of mdb_pool_demo that does not end within DEMO_LIMIT seconds is known: where a thread can't be started its part is played by the caller, which
+then waits for parts that were not begun.
+
 A case of mdb_checks may answer want of memory where it runs the tool (counted as answered). One that is answered otherwise
 for want of memory is known where its kind is in KNOWN, and else a finding. Cases of more than LONG allocations are left out.
 Each finding has a line, and the counts come last; runs for which there was no time are counted as left. The status is 0
@@ -60,6 +63,7 @@ FAULT = b'Error: Os { code: 5, kind: Uncategorized, message: "Input/output error
 CHECKS_ENDS = {'allocation': (1, b'Error: Kind(OutOfMemory)\n'), 'read': (1, FAULT), 'write': (1, FAULT)}
 SHARE_ENDS = dict(SCRIPT_ENDS)
 DEMO_ENDS = dict(CHECKS_ENDS)
+DEMO_LIMIT = 30  # seconds for one run of the demo
 DEMO_FIRST, DEMO_STEP = 200, 4999  # which allocations of the demo fail; how many it makes is up to the schedule
 
 
@@ -121,7 +125,7 @@ def run(subject, library, folder, **fault):
         env = {'LD_PRELOAD': library, 'FAULT_COUNTS': str(counts.fileno()), **fault}
         try:
             ended = subprocess.run([subject.program] + subject.words, stdin=file, capture_output=True, env=env,
-                                   pass_fds=(counts.fileno(),), cwd=folder, timeout=LIMIT)
+                                   pass_fds=(counts.fileno(),), cwd=folder, timeout=DEMO_LIMIT if subject.ends is DEMO_ENDS else LIMIT)
         except subprocess.TimeoutExpired:
             return Run('none', b'', b'', [])
         counts.seek(0)
@@ -185,6 +189,8 @@ def judge_end(subject, kind, ended):
 
 def judge(subject, kind, at, ended):
     """What a run with a fault counts as, 'ended', 'unharmed', 'answered', 'known' or 'found', and the cases that changed."""
+    if subject.ends is DEMO_ENDS and kind == 'allocation' and ended.status == 'none':
+        return 'known', []
     if not ended.counts or ended.counts[-1][SORTS[kind]] < max(at, 1):
         return 'found', []
     is_unharmed = (ended.status, ended.told) == (0, b'') and is_whole(subject, ended.written)
