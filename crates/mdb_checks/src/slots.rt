@@ -210,6 +210,6 @@ pub fn table(page: &mut Page, given: &str) {
     let redo = table.turn(page.alloc);
     tell_table(page, &table);
     page.put(" / ");
-    table.redo(page.alloc, redo);
+    table.redo(redo);
     tell_table(page, &table);
 }

@@ -1,6 +1,7 @@
 pub mod Lists
 pub mod Chains
 pub mod Layouts
+pub mod Lasting
 pub mod Moves
 pub mod Removes
 pub mod Grows
@@ -14,8 +15,16 @@ pub mod IndexInserts
 pub mod IndexRemoves
 pub mod Chained
 pub mod IndexSteps
+pub mod Filled
 pub mod Pointing
 pub mod TableChanges
 pub mod TablePuts
 pub mod TableHolds
+pub mod Noted
+pub mod Apart
+pub mod InStep
+pub mod Picks
+pub mod Rests
+pub mod Sweeps
 pub mod TableWalks
+pub mod Lent

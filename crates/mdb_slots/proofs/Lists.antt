@@ -1,5 +1,5 @@
 -- Lists of numbers.
-use Rattle.std.proofs.Common.{◌≡◌, ℕ, ◌+◌, ◌≤◌, Bool, true, false, ◌==◌, ◌||◌, ◌&&◌, not, Option, Some, List, [], ◌∷◌, ◌++◌, length, refl, ap, arith}
+use Rattle.std.proofs.Common.{◌≡◌, ℕ, ◌+◌, ◌≤◌, Bool, true, false, ◌==◌, ◌||◌, ◌&&◌, if◌then◌else◌, not, Option, Some, List, [], ◌∷◌, ◌++◌, length, refl, ap, arith}
 use Rattle.std.proofs.lemmas.Grind.{common_steps}
 use Rattle.mdb_slots.specs.Lists.{has, apart, without, head_or, last_or}
 
@@ -89,3 +89,11 @@ length-without_le k (x ∷ xs) = grind (arith, common_steps, length-without_le k
 pub length-without : (k : ℕ) (xs : List ℕ) → has k xs ≡ true → length (without k xs) + 1 ≤ length xs
 length-without k [] e = cc
 length-without k (x ∷ xs) e = grind (arith, common_steps, length-without k xs, length-without_le k xs)
+
+pub has-without : (s : ℕ) (us : List ℕ) → has s (without s us) ≡ false
+has-without s [] = refl
+has-without s (x ∷ xs) = on (has-without s xs) (x == s) refl
+  where
+    on : has s (without s xs) ≡ false → (v : Bool) → (x == s) ≡ v → has s (if x == s then without s xs else (x ∷ without s xs)) ≡ false
+    on r true w = rw w r
+    on r false w = rw (w, w) r

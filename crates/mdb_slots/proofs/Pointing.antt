@@ -1,19 +1,11 @@
 -- Values in slots, with an index from numbers to slots.
-use Rattle.std.proofs.Common.{◌≡◌, ◌≢◌, ℕ, ◌<◌, Bool, true, false, ◌==◌, if◌then◌else◌, Option, Some, None, List, [], ◌∷◌, ◌++◌, length, refl, sym, ◌∙◌, ap, subst, arith, set, get_or-set_other, get_or-set_same}
+use Rattle.std.proofs.Common.{◌≡◌, ◌≢◌, ℕ, ◌<◌, Bool, true, false, ◌==◌, Option, Some, None, List, [], ◌∷◌, ◌++◌, length, refl, sym, ◌∙◌, ap, subst, arith, set, get_or-set_other, get_or-set_same}
 use Rattle.std.proofs.lemmas.Grind.{common_steps}
 use Rattle.mdb_slots.specs.Lists.{has, without}
 use Rattle.mdb_slots.proofs.Chains.{ne-of, rest-of}
 use Rattle.mdb_slots.proofs.Numbers.{same-number, is-same, some-same}
 use Rattle.mdb_slots.specs.Keyed.{entry_at, others, swap}
 use Rattle.mdb_slots.specs.Cells.{cell_at, after_cell, values, keyed, Pointed, Points}
-
-pub has-without : (s : ℕ) (us : List ℕ) → has s (without s us) ≡ false
-has-without s [] = refl
-has-without s (x ∷ xs) = on (has-without s xs) (x == s) refl
-  where
-    on : has s (without s xs) ≡ false → (v : Bool) → (x == s) ≡ v → has s (if x == s then without s xs else (x ∷ without s xs)) ≡ false
-    on r true w = rw w r
-    on r false w = rw (w, w) r
 
 module _ {T : Type 0} where
   pub values-set : (cs : List (Option T)) (s : ℕ) (c : Option T) (us : List ℕ) → has s us ≡ false → values (set cs s c) us ≡ values cs us

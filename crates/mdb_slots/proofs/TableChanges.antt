@@ -6,7 +6,8 @@ use Rattle.mdb_slots.proofs.Items.{below-more, below-without, below-member}
 use Rattle.mdb_slots.proofs.Numbers.{same-number, is-same, some-same}
 use Rattle.mdb_slots.specs.Keyed.{entry_at, others}
 use Rattle.mdb_slots.specs.Cells.{cell_at, after_cell, values, keyed, Pointed, Points, IsIndexed}
-use Rattle.mdb_slots.proofs.Pointing.{has-without, values-set, entry-none, entry-some, others-none, others-some}
+use Rattle.mdb_slots.proofs.Lists.{has-without}
+use Rattle.mdb_slots.proofs.Pointing.{values-set, entry-none, entry-some, others-none, others-some}
 
 pub has-apart : (s t : ℕ) (us : List ℕ) → has s us ≡ false → has t us ≡ true → t ≢ s
 has-apart s t us e f h = let g : has s us ≡ true = subst (λ (j : ℕ). has j us ≡ true) h f in cc

@@ -1,5 +1,5 @@
 -- What a table holds after a value came or went.
-use Rattle.std.proofs.Common.{◌≡◌, ◌≢◌, ℕ, zero, suc, ◌+◌, ◌<◌, ◌≤◌, ◌==◌, if◌then◌else◌, true, false, Option, Some, None, IfSome, List, [], ◌∷◌, ◌++◌, length, refl, sym, ap, arith, set, length-set, length-append}
+use Rattle.std.proofs.Common.{◌≡◌, ◌≢◌, ℕ, ◌+◌, ◌<◌, ◌≤◌, ◌==◌, if◌then◌else◌, true, false, Option, Some, None, List, [], ◌∷◌, ◌++◌, length, refl, sym, arith, set, length-set, length-append}
 use Rattle.mdb_slots.specs.Lists.{has, without}
 use Rattle.mdb_slots.specs.Links.{Order}
 use Rattle.mdb_slots.specs.SlotIndex.{slot_of}
@@ -10,12 +10,6 @@ use Rattle.mdb_slots.proofs.Lists.{length-without}
 use Rattle.mdb_slots.proofs.TableChanges.{get-some, get-none, slot-within, removed, removed-values, indexed-same, values-same}
 use Rattle.mdb_slots.proofs.TablePuts.{pushed, pushed-values, replaced, replaced-values, same-values, leads-nowhere}
 
-cell-append : {T : Type 0} (cs : List (Option T)) (k : ℕ) → cell_at (cs ++ None ∷ []) k ≡ cell_at cs k
-cell-append [] zero = refl
-cell-append [] (suc k) = refl
-cell-append (c ∷ cs) zero = refl
-cell-append (c ∷ cs) (suc k) = cell-append cs k
-
 module _ {T : Type 0} (key : T → ℕ) where
   -- the value in the slot that the index leads to
   pub entry-there : {cs : List (Option T)} {ns : List (Option ℕ)} {o : Order} → Holds key cs ns o → (k : ℕ) → entry_at key k (values cs o.used) ≡ at_place cs (slot_of k ns)
@@ -25,14 +19,7 @@ module _ {T : Type 0} (key : T → ℕ) where
       on None e = get-none key h.indexed k e
       on (Some s) e = get-some key h.indexed k s e
 
-  pub there-within : {cs : List (Option T)} {ns : List (Option ℕ)} {o : Order} → Holds key cs ns o → (k : ℕ) → IfSome (slot_of k ns) (λ j. j < length cs)
-  there-within {cs = cs} {ns = ns} h k = on (slot_of k ns) refl
-    where
-      on : (s : Option ℕ) → slot_of k ns ≡ s → IfSome s (λ j. j < length cs)
-      on None e = tt
-      on (Some s) e = slot-within key h.indexed k s e
-
-  there-member : {cs : List (Option T)} {ns : List (Option ℕ)} {o : Order} → Holds key cs ns o → (k s : ℕ) → slot_of k ns ≡ Some s → has s o.used ≡ true
+  pub there-member : {cs : List (Option T)} {ns : List (Option ℕ)} {o : Order} → Holds key cs ns o → (k s : ℕ) → slot_of k ns ≡ Some s → has s o.used ≡ true
   there-member h k s e = h.indexed.member k s e
 
   -- a value goes
@@ -87,18 +74,16 @@ module _ {T : Type 0} (key : T → ℕ) where
   unswapped-values h x e = sym (same-values key h.indexed x e)
 
   -- more cells and entries, and perhaps more free slots
-  pub widened : {cs : List (Option T)} {ns : List (Option ℕ)} {o : Order} → Holds key cs ns o → (ms : List (Option ℕ)) (p : Order) → ((q : ℕ) → slot_of q ms ≡ slot_of q ns) → p.used ≡ o.used → p.spare ≤ o.spare + 1 → length p.used + p.spare ≤ length ms → Holds key (cs ++ None ∷ []) ms p
-  widened {cs = cs} {ns = ns} {o = o} h ms p g u v l =
-      let d : length (cs ++ None ∷ []) ≡ length cs + 1 = length-append cs (None ∷ []) in
-      let w : length p.used ≡ length o.used = ap (λ (xs : List ℕ). length xs) u in
+  pub widened : {cs : List (Option T)} {ns : List (Option ℕ)} {o : Order} → Holds key cs ns o → (ds : List (Option T)) (ms : List (Option ℕ)) (p : Order) → ((k : ℕ) → cell_at ds k ≡ cell_at cs k) → ((q : ℕ) → slot_of q ms ≡ slot_of q ns) → p.used ≡ o.used → length p.used + p.spare ≤ length ds → length p.used + p.spare ≤ length ms → length cs ≤ length ds → Holds key ds ms p
+  widened h ds ms p f g u c l w =
       record {
-        cells_long = omega (arith, d, w, v, h.cells_long);
+        cells_long = c;
         numbers_long = l;
-        indexed = rw u (indexed-same key h.indexed (cs ++ None ∷ []) (λ q. slot_of q ms) (cell-append cs) g (omega (arith, d)));
+        indexed = rw u (indexed-same key h.indexed ds (λ q. slot_of q ms) f g w);
       }
 
-  pub widened-values : (cs : List (Option T)) (us : List ℕ) → values (cs ++ None ∷ []) us ≡ values cs us
-  widened-values cs us = values-same key cs (cs ++ None ∷ []) us (cell-append cs)
+  pub widened-values : (cs ds : List (Option T)) (us : List ℕ) → ((k : ℕ) → cell_at ds k ≡ cell_at cs k) → values ds us ≡ values cs us
+  widened-values cs ds us f = values-same key cs ds us f
 
   -- a table without values
   pub nothing-held : (o : Order) → o.used ≡ [] → o.spare ≡ 0 → Holds key [] [] o

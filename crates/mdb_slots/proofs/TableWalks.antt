@@ -1,8 +1,7 @@
 -- Walks along the values of a table.
-use Rattle.std.proofs.Common.{◌≡◌, ℕ, ◌<◌, ◌==◌, if◌then◌else◌, Bool, true, false, Option, Some, None, IfSome, List, [], ◌∷◌, length, refl, sym, ◌∙◌, ap, subst}
+use Rattle.std.proofs.Common.{◌≡◌, ℕ, ◌==◌, if◌then◌else◌, Bool, true, false, Option, Some, None, List, [], ◌∷◌, refl, sym, ◌∙◌, ap, subst}
 use Rattle.mdb_slots.specs.Lists.{head_or, last_or, next, previous}
 use Rattle.mdb_slots.specs.Links.{Order}
-use Rattle.mdb_slots.specs.Items.{Below}
 use Rattle.mdb_slots.specs.SlotIndex.{slot_of}
 use Rattle.mdb_slots.specs.Keyed.{entry_at, entry_after, entry_before, preceding, first_of, last_of, last_after}
 use Rattle.mdb_slots.specs.Cells.{cell_at, at_place, after_cell, values, keyed, Pointed, Points}
@@ -10,19 +9,6 @@ use Rattle.mdb_slots.specs.Table.{Holds}
 use Rattle.mdb_slots.proofs.Numbers.{same-number}
 use Rattle.mdb_slots.proofs.Pointing.{not-keyed}
 use Rattle.mdb_slots.proofs.TableChanges.{get-none}
-use Rattle.mdb_slots.proofs.Items.{below-last, below-previous}
-
-head-within : (n : ℕ) (us : List ℕ) → Below n us → IfSome (head_or None us) (λ j. j < n)
-head-within n [] b = tt
-head-within n (x ∷ xs) b = b.0
-
-next-within : (n s : ℕ) (us : List ℕ) → Below n us → IfSome (next s us) (λ j. j < n)
-next-within n s [] b = tt
-next-within n s (x ∷ xs) b = on (x == s) (next-within n s xs b.1)
-  where
-    on : (d : Bool) → IfSome (next s xs) (λ j. j < n) → IfSome (if d then head_or None xs else next s xs) (λ j. j < n)
-    on true r = head-within n xs b.1
-    on false r = r
 
 module _ {T : Type 0} (key : T → ℕ) where
   front : (cs : List (Option T)) (m : ℕ → Option ℕ) (us : List ℕ) → Points key cs m us → first_of (values cs us) ≡ at_place cs (head_or None us)
@@ -63,17 +49,11 @@ module _ {T : Type 0} (key : T → ℕ) where
   pub first-there : {cs : List (Option T)} {ns : List (Option ℕ)} {o : Order} → Holds key cs ns o → first_of (values cs o.used) ≡ at_place cs (head_or None o.used)
   first-there {cs = cs} {ns = ns} {o = o} h = front cs (λ q. slot_of q ns) o.used h.indexed.points
 
-  pub first-within : {cs : List (Option T)} {ns : List (Option ℕ)} {o : Order} → Holds key cs ns o → IfSome (head_or None o.used) (λ j. j < length cs)
-  first-within {cs = cs} {o = o} h = head-within (length cs) o.used h.indexed.below
-
   pub after-there : {cs : List (Option T)} {ns : List (Option ℕ)} {o : Order} → Holds key cs ns o → (k s : ℕ) → slot_of k ns ≡ Some s → entry_after key k (values cs o.used) ≡ at_place cs (next s o.used)
   after-there {cs = cs} {ns = ns} {o = o} h k s e = follow cs (λ q. slot_of q ns) o.used k s h.indexed.points e (h.indexed.back k s e)
 
   pub after-absent : {cs : List (Option T)} {ns : List (Option ℕ)} {o : Order} → Holds key cs ns o → (k : ℕ) → slot_of k ns ≡ None → entry_after key k (values cs o.used) ≡ None
   after-absent {cs = cs} {o = o} h k e = nothing-follows k (values cs o.used) (get-none key h.indexed k e)
-
-  pub after-within : {cs : List (Option T)} {ns : List (Option ℕ)} {o : Order} → Holds key cs ns o → (s : ℕ) → IfSome (next s o.used) (λ j. j < length cs)
-  after-within {cs = cs} {o = o} h s = next-within (length cs) s o.used h.indexed.below
 
   back : (cs : List (Option T)) (m : ℕ → Option ℕ) (p : Option ℕ) (us : List ℕ) → Points key cs m us → last_after (at_place cs p) (values cs us) ≡ at_place cs (last_or p us)
   back cs m p [] q = refl
@@ -109,14 +89,8 @@ module _ {T : Type 0} (key : T → ℕ) where
   pub last-there : {cs : List (Option T)} {ns : List (Option ℕ)} {o : Order} → Holds key cs ns o → last_of (values cs o.used) ≡ at_place cs (last_or None o.used)
   last-there {cs = cs} {ns = ns} {o = o} h = back cs (λ q. slot_of q ns) None o.used h.indexed.points
 
-  pub last-within : {cs : List (Option T)} {ns : List (Option ℕ)} {o : Order} → Holds key cs ns o → IfSome (last_or None o.used) (λ j. j < length cs)
-  last-within {cs = cs} {o = o} h = below-last (length cs) None o.used h.indexed.below tt
-
   pub before-there : {cs : List (Option T)} {ns : List (Option ℕ)} {o : Order} → Holds key cs ns o → (k s : ℕ) → slot_of k ns ≡ Some s → entry_before key k (values cs o.used) ≡ at_place cs (previous None s o.used)
   before-there {cs = cs} {ns = ns} {o = o} h k s e = precede cs (λ q. slot_of q ns) None o.used k s h.indexed.points e (h.indexed.back k s e)
 
   pub before-absent : {cs : List (Option T)} {ns : List (Option ℕ)} {o : Order} → Holds key cs ns o → (k : ℕ) → slot_of k ns ≡ None → entry_before key k (values cs o.used) ≡ None
   before-absent {cs = cs} {o = o} h k e = nothing-precedes None k (values cs o.used) (get-none key h.indexed k e)
-
-  pub previous-within : {cs : List (Option T)} {ns : List (Option ℕ)} {o : Order} → Holds key cs ns o → (s : ℕ) → IfSome (previous None s o.used) (λ j. j < length cs)
-  previous-within {cs = cs} {o = o} h s = below-previous (length cs) s None o.used h.indexed.below tt

@@ -53,3 +53,19 @@ module _ {T : Type 0} where
   from-turned ls n t p h =
       let m : n ≡ suc (n - 1) = omega (arith, p) in
       from-at ls (n - 1) t (omega (arith, p, h)) ∙ ap (λ k. t ∷ drop k ls) (sym m)
+
+  -- the change at k comes first of those from it on
+  pub next-at : (ls : List (Change T)) (k : ℕ) (l : Change T) → k < length ls → l ≡ get_or ls k l → drop k ls ≡ l ∷ drop (suc k) ls
+  next-at [] k l h e = absurd (omega (arith, h))
+  next-at (x ∷ ls) zero l h e = ap (λ y. y ∷ ls) (sym e)
+  next-at (x ∷ ls) (suc k) l h e = next-at ls k l (omega (arith, h)) e
+
+  -- those after it are as they were
+  pub past-at : (ls : List (Change T)) (k : ℕ) (t : Change T) → drop (suc k) (set ls k t) ≡ drop (suc k) ls
+  past-at [] k t = refl
+  past-at (x ∷ ls) zero t = refl
+  past-at (x ∷ ls) (suc k) t = past-at ls k t
+
+  pub drop-all : (ls : List (Change T)) → drop (length ls) ls ≡ []
+  drop-all [] = refl
+  drop-all (x ∷ ls) = drop-all ls

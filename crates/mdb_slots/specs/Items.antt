@@ -3,6 +3,7 @@ use Rattle.std.specs.Prelude.{ℕ, ◌<◌, Bool, false, ◌==◌, ◌&&◌, ◌
 use Rattle.mdb_slots.specs.declared.records.Record.{Record}
 use Rattle.mdb_slots.specs.declared.records.SlotRef.{SlotRef}
 use Rattle.mdb_base.specs.declared.object_id.ObjectId.{ObjectId}
+use Rattle.mdb_slots.specs.Open.{or_else}
 
 -- a record in its slot
 pub record Item : Type 0 where
@@ -17,14 +18,15 @@ pub record Listing : Type 0 where
 abbrev pub empty_record : Record
 empty_record = record { id = 0; service = None; since = 0 }
 
-abbrev pub record_at : List Record → ℕ → Record
-record_at rs k = slice_index_or rs k empty_record
+-- the record in the slot
+abbrev pub record_at : List (Option Record) → ℕ → Record
+record_at cs k = or_else (slice_index_or cs k None) empty_record
 
-abbrev pub item_at : List Record → ℕ → Item
-item_at rs k = record { slot = k; held = record_at rs k }
+abbrev pub item_at : List (Option Record) → ℕ → Item
+item_at cs k = record { slot = k; held = record_at cs k }
 
-abbrev pub items_at : List Record → List ℕ → List Item
-items_at rs ks = map (item_at rs) ks
+abbrev pub items_at : List (Option Record) → List ℕ → List Item
+items_at cs ks = map (item_at cs) ks
 
 -- each number is below the bound
 abbrev pub Below : ℕ → List ℕ → Type 0
@@ -75,9 +77,13 @@ abbrev pub slots_of : List Item → List ℕ
 slots_of is = map (λ i. i.slot) is
 
 -- the name of the record in the slot, if there is one
-abbrev pub name_at : List Record → Option ℕ → Option SlotRef
-name_at rs None = None
-name_at rs (Some k) = Some (ref_of (item_at rs k))
+abbrev pub name_at : List (Option Record) → Option ℕ → Option SlotRef
+name_at cs None = None
+name_at cs (Some k) = Some (ref_of (item_at cs k))
+
+-- the records alone
+abbrev pub records_of : List Item → List Record
+records_of is = map (λ i. i.held) is
 
 -- a record in the slot
 abbrev pub item : ℕ → ℕ → Option ObjectId → ℕ → Item

@@ -43,3 +43,13 @@ module _ {T : Type 0} (key : T → ℕ) where
 
   abbrev pub entry_before : ℕ → List T → Option T
   entry_before k xs = preceding None k xs
+
+  -- the values that follow the one that has the number
+  abbrev pub after_key : ℕ → List T → List T
+  after_key k [] = []
+  after_key k (x ∷ xs) = if key x == k then xs else after_key k xs
+
+  -- what is left of a walk that is at the value
+  abbrev pub rest_of : Option T → List T → List T
+  rest_of None xs = []
+  rest_of (Some x) xs = x ∷ after_key (key x) xs

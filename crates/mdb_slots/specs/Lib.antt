@@ -8,4 +8,6 @@ pub mod SlotOrder
 pub mod SlotIndex
 pub mod Keyed
 pub mod Cells
+pub mod Slots
 pub mod Table
+pub mod Sided

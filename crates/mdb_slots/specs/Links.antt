@@ -1,4 +1,4 @@
--- What a caller sees of the links, and what they keep.
+-- What a caller sees of the order of slots, and what the nodes keep.
 use Rattle.std.specs.Prelude.{◌≡◌, ℕ, ◌+◌, ◌^◌, ◌≤◌, true, Option, None, Some, List, length}
 use Rattle.mdb_slots.specs.declared.node.Node.{Node}
 use Rattle.mdb_slots.specs.Lists.{has, apart, head_or, last_or}

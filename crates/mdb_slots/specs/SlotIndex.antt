@@ -2,8 +2,7 @@
 use Rattle.std.specs.Prelude.{◌≡◌, ◌≤◌, ◌<◌, ◌+◌, ◌%◌, ◌==◌, ℕ, zero, suc, Bool, true, false, if◌then◌else◌, Option, None, Some, option_map, List, [], ◌∷◌, map, length, slice_index_or, slice_set}
 use Rattle.mdb_slots.specs.declared.bucket.Buckets.{Buckets}
 use Rattle.mdb_slots.specs.declared.entry.Entry.{Entry}
-use Rattle.mdb_slots.specs.declared.change.Change.{Change}
-use Rattle.mdb_slots.specs.Change.{rewound, grows}
+use Rattle.mdb_slots.specs.Open.{ListSteps, list_after, room_after, ListFits}
 use Rattle.mdb_slots.specs.Lists.{has, apart}
 
 abbrev pub entry : Option ℕ → Option ℕ → Entry
@@ -91,15 +90,15 @@ pub record Indexing : Type 0 where
 
 -- the changes of an index
 pub record IndexSteps : Type 0 where
-  pub heads : List (Change (Option ℕ))
-  pub entries : List (Change Entry)
+  pub heads : ListSteps (Option ℕ)
+  pub entries : ListSteps Entry
 
 -- a number for each of the two lists
 pub record Both : Type 0 where
   pub heads : ℕ
   pub entries : ℕ
 
--- the numbers of the slots, how many buckets there are, what the index was read from when it was last settled, how long its lists become without memory, and how many changes of each may come
+-- the numbers of the slots, how many buckets there are, what the index was read from when it was last settled, the capacities that it had then, and how many changes of each list may come without memory
 pub record OpenIndex : Type 0 where
   pub now : List (Option ℕ)
   pub width : ℕ
@@ -135,8 +134,12 @@ LeavesAll left used was = (was.heads ≤ left.heads + used.heads) × (was.entrie
 
 -- what the index is read from once the changes are made
 abbrev pub indexing_after : IndexSteps → Indexing → Indexing
-indexing_after p i = record { heads = rewound p.heads i.heads; entries = rewound p.entries i.entries }
+indexing_after p i = record { heads = list_after p.heads i.heads; entries = list_after p.entries i.entries }
+
+-- the capacities of its lists then
+abbrev pub index_room_after : IndexSteps → Both → Both
+index_room_after p capacity = record { heads = room_after p.heads capacity.heads; entries = room_after p.entries capacity.entries }
 
 -- the changes can be made without memory, and lead to an index
 abbrev pub IndexFits : IndexSteps → Indexing → Both → Type 0
-IndexFits p i capacity = (grows p.heads + length i.heads ≤ capacity.heads) × (grows p.entries + length i.entries ≤ capacity.entries) × KeepsIndex (indexing_after p i)
+IndexFits p i capacity = ListFits p.heads i.heads capacity.heads × ListFits p.entries i.entries capacity.entries × KeepsIndex (indexing_after p i)

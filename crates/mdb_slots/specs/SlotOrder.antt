@@ -1,11 +1,10 @@
 -- The order of slots, with what it was when it was last settled.
-use Rattle.std.specs.Prelude.{◌≤◌, ◌+◌, ℕ, None, List, [], length}
+use Rattle.std.specs.Prelude.{ℕ, None, List, []}
 use Rattle.mdb_slots.specs.declared.node.Node.{Node}
 use Rattle.mdb_slots.specs.declared.ends.Ends.{Ends}
-use Rattle.mdb_slots.specs.declared.change.Change.{Change}
 use Rattle.mdb_slots.specs.Links.{Order, Keeps}
 use Rattle.mdb_slots.specs.Chain.{walk}
-use Rattle.mdb_slots.specs.Change.{rewound, grows}
+use Rattle.mdb_slots.specs.Open.{ListSteps, list_after, room_after, ListFits}
 
 -- what an order is read from
 pub record Laid : Type 0 where
@@ -14,10 +13,10 @@ pub record Laid : Type 0 where
 
 -- the changes of an order
 pub record OrderSteps : Type 0 where
-  pub nodes : List (Change Node)
+  pub nodes : ListSteps Node
   pub ends : Ends
 
--- the order as it is and what it was read from when it was last settled, how many nodes there may be without memory, and how many changes
+-- the order as it is and what it was read from when it was last settled, the capacity that it had then, and how many changes may come without memory
 pub record OpenOrder : Type 0 where
   pub now : Order
   pub base : Laid
@@ -39,8 +38,12 @@ KeepsOrder l = Keeps l.nodes l.ends.first l.ends.last l.ends.free l.ends.len l.e
 
 -- what the order is read from once the changes are made
 abbrev pub laid_after : OrderSteps → Laid → Laid
-laid_after p l = record { nodes = rewound p.nodes l.nodes; ends = p.ends }
+laid_after p l = record { nodes = list_after p.nodes l.nodes; ends = p.ends }
+
+-- the capacity of its nodes then
+abbrev pub order_room_after : OrderSteps → ℕ → ℕ
+order_room_after p capacity = room_after p.nodes capacity
 
 -- the changes can be made without memory, and lead to an order
 abbrev pub OrderFits : OrderSteps → Laid → ℕ → Type 0
-OrderFits p l capacity = (grows p.nodes + length l.nodes ≤ capacity) × KeepsOrder (laid_after p l)
+OrderFits p l capacity = ListFits p.nodes l.nodes capacity × KeepsOrder (laid_after p l)

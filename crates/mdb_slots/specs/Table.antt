@@ -1,36 +1,28 @@
 -- Values in slots, with what they were when they were last settled.
-use Rattle.std.specs.Prelude.{◌≡◌, ◌<◌, ◌≤◌, ◌+◌, ℕ, Option, List, [], length}
-use Rattle.mdb_slots.specs.declared.change.Change.{Change}
+use Rattle.std.specs.Prelude.{◌≡◌, ◌<◌, ◌≤◌, ◌+◌, ℕ, Option, List, length}
 use Rattle.mdb_slots.specs.declared.parts.Parts.{Parts}
-use Rattle.mdb_slots.specs.Change.{rewound, grows}
 use Rattle.mdb_slots.specs.Links.{Order}
-use Rattle.mdb_slots.specs.SlotOrder.{Laid, OrderSteps, nothing_laid, order_of, laid_after, OrderFits}
-use Rattle.mdb_slots.specs.SlotIndex.{Indexing, IndexSteps, Both, nothing_indexed, numbers_of, slot_of, indexing_after, IndexFits, AreWithin, both}
+use Rattle.mdb_slots.specs.SlotOrder.{order_of}
+use Rattle.mdb_slots.specs.Slots.{SlotShelf, SlotSteps, SlotSizes, nothing_filled, slots_after, slots_room_after, SlotsFit}
+use Rattle.mdb_slots.specs.SlotIndex.{Indexing, IndexSteps, Both, nothing_indexed, numbers_of, slot_of, indexing_after, index_room_after, IndexFits, AreWithin, both}
 use Rattle.mdb_slots.specs.Cells.{values, IsIndexed}
 
--- how long each part becomes without memory
+-- the capacity of each part
 pub record Capacities : Type 0 where
-  pub order : ℕ
+  pub slots : SlotSizes
   pub index : Both
-  pub cells : ℕ
-
--- no part becomes shorter
-abbrev pub AreKept : Capacities → Capacities → Type 0
-AreKept a b = (a.order ≤ b.order) × AreWithin a.index b.index × (a.cells ≤ b.cells)
 
 -- what a table is read from
 pub record Shelf (T : Type 0) : Type 0 where
-  pub order : Laid
+  pub slots : SlotShelf T
   pub index : Indexing
-  pub cells : List (Option T)
 
 -- the changes of a table
 pub record TableSteps (T : Type 0) : Type 0 where
-  pub order : OrderSteps
+  pub slots : SlotSteps T
   pub index : IndexSteps
-  pub cells : List (Change (Option T))
 
--- the values as they are, and what they were read from when they were last settled
+-- the values as they are, what they were read from when they were last settled, and the capacities that there were then
 pub record OpenTable (T : Type 0) : Type 0 where
   pub now : List T
   pub base : Shelf T
@@ -38,33 +30,37 @@ pub record OpenTable (T : Type 0) : Type 0 where
 
 module _ {T : Type 0} where
   abbrev pub nothing_shelved : Shelf T
-  nothing_shelved = record { order = nothing_laid; index = nothing_indexed; cells = [] }
+  nothing_shelved = record { slots = nothing_filled; index = nothing_indexed }
 
   -- the values, in the order in which they were put
   abbrev pub items : Shelf T → List T
-  items s = values s.cells (order_of s.order).used
+  items s = values s.slots.cells (order_of s.slots.order).used
 
   -- what the table is read from once the changes are made
   abbrev pub shelf_after : TableSteps T → Shelf T → Shelf T
-  shelf_after p s = record { order = laid_after p.order s.order; index = indexing_after p.index s.index; cells = rewound p.cells s.cells }
+  shelf_after p s = record { slots = slots_after p.slots s.slots; index = indexing_after p.index s.index }
+
+  -- the capacities then
+  abbrev pub capacity_after : TableSteps T → Capacities → Capacities
+  capacity_after p c = record { slots = slots_room_after p.slots c.slots; index = index_room_after p.index c.index }
 
   -- the same of the parts of a table
   abbrev pub base_of : Parts T → Shelf T
-  base_of p = record { order = p.order.base; index = p.index.base; cells = p.cells.base }
+  base_of p = record { slots = p.slots.base; index = p.index.base }
 
   abbrev pub capacity_of : Parts T → Capacities
-  capacity_of p = record { order = p.order.capacity; index = p.index.capacity; cells = p.cells.capacity }
+  capacity_of p = record { slots = p.slots.capacity; index = p.index.capacity }
 
   abbrev pub values_of : Parts T → List T
-  values_of p = values p.cells.now p.order.now.used
+  values_of p = values p.slots.cells p.slots.order.used
 
   -- one value may go and one may come without memory
   abbrev pub MayChange : Parts T → Type 0
-  MayChange p = (5 ≤ p.order.room) × (0 < p.index.width) × AreWithin (both 2 3) p.index.room × (2 ≤ p.cells.room)
+  MayChange p = (5 ≤ p.slots.room.order) × (2 ≤ p.slots.room.cells) × (0 < p.index.width) × AreWithin (both 2 3) p.index.room
 
   -- one value may come without memory
   abbrev pub MayCome : Parts T → Type 0
-  MayCome p = (2 ≤ p.order.room) × (0 < p.index.width) × AreWithin (both 1 1) p.index.room × (1 ≤ p.cells.room)
+  MayCome p = (2 ≤ p.slots.room.order) × (1 ≤ p.slots.room.cells) × (0 < p.index.width) × AreWithin (both 1 1) p.index.room
 
 module _ {T : Type 0} (key : T → ℕ) where
   -- each slot has a cell and an entry, and the index leads to the slots of the values
@@ -74,14 +70,14 @@ module _ {T : Type 0} (key : T → ℕ) where
     pub indexed : IsIndexed key cells (λ k. slot_of k numbers) order.used
 
   abbrev pub HoldsShelf : Shelf T → Type 0
-  HoldsShelf s = Holds s.cells (numbers_of s.index.entries) (order_of s.order)
+  HoldsShelf s = Holds s.slots.cells (numbers_of s.index.entries) (order_of s.slots.order)
 
   abbrev pub HoldsParts : Parts T → Type 0
-  HoldsParts p = Holds p.cells.now p.index.now p.order.now
+  HoldsParts p = Holds p.slots.cells p.index.now p.slots.order
 
   -- the changes can be made without memory, and lead to a table
   abbrev pub Fits : TableSteps T → Shelf T → Capacities → Type 0
-  Fits p s c = OrderFits p.order s.order c.order × IndexFits p.index s.index c.index × (grows p.cells + length s.cells ≤ c.cells) × HoldsShelf (shelf_after p s)
+  Fits p s c = SlotsFit p.slots s.slots c.slots × IndexFits p.index s.index c.index × HoldsShelf (shelf_after p s)
 
   -- the changes can be made without memory, and lead to these values
   abbrev pub Plans : TableSteps T → Shelf T → Capacities → List T → Type 0

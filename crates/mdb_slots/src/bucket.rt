@@ -29,6 +29,7 @@ pub fn empty(heads: &mut Turned<Option<u32>>)
     ensures len { length heads.new.now ≡ length heads.old.now }
     ensures base { heads.new.base ≡ heads.old.base }
     ensures capacity { heads.new.capacity ≡ heads.old.capacity }
+    ensures reach { heads.new.reach ≡ heads.old.reach }
     ensures room { heads.old.room ≤ heads.new.room + length heads.old.now }
 {
     let width = heads.as_slice().len();
@@ -40,7 +41,7 @@ pub fn empty(heads: &mut Turned<Option<u32>>)
 /// So many more buckets, without slots.
 pub fn lengthen(heads: &mut Turned<Option<u32>>, more: usize)
     requires none { (b : ℕ) → head_at heads.old.now b ≡ None }
-    requires within { length heads.old.now + more ≤ heads.old.capacity }
+    requires within { length heads.old.now + more ≤ heads.old.reach }
     requires room { more ≤ heads.old.room }
     ensures none { (b : ℕ) → head_at heads.new.now b ≡ None }
     ensures len { length heads.new.now ≡ length heads.old.now + more }

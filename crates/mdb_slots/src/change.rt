@@ -1,7 +1,7 @@
 //! Changes of a list, each of which can be taken back and made again.
 
 ghost use Rattle.std.specs.Prelude.{◌≡◌, ◌≤◌, ◌+◌, vec_len, vec_capacity};
-ghost use Rattle.mdb_slots.specs.Change.{undo, redo, pushes};
+ghost use Rattle.mdb_slots.specs.Change.{undo, redo, unwound, rewound, pushes, grows};
 
 use std::mem;
 
@@ -56,5 +56,34 @@ pub fn forth<T: Drop>(items: &mut Vec<T>, change: Change<T>)
                 items[at] = value;
             }
         }
+    }
+}
+
+// Each change of the log is taken back, the newest first, and what comes back stands in its place.
+pub fn back_all<T: Drop>(items: &mut Vec<T>, log: &mut Vec<Change<T>>)
+    ensures items { items.new.items ≡ unwound log.old.items items.old.items }
+    ensures again { rewound log.new.items items.new.items ≡ items.old.items }
+    ensures room { grows log.new.items + vec_len items.new ≤ vec_len items.old }
+    ensures capacity { vec_capacity items.new ≡ vec_capacity items.old }
+{
+    let mut at = log.len();
+    while at > 0 {
+        at -= 1;
+        let change = mem::replace(&mut log[at], Change::Grew);
+        let turned = back(items, change);
+        log[at] = turned;
+    }
+}
+
+// Each change of the log is made again. What stands in the log means nothing then.
+pub fn forth_all<T: Drop>(items: &mut Vec<T>, log: &mut Vec<Change<T>>)
+    requires { grows log.old.items + vec_len items.old ≤ vec_capacity items.old }
+    ensures items { items.new.items ≡ rewound log.old.items items.old.items }
+    ensures capacity { vec_capacity items.new ≡ vec_capacity items.old }
+{
+    let changes = log.len();
+    for at in 0..changes {
+        let change = mem::replace(&mut log[at], Change::Grew);
+        forth(items, change);
     }
 }

@@ -1,5 +1,8 @@
 //! The ends of the chains through the nodes.
 
+ghost use Rattle.std.specs.Prelude.{◌≡◌, if◌then◌else◌};
+ghost use Rattle.mdb_slots.specs.Links.{where_none};
+
 /// Where the chains begin and end, and how long they are.
 #[derive(Clone, Copy)]
 pub struct Ends {
@@ -25,4 +28,21 @@ impl Ends {
             spare: 0,
         }
     }
+}
+
+/// The one where there is nothing, the other elsewhere.
+pub fn where_none(test: Option<u32>, one: Option<u32>, other: Option<u32>) -> Option<u32>
+    ensures { result ≡ where_none test one other }
+{
+    match test {
+        None => one,
+        Some(_) => other,
+    }
+}
+
+/// The ends that a change leads back to.
+pub fn lasting(stays: bool, now: Ends, was: Ends) -> Ends
+    ensures { result ≡ (if stays then now else was) }
+{
+    if stays { now } else { was }
 }

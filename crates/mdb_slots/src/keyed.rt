@@ -12,3 +12,11 @@ pub trait Keyed: Drop {
     fn key(&self) -> u32
         ensures { result ≡ key self.now };
 }
+
+impl Keyed for u32 {
+    ghost key = { λ k. k };
+
+    fn key(&self) -> u32 {
+        *self
+    }
+}

@@ -1,32 +1,31 @@
 //! The parts of a table, changed together.
 
-ghost use Rattle.std.specs.Prelude.{◌≡◌, ◌<◌, ◌≤◌, ◌++◌, ◌∷◌, [], ℕ, None, length, IfSome, OnOk, option_copied};
+ghost use Rattle.std.specs.Prelude.{◌≡◌, ◌<◌, ◌≤◌, ◌++◌, ◌∷◌, [], ℕ, None, length, OnOk, option_copied};
 ghost use Rattle.mdb_slots.specs.Keyed.{entry_at, others};
 ghost use Rattle.mdb_slots.specs.Cells.{at_place};
-ghost use Rattle.mdb_slots.specs.Table.{HoldsParts, MayChange, MayCome, AreKept, base_of, capacity_of, values_of};
+ghost use Rattle.mdb_slots.specs.Table.{HoldsParts, MayChange, MayCome, base_of, capacity_of, values_of};
 
 use crate::keyed::Keyed;
 use crate::slot_index::SlotIndex;
-use crate::slot_order::SlotOrder;
-use crate::turned::Turned;
+use crate::slots::Slots;
+use crate::touches::Touches;
 use mdb_base::OutOfMemory;
 
-/// The slots in their order and by number, and what they hold.
+/// The slots in their order with what they hold, and the slots by number.
 #[derive(Drop)]
 pub struct Parts<T: Drop> {
-    pub order: SlotOrder,
+    pub slots: Slots<T>,
     pub index: SlotIndex,
-    pub cells: Turned<Option<T>>,
 }
 
 impl<T: Keyed> Parts<T> {
     /// The value in the slot, if there is one.
     pub fn cell(&self, at: Option<u32>) -> Option<&T>
-        requires { IfSome at (λ k. k < length self.now.cells.now) }
-        ensures { option_copied result ≡ at_place self.now.cells.now at }
+        ensures { option_copied result ≡ at_place self.now.slots.cells at }
     {
+        let mut touches = Touches { count: 0 };
         match at {
-            Some(slot) => self.cells.as_slice()[slot as usize].as_ref(),
+            Some(slot) => self.slots.value(slot, &mut touches),
             None => None,
         }
     }
@@ -36,20 +35,18 @@ impl<T: Keyed> Parts<T> {
         requires { HoldsParts T.key self.old }
         ensures holds { HoldsParts T.key self.new }
         ensures now { values_of self.new ≡ values_of self.old }
-        ensures spare { OnOk result (0 < self.new.order.now.spare) }
+        ensures spare { OnOk result (0 < self.new.slots.order.spare) }
         ensures base { base_of self.new ≡ base_of self.old }
-        ensures capacity { AreKept (capacity_of self.old) (capacity_of self.new) }
+        ensures capacity { capacity_of self.new ≡ capacity_of self.old }
     {
-        if self.order.spare() > 0 {
+        if self.slots.free() > 0 {
             return Ok(());
         }
-        if self.order.len() > u32::MAX as usize {
+        if self.slots.size() > u32::MAX as usize {
             return Err(OutOfMemory);
         }
-        self.cells.push(None)?;
         self.index.grow()?;
-        self.order.grow()?;
-        Ok(())
+        self.slots.grow()
     }
 
     /// One value may go and one may come without memory.
@@ -57,14 +54,13 @@ impl<T: Keyed> Parts<T> {
         requires { HoldsParts T.key self.old }
         ensures holds { HoldsParts T.key self.new }
         ensures now { values_of self.new ≡ values_of self.old }
-        ensures spare { self.new.order.now.spare ≡ self.old.order.now.spare }
+        ensures spare { self.new.slots.order.spare ≡ self.old.slots.order.spare }
         ensures room { OnOk result (MayChange self.new) }
         ensures base { base_of self.new ≡ base_of self.old }
-        ensures capacity { AreKept (capacity_of self.old) (capacity_of self.new) }
+        ensures capacity { capacity_of self.new ≡ capacity_of self.old }
     {
-        self.order.ready(5)?;
-        self.index.ready()?;
-        self.cells.ready(2)
+        self.slots.ready(5, 2)?;
+        self.index.ready()
     }
 
     /// The value that has the number goes.
@@ -73,16 +69,16 @@ impl<T: Keyed> Parts<T> {
         requires room { MayChange self.old }
         ensures holds { HoldsParts T.key self.new }
         ensures now { values_of self.new ≡ others T.key number (values_of self.old) }
-        ensures spare { self.old.order.now.spare ≤ self.new.order.now.spare }
+        ensures spare { self.old.slots.order.spare ≤ self.new.slots.order.spare }
         ensures room { MayCome self.new }
         ensures base { base_of self.new ≡ base_of self.old }
-        ensures capacity { AreKept (capacity_of self.old) (capacity_of self.new) }
+        ensures capacity { capacity_of self.new ≡ capacity_of self.old }
     {
+        let mut touches = Touches { count: 0 };
         match self.index.get(number) {
             Some(slot) => {
-                self.order.remove(slot);
+                self.slots.take(slot, false, &mut touches);
                 self.index.remove(number, slot);
-                self.cells.set_ready(slot as usize, None);
             }
             None => {}
         }
@@ -92,15 +88,16 @@ impl<T: Keyed> Parts<T> {
     pub fn put_in(&mut self, item: T)
         requires holds { HoldsParts T.key self.old }
         requires new { entry_at T.key (T.key item) (values_of self.old) ≡ None }
-        requires spare { 0 < self.old.order.now.spare }
+        requires spare { 0 < self.old.slots.order.spare }
         requires room { MayCome self.old }
         ensures holds { HoldsParts T.key self.new }
         ensures now { values_of self.new ≡ values_of self.old ++ item ∷ [] }
         ensures base { base_of self.new ≡ base_of self.old }
-        ensures capacity { AreKept (capacity_of self.old) (capacity_of self.new) }
+        ensures capacity { capacity_of self.new ≡ capacity_of self.old }
     {
-        let slot = self.order.push();
-        self.index.insert(item.key(), slot);
-        self.cells.set_ready(slot as usize, Some(item));
+        let mut touches = Touches { count: 0 };
+        let number = item.key();
+        let slot = self.slots.bring(item, false, &mut touches);
+        self.index.insert(number, slot);
     }
 }

@@ -1,11 +1,11 @@
 //! The slots by number, whose changes can be taken back and made again.
 
 ghost use Rattle.std.specs.Prelude.{◌≡◌, ◌≢◌, ◌==◌, ◌+◌, ◌<◌, ◌≤◌, ◌^◌, [], ℕ, None, Some, length, OnOk, if◌then◌else◌};
-ghost use Rattle.mdb_slots.specs.SlotIndex.{slot_of, numbers_of, nothing_indexed, indexing_after, IndexFits, AreWithin, LeavesAll, both};
+ghost use Rattle.mdb_slots.specs.SlotIndex.{slot_of, numbers_of, nothing_indexed, indexing_after, index_room_after, IndexFits, AreWithin, LeavesAll, both};
 
 use crate::bucket::{Buckets, bucket_of, empty, lengthen};
+use crate::ends::where_none;
 use crate::entry::{Entry, find_before, find_number, set_same};
-use crate::links::where_none;
 use crate::turned::{Redo, Turned};
 use mdb_base::OutOfMemory;
 use std::alloc::Global;
@@ -74,7 +74,7 @@ impl SlotIndex {
         ensures len { OnOk result (length self.new.now ≡ length self.old.now + 1) }
         ensures longer { length self.old.now ≤ length self.new.now }
         ensures base { self.new.base ≡ self.old.base }
-        ensures capacity { AreWithin self.old.capacity self.new.capacity }
+        ensures capacity { self.new.capacity ≡ self.old.capacity }
     {
         self.buckets.entries.push(Entry {
             number: None,
@@ -89,7 +89,7 @@ impl SlotIndex {
         ensures now { self.new.now ≡ self.old.now }
         ensures width { OnOk result (0 < self.new.width) }
         ensures base { self.new.base ≡ self.old.base }
-        ensures capacity { AreWithin self.old.capacity self.new.capacity }
+        ensures capacity { self.new.capacity ≡ self.old.capacity }
     {
         let slots = self.buckets.entries.as_slice().len();
         if slots > u32::MAX as usize {
@@ -111,7 +111,7 @@ impl SlotIndex {
         ensures width { OnOk result (0 < self.new.width) }
         ensures room { OnOk result (AreWithin (both 2 3) self.new.room) }
         ensures base { self.new.base ≡ self.old.base }
-        ensures capacity { AreWithin self.old.capacity self.new.capacity }
+        ensures capacity { self.new.capacity ≡ self.old.capacity }
     {
         if self.buckets.heads.as_slice().len() <= self.buckets.entries.as_slice().len() {
             self.widen()?;
@@ -130,7 +130,7 @@ impl SlotIndex {
         ensures now { (q : ℕ) → slot_of q self.new.now ≡ if number == q then Some slot else slot_of q self.old.now }
         ensures len { length self.new.now ≡ length self.old.now }
         ensures base { self.new.base ≡ self.old.base }
-        ensures capacity { AreWithin self.old.capacity self.new.capacity }
+        ensures capacity { self.new.capacity ≡ self.old.capacity }
     {
         self.buckets.put_first(number, slot);
     }
@@ -144,7 +144,7 @@ impl SlotIndex {
         ensures width { self.new.width ≡ self.old.width }
         ensures room { LeavesAll self.new.room (both 1 2) self.old.room }
         ensures base { self.new.base ≡ self.old.base }
-        ensures capacity { AreWithin self.old.capacity self.new.capacity }
+        ensures capacity { self.new.capacity ≡ self.old.capacity }
     {
         let bucket = bucket_of(number, self.buckets.heads.as_slice().len());
         let first = self.buckets.heads.as_slice()[bucket];
@@ -175,16 +175,23 @@ impl SlotIndex {
     }
 
     /// Whatever was changed goes, and the changes are made again and stay.
-    pub fn redo(&mut self, alloc: Global, redo: IndexRedo)
+    pub fn redo(&mut self, redo: IndexRedo)
         requires { IndexFits redo self.old.base self.old.capacity }
         ensures base { self.new.base ≡ indexing_after redo self.old.base }
         ensures now { self.new.now ≡ numbers_of self.new.base.entries }
-        ensures capacity { self.new.capacity ≡ self.old.capacity }
+        ensures capacity { self.new.capacity ≡ index_room_after redo self.old.capacity }
     {
         let IndexRedo { heads, entries } = redo;
-        let _heads_gone = self.buckets.heads.turn(alloc);
-        let _entries_gone = self.buckets.entries.turn(alloc);
         self.buckets.heads.redo(heads);
         self.buckets.entries.redo(entries);
+    }
+
+    /// The changes stay.
+    pub fn settle(&mut self)
+        ensures now { self.new.now ≡ self.old.now }
+        ensures base { numbers_of self.new.base.entries ≡ self.old.now }
+    {
+        self.buckets.heads.settle();
+        self.buckets.entries.settle();
     }
 }

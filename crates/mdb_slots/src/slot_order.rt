@@ -1,14 +1,14 @@
 //! The order of the slots in use, whose changes can be taken back and made again.
 
 ghost use Rattle.std.specs.Prelude.{◌≡◌, ◌+◌, ◌-◌, ◌^◌, ◌<◌, ◌≤◌, ◌++◌, ◌∷◌, [], None, true, false, length, OnOk};
-ghost use Rattle.mdb_slots.specs.Lists.{has, without, head_or, last_or, next, previous};
-ghost use Rattle.mdb_slots.specs.SlotOrder.{nothing_laid, order_of, laid_after, OrderFits};
+ghost use Rattle.mdb_slots.specs.Lists.{has, apart, without, head_or, last_or, next, previous};
+ghost use Rattle.mdb_slots.specs.SlotOrder.{nothing_laid, order_of, laid_after, order_room_after, OrderFits};
 
-use crate::ends::Ends;
-use crate::links::where_none;
-use crate::node::Node;
+use crate::ends::{Ends, lasting, where_none};
+use crate::node::{Node, node_of, set_after, set_before};
+use crate::touches::Touches;
 use crate::turned::{Redo, Turned};
-use crate::turned_nodes::{node_of, set_after, set_before};
+use crate::visits::write;
 use mdb_base::OutOfMemory;
 use std::alloc::Global;
 use std::marker::Model;
@@ -61,6 +61,7 @@ impl SlotOrder {
 
     pub fn len(&self) -> usize
         ensures value { result ≡ length self.now.now.used }
+        ensures apart { apart self.now.now.used ≡ true }
         ensures few { length self.now.now.used + self.now.now.spare ≤ 2 ^ 32 }
     {
         self.ends.len
@@ -85,26 +86,30 @@ impl SlotOrder {
     }
 
     /// The slot that came after this one.
-    pub fn after(&self, at: u32) -> Option<u32>
-        requires { has at self.now.now.used ≡ true }
-        ensures { result ≡ next at self.now.now.used }
+    pub fn after(&self, at: u32, touches: &mut Touches) -> Option<u32>
+        requires member { has at self.now.now.used ≡ true }
+        requires few { touches.old.count < 2 ^ 64 - 1 }
+        ensures value { result ≡ next at self.now.now.used }
+        ensures counts { touches.new.count ≤ touches.old.count + 1 }
     {
-        node_of(&self.nodes, at).after
+        node_of(&self.nodes, at, touches).after
     }
 
     /// The slot that came before this one.
-    pub fn before(&self, at: u32) -> Option<u32>
-        requires { has at self.now.now.used ≡ true }
-        ensures { result ≡ previous None at self.now.now.used }
+    pub fn before(&self, at: u32, touches: &mut Touches) -> Option<u32>
+        requires member { has at self.now.now.used ≡ true }
+        requires few { touches.old.count < 2 ^ 64 - 1 }
+        ensures value { result ≡ previous None at self.now.now.used }
+        ensures counts { touches.new.count ≤ touches.old.count + 1 }
     {
-        node_of(&self.nodes, at).before
+        node_of(&self.nodes, at, touches).before
     }
 
     /// So many changes of nodes may come without memory.
     pub fn ready(&mut self, changes: usize) -> Result<(), OutOfMemory>
         ensures now { self.new.now ≡ self.old.now }
         ensures base { self.new.base ≡ self.old.base }
-        ensures capacity { self.old.capacity ≤ self.new.capacity }
+        ensures capacity { self.new.capacity ≡ self.old.capacity }
         ensures room { OnOk result (changes ≤ self.new.room) }
     {
         self.nodes.ready(changes)
@@ -115,9 +120,10 @@ impl SlotOrder {
         requires { length self.old.now.used + self.old.now.spare < 2 ^ 32 }
         ensures used { self.new.now.used ≡ self.old.now.used }
         ensures spare { OnOk result (self.new.now.spare ≡ self.old.now.spare + 1) }
+        ensures kept { self.old.now.spare ≤ self.new.now.spare }
         ensures bound { self.new.now.spare ≤ self.old.now.spare + 1 }
         ensures base { self.new.base ≡ self.old.base }
-        ensures capacity { self.old.capacity ≤ self.new.capacity }
+        ensures capacity { self.new.capacity ≡ self.old.capacity }
     {
         let at = self.nodes.as_slice().len() as u32;
         self.nodes.push(Node {
@@ -130,26 +136,28 @@ impl SlotOrder {
         Ok(())
     }
 
-    /// Takes a free slot, as the newest in use.
-    pub fn push(&mut self) -> u32
+    /// Takes a free slot, as the newest in use. Where it stays, so do all changes before it.
+    pub fn push(&mut self, stays: bool, touches: &mut Touches) -> u32
         requires spare { 0 < self.old.now.spare }
-        requires room { 1 < self.old.room }
+        requires room { stays ≡ false → 1 < self.old.room }
+        requires few { touches.old.count < 2 ^ 64 - 4 }
         ensures used { self.new.now.used ≡ self.old.now.used ++ result ∷ [] }
         ensures spare { self.new.now.spare + 1 ≡ self.old.now.spare }
         ensures new { has result self.old.now.used ≡ false }
         ensures within { result < length self.old.now.used + self.old.now.spare }
-        ensures base { self.new.base ≡ self.old.base }
-        ensures capacity { self.new.capacity ≡ self.old.capacity }
+        ensures open { stays ≡ false → (self.new.base ≡ self.old.base) × (self.new.capacity ≡ self.old.capacity) }
+        ensures lasts { stays ≡ true → order_of self.new.base ≡ self.new.now }
+        ensures counts { touches.new.count ≤ touches.old.count + 4 }
     {
         let at = self.ends.free.unwrap();
-        let node = node_of(&self.nodes, at);
-        set_after(&mut self.nodes, self.ends.last, Some(at));
+        let node = node_of(&self.nodes, at, touches);
+        set_after(&mut self.nodes, self.ends.last, Some(at), stays, touches);
         let newest = Node {
             before: self.ends.last,
             after: None,
             used: true,
         };
-        self.nodes.set_ready(at as usize, newest);
+        write(&mut self.nodes, at, newest, stays, touches);
         self.ends = Ends {
             first: where_none(self.ends.last, Some(at), self.ends.first),
             last: Some(at),
@@ -157,28 +165,31 @@ impl SlotOrder {
             len: self.ends.len + 1,
             spare: self.ends.spare - 1,
         };
+        self.was = lasting(stays, self.ends, self.was);
         at
     }
 
-    /// The slot is free from now on.
-    pub fn remove(&mut self, at: u32)
+    /// The slot is free from now on. Where that stays, so do all changes before it.
+    pub fn remove(&mut self, at: u32, stays: bool, touches: &mut Touches)
         requires member { has at self.old.now.used ≡ true }
-        requires room { 2 < self.old.room }
+        requires room { stays ≡ false → 2 < self.old.room }
+        requires few { touches.old.count < 2 ^ 64 - 6 }
         ensures used { self.new.now.used ≡ without at self.old.now.used }
         ensures spare { self.new.now.spare ≡ self.old.now.spare + 1 }
-        ensures base { self.new.base ≡ self.old.base }
-        ensures capacity { self.new.capacity ≡ self.old.capacity }
+        ensures open { stays ≡ false → (self.new.base ≡ self.old.base) × (self.new.capacity ≡ self.old.capacity) }
+        ensures lasts { stays ≡ true → order_of self.new.base ≡ self.new.now }
         ensures room { self.old.room ≤ self.new.room + 3 }
+        ensures counts { touches.new.count ≤ touches.old.count + 6 }
     {
-        let node = node_of(&self.nodes, at);
-        set_after(&mut self.nodes, node.before, node.after);
-        set_before(&mut self.nodes, node.after, node.before);
+        let node = node_of(&self.nodes, at, touches);
+        set_after(&mut self.nodes, node.before, node.after, stays, touches);
+        set_before(&mut self.nodes, node.after, node.before, stays, touches);
         let freed = Node {
             before: None,
             after: self.ends.free,
             used: false,
         };
-        self.nodes.set_ready(at as usize, freed);
+        write(&mut self.nodes, at, freed, stays, touches);
         self.ends = Ends {
             first: where_none(node.before, node.after, self.ends.first),
             last: where_none(node.after, node.before, self.ends.last),
@@ -186,6 +197,7 @@ impl SlotOrder {
             len: self.ends.len - 1,
             spare: self.ends.spare + 1,
         };
+        self.was = lasting(stays, self.ends, self.was);
     }
 
     /// The changes go, and what comes back makes them again.
@@ -203,16 +215,25 @@ impl SlotOrder {
     }
 
     /// Whatever was changed goes, and the changes are made again and stay.
-    pub fn redo(&mut self, alloc: Global, redo: OrderRedo)
+    pub fn redo(&mut self, redo: OrderRedo)
         requires { OrderFits redo self.old.base self.old.capacity }
         ensures base { self.new.base ≡ laid_after redo self.old.base }
         ensures now { self.new.now ≡ order_of self.new.base }
-        ensures capacity { self.new.capacity ≡ self.old.capacity }
+        ensures capacity { self.new.capacity ≡ order_room_after redo self.old.capacity }
     {
         let OrderRedo { nodes, ends } = redo;
-        let _gone = self.nodes.turn(alloc);
         self.nodes.redo(nodes);
         self.ends = ends;
         self.was = ends;
+    }
+
+    /// The changes stay.
+    pub fn settle(&mut self)
+        ensures now { self.new.now ≡ self.old.now }
+        ensures base { order_of self.new.base ≡ self.old.now }
+        ensures room { self.old.room ≤ self.new.room }
+    {
+        self.nodes.settle();
+        self.was = self.ends;
     }
 }

@@ -2,13 +2,15 @@
 
 ghost use Rattle.std.specs.Prelude.{◌≡◌, [], length, OnOk, OnErr, option_copied};
 ghost use Rattle.mdb_slots.specs.Keyed.{entry_at, entry_after, entry_before, first_of, last_of, others, put, swap};
-ghost use Rattle.mdb_slots.specs.Table.{AreKept, Fits, Plans, items, nothing_shelved, shelf_after};
+ghost use Rattle.mdb_slots.specs.Table.{Fits, Plans, items, nothing_shelved, shelf_after, capacity_after};
 
 use crate::keyed::Keyed;
 use crate::parts::Parts;
+use crate::records::Record;
 use crate::slot_index::{IndexRedo, SlotIndex};
-use crate::slot_order::{OrderRedo, SlotOrder};
-use crate::turned::{Redo, Turned};
+use crate::slot_table::SlotTable;
+use crate::slots::{Slots, SlotsRedo};
+use crate::touches::Touches;
 use mdb_base::OutOfMemory;
 use std::alloc::Global;
 use std::marker::Model;
@@ -32,9 +34,8 @@ impl<T: Keyed> Model for Table<T> {
 /// Changes of a table that were taken back, to be made again.
 #[derive(Drop)]
 pub struct TableRedo<T: Keyed> {
-    order: OrderRedo,
+    slots: SlotsRedo<T>,
     index: IndexRedo,
-    cells: Redo<Option<T>>,
 }
 
 impl<T: Keyed> Model for TableRedo<T> {
@@ -42,7 +43,7 @@ impl<T: Keyed> Model for TableRedo<T> {
 
     ghost Value = { TableSteps T };
 
-    ghost view = { λ t. record { order = t.order; index = t.index; cells = t.cells } };
+    ghost view = { λ t. record { slots = t.slots; index = t.index } };
 }
 
 impl<T: Keyed> Table<T> {
@@ -53,9 +54,8 @@ impl<T: Keyed> Table<T> {
     {
         Table {
             parts: Parts {
-                order: SlotOrder::new(alloc),
+                slots: Slots::empty(alloc),
                 index: SlotIndex::new(alloc),
-                cells: Turned::new(alloc),
             },
         }
     }
@@ -64,7 +64,7 @@ impl<T: Keyed> Table<T> {
     pub fn len(&self) -> usize
         ensures { result ≡ length self.now.now }
     {
-        self.parts.order.len()
+        self.parts.slots.size()
     }
 
     /// The value that has the number.
@@ -78,22 +78,23 @@ impl<T: Keyed> Table<T> {
     pub fn first(&self) -> Option<&T>
         ensures { option_copied result ≡ first_of self.now.now }
     {
-        self.parts.cell(self.parts.order.first())
+        self.parts.cell(self.parts.slots.first())
     }
 
     /// The value that was put after all others.
     pub fn last(&self) -> Option<&T>
         ensures { option_copied result ≡ last_of self.now.now }
     {
-        self.parts.cell(self.parts.order.last())
+        self.parts.cell(self.parts.slots.last())
     }
 
     /// The value that follows the one that has the number. `None` where there is none.
     pub fn next(&self, key: u32) -> Option<&T>
         ensures { option_copied result ≡ entry_after T.key key self.now.now }
     {
+        let mut touches = Touches { count: 0 };
         match self.parts.index.get(key) {
-            Some(slot) => self.parts.cell(self.parts.order.after(slot)),
+            Some(slot) => self.parts.cell(self.parts.slots.next(slot, &mut touches)),
             None => None,
         }
     }
@@ -102,8 +103,11 @@ impl<T: Keyed> Table<T> {
     pub fn previous(&self, key: u32) -> Option<&T>
         ensures { option_copied result ≡ entry_before T.key key self.now.now }
     {
+        let mut touches = Touches { count: 0 };
         match self.parts.index.get(key) {
-            Some(slot) => self.parts.cell(self.parts.order.before(slot)),
+            Some(slot) => self
+                .parts
+                .cell(self.parts.slots.previous(slot, &mut touches)),
             None => None,
         }
     }
@@ -113,7 +117,7 @@ impl<T: Keyed> Table<T> {
         ensures now { OnOk result (self.new.now ≡ put T.key item self.old.now) }
         ensures same { OnErr result (self.new.now ≡ self.old.now) }
         ensures base { self.new.base ≡ self.old.base }
-        ensures capacity { AreKept self.old.capacity self.new.capacity }
+        ensures capacity { self.new.capacity ≡ self.old.capacity }
     {
         self.parts.make_slot()?;
         self.parts.make_room()?;
@@ -127,11 +131,12 @@ impl<T: Keyed> Table<T> {
         ensures now { OnOk result (self.new.now ≡ swap T.key item self.old.now) }
         ensures same { OnErr result (self.new.now ≡ self.old.now) }
         ensures base { self.new.base ≡ self.old.base }
-        ensures capacity { AreKept self.old.capacity self.new.capacity }
+        ensures capacity { self.new.capacity ≡ self.old.capacity }
     {
-        self.parts.cells.ready(1)?;
+        let mut touches = Touches { count: 0 };
+        self.parts.slots.ready(0, 1)?;
         match self.parts.index.get(item.key()) {
-            Some(slot) => self.parts.cells.set_ready(slot as usize, Some(item)),
+            Some(slot) => self.parts.slots.swap(slot, item, &mut touches),
             None => {}
         }
         Ok(())
@@ -142,7 +147,7 @@ impl<T: Keyed> Table<T> {
         ensures now { OnOk result (self.new.now ≡ others T.key key self.old.now) }
         ensures same { OnErr result (self.new.now ≡ self.old.now) }
         ensures base { self.new.base ≡ self.old.base }
-        ensures capacity { AreKept self.old.capacity self.new.capacity }
+        ensures capacity { self.new.capacity ≡ self.old.capacity }
     {
         self.parts.make_room()?;
         self.parts.take_out(key);
@@ -157,27 +162,41 @@ impl<T: Keyed> Table<T> {
         ensures plan { Plans T.key result self.new.base self.new.capacity self.old.now }
     {
         TableRedo {
-            order: self.parts.order.turn(alloc),
+            slots: self.parts.slots.turn(alloc),
             index: self.parts.index.turn(alloc),
-            cells: self.parts.cells.turn(alloc),
         }
     }
 
     /// Whatever was changed goes, and the changes are made again and stay. It takes no memory.
-    pub fn redo(&mut self, alloc: Global, redo: TableRedo<T>)
+    pub fn redo(&mut self, redo: TableRedo<T>)
         requires { Fits T.key redo self.old.base self.old.capacity }
         ensures base { self.new.base ≡ shelf_after redo self.old.base }
         ensures now { self.new.now ≡ items self.new.base }
-        ensures capacity { self.new.capacity ≡ self.old.capacity }
+        ensures capacity { self.new.capacity ≡ capacity_after redo self.old.capacity }
     {
-        let TableRedo {
-            order,
-            index,
-            cells,
-        } = redo;
-        let _cells_gone = self.parts.cells.turn(alloc);
-        self.parts.order.redo(alloc, order);
-        self.parts.index.redo(alloc, index);
-        self.parts.cells.redo(cells);
+        let TableRedo { slots, index } = redo;
+        self.parts.slots.redo(slots);
+        self.parts.index.redo(index);
+    }
+
+    /// The changes stay. It takes no memory.
+    pub fn settle(&mut self)
+        ensures now { self.new.now ≡ self.old.now }
+        ensures base { items self.new.base ≡ self.old.now }
+    {
+        self.parts.slots.settle();
+        self.parts.index.settle();
+    }
+}
+
+impl Table<Record> {
+    ghost use Rattle.mdb_slots.specs.Items.{records_of};
+    ghost use Rattle.mdb_slots.specs.Slots.{listing};
+
+    /// The records in their slots.
+    pub fn slots(&self) -> &SlotTable
+        ensures { records_of (listing result.now).items ≡ self.now.now }
+    {
+        &self.parts.slots
     }
 }

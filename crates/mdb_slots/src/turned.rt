@@ -1,46 +1,53 @@
 //! A list whose changes are taken back, and can be made again.
 
-ghost use Rattle.std.specs.Prelude.{◌≡◌, ◌<◌, ◌≤◌, ◌+◌, ◌++◌, ◌∷◌, [], length, slice_set, vec_len, vec_capacity, OnOk, OnErr};
-ghost use Rattle.mdb_slots.specs.Change.{rewound, grows};
+ghost use Rattle.std.specs.Prelude.{◌≡◌, ◌<◌, ◌≤◌, ◌+◌, ◌++◌, ◌∷◌, [], None, length, slice_set, OnOk, OnErr};
+ghost use Rattle.mdb_slots.specs.Open.{list_after, room_after, ListFits};
 
-use crate::change::{Change, back, forth};
+use crate::change::{Change, back_all, forth_all};
+use crate::storage::{enlarged, moved};
 use mdb_base::OutOfMemory;
 use std::alloc::Global;
 use std::marker::Model;
 use std::mem;
 
 /// A list with a log of its changes: it is seen as it is, and as it was when it was last settled. A change that
-/// is to be taken back without memory needs a place in the log, which is made before the change.
+/// is to be taken back without memory needs a place in the log, which is made before the change. Where the list
+/// moved to larger storage since, it keeps the one that it had, so that a change is taken back with its memory.
 #[derive(Drop)]
 pub struct Turned<T: Drop> {
     items: Vec<T>,
     log: Vec<Change<T>>,
+    before: Option<Vec<T>>,
 }
 
 impl<T: Drop> Model for Turned<T> {
-    ghost use Rattle.std.specs.Prelude.{◌-◌, vec_capacity, vec_len};
-    ghost use Rattle.mdb_slots.specs.Open.{Open};
+    ghost use Rattle.std.specs.Prelude.{◌≡◌, ◌≤◌, ◌-◌, [], length, option_map, IfSome, vec_capacity, vec_len};
+    ghost use Rattle.mdb_slots.specs.Open.{Open, or_else};
+    ghost use Rattle.mdb_slots.specs.Change.{unwound};
 
     ghost Value = { Open T };
 
-    ghost use Rattle.mdb_slots.specs.Change.{unwound};
+    ghost view = { λ t. record { now = t.items.items; base = unwound t.log.items t.items.items; capacity = or_else (option_map (λ v. vec_capacity v) t.before) (vec_capacity t.items); reach = vec_capacity t.items; room = vec_capacity t.log - vec_len t.log } };
 
-    ghost view = { λ t. record { now = t.items.items; base = unwound t.log.items t.items.items; capacity = vec_capacity t.items; room = vec_capacity t.log - vec_len t.log } };
+    ghost invariant = { λ t. IfSome t.before (λ v. v.items ≡ []) × (length (unwound t.log.items t.items.items) ≤ or_else (option_map (λ v. vec_capacity v) t.before) (vec_capacity t.items)) };
 }
 
-/// Changes that were taken back, to be made again.
+/// Changes that were taken back, to be made again, and the larger storage for them, if they need it.
 #[derive(Drop)]
 pub struct Redo<T: Drop> {
     log: Vec<Change<T>>,
+    storage: Option<Vec<T>>,
 }
 
 impl<T: Drop> Model for Redo<T> {
-    ghost use Rattle.std.specs.Prelude.{List};
-    ghost use Rattle.mdb_slots.specs.declared.change.Change.{Change};
+    ghost use Rattle.std.specs.Prelude.{◌≡◌, [], option_map, IfSome, vec_capacity};
+    ghost use Rattle.mdb_slots.specs.Open.{ListSteps};
 
-    ghost Value = { List (Change T) };
+    ghost Value = { ListSteps T };
 
-    ghost view = { λ t. t.log.items };
+    ghost view = { λ t. record { changes = t.log.items; storage = option_map (λ v. vec_capacity v) t.storage } };
+
+    ghost invariant = { λ t. IfSome t.storage (λ v. v.items ≡ []) };
 }
 
 impl<T: Drop> Turned<T> {
@@ -52,6 +59,7 @@ impl<T: Drop> Turned<T> {
         Turned {
             items: Vec::new(alloc),
             log: Vec::new(alloc),
+            before: None,
         }
     }
 
@@ -66,8 +74,10 @@ impl<T: Drop> Turned<T> {
     pub fn ready(&mut self, changes: usize) -> Result<(), OutOfMemory>
         ensures now { self.new.now ≡ self.old.now }
         ensures base { self.new.base ≡ self.old.base }
-        ensures capacity { self.old.capacity ≤ self.new.capacity }
+        ensures capacity { self.new.capacity ≡ self.old.capacity }
+        ensures reach { self.new.reach ≡ self.old.reach }
         ensures room { OnOk result (changes ≤ self.new.room) }
+        ensures kept { self.old.room ≤ self.new.room }
     {
         self.log.reserve(changes)?;
         Ok(())
@@ -77,21 +87,29 @@ impl<T: Drop> Turned<T> {
     pub fn reserve(&mut self, more: usize) -> Result<(), OutOfMemory>
         ensures now { self.new.now ≡ self.old.now }
         ensures base { self.new.base ≡ self.old.base }
-        ensures capacity { self.old.capacity ≤ self.new.capacity }
-        ensures within { OnOk result (length self.new.now + more ≤ self.new.capacity) }
+        ensures capacity { self.new.capacity ≡ self.old.capacity }
+        ensures reach { self.old.reach ≤ self.new.reach }
+        ensures within { OnOk result (length self.new.now + more ≤ self.new.reach) }
         ensures room { self.new.room ≡ self.old.room }
     {
-        self.items.reserve(more)?;
+        if more <= self.items.capacity() - self.items.len() {
+            return Ok(());
+        }
+        let own = enlarged(&mut self.items, more)?;
+        if self.before.is_none() {
+            self.before = Some(own);
+        }
         Ok(())
     }
 
     /// The value comes last. It takes no memory.
     pub fn push_ready(&mut self, value: T)
-        requires within { length self.old.now < self.old.capacity }
+        requires within { length self.old.now < self.old.reach }
         requires room { 0 < self.old.room }
         ensures now { self.new.now ≡ self.old.now ++ value ∷ [] }
         ensures base { self.new.base ≡ self.old.base }
         ensures capacity { self.new.capacity ≡ self.old.capacity }
+        ensures reach { self.new.reach ≡ self.old.reach }
         ensures room { self.old.room ≤ self.new.room + 1 }
     {
         self.items.push_reserved(value);
@@ -105,10 +123,23 @@ impl<T: Drop> Turned<T> {
         ensures now { self.new.now ≡ slice_set self.old.now at value }
         ensures base { self.new.base ≡ self.old.base }
         ensures capacity { self.new.capacity ≡ self.old.capacity }
+        ensures reach { self.new.reach ≡ self.old.reach }
         ensures room { self.old.room ≤ self.new.room + 1 }
     {
         let old = mem::replace(&mut self.items[at], value);
         self.log.push_reserved(Change::Put(at, old));
+    }
+
+    /// The value takes the place of another, and stays, as do all changes before it. It takes no memory, and needs no place in the log.
+    pub fn set_lasting(&mut self, at: usize, value: T)
+        requires { at < length self.old.now }
+        ensures now { self.new.now ≡ slice_set self.old.now at value }
+        ensures base { self.new.base ≡ self.new.now }
+        ensures room { self.old.room ≤ self.new.room }
+    {
+        self.log.clear();
+        self.before = None;
+        self.items[at] = value;
     }
 
     /// The value comes last. Nothing changes where there is no memory.
@@ -116,7 +147,7 @@ impl<T: Drop> Turned<T> {
         ensures now { OnOk result (self.new.now ≡ self.old.now ++ value ∷ []) }
         ensures same { OnErr result (self.new.now ≡ self.old.now) }
         ensures base { self.new.base ≡ self.old.base }
-        ensures capacity { self.old.capacity ≤ self.new.capacity }
+        ensures capacity { self.new.capacity ≡ self.old.capacity }
     {
         self.ready(1)?;
         self.reserve(1)?;
@@ -130,43 +161,55 @@ impl<T: Drop> Turned<T> {
         ensures now { OnOk result (self.new.now ≡ slice_set self.old.now at value) }
         ensures same { OnErr result (self.new.now ≡ self.old.now) }
         ensures base { self.new.base ≡ self.old.base }
-        ensures capacity { self.old.capacity ≤ self.new.capacity }
+        ensures capacity { self.new.capacity ≡ self.old.capacity }
     {
         self.ready(1)?;
         self.set_ready(at, value);
         Ok(())
     }
 
-    /// The changes go, and what comes back makes them again. It takes no memory: each change is turned where it stands.
+    /// The changes go, and what comes back makes them again. The list has the memory that it had when it was last
+    /// settled. It takes no memory: each change is turned where it stands.
     pub fn turn(&mut self, alloc: Global) -> Redo<T>
         ensures now { self.new.now ≡ self.old.base }
         ensures base { self.new.base ≡ self.old.base }
-        ensures onto { rewound result self.new.now ≡ self.old.now }
-        ensures room { grows result + length self.new.now ≤ self.new.capacity }
         ensures capacity { self.new.capacity ≡ self.old.capacity }
+        ensures reach { self.new.reach ≡ self.old.capacity }
+        ensures onto { list_after result self.new.base ≡ self.old.now }
+        ensures fits { ListFits result self.new.base self.new.capacity }
     {
-        let mut at = self.log.len();
-        while at > 0 {
-            at -= 1;
-            let change = mem::replace(&mut self.log[at], Change::Grew);
-            let turned = back(&mut self.items, change);
-            self.log[at] = turned;
-        }
+        back_all(&mut self.items, &mut self.log);
+        let storage = moved(&mut self.items, self.before.take());
         let log = mem::replace(&mut self.log, Vec::new(alloc));
-        Redo { log }
+        Redo { log, storage }
     }
 
-    /// The changes are made again, and stay. It takes no memory.
+    /// Whatever was changed goes, and the changes are made again and stay. It takes no memory.
     pub fn redo(&mut self, redo: Redo<T>)
-        requires { grows redo + length self.old.now ≤ self.old.capacity }
-        ensures now { self.new.now ≡ rewound redo self.old.now }
+        requires { ListFits redo self.old.base self.old.capacity }
+        ensures now { self.new.now ≡ list_after redo self.old.base }
         ensures base { self.new.base ≡ self.new.now }
-        ensures capacity { self.new.capacity ≡ self.old.capacity }
+        ensures capacity { self.new.capacity ≡ room_after redo self.old.capacity }
+        ensures reach { self.new.reach ≡ self.new.capacity }
     {
-        let Redo { log } = redo;
-        for change in log {
-            forth(&mut self.items, change);
-        }
+        back_all(&mut self.items, &mut self.log);
+        let _gone = moved(&mut self.items, self.before.take());
+        let Redo { mut log, storage } = redo;
+        let _own = moved(&mut self.items, storage);
+        forth_all(&mut self.items, &mut log);
+        log.clear();
+        self.log = log;
+    }
+
+    /// The changes stay.
+    pub fn settle(&mut self)
+        ensures now { self.new.now ≡ self.old.now }
+        ensures base { self.new.base ≡ self.old.now }
+        ensures capacity { self.new.capacity ≡ self.old.reach }
+        ensures reach { self.new.reach ≡ self.old.reach }
+        ensures room { self.old.room ≤ self.new.room }
+    {
         self.log.clear();
+        self.before = None;
     }
 }

@@ -5,3 +5,6 @@ use Rattle.mdb_slots.proofs.turned.Turned.push_ready.Goals as goal
 
 pub returns-clause-base : goal.returns-clause-base
 returns-clause-base g c = rw (c.push_reserved-2.ensures.items, unwound-append, c.push_reserved.ensures.items, undo-push) (ap (λ (t : Open g.row.T.Denot). t.base) c.self.view_is)
+
+pub invariant_of-self : goal.invariant_of-self
+invariant_of-self g c = rw (c.push_reserved-2.ensures.items, unwound-append, c.push_reserved.ensures.items, undo-push, c.push_reserved.ensures.capacity) c.self.invariant

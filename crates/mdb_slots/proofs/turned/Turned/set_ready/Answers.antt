@@ -7,3 +7,8 @@ pub returns-clause-base : goal.returns-clause-base
 returns-clause-base g c =
     let w = stood _ c.args.at _ _ c.replace-old.ensures.value c.index_mut.ensures.value in
     rw (c.push_reserved.ensures.items, unwound-append, undo-set _ c.args.at c.replace-old.new.dest _ w) (ap (λ (t : Open g.row.T.Denot). t.base) c.self.view_is)
+
+pub invariant_of-self : goal.invariant_of-self
+invariant_of-self g c =
+    let w = stood _ c.args.at _ _ c.replace-old.ensures.value c.index_mut.ensures.value in
+    rw (c.push_reserved.ensures.items, unwound-append, undo-set _ c.args.at c.replace-old.new.dest _ w) c.self.invariant

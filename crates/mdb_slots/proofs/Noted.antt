@@ -1,0 +1,73 @@
+-- The records of the values that meet a test, after a change of the values.
+use Rattle.std.proofs.Common.{◌≡◌, ℕ, Bool, true, false, ◌==◌, if◌then◌else◌, Option, None, List, [], ◌∷◌, ◌++◌, map, refl, ◌∙◌, subst, arith}
+use Rattle.std.proofs.lemmas.Grind.{common_steps}
+use Rattle.mdb_base.specs.declared.object_id.ObjectId.{ObjectId}
+use Rattle.mdb_slots.specs.declared.records.Record.{Record}
+use Rattle.mdb_slots.specs.Lists.{has, apart}
+use Rattle.mdb_slots.specs.Keyed.{entry_at, others, put, swap}
+use Rattle.mdb_slots.specs.Sided.{relisted, amended, stays, record_of, noted}
+use Rattle.mdb_slots.proofs.Lists.{apart-first, apart-rest}
+use Rattle.mdb_slots.proofs.Numbers.{same-number}
+
+abbrev id_of : Record → ℕ
+id_of r = r.id
+
+module _ {T : Type 0} (key : T → ℕ) (service : T → Option ObjectId) (since : T → ℕ) (test : T → Bool) where
+  abbrev note : T → Record
+  note x = record_of key service since x
+
+  abbrev list : List T → List Record
+  list xs = noted key service since test xs
+
+  pub noted-append : (xs ys : List T) → list (xs ++ ys) ≡ list xs ++ list ys
+  noted-append [] ys = refl
+  noted-append (x ∷ xs) ys = grind (arith, common_steps, noted-append xs ys)
+
+  pub noted-others : (k : ℕ) (xs : List T) → list (others key k xs) ≡ others id_of k (list xs)
+  noted-others k [] = refl
+  noted-others k (x ∷ xs) = grind (arith, common_steps, noted-others k xs)
+
+  noted-one : (x : T) → list (x ∷ []) ≡ (if test x then note x ∷ [] else [])
+  noted-one x = on (test x) refl
+    where
+      on : (b : Bool) → test x ≡ b → list (x ∷ []) ≡ (if b then note x ∷ [] else [])
+      on true e = rw e refl
+      on false e = rw e refl
+
+  pub noted-put : (x : T) (xs : List T) → list (put key x xs) ≡ relisted (test x) (note x) (list xs)
+  noted-put x xs = noted-append (others key (key x) xs) (x ∷ []) ∙ rw (noted-others (key x) xs, noted-one x) (on (test x))
+    where
+      on : (b : Bool) → others id_of (key x) (list xs) ++ (if b then note x ∷ [] else []) ≡ relisted b (note x) (list xs)
+      on true = refl
+      on false = grind (arith, common_steps)
+
+  -- where no value with the number comes to stand in the list
+  dropped : (x : T) (xs : List T) → test x ≡ false → list (swap key x xs) ≡ others id_of (key x) (list xs)
+  dropped x [] e = refl
+  dropped x (y ∷ ys) e = grind (arith, common_steps, e, dropped x ys e)
+
+  absent : (k : ℕ) (xs : List T) → has k (map key xs) ≡ false → entry_at key k xs ≡ None
+  absent k [] h = refl
+  absent k (y ∷ ys) h = grind (arith, common_steps, h, absent k ys)
+
+  unchanged : (x : T) (xs : List T) → has (key x) (map key xs) ≡ false → list (swap key x xs) ≡ swap id_of (note x) (list xs)
+  unchanged x [] h = refl
+  unchanged x (y ∷ ys) h = grind (arith, common_steps, h, unchanged x ys)
+
+  kept-in-place : (x : T) (xs : List T) → test x ≡ true → apart (map key xs) ≡ true → stays test x (entry_at key (key x) xs) ≡ true → list (swap key x xs) ≡ swap id_of (note x) (list xs)
+  kept-in-place x [] e a s = refl
+  kept-in-place x (y ∷ ys) e a s = on (key y == key x) refl (kept-in-place x ys e (apart-rest (key y) (map key ys) a))
+    where
+      on : (b : Bool) → (key y == key x) ≡ b → (stays test x (entry_at key (key x) ys) ≡ true → list (swap key x ys) ≡ swap id_of (note x) (list ys)) → list (swap key x (y ∷ ys)) ≡ swap id_of (note x) (list (y ∷ ys))
+      on true w more =
+          let h : has (key x) (map key ys) ≡ false = subst (λ k. has k (map key ys) ≡ false) (same-number (key y) (key x) w) (apart-first (key y) (map key ys) a) in
+          let t : test y ≡ true = grind (arith, common_steps, s, w, e) in
+          grind (arith, common_steps, w, t, e, unchanged x ys h)
+      on false w more = grind (arith, common_steps, w, e, s, more)
+
+  pub noted-swap : (x : T) (xs : List T) → apart (map key xs) ≡ true → stays test x (entry_at key (key x) xs) ≡ true → list (swap key x xs) ≡ amended (test x) (note x) (list xs)
+  noted-swap x xs a s = on (test x) refl
+    where
+      on : (b : Bool) → test x ≡ b → list (swap key x xs) ≡ amended b (note x) (list xs)
+      on true e = kept-in-place x xs e a s
+      on false e = dropped x xs e

@@ -1,0 +1,110 @@
+//! A table and the two lists beside it, changed together.
+
+ghost use Rattle.std.specs.Prelude.{◌≡◌, ◌&&◌, true, Bool, OnOk};
+ghost use Rattle.mdb_slots.specs.Keyed.{entry_at, others, put, swap};
+ghost use Rattle.mdb_slots.specs.Table.{items};
+ghost use Rattle.mdb_slots.specs.Sided.{relisted, amended, stays, PartsInStep, sides_base, sides_capacity};
+
+use crate::keyed::Keyed;
+use crate::records::Record;
+use crate::sided::Sided;
+use crate::table::Table;
+use mdb_base::OutOfMemory;
+use std::alloc::Global;
+
+/// The values, and the records of those on the left and on the right.
+#[derive(Drop)]
+pub struct SideParts<T: Keyed> {
+    pub table: Table<T>,
+    pub left: Table<Record>,
+    pub right: Table<Record>,
+}
+
+// The record comes last where it stands in the list, and is gone where it does not.
+fn relist(list: &mut Table<Record>, listed: Record, stands: bool) -> Result<(), OutOfMemory>
+    ensures now { OnOk result (list.new.now ≡ relisted stands listed list.old.now) }
+    ensures base { list.new.base ≡ list.old.base }
+    ensures capacity { list.new.capacity ≡ list.old.capacity }
+{
+    if stands {
+        return list.put(listed);
+    }
+    list.remove(listed.id)
+}
+
+// The record changes where it stands in the list, and is gone where it does not.
+fn amend(list: &mut Table<Record>, listed: Record, stands: bool) -> Result<(), OutOfMemory>
+    ensures now { OnOk result (list.new.now ≡ amended stands listed list.old.now) }
+    ensures base { list.new.base ≡ list.old.base }
+    ensures capacity { list.new.capacity ≡ list.old.capacity }
+{
+    if stands {
+        return list.replace(listed);
+    }
+    list.remove(listed.id)
+}
+
+impl<T: Sided> SideParts<T> {
+    /// The item comes last, in place of the one that had its number.
+    pub fn put(&mut self, item: T) -> Result<(), OutOfMemory>
+        requires { PartsInStep T.key T.service T.since T.on_left T.on_right self.old }
+        ensures now { OnOk result (self.new.table.now ≡ put T.key item self.old.table.now) }
+        ensures in_step { OnOk result (PartsInStep T.key T.service T.since T.on_left T.on_right self.new) }
+        ensures base { sides_base self.new ≡ sides_base self.old }
+        ensures capacity { sides_capacity self.new ≡ sides_capacity self.old }
+    {
+        let on_left = item.on_left();
+        let on_right = item.on_right();
+        let listed = item.record();
+        self.table.put(item)?;
+        relist(&mut self.left, listed, on_left)?;
+        relist(&mut self.right, listed, on_right)?;
+        Ok(())
+    }
+
+    /// The item takes the place of the one that had its number. Nothing changes where there was none.
+    pub fn replace(&mut self, item: T) -> Result<(), OutOfMemory>
+        requires in_step { PartsInStep T.key T.service T.since T.on_left T.on_right self.old }
+        requires left { stays T.on_left item (entry_at T.key (T.key item) self.old.table.now) ≡ true }
+        requires right { stays T.on_right item (entry_at T.key (T.key item) self.old.table.now) ≡ true }
+        ensures now { OnOk result (self.new.table.now ≡ swap T.key item self.old.table.now) }
+        ensures in_step { OnOk result (PartsInStep T.key T.service T.since T.on_left T.on_right self.new) }
+        ensures base { sides_base self.new ≡ sides_base self.old }
+        ensures capacity { sides_capacity self.new ≡ sides_capacity self.old }
+    {
+        let on_left = item.on_left();
+        let on_right = item.on_right();
+        let listed = item.record();
+        self.table.replace(item)?;
+        amend(&mut self.left, listed, on_left)?;
+        amend(&mut self.right, listed, on_right)?;
+        Ok(())
+    }
+
+    /// The value that has the number goes.
+    pub fn remove(&mut self, key: u32) -> Result<(), OutOfMemory>
+        requires { PartsInStep T.key T.service T.since T.on_left T.on_right self.old }
+        ensures now { OnOk result (self.new.table.now ≡ others T.key key self.old.table.now) }
+        ensures in_step { OnOk result (PartsInStep T.key T.service T.since T.on_left T.on_right self.new) }
+        ensures base { sides_base self.new ≡ sides_base self.old }
+        ensures capacity { sides_capacity self.new ≡ sides_capacity self.old }
+    {
+        self.table.remove(key)?;
+        self.left.remove(key)?;
+        self.right.remove(key)?;
+        Ok(())
+    }
+
+    /// All changes go.
+    pub fn take_back(&mut self, alloc: Global)
+        ensures table { self.new.table.now ≡ items self.old.table.base }
+        ensures left { self.new.left.now ≡ items self.old.left.base }
+        ensures right { self.new.right.now ≡ items self.old.right.base }
+        ensures base { sides_base self.new ≡ sides_base self.old }
+        ensures capacity { sides_capacity self.new ≡ sides_capacity self.old }
+    {
+        let _table_gone = self.table.turn(alloc);
+        let _left_gone = self.left.turn(alloc);
+        let _right_gone = self.right.turn(alloc);
+    }
+}
