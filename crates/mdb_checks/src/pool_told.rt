@@ -7,6 +7,7 @@ use crate::words::{parted, small};
 use mdb_events::Fact;
 use mdb_log::{Entry, Reply};
 use mdb_pool::{DEFAULT_MAX_POOL_SIZE, PoolCore};
+use mdb_slots::{SlotRef, Touches};
 
 fn pair(page: &mut Page, word: &str, pool: u32, id: u32) {
     page.put(word);
@@ -62,9 +63,27 @@ fn tell_pool(page: &mut Page, core: &PoolCore, what: &str, words: &str) {
         "state" => page.debug(&core.state()),
         "cause" => tell_cause(page, core),
         "has_job" => page.answer(core.has_job()),
+        "available" => tell_available(page, core),
         "generation" => page.show(&core.generation(service(words))),
         _ => page.put("malformed"),
     }
+}
+
+fn tell_at(page: &mut Page, word: &str, at: Option<SlotRef>) {
+    page.put(word);
+    match at {
+        Some(at) => page.show(&at.id),
+        None => page.put("-"),
+    }
+}
+
+// The newest and the oldest of the available connections.
+fn tell_available(page: &mut Page, core: &PoolCore) {
+    let mut touches = Touches { count: 0 };
+    let newest = core.available().newest(&mut touches);
+    let oldest = core.available().oldest(&mut touches);
+    tell_at(page, "newest=", newest);
+    tell_at(page, " oldest=", oldest);
 }
 
 fn tell_connection(page: &mut Page, core: &PoolCore, what: &str, words: &str) {

@@ -14,7 +14,7 @@ use Rattle.mdb_log.proofs.Numbers.{same-number}
 use Rattle.mdb_pool.specs.Facts.{clear_facts, readied}
 use Rattle.std.specs.Prelude.{slice_get}
 use Rattle.std.specs.List.{list_any}
-use Rattle.mdb_pool.specs.declared.pool_core.PoolCore.{PoolCore}
+use Rattle.mdb_pool.specs.Core.{PoolCore}
 use Rattle.mdb_pool.proofs.Places.{one-place}
 use Rattle.mdb_sound.specs.Counts.{creations, closings, establishings, failures, names, creates}
 use Rattle.mdb_sound.specs.Laws.{ConnectionLaws, NamingLaws}

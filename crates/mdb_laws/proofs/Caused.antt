@@ -14,7 +14,7 @@ use Rattle.mdb_log.specs.History.{Item, of_pool, open_pool, is_number, with_fact
 use Rattle.mdb_log.specs.Homes.{Home, homes}
 use Rattle.mdb_log.specs.State.{is_closed, state_of}
 use Rattle.mdb_log.specs.Opening.{pool_options}
-use Rattle.mdb_pool.specs.declared.pool_core.PoolCore.{PoolCore}
+use Rattle.mdb_pool.specs.Core.{PoolCore}
 use Rattle.mdb_topology.specs.declared.topology.TopologyCore.{TopologyCore}
 use Rattle.mdb_topology.specs.Turns.{in_turn}
 use Rattle.mdb_topology.specs.Homes.{home_of, begun}

@@ -18,7 +18,7 @@ use Rattle.mdb_log.specs.History.{PoolItem, asked, warmed, gave_up, established,
 use Rattle.mdb_log.proofs.Addresses.{same-address}
 use Rattle.mdb_log.proofs.Numbers.{same-number}
 use Rattle.mdb_base.specs.Equality.{same_address}
-use Rattle.mdb_pool.specs.declared.pool_core.PoolCore.{PoolCore}
+use Rattle.mdb_pool.specs.Core.{PoolCore}
 use Rattle.mdb_pool.specs.Kept.{request_at, connection_at, held_connection, is_open_now, is_asked_at, is_pending_at, is_held_at, is_shut, pins_at}
 use Rattle.mdb_pool.specs.Refusal.{first_row, wrong_service}
 use Rattle.mdb_pool.specs.Refusing.{rows_now, refusal_now, is_here, is_pending_here, is_pinned_here}

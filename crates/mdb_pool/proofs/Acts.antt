@@ -14,7 +14,7 @@ use Rattle.mdb_pool.specs.declared.request.Phase.{Phase}
 use Rattle.mdb_pool.specs.declared.connection.Place.TheVariants.{Pending, Available, Held, Pinned}
 use Rattle.mdb_pool.specs.declared.request.Request.{Request}
 use Rattle.mdb_pool.specs.declared.request.Phase.TheVariants.{Queued, Given, Over, Ended as EndedPhase}
-use Rattle.mdb_pool.specs.declared.pool_core.PoolCore.{PoolCore}
+use Rattle.mdb_pool.specs.Core.{PoolCore}
 use Rattle.mdb_log.specs.History.{Item, did, PoolItem, has_party, of_pool, with_facts, with_answer, after_facts, given, has_asked, open_pool, with_act}
 use Rattle.mdb_log.specs.Connections.{has, pending_list, holding, known_service, last_use, is_errored, is_dropped, pins}
 use Rattle.mdb_log.specs.Requests.{outcome_of, names_party, is_claimed, asks_how, is_outcome, told, was_asked, leaves, some_act, settles, is_job}

@@ -1,6 +1,6 @@
 -- The state of a pool fits all items that say alike.
 use Rattle.std.proofs.Common.{◌≡◌, ◌+◌, false, List, None, refl, sym, ◌∙◌, ap, if◌then◌else◌}
-use Rattle.mdb_pool.specs.declared.pool_core.PoolCore.{PoolCore}
+use Rattle.mdb_pool.specs.Core.{PoolCore}
 use Rattle.mdb_log.specs.History.{PoolItem, has_party}
 use Rattle.mdb_log.specs.Connections.{is_dropped}
 use Rattle.mdb_pool.specs.Kept.{lasts_in}

@@ -10,7 +10,7 @@ use Rattle.mdb_log.specs.declared.reply.Reply.{Reply}
 use Rattle.mdb_log.specs.declared.reply.Reply.TheVariants.{Refused as RefusedBy}
 use Rattle.mdb_log.specs.History.{Item, of_pool, with_answer}
 use Rattle.mdb_log.specs.Legal.{NoneLeftWaiting}
-use Rattle.mdb_pool.specs.declared.pool_core.PoolCore.{PoolCore}
+use Rattle.mdb_pool.specs.Core.{PoolCore}
 use Rattle.mdb_pool.specs.declared.parts.Answered.{Answered}
 use Rattle.mdb_pool.specs.Answer.{answer}
 use Rattle.mdb_pool.specs.Refusal.{first_row}
@@ -93,3 +93,31 @@ refuses-logs s before after seat step why e logged h z =
       fair = v.fair;
       none_left = v.none_left;
     }
+
+-- an answer is told after facts, and a pool that follows its plan is where it leads
+pub told-after : (s t u : PoolCore) (before made after : List Fact) (step : Step) (reply : Reply) → u ≡ t → after ≡ before ++ made
+    → ((h : List Item) → StandsFor s h → Answers s t [] made step reply h)
+    → (h : List Item) → StandsFor s h → Answers s u before after step reply h
+told-after s t u before made after step reply led told answers h z =
+    let v = answers h z in
+    subst (λ c. Answers s c before after step reply h) (sym led) (record {
+      reply_is = v.reply_is;
+      facts_are = told ∙ ap (λ facts. before ++ facts) v.facts_are;
+      stands = v.stands;
+      fair = v.fair;
+      none_left = v.none_left;
+    })
+
+-- or logged
+pub logged-after : (s t u : PoolCore) (before after : List Entry) (seat : ℕ) (step : Step) (reply : Reply) (made : List Fact) → u ≡ t
+    → after ≡ before ++ record { seat = seat; step = step; reply = reply; facts = made } ∷ []
+    → ((h : List Item) → StandsFor s h → Answers s t [] made step reply h)
+    → (h : List Item) → StandsFor s h → Logs s u before after seat step h
+logged-after s t u before after seat step reply made led logged answers h z =
+    let v = answers h z in
+    subst (λ c. Logs s c before after seat step h) (sym led) (record {
+      entry = logged ∙ (ap (λ reply. before ++ record { seat = seat; step = step; reply = reply; facts = made } ∷ []) v.reply_is ∙ ap (λ facts. before ++ record { seat = seat; step = step; reply = (answer s.pool s.address s.options h step).reply; facts = facts } ∷ []) v.facts_are);
+      stands = v.stands;
+      fair = v.fair;
+      none_left = v.none_left;
+    })

@@ -1,7 +1,7 @@
 -- Several calls on one pool in one step: the item of the step's act first, then the facts of each call, then those of the serving.
 use Rattle.std.proofs.Common.{ℕ, ◌≡◌, List, ◌++◌, sym, ◌∙◌, ap, subst, append_assoc}
 use Rattle.mdb_events.specs.declared.fact.Fact.{Fact}
-use Rattle.mdb_pool.specs.declared.pool_core.PoolCore.{PoolCore}
+use Rattle.mdb_pool.specs.Core.{PoolCore}
 use Rattle.mdb_log.specs.History.{PoolItem, after_facts}
 use Rattle.mdb_pool.specs.Serving.{serving}
 use Rattle.mdb_pool.specs.Standing.{Fits, SameHome, Serves}

@@ -4,7 +4,7 @@ use Rattle.mdb_events.specs.declared.reasons.ConnectionClosedReason.{ConnectionC
 use Rattle.mdb_pool.specs.declared.connection.Connection.{Connection}
 use Rattle.mdb_pool.specs.declared.status.Status.{Status}
 use Rattle.mdb_pool.specs.declared.status.Status.TheVariants.{New, Ready, Paused, Closed}
-use Rattle.mdb_pool.specs.declared.pool_core.PoolCore.{PoolCore}
+use Rattle.mdb_pool.specs.Core.{PoolCore}
 use Rattle.mdb_log.specs.History.{PoolItem, closed, checked_in, after_facts}
 use Rattle.mdb_log.specs.State.{state_of, is_stale}
 use Rattle.mdb_log.specs.Connections.{known_service, last_use, is_errored, is_dropped}

@@ -5,10 +5,11 @@ use Rattle.mdb_log.specs.declared.step.Act.TheVariants.{Claim}
 use Rattle.mdb_log.specs.declared.reply.Reply.{Reply}
 use Rattle.mdb_log.specs.declared.reply.Reply.TheVariants.{Job, NoJob}
 use Rattle.mdb_pool.specs.declared.connection.Connection.{Connection}
-use Rattle.mdb_pool.specs.declared.pool_core.PoolCore.{PoolCore}
+use Rattle.mdb_pool.specs.Core.{PoolCore}
 use Rattle.mdb_pool.proofs.Acts.{accepts}
 use Rattle.std.proofs.Math.Bool.{or_comm}
-use Rattle.mdb_log.proofs.Numbers.{has-append, same-number}
+use Rattle.mdb_pool.proofs.Marks.{has-marked}
+use Rattle.mdb_log.proofs.Numbers.{same-number}
 use Rattle.mdb_pool.proofs.Stands.{noted-fits}
 use Rattle.mdb_pool.specs.Answer.{first_job}
 use Rattle.mdb_pool.specs.Changes.{claiming}
@@ -45,7 +46,7 @@ claiming-has s c = on (first_unclaimed s) refl
   where
     on : (o : Option Connection) → first_unclaimed s ≡ o → has c (claiming s).claimed ≡ is_job s.pool (job_now s) c || has c s.claimed
     on None e = rw e refl
-    on (Some x) e = rw (e, same-number s.pool) (has-append c x.id s.claimed ∙ or_comm (has c s.claimed) (x.id == c))
+    on (Some x) e = rw (e, same-number s.pool) (has-marked c x.id s.claimed ∙ or_comm (has c s.claimed) (x.id == c))
 
 job-accepted : (s : PoolCore) → IsAccepted (job_now s)
 job-accepted s = on (first_unclaimed s) refl

@@ -12,7 +12,7 @@ use Rattle.mdb_log.specs.declared.reply.Reply.TheVariants.{Done}
 use Rattle.mdb_pool.specs.declared.status.Status.{Status}
 use Rattle.mdb_pool.specs.declared.status.Status.TheVariants.{New, Ready, Paused, Closed}
 use Rattle.mdb_log.specs.declared.options.PoolOptions.{PoolOptions}
-use Rattle.mdb_pool.specs.declared.pool_core.PoolCore.{PoolCore}
+use Rattle.mdb_pool.specs.Core.{PoolCore}
 use Rattle.mdb_log.specs.History.{PoolItem, raised, after_fact, after_facts, has_asked}
 use Rattle.mdb_log.specs.Connections.{has}
 use Rattle.mdb_log.specs.Requests.{queued, is_warm}

@@ -11,7 +11,7 @@ use Rattle.mdb_pool.specs.declared.connection.Connection.{Connection}
 use Rattle.mdb_pool.specs.declared.request.Request.{Request}
 use Rattle.mdb_pool.specs.declared.request.Phase.{Phase}
 use Rattle.mdb_pool.specs.declared.request.Phase.TheVariants.{Queued, Given, Over, Ended as EndedPhase}
-use Rattle.mdb_pool.specs.declared.pool_core.PoolCore.{PoolCore}
+use Rattle.mdb_pool.specs.Core.{PoolCore}
 use Rattle.mdb_log.specs.History.{PoolItem, closed, ended, pool_closed, after_fact, after_facts, has_asked, given}
 use Rattle.mdb_log.specs.Connections.{has, pending_list, available_list, known_service}
 use Rattle.mdb_log.specs.Requests.{requests, is_unserved, queued, end_of}

@@ -8,10 +8,10 @@ use Rattle.mdb_log.specs.History.{PoolItem, closed, ended, given, without, has_a
 use Rattle.mdb_log.specs.Connections.{one_if, has, live, live_total, created_total, created_at, pending_list, available_list, parties, pins, is_pinned, timeouts_since, granted_to, service_of, known_service, last_use, is_errored, wire_of}
 use Rattle.mdb_log.specs.Requests.{requests, queued, is_warm, asked_at, end_of}
 use Rattle.mdb_log.specs.State.{generation_of, generation_before}
-use Rattle.mdb_pool.specs.Keyed.{entry_at}
+use Rattle.mdb_slots.specs.Keyed.{entry_at}
 use Rattle.mdb_events.specs.declared.end.End.TheVariants.{Closed as ClosedEnd}
 use Rattle.mdb_pool.specs.declared.request.Request.{Request}
-use Rattle.mdb_pool.specs.declared.pool_core.PoolCore.{PoolCore}
+use Rattle.mdb_pool.specs.Core.{PoolCore}
 use Rattle.mdb_pool.specs.Changes.{over_facts, off_facts}
 use Rattle.mdb_pool.specs.Kept.{unserved_in}
 use Rattle.std.proofs.lemmas.List.{take_more}

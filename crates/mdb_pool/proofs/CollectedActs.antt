@@ -3,7 +3,7 @@ use Rattle.std.proofs.Common.{ℕ, ◌≡◌, ◌&&◌, ◌||◌, ◌==◌, List
 use Rattle.mdb_events.specs.declared.fact.Fact.{Fact}
 use Rattle.mdb_log.specs.declared.step.Act.TheVariants.{Collect}
 use Rattle.mdb_log.specs.declared.reply.Reply.{Reply}
-use Rattle.mdb_pool.specs.declared.pool_core.PoolCore.{PoolCore}
+use Rattle.mdb_pool.specs.Core.{PoolCore}
 use Rattle.mdb_pool.proofs.Acts.{outcome-is, outcome-accepted, outcome-no-job, accepts}
 use Rattle.std.proofs.Math.Bool.{or-false}
 use Rattle.mdb_pool.proofs.RequestedActs.{telling-settled, telling-fits}

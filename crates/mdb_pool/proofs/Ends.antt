@@ -9,7 +9,7 @@ use Rattle.mdb_events.specs.declared.cmap.CmapEvent.TheVariants.{PoolCreated, Po
 use Rattle.mdb_events.specs.declared.end.End.{End}
 use Rattle.mdb_pool.specs.declared.request.Request.{Request}
 use Rattle.mdb_pool.specs.declared.request.Phase.TheVariants.{Queued, Ended as EndedPhase}
-use Rattle.mdb_pool.specs.declared.pool_core.PoolCore.{PoolCore}
+use Rattle.mdb_pool.specs.Core.{PoolCore}
 use Rattle.mdb_log.specs.History.{PoolItem, ended, after_fact, after_facts, without, has_asked}
 use Rattle.mdb_log.specs.Connections.{has}
 use Rattle.mdb_log.specs.Requests.{queued, asked_at, is_warm}

@@ -11,10 +11,10 @@ use Rattle.mdb_pool.specs.declared.connection.Place.TheVariants.{Pending, Availa
 use Rattle.mdb_pool.specs.declared.request.Request.{Request}
 use Rattle.mdb_pool.specs.declared.request.Phase.{Phase}
 use Rattle.mdb_pool.specs.declared.request.Phase.TheVariants.{Queued, Given, Over, Ended as EndedPhase}
-use Rattle.mdb_pool.specs.declared.pool_core.PoolCore.{PoolCore}
+use Rattle.mdb_pool.specs.Core.{PoolCore}
 use Rattle.mdb_log.specs.History.{PoolItem, established, ended, after_facts, has_asked, closed, checked_in}
 use Rattle.mdb_pool.specs.Facts.{act_facts, check_in, checked_out_fact, ready_fact}
-use Rattle.mdb_pool.specs.Keyed.{others}
+use Rattle.mdb_slots.specs.Keyed.{others}
 use Rattle.mdb_log.specs.Own.{shuts}
 use Rattle.mdb_pool.proofs.Laws.{fair-append, own-append, shut-append}
 use Rattle.mdb_log.proofs.Frame.{asked-facts}

@@ -4,7 +4,7 @@ use Rattle.mdb_events.specs.declared.fact.Fact.{Fact}
 use Rattle.mdb_events.specs.declared.end.End.TheVariants.{TimedOut}
 use Rattle.mdb_log.specs.declared.step.Act.TheVariants.{Expire as ExpireAct}
 use Rattle.mdb_log.specs.declared.reply.Reply.TheVariants.{Done}
-use Rattle.mdb_pool.specs.declared.pool_core.PoolCore.{PoolCore}
+use Rattle.mdb_pool.specs.Core.{PoolCore}
 use Rattle.mdb_log.specs.History.{PoolItem, after_facts}
 use Rattle.mdb_log.specs.Connections.{has}
 use Rattle.mdb_pool.specs.Facts.{all_ends, overdue}

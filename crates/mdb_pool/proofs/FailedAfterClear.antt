@@ -10,7 +10,7 @@ use Rattle.mdb_log.specs.declared.options.PoolOptions.{PoolOptions}
 use Rattle.mdb_log.specs.declared.step.Act.TheVariants.{Clear, Failed}
 use Rattle.mdb_log.specs.declared.step.FailedAt.{FailedAt}
 use Rattle.mdb_log.specs.declared.reply.Reply.{Reply}
-use Rattle.mdb_pool.specs.declared.pool_core.PoolCore.{PoolCore}
+use Rattle.mdb_pool.specs.Core.{PoolCore}
 use Rattle.mdb_log.specs.History.{PoolItem, failed, service_in, after_facts}
 use Rattle.mdb_log.specs.Connections.{available_list, granted_to}
 use Rattle.mdb_log.specs.Requests.{queued}

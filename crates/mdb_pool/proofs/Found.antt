@@ -6,7 +6,7 @@ use Rattle.mdb_pool.specs.declared.connection.Place.TheVariants.{Pending, Availa
 use Rattle.mdb_pool.specs.declared.request.Request.{Request}
 use Rattle.mdb_pool.specs.declared.request.Phase.{Phase}
 use Rattle.mdb_pool.specs.declared.request.Phase.TheVariants.{Queued, Given, Over, Ended as EndedPhase}
-use Rattle.mdb_pool.specs.declared.pool_core.PoolCore.{PoolCore}
+use Rattle.mdb_pool.specs.Core.{PoolCore}
 use Rattle.mdb_log.specs.History.{PoolItem}
 use Rattle.mdb_pool.specs.Serving.{last_of}
 use Rattle.mdb_pool.specs.Matching.{Matches}
@@ -185,3 +185,28 @@ not-given s xs m r q f h p = on q.phase refl
     on (Given c) e = at_connection c (connection_at s c) refl e (m.links.taken r c (ap given_of f ∙ ap given_in e))
     on Over e = ap given_in e
     on (EndedPhase end) e = ap given_in e
+
+-- a connection that is found is the one of its id
+pub found-at : (s : PoolCore) (c : ℕ) (x : Connection) → connection_at s c ≡ Some x → connection_at s x.id ≡ Some x
+found-at s c x e = subst (λ d. connection_at s d ≡ Some x) (sym (entry_at-key (λ (z : Connection). z.id) c x s.connections e)) e
+
+pub pending-at : (s : PoolCore) (r : ℕ) (x : Connection) → pending_connection s r ≡ Some x → connection_at s x.id ≡ Some x
+pending-at s r x e = on (given_of (request_at s r)) refl
+  where
+    at_pending : (c : ℕ) (y : Connection) (b : Bool) → connection_at s c ≡ Some y → is_pending y.place ≡ b → if_pending (Some y) ≡ Some x → connection_at s x.id ≡ Some x
+    at_pending c y true g k t =
+        let w : if_pending (Some y) ≡ Some y = rw k refl in
+        let v : Some y ≡ Some x = sym w ∙ t in
+        let u : y ≡ x = cc in
+        found-at s c x (g ∙ ap Some u)
+    at_pending c y false g k t =
+        let w : if_pending (Some y) ≡ None = rw k refl in
+        let v : ◌≡◌ {A = Option Connection} None (Some x) = sym w ∙ t in cc
+
+    at_connection : (c : ℕ) (o : Option Connection) → connection_at s c ≡ o → if_pending o ≡ Some x → connection_at s x.id ≡ Some x
+    at_connection c None g t = let v : ◌≡◌ {A = Option Connection} None (Some x) = t in cc
+    at_connection c (Some y) g t = at_pending c y (is_pending y.place) g refl t
+
+    on : (o : Option ℕ) → given_of (request_at s r) ≡ o → connection_at s x.id ≡ Some x
+    on None w = let t : pending_connection s r ≡ None = rw w refl in let v : ◌≡◌ {A = Option Connection} None (Some x) = sym t ∙ e in cc
+    on (Some c) w = let t : pending_connection s r ≡ if_pending (connection_at s c) = rw w refl in at_connection c (connection_at s c) refl (sym t ∙ e)

@@ -12,7 +12,7 @@ use Rattle.mdb_events.specs.declared.fact.Fact.{Fact}
 use Rattle.mdb_events.specs.declared.fact.Fact.TheVariants as fact
 use Rattle.mdb_log.specs.declared.options.PoolOptions.{PoolOptions}
 use Rattle.mdb_pool.specs.declared.connection.Connection.{Connection}
-use Rattle.mdb_pool.specs.declared.pool_core.PoolCore.{PoolCore}
+use Rattle.mdb_pool.specs.Core.{PoolCore}
 use Rattle.mdb_log.specs.declared.step.Step.{Step}
 use Rattle.mdb_log.specs.declared.step.Act.{Act}
 use Rattle.mdb_log.specs.declared.step.Act.TheVariants as act

@@ -14,7 +14,7 @@ use Rattle.mdb_pool.specs.declared.connection.Place.TheVariants.{Pending, Held}
 use Rattle.mdb_pool.specs.declared.request.Request.{Request}
 use Rattle.mdb_pool.specs.declared.request.Phase.{Phase}
 use Rattle.mdb_pool.specs.declared.request.Phase.TheVariants.{Queued, Given, Over, Ended as EndedPhase}
-use Rattle.mdb_pool.specs.declared.pool_core.PoolCore.{PoolCore}
+use Rattle.mdb_pool.specs.Core.{PoolCore}
 use Rattle.mdb_log.specs.History.{PoolItem, given, has_asked, after_facts, gave_up, closed, checked_in, ended, after_fact}
 use Rattle.mdb_pool.specs.Kept.{connection_at, request_at, given_in, given_of, end_in, end_at, is_ended_at, held_connection, pending_connection, is_open_now, is_pending_at, outcome_now, is_shut, reason_now, used_as, is_asked_at}
 use Rattle.mdb_log.specs.Requests.{end_of, told}
@@ -31,7 +31,9 @@ use Rattle.mdb_pool.proofs.Found.{Holder, holder, pender, not-given}
 use Rattle.mdb_pool.proofs.Stands.{quit-fits, leave-fits, hand-fits, late-fits, lose-fits, asked-known}
 use Rattle.mdb_pool.proofs.Tables.{entry_at-key}
 use Rattle.std.proofs.Math.Bool.{or_comm}
-use Rattle.mdb_log.proofs.Numbers.{has-append, same-number}
+use Rattle.mdb_pool.proofs.Marks.{has-marked}
+use Rattle.mdb_pool.specs.Keyed.{marked}
+use Rattle.mdb_log.proofs.Numbers.{same-number}
 use Rattle.mdb_pool.proofs.Acts.{accepts, pending-is, holding-is, outcome-is, outcome-accepted, outcome-no-job, live-errored, live-service, live-pins}
 use Rattle.mdb_pool.proofs.CheckIns.{check-in-is, back-fair, back-own, back-open, back-fits}
 use Rattle.mdb_pool.proofs.Staleness.{stale-at}
@@ -48,7 +50,7 @@ module _ (s : PoolCore) (xs : List PoolItem) (z : Fits s xs) (n : ℕ) (q : Requ
   asked = asked-known s xs z q.number ∙ known
 
   -- the facts acts, and a state that fits them, are an answer
-  given-up : (s1 t : PoolCore) (before f1 after : List Fact) (acts : List Fact) → act_facts s.pool s.address s.options n xs ys (GiveUp q.number) ≡ acts → f1 ≡ before ++ acts → SameHome s s1 → s1.settled ≡ s.settled ++ q.number ∷ [] → s1.claimed ≡ s.claimed → s1.status ≡ s.status → shuts acts ≡ false
+  given-up : (s1 t : PoolCore) (before f1 after : List Fact) (acts : List Fact) → act_facts s.pool s.address s.options n xs ys (GiveUp q.number) ≡ acts → f1 ≡ before ++ acts → SameHome s s1 → s1.settled ≡ marked q.number s.settled → s1.claimed ≡ s.claimed → s1.status ≡ s.status → shuts acts ≡ false
       → Fits s1 (after_facts s.pool n acts ys) → SameHome s1 t → SameNotes s1 t → ((k : List PoolItem) → Fits s1 k → Serves s1 t n f1 after k) → AllFirstCome s.pool n ys acts → AllOwn s.pool n ys acts
       → Accepts s t before after n (GiveUp q.number) Done xs ys
   given-up s1 t before f1 after acts acts_are f1_is at_home told same state unshut fits home notes serves fair own =
@@ -57,7 +59,7 @@ module _ (s : PoolCore) (xs : List PoolItem) (z : Fits s xs) (n : ℕ) (q : Requ
       (λ claims own zs m. rw still refl)
       tt
       (ap is_shut (notes.status ∙ state) ∙ ap (λ b. b || is_shut s.status) (sym unshut))
-      (λ r. ap (has r) (notes.settled ∙ told) ∙ (has-append r q.number s.settled ∙ or_comm (has r s.settled) (q.number == r)))
+      (λ r. ap (has r) (notes.settled ∙ told) ∙ (has-marked r q.number s.settled ∙ or_comm (has r s.settled) (q.number == r)))
       (λ c. ap (has c) (notes.claimed ∙ same))
       fair own
 
@@ -121,7 +123,7 @@ module _ (s : PoolCore) (xs : List PoolItem) (z : Fits s xs) (n : ℕ) (q : Requ
   hand-home-for x None = record { pool = refl; address = refl; options = refl }
   hand-home-for x (Some w) = record { pool = refl; address = refl; options = refl }
 
-  hand-notes-for : (x : Connection) (o : Option ConnectionClosedReason) → ((handing_for s n (used_as x Ok) q o).settled ≡ s.settled ++ q.number ∷ []) × ((handing_for s n (used_as x Ok) q o).claimed ≡ s.claimed) × ((handing_for s n (used_as x Ok) q o).status ≡ s.status)
+  hand-notes-for : (x : Connection) (o : Option ConnectionClosedReason) → ((handing_for s n (used_as x Ok) q o).settled ≡ marked q.number s.settled) × ((handing_for s n (used_as x Ok) q o).claimed ≡ s.claimed) × ((handing_for s n (used_as x Ok) q o).status ≡ s.status)
   hand-notes-for x None = (refl, refl, refl)
   hand-notes-for x (Some w) = (refl, refl, refl)
 
@@ -143,18 +145,18 @@ some-end (Some q) e = on q.phase refl
     on (EndedPhase end) f = ap given_in f
 
 pub late-accepts : (s s1 t : PoolCore) (before after : List Fact) (n r : ℕ) (reply : Reply) (xs : List PoolItem) → Fits s xs → is_ended_at (request_at s r) ≡ true
-    → s1 ≡ record s { last = n; settled = s.settled ++ r ∷ [] } → SameHome s1 t → SameNotes s1 t → ((k : List PoolItem) → Fits s1 k → Serves s1 t n before after k) → reply ≡ outcome_now s r
+    → s1 ≡ record s { last = n; settled = marked r s.settled } → SameHome s1 t → SameNotes s1 t → ((k : List PoolItem) → Fits s1 k → Serves s1 t n before after k) → reply ≡ outcome_now s r
     → Accepts s t before after n (GiveUp r) reply xs (gave_up r ∷ xs)
 late-accepts s s1 t before after n r reply xs z over s1_is home notes serves reply_is =
     let gone : is_some (end_of xs r) ≡ true = ap is_some (z.matches.requests.ends r) ∙ over in
     accepts s s1 t t before before after n (GiveUp r) reply [] xs (gave_up r ∷ xs)
     (rw gone refl)
-    (sym (append-nil before)) (rw s1_is (record { pool = refl; address = refl; options = refl })) (rw s1_is (late-fits s xs z n r (s.settled ++ r ∷ []) (some-end (request_at s r) over))) serves
+    (sym (append-nil before)) (rw s1_is (record { pool = refl; address = refl; options = refl })) (rw s1_is (late-fits s xs z n r (marked r s.settled) (some-end (request_at s r) over))) serves
     (λ zs v. v)
     (λ claims own zs m. rw gone (reply_is ∙ sym (outcome-is s xs z.matches r)))
     (rw reply_is (outcome-accepted s r))
     (ap is_shut (notes.status ∙ ap (λ x. x.status) s1_is))
-    (λ k. ap (has k) (notes.settled ∙ ap (λ x. x.settled) s1_is) ∙ (has-append k r s.settled ∙ or_comm (has k s.settled) (r == k)))
+    (λ k. ap (has k) (notes.settled ∙ ap (λ x. x.settled) s1_is) ∙ (has-marked k r s.settled ∙ or_comm (has k s.settled) (r == k)))
     (λ c. rw (reply_is, outcome-no-job s r s.pool c) (ap (has c) (notes.claimed ∙ ap (λ x. x.claimed) s1_is)))
     tt tt
 

@@ -10,7 +10,7 @@ use Rattle.mdb_log.specs.declared.reply.Refused.TheVariants.{RequestKnown, Unpin
 use Rattle.mdb_log.specs.History.{Item, PoolItem, after_act, gave_up, given, failed, established, returned, pinned_by, replicated, taken, unpinned, has_asked, has_taken, has_party, if_so, is_number, of_pool, open_pool}
 use Rattle.mdb_log.specs.Requests.{names_party, was_asked}
 use Rattle.mdb_log.proofs.Numbers.{same-number}
-use Rattle.mdb_pool.specs.declared.pool_core.PoolCore.{PoolCore}
+use Rattle.mdb_pool.specs.Core.{PoolCore}
 use Rattle.mdb_pool.specs.Kept.{request_at, connection_at, is_held_at, pins_at}
 use Rattle.mdb_pool.specs.Refusal.{first_row}
 use Rattle.mdb_pool.specs.Refusing.{rows_now, is_here, is_pinned_here}

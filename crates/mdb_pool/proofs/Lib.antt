@@ -66,3 +66,10 @@ pub mod AlikeFits
 pub mod AlikeRefusals
 pub mod FailedItems
 pub mod FailedAfterClear
+pub mod Bodies
+pub mod SameKept
+mod Available
+pub mod Searches
+pub mod Overall
+pub mod Unserved
+pub mod Marks

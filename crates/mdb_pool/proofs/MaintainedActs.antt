@@ -3,7 +3,7 @@ use Rattle.std.proofs.Common.{ℕ, ◌≡◌, false, ◌||◌, List, ◌++◌, r
 use Rattle.mdb_events.specs.declared.fact.Fact.{Fact}
 use Rattle.mdb_log.specs.declared.step.Act.TheVariants.{Maintain as MaintainAct}
 use Rattle.mdb_log.specs.declared.reply.Reply.TheVariants.{Done}
-use Rattle.mdb_pool.specs.declared.pool_core.PoolCore.{PoolCore}
+use Rattle.mdb_pool.specs.Core.{PoolCore}
 use Rattle.mdb_log.specs.History.{PoolItem, after_facts}
 use Rattle.mdb_log.specs.Connections.{has, available_list}
 use Rattle.mdb_log.specs.State.{min_size}

@@ -8,7 +8,7 @@ use Rattle.mdb_events.specs.declared.reasons.ConnectionClosedReason.{ConnectionC
 use Rattle.mdb_log.specs.declared.options.PoolOptions.{PoolOptions}
 use Rattle.mdb_pool.specs.declared.connection.Connection.{Connection}
 use Rattle.mdb_pool.specs.declared.connection.Place.TheVariants.{Available}
-use Rattle.mdb_pool.specs.declared.pool_core.PoolCore.{PoolCore}
+use Rattle.mdb_pool.specs.Core.{PoolCore}
 use Rattle.mdb_log.specs.History.{PoolItem, created, closed, without, after_facts}
 use Rattle.mdb_log.specs.Connections.{live_total, created_total, pending_list, available_list, known_service}
 use Rattle.mdb_log.specs.State.{state_of, ready, min_size, max_connecting}

@@ -6,7 +6,7 @@ use Rattle.mdb_pool.specs.declared.connection.Connection.{Connection}
 use Rattle.mdb_pool.specs.declared.connection.Place.TheVariants.{Pending, Available, Held}
 use Rattle.mdb_pool.specs.declared.request.Request.{Request}
 use Rattle.mdb_pool.specs.declared.request.Phase.TheVariants.{Queued, Given}
-use Rattle.mdb_pool.specs.declared.pool_core.PoolCore.{PoolCore}
+use Rattle.mdb_pool.specs.Core.{PoolCore}
 use Rattle.mdb_log.specs.History.{PoolItem, is_number, without, asked, warmed, created, granted, has_asked}
 use Rattle.mdb_pool.specs.Kept.{connection_at, request_at, one_party, holder_at, given_of, timeouts_in, is_asked_at}
 use Rattle.mdb_pool.specs.Matching.{Matches}

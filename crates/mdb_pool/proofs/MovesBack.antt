@@ -7,7 +7,7 @@ use Rattle.mdb_pool.specs.declared.connection.Place.TheVariants.{Pending, Availa
 use Rattle.mdb_pool.specs.declared.request.Request.{Request}
 use Rattle.mdb_pool.specs.declared.request.Phase.TheVariants.{Given, Over}
 use Rattle.mdb_log.specs.declared.step.Use.{Use}
-use Rattle.mdb_pool.specs.declared.pool_core.PoolCore.{PoolCore}
+use Rattle.mdb_pool.specs.Core.{PoolCore}
 use Rattle.mdb_log.specs.History.{PoolItem, without, given, returned, established, closed, checked_in}
 use Rattle.mdb_pool.specs.Kept.{connection_at, request_at, given_in, given_of, holder_at, warm_of, used_as}
 use Rattle.mdb_pool.specs.Matching.{Matches}

@@ -9,14 +9,14 @@ use Rattle.mdb_pool.specs.declared.connection.Place.TheVariants.{Pending, Availa
 use Rattle.mdb_pool.specs.declared.request.Request.{Request}
 use Rattle.mdb_pool.specs.declared.request.Phase.{Phase}
 use Rattle.mdb_pool.specs.declared.request.Phase.TheVariants.{Queued, Given, Over, Ended as EndedPhase}
-use Rattle.mdb_pool.specs.declared.pool_core.PoolCore.{PoolCore}
+use Rattle.mdb_pool.specs.Core.{PoolCore}
 use Rattle.mdb_log.specs.History.{PoolItem, pool_closed, given}
 use Rattle.mdb_log.specs.Connections.{one_if, has, live, live_total, pending_list, available_list, parties, service_of, known_service, is_errored, is_dropped, last_use, wire_of}
 use Rattle.mdb_log.specs.Requests.{queued, end_of}
 use Rattle.mdb_pool.specs.Kept.{connection_at, request_at, given_of, holder_at, service_at, end_at, asked_at_of, warm_of, one_party, numbers_where, is_pending_at, lasts, unserved_in, wire_at, pins_at, is_pinned_at, errored_at, dropped_at, is_asked_at, numbers_asked}
 use Rattle.mdb_pool.specs.Standing.{Fits}
 use Rattle.mdb_pool.specs.Matching.{Matches}
-use Rattle.mdb_pool.specs.Keyed.{entry_at}
+use Rattle.mdb_slots.specs.Keyed.{entry_at}
 use Rattle.mdb_pool.specs.Places.{is_pending, is_available, is_queued, stays}
 use Rattle.mdb_pool.specs.Changes.{closing, ended_request, available_ones, pending_ones, unserved_ones}
 use Rattle.mdb_pool.proofs.Tables.{named, passes, has-where, one_if-le}

@@ -11,7 +11,7 @@ use Rattle.mdb_pool.specs.declared.connection.Place.TheVariants.{Available}
 use Rattle.mdb_pool.specs.declared.request.Request.{Request}
 use Rattle.mdb_pool.specs.declared.request.Phase.TheVariants.{Ended as EndedPhase}
 use Rattle.mdb_log.specs.declared.step.Established.{Established}
-use Rattle.mdb_pool.specs.declared.pool_core.PoolCore.{PoolCore}
+use Rattle.mdb_pool.specs.Core.{PoolCore}
 use Rattle.mdb_pool.specs.declared.status.Clear.{Clear}
 use Rattle.mdb_pool.specs.declared.status.Status.TheVariants.{Ready}
 use Rattle.mdb_log.specs.History.{PoolItem, same_service, without, established, closed, checked_in, ended, raised, pool_ready}

@@ -4,7 +4,8 @@ use Rattle.mdb_base.specs.declared.address.ServerAddress.{ServerAddress}
 use Rattle.mdb_base.specs.Equality.{same_address}
 use Rattle.mdb_log.specs.declared.options.PoolOptions.{PoolOptions}
 use Rattle.mdb_pool.specs.declared.status.Status.{Status}
-use Rattle.mdb_pool.specs.declared.pool_core.PoolCore.{PoolCore}
+use Rattle.mdb_pool.specs.Inner.{Inner}
+use Rattle.mdb_pool.specs.Core.{PoolCore}
 use Rattle.mdb_log.specs.History.{of_pool, opening, pool_created}
 use Rattle.mdb_log.specs.State.{is_ready, is_new}
 use Rattle.mdb_pool.specs.Kept.{state_in, is_shut}
@@ -12,9 +13,9 @@ use Rattle.mdb_pool.specs.Standing.{Fits, StandsFor}
 use Rattle.mdb_pool.specs.Matching.{Matches}
 use Rattle.mdb_log.proofs.Numbers.{same-number}
 
-module _ (p : ℕ) (a : ServerAddress) (o : PoolOptions) (status : Status) where
+module _ (p : ℕ) (a : ServerAddress) (o : PoolOptions) (status : Status) (inner : Inner) where
   abbrev pub opened : PoolCore
-  opened = record { pool = p; address = a; options = o; last = 0; created = 0; connections = []; requests = []; status = status; clears = []; settled = []; claimed = [] }
+  opened = record { pool = p; address = a; options = o; last = 0; created = 0; connections = []; requests = []; status = status; clears = []; settled = []; claimed = []; inner = inner }
 
   both : {A : Type 0} (b : Bool) (x : A) → (if b then x else x) ≡ x
   both true x = refl

@@ -2,7 +2,7 @@
 use Rattle.std.proofs.Common.{ℕ, ◌≡◌, ◌-◌, Bool, true, false, List, ◌∷◌, Some, refl, ◌∙◌, ap}
 use Rattle.mdb_events.specs.declared.end.End.{End}
 use Rattle.mdb_pool.specs.declared.request.Request.{Request}
-use Rattle.mdb_pool.specs.declared.pool_core.PoolCore.{PoolCore}
+use Rattle.mdb_pool.specs.Core.{PoolCore}
 use Rattle.mdb_log.specs.History.{PoolItem, ended, after_facts, has_asked}
 use Rattle.mdb_pool.specs.Facts.{end_facts}
 use Rattle.mdb_pool.specs.Kept.{request_at, asked_at_of, warm_of}

@@ -9,7 +9,7 @@ use Rattle.mdb_log.specs.History.{PoolItem, created, raised}
 use Rattle.mdb_log.specs.Connections.{one_if, has, pending_list}
 use Rattle.mdb_log.specs.State.{generation_of, generation_before}
 use Rattle.mdb_pool.specs.declared.connection.Connection.{Connection}
-use Rattle.mdb_pool.specs.declared.pool_core.PoolCore.{PoolCore}
+use Rattle.mdb_pool.specs.Core.{PoolCore}
 use Rattle.mdb_pool.specs.Kept.{connection_at, is_pending_at, clears_before}
 use Rattle.mdb_pool.specs.Standing.{Fits}
 use Rattle.mdb_pool.specs.Jobs.{items_before, cleared_services, generations, has_id, count_at}

@@ -8,7 +8,7 @@ use Rattle.mdb_pool.specs.declared.request.Request.{Request}
 use Rattle.mdb_pool.specs.declared.request.Phase.TheVariants.{Given, Over, Ended as EndedPhase}
 use Rattle.mdb_log.specs.declared.step.Use.{Use}
 use Rattle.mdb_log.specs.declared.step.Use.TheVariants.{Ok}
-use Rattle.mdb_pool.specs.declared.pool_core.PoolCore.{PoolCore}
+use Rattle.mdb_pool.specs.Core.{PoolCore}
 use Rattle.mdb_log.specs.History.{PoolItem, given, gave_up, returned, ended, pinned_by, replicated, taken, unpinned, checked_in, closed}
 use Rattle.mdb_pool.specs.Kept.{connection_at, request_at, used_as}
 use Rattle.mdb_pool.specs.Standing.{Fits}

@@ -3,7 +3,7 @@ use Rattle.std.proofs.Common.{◌≡◌, ◌+◌, ◌≤◌, List, Option, Some,
 use Rattle.mdb_pool.specs.declared.connection.Connection.{Connection}
 use Rattle.mdb_pool.specs.declared.connection.Place.{Place}
 use Rattle.mdb_pool.specs.declared.connection.Place.TheVariants.{Pending, Available, Held, Pinned}
-use Rattle.mdb_pool.specs.declared.pool_core.PoolCore.{PoolCore}
+use Rattle.mdb_pool.specs.Core.{PoolCore}
 use Rattle.mdb_log.specs.History.{PoolItem}
 use Rattle.mdb_log.specs.Connections.{has, live, pending, available, held, pinned, pending_list, available_list, is_pinned}
 use Rattle.mdb_pool.specs.Matching.{Matches}

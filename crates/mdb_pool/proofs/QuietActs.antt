@@ -13,7 +13,7 @@ use Rattle.mdb_log.specs.declared.step.FailedAt.TheVariants.{Pre, Post}
 use Rattle.mdb_log.specs.declared.reply.Refused.{Refused}
 use Rattle.mdb_log.specs.declared.reply.Reply.{Reply}
 use Rattle.mdb_log.specs.declared.reply.Reply.TheVariants.{Refused as RefusedBy}
-use Rattle.mdb_pool.specs.declared.pool_core.PoolCore.{PoolCore}
+use Rattle.mdb_pool.specs.Core.{PoolCore}
 use Rattle.mdb_pool.specs.declared.status.Status.{Status}
 use Rattle.mdb_pool.specs.declared.status.Status.TheVariants.{Closed}
 use Rattle.mdb_log.specs.History.{Item, did, PoolItem, gave_up, returned, pinned_by, established, failed, replicated, taken, unpinned, is_number, given, has_asked, if_so, after_act, after_facts, of_pool, open_pool, with_act, with_answer, opening}

@@ -14,7 +14,7 @@ use Rattle.mdb_log.specs.Connections.{holding, pins}
 use Rattle.mdb_log.specs.Requests.{some_act, names_party, is_open}
 use Rattle.mdb_log.proofs.Numbers.{same-number}
 use Rattle.mdb_pool.specs.declared.connection.Connection.{Connection}
-use Rattle.mdb_pool.specs.declared.pool_core.PoolCore.{PoolCore}
+use Rattle.mdb_pool.specs.Core.{PoolCore}
 use Rattle.mdb_pool.specs.Kept.{request_at, held_connection, is_open_now, is_shut, pins_at}
 use Rattle.mdb_pool.specs.Refusal.{first_row, rows_of, refusal_of}
 use Rattle.mdb_pool.specs.Refusing.{is_here, rows_now, refusal_now}

@@ -8,7 +8,7 @@ use Rattle.mdb_pool.specs.declared.status.Status.{Status}
 use Rattle.mdb_pool.specs.declared.status.Status.TheVariants.{New, Ready, Paused, Closed}
 use Rattle.mdb_log.specs.declared.step.Act.TheVariants.{Request as RequestAct}
 use Rattle.mdb_log.specs.declared.reply.Reply.{Reply}
-use Rattle.mdb_pool.specs.declared.pool_core.PoolCore.{PoolCore}
+use Rattle.mdb_pool.specs.Core.{PoolCore}
 use Rattle.mdb_log.specs.History.{PoolItem, asked, after_facts}
 use Rattle.mdb_log.specs.Requests.{outcome_of, is_outcome}
 use Rattle.mdb_pool.specs.Standing.{Fits, Serves, Accepts, SameHome, SameNotes}
@@ -16,7 +16,9 @@ use Rattle.mdb_pool.specs.Kept.{request_at, outcome_now, state_in, is_shut}
 use Rattle.mdb_pool.specs.Changes.{asking, telling, away_end, away_facts, away}
 use Rattle.mdb_pool.proofs.Acts.{accepts, outcome-is, outcome-accepted, outcome-no-job}
 use Rattle.std.proofs.Math.Bool.{and-false, and-true, or-false, or_comm}
-use Rattle.mdb_log.proofs.Numbers.{same-number, has-append}
+use Rattle.mdb_pool.proofs.Marks.{has-marked}
+use Rattle.mdb_pool.specs.Keyed.{marked}
+use Rattle.mdb_log.proofs.Numbers.{same-number}
 use Rattle.mdb_pool.proofs.Stands.{ask-fits, noted-fits, end-fits}
 use Rattle.mdb_log.specs.Connections.{has}
 use Rattle.mdb_pool.specs.Facts.{turned_away, started_fact}
@@ -30,11 +32,11 @@ pub telling-settled : (t : PoolCore) (r k : ℕ) → has k (telling t r).settled
 telling-settled t r k = on (is_outcome (outcome_now t r)) refl
   where
     on : (b : Bool) → is_outcome (outcome_now t r) ≡ b → has k (telling t r).settled ≡ ((r == k) && is_outcome (outcome_now t r)) || has k t.settled
-    on true e = rw e (has-append k r t.settled ∙ (or_comm (has k t.settled) (r == k) ∙ ap (λ b. b || has k t.settled) (sym (and-true (r == k)))))
+    on true e = rw e (has-marked k r t.settled ∙ (or_comm (has k t.settled) (r == k) ∙ ap (λ b. b || has k t.settled) (sym (and-true (r == k)))))
     on false e = rw e (ap (λ b. b || has k t.settled) (sym (and-false (r == k))))
 
 pub telling-fits : (t : PoolCore) (r : ℕ) (zs : List PoolItem) → Fits t zs → Fits (telling t r) zs
-telling-fits t r zs z = noted-fits t (if is_outcome (outcome_now t r) then (t.settled ++ r ∷ []) else t.settled) t.claimed t.last zs z
+telling-fits t r zs z = noted-fits t (if is_outcome (outcome_now t r) then (marked r t.settled) else t.settled) t.claimed t.last zs z
 
 -- a caller that is new, and ends at once where the pool isn't ready
 module _ (s : PoolCore) (xs : List PoolItem) (z : Fits s xs) (n r : ℕ) (absent : request_at s r ≡ None) where

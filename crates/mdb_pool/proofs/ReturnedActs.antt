@@ -10,7 +10,7 @@ use Rattle.mdb_pool.specs.declared.connection.Connection.{Connection}
 use Rattle.mdb_pool.specs.declared.connection.Place.TheVariants.{Held}
 use Rattle.mdb_pool.specs.declared.request.Request.{Request}
 use Rattle.mdb_pool.specs.declared.request.Phase.TheVariants.{Given, Over}
-use Rattle.mdb_pool.specs.declared.pool_core.PoolCore.{PoolCore}
+use Rattle.mdb_pool.specs.Core.{PoolCore}
 use Rattle.mdb_log.specs.History.{PoolItem, returned, given, after_facts, closed, checked_in}
 use Rattle.mdb_pool.specs.Facts.{act_facts, check_in}
 use Rattle.mdb_pool.specs.Standing.{Fits, Serves, Accepts, SameHome, SameNotes}
@@ -21,7 +21,9 @@ use Rattle.mdb_pool.proofs.Acts.{accepts, holding-is, live-errored, live-service
 use Rattle.mdb_pool.proofs.Tables.{entry_at-key}
 use Rattle.mdb_pool.proofs.Found.{Holder, holder}
 use Rattle.std.proofs.Math.Bool.{or_comm}
-use Rattle.mdb_log.proofs.Numbers.{same-number, has-append}
+use Rattle.mdb_pool.proofs.Marks.{has-marked}
+use Rattle.mdb_pool.specs.Keyed.{marked}
+use Rattle.mdb_log.proofs.Numbers.{same-number}
 use Rattle.mdb_pool.proofs.Stands.{return-fits, drop-fits}
 use Rattle.mdb_pool.proofs.PinStands.{stand-fits}
 use Rattle.mdb_log.proofs.Pins.{errored-return}
@@ -75,7 +77,7 @@ module _ (s : PoolCore) (xs : List PoolItem) (z : Fits s xs) (n : ℕ) (x : Conn
   home-for None = record { pool = refl; address = refl; options = refl }
   home-for (Some w) = record { pool = refl; address = refl; options = refl }
 
-  notes-for : (o : Option ConnectionClosedReason) → ((returning_for s n used_x q o).settled ≡ s.settled ++ q.number ∷ []) × ((returning_for s n used_x q o).claimed ≡ s.claimed) × ((returning_for s n used_x q o).status ≡ s.status)
+  notes-for : (o : Option ConnectionClosedReason) → ((returning_for s n used_x q o).settled ≡ marked q.number s.settled) × ((returning_for s n used_x q o).claimed ≡ s.claimed) × ((returning_for s n used_x q o).status ≡ s.status)
   notes-for None = (refl, refl, refl)
   notes-for (Some w) = (refl, refl, refl)
 
@@ -90,7 +92,7 @@ module _ (s : PoolCore) (xs : List PoolItem) (z : Fits s xs) (n : ℕ) (x : Conn
       (λ claims own zs m. refl)
       tt
       (ap is_shut (notes.status ∙ (ap (λ k. k.status) s1_is ∙ (notes-for why).2)) ∙ ap (λ b. b || is_shut s.status) (sym (back-open s used_x why)))
-      (λ r. ap (has r) (notes.settled ∙ (ap (λ k. k.settled) s1_is ∙ (notes-for why).0)) ∙ (has-append r q.number s.settled ∙ or_comm (has r s.settled) (q.number == r)))
+      (λ r. ap (has r) (notes.settled ∙ (ap (λ k. k.settled) s1_is ∙ (notes-for why).0)) ∙ (has-marked r q.number s.settled ∙ or_comm (has r s.settled) (q.number == r)))
       (λ c. ap (has c) (notes.claimed ∙ (ap (λ k. k.claimed) s1_is ∙ (notes-for why).1)))
       (back-fair s n used_x why ys)
       (back-own s n used_x why ys)
@@ -106,7 +108,7 @@ module _ (s : PoolCore) (xs : List PoolItem) (z : Fits s xs) (n : ℕ) (x : Conn
       (λ claims own zs m. refl)
       tt
       (ap is_shut (notes.status ∙ ap (λ k. k.status) s1_is))
-      (λ r. ap (has r) (notes.settled ∙ ap (λ k. k.settled) s1_is) ∙ (has-append r q.number s.settled ∙ or_comm (has r s.settled) (q.number == r)))
+      (λ r. ap (has r) (notes.settled ∙ ap (λ k. k.settled) s1_is) ∙ (has-marked r q.number s.settled ∙ or_comm (has r s.settled) (q.number == r)))
       (λ c. ap (has c) (notes.claimed ∙ ap (λ k. k.claimed) s1_is))
       tt
       tt

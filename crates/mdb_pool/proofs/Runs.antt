@@ -4,7 +4,7 @@ use Rattle.mdb_base.specs.declared.address.ServerAddress.{ServerAddress}
 use Rattle.mdb_log.specs.declared.options.PoolOptions.{PoolOptions}
 use Rattle.mdb_log.specs.declared.step.Step.{Step}
 use Rattle.mdb_log.specs.declared.log.Entry.{Entry}
-use Rattle.mdb_pool.specs.declared.pool_core.PoolCore.{PoolCore}
+use Rattle.mdb_pool.specs.Core.{PoolCore}
 use Rattle.mdb_log.specs.History.{Item, of_pool, with_answer, with_entries, with_act}
 use Rattle.mdb_pool.specs.Answer.{answer, entry_for, entries_for}
 use Rattle.mdb_log.specs.Legal.{OnePlace, NoneLeftWaiting, IsFairAnswer, IsLegal}

@@ -12,7 +12,7 @@ use Rattle.mdb_events.specs.declared.reasons.ConnectionClosedReason.{ConnectionC
 use Rattle.mdb_pool.specs.declared.request.Request.{Request}
 use Rattle.mdb_pool.specs.declared.request.Phase.{Phase}
 use Rattle.mdb_pool.specs.declared.request.Phase.TheVariants.{Queued, Given, Ended as EndedPhase}
-use Rattle.mdb_pool.specs.declared.pool_core.PoolCore.{PoolCore}
+use Rattle.mdb_pool.specs.Core.{PoolCore}
 use Rattle.mdb_log.specs.History.{PoolItem, granted, created, ended, has_asked, after_facts, without, closed}
 use Rattle.mdb_log.specs.State.{may_create, is_idle}
 use Rattle.mdb_log.specs.Requests.{queued, is_warm, asked_at}
@@ -25,7 +25,7 @@ use Rattle.mdb_pool.specs.Changes.{creating, granting, ending, warming, warming_
 use Rattle.mdb_log.specs.declared.step.Use.TheVariants.{Ok}
 use Rattle.mdb_pool.specs.Places.{is_pending, is_available, is_queued}
 use Rattle.mdb_pool.proofs.Tables.{In, member-has, here as head_in, there, find-member, member-at, one_if-le, length-without, length-where, where-put_out, map-filter-others, passes, has-where, where-swap_out, length-without_has}
-use Rattle.mdb_pool.specs.Keyed.{put, swap}
+use Rattle.mdb_slots.specs.Keyed.{put, swap}
 use Rattle.mdb_log.proofs.Bools.{both-left}
 use Rattle.mdb_log.proofs.Numbers.{same-number}
 use Rattle.mdb_pool.proofs.Lasts.{last_of-has}

@@ -11,7 +11,7 @@ use Rattle.mdb_pool.specs.declared.request.Request.{Request}
 use Rattle.mdb_pool.specs.declared.request.Phase.TheVariants.{Queued, Given, Over, Ended as EndedPhase}
 use Rattle.mdb_log.specs.declared.step.Use.{Use}
 use Rattle.mdb_log.specs.declared.step.Use.TheVariants.{Ok}
-use Rattle.mdb_pool.specs.declared.pool_core.PoolCore.{PoolCore}
+use Rattle.mdb_pool.specs.Core.{PoolCore}
 use Rattle.mdb_pool.proofs.Moves.{grant-matches, new_request, asked_request, ask-matches, warm_request, warm-matches, made_request, create-matches, spawn-matches}
 use Rattle.mdb_log.specs.History.{PoolItem, asked, warmed, has_asked, gave_up, returned, established, created, closed, checked_in, granted, ended, failed, raised, pool_ready}
 use Rattle.mdb_pool.specs.Kept.{connection_at, request_at, warm_of, given_in, given_of, numbers_asked, is_asked_at, used_as}
@@ -26,7 +26,7 @@ use Rattle.mdb_log.proofs.Numbers.{same-number}
 use Rattle.mdb_pool.proofs.Tables.{entry_at-put, others-put, where-put_in, where-swap_same, passes, one_if-le}
 use Rattle.mdb_log.specs.Requests.{requests}
 use Rattle.mdb_pool.specs.declared.request.Phase.{Phase}
-use Rattle.mdb_pool.specs.Keyed.{put, swap}
+use Rattle.mdb_slots.specs.Keyed.{put, swap}
 use Rattle.mdb_log.specs.declared.step.Established.{Established}
 
 abbrev id_of : Connection → ℕ

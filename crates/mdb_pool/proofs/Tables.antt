@@ -2,7 +2,7 @@
 use Rattle.std.proofs.Common.{ℕ, ◌≡◌, ◌+◌, Bool, true, false, ◌==◌, List, [], ◌∷◌, ◌++◌, length, map, filter, find, Option, Some, None, is_some, refl, sym, ◌∙◌, ap, subst, ◌<◌, ◌≤◌, arith, if◌then◌else◌, not}
 use Rattle.std.specs.Prelude.{count_by}
 use Rattle.std.proofs.lemmas.Grind.{common_steps}
-use Rattle.mdb_pool.specs.Keyed.{entry_at, others, put, swap}
+use Rattle.mdb_slots.specs.Keyed.{entry_at, others, put, swap}
 use Rattle.mdb_log.specs.History.{without}
 use Rattle.mdb_log.specs.Connections.{has, one_if}
 

@@ -6,7 +6,7 @@ use Rattle.mdb_log.specs.declared.reply.Reply.TheVariants.{Pooled}
 use Rattle.mdb_pool.specs.declared.connection.Connection.{Connection}
 use Rattle.mdb_pool.specs.declared.connection.Place.{Place}
 use Rattle.mdb_pool.specs.declared.connection.Place.TheVariants.{Pending, Available, Held, Pinned}
-use Rattle.mdb_pool.specs.declared.pool_core.PoolCore.{PoolCore}
+use Rattle.mdb_pool.specs.Core.{PoolCore}
 use Rattle.mdb_log.specs.History.{PoolItem, taken}
 use Rattle.mdb_log.specs.Connections.{has, held}
 use Rattle.mdb_pool.specs.Standing.{Fits, Serves, Accepts, SameHome, SameNotes}

@@ -7,7 +7,7 @@ use Rattle.mdb_log.specs.declared.step.Act.TheVariants.{Unpin}
 use Rattle.mdb_log.specs.declared.reply.Reply.TheVariants.{Done}
 use Rattle.mdb_pool.specs.declared.connection.Connection.{Connection}
 use Rattle.mdb_pool.specs.declared.connection.Place.TheVariants.{Pinned}
-use Rattle.mdb_pool.specs.declared.pool_core.PoolCore.{PoolCore}
+use Rattle.mdb_pool.specs.Core.{PoolCore}
 use Rattle.mdb_log.specs.History.{PoolItem, unpinned, after_facts, closed, checked_in}
 use Rattle.mdb_pool.specs.Facts.{act_facts}
 use Rattle.mdb_log.specs.Connections.{has, pins, is_pinned}

@@ -1,5 +1,5 @@
 -- The single changes of the state of a pool, and the facts that they make.
-use Rattle.std.specs.Prelude.{ℕ, Bool, ◌||◌, ◌+◌, ◌-◌, List, [], ◌∷◌, ◌++◌, Option, Some, None, if◌then◌else◌, map, filter, true, false}
+use Rattle.std.specs.Prelude.{ℕ, Bool, ◌==◌, ◌||◌, ◌+◌, ◌-◌, List, [], ◌∷◌, ◌++◌, Option, Some, None, if◌then◌else◌, map, filter, true, false}
 use Rattle.mdb_events.specs.declared.fact.Fact.{Fact}
 use Rattle.mdb_events.specs.declared.fact.Fact.TheVariants.{Granted, Ended}
 use Rattle.mdb_base.specs.declared.error.Error.{Error}
@@ -17,8 +17,9 @@ use Rattle.mdb_pool.specs.declared.connection.Connection.{Connection}
 use Rattle.mdb_pool.specs.declared.connection.Place.TheVariants.{Pending, Available, Held, Pinned}
 use Rattle.mdb_pool.specs.declared.request.Request.{Request}
 use Rattle.mdb_pool.specs.declared.request.Phase.TheVariants.{Queued, Given, Over, Ended as EndedPhase}
-use Rattle.mdb_pool.specs.declared.pool_core.PoolCore.{PoolCore}
-use Rattle.mdb_pool.specs.Keyed.{put, others, swap}
+use Rattle.mdb_pool.specs.Core.{PoolCore}
+use Rattle.mdb_slots.specs.Keyed.{put, others, swap}
+use Rattle.mdb_pool.specs.Keyed.{marked}
 use Rattle.mdb_pool.specs.Kept.{first_unclaimed, outcome_now, perished_now, wants_now, is_shut, is_ready_now, unserved_in, timeouts_in}
 use Rattle.mdb_pool.specs.Places.{is_pending, is_available, stays}
 use Rattle.mdb_log.specs.Requests.{is_outcome}
@@ -137,7 +138,7 @@ abbrev pub finishing : PoolCore → ℕ → Request → Phase → PoolCore
 finishing s m q phase = record s {
   last = m;
   requests = swap (λ q. q.number) (record q { phase = phase }) s.requests;
-  settled = s.settled ++ q.number ∷ [];
+  settled = marked q.number s.settled;
 }
 
 abbrev pub returning : PoolCore → ℕ → Connection → Request → PoolCore
@@ -215,7 +216,7 @@ failing s m x q end = record s {
 
 -- a request was told how it stands
 abbrev pub telling : PoolCore → ℕ → PoolCore
-telling s r = record s { settled = if is_outcome (outcome_now s r) then (s.settled ++ r ∷ []) else s.settled }
+telling s r = record s { settled = if is_outcome (outcome_now s r) then marked r s.settled else s.settled }
 
 -- a worker was told a job
 abbrev pub claiming : PoolCore → PoolCore
@@ -223,7 +224,7 @@ claiming s = record s { claimed = on (first_unclaimed s) }
   where
     on : Option Connection → List ℕ
     on None = s.claimed
-    on (Some x) = s.claimed ++ x.id ∷ []
+    on (Some x) = marked x.id s.claimed
 
 -- a pool is marked ready, which says nothing where it is ready or closed
 abbrev pub readied_to : PoolCore → ℕ → PoolCore
@@ -247,6 +248,15 @@ raising s m service error = record s {
 -- a pool is closed: connections stay where somebody holds them or they are at their pins, and requests end that nothing was handed to
 abbrev pub ended_request : PoolCore → Request → Request
 ended_request s q = if unserved_in s q.phase then record q { phase = EndedPhase ClosedEnd } else q
+
+-- the same of the one with the number alone
+abbrev pub ended_one : PoolCore → ℕ → List Request
+ended_one s r = map (λ q. if q.number == r then ended_request s q else q) s.requests
+
+-- the number of the request
+abbrev pub number_in : Option Request → Option ℕ
+number_in None = None
+number_in (Some q) = Some q.number
 
 abbrev pub closing : PoolCore → ℕ → PoolCore
 closing s m = record s {

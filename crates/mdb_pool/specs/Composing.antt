@@ -10,7 +10,7 @@ use Rattle.mdb_log.specs.History.{PoolItem, failed, after_facts, service_in}
 use Rattle.mdb_log.specs.Legal.{AllFirstCome}
 use Rattle.mdb_log.specs.Limits.{WithinLimits}
 use Rattle.mdb_log.specs.Own.{AllOwn, shuts}
-use Rattle.mdb_pool.specs.declared.pool_core.PoolCore.{PoolCore}
+use Rattle.mdb_pool.specs.Core.{PoolCore}
 use Rattle.mdb_pool.specs.Answer.{all_facts}
 use Rattle.mdb_pool.specs.Facts.{clear_facts}
 use Rattle.mdb_pool.specs.Kept.{is_shut}

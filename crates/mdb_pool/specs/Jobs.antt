@@ -15,7 +15,7 @@ use Rattle.mdb_log.specs.declared.options.PoolOptions.{PoolOptions}
 use Rattle.mdb_log.specs.History.{PoolItem, created, raised}
 use Rattle.mdb_log.specs.Connections.{has, pending_list}
 use Rattle.mdb_log.specs.State.{generation_of}
-use Rattle.mdb_pool.specs.declared.pool_core.PoolCore.{PoolCore}
+use Rattle.mdb_pool.specs.Core.{PoolCore}
 use Rattle.mdb_pool.specs.Kept.{connection_at, clears_before}
 
 -- what the pool knew before the connection was created

@@ -8,9 +8,9 @@ use Rattle.mdb_pool.specs.declared.connection.Place.{Place}
 use Rattle.mdb_pool.specs.declared.request.Request.{Request}
 use Rattle.mdb_pool.specs.declared.request.Phase.{Phase}
 use Rattle.mdb_pool.specs.declared.request.Phase.TheVariants.{Queued, Given, Over, Ended as EndedPhase}
-use Rattle.mdb_pool.specs.declared.pool_core.PoolCore.{PoolCore}
+use Rattle.mdb_pool.specs.Core.{PoolCore}
 use Rattle.mdb_pool.specs.Places.{is_pending, is_available, is_held, is_at_pin, is_queued}
-use Rattle.mdb_pool.specs.Keyed.{entry_at}
+use Rattle.mdb_slots.specs.Keyed.{entry_at}
 use Rattle.mdb_log.specs.Generations.{carried}
 use Rattle.mdb_log.specs.declared.generation.ConnectionGeneration.{ConnectionGeneration}
 use Rattle.mdb_log.specs.State.{State, is_new, is_ready, is_paused, is_closed, min_size, max_size, max_connecting}

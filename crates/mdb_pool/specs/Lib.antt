@@ -1,9 +1,12 @@
+pub mod Inner
+pub mod Core
 pub mod Refusal
 pub mod Facts
 pub mod Serving
 pub mod Answer
 pub mod Keyed
 pub mod Places
+pub mod Available
 pub mod Kept
 pub mod Refusing
 pub mod Changes
@@ -13,3 +16,4 @@ pub mod Standing
 pub mod Quiet
 pub mod Parts
 pub mod Composing
+pub mod Body

@@ -6,7 +6,7 @@ use Rattle.mdb_pool.specs.declared.connection.Connection.{Connection}
 use Rattle.mdb_pool.specs.declared.request.Request.{Request}
 use Rattle.mdb_pool.specs.declared.status.Status.{Status}
 use Rattle.mdb_pool.specs.declared.status.Clear.{Clear}
-use Rattle.mdb_pool.specs.declared.pool_core.PoolCore.{PoolCore}
+use Rattle.mdb_pool.specs.Core.{PoolCore}
 use Rattle.mdb_log.specs.History.{PoolItem, given, has_asked}
 use Rattle.mdb_log.specs.Connections.{one_if, live, live_total, created_total, created_at, pending_list, parties, pins, granted_to, available_list, since, is_errored, known_service, service_of, last_use, is_dropped, is_pinned, wire_of, timeouts_since}
 use Rattle.mdb_log.specs.Requests.{queued, is_warm, asked_at, end_of}

@@ -11,9 +11,9 @@ use Rattle.mdb_log.specs.declared.reply.Refused.{Refused}
 use Rattle.mdb_log.specs.Answer.{Answer}
 use Rattle.mdb_log.specs.History.{Item, PoolItem, after_act, after_facts, of_pool, with_answer}
 use Rattle.mdb_log.specs.Legal.{NoneLeftWaiting}
-use Rattle.mdb_pool.specs.declared.pool_core.PoolCore.{PoolCore}
+use Rattle.mdb_pool.specs.Body.{PoolSteps, PoolFits, led}
+use Rattle.mdb_pool.specs.Core.{PoolCore, SameKept}
 use Rattle.mdb_pool.specs.declared.parts.Answered.{Answered}
-use Rattle.mdb_pool.specs.declared.parts.Plan.{Plan}
 use Rattle.mdb_pool.specs.Answer.{answer}
 use Rattle.mdb_pool.specs.Refusal.{refusal_of}
 use Rattle.mdb_pool.specs.Refusing.{refusal_now}
@@ -52,6 +52,10 @@ abbrev pub DoesAll : PoolCore → PoolCore → List Step → List Answered → T
 DoesAll s t [] told = (told ≡ []) × (t ≡ s)
 DoesAll s t (step ∷ steps) told = (a : Answered) × (rest : List Answered) × (u : PoolCore) × (told ≡ a ∷ rest) × DoesOne s u step a (refusal_now s step) × DoesAll u t steps rest
 
+-- steps one after another, after which the pool keeps what this one keeps
+abbrev pub LeadsTo : PoolCore → PoolCore → List Step → List Answered → Type 0
+LeadsTo s t steps told = (u : PoolCore) × SameKept u t × DoesAll s u steps told
+
 -- the answers to steps after a history, each after those before it
 abbrev pub answered_as : Answer → Answered
 answered_as a = record { reply = a.reply; facts = a.facts }
@@ -72,9 +76,9 @@ pub record IsPrepared (s t : PoolCore) (steps : List Step) (told : List Answered
   pub none_left : NoneLeftWaiting s.options (of_pool s.pool h) → NoneLeftWaiting s.options (of_pool s.pool (with_steps s.pool s.address s.options h steps))
 
 -- the plan leads the pool to this one
-abbrev pub Plans : Plan → PoolCore → PoolCore → Type 0
-Plans plan s t = plan.next ≡ t
+abbrev pub Plans : PoolSteps → PoolCore → PoolCore → Type 0
+Plans plan s t = PoolFits plan s.inner × (led plan s ≡ t)
 
 -- the plan was made on the pool, which no call changed since
-abbrev pub IsPlanOf : Plan → PoolCore → Type 0
+abbrev pub IsPlanOf : PoolSteps → PoolCore → Type 0
 IsPlanOf plan s = (t : PoolCore) × Plans plan s t

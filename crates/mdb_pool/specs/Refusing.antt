@@ -9,7 +9,7 @@ use Rattle.mdb_log.specs.declared.reply.What.TheVariants.{Generation}
 use Rattle.mdb_log.specs.declared.reply.Refused.{Refused}
 use Rattle.mdb_log.specs.declared.reply.Refused.TheVariants.{TimeBack, UnknownServer, RequestKnown, UnknownRequest, NotHolder, NotPending, Unpinned, PinInUse, PinState, WrongMode, Exhausted}
 use Rattle.mdb_log.specs.History.{service_in}
-use Rattle.mdb_pool.specs.declared.pool_core.PoolCore.{PoolCore}
+use Rattle.mdb_pool.specs.Core.{PoolCore}
 use Rattle.mdb_pool.specs.Kept.{request_at, connection_at, held_connection, is_open_now, is_pending_at, is_held_at, is_shut, pins_at, exhausted_now}
 use Rattle.mdb_pool.specs.Refusal.{first_row, wrong_service}
 

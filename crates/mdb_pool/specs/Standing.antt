@@ -7,7 +7,7 @@ use Rattle.mdb_log.specs.declared.step.Step.{Step}
 use Rattle.mdb_log.specs.declared.log.Entry.{Entry}
 use Rattle.mdb_log.specs.declared.step.Act.{Act}
 use Rattle.mdb_log.specs.declared.reply.Reply.{Reply}
-use Rattle.mdb_pool.specs.declared.pool_core.PoolCore.{PoolCore}
+use Rattle.mdb_pool.specs.Core.{PoolCore}
 use Rattle.mdb_log.specs.History.{Item, PoolItem, open_pool, last_moment, has_party, of_pool, after_facts, with_answer, with_entries, has_asked}
 use Rattle.mdb_log.specs.Connections.{available_list, has}
 use Rattle.mdb_log.specs.Requests.{queued, names_party, some_act, told, was_asked, leaves, is_claimed, requests, settles, is_job}

@@ -4,10 +4,11 @@ ghost use Rattle.mdb_pool.specs.Facts.{new_pool_error, checked_out_fact, closed_
 ghost use Rattle.std.specs.Prelude.{false, ◌≡◌, ◌++◌, ◌∷◌, ◌+◌, ◌-◌, ◌<◌, [], OnOk, IfOk};
 
 use super::connection::{Connection, Place};
+use super::draft::{Base, Draft};
 use super::request::{Phase, Request};
 use super::status::Status;
-use super::{Established, PoolCore, Reply};
-use mdb_base::{Error, ErrorKind, Items, Moment, Text};
+use super::{Established, Reply};
+use mdb_base::{Error, ErrorKind, Items, Moment, OutOfMemory, Text};
 use mdb_events::{
     CmapEvent, ConnectionCheckedOutEvent, ConnectionCheckoutStartedEvent, ConnectionClosedReason,
     ConnectionCreatedEvent, ConnectionReadyEvent, End, Fact,
@@ -15,7 +16,7 @@ use mdb_events::{
 use std::alloc::{AllocError, Global};
 
 // The error of a request to a pool that was never ready.
-fn new_pool_error(alloc: Global) -> Result<Error, AllocError>
+pub(super) fn new_pool_error(alloc: Global) -> Result<Error, AllocError>
     ensures { IfOk result (λ error. error ≡ new_pool_error) }
 {
     let message = String::from_str(alloc, "check out attempted from new pool")?;
@@ -27,20 +28,22 @@ fn new_pool_error(alloc: Global) -> Result<Error, AllocError>
     })
 }
 
-impl PoolCore {
-    ghost use Rattle.mdb_pool.specs.Keyed.{swap};
+impl<K: Base> Draft<K> {
+    ghost use Rattle.mdb_slots.specs.Keyed.{swap};
+    ghost use Rattle.mdb_pool.specs.Places.{is_queued};
     ghost use Rattle.mdb_pool.specs.Kept.{outcome_now};
     ghost use Rattle.mdb_pool.specs.Changes.{asking, away, away_end, away_facts, discarding, creating, spawning, ending, granting, establishing, telling};
     ghost use Rattle.mdb_events.specs.declared.fact.Fact.TheVariants.{Pool, Granted, Ended};
     ghost use Rattle.mdb_events.specs.declared.cmap.CmapEvent.TheVariants.{ConnectionCreated, ConnectionCheckedOut};
 
-    // The request is at this phase.
+    // The request is at this phase, which is not that of the queue.
     pub(super) fn enter_phase(
         &mut self,
         alloc: Global,
         request: Request,
         phase: Phase,
-    ) -> Result<(), AllocError>
+    ) -> Result<(), OutOfMemory>
+        requires { is_queued phase ≡ false }
         ensures { OnOk result (self.new ≡ record self.old { requests = swap (λ q. q.number) (record request { phase = phase }) self.old.requests }) }
     {
         let Request {
@@ -51,16 +54,16 @@ impl PoolCore {
             phase: before,
         } = request;
         drop(before);
-        let next = Request {
-            number,
-            asked_at,
-            warm,
-            took,
-            phase,
-        };
-        let entered = self.requests.replace(alloc, &next);
-        drop(next);
-        entered
+        self.replace_request(
+            alloc,
+            Request {
+                number,
+                asked_at,
+                warm,
+                took,
+                phase,
+            },
+        )
     }
 
     // A new request comes last.
@@ -70,11 +73,11 @@ impl PoolCore {
         moment: Moment,
         request: u32,
         warm: bool,
-    ) -> Result<(), AllocError>
+    ) -> Result<(), OutOfMemory>
         ensures { OnOk result (self.new ≡ asking self.old request moment warm) }
     {
-        self.last = moment;
-        self.requests.put(
+        self.set_last(moment);
+        self.put_request(
             alloc,
             Request {
                 number: request,
@@ -94,24 +97,24 @@ impl PoolCore {
         facts: &mut Vec<Fact>,
         moment: Moment,
         request: u32,
-    ) -> Result<(), AllocError>
+    ) -> Result<(), OutOfMemory>
         ensures core { OnOk result (self.new ≡ asking self.old request moment false) }
         ensures facts { OnOk result (facts.new.items ≡ facts.old.items ++ started_fact self.old.pool self.old.address ∷ []) }
     {
-        let address = self.address.clone()?;
+        let address = self.address().clone()?;
         self.enqueue(alloc, moment, request, false)?;
         facts.push(Fact::Pool(
-            self.pool,
+            self.number(),
             CmapEvent::ConnectionCheckoutStarted(ConnectionCheckoutStartedEvent { address }),
         ))?;
         Ok(())
     }
 
     // How a request ends at once where the pool isn't ready.
-    fn away_end(&self, alloc: Global) -> Result<Option<End>, AllocError>
+    fn away_end(&self, alloc: Global) -> Result<Option<End>, OutOfMemory>
         ensures { IfOk result (λ end. end ≡ away_end self.now.status) }
     {
-        match &self.status {
+        match self.status() {
             Status::New => {
                 let error = new_pool_error(alloc)?;
                 Ok(Some(End::Cleared(error)))
@@ -132,7 +135,7 @@ impl PoolCore {
         moment: Moment,
         request: u32,
         warm: bool,
-    ) -> Result<(), AllocError>
+    ) -> Result<(), OutOfMemory>
         ensures core { OnOk result (self.new ≡ away self.old request moment warm (away_end self.old.status)) }
         ensures facts { OnOk result (facts.new.items ≡ facts.old.items ++ away_facts self.old request warm (away_end self.old.status)) }
     {
@@ -141,9 +144,9 @@ impl PoolCore {
         };
         let told = end.clone()?;
         self.push_end(facts, request, warm, 0, told)?;
-        self.requests.replace(
+        self.replace_request(
             alloc,
-            &Request {
+            Request {
                 number: request,
                 asked_at: moment,
                 warm,
@@ -154,12 +157,12 @@ impl PoolCore {
         Ok(())
     }
 
-    fn push_created(&self, facts: &mut Vec<Fact>, id: u32) -> Result<(), AllocError>
+    fn push_created(&self, facts: &mut Vec<Fact>, id: u32) -> Result<(), OutOfMemory>
         ensures { OnOk result (facts.new.items ≡ facts.old.items ++ created_fact self.now.pool self.now.address id ∷ []) }
     {
-        let address = self.address.clone()?;
+        let address = self.address().clone()?;
         facts.push(Fact::Pool(
-            self.pool,
+            self.number(),
             CmapEvent::ConnectionCreated(ConnectionCreatedEvent {
                 address,
                 connection_id: id,
@@ -173,12 +176,12 @@ impl PoolCore {
         facts: &mut Vec<Fact>,
         id: u32,
         waited: Moment,
-    ) -> Result<(), AllocError>
+    ) -> Result<(), OutOfMemory>
         ensures { OnOk result (facts.new.items ≡ facts.old.items ++ checked_out_fact self.now.pool self.now.address id waited ∷ []) }
     {
-        let address = self.address.clone()?;
+        let address = self.address().clone()?;
         facts.push(Fact::Pool(
-            self.pool,
+            self.number(),
             CmapEvent::ConnectionCheckedOut(ConnectionCheckedOutEvent {
                 address,
                 connection_id: id,
@@ -194,12 +197,12 @@ impl PoolCore {
         facts: &mut Vec<Fact>,
         moment: Moment,
         connection: Connection,
-    ) -> Result<(), AllocError>
+    ) -> Result<(), OutOfMemory>
         ensures { OnOk result (facts.new.items ≡ facts.old.items ++ ready_fact self.now.pool self.now.address connection.id (moment - connection.created_at) ∷ []) }
     {
-        let address = self.address.clone()?;
+        let address = self.address().clone()?;
         facts.push(Fact::Pool(
-            self.pool,
+            self.number(),
             CmapEvent::ConnectionReady(ConnectionReadyEvent {
                 address,
                 connection_id: connection.id,
@@ -216,22 +219,24 @@ impl PoolCore {
         facts: &mut Vec<Fact>,
         moment: Moment,
         request: Request,
-    ) -> Result<(), AllocError>
+    ) -> Result<(), OutOfMemory>
         requires { self.old.created < self.old.options.limit_id }
         ensures core { OnOk result (self.new ≡ creating self.old moment request) }
         ensures facts { OnOk result (facts.new.items ≡ facts.old.items ++ Pool self.old.pool (ConnectionCreated (record { address = self.old.address; connection_id = self.old.created + 1 })) ∷ Granted request.number self.old.pool (self.old.created + 1) ∷ []) }
     {
+        // The id is at most the limit, which bounds it.
+        let _limit = self.options().limit_id;
         let timeouts = self.timeouts();
-        let id = self.created + 1;
-        self.created = id;
+        let id = self.created() + 1;
+        self.set_created(id);
         let number = request.number;
         self.enter_phase(alloc, request, Phase::Given(id))?;
-        self.connections.put(
+        self.put_connection(
             alloc,
             Connection::pending(id, moment, Some(number), timeouts),
         )?;
         self.push_created(facts, id)?;
-        facts.push(Fact::Granted(number, self.pool, id))?;
+        facts.push(Fact::Granted(number, self.number(), id))?;
         Ok(())
     }
 
@@ -241,17 +246,16 @@ impl PoolCore {
         alloc: Global,
         facts: &mut Vec<Fact>,
         moment: Moment,
-    ) -> Result<(), AllocError>
+    ) -> Result<(), OutOfMemory>
         requires { self.old.created < self.old.options.limit_id }
         ensures core { OnOk result (self.new ≡ spawning self.old moment) }
         ensures facts { OnOk result (facts.new.items ≡ facts.old.items ++ created_fact self.old.pool self.old.address (self.old.created + 1) ∷ []) }
     {
         // The id is at most the limit, which bounds it.
-        let _limit = self.options.limit_id;
-        let id = self.created + 1;
-        self.created = id;
-        self.connections
-            .put(alloc, Connection::pending(id, moment, None, 0))?;
+        let _limit = self.options().limit_id;
+        let id = self.created() + 1;
+        self.set_created(id);
+        self.put_connection(alloc, Connection::pending(id, moment, None, 0))?;
         self.push_created(facts, id)?;
         Ok(())
     }
@@ -263,7 +267,7 @@ impl PoolCore {
         facts: &mut Vec<Fact>,
         request: Request,
         end: &End,
-    ) -> Result<(), AllocError>
+    ) -> Result<(), OutOfMemory>
         ensures core { OnOk result (self.new ≡ ending self.old request end.now) }
         ensures facts { OnOk result (facts.new.items ≡ facts.old.items ++ Ended request.number end.now ∷ []) }
     {
@@ -283,7 +287,7 @@ impl PoolCore {
         moment: Moment,
         connection: Connection,
         request: Request,
-    ) -> Result<(), AllocError>
+    ) -> Result<(), OutOfMemory>
         ensures core { OnOk result (self.new ≡ granting self.old connection request) }
         ensures facts { OnOk result (facts.new.items ≡ facts.old.items ++ Granted request.number self.old.pool connection.id ∷ Pool self.old.pool (ConnectionCheckedOut (record { address = self.old.address; connection_id = connection.id; duration = moment - request.asked_at })) ∷ []) }
     {
@@ -291,7 +295,7 @@ impl PoolCore {
         let waited = moment.saturating_sub(request.asked_at);
         let timeouts = self.timeouts();
         self.enter_phase(alloc, request, Phase::Given(connection.id))?;
-        self.connections.put(
+        self.put_connection(
             alloc,
             Connection {
                 place: Place::Held,
@@ -301,7 +305,7 @@ impl PoolCore {
                 ..connection
             },
         )?;
-        facts.push(Fact::Granted(number, self.pool, connection.id))?;
+        facts.push(Fact::Granted(number, self.number(), connection.id))?;
         self.push_checked_out(facts, connection.id, waited)?;
         Ok(())
     }
@@ -313,12 +317,12 @@ impl PoolCore {
         facts: &mut Vec<Fact>,
         connection: Connection,
         reason: ConnectionClosedReason,
-    ) -> Result<(), AllocError>
+    ) -> Result<(), OutOfMemory>
         ensures core { OnOk result (self.new ≡ discarding self.old connection) }
         ensures facts { OnOk result (facts.new.items ≡ facts.old.items ++ closed_fact self.old.pool self.old.address connection.id reason connection.service ∷ []) }
     {
         self.push_close(facts, connection, reason)?;
-        self.connections.remove(alloc, connection.id)?;
+        self.remove_connection(alloc, connection.id)?;
         Ok(())
     }
 
@@ -331,12 +335,12 @@ impl PoolCore {
         connection: Connection,
         made: Established,
         asked_at: Moment,
-    ) -> Result<(), AllocError>
+    ) -> Result<(), OutOfMemory>
         ensures core { OnOk result (self.new ≡ establishing self.old moment connection made) }
         ensures facts { OnOk result (facts.new.items ≡ facts.old.items ++ ready_fact self.old.pool self.old.address connection.id (moment - connection.created_at) ∷ checked_out_fact self.old.pool self.old.address connection.id (moment - asked_at) ∷ []) }
     {
-        self.last = moment;
-        self.connections.put(
+        self.set_last(moment);
+        self.put_connection(
             alloc,
             Connection {
                 place: Place::Held,
@@ -352,13 +356,13 @@ impl PoolCore {
     }
 
     // Tells how the request stands. Whoever has a connection or has ended is told once.
-    pub(super) fn tell(&mut self, request: u32) -> Result<Reply, AllocError>
+    pub(super) fn tell(&mut self, request: u32) -> Result<Reply, OutOfMemory>
         ensures core { OnOk result (self.new ≡ telling self.old request) }
         ensures reply { IfOk result (λ reply. reply ≡ outcome_now self.old request) }
     {
-        let reply = self.outcome(request)?;
+        let reply = self.body.outcome(request)?;
         if matches!(reply, Reply::Pooled(_, _) | Reply::Ended(_)) {
-            self.settled.push(request)?;
+            self.settle(request)?;
         }
         Ok(reply)
     }

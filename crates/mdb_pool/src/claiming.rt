@@ -2,29 +2,30 @@
 
 ghost use Rattle.std.specs.Prelude.{◌≡◌, OnOk, OnErr, IfOk, List};
 
-use super::{Act, PoolCore, Reply, Step};
+use super::draft::{Base, Draft};
+use super::pool_core::PoolCore;
+use super::{Act, Reply, Step};
 use mdb_base::{Moment, OutOfMemory};
 use mdb_events::Fact;
-use std::alloc::{AllocError, Global};
+use std::alloc::Global;
 
-impl PoolCore {
+impl<K: Base> Draft<K> {
     ghost use Rattle.mdb_pool.specs.Kept.{job_now};
     ghost use Rattle.mdb_pool.specs.Changes.{claiming};
     ghost use Rattle.mdb_pool.specs.Standing.{SameHome, Fits, Accepts, StandsFor, Answers};
-    ghost use Rattle.mdb_pool.specs.Parts.{Passes};
     ghost use Rattle.mdb_log.specs.History.{Item, PoolItem};
     ghost use Rattle.mdb_log.specs.declared.step.Act.TheVariants.{Claim};
 
     // The first job that no claim was told of.
-    fn take_job(&mut self) -> Result<Reply, AllocError>
+    fn take_job(&mut self) -> Result<Reply, OutOfMemory>
         ensures core { OnOk result (self.new ≡ claiming self.old) }
         ensures reply { IfOk result (λ reply. reply ≡ job_now self.old) }
     {
         let Some(connection) = self.first_unclaimed() else {
             return Ok(Reply::NoJob);
         };
-        self.claimed.push(connection.id)?;
-        Ok(Reply::Job(self.pool, connection.id))
+        self.claim(connection.id)?;
+        Ok(Reply::Job(self.number(), connection.id))
     }
 
     // A worker is told the pending connection that came first among those that no other is told of. Whoever calls has tested the refusals.
@@ -33,16 +34,25 @@ impl PoolCore {
         alloc: Global,
         facts: &mut Vec<Fact>,
         moment: Moment,
-    ) -> Result<Reply, AllocError>
+    ) -> Result<Reply, OutOfMemory>
         ensures home { OnOk result (SameHome self.old self.new) }
         ensures last { OnOk result (self.new.last ≡ moment) }
         ensures accepts { IfOk result (λ reply. (xs : List PoolItem) → Fits self.old xs → Accepts self.old self.new facts.old.items facts.new.items moment Claim reply xs xs) }
     {
         let reply = self.take_job()?;
-        self.last = moment;
+        self.set_last(moment);
         self.serve(alloc, facts, moment)?;
         Ok(reply)
     }
+}
+
+impl PoolCore {
+    ghost use Rattle.mdb_pool.specs.Kept.{job_now};
+    ghost use Rattle.mdb_pool.specs.Changes.{claiming};
+    ghost use Rattle.mdb_pool.specs.Standing.{SameHome, Fits, Accepts, StandsFor, Answers};
+    ghost use Rattle.mdb_pool.specs.Parts.{Passes};
+    ghost use Rattle.mdb_log.specs.History.{Item, PoolItem};
+    ghost use Rattle.mdb_log.specs.declared.step.Act.TheVariants.{Claim};
 
     /// A worker asks for a connection to establish. Refused as `TimeBack`.
     pub fn claim(

@@ -2,18 +2,18 @@
 
 ghost use Rattle.std.specs.Prelude.{◌≡◌, ◌++◌, ◌∷◌, ◌-◌, [], OnOk, OnErr, IfOk, List, false};
 
+use super::draft::{Base, Draft};
+use super::pool_core::PoolCore;
 use super::request::{Phase, Request};
 use super::status::{Clear, Status};
-use super::table::Keyed;
-use super::{Act, PoolCore, Reply, Step, What};
+use super::{Act, Reply, Step, What};
 use mdb_base::{Error, Moment, ObjectId, OutOfMemory};
 use mdb_events::{CmapEvent, End, Fact, PoolClearedEvent};
-use std::alloc::{AllocError, Global};
+use std::alloc::Global;
 
-impl PoolCore {
+impl<K: Base> Draft<K> {
     ghost use Rattle.mdb_pool.specs.Changes.{ending, raising, over_facts};
     ghost use Rattle.mdb_pool.specs.Standing.{SameHome, SameNotes, Fits, EndsQueue, Clears, Accepts, StandsFor, Answers};
-    ghost use Rattle.mdb_pool.specs.Parts.{Passes};
     ghost use Rattle.mdb_log.specs.History.{Item, PoolItem};
     ghost use Rattle.mdb_pool.specs.Kept.{is_ready_now, is_shut, exhausted_now};
     ghost use Rattle.std.specs.Prelude.{true, None};
@@ -30,7 +30,7 @@ impl PoolCore {
         moment: Moment,
         request: Request,
         cause: &Error,
-    ) -> Result<(), AllocError>
+    ) -> Result<(), OutOfMemory>
         ensures core { OnOk result (self.new ≡ ending self.old request (Cleared cause.now)) }
         ensures facts { OnOk result (facts.new.items ≡ facts.old.items ++ over_facts self.old request.number request.warm (moment - request.asked_at) (Cleared cause.now)) }
     {
@@ -50,7 +50,7 @@ impl PoolCore {
         facts: &mut Vec<Fact>,
         moment: Moment,
         cause: &Error,
-    ) -> Result<(), AllocError>
+    ) -> Result<(), OutOfMemory>
         ensures home { OnOk result (SameHome self.old self.new) }
         ensures last { OnOk result (self.new.last ≡ self.old.last) }
         ensures notes { OnOk result (SameNotes self.old self.new) }
@@ -70,22 +70,22 @@ impl PoolCore {
         moment: Moment,
         service: Option<ObjectId>,
         cause: &Error,
-    ) -> Result<(), AllocError>
+    ) -> Result<(), OutOfMemory>
         ensures core { OnOk result (self.new ≡ raising self.old moment service cause.now) }
         ensures facts { OnOk result (facts.new.items ≡ facts.old.items ++ Raised self.old.pool service cause.now ∷ []) }
     {
         let told = cause.clone()?;
-        facts.push(Fact::Raised(self.pool, service, told))?;
-        self.clears.push(Clear {
+        facts.push(Fact::Raised(self.number(), service, told))?;
+        self.push_clear(Clear {
             service,
-            after: self.created,
+            after: self.created(),
             timeout: cause.is_network_timeout(),
         })?;
-        self.last = moment;
+        self.set_last(moment);
         if service.is_some() {
             return Ok(());
         }
-        self.status = Status::Paused(cause.clone()?);
+        self.set_status(Status::Paused(cause.clone()?));
         Ok(())
     }
 
@@ -95,12 +95,12 @@ impl PoolCore {
         facts: &mut Vec<Fact>,
         service: Option<ObjectId>,
         cause: &Error,
-    ) -> Result<(), AllocError>
+    ) -> Result<(), OutOfMemory>
         ensures { OnOk result (facts.new.items ≡ facts.old.items ++ cleared_fact self.now.pool self.now.address service cause.now ∷ []) }
     {
-        let address = self.address.clone()?;
+        let address = self.address().clone()?;
         facts.push(Fact::Pool(
-            self.pool,
+            self.number(),
             CmapEvent::PoolCleared(PoolClearedEvent {
                 address,
                 service_id: service,
@@ -117,7 +117,7 @@ impl PoolCore {
         facts: &mut Vec<Fact>,
         moment: Moment,
         cause: &Error,
-    ) -> Result<(), AllocError>
+    ) -> Result<(), OutOfMemory>
         requires { is_ready_now self.old.status ≡ true }
         ensures home { OnOk result (SameHome self.old self.new) }
         ensures last { OnOk result (self.new.last ≡ moment) }
@@ -137,7 +137,7 @@ impl PoolCore {
         moment: Moment,
         service: Option<ObjectId>,
         cause: &Error,
-    ) -> Result<(), AllocError>
+    ) -> Result<(), OutOfMemory>
         requires { is_shut self.old.status ≡ false }
         ensures home { OnOk result (SameHome self.old self.new) }
         ensures last { OnOk result (self.new.last ≡ moment) }
@@ -148,7 +148,7 @@ impl PoolCore {
             self.push_cleared(facts, service, cause)?;
             return Ok(());
         }
-        if self.status.is_ready() {
+        if self.status().is_ready() {
             self.clear_ready(alloc, facts, moment, cause)?;
             return Ok(());
         }
@@ -165,13 +165,13 @@ impl PoolCore {
         pool: u32,
         service: Option<ObjectId>,
         cause: &Error,
-    ) -> Result<Reply, AllocError>
+    ) -> Result<Reply, OutOfMemory>
         ensures home { OnOk result (SameHome self.old self.new) }
         ensures last { OnOk result (self.new.last ≡ moment) }
         ensures accepts { IfOk result (λ reply. (xs : List PoolItem) → Fits self.old xs → Accepts self.old self.new facts.old.items facts.new.items moment (ClearAct pool service cause.now) reply xs xs) }
     {
-        if self.status.is_closed() {
-            self.last = moment;
+        if self.status().is_closed() {
+            self.set_last(moment);
             self.serve(alloc, facts, moment)?;
             return Ok(Reply::Done);
         }
@@ -179,13 +179,19 @@ impl PoolCore {
         self.serve(alloc, facts, moment)?;
         Ok(Reply::Done)
     }
+}
 
-    // One more clear would pass the limit of the generation.
-    pub(super) fn is_exhausted(&self, service: Option<ObjectId>) -> bool
-        ensures { result ≡ exhausted_now self.now service }
-    {
-        !self.status.is_closed() && self.options.limit_generation <= self.generation(service)
-    }
+impl PoolCore {
+    ghost use Rattle.mdb_pool.specs.Changes.{ending, raising, over_facts};
+    ghost use Rattle.mdb_pool.specs.Standing.{SameHome, SameNotes, Fits, EndsQueue, Clears, Accepts, StandsFor, Answers};
+    ghost use Rattle.mdb_pool.specs.Parts.{Passes};
+    ghost use Rattle.mdb_log.specs.History.{Item, PoolItem};
+    ghost use Rattle.mdb_pool.specs.Kept.{is_ready_now, is_shut, exhausted_now};
+    ghost use Rattle.std.specs.Prelude.{true, None};
+    ghost use Rattle.mdb_log.specs.declared.step.Act.TheVariants.{Clear as ClearAct};
+    ghost use Rattle.mdb_events.specs.declared.fact.Fact.TheVariants.{Raised};
+    ghost use Rattle.mdb_events.specs.declared.end.End.TheVariants.{Cleared};
+    ghost use Rattle.mdb_pool.specs.Facts.{cleared_fact};
 
     /// The connections of the pool, or those of a service where it is load balanced, become stale; a normal pool is paused, and its queued requests
     /// end with the cause (CMAP, "Clearing a Connection Pool"). A closed pool stays as it is. Refused as `TimeBack`, as `WrongMode` where a normal
@@ -206,7 +212,7 @@ impl PoolCore {
     {
         let step = Step {
             moment,
-            act: Act::Clear(self.pool, service, cause),
+            act: Act::Clear(self.body.pool, service, cause),
         };
         let answer = self.attempt(alloc, facts, &step);
         drop(step);

@@ -6,10 +6,10 @@ ghost use Rattle.mdb_pool.specs.Kept.{clears_for, clears_before, cleared_since, 
 ghost use Rattle.mdb_log.specs.Connections.{is_dropped};
 
 use super::connection::Connection;
+use super::pool_core::PoolCore;
 use super::status::Clear;
-use super::{ConnectionGeneration, LoadBalancedGeneration, PoolCore, Use};
-use mdb_base::{Moment, ObjectId};
-use mdb_events::ConnectionClosedReason;
+use super::{ConnectionGeneration, LoadBalancedGeneration, Use};
+use mdb_base::ObjectId;
 
 fn same_service(a: Option<ObjectId>, b: Option<ObjectId>) -> bool
     ensures { result ≡ same_service a b }
@@ -22,7 +22,7 @@ fn same_service(a: Option<ObjectId>, b: Option<ObjectId>) -> bool
 }
 
 // How often the service was cleared, or the pool as a whole where there is none.
-fn count_clears(clears: &[Clear], service: Option<ObjectId>) -> usize
+pub(super) fn count_clears(clears: &[Clear], service: Option<ObjectId>) -> usize
     ensures { result ≡ clears_for service clears.now }
 {
     clears
@@ -42,21 +42,21 @@ fn count_before(clears: &[Clear], id: u32, service: Option<ObjectId>) -> usize
 }
 
 // Such a clear came after the connection was created.
-fn cleared_since(clears: &[Clear], id: u32, service: Option<ObjectId>) -> bool
+pub(super) fn cleared_since(clears: &[Clear], id: u32, service: Option<ObjectId>) -> bool
     ensures { result ≡ cleared_since id service clears.now }
 {
     clears.iter().any(|clear| same_service(clear.service, service) && !(clear.after < id))
 }
 
 // How many of the clears were by a network timeout.
-fn count_timeouts(clears: &[Clear]) -> usize
+pub(super) fn count_timeouts(clears: &[Clear]) -> usize
     ensures { result ≡ timeouts_in clears.now }
 {
     clears.iter().filter(|clear| clear.timeout).count()
 }
 
 // A connection is closed that was used so last.
-fn is_dropped(used: Use) -> bool
+pub(super) fn is_dropped(used: Use) -> bool
     ensures { result ≡ is_dropped used }
 {
     matches!(used, Use::Dropped | Use::Streaming)
@@ -82,80 +82,12 @@ impl PoolCore {
     ghost use Rattle.mdb_log.specs.Connections.{is_live, known_service};
     ghost use Rattle.mdb_log.specs.State.{generation_of, generation_before, is_interrupted};
 
-    // A connection of the service would be stale.
-    pub(super) fn stale_for(&self, id: u32, service: Option<ObjectId>) -> bool
-        ensures { result ≡ stale_for self.now id service }
-    {
-        let named = if self.options.load_balanced {
-            service
-        } else {
-            None
-        };
-        if self.options.load_balanced && named.is_none() {
-            return false;
-        }
-        cleared_since(self.clears.as_slice(), id, named)
-    }
-
-    // It would have been available for too long.
-    fn is_idle(&self, moment: Moment, since: Moment) -> bool
-        ensures { result ≡ idle_since self.now.options.max_idle_time moment since }
-    {
-        match self.options.max_idle_time {
-            None => false,
-            Some(limit) => 0 < limit && limit <= moment.saturating_sub(since),
-        }
-    }
-
-    // Why an available connection that is met now is closed.
-    pub(super) fn perished(
-        &self,
-        moment: Moment,
-        connection: Connection,
-    ) -> Option<ConnectionClosedReason>
-        ensures { result ≡ perished_now self.now moment connection }
-    {
-        if self.stale_for(connection.id, connection.service) {
-            return Some(ConnectionClosedReason::Stale);
-        }
-        if self.is_idle(moment, connection.since) {
-            return Some(ConnectionClosedReason::Idle);
-        }
-        None
-    }
-
-    // How many clears by a network timeout the pool had.
-    pub(super) fn timeouts(&self) -> usize
-        ensures { result ≡ timeouts_in self.now.clears }
-    {
-        count_timeouts(self.clears.as_slice())
-    }
-
-    // Why a connection is closed when it comes back.
-    pub(super) fn reason_now(&self, connection: Connection) -> Option<ConnectionClosedReason>
-        ensures { result ≡ reason_now self.now connection }
-    {
-        if self.status.is_closed() {
-            return Some(ConnectionClosedReason::PoolClosed);
-        }
-        if connection.errored {
-            return Some(ConnectionClosedReason::Error);
-        }
-        if self.stale_for(connection.id, connection.service) {
-            return Some(ConnectionClosedReason::Stale);
-        }
-        if is_dropped(connection.used) {
-            return Some(ConnectionClosedReason::Dropped);
-        }
-        None
-    }
-
     /// How often the pool was cleared: for the service, or as a whole where there is none (CMAP, "Generation").
     pub fn generation(&self, service: Option<ObjectId>) -> u64
         ensures kept { result ≡ clears_for service self.now.clears }
         ensures history { (h : List Item) → StandsFor self.now h → result ≡ generation_of (of_pool self.now.pool h) service }
     {
-        count_clears(self.clears.as_slice(), service) as u64
+        self.body.generation(service)
     }
 
     /// How often it was cleared so before the connection was created, `None` where the connection isn't live.
@@ -163,18 +95,18 @@ impl PoolCore {
         ensures kept { result ≡ if is_some (connection_at self.now id) then Some (clears_before id service self.now.clears) else None }
         ensures history { (h : List Item) → StandsFor self.now h → result ≡ if is_live (of_pool self.now.pool h) id then Some (generation_before (of_pool self.now.pool h) id service) else None }
     {
-        if self.connections.get(id).is_none() {
+        if self.body.connections.get(id).is_none() {
             return None;
         }
-        Some(count_before(self.clears.as_slice(), id, service) as u64)
+        Some(count_before(self.body.clears.as_slice(), id, service) as u64)
     }
 
     // The generation that a connection of the service carries.
     fn carried(&self, id: u32, service: Option<ObjectId>) -> ConnectionGeneration
         ensures { result ≡ carried self.now.options.load_balanced (λ t. clears_before id t self.now.clears) service }
     {
-        let clears = self.clears.as_slice();
-        if !self.options.load_balanced {
+        let clears = self.body.clears.as_slice();
+        if !self.body.options.load_balanced {
             return ConnectionGeneration::Normal(count_before(clears, id, None) as u64);
         }
         let Some(service_id) = service else {
@@ -191,7 +123,7 @@ impl PoolCore {
         ensures kept { result ≡ generation_at self.now id (connection_at self.now id) }
         ensures history { (h : List Item) → StandsFor self.now h → result ≡ if is_live (of_pool self.now.pool h) id then Some (carried self.now.options.load_balanced (generation_before (of_pool self.now.pool h) id) (known_service (of_pool self.now.pool h) id)) else None }
     {
-        match self.connections.get(id) {
+        match self.body.connections.get(id) {
             Some(connection) => Some(self.carried(id, connection.service)),
             None => None,
         }
@@ -203,12 +135,12 @@ impl PoolCore {
         ensures kept { result ≡ interrupted_at self.now (connection_at self.now id) }
         ensures history { (h : List Item) → StandsFor self.now h → result ≡ is_interrupted self.now.options (of_pool self.now.pool h) id }
     {
-        match self.connections.get(id) {
+        match self.body.connections.get(id) {
             Some(connection) => {
-                !self.options.load_balanced
+                !self.body.options.load_balanced
                     && connection.is_held()
                     && connection.pins == 0
-                    && connection.timeouts < self.timeouts()
+                    && connection.timeouts < self.body.timeouts()
             }
             None => false,
         }

@@ -1,59 +1,55 @@
 //! A pool is closed.
 
-ghost use Rattle.std.specs.Prelude.{◌≡◌, ◌++◌, ◌∷◌, [], OnOk, OnErr, IfOk, List, map, filter};
-ghost use Rattle.mdb_pool.specs.Places.{stays};
+ghost use Rattle.std.specs.Prelude.{◌≡◌, ◌++◌, ◌∷◌, [], not, OnOk, IfOk, List, map, filter, OnErr, option_copied};
+ghost use Rattle.mdb_pool.specs.Changes.{number_in};
+ghost use Rattle.mdb_pool.specs.Places.{is_available, is_pending};
 
-use super::connection::Connection;
+use super::draft::{Base, Draft};
+use super::pool_core::PoolCore;
 use super::request::{Phase, Request};
 use super::status::Status;
-use super::table::Keyed;
-use super::{Act, PoolCore, Reply, Step};
+use super::{Act, Reply, Step};
 use mdb_base::{Moment, OutOfMemory};
 use mdb_events::{CmapEvent, ConnectionClosedReason, End, Fact, PoolClosedEvent};
-use std::alloc::{AllocError, Global};
+use std::alloc::Global;
 
-// The connections that somebody holds, and those at their pins.
-fn kept_ones(alloc: Global, connections: &[Connection]) -> Result<Vec<Connection>, AllocError>
-    ensures { IfOk result (λ kept. kept.items ≡ filter (λ x. stays x.place) connections.now) }
+fn number_in(request: Option<&Request>) -> Option<u32>
+    ensures { result ≡ number_in (option_copied request.entry) }
 {
-    let mut kept = Vec::new(alloc);
-    for x in connections {
-        if x.stays() {
-            kept.push(*x)?;
-        }
+    match request {
+        Some(request) => Some(request.number),
+        None => None,
     }
-    Ok(kept)
 }
 
-impl PoolCore {
-    ghost use Rattle.mdb_pool.specs.Changes.{closing, shut_facts, off_facts, ended_request, available_ones, pending_ones, unserved_ones};
-    ghost use Rattle.mdb_pool.specs.Standing.{SameHome, Fits, Accepts, StandsFor, Answers};
-    ghost use Rattle.mdb_pool.specs.Parts.{Passes};
-    ghost use Rattle.mdb_log.specs.History.{Item, PoolItem};
+impl<K: Base> Draft<K> {
+    ghost use Rattle.mdb_pool.specs.Changes.{closing, shut_facts, off_facts, ended_request, ended_one, available_ones, pending_ones, unserved_ones};
+    ghost use Rattle.mdb_pool.specs.Standing.{SameHome, Fits, Accepts};
+    ghost use Rattle.mdb_log.specs.History.{PoolItem};
     ghost use Rattle.mdb_pool.specs.Kept.{unserved_in};
     ghost use Rattle.mdb_log.specs.declared.step.Act.TheVariants.{Close};
     ghost use Rattle.mdb_pool.specs.Facts.{pool_closed_fact};
 
     // The available connections are closed.
-    fn push_available(&self, facts: &mut Vec<Fact>) -> Result<(), AllocError>
+    fn push_available(&self, facts: &mut Vec<Fact>) -> Result<(), OutOfMemory>
         ensures { OnOk result (facts.new.items ≡ facts.old.items ++ shut_facts self.now (available_ones self.now)) }
     {
-        for x in self.connections.as_slice() {
-            if x.is_available() {
-                self.push_close(facts, *x, ConnectionClosedReason::PoolClosed)?;
-            }
+        let mut next = self.first_available();
+        while let Some(x) = next {
+            self.push_close(facts, x, ConnectionClosedReason::PoolClosed)?;
+            next = self.next_available(x.id);
         }
         Ok(())
     }
 
     // The pending connections are closed.
-    fn push_pending(&self, facts: &mut Vec<Fact>) -> Result<(), AllocError>
+    fn push_pending(&self, facts: &mut Vec<Fact>) -> Result<(), OutOfMemory>
         ensures { OnOk result (facts.new.items ≡ facts.old.items ++ shut_facts self.now (pending_ones self.now)) }
     {
-        for x in self.connections.as_slice() {
-            if x.is_pending() {
-                self.push_close(facts, *x, ConnectionClosedReason::PoolClosed)?;
-            }
+        let mut next = self.first_pending();
+        while let Some(x) = next {
+            self.push_close(facts, x, ConnectionClosedReason::PoolClosed)?;
+            next = self.next_pending(x.id);
         }
         Ok(())
     }
@@ -64,73 +60,105 @@ impl PoolCore {
     {
         match &request.phase {
             Phase::Queued => true,
-            Phase::Given(id) => self.is_pending(*id),
+            Phase::Given(id) => self.body.is_pending(*id),
             _ => false,
         }
     }
 
-    // The requests end that nothing was handed to.
-    fn push_unserved(&self, facts: &mut Vec<Fact>, moment: Moment) -> Result<(), AllocError>
+    // The end of the request is told where nothing was handed to it.
+    fn push_off(
+        &self,
+        facts: &mut Vec<Fact>,
+        moment: Moment,
+        request: &Request,
+    ) -> Result<(), OutOfMemory>
+        ensures { OnOk result (facts.new.items ≡ facts.old.items ++ off_facts self.now moment (filter (λ q. unserved_in self.now q.phase) (request.now ∷ []))) }
+    {
+        if !self.is_unserved(request) {
+            return Ok(());
+        }
+        let waited = moment.saturating_sub(request.asked_at);
+        self.push_end(facts, request.number, request.warm, waited, End::Closed)?;
+        Ok(())
+    }
+
+    // The requests end that nothing was handed to: all are looked at, once for good.
+    fn push_unserved(&self, facts: &mut Vec<Fact>, moment: Moment) -> Result<(), OutOfMemory>
         ensures { OnOk result (facts.new.items ≡ facts.old.items ++ off_facts self.now moment (unserved_ones self.now)) }
     {
-        for q in self.requests.as_slice() {
-            if self.is_unserved(q) {
-                let waited = moment.saturating_sub(q.asked_at);
-                self.push_end(facts, q.number, q.warm, waited, End::Closed)?;
-            }
+        let mut next = self.first_request();
+        while let Some(q) = next {
+            self.push_off(facts, moment, q)?;
+            next = self.next_request(q.number);
         }
         Ok(())
     }
 
-    fn ended_request(&self, request: &Request) -> Result<Request, AllocError>
-        ensures { IfOk result (λ kept. kept ≡ ended_request self.now request.now) }
+    // The request ends where nothing was handed to it.
+    fn end_unserved(&mut self, alloc: Global, number: u32) -> Result<(), OutOfMemory>
+        ensures { OnOk result (self.new ≡ record self.old { requests = ended_one self.old number }) }
     {
-        if self.is_unserved(request) {
-            return Ok(Request {
-                number: request.number,
-                asked_at: request.asked_at,
-                warm: request.warm,
-                took: request.took,
-                phase: Phase::Ended(End::Closed),
-            });
+        // No other request has the number.
+        let _requests = self.asked();
+        let Some(request) = self.request(number) else {
+            return Ok(());
+        };
+        if !self.is_unserved(request) {
+            return Ok(());
         }
-        request.copy()
+        let ended = Request {
+            number,
+            asked_at: request.asked_at,
+            warm: request.warm,
+            took: request.took,
+            phase: Phase::Ended(End::Closed),
+        };
+        self.replace_request(alloc, ended)
     }
 
-    fn ended_requests(&self, alloc: Global) -> Result<Vec<Request>, AllocError>
-        ensures { IfOk result (λ kept. kept.items ≡ map (ended_request self.now) self.now.requests) }
+    // So do all requests.
+    fn end_all_unserved(&mut self, alloc: Global) -> Result<(), OutOfMemory>
+        ensures { OnOk result (self.new ≡ record self.old { requests = map (ended_request self.old) self.old.requests }) }
     {
-        let mut kept = Vec::new(alloc);
-        for q in self.requests.as_slice() {
-            kept.push(self.ended_request(q)?)?;
+        let mut next = number_in(self.first_request());
+        while let Some(number) = next {
+            self.end_unserved(alloc, number)?;
+            next = number_in(self.next_request(number));
         }
-        Ok(kept)
+        Ok(())
+    }
+
+    // The available and the pending connections go.
+    fn drop_connections(&mut self, alloc: Global) -> Result<(), OutOfMemory>
+        ensures { OnOk result (self.new ≡ record self.old { connections = filter (λ x. not (is_pending x.place)) (filter (λ x. not (is_available x.place)) self.old.connections) }) }
+    {
+        self.body.connections.clear_left(alloc)?;
+        self.body.connections.clear_right(alloc)
     }
 
     // A pool that is not closed is.
+    #[tactic(auto, using(crate::proofs::Bodies::stay_ones))]
     fn close_open(
         &mut self,
         alloc: Global,
         facts: &mut Vec<Fact>,
         moment: Moment,
-    ) -> Result<(), AllocError>
+    ) -> Result<(), OutOfMemory>
         ensures core { OnOk result (self.new ≡ closing self.old moment) }
         ensures facts { OnOk result (facts.new.items ≡ (((facts.old.items ++ shut_facts self.old (available_ones self.old)) ++ shut_facts self.old (pending_ones self.old)) ++ off_facts self.old moment (unserved_ones self.old)) ++ pool_closed_fact self.old.pool self.old.address ∷ []) }
     {
         self.push_available(facts)?;
         self.push_pending(facts)?;
         self.push_unserved(facts, moment)?;
-        let address = self.address.clone()?;
+        let address = self.address().clone()?;
         facts.push(Fact::Pool(
-            self.pool,
+            self.number(),
             CmapEvent::PoolClosed(PoolClosedEvent { address }),
         ))?;
-        let requests = self.ended_requests(alloc)?;
-        let connections = kept_ones(alloc, self.connections.as_slice())?;
-        self.requests.set(requests);
-        self.connections.set(connections);
-        self.status = Status::Closed;
-        self.last = moment;
+        self.end_all_unserved(alloc)?;
+        self.drop_connections(alloc)?;
+        self.set_status(Status::Closed);
+        self.set_last(moment);
         Ok(())
     }
 
@@ -141,13 +169,13 @@ impl PoolCore {
         facts: &mut Vec<Fact>,
         moment: Moment,
         pool: u32,
-    ) -> Result<Reply, AllocError>
+    ) -> Result<Reply, OutOfMemory>
         ensures home { OnOk result (SameHome self.old self.new) }
         ensures last { OnOk result (self.new.last ≡ moment) }
         ensures accepts { IfOk result (λ reply. (xs : List PoolItem) → Fits self.old xs → Accepts self.old self.new facts.old.items facts.new.items moment (Close pool) reply xs xs) }
     {
-        if self.status.is_closed() {
-            self.last = moment;
+        if self.status().is_closed() {
+            self.set_last(moment);
             self.serve(alloc, facts, moment)?;
             return Ok(Reply::Done);
         }
@@ -155,6 +183,16 @@ impl PoolCore {
         self.serve(alloc, facts, moment)?;
         Ok(Reply::Done)
     }
+}
+
+impl PoolCore {
+    ghost use Rattle.mdb_pool.specs.Changes.{closing, shut_facts, off_facts, ended_request, available_ones, pending_ones, unserved_ones};
+    ghost use Rattle.mdb_pool.specs.Standing.{SameHome, Fits, Accepts, StandsFor, Answers};
+    ghost use Rattle.mdb_pool.specs.Parts.{Passes};
+    ghost use Rattle.mdb_log.specs.History.{Item, PoolItem};
+    ghost use Rattle.mdb_pool.specs.Kept.{unserved_in};
+    ghost use Rattle.mdb_log.specs.declared.step.Act.TheVariants.{Close};
+    ghost use Rattle.mdb_pool.specs.Facts.{pool_closed_fact};
 
     /// The pool is closed for good: its available and pending connections are closed, its held ones as they come back, and the requests end that
     /// nothing was handed to (CMAP, "Closing a Connection Pool"). A closed pool stays as it is. Refused as `TimeBack`.
@@ -172,7 +210,7 @@ impl PoolCore {
     {
         let step = Step {
             moment,
-            act: Act::Close(self.pool),
+            act: Act::Close(self.body.pool),
         };
         let answer = self.attempt(alloc, facts, &step);
         drop(step);

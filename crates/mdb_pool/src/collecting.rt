@@ -2,15 +2,16 @@
 
 ghost use Rattle.std.specs.Prelude.{◌≡◌, OnOk, OnErr, IfOk, List, true};
 
-use super::{Act, PoolCore, Reply, Step};
+use super::draft::{Base, Draft};
+use super::pool_core::PoolCore;
+use super::{Act, Reply, Step};
 use mdb_base::{Moment, OutOfMemory};
 use mdb_events::Fact;
-use std::alloc::{AllocError, Global};
+use std::alloc::Global;
 
-impl PoolCore {
+impl<K: Base> Draft<K> {
     ghost use Rattle.mdb_pool.specs.Kept.{is_open_now};
     ghost use Rattle.mdb_pool.specs.Standing.{SameHome, Fits, Accepts, StandsFor, Answers};
-    ghost use Rattle.mdb_pool.specs.Parts.{Passes};
     ghost use Rattle.mdb_log.specs.History.{Item, PoolItem};
     ghost use Rattle.mdb_log.specs.declared.step.Act.TheVariants.{Collect};
 
@@ -21,16 +22,24 @@ impl PoolCore {
         facts: &mut Vec<Fact>,
         moment: Moment,
         request: u32,
-    ) -> Result<Reply, AllocError>
+    ) -> Result<Reply, OutOfMemory>
         ensures home { OnOk result (SameHome self.old self.new) }
         ensures last { OnOk result (self.new.last ≡ moment) }
         ensures accepts { IfOk result (λ reply. (xs : List PoolItem) → Fits self.old xs → Accepts self.old self.new facts.old.items facts.new.items moment (Collect request) reply xs xs) }
     {
-        self.last = moment;
+        self.set_last(moment);
         self.serve(alloc, facts, moment)?;
         let reply = self.tell(request)?;
         Ok(reply)
     }
+}
+
+impl PoolCore {
+    ghost use Rattle.mdb_pool.specs.Kept.{is_open_now};
+    ghost use Rattle.mdb_pool.specs.Standing.{SameHome, Fits, Accepts, StandsFor, Answers};
+    ghost use Rattle.mdb_pool.specs.Parts.{Passes};
+    ghost use Rattle.mdb_log.specs.History.{Item, PoolItem};
+    ghost use Rattle.mdb_log.specs.declared.step.Act.TheVariants.{Collect};
 
     /// The caller of a request asks how it stands. Refused as `TimeBack`, or as `UnknownRequest` where the request isn't open.
     pub fn collect(

@@ -1,15 +1,16 @@
 //! The changes of a pool by which connections come back and requests are given up.
 
-ghost use Rattle.std.specs.Prelude.{◌≡◌, ◌++◌, ◌∷◌, ◌-◌, [], OnOk, Some};
+ghost use Rattle.std.specs.Prelude.{◌≡◌, ◌++◌, ◌∷◌, ◌-◌, [], false, OnOk, Some};
 
 use super::connection::{Connection, Place};
+use super::draft::{Base, Draft};
 use super::request::{Phase, Request};
-use super::{Established, PoolCore, Use};
-use mdb_base::Moment;
+use super::{Established, Use};
+use mdb_base::{Moment, OutOfMemory};
 use mdb_events::{
     CmapEvent, ConnectionCheckedInEvent, ConnectionClosedEvent, ConnectionClosedReason, End, Fact,
 };
-use std::alloc::{AllocError, Global};
+use std::alloc::Global;
 
 // The connection with what was found out when it was established.
 pub(super) fn as_made(connection: Connection, made: Established) -> Connection
@@ -22,19 +23,21 @@ pub(super) fn as_made(connection: Connection, made: Established) -> Connection
     }
 }
 
-impl PoolCore {
+impl<K: Base> Draft<K> {
+    ghost use Rattle.mdb_pool.specs.Places.{is_queued};
+    ghost use Rattle.mdb_pool.specs.Kept.{connection_at};
     ghost use Rattle.mdb_pool.specs.Changes.{returning_for, pooling, pooling_for, filling_for, quitting, leaving, handing_for, to_pin, back_facts, placed, finishing};
     ghost use Rattle.mdb_pool.specs.declared.request.Phase.TheVariants.{Ended as EndedPhase};
     ghost use Rattle.mdb_events.specs.declared.fact.Fact.TheVariants.{Ended};
     ghost use Rattle.mdb_events.specs.declared.end.End.TheVariants.{GaveUp, Filled};
     ghost use Rattle.mdb_pool.specs.Facts.{checked_in_fact, closed_fact, ready_fact};
 
-    fn push_check_in(&self, facts: &mut Vec<Fact>, id: u32) -> Result<(), AllocError>
+    fn push_check_in(&self, facts: &mut Vec<Fact>, id: u32) -> Result<(), OutOfMemory>
         ensures { OnOk result (facts.new.items ≡ facts.old.items ++ checked_in_fact self.now.pool self.now.address id ∷ []) }
     {
-        let address = self.address.clone()?;
+        let address = self.address().clone()?;
         facts.push(Fact::Pool(
-            self.pool,
+            self.number(),
             CmapEvent::ConnectionCheckedIn(ConnectionCheckedInEvent {
                 address,
                 connection_id: id,
@@ -48,12 +51,12 @@ impl PoolCore {
         facts: &mut Vec<Fact>,
         connection: Connection,
         reason: ConnectionClosedReason,
-    ) -> Result<(), AllocError>
+    ) -> Result<(), OutOfMemory>
         ensures { OnOk result (facts.new.items ≡ facts.old.items ++ closed_fact self.now.pool self.now.address connection.id reason connection.service ∷ []) }
     {
-        let address = self.address.clone()?;
+        let address = self.address().clone()?;
         facts.push(Fact::Pool(
-            self.pool,
+            self.number(),
             CmapEvent::ConnectionClosed(ConnectionClosedEvent {
                 address,
                 connection_id: connection.id,
@@ -70,14 +73,14 @@ impl PoolCore {
         facts: &mut Vec<Fact>,
         connection: Connection,
         reason: Option<ConnectionClosedReason>,
-    ) -> Result<(), AllocError>
+    ) -> Result<(), OutOfMemory>
         ensures { OnOk result (facts.new.items ≡ facts.old.items ++ back_facts self.now connection reason) }
     {
         let Some(reason) = reason else {
             self.push_check_in(facts, connection.id)?;
             return Ok(());
         };
-        if self.status.is_closed() {
+        if self.status().is_closed() {
             self.push_close(facts, connection, reason)?;
             return Ok(());
         }
@@ -93,14 +96,14 @@ impl PoolCore {
         moment: Moment,
         connection: Connection,
         reason: Option<ConnectionClosedReason>,
-    ) -> Result<(), AllocError>
+    ) -> Result<(), OutOfMemory>
         ensures { OnOk result (self.new ≡ record self.old { connections = placed moment connection reason self.old.connections }) }
     {
         if reason.is_some() {
-            self.connections.remove(alloc, connection.id)?;
+            self.remove_connection(alloc, connection.id)?;
             return Ok(());
         }
-        self.connections.put(
+        self.put_connection(
             alloc,
             Connection {
                 place: Place::Available,
@@ -121,14 +124,14 @@ impl PoolCore {
         connection: Connection,
         made: Established,
         reason: Option<ConnectionClosedReason>,
-    ) -> Result<(), AllocError>
+    ) -> Result<(), OutOfMemory>
         ensures core { OnOk result (self.new ≡ pooling_for self.old moment connection made reason) }
         ensures facts { OnOk result (facts.new.items ≡ facts.old.items ++ ready_fact self.old.pool self.old.address connection.id (moment - connection.created_at) ∷ back_facts self.old (record connection { service = made.service_id; wire = Some made.wire }) reason) }
     {
         let connection = as_made(connection, made);
         self.push_ready(facts, moment, connection)?;
         self.push_back(facts, connection, reason)?;
-        self.last = moment;
+        self.set_last(moment);
         self.place_back(alloc, moment, connection, reason)?;
         Ok(())
     }
@@ -141,12 +144,12 @@ impl PoolCore {
         moment: Moment,
         connection: Connection,
         made: Established,
-    ) -> Result<(), AllocError>
+    ) -> Result<(), OutOfMemory>
         ensures core { OnOk result (self.new ≡ pooling self.old moment connection made) }
         ensures facts { OnOk result (facts.new.items ≡ facts.old.items ++ ready_fact self.old.pool self.old.address connection.id (moment - connection.created_at) ∷ []) }
     {
         self.push_ready(facts, moment, connection)?;
-        self.last = moment;
+        self.set_last(moment);
         let connection = as_made(connection, made);
         self.place_back(alloc, moment, connection, None)?;
         Ok(())
@@ -162,7 +165,7 @@ impl PoolCore {
         made: Established,
         request: Request,
         reason: Option<ConnectionClosedReason>,
-    ) -> Result<(), AllocError>
+    ) -> Result<(), OutOfMemory>
         ensures core { OnOk result (self.new ≡ filling_for self.old moment connection made request reason) }
         ensures facts { OnOk result (facts.new.items ≡ facts.old.items ++ (ready_fact self.old.pool self.old.address connection.id (moment - connection.created_at) ∷ back_facts self.old (record connection { service = made.service_id; wire = Some made.wire }) reason) ++ Ended request.number Filled ∷ []) }
     {
@@ -177,17 +180,19 @@ impl PoolCore {
         moment: Moment,
         request: Request,
         phase: Phase,
-    ) -> Result<(), AllocError>
+    ) -> Result<(), OutOfMemory>
+        requires { is_queued phase ≡ false }
         ensures { OnOk result (self.new ≡ finishing self.old moment request phase) }
     {
         let number = request.number;
-        self.last = moment;
+        self.set_last(moment);
         self.enter_phase(alloc, request, phase)?;
-        self.settled.push(number)?;
+        self.settle(number)?;
         Ok(())
     }
 
     // A held connection goes to its pin, and the request of its party is over.
+    #[tactic(auto, using(crate::proofs::Bodies::stays_out))]
     pub(super) fn put_to_pin(
         &mut self,
         alloc: Global,
@@ -195,13 +200,14 @@ impl PoolCore {
         connection: Connection,
         request: Request,
         phase: Phase,
-    ) -> Result<(), AllocError>
+    ) -> Result<(), OutOfMemory>
+        requires { is_queued phase ≡ false }
         ensures { OnOk result (self.new ≡ to_pin self.old moment connection request phase) }
     {
         self.finish(alloc, moment, request, phase)?;
-        self.connections.replace(
+        self.replace_connection(
             alloc,
-            &Connection {
+            Connection {
                 place: Place::Pinned,
                 holder: None,
                 ..connection
@@ -218,7 +224,7 @@ impl PoolCore {
         moment: Moment,
         connection: Connection,
         request: Request,
-    ) -> Result<(), AllocError>
+    ) -> Result<(), OutOfMemory>
         ensures core { OnOk result (self.new ≡ to_pin self.old moment connection request (EndedPhase GaveUp)) }
         ensures facts { OnOk result (facts.new.items ≡ facts.old.items ++ Ended request.number GaveUp ∷ []) }
     {
@@ -241,7 +247,7 @@ impl PoolCore {
         connection: Connection,
         request: Request,
         reason: Option<ConnectionClosedReason>,
-    ) -> Result<(), AllocError>
+    ) -> Result<(), OutOfMemory>
         ensures core { OnOk result (self.new ≡ returning_for self.old moment connection request reason) }
         ensures facts { OnOk result (facts.new.items ≡ facts.old.items ++ back_facts self.old connection reason) }
     {
@@ -258,7 +264,7 @@ impl PoolCore {
         facts: &mut Vec<Fact>,
         moment: Moment,
         request: Request,
-    ) -> Result<(), AllocError>
+    ) -> Result<(), OutOfMemory>
         ensures core { OnOk result (self.new ≡ quitting self.old moment request) }
         ensures facts { OnOk result (facts.new.items ≡ facts.old.items ++ Ended request.number GaveUp ∷ []) }
     {
@@ -268,6 +274,7 @@ impl PoolCore {
     }
 
     // A request whose connection is pending is given up.
+    #[tactic(auto, using(crate::proofs::Bodies::stays_same))]
     pub(super) fn leave(
         &mut self,
         alloc: Global,
@@ -275,14 +282,15 @@ impl PoolCore {
         moment: Moment,
         connection: Connection,
         request: Request,
-    ) -> Result<(), AllocError>
+    ) -> Result<(), OutOfMemory>
+        requires { connection_at self.old connection.id ≡ Some connection }
         ensures core { OnOk result (self.new ≡ leaving self.old moment connection request) }
         ensures facts { OnOk result (facts.new.items ≡ facts.old.items ++ Ended request.number GaveUp ∷ []) }
     {
         self.quit(alloc, facts, moment, request)?;
-        self.connections.replace(
+        self.replace_connection(
             alloc,
-            &Connection {
+            Connection {
                 holder: None,
                 used: Use::Ok,
                 ..connection
@@ -300,7 +308,7 @@ impl PoolCore {
         connection: Connection,
         request: Request,
         reason: Option<ConnectionClosedReason>,
-    ) -> Result<(), AllocError>
+    ) -> Result<(), OutOfMemory>
         ensures core { OnOk result (self.new ≡ handing_for self.old moment connection request reason) }
         ensures facts { OnOk result (facts.new.items ≡ facts.old.items ++ Ended request.number GaveUp ∷ back_facts self.old connection reason) }
     {

@@ -8,7 +8,7 @@ ghost use Rattle.mdb_log.specs.declared.options.PoolOptions.{PoolOptions};
 ghost use Rattle.mdb_log.specs.declared.step.Step.{Step};
 ghost use Rattle.mdb_log.specs.declared.step.Act.TheVariants.{Ready, Clear, Close};
 ghost use Rattle.mdb_log.specs.History.{Item, PoolItem, of_pool, opening, with_answer};
-ghost use Rattle.mdb_pool.specs.declared.pool_core.PoolCore.{PoolCore};
+ghost use Rattle.mdb_pool.specs.Core.{PoolCore};
 ghost use Rattle.mdb_pool.specs.Answer.{all_facts, answer};
 ghost use Rattle.mdb_pool.specs.Composing.{ClearThenFailure};
 ghost use Rattle.mdb_pool.specs.Facts.{readied, clear_facts, close_facts};

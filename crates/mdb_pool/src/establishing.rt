@@ -3,16 +3,16 @@
 ghost use Rattle.std.specs.Prelude.{◌≡◌, ◌∷◌, OnOk, OnErr, IfOk, List, true};
 
 use super::coming_back::as_made;
-use super::table::Keyed;
-use super::{Act, Established, PoolCore, Reply, Step};
+use super::draft::{Base, Draft};
+use super::pool_core::PoolCore;
+use super::{Act, Established, Reply, Step};
 use mdb_base::{Moment, OutOfMemory};
 use mdb_events::Fact;
-use std::alloc::{AllocError, Global};
+use std::alloc::Global;
 
-impl PoolCore {
+impl<K: Base> Draft<K> {
     ghost use Rattle.mdb_pool.specs.Kept.{connection_at, is_pending_at};
     ghost use Rattle.mdb_pool.specs.Standing.{SameHome, Fits, Accepts, StandsFor, Answers};
-    ghost use Rattle.mdb_pool.specs.Parts.{Passes};
     ghost use Rattle.mdb_log.specs.History.{Item, PoolItem, established};
     ghost use Rattle.mdb_log.specs.declared.step.Act.TheVariants.{Established as EstablishedAct};
 
@@ -24,13 +24,13 @@ impl PoolCore {
         moment: Moment,
         id: u32,
         made: Established,
-    ) -> Result<Reply, AllocError>
+    ) -> Result<Reply, OutOfMemory>
         requires { is_pending_at (connection_at self.old id) ≡ true }
         ensures home { OnOk result (SameHome self.old self.new) }
         ensures last { OnOk result (self.new.last ≡ moment) }
         ensures accepts { IfOk result (λ reply. (xs : List PoolItem) → Fits self.old xs → Accepts self.old self.new facts.old.items facts.new.items moment (EstablishedAct self.old.pool id made) reply xs (established id made moment ∷ xs)) }
     {
-        let Some(connection) = self.connections.get(id).copied() else {
+        let Some(connection) = self.connection(id).copied() else {
             unreachable!()
         };
         let up = as_made(connection, made);
@@ -56,6 +56,14 @@ impl PoolCore {
         self.serve(alloc, facts, moment)?;
         Ok(Reply::Done)
     }
+}
+
+impl PoolCore {
+    ghost use Rattle.mdb_pool.specs.Kept.{connection_at, is_pending_at};
+    ghost use Rattle.mdb_pool.specs.Standing.{SameHome, Fits, Accepts, StandsFor, Answers};
+    ghost use Rattle.mdb_pool.specs.Parts.{Passes};
+    ghost use Rattle.mdb_log.specs.History.{Item, PoolItem, established};
+    ghost use Rattle.mdb_log.specs.declared.step.Act.TheVariants.{Established as EstablishedAct};
 
     /// A pending connection was established (CMAP, "Establishing a Connection"). Refused as `TimeBack`, `NotPending`, or `WrongMode` where a load-balanced
     /// pool is given no service, or a normal one a service.
@@ -75,7 +83,7 @@ impl PoolCore {
     {
         let step = Step {
             moment,
-            act: Act::Established(self.pool, id, made),
+            act: Act::Established(self.body.pool, id, made),
         };
         let answer = self.attempt(alloc, facts, &step);
         drop(step);

@@ -2,43 +2,21 @@
 
 ghost use Rattle.std.specs.Prelude.{◌≡◌, ◌++◌, ◌-◌, OnOk, OnErr, IfOk, List, option_copied};
 
+use super::draft::{Base, Draft};
+use super::pool_core::PoolCore;
 use super::request::{Phase, Request};
-use super::table::Keyed;
-use super::{Act, PoolCore, Reply, Step};
+use super::{Act, Reply, Step};
 use mdb_base::{Moment, OutOfMemory, ServerAddress};
 use mdb_events::{End, Fact};
-use std::alloc::{AllocError, Global};
+use std::alloc::Global;
 
-impl PoolCore {
+impl<K: Base> Draft<K> {
     ghost use Rattle.mdb_pool.specs.Kept.{overdue_since, overdue_now, first_overdue};
     ghost use Rattle.mdb_pool.specs.Changes.{ending, over_facts};
     ghost use Rattle.mdb_pool.specs.Standing.{SameHome, SameNotes, Fits, Expires, Accepts, StandsFor, Answers};
-    ghost use Rattle.mdb_pool.specs.Parts.{Passes};
     ghost use Rattle.mdb_log.specs.History.{Item, PoolItem};
     ghost use Rattle.mdb_log.specs.declared.step.Act.TheVariants.{Expire as ExpireAct};
     ghost use Rattle.mdb_events.specs.declared.end.End.TheVariants.{TimedOut};
-
-    // A caller that asked then has waited for too long.
-    fn is_overdue(&self, moment: Moment, asked_at: Moment) -> bool
-        ensures { result ≡ overdue_since self.now.options.max_wait moment asked_at }
-    {
-        match self.options.max_wait {
-            None => false,
-            Some(limit) => 0 < limit && limit <= moment.saturating_sub(asked_at),
-        }
-    }
-
-    // The first of the queued callers that have waited for too long.
-    fn first_overdue(&self, moment: Moment) -> Option<&Request>
-        ensures { option_copied result ≡ first_overdue self.now moment }
-    {
-        for q in self.requests.as_slice() {
-            if q.is_queued() && !q.warm && self.is_overdue(moment, q.asked_at) {
-                return Some(q);
-            }
-        }
-        None
-    }
 
     // A queued request ends as its time is over.
     fn end_overdue(
@@ -47,7 +25,7 @@ impl PoolCore {
         facts: &mut Vec<Fact>,
         moment: Moment,
         request: Request,
-    ) -> Result<(), AllocError>
+    ) -> Result<(), OutOfMemory>
         ensures core { OnOk result (self.new ≡ ending self.old request TimedOut) }
         ensures facts { OnOk result (facts.new.items ≡ facts.old.items ++ over_facts self.old request.number request.warm (moment - request.asked_at) TimedOut) }
     {
@@ -64,7 +42,7 @@ impl PoolCore {
         alloc: Global,
         facts: &mut Vec<Fact>,
         moment: Moment,
-    ) -> Result<(), AllocError>
+    ) -> Result<(), OutOfMemory>
         ensures home { OnOk result (SameHome self.old self.new) }
         ensures last { OnOk result (self.new.last ≡ self.old.last) }
         ensures notes { OnOk result (SameNotes self.old self.new) }
@@ -83,16 +61,26 @@ impl PoolCore {
         alloc: Global,
         facts: &mut Vec<Fact>,
         moment: Moment,
-    ) -> Result<Reply, AllocError>
+    ) -> Result<Reply, OutOfMemory>
         ensures home { OnOk result (SameHome self.old self.new) }
         ensures last { OnOk result (self.new.last ≡ moment) }
         ensures accepts { IfOk result (λ reply. (xs : List PoolItem) → Fits self.old xs → Accepts self.old self.new facts.old.items facts.new.items moment (ExpireAct self.old.address) reply xs xs) }
     {
-        self.last = moment;
+        self.set_last(moment);
         self.end_all_overdue(alloc, facts, moment)?;
         self.serve(alloc, facts, moment)?;
         Ok(Reply::Done)
     }
+}
+
+impl PoolCore {
+    ghost use Rattle.mdb_pool.specs.Kept.{overdue_since, overdue_now, first_overdue};
+    ghost use Rattle.mdb_pool.specs.Changes.{ending, over_facts};
+    ghost use Rattle.mdb_pool.specs.Standing.{SameHome, SameNotes, Fits, Expires, Accepts, StandsFor, Answers};
+    ghost use Rattle.mdb_pool.specs.Parts.{Passes};
+    ghost use Rattle.mdb_log.specs.History.{Item, PoolItem};
+    ghost use Rattle.mdb_log.specs.declared.step.Act.TheVariants.{Expire as ExpireAct};
+    ghost use Rattle.mdb_events.specs.declared.end.End.TheVariants.{TimedOut};
 
     /// The callers that wait in the queue and asked at least `max_wait` ago end as `TimedOut`, in the order of the queue (CMAP, "WaitQueue",
     /// `waitQueueTimeoutMS`); without a limit, or with one of 0, nobody does. No other step ends a caller by time. A warm request doesn't expire,
@@ -109,11 +97,10 @@ impl PoolCore {
         ensures err_facts { OnErr result (facts.new.items ≡ facts.old.items) }
         ensures passes { OnErr result (Passes self.old (record { moment = moment; act = ExpireAct self.old.address })) }
     {
-        let row = self.server_refusal(&self.address);
-        if let Some(why) = self.refusal_at(moment, row) {
+        if let Some(why) = self.body.home_refusal(moment) {
             return Ok(Reply::Refused(why));
         }
-        let address = self.address.clone()?;
+        let address = self.body.address.clone()?;
         let step = Step {
             moment,
             act: Act::Expire(address),

@@ -4,15 +4,16 @@ ghost use Rattle.std.specs.Prelude.{◌≡◌, ◌++◌, ◌∷◌, ◌-◌, ◌
 ghost use Rattle.mdb_pool.specs.Facts.{failure_of};
 
 use super::connection::Connection;
+use super::draft::{Base, Draft};
+use super::pool_core::PoolCore;
 use super::request::{Phase, Request};
-use super::table::Keyed;
-use super::{Act, FailedAt, PoolCore, Reply, Step};
+use super::{Act, FailedAt, Reply, Step};
 use mdb_base::{Error, Moment, OutOfMemory};
 use mdb_events::{
     CmapEvent, ConnectionCheckoutFailedEvent, ConnectionCheckoutFailedReason,
     ConnectionClosedReason, End, Fact,
 };
-use std::alloc::{AllocError, Global};
+use std::alloc::Global;
 
 // Why the checkout of a caller failed that ended so.
 fn failure_of(end: &End) -> ConnectionCheckoutFailedReason
@@ -24,12 +25,11 @@ fn failure_of(end: &End) -> ConnectionCheckoutFailedReason
     }
 }
 
-impl PoolCore {
+impl<K: Base> Draft<K> {
     ghost use Rattle.mdb_pool.specs.Kept.{connection_at, is_pending_at};
     ghost use Rattle.mdb_log.specs.History.{service_in};
     ghost use Rattle.mdb_pool.specs.Changes.{failing, forgetting, over_facts};
     ghost use Rattle.mdb_pool.specs.Standing.{SameHome, Fits, Accepts, StandsFor, Answers};
-    ghost use Rattle.mdb_pool.specs.Parts.{Passes};
     ghost use Rattle.mdb_log.specs.History.{Item, PoolItem, failed};
     ghost use Rattle.mdb_log.specs.declared.step.Act.TheVariants.{Failed as FailedAct};
     ghost use Rattle.mdb_events.specs.declared.end.End.TheVariants.{Failed as FailedEnd};
@@ -44,17 +44,17 @@ impl PoolCore {
         warm: bool,
         waited: Moment,
         end: End,
-    ) -> Result<(), AllocError>
+    ) -> Result<(), OutOfMemory>
         ensures { OnOk result (facts.new.items ≡ facts.old.items ++ over_facts self.now request warm waited end) }
     {
-        let address = self.address.clone()?;
+        let address = self.address().clone()?;
         let reason = failure_of(&end);
         facts.push(Fact::Ended(request, end))?;
         if warm {
             return Ok(());
         }
         facts.push(Fact::Pool(
-            self.pool,
+            self.number(),
             CmapEvent::ConnectionCheckoutFailed(ConnectionCheckoutFailedEvent {
                 address,
                 reason,
@@ -73,7 +73,7 @@ impl PoolCore {
         connection: Connection,
         request: Request,
         cause: &Error,
-    ) -> Result<(), AllocError>
+    ) -> Result<(), OutOfMemory>
         ensures core { OnOk result (self.new ≡ failing self.old moment connection request (FailedEnd cause.now)) }
         ensures facts { OnOk result (facts.new.items ≡ facts.old.items ++ closed_fact self.old.pool self.old.address connection.id ErrorReason connection.service ∷ over_facts self.old request.number request.warm (moment - request.asked_at) (FailedEnd cause.now)) }
     {
@@ -84,8 +84,8 @@ impl PoolCore {
         self.push_close(facts, connection, ConnectionClosedReason::Error)?;
         let told = cause.clone()?;
         self.push_end(facts, number, warm, waited, End::Failed(told))?;
-        self.last = moment;
-        self.connections.remove(alloc, connection.id)?;
+        self.set_last(moment);
+        self.remove_connection(alloc, connection.id)?;
         Ok(())
     }
 
@@ -96,13 +96,13 @@ impl PoolCore {
         facts: &mut Vec<Fact>,
         moment: Moment,
         connection: Connection,
-    ) -> Result<(), AllocError>
+    ) -> Result<(), OutOfMemory>
         ensures core { OnOk result (self.new ≡ forgetting self.old moment connection) }
         ensures facts { OnOk result (facts.new.items ≡ facts.old.items ++ closed_fact self.old.pool self.old.address connection.id ErrorReason connection.service ∷ []) }
     {
         self.push_close(facts, connection, ConnectionClosedReason::Error)?;
-        self.last = moment;
-        self.connections.remove(alloc, connection.id)?;
+        self.set_last(moment);
+        self.remove_connection(alloc, connection.id)?;
         Ok(())
     }
 
@@ -115,13 +115,13 @@ impl PoolCore {
         id: u32,
         at: FailedAt,
         cause: &Error,
-    ) -> Result<Reply, AllocError>
+    ) -> Result<Reply, OutOfMemory>
         requires { is_pending_at (connection_at self.old id) ≡ true }
         ensures home { OnOk result (SameHome self.old self.new) }
         ensures last { OnOk result (self.new.last ≡ moment) }
         ensures accepts { IfOk result (λ reply. (xs : List PoolItem) → Fits self.old xs → Accepts self.old self.new facts.old.items facts.new.items moment (FailedAct self.old.pool id at cause.now) reply xs (failed id (service_in at) ∷ xs)) }
     {
-        let Some(connection) = self.connections.get(id).copied() else {
+        let Some(connection) = self.connection(id).copied() else {
             unreachable!()
         };
         if let Some(request) = self.holder_request(connection) {
@@ -134,6 +134,19 @@ impl PoolCore {
         self.serve(alloc, facts, moment)?;
         Ok(Reply::Done)
     }
+}
+
+impl PoolCore {
+    ghost use Rattle.mdb_pool.specs.Kept.{connection_at, is_pending_at};
+    ghost use Rattle.mdb_log.specs.History.{service_in};
+    ghost use Rattle.mdb_pool.specs.Changes.{failing, forgetting, over_facts};
+    ghost use Rattle.mdb_pool.specs.Standing.{SameHome, Fits, Accepts, StandsFor, Answers};
+    ghost use Rattle.mdb_pool.specs.Parts.{Passes};
+    ghost use Rattle.mdb_log.specs.History.{Item, PoolItem, failed};
+    ghost use Rattle.mdb_log.specs.declared.step.Act.TheVariants.{Failed as FailedAct};
+    ghost use Rattle.mdb_events.specs.declared.end.End.TheVariants.{Failed as FailedEnd};
+    ghost use Rattle.mdb_events.specs.declared.reasons.ConnectionClosedReason.TheVariants.{Error as ErrorReason};
+    ghost use Rattle.mdb_pool.specs.Facts.{closed_fact};
 
     /// A pending connection failed: it is closed, and its caller's request ends (CMAP, "Checking Out a Connection"). Refused as `TimeBack`,
     /// `NotPending`, or `WrongMode` where a normal pool is given a service.
@@ -154,7 +167,7 @@ impl PoolCore {
     {
         let step = Step {
             moment,
-            act: Act::Failed(self.pool, id, at, error),
+            act: Act::Failed(self.body.pool, id, at, error),
         };
         let answer = self.attempt(alloc, facts, &step);
         drop(step);

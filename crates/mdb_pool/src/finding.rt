@@ -1,125 +1,122 @@
-//! What a pool finds among its connections and requests.
+//! What the parts of a pool have among their connections and requests.
 
 ghost use Rattle.std.specs.Prelude.{◌≡◌, nat_lt, option_copied, IfOk};
+ghost use Rattle.mdb_log.specs.Connections.{has};
+ghost use Rattle.mdb_pool.specs.Body.{now_of};
 
-use super::connection::{Connection, Place};
+use super::Reply;
+use super::body::Body;
+use super::connection::Connection;
 use super::request::{Phase, Request};
-use super::{PoolCore, Reply};
-use mdb_base::Moment;
-use std::alloc::AllocError;
+use mdb_base::{Moment, OutOfMemory};
 
 /// The most connections that callers make in a pool whose options name no maximum (CMAP, "Connection Pool Options").
 pub const DEFAULT_MAX_POOL_SIZE: u32 = 10;
 
-impl PoolCore {
+impl Body {
     ghost use Rattle.mdb_log.specs.State.{max_connecting};
-    ghost use Rattle.mdb_pool.specs.Kept.{wants_now, blocked_now, candidate_now, fills_now, first_perished, first_queued, last_available, pending_count, has_room, held_connection, pending_connection, holder_request, outcome_now, first_unclaimed};
+    ghost use Rattle.mdb_pool.specs.Kept.{wants_now, blocked_now, candidate_now, fills_now, first_perished, first_overdue, overdue_since, first_queued, last_available, pending_count, has_room, held_connection, pending_connection, holder_request, outcome_now, first_unclaimed};
 
-    pub(super) fn first_queued(&self) -> Option<&Request>
-        ensures { option_copied result ≡ first_queued self.now }
+    // The outcome of the request was told, or it gave up or came back.
+    #[tactic(auto, using(crate::proofs::Bodies::found_number))]
+    pub fn is_settled(&self, number: u32) -> bool
+        ensures { result ≡ has number self.now.settled.now }
     {
-        for q in self.requests.as_slice() {
-            if q.is_queued() {
-                return Some(q);
-            }
+        match self.settled.get(number) {
+            Some(_) => true,
+            None => false,
         }
-        None
+    }
+
+    // A claim was told to establish the connection.
+    #[tactic(auto, using(crate::proofs::Bodies::found_number))]
+    pub fn is_claimed(&self, id: u32) -> bool
+        ensures { result ≡ has id self.now.claimed.now }
+    {
+        match self.claimed.get(id) {
+            Some(_) => true,
+            None => false,
+        }
+    }
+
+    pub fn first_queued(&self) -> Option<&Request>
+        ensures { option_copied result ≡ first_queued (now_of self.now) }
+    {
+        self.requests.first_left()
+    }
+
+    #[tactic(auto, using(crate::proofs::Bodies::last_there))]
+    pub fn last_available(&self) -> Option<Connection>
+        ensures { result ≡ last_available (now_of self.now) }
+    {
+        self.connections.last_left().copied()
+    }
+
+    #[tactic(auto, using(crate::proofs::Bodies::listed_length))]
+    pub fn pending_count(&self) -> usize
+        ensures { result ≡ pending_count (now_of self.now) }
+    {
+        self.connections.right().len()
     }
 
     // Warm requests are to get connections: too few are live, and neither the maximum nor the ids stand against one more.
-    pub(super) fn wants_connection(&self) -> bool
-        ensures { result ≡ wants_now self.now }
+    pub fn wants_connection(&self) -> bool
+        ensures { result ≡ wants_now (now_of self.now) }
     {
-        let live = self.connections.as_slice().len();
+        let live = self.connections.len();
         live < self.options.min_pool_size.unwrap_or(0) as usize
             && live < self.options.max_pool_size.unwrap_or(DEFAULT_MAX_POOL_SIZE) as usize
-            && self.created < self.options.limit_id
-    }
-
-    // Nothing but the number of pending connections hinders warm requests.
-    fn is_blocked(&self) -> bool
-        ensures { result ≡ blocked_now self.now }
-    {
-        self.wants_connection() && !self.may_connect()
-    }
-
-    // The first of the queued requests that is no blocked warm one.
-    pub(super) fn candidate(&self) -> Option<&Request>
-        ensures { option_copied result ≡ candidate_now self.now }
-    {
-        let blocked = self.is_blocked();
-        for q in self.requests.as_slice() {
-            if q.is_queued() && !(q.warm && blocked) {
-                return Some(q);
-            }
-        }
-        None
-    }
-
-    // Maintenance may create a connection.
-    pub(super) fn wants_filling(&self) -> bool
-        ensures { result ≡ fills_now self.now }
-    {
-        self.status.is_ready()
-            && self.connections.as_slice().len() < self.options.min_pool_size.unwrap_or(0) as usize
-            && self.may_connect()
-            && self.created < self.options.limit_id
-    }
-
-    // The available connection that came back first among those that have perished.
-    pub(super) fn first_perished(&self, moment: Moment) -> Option<Connection>
-        ensures { result ≡ first_perished self.now moment }
-    {
-        for x in self.connections.as_slice() {
-            if x.is_available() && self.perished(moment, *x).is_some() {
-                return Some(*x);
-            }
-        }
-        None
-    }
-
-    pub(super) fn last_available(&self) -> Option<Connection>
-        ensures { result ≡ last_available self.now }
-    {
-        let mut last = None;
-        for x in self.connections.as_slice() {
-            if x.is_available() {
-                last = Some(*x);
-            }
-        }
-        last
-    }
-
-    pub(super) fn pending_count(&self) -> usize
-        ensures { result ≡ pending_count self.now }
-    {
-        self.connections
-            .as_slice()
-            .iter()
-            .filter(|x| matches!(x.place, Place::Pending))
-            .count()
+            && *self.created.get() < self.options.limit_id
     }
 
     // One more connection may be pending.
-    fn may_connect(&self) -> bool
-        ensures { result ≡ nat_lt (pending_count self.now) (max_connecting self.now.options) }
+    pub fn may_connect(&self) -> bool
+        ensures { result ≡ nat_lt (pending_count (now_of self.now)) (max_connecting self.now.options) }
     {
         self.pending_count() < self.options.max_connecting.unwrap_or(2) as usize
     }
 
     // A connection may be created for a caller.
-    pub(super) fn has_room(&self) -> bool
-        ensures { result ≡ has_room self.now }
+    pub fn has_room(&self) -> bool
+        ensures { result ≡ has_room (now_of self.now) }
     {
-        self.created < self.options.limit_id
-            && self.connections.as_slice().len()
+        *self.created.get() < self.options.limit_id
+            && self.connections.len()
                 < self.options.max_pool_size.unwrap_or(DEFAULT_MAX_POOL_SIZE) as usize
             && self.may_connect()
     }
 
+    // Nothing but the number of pending connections hinders warm requests.
+    pub fn is_blocked(&self) -> bool
+        ensures { result ≡ blocked_now (now_of self.now) }
+    {
+        self.wants_connection() && !self.may_connect()
+    }
+
+    // The first of the queued requests that is no blocked warm one.
+    #[tactic(auto, using(crate::proofs::Bodies::candidate_blocked, crate::proofs::Bodies::candidate_free))]
+    pub fn candidate(&self) -> Option<&Request>
+        ensures { option_copied result ≡ candidate_now (now_of self.now) }
+    {
+        if self.is_blocked() {
+            return self.requests.first_right();
+        }
+        self.requests.first_left()
+    }
+
+    // Maintenance may create a connection.
+    pub fn wants_filling(&self) -> bool
+        ensures { result ≡ fills_now (now_of self.now) }
+    {
+        self.status.get().is_ready()
+            && self.connections.len() < self.options.min_pool_size.unwrap_or(0) as usize
+            && self.may_connect()
+            && *self.created.get() < self.options.limit_id
+    }
+
     // The connection that the party holds.
-    pub(super) fn held_connection(&self, party: u32) -> Option<Connection>
-        ensures { result ≡ held_connection self.now party }
+    pub fn held_connection(&self, party: u32) -> Option<Connection>
+        ensures { result ≡ held_connection (now_of self.now) party }
     {
         match self.requests.get(party) {
             Some(request) => match request.phase {
@@ -134,8 +131,8 @@ impl PoolCore {
     }
 
     // The pending connection that the party is given.
-    pub(super) fn pending_connection(&self, party: u32) -> Option<Connection>
-        ensures { result ≡ pending_connection self.now party }
+    pub fn pending_connection(&self, party: u32) -> Option<Connection>
+        ensures { result ≡ pending_connection (now_of self.now) party }
     {
         match self.requests.get(party) {
             Some(request) => match request.phase {
@@ -150,8 +147,8 @@ impl PoolCore {
     }
 
     // The request that will have the connection.
-    pub(super) fn holder_request(&self, connection: Connection) -> Option<&Request>
-        ensures { option_copied result ≡ holder_request self.now connection }
+    pub fn holder_request(&self, connection: Connection) -> Option<&Request>
+        ensures { option_copied result ≡ holder_request (now_of self.now) connection }
     {
         match connection.holder {
             Some(holder) => self.requests.get(holder),
@@ -160,20 +157,46 @@ impl PoolCore {
     }
 
     // The pending connection that came first among those that no claim was told of.
-    pub(super) fn first_unclaimed(&self) -> Option<Connection>
-        ensures { result ≡ first_unclaimed self.now }
+    pub fn first_unclaimed(&self) -> Option<Connection>
+        ensures { result ≡ first_unclaimed (now_of self.now) }
     {
-        for x in self.connections.as_slice() {
-            if x.is_pending() && !self.claimed.contains(x.id) {
+        let mut next = self.connections.first_right();
+        while let Some(x) = next {
+            if !self.is_claimed(x.id) {
                 return Some(*x);
             }
+            next = self.connections.next_right(x.id);
+        }
+        None
+    }
+
+    // A caller that asked then has waited for too long.
+    fn is_overdue(&self, moment: Moment, asked_at: Moment) -> bool
+        ensures { result ≡ overdue_since self.now.options.max_wait moment asked_at }
+    {
+        match self.options.max_wait {
+            None => false,
+            Some(limit) => 0 < limit && limit <= moment.saturating_sub(asked_at),
+        }
+    }
+
+    // The first of the queued callers that have waited for too long.
+    pub fn first_overdue(&self, moment: Moment) -> Option<&Request>
+        ensures { option_copied result ≡ first_overdue (now_of self.now) moment }
+    {
+        let mut next = self.requests.first_right();
+        while let Some(q) = next {
+            if self.is_overdue(moment, q.asked_at) {
+                return Some(q);
+            }
+            next = self.requests.next_right(q.number);
         }
         None
     }
 
     // What the request is told.
-    pub(super) fn outcome(&self, request: u32) -> Result<Reply, AllocError>
-        ensures { IfOk result (λ reply. reply ≡ outcome_now self.now request) }
+    pub fn outcome(&self, request: u32) -> Result<Reply, OutOfMemory>
+        ensures { IfOk result (λ reply. reply ≡ outcome_now (now_of self.now) request) }
     {
         Ok(match self.requests.get(request) {
             Some(request) => match &request.phase {

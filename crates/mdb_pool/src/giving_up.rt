@@ -4,29 +4,19 @@ ghost use Rattle.std.specs.Prelude.{◌≡◌, ◌∷◌, OnOk, OnErr, IfOk, Lis
 
 use super::clears::used_as;
 use super::connection::Connection;
-use super::request::{Phase, Request};
-use super::table::Keyed;
-use super::{Act, PoolCore, Reply, Step, Use};
+use super::draft::{Base, Draft};
+use super::pool_core::PoolCore;
+use super::request::Request;
+use super::{Act, Reply, Step, Use};
 use mdb_base::{Moment, OutOfMemory};
 use mdb_events::Fact;
-use std::alloc::{AllocError, Global};
+use std::alloc::Global;
 
-impl PoolCore {
+impl<K: Base> Draft<K> {
     ghost use Rattle.mdb_pool.specs.Kept.{request_at, is_ended_at, is_asked_at, held_connection};
     ghost use Rattle.mdb_pool.specs.Standing.{SameHome, Fits, Accepts, StandsFor, Answers};
-    ghost use Rattle.mdb_pool.specs.Parts.{Passes};
     ghost use Rattle.mdb_log.specs.History.{Item, PoolItem, gave_up};
     ghost use Rattle.mdb_log.specs.declared.step.Act.TheVariants.{GiveUp};
-
-    // The request ended in another way.
-    fn is_ended(&self, request: u32) -> bool
-        ensures { result ≡ is_ended_at (request_at self.now request) }
-    {
-        match self.requests.get(request) {
-            Some(request) => matches!(request.phase, Phase::Ended(_)),
-            None => false,
-        }
-    }
 
     // An ended request is told how it ended.
     fn give_up_late(
@@ -35,15 +25,15 @@ impl PoolCore {
         facts: &mut Vec<Fact>,
         moment: Moment,
         request: u32,
-    ) -> Result<Reply, AllocError>
+    ) -> Result<Reply, OutOfMemory>
         requires { is_ended_at (request_at self.old request) ≡ true }
         ensures home { OnOk result (SameHome self.old self.new) }
         ensures last { OnOk result (self.new.last ≡ moment) }
         ensures accepts { IfOk result (λ reply. (xs : List PoolItem) → Fits self.old xs → Accepts self.old self.new facts.old.items facts.new.items moment (GiveUp request) reply xs (gave_up request ∷ xs)) }
     {
         let reply = self.outcome(request)?;
-        self.last = moment;
-        self.settled.push(request)?;
+        self.set_last(moment);
+        self.settle(request)?;
         self.serve(alloc, facts, moment)?;
         Ok(reply)
     }
@@ -56,7 +46,7 @@ impl PoolCore {
         moment: Moment,
         connection: Connection,
         request: Request,
-    ) -> Result<Reply, AllocError>
+    ) -> Result<Reply, OutOfMemory>
         requires held { held_connection self.old request.number ≡ Some connection }
         requires asker { request_at self.old request.number ≡ Some request }
         requires open { is_ended_at (request_at self.old request.number) ≡ false }
@@ -84,7 +74,7 @@ impl PoolCore {
         facts: &mut Vec<Fact>,
         moment: Moment,
         request: u32,
-    ) -> Result<Reply, AllocError>
+    ) -> Result<Reply, OutOfMemory>
         requires { is_asked_at (request_at self.old request) ≡ true }
         ensures home { OnOk result (SameHome self.old self.new) }
         ensures last { OnOk result (self.new.last ≡ moment) }
@@ -94,7 +84,7 @@ impl PoolCore {
             let reply = self.give_up_late(alloc, facts, moment, request)?;
             return Ok(reply);
         }
-        let Some(asker) = self.requests.get(request) else {
+        let Some(asker) = self.request(request) else {
             unreachable!()
         };
         let asker = asker.copy()?;
@@ -111,6 +101,14 @@ impl PoolCore {
         self.serve(alloc, facts, moment)?;
         Ok(Reply::Done)
     }
+}
+
+impl PoolCore {
+    ghost use Rattle.mdb_pool.specs.Kept.{request_at, is_ended_at, is_asked_at, held_connection};
+    ghost use Rattle.mdb_pool.specs.Standing.{SameHome, Fits, Accepts, StandsFor, Answers};
+    ghost use Rattle.mdb_pool.specs.Parts.{Passes};
+    ghost use Rattle.mdb_log.specs.History.{Item, PoolItem, gave_up};
+    ghost use Rattle.mdb_log.specs.declared.step.Act.TheVariants.{GiveUp};
 
     /// The caller of a request no longer wants its connection. Refused as `TimeBack`, or as `UnknownRequest` where the request isn't open. A request
     /// that ended before is told how.

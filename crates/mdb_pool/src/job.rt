@@ -6,8 +6,9 @@ ghost use Rattle.mdb_base.specs.declared.object_id.ObjectId.{ObjectId};
 ghost use Rattle.mdb_pool.specs.Kept.{clears_before};
 ghost use Rattle.mdb_pool.specs.Jobs.{has_id, id_order};
 
+use super::pool_core::PoolCore;
 use super::status::Clear;
-use super::{Job, PoolCore, PoolGeneration, PoolStamp};
+use super::{Job, PoolGeneration, PoolStamp};
 use mdb_base::{Items, ObjectId, OutOfMemory};
 use std::alloc::{AllocError, Global};
 
@@ -74,10 +75,10 @@ impl PoolCore {
     fn generations_before(&self, alloc: Global, id: u32) -> Result<PoolGeneration, AllocError>
         ensures { IfOk result (λ before. (xs : List PoolItem) → Fits self.now xs → has id (pending_list xs) ≡ true → before ≡ generations self.now.options.load_balanced (items_before xs id)) }
     {
-        if !self.options.load_balanced {
+        if !self.body.options.load_balanced {
             return Ok(PoolGeneration::Normal(self.count_at(id, None)));
         }
-        let services = services_before(alloc, self.clears.as_slice(), id)?;
+        let services = services_before(alloc, self.body.clears.as_slice(), id)?;
         let counted = self.counted(alloc, id, services.as_slice())?;
         Ok(PoolGeneration::LoadBalanced(Items::new(counted)))
     }
@@ -93,14 +94,14 @@ impl PoolCore {
         if !self.is_pending(id) {
             return Ok(None);
         }
-        let address = self.address.clone()?;
+        let address = self.body.address.clone()?;
         let generation = self.generations_before(alloc, id)?;
         Ok(Some(Job {
-            pool: self.pool,
+            pool: self.body.pool,
             id,
             address,
             generation: PoolStamp {
-                pool: self.pool,
+                pool: self.body.pool,
                 generation,
             },
         }))
@@ -111,6 +112,6 @@ impl PoolCore {
         ensures kept { result ≡ is_some (first_unclaimed self.now) }
         ensures history { (h : List Item) → StandsFor self.now h → result ≡ list_any (λ c. not (is_claimed h self.now.pool c)) (pending_list (of_pool self.now.pool h)) }
     {
-        self.first_unclaimed().is_some()
+        self.body.first_unclaimed().is_some()
     }
 }

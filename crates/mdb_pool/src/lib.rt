@@ -1,6 +1,7 @@
 //! The core of one pool of connections: what it answers to its steps. Steps, replies and logs are those of `mdb_log`.
 #![tactic(auto)]
 
+mod body;
 mod changes;
 mod claiming;
 mod clearing;
@@ -10,6 +11,8 @@ mod collecting;
 mod coming_back;
 pub mod composing;
 mod connection;
+mod draft;
+mod draft_reads;
 mod establishing;
 mod expiring;
 mod failing;
@@ -21,15 +24,16 @@ pub mod parts;
 mod pinning;
 mod pool_core;
 mod queue;
+mod reading;
 mod readying;
+mod reasons;
 mod refusing;
 mod request;
 mod requesting;
 mod returning;
-mod sequence;
+mod settling;
 mod status;
 mod stepping;
-mod table;
 mod taking;
 mod unpinning;
 mod warming;

@@ -2,14 +2,15 @@
 
 ghost use Rattle.std.specs.Prelude.{◌≡◌, OnOk, OnErr, IfOk, List};
 
-use super::{Act, PoolCore, Reply, Step};
+use super::draft::{Base, Draft};
+use super::pool_core::PoolCore;
+use super::{Act, Reply, Step};
 use mdb_base::{Moment, OutOfMemory, ServerAddress};
 use mdb_events::Fact;
-use std::alloc::{AllocError, Global};
+use std::alloc::Global;
 
-impl PoolCore {
+impl<K: Base> Draft<K> {
     ghost use Rattle.mdb_pool.specs.Standing.{SameHome, SameNotes, Fits, Sweeps, Fills, Accepts, StandsFor, Answers};
-    ghost use Rattle.mdb_pool.specs.Parts.{Passes};
     ghost use Rattle.mdb_log.specs.History.{Item, PoolItem};
     ghost use Rattle.mdb_log.specs.declared.step.Act.TheVariants.{Maintain as MaintainAct};
 
@@ -19,7 +20,7 @@ impl PoolCore {
         alloc: Global,
         facts: &mut Vec<Fact>,
         moment: Moment,
-    ) -> Result<(), AllocError>
+    ) -> Result<(), OutOfMemory>
         ensures home { OnOk result (SameHome self.old self.new) }
         ensures last { OnOk result (self.new.last ≡ self.old.last) }
         ensures notes { OnOk result (SameNotes self.old self.new) }
@@ -40,7 +41,7 @@ impl PoolCore {
         alloc: Global,
         facts: &mut Vec<Fact>,
         moment: Moment,
-    ) -> Result<(), AllocError>
+    ) -> Result<(), OutOfMemory>
         ensures home { OnOk result (SameHome self.old self.new) }
         ensures last { OnOk result (self.new.last ≡ self.old.last) }
         ensures notes { OnOk result (SameNotes self.old self.new) }
@@ -58,17 +59,24 @@ impl PoolCore {
         alloc: Global,
         facts: &mut Vec<Fact>,
         moment: Moment,
-    ) -> Result<Reply, AllocError>
+    ) -> Result<Reply, OutOfMemory>
         ensures home { OnOk result (SameHome self.old self.new) }
         ensures last { OnOk result (self.new.last ≡ moment) }
         ensures accepts { IfOk result (λ reply. (xs : List PoolItem) → Fits self.old xs → Accepts self.old self.new facts.old.items facts.new.items moment (MaintainAct self.old.address) reply xs xs) }
     {
-        self.last = moment;
+        self.set_last(moment);
         self.sweep(alloc, facts, moment)?;
         self.fill(alloc, facts, moment)?;
         self.serve(alloc, facts, moment)?;
         Ok(Reply::Done)
     }
+}
+
+impl PoolCore {
+    ghost use Rattle.mdb_pool.specs.Standing.{SameHome, SameNotes, Fits, Sweeps, Fills, Accepts, StandsFor, Answers};
+    ghost use Rattle.mdb_pool.specs.Parts.{Passes};
+    ghost use Rattle.mdb_log.specs.History.{Item, PoolItem};
+    ghost use Rattle.mdb_log.specs.declared.step.Act.TheVariants.{Maintain as MaintainAct};
 
     /// Available connections that are stale or idle for too long are closed, and connections are created in the background while fewer live than
     /// the minimum and fewer are pending than may be (CMAP, "Background Thread"). Refused as `TimeBack`, or as `UnknownServer` where the pool is
@@ -85,11 +93,10 @@ impl PoolCore {
         ensures err_facts { OnErr result (facts.new.items ≡ facts.old.items) }
         ensures passes { OnErr result (Passes self.old (record { moment = moment; act = MaintainAct self.old.address })) }
     {
-        let row = self.server_refusal(&self.address);
-        if let Some(why) = self.refusal_at(moment, row) {
+        if let Some(why) = self.body.home_refusal(moment) {
             return Ok(Reply::Refused(why));
         }
-        let address = self.address.clone()?;
+        let address = self.body.address.clone()?;
         let step = Step {
             moment,
             act: Act::Maintain(address),

@@ -1,48 +1,38 @@
 //! A party pins its connection, and a pinned connection gets one more pin.
 
-ghost use Rattle.std.specs.Prelude.{◌≡◌, ◌∷◌, OnOk, OnErr, IfOk, List, true, is_some, nat_lt};
+ghost use Rattle.std.specs.Prelude.{◌≡◌, ◌∷◌, OnOk, OnErr, IfOk, List, true, Some, is_some, nat_lt};
 
 use super::connection::Connection;
-use super::{Act, PoolCore, Reply, Step};
+use super::draft::{Base, Draft};
+use super::pool_core::PoolCore;
+use super::{Act, Reply, Step};
 use mdb_base::{Moment, OutOfMemory};
 use mdb_events::Fact;
-use std::alloc::{AllocError, Global};
+use std::alloc::Global;
 
-impl PoolCore {
+impl<K: Base> Draft<K> {
     ghost use Rattle.mdb_pool.specs.Changes.{pinning};
     ghost use Rattle.mdb_pool.specs.Kept.{held_connection, connection_at, pins_at};
     ghost use Rattle.mdb_pool.specs.Standing.{SameHome, Fits, Accepts, StandsFor, Answers};
-    ghost use Rattle.mdb_pool.specs.Parts.{Passes};
-    ghost use Rattle.mdb_log.specs.Connections.{pins};
-    ghost use Rattle.mdb_log.specs.History.{Item, PoolItem, of_pool, pinned_by, replicated};
+    ghost use Rattle.mdb_log.specs.History.{PoolItem, pinned_by, replicated};
     ghost use Rattle.mdb_log.specs.declared.step.Act.TheVariants.{Pin, Replicate};
 
-    /// The connection is one of this pool and has a pin.
-    pub fn has_pin(&self, id: u32) -> bool
-        ensures kept { result ≡ nat_lt 0 (pins_at (connection_at self.now id)) }
-        ensures history { (h : List Item) → StandsFor self.now h → result ≡ nat_lt 0 (pins (of_pool self.now.pool h) id) }
-    {
-        match self.connections.get(id) {
-            Some(connection) => 0 < connection.pins,
-            None => false,
-        }
-    }
-
     // One more pin. Past the greatest number of the type there is no room for it.
+    #[tactic(auto, using(crate::proofs::Bodies::stays_same))]
     fn add_pin(
         &mut self,
         alloc: Global,
         moment: Moment,
         connection: Connection,
-    ) -> Result<(), AllocError>
+    ) -> Result<(), OutOfMemory>
+        requires { connection_at self.old connection.id ≡ Some connection }
         ensures { OnOk result (self.new ≡ pinning self.old moment connection) }
     {
         let Some(pins) = connection.pins.checked_add(1) else {
-            return Err(AllocError);
+            return Err(OutOfMemory);
         };
-        self.last = moment;
-        self.connections
-            .replace(alloc, &Connection { pins, ..connection })?;
+        self.set_last(moment);
+        self.replace_connection(alloc, Connection { pins, ..connection })?;
         Ok(())
     }
 
@@ -53,7 +43,7 @@ impl PoolCore {
         facts: &mut Vec<Fact>,
         moment: Moment,
         party: u32,
-    ) -> Result<Reply, AllocError>
+    ) -> Result<Reply, OutOfMemory>
         requires { is_some (held_connection self.old party) ≡ true }
         ensures home { OnOk result (SameHome self.old self.new) }
         ensures last { OnOk result (self.new.last ≡ moment) }
@@ -66,6 +56,37 @@ impl PoolCore {
         self.serve(alloc, facts, moment)?;
         Ok(Reply::Done)
     }
+
+    // A pinned connection gets one more pin. Whoever calls has tested the refusals.
+    pub(super) fn accept_replicate(
+        &mut self,
+        alloc: Global,
+        facts: &mut Vec<Fact>,
+        moment: Moment,
+        id: u32,
+    ) -> Result<Reply, OutOfMemory>
+        requires { nat_lt 0 (pins_at (connection_at self.old id)) ≡ true }
+        ensures home { OnOk result (SameHome self.old self.new) }
+        ensures last { OnOk result (self.new.last ≡ moment) }
+        ensures accepts { IfOk result (λ reply. (xs : List PoolItem) → Fits self.old xs → Accepts self.old self.new facts.old.items facts.new.items moment (Replicate self.old.pool id) reply xs (replicated id ∷ xs)) }
+    {
+        let Some(connection) = self.connection(id).copied() else {
+            unreachable!()
+        };
+        self.add_pin(alloc, moment, connection)?;
+        self.serve(alloc, facts, moment)?;
+        Ok(Reply::Done)
+    }
+}
+
+impl PoolCore {
+    ghost use Rattle.mdb_pool.specs.Changes.{pinning};
+    ghost use Rattle.mdb_pool.specs.Kept.{held_connection, connection_at, pins_at};
+    ghost use Rattle.mdb_pool.specs.Standing.{SameHome, Fits, Accepts, StandsFor, Answers};
+    ghost use Rattle.mdb_pool.specs.Parts.{Passes};
+    ghost use Rattle.mdb_log.specs.Connections.{pins};
+    ghost use Rattle.mdb_log.specs.History.{Item, PoolItem, of_pool, pinned_by, replicated};
+    ghost use Rattle.mdb_log.specs.declared.step.Act.TheVariants.{Pin, Replicate};
 
     /// A party pins its connection: while a pin stands, a return puts the connection at its pin. Refused as `TimeBack`, as `NotHolder` where the
     /// party holds none, or as `PinState` where a pin stands.
@@ -91,27 +112,6 @@ impl PoolCore {
         answer
     }
 
-    // A pinned connection gets one more pin. Whoever calls has tested the refusals.
-    pub(super) fn accept_replicate(
-        &mut self,
-        alloc: Global,
-        facts: &mut Vec<Fact>,
-        moment: Moment,
-        id: u32,
-    ) -> Result<Reply, AllocError>
-        requires { nat_lt 0 (pins_at (connection_at self.old id)) ≡ true }
-        ensures home { OnOk result (SameHome self.old self.new) }
-        ensures last { OnOk result (self.new.last ≡ moment) }
-        ensures accepts { IfOk result (λ reply. (xs : List PoolItem) → Fits self.old xs → Accepts self.old self.new facts.old.items facts.new.items moment (Replicate self.old.pool id) reply xs (replicated id ∷ xs)) }
-    {
-        let Some(connection) = self.connections.get(id).copied() else {
-            unreachable!()
-        };
-        self.add_pin(alloc, moment, connection)?;
-        self.serve(alloc, facts, moment)?;
-        Ok(Reply::Done)
-    }
-
     /// A pinned connection gets one more pin. Refused as `TimeBack`, or as `Unpinned` where no pin stands.
     pub fn replicate(
         &mut self,
@@ -128,7 +128,7 @@ impl PoolCore {
     {
         let step = Step {
             moment,
-            act: Act::Replicate(self.pool, id),
+            act: Act::Replicate(self.body.pool, id),
         };
         let answer = self.attempt(alloc, facts, &step);
         drop(step);

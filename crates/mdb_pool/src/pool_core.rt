@@ -1,41 +1,43 @@
 //! The core of one pool.
 
-ghost use Rattle.std.specs.Prelude.{◌≡◌, IfOk, true, is_some, option_copied, None, List, if◌then◌else◌};
+ghost use Rattle.std.specs.Prelude.{◌≡◌, IfOk, true, is_some, nat_lt, option_copied, None, List, if◌then◌else◌};
 
-use super::connection::Connection;
-use super::request::Request;
-use super::sequence::Sequence;
-use super::status::{Clear, Status};
-use super::table::Table;
+use super::body::Body;
+use super::status::Status;
 use super::{PoolOptions, PoolState};
-use mdb_base::{Error, Moment, ServerAddress};
-use std::alloc::{AllocError, Global};
+use mdb_base::{Error, ServerAddress};
+use mdb_slots::{Sides, SlotTable, Table, Turned, TurnedOne};
+use std::alloc::Global;
+use std::marker::Model;
 
-/// The connections and the requests of one server's pool. Steps are taken one at a time by `step`, or by the call of an act; either leaves the
-/// pool as it was where there is no memory.
+/// The connections and the requests of one server's pool. Steps are taken one at a time by `step`, or by the call of an act, in place; either leaves
+/// the pool as it was where there is no memory. In clauses `inner` is what it is read from, which tells the plans that it can follow.
 #[derive(Drop)]
 pub struct PoolCore {
-    pub(super) pool: u32,
-    pub(super) address: ServerAddress,
-    pub(super) options: PoolOptions,
-    pub(super) last: Moment,
-    pub(super) created: u32,
-    pub(super) connections: Table<Connection>,
-    pub(super) requests: Table<Request>,
-    pub(super) status: Status,
-    pub(super) clears: Sequence<Clear>,
-    // The requests whose outcome was told, or that gave up or came back.
-    pub(super) settled: Sequence<u32>,
-    // The connections that a claim was told to establish.
-    pub(super) claimed: Sequence<u32>,
+    pub(super) body: Body,
+}
+
+impl Model for PoolCore {
+    ghost use Rattle.std.specs.Prelude.{◌≡◌};
+    ghost use Rattle.mdb_pool.specs.Body.{now_of, inner_of, pool_of};
+    ghost use Rattle.mdb_pool.specs.Core.{PoolCore};
+
+    ghost Value = { PoolCore };
+
+    ghost view = { λ p. now_of p.body };
+
+    ghost invariant = { λ p. now_of p.body ≡ pool_of (inner_of p.body) };
 }
 
 impl PoolCore {
-    ghost use Rattle.mdb_pool.specs.Kept.{held_connection, request_at, connection_at, is_pending_at, is_open_now, is_asked_at, id_at, wire_at, name_of, cause_of, state_in};
-    ghost use Rattle.mdb_log.specs.Connections.{has, is_live, pending_list, holding, wire_of};
+    ghost use Rattle.mdb_pool.specs.Kept.{held_connection, request_at, connection_at, is_pending_at, is_open_now, is_asked_at, is_held_at, pins_at, id_at, wire_at, name_of, cause_of, state_in};
+    ghost use Rattle.mdb_log.specs.Connections.{has, held, pins, is_live, pending_list, holding, wire_of};
     ghost use Rattle.mdb_log.specs.Requests.{is_open};
     ghost use Rattle.mdb_log.specs.State.{state_of};
     ghost use Rattle.mdb_pool.specs.Standing.{StandsFor};
+    ghost use Rattle.mdb_pool.specs.Available.{available_records};
+    ghost use Rattle.mdb_slots.specs.Items.{records_of};
+    ghost use Rattle.mdb_slots.specs.Slots.{listing};
     ghost use Rattle.mdb_log.specs.Legal.{NoneLeftWaiting};
     ghost use Rattle.mdb_log.specs.Limits.{WithinLimits};
     ghost use Rattle.mdb_log.specs.History.{Item, has_asked, has_party, of_pool, opening};
@@ -49,19 +51,20 @@ impl PoolCore {
         ensures address { result.address ≡ address }
         ensures options { result.options ≡ options }
     {
-        let status = Status::at_first(options.load_balanced);
         PoolCore {
-            pool,
-            address,
-            options,
-            last: 0,
-            created: 0,
-            connections: Table::new(alloc),
-            requests: Table::new(alloc),
-            status,
-            clears: Sequence::new(alloc),
-            settled: Sequence::new(alloc),
-            claimed: Sequence::new(alloc),
+            body: Body {
+                pool,
+                address,
+                options,
+                last: TurnedOne::new(0),
+                created: TurnedOne::new(0),
+                connections: Sides::new(alloc),
+                requests: Sides::new(alloc),
+                status: TurnedOne::new(Status::at_first(options.load_balanced)),
+                clears: Turned::new(alloc),
+                settled: Table::new(alloc),
+                claimed: Table::new(alloc),
+            },
         }
     }
 
@@ -69,14 +72,14 @@ impl PoolCore {
     pub fn number(&self) -> u32
         ensures { result ≡ self.now.pool }
     {
-        self.pool
+        self.body.pool
     }
 
     /// The address that the pool serves.
     pub fn address(&self) -> &ServerAddress
         ensures { result.now ≡ self.now.address }
     {
-        &self.address
+        &self.body.address
     }
 
     /// Whether the pool may be used.
@@ -84,7 +87,7 @@ impl PoolCore {
         ensures kept { result ≡ name_of (state_in self.now.status) }
         ensures history { (h : List Item) → StandsFor self.now h → result ≡ name_of (state_of self.now.options (of_pool self.now.pool h)) }
     {
-        match &self.status {
+        match self.body.status.get() {
             Status::New => PoolState::New,
             Status::Ready => PoolState::Ready,
             Status::Paused(_) => PoolState::Paused,
@@ -97,7 +100,7 @@ impl PoolCore {
         ensures kept { option_copied result ≡ cause_of (state_in self.now.status) }
         ensures history { (h : List Item) → StandsFor self.now h → option_copied result ≡ cause_of (state_of self.now.options (of_pool self.now.pool h)) }
     {
-        match &self.status {
+        match self.body.status.get() {
             Status::Paused(cause) => Some(cause),
             _ => None,
         }
@@ -108,7 +111,7 @@ impl PoolCore {
         ensures kept { result ≡ id_at (held_connection self.now party) }
         ensures history { (h : List Item) → StandsFor self.now h → result ≡ holding (of_pool self.now.pool h) party }
     {
-        match self.held_connection(party) {
+        match self.body.held_connection(party) {
             Some(connection) => Some(connection.id),
             None => None,
         }
@@ -119,7 +122,7 @@ impl PoolCore {
         ensures kept { result ≡ is_some (request_at self.now party) }
         ensures history { (h : List Item) → StandsFor self.now h → result ≡ has_party (of_pool self.now.pool h) party }
     {
-        self.requests.get(party).is_some()
+        self.body.knows(party)
     }
 
     /// The party holds a connection of this pool.
@@ -127,7 +130,7 @@ impl PoolCore {
         ensures kept { result ≡ is_some (held_connection self.now party) }
         ensures history { (h : List Item) → StandsFor self.now h → result ≡ is_some (holding (of_pool self.now.pool h) party) }
     {
-        self.held_connection(party).is_some()
+        self.body.holds(party)
     }
 
     /// The party asked this pool for a connection, and did not take a pinned one.
@@ -135,10 +138,7 @@ impl PoolCore {
         ensures kept { result ≡ is_asked_at (request_at self.now party) }
         ensures history { (h : List Item) → StandsFor self.now h → result ≡ has_asked (of_pool self.now.pool h) party }
     {
-        match self.requests.get(party) {
-            Some(request) => !request.took,
-            None => false,
-        }
+        self.body.has_asked(party)
     }
 
     /// The request was made at this pool, its outcome was not told yet, and its caller neither gave up nor returned the connection.
@@ -146,7 +146,14 @@ impl PoolCore {
         ensures kept { result ≡ is_open_now self.now request }
         ensures history { (h : List Item) → StandsFor self.now h → result ≡ is_open h request }
     {
-        self.has_asked(request) && !self.settled.contains(request)
+        self.body.is_open(request)
+    }
+
+    /// The connections that nobody has, in the order in which they became available, each with its service and the moment since then. It takes no memory.
+    pub fn available(&self) -> &SlotTable
+        ensures { (h : List Item) → StandsFor self.now h → records_of (listing result.now).items ≡ available_records (of_pool self.now.pool h) }
+    {
+        self.body.connections.left_slots()
     }
 
     /// The connection isn't established yet.
@@ -154,10 +161,23 @@ impl PoolCore {
         ensures kept { result ≡ is_pending_at (connection_at self.now id) }
         ensures history { (h : List Item) → StandsFor self.now h → result ≡ has id (pending_list (of_pool self.now.pool h)) }
     {
-        match self.connections.get(id) {
-            Some(connection) => connection.is_pending(),
-            None => false,
-        }
+        self.body.is_pending(id)
+    }
+
+    /// The connection is one of this pool, and a party has it since it was established.
+    pub fn is_held(&self, id: u32) -> bool
+        ensures kept { result ≡ is_held_at (connection_at self.now id) }
+        ensures history { (h : List Item) → StandsFor self.now h → result ≡ nat_lt 0 (held (of_pool self.now.pool h) id) }
+    {
+        self.body.is_held(id)
+    }
+
+    /// The connection is one of this pool and has a pin.
+    pub fn has_pin(&self, id: u32) -> bool
+        ensures kept { result ≡ nat_lt 0 (pins_at (connection_at self.now id)) }
+        ensures history { (h : List Item) → StandsFor self.now h → result ≡ nat_lt 0 (pins (of_pool self.now.pool h) id) }
+    {
+        self.body.has_pin(id)
     }
 
     /// The wire version that the connection was established with, `None` where it was not, or isn't live.
@@ -165,35 +185,9 @@ impl PoolCore {
         ensures kept { result ≡ wire_at (connection_at self.now id) }
         ensures history { (h : List Item) → StandsFor self.now h → result ≡ if is_live (of_pool self.now.pool h) id then wire_of (of_pool self.now.pool h) id else None }
     {
-        match self.connections.get(id) {
+        match self.body.connections.get(id) {
             Some(connection) => connection.wire,
             None => None,
         }
-    }
-
-    /// A copy to work on.
-    pub fn copy(&self, alloc: Global) -> Result<PoolCore, AllocError>
-        ensures { IfOk result (λ copy. copy ≡ self.now) }
-    {
-        let address = self.address.clone()?;
-        let connections = self.connections.copy(alloc)?;
-        let requests = self.requests.copy(alloc)?;
-        let status = self.status.copy()?;
-        let clears = self.clears.copy(alloc)?;
-        let settled = self.settled.copy(alloc)?;
-        let claimed = self.claimed.copy(alloc)?;
-        Ok(PoolCore {
-            pool: self.pool,
-            address,
-            options: self.options,
-            last: self.last,
-            created: self.created,
-            connections,
-            requests,
-            status,
-            clears,
-            settled,
-            claimed,
-        })
     }
 }

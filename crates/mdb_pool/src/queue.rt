@@ -2,15 +2,14 @@
 
 ghost use Rattle.std.specs.Prelude.{◌≡◌, ◌++◌, OnOk, List};
 
-use super::PoolCore;
 use super::connection::Connection;
+use super::draft::{Base, Draft};
 use super::request::Request;
-use super::table::Keyed;
-use mdb_base::Moment;
+use mdb_base::{Moment, OutOfMemory};
 use mdb_events::{End, Fact};
-use std::alloc::{AllocError, Global};
+use std::alloc::Global;
 
-impl PoolCore {
+impl<K: Base> Draft<K> {
     ghost use Rattle.mdb_pool.specs.Standing.{SameHome, SameNotes, Fits, Serves};
     ghost use Rattle.mdb_log.specs.History.{PoolItem};
     ghost use Rattle.mdb_pool.specs.Changes.{meeting, meeting_facts, warming, warming_facts};
@@ -23,7 +22,7 @@ impl PoolCore {
         moment: Moment,
         connection: Connection,
         request: Request,
-    ) -> Result<(), AllocError>
+    ) -> Result<(), OutOfMemory>
         ensures core { OnOk result (self.new ≡ meeting self.old moment connection request) }
         ensures facts { OnOk result (facts.new.items ≡ facts.old.items ++ meeting_facts self.old moment connection request) }
     {
@@ -41,7 +40,7 @@ impl PoolCore {
         facts: &mut Vec<Fact>,
         moment: Moment,
         request: Request,
-    ) -> Result<(), AllocError>
+    ) -> Result<(), OutOfMemory>
         ensures core { OnOk result (self.new ≡ warming self.old moment request) }
         ensures facts { OnOk result (facts.new.items ≡ facts.old.items ++ warming_facts self.old request) }
     {
@@ -58,13 +57,13 @@ impl PoolCore {
         alloc: Global,
         facts: &mut Vec<Fact>,
         moment: Moment,
-    ) -> Result<(), AllocError>
+    ) -> Result<(), OutOfMemory>
         ensures home { OnOk result (SameHome self.old self.new) }
         ensures last { OnOk result (self.new.last ≡ self.old.last) }
         ensures notes { OnOk result (SameNotes self.old self.new) }
         ensures serves { OnOk result ((xs : List PoolItem) → Fits self.old xs → Serves self.old self.new moment facts.old.items facts.new.items xs) }
     {
-        if !self.status.is_ready() {
+        if !self.status().is_ready() {
             return Ok(());
         }
         while let Some(request) = self.candidate() {

@@ -2,31 +2,35 @@
 
 ghost use Rattle.std.specs.Prelude.{◌≡◌, ◌++◌, ◌∷◌, [], OnOk, OnErr, IfOk, List};
 
+use super::draft::{Base, Draft};
+use super::pool_core::PoolCore;
 use super::status::Status;
-use super::{Act, PoolCore, Reply, Step};
+use super::{Act, Reply, Step};
 use mdb_base::{Moment, OutOfMemory};
 use mdb_events::{CmapEvent, Fact, PoolReadyEvent};
-use std::alloc::{AllocError, Global};
+use std::alloc::Global;
 
-impl PoolCore {
+impl<K: Base> Draft<K> {
     ghost use Rattle.mdb_pool.specs.Changes.{readied_to, readied_facts};
     ghost use Rattle.mdb_pool.specs.Standing.{SameHome, Fits, Accepts, StandsFor, Answers};
-    ghost use Rattle.mdb_pool.specs.Parts.{Passes};
     ghost use Rattle.mdb_log.specs.History.{Item, PoolItem};
     ghost use Rattle.mdb_log.specs.declared.step.Act.TheVariants.{Ready as ReadyAct};
 
     // A pool that is new or paused becomes ready.
-    fn make_ready(&mut self, facts: &mut Vec<Fact>, moment: Moment) -> Result<(), AllocError>
+    fn make_ready(&mut self, facts: &mut Vec<Fact>, moment: Moment) -> Result<(), OutOfMemory>
         ensures core { OnOk result (self.new ≡ readied_to self.old moment) }
         ensures facts { OnOk result (facts.new.items ≡ facts.old.items ++ readied_facts self.old) }
     {
-        self.last = moment;
-        if self.status.is_ready() || self.status.is_closed() {
+        self.set_last(moment);
+        if self.status().is_ready() || self.status().is_closed() {
             return Ok(());
         }
-        let address = self.address.clone()?;
-        facts.push(Fact::Pool(self.pool, CmapEvent::PoolReady(PoolReadyEvent { address })))?;
-        self.status = Status::Ready;
+        let address = self.address().clone()?;
+        facts.push(Fact::Pool(
+            self.number(),
+            CmapEvent::PoolReady(PoolReadyEvent { address }),
+        ))?;
+        self.set_status(Status::Ready);
         Ok(())
     }
 
@@ -37,7 +41,7 @@ impl PoolCore {
         facts: &mut Vec<Fact>,
         moment: Moment,
         pool: u32,
-    ) -> Result<Reply, AllocError>
+    ) -> Result<Reply, OutOfMemory>
         ensures home { OnOk result (SameHome self.old self.new) }
         ensures last { OnOk result (self.new.last ≡ moment) }
         ensures accepts { IfOk result (λ reply. (xs : List PoolItem) → Fits self.old xs → Accepts self.old self.new facts.old.items facts.new.items moment (ReadyAct pool) reply xs xs) }
@@ -46,6 +50,14 @@ impl PoolCore {
         self.serve(alloc, facts, moment)?;
         Ok(Reply::Done)
     }
+}
+
+impl PoolCore {
+    ghost use Rattle.mdb_pool.specs.Changes.{readied_to, readied_facts};
+    ghost use Rattle.mdb_pool.specs.Standing.{SameHome, Fits, Accepts, StandsFor, Answers};
+    ghost use Rattle.mdb_pool.specs.Parts.{Passes};
+    ghost use Rattle.mdb_log.specs.History.{Item, PoolItem};
+    ghost use Rattle.mdb_log.specs.declared.step.Act.TheVariants.{Ready as ReadyAct};
 
     /// The pool may be used from now on (CMAP, "Marking a Connection Pool as Ready"). A ready one stays ready, a closed one closed. Refused as
     /// `TimeBack`.
@@ -63,7 +75,7 @@ impl PoolCore {
     {
         let step = Step {
             moment,
-            act: Act::Ready(self.pool),
+            act: Act::Ready(self.body.pool),
         };
         let answer = self.attempt(alloc, facts, &step);
         drop(step);

@@ -1,16 +1,17 @@
-//! When a pool refuses a step. Refusals are tested before all else, and take no memory.
+//! When a pool with these parts refuses a step. Refusals are tested before all else, and take no memory.
 
-ghost use Rattle.std.specs.Prelude.{◌≡◌, ℕ, List, Some, nat_lt, if◌then◌else◌};
+ghost use Rattle.std.specs.Prelude.{◌≡◌, ℕ, Some, nat_lt, if◌then◌else◌, List};
+ghost use Rattle.mdb_pool.specs.Body.{now_of};
 
-use super::{Act, Established, FailedAt, PoolCore, Refused, Step, What};
+use super::body::Body;
+use super::pool_core::PoolCore;
+use super::{Act, Established, FailedAt, Refused, Step, What};
 use mdb_base::{Moment, ObjectId, ServerAddress};
 
-impl PoolCore {
-    ghost use Rattle.mdb_pool.specs.Refusal.{first_row, wrong_service, refusal_of};
+impl Body {
+    ghost use Rattle.mdb_pool.specs.Refusal.{first_row, wrong_service};
     ghost use Rattle.mdb_pool.specs.Refusing.{is_here, is_pending_here, is_pinned_here, rows_now, refusal_now};
-    ghost use Rattle.mdb_pool.specs.Standing.{StandsFor};
     ghost use Rattle.mdb_log.specs.Acts.{IsPoolAct};
-    ghost use Rattle.mdb_log.specs.History.{Item};
     ghost use Rattle.mdb_base.specs.declared.error.Error.{Error};
     ghost use Rattle.mdb_log.specs.declared.step.Use.{Use};
     ghost use Rattle.mdb_log.specs.declared.reply.Refused.TheVariants.{TimeBack};
@@ -18,21 +19,21 @@ impl PoolCore {
 
     // The pool is open, and this is its address.
     fn is_here(&self, address: &ServerAddress) -> bool
-        ensures { result ≡ is_here self.now address.now }
+        ensures { result ≡ is_here (now_of self.now) address.now }
     {
-        self.address.is(address) && !self.status.is_closed()
+        self.address.is(address) && !self.status.get().is_closed()
     }
 
     // The connection is one of this pool, and pending.
     fn is_pending_here(&self, pool: u32, id: u32) -> bool
-        ensures { result ≡ is_pending_here self.now pool id }
+        ensures { result ≡ is_pending_here (now_of self.now) pool id }
     {
         pool == self.pool && self.is_pending(id)
     }
 
     // The connection is one of this pool, and has a pin.
     fn is_pinned_here(&self, pool: u32, id: u32) -> bool
-        ensures { result ≡ is_pinned_here self.now pool id }
+        ensures { result ≡ is_pinned_here (now_of self.now) pool id }
     {
         pool == self.pool && self.has_pin(id)
     }
@@ -48,7 +49,7 @@ impl PoolCore {
     }
 
     pub(super) fn request_refusal(&self, request: u32, address: &ServerAddress) -> Option<Refused>
-        ensures { result ≡ first_row (rows_now self.now (Request request address.now)) }
+        ensures { result ≡ first_row (rows_now (now_of self.now) (Request request address.now)) }
     {
         if !self.is_here(address) {
             return Some(Refused::UnknownServer);
@@ -60,7 +61,7 @@ impl PoolCore {
     }
 
     pub(super) fn server_refusal(&self, address: &ServerAddress) -> Option<Refused>
-        ensures { result ≡ first_row (rows_now self.now (Maintain address.now)) }
+        ensures { result ≡ first_row (rows_now (now_of self.now) (Maintain address.now)) }
     {
         if !self.is_here(address) {
             return Some(Refused::UnknownServer);
@@ -69,7 +70,7 @@ impl PoolCore {
     }
 
     fn open_refusal(&self, request: u32) -> Option<Refused>
-        ensures { result ≡ first_row (rows_now self.now (Collect request)) }
+        ensures { result ≡ first_row (rows_now (now_of self.now) (Collect request)) }
     {
         if !self.is_open(request) {
             return Some(Refused::UnknownRequest);
@@ -78,7 +79,7 @@ impl PoolCore {
     }
 
     fn established_refusal(&self, pool: u32, id: u32, made: Established) -> Option<Refused>
-        ensures { result ≡ first_row (rows_now self.now (EstablishedAct pool id made)) }
+        ensures { result ≡ first_row (rows_now (now_of self.now) (EstablishedAct pool id made)) }
     {
         if !self.is_pending_here(pool, id) {
             return Some(Refused::NotPending);
@@ -91,7 +92,7 @@ impl PoolCore {
 
     // A pool that is not load balanced is told of no service.
     fn failed_refusal(&self, pool: u32, id: u32, at: FailedAt) -> Option<Refused>
-        ensures { (error : Error) → result ≡ first_row (rows_now self.now (FailedAct pool id at error)) }
+        ensures { (error : Error) → result ≡ first_row (rows_now (now_of self.now) (FailedAct pool id at error)) }
     {
         if !self.is_pending_here(pool, id) {
             return Some(Refused::NotPending);
@@ -103,7 +104,7 @@ impl PoolCore {
     }
 
     fn holder_refusal(&self, party: u32) -> Option<Refused>
-        ensures { (used : Use) → result ≡ first_row (rows_now self.now (Return party used)) }
+        ensures { (used : Use) → result ≡ first_row (rows_now (now_of self.now) (Return party used)) }
     {
         if !self.holds(party) {
             return Some(Refused::NotHolder);
@@ -112,7 +113,7 @@ impl PoolCore {
     }
 
     fn pin_refusal(&self, party: u32) -> Option<Refused>
-        ensures { result ≡ first_row (rows_now self.now (Pin party)) }
+        ensures { result ≡ first_row (rows_now (now_of self.now) (Pin party)) }
     {
         let Some(connection) = self.held_connection(party) else {
             return Some(Refused::NotHolder);
@@ -124,7 +125,7 @@ impl PoolCore {
     }
 
     fn pinned_refusal(&self, pool: u32, id: u32) -> Option<Refused>
-        ensures { result ≡ first_row (rows_now self.now (Replicate pool id)) }
+        ensures { result ≡ first_row (rows_now (now_of self.now) (Replicate pool id)) }
     {
         if !self.is_pinned_here(pool, id) {
             return Some(Refused::Unpinned);
@@ -133,7 +134,7 @@ impl PoolCore {
     }
 
     fn take_refusal(&self, party: u32, pool: u32, id: u32) -> Option<Refused>
-        ensures { result ≡ first_row (rows_now self.now (Take party pool id)) }
+        ensures { result ≡ first_row (rows_now (now_of self.now) (Take party pool id)) }
     {
         if self.knows(party) {
             return Some(Refused::RequestKnown);
@@ -148,7 +149,7 @@ impl PoolCore {
     }
 
     fn clear_refusal(&self, service: Option<ObjectId>) -> Option<Refused>
-        ensures { (pool : ℕ) (error : Error) → result ≡ first_row (rows_now self.now (Clear pool service error)) }
+        ensures { (pool : ℕ) (error : Error) → result ≡ first_row (rows_now (now_of self.now) (Clear pool service error)) }
     {
         if self.is_wrong_service(service) {
             return Some(Refused::WrongMode);
@@ -161,7 +162,7 @@ impl PoolCore {
 
     // The first row that holds of those of the act.
     fn row_refusal(&self, act: &Act) -> Option<Refused>
-        ensures { result ≡ first_row (rows_now self.now act.now) }
+        ensures { result ≡ first_row (rows_now (now_of self.now) act.now) }
     {
         match act {
             Act::Request(request, address) => self.request_refusal(*request, address),
@@ -184,13 +185,43 @@ impl PoolCore {
 
     // The same before any other test: no step is earlier than the last.
     pub(super) fn refusal_at(&self, moment: Moment, row: Option<Refused>) -> Option<Refused>
-        ensures { result ≡ if nat_lt moment self.now.last then Some (TimeBack self.now.last) else row }
+        ensures { result ≡ if nat_lt moment self.now.last.now then Some (TimeBack self.now.last.now) else row }
     {
-        if moment < self.last {
-            return Some(Refused::TimeBack(self.last));
+        if moment < *self.last.get() {
+            return Some(Refused::TimeBack(*self.last.get()));
         }
         row
     }
+
+    // Why a request at the pool's own address is refused.
+    pub(super) fn asking_refusal(&self, moment: Moment, request: u32) -> Option<Refused>
+        ensures { result ≡ if nat_lt moment self.now.last.now then Some (TimeBack self.now.last.now) else first_row (rows_now (now_of self.now) (Request request self.now.address)) }
+    {
+        self.refusal_at(moment, self.request_refusal(request, &self.address))
+    }
+
+    // Why a step that names the pool's own address alone is refused.
+    pub(super) fn home_refusal(&self, moment: Moment) -> Option<Refused>
+        ensures { result ≡ if nat_lt moment self.now.last.now then Some (TimeBack self.now.last.now) else first_row (rows_now (now_of self.now) (Maintain self.now.address)) }
+    {
+        self.refusal_at(moment, self.server_refusal(&self.address))
+    }
+
+    // Why the pool refuses the step, `None` where it accepts it.
+    pub fn refusal_now(&self, step: &Step) -> Option<Refused>
+        requires { IsPoolAct self.now.pool step.now.act }
+        ensures { result ≡ refusal_now (now_of self.now) step.now }
+    {
+        self.refusal_at(step.moment, self.row_refusal(&step.act))
+    }
+}
+
+impl PoolCore {
+    ghost use Rattle.mdb_log.specs.Acts.{IsPoolAct};
+    ghost use Rattle.mdb_log.specs.History.{Item};
+    ghost use Rattle.mdb_pool.specs.Refusal.{refusal_of};
+    ghost use Rattle.mdb_pool.specs.Refusing.{refusal_now};
+    ghost use Rattle.mdb_pool.specs.Standing.{StandsFor};
 
     /// Why the pool refuses the step, `None` where it accepts it. It only looks, and takes no memory.
     pub fn refusal_now(&self, step: &Step) -> Option<Refused>
@@ -198,6 +229,6 @@ impl PoolCore {
         ensures kept { result ≡ refusal_now self.now step.now }
         ensures history { (h : List Item) → StandsFor self.now h → result ≡ refusal_of self.now.pool self.now.options h step.now }
     {
-        self.refusal_at(step.moment, self.row_refusal(&step.act))
+        self.body.refusal_now(step)
     }
 }

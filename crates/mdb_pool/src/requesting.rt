@@ -2,15 +2,16 @@
 
 ghost use Rattle.std.specs.Prelude.{◌≡◌, ◌∷◌, OnOk, OnErr, IfOk, List, None};
 
-use super::{Act, PoolCore, Reply, Step};
+use super::draft::{Base, Draft};
+use super::pool_core::PoolCore;
+use super::{Act, Reply, Step};
 use mdb_base::{Moment, OutOfMemory, ServerAddress};
 use mdb_events::Fact;
-use std::alloc::{AllocError, Global};
+use std::alloc::Global;
 
-impl PoolCore {
+impl<K: Base> Draft<K> {
     ghost use Rattle.mdb_pool.specs.Kept.{request_at};
     ghost use Rattle.mdb_pool.specs.Standing.{SameHome, Fits, Accepts, StandsFor, Answers};
-    ghost use Rattle.mdb_pool.specs.Parts.{Passes};
     ghost use Rattle.mdb_log.specs.History.{Item, PoolItem, asked};
     ghost use Rattle.mdb_log.specs.declared.step.Act.TheVariants.{Request as RequestAct};
 
@@ -21,7 +22,7 @@ impl PoolCore {
         facts: &mut Vec<Fact>,
         moment: Moment,
         request: u32,
-    ) -> Result<Reply, AllocError>
+    ) -> Result<Reply, OutOfMemory>
         requires { request_at self.old request ≡ None }
         ensures home { OnOk result (SameHome self.old self.new) }
         ensures last { OnOk result (self.new.last ≡ moment) }
@@ -33,6 +34,14 @@ impl PoolCore {
         let reply = self.tell(request)?;
         Ok(reply)
     }
+}
+
+impl PoolCore {
+    ghost use Rattle.mdb_pool.specs.Kept.{request_at};
+    ghost use Rattle.mdb_pool.specs.Standing.{SameHome, Fits, Accepts, StandsFor, Answers};
+    ghost use Rattle.mdb_pool.specs.Parts.{Passes};
+    ghost use Rattle.mdb_log.specs.History.{Item, PoolItem, asked};
+    ghost use Rattle.mdb_log.specs.declared.step.Act.TheVariants.{Request as RequestAct};
 
     /// A caller asks for a connection. Refused as `TimeBack`, `UnknownServer` where the pool is closed, or `RequestKnown`. It ends at
     /// once where the pool is new or paused (CMAP, "Checking Out a Connection").
@@ -49,11 +58,10 @@ impl PoolCore {
         ensures err_facts { OnErr result (facts.new.items ≡ facts.old.items) }
         ensures passes { OnErr result (Passes self.old (record { moment = moment; act = RequestAct request self.old.address })) }
     {
-        let row = self.request_refusal(request, &self.address);
-        if let Some(why) = self.refusal_at(moment, row) {
+        if let Some(why) = self.body.asking_refusal(moment, request) {
             return Ok(Reply::Refused(why));
         }
-        let address = self.address.clone()?;
+        let address = self.body.address.clone()?;
         let step = Step {
             moment,
             act: Act::Request(request, address),

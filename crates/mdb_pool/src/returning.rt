@@ -3,17 +3,17 @@
 ghost use Rattle.std.specs.Prelude.{◌≡◌, ◌∷◌, OnOk, OnErr, IfOk, List, true, is_some};
 
 use super::clears::used_as;
+use super::draft::{Base, Draft};
+use super::pool_core::PoolCore;
 use super::request::Phase;
-use super::table::Keyed;
-use super::{Act, PoolCore, Reply, Step, Use};
+use super::{Act, Reply, Step, Use};
 use mdb_base::{Moment, OutOfMemory};
 use mdb_events::Fact;
-use std::alloc::{AllocError, Global};
+use std::alloc::Global;
 
-impl PoolCore {
+impl<K: Base> Draft<K> {
     ghost use Rattle.mdb_pool.specs.Kept.{held_connection};
     ghost use Rattle.mdb_pool.specs.Standing.{SameHome, Fits, Accepts, StandsFor, Answers};
-    ghost use Rattle.mdb_pool.specs.Parts.{Passes};
     ghost use Rattle.mdb_log.specs.History.{Item, PoolItem, returned};
     ghost use Rattle.mdb_log.specs.declared.step.Act.TheVariants.{Return as ReturnAct};
 
@@ -25,7 +25,7 @@ impl PoolCore {
         moment: Moment,
         party: u32,
         used: Use,
-    ) -> Result<Reply, AllocError>
+    ) -> Result<Reply, OutOfMemory>
         requires { is_some (held_connection self.old party) ≡ true }
         ensures home { OnOk result (SameHome self.old self.new) }
         ensures last { OnOk result (self.new.last ≡ moment) }
@@ -34,7 +34,7 @@ impl PoolCore {
         let Some(connection) = self.held_connection(party) else {
             unreachable!()
         };
-        let Some(request) = self.requests.get(party) else {
+        let Some(request) = self.request(party) else {
             unreachable!()
         };
         let request = request.copy()?;
@@ -49,6 +49,14 @@ impl PoolCore {
         self.serve(alloc, facts, moment)?;
         Ok(Reply::Done)
     }
+}
+
+impl PoolCore {
+    ghost use Rattle.mdb_pool.specs.Kept.{held_connection};
+    ghost use Rattle.mdb_pool.specs.Standing.{SameHome, Fits, Accepts, StandsFor, Answers};
+    ghost use Rattle.mdb_pool.specs.Parts.{Passes};
+    ghost use Rattle.mdb_log.specs.History.{Item, PoolItem, returned};
+    ghost use Rattle.mdb_log.specs.declared.step.Act.TheVariants.{Return as ReturnAct};
 
     /// A party returns its connection, which goes to its pin where one stands, and else is checked in (CMAP, "Checking In a Connection"). Refused as `TimeBack` or `NotHolder`.
     pub fn check_in(

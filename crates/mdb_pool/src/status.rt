@@ -1,7 +1,6 @@
 //! Whether a pool may be used, and its clears.
 
 use mdb_base::{Error, ObjectId};
-use std::alloc::AllocError;
 
 /// Whether a pool may be used (CMAP, "Connection Pool").
 #[derive(Clone, Copy, Debug, PartialEq, Eq)]
@@ -34,7 +33,7 @@ pub struct Clear {
 }
 
 impl Status {
-    ghost use Rattle.std.specs.Prelude.{◌≡◌, IfOk};
+    ghost use Rattle.std.specs.Prelude.{◌≡◌};
     ghost use Rattle.mdb_pool.specs.Kept.{is_ready_now, is_shut, state_in};
     ghost use Rattle.mdb_log.specs.State.{is_ready, is_new};
     ghost use Rattle.std.specs.Prelude.{if◌then◌else◌, false};
@@ -60,16 +59,5 @@ impl Status {
         ensures { result ≡ is_shut self.now }
     {
         matches!(self, Status::Closed)
-    }
-
-    pub fn copy(&self) -> Result<Status, AllocError>
-        ensures { IfOk result (λ copy. copy ≡ self.now) }
-    {
-        Ok(match self {
-            Status::New => Status::New,
-            Status::Ready => Status::Ready,
-            Status::Paused(cause) => Status::Paused(cause.clone()?),
-            Status::Closed => Status::Closed,
-        })
     }
 }

@@ -2,11 +2,14 @@
 
 ghost use Rattle.std.specs.Prelude.{◌≡◌, ◌++◌, ◌∷◌, [], OnOk, OnErr, IfOk, All, List, Some, None};
 
-use super::{Act, Entry, Log, PoolCore, Refused, Reply, Step};
+use super::draft::{Base, Draft};
+use super::parts::Answered;
+use super::pool_core::PoolCore;
+use super::{Act, Entry, Log, Refused, Reply, Step};
 use mdb_base::{Items, OutOfMemory};
 use mdb_events::Fact;
 use std::alloc::{AllocError, Global};
-use std::mem;
+use std::marker::Brand;
 
 // One more entry, of a copy of the step.
 fn log_step(
@@ -34,13 +37,20 @@ fn log_step(
     }
 }
 
-impl PoolCore {
-    ghost use Rattle.mdb_pool.specs.Standing.{SameHome, StandsFor, Answers, Logs, Runs, RunsFront};
-    ghost use Rattle.mdb_pool.specs.Refusing.{refusal_now};
-    ghost use Rattle.mdb_pool.specs.Parts.{Does, Passes};
+impl<K: Base> Draft<K> {
     ghost use Rattle.mdb_log.specs.Acts.{IsPoolAct};
-    ghost use Rattle.mdb_log.specs.Legal.{NoneLeftWaiting};
-    ghost use Rattle.mdb_log.specs.History.{Item, of_pool};
+    ghost use Rattle.mdb_log.specs.History.{Item};
+    ghost use Rattle.mdb_pool.specs.Refusing.{refusal_now};
+    ghost use Rattle.mdb_pool.specs.Standing.{StandsFor, SameHome, Answers, Logs};
+    ghost use Rattle.mdb_pool.specs.Parts.{Does, DoesOne, DoesAll, IsPrepared};
+
+    // Why the step is refused.
+    fn refusal_now(&self, step: &Step) -> Option<Refused>
+        requires { IsPoolAct self.now.pool step.now.act }
+        ensures { result ≡ refusal_now self.now step.now }
+    {
+        self.body.refusal_now(step)
+    }
 
     // Does the act of a step that is not refused.
     pub(super) fn accept(
@@ -48,7 +58,7 @@ impl PoolCore {
         alloc: Global,
         facts: &mut Vec<Fact>,
         step: &Step,
-    ) -> Result<Reply, AllocError>
+    ) -> Result<Reply, OutOfMemory>
         requires act { IsPoolAct self.old.pool step.now.act }
         requires passes { refusal_now self.old step.now ≡ None }
         ensures home { OnOk result (SameHome self.old self.new) }
@@ -85,12 +95,12 @@ impl PoolCore {
     }
 
     // The same, told by the pool's history.
-    fn perform(
+    pub(super) fn perform(
         &mut self,
         alloc: Global,
         facts: &mut Vec<Fact>,
         step: &Step,
-    ) -> Result<Reply, AllocError>
+    ) -> Result<Reply, OutOfMemory>
         requires act { IsPoolAct self.old.pool step.now.act }
         requires passes { refusal_now self.old step.now ≡ None }
         ensures home { OnOk result (SameHome self.old self.new) }
@@ -100,7 +110,148 @@ impl PoolCore {
         Ok(reply)
     }
 
-    // Refuses the step, or does what it says, on a copy that takes the state's place at its end.
+    // The same, with its facts after those before it.
+    fn tell_step(
+        &mut self,
+        alloc: Global,
+        facts: &mut Vec<Fact>,
+        step: &Step,
+    ) -> Result<Reply, OutOfMemory>
+        requires act { IsPoolAct self.old.pool step.now.act }
+        requires passes { refusal_now self.old step.now ≡ None }
+        ensures home { OnOk result (SameHome self.old self.new) }
+        ensures answers { IfOk result (λ reply. (h : List Item) → StandsFor self.old h → Answers self.old self.new facts.old.items facts.new.items step.now reply h) }
+        ensures err { OnErr result (facts.new.items ≡ facts.old.items) }
+    {
+        let mut made = Vec::new(alloc);
+        let reply = self.perform(alloc, &mut made, step)?;
+        match facts.append(&mut made) {
+            Ok(()) => Ok(reply),
+            Err(_) => {
+                drop(reply);
+                Err(OutOfMemory)
+            }
+        }
+    }
+
+    // The same, logged.
+    fn log_step(
+        &mut self,
+        alloc: Global,
+        log: &mut Log,
+        seat: u32,
+        step: &Step,
+    ) -> Result<(), OutOfMemory>
+        requires act { IsPoolAct self.old.pool step.now.act }
+        requires passes { refusal_now self.old step.now ≡ None }
+        ensures home { OnOk result (SameHome self.old self.new) }
+        ensures logs { OnOk result ((h : List Item) → StandsFor self.old h → Logs self.old self.new log.old log.new seat step.now h) }
+        ensures err { OnErr result (log.new ≡ log.old) }
+    {
+        let mut facts = Vec::new(alloc);
+        let reply = self.perform(alloc, &mut facts, step)?;
+        log_step(log, seat, step, reply, facts)?;
+        Ok(())
+    }
+
+    // Answers the step, and does it where it isn't refused.
+    pub(super) fn answer(&mut self, alloc: Global, step: &Step) -> Result<Answered, OutOfMemory>
+        requires { IsPoolAct self.old.pool step.now.act }
+        ensures home { OnOk result (SameHome self.old self.new) }
+        ensures one { IfOk result (λ answered. DoesOne self.old self.new step.now answered (refusal_now self.old step.now)) }
+        ensures answers { IfOk result (λ answered. (h : List Item) → StandsFor self.old h → Answers self.old self.new [] answered.facts step.now answered.reply h) }
+    {
+        if let Some(why) = self.refusal_now(step) {
+            return Ok(Answered {
+                reply: Reply::Refused(why),
+                facts: Items::new(Vec::new(alloc)),
+            });
+        }
+        let mut facts = Vec::new(alloc);
+        let reply = self.accept(alloc, &mut facts, step)?;
+        Ok(Answered {
+            reply,
+            facts: Items::new(facts),
+        })
+    }
+
+    // The same for steps one after another.
+    pub(super) fn answer_all(
+        &mut self,
+        alloc: Global,
+        steps: &[Step],
+    ) -> Result<Vec<Answered>, OutOfMemory>
+        requires { All (λ step. IsPoolAct self.old.pool step.act) steps.now }
+        ensures home { OnOk result (SameHome self.old self.new) }
+        ensures does { IfOk result (λ answers. DoesAll self.old self.new steps.now answers.items) }
+        ensures prepared { IfOk result (λ answers. (h : List Item) → StandsFor self.old h → IsPrepared self.old self.new steps.now answers.items h) }
+    {
+        let mut answers = Vec::new(alloc);
+        for step in steps {
+            let answered = self.answer(alloc, step)?;
+            answers.push(answered)?;
+        }
+        Ok(answers)
+    }
+}
+
+impl PoolCore {
+    ghost use Rattle.mdb_pool.specs.Standing.{SameHome, StandsFor, Answers, Logs, Runs, RunsFront};
+    ghost use Rattle.mdb_pool.specs.Refusing.{refusal_now};
+    ghost use Rattle.mdb_pool.specs.Parts.{Passes};
+    ghost use Rattle.mdb_log.specs.Acts.{IsPoolAct};
+    ghost use Rattle.mdb_log.specs.Legal.{NoneLeftWaiting};
+    ghost use Rattle.mdb_log.specs.History.{Item, of_pool};
+
+    // The step, which is not refused, is done. Where there is no memory the pool is as it was.
+    #[tactic(auto, using(crate::proofs::SameKept::home_same))]
+    fn done<K: Base>(
+        self,
+        alloc: Global,
+        facts: &mut Vec<Fact>,
+        step: &Step,
+    ) -> (PoolCore, Result<Reply, OutOfMemory>)
+        requires base { self ≡ K.base }
+        requires act { IsPoolAct self.pool step.now.act }
+        requires passes { refusal_now self step.now ≡ None }
+        ensures home { OnOk result.1 (SameHome self result.0) }
+        ensures answers { IfOk result.1 (λ reply. (h : List Item) → StandsFor self h → Answers self result.0 facts.old.items facts.new.items step.now reply h) }
+        ensures err_core { OnErr result.1 (result.0 ≡ self) }
+        ensures err_facts { OnErr result.1 (facts.new.items ≡ facts.old.items) }
+        ensures passes { OnErr result.1 (Passes self step.now) }
+    {
+        let mut draft = self.draft::<K>();
+        match draft.tell_step(alloc, facts, step) {
+            Ok(reply) => (draft.settled(), Ok(reply)),
+            Err(e) => (draft.undone(alloc), Err(e)),
+        }
+    }
+
+    // The same, logged.
+    #[tactic(auto, using(crate::proofs::SameKept::home_same))]
+    fn logged<K: Base>(
+        self,
+        alloc: Global,
+        log: &mut Log,
+        seat: u32,
+        step: &Step,
+    ) -> (PoolCore, Result<(), OutOfMemory>)
+        requires base { self ≡ K.base }
+        requires act { IsPoolAct self.pool step.now.act }
+        requires passes { refusal_now self step.now ≡ None }
+        ensures home { OnOk result.1 (SameHome self result.0) }
+        ensures logs { OnOk result.1 ((h : List Item) → StandsFor self h → Logs self result.0 log.old log.new seat step.now h) }
+        ensures err_core { OnErr result.1 (result.0 ≡ self) }
+        ensures err_log { OnErr result.1 (log.new ≡ log.old) }
+    {
+        let mut draft = self.draft::<K>();
+        match draft.log_step(alloc, log, seat, step) {
+            Ok(()) => (draft.settled(), Ok(())),
+            Err(e) => (draft.undone(alloc), Err(e)),
+        }
+    }
+
+    // Refuses the step, or does what it says.
     pub(super) fn attempt(
         &mut self,
         alloc: Global,
@@ -117,12 +268,10 @@ impl PoolCore {
         if let Some(why) = self.refusal_now(step) {
             return Ok(Reply::Refused(why));
         }
-        let mut worked = self.copy(alloc)?;
-        let mut made = Vec::new(alloc);
-        let reply = worked.perform(alloc, &mut made, step)?;
-        facts.append(&mut made)?;
-        drop(mem::replace(self, worked));
-        Ok(reply)
+        let whole = self.taken(alloc);
+        let (left, done) = whole.done::<Brand>(alloc, facts, step);
+        self.put_back(left);
+        done
     }
 
     // Does what the step says, which is not refused, and logs it.
@@ -132,40 +281,18 @@ impl PoolCore {
         log: &mut Log,
         seat: u32,
         step: &Step,
-    ) -> Result<(), AllocError>
+    ) -> Result<(), OutOfMemory>
         requires act { IsPoolAct self.old.pool step.now.act }
         requires passes { refusal_now self.old step.now ≡ None }
         ensures home { OnOk result (SameHome self.old self.new) }
         ensures logs { OnOk result ((h : List Item) → StandsFor self.old h → Logs self.old self.new log.old log.new seat step.now h) }
-        ensures err { OnErr result (log.new ≡ log.old) }
+        ensures err_core { OnErr result (self.new ≡ self.old) }
+        ensures err_log { OnErr result (log.new ≡ log.old) }
     {
-        let mut facts = Vec::new(alloc);
-        let reply = self.perform(alloc, &mut facts, step)?;
-        log_step(log, seat, step, reply, facts)
-    }
-
-    // The state after the step, whose entry is in the log.
-    fn stepped(
-        &self,
-        alloc: Global,
-        log: &mut Log,
-        seat: u32,
-        step: &Step,
-    ) -> Result<PoolCore, AllocError>
-        requires act { IsPoolAct self.now.pool step.now.act }
-        requires passes { refusal_now self.now step.now ≡ None }
-        ensures home { IfOk result (λ next. SameHome self.now next) }
-        ensures logs { IfOk result (λ next. (h : List Item) → StandsFor self.now h → Logs self.now next log.old log.new seat step.now h) }
-        ensures err { OnErr result (log.new ≡ log.old) }
-    {
-        let mut next = self.copy(alloc)?;
-        match next.enter(alloc, log, seat, step) {
-            Ok(()) => Ok(next),
-            Err(e) => {
-                drop(next);
-                Err(e)
-            }
-        }
+        let whole = self.taken(alloc);
+        let (left, done) = whole.logged::<Brand>(alloc, log, seat, step);
+        self.put_back(left);
+        done
     }
 
     // The refused step gets its entry, and nothing else changes.
@@ -185,7 +312,7 @@ impl PoolCore {
         Ok(())
     }
 
-    /// One step of the pool, on a copy that takes the state's place at its end. A refused one takes memory for its entry alone.
+    /// One step of the pool, in place. Where there is no memory the pool and the log are as they were. A refused one takes memory for its entry alone.
     pub fn step(
         &mut self,
         alloc: Global,
@@ -203,9 +330,7 @@ impl PoolCore {
             self.refuse(alloc, log, seat, step, why)?;
             return Ok(());
         }
-        let next = self.stepped(alloc, log, seat, step)?;
-        drop(mem::replace(self, next));
-        Ok(())
+        self.enter(alloc, log, seat, step)
     }
 
     /// Steps one after another: the log gets the answer to each after those before it, and these entries are legal. After `OutOfMemory` it has got

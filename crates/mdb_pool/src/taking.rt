@@ -3,54 +3,45 @@
 ghost use Rattle.std.specs.Prelude.{◌≡◌, ◌∷◌, OnOk, OnErr, IfOk, List, true, false, is_some, nat_lt};
 
 use super::connection::{Connection, Place};
+use super::draft::{Base, Draft};
+use super::pool_core::PoolCore;
 use super::request::{Phase, Request};
-use super::{Act, PoolCore, Reply, Step};
+use super::{Act, Reply, Step};
 use mdb_base::{Moment, OutOfMemory};
 use mdb_events::Fact;
-use std::alloc::{AllocError, Global};
+use std::alloc::Global;
 
-impl PoolCore {
+impl<K: Base> Draft<K> {
     ghost use Rattle.mdb_pool.specs.Changes.{taking};
     ghost use Rattle.mdb_pool.specs.Kept.{connection_at, request_at, pins_at, is_held_at};
     ghost use Rattle.mdb_pool.specs.Standing.{SameHome, Fits, Accepts, StandsFor, Answers};
-    ghost use Rattle.mdb_pool.specs.Parts.{Passes};
     ghost use Rattle.mdb_log.specs.Connections.{held};
     ghost use Rattle.mdb_log.specs.History.{Item, PoolItem, of_pool, taken};
     ghost use Rattle.mdb_log.specs.declared.step.Act.TheVariants.{Take};
 
-    /// The connection is one of this pool, and a party has it since it was established.
-    pub fn is_held(&self, id: u32) -> bool
-        ensures kept { result ≡ is_held_at (connection_at self.now id) }
-        ensures history { (h : List Item) → StandsFor self.now h → result ≡ nat_lt 0 (held (of_pool self.now.pool h) id) }
-    {
-        match self.connections.get(id) {
-            Some(connection) => connection.is_held(),
-            None => false,
-        }
-    }
-
     // The party gets the connection from its pin.
+    #[tactic(auto, using(crate::proofs::Bodies::stays_out))]
     fn hand_pinned(
         &mut self,
         alloc: Global,
         moment: Moment,
         party: u32,
         connection: Connection,
-    ) -> Result<(), AllocError>
+    ) -> Result<(), OutOfMemory>
         ensures { OnOk result (self.new ≡ taking self.old moment party connection) }
     {
         let timeouts = self.timeouts();
-        self.last = moment;
-        self.connections.replace(
+        self.set_last(moment);
+        self.replace_connection(
             alloc,
-            &Connection {
+            Connection {
                 place: Place::Held,
                 holder: Some(party),
                 timeouts,
                 ..connection
             },
         )?;
-        self.requests.put(
+        self.put_request(
             alloc,
             Request {
                 number: party,
@@ -71,7 +62,7 @@ impl PoolCore {
         moment: Moment,
         party: u32,
         id: u32,
-    ) -> Result<Reply, AllocError>
+    ) -> Result<Reply, OutOfMemory>
         requires unknown { is_some (request_at self.old party) ≡ false }
         requires pinned { nat_lt 0 (pins_at (connection_at self.old id)) ≡ true }
         requires free { is_held_at (connection_at self.old id) ≡ false }
@@ -79,13 +70,23 @@ impl PoolCore {
         ensures last { OnOk result (self.new.last ≡ moment) }
         ensures accepts { IfOk result (λ reply. (xs : List PoolItem) → Fits self.old xs → Accepts self.old self.new facts.old.items facts.new.items moment (Take party self.old.pool id) reply xs (taken party id ∷ xs)) }
     {
-        let Some(connection) = self.connections.get(id).copied() else {
+        let Some(connection) = self.connection(id).copied() else {
             unreachable!()
         };
         self.hand_pinned(alloc, moment, party, connection)?;
         self.serve(alloc, facts, moment)?;
-        Ok(Reply::Pooled(self.pool, id))
+        Ok(Reply::Pooled(self.number(), id))
     }
+}
+
+impl PoolCore {
+    ghost use Rattle.mdb_pool.specs.Changes.{taking};
+    ghost use Rattle.mdb_pool.specs.Kept.{connection_at, request_at, pins_at, is_held_at};
+    ghost use Rattle.mdb_pool.specs.Standing.{SameHome, Fits, Accepts, StandsFor, Answers};
+    ghost use Rattle.mdb_pool.specs.Parts.{Passes};
+    ghost use Rattle.mdb_log.specs.Connections.{held};
+    ghost use Rattle.mdb_log.specs.History.{Item, PoolItem, of_pool, taken};
+    ghost use Rattle.mdb_log.specs.declared.step.Act.TheVariants.{Take};
 
     /// A new party takes a connection that is at its pin. Refused as `TimeBack`, as `RequestKnown` where the number was used, as `Unpinned` where no
     /// pin stands, or as `PinInUse` where the connection is held.
@@ -105,7 +106,7 @@ impl PoolCore {
     {
         let step = Step {
             moment,
-            act: Act::Take(party, self.pool, id),
+            act: Act::Take(party, self.body.pool, id),
         };
         let answer = self.attempt(alloc, facts, &step);
         drop(step);

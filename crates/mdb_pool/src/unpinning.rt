@@ -3,16 +3,17 @@
 ghost use Rattle.std.specs.Prelude.{◌≡◌, ◌∷◌, ◌++◌, OnOk, OnErr, IfOk, List, true, nat_lt};
 
 use super::connection::Connection;
-use super::{Act, PoolCore, Reply, Step};
+use super::draft::{Base, Draft};
+use super::pool_core::PoolCore;
+use super::{Act, Reply, Step};
 use mdb_base::{Moment, OutOfMemory};
 use mdb_events::{ConnectionClosedReason, Fact};
-use std::alloc::{AllocError, Global};
+use std::alloc::Global;
 
-impl PoolCore {
+impl<K: Base> Draft<K> {
     ghost use Rattle.mdb_pool.specs.Changes.{unpinned_once, unpinning, pin_ending, back_facts};
     ghost use Rattle.mdb_pool.specs.Kept.{connection_at, pins_at};
     ghost use Rattle.mdb_pool.specs.Standing.{SameHome, Fits, Accepts, StandsFor, Answers};
-    ghost use Rattle.mdb_pool.specs.Parts.{Passes};
     ghost use Rattle.mdb_log.specs.History.{Item, PoolItem, unpinned};
     ghost use Rattle.mdb_log.specs.declared.step.Act.TheVariants.{Unpin};
 
@@ -28,17 +29,19 @@ impl PoolCore {
     }
 
     // One pin less, and no more of it.
+    #[tactic(auto, using(crate::proofs::Bodies::stays_same))]
     fn remove_pin(
         &mut self,
         alloc: Global,
         moment: Moment,
         connection: Connection,
-    ) -> Result<(), AllocError>
+    ) -> Result<(), OutOfMemory>
+        requires { connection_at self.old connection.id ≡ Some connection }
         ensures { OnOk result (self.new ≡ unpinning self.old moment connection) }
     {
         let fewer = self.unpinned_once(connection);
-        self.last = moment;
-        self.connections.replace(alloc, &fewer)?;
+        self.set_last(moment);
+        self.replace_connection(alloc, fewer)?;
         Ok(())
     }
 
@@ -50,13 +53,13 @@ impl PoolCore {
         moment: Moment,
         connection: Connection,
         reason: Option<ConnectionClosedReason>,
-    ) -> Result<(), AllocError>
+    ) -> Result<(), OutOfMemory>
         ensures core { OnOk result (self.new ≡ pin_ending self.old moment connection reason) }
         ensures facts { OnOk result (facts.new.items ≡ facts.old.items ++ back_facts self.old connection reason) }
     {
         self.push_back(facts, connection, reason)?;
         let fewer = self.unpinned_once(connection);
-        self.last = moment;
+        self.set_last(moment);
         self.place_back(alloc, moment, fewer, reason)?;
         Ok(())
     }
@@ -68,13 +71,13 @@ impl PoolCore {
         facts: &mut Vec<Fact>,
         moment: Moment,
         id: u32,
-    ) -> Result<Reply, AllocError>
+    ) -> Result<Reply, OutOfMemory>
         requires { nat_lt 0 (pins_at (connection_at self.old id)) ≡ true }
         ensures home { OnOk result (SameHome self.old self.new) }
         ensures last { OnOk result (self.new.last ≡ moment) }
         ensures accepts { IfOk result (λ reply. (xs : List PoolItem) → Fits self.old xs → Accepts self.old self.new facts.old.items facts.new.items moment (Unpin self.old.pool id) reply xs (unpinned id ∷ xs)) }
     {
-        let Some(connection) = self.connections.get(id).copied() else {
+        let Some(connection) = self.connection(id).copied() else {
             unreachable!()
         };
         if connection.is_at_last_pin() {
@@ -87,6 +90,15 @@ impl PoolCore {
         self.serve(alloc, facts, moment)?;
         Ok(Reply::Done)
     }
+}
+
+impl PoolCore {
+    ghost use Rattle.mdb_pool.specs.Changes.{unpinned_once, unpinning, pin_ending, back_facts};
+    ghost use Rattle.mdb_pool.specs.Kept.{connection_at, pins_at};
+    ghost use Rattle.mdb_pool.specs.Standing.{SameHome, Fits, Accepts, StandsFor, Answers};
+    ghost use Rattle.mdb_pool.specs.Parts.{Passes};
+    ghost use Rattle.mdb_log.specs.History.{Item, PoolItem, unpinned};
+    ghost use Rattle.mdb_log.specs.declared.step.Act.TheVariants.{Unpin};
 
     /// A pinned connection loses a pin; with the last one it is checked in where it is at its pin (CMAP, "Checking In a Connection"). Refused as
     /// `TimeBack`, or as `Unpinned` where no pin stands.
@@ -105,7 +117,7 @@ impl PoolCore {
     {
         let step = Step {
             moment,
-            act: Act::Unpin(self.pool, id),
+            act: Act::Unpin(self.body.pool, id),
         };
         let answer = self.attempt(alloc, facts, &step);
         drop(step);

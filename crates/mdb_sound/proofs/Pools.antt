@@ -18,7 +18,7 @@ use Rattle.mdb_log.specs.Connections.{has, pending_list, holding, held, pins, is
 use Rattle.mdb_log.specs.Requests.{some_act, names_party, was_asked, leaves, told, is_open, is_claimed}
 use Rattle.mdb_log.specs.State.{is_closed}
 use Rattle.mdb_log.specs.Own.{IsAccepted}
-use Rattle.mdb_pool.specs.declared.pool_core.PoolCore.{PoolCore}
+use Rattle.mdb_pool.specs.Core.{PoolCore}
 use Rattle.mdb_pool.specs.declared.status.Status.{Status}
 use Rattle.mdb_pool.specs.declared.status.Status.TheVariants.{New, Ready as ReadyNow, Paused, Closed}
 use Rattle.mdb_pool.specs.Kept.{is_shut, state_in}

@@ -6,7 +6,7 @@ use Rattle.mdb_pool.specs.declared.connection.Place.TheVariants.{Pending, Availa
 use Rattle.mdb_pool.specs.declared.request.Request.{Request}
 use Rattle.mdb_pool.specs.declared.request.Phase.{Phase}
 use Rattle.mdb_pool.specs.declared.request.Phase.TheVariants.{Queued, Given, Over, Ended as EndedPhase}
-use Rattle.mdb_pool.specs.declared.pool_core.PoolCore.{PoolCore}
+use Rattle.mdb_pool.specs.Core.{PoolCore}
 use Rattle.mdb_log.specs.History.{PoolItem, given, has_asked}
 use Rattle.mdb_log.specs.Connections.{one_if, has, live, pending_list, available_list, parties, pins, is_pinned, held, granted_to}
 use Rattle.mdb_log.specs.Requests.{is_warm, end_of}

@@ -5,7 +5,7 @@ ghost use Rattle.mdb_base.specs.declared.address.ServerAddress.{ServerAddress};
 ghost use Rattle.mdb_log.specs.declared.options.PoolOptions.{PoolOptions};
 ghost use Rattle.mdb_log.specs.declared.step.Step.{Step};
 ghost use Rattle.mdb_log.specs.History.{Item, of_pool, opening, with_answer};
-ghost use Rattle.mdb_pool.specs.declared.pool_core.PoolCore.{PoolCore};
+ghost use Rattle.mdb_pool.specs.Core.{PoolCore};
 ghost use Rattle.mdb_pool.specs.Standing.{StandsFor};
 ghost use Rattle.mdb_pool.specs.Answer.{answer};
 ghost use Rattle.mdb_sound.specs.Sound.{Sound};

@@ -5,7 +5,7 @@ use Rattle.mdb_base.specs.Equality.{same_address}
 use Rattle.mdb_base.specs.declared.address.ServerAddress.{ServerAddress}
 use Rattle.mdb_events.specs.declared.fact.Fact.{Fact}
 use Rattle.mdb_log.specs.declared.options.PoolOptions.{PoolOptions}
-use Rattle.mdb_pool.specs.declared.pool_core.PoolCore.{PoolCore}
+use Rattle.mdb_pool.specs.Core.{PoolCore}
 use Rattle.mdb_log.specs.History.{Item, of_pool, open_pool, is_number, with_facts}
 use Rattle.mdb_log.specs.State.{State, is_closed, state_of}
 use Rattle.mdb_pool.specs.declared.status.Status.{Status}

@@ -12,7 +12,7 @@ use Rattle.mdb_log.specs.Connections.{one_if}
 use Rattle.mdb_log.specs.History.{Item, open_pool, is_number}
 use Rattle.mdb_log.specs.Homes.{homes}
 use Rattle.mdb_log.specs.Opening.{pool_options}
-use Rattle.mdb_pool.specs.declared.pool_core.PoolCore.{PoolCore}
+use Rattle.mdb_pool.specs.Core.{PoolCore}
 use Rattle.mdb_topology.specs.declared.topology.TopologyCore.{TopologyCore}
 use Rattle.mdb_topology.specs.declared.next.Next.{Next}
 use Rattle.mdb_topology.specs.declared.monitoring.Monitoring.TheVariants.{Same, Checked, Asked}

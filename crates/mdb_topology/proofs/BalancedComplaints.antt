@@ -11,7 +11,7 @@ use Rattle.mdb_log.specs.declared.step.Act.TheVariants as Do
 use Rattle.mdb_log.specs.declared.reply.Reply.TheVariants.{Changed}
 use Rattle.mdb_log.specs.History.{Item}
 use Rattle.mdb_pool.specs.declared.connection.Connection.{Connection}
-use Rattle.mdb_pool.specs.declared.pool_core.PoolCore.{PoolCore}
+use Rattle.mdb_pool.specs.Core.{PoolCore}
 use Rattle.mdb_pool.specs.Kept.{held_connection}
 use Rattle.mdb_topology.specs.declared.topology.TopologyCore.{TopologyCore}
 use Rattle.mdb_topology.specs.Complaining.{is_hard_now, service_cleared, concerns_now}

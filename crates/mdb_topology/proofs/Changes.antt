@@ -1,7 +1,7 @@
 -- Changes of the pools that are made one after another.
 use Rattle.std.proofs.Common.{◌≡◌, List, [], ◌∷◌, ◌++◌, refl, ◌∙◌, ap, subst}
 use Rattle.mdb_base.specs.declared.address.ServerAddress.{ServerAddress}
-use Rattle.mdb_pool.specs.declared.pool_core.PoolCore.{PoolCore}
+use Rattle.mdb_pool.specs.Core.{PoolCore}
 use Rattle.mdb_topology.specs.declared.change.Change.{Change}
 use Rattle.mdb_topology.specs.declared.change.Change.TheVariants.{Alter, Open}
 use Rattle.mdb_topology.specs.Standing.{home}

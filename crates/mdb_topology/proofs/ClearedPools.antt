@@ -20,7 +20,7 @@ use Rattle.mdb_log.specs.Opening.{pool_options}
 use Rattle.mdb_log.specs.Own.{shuts}
 use Rattle.mdb_log.specs.Requests.{is_warm, queued}
 use Rattle.mdb_log.specs.State.{State, is_new, is_ready, is_paused, is_closed, state_of, generation_of}
-use Rattle.mdb_pool.specs.declared.pool_core.PoolCore.{PoolCore}
+use Rattle.mdb_pool.specs.Core.{PoolCore}
 use Rattle.mdb_pool.specs.Answer.{all_facts}
 use Rattle.mdb_pool.specs.Facts.{all_ends, cleared_fact, clear_facts}
 use Rattle.mdb_pool.specs.Kept.{is_shut}

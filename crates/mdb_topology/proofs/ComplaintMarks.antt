@@ -17,7 +17,7 @@ use Rattle.mdb_log.specs.declared.step.Act.TheVariants as Do
 use Rattle.mdb_log.specs.declared.reply.Reply.TheVariants.{Changed}
 use Rattle.mdb_log.specs.History.{Item, did, made}
 use Rattle.mdb_pool.specs.declared.connection.Connection.{Connection}
-use Rattle.mdb_pool.specs.declared.pool_core.PoolCore.{PoolCore}
+use Rattle.mdb_pool.specs.Core.{PoolCore}
 use Rattle.mdb_pool.specs.Kept.{held_connection}
 use Rattle.mdb_pool.proofs.Items.{both-true}
 use Rattle.mdb_topology.specs.declared.marked.Asked.TheVariants.{CheckNow, CancelIfCleared}

@@ -17,7 +17,7 @@ use Rattle.mdb_log.specs.Answer.{Answer}
 use Rattle.mdb_log.specs.Driver.{tells_outcome, answers, is_reply_to, is_in_time, is_refusal, IsThere}
 use Rattle.mdb_log.specs.History.{Item, of_pool, with_facts, with_answer, last_moment}
 use Rattle.mdb_log.specs.Opening.{pool_options}
-use Rattle.mdb_pool.specs.declared.pool_core.PoolCore.{PoolCore}
+use Rattle.mdb_pool.specs.Core.{PoolCore}
 use Rattle.mdb_pool.specs.Refusal.{first_row}
 use Rattle.mdb_topology.specs.declared.topology.TopologyCore.{TopologyCore}
 use Rattle.mdb_topology.specs.Homes.{home_of, home_at, begun}

@@ -10,7 +10,7 @@ use Rattle.mdb_describe.specs.Servers.{is_known, is_listed}
 use Rattle.mdb_events.specs.declared.fact.Fact.{Fact}
 use Rattle.mdb_log.specs.History.{Item}
 use Rattle.mdb_log.specs.Homes.{Home}
-use Rattle.mdb_pool.specs.declared.pool_core.PoolCore.{PoolCore}
+use Rattle.mdb_pool.specs.Core.{PoolCore}
 use Rattle.mdb_topology.specs.declared.change.Change.{Change}
 use Rattle.mdb_topology.specs.declared.topology.TopologyCore.{TopologyCore}
 use Rattle.mdb_topology.specs.Planned.{IsPlanned, PlansMore, LeadsAll, opened_by}

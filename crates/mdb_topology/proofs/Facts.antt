@@ -7,7 +7,7 @@ use Rattle.mdb_log.specs.declared.options.PoolOptions.{PoolOptions}
 use Rattle.mdb_log.specs.declared.step.Step.{Step}
 use Rattle.mdb_log.specs.declared.reply.Reply.{Reply}
 use Rattle.mdb_log.specs.declared.reply.Reply.TheVariants.{Refused}
-use Rattle.mdb_pool.specs.declared.pool_core.PoolCore.{PoolCore}
+use Rattle.mdb_pool.specs.Core.{PoolCore}
 use Rattle.mdb_log.specs.History.{Item, did, made, PoolItem, of_pool, after_fact, with_facts, has_party}
 use Rattle.mdb_log.specs.Legal.{IsNext}
 use Rattle.mdb_log.specs.Own.{IsOwn, AllOwn, IsAccepted}

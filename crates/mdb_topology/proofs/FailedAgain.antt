@@ -13,7 +13,7 @@ use Rattle.mdb_log.specs.declared.reply.Refused.TheVariants.{TimeBack}
 use Rattle.mdb_log.specs.History.{PoolItem, raised, ended, has_asked, if_so, service_in, after_fact, after_facts}
 use Rattle.mdb_log.specs.Connections.{has, pending_list}
 use Rattle.mdb_log.proofs.Numbers.{same-number}
-use Rattle.mdb_pool.specs.declared.pool_core.PoolCore.{PoolCore}
+use Rattle.mdb_pool.specs.Core.{PoolCore}
 use Rattle.mdb_pool.specs.Answer.{all_facts}
 use Rattle.mdb_pool.specs.Kept.{connection_at, is_pending_at}
 use Rattle.mdb_pool.specs.Refusal.{first_row}

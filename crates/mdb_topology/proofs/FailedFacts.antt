@@ -15,7 +15,7 @@ use Rattle.mdb_log.specs.Opening.{pool_options}
 use Rattle.mdb_log.specs.Own.{AllOwn}
 use Rattle.mdb_log.proofs.Frame.{other-facts}
 use Rattle.mdb_log.proofs.Later.{of_pool-with_facts, own-prefix}
-use Rattle.mdb_pool.specs.declared.pool_core.PoolCore.{PoolCore}
+use Rattle.mdb_pool.specs.Core.{PoolCore}
 use Rattle.mdb_pool.specs.Facts.{act_facts}
 use Rattle.mdb_pool.specs.Serving.{serving}
 use Rattle.mdb_pool.proofs.Served.{served-serving}

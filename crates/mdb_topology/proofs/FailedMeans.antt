@@ -15,7 +15,7 @@ use Rattle.mdb_log.specs.declared.step.Act.{Act}
 use Rattle.mdb_log.specs.declared.step.Act.TheVariants as Do
 use Rattle.mdb_log.specs.History.{Item, service_in, of_pool}
 use Rattle.mdb_pool.specs.declared.connection.Connection.{Connection}
-use Rattle.mdb_pool.specs.declared.pool_core.PoolCore.{PoolCore}
+use Rattle.mdb_pool.specs.Core.{PoolCore}
 use Rattle.mdb_pool.specs.Kept.{connection_at}
 use Rattle.mdb_pool.specs.Refusal.{wrong_service}
 use Rattle.mdb_pool.specs.Refusing.{refusal_now}

@@ -15,8 +15,8 @@ use Rattle.mdb_log.specs.History.{Item, PoolItem, failed, service_in, of_pool, a
 use Rattle.mdb_log.specs.Limits.{WithinLimits}
 use Rattle.mdb_log.specs.Opening.{pool_options}
 use Rattle.mdb_log.specs.Own.{shuts}
-use Rattle.mdb_pool.specs.declared.pool_core.PoolCore.{PoolCore}
-use Rattle.mdb_pool.specs.declared.parts.Plan.{Plan}
+use Rattle.mdb_pool.specs.Core.{PoolCore}
+use Rattle.mdb_pool.specs.Body.{PoolSteps as Plan}
 use Rattle.mdb_pool.specs.Answer.{all_facts}
 use Rattle.mdb_pool.specs.Facts.{clear_facts}
 use Rattle.mdb_pool.specs.Kept.{is_shut}

@@ -19,7 +19,7 @@ use Rattle.mdb_log.specs.Fresh.{AllGrantFresh}
 use Rattle.mdb_log.proofs.Numbers.{same-number}
 use Rattle.mdb_log.proofs.Later.{of_pool-with_facts}
 use Rattle.mdb_log.proofs.Frame.{party-facts, asked-facts, acts-facts, open-facts, told-facts, claimed-facts, other-facts, other-number}
-use Rattle.mdb_pool.specs.declared.pool_core.PoolCore.{PoolCore}
+use Rattle.mdb_pool.specs.Core.{PoolCore}
 use Rattle.mdb_pool.specs.Kept.{is_shut}
 use Rattle.mdb_pool.specs.Serving.{IsServed}
 use Rattle.mdb_pool.specs.Quiet.{IsQuiet}

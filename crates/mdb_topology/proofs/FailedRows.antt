@@ -13,7 +13,7 @@ use Rattle.mdb_log.specs.History.{Item}
 use Rattle.mdb_log.specs.Opening.{pool_options}
 use Rattle.mdb_log.proofs.Numbers.{same-number}
 use Rattle.mdb_log.proofs.Frame.{other-number}
-use Rattle.mdb_pool.specs.declared.pool_core.PoolCore.{PoolCore}
+use Rattle.mdb_pool.specs.Core.{PoolCore}
 use Rattle.mdb_pool.specs.Refusal.{first_row}
 use Rattle.mdb_pool.specs.Refusing.{is_pending_here, rows_now, refusal_now}
 use Rattle.mdb_topology.specs.declared.topology.TopologyCore.{TopologyCore}

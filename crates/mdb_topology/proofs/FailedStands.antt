@@ -10,7 +10,7 @@ use Rattle.mdb_log.specs.History.{Item, made, failed, service_in, of_pool, with_
 use Rattle.mdb_log.specs.Opening.{pool_options}
 use Rattle.mdb_log.specs.LegalLog.{AllFirstCome}
 use Rattle.mdb_log.specs.Beside.{AllFreshGrants}
-use Rattle.mdb_pool.specs.declared.pool_core.PoolCore.{PoolCore}
+use Rattle.mdb_pool.specs.Core.{PoolCore}
 use Rattle.mdb_topology.specs.Homes.{begun}
 use Rattle.mdb_topology.specs.Standing.{PoolsStand}
 use Rattle.mdb_topology.proofs.FailedFacts.{calm-same}

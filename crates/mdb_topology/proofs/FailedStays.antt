@@ -11,7 +11,7 @@ use Rattle.mdb_log.specs.declared.step.Act.TheVariants.{Failed}
 use Rattle.mdb_log.specs.declared.step.FailedAt.{FailedAt}
 use Rattle.mdb_log.specs.History.{PoolItem, after_facts}
 use Rattle.mdb_log.specs.Own.{is_closing, shuts}
-use Rattle.mdb_pool.specs.declared.pool_core.PoolCore.{PoolCore}
+use Rattle.mdb_pool.specs.Core.{PoolCore}
 use Rattle.mdb_pool.specs.Answer.{all_facts}
 use Rattle.mdb_pool.specs.Facts.{act_facts, clear_facts}
 use Rattle.mdb_pool.specs.Kept.{is_shut}

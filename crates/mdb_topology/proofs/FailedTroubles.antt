@@ -17,7 +17,7 @@ use Rattle.mdb_log.specs.Opening.{pool_options}
 use Rattle.mdb_log.specs.State.{generation_of, generation_before}
 use Rattle.mdb_log.proofs.Numbers.{same-number}
 use Rattle.mdb_pool.specs.declared.connection.Connection.{Connection}
-use Rattle.mdb_pool.specs.declared.pool_core.PoolCore.{PoolCore}
+use Rattle.mdb_pool.specs.Core.{PoolCore}
 use Rattle.mdb_pool.specs.Kept.{connection_at, clears_before, clears_for}
 use Rattle.mdb_pool.specs.Standing.{Fits}
 use Rattle.mdb_pool.proofs.Items.{both-true}

@@ -1,7 +1,7 @@
 -- What the pools know the same, they fit the same.
 use Rattle.std.proofs.Common.{List, sym, ◌∙◌, subst}
 use Rattle.mdb_log.specs.declared.options.PoolOptions.{PoolOptions}
-use Rattle.mdb_pool.specs.declared.pool_core.PoolCore.{PoolCore}
+use Rattle.mdb_pool.specs.Core.{PoolCore}
 use Rattle.mdb_log.specs.History.{Item}
 use Rattle.mdb_pool.specs.Standing.{Fits}
 use Rattle.mdb_topology.specs.Standing.{PoolFits, PoolsFit}

@@ -20,8 +20,8 @@ use Rattle.mdb_log.specs.Homes.{homes}
 use Rattle.mdb_log.specs.Opening.{pool_options}
 use Rattle.mdb_log.specs.Beside.{AllFreshGrants}
 use Rattle.mdb_log.specs.LegalLog.{IsFairAnswer}
-use Rattle.mdb_pool.specs.declared.pool_core.PoolCore.{PoolCore}
-use Rattle.mdb_pool.specs.declared.parts.Plan.{Plan}
+use Rattle.mdb_pool.specs.Core.{PoolCore}
+use Rattle.mdb_pool.specs.Body.{PoolSteps as Plan}
 use Rattle.mdb_pool.specs.Kept.{is_shut}
 use Rattle.mdb_pool.specs.Parts.{Plans, IsPlanOf}
 use Rattle.mdb_pool.specs.Standing.{SameHome}

@@ -15,8 +15,8 @@ use Rattle.mdb_log.specs.History.{Item, did, open_pool, with_facts, with_answer}
 use Rattle.mdb_log.specs.Homes.{homes}
 use Rattle.mdb_log.specs.Opening.{pool_options}
 use Rattle.mdb_log.proofs.Later.{with_answer-accepted}
-use Rattle.mdb_pool.specs.declared.pool_core.PoolCore.{PoolCore}
-use Rattle.mdb_pool.specs.declared.parts.Plan.{Plan}
+use Rattle.mdb_pool.specs.Core.{PoolCore}
+use Rattle.mdb_pool.specs.Body.{PoolSteps as Plan}
 use Rattle.mdb_pool.specs.declared.parts.Answered.{Answered}
 use Rattle.mdb_pool.specs.Parts.{Plans}
 use Rattle.mdb_pool.specs.Standing.{SameHome}

@@ -17,7 +17,7 @@ use Rattle.mdb_log.specs.LegalLog.{AllFirstCome}
 use Rattle.mdb_log.specs.Fresh.{AllGrantFresh}
 use Rattle.mdb_log.specs.Beside.{AllFreshGrants}
 use Rattle.mdb_log.proofs.Later.{of_pool-with_facts}
-use Rattle.mdb_pool.specs.declared.pool_core.PoolCore.{PoolCore}
+use Rattle.mdb_pool.specs.Core.{PoolCore}
 use Rattle.mdb_pool.specs.Answer.{all_facts, reply_of}
 use Rattle.mdb_pool.specs.Serving.{IsServed}
 use Rattle.mdb_pool.specs.Quiet.{IsQuiet}

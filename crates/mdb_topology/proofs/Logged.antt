@@ -20,7 +20,7 @@ use Rattle.mdb_log.specs.Legal.{OnePlace, NoneLeftWaiting}
 use Rattle.mdb_log.specs.LegalLog.{IsFairAnswer, IsOrderly, IsLegal, OpensSeeds}
 use Rattle.mdb_log.specs.Beside.{AllFreshGrants, EntriesGrantFresh}
 use Rattle.mdb_log.proofs.Later.{with_entries-append}
-use Rattle.mdb_pool.specs.declared.pool_core.PoolCore.{PoolCore}
+use Rattle.mdb_pool.specs.Core.{PoolCore}
 use Rattle.mdb_pool.proofs.Places.{one-place}
 use Rattle.mdb_pool.proofs.Served.{served-settled}
 use Rattle.mdb_topology.specs.declared.topology.TopologyCore.{TopologyCore}

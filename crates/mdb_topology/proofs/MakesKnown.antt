@@ -16,7 +16,7 @@ use Rattle.mdb_log.specs.declared.reply.What.{What}
 use Rattle.mdb_log.specs.declared.reply.What.TheVariants.{Servers, Pool}
 use Rattle.mdb_log.specs.History.{Item}
 use Rattle.mdb_log.specs.Homes.{homes}
-use Rattle.mdb_pool.specs.declared.pool_core.PoolCore.{PoolCore}
+use Rattle.mdb_pool.specs.Core.{PoolCore}
 use Rattle.mdb_topology.specs.declared.topology.TopologyCore.{TopologyCore}
 use Rattle.mdb_topology.specs.declared.next.Next.{Next}
 use Rattle.mdb_topology.specs.declared.monitoring.Monitoring.TheVariants.{Same}

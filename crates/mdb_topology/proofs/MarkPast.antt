@@ -17,7 +17,7 @@ use Rattle.mdb_log.specs.declared.reply.What.TheVariants.{Generation}
 use Rattle.mdb_log.specs.History.{Item, of_pool, with_facts}
 use Rattle.mdb_log.specs.Homes.{homes}
 use Rattle.mdb_log.specs.Opening.{pool_options}
-use Rattle.mdb_pool.specs.declared.pool_core.PoolCore.{PoolCore}
+use Rattle.mdb_pool.specs.Core.{PoolCore}
 use Rattle.mdb_pool.specs.Facts.{clear_facts}
 use Rattle.mdb_pool.specs.Kept.{exhausted_now}
 use Rattle.mdb_pool.specs.Refusal.{is_exhausted}

@@ -16,7 +16,7 @@ use Rattle.mdb_log.specs.History.{Item}
 use Rattle.mdb_log.specs.Homes.{Home}
 use Rattle.mdb_log.specs.Opening.{pool_options}
 use Rattle.mdb_log.proofs.Addresses.{same-address}
-use Rattle.mdb_pool.specs.declared.pool_core.PoolCore.{PoolCore}
+use Rattle.mdb_pool.specs.Core.{PoolCore}
 use Rattle.mdb_topology.specs.declared.change.Change.{Change}
 use Rattle.mdb_topology.specs.declared.marked.Asked.{Asked}
 use Rattle.mdb_topology.specs.declared.marked.Asked.TheVariants.{Nothing, CheckNow, CancelIfCleared}

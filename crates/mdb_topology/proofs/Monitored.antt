@@ -4,7 +4,7 @@ use Rattle.std.proofs.Math.Seq.{take-suc}
 use Rattle.std.proofs.lemmas.List.{map-append}
 use Rattle.mdb_base.specs.declared.options.Options.{Options}
 use Rattle.mdb_monitor.specs.declared.monitor.Setting.{Setting}
-use Rattle.mdb_pool.specs.declared.pool_core.PoolCore.{PoolCore}
+use Rattle.mdb_pool.specs.Core.{PoolCore}
 use Rattle.mdb_topology.specs.declared.change.Change.{Change}
 use Rattle.mdb_topology.specs.declared.change.Change.TheVariants.{Alter, Open}
 use Rattle.mdb_topology.specs.Monitors.{setting}

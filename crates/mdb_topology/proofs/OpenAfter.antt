@@ -16,7 +16,7 @@ use Rattle.mdb_log.specs.Own.{is_closing, shuts}
 use Rattle.mdb_log.specs.Requests.{requests, is_unserved}
 use Rattle.mdb_log.specs.State.{State, is_new, is_ready, is_paused, is_closed, state_of}
 use Rattle.mdb_log.proofs.Addresses.{same-address}
-use Rattle.mdb_pool.specs.declared.pool_core.PoolCore.{PoolCore}
+use Rattle.mdb_pool.specs.Core.{PoolCore}
 use Rattle.mdb_pool.specs.Answer.{all_facts}
 use Rattle.mdb_pool.specs.Facts.{closed_fact, pool_closed_fact, all_ends, readied, close_facts}
 use Rattle.mdb_pool.specs.Kept.{is_shut}

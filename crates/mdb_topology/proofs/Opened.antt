@@ -10,7 +10,7 @@ use Rattle.mdb_events.specs.declared.fact.Fact.{Fact}
 use Rattle.mdb_log.specs.declared.step.Act.TheVariants.{Open}
 use Rattle.mdb_log.specs.History.{Item, with_facts}
 use Rattle.mdb_log.specs.Opening.{pool_options}
-use Rattle.mdb_pool.specs.declared.pool_core.PoolCore.{PoolCore}
+use Rattle.mdb_pool.specs.Core.{PoolCore}
 use Rattle.mdb_topology.specs.Description.{begins_with, unopened}
 use Rattle.mdb_topology.specs.Homes.{begun}
 use Rattle.mdb_topology.specs.Events.{opening_fact}

@@ -16,7 +16,7 @@ use Rattle.mdb_log.specs.declared.reply.Reply.TheVariants.{Done}
 use Rattle.mdb_log.specs.History.{history_of}
 use Rattle.mdb_log.specs.LegalLog.{OpensSeeds, IsOrderly}
 use Rattle.mdb_log.specs.Opening.{is_opening, pool_options}
-use Rattle.mdb_pool.specs.declared.pool_core.PoolCore.{PoolCore}
+use Rattle.mdb_pool.specs.Core.{PoolCore}
 use Rattle.mdb_topology.specs.declared.topology.TopologyCore.{TopologyCore}
 use Rattle.mdb_topology.specs.Description.{begins_with}
 use Rattle.mdb_topology.specs.Lines.{entry_after}

@@ -28,7 +28,7 @@ use Rattle.mdb_log.specs.Opening.{pool_options}
 use Rattle.mdb_log.specs.State.{is_ready, state_of}
 use Rattle.mdb_log.proofs.Addresses.{own-address}
 use Rattle.mdb_log.proofs.Frame.{last-facts}
-use Rattle.mdb_pool.specs.declared.pool_core.PoolCore.{PoolCore}
+use Rattle.mdb_pool.specs.Core.{PoolCore}
 use Rattle.mdb_topology.specs.declared.topology.TopologyCore.{TopologyCore}
 use Rattle.mdb_topology.specs.Answer.{answer, answered}
 use Rattle.mdb_topology.specs.Description.{unopened, begins_with}

@@ -13,7 +13,7 @@ use Rattle.mdb_events.specs.declared.fact.Fact.TheVariants.{Opened, Pool}
 use Rattle.mdb_events.specs.declared.cmap.PoolCreatedEvent.{PoolCreatedEvent}
 use Rattle.mdb_events.specs.declared.cmap.CmapEvent.TheVariants.{PoolCreated}
 use Rattle.mdb_log.specs.declared.options.PoolOptions.{PoolOptions}
-use Rattle.mdb_pool.specs.declared.pool_core.PoolCore.{PoolCore}
+use Rattle.mdb_pool.specs.Core.{PoolCore}
 use Rattle.mdb_log.specs.History.{Item, made, pool_created, of_pool, open_pool}
 use Rattle.mdb_log.specs.Connections.{has}
 use Rattle.mdb_log.specs.Requests.{is_claimed}

@@ -21,7 +21,7 @@ use Rattle.mdb_log.specs.Opening.{pool_options, created}
 use Rattle.mdb_log.proofs.Addresses.{own-address}
 use Rattle.mdb_log.proofs.Frame.{other-number}
 use Rattle.mdb_log.proofs.Numbers.{same-number}
-use Rattle.mdb_pool.specs.declared.pool_core.PoolCore.{PoolCore}
+use Rattle.mdb_pool.specs.Core.{PoolCore}
 use Rattle.mdb_pool.specs.Kept.{is_shut}
 use Rattle.mdb_pool.specs.Serving.{next_move, IsServed}
 use Rattle.mdb_pool.specs.Quiet.{IsQuiet}

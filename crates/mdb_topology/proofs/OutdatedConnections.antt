@@ -6,7 +6,7 @@ use Rattle.mdb_log.specs.declared.generation.ConnectionGeneration.TheVariants.{N
 use Rattle.mdb_log.specs.declared.generation.LoadBalancedGeneration.{LoadBalancedGeneration}
 use Rattle.mdb_log.specs.Generations.{service_named}
 use Rattle.mdb_pool.specs.declared.connection.Connection.{Connection}
-use Rattle.mdb_pool.specs.declared.pool_core.PoolCore.{PoolCore}
+use Rattle.mdb_pool.specs.Core.{PoolCore}
 use Rattle.mdb_pool.specs.Kept.{generation_at, clears_before, clears_for}
 use Rattle.mdb_topology.specs.Complaining.{is_outdated}
 

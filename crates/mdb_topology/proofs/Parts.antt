@@ -15,7 +15,7 @@ use Rattle.mdb_log.specs.declared.step.Act.TheVariants.{Ready, Close}
 use Rattle.mdb_log.specs.declared.reply.Reply.{Reply}
 use Rattle.mdb_log.specs.History.{Item, PoolItem, made, of_pool, open_pool}
 use Rattle.mdb_log.specs.Opening.{pool_options}
-use Rattle.mdb_pool.specs.declared.pool_core.PoolCore.{PoolCore}
+use Rattle.mdb_pool.specs.Core.{PoolCore}
 use Rattle.mdb_pool.specs.Facts.{readied, close_facts}
 use Rattle.mdb_pool.specs.Answer.{all_facts}
 use Rattle.mdb_pool.specs.Parts.{Does}

@@ -10,7 +10,7 @@ use Rattle.mdb_log.specs.declared.reply.Refused.{Refused as Why}
 use Rattle.mdb_log.specs.declared.reply.Refused.TheVariants.{TimeBack, RequestKnown}
 use Rattle.mdb_log.specs.History.{Item, of_pool, last_moment}
 use Rattle.mdb_log.specs.Opening.{pool_options}
-use Rattle.mdb_pool.specs.declared.pool_core.PoolCore.{PoolCore}
+use Rattle.mdb_pool.specs.Core.{PoolCore}
 use Rattle.mdb_pool.specs.declared.parts.Answered.{Answered}
 use Rattle.mdb_pool.specs.Parts.{with_item, IsDone, Plans}
 use Rattle.mdb_pool.specs.Refusal.{first_row}

@@ -17,7 +17,7 @@ use Rattle.mdb_log.specs.Homes.{has_job}
 use Rattle.mdb_log.proofs.Numbers.{same-number}
 use Rattle.mdb_log.proofs.Frame.{other-number}
 use Rattle.mdb_pool.specs.declared.connection.Connection.{Connection}
-use Rattle.mdb_pool.specs.declared.pool_core.PoolCore.{PoolCore}
+use Rattle.mdb_pool.specs.Core.{PoolCore}
 use Rattle.mdb_pool.specs.Answer.{first_job}
 use Rattle.mdb_pool.specs.Kept.{request_at, is_asked_at, held_connection, first_unclaimed}
 use Rattle.mdb_pool.specs.Standing.{Fits}

@@ -7,9 +7,10 @@ use Rattle.mdb_events.specs.declared.fact.Fact.{Fact}
 use Rattle.mdb_log.specs.declared.step.Step.{Step}
 use Rattle.mdb_log.specs.declared.step.Act.{Act}
 use Rattle.mdb_log.specs.declared.step.Act.TheVariants.{Ready, Close}
-use Rattle.mdb_pool.specs.declared.pool_core.PoolCore.{PoolCore}
+use Rattle.mdb_pool.specs.Core.{PoolCore}
 use Rattle.mdb_pool.specs.declared.parts.Answered.{Answered}
-use Rattle.mdb_pool.specs.Parts.{IsDone, DoesOne, DoesAll}
+use Rattle.mdb_pool.specs.Parts.{IsDone, DoesOne, DoesAll, LeadsTo}
+use Rattle.mdb_pool.proofs.SameKept.{done_same}
 use Rattle.mdb_pool.specs.Refusing.{refusal_now}
 use Rattle.mdb_topology.specs.declared.change.Change.{Change}
 use Rattle.mdb_topology.specs.Acting.{PlansOne}
@@ -20,7 +21,10 @@ only-last [] x y e = cc
 only-last (z ∷ []) x y e = cc
 only-last (z ∷ w ∷ xs) x y e = cc
 
-module _ (s t : PoolCore) (step : Step) (told : List Answered) (d : DoesAll s t (step ∷ []) told) where
+module _ (s t : PoolCore) (step : Step) (told : List Answered) (l : LeadsTo s t (step ∷ []) told) where
+  d : DoesAll s l.0 (step ∷ []) told
+  d = l.2
+
   -- one step is answered once
   told-one : told ≡ d.0 ∷ []
   told-one = d.3 ∙ ap (λ (rest : List Answered). d.0 ∷ rest) d.5.0
@@ -32,8 +36,8 @@ module _ (s t : PoolCore) (step : Step) (told : List Answered) (d : DoesAll s t 
   pub done-told : (rest : List Answered) (a : Answered) → refusal_now s step ≡ None → told ≡ rest ++ a ∷ [] → IsDone s t step a
   done-told rest a accepted e =
       let same : a ≡ d.0 = only-last rest a d.0 (sym e ∙ told-one) in
-      let one : DoesOne s t step d.0 (refusal_now s step) = subst (λ (u : PoolCore). DoesOne s u step d.0 (refusal_now s step)) (sym d.5.1) d.4 in
-      subst (λ (b : Answered). IsDone s t step b) (sym same) (subst (λ why. DoesOne s t step d.0 why) accepted one)
+      let one : DoesOne s l.0 step d.0 (refusal_now s step) = subst (λ (u : PoolCore). DoesOne s u step d.0 (refusal_now s step)) (sym d.5.1) d.4 in
+      subst (λ (b : Answered). IsDone s t step b) (sym same) (done_same s l.0 t step d.0 l.1 (subst (λ why. DoesOne s l.0 step d.0 why) accepted one))
 
 -- a step that isn't before the pool's last one is not refused where no row speaks of its act
 pub ready-accepted : (s : PoolCore) (m p : ℕ) → s.last ≤ m → refusal_now s (record { moment = m; act = Ready p }) ≡ None

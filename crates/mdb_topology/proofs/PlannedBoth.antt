@@ -9,7 +9,7 @@ use Rattle.mdb_describe.specs.Servers.{is_listed}
 use Rattle.mdb_events.specs.declared.fact.Fact.{Fact}
 use Rattle.mdb_log.specs.History.{Item, with_facts}
 use Rattle.mdb_log.specs.Homes.{Home}
-use Rattle.mdb_pool.specs.declared.pool_core.PoolCore.{PoolCore}
+use Rattle.mdb_pool.specs.Core.{PoolCore}
 use Rattle.mdb_topology.specs.declared.change.Change.{Change}
 use Rattle.mdb_topology.specs.Standing.{home, at_address}
 use Rattle.mdb_topology.specs.Planned.{LeadsAll, CanTake, IsPlanned, LeavesOpen, PlansMore, opened_by}

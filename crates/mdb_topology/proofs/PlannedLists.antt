@@ -12,7 +12,7 @@ use Rattle.mdb_describe.specs.Servers.{is_listed}
 use Rattle.mdb_events.specs.declared.fact.Fact.{Fact}
 use Rattle.mdb_log.specs.History.{Item}
 use Rattle.mdb_log.proofs.Addresses.{same-address}
-use Rattle.mdb_pool.specs.declared.pool_core.PoolCore.{PoolCore}
+use Rattle.mdb_pool.specs.Core.{PoolCore}
 use Rattle.mdb_pool.proofs.Items.{both-true}
 use Rattle.mdb_topology.specs.declared.change.Change.{Change}
 use Rattle.mdb_topology.specs.Planned.{PlansMore}

@@ -13,7 +13,7 @@ use Rattle.mdb_log.specs.declared.step.Act.{Act}
 use Rattle.mdb_log.specs.History.{Item, open_pool}
 use Rattle.mdb_log.specs.Opening.{pool_options}
 use Rattle.mdb_log.proofs.Addresses.{own-address, same-address}
-use Rattle.mdb_pool.specs.declared.pool_core.PoolCore.{PoolCore}
+use Rattle.mdb_pool.specs.Core.{PoolCore}
 use Rattle.mdb_pool.specs.Parts.{IsDone}
 use Rattle.mdb_topology.specs.declared.change.Change.{Change}
 use Rattle.mdb_topology.specs.declared.change.Change.TheVariants.{Alter, Open}

@@ -4,9 +4,10 @@ use Rattle.std.specs.Prelude.{slice_get}
 use Rattle.mdb_events.specs.declared.fact.Fact.{Fact}
 use Rattle.mdb_log.specs.declared.step.Act.{Act}
 use Rattle.mdb_log.specs.declared.step.Step.{Step}
-use Rattle.mdb_pool.specs.declared.pool_core.PoolCore.{PoolCore}
+use Rattle.mdb_pool.specs.Core.{PoolCore}
 use Rattle.mdb_pool.specs.declared.parts.Answered.{Answered}
-use Rattle.mdb_pool.specs.Parts.{IsDone, DoesOne, DoesAll}
+use Rattle.mdb_pool.specs.Parts.{IsDone, DoesOne, DoesAll, LeadsTo}
+use Rattle.mdb_pool.proofs.SameKept.{done_same}
 use Rattle.mdb_pool.specs.Refusing.{refusal_now}
 use Rattle.mdb_topology.specs.declared.change.Change.{Change}
 use Rattle.mdb_topology.specs.declared.marked.Asked.{Asked}
@@ -21,7 +22,10 @@ last-two (z ∷ xs) x y u v e =
     let l2 = length-append xs (x ∷ []) in
     absurd (omega arith)
 
-module _ (s t : PoolCore) (first second : Step) (told : List Answered) (d : DoesAll s t (first ∷ second ∷ []) told) where
+module _ (s t : PoolCore) (first second : Step) (told : List Answered) (l : LeadsTo s t (first ∷ second ∷ []) told) where
+  d : DoesAll s l.0 (first ∷ second ∷ []) told
+  d = l.2
+
   told-two : told ≡ d.0 ∷ d.5.0 ∷ []
   told-two = d.3 ∙ (ap (λ (rest : List Answered). d.0 ∷ rest) d.5.3 ∙ ap (λ (rest : List Answered). d.0 ∷ d.5.0 ∷ rest) d.5.5.0)
 
@@ -42,8 +46,8 @@ module _ (s t : PoolCore) (first second : Step) (told : List Answered) (d : Does
       let u : PoolCore = d.2 in
       let same : (a ≡ d.0) × (b ≡ d.5.0) = last-two rest a b d.0 d.5.0 (sym e ∙ told-two) in
       let one : IsDone s u first d.0 = subst (λ why. DoesOne s u first d.0 why) accepted d.4 in
-      let next : DoesOne u t second d.5.0 (refusal_now u second) = subst (λ (v : PoolCore). DoesOne u v second d.5.0 (refusal_now u second)) (sym d.5.5.1) d.5.4 in
-      let two : IsDone u t second d.5.0 = subst (λ why. DoesOne u t second d.5.0 why) (more u d.0 one) next in
+      let next : DoesOne u l.0 second d.5.0 (refusal_now u second) = subst (λ (v : PoolCore). DoesOne u v second d.5.0 (refusal_now u second)) (sym d.5.5.1) d.5.4 in
+      let two : IsDone u t second d.5.0 = done_same u l.0 t second d.5.0 l.1 (subst (λ why. DoesOne u l.0 second d.5.0 why) (more u d.0 one) next) in
       (u, subst (λ (x : Answered). IsDone s u first x) (sym same.0) one, subst (λ (x : Answered). IsDone u t second x) (sym same.1) two)
 
 -- the first act that was planned is this one

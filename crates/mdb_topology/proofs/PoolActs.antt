@@ -13,7 +13,7 @@ use Rattle.mdb_log.specs.Requests.{names_party, asks_how, leaves, is_claimed}
 use Rattle.mdb_log.specs.Opening.{pool_options}
 use Rattle.mdb_log.proofs.Frame.{other-number, no-party-asked}
 use Rattle.mdb_pool.specs.declared.request.Request.{Request as Asker}
-use Rattle.mdb_pool.specs.declared.pool_core.PoolCore.{PoolCore}
+use Rattle.mdb_pool.specs.Core.{PoolCore}
 use Rattle.mdb_pool.specs.Answer.{reply_of}
 use Rattle.mdb_pool.specs.Parts.{with_item}
 use Rattle.mdb_pool.specs.Refusal.{first_row, wrong_service}

@@ -17,7 +17,7 @@ use Rattle.mdb_log.specs.Opening.{pool_options}
 use Rattle.mdb_log.proofs.Numbers.{same-number}
 use Rattle.mdb_pool.specs.declared.connection.Connection.{Connection}
 use Rattle.mdb_pool.specs.declared.request.Request.{Request as Asker}
-use Rattle.mdb_pool.specs.declared.pool_core.PoolCore.{PoolCore}
+use Rattle.mdb_pool.specs.Core.{PoolCore}
 use Rattle.mdb_pool.specs.Refusal.{first_row}
 use Rattle.mdb_pool.specs.Refusing.{is_here, is_pending_here, is_pinned_here, rows_now}
 use Rattle.mdb_pool.specs.Kept.{request_at, connection_at, held_connection, is_open_now, is_asked_at, is_held_at, is_shut, pins_at}

@@ -17,7 +17,7 @@ use Rattle.mdb_log.specs.Connections.{has, pending_list}
 use Rattle.mdb_log.specs.Requests.{end_of, outcome_of, is_claimed}
 use Rattle.mdb_log.specs.Homes.{Home}
 use Rattle.mdb_log.specs.Opening.{pool_options}
-use Rattle.mdb_pool.specs.declared.pool_core.PoolCore.{PoolCore}
+use Rattle.mdb_pool.specs.Core.{PoolCore}
 use Rattle.mdb_pool.specs.Answer.{first_job}
 use Rattle.mdb_pool.specs.Refusal.{first_row}
 use Rattle.mdb_topology.specs.Homes.{home_of, is_here}

@@ -8,7 +8,7 @@ use Rattle.mdb_log.specs.declared.reply.Reply.TheVariants.{NoJob}
 use Rattle.mdb_log.specs.History.{Item, did, of_pool, with_facts}
 use Rattle.mdb_log.specs.Homes.{Home}
 use Rattle.mdb_log.specs.Opening.{pool_options}
-use Rattle.mdb_pool.specs.declared.pool_core.PoolCore.{PoolCore}
+use Rattle.mdb_pool.specs.Core.{PoolCore}
 use Rattle.mdb_pool.specs.Serving.{serving}
 use Rattle.mdb_pool.proofs.Served.{served-serving}
 use Rattle.mdb_topology.specs.Homes.{home_of, begun}

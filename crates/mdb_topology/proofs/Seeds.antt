@@ -13,7 +13,7 @@ use Rattle.mdb_describe.specs.declared.description.ServerDescription.{ServerDesc
 use Rattle.mdb_describe.specs.Descriptions.{unknown}
 use Rattle.mdb_describe.specs.Servers.{addresses_of, is_known, put, add, add_all}
 use Rattle.mdb_log.specs.LegalLog.{numbered}
-use Rattle.mdb_pool.specs.declared.pool_core.PoolCore.{PoolCore}
+use Rattle.mdb_pool.specs.Core.{PoolCore}
 use Rattle.mdb_topology.specs.Standing.{home}
 
 -- a server that joins is one more

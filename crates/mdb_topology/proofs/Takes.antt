@@ -9,7 +9,7 @@ use Rattle.mdb_log.specs.declared.step.Act.{Act}
 use Rattle.mdb_log.specs.declared.step.Act.TheVariants.{Request, Warm, Collect, Claim, GiveUp}
 use Rattle.mdb_log.specs.declared.reply.Reply.{Reply}
 use Rattle.mdb_events.specs.declared.end.End.{End}
-use Rattle.mdb_pool.specs.declared.pool_core.PoolCore.{PoolCore}
+use Rattle.mdb_pool.specs.Core.{PoolCore}
 use Rattle.mdb_log.specs.History.{Item, did, PoolItem, of_pool, with_facts, with_answer, after_facts, last_moment, given, open_pool}
 use Rattle.mdb_log.specs.Connections.{has, pending_list}
 use Rattle.mdb_log.specs.Requests.{some_act, names_party, was_asked, leaves, told, asks_how, is_outcome, is_claimed, end_of, outcome_of}

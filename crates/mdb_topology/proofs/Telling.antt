@@ -11,7 +11,7 @@ use Rattle.mdb_log.specs.Limits.{WithinLimits}
 use Rattle.mdb_log.specs.LegalLog.{FirstCome, AllFirstCome}
 use Rattle.mdb_log.specs.Beside.{FreshGrant, AllFreshGrants}
 use Rattle.mdb_log.specs.Opening.{pool_options}
-use Rattle.mdb_pool.specs.declared.pool_core.PoolCore.{PoolCore}
+use Rattle.mdb_pool.specs.Core.{PoolCore}
 use Rattle.mdb_pool.specs.Serving.{IsServed}
 use Rattle.mdb_pool.specs.Quiet.{IsQuiet}
 use Rattle.mdb_topology.specs.Turns.{in_turn}

@@ -25,7 +25,7 @@ use Rattle.mdb_log.specs.Beside.{FreshGrant, AllFreshGrants}
 use Rattle.mdb_log.specs.Opening.{pool_options}
 use Rattle.mdb_log.specs.Own.{IsAccepted}
 use Rattle.mdb_log.proofs.Later.{with_answer-accepted}
-use Rattle.mdb_pool.specs.declared.pool_core.PoolCore.{PoolCore}
+use Rattle.mdb_pool.specs.Core.{PoolCore}
 use Rattle.mdb_pool.specs.Serving.{serving}
 use Rattle.mdb_pool.proofs.Served.{served-serving}
 use Rattle.mdb_topology.specs.Homes.{home_of, begun}

@@ -16,7 +16,7 @@ use Rattle.mdb_log.specs.Driver.{answers, is_never_refused, is_time_back, is_in_
 use Rattle.mdb_log.specs.History.{Item, of_pool, last_moment, with_facts}
 use Rattle.mdb_log.specs.Homes.{Home, homes}
 use Rattle.mdb_log.specs.Opening.{pool_options}
-use Rattle.mdb_pool.specs.declared.pool_core.PoolCore.{PoolCore}
+use Rattle.mdb_pool.specs.Core.{PoolCore}
 use Rattle.mdb_pool.specs.Refusal.{first_row}
 use Rattle.mdb_pool.specs.Serving.{serving}
 use Rattle.mdb_pool.proofs.Served.{served-serving}

@@ -5,9 +5,10 @@ use Rattle.mdb_log.specs.declared.step.Step.{Step}
 use Rattle.mdb_log.specs.declared.step.Act.{Act}
 use Rattle.mdb_log.specs.declared.step.Act.TheVariants as Do
 use Rattle.mdb_log.specs.Acts.{IsPoolAct}
-use Rattle.mdb_pool.specs.declared.pool_core.PoolCore.{PoolCore}
+use Rattle.mdb_pool.specs.Core.{PoolCore}
 use Rattle.mdb_pool.specs.declared.parts.Answered.{Answered}
-use Rattle.mdb_pool.specs.Parts.{IsDone, DoesOne, DoesAll}
+use Rattle.mdb_pool.specs.Parts.{IsDone, DoesOne, LeadsTo}
+use Rattle.mdb_pool.proofs.SameKept.{done_same}
 use Rattle.mdb_pool.specs.Refusing.{refusal_now}
 use Rattle.mdb_topology.specs.Finding.{is_pool_act}
 
@@ -38,16 +39,18 @@ only-last (z ∷ []) x y e = cc
 only-last (z ∷ w ∷ xs) x y e = cc
 
 module _ (s t : PoolCore) (step : Step) where
-  one-told : (told : List Answered) → DoesAll s t (step ∷ []) told → (a : Answered) × (told ≡ a ∷ []) × DoesOne s t step a (refusal_now s step)
-  one-told told d = (d.0, d.3 ∙ ap (λ rest. d.0 ∷ rest) d.5.0, subst (λ u. DoesOne s u step d.0 (refusal_now s step)) (sym d.5.1) d.4)
+  one-told : (told : List Answered) → LeadsTo s t (step ∷ []) told → (a : Answered) × (told ≡ a ∷ []) × (refusal_now s step ≡ None → IsDone s t step a)
+  one-told told l =
+      let d = l.2 in
+      (d.0, d.3 ∙ ap (λ rest. d.0 ∷ rest) d.5.0, λ n. done_same s l.0 t step d.0 l.1 (subst (λ u. IsDone s u step d.0) (sym d.5.1) (subst (DoesOne s d.2 step d.0) n d.4)))
 
   -- there is an answer
-  pub some-told : (told : List Answered) → DoesAll s t (step ∷ []) told → length told ≡ 0 → ⊥
+  pub some-told : (told : List Answered) → LeadsTo s t (step ∷ []) told → length told ≡ 0 → ⊥
   some-told told d e = let one : length told ≡ 1 = ap length (one-told told d).1 in omega arith
 
   -- and the last one is of the step
-  pub done-told : (rest told : List Answered) (a : Answered) → refusal_now s step ≡ None → told ≡ rest ++ a ∷ [] → DoesAll s t (step ∷ []) told → IsDone s t step a
+  pub done-told : (rest told : List Answered) (a : Answered) → refusal_now s step ≡ None → told ≡ rest ++ a ∷ [] → LeadsTo s t (step ∷ []) told → IsDone s t step a
   done-told rest told a n e d =
       let o = one-told told d in
       let same : a ≡ o.0 = only-last rest a o.0 (sym e ∙ o.1) in
-      subst (λ b. IsDone s t step b) (sym same) (subst (DoesOne s t step o.0) n o.2)
+      subst (λ b. IsDone s t step b) (sym same) (o.2 n)

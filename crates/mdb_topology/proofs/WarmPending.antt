@@ -18,7 +18,7 @@ use Rattle.mdb_log.specs.Own.{IsAccepted}
 use Rattle.mdb_log.proofs.Later.{of_pool-with_facts, with_answer-accepted}
 use Rattle.mdb_log.proofs.Numbers.{same-number}
 use Rattle.mdb_pool.specs.declared.connection.Connection.{Connection}
-use Rattle.mdb_pool.specs.declared.pool_core.PoolCore.{PoolCore}
+use Rattle.mdb_pool.specs.Core.{PoolCore}
 use Rattle.mdb_pool.specs.Kept.{connection_at, request_at, given_of, holder_at, warm_of, is_pending_at}
 use Rattle.mdb_pool.specs.Standing.{Fits}
 use Rattle.mdb_pool.proofs.Acts.{pending-is}

@@ -4,9 +4,9 @@ use Rattle.mdb_events.specs.declared.fact.Fact.{Fact}
 use Rattle.mdb_log.specs.declared.step.Step.{Step}
 use Rattle.mdb_log.specs.declared.step.Act.{Act}
 use Rattle.mdb_log.specs.declared.step.Act.TheVariants.{Ready, Close}
-use Rattle.mdb_pool.specs.declared.pool_core.PoolCore.{PoolCore}
+use Rattle.mdb_pool.specs.Core.{PoolCore}
 use Rattle.mdb_pool.specs.declared.parts.Answered.{Answered}
-use Rattle.mdb_pool.specs.declared.parts.Plan.{Plan}
+use Rattle.mdb_pool.specs.Body.{PoolSteps as Plan}
 use Rattle.mdb_pool.specs.Parts.{Plans, IsPlanOf, IsDone}
 use Rattle.mdb_topology.specs.declared.change.Change.{Change}
 use Rattle.mdb_topology.specs.declared.change.Change.TheVariants.{Alter}

@@ -5,7 +5,7 @@ use Rattle.mdb_base.specs.declared.error.Error.{Error}
 use Rattle.mdb_base.specs.Errors.{is_incompatible, is_shutting_down, is_state_change}
 use Rattle.mdb_describe.specs.Topology.{server_at}
 use Rattle.mdb_pool.specs.declared.connection.Connection.{Connection}
-use Rattle.mdb_pool.specs.declared.pool_core.PoolCore.{PoolCore}
+use Rattle.mdb_pool.specs.Core.{PoolCore}
 use Rattle.mdb_pool.specs.Kept.{clears_before, clears_for, held_connection}
 use Rattle.mdb_topology.specs.declared.topology.TopologyCore.{TopologyCore}
 use Rattle.mdb_topology.specs.Current.{operating, known_version, may_tell}

@@ -17,9 +17,9 @@ use Rattle.mdb_log.specs.declared.reply.Refused.{Refused as Cause}
 use Rattle.mdb_log.specs.History.{Item, PoolItem, of_pool, service_in}
 use Rattle.mdb_log.specs.Opening.{pool_options}
 use Rattle.mdb_pool.specs.declared.connection.Connection.{Connection}
-use Rattle.mdb_pool.specs.declared.pool_core.PoolCore.{PoolCore}
+use Rattle.mdb_pool.specs.Core.{PoolCore}
 use Rattle.mdb_pool.specs.declared.parts.Answered.{Answered}
-use Rattle.mdb_pool.specs.declared.parts.Plan.{Plan}
+use Rattle.mdb_pool.specs.Body.{PoolSteps as Plan}
 use Rattle.mdb_pool.specs.Facts.{clear_facts}
 use Rattle.mdb_pool.specs.Kept.{clears_before, clears_for}
 use Rattle.mdb_pool.specs.Parts.{Plans, IsPlanOf, IsDone}

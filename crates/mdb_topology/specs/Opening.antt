@@ -7,7 +7,7 @@ use Rattle.mdb_describe.specs.Servers.{is_known}
 use Rattle.mdb_events.specs.declared.fact.Fact.{Fact}
 use Rattle.mdb_log.specs.History.{Item}
 use Rattle.mdb_log.specs.Opening.{pool_options}
-use Rattle.mdb_pool.specs.declared.pool_core.PoolCore.{PoolCore}
+use Rattle.mdb_pool.specs.Core.{PoolCore}
 use Rattle.mdb_topology.specs.Description.{begins_with}
 use Rattle.mdb_topology.specs.Publishing.{publication, opening}
 use Rattle.mdb_topology.specs.Standing.{at_address, PoolsStand}

@@ -10,7 +10,7 @@ use Rattle.mdb_log.specs.LegalLog.{IsFairAnswer}
 use Rattle.mdb_log.specs.Own.{IsAccepted}
 use Rattle.mdb_log.specs.Beside.{AllFreshGrants}
 use Rattle.mdb_log.specs.Opening.{pool_options}
-use Rattle.mdb_pool.specs.declared.pool_core.PoolCore.{PoolCore}
+use Rattle.mdb_pool.specs.Core.{PoolCore}
 use Rattle.mdb_pool.specs.Parts.{Plans, IsPlanOf}
 use Rattle.mdb_pool.specs.Standing.{SameHome}
 use Rattle.mdb_topology.specs.declared.outcome.Outcome.{Outcome}

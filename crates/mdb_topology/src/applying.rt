@@ -8,7 +8,7 @@ use mdb_base::OutOfMemory;
 use mdb_pool::parts::apply;
 
 impl Pools {
-    ghost use Rattle.mdb_pool.specs.declared.pool_core.PoolCore.{PoolCore};
+    ghost use Rattle.mdb_pool.specs.Core.{PoolCore};
     ghost use Rattle.mdb_topology.specs.Planned.{Leads, LeadsAll, pools_opened, opened_by};
 
     /// Room for so many more pools, so that opening them takes no memory.

@@ -4,7 +4,7 @@ ghost use Rattle.std.specs.Prelude.{◌≡◌, ◌≤◌, ◌<◌, ◌&&◌, IfO
 ghost use Rattle.mdb_log.specs.declared.step.Act.TheVariants.{Hello as HelloAct, Error as ErrorAct};
 ghost use Rattle.mdb_log.specs.declared.checked.HelloResult.TheVariants.{Err as Erred};
 ghost use Rattle.mdb_pool.specs.declared.connection.Connection.{Connection};
-ghost use Rattle.mdb_pool.specs.declared.pool_core.PoolCore.{PoolCore as Core};
+ghost use Rattle.mdb_pool.specs.Core.{PoolCore as Core};
 ghost use Rattle.mdb_pool.specs.Kept.{connection_at};
 ghost use Rattle.mdb_topology.specs.Current.{operating};
 ghost use Rattle.mdb_topology.specs.Errors.{case_of, for_service};

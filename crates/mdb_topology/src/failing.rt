@@ -8,7 +8,7 @@ ghost use Rattle.mdb_log.specs.declared.step.Act.TheVariants.{Failed as FailedAc
 ghost use Rattle.mdb_log.specs.declared.step.FailedAt.{FailedAt as At};
 ghost use Rattle.mdb_log.specs.declared.step.FailedAt.TheVariants.{Post as PostAt};
 ghost use Rattle.mdb_pool.specs.declared.connection.Connection.{Connection};
-ghost use Rattle.mdb_pool.specs.declared.pool_core.PoolCore.{PoolCore as Core};
+ghost use Rattle.mdb_pool.specs.Core.{PoolCore as Core};
 ghost use Rattle.mdb_pool.specs.Kept.{clears_before, clears_for, connection_at};
 ghost use Rattle.mdb_topology.specs.Current.{establishing};
 ghost use Rattle.mdb_topology.specs.Errors.{case_of};

@@ -4,7 +4,7 @@ ghost use Rattle.std.specs.Prelude.{◌≡◌, ◌<◌, ◌++◌, ◌∷◌, [],
 ghost use Rattle.mdb_log.specs.Acts.{IsPoolAct};
 ghost use Rattle.mdb_pool.specs.Parts.{IsDone};
 ghost use Rattle.mdb_pool.specs.Refusing.{refusal_now};
-ghost use Rattle.mdb_pool.specs.declared.pool_core.PoolCore.{PoolCore as Core};
+ghost use Rattle.mdb_pool.specs.Core.{PoolCore as Core};
 ghost use Rattle.mdb_pool.specs.declared.parts.Answered.{Answered as Answer};
 ghost use Rattle.mdb_topology.specs.Failing.{PlansBoth};
 ghost use Rattle.mdb_topology.specs.Marking.{asked_of};

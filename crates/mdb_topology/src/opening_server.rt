@@ -5,7 +5,7 @@ ghost use Rattle.mdb_base.specs.Equality.{same_address};
 ghost use Rattle.mdb_base.specs.OptionRules.{all_different};
 ghost use Rattle.mdb_describe.specs.Servers.{is_listed};
 ghost use Rattle.mdb_log.specs.Opening.{created, pool_options};
-ghost use Rattle.mdb_pool.specs.declared.pool_core.PoolCore.{PoolCore as Core};
+ghost use Rattle.mdb_pool.specs.Core.{PoolCore as Core};
 ghost use Rattle.mdb_topology.specs.Planned.{PlansMore};
 ghost use Rattle.mdb_topology.specs.Publishing.{opened_at, server_opened};
 ghost use Rattle.mdb_topology.specs.Standing.{at_address, are_absent};

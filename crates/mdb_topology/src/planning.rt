@@ -4,7 +4,7 @@ ghost use Rattle.std.specs.Prelude.{◌≡◌, ◌<◌, IfOk, OnOk, None, Some, 
 ghost use Rattle.mdb_log.specs.Acts.{IsPoolAct};
 ghost use Rattle.mdb_pool.specs.Parts.{Plans, IsPlanOf, IsDone};
 ghost use Rattle.mdb_pool.specs.Refusing.{refusal_now};
-ghost use Rattle.mdb_pool.specs.declared.pool_core.PoolCore.{PoolCore as Core};
+ghost use Rattle.mdb_pool.specs.Core.{PoolCore as Core};
 
 use crate::change::Change;
 use crate::pools::Pools;
@@ -49,9 +49,9 @@ impl Pools {
         ensures planned { OnOk result (PlansOne self.old.cores.items place step.moment (λ p. step.act) changes.old.items changes.new.items facts.old.items facts.new.items) }
     {
         let (answered, plan) = plan_one(alloc, &mut self.cores[place], step)?;
+        changes.push(Change::Alter(place, plan))?;
         let mut told = answered.facts.into_inner();
         facts.append(&mut told)?;
-        changes.push(Change::Alter(place, plan))?;
         Ok(())
     }
 }

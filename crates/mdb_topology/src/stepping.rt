@@ -82,7 +82,7 @@ impl TopologyCore {
     ghost use Rattle.mdb_describe.specs.declared.topology.TopologyDescription.{TopologyDescription as Description};
     ghost use Rattle.mdb_log.specs.Acts.{IsDriverAct};
     ghost use Rattle.mdb_log.specs.History.{Item};
-    ghost use Rattle.mdb_pool.specs.declared.pool_core.PoolCore.{PoolCore};
+    ghost use Rattle.mdb_pool.specs.Core.{PoolCore};
     ghost use Rattle.mdb_topology.specs.Planned.{LeadsAll, opened_by};
     ghost use Rattle.mdb_topology.specs.Standing.{StandsFor, StandsForSome, IsSame};
     ghost use Rattle.mdb_topology.specs.Answer.{answer};

@@ -1,10 +1,17 @@
-use Rattle.std.proofs.Common.{◌≡◌, true, false, Some, refl, sym, ◌∙◌, ap}
+use Rattle.std.proofs.Common.{◌≡◌, ℕ, true, false, Some, refl, sym, ◌∙◌, ap}
+use Rattle.mdb_base.specs.declared.address.ServerAddress.{ServerAddress}
 use Rattle.mdb_log.specs.declared.generation.PoolGeneration.{PoolGeneration}
 use Rattle.mdb_log.specs.declared.job.Job.{Job}
 use Rattle.mdb_log.specs.Connections.{has, pending_list}
-use Rattle.mdb_pool.specs.Jobs.{items_before, generations}
+use Rattle.mdb_pool.specs.Core.{PoolCore}
 use Rattle.mdb_pool.proofs.Acts.{pending-is}
 use Rattle.mdb_pool.proofs.pool_core.PoolCore.job.Goals as goal
+
+abbrev job_of : ℕ → ℕ → ServerAddress → PoolGeneration → Job
+job_of p id a g = record { pool = p; id = id; address = a; generation = record { pool = p; generation = g } }
+
+same-job : (p q id : ℕ) (a b : ServerAddress) (g k : PoolGeneration) → p ≡ q → a ≡ b → g ≡ k → Some (job_of p id a g) ≡ Some (job_of q id b k)
+same-job p q id a b g k e f h = rw (e, f, h) refl
 
 pub returns-then-not-is_pending-clause-kept : goal.returns-then-not-is_pending-clause-kept
 returns-then-not-is_pending-clause-kept c = λ xs z.
@@ -15,4 +22,4 @@ pub returns-clause-kept : goal.returns-clause-kept
 returns-clause-kept c = λ xs z.
     let s = c.args.self.now in
     let waits : has c.args.id (pending_list xs) ≡ true = pending-is s xs z c.args.id ∙ (sym c.is_pending.ensures.kept ∙ c.if-not-is_pending.false) in
-    rw (waits, c.in_ok-address.ensures.cases) (ap (λ (g : PoolGeneration). Some (record { pool = s.pool; id = c.args.id; address = s.address; generation = record { pool = s.pool; generation = g } })) (c.in_ok-generation.ensures xs z waits))
+    rw waits (same-job _ s.pool c.args.id _ s.address _ _ (ap (λ (v : PoolCore). v.pool) c.self.view_is) (c.in_ok-address.ensures.cases ∙ ap (λ (v : PoolCore). v.address) c.self.view_is) (c.in_ok-generation.ensures xs z waits))

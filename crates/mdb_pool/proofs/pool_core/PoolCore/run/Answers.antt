@@ -3,7 +3,7 @@ use Rattle.std.proofs.lemmas.Grind.{common_steps}
 use Rattle.mdb_log.specs.Acts.{IsPoolAct}
 use Rattle.mdb_log.specs.declared.step.Step.{Step}
 use Rattle.mdb_log.specs.declared.log.Entry.{Entry}
-use Rattle.mdb_pool.specs.declared.pool_core.PoolCore.{PoolCore}
+use Rattle.mdb_pool.specs.Core.{PoolCore}
 use Rattle.mdb_pool.specs.Standing.{SameHome, Runs}
 use Rattle.mdb_pool.proofs.Runs.{run-more}
 use Rattle.mdb_pool.proofs.pool_core.PoolCore.run.Goals as goal

@@ -1,6 +1,6 @@
 use Rattle.std.proofs.Common.{◌≡◌, ◌+◌, List, length, drop}
 use Rattle.std.specs.Vec.{vec_capacity}
-use Rattle.mdb_pool.specs.declared.pool_core.PoolCore.{PoolCore}
+use Rattle.mdb_pool.specs.Core.{PoolCore}
 use Rattle.mdb_topology.specs.Planned.{LeadsAll, opened_by}
 use Rattle.mdb_topology.proofs.pools.Pools.apply_all.Given as goal
 

@@ -2,7 +2,7 @@ use Rattle.std.proofs.Common.{◌≡◌, ◌++◌, length, Some, refl, sym, ◌�
 use Rattle.std.specs.Prelude.{slice_get}
 use Rattle.std.specs.Vec.{with_item}
 use Rattle.std.proofs.lemmas.Option.{slice_get_read}
-use Rattle.mdb_pool.specs.declared.pool_core.PoolCore.{PoolCore}
+use Rattle.mdb_pool.specs.Core.{PoolCore}
 use Rattle.mdb_pool.specs.Parts.{Plans, IsPlanOf}
 use Rattle.mdb_topology.proofs.SameVec.{put-back}
 use Rattle.mdb_topology.proofs.pools.Pools.plan_act.Goals as goal

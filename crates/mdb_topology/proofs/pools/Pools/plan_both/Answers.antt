@@ -2,7 +2,7 @@ use Rattle.std.proofs.Common.{◌≡◌, ◌++◌, true, length, Some, None, ref
 use Rattle.std.specs.Prelude.{slice_get, get_or}
 use Rattle.std.specs.Vec.{with_item}
 use Rattle.std.proofs.lemmas.Option.{slice_get_read}
-use Rattle.mdb_pool.specs.declared.pool_core.PoolCore.{PoolCore}
+use Rattle.mdb_pool.specs.Core.{PoolCore}
 use Rattle.mdb_topology.specs.Failing.{DoesBoth}
 use Rattle.mdb_topology.specs.Marking.{asked_of}
 use Rattle.mdb_topology.proofs.Places.{some-same}

@@ -4,7 +4,7 @@ use Rattle.std.proofs.lemmas.Option.{slice_get_read}
 use Rattle.mdb_log.specs.Acts.{IsPoolAct}
 use Rattle.mdb_log.specs.declared.step.Act.{Act}
 use Rattle.mdb_log.specs.declared.step.Act.TheVariants.{Clear as ClearAct}
-use Rattle.mdb_pool.specs.declared.pool_core.PoolCore.{PoolCore}
+use Rattle.mdb_pool.specs.Core.{PoolCore}
 use Rattle.mdb_pool.specs.Parts.{IsDone}
 use Rattle.mdb_pool.specs.Refusing.{refusal_now}
 use Rattle.mdb_topology.specs.Acting.{step_of}

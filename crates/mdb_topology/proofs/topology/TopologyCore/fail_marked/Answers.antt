@@ -3,7 +3,7 @@ use Rattle.std.specs.Prelude.{slice_get}
 use Rattle.std.proofs.lemmas.Option.{slice_get_read}
 use Rattle.mdb_describe.specs.Descriptions.{failed}
 use Rattle.mdb_describe.specs.Update.{updated}
-use Rattle.mdb_pool.specs.declared.pool_core.PoolCore.{PoolCore}
+use Rattle.mdb_pool.specs.Core.{PoolCore}
 use Rattle.mdb_topology.specs.declared.marked.Marked.TheVariants.{Refused, Told}
 use Rattle.mdb_topology.specs.Failing.{asked_after, FailureComes}
 use Rattle.mdb_topology.proofs.FailedActs.{marked-refused, marked-follows}

@@ -3,7 +3,7 @@ use Rattle.std.specs.Prelude.{slice_get, unwrap_or}
 use Rattle.std.proofs.lemmas.Result.{IfOk-weaker}
 use Rattle.mdb_log.specs.declared.reply.Refused.TheVariants.{NotHolder}
 use Rattle.mdb_log.specs.declared.reply.Reply.TheVariants.{Changed}
-use Rattle.mdb_pool.specs.declared.pool_core.PoolCore.{PoolCore}
+use Rattle.mdb_pool.specs.Core.{PoolCore}
 use Rattle.mdb_pool.specs.Kept.{connection_at, held_connection, id_at}
 use Rattle.mdb_pool.proofs.Items.{both-true}
 use Rattle.mdb_pool.proofs.PinnedActs.{held-at}

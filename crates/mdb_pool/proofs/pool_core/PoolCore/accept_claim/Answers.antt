@@ -1,6 +1,0 @@
-use Rattle.std.proofs.Common.{refl}
-use Rattle.mdb_pool.proofs.ClaimedActs.{claim-accepts}
-use Rattle.mdb_pool.proofs.pool_core.PoolCore.accept_claim.Goals as goal
-
-pub returns-clause-accepts : goal.returns-clause-accepts
-returns-clause-accepts c = λ xs z. claim-accepts c.args.self.now c.take_job.new.self (record c.take_job.new.self { last = c.args.moment }) c.serve.new.self c.args.facts.now.items c.serve.new.facts.items c.args.moment c.in_ok-reply.reply xs z c.in_ok-reply.ensures.core refl c.in_ok-serve.ensures.home c.in_ok-serve.ensures.notes c.in_ok-serve.ensures.serves c.in_ok-reply.ensures.reply

@@ -1,6 +1,0 @@
-use Rattle.std.proofs.Common.{sym}
-use Rattle.mdb_pool.proofs.PinnedActs.{pin-accepts}
-use Rattle.mdb_pool.proofs.pool_core.PoolCore.accept_pin.Goals as goal
-
-pub returns-clause-accepts : goal.returns-clause-accepts
-returns-clause-accepts c = λ xs z. pin-accepts c.args.self.now c.add_pin.new.self c.serve.new.self c.args.facts.now.items c.serve.new.facts.items c.args.moment c.args.party c.in-Some.connection xs z (sym c.in-Some.ensures) c.in_ok-add_pin.ensures c.in_ok-serve.ensures.home c.in_ok-serve.ensures.notes c.in_ok-serve.ensures.serves

@@ -1,0 +1,155 @@
+-- What a pool is read from, and how its changes are made again.
+use Rattle.std.specs.Prelude.{◌&&◌, not, ℕ, false, Option, None, []}
+use Rattle.mdb_base.specs.declared.object_id.ObjectId.{ObjectId}
+use Rattle.mdb_slots.specs.Open.{ListSteps, or_else, list_after, ListFits, room_after as length_after}
+use Rattle.mdb_slots.specs.Table.{TableSteps, Capacities, items, nothing_shelved, shelf_after, capacity_after, Fits as TableFits}
+use Rattle.mdb_slots.specs.Sided.{SidedSteps, SidedCapacities, SidedFits, sided_after, sided_capacity_after, nothing_sided}
+use Rattle.mdb_pool.specs.Places.{is_available, is_pending, is_queued}
+use Rattle.mdb_pool.specs.declared.connection.Connection.{Connection}
+use Rattle.mdb_pool.specs.declared.request.Request.{Request}
+use Rattle.mdb_pool.specs.declared.status.Status.{Status}
+use Rattle.mdb_pool.specs.declared.status.Status.TheVariants.{New}
+use Rattle.mdb_pool.specs.declared.status.Clear.{Clear}
+use Rattle.mdb_pool.specs.Inner.{PoolShelf, PoolRoom, Inner}
+use Rattle.mdb_pool.specs.Core.{PoolCore}
+use Rattle.mdb_pool.specs.declared.body.Body.{Body}
+
+-- the changes of a pool
+pub record PoolSteps : Type 0 where
+  pub last : Option ℕ
+  pub created : Option ℕ
+  pub connections : SidedSteps Connection
+  pub requests : SidedSteps Request
+  pub status : Option Status
+  pub clears : ListSteps Clear
+  pub settled : TableSteps ℕ
+  pub claimed : TableSteps ℕ
+
+-- the pool that is read from it
+abbrev pub pool_of : Inner → PoolCore
+pool_of i = record {
+  pool = i.base.pool;
+  address = i.base.address;
+  options = i.base.options;
+  last = i.base.last;
+  created = i.base.created;
+  connections = items i.base.connections.table;
+  requests = items i.base.requests.table;
+  status = i.base.status;
+  clears = i.base.clears;
+  settled = items i.base.settled;
+  claimed = items i.base.claimed;
+  inner = i;
+}
+
+-- what the pool is read from once the changes are made
+abbrev pub pool_after : PoolSteps → PoolShelf → PoolShelf
+pool_after p s = record {
+  pool = s.pool;
+  address = s.address;
+  options = s.options;
+  last = or_else p.last s.last;
+  created = or_else p.created s.created;
+  connections = sided_after p.connections s.connections;
+  requests = sided_after p.requests s.requests;
+  status = or_else p.status s.status;
+  clears = list_after p.clears s.clears;
+  settled = shelf_after p.settled s.settled;
+  claimed = shelf_after p.claimed s.claimed;
+}
+
+-- how long each part becomes without memory once the changes are made
+abbrev pub room_after : PoolSteps → PoolRoom → PoolRoom
+room_after p r = record {
+  connections = sided_capacity_after p.connections r.connections;
+  requests = sided_capacity_after p.requests r.requests;
+  clears = length_after p.clears r.clears;
+  settled = capacity_after p.settled r.settled;
+  claimed = capacity_after p.claimed r.claimed;
+}
+
+abbrev pub inner_after : PoolSteps → Inner → Inner
+inner_after p i = record { base = pool_after p i.base; room = room_after p i.room }
+
+-- the pool as it is once the changes are made
+abbrev pub led : PoolSteps → PoolCore → PoolCore
+led p s = pool_of (inner_after p s.inner)
+
+abbrev pub no_service : {T : Type 0} → T → Option ObjectId
+no_service x = None
+
+abbrev pub number_of : ℕ → ℕ
+number_of k = k
+
+-- the changes can be made without memory, and lead to a pool
+abbrev pub PoolFits : PoolSteps → Inner → Type 0
+PoolFits p i =
+    SidedFits (λ x. x.id) (λ x. x.service) (λ x. x.since) (λ x. is_available x.place) (λ x. is_pending x.place) p.connections i.base.connections i.room.connections
+    × SidedFits (λ q. q.number) no_service (λ q. q.asked_at) (λ q. is_queued q.phase) (λ q. is_queued q.phase && not q.warm) p.requests i.base.requests i.room.requests
+    × ListFits p.clears i.base.clears i.room.clears
+    × TableFits number_of p.settled i.base.settled i.room.settled
+    × TableFits number_of p.claimed i.base.claimed i.room.claimed
+
+-- the same of the parts of a pool
+abbrev pub base_of : Body → PoolShelf
+base_of b = record {
+  pool = b.pool;
+  address = b.address;
+  options = b.options;
+  last = b.last.base;
+  created = b.created.base;
+  connections = b.connections.base;
+  requests = b.requests.base;
+  status = b.status.base;
+  clears = b.clears.base;
+  settled = b.settled.base;
+  claimed = b.claimed.base;
+}
+
+abbrev pub room_of : Body → PoolRoom
+room_of b = record {
+  connections = b.connections.capacity;
+  requests = b.requests.capacity;
+  clears = b.clears.capacity;
+  settled = b.settled.capacity;
+  claimed = b.claimed.capacity;
+}
+
+abbrev pub inner_of : Body → Inner
+inner_of b = record { base = base_of b; room = room_of b }
+
+abbrev pub now_of : Body → PoolCore
+now_of b = record {
+  pool = b.pool;
+  address = b.address;
+  options = b.options;
+  last = b.last.now;
+  created = b.created.now;
+  connections = b.connections.now;
+  requests = b.requests.now;
+  status = b.status.now;
+  clears = b.clears.now;
+  settled = b.settled.now;
+  claimed = b.claimed.now;
+  inner = inner_of b;
+}
+
+-- a pool that holds nothing
+abbrev pub no_pool : PoolCore
+no_pool =
+    let shelf : PoolShelf = record {
+      pool = 0;
+      address = record { host = []; port = 0 };
+      options = record { max_pool_size = None; min_pool_size = None; max_idle_time = None; max_connecting = None; max_wait = None; load_balanced = false; limit_id = 0; limit_generation = 0 };
+      last = 0;
+      created = 0;
+      connections = nothing_sided;
+      requests = nothing_sided;
+      status = New;
+      clears = [];
+      settled = nothing_shelved;
+      claimed = nothing_shelved;
+    } in
+    let nothing : Capacities = record { slots = record { order = 0; cells = 0 }; index = record { heads = 0; entries = 0 } } in
+    let sides : SidedCapacities = record { table = nothing; left = nothing; right = nothing } in
+    pool_of (record { base = shelf; room = record { connections = sides; requests = sides; clears = 0; settled = nothing; claimed = nothing } })

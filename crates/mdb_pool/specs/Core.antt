@@ -1,0 +1,29 @@
+-- What a pool keeps.
+use Rattle.std.specs.Prelude.{ℕ, ◌≡◌, List}
+use Rattle.mdb_base.specs.declared.address.ServerAddress.{ServerAddress}
+use Rattle.mdb_log.specs.declared.options.PoolOptions.{PoolOptions}
+use Rattle.mdb_pool.specs.declared.connection.Connection.{Connection}
+use Rattle.mdb_pool.specs.declared.request.Request.{Request}
+use Rattle.mdb_pool.specs.declared.status.Status.{Status}
+use Rattle.mdb_pool.specs.declared.status.Clear.{Clear}
+use Rattle.mdb_pool.specs.Inner.{Inner}
+
+-- a pool: the moment of its last step, how many connections it created, its connections and requests in the order in which they were put, its state
+-- and its clears, the requests whose outcome was told or that gave up or came back, the connections that a claim was told to establish, and what it is read from
+pub record PoolCore : Type 0 where
+  pub pool : ℕ
+  pub address : ServerAddress
+  pub options : PoolOptions
+  pub last : ℕ
+  pub created : ℕ
+  pub connections : List Connection
+  pub requests : List Request
+  pub status : Status
+  pub clears : List Clear
+  pub settled : List ℕ
+  pub claimed : List ℕ
+  pub inner : Inner
+
+-- the two pools keep the same, whatever they are read from
+abbrev pub SameKept : PoolCore → PoolCore → Type 0
+SameKept s t = t ≡ record s { inner = t.inner }

@@ -1,0 +1,113 @@
+//! The parts of a pool, each of which is changed in place and can be set back.
+
+ghost use Rattle.std.specs.Prelude.{◌≡◌};
+ghost use Rattle.mdb_pool.specs.Core.{SameKept};
+ghost use Rattle.mdb_pool.specs.Body.{now_of, inner_of, inner_after, pool_of, led, PoolFits};
+
+use super::PoolOptions;
+use super::connection::Connection;
+use super::request::Request;
+use super::status::{Clear, Status};
+use mdb_base::{Moment, ServerAddress};
+use mdb_slots::{Redo, Sides, SidesRedo, Table, TableRedo, Turned, TurnedOne};
+use std::alloc::Global;
+use std::marker::Model;
+
+/// The parts of a pool.
+#[derive(Drop)]
+pub struct Body {
+    pub pool: u32,
+    pub address: ServerAddress,
+    pub options: PoolOptions,
+    pub last: TurnedOne<Moment>,
+    pub created: TurnedOne<u32>,
+    pub connections: Sides<Connection>,
+    pub requests: Sides<Request>,
+    pub status: TurnedOne<Status>,
+    pub clears: Turned<Clear>,
+    pub settled: Table<u32>,
+    pub claimed: Table<u32>,
+}
+
+/// Changes of a pool that were taken back, to be made again.
+#[derive(Drop)]
+pub struct BodyRedo {
+    last: Option<Moment>,
+    created: Option<u32>,
+    connections: SidesRedo<Connection>,
+    requests: SidesRedo<Request>,
+    status: Option<Status>,
+    clears: Redo<Clear>,
+    settled: TableRedo<u32>,
+    claimed: TableRedo<u32>,
+}
+
+impl Model for BodyRedo {
+    ghost use Rattle.mdb_pool.specs.Core.{SameKept};
+    ghost use Rattle.mdb_pool.specs.Body.{PoolSteps};
+
+    ghost Value = { PoolSteps };
+
+    ghost view = { λ t. record { last = t.last; created = t.created; connections = t.connections; requests = t.requests; status = t.status; clears = t.clears; settled = t.settled; claimed = t.claimed } };
+}
+
+impl Body {
+    /// The changes go, and what comes back makes them again. It takes no memory.
+    pub fn turn(&mut self, alloc: Global) -> BodyRedo
+        ensures now { now_of self.new ≡ pool_of (inner_of self.new) }
+        ensures inner { inner_of self.new ≡ inner_of self.old }
+        ensures fits { PoolFits result (inner_of self.new) }
+        ensures leads { SameKept (now_of self.old) (led result (now_of self.new)) }
+    {
+        BodyRedo {
+            last: self.last.turn(),
+            created: self.created.turn(),
+            connections: self.connections.turn(alloc),
+            requests: self.requests.turn(alloc),
+            status: self.status.turn(),
+            clears: self.clears.turn(alloc),
+            settled: self.settled.turn(alloc),
+            claimed: self.claimed.turn(alloc),
+        }
+    }
+
+    /// The changes stay.
+    pub fn settle(&mut self)
+        ensures now { now_of self.new ≡ pool_of (inner_of self.new) }
+        ensures same { SameKept (now_of self.old) (now_of self.new) }
+    {
+        self.last.settle();
+        self.created.settle();
+        self.connections.settle();
+        self.requests.settle();
+        self.status.settle();
+        self.clears.settle();
+        self.settled.settle();
+        self.claimed.settle();
+    }
+
+    /// Whatever was changed goes, and the changes are made again and stay. It takes no memory.
+    pub fn redo(&mut self, redo: BodyRedo)
+        requires { PoolFits redo (inner_of self.old) }
+        ensures now { now_of self.new ≡ led redo (now_of self.old) }
+    {
+        let BodyRedo {
+            last,
+            created,
+            connections,
+            requests,
+            status,
+            clears,
+            settled,
+            claimed,
+        } = redo;
+        self.last.redo(last);
+        self.created.redo(created);
+        self.connections.redo(connections);
+        self.requests.redo(requests);
+        self.status.redo(status);
+        self.clears.redo(clears);
+        self.settled.redo(settled);
+        self.claimed.redo(claimed);
+    }
+}

@@ -1,0 +1,221 @@
+//! A pool with changes that can be taken back.
+
+ghost use Rattle.std.specs.Prelude.{◌≡◌, ◌++◌, ◌∷◌, [], true, false, is_some, length, map, OnOk, option_copied};
+ghost use Rattle.mdb_log.specs.Connections.{has};
+ghost use Rattle.mdb_slots.specs.Keyed.{others, put, swap};
+ghost use Rattle.mdb_slots.specs.Lists.{apart};
+ghost use Rattle.mdb_slots.specs.Sided.{stays};
+ghost use Rattle.mdb_pool.specs.Keyed.{marked};
+ghost use Rattle.mdb_pool.specs.Kept.{connection_at, connection_in, request_at, request_in};
+ghost use Rattle.mdb_pool.specs.Places.{is_available, is_pending, is_queued};
+
+use super::PoolOptions;
+use super::body::Body;
+use super::connection::Connection;
+use super::request::Request;
+use super::status::{Clear, Status};
+use mdb_base::{Moment, OutOfMemory, ServerAddress};
+use std::alloc::Global;
+use std::marker::{Brand, Model, PhantomData};
+
+/// Stands for the pool before a draft.
+pub trait Base {
+    ghost use Rattle.mdb_pool.specs.Core.{PoolCore};
+
+    ghost base: { PoolCore };
+}
+
+impl Base for Brand {
+    ghost use Rattle.mdb_pool.specs.Body.{no_pool};
+
+    ghost base = { no_pool };
+}
+
+/// A pool with changes that can be taken back: what it was stands in its type.
+#[derive(Drop)]
+pub struct Draft<K: Base> {
+    pub(super) body: Body,
+    pub(super) of: PhantomData<K>,
+}
+
+impl<K: Base> Model for Draft<K> {
+    ghost use Rattle.std.specs.Prelude.{◌≡◌};
+    ghost use Rattle.mdb_pool.specs.Core.{PoolCore};
+    ghost use Rattle.mdb_pool.specs.Body.{now_of, inner_of};
+
+    ghost Value = { PoolCore };
+
+    ghost view = { λ d. now_of d.body };
+
+    ghost invariant = { λ d. inner_of d.body ≡ K.base.inner };
+}
+
+impl<K: Base> Draft<K> {
+    pub(super) fn number(&self) -> u32
+        ensures { result ≡ self.now.pool }
+    {
+        self.body.pool
+    }
+
+    pub(super) fn address(&self) -> &ServerAddress
+        ensures { result.now ≡ self.now.address }
+    {
+        &self.body.address
+    }
+
+    pub(super) fn options(&self) -> PoolOptions
+        ensures { result ≡ self.now.options }
+    {
+        self.body.options
+    }
+
+    pub(super) fn last(&self) -> Moment
+        ensures { result ≡ self.now.last }
+    {
+        *self.body.last.get()
+    }
+
+    pub(super) fn created(&self) -> u32
+        ensures { result ≡ self.now.created }
+    {
+        *self.body.created.get()
+    }
+
+    pub(super) fn status(&self) -> &Status
+        ensures { result.now ≡ self.now.status }
+    {
+        self.body.status.get()
+    }
+
+    pub(super) fn clears(&self) -> &[Clear]
+        ensures { result.now ≡ self.now.clears }
+    {
+        self.body.clears.as_slice()
+    }
+
+    // How many connections live.
+    pub(super) fn live(&self) -> usize
+        ensures { result ≡ length self.now.connections }
+    {
+        self.body.connections.len()
+    }
+
+    // How many requests there are.
+    pub(super) fn asked(&self) -> usize
+        ensures { apart (map (λ q. q.number) self.now.requests) ≡ true }
+    {
+        self.body.requests.len()
+    }
+
+    pub(super) fn connection(&self, id: u32) -> Option<&Connection>
+        ensures { option_copied result ≡ connection_at self.now id }
+    {
+        self.body.connections.get(id)
+    }
+
+    pub(super) fn request(&self, number: u32) -> Option<&Request>
+        ensures { option_copied result ≡ request_at self.now number }
+    {
+        self.body.requests.get(number)
+    }
+
+    // The outcome of the request was told, or it gave up or came back.
+    pub(super) fn is_settled(&self, number: u32) -> bool
+        ensures { result ≡ has number self.now.settled }
+    {
+        self.body.is_settled(number)
+    }
+
+    // A claim was told to establish the connection.
+    pub(super) fn is_claimed(&self, id: u32) -> bool
+        ensures { result ≡ has id self.now.claimed }
+    {
+        self.body.is_claimed(id)
+    }
+
+    pub(super) fn set_last(&mut self, moment: Moment)
+        ensures { self.new ≡ record self.old { last = moment } }
+    {
+        self.body.last.set(moment);
+    }
+
+    pub(super) fn set_created(&mut self, created: u32)
+        ensures { self.new ≡ record self.old { created = created } }
+    {
+        self.body.created.set(created);
+    }
+
+    pub(super) fn set_status(&mut self, status: Status)
+        ensures { self.new ≡ record self.old { status = status } }
+    {
+        self.body.status.set(status);
+    }
+
+    pub(super) fn push_clear(&mut self, clear: Clear) -> Result<(), OutOfMemory>
+        ensures { OnOk result (self.new ≡ record self.old { clears = self.old.clears ++ clear ∷ [] }) }
+    {
+        self.body.clears.push(clear)
+    }
+
+    pub(super) fn settle(&mut self, number: u32) -> Result<(), OutOfMemory>
+        ensures { OnOk result (self.new ≡ record self.old { settled = marked number self.old.settled }) }
+    {
+        self.body.settled.put(number)
+    }
+
+    pub(super) fn claim(&mut self, id: u32) -> Result<(), OutOfMemory>
+        ensures { OnOk result (self.new ≡ record self.old { claimed = marked id self.old.claimed }) }
+    {
+        self.body.claimed.put(id)
+    }
+
+    // The connection comes last.
+    pub(super) fn put_connection(
+        &mut self,
+        alloc: Global,
+        connection: Connection,
+    ) -> Result<(), OutOfMemory>
+        ensures { OnOk result (self.new ≡ record self.old { connections = put (λ x. x.id) connection self.old.connections }) }
+    {
+        self.body.connections.put(alloc, connection)
+    }
+
+    // The connection takes the place of the one that had its number.
+    pub(super) fn replace_connection(
+        &mut self,
+        alloc: Global,
+        connection: Connection,
+    ) -> Result<(), OutOfMemory>
+        requires available { stays (λ x. is_available x.place) connection (connection_at self.old connection.id) ≡ true }
+        requires pending { stays (λ x. is_pending x.place) connection (connection_at self.old connection.id) ≡ true }
+        ensures { OnOk result (self.new ≡ record self.old { connections = swap (λ x. x.id) connection self.old.connections }) }
+    {
+        self.body.connections.replace(alloc, connection)
+    }
+
+    pub(super) fn remove_connection(&mut self, alloc: Global, id: u32) -> Result<(), OutOfMemory>
+        ensures { OnOk result (self.new ≡ record self.old { connections = others (λ x. x.id) id self.old.connections }) }
+    {
+        self.body.connections.remove(alloc, id)
+    }
+
+    // The request comes last.
+    pub(super) fn put_request(&mut self, alloc: Global, request: Request) -> Result<(), OutOfMemory>
+        ensures { OnOk result (self.new ≡ record self.old { requests = put (λ q. q.number) request self.old.requests }) }
+    {
+        self.body.requests.put(alloc, request)
+    }
+
+    // The request, which is not queued, takes the place of the one that had its number.
+    #[tactic(auto, using(crate::proofs::Bodies::stays_out))]
+    pub(super) fn replace_request(
+        &mut self,
+        alloc: Global,
+        request: Request,
+    ) -> Result<(), OutOfMemory>
+        requires { is_queued request.phase ≡ false }
+        ensures { OnOk result (self.new ≡ record self.old { requests = swap (λ q. q.number) request self.old.requests }) }
+    {
+        self.body.requests.replace(alloc, request)
+    }
+}

@@ -1,0 +1,169 @@
+//! What a changed pool has among its connections and requests.
+
+ghost use Rattle.std.specs.Prelude.{◌≡◌, option_copied, IfOk};
+
+use super::Reply;
+use super::connection::Connection;
+use super::draft::{Base, Draft};
+use super::request::Request;
+use mdb_base::{Moment, ObjectId, OutOfMemory};
+use mdb_events::ConnectionClosedReason;
+
+impl<K: Base> Draft<K> {
+    ghost use Rattle.mdb_slots.specs.Keyed.{after_key, rest_of};
+    ghost use Rattle.mdb_pool.specs.Changes.{available_ones, pending_ones};
+    ghost use Rattle.mdb_pool.specs.Kept.{is_ended_at, request_at, outcome_now, wants_now, candidate_now, fills_now, first_perished, first_overdue, first_queued, last_available, has_room, held_connection, pending_connection, holder_request, first_unclaimed, stale_for, perished_now, reason_now, timeouts_in};
+
+    pub(super) fn first_queued(&self) -> Option<&Request>
+        ensures { option_copied result ≡ first_queued self.now }
+    {
+        self.body.first_queued()
+    }
+
+    pub(super) fn last_available(&self) -> Option<Connection>
+        ensures { result ≡ last_available self.now }
+    {
+        self.body.last_available()
+    }
+
+    pub(super) fn wants_connection(&self) -> bool
+        ensures { result ≡ wants_now self.now }
+    {
+        self.body.wants_connection()
+    }
+
+    pub(super) fn has_room(&self) -> bool
+        ensures { result ≡ has_room self.now }
+    {
+        self.body.has_room()
+    }
+
+    pub(super) fn candidate(&self) -> Option<&Request>
+        ensures { option_copied result ≡ candidate_now self.now }
+    {
+        self.body.candidate()
+    }
+
+    pub(super) fn wants_filling(&self) -> bool
+        ensures { result ≡ fills_now self.now }
+    {
+        self.body.wants_filling()
+    }
+
+    pub(super) fn held_connection(&self, party: u32) -> Option<Connection>
+        ensures { result ≡ held_connection self.now party }
+    {
+        self.body.held_connection(party)
+    }
+
+    pub(super) fn pending_connection(&self, party: u32) -> Option<Connection>
+        ensures { result ≡ pending_connection self.now party }
+    {
+        self.body.pending_connection(party)
+    }
+
+    pub(super) fn holder_request(&self, connection: Connection) -> Option<&Request>
+        ensures { option_copied result ≡ holder_request self.now connection }
+    {
+        self.body.holder_request(connection)
+    }
+
+    pub(super) fn first_unclaimed(&self) -> Option<Connection>
+        ensures { result ≡ first_unclaimed self.now }
+    {
+        self.body.first_unclaimed()
+    }
+
+    pub(super) fn first_overdue(&self, moment: Moment) -> Option<&Request>
+        ensures { option_copied result ≡ first_overdue self.now moment }
+    {
+        self.body.first_overdue(moment)
+    }
+
+    pub(super) fn first_perished(&self, moment: Moment) -> Option<Connection>
+        ensures { result ≡ first_perished self.now moment }
+    {
+        self.body.first_perished(moment)
+    }
+
+    pub(super) fn stale_for(&self, id: u32, service: Option<ObjectId>) -> bool
+        ensures { result ≡ stale_for self.now id service }
+    {
+        self.body.stale_for(id, service)
+    }
+
+    pub(super) fn perished(
+        &self,
+        moment: Moment,
+        connection: Connection,
+    ) -> Option<ConnectionClosedReason>
+        ensures { result ≡ perished_now self.now moment connection }
+    {
+        self.body.perished(moment, connection)
+    }
+
+    pub(super) fn timeouts(&self) -> usize
+        ensures { result ≡ timeouts_in self.now.clears }
+    {
+        self.body.timeouts()
+    }
+
+    pub(super) fn reason_now(&self, connection: Connection) -> Option<ConnectionClosedReason>
+        ensures { result ≡ reason_now self.now connection }
+    {
+        self.body.reason_now(connection)
+    }
+
+    pub(super) fn first_available(&self) -> Option<Connection>
+        ensures { rest_of (λ x. x.id) result (available_ones self.now) ≡ available_ones self.now }
+    {
+        self.body.connections.first_left().copied()
+    }
+
+    // The one that follows it among the available connections.
+    pub(super) fn next_available(&self, id: u32) -> Option<Connection>
+        ensures { rest_of (λ x. x.id) result (available_ones self.now) ≡ after_key (λ x. x.id) id (available_ones self.now) }
+    {
+        self.body.connections.next_left(id).copied()
+    }
+
+    pub(super) fn first_pending(&self) -> Option<Connection>
+        ensures { rest_of (λ x. x.id) result (pending_ones self.now) ≡ pending_ones self.now }
+    {
+        self.body.connections.first_right().copied()
+    }
+
+    // The one that follows it among the pending connections.
+    pub(super) fn next_pending(&self, id: u32) -> Option<Connection>
+        ensures { rest_of (λ x. x.id) result (pending_ones self.now) ≡ after_key (λ x. x.id) id (pending_ones self.now) }
+    {
+        self.body.connections.next_right(id).copied()
+    }
+
+    pub(super) fn first_request(&self) -> Option<&Request>
+        ensures { rest_of (λ q. q.number) (option_copied result) self.now.requests ≡ self.now.requests }
+    {
+        self.body.requests.first()
+    }
+
+    // The one that follows it among all requests.
+    pub(super) fn next_request(&self, number: u32) -> Option<&Request>
+        ensures { rest_of (λ q. q.number) (option_copied result) self.now.requests ≡ after_key (λ q. q.number) number self.now.requests }
+    {
+        self.body.requests.next(number)
+    }
+
+    // The request ended in another way.
+    pub(super) fn is_ended(&self, request: u32) -> bool
+        ensures { result ≡ is_ended_at (request_at self.now request) }
+    {
+        self.body.is_ended(request)
+    }
+
+    // What the request is told.
+    pub(super) fn outcome(&self, request: u32) -> Result<Reply, OutOfMemory>
+        ensures { IfOk result (λ reply. reply ≡ outcome_now self.now request) }
+    {
+        self.body.outcome(request)
+    }
+}
