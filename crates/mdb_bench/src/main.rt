@@ -1,0 +1,68 @@
+//! Measures rounds of one pool: asks a pool for connections and returns them, round after round, and says what its log came to.
+//! It has no clock: `bench/pool.py` times it.
+#![tactic(auto)]
+
+ghost use Rattle.std.specs.Prelude.{IfOk, IfSome};
+ghost use Rattle.mdb_bench.specs.Plans.{IsWithin};
+
+mod counting;
+mod plan;
+mod rounds;
+
+use plan::{Plan, USAGE};
+use rounds::measure;
+use std::alloc::{AllocError, Global};
+use std::io::ErrorKind;
+use std::process::ExitCode;
+use std::{env, io};
+
+const WRONG_WORDS: u8 = 2;
+
+// The words of the command line; none where one of them is no text.
+fn words(rt: &HostRuntime) -> Result<Vec<String>, AllocError> {
+    let mut words = Vec::new(rt.alloc());
+    match env::args(rt) {
+        Ok(args) => {
+            for word in args.skip(1) {
+                words.push(word)?;
+            }
+        }
+        Err(e) => {
+            if e.kind() == ErrorKind::OutOfMemory {
+                return Err(AllocError);
+            }
+        }
+    }
+    Ok(words)
+}
+
+fn read_plan(rt: &HostRuntime) -> Result<Option<Plan>, AllocError>
+    ensures { IfOk result (λ plan. IfSome plan IsWithin) }
+{
+    let words = words(rt)?;
+    let plan = Plan::read(words.as_slice());
+    drop(words);
+    Ok(plan)
+}
+
+fn tell(rt: &HostRuntime, plan: Plan) -> io::Result<ExitCode>
+    requires { IsWithin plan }
+{
+    match measure(rt.alloc(), plan) {
+        Ok(counts) => {
+            println!(rt; "{plan} {counts}")?;
+            Ok(ExitCode::SUCCESS)
+        }
+        Err(_) => Err(AllocError.into()),
+    }
+}
+
+fn main(rt: HostRuntime) -> io::Result<ExitCode> {
+    match read_plan(&rt)? {
+        Some(plan) => tell(&rt, plan),
+        None => {
+            eprintln!(rt; "{USAGE}")?;
+            Ok(ExitCode::from(WRONG_WORDS))
+        }
+    }
+}

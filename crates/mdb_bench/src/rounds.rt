@@ -1,0 +1,149 @@
+//! The rounds of a pool. Parties have the numbers from 1 on, in the order in which they ask.
+
+ghost use Rattle.std.specs.Prelude.{◌≤◌};
+ghost use Rattle.mdb_log.specs.Acts.{IsPoolAct};
+ghost use Rattle.mdb_bench.specs.Plans.{IsWithin};
+
+use crate::counting::Counts;
+use crate::plan::{Kind, Plan};
+use mdb_base::{ObjectId, OutOfMemory, ServerAddress};
+use mdb_log::{Act, Established, Log, PoolOptions, Step, Use};
+use mdb_pool::PoolCore;
+use std::alloc::{AllocError, Global};
+
+type Stepped = Result<(), OutOfMemory>;
+
+const POOL: u32 = 0;
+
+// The service behind the load balancer.
+const SERVICE: ObjectId = ObjectId([1; 12]);
+
+// A load balancer's pool is ready from the start.
+fn options(connections: u32) -> PoolOptions {
+    PoolOptions {
+        max_pool_size: Some(connections),
+        min_pool_size: None,
+        max_idle_time: None,
+        max_connecting: Some(connections),
+        max_wait: None,
+        load_balanced: true,
+        limit_id: u32::MAX,
+        limit_generation: u64::MAX,
+    }
+}
+
+/// A pool with the log of its steps.
+#[derive(Drop)]
+struct Bench {
+    alloc: Global,
+    core: PoolCore,
+    log: Log,
+}
+
+impl Bench {
+    fn new(alloc: Global, connections: u32) -> Result<Bench, AllocError> {
+        let host = String::from_str(alloc, "localhost")?;
+        let address = ServerAddress::new(host, 27017);
+        Ok(Bench {
+            alloc,
+            core: PoolCore::new(alloc, POOL, address, options(connections)),
+            log: Log::new(alloc),
+        })
+    }
+
+    // The functions that make an act do not drop it, since a drop there looks at every kind of act.
+    fn step(&mut self, act: Act) -> Stepped
+        requires { IsPoolAct self.old.core.pool act }
+    {
+        let step = Step { moment: 0, act };
+        let stepped = self.core.step(self.alloc, &mut self.log, 0, &step);
+        drop(step);
+        stepped
+    }
+
+    fn request(&mut self, party: u32) -> Stepped {
+        let address = self.core.address().clone()?;
+        self.step(Act::Request(party, address))
+    }
+
+    // The caller of a request that waited is told that it has its connection.
+    fn collect(&mut self, party: u32) -> Stepped {
+        self.step(Act::Collect(party))
+    }
+
+    fn establish(&mut self, id: u32) -> Stepped {
+        let made = Established {
+            wire: 21,
+            service_id: Some(SERVICE),
+            server_id: None,
+        };
+        self.step(Act::Established(POOL, id, made))
+    }
+
+    fn give_back(&mut self, party: u32) -> Stepped {
+        self.step(Act::Return(party, Use::Ok))
+    }
+
+    // The first parties, as many as there may be connections, hold one each.
+    fn fill(&mut self, connections: u32) -> Stepped
+        requires { connections ≤ 10000 }
+    {
+        for i in 0..connections {
+            self.request(i + 1)?;
+            self.establish(i + 1)?;
+        }
+        Ok(())
+    }
+
+    // Each round a party gets the connection that came back last, and returns it.
+    fn available_rounds(&mut self, plan: Plan) -> Stepped
+        requires { IsWithin plan }
+    {
+        for i in 0..plan.connections {
+            self.give_back(i + 1)?;
+        }
+        for i in 0..plan.rounds {
+            let party = plan.connections + i + 1;
+            self.request(party)?;
+            self.give_back(party)?;
+        }
+        Ok(())
+    }
+
+    // Each round a party returns its connection, the one that waits longest gets it and is told so, and a new one comes last.
+    fn waiting_rounds(&mut self, plan: Plan) -> Stepped
+        requires { IsWithin plan }
+    {
+        for i in 0..plan.connections {
+            self.request(plan.connections + i + 1)?;
+        }
+        for i in 0..plan.rounds {
+            self.give_back(i + 1)?;
+            self.collect(plan.connections + i + 1)?;
+            self.request(2 * plan.connections + i + 1)?;
+        }
+        Ok(())
+    }
+
+    fn run(&mut self, plan: Plan) -> Stepped
+        requires { IsWithin plan }
+    {
+        self.fill(plan.connections)?;
+        match plan.kind {
+            Kind::Available => self.available_rounds(plan),
+            Kind::Waiting => self.waiting_rounds(plan),
+        }
+    }
+}
+
+/// Does the rounds of the plan, and counts what the log has then.
+pub fn measure(alloc: Global, plan: Plan) -> Result<Counts, OutOfMemory>
+    requires { IsWithin plan }
+{
+    let mut bench = Bench::new(alloc, plan.connections)?;
+    let ran = bench.run(plan);
+    let counts = Counts::of(bench.log.entries());
+    drop(bench);
+    ran?;
+    Ok(counts)
+}
