@@ -10,6 +10,7 @@ use mdb_base::{Error, Moment, ObjectId, OutOfMemory};
 use mdb_events::Fact;
 use mdb_log::{Established, FailedAt, Log, PoolOptions, Reply, Use};
 use mdb_pool::PoolCore;
+use std::mem;
 
 /// The pool 0 of the address `a:1`, the facts of the last call, and the log of the steps.
 #[derive(Drop)]
@@ -183,7 +184,8 @@ fn act_on(page: &mut Page, pool: &mut Pool, act: &str, words: &str) {
 pub fn follow(page: &mut Page, pool: &mut Option<Pool>, given: &str) {
     let (act, words) = parted(given);
     if act == "open" {
-        *pool = Some(open(page, words));
+        let before = mem::replace(pool, Some(open(page, words)));
+        drop(before);
     }
     if let Some(pool) = pool {
         act_on(page, pool, act, words);
