@@ -10,6 +10,7 @@ use crate::words::parted;
 use mdb_base::{
     ClusterTime, Error, ErrorKind, Items, Moment, ObjectId, OutOfMemory, ServerAddress, Text,
 };
+use mdb_events::Held;
 use mdb_hello::HelloCommandResponse;
 use mdb_log::{
     Act, ConnectionGeneration, Core, Established, HelloResult, Job, LoadBalancedGeneration, Log,
@@ -41,14 +42,27 @@ fn take(page: &mut Page, core: &mut TopologyCore, log: &mut Log, moment: Moment,
     }
 }
 
+// The server answers.
+fn greet(page: &mut Page, core: &mut TopologyCore, log: &mut Log)
+    requires stands { IsDriverOf core.old log.old }
+    ensures { IsDriverOf core.new log.new }
+{
+    match Held::new(page.alloc, HelloCommandResponse::default()) {
+        Ok(reply) => {
+            let address = page.address("a:1");
+            let came = HelloResult::Ok(5, reply);
+            take(page, core, log, 1, Act::Hello(address, 0, came));
+        }
+        Err(_) => page.fail(),
+    }
+}
+
 // The server answers, and party 1 asks for a connection.
 fn ask(page: &mut Page, core: &mut TopologyCore, log: &mut Log)
     requires stands { IsDriverOf core.old log.old }
     ensures { IsDriverOf core.new log.new }
 {
-    let address = page.address("a:1");
-    let came = HelloResult::Ok(5, HelloCommandResponse::default());
-    take(page, core, log, 1, Act::Hello(address, 0, came));
+    greet(page, core, log);
     let address = page.address("a:1");
     take(page, core, log, 2, Act::Request(1, address));
 }

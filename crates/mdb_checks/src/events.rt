@@ -6,7 +6,8 @@ use crate::pool_events::{closed_reason, failed_reason, pool_event, service};
 use crate::server_events::server_event;
 use crate::words::{parted, small};
 use mdb_events::{
-    CmapEvent, End, Fact, SdamEvent, closed_reason_text, failed_reason_text, write_cmap, write_sdam,
+    CmapEvent, End, Fact, Held, SdamEvent, closed_reason_text, failed_reason_text, write_cmap,
+    write_sdam,
 };
 
 fn put_bytes(page: &mut Page, bytes: &[u8]) {
@@ -92,7 +93,13 @@ fn of_pool(page: &mut Page, words: &str) -> Option<Fact> {
 fn of_server(page: &mut Page, words: &str) -> Option<Fact> {
     let (name, words) = parted(words);
     let event = server_event(page, name, words)?;
-    Some(Fact::Sdam(event))
+    match Held::new(page.alloc, event) {
+        Ok(event) => Some(Fact::Sdam(event)),
+        Err(_) => {
+            page.fail();
+            None
+        }
+    }
 }
 
 // The fact of this name about a pool.

@@ -2,6 +2,7 @@
 
 use crate::cmap::CmapEvent;
 use crate::end::End;
+use crate::held::Held;
 use crate::sdam::SdamEvent;
 use crate::words::ServiceOrDash;
 use mdb_base::{Error, ObjectId, ServerAddress};
@@ -21,7 +22,7 @@ pub enum Fact {
     /// The generation of the pool, or of one service behind it, was raised by this cause.
     Raised(u32, Option<ObjectId>, Error),
     /// This event of a server or of the topology was made.
-    Sdam(SdamEvent),
+    Sdam(Held<SdamEvent>),
     /// The monitor of the address should check now.
     CheckNow(ServerAddress),
     /// The check of the address that runs should be cancelled.
@@ -44,7 +45,10 @@ impl fmt::Display for Fact {
                 let service = ServiceOrDash(*service);
                 write!(f, "Raised {pool} {service} {error}")
             }
-            Fact::Sdam(event) => write!(f, "Sdam {event}"),
+            Fact::Sdam(event) => {
+                let event = event.get();
+                write!(f, "Sdam {event}")
+            }
             Fact::CheckNow(address) => write!(f, "CheckNow {address}"),
             Fact::Cancel(address) => write!(f, "Cancel {address}"),
         }

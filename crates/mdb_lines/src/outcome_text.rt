@@ -18,7 +18,7 @@ impl fmt::Display for HelloText<'_> {
     fn fmt<W: fmt::Write>(&self, f: &mut fmt::Formatter<W>) -> fmt::Result {
         match self.0 {
             HelloResult::Ok(rtt, reply) => {
-                let fields = ReplyText(reply, false);
+                let fields = ReplyText(reply.get(), false);
                 write!(f, " ok rtt={rtt}{fields}")
             }
             HelloResult::Err(error) => write!(f, " err {error}"),
@@ -56,7 +56,7 @@ impl fmt::Display for BeatenText<'_> {
     fn fmt<W: fmt::Write>(&self, f: &mut fmt::Formatter<W>) -> fmt::Result {
         match self.0 {
             BeatenResult::Ok(reply, more) => {
-                let fields = ReplyText(reply, *more);
+                let fields = ReplyText(reply.get(), *more);
                 write!(f, " ok{fields}")
             }
             BeatenResult::Err(error) => write!(f, " err {error}"),

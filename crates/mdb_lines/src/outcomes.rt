@@ -15,6 +15,7 @@ ghost use Rattle.mdb_lines.specs.Grammar.{is_hello, is_beaten};
 ghost use Rattle.mdb_lines.specs.Spelling.{hello_text, beaten_text};
 ghost use Rattle.mdb_lines.specs.Types.{IsHelloOfTypes, IsBeatenOfTypes};
 
+use mdb_events::Held;
 use mdb_log::{BeatenResult, HelloResult};
 use mdb_parts::fields::u64_field;
 use mdb_parts::words::{after, last};
@@ -28,7 +29,8 @@ fn answered(alloc: Global, text: &str) -> Result<HelloResult, LineError>
 {
     let (rtt, rest) = u64_field(text, " rtt=")?;
     let (reply, _more) = reply(alloc, rest)?;
-    Ok(HelloResult::Ok(rtt, reply))
+    let held = Held::new(alloc, reply)?;
+    Ok(HelloResult::Ok(rtt, held))
 }
 
 fn unanswered(alloc: Global, text: &str) -> Result<HelloResult, LineError>
@@ -53,7 +55,8 @@ fn succeeded(alloc: Global, text: &str) -> Result<BeatenResult, LineError>
     ensures { (r : HelloCommandResponse) (more : Bool) → IsReplyOfTypes r → is_reply r ≡ true → text.now ≡ fields_text r more → Gives (beaten.Ok r more) result }
 {
     let (reply, more) = reply(alloc, text)?;
-    Ok(BeatenResult::Ok(reply, more))
+    let held = Held::new(alloc, reply)?;
+    Ok(BeatenResult::Ok(held, more))
 }
 
 fn failed(alloc: Global, text: &str) -> Result<BeatenResult, LineError>

@@ -77,7 +77,7 @@ fn is_hello(alloc: Global, came: &HelloResult) -> Result<bool, OutOfMemory>
     ensures { IfOk result (λ keeps. keeps ≡ is_hello came.now) }
 {
     match came {
-        HelloResult::Ok(_, reply) => is_reply(alloc, reply),
+        HelloResult::Ok(_, reply) => is_reply(alloc, reply.get()),
         HelloResult::Err(error) => Ok(is_error(error)),
     }
 }
@@ -86,7 +86,7 @@ fn is_beaten(alloc: Global, came: &BeatenResult) -> Result<bool, OutOfMemory>
     ensures { IfOk result (λ keeps. keeps ≡ is_beaten came.now) }
 {
     match came {
-        BeatenResult::Ok(reply, _) => is_reply(alloc, reply),
+        BeatenResult::Ok(reply, _) => is_reply(alloc, reply.get()),
         BeatenResult::Err(error) => Ok(is_error(error)),
         BeatenResult::Cancelled(error) => Ok(is_error(error)),
     }

@@ -48,7 +48,7 @@ fn hello_types(came: &HelloResult)
     match came {
         HelloResult::Ok(rtt, reply) => {
             let _number = *rtt;
-            reply_types(reply);
+            reply_types(reply.get());
         }
         HelloResult::Err(e) => error_types(e),
     }
@@ -58,7 +58,7 @@ fn beaten_types(came: &BeatenResult)
     ensures { IsBeatenOfTypes came.now }
 {
     match came {
-        BeatenResult::Ok(reply, _) => reply_types(reply),
+        BeatenResult::Ok(reply, _) => reply_types(reply.get()),
         BeatenResult::Err(e) => error_types(e),
         BeatenResult::Cancelled(e) => error_types(e),
     }

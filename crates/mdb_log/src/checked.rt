@@ -3,6 +3,7 @@
 ghost use Rattle.std.specs.Prelude.{◌≡◌};
 
 use mdb_base::{Error, Nanos};
+use mdb_events::Held;
 use mdb_hello::HelloCommandResponse;
 use std::alloc::AllocError;
 
@@ -10,7 +11,7 @@ use std::alloc::AllocError;
 #[derive(Debug, Drop)]
 pub enum HelloResult {
     /// The round trip, and the reply.
-    Ok(Nanos, HelloCommandResponse),
+    Ok(Nanos, Held<HelloCommandResponse>),
     Err(Error),
 }
 
@@ -29,7 +30,7 @@ impl Clone for HelloResult {
 #[derive(Debug, Drop)]
 pub enum BeatenResult {
     /// The reply, and whether the server sends more replies unasked.
-    Ok(HelloCommandResponse, bool),
+    Ok(Held<HelloCommandResponse>, bool),
     Err(Error),
     /// The check was cancelled by this cause.
     Cancelled(Error),

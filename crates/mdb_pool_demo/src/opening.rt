@@ -5,6 +5,7 @@ ghost use Rattle.mdb_log.specs.Acts.{IsDriverAct};
 ghost use Rattle.mdb_topology.specs.Logging.{IsDriverOf};
 
 use mdb_base::{Items, ObjectId, Options, OutOfMemory, ServerAddress};
+use mdb_events::Held;
 use mdb_hello::HelloCommandResponse;
 use mdb_log::{Act, HelloResult, Log, Step};
 use mdb_topology::TopologyCore;
@@ -49,10 +50,11 @@ fn options(alloc: Global) -> Result<Options, OutOfMemory> {
 pub fn hello(alloc: Global) -> Result<Step, OutOfMemory>
     ensures { IfOk result (λ step. IsDriverAct step.act) }
 {
-    let address = address(alloc)?;
     let mut reply = HelloCommandResponse::default();
     reply.min_wire_version = Some(0);
     reply.max_wire_version = Some(21);
+    let reply = Held::new(alloc, reply)?;
+    let address = address(alloc)?;
     Ok(Step {
         moment: 1,
         act: Act::Hello(address, 0, HelloResult::Ok(5, reply)),

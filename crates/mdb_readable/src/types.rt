@@ -76,7 +76,7 @@ fn fact_types(fact: &Fact)
             optional_id(*service);
             error_types(error);
         }
-        Fact::Sdam(event) => sdam_types(event),
+        Fact::Sdam(event) => sdam_types(event.get()),
         _ => {}
     }
 }

@@ -16,6 +16,7 @@ use Rattle.mdb_base.proofs.topology_version.TopologyVersion.TheSendSync.{the_fie
 use Rattle.mdb_base.specs.contracts.document.Doc as Doc
 use Rattle.mdb_base.specs.contracts.held_document.Document as Document
 use Rattle.mdb_base.specs.contracts.held_document.Document.TheInside as Inside
+use Rattle.mdb_events.proofs.held.Held.TheSendSync.{the_sync as held}
 use Rattle.mdb_hello.specs.contracts.response.HelloCommandResponse as Response
 use Rattle.mdb_log.proofs.step.Established.TheSendSync.{the_field_sync as established}
 use Rattle.mdb_log.proofs.step.FailedAt.TheSendSync.{the_field_sync as failed_at}
@@ -37,7 +38,7 @@ doc = search (sync-Doc, crosses, sendable) depth 20
 document : IsSync Document.the_row
 document = view_sync Inside.the_row _ _ _ _ (recorded_sync Inside.the_field.row _ _ Inside.the_type.to_one (struct_sync (shape Inside.the_type) (doc, tt)))
 
-ruleset rules = (text, tags, items, error, address, id, version, document, crosses, sendable)
+ruleset rules = (text, tags, items, held, error, address, id, version, document, crosses, sendable)
 
 response : IsSync Response.the_field.row
 response = struct_sync (shape Response.the_type) (search rules depth 20, (search rules depth 20, (search rules depth 20, (search rules depth 20, (search rules depth 20, (search rules depth 20, (search rules depth 20, (search rules depth 20, (search rules depth 20, (search rules depth 20, (search rules depth 20, (search rules depth 20, (search rules depth 20, (search rules depth 20, (search rules depth 20, (search rules depth 20, (search rules depth 20, (search rules depth 20, (search rules depth 20, (search rules depth 20, (search rules depth 20, (search rules depth 20, (search rules depth 20, (search rules depth 20, (search rules depth 20, (search rules depth 20, (search rules depth 20, (search rules depth 20, (search rules depth 20, (search rules depth 20, tt))))))))))))))))))))))))))))))

@@ -23,6 +23,7 @@ use Rattle.mdb_describe.specs.contracts.description.ServerDescription as Server
 use Rattle.mdb_describe.specs.contracts.topology.TopologyDescription as Topology
 use Rattle.mdb_events.proofs.cmap.CmapEvent.TheSendSync.{the_field_send as cmap}
 use Rattle.mdb_events.proofs.end.End.TheSendSync.{the_field_send as end}
+use Rattle.mdb_events.proofs.held.Held.TheSendSync.{the_send as held}
 use Rattle.mdb_events.proofs.sdam.ServerClosedEvent.TheSendSync.{the_field_send as closed}
 use Rattle.mdb_events.proofs.sdam.ServerHeartbeatFailedEvent.TheSendSync.{the_field_send as failed}
 use Rattle.mdb_events.proofs.sdam.ServerHeartbeatStartedEvent.TheSendSync.{the_field_send as started}
@@ -63,7 +64,7 @@ doc = search (send-Doc, crosses, sendable) depth 20
 document : IsSend Document.the_row
 document = view_send Inside.the_row _ _ _ _ (recorded_send Inside.the_field.row _ _ Inside.the_type.to_one (struct_send (shape Inside.the_type) (doc, tt)))
 
-ruleset rules = (text, tags, items, error, address, id, version, document, crosses, sendable)
+ruleset rules = (text, tags, items, held, error, address, id, version, document, crosses, sendable)
 
 response : IsSend Response.the_field.row
 response = struct_send (shape Response.the_type) (search rules depth 20, (search rules depth 20, (search rules depth 20, (search rules depth 20, (search rules depth 20, (search rules depth 20, (search rules depth 20, (search rules depth 20, (search rules depth 20, (search rules depth 20, (search rules depth 20, (search rules depth 20, (search rules depth 20, (search rules depth 20, (search rules depth 20, (search rules depth 20, (search rules depth 20, (search rules depth 20, (search rules depth 20, (search rules depth 20, (search rules depth 20, (search rules depth 20, (search rules depth 20, (search rules depth 20, (search rules depth 20, (search rules depth 20, (search rules depth 20, (search rules depth 20, (search rules depth 20, (search rules depth 20, tt))))))))))))))))))))))))))))))
@@ -91,7 +92,7 @@ sdam : IsSend Sdam.the_field.row
 sdam = enum_send (variants Sdam.the_type) ((server_changed, tt), ((opening, tt), ((closed, tt), ((topology_changed, tt), ((topology_opening, tt), ((topology_closed, tt), ((started, tt), ((checked, tt), ((failed, tt), tt)))))))))
 
 fact : IsSend Fact.the_field.row
-fact = enum_send (variants Fact.the_type) ((number, (address, tt)), ((number, (cmap, tt)), ((number, (number, (number, tt))), ((number, (end, tt)), ((number, (search rules depth 20, (error, tt))), ((sdam, tt), ((address, tt), ((address, tt), tt))))))))
+fact = enum_send (variants Fact.the_type) ((number, (address, tt)), ((number, (cmap, tt)), ((number, (number, (number, tt))), ((number, (end, tt)), ((number, (search rules depth 20, (error, tt))), ((search (sdam, rules) depth 20, tt), ((address, tt), ((address, tt), tt))))))))
 
 -- what steps ask
 hello : IsSend HelloResult.the_field.row

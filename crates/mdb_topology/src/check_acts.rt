@@ -8,6 +8,7 @@ ghost use Rattle.mdb_topology.specs.Checking.{number_limit};
 
 use crate::monitoring::Monitoring;
 use crate::next::{Next, Stepped};
+use crate::sdam_facts::sdam_fact;
 use crate::topology::TopologyCore;
 use mdb_base::{OutOfMemory, ServerAddress};
 use mdb_events::{Fact, SdamEvent};
@@ -19,8 +20,9 @@ use std::alloc::{AllocError, Global};
 fn told_once(alloc: Global, event: SdamEvent) -> Result<Vec<Fact>, AllocError>
     ensures { IfOk result (λ facts. facts.items ≡ Sdam event ∷ []) }
 {
+    let fact = sdam_fact(alloc, event)?;
     let mut facts = Vec::new(alloc);
-    facts.push(Fact::Sdam(event))?;
+    facts.push(fact)?;
     Ok(facts)
 }
 

@@ -25,7 +25,7 @@ fn check_result(
 {
     Ok(match came {
         BeatenResult::Ok(reply, more) => {
-            CheckResult::Ok(hello_reply(alloc, address, reply)?, *more)
+            CheckResult::Ok(hello_reply(alloc, address, reply.get())?, *more)
         }
         BeatenResult::Err(error) => CheckResult::Err(error.clone()?),
         BeatenResult::Cancelled(error) => CheckResult::Cancelled(error.clone()?),
@@ -90,7 +90,7 @@ impl TopologyCore {
         if self.stopped {
             return Ok(None);
         }
-        Ok(Some(self.after_reply(alloc, address, *average, reply, at)?))
+        Ok(Some(self.after_reply(alloc, address, *average, reply.get(), at)?))
     }
 
     // A change, or none.
@@ -130,7 +130,7 @@ impl TopologyCore {
     {
         match self.change_to(alloc, step, later) {
             Ok(Stepped::Accepted(next)) => {
-                Ok(Stepped::Accepted(next.with_check(monitoring, event)?))
+                Ok(Stepped::Accepted(next.with_check(alloc, monitoring, event)?))
             }
             Ok(Stepped::Refused(why)) => {
                 drop(monitoring);

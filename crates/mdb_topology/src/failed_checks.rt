@@ -62,7 +62,7 @@ impl TopologyCore {
     {
         match self.mark_failed(alloc, step, place, address, error) {
             Ok(Stepped::Accepted(next)) => {
-                Ok(Stepped::Accepted(next.with_check(monitoring, event)?))
+                Ok(Stepped::Accepted(next.with_check(alloc, monitoring, event)?))
             }
             Ok(Stepped::Refused(why)) => {
                 drop(monitoring);

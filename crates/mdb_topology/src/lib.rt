@@ -36,6 +36,7 @@ mod readiness;
 mod readying;
 mod removing;
 mod rules;
+mod sdam_facts;
 mod stepping;
 mod telling_changes;
 mod topology;

@@ -6,6 +6,7 @@ ghost use Rattle.mdb_topology.specs.declared.monitoring.Monitoring.TheVariants.{
 
 use crate::change::Change;
 use crate::monitoring::Monitoring;
+use crate::sdam_facts::sdam_fact;
 use mdb_describe::TopologyDescription;
 use mdb_events::{Fact, SdamEvent};
 use mdb_log::{Refused, Reply};
@@ -90,15 +91,25 @@ impl Next {
     /// The same with what is done at the monitors, and the event of a check before its facts.
     pub(crate) fn with_check(
         self,
+        alloc: Global,
         monitoring: Monitoring,
         event: SdamEvent,
     ) -> Result<Next, AllocError>
         ensures { IfOk result (λ next. IsWithCheck self next monitoring event) }
     {
-        let mut next = self;
-        next.facts.insert(0, Fact::Sdam(event))?;
-        next.monitoring = monitoring;
-        Ok(next)
+        match sdam_fact(alloc, event) {
+            Ok(fact) => {
+                let mut next = self;
+                next.facts.insert(0, fact)?;
+                next.monitoring = monitoring;
+                Ok(next)
+            }
+            Err(e) => {
+                drop(self);
+                drop(monitoring);
+                Err(e)
+            }
+        }
     }
 }
 

@@ -10,6 +10,7 @@ ghost use Rattle.mdb_topology.specs.Events.{opening_fact};
 ghost use Rattle.mdb_topology.specs.Opening.{IsOpened, Publishes};
 
 use crate::pools::Pools;
+use crate::sdam_facts::tell_event;
 use mdb_base::{Moment, Options, OutOfMemory, ServerAddress};
 use mdb_describe::{Diff, ServerDescription, TopologyDescription};
 use mdb_events::{Fact, SdamEvent, TopologyOpeningEvent};
@@ -24,14 +25,13 @@ pub struct Opening {
 }
 
 // The topology is monitored from now on.
-fn tell_opening(facts: &mut Vec<Fact>, options: &Options) -> Result<(), AllocError>
+fn tell_opening(alloc: Global, facts: &mut Vec<Fact>, options: &Options) -> Result<(), AllocError>
     ensures { OnOk result (facts.new.items ≡ facts.old.items ++ opening_fact options.now ∷ []) }
 {
     let event = TopologyOpeningEvent {
         topology_id: options.topology_id,
     };
-    facts.push(Fact::Sdam(SdamEvent::TopologyOpening(event)))?;
-    Ok(())
+    tell_event(alloc, facts, SdamEvent::TopologyOpening(event))
 }
 
 // Before the opening there is no server.
@@ -162,7 +162,7 @@ pub fn open(alloc: Global, options: &Options, moment: Moment) -> Result<Opening,
     ensures opened { IfOk result (λ made. IsOpened options.now moment made.pools.cores.items made.description made.facts.items) }
 {
     let mut facts = Vec::new(alloc);
-    tell_opening(&mut facts, options)?;
+    tell_opening(alloc, &mut facts, options)?;
     let seeded = TopologyDescription::initialize(alloc, options)?;
     let mut pools = Pools {
         cores: Vec::new(alloc),

@@ -12,6 +12,7 @@ ghost use Rattle.mdb_topology.specs.Standing.{at_address, are_absent};
 
 use crate::change::Change;
 use crate::pool_options::pool_options;
+use crate::sdam_facts::tell_event;
 use mdb_base::{Options, OutOfMemory, ServerAddress};
 use mdb_events::{
     CmapEvent, ConnectionPoolOptions, Fact, PoolCreatedEvent, SdamEvent, ServerOpeningEvent,
@@ -35,6 +36,7 @@ fn created(address: ServerAddress, options: &Options) -> CmapEvent
 
 // The facts of a server that comes, for which the pool is opened.
 fn tell_opened(
+    alloc: Global,
     facts: &mut Vec<Fact>,
     options: &Options,
     address: &ServerAddress,
@@ -46,11 +48,11 @@ fn tell_opened(
     let event = created(address.clone()?, options);
     facts.push(Fact::Pool(number, event))?;
     let address = address.clone()?;
-    facts.push(Fact::Sdam(SdamEvent::ServerOpening(ServerOpeningEvent {
+    let event = ServerOpeningEvent {
         address,
         topology_id: options.topology_id,
-    })))?;
-    Ok(())
+    };
+    tell_event(alloc, facts, SdamEvent::ServerOpening(event))
 }
 
 // What a server that comes comes to, at an address where no pool is open.
@@ -64,7 +66,7 @@ fn plan_opened(
 ) -> Result<(), OutOfMemory>
     ensures { OnOk result ((m : ℕ) (pools : List Core) → at_address pools address.now ≡ None → PlansMore options.now m pools number (same_address address.now) (server_opened options.now address.now ∷ []) [] (address.now ∷ []) changes.old.items changes.new.items facts.old.items facts.new.items) }
 {
-    tell_opened(facts, options, address, number)?;
+    tell_opened(alloc, facts, options, address, number)?;
     let copy = address.clone()?;
     let core = PoolCore::new(alloc, number, copy, pool_options(options));
     changes.push(Change::Open(core))?;

@@ -8,6 +8,7 @@ ghost use Rattle.mdb_topology.specs.Events.{topology_fact};
 use crate::change::Change;
 use crate::opening_server::plan_all_opened;
 use crate::pools::Pools;
+use crate::sdam_facts::tell_event;
 use mdb_base::{Moment, Options, OutOfMemory};
 use mdb_describe::{Diff, TopologyDescription};
 use mdb_events::{Fact, SdamEvent, TopologyDescriptionChangedEvent};
@@ -15,6 +16,7 @@ use std::alloc::{AllocError, Global};
 
 // What is known of the topology changed.
 fn tell_topology(
+    alloc: Global,
     facts: &mut Vec<Fact>,
     options: &Options,
     earlier: &TopologyDescription,
@@ -27,8 +29,7 @@ fn tell_topology(
         previous_description: earlier.clone()?,
         new_description: later.clone()?,
     };
-    facts.push(Fact::Sdam(SdamEvent::TopologyDescriptionChanged(event)))?;
-    Ok(())
+    tell_event(alloc, facts, SdamEvent::TopologyDescriptionChanged(event))
 }
 
 impl Pools {
@@ -72,7 +73,7 @@ impl Pools {
         )?;
         let removed = diff.removed.as_slice();
         self.plan_all_closed(alloc, options, moment, removed, facts, &mut changes)?;
-        tell_topology(facts, options, earlier, later)?;
+        tell_topology(alloc, facts, options, earlier, later)?;
         let count = self.cores.len();
         let added = diff.added.as_slice();
         plan_all_opened(alloc, options, added, count, facts, &mut changes)?;

@@ -8,6 +8,7 @@ ghost use Rattle.mdb_topology.specs.Events.{changed_fact};
 use crate::change::Change;
 use crate::pools::Pools;
 use crate::readiness::is_ready_type;
+use crate::sdam_facts::tell_event;
 use mdb_base::{Moment, Options, OutOfMemory, ServerAddress};
 use mdb_describe::{ServerDescription, TopologyDescription};
 use mdb_events::{Fact, SdamEvent, ServerDescriptionChangedEvent};
@@ -16,6 +17,7 @@ use std::alloc::{AllocError, Global};
 
 // What is known of the server changed.
 fn tell_changed(
+    alloc: Global,
     facts: &mut Vec<Fact>,
     options: &Options,
     address: &ServerAddress,
@@ -30,8 +32,7 @@ fn tell_changed(
         previous_description: old.clone()?,
         new_description: new.clone()?,
     };
-    facts.push(Fact::Sdam(SdamEvent::ServerDescriptionChanged(event)))?;
-    Ok(())
+    tell_event(alloc, facts, SdamEvent::ServerDescriptionChanged(event))
 }
 
 impl Pools {
@@ -89,7 +90,7 @@ impl Pools {
         };
         let wanted = is_ready_type(later.topology_type(), new);
         self.plan_ready(alloc, moment, wanted, address, facts, changes)?;
-        tell_changed(facts, options, address, old, new)?;
+        tell_changed(alloc, facts, options, address, old, new)?;
         Ok(())
     }
 

@@ -9,6 +9,7 @@ ghost use Rattle.mdb_topology.specs.Events.{gone_fact};
 
 use crate::change::Change;
 use crate::pools::Pools;
+use crate::sdam_facts::tell_event;
 use mdb_base::{Moment, Options, OutOfMemory, ServerAddress};
 use mdb_events::{Fact, SdamEvent, ServerClosedEvent};
 use mdb_log::{Act, Step};
@@ -16,6 +17,7 @@ use std::alloc::{AllocError, Global};
 
 // The server is closed.
 fn tell_closed(
+    alloc: Global,
     facts: &mut Vec<Fact>,
     options: &Options,
     address: &ServerAddress,
@@ -26,8 +28,7 @@ fn tell_closed(
         address: address.clone()?,
         topology_id: options.topology_id,
     };
-    facts.push(Fact::Sdam(SdamEvent::ServerClosed(event)))?;
-    Ok(())
+    tell_event(alloc, facts, SdamEvent::ServerClosed(event))
 }
 
 impl Pools {
@@ -70,7 +71,7 @@ impl Pools {
         ensures same { self.new ≡ self.old }
         ensures planned { OnOk result (PlansMore options.now moment self.old.cores.items (length self.old.cores.items) (same_address address.now) (server_closed options.now moment address.now ∷ []) (address.now ∷ []) [] changes.old.items changes.new.items facts.old.items facts.new.items) }
     {
-        tell_closed(facts, options, address)?;
+        tell_closed(alloc, facts, options, address)?;
         self.plan_close(alloc, moment, address, facts, changes)
     }
 

@@ -218,7 +218,7 @@ impl TopologyCore {
     {
         match &step.act {
             Act::Hello(address, pool, HelloResult::Ok(rtt, reply)) => {
-                self.hello(alloc, step, address, *pool, *rtt, reply)
+                self.hello(alloc, step, address, *pool, *rtt, reply.get())
             }
             Act::Hello(address, pool, HelloResult::Err(error)) => {
                 self.hello_error(alloc, step, address, *pool, error)

@@ -6,6 +6,7 @@ ghost use Rattle.mdb_log.specs.declared.step.Act.TheVariants.{Hello as HelloAct,
 ghost use Rattle.mdb_log.specs.declared.checked.HelloResult.TheVariants.{Ok as Replied};
 
 use crate::next::{Next, Stepped};
+use crate::sdam_facts::tell_event;
 use crate::topology::TopologyCore;
 use mdb_base::{ClusterTime, Nanos, OutOfMemory, ServerAddress};
 use mdb_events::{Fact, SdamEvent, TopologyClosedEvent};
@@ -104,13 +105,13 @@ impl TopologyCore {
     }
 
     // One more fact: the topology is closed.
-    fn tell_closed(&self, facts: &mut Vec<Fact>) -> Result<(), AllocError>
+    fn tell_closed(&self, alloc: Global, facts: &mut Vec<Fact>) -> Result<(), AllocError>
         ensures { OnOk result (facts.new.items ≡ facts.old.items ++ topology_closed_fact self.now.options ∷ []) }
     {
-        facts.push(Fact::Sdam(SdamEvent::TopologyClosed(TopologyClosedEvent {
+        let event = TopologyClosedEvent {
             topology_id: self.options.topology_id,
-        })))?;
-        Ok(())
+        };
+        tell_event(alloc, facts, SdamEvent::TopologyClosed(event))
     }
 
     // The driver is stopped: all servers go, and at last the topology.
@@ -131,7 +132,7 @@ impl TopologyCore {
         let diff = self.description.diff(alloc, &later)?;
         let mut told = self.tell(alloc, step.moment, &later, &diff)?;
         drop(diff);
-        self.tell_closed(&mut told.facts)?;
+        self.tell_closed(alloc, &mut told.facts)?;
         Ok(Stepped::Accepted(told.into_next(Reply::Done, later, true)))
     }
 }

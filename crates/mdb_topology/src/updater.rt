@@ -6,6 +6,7 @@ ghost use Rattle.mdb_log.specs.declared.checked.HelloResult.TheVariants as hello
 
 use crate::topology::TopologyCore;
 use mdb_base::{ClusterTime, Error, Items, Moment, Nanos, OutOfMemory, ServerAddress};
+use mdb_events::Held;
 use mdb_hello::HelloCommandResponse;
 use mdb_log::{Act, HelloResult, Log, Reply, Step};
 use std::alloc::Global;
@@ -36,8 +37,8 @@ impl TopologyCore {
         ensures err_core { OnErr result (IsSame self.old self.new) }
         ensures err_log { OnErr result (log.new ≡ log.old) }
     {
-        let came = HelloResult::Ok(rtt, reply);
-        let act = Act::Hello(address, pool, came);
+        let held = Held::new(alloc, reply)?;
+        let act = Act::Hello(address, pool, HelloResult::Ok(rtt, held));
         self.step(alloc, log, seat, &Step { moment, act })
     }
 

@@ -21,4 +21,4 @@ returns c = λ rtt r fits types rule text.
     let n = c.in_ok-rtt.ensures rtt (fields_text r false) fits (fields_follow r false) text in
     let reply = c.in_ok-reply.ensures r false types rule n.1 in
     let same : c.in_ok-reply.reply ≡ r = ap (λ (p : HelloCommandResponse × Bool). p.0) reply in
-    rw (n.0, same) refl
+    rw (n.0, c.in_ok-held.ensures, same) refl

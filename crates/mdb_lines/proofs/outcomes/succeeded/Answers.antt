@@ -12,4 +12,4 @@ returns c = λ r more types rule text.
     let reply = c.in_ok-reply.ensures r more types rule text in
     let first : c.in_ok-reply.reply ≡ r = ap (λ (p : HelloCommandResponse × Bool). p.0) reply in
     let second : c.in_ok-reply.more ≡ more = ap (λ (p : HelloCommandResponse × Bool). p.1) reply in
-    rw (first, second) refl
+    rw (c.in_ok-held.ensures, first, second) refl

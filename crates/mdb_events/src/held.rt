@@ -1,0 +1,53 @@
+//! A value in memory of its own, which contracts see as the value.
+
+ghost use Rattle.std.specs.Prelude.{◌≡◌, IfOk};
+
+use std::alloc::{AllocError, Global};
+use std::marker::Model;
+
+/// A value in memory of its own, so that a type that may hold it stays small. Contracts see it as the value.
+#[derive(Debug, Drop)]
+pub struct Held<T> {
+    inner: Box<T>,
+}
+
+impl<T> Model for Held<T> {
+    ghost Value = { T };
+
+    ghost view = { λ h. h.inner.value };
+}
+
+impl<T> Held<T> {
+    /// The value, lent.
+    pub fn get(&self) -> &T
+        ensures { result.now ≡ self.now }
+    {
+        &*self.inner
+    }
+
+    /// The value, given back.
+    pub fn into_inner(self) -> T
+        ensures { result ≡ self }
+    {
+        Box::into_inner(self.inner)
+    }
+}
+
+impl<T: Drop> Held<T> {
+    /// Keeps the value.
+    pub fn new(alloc: Global, value: T) -> Result<Held<T>, AllocError>
+        ensures { IfOk result (λ held. held ≡ value) }
+    {
+        let inner = Box::new(alloc, value)?;
+        Ok(Held { inner })
+    }
+}
+
+impl<T: Clone> Clone for Held<T> {
+    ghost is_clone = { λ s t. T.is_clone s t };
+
+    fn clone(&self) -> Result<Held<T>, AllocError> {
+        let inner = self.inner.clone()?;
+        Ok(Held { inner })
+    }
+}
