@@ -40,9 +40,11 @@ pub fn where_none(test: Option<u32>, one: Option<u32>, other: Option<u32>) -> Op
     }
 }
 
-/// The ends that a change leads back to.
-pub fn lasting(stays: bool, now: Ends, was: Ends) -> Ends
-    ensures { result ≡ (if stays then now else was) }
+/// The ends that a change leads back to are those of now, where it stays.
+pub fn lasting(stays: bool, now: &Ends, was: &mut Ends)
+    ensures { was.new ≡ (if stays then now.now else was.old) }
 {
-    if stays { now } else { was }
+    if stays {
+        *was = *now;
+    }
 }

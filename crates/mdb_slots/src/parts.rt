@@ -1,8 +1,9 @@
 //! The parts of a table, changed together.
 
-ghost use Rattle.std.specs.Prelude.{◌≡◌, ◌<◌, ◌≤◌, ◌++◌, ◌∷◌, [], ℕ, None, length, OnOk, option_copied};
+ghost use Rattle.std.specs.Prelude.{◌≡◌, ◌<◌, ◌≤◌, ◌++◌, ◌∷◌, [], ℕ, None, Some, length, OnOk, option_copied};
 ghost use Rattle.mdb_slots.specs.Keyed.{entry_at, others};
 ghost use Rattle.mdb_slots.specs.Cells.{at_place};
+ghost use Rattle.mdb_slots.specs.SlotIndex.{slot_of};
 ghost use Rattle.mdb_slots.specs.Table.{HoldsParts, MayChange, MayCome, base_of, capacity_of, values_of};
 
 use crate::keyed::Keyed;
@@ -56,6 +57,7 @@ impl<T: Keyed> Parts<T> {
         ensures now { values_of self.new ≡ values_of self.old }
         ensures spare { self.new.slots.order.spare ≡ self.old.slots.order.spare }
         ensures room { OnOk result (MayChange self.new) }
+        ensures index { self.new.index.now ≡ self.old.index.now }
         ensures base { base_of self.new ≡ base_of self.old }
         ensures capacity { capacity_of self.new ≡ capacity_of self.old }
     {
@@ -63,24 +65,38 @@ impl<T: Keyed> Parts<T> {
         self.index.ready()
     }
 
-    /// The value that has the number goes.
-    pub fn take_out(&mut self, number: u32)
+    /// The value of the slot that the number leads to goes.
+    pub fn take_slot(&mut self, number: u32, slot: u32)
         requires holds { HoldsParts T.key self.old }
+        requires slot { slot_of number self.old.index.now ≡ Some slot }
         requires room { MayChange self.old }
         ensures holds { HoldsParts T.key self.new }
         ensures now { values_of self.new ≡ others T.key number (values_of self.old) }
-        ensures spare { self.old.slots.order.spare ≤ self.new.slots.order.spare }
-        ensures room { MayCome self.new }
         ensures base { base_of self.new ≡ base_of self.old }
         ensures capacity { capacity_of self.new ≡ capacity_of self.old }
     {
         let mut touches = Touches { count: 0 };
-        match self.index.get(number) {
-            Some(slot) => {
-                self.slots.take(slot, false, &mut touches);
-                self.index.remove(number, slot);
-            }
-            None => {}
+        self.slots.take(slot, false, &mut touches);
+        self.index.remove(number, slot);
+    }
+
+    /// The value of the slot that the number leads to goes, and an item with its number comes last.
+    pub fn renew(&mut self, item: T, number: u32, slot: u32)
+        requires number { number ≡ T.key item }
+        requires holds { HoldsParts T.key self.old }
+        requires slot { slot_of number self.old.index.now ≡ Some slot }
+        requires room { MayChange self.old }
+        ensures holds { HoldsParts T.key self.new }
+        ensures now { values_of self.new ≡ others T.key number (values_of self.old) ++ item ∷ [] }
+        ensures base { base_of self.new ≡ base_of self.old }
+        ensures capacity { capacity_of self.new ≡ capacity_of self.old }
+    {
+        let mut touches = Touches { count: 0 };
+        self.slots.take(slot, false, &mut touches);
+        let came = self.slots.bring(item, false, &mut touches);
+        if came != slot {
+            self.index.remove(number, slot);
+            self.index.insert(number, came);
         }
     }
 

@@ -84,6 +84,8 @@ impl SlotIndex {
     }
 
     // More buckets.
+    #[cold]
+    #[inline(never)]
     fn widen(&mut self) -> Result<(), OutOfMemory>
         requires { self.old.width ≤ length self.old.now }
         ensures now { self.new.now ≡ self.old.now }
@@ -106,6 +108,7 @@ impl SlotIndex {
     }
 
     /// One number may go and one may come without memory.
+    #[inline]
     pub fn ready(&mut self) -> Result<(), OutOfMemory>
         ensures now { self.new.now ≡ self.old.now }
         ensures width { OnOk result (0 < self.new.width) }

@@ -165,7 +165,7 @@ impl SlotOrder {
             len: self.ends.len + 1,
             spare: self.ends.spare - 1,
         };
-        self.was = lasting(stays, self.ends, self.was);
+        lasting(stays, &self.ends, &mut self.was);
         at
     }
 
@@ -197,7 +197,7 @@ impl SlotOrder {
             len: self.ends.len - 1,
             spare: self.ends.spare + 1,
         };
-        self.was = lasting(stays, self.ends, self.was);
+        lasting(stays, &self.ends, &mut self.was);
     }
 
     /// The changes go, and what comes back makes them again.

@@ -1,6 +1,6 @@
 //! The storage of a list.
 
-ghost use Rattle.std.specs.Prelude.{◌≡◌, ◌≤◌, ◌+◌, ◌++◌, [], vec_len, vec_capacity, option_map, IfSome, IfOk, OnOk, OnErr};
+ghost use Rattle.std.specs.Prelude.{◌≡◌, ◌≤◌, ◌+◌, ◌++◌, [], None, vec_len, vec_capacity, option_map, IfSome, IfOk, OnOk, OnErr};
 ghost use Rattle.mdb_slots.specs.Open.{or_else};
 
 use mdb_base::OutOfMemory;
@@ -38,7 +38,18 @@ pub fn moved<T: Drop>(items: &mut Vec<T>, storage: Option<Vec<T>>) -> Option<Vec
     }
 }
 
+/// There is no other storage any more.
+#[cold]
+#[inline(never)]
+pub fn let_go<T: Drop>(storage: &mut Option<Vec<T>>)
+    ensures { storage.new ≡ None }
+{
+    *storage = None;
+}
+
 /// The items move to storage that is at least twice as large and has room for so many more, and their own comes back.
+#[cold]
+#[inline(never)]
 pub fn enlarged<T: Drop>(items: &mut Vec<T>, more: usize) -> Result<Vec<T>, OutOfMemory>
     ensures items { items.new.items ≡ items.old.items }
     ensures within { OnOk result (vec_len items.new + more ≤ vec_capacity items.new) }

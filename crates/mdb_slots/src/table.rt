@@ -19,16 +19,19 @@ use std::marker::Model;
 #[derive(Drop)]
 pub struct Table<T: Keyed> {
     parts: Parts<T>,
+    // There may be changes since.
+    changed: bool,
 }
 
 impl<T: Keyed> Model for Table<T> {
-    ghost use Rattle.mdb_slots.specs.Table.{OpenTable, HoldsParts, HoldsShelf, base_of, capacity_of, values_of};
+    ghost use Rattle.std.specs.Prelude.{◌≡◌, false};
+    ghost use Rattle.mdb_slots.specs.Table.{OpenTable, HoldsParts, HoldsShelf, base_of, capacity_of, items, values_of};
 
     ghost Value = { OpenTable T };
 
     ghost view = { λ t. record { now = values_of t.parts; base = base_of t.parts; capacity = capacity_of t.parts } };
 
-    ghost invariant = { λ t. HoldsParts T.key t.parts × HoldsShelf T.key (base_of t.parts) };
+    ghost invariant = { λ t. HoldsParts T.key t.parts × HoldsShelf T.key (base_of t.parts) × (t.changed ≡ false → items (base_of t.parts) ≡ values_of t.parts) };
 }
 
 /// Changes of a table that were taken back, to be made again.
@@ -57,6 +60,7 @@ impl<T: Keyed> Table<T> {
                 slots: Slots::empty(alloc),
                 index: SlotIndex::new(alloc),
             },
+            changed: false,
         }
     }
 
@@ -119,10 +123,14 @@ impl<T: Keyed> Table<T> {
         ensures base { self.new.base ≡ self.old.base }
         ensures capacity { self.new.capacity ≡ self.old.capacity }
     {
+        self.changed = true;
         self.parts.make_slot()?;
         self.parts.make_room()?;
-        self.parts.take_out(item.key());
-        self.parts.put_in(item);
+        let number = item.key();
+        match self.parts.index.get(number) {
+            Some(slot) => self.parts.renew(item, number, slot),
+            None => self.parts.put_in(item),
+        }
         Ok(())
     }
 
@@ -134,6 +142,7 @@ impl<T: Keyed> Table<T> {
         ensures capacity { self.new.capacity ≡ self.old.capacity }
     {
         let mut touches = Touches { count: 0 };
+        self.changed = true;
         self.parts.slots.ready(0, 1)?;
         match self.parts.index.get(item.key()) {
             Some(slot) => self.parts.slots.swap(slot, item, &mut touches),
@@ -149,8 +158,14 @@ impl<T: Keyed> Table<T> {
         ensures base { self.new.base ≡ self.old.base }
         ensures capacity { self.new.capacity ≡ self.old.capacity }
     {
-        self.parts.make_room()?;
-        self.parts.take_out(key);
+        match self.parts.index.get(key) {
+            Some(slot) => {
+                self.changed = true;
+                self.parts.make_room()?;
+                self.parts.take_slot(key, slot);
+            }
+            None => {}
+        }
         Ok(())
     }
 
@@ -161,6 +176,7 @@ impl<T: Keyed> Table<T> {
         ensures capacity { self.new.capacity ≡ self.old.capacity }
         ensures plan { Plans T.key result self.new.base self.new.capacity self.old.now }
     {
+        self.changed = false;
         TableRedo {
             slots: self.parts.slots.turn(alloc),
             index: self.parts.index.turn(alloc),
@@ -177,6 +193,7 @@ impl<T: Keyed> Table<T> {
         let TableRedo { slots, index } = redo;
         self.parts.slots.redo(slots);
         self.parts.index.redo(index);
+        self.changed = false;
     }
 
     /// The changes stay. It takes no memory.
@@ -184,8 +201,11 @@ impl<T: Keyed> Table<T> {
         ensures now { self.new.now ≡ self.old.now }
         ensures base { items self.new.base ≡ self.old.now }
     {
-        self.parts.slots.settle();
-        self.parts.index.settle();
+        if self.changed {
+            self.parts.slots.settle();
+            self.parts.index.settle();
+            self.changed = false;
+        }
     }
 }
 

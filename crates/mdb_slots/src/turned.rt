@@ -4,7 +4,7 @@ ghost use Rattle.std.specs.Prelude.{◌≡◌, ◌<◌, ◌≤◌, ◌+◌, ◌+
 ghost use Rattle.mdb_slots.specs.Open.{list_after, room_after, ListFits};
 
 use crate::change::{Change, back_all, forth_all};
-use crate::storage::{enlarged, moved};
+use crate::storage::{enlarged, let_go, moved};
 use mdb_base::OutOfMemory;
 use std::alloc::Global;
 use std::marker::Model;
@@ -70,8 +70,10 @@ impl<T: Drop> Turned<T> {
         self.items.as_slice()
     }
 
-    /// So many changes may come without memory.
-    pub fn ready(&mut self, changes: usize) -> Result<(), OutOfMemory>
+    // The log has room for so many more.
+    #[cold]
+    #[inline(never)]
+    fn lengthen_log(&mut self, changes: usize) -> Result<(), OutOfMemory>
         ensures now { self.new.now ≡ self.old.now }
         ensures base { self.new.base ≡ self.old.base }
         ensures capacity { self.new.capacity ≡ self.old.capacity }
@@ -81,6 +83,22 @@ impl<T: Drop> Turned<T> {
     {
         self.log.reserve(changes)?;
         Ok(())
+    }
+
+    /// So many changes may come without memory.
+    #[inline]
+    pub fn ready(&mut self, changes: usize) -> Result<(), OutOfMemory>
+        ensures now { self.new.now ≡ self.old.now }
+        ensures base { self.new.base ≡ self.old.base }
+        ensures capacity { self.new.capacity ≡ self.old.capacity }
+        ensures reach { self.new.reach ≡ self.old.reach }
+        ensures room { OnOk result (changes ≤ self.new.room) }
+        ensures kept { self.old.room ≤ self.new.room }
+    {
+        if changes <= self.log.capacity() - self.log.len() {
+            return Ok(());
+        }
+        self.lengthen_log(changes)
     }
 
     /// So many values may come last without memory, and without a place in the log.
@@ -149,7 +167,7 @@ impl<T: Drop> Turned<T> {
         ensures base { self.new.base ≡ self.old.base }
         ensures capacity { self.new.capacity ≡ self.old.capacity }
     {
-        self.ready(1)?;
+        self.lengthen_log(1)?;
         self.reserve(1)?;
         self.push_ready(value);
         Ok(())
@@ -202,6 +220,7 @@ impl<T: Drop> Turned<T> {
     }
 
     /// The changes stay.
+    #[inline]
     pub fn settle(&mut self)
         ensures now { self.new.now ≡ self.old.now }
         ensures base { self.new.base ≡ self.old.now }
@@ -209,7 +228,11 @@ impl<T: Drop> Turned<T> {
         ensures reach { self.new.reach ≡ self.old.reach }
         ensures room { self.old.room ≤ self.new.room }
     {
-        self.log.clear();
-        self.before = None;
+        if !self.log.is_empty() {
+            self.log.clear();
+        }
+        if self.before.is_some() {
+            let_go(&mut self.before);
+        }
     }
 }

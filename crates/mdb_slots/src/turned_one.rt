@@ -52,7 +52,9 @@ impl<T: Drop> TurnedOne<T> {
         ensures now { self.new.now ≡ self.old.now }
         ensures base { self.new.base ≡ self.old.now }
     {
-        self.was = None;
+        if self.was.is_some() {
+            self.was = None;
+        }
     }
 
     /// The change goes, and what comes back makes it again.

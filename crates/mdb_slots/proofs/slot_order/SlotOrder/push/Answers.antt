@@ -21,7 +21,7 @@ write-requires-clause-within c = rw (c.set_after.ensures.now, length-lead_to) (f
 
 pub invariant_of-self : goal.invariant_of-self
 invariant_of-self c =
-    rw c.lasting-self-inside.ensures (lasting-keeps c.args.stays c.write.new.list.base c.write.new.list.now c.self.inside.nodes.base _ c.self.inside.was (λ e. (c.write.ensures.open e).0 ∙ (c.set_after.ensures.open e).0) c.write.ensures.lasts c.self.invariant.1 (rw (c.where_none.ensures, c.node_of-node.ensures.value, c.write.ensures.now, c.set_after.ensures.now) (laid-keeps (push-laid _ c.self.invariant.0 c.unwrap-at.ensures))))
+    rw c.lasting.ensures (lasting-keeps c.args.stays c.write.new.list.base c.write.new.list.now c.self.inside.nodes.base _ c.self.inside.was (λ e. (c.write.ensures.open e).0 ∙ (c.set_after.ensures.open e).0) c.write.ensures.lasts c.self.invariant.1 (rw (c.where_none.ensures, c.node_of-node.ensures.value, c.write.ensures.now, c.set_after.ensures.now) (laid-keeps (push-laid _ c.self.invariant.0 c.unwrap-at.ensures))))
 
 pub returns-clause-used : goal.returns-clause-used
 returns-clause-used c =

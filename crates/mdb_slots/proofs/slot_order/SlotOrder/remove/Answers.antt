@@ -15,7 +15,7 @@ set_before-requires-clause-within c =
 
 pub invariant_of-self : goal.invariant_of-self
 invariant_of-self c =
-    rw c.lasting-self-inside.ensures (lasting-keeps c.args.stays c.write.new.list.base c.write.new.list.now c.self.inside.nodes.base _ c.self.inside.was (λ e. (c.write.ensures.open e).0 ∙ (c.set_before.ensures.open e).0 ∙ (c.set_after.ensures.open e).0) c.write.ensures.lasts c.self.invariant.1 (rw (c.where_none.ensures, c.where_none-2.ensures, c.write.ensures.now, c.set_before.ensures.now, c.set_after.ensures.now, c.node_of-node.ensures.value) (laid-keeps (remove-laid c.args.at _ c.self.invariant.0 (rw (ap (λ (o : OpenOrder). o.now.used) c.self.view_is) c.requires.member) refl))))
+    rw c.lasting.ensures (lasting-keeps c.args.stays c.write.new.list.base c.write.new.list.now c.self.inside.nodes.base _ c.self.inside.was (λ e. (c.write.ensures.open e).0 ∙ (c.set_before.ensures.open e).0 ∙ (c.set_after.ensures.open e).0) c.write.ensures.lasts c.self.invariant.1 (rw (c.where_none.ensures, c.where_none-2.ensures, c.write.ensures.now, c.set_before.ensures.now, c.set_after.ensures.now, c.node_of-node.ensures.value) (laid-keeps (remove-laid c.args.at _ c.self.invariant.0 (rw (ap (λ (o : OpenOrder). o.now.used) c.self.view_is) c.requires.member) refl))))
 
 pub returns-clause-used : goal.returns-clause-used
 returns-clause-used c =

@@ -11,7 +11,7 @@ swap-requires-clause-member g c =
 pub invariant_of-self-in-Some : goal.invariant_of-self-in-Some
 invariant_of-self-in-Some g c =
     let e : slot_of (g.T.Keyed.key c.args.item) c.self.inside.parts.index.now ≡ Some c.in-Some.slot = rw (← c.key.ensures) (sym c.get.ensures ∙ c.in-Some.is) in
-    rw (c.swap.ensures.order, c.swap.ensures.cells, c.swap.ensures.base.0, c.ready.ensures.order, c.ready.ensures.cells, c.ready.ensures.base) (swapped g.T.Keyed.key c.self.invariant.0 c.args.item c.in-Some.slot e, c.self.invariant.1)
+    rw (c.swap.ensures.order, c.swap.ensures.cells, c.swap.ensures.base.0, c.ready.ensures.order, c.ready.ensures.cells, c.ready.ensures.base) (swapped g.T.Keyed.key c.self.invariant.0 c.args.item c.in-Some.slot e, c.self.invariant.1, λ e. cc)
 
 pub returns-in-Some-clause-now : goal.returns-in-Some-clause-now
 returns-in-Some-clause-now g c =
