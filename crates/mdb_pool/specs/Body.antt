@@ -1,14 +1,13 @@
 -- What a pool is read from, and how its changes are made again.
-use Rattle.std.specs.Prelude.{◌&&◌, not, ℕ, false, Option, None, []}
+use Rattle.std.specs.Prelude.{◌&&◌, not, ℕ, Option, None}
 use Rattle.mdb_base.specs.declared.object_id.ObjectId.{ObjectId}
 use Rattle.mdb_slots.specs.Open.{ListSteps, or_else, list_after, ListFits, room_after as length_after}
-use Rattle.mdb_slots.specs.Table.{TableSteps, Capacities, items, nothing_shelved, shelf_after, capacity_after, Fits as TableFits}
-use Rattle.mdb_slots.specs.Sided.{SidedSteps, SidedCapacities, SidedFits, sided_after, sided_capacity_after, nothing_sided}
+use Rattle.mdb_slots.specs.Table.{TableSteps, items, shelf_after, capacity_after, Fits as TableFits}
+use Rattle.mdb_slots.specs.Sided.{SidedSteps, SidedFits, sided_after, sided_capacity_after}
 use Rattle.mdb_pool.specs.Places.{is_available, is_pending, is_queued}
 use Rattle.mdb_pool.specs.declared.connection.Connection.{Connection}
 use Rattle.mdb_pool.specs.declared.request.Request.{Request}
 use Rattle.mdb_pool.specs.declared.status.Status.{Status}
-use Rattle.mdb_pool.specs.declared.status.Status.TheVariants.{New}
 use Rattle.mdb_pool.specs.declared.status.Clear.{Clear}
 use Rattle.mdb_pool.specs.Inner.{PoolShelf, PoolRoom, Inner}
 use Rattle.mdb_pool.specs.Core.{PoolCore}
@@ -133,23 +132,3 @@ now_of b = record {
   claimed = b.claimed.now;
   inner = inner_of b;
 }
-
--- a pool that holds nothing
-abbrev pub no_pool : PoolCore
-no_pool =
-    let shelf : PoolShelf = record {
-      pool = 0;
-      address = record { host = []; port = 0 };
-      options = record { max_pool_size = None; min_pool_size = None; max_idle_time = None; max_connecting = None; max_wait = None; load_balanced = false; limit_id = 0; limit_generation = 0 };
-      last = 0;
-      created = 0;
-      connections = nothing_sided;
-      requests = nothing_sided;
-      status = New;
-      clears = [];
-      settled = nothing_shelved;
-      claimed = nothing_shelved;
-    } in
-    let nothing : Capacities = record { slots = record { order = 0; cells = 0 }; index = record { heads = 0; entries = 0 } } in
-    let sides : SidedCapacities = record { table = nothing; left = nothing; right = nothing } in
-    pool_of (record { base = shelf; room = record { connections = sides; requests = sides; clears = 0; settled = nothing; claimed = nothing } })

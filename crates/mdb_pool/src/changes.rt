@@ -4,7 +4,7 @@ ghost use Rattle.mdb_pool.specs.Facts.{new_pool_error, checked_out_fact, closed_
 ghost use Rattle.std.specs.Prelude.{false, ◌≡◌, ◌++◌, ◌∷◌, ◌+◌, ◌-◌, ◌<◌, [], OnOk, IfOk};
 
 use super::connection::{Connection, Place};
-use super::draft::{Base, Draft};
+use super::draft::Draft;
 use super::request::{Phase, Request};
 use super::status::Status;
 use super::{Established, Reply};
@@ -28,7 +28,7 @@ pub(super) fn new_pool_error(alloc: Global) -> Result<Error, AllocError>
     })
 }
 
-impl<K: Base> Draft<K> {
+impl Draft {
     ghost use Rattle.mdb_slots.specs.Keyed.{swap};
     ghost use Rattle.mdb_pool.specs.Places.{is_queued};
     ghost use Rattle.mdb_pool.specs.Kept.{outcome_now};
@@ -44,7 +44,8 @@ impl<K: Base> Draft<K> {
         phase: Phase,
     ) -> Result<(), OutOfMemory>
         requires { is_queued phase ≡ false }
-        ensures { OnOk result (self.new ≡ record self.old { requests = swap (λ q. q.number) (record request { phase = phase }) self.old.requests }) }
+        ensures core { OnOk result (self.new ≡ record self.old { requests = swap (λ q. q.number) (record request { phase = phase }) self.old.requests }) }
+        ensures inner { self.new.inner ≡ self.old.inner }
     {
         let Request {
             number,
@@ -74,7 +75,8 @@ impl<K: Base> Draft<K> {
         request: u32,
         warm: bool,
     ) -> Result<(), OutOfMemory>
-        ensures { OnOk result (self.new ≡ asking self.old request moment warm) }
+        ensures core { OnOk result (self.new ≡ asking self.old request moment warm) }
+        ensures inner { self.new.inner ≡ self.old.inner }
     {
         self.set_last(moment);
         self.put_request(
@@ -100,6 +102,7 @@ impl<K: Base> Draft<K> {
     ) -> Result<(), OutOfMemory>
         ensures core { OnOk result (self.new ≡ asking self.old request moment false) }
         ensures facts { OnOk result (facts.new.items ≡ facts.old.items ++ started_fact self.old.pool self.old.address ∷ []) }
+        ensures inner { self.new.inner ≡ self.old.inner }
     {
         let address = self.address().clone()?;
         self.enqueue(alloc, moment, request, false)?;
@@ -138,6 +141,7 @@ impl<K: Base> Draft<K> {
     ) -> Result<(), OutOfMemory>
         ensures core { OnOk result (self.new ≡ away self.old request moment warm (away_end self.old.status)) }
         ensures facts { OnOk result (facts.new.items ≡ facts.old.items ++ away_facts self.old request warm (away_end self.old.status)) }
+        ensures inner { self.new.inner ≡ self.old.inner }
     {
         let Some(end) = self.away_end(alloc)? else {
             return Ok(());
@@ -223,6 +227,7 @@ impl<K: Base> Draft<K> {
         requires { self.old.created < self.old.options.limit_id }
         ensures core { OnOk result (self.new ≡ creating self.old moment request) }
         ensures facts { OnOk result (facts.new.items ≡ facts.old.items ++ Pool self.old.pool (ConnectionCreated (record { address = self.old.address; connection_id = self.old.created + 1 })) ∷ Granted request.number self.old.pool (self.old.created + 1) ∷ []) }
+        ensures inner { self.new.inner ≡ self.old.inner }
     {
         // The id is at most the limit, which bounds it.
         let _limit = self.options().limit_id;
@@ -250,6 +255,7 @@ impl<K: Base> Draft<K> {
         requires { self.old.created < self.old.options.limit_id }
         ensures core { OnOk result (self.new ≡ spawning self.old moment) }
         ensures facts { OnOk result (facts.new.items ≡ facts.old.items ++ created_fact self.old.pool self.old.address (self.old.created + 1) ∷ []) }
+        ensures inner { self.new.inner ≡ self.old.inner }
     {
         // The id is at most the limit, which bounds it.
         let _limit = self.options().limit_id;
@@ -270,6 +276,7 @@ impl<K: Base> Draft<K> {
     ) -> Result<(), OutOfMemory>
         ensures core { OnOk result (self.new ≡ ending self.old request end.now) }
         ensures facts { OnOk result (facts.new.items ≡ facts.old.items ++ Ended request.number end.now ∷ []) }
+        ensures inner { self.new.inner ≡ self.old.inner }
     {
         let number = request.number;
         let kept = end.clone()?;
@@ -290,6 +297,7 @@ impl<K: Base> Draft<K> {
     ) -> Result<(), OutOfMemory>
         ensures core { OnOk result (self.new ≡ granting self.old connection request) }
         ensures facts { OnOk result (facts.new.items ≡ facts.old.items ++ Granted request.number self.old.pool connection.id ∷ Pool self.old.pool (ConnectionCheckedOut (record { address = self.old.address; connection_id = connection.id; duration = moment - request.asked_at })) ∷ []) }
+        ensures inner { self.new.inner ≡ self.old.inner }
     {
         let number = request.number;
         let waited = moment.saturating_sub(request.asked_at);
@@ -320,6 +328,7 @@ impl<K: Base> Draft<K> {
     ) -> Result<(), OutOfMemory>
         ensures core { OnOk result (self.new ≡ discarding self.old connection) }
         ensures facts { OnOk result (facts.new.items ≡ facts.old.items ++ closed_fact self.old.pool self.old.address connection.id reason connection.service ∷ []) }
+        ensures inner { self.new.inner ≡ self.old.inner }
     {
         self.push_close(facts, connection, reason)?;
         self.remove_connection(alloc, connection.id)?;
@@ -338,6 +347,7 @@ impl<K: Base> Draft<K> {
     ) -> Result<(), OutOfMemory>
         ensures core { OnOk result (self.new ≡ establishing self.old moment connection made) }
         ensures facts { OnOk result (facts.new.items ≡ facts.old.items ++ ready_fact self.old.pool self.old.address connection.id (moment - connection.created_at) ∷ checked_out_fact self.old.pool self.old.address connection.id (moment - asked_at) ∷ []) }
+        ensures inner { self.new.inner ≡ self.old.inner }
     {
         self.set_last(moment);
         self.put_connection(
@@ -359,6 +369,7 @@ impl<K: Base> Draft<K> {
     pub(super) fn tell(&mut self, request: u32) -> Result<Reply, OutOfMemory>
         ensures core { OnOk result (self.new ≡ telling self.old request) }
         ensures reply { IfOk result (λ reply. reply ≡ outcome_now self.old request) }
+        ensures inner { self.new.inner ≡ self.old.inner }
     {
         let reply = self.body.outcome(request)?;
         if matches!(reply, Reply::Pooled(_, _) | Reply::Ended(_)) {

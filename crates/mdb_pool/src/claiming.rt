@@ -2,14 +2,14 @@
 
 ghost use Rattle.std.specs.Prelude.{◌≡◌, OnOk, OnErr, IfOk, List};
 
-use super::draft::{Base, Draft};
+use super::draft::Draft;
 use super::pool_core::PoolCore;
 use super::{Act, Reply, Step};
 use mdb_base::{Moment, OutOfMemory};
 use mdb_events::Fact;
 use std::alloc::Global;
 
-impl<K: Base> Draft<K> {
+impl Draft {
     ghost use Rattle.mdb_pool.specs.Kept.{job_now};
     ghost use Rattle.mdb_pool.specs.Changes.{claiming};
     ghost use Rattle.mdb_pool.specs.Standing.{SameHome, Fits, Accepts, StandsFor, Answers};
@@ -20,6 +20,7 @@ impl<K: Base> Draft<K> {
     fn take_job(&mut self) -> Result<Reply, OutOfMemory>
         ensures core { OnOk result (self.new ≡ claiming self.old) }
         ensures reply { IfOk result (λ reply. reply ≡ job_now self.old) }
+        ensures inner { self.new.inner ≡ self.old.inner }
     {
         let Some(connection) = self.first_unclaimed() else {
             return Ok(Reply::NoJob);
@@ -38,6 +39,7 @@ impl<K: Base> Draft<K> {
         ensures home { OnOk result (SameHome self.old self.new) }
         ensures last { OnOk result (self.new.last ≡ moment) }
         ensures accepts { IfOk result (λ reply. (xs : List PoolItem) → Fits self.old xs → Accepts self.old self.new facts.old.items facts.new.items moment Claim reply xs xs) }
+        ensures inner { self.new.inner ≡ self.old.inner }
     {
         let reply = self.take_job()?;
         self.set_last(moment);

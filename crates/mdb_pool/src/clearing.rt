@@ -2,7 +2,7 @@
 
 ghost use Rattle.std.specs.Prelude.{◌≡◌, ◌++◌, ◌∷◌, ◌-◌, [], OnOk, OnErr, IfOk, List, false};
 
-use super::draft::{Base, Draft};
+use super::draft::Draft;
 use super::pool_core::PoolCore;
 use super::request::{Phase, Request};
 use super::status::{Clear, Status};
@@ -11,7 +11,7 @@ use mdb_base::{Error, Moment, ObjectId, OutOfMemory};
 use mdb_events::{CmapEvent, End, Fact, PoolClearedEvent};
 use std::alloc::Global;
 
-impl<K: Base> Draft<K> {
+impl Draft {
     ghost use Rattle.mdb_pool.specs.Changes.{ending, raising, over_facts};
     ghost use Rattle.mdb_pool.specs.Standing.{SameHome, SameNotes, Fits, EndsQueue, Clears, Accepts, StandsFor, Answers};
     ghost use Rattle.mdb_log.specs.History.{Item, PoolItem};
@@ -33,6 +33,7 @@ impl<K: Base> Draft<K> {
     ) -> Result<(), OutOfMemory>
         ensures core { OnOk result (self.new ≡ ending self.old request (Cleared cause.now)) }
         ensures facts { OnOk result (facts.new.items ≡ facts.old.items ++ over_facts self.old request.number request.warm (moment - request.asked_at) (Cleared cause.now)) }
+        ensures inner { self.new.inner ≡ self.old.inner }
     {
         let (number, warm) = (request.number, request.warm);
         let waited = moment.saturating_sub(request.asked_at);
@@ -55,6 +56,7 @@ impl<K: Base> Draft<K> {
         ensures last { OnOk result (self.new.last ≡ self.old.last) }
         ensures notes { OnOk result (SameNotes self.old self.new) }
         ensures ends { OnOk result ((xs : List PoolItem) → Fits self.old xs → EndsQueue self.old self.new moment (Cleared cause.now) facts.old.items facts.new.items xs) }
+        ensures inner { self.new.inner ≡ self.old.inner }
     {
         while let Some(request) = self.first_queued() {
             let request = request.copy()?;
@@ -73,6 +75,7 @@ impl<K: Base> Draft<K> {
     ) -> Result<(), OutOfMemory>
         ensures core { OnOk result (self.new ≡ raising self.old moment service cause.now) }
         ensures facts { OnOk result (facts.new.items ≡ facts.old.items ++ Raised self.old.pool service cause.now ∷ []) }
+        ensures inner { self.new.inner ≡ self.old.inner }
     {
         let told = cause.clone()?;
         facts.push(Fact::Raised(self.number(), service, told))?;
@@ -122,6 +125,7 @@ impl<K: Base> Draft<K> {
         ensures home { OnOk result (SameHome self.old self.new) }
         ensures last { OnOk result (self.new.last ≡ moment) }
         ensures moves { OnOk result ((xs : List PoolItem) → Fits self.old xs → Clears self.old self.new moment None cause.now facts.old.items facts.new.items xs) }
+        ensures inner { self.new.inner ≡ self.old.inner }
     {
         self.raise(facts, moment, None, cause)?;
         self.push_cleared(facts, None, cause)?;
@@ -142,6 +146,7 @@ impl<K: Base> Draft<K> {
         ensures home { OnOk result (SameHome self.old self.new) }
         ensures last { OnOk result (self.new.last ≡ moment) }
         ensures moves { OnOk result ((xs : List PoolItem) → Fits self.old xs → Clears self.old self.new moment service cause.now facts.old.items facts.new.items xs) }
+        ensures inner { self.new.inner ≡ self.old.inner }
     {
         if service.is_some() {
             self.raise(facts, moment, service, cause)?;
@@ -169,6 +174,7 @@ impl<K: Base> Draft<K> {
         ensures home { OnOk result (SameHome self.old self.new) }
         ensures last { OnOk result (self.new.last ≡ moment) }
         ensures accepts { IfOk result (λ reply. (xs : List PoolItem) → Fits self.old xs → Accepts self.old self.new facts.old.items facts.new.items moment (ClearAct pool service cause.now) reply xs xs) }
+        ensures inner { self.new.inner ≡ self.old.inner }
     {
         if self.status().is_closed() {
             self.set_last(moment);
@@ -212,7 +218,7 @@ impl PoolCore {
     {
         let step = Step {
             moment,
-            act: Act::Clear(self.body.pool, service, cause),
+            act: Act::Clear(self.draft.body.pool, service, cause),
         };
         let answer = self.attempt(alloc, facts, &step);
         drop(step);

@@ -87,7 +87,7 @@ impl PoolCore {
         ensures kept { result ≡ clears_for service self.now.clears }
         ensures history { (h : List Item) → StandsFor self.now h → result ≡ generation_of (of_pool self.now.pool h) service }
     {
-        self.body.generation(service)
+        self.draft.body.generation(service)
     }
 
     /// How often it was cleared so before the connection was created, `None` where the connection isn't live.
@@ -95,18 +95,18 @@ impl PoolCore {
         ensures kept { result ≡ if is_some (connection_at self.now id) then Some (clears_before id service self.now.clears) else None }
         ensures history { (h : List Item) → StandsFor self.now h → result ≡ if is_live (of_pool self.now.pool h) id then Some (generation_before (of_pool self.now.pool h) id service) else None }
     {
-        if self.body.connections.get(id).is_none() {
+        if self.draft.body.connections.get(id).is_none() {
             return None;
         }
-        Some(count_before(self.body.clears.as_slice(), id, service) as u64)
+        Some(count_before(self.draft.body.clears.as_slice(), id, service) as u64)
     }
 
     // The generation that a connection of the service carries.
     fn carried(&self, id: u32, service: Option<ObjectId>) -> ConnectionGeneration
         ensures { result ≡ carried self.now.options.load_balanced (λ t. clears_before id t self.now.clears) service }
     {
-        let clears = self.body.clears.as_slice();
-        if !self.body.options.load_balanced {
+        let clears = self.draft.body.clears.as_slice();
+        if !self.draft.body.options.load_balanced {
             return ConnectionGeneration::Normal(count_before(clears, id, None) as u64);
         }
         let Some(service_id) = service else {
@@ -123,7 +123,7 @@ impl PoolCore {
         ensures kept { result ≡ generation_at self.now id (connection_at self.now id) }
         ensures history { (h : List Item) → StandsFor self.now h → result ≡ if is_live (of_pool self.now.pool h) id then Some (carried self.now.options.load_balanced (generation_before (of_pool self.now.pool h) id) (known_service (of_pool self.now.pool h) id)) else None }
     {
-        match self.body.connections.get(id) {
+        match self.draft.body.connections.get(id) {
             Some(connection) => Some(self.carried(id, connection.service)),
             None => None,
         }
@@ -135,12 +135,12 @@ impl PoolCore {
         ensures kept { result ≡ interrupted_at self.now (connection_at self.now id) }
         ensures history { (h : List Item) → StandsFor self.now h → result ≡ is_interrupted self.now.options (of_pool self.now.pool h) id }
     {
-        match self.body.connections.get(id) {
+        match self.draft.body.connections.get(id) {
             Some(connection) => {
-                !self.body.options.load_balanced
+                !self.draft.body.options.load_balanced
                     && connection.is_held()
                     && connection.pins == 0
-                    && connection.timeouts < self.body.timeouts()
+                    && connection.timeouts < self.draft.body.timeouts()
             }
             None => false,
         }

@@ -4,7 +4,7 @@ ghost use Rattle.std.specs.Prelude.{◌≡◌, ◌++◌, ◌∷◌, [], not, OnO
 ghost use Rattle.mdb_pool.specs.Changes.{number_in};
 ghost use Rattle.mdb_pool.specs.Places.{is_available, is_pending};
 
-use super::draft::{Base, Draft};
+use super::draft::Draft;
 use super::pool_core::PoolCore;
 use super::request::{Phase, Request};
 use super::status::Status;
@@ -22,7 +22,7 @@ fn number_in(request: Option<&Request>) -> Option<u32>
     }
 }
 
-impl<K: Base> Draft<K> {
+impl Draft {
     ghost use Rattle.mdb_pool.specs.Changes.{closing, shut_facts, off_facts, ended_request, ended_one, available_ones, pending_ones, unserved_ones};
     ghost use Rattle.mdb_pool.specs.Standing.{SameHome, Fits, Accepts};
     ghost use Rattle.mdb_log.specs.History.{PoolItem};
@@ -96,7 +96,8 @@ impl<K: Base> Draft<K> {
 
     // The request ends where nothing was handed to it.
     fn end_unserved(&mut self, alloc: Global, number: u32) -> Result<(), OutOfMemory>
-        ensures { OnOk result (self.new ≡ record self.old { requests = ended_one self.old number }) }
+        ensures core { OnOk result (self.new ≡ record self.old { requests = ended_one self.old number }) }
+        ensures inner { self.new.inner ≡ self.old.inner }
     {
         // No other request has the number.
         let _requests = self.asked();
@@ -118,7 +119,8 @@ impl<K: Base> Draft<K> {
 
     // So do all requests.
     fn end_all_unserved(&mut self, alloc: Global) -> Result<(), OutOfMemory>
-        ensures { OnOk result (self.new ≡ record self.old { requests = map (ended_request self.old) self.old.requests }) }
+        ensures core { OnOk result (self.new ≡ record self.old { requests = map (ended_request self.old) self.old.requests }) }
+        ensures inner { self.new.inner ≡ self.old.inner }
     {
         let mut next = number_in(self.first_request());
         while let Some(number) = next {
@@ -130,7 +132,8 @@ impl<K: Base> Draft<K> {
 
     // The available and the pending connections go.
     fn drop_connections(&mut self, alloc: Global) -> Result<(), OutOfMemory>
-        ensures { OnOk result (self.new ≡ record self.old { connections = filter (λ x. not (is_pending x.place)) (filter (λ x. not (is_available x.place)) self.old.connections) }) }
+        ensures core { OnOk result (self.new ≡ record self.old { connections = filter (λ x. not (is_pending x.place)) (filter (λ x. not (is_available x.place)) self.old.connections) }) }
+        ensures inner { self.new.inner ≡ self.old.inner }
     {
         self.body.connections.clear_left(alloc)?;
         self.body.connections.clear_right(alloc)
@@ -146,6 +149,7 @@ impl<K: Base> Draft<K> {
     ) -> Result<(), OutOfMemory>
         ensures core { OnOk result (self.new ≡ closing self.old moment) }
         ensures facts { OnOk result (facts.new.items ≡ (((facts.old.items ++ shut_facts self.old (available_ones self.old)) ++ shut_facts self.old (pending_ones self.old)) ++ off_facts self.old moment (unserved_ones self.old)) ++ pool_closed_fact self.old.pool self.old.address ∷ []) }
+        ensures inner { self.new.inner ≡ self.old.inner }
     {
         self.push_available(facts)?;
         self.push_pending(facts)?;
@@ -173,6 +177,7 @@ impl<K: Base> Draft<K> {
         ensures home { OnOk result (SameHome self.old self.new) }
         ensures last { OnOk result (self.new.last ≡ moment) }
         ensures accepts { IfOk result (λ reply. (xs : List PoolItem) → Fits self.old xs → Accepts self.old self.new facts.old.items facts.new.items moment (Close pool) reply xs xs) }
+        ensures inner { self.new.inner ≡ self.old.inner }
     {
         if self.status().is_closed() {
             self.set_last(moment);
@@ -210,7 +215,7 @@ impl PoolCore {
     {
         let step = Step {
             moment,
-            act: Act::Close(self.body.pool),
+            act: Act::Close(self.draft.body.pool),
         };
         let answer = self.attempt(alloc, facts, &step);
         drop(step);

@@ -3,7 +3,7 @@
 ghost use Rattle.std.specs.Prelude.{◌≡◌, ◌++◌, ◌∷◌, ◌-◌, [], false, OnOk, Some};
 
 use super::connection::{Connection, Place};
-use super::draft::{Base, Draft};
+use super::draft::Draft;
 use super::request::{Phase, Request};
 use super::{Established, Use};
 use mdb_base::{Moment, OutOfMemory};
@@ -23,7 +23,7 @@ pub(super) fn as_made(connection: Connection, made: Established) -> Connection
     }
 }
 
-impl<K: Base> Draft<K> {
+impl Draft {
     ghost use Rattle.mdb_pool.specs.Places.{is_queued};
     ghost use Rattle.mdb_pool.specs.Kept.{connection_at};
     ghost use Rattle.mdb_pool.specs.Changes.{returning_for, pooling, pooling_for, filling_for, quitting, leaving, handing_for, to_pin, back_facts, placed, finishing};
@@ -97,7 +97,8 @@ impl<K: Base> Draft<K> {
         connection: Connection,
         reason: Option<ConnectionClosedReason>,
     ) -> Result<(), OutOfMemory>
-        ensures { OnOk result (self.new ≡ record self.old { connections = placed moment connection reason self.old.connections }) }
+        ensures core { OnOk result (self.new ≡ record self.old { connections = placed moment connection reason self.old.connections }) }
+        ensures inner { self.new.inner ≡ self.old.inner }
     {
         if reason.is_some() {
             self.remove_connection(alloc, connection.id)?;
@@ -127,6 +128,7 @@ impl<K: Base> Draft<K> {
     ) -> Result<(), OutOfMemory>
         ensures core { OnOk result (self.new ≡ pooling_for self.old moment connection made reason) }
         ensures facts { OnOk result (facts.new.items ≡ facts.old.items ++ ready_fact self.old.pool self.old.address connection.id (moment - connection.created_at) ∷ back_facts self.old (record connection { service = made.service_id; wire = Some made.wire }) reason) }
+        ensures inner { self.new.inner ≡ self.old.inner }
     {
         let connection = as_made(connection, made);
         self.push_ready(facts, moment, connection)?;
@@ -147,6 +149,7 @@ impl<K: Base> Draft<K> {
     ) -> Result<(), OutOfMemory>
         ensures core { OnOk result (self.new ≡ pooling self.old moment connection made) }
         ensures facts { OnOk result (facts.new.items ≡ facts.old.items ++ ready_fact self.old.pool self.old.address connection.id (moment - connection.created_at) ∷ []) }
+        ensures inner { self.new.inner ≡ self.old.inner }
     {
         self.push_ready(facts, moment, connection)?;
         self.set_last(moment);
@@ -168,6 +171,7 @@ impl<K: Base> Draft<K> {
     ) -> Result<(), OutOfMemory>
         ensures core { OnOk result (self.new ≡ filling_for self.old moment connection made request reason) }
         ensures facts { OnOk result (facts.new.items ≡ facts.old.items ++ (ready_fact self.old.pool self.old.address connection.id (moment - connection.created_at) ∷ back_facts self.old (record connection { service = made.service_id; wire = Some made.wire }) reason) ++ Ended request.number Filled ∷ []) }
+        ensures inner { self.new.inner ≡ self.old.inner }
     {
         self.pool_connection(alloc, facts, moment, connection, made, reason)?;
         self.end_warm(alloc, facts, request, &End::Filled)
@@ -182,7 +186,8 @@ impl<K: Base> Draft<K> {
         phase: Phase,
     ) -> Result<(), OutOfMemory>
         requires { is_queued phase ≡ false }
-        ensures { OnOk result (self.new ≡ finishing self.old moment request phase) }
+        ensures core { OnOk result (self.new ≡ finishing self.old moment request phase) }
+        ensures inner { self.new.inner ≡ self.old.inner }
     {
         let number = request.number;
         self.set_last(moment);
@@ -202,7 +207,8 @@ impl<K: Base> Draft<K> {
         phase: Phase,
     ) -> Result<(), OutOfMemory>
         requires { is_queued phase ≡ false }
-        ensures { OnOk result (self.new ≡ to_pin self.old moment connection request phase) }
+        ensures core { OnOk result (self.new ≡ to_pin self.old moment connection request phase) }
+        ensures inner { self.new.inner ≡ self.old.inner }
     {
         self.finish(alloc, moment, request, phase)?;
         self.replace_connection(
@@ -227,6 +233,7 @@ impl<K: Base> Draft<K> {
     ) -> Result<(), OutOfMemory>
         ensures core { OnOk result (self.new ≡ to_pin self.old moment connection request (EndedPhase GaveUp)) }
         ensures facts { OnOk result (facts.new.items ≡ facts.old.items ++ Ended request.number GaveUp ∷ []) }
+        ensures inner { self.new.inner ≡ self.old.inner }
     {
         facts.push(Fact::Ended(request.number, End::GaveUp))?;
         self.put_to_pin(
@@ -250,6 +257,7 @@ impl<K: Base> Draft<K> {
     ) -> Result<(), OutOfMemory>
         ensures core { OnOk result (self.new ≡ returning_for self.old moment connection request reason) }
         ensures facts { OnOk result (facts.new.items ≡ facts.old.items ++ back_facts self.old connection reason) }
+        ensures inner { self.new.inner ≡ self.old.inner }
     {
         self.push_back(facts, connection, reason)?;
         self.finish(alloc, moment, request, Phase::Over)?;
@@ -267,6 +275,7 @@ impl<K: Base> Draft<K> {
     ) -> Result<(), OutOfMemory>
         ensures core { OnOk result (self.new ≡ quitting self.old moment request) }
         ensures facts { OnOk result (facts.new.items ≡ facts.old.items ++ Ended request.number GaveUp ∷ []) }
+        ensures inner { self.new.inner ≡ self.old.inner }
     {
         facts.push(Fact::Ended(request.number, End::GaveUp))?;
         self.finish(alloc, moment, request, Phase::Ended(End::GaveUp))?;
@@ -286,6 +295,7 @@ impl<K: Base> Draft<K> {
         requires { connection_at self.old connection.id ≡ Some connection }
         ensures core { OnOk result (self.new ≡ leaving self.old moment connection request) }
         ensures facts { OnOk result (facts.new.items ≡ facts.old.items ++ Ended request.number GaveUp ∷ []) }
+        ensures inner { self.new.inner ≡ self.old.inner }
     {
         self.quit(alloc, facts, moment, request)?;
         self.replace_connection(
@@ -311,6 +321,7 @@ impl<K: Base> Draft<K> {
     ) -> Result<(), OutOfMemory>
         ensures core { OnOk result (self.new ≡ handing_for self.old moment connection request reason) }
         ensures facts { OnOk result (facts.new.items ≡ facts.old.items ++ Ended request.number GaveUp ∷ back_facts self.old connection reason) }
+        ensures inner { self.new.inner ≡ self.old.inner }
     {
         facts.push(Fact::Ended(request.number, End::GaveUp))?;
         self.push_back(facts, connection, reason)?;

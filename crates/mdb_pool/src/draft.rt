@@ -16,41 +16,24 @@ use super::request::Request;
 use super::status::{Clear, Status};
 use mdb_base::{Moment, OutOfMemory, ServerAddress};
 use std::alloc::Global;
-use std::marker::{Brand, Model, PhantomData};
+use std::marker::Model;
 
-/// Stands for the pool before a draft.
-pub trait Base {
-    ghost use Rattle.mdb_pool.specs.Core.{PoolCore};
-
-    ghost base: { PoolCore };
-}
-
-impl Base for Brand {
-    ghost use Rattle.mdb_pool.specs.Body.{no_pool};
-
-    ghost base = { no_pool };
-}
-
-/// A pool with changes that can be taken back: what it was stands in its type.
+/// A pool with changes that can be taken back: each call keeps what it is read from, which is the pool as it was when it was last settled.
 #[derive(Drop)]
-pub struct Draft<K: Base> {
+pub struct Draft {
     pub(super) body: Body,
-    pub(super) of: PhantomData<K>,
 }
 
-impl<K: Base> Model for Draft<K> {
-    ghost use Rattle.std.specs.Prelude.{◌≡◌};
+impl Model for Draft {
     ghost use Rattle.mdb_pool.specs.Core.{PoolCore};
-    ghost use Rattle.mdb_pool.specs.Body.{now_of, inner_of};
+    ghost use Rattle.mdb_pool.specs.Body.{now_of};
 
     ghost Value = { PoolCore };
 
     ghost view = { λ d. now_of d.body };
-
-    ghost invariant = { λ d. inner_of d.body ≡ K.base.inner };
 }
 
-impl<K: Base> Draft<K> {
+impl Draft {
     pub(super) fn number(&self) -> u32
         ensures { result ≡ self.now.pool }
     {
@@ -134,37 +117,43 @@ impl<K: Base> Draft<K> {
     }
 
     pub(super) fn set_last(&mut self, moment: Moment)
-        ensures { self.new ≡ record self.old { last = moment } }
+        ensures core { self.new ≡ record self.old { last = moment } }
+        ensures inner { self.new.inner ≡ self.old.inner }
     {
         self.body.last.set(moment);
     }
 
     pub(super) fn set_created(&mut self, created: u32)
-        ensures { self.new ≡ record self.old { created = created } }
+        ensures core { self.new ≡ record self.old { created = created } }
+        ensures inner { self.new.inner ≡ self.old.inner }
     {
         self.body.created.set(created);
     }
 
     pub(super) fn set_status(&mut self, status: Status)
-        ensures { self.new ≡ record self.old { status = status } }
+        ensures core { self.new ≡ record self.old { status = status } }
+        ensures inner { self.new.inner ≡ self.old.inner }
     {
         self.body.status.set(status);
     }
 
     pub(super) fn push_clear(&mut self, clear: Clear) -> Result<(), OutOfMemory>
-        ensures { OnOk result (self.new ≡ record self.old { clears = self.old.clears ++ clear ∷ [] }) }
+        ensures core { OnOk result (self.new ≡ record self.old { clears = self.old.clears ++ clear ∷ [] }) }
+        ensures inner { self.new.inner ≡ self.old.inner }
     {
         self.body.clears.push(clear)
     }
 
     pub(super) fn settle(&mut self, number: u32) -> Result<(), OutOfMemory>
-        ensures { OnOk result (self.new ≡ record self.old { settled = marked number self.old.settled }) }
+        ensures core { OnOk result (self.new ≡ record self.old { settled = marked number self.old.settled }) }
+        ensures inner { self.new.inner ≡ self.old.inner }
     {
         self.body.settled.put(number)
     }
 
     pub(super) fn claim(&mut self, id: u32) -> Result<(), OutOfMemory>
-        ensures { OnOk result (self.new ≡ record self.old { claimed = marked id self.old.claimed }) }
+        ensures core { OnOk result (self.new ≡ record self.old { claimed = marked id self.old.claimed }) }
+        ensures inner { self.new.inner ≡ self.old.inner }
     {
         self.body.claimed.put(id)
     }
@@ -175,7 +164,8 @@ impl<K: Base> Draft<K> {
         alloc: Global,
         connection: Connection,
     ) -> Result<(), OutOfMemory>
-        ensures { OnOk result (self.new ≡ record self.old { connections = put (λ x. x.id) connection self.old.connections }) }
+        ensures core { OnOk result (self.new ≡ record self.old { connections = put (λ x. x.id) connection self.old.connections }) }
+        ensures inner { self.new.inner ≡ self.old.inner }
     {
         self.body.connections.put(alloc, connection)
     }
@@ -188,20 +178,23 @@ impl<K: Base> Draft<K> {
     ) -> Result<(), OutOfMemory>
         requires available { stays (λ x. is_available x.place) connection (connection_at self.old connection.id) ≡ true }
         requires pending { stays (λ x. is_pending x.place) connection (connection_at self.old connection.id) ≡ true }
-        ensures { OnOk result (self.new ≡ record self.old { connections = swap (λ x. x.id) connection self.old.connections }) }
+        ensures core { OnOk result (self.new ≡ record self.old { connections = swap (λ x. x.id) connection self.old.connections }) }
+        ensures inner { self.new.inner ≡ self.old.inner }
     {
         self.body.connections.replace(alloc, connection)
     }
 
     pub(super) fn remove_connection(&mut self, alloc: Global, id: u32) -> Result<(), OutOfMemory>
-        ensures { OnOk result (self.new ≡ record self.old { connections = others (λ x. x.id) id self.old.connections }) }
+        ensures core { OnOk result (self.new ≡ record self.old { connections = others (λ x. x.id) id self.old.connections }) }
+        ensures inner { self.new.inner ≡ self.old.inner }
     {
         self.body.connections.remove(alloc, id)
     }
 
     // The request comes last.
     pub(super) fn put_request(&mut self, alloc: Global, request: Request) -> Result<(), OutOfMemory>
-        ensures { OnOk result (self.new ≡ record self.old { requests = put (λ q. q.number) request self.old.requests }) }
+        ensures core { OnOk result (self.new ≡ record self.old { requests = put (λ q. q.number) request self.old.requests }) }
+        ensures inner { self.new.inner ≡ self.old.inner }
     {
         self.body.requests.put(alloc, request)
     }
@@ -214,7 +207,8 @@ impl<K: Base> Draft<K> {
         request: Request,
     ) -> Result<(), OutOfMemory>
         requires { is_queued request.phase ≡ false }
-        ensures { OnOk result (self.new ≡ record self.old { requests = swap (λ q. q.number) request self.old.requests }) }
+        ensures core { OnOk result (self.new ≡ record self.old { requests = swap (λ q. q.number) request self.old.requests }) }
+        ensures inner { self.new.inner ≡ self.old.inner }
     {
         self.body.requests.replace(alloc, request)
     }

@@ -4,13 +4,18 @@ ghost use Rattle.std.specs.Prelude.{◌≡◌, option_copied, IfOk};
 
 use super::Reply;
 use super::connection::Connection;
-use super::draft::{Base, Draft};
+use super::draft::Draft;
 use super::request::Request;
 use mdb_base::{Moment, ObjectId, OutOfMemory};
 use mdb_events::ConnectionClosedReason;
+use mdb_slots::SlotTable;
 
-impl<K: Base> Draft<K> {
+impl Draft {
+    ghost use Rattle.mdb_slots.specs.Items.{records_of};
     ghost use Rattle.mdb_slots.specs.Keyed.{after_key, rest_of};
+    ghost use Rattle.mdb_slots.specs.Sided.{noted};
+    ghost use Rattle.mdb_slots.specs.Slots.{listing};
+    ghost use Rattle.mdb_pool.specs.Places.{is_available};
     ghost use Rattle.mdb_pool.specs.Changes.{available_ones, pending_ones};
     ghost use Rattle.mdb_pool.specs.Kept.{is_ended_at, request_at, outcome_now, wants_now, candidate_now, fills_now, first_perished, first_overdue, first_queued, last_available, has_room, held_connection, pending_connection, holder_request, first_unclaimed, stale_for, perished_now, reason_now, timeouts_in};
 
@@ -112,6 +117,13 @@ impl<K: Base> Draft<K> {
         ensures { result ≡ reason_now self.now connection }
     {
         self.body.reason_now(connection)
+    }
+
+    // The available connections in their slots.
+    pub(super) fn available(&self) -> &SlotTable
+        ensures { records_of (listing result.now).items ≡ noted (λ x. x.id) (λ x. x.service) (λ x. x.since) (λ x. is_available x.place) self.now.connections }
+    {
+        self.body.connections.left_slots()
     }
 
     pub(super) fn first_available(&self) -> Option<Connection>

@@ -2,7 +2,7 @@
 
 ghost use Rattle.std.specs.Prelude.{◌≡◌, ◌++◌, ◌-◌, OnOk, OnErr, IfOk, List, option_copied};
 
-use super::draft::{Base, Draft};
+use super::draft::Draft;
 use super::pool_core::PoolCore;
 use super::request::{Phase, Request};
 use super::{Act, Reply, Step};
@@ -10,7 +10,7 @@ use mdb_base::{Moment, OutOfMemory, ServerAddress};
 use mdb_events::{End, Fact};
 use std::alloc::Global;
 
-impl<K: Base> Draft<K> {
+impl Draft {
     ghost use Rattle.mdb_pool.specs.Kept.{overdue_since, overdue_now, first_overdue};
     ghost use Rattle.mdb_pool.specs.Changes.{ending, over_facts};
     ghost use Rattle.mdb_pool.specs.Standing.{SameHome, SameNotes, Fits, Expires, Accepts, StandsFor, Answers};
@@ -28,6 +28,7 @@ impl<K: Base> Draft<K> {
     ) -> Result<(), OutOfMemory>
         ensures core { OnOk result (self.new ≡ ending self.old request TimedOut) }
         ensures facts { OnOk result (facts.new.items ≡ facts.old.items ++ over_facts self.old request.number request.warm (moment - request.asked_at) TimedOut) }
+        ensures inner { self.new.inner ≡ self.old.inner }
     {
         let (number, warm) = (request.number, request.warm);
         let waited = moment.saturating_sub(request.asked_at);
@@ -47,6 +48,7 @@ impl<K: Base> Draft<K> {
         ensures last { OnOk result (self.new.last ≡ self.old.last) }
         ensures notes { OnOk result (SameNotes self.old self.new) }
         ensures expires { OnOk result ((xs : List PoolItem) → Fits self.old xs → Expires self.old self.new moment facts.old.items facts.new.items xs) }
+        ensures inner { self.new.inner ≡ self.old.inner }
     {
         while let Some(request) = self.first_overdue(moment) {
             let request = request.copy()?;
@@ -65,6 +67,7 @@ impl<K: Base> Draft<K> {
         ensures home { OnOk result (SameHome self.old self.new) }
         ensures last { OnOk result (self.new.last ≡ moment) }
         ensures accepts { IfOk result (λ reply. (xs : List PoolItem) → Fits self.old xs → Accepts self.old self.new facts.old.items facts.new.items moment (ExpireAct self.old.address) reply xs xs) }
+        ensures inner { self.new.inner ≡ self.old.inner }
     {
         self.set_last(moment);
         self.end_all_overdue(alloc, facts, moment)?;
@@ -97,10 +100,10 @@ impl PoolCore {
         ensures err_facts { OnErr result (facts.new.items ≡ facts.old.items) }
         ensures passes { OnErr result (Passes self.old (record { moment = moment; act = ExpireAct self.old.address })) }
     {
-        if let Some(why) = self.body.home_refusal(moment) {
+        if let Some(why) = self.draft.body.home_refusal(moment) {
             return Ok(Reply::Refused(why));
         }
-        let address = self.body.address.clone()?;
+        let address = self.address().clone()?;
         let step = Step {
             moment,
             act: Act::Expire(address),

@@ -4,7 +4,7 @@ ghost use Rattle.std.specs.Prelude.{◌≡◌, ◌++◌, ◌∷◌, ◌-◌, ◌
 ghost use Rattle.mdb_pool.specs.Facts.{failure_of};
 
 use super::connection::Connection;
-use super::draft::{Base, Draft};
+use super::draft::Draft;
 use super::pool_core::PoolCore;
 use super::request::{Phase, Request};
 use super::{Act, FailedAt, Reply, Step};
@@ -25,7 +25,7 @@ fn failure_of(end: &End) -> ConnectionCheckoutFailedReason
     }
 }
 
-impl<K: Base> Draft<K> {
+impl Draft {
     ghost use Rattle.mdb_pool.specs.Kept.{connection_at, is_pending_at};
     ghost use Rattle.mdb_log.specs.History.{service_in};
     ghost use Rattle.mdb_pool.specs.Changes.{failing, forgetting, over_facts};
@@ -76,6 +76,7 @@ impl<K: Base> Draft<K> {
     ) -> Result<(), OutOfMemory>
         ensures core { OnOk result (self.new ≡ failing self.old moment connection request (FailedEnd cause.now)) }
         ensures facts { OnOk result (facts.new.items ≡ facts.old.items ++ closed_fact self.old.pool self.old.address connection.id ErrorReason connection.service ∷ over_facts self.old request.number request.warm (moment - request.asked_at) (FailedEnd cause.now)) }
+        ensures inner { self.new.inner ≡ self.old.inner }
     {
         let (number, warm) = (request.number, request.warm);
         let waited = moment.saturating_sub(request.asked_at);
@@ -99,6 +100,7 @@ impl<K: Base> Draft<K> {
     ) -> Result<(), OutOfMemory>
         ensures core { OnOk result (self.new ≡ forgetting self.old moment connection) }
         ensures facts { OnOk result (facts.new.items ≡ facts.old.items ++ closed_fact self.old.pool self.old.address connection.id ErrorReason connection.service ∷ []) }
+        ensures inner { self.new.inner ≡ self.old.inner }
     {
         self.push_close(facts, connection, ConnectionClosedReason::Error)?;
         self.set_last(moment);
@@ -120,6 +122,7 @@ impl<K: Base> Draft<K> {
         ensures home { OnOk result (SameHome self.old self.new) }
         ensures last { OnOk result (self.new.last ≡ moment) }
         ensures accepts { IfOk result (λ reply. (xs : List PoolItem) → Fits self.old xs → Accepts self.old self.new facts.old.items facts.new.items moment (FailedAct self.old.pool id at cause.now) reply xs (failed id (service_in at) ∷ xs)) }
+        ensures inner { self.new.inner ≡ self.old.inner }
     {
         let Some(connection) = self.connection(id).copied() else {
             unreachable!()
@@ -167,7 +170,7 @@ impl PoolCore {
     {
         let step = Step {
             moment,
-            act: Act::Failed(self.body.pool, id, at, error),
+            act: Act::Failed(self.draft.body.pool, id, at, error),
         };
         let answer = self.attempt(alloc, facts, &step);
         drop(step);

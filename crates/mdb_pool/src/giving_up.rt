@@ -4,7 +4,7 @@ ghost use Rattle.std.specs.Prelude.{◌≡◌, ◌∷◌, OnOk, OnErr, IfOk, Lis
 
 use super::clears::used_as;
 use super::connection::Connection;
-use super::draft::{Base, Draft};
+use super::draft::Draft;
 use super::pool_core::PoolCore;
 use super::request::Request;
 use super::{Act, Reply, Step, Use};
@@ -12,7 +12,7 @@ use mdb_base::{Moment, OutOfMemory};
 use mdb_events::Fact;
 use std::alloc::Global;
 
-impl<K: Base> Draft<K> {
+impl Draft {
     ghost use Rattle.mdb_pool.specs.Kept.{request_at, is_ended_at, is_asked_at, held_connection};
     ghost use Rattle.mdb_pool.specs.Standing.{SameHome, Fits, Accepts, StandsFor, Answers};
     ghost use Rattle.mdb_log.specs.History.{Item, PoolItem, gave_up};
@@ -30,6 +30,7 @@ impl<K: Base> Draft<K> {
         ensures home { OnOk result (SameHome self.old self.new) }
         ensures last { OnOk result (self.new.last ≡ moment) }
         ensures accepts { IfOk result (λ reply. (xs : List PoolItem) → Fits self.old xs → Accepts self.old self.new facts.old.items facts.new.items moment (GiveUp request) reply xs (gave_up request ∷ xs)) }
+        ensures inner { self.new.inner ≡ self.old.inner }
     {
         let reply = self.outcome(request)?;
         self.set_last(moment);
@@ -54,6 +55,7 @@ impl<K: Base> Draft<K> {
         ensures home { OnOk result (SameHome self.old self.new) }
         ensures last { OnOk result (self.new.last ≡ moment) }
         ensures accepts { IfOk result (λ reply. (xs : List PoolItem) → Fits self.old xs → Accepts self.old self.new facts.old.items facts.new.items moment (GiveUp request.number) reply xs (gave_up request.number ∷ xs)) }
+        ensures inner { self.new.inner ≡ self.old.inner }
     {
         let back = used_as(connection, Use::Ok);
         if 0 < back.pins {
@@ -79,6 +81,7 @@ impl<K: Base> Draft<K> {
         ensures home { OnOk result (SameHome self.old self.new) }
         ensures last { OnOk result (self.new.last ≡ moment) }
         ensures accepts { IfOk result (λ reply. (xs : List PoolItem) → Fits self.old xs → Accepts self.old self.new facts.old.items facts.new.items moment (GiveUp request) reply xs (gave_up request ∷ xs)) }
+        ensures inner { self.new.inner ≡ self.old.inner }
     {
         if self.is_ended(request) {
             let reply = self.give_up_late(alloc, facts, moment, request)?;

@@ -75,10 +75,10 @@ impl PoolCore {
     fn generations_before(&self, alloc: Global, id: u32) -> Result<PoolGeneration, AllocError>
         ensures { IfOk result (λ before. (xs : List PoolItem) → Fits self.now xs → has id (pending_list xs) ≡ true → before ≡ generations self.now.options.load_balanced (items_before xs id)) }
     {
-        if !self.body.options.load_balanced {
+        if !self.draft.options().load_balanced {
             return Ok(PoolGeneration::Normal(self.count_at(id, None)));
         }
-        let services = services_before(alloc, self.body.clears.as_slice(), id)?;
+        let services = services_before(alloc, self.draft.clears(), id)?;
         let counted = self.counted(alloc, id, services.as_slice())?;
         Ok(PoolGeneration::LoadBalanced(Items::new(counted)))
     }
@@ -94,16 +94,14 @@ impl PoolCore {
         if !self.is_pending(id) {
             return Ok(None);
         }
-        let address = self.body.address.clone()?;
+        let pool = self.number();
+        let address = self.address().clone()?;
         let generation = self.generations_before(alloc, id)?;
         Ok(Some(Job {
-            pool: self.body.pool,
+            pool,
             id,
             address,
-            generation: PoolStamp {
-                pool: self.body.pool,
-                generation,
-            },
+            generation: PoolStamp { pool, generation },
         }))
     }
 
@@ -112,6 +110,6 @@ impl PoolCore {
         ensures kept { result ≡ is_some (first_unclaimed self.now) }
         ensures history { (h : List Item) → StandsFor self.now h → result ≡ list_any (λ c. not (is_claimed h self.now.pool c)) (pending_list (of_pool self.now.pool h)) }
     {
-        self.body.first_unclaimed().is_some()
+        self.draft.body.first_unclaimed().is_some()
     }
 }

@@ -2,14 +2,14 @@
 
 ghost use Rattle.std.specs.Prelude.{◌≡◌, OnOk, OnErr, IfOk, List};
 
-use super::draft::{Base, Draft};
+use super::draft::Draft;
 use super::pool_core::PoolCore;
 use super::{Act, Reply, Step};
 use mdb_base::{Moment, OutOfMemory, ServerAddress};
 use mdb_events::Fact;
 use std::alloc::Global;
 
-impl<K: Base> Draft<K> {
+impl Draft {
     ghost use Rattle.mdb_pool.specs.Standing.{SameHome, SameNotes, Fits, Sweeps, Fills, Accepts, StandsFor, Answers};
     ghost use Rattle.mdb_log.specs.History.{Item, PoolItem};
     ghost use Rattle.mdb_log.specs.declared.step.Act.TheVariants.{Maintain as MaintainAct};
@@ -25,6 +25,7 @@ impl<K: Base> Draft<K> {
         ensures last { OnOk result (self.new.last ≡ self.old.last) }
         ensures notes { OnOk result (SameNotes self.old self.new) }
         ensures sweeps { OnOk result ((xs : List PoolItem) → Fits self.old xs → Sweeps self.old self.new moment facts.old.items facts.new.items xs) }
+        ensures inner { self.new.inner ≡ self.old.inner }
     {
         while let Some(connection) = self.first_perished(moment) {
             let Some(reason) = self.perished(moment, connection) else {
@@ -46,6 +47,7 @@ impl<K: Base> Draft<K> {
         ensures last { OnOk result (self.new.last ≡ self.old.last) }
         ensures notes { OnOk result (SameNotes self.old self.new) }
         ensures fills { OnOk result ((xs : List PoolItem) → Fits self.old xs → Fills self.old self.new moment facts.old.items facts.new.items xs) }
+        ensures inner { self.new.inner ≡ self.old.inner }
     {
         while self.wants_filling() {
             self.spawn(alloc, facts, moment)?;
@@ -63,6 +65,7 @@ impl<K: Base> Draft<K> {
         ensures home { OnOk result (SameHome self.old self.new) }
         ensures last { OnOk result (self.new.last ≡ moment) }
         ensures accepts { IfOk result (λ reply. (xs : List PoolItem) → Fits self.old xs → Accepts self.old self.new facts.old.items facts.new.items moment (MaintainAct self.old.address) reply xs xs) }
+        ensures inner { self.new.inner ≡ self.old.inner }
     {
         self.set_last(moment);
         self.sweep(alloc, facts, moment)?;
@@ -93,10 +96,10 @@ impl PoolCore {
         ensures err_facts { OnErr result (facts.new.items ≡ facts.old.items) }
         ensures passes { OnErr result (Passes self.old (record { moment = moment; act = MaintainAct self.old.address })) }
     {
-        if let Some(why) = self.body.home_refusal(moment) {
+        if let Some(why) = self.draft.body.home_refusal(moment) {
             return Ok(Reply::Refused(why));
         }
-        let address = self.body.address.clone()?;
+        let address = self.address().clone()?;
         let step = Step {
             moment,
             act: Act::Maintain(address),

@@ -3,19 +3,19 @@
 ghost use Rattle.std.specs.Prelude.{◌≡◌, IfOk, All, List};
 ghost use Rattle.mdb_log.specs.Acts.{IsPoolAct};
 ghost use Rattle.mdb_log.specs.History.{Item};
-ghost use Rattle.mdb_pool.specs.Body.{led, PoolFits};
+ghost use Rattle.mdb_pool.specs.Body.{led, pool_of, PoolFits};
 ghost use Rattle.mdb_pool.specs.Core.{PoolCore as Core};
 ghost use Rattle.mdb_pool.specs.Standing.{StandsFor};
 ghost use Rattle.mdb_pool.specs.Parts.{LeadsTo, IsPrepared, Plans, IsPlanOf};
 
 use super::body::BodyRedo;
-use super::draft::Base;
+use super::draft::Draft;
 use super::pool_core::PoolCore;
 use super::{Reply, Step};
 use mdb_base::{Items, OutOfMemory};
 use mdb_events::Fact;
 use std::alloc::Global;
-use std::marker::{Brand, Model};
+use std::marker::Model;
 
 /// What a step is answered, before it is done.
 #[derive(Drop)]
@@ -38,28 +38,27 @@ impl Model for Plan {
     ghost view = { λ p. p.redo };
 }
 
-impl PoolCore {
-    // The steps are answered, and the pool is set back.
-    fn answered_all<K: Base>(
-        self,
+impl Draft {
+    // The steps are answered, and their changes go.
+    fn answered_all(
+        &mut self,
         alloc: Global,
         steps: &[Step],
-    ) -> (PoolCore, Result<(Vec<Answered>, Plan), OutOfMemory>)
-        requires base { self ≡ K.base }
-        requires acts { All (λ step. IsPoolAct self.pool step.act) steps.now }
-        ensures same { result.0 ≡ self }
-        ensures fits { IfOk result.1 (λ made. PoolFits made.1 self.inner) }
-        ensures does { IfOk result.1 (λ made. LeadsTo self (led made.1 self) steps.now made.0.items) }
-        ensures prepared { IfOk result.1 (λ made. (h : List Item) → StandsFor self h → IsPrepared self (led made.1 self) steps.now made.0.items h) }
+    ) -> Result<(Vec<Answered>, Plan), OutOfMemory>
+        requires settled { self.old ≡ pool_of self.old.inner }
+        requires acts { All (λ step. IsPoolAct self.old.pool step.act) steps.now }
+        ensures same { self.new ≡ self.old }
+        ensures fits { IfOk result (λ made. PoolFits made.1 self.old.inner) }
+        ensures does { IfOk result (λ made. LeadsTo self.old (led made.1 self.old) steps.now made.0.items) }
+        ensures prepared { IfOk result (λ made. (h : List Item) → StandsFor self.old h → IsPrepared self.old (led made.1 self.old) steps.now made.0.items h) }
     {
-        let mut draft = self.draft::<K>();
-        let answers = draft.answer_all(alloc, steps);
-        let (left, plan) = draft.turned(alloc);
+        let answers = self.answer_all(alloc, steps);
+        let plan = self.turn(alloc);
         match answers {
-            Ok(answers) => (left, Ok((answers, plan))),
+            Ok(answers) => Ok((answers, plan)),
             Err(e) => {
                 drop(plan);
-                (left, Err(e))
+                Err(e)
             }
         }
     }
@@ -78,10 +77,7 @@ pub fn prepare(
     ensures does { IfOk result (λ made. (t : Core) → Plans made.1 pool.new t → LeadsTo pool.old t steps.now made.0.items) }
     ensures prepared { IfOk result (λ made. (t : Core) (h : List Item) → Plans made.1 pool.new t → StandsFor pool.old h → IsPrepared pool.old t steps.now made.0.items h) }
 {
-    let whole = pool.taken(alloc);
-    let (left, done) = whole.answered_all::<Brand>(alloc, steps);
-    pool.put_back(left);
-    done
+    pool.draft.answered_all(alloc, steps)
 }
 
 /// The second part: the pool changes as it was planned. It takes no memory.
@@ -90,5 +86,5 @@ pub fn apply(pool: &mut PoolCore, plan: Plan)
     ensures { (t : Core) → Plans plan pool.old t → pool.new ≡ t }
 {
     let Plan { redo } = plan;
-    pool.body.redo(redo);
+    pool.draft.body.redo(redo);
 }

@@ -3,14 +3,14 @@
 ghost use Rattle.std.specs.Prelude.{◌≡◌, ◌∷◌, OnOk, OnErr, IfOk, List, true, Some, is_some, nat_lt};
 
 use super::connection::Connection;
-use super::draft::{Base, Draft};
+use super::draft::Draft;
 use super::pool_core::PoolCore;
 use super::{Act, Reply, Step};
 use mdb_base::{Moment, OutOfMemory};
 use mdb_events::Fact;
 use std::alloc::Global;
 
-impl<K: Base> Draft<K> {
+impl Draft {
     ghost use Rattle.mdb_pool.specs.Changes.{pinning};
     ghost use Rattle.mdb_pool.specs.Kept.{held_connection, connection_at, pins_at};
     ghost use Rattle.mdb_pool.specs.Standing.{SameHome, Fits, Accepts, StandsFor, Answers};
@@ -26,7 +26,8 @@ impl<K: Base> Draft<K> {
         connection: Connection,
     ) -> Result<(), OutOfMemory>
         requires { connection_at self.old connection.id ≡ Some connection }
-        ensures { OnOk result (self.new ≡ pinning self.old moment connection) }
+        ensures core { OnOk result (self.new ≡ pinning self.old moment connection) }
+        ensures inner { self.new.inner ≡ self.old.inner }
     {
         let Some(pins) = connection.pins.checked_add(1) else {
             return Err(OutOfMemory);
@@ -48,6 +49,7 @@ impl<K: Base> Draft<K> {
         ensures home { OnOk result (SameHome self.old self.new) }
         ensures last { OnOk result (self.new.last ≡ moment) }
         ensures accepts { IfOk result (λ reply. (xs : List PoolItem) → Fits self.old xs → Accepts self.old self.new facts.old.items facts.new.items moment (Pin party) reply xs (pinned_by party ∷ xs)) }
+        ensures inner { self.new.inner ≡ self.old.inner }
     {
         let Some(connection) = self.held_connection(party) else {
             unreachable!()
@@ -69,6 +71,7 @@ impl<K: Base> Draft<K> {
         ensures home { OnOk result (SameHome self.old self.new) }
         ensures last { OnOk result (self.new.last ≡ moment) }
         ensures accepts { IfOk result (λ reply. (xs : List PoolItem) → Fits self.old xs → Accepts self.old self.new facts.old.items facts.new.items moment (Replicate self.old.pool id) reply xs (replicated id ∷ xs)) }
+        ensures inner { self.new.inner ≡ self.old.inner }
     {
         let Some(connection) = self.connection(id).copied() else {
             unreachable!()
@@ -128,7 +131,7 @@ impl PoolCore {
     {
         let step = Step {
             moment,
-            act: Act::Replicate(self.body.pool, id),
+            act: Act::Replicate(self.draft.body.pool, id),
         };
         let answer = self.attempt(alloc, facts, &step);
         drop(step);

@@ -3,6 +3,7 @@
 ghost use Rattle.std.specs.Prelude.{◌≡◌, IfOk, true, is_some, nat_lt, option_copied, None, List, if◌then◌else◌};
 
 use super::body::Body;
+use super::draft::Draft;
 use super::status::Status;
 use super::{PoolOptions, PoolState};
 use mdb_base::{Error, ServerAddress};
@@ -14,19 +15,19 @@ use std::marker::Model;
 /// the pool as it was where there is no memory. In clauses `inner` is what it is read from, which tells the plans that it can follow.
 #[derive(Drop)]
 pub struct PoolCore {
-    pub(super) body: Body,
+    pub(super) draft: Draft,
 }
 
 impl Model for PoolCore {
     ghost use Rattle.std.specs.Prelude.{◌≡◌};
-    ghost use Rattle.mdb_pool.specs.Body.{now_of, inner_of, pool_of};
+    ghost use Rattle.mdb_pool.specs.Body.{pool_of};
     ghost use Rattle.mdb_pool.specs.Core.{PoolCore};
 
     ghost Value = { PoolCore };
 
-    ghost view = { λ p. now_of p.body };
+    ghost view = { λ p. p.draft };
 
-    ghost invariant = { λ p. now_of p.body ≡ pool_of (inner_of p.body) };
+    ghost invariant = { λ p. p.draft ≡ pool_of p.draft.inner };
 }
 
 impl PoolCore {
@@ -52,18 +53,20 @@ impl PoolCore {
         ensures options { result.options ≡ options }
     {
         PoolCore {
-            body: Body {
-                pool,
-                address,
-                options,
-                last: TurnedOne::new(0),
-                created: TurnedOne::new(0),
-                connections: Sides::new(alloc),
-                requests: Sides::new(alloc),
-                status: TurnedOne::new(Status::at_first(options.load_balanced)),
-                clears: Turned::new(alloc),
-                settled: Table::new(alloc),
-                claimed: Table::new(alloc),
+            draft: Draft {
+                body: Body {
+                    pool,
+                    address,
+                    options,
+                    last: TurnedOne::new(0),
+                    created: TurnedOne::new(0),
+                    connections: Sides::new(alloc),
+                    requests: Sides::new(alloc),
+                    status: TurnedOne::new(Status::at_first(options.load_balanced)),
+                    clears: Turned::new(alloc),
+                    settled: Table::new(alloc),
+                    claimed: Table::new(alloc),
+                },
             },
         }
     }
@@ -72,14 +75,14 @@ impl PoolCore {
     pub fn number(&self) -> u32
         ensures { result ≡ self.now.pool }
     {
-        self.body.pool
+        self.draft.body.pool
     }
 
     /// The address that the pool serves.
     pub fn address(&self) -> &ServerAddress
         ensures { result.now ≡ self.now.address }
     {
-        &self.body.address
+        &self.draft.body.address
     }
 
     /// Whether the pool may be used.
@@ -87,7 +90,7 @@ impl PoolCore {
         ensures kept { result ≡ name_of (state_in self.now.status) }
         ensures history { (h : List Item) → StandsFor self.now h → result ≡ name_of (state_of self.now.options (of_pool self.now.pool h)) }
     {
-        match self.body.status.get() {
+        match self.draft.body.status.get() {
             Status::New => PoolState::New,
             Status::Ready => PoolState::Ready,
             Status::Paused(_) => PoolState::Paused,
@@ -100,7 +103,7 @@ impl PoolCore {
         ensures kept { option_copied result ≡ cause_of (state_in self.now.status) }
         ensures history { (h : List Item) → StandsFor self.now h → option_copied result ≡ cause_of (state_of self.now.options (of_pool self.now.pool h)) }
     {
-        match self.body.status.get() {
+        match self.draft.body.status.get() {
             Status::Paused(cause) => Some(cause),
             _ => None,
         }
@@ -111,7 +114,7 @@ impl PoolCore {
         ensures kept { result ≡ id_at (held_connection self.now party) }
         ensures history { (h : List Item) → StandsFor self.now h → result ≡ holding (of_pool self.now.pool h) party }
     {
-        match self.body.held_connection(party) {
+        match self.draft.body.held_connection(party) {
             Some(connection) => Some(connection.id),
             None => None,
         }
@@ -122,7 +125,7 @@ impl PoolCore {
         ensures kept { result ≡ is_some (request_at self.now party) }
         ensures history { (h : List Item) → StandsFor self.now h → result ≡ has_party (of_pool self.now.pool h) party }
     {
-        self.body.knows(party)
+        self.draft.body.knows(party)
     }
 
     /// The party holds a connection of this pool.
@@ -130,7 +133,7 @@ impl PoolCore {
         ensures kept { result ≡ is_some (held_connection self.now party) }
         ensures history { (h : List Item) → StandsFor self.now h → result ≡ is_some (holding (of_pool self.now.pool h) party) }
     {
-        self.body.holds(party)
+        self.draft.body.holds(party)
     }
 
     /// The party asked this pool for a connection, and did not take a pinned one.
@@ -138,7 +141,7 @@ impl PoolCore {
         ensures kept { result ≡ is_asked_at (request_at self.now party) }
         ensures history { (h : List Item) → StandsFor self.now h → result ≡ has_asked (of_pool self.now.pool h) party }
     {
-        self.body.has_asked(party)
+        self.draft.body.has_asked(party)
     }
 
     /// The request was made at this pool, its outcome was not told yet, and its caller neither gave up nor returned the connection.
@@ -146,14 +149,14 @@ impl PoolCore {
         ensures kept { result ≡ is_open_now self.now request }
         ensures history { (h : List Item) → StandsFor self.now h → result ≡ is_open h request }
     {
-        self.body.is_open(request)
+        self.draft.body.is_open(request)
     }
 
     /// The connections that nobody has, in the order in which they became available, each with its service and the moment since then. It takes no memory.
     pub fn available(&self) -> &SlotTable
         ensures { (h : List Item) → StandsFor self.now h → records_of (listing result.now).items ≡ available_records (of_pool self.now.pool h) }
     {
-        self.body.connections.left_slots()
+        self.draft.available()
     }
 
     /// The connection isn't established yet.
@@ -161,7 +164,7 @@ impl PoolCore {
         ensures kept { result ≡ is_pending_at (connection_at self.now id) }
         ensures history { (h : List Item) → StandsFor self.now h → result ≡ has id (pending_list (of_pool self.now.pool h)) }
     {
-        self.body.is_pending(id)
+        self.draft.body.is_pending(id)
     }
 
     /// The connection is one of this pool, and a party has it since it was established.
@@ -169,7 +172,7 @@ impl PoolCore {
         ensures kept { result ≡ is_held_at (connection_at self.now id) }
         ensures history { (h : List Item) → StandsFor self.now h → result ≡ nat_lt 0 (held (of_pool self.now.pool h) id) }
     {
-        self.body.is_held(id)
+        self.draft.body.is_held(id)
     }
 
     /// The connection is one of this pool and has a pin.
@@ -177,7 +180,7 @@ impl PoolCore {
         ensures kept { result ≡ nat_lt 0 (pins_at (connection_at self.now id)) }
         ensures history { (h : List Item) → StandsFor self.now h → result ≡ nat_lt 0 (pins (of_pool self.now.pool h) id) }
     {
-        self.body.has_pin(id)
+        self.draft.body.has_pin(id)
     }
 
     /// The wire version that the connection was established with, `None` where it was not, or isn't live.
@@ -185,7 +188,7 @@ impl PoolCore {
         ensures kept { result ≡ wire_at (connection_at self.now id) }
         ensures history { (h : List Item) → StandsFor self.now h → result ≡ if is_live (of_pool self.now.pool h) id then wire_of (of_pool self.now.pool h) id else None }
     {
-        match self.body.connections.get(id) {
+        match self.draft.body.connections.get(id) {
             Some(connection) => connection.wire,
             None => None,
         }

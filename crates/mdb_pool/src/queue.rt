@@ -3,13 +3,13 @@
 ghost use Rattle.std.specs.Prelude.{◌≡◌, ◌++◌, OnOk, List};
 
 use super::connection::Connection;
-use super::draft::{Base, Draft};
+use super::draft::Draft;
 use super::request::Request;
 use mdb_base::{Moment, OutOfMemory};
 use mdb_events::{End, Fact};
 use std::alloc::Global;
 
-impl<K: Base> Draft<K> {
+impl Draft {
     ghost use Rattle.mdb_pool.specs.Standing.{SameHome, SameNotes, Fits, Serves};
     ghost use Rattle.mdb_log.specs.History.{PoolItem};
     ghost use Rattle.mdb_pool.specs.Changes.{meeting, meeting_facts, warming, warming_facts};
@@ -25,6 +25,7 @@ impl<K: Base> Draft<K> {
     ) -> Result<(), OutOfMemory>
         ensures core { OnOk result (self.new ≡ meeting self.old moment connection request) }
         ensures facts { OnOk result (facts.new.items ≡ facts.old.items ++ meeting_facts self.old moment connection request) }
+        ensures inner { self.new.inner ≡ self.old.inner }
     {
         if let Some(reason) = self.perished(moment, connection) {
             self.discard(alloc, facts, connection, reason)
@@ -43,6 +44,7 @@ impl<K: Base> Draft<K> {
     ) -> Result<(), OutOfMemory>
         ensures core { OnOk result (self.new ≡ warming self.old moment request) }
         ensures facts { OnOk result (facts.new.items ≡ facts.old.items ++ warming_facts self.old request) }
+        ensures inner { self.new.inner ≡ self.old.inner }
     {
         if self.wants_connection() {
             self.create(alloc, facts, moment, request)
@@ -62,6 +64,7 @@ impl<K: Base> Draft<K> {
         ensures last { OnOk result (self.new.last ≡ self.old.last) }
         ensures notes { OnOk result (SameNotes self.old self.new) }
         ensures serves { OnOk result ((xs : List PoolItem) → Fits self.old xs → Serves self.old self.new moment facts.old.items facts.new.items xs) }
+        ensures inner { self.new.inner ≡ self.old.inner }
     {
         if !self.status().is_ready() {
             return Ok(());

@@ -2,7 +2,7 @@
 
 ghost use Rattle.std.specs.Prelude.{◌≡◌, ◌++◌, ◌∷◌, [], OnOk, OnErr, IfOk, List};
 
-use super::draft::{Base, Draft};
+use super::draft::Draft;
 use super::pool_core::PoolCore;
 use super::status::Status;
 use super::{Act, Reply, Step};
@@ -10,7 +10,7 @@ use mdb_base::{Moment, OutOfMemory};
 use mdb_events::{CmapEvent, Fact, PoolReadyEvent};
 use std::alloc::Global;
 
-impl<K: Base> Draft<K> {
+impl Draft {
     ghost use Rattle.mdb_pool.specs.Changes.{readied_to, readied_facts};
     ghost use Rattle.mdb_pool.specs.Standing.{SameHome, Fits, Accepts, StandsFor, Answers};
     ghost use Rattle.mdb_log.specs.History.{Item, PoolItem};
@@ -20,6 +20,7 @@ impl<K: Base> Draft<K> {
     fn make_ready(&mut self, facts: &mut Vec<Fact>, moment: Moment) -> Result<(), OutOfMemory>
         ensures core { OnOk result (self.new ≡ readied_to self.old moment) }
         ensures facts { OnOk result (facts.new.items ≡ facts.old.items ++ readied_facts self.old) }
+        ensures inner { self.new.inner ≡ self.old.inner }
     {
         self.set_last(moment);
         if self.status().is_ready() || self.status().is_closed() {
@@ -45,6 +46,7 @@ impl<K: Base> Draft<K> {
         ensures home { OnOk result (SameHome self.old self.new) }
         ensures last { OnOk result (self.new.last ≡ moment) }
         ensures accepts { IfOk result (λ reply. (xs : List PoolItem) → Fits self.old xs → Accepts self.old self.new facts.old.items facts.new.items moment (ReadyAct pool) reply xs xs) }
+        ensures inner { self.new.inner ≡ self.old.inner }
     {
         self.make_ready(facts, moment)?;
         self.serve(alloc, facts, moment)?;
@@ -75,7 +77,7 @@ impl PoolCore {
     {
         let step = Step {
             moment,
-            act: Act::Ready(self.body.pool),
+            act: Act::Ready(self.draft.body.pool),
         };
         let answer = self.attempt(alloc, facts, &step);
         drop(step);

@@ -229,6 +229,6 @@ impl PoolCore {
         ensures kept { result ≡ refusal_now self.now step.now }
         ensures history { (h : List Item) → StandsFor self.now h → result ≡ refusal_of self.now.pool self.now.options h step.now }
     {
-        self.body.refusal_now(step)
+        self.draft.body.refusal_now(step)
     }
 }

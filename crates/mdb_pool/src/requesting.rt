@@ -2,14 +2,14 @@
 
 ghost use Rattle.std.specs.Prelude.{◌≡◌, ◌∷◌, OnOk, OnErr, IfOk, List, None};
 
-use super::draft::{Base, Draft};
+use super::draft::Draft;
 use super::pool_core::PoolCore;
 use super::{Act, Reply, Step};
 use mdb_base::{Moment, OutOfMemory, ServerAddress};
 use mdb_events::Fact;
 use std::alloc::Global;
 
-impl<K: Base> Draft<K> {
+impl Draft {
     ghost use Rattle.mdb_pool.specs.Kept.{request_at};
     ghost use Rattle.mdb_pool.specs.Standing.{SameHome, Fits, Accepts, StandsFor, Answers};
     ghost use Rattle.mdb_log.specs.History.{Item, PoolItem, asked};
@@ -27,6 +27,7 @@ impl<K: Base> Draft<K> {
         ensures home { OnOk result (SameHome self.old self.new) }
         ensures last { OnOk result (self.new.last ≡ moment) }
         ensures accepts { IfOk result (λ reply. (xs : List PoolItem) → Fits self.old xs → Accepts self.old self.new facts.old.items facts.new.items moment (RequestAct request self.old.address) reply xs (asked request moment ∷ xs)) }
+        ensures inner { self.new.inner ≡ self.old.inner }
     {
         self.ask(alloc, facts, moment, request)?;
         self.turn_away(alloc, facts, moment, request, false)?;
@@ -58,10 +59,10 @@ impl PoolCore {
         ensures err_facts { OnErr result (facts.new.items ≡ facts.old.items) }
         ensures passes { OnErr result (Passes self.old (record { moment = moment; act = RequestAct request self.old.address })) }
     {
-        if let Some(why) = self.body.asking_refusal(moment, request) {
+        if let Some(why) = self.draft.body.asking_refusal(moment, request) {
             return Ok(Reply::Refused(why));
         }
-        let address = self.body.address.clone()?;
+        let address = self.address().clone()?;
         let step = Step {
             moment,
             act: Act::Request(request, address),

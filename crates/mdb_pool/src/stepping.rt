@@ -2,26 +2,26 @@
 
 ghost use Rattle.std.specs.Prelude.{◌≡◌, ◌++◌, ◌∷◌, [], OnOk, OnErr, IfOk, All, List, Some, None};
 
-use super::draft::{Base, Draft};
+use super::draft::Draft;
 use super::parts::Answered;
 use super::pool_core::PoolCore;
 use super::{Act, Entry, Log, Refused, Reply, Step};
 use mdb_base::{Items, OutOfMemory};
 use mdb_events::Fact;
 use std::alloc::{AllocError, Global};
-use std::marker::Brand;
 
-// One more entry, of a copy of the step.
+// One more entry, of a copy of the step. Its facts keep no memory beyond their own.
 fn log_step(
     log: &mut Log,
     seat: u32,
     step: &Step,
     reply: Reply,
-    facts: Vec<Fact>,
+    mut facts: Vec<Fact>,
 ) -> Result<(), AllocError>
     ensures entry { OnOk result (log.new ≡ log.old ++ record { seat = seat; step = step.now; reply = reply; facts = facts.items } ∷ []) }
     ensures err { OnErr result (log.new ≡ log.old) }
 {
+    facts.shrink_to_fit();
     match step.clone() {
         Ok(step) => log.push(Entry {
             seat,
@@ -37,7 +37,7 @@ fn log_step(
     }
 }
 
-impl<K: Base> Draft<K> {
+impl Draft {
     ghost use Rattle.mdb_log.specs.Acts.{IsPoolAct};
     ghost use Rattle.mdb_log.specs.History.{Item};
     ghost use Rattle.mdb_pool.specs.Refusing.{refusal_now};
@@ -64,6 +64,7 @@ impl<K: Base> Draft<K> {
         ensures home { OnOk result (SameHome self.old self.new) }
         ensures last { OnOk result (self.new.last ≡ step.now.moment) }
         ensures does { IfOk result (λ reply. Does self.old self.new facts.old.items facts.new.items step.now reply) }
+        ensures inner { self.new.inner ≡ self.old.inner }
     {
         let moment = step.moment;
         match &step.act {
@@ -105,6 +106,7 @@ impl<K: Base> Draft<K> {
         requires passes { refusal_now self.old step.now ≡ None }
         ensures home { OnOk result (SameHome self.old self.new) }
         ensures answers { IfOk result (λ reply. (h : List Item) → StandsFor self.old h → Answers self.old self.new facts.old.items facts.new.items step.now reply h) }
+        ensures inner { self.new.inner ≡ self.old.inner }
     {
         let reply = self.accept(alloc, facts, step)?;
         Ok(reply)
@@ -122,6 +124,7 @@ impl<K: Base> Draft<K> {
         ensures home { OnOk result (SameHome self.old self.new) }
         ensures answers { IfOk result (λ reply. (h : List Item) → StandsFor self.old h → Answers self.old self.new facts.old.items facts.new.items step.now reply h) }
         ensures err { OnErr result (facts.new.items ≡ facts.old.items) }
+        ensures inner { self.new.inner ≡ self.old.inner }
     {
         let mut made = Vec::new(alloc);
         let reply = self.perform(alloc, &mut made, step)?;
@@ -147,6 +150,7 @@ impl<K: Base> Draft<K> {
         ensures home { OnOk result (SameHome self.old self.new) }
         ensures logs { OnOk result ((h : List Item) → StandsFor self.old h → Logs self.old self.new log.old log.new seat step.now h) }
         ensures err { OnErr result (log.new ≡ log.old) }
+        ensures inner { self.new.inner ≡ self.old.inner }
     {
         let mut facts = Vec::new(alloc);
         let reply = self.perform(alloc, &mut facts, step)?;
@@ -160,6 +164,7 @@ impl<K: Base> Draft<K> {
         ensures home { OnOk result (SameHome self.old self.new) }
         ensures one { IfOk result (λ answered. DoesOne self.old self.new step.now answered (refusal_now self.old step.now)) }
         ensures answers { IfOk result (λ answered. (h : List Item) → StandsFor self.old h → Answers self.old self.new [] answered.facts step.now answered.reply h) }
+        ensures inner { self.new.inner ≡ self.old.inner }
     {
         if let Some(why) = self.refusal_now(step) {
             return Ok(Answered {
@@ -185,6 +190,7 @@ impl<K: Base> Draft<K> {
         ensures home { OnOk result (SameHome self.old self.new) }
         ensures does { IfOk result (λ answers. DoesAll self.old self.new steps.now answers.items) }
         ensures prepared { IfOk result (λ answers. (h : List Item) → StandsFor self.old h → IsPrepared self.old self.new steps.now answers.items h) }
+        ensures inner { self.new.inner ≡ self.old.inner }
     {
         let mut answers = Vec::new(alloc);
         for step in steps {
@@ -205,49 +211,29 @@ impl PoolCore {
 
     // The step, which is not refused, is done. Where there is no memory the pool is as it was.
     #[tactic(auto, using(crate::proofs::SameKept::home_same))]
-    fn done<K: Base>(
-        self,
+    fn done(
+        &mut self,
         alloc: Global,
         facts: &mut Vec<Fact>,
         step: &Step,
-    ) -> (PoolCore, Result<Reply, OutOfMemory>)
-        requires base { self ≡ K.base }
-        requires act { IsPoolAct self.pool step.now.act }
-        requires passes { refusal_now self step.now ≡ None }
-        ensures home { OnOk result.1 (SameHome self result.0) }
-        ensures answers { IfOk result.1 (λ reply. (h : List Item) → StandsFor self h → Answers self result.0 facts.old.items facts.new.items step.now reply h) }
-        ensures err_core { OnErr result.1 (result.0 ≡ self) }
-        ensures err_facts { OnErr result.1 (facts.new.items ≡ facts.old.items) }
-        ensures passes { OnErr result.1 (Passes self step.now) }
+    ) -> Result<Reply, OutOfMemory>
+        requires act { IsPoolAct self.old.pool step.now.act }
+        requires passes { refusal_now self.old step.now ≡ None }
+        ensures home { OnOk result (SameHome self.old self.new) }
+        ensures answers { IfOk result (λ reply. (h : List Item) → StandsFor self.old h → Answers self.old self.new facts.old.items facts.new.items step.now reply h) }
+        ensures err_core { OnErr result (self.new ≡ self.old) }
+        ensures err_facts { OnErr result (facts.new.items ≡ facts.old.items) }
+        ensures passes { OnErr result (Passes self.old step.now) }
     {
-        let mut draft = self.draft::<K>();
-        match draft.tell_step(alloc, facts, step) {
-            Ok(reply) => (draft.settled(), Ok(reply)),
-            Err(e) => (draft.undone(alloc), Err(e)),
-        }
-    }
-
-    // The same, logged.
-    #[tactic(auto, using(crate::proofs::SameKept::home_same))]
-    fn logged<K: Base>(
-        self,
-        alloc: Global,
-        log: &mut Log,
-        seat: u32,
-        step: &Step,
-    ) -> (PoolCore, Result<(), OutOfMemory>)
-        requires base { self ≡ K.base }
-        requires act { IsPoolAct self.pool step.now.act }
-        requires passes { refusal_now self step.now ≡ None }
-        ensures home { OnOk result.1 (SameHome self result.0) }
-        ensures logs { OnOk result.1 ((h : List Item) → StandsFor self h → Logs self result.0 log.old log.new seat step.now h) }
-        ensures err_core { OnErr result.1 (result.0 ≡ self) }
-        ensures err_log { OnErr result.1 (log.new ≡ log.old) }
-    {
-        let mut draft = self.draft::<K>();
-        match draft.log_step(alloc, log, seat, step) {
-            Ok(()) => (draft.settled(), Ok(())),
-            Err(e) => (draft.undone(alloc), Err(e)),
+        match self.draft.tell_step(alloc, facts, step) {
+            Ok(reply) => {
+                self.draft.keep();
+                Ok(reply)
+            }
+            Err(e) => {
+                self.draft.take_back(alloc);
+                Err(e)
+            }
         }
     }
 
@@ -268,13 +254,11 @@ impl PoolCore {
         if let Some(why) = self.refusal_now(step) {
             return Ok(Reply::Refused(why));
         }
-        let whole = self.taken(alloc);
-        let (left, done) = whole.done::<Brand>(alloc, facts, step);
-        self.put_back(left);
-        done
+        self.done(alloc, facts, step)
     }
 
     // Does what the step says, which is not refused, and logs it.
+    #[tactic(auto, using(crate::proofs::SameKept::home_same))]
     fn enter(
         &mut self,
         alloc: Global,
@@ -289,10 +273,16 @@ impl PoolCore {
         ensures err_core { OnErr result (self.new ≡ self.old) }
         ensures err_log { OnErr result (log.new ≡ log.old) }
     {
-        let whole = self.taken(alloc);
-        let (left, done) = whole.logged::<Brand>(alloc, log, seat, step);
-        self.put_back(left);
-        done
+        match self.draft.log_step(alloc, log, seat, step) {
+            Ok(()) => {
+                self.draft.keep();
+                Ok(())
+            }
+            Err(e) => {
+                self.draft.take_back(alloc);
+                Err(e)
+            }
+        }
     }
 
     // The refused step gets its entry, and nothing else changes.

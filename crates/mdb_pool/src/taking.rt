@@ -3,7 +3,7 @@
 ghost use Rattle.std.specs.Prelude.{◌≡◌, ◌∷◌, OnOk, OnErr, IfOk, List, true, false, is_some, nat_lt};
 
 use super::connection::{Connection, Place};
-use super::draft::{Base, Draft};
+use super::draft::Draft;
 use super::pool_core::PoolCore;
 use super::request::{Phase, Request};
 use super::{Act, Reply, Step};
@@ -11,7 +11,7 @@ use mdb_base::{Moment, OutOfMemory};
 use mdb_events::Fact;
 use std::alloc::Global;
 
-impl<K: Base> Draft<K> {
+impl Draft {
     ghost use Rattle.mdb_pool.specs.Changes.{taking};
     ghost use Rattle.mdb_pool.specs.Kept.{connection_at, request_at, pins_at, is_held_at};
     ghost use Rattle.mdb_pool.specs.Standing.{SameHome, Fits, Accepts, StandsFor, Answers};
@@ -28,7 +28,8 @@ impl<K: Base> Draft<K> {
         party: u32,
         connection: Connection,
     ) -> Result<(), OutOfMemory>
-        ensures { OnOk result (self.new ≡ taking self.old moment party connection) }
+        ensures core { OnOk result (self.new ≡ taking self.old moment party connection) }
+        ensures inner { self.new.inner ≡ self.old.inner }
     {
         let timeouts = self.timeouts();
         self.set_last(moment);
@@ -69,6 +70,7 @@ impl<K: Base> Draft<K> {
         ensures home { OnOk result (SameHome self.old self.new) }
         ensures last { OnOk result (self.new.last ≡ moment) }
         ensures accepts { IfOk result (λ reply. (xs : List PoolItem) → Fits self.old xs → Accepts self.old self.new facts.old.items facts.new.items moment (Take party self.old.pool id) reply xs (taken party id ∷ xs)) }
+        ensures inner { self.new.inner ≡ self.old.inner }
     {
         let Some(connection) = self.connection(id).copied() else {
             unreachable!()
@@ -106,7 +108,7 @@ impl PoolCore {
     {
         let step = Step {
             moment,
-            act: Act::Take(party, self.body.pool, id),
+            act: Act::Take(party, self.draft.body.pool, id),
         };
         let answer = self.attempt(alloc, facts, &step);
         drop(step);

@@ -3,14 +3,14 @@
 ghost use Rattle.std.specs.Prelude.{◌≡◌, ◌∷◌, ◌++◌, OnOk, OnErr, IfOk, List, true, nat_lt};
 
 use super::connection::Connection;
-use super::draft::{Base, Draft};
+use super::draft::Draft;
 use super::pool_core::PoolCore;
 use super::{Act, Reply, Step};
 use mdb_base::{Moment, OutOfMemory};
 use mdb_events::{ConnectionClosedReason, Fact};
 use std::alloc::Global;
 
-impl<K: Base> Draft<K> {
+impl Draft {
     ghost use Rattle.mdb_pool.specs.Changes.{unpinned_once, unpinning, pin_ending, back_facts};
     ghost use Rattle.mdb_pool.specs.Kept.{connection_at, pins_at};
     ghost use Rattle.mdb_pool.specs.Standing.{SameHome, Fits, Accepts, StandsFor, Answers};
@@ -37,7 +37,8 @@ impl<K: Base> Draft<K> {
         connection: Connection,
     ) -> Result<(), OutOfMemory>
         requires { connection_at self.old connection.id ≡ Some connection }
-        ensures { OnOk result (self.new ≡ unpinning self.old moment connection) }
+        ensures core { OnOk result (self.new ≡ unpinning self.old moment connection) }
+        ensures inner { self.new.inner ≡ self.old.inner }
     {
         let fewer = self.unpinned_once(connection);
         self.set_last(moment);
@@ -56,6 +57,7 @@ impl<K: Base> Draft<K> {
     ) -> Result<(), OutOfMemory>
         ensures core { OnOk result (self.new ≡ pin_ending self.old moment connection reason) }
         ensures facts { OnOk result (facts.new.items ≡ facts.old.items ++ back_facts self.old connection reason) }
+        ensures inner { self.new.inner ≡ self.old.inner }
     {
         self.push_back(facts, connection, reason)?;
         let fewer = self.unpinned_once(connection);
@@ -76,6 +78,7 @@ impl<K: Base> Draft<K> {
         ensures home { OnOk result (SameHome self.old self.new) }
         ensures last { OnOk result (self.new.last ≡ moment) }
         ensures accepts { IfOk result (λ reply. (xs : List PoolItem) → Fits self.old xs → Accepts self.old self.new facts.old.items facts.new.items moment (Unpin self.old.pool id) reply xs (unpinned id ∷ xs)) }
+        ensures inner { self.new.inner ≡ self.old.inner }
     {
         let Some(connection) = self.connection(id).copied() else {
             unreachable!()
@@ -117,7 +120,7 @@ impl PoolCore {
     {
         let step = Step {
             moment,
-            act: Act::Unpin(self.body.pool, id),
+            act: Act::Unpin(self.draft.body.pool, id),
         };
         let answer = self.attempt(alloc, facts, &step);
         drop(step);

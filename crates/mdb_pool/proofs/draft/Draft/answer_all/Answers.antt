@@ -8,13 +8,14 @@ use Rattle.mdb_pool.proofs.Answering.{does-more, prepared-more}
 use Rattle.mdb_pool.proofs.draft.Draft.answer_all.Goals as goal
 
 pub loop-step-preserved : goal.loop-step-preserved
-loop-step-preserved g c =
+loop-step-preserved c =
     let s = c.args.self.now in let t = c.loop-step.self in let u = c.answer.new.self in
     let done : List Step = take c.loop-step.step-index c.args.steps.now in
     let one : Answered = c.in_ok-answered.answered in
     let more : take (c.loop-step.step-index + 1) c.args.steps.now ≡ done ++ c.step-item.result ∷ [] = grind (arith, common_steps) in
     let pushed : c.push.new.self.items ≡ c.loop-step.answers.items ++ one ∷ [] = search rules in
     record {
+      inner = c.answer.ensures.inner ∙ c.loop-step.invariant.inner;
       home = record {
         pool = c.in_ok-answered.ensures.home.pool ∙ c.loop-step.invariant.home.pool;
         address = c.in_ok-answered.ensures.home.address ∙ c.loop-step.invariant.home.address;
@@ -25,6 +26,6 @@ loop-step-preserved g c =
     }
 
 pub answer-requires : goal.answer-requires
-answer-requires g c =
+answer-requires c =
     let taken : IsPoolAct c.args.self.now.pool c.step-item.result.act = search rules in
     subst (λ p. IsPoolAct p c.step-item.result.act) (sym c.loop-step.invariant.home.pool) taken

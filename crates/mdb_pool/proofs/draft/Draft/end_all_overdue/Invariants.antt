@@ -7,12 +7,13 @@ use Rattle.mdb_pool.proofs.Expires.{Expiring}
 use Rattle.mdb_pool.proofs.draft.Draft.end_all_overdue.Given as goal
 
 abbrev pub invariant-loop-request : goal.invariant-loop-request
-invariant-loop-request g l = record {
+invariant-loop-request l = record {
   last : l.self.last ≡ l.initial.self.last;
   home : SameHome l.initial.self l.self;
+  inner : l.self.inner ≡ l.initial.self.inner;
   notes : SameNotes l.initial.self l.self;
   expires : (xs : List PoolItem) → Fits l.initial.self xs → Expiring l.initial.self l.self l.moment l.initial.facts.items l.facts.items xs;
 }
 
 abbrev pub decreases-loop-request : goal.decreases-loop-request
-decreases-loop-request g l = length (numbers_where is_queued l.self.requests)
+decreases-loop-request l = length (numbers_where is_queued l.self.requests)

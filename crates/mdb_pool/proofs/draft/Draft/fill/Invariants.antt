@@ -5,12 +5,13 @@ use Rattle.mdb_pool.proofs.Maintains.{Filling}
 use Rattle.mdb_pool.proofs.draft.Draft.fill.Given as goal
 
 abbrev pub invariant-loop-alloc : goal.invariant-loop-alloc
-invariant-loop-alloc g l = record {
+invariant-loop-alloc l = record {
   last : l.self.last ≡ l.initial.self.last;
   home : SameHome l.initial.self l.self;
+  inner : l.self.inner ≡ l.initial.self.inner;
   notes : SameNotes l.initial.self l.self;
   fills : (xs : List PoolItem) → Fits l.initial.self xs → Filling l.initial.self l.self l.moment l.initial.facts.items l.facts.items xs;
 }
 
 abbrev pub decreases-loop-alloc : goal.decreases-loop-alloc
-decreases-loop-alloc g l = l.self.options.limit_id - l.self.created
+decreases-loop-alloc l = l.self.options.limit_id - l.self.created

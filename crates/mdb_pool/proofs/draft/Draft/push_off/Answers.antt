@@ -5,7 +5,7 @@ use Rattle.mdb_pool.proofs.Unserved.{off-one, off-none}
 use Rattle.mdb_pool.proofs.draft.Draft.push_off.Goals as goal
 
 pub returns-then-not-is_unserved : goal.returns-then-not-is_unserved
-returns-then-not-is_unserved g c = off-none c.args.self.now c.args.moment c.args.facts.now.items c.args.request.now (sym c.is_unserved.ensures ∙ c.if-not-is_unserved.true)
+returns-then-not-is_unserved c = off-none c.args.self.now c.args.moment c.args.facts.now.items c.args.request.now (sym c.is_unserved.ensures ∙ c.if-not-is_unserved.true)
 
 pub returns : goal.returns
-returns g c = c.in_ok-push_end.ensures ∙ ap (λ k. c.args.facts.now.items ++ k) (ap (λ w. over_facts c.args.self.now c.args.request.now.number c.args.request.now.warm w Closed) c.saturating_sub-waited.ensures ∙ off-one c.args.self.now c.args.moment c.args.request.now (sym c.is_unserved.ensures ∙ c.if-not-is_unserved.false))
+returns c = c.in_ok-push_end.ensures ∙ ap (λ k. c.args.facts.now.items ++ k) (ap (λ w. over_facts c.args.self.now c.args.request.now.number c.args.request.now.warm w Closed) c.saturating_sub-waited.ensures ∙ off-one c.args.self.now c.args.moment c.args.request.now (sym c.is_unserved.ensures ∙ c.if-not-is_unserved.false))

@@ -5,7 +5,7 @@ use Rattle.mdb_pool.proofs.draft.Draft.push_pending.Given as goal
 
 -- with the facts of what is left they are all
 abbrev pub invariant-loop-next : goal.invariant-loop-next
-invariant-loop-next g l = l.facts.items ++ shut_facts l.self (rest_of (λ x. x.id) l.next (pending_ones l.self)) ≡ l.initial.facts.items ++ shut_facts l.self (pending_ones l.self)
+invariant-loop-next l = l.facts.items ++ shut_facts l.self (rest_of (λ x. x.id) l.next (pending_ones l.self)) ≡ l.initial.facts.items ++ shut_facts l.self (pending_ones l.self)
 
 abbrev pub decreases-loop-next : goal.decreases-loop-next
-decreases-loop-next g l = length (rest_of (λ x. x.id) l.next (pending_ones l.self))
+decreases-loop-next l = length (rest_of (λ x. x.id) l.next (pending_ones l.self))

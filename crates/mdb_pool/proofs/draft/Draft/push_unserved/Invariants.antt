@@ -7,7 +7,7 @@ use Rattle.mdb_pool.proofs.draft.Draft.push_unserved.Given as goal
 
 -- with the facts of what is left they are all
 abbrev pub invariant-loop-next : goal.invariant-loop-next
-invariant-loop-next g l = l.facts.items ++ off_facts l.self l.moment (filter (λ q. unserved_in l.self q.phase) (rest_of (λ q. q.number) (option_copied l.next) l.self.requests)) ≡ l.initial.facts.items ++ off_facts l.self l.moment (filter (λ q. unserved_in l.self q.phase) l.self.requests)
+invariant-loop-next l = l.facts.items ++ off_facts l.self l.moment (filter (λ q. unserved_in l.self q.phase) (rest_of (λ q. q.number) (option_copied l.next) l.self.requests)) ≡ l.initial.facts.items ++ off_facts l.self l.moment (filter (λ q. unserved_in l.self q.phase) l.self.requests)
 
 abbrev pub decreases-loop-next : goal.decreases-loop-next
-decreases-loop-next g l = length (rest_of (λ q. q.number) (option_copied l.next) l.self.requests)
+decreases-loop-next l = length (rest_of (λ q. q.number) (option_copied l.next) l.self.requests)

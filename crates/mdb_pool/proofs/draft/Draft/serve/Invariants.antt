@@ -6,13 +6,14 @@ use Rattle.mdb_pool.proofs.Serving.{Progress, load}
 use Rattle.mdb_pool.proofs.draft.Draft.serve.Given as goal
 
 abbrev pub invariant-loop-request : goal.invariant-loop-request
-invariant-loop-request g l = record {
+invariant-loop-request l = record {
   last : l.self.last ≡ l.initial.self.last;
   home : SameHome l.initial.self l.self;
+  inner : l.self.inner ≡ l.initial.self.inner;
   notes : SameNotes l.initial.self l.self;
   ready : is_ready_now l.self.status ≡ true;
   serves : (xs : List PoolItem) → Fits l.initial.self xs → Progress l.initial.self l.self l.moment l.initial.facts.items l.facts.items xs;
 }
 
 abbrev pub decreases-loop-request : goal.decreases-loop-request
-decreases-loop-request g l = load l.self
+decreases-loop-request l = load l.self

@@ -8,5 +8,5 @@ use Rattle.mdb_pool.proofs.pool_core.PoolCore.available.Goals as goal
 
 pub returns : goal.returns
 returns c = λ h z.
-    c.left_slots.ensures ∙ (ap (λ (v : PoolCore). noted (λ x. x.id) (λ x. x.service) (λ x. x.since) (λ x. is_available x.place) v.connections) c.self.view_is
+    c.available.ensures ∙ (ap (λ (v : PoolCore). noted (λ x. x.id) (λ x. x.service) (λ x. x.since) (λ x. is_available x.place) v.connections) c.self.view_is
     ∙ available-told c.args.self.now (of_pool c.args.self.now.pool h) z.fits.matches)

@@ -1,12 +1,12 @@
-use Rattle.std.proofs.Common.{List, sym, subst}
-use Rattle.std.specs.Prelude.{OnOk}
+use Rattle.std.proofs.Common.{List, subst}
 use Rattle.mdb_log.specs.History.{Item}
 use Rattle.mdb_pool.specs.Core.{PoolCore}
 use Rattle.mdb_pool.specs.Standing.{StandsFor, Logs}
+use Rattle.mdb_pool.proofs.SameKept.{logs_same}
 use Rattle.mdb_pool.proofs.pool_core.PoolCore.enter.Goals as goal
 
-pub returns-clause-logs : goal.returns-clause-logs
-returns-clause-logs c =
-    let s = c.args.self.now in let r = c.logged-left.result.1 in let before = c.args.log.now in let after = c.logged-left.new.log in
-    subst (λ (p : PoolCore). OnOk r ((h : List Item) → StandsFor s h → Logs s p before after c.args.seat c.args.step.now h)) (sym c.put_back.ensures)
-    (subst (λ (w : PoolCore). OnOk r ((h : List Item) → StandsFor w h → Logs w c.logged-left.result.0 before after c.args.seat c.args.step.now h)) c.taken-whole.ensures c.logged-left.ensures.logs)
+pub returns-in-Ok-clause-logs : goal.returns-in-Ok-clause-logs
+returns-in-Ok-clause-logs c =
+    let before = c.args.log.now in let after = c.log_step.new.log in let step = c.args.step.now in
+    subst (λ (p : PoolCore). (h : List Item) → StandsFor p h → Logs p c.keep.new.self before after c.args.seat step h) c.self.view_is
+    (λ h z. logs_same c.self.inside.draft c.log_step.new.self c.keep.new.self before after c.args.seat step h c.keep.ensures.same (c.in-Ok.ensures.logs h z))

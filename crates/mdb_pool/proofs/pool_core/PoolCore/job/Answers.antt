@@ -1,9 +1,8 @@
-use Rattle.std.proofs.Common.{◌≡◌, ℕ, true, false, Some, refl, sym, ◌∙◌, ap}
+use Rattle.std.proofs.Common.{◌≡◌, ℕ, true, false, Some, refl, sym, ◌∙◌}
 use Rattle.mdb_base.specs.declared.address.ServerAddress.{ServerAddress}
 use Rattle.mdb_log.specs.declared.generation.PoolGeneration.{PoolGeneration}
 use Rattle.mdb_log.specs.declared.job.Job.{Job}
 use Rattle.mdb_log.specs.Connections.{has, pending_list}
-use Rattle.mdb_pool.specs.Core.{PoolCore}
 use Rattle.mdb_pool.proofs.Acts.{pending-is}
 use Rattle.mdb_pool.proofs.pool_core.PoolCore.job.Goals as goal
 
@@ -22,4 +21,4 @@ pub returns-clause-kept : goal.returns-clause-kept
 returns-clause-kept c = λ xs z.
     let s = c.args.self.now in
     let waits : has c.args.id (pending_list xs) ≡ true = pending-is s xs z c.args.id ∙ (sym c.is_pending.ensures.kept ∙ c.if-not-is_pending.false) in
-    rw waits (same-job _ s.pool c.args.id _ s.address _ _ (ap (λ (v : PoolCore). v.pool) c.self.view_is) (c.in_ok-address.ensures.cases ∙ ap (λ (v : PoolCore). v.address) c.self.view_is) (c.in_ok-generation.ensures xs z waits))
+    rw waits (same-job _ s.pool c.args.id _ s.address _ _ c.number-pool.ensures (c.in_ok-address.ensures.cases ∙ c.address.ensures) (c.in_ok-generation.ensures xs z waits))
