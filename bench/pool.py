@@ -26,9 +26,11 @@ REPEATS = 5
 
 
 def wanted(kind, connections, rounds):
-    """The line of a run: three steps opened the pool for each connection."""
+    """The line of a run: three steps opened the pool for each connection. Freed slots are used again, so that there is one for each
+    connection that nobody has."""
     entries = 3 * connections + STEPS[kind] * rounds
-    return f"kind={kind} connections={connections} rounds={rounds} entries={entries} granted={connections + rounds}"
+    slots = connections if kind == "available" else 0
+    return f"kind={kind} connections={connections} rounds={rounds} entries={entries} granted={connections + rounds} slots={slots}"
 
 
 def timed(program, kind, connections, rounds):
@@ -45,7 +47,7 @@ def timed(program, kind, connections, rounds):
     process.returncode = os.waitstatus_to_exitcode(status)
     if process.returncode != 0:
         raise SystemExit(f"{' '.join(command)} ended with status {process.returncode}")
-    if not (written.rstrip("\n") + " ").startswith(wanted(kind, connections, rounds) + " "):
+    if written != wanted(kind, connections, rounds) + "\n":
         raise SystemExit(f"{' '.join(command)} wrote {written!r}")
     return seconds, usage.ru_utime + usage.ru_stime, usage.ru_maxrss * 1024
 

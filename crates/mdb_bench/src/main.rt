@@ -6,8 +6,10 @@ ghost use Rattle.std.specs.Prelude.{IfOk, IfSome};
 ghost use Rattle.mdb_bench.specs.Plans.{IsWithin};
 
 mod counting;
+mod outcome;
 mod plan;
 mod rounds;
+mod slots;
 
 use plan::{Plan, USAGE};
 use rounds::measure;
@@ -49,8 +51,8 @@ fn tell(rt: &HostRuntime, plan: Plan) -> io::Result<ExitCode>
     requires { IsWithin plan }
 {
     match measure(rt.alloc(), plan) {
-        Ok(counts) => {
-            println!(rt; "{plan} {counts}")?;
+        Ok(outcome) => {
+            println!(rt; "{plan} {outcome}")?;
             Ok(ExitCode::SUCCESS)
         }
         Err(_) => Err(AllocError.into()),

@@ -5,7 +5,9 @@ ghost use Rattle.mdb_log.specs.Acts.{IsPoolAct};
 ghost use Rattle.mdb_bench.specs.Plans.{IsWithin};
 
 use crate::counting::Counts;
+use crate::outcome::Outcome;
 use crate::plan::{Kind, Plan};
+use crate::slots::count_slots;
 use mdb_base::{ObjectId, OutOfMemory, ServerAddress};
 use mdb_log::{Act, Established, Log, PoolOptions, Step, Use};
 use mdb_pool::PoolCore;
@@ -136,14 +138,15 @@ impl Bench {
     }
 }
 
-/// Does the rounds of the plan, and counts what the log has then.
-pub fn measure(alloc: Global, plan: Plan) -> Result<Counts, OutOfMemory>
+/// Does the rounds of the plan, and counts what the log and the pool have then.
+pub fn measure(alloc: Global, plan: Plan) -> Result<Outcome, OutOfMemory>
     requires { IsWithin plan }
 {
     let mut bench = Bench::new(alloc, plan.connections)?;
     let ran = bench.run(plan);
     let counts = Counts::of(bench.log.entries());
+    let slots = count_slots(bench.core.available(), plan.connections);
     drop(bench);
     ran?;
-    Ok(counts)
+    Ok(Outcome { counts, slots })
 }
