@@ -1,7 +1,7 @@
 -- All slots that have a number are chained, one after the other.
-use Rattle.std.proofs.Common.{◌≡◌, ℕ, zero, suc, ◌<◌, ◌%◌, Option, Some, None, List, [], length, refl, sym, ◌∙◌, ap, subst, set}
+use Rattle.std.proofs.Common.{◌≡◌, ℕ, zero, suc, ◌<◌, Option, Some, None, List, [], length, refl, sym, ◌∙◌, ap, subst, set}
 use Rattle.mdb_slots.specs.declared.entry.Entry.{Entry}
-use Rattle.mdb_slots.specs.SlotIndex.{entry, head_at, place_at, number_at, numbers_of, masked, trail, Single, IsBucket, IsIndex}
+use Rattle.mdb_slots.specs.SlotIndex.{entry, head_at, place_at, number_at, numbers_of, masked, trail, bucket_in, Single, IsBucket, IsIndex}
 use Rattle.mdb_slots.proofs.Numbers.{numbers-at, numbers-set, numbers-length, set-number, masked-none, masked-next, masked-at, masked-some, masked-length}
 use Rattle.mdb_slots.proofs.IndexInserts.{index-insert}
 
@@ -35,7 +35,7 @@ module _ (hs : List (Option ℕ)) (es : List Entry) (s : ℕ) (one : Single (num
       rw n i
 
   -- a slot with a number is put first in its bucket
-  pub chain-some : (k : ℕ) → 0 < length hs → (place_at es s).number ≡ Some k → IsIndex (set hs (k % length hs) (Some s)) (set es s (entry (Some k) (head_at hs (k % length hs)))) (masked (suc s) (numbers_of es))
+  pub chain-some : (k : ℕ) → 0 < length hs → (place_at es s).number ≡ Some k → IsIndex (set hs (bucket_in k (length hs)) (Some s)) (set es s (entry (Some k) (head_at hs (bucket_in k (length hs))))) (masked (suc s) (numbers_of es))
   chain-some k p e =
       let a : number_at (numbers_of es) s ≡ Some k = numbers-at es s ∙ e in
       let n : masked (suc s) (numbers_of es) ≡ set (masked s (numbers_of es)) s (Some k) = masked-next s (numbers_of es) within ∙ ap (λ o. set (masked s (numbers_of es)) s o) a in

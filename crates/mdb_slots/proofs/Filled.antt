@@ -1,6 +1,7 @@
 -- Slots in use hold values.
 use Rattle.std.proofs.Common.{◌≡◌, ◌≢◌, ℕ, zero, suc, ◌+◌, ◌<◌, ◌≤◌, Bool, true, false, ◌==◌, if◌then◌else◌, Option, Some, None, is_some, List, [], ◌∷◌, ◌++◌, length, refl, ◌∙◌, ap, arith, set, get_or-set_same, get_or-set_other, length-set, length-append}
 use Rattle.std.proofs.lemmas.Grind.{common_steps}
+use Rattle.std.proofs.lemmas.List.{set-set}
 use Rattle.mdb_slots.specs.Lists.{has, without}
 use Rattle.mdb_slots.specs.Links.{Order}
 use Rattle.mdb_slots.specs.Cells.{cell_at}
@@ -52,6 +53,18 @@ module _ {T : Type 0} where
         long = rw (length-set cs s None) (omega (arith, w, e, h.long));
         cover = λ k. rw u (some-set cs s None k (filled-within h s m) ∙ cover-remove o.used s (is_some (cell_at cs k)) k (h.cover k));
       }
+
+  -- a value takes the place of another, and is the newest
+  pub filled-renewed : {o : Order} {cs : List (Option T)} → IsFilled o cs → (p : Order) (v : T) (s : ℕ) → has s o.used ≡ true → p.used ≡ without s o.used ++ s ∷ [] → p.spare ≡ o.spare → IsFilled p (set cs s (Some v))
+  filled-renewed {o = o} {cs = cs} h p v s m u e =
+      let t = filled-taken h (record { used = without s o.used; spare = o.spare + 1 }) s m refl refl in
+      let w : length (without s o.used) + 1 ≤ length o.used = length-without s o.used m in
+      let b : s < length (set cs s None) = rw (length-set cs s None) (filled-within h s m) in
+      let i : IsFilled p (set (set cs s None) s (Some v)) = record {
+        long = rw (length-set (set cs s None) s (Some v), u, length-append (without s o.used) (s ∷ [])) (omega (arith, e, t.long));
+        cover = λ k. rw u (some-set (set cs s None) s (Some v) k b ∙ cover-push (without s o.used) s (is_some (cell_at (set cs s None) k)) k (t.cover k));
+      } in
+      rw (set-set cs s None (Some v)) at i
 
   -- and so do those that are led back to, whether the change stays or not
   pub lasting-filled : (s : Bool) {n b o : Order} {ns bs os : List (Option T)} → (s ≡ false → b ≡ o) → (s ≡ false → bs ≡ os) → (s ≡ true → b ≡ n) → (s ≡ true → bs ≡ ns) → IsFilled o os → IsFilled n ns → IsFilled n ns × IsFilled b bs

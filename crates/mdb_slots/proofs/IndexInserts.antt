@@ -1,16 +1,15 @@
 -- A slot gets a number, and is the first of its bucket.
-use Rattle.std.proofs.Common.{◌≡◌, ◌≢◌, ℕ, zero, suc, ◌+◌, ◌<◌, ◌%◌, ◌==◌, if◌then◌else◌, Bool, true, false, Option, Some, None, List, [], ◌∷◌, ◌++◌, length, refl, sym, ◌∙◌, ap, subst, set, get_or-set_other, get_or-set_same, length-set, length-append}
-use Rattle.std.proofs.lemmas.Nat.{mod_below}
+use Rattle.std.proofs.Common.{◌≡◌, ◌≢◌, ℕ, zero, suc, ◌+◌, ◌<◌, ◌==◌, if◌then◌else◌, Bool, true, false, Option, Some, None, List, [], ◌∷◌, ◌++◌, length, refl, sym, ◌∙◌, ap, subst, set, get_or-set_other, get_or-set_same, length-set, length-append}
 use Rattle.mdb_slots.specs.declared.entry.Entry.{Entry}
 use Rattle.mdb_slots.specs.Lists.{has}
-use Rattle.mdb_slots.specs.SlotIndex.{entry, no_entry, head_at, place_at, number_at, slot_of, trail, in_bucket, IsBucket, IsIndex}
+use Rattle.mdb_slots.specs.SlotIndex.{entry, no_entry, head_at, place_at, number_at, slot_of, trail, bucket_in, in_bucket, IsBucket, IsIndex}
 use Rattle.mdb_slots.proofs.Trails.{linked-set, linked-grow}
-use Rattle.mdb_slots.proofs.Numbers.{same-number, is-same, not-same, some-same, number-set, slot_of-some, slot_of-none, slot_of-at, slot_of-absent, number-append}
+use Rattle.mdb_slots.proofs.Numbers.{bucket_in-below, same-number, is-same, not-same, some-same, number-set, slot_of-some, slot_of-none, slot_of-at, slot_of-absent, number-append}
 use Rattle.mdb_slots.proofs.IndexLaws.{bucket-keeps}
 
 module _ {hs : List (Option ℕ)} {es : List Entry} {ns : List (Option ℕ)} (i : IsIndex hs es ns) (k s : ℕ) (p : 0 < length hs) (h : s < length es) (new : number_at ns s ≡ None) (absent : (t : ℕ) → number_at ns t ≢ Some k) where
   abbrev b₀ : ℕ
-  b₀ = k % length hs
+  b₀ = bucket_in k (length hs)
 
   within : s < length ns
   within = rw i.long h
@@ -33,7 +32,7 @@ module _ {hs : List (Option ℕ)} {es : List Entry} {ns : List (Option ℕ)} (i 
   -- the bucket of the number
   own : IsBucket (length hs) b₀ (Some s) es' ns' (s ∷ list b₀)
   own =
-      let q : b₀ < length hs = mod_below k (length hs) p in
+      let q : b₀ < length hs = bucket_in-below k (length hs) p in
       let u = i.buckets b₀ q in
       record {
         linked = (refl, rw (length-set es s (entry (Some k) (head_at hs b₀))) h, rw (get_or-set_same es s (entry (Some k) (head_at hs b₀)) no_entry h) (linked-set es s (entry (Some k) (head_at hs b₀)) (head_at hs b₀) (list b₀) None (not-of b₀ q) u.linked));
@@ -63,7 +62,7 @@ module _ {hs : List (Option ℕ)} {es : List Entry} {ns : List (Option ℕ)} (i 
 
   pick : (b : ℕ) → b < length hs → (d : Bool) → (b₀ == b) ≡ d → IsBucket (length hs) b (head_at hs' b) es' ns' (trail (length es') (head_at hs' b) es')
   pick b q true w =
-      subst (λ (j : ℕ). IsBucket (length hs) j (head_at hs' j) es' ns' (trail (length es') (head_at hs' j) es')) (same-number b₀ b w) (bucket-keeps {xs = s ∷ list b₀} (rw (get_or-set_same hs b₀ (Some s) None (mod_below k (length hs) p)) own))
+      subst (λ (j : ℕ). IsBucket (length hs) j (head_at hs' j) es' ns' (trail (length es') (head_at hs' j) es')) (same-number b₀ b w) (bucket-keeps {xs = s ∷ list b₀} (rw (get_or-set_same hs b₀ (Some s) None (bucket_in-below k (length hs) p)) own))
   pick b q false w =
       let ne : b ≢ b₀ = λ e. not-same b₀ b w (sym e) in
       bucket-keeps {xs = list b} (rw (get_or-set_other hs b₀ b (Some s) None ne) (other b q w))

@@ -1,17 +1,16 @@
 -- A slot loses its number, and goes from its bucket.
-use Rattle.std.proofs.Common.{◌≡◌, ◌≢◌, ℕ, zero, suc, ◌<◌, ◌%◌, ◌==◌, if◌then◌else◌, Bool, true, false, Option, Some, None, IfSome, List, [], ◌∷◌, ◌++◌, length, refl, sym, ◌∙◌, ap, subst, arith, set, get_or-set_other, get_or-set_same, length-set}
+use Rattle.std.proofs.Common.{◌≡◌, ◌≢◌, ℕ, zero, suc, ◌<◌, ◌==◌, if◌then◌else◌, Bool, true, false, Option, Some, None, IfSome, List, [], ◌∷◌, ◌++◌, length, refl, sym, ◌∙◌, ap, subst, arith, set, get_or-set_other, get_or-set_same, length-set}
 use Rattle.std.proofs.lemmas.Grind.{common_steps}
-use Rattle.std.proofs.lemmas.Nat.{mod_below}
 use Rattle.mdb_slots.specs.declared.entry.Entry.{Entry}
 use Rattle.mdb_slots.specs.Lists.{has, apart, last_or, previous}
 use Rattle.mdb_slots.specs.Links.{where_none}
-use Rattle.mdb_slots.specs.SlotIndex.{no_entry, head_at, place_at, number_at, slot_of, Linked, trail, in_bucket, lead_same, IsBucket, IsIndex}
+use Rattle.mdb_slots.specs.SlotIndex.{no_entry, head_at, place_at, number_at, slot_of, Linked, trail, bucket_in, in_bucket, lead_same, IsBucket, IsIndex}
 use Rattle.mdb_slots.proofs.Lists.{has-append, parts, Apart, apart-parts, apart-across}
 use Rattle.mdb_slots.proofs.Chains.{last-has}
 use Rattle.mdb_slots.proofs.Layouts.{Outside, last-outside}
 use Rattle.mdb_slots.proofs.Removes.{previous-at}
 use Rattle.mdb_slots.proofs.Trails.{linked-set, linked-lead_same, linked-front, linked-back, linked-join, linked-on, linked-below}
-use Rattle.mdb_slots.proofs.Numbers.{same-number, is-same, not-same, some-same, slot_of-some, slot_of-none, slot_of-at, slot_of-absent, number-set}
+use Rattle.mdb_slots.proofs.Numbers.{bucket_in-below, same-number, is-same, not-same, some-same, slot_of-some, slot_of-none, slot_of-at, slot_of-absent, number-set}
 use Rattle.mdb_slots.proofs.IndexLaws.{bucket-keeps}
 
 pub length-lead_same : (o a : Option ℕ) (es : List Entry) → length (lead_same o a es) ≡ length es
@@ -51,7 +50,7 @@ linked-remove es o s xs ys e l =
 
 in_bucket-other : (n b c : ℕ) (o : Option ℕ) → in_bucket n b o ≡ true → (b == c) ≡ false → in_bucket n c o ≡ false
 in_bucket-other n b c None e w = refl
-in_bucket-other n b c (Some j) e w = subst (λ (d : ℕ). (d == c) ≡ false) (sym (same-number (j % n) b e)) w
+in_bucket-other n b c (Some j) e w = subst (λ (d : ℕ). (d == c) ≡ false) (sym (same-number (bucket_in j n) b e)) w
 
 has-part : (k s : ℕ) (xs ys : List ℕ) → has k xs ≡ true → has k (xs ++ s ∷ ys) ≡ true
 has-part k s xs ys h = grind (arith, common_steps, h, has-append k xs (s ∷ ys))
@@ -61,7 +60,7 @@ has-rest t s xs ys w = grind (arith, common_steps, w, has-append t xs ys, has-ap
 
 module _ {hs : List (Option ℕ)} {es : List Entry} {ns : List (Option ℕ)} (i : IsIndex hs es ns) (k s : ℕ) (e : number_at ns s ≡ Some k) where
   abbrev b₀ : ℕ
-  b₀ = k % length hs
+  b₀ = bucket_in k (length hs)
 
   abbrev list : ℕ → List ℕ
   list b = trail (length es) (head_at hs b) es
@@ -70,7 +69,7 @@ module _ {hs : List (Option ℕ)} {es : List Entry} {ns : List (Option ℕ)} (i 
   ns' = set ns s None
 
   pub b₀-below : b₀ < length hs
-  b₀-below = mod_below k (length hs) (i.headed s k e)
+  b₀-below = bucket_in-below k (length hs) (i.headed s k e)
 
   pub member : has s (list b₀) ≡ true
   member = (i.buckets b₀ b₀-below).holds s ∙ rw e (is-same b₀)

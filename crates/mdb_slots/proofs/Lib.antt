@@ -4,6 +4,7 @@ pub mod Layouts
 pub mod Lasting
 pub mod Moves
 pub mod Removes
+pub mod Renews
 pub mod Grows
 pub mod Items
 pub mod Turns

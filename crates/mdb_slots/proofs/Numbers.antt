@@ -1,8 +1,13 @@
 -- The numbers of slots, and the slot of a number.
-use Rattle.std.proofs.Common.{◌≡◌, ◌≢◌, ℕ, zero, suc, ◌<◌, ◌==◌, if◌then◌else◌, Bool, true, false, Option, Some, None, option_map, List, [], ◌∷◌, ◌++◌, length, refl, sym, ◌∙◌, ap, subst, arith, set, get_or-set_other, get_or-set_same}
+use Rattle.std.proofs.Common.{◌≡◌, ◌≢◌, ℕ, zero, suc, ◌-◌, ◌<◌, ◌==◌, if◌then◌else◌, Bool, true, false, Option, Some, None, option_map, List, [], ◌∷◌, ◌++◌, length, refl, sym, ◌∙◌, ap, subst, arith, set, get_or-set_other, get_or-set_same}
 use Rattle.std.proofs.lemmas.Grind.{common_steps}
+use Rattle.std.proofs.lemmas.Nat.{and_le_r}
 use Rattle.mdb_slots.specs.declared.entry.Entry.{Entry}
-use Rattle.mdb_slots.specs.SlotIndex.{place_at, number_at, numbers_of, is_number, slot_of, lead_same, Single, masked}
+use Rattle.mdb_slots.specs.SlotIndex.{bucket_in, place_at, number_at, numbers_of, is_number, slot_of, lead_same, Single, masked}
+
+pub bucket_in-below : (k n : ℕ) → 0 < n → bucket_in k n < n
+unfolding bucket_in
+bucket_in-below k n p = omega (arith, and_le_r k (n - 1))
 
 pub same-number : (a b : ℕ) → (a == b) ≡ true → a ≡ b
 same-number a b e = grind (arith, common_steps, e)

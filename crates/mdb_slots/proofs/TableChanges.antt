@@ -111,5 +111,10 @@ module _ {T : Type 0} (key : T → ℕ) where
   removed-values {cs = cs} {m = m} {us = us} i k s e =
       values-set cs s None (without s us) (has-without s us) ∙ sym (others-some key cs m us k s i.points e (i.back k s e))
 
+  -- a list without values has none to take
+  pub others-empty : (k : ℕ) (xs : List T) → length xs ≡ 0 → xs ≡ others key k xs
+  others-empty k [] e = refl
+  others-empty k (x ∷ xs) e = cc
+
   pub absent-values : {cs : List (Option T)} {m : ℕ → Option ℕ} {us : List ℕ} → IsIndexed key cs m us → (k : ℕ) → m k ≡ None → others key k (values cs us) ≡ values cs us
   absent-values {cs = cs} {m = m} {us = us} i k e = others-none key cs m us k i.points e

@@ -1,5 +1,6 @@
 -- What a table holds after a value came or went.
 use Rattle.std.proofs.Common.{◌≡◌, ◌≢◌, ℕ, Bool, subst, ◌+◌, ◌<◌, ◌≤◌, ◌==◌, if◌then◌else◌, true, false, Option, Some, None, List, [], ◌∷◌, ◌++◌, length, refl, sym, arith, set, length-set, length-append}
+use Rattle.std.proofs.lemmas.List.{set-set}
 use Rattle.mdb_slots.specs.Lists.{has, without}
 use Rattle.mdb_slots.specs.Links.{Order}
 use Rattle.mdb_slots.specs.SlotIndex.{slot_of}
@@ -51,18 +52,18 @@ module _ {T : Type 0} (key : T → ℕ) where
   pub brought-values : {cs : List (Option T)} {ns : List (Option ℕ)} {o : Order} → Holds key cs ns o → (p : Order) (x : T) (s : ℕ) → s < length o.used + o.spare → has s o.used ≡ false → p.used ≡ o.used ++ s ∷ [] → values (set cs s (Some x)) p.used ≡ values cs o.used ++ x ∷ []
   brought-values {cs = cs} {o = o} h p x s b n u = rw u (pushed-values key cs o.used x s (omega (arith, b, h.cells_long)) n)
 
-  -- a value goes, and one with its number comes into its slot
-  pub renewed : {cs : List (Option T)} {ns : List (Option ℕ)} {o : Order} → Holds key cs ns o → (p r : Order) (x : T) (s : ℕ) → slot_of (key x) ns ≡ Some s → p.used ≡ without s o.used → p.spare ≡ o.spare + 1 → r.used ≡ p.used ++ s ∷ [] → r.spare + 1 ≡ p.spare → Holds key (set (set cs s None) s (Some x)) ns r
-  renewed {cs = cs} {ns = ns} {o = o} h p r x s e u v w z =
+  -- a value takes the place of the one that had its number, and comes last
+  pub renewed : {cs : List (Option T)} {ns : List (Option ℕ)} {o : Order} → Holds key cs ns o → (p : Order) (x : T) (s : ℕ) → slot_of (key x) ns ≡ Some s → p.used ≡ without s o.used ++ s ∷ [] → p.spare ≡ o.spare → Holds key (set cs s (Some x)) ns p
+  renewed {cs = cs} {ns = ns} {o = o} h p x s e u v =
       let m : has s o.used ≡ true = h.indexed.member (key x) s e in
-      let a : length p.used + 1 ≤ length o.used = rw u (length-without s o.used m) in
-      let b : length r.used ≡ length p.used + 1 = rw w (length-append p.used (s ∷ [])) in
+      let a : length (without s o.used) + 1 ≤ length o.used = length-without s o.used m in
+      let b : length p.used ≡ length (without s o.used) + 1 = rw u (length-append (without s o.used) (s ∷ [])) in
       let c : s < length (set cs s None) = rw (length-set cs s None) (slot-within key h.indexed (key x) s e) in
       let n : (if key x == key x then None else slot_of (key x) ns) ≡ None = rw (is-same (key x)) refl in
       record {
-        cells_long = rw (length-set (set cs s None) s (Some x), length-set cs s None) (omega (arith, a, b, v, z, h.cells_long));
-        numbers_long = omega (arith, a, b, v, z, h.numbers_long);
-        indexed = rw (w, u) (pushed key (removed key h.indexed (λ q. if key x == q then None else slot_of q ns) (key x) s e (λ q. refl)) (λ q. slot_of q ns) x s c (has-without s o.used) n again);
+        cells_long = rw (length-set cs s (Some x)) (omega (arith, a, b, v, h.cells_long));
+        numbers_long = omega (arith, a, b, v, h.numbers_long);
+        indexed = rw (u, ← set-set cs s None (Some x)) (pushed key (removed key h.indexed (λ q. if key x == q then None else slot_of q ns) (key x) s e (λ q. refl)) (λ q. slot_of q ns) x s c (has-without s o.used) n again);
       }
     where
       on : (q : ℕ) (b : Bool) → (key x == q) ≡ b → slot_of q ns ≡ if b then Some s else (if b then None else slot_of q ns)
@@ -72,10 +73,10 @@ module _ {T : Type 0} (key : T → ℕ) where
       again : (q : ℕ) → slot_of q ns ≡ if key x == q then Some s else (if key x == q then None else slot_of q ns)
       again q = on q (key x == q) refl
 
-  pub renewed-values : {cs : List (Option T)} {ns : List (Option ℕ)} {o : Order} → Holds key cs ns o → (p r : Order) (x : T) (s : ℕ) → slot_of (key x) ns ≡ Some s → p.used ≡ without s o.used → r.used ≡ p.used ++ s ∷ [] → values (set (set cs s None) s (Some x)) r.used ≡ others key (key x) (values cs o.used) ++ x ∷ []
-  renewed-values {cs = cs} {o = o} h p r x s e u w =
+  pub renewed-values : {cs : List (Option T)} {ns : List (Option ℕ)} {o : Order} → Holds key cs ns o → (p : Order) (x : T) (s : ℕ) → slot_of (key x) ns ≡ Some s → p.used ≡ without s o.used ++ s ∷ [] → values (set cs s (Some x)) p.used ≡ others key (key x) (values cs o.used) ++ x ∷ []
+  renewed-values {cs = cs} {o = o} h p x s e u =
       let c : s < length (set cs s None) = rw (length-set cs s None) (slot-within key h.indexed (key x) s e) in
-      rw (w, u, ← removed-values key h.indexed (key x) s e) (pushed-values key (set cs s None) (without s o.used) x s c (has-without s o.used))
+      rw (u, ← set-set cs s None (Some x), ← removed-values key h.indexed (key x) s e) (pushed-values key (set cs s None) (without s o.used) x s c (has-without s o.used))
 
   -- no number leads to a slot that is not in use
   pub nothing-leads : {cs : List (Option T)} {ns : List (Option ℕ)} {o : Order} → Holds key cs ns o → (s : ℕ) → has s o.used ≡ false → (q : ℕ) → slot_of q ns ≢ Some s

@@ -1,5 +1,5 @@
 -- The slots by number: each bucket is a chain of slots through the entries.
-use Rattle.std.specs.Prelude.{◌≡◌, ◌≤◌, ◌<◌, ◌+◌, ◌%◌, ◌==◌, ℕ, zero, suc, Bool, true, false, if◌then◌else◌, Option, None, Some, option_map, List, [], ◌∷◌, map, length, slice_index_or, slice_set}
+use Rattle.std.specs.Prelude.{◌≡◌, ◌≤◌, ◌<◌, ◌+◌, ◌-◌, ◌==◌, ℕ, zero, suc, Bool, true, false, if◌then◌else◌, Option, None, Some, option_map, List, [], ◌∷◌, map, length, slice_index_or, slice_set, bit_and}
 use Rattle.mdb_slots.specs.declared.bucket.Buckets.{Buckets}
 use Rattle.mdb_slots.specs.declared.entry.Entry.{Entry}
 use Rattle.mdb_slots.specs.Open.{ListSteps, list_after, room_after, ListFits}
@@ -49,10 +49,14 @@ abbrev pub seek : ℕ → List Entry → List ℕ → Option ℕ
 seek k es [] = None
 seek k es (x ∷ xs) = if is_number k (place_at es x).number then Some x else seek k es xs
 
+-- the bucket of a number, of n buckets
+unfoldable pub bucket_in : ℕ → ℕ → ℕ
+bucket_in k n = bit_and k (n - 1)
+
 -- the number belongs to bucket b of n
 abbrev pub in_bucket : ℕ → ℕ → Option ℕ → Bool
 in_bucket n b None = false
-in_bucket n b (Some k) = k % n == b
+in_bucket n b (Some k) = bucket_in k n == b
 
 -- the slot at b is followed by o in its bucket
 abbrev pub lead_same : Option ℕ → Option ℕ → List Entry → List Entry

@@ -54,9 +54,13 @@ module _ {T : Type 0} where
   abbrev pub values_of : Parts T → List T
   values_of p = values p.slots.cells p.slots.order.used
 
-  -- one value may go and one may come without memory
+  -- the place and the value of one slot may change without memory
   abbrev pub MayChange : Parts T → Type 0
-  MayChange p = (5 ≤ p.slots.room.order) × (2 ≤ p.slots.room.cells) × (0 < p.index.width) × AreWithin (both 2 3) p.index.room
+  MayChange p = (4 ≤ p.slots.room.order) × (1 ≤ p.slots.room.cells)
+
+  -- one value may go without memory
+  abbrev pub MayGo : Parts T → Type 0
+  MayGo p = (3 ≤ p.slots.room.order) × (1 ≤ p.slots.room.cells) × AreWithin (both 1 2) p.index.room
 
   -- one value may come without memory
   abbrev pub MayCome : Parts T → Type 0

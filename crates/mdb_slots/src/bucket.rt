@@ -1,7 +1,7 @@
 //! The buckets of an index: a slot comes first in its bucket, and all slots are chained again.
 
-ghost use Rattle.std.specs.Prelude.{◌≡◌, ◌<◌, ◌≤◌, ◌+◌, ◌%◌, ◌^◌, ℕ, suc, Some, None, length, slice_set};
-ghost use Rattle.mdb_slots.specs.SlotIndex.{entry, head_at, numbers_of, number_at, masked, Single, IsIndex, base_of, capacity_of, room_of, both, AreWithin, LeavesAll};
+ghost use Rattle.std.specs.Prelude.{◌≡◌, ◌<◌, ◌≤◌, ◌+◌, ◌^◌, ℕ, suc, Some, None, length, slice_set};
+ghost use Rattle.mdb_slots.specs.SlotIndex.{bucket_in, entry, head_at, numbers_of, number_at, masked, Single, IsIndex, base_of, capacity_of, room_of, both, AreWithin, LeavesAll};
 
 use crate::entry::Entry;
 use crate::turned::Turned;
@@ -16,10 +16,10 @@ pub struct Buckets {
 /// The bucket of the number, of so many.
 pub fn bucket_of(number: u32, width: usize) -> usize
     requires { 0 < width }
-    ensures value { result ≡ number % width }
+    ensures value { result ≡ bucket_in number width }
     ensures within { result < width }
 {
-    number as usize % width
+    number as usize & (width - 1)
 }
 
 /// No bucket has a slot.
@@ -60,8 +60,8 @@ impl Buckets {
         requires width { 0 < length self.old.heads.now }
         requires within { slot < length self.old.entries.now }
         requires room { AreWithin (both 1 1) (room_of self.old) }
-        ensures heads { self.new.heads.now ≡ slice_set self.old.heads.now (number % length self.old.heads.now) (Some slot) }
-        ensures entries { self.new.entries.now ≡ slice_set self.old.entries.now slot (entry (Some number) (head_at self.old.heads.now (number % length self.old.heads.now))) }
+        ensures heads { self.new.heads.now ≡ slice_set self.old.heads.now (bucket_in number (length self.old.heads.now)) (Some slot) }
+        ensures entries { self.new.entries.now ≡ slice_set self.old.entries.now slot (entry (Some number) (head_at self.old.heads.now (bucket_in number (length self.old.heads.now)))) }
         ensures base { base_of self.new ≡ base_of self.old }
         ensures capacity { capacity_of self.new ≡ capacity_of self.old }
         ensures room { LeavesAll (room_of self.new) (both 1 1) (room_of self.old) }

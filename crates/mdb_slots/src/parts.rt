@@ -4,7 +4,7 @@ ghost use Rattle.std.specs.Prelude.{◌≡◌, ◌<◌, ◌≤◌, ◌++◌, ◌
 ghost use Rattle.mdb_slots.specs.Keyed.{entry_at, others};
 ghost use Rattle.mdb_slots.specs.Cells.{at_place};
 ghost use Rattle.mdb_slots.specs.SlotIndex.{slot_of};
-ghost use Rattle.mdb_slots.specs.Table.{HoldsParts, MayChange, MayCome, base_of, capacity_of, values_of};
+ghost use Rattle.mdb_slots.specs.Table.{HoldsParts, MayChange, MayCome, MayGo, base_of, capacity_of, values_of};
 
 use crate::keyed::Keyed;
 use crate::slot_index::SlotIndex;
@@ -50,26 +50,52 @@ impl<T: Keyed> Parts<T> {
         self.slots.grow()
     }
 
-    /// One value may go and one may come without memory.
-    pub fn make_room(&mut self) -> Result<(), OutOfMemory>
+    /// One value may come without memory.
+    pub fn ready_to_put(&mut self) -> Result<(), OutOfMemory>
         requires { HoldsParts T.key self.old }
         ensures holds { HoldsParts T.key self.new }
         ensures now { values_of self.new ≡ values_of self.old }
         ensures spare { self.new.slots.order.spare ≡ self.old.slots.order.spare }
+        ensures room { OnOk result (MayCome self.new) }
+        ensures base { base_of self.new ≡ base_of self.old }
+        ensures capacity { capacity_of self.new ≡ capacity_of self.old }
+    {
+        self.slots.ready(2, 1)?;
+        self.index.ready_to_insert()
+    }
+
+    /// One value may go without memory.
+    pub fn ready_to_take(&mut self) -> Result<(), OutOfMemory>
+        requires { HoldsParts T.key self.old }
+        ensures holds { HoldsParts T.key self.new }
+        ensures now { values_of self.new ≡ values_of self.old }
+        ensures room { OnOk result (MayGo self.new) }
+        ensures index { self.new.index.now ≡ self.old.index.now }
+        ensures base { base_of self.new ≡ base_of self.old }
+        ensures capacity { capacity_of self.new ≡ capacity_of self.old }
+    {
+        self.slots.ready(3, 1)?;
+        self.index.ready_to_remove()
+    }
+
+    /// The place and the value of one slot may change without memory.
+    pub fn ready_to_renew(&mut self) -> Result<(), OutOfMemory>
+        requires { HoldsParts T.key self.old }
+        ensures holds { HoldsParts T.key self.new }
+        ensures now { values_of self.new ≡ values_of self.old }
         ensures room { OnOk result (MayChange self.new) }
         ensures index { self.new.index.now ≡ self.old.index.now }
         ensures base { base_of self.new ≡ base_of self.old }
         ensures capacity { capacity_of self.new ≡ capacity_of self.old }
     {
-        self.slots.ready(5, 2)?;
-        self.index.ready()
+        self.slots.ready(4, 1)
     }
 
     /// The value of the slot that the number leads to goes.
     pub fn take_slot(&mut self, number: u32, slot: u32)
         requires holds { HoldsParts T.key self.old }
         requires slot { slot_of number self.old.index.now ≡ Some slot }
-        requires room { MayChange self.old }
+        requires room { MayGo self.old }
         ensures holds { HoldsParts T.key self.new }
         ensures now { values_of self.new ≡ others T.key number (values_of self.old) }
         ensures base { base_of self.new ≡ base_of self.old }
@@ -80,24 +106,18 @@ impl<T: Keyed> Parts<T> {
         self.index.remove(number, slot);
     }
 
-    /// The value of the slot that the number leads to goes, and an item with its number comes last.
-    pub fn renew(&mut self, item: T, number: u32, slot: u32)
-        requires number { number ≡ T.key item }
+    /// The item takes the place of the one that had its number, and comes last.
+    pub fn renew(&mut self, item: T, slot: u32)
         requires holds { HoldsParts T.key self.old }
-        requires slot { slot_of number self.old.index.now ≡ Some slot }
+        requires slot { slot_of (T.key item) self.old.index.now ≡ Some slot }
         requires room { MayChange self.old }
         ensures holds { HoldsParts T.key self.new }
-        ensures now { values_of self.new ≡ others T.key number (values_of self.old) ++ item ∷ [] }
+        ensures now { values_of self.new ≡ others T.key (T.key item) (values_of self.old) ++ item ∷ [] }
         ensures base { base_of self.new ≡ base_of self.old }
         ensures capacity { capacity_of self.new ≡ capacity_of self.old }
     {
         let mut touches = Touches { count: 0 };
-        self.slots.take(slot, false, &mut touches);
-        let came = self.slots.bring(item, false, &mut touches);
-        if came != slot {
-            self.index.remove(number, slot);
-            self.index.insert(number, came);
-        }
+        self.slots.renew(slot, item, &mut touches);
     }
 
     /// The value comes last.

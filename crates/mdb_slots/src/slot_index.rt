@@ -11,6 +11,9 @@ use mdb_base::OutOfMemory;
 use std::alloc::Global;
 use std::marker::Model;
 
+// How many buckets an index has first. So their number is a power of two, and a mask gives the bucket of a number.
+const FIRST_WIDTH: usize = 8;
+
 /// At most one slot for each number. The slots whose numbers have the same bucket are a chain.
 #[derive(Drop)]
 pub struct SlotIndex {
@@ -83,7 +86,7 @@ impl SlotIndex {
         Ok(())
     }
 
-    // More buckets.
+    // Twice as many buckets.
     #[cold]
     #[inline(never)]
     fn widen(&mut self) -> Result<(), OutOfMemory>
@@ -97,8 +100,8 @@ impl SlotIndex {
         if slots > u32::MAX as usize {
             return Err(OutOfMemory);
         }
-        let more = slots + 8;
-        self.buckets.heads.ready(3 * slots + 8)?;
+        let more = self.buckets.heads.as_slice().len().max(FIRST_WIDTH);
+        self.buckets.heads.ready(3 * slots + FIRST_WIDTH)?;
         self.buckets.heads.reserve(more)?;
         self.buckets.entries.ready(slots)?;
         empty(&mut self.buckets.heads);
@@ -107,20 +110,32 @@ impl SlotIndex {
         Ok(())
     }
 
-    /// One number may go and one may come without memory.
+    /// One number may go without memory.
     #[inline]
-    pub fn ready(&mut self) -> Result<(), OutOfMemory>
+    pub fn ready_to_remove(&mut self) -> Result<(), OutOfMemory>
+        ensures now { self.new.now ≡ self.old.now }
+        ensures room { OnOk result (AreWithin (both 1 2) self.new.room) }
+        ensures base { self.new.base ≡ self.old.base }
+        ensures capacity { self.new.capacity ≡ self.old.capacity }
+    {
+        self.buckets.heads.ready(1)?;
+        self.buckets.entries.ready(2)
+    }
+
+    /// One number may come without memory.
+    #[inline]
+    pub fn ready_to_insert(&mut self) -> Result<(), OutOfMemory>
         ensures now { self.new.now ≡ self.old.now }
         ensures width { OnOk result (0 < self.new.width) }
-        ensures room { OnOk result (AreWithin (both 2 3) self.new.room) }
+        ensures room { OnOk result (AreWithin (both 1 1) self.new.room) }
         ensures base { self.new.base ≡ self.old.base }
         ensures capacity { self.new.capacity ≡ self.old.capacity }
     {
         if self.buckets.heads.as_slice().len() <= self.buckets.entries.as_slice().len() {
             self.widen()?;
         }
-        self.buckets.heads.ready(2)?;
-        self.buckets.entries.ready(3)
+        self.buckets.heads.ready(1)?;
+        self.buckets.entries.ready(1)
     }
 
     /// The slot has the number from now on.
@@ -194,7 +209,7 @@ impl SlotIndex {
         ensures now { self.new.now ≡ self.old.now }
         ensures base { numbers_of self.new.base.entries ≡ self.old.now }
     {
-        self.buckets.heads.settle();
-        self.buckets.entries.settle();
+        self.buckets.heads.settle_short();
+        self.buckets.entries.settle_short();
     }
 }

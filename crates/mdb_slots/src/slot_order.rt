@@ -200,6 +200,36 @@ impl SlotOrder {
         lasting(stays, &self.ends, &mut self.was);
     }
 
+    /// The slot is the newest in use from now on. The change can be taken back.
+    pub fn renew(&mut self, at: u32, touches: &mut Touches)
+        requires member { has at self.old.now.used ≡ true }
+        requires room { 3 < self.old.room }
+        requires few { touches.old.count < 2 ^ 64 - 8 }
+        ensures used { self.new.now.used ≡ without at self.old.now.used ++ at ∷ [] }
+        ensures spare { self.new.now.spare ≡ self.old.now.spare }
+        ensures base { self.new.base ≡ self.old.base }
+        ensures capacity { self.new.capacity ≡ self.old.capacity }
+        ensures counts { touches.new.count ≤ touches.old.count + 8 }
+    {
+        let node = node_of(&self.nodes, at, touches);
+        match node.after {
+            Some(_) => {
+                set_after(&mut self.nodes, node.before, node.after, false, touches);
+                set_before(&mut self.nodes, node.after, node.before, false, touches);
+                set_after(&mut self.nodes, self.ends.last, Some(at), false, touches);
+                let newest = Node {
+                    before: self.ends.last,
+                    after: None,
+                    used: true,
+                };
+                write(&mut self.nodes, at, newest, false, touches);
+                self.ends.first = where_none(node.before, node.after, self.ends.first);
+                self.ends.last = Some(at);
+            }
+            None => {}
+        }
+    }
+
     /// The changes go, and what comes back makes them again.
     pub fn turn(&mut self, alloc: Global) -> OrderRedo
         ensures now { self.new.now ≡ order_of self.old.base }

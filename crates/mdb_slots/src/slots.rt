@@ -203,6 +203,21 @@ impl<T: Drop> Slots<T> {
         write(&mut self.cells, at, Some(value), false, touches);
     }
 
+    /// The value takes the place of another, and is the newest. The change can be taken back.
+    pub(crate) fn renew(&mut self, at: u32, value: T, touches: &mut Touches)
+        requires member { has at self.old.order.used ≡ true }
+        requires nodes_room { 3 < self.old.room.order }
+        requires cells_room { 0 < self.old.room.cells }
+        requires few { touches.old.count < 2 ^ 64 - 9 }
+        ensures used { self.new.order.used ≡ without at self.old.order.used ++ at ∷ [] }
+        ensures spare { self.new.order.spare ≡ self.old.order.spare }
+        ensures cells { self.new.cells ≡ slice_set self.old.cells at (Some value) }
+        ensures base { SlotsGoBack self.old self.new }
+    {
+        self.order.renew(at, touches);
+        write(&mut self.cells, at, Some(value), false, touches);
+    }
+
     /// The changes go, and what comes back makes them again.
     pub(crate) fn turn(&mut self, alloc: Global) -> SlotsRedo<T>
         ensures order { self.new.order ≡ order_of self.old.base.order }

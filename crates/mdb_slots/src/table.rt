@@ -124,12 +124,16 @@ impl<T: Keyed> Table<T> {
         ensures capacity { self.new.capacity ≡ self.old.capacity }
     {
         self.changed = true;
-        self.parts.make_slot()?;
-        self.parts.make_room()?;
-        let number = item.key();
-        match self.parts.index.get(number) {
-            Some(slot) => self.parts.renew(item, number, slot),
-            None => self.parts.put_in(item),
+        match self.parts.index.get(item.key()) {
+            Some(slot) => {
+                self.parts.ready_to_renew()?;
+                self.parts.renew(item, slot);
+            }
+            None => {
+                self.parts.make_slot()?;
+                self.parts.ready_to_put()?;
+                self.parts.put_in(item);
+            }
         }
         Ok(())
     }
@@ -158,10 +162,13 @@ impl<T: Keyed> Table<T> {
         ensures base { self.new.base ≡ self.old.base }
         ensures capacity { self.new.capacity ≡ self.old.capacity }
     {
+        if self.len() == 0 {
+            return Ok(());
+        }
         match self.parts.index.get(key) {
             Some(slot) => {
                 self.changed = true;
-                self.parts.make_room()?;
+                self.parts.ready_to_take()?;
                 self.parts.take_slot(key, slot);
             }
             None => {}

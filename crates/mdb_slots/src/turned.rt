@@ -10,6 +10,9 @@ use std::alloc::Global;
 use std::marker::Model;
 use std::mem;
 
+// So many changes a list keeps room for that is changed as a whole now and then.
+const FEW_CHANGES: usize = 64;
+
 /// A list with a log of its changes: it is seen as it is, and as it was when it was last settled. A change that
 /// is to be taken back without memory needs a place in the log, which is made before the change. Where the list
 /// moved to larger storage since, it keeps the one that it had, so that a change is taken back with its memory.
@@ -102,6 +105,7 @@ impl<T: Drop> Turned<T> {
     }
 
     /// So many values may come last without memory, and without a place in the log.
+    #[inline]
     pub fn reserve(&mut self, more: usize) -> Result<(), OutOfMemory>
         ensures now { self.new.now ≡ self.old.now }
         ensures base { self.new.base ≡ self.old.base }
@@ -167,7 +171,7 @@ impl<T: Drop> Turned<T> {
         ensures base { self.new.base ≡ self.old.base }
         ensures capacity { self.new.capacity ≡ self.old.capacity }
     {
-        self.lengthen_log(1)?;
+        self.ready(1)?;
         self.reserve(1)?;
         self.push_ready(value);
         Ok(())
@@ -233,6 +237,20 @@ impl<T: Drop> Turned<T> {
         }
         if self.before.is_some() {
             let_go(&mut self.before);
+        }
+    }
+
+    /// The changes stay, and the log keeps room for few. So a change of the whole list keeps no memory beyond it.
+    #[inline]
+    pub fn settle_short(&mut self)
+        ensures now { self.new.now ≡ self.old.now }
+        ensures base { self.new.base ≡ self.old.now }
+        ensures capacity { self.new.capacity ≡ self.old.reach }
+        ensures reach { self.new.reach ≡ self.old.reach }
+    {
+        self.settle();
+        if FEW_CHANGES < self.log.capacity() {
+            self.log.shrink_to(FEW_CHANGES);
         }
     }
 }
