@@ -167,7 +167,7 @@ impl Auditor {
             return Ok(Some(Why::Opening));
         }
         match &shown.step.act {
-            Act::Open(o) => self.open(o, shown),
+            Act::Open(o) => self.open(o.get(), shown),
             _ => Ok(Some(Why::Opening)),
         }
     }

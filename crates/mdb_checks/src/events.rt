@@ -5,6 +5,7 @@ use crate::page::Page;
 use crate::pool_events::{closed_reason, failed_reason, pool_event, service};
 use crate::server_events::server_event;
 use crate::words::{parted, small};
+use mdb_base::Error;
 use mdb_events::{
     CmapEvent, End, Fact, Held, SdamEvent, closed_reason_text, failed_reason_text, write_cmap,
     write_sdam,
@@ -51,11 +52,29 @@ pub fn event(page: &mut Page, given: &str) {
     tell_of_server(page, name, words);
 }
 
-/// The end of this name.
+// An error that stands apart.
+fn held_down(page: &mut Page) -> Option<Held<Error>> {
+    let error = down(page);
+    match Held::new(page.alloc, error) {
+        Ok(error) => Some(error),
+        Err(_) => {
+            page.fail();
+            None
+        }
+    }
+}
+
+/// The end of this name, and another where there is no memory for its error.
 pub fn made_end(page: &mut Page, word: &str) -> End {
     match word {
-        "Cleared" => End::Cleared(down(page)),
-        "Failed" => End::Failed(down(page)),
+        "Cleared" => match held_down(page) {
+            Some(error) => End::Cleared(error),
+            None => End::GaveUp,
+        },
+        "Failed" => match held_down(page) {
+            Some(error) => End::Failed(error),
+            None => End::GaveUp,
+        },
         "Closed" => End::Closed,
         "Warmed" => End::Warmed,
         "Filled" => End::Filled,
@@ -108,7 +127,7 @@ fn counted(page: &mut Page, name: &str, words: &str) -> Option<Fact> {
     match name {
         "Opened" => Some(Fact::Opened(small(pool), page.address(rest))),
         "Ended" => Some(Fact::Ended(small(pool), made_end(page, rest))),
-        "Raised" => Some(Fact::Raised(small(pool), service(rest), down(page))),
+        "Raised" => Some(Fact::Raised(small(pool), service(rest), held_down(page)?)),
         _ => None,
     }
 }

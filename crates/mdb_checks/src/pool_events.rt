@@ -7,7 +7,7 @@ use mdb_events::{
     CmapEvent, ConnectionCheckedInEvent, ConnectionCheckedOutEvent, ConnectionCheckoutFailedEvent,
     ConnectionCheckoutFailedReason, ConnectionCheckoutStartedEvent, ConnectionClosedEvent,
     ConnectionClosedReason, ConnectionCreatedEvent, ConnectionPoolOptions, ConnectionReadyEvent,
-    PoolClearedEvent, PoolClosedEvent, PoolCreatedEvent, PoolReadyEvent,
+    Held, PoolClearedEvent, PoolClosedEvent, PoolCreatedEvent, PoolReadyEvent,
 };
 
 /// The address that stands first.
@@ -47,21 +47,28 @@ pub fn failed_reason(word: &str) -> ConnectionCheckoutFailedReason {
     }
 }
 
-fn sizes(words: &str) -> Option<ConnectionPoolOptions> {
+fn sizes(page: &mut Page, words: &str) -> Option<Held<ConnectionPoolOptions>> {
     if words.ends_with(" none") {
         return None;
     }
-    Some(ConnectionPoolOptions {
+    let sizes = ConnectionPoolOptions {
         max_idle_time: value_of(words, "idle").parse::<u64>().ok(),
         max_pool_size: value_of(words, "max").parse::<u32>().ok(),
         min_pool_size: value_of(words, "min").parse::<u32>().ok(),
-    })
+    };
+    match Held::new(page.alloc, sizes) {
+        Ok(sizes) => Some(sizes),
+        Err(_) => {
+            page.fail();
+            None
+        }
+    }
 }
 
 fn pool_created(page: &mut Page, words: &str) -> CmapEvent {
     CmapEvent::from(PoolCreatedEvent {
         address: first_address(page, words),
-        options: sizes(words),
+        options: sizes(page, words),
     })
 }
 

@@ -8,7 +8,7 @@ ghost use Rattle.mdb_parts.specs.Reading.{Gives};
 
 use crate::end_kind::{EndKind, end_kind};
 use mdb_base::cut;
-use mdb_events::End;
+use mdb_events::{End, Held};
 use mdb_parts::{LineError, error, error_types, is_error};
 use std::alloc::Global;
 
@@ -18,11 +18,11 @@ fn read_kind(alloc: Global, kind: EndKind, text: &str) -> Result<End, LineError>
     match kind {
         EndKind::Cleared => {
             let error = error(alloc, text)?;
-            Ok(End::Cleared(error))
+            Ok(End::Cleared(Held::new(alloc, error)?))
         }
         EndKind::Failed => {
             let error = error(alloc, text)?;
-            Ok(End::Failed(error))
+            Ok(End::Failed(Held::new(alloc, error)?))
         }
         EndKind::Closed => Ok(End::Closed),
         EndKind::Warmed => Ok(End::Warmed),
@@ -54,8 +54,8 @@ pub fn is_end(end: &End) -> bool
     ensures { result ≡ is_end end.now }
 {
     match end {
-        End::Cleared(error) => is_error(error),
-        End::Failed(error) => is_error(error),
+        End::Cleared(error) => is_error(error.get()),
+        End::Failed(error) => is_error(error.get()),
         _ => true,
     }
 }
@@ -65,8 +65,8 @@ pub fn end_types(end: &End)
     ensures { IsEndOfTypes end.now }
 {
     match end {
-        End::Cleared(error) => error_types(error),
-        End::Failed(error) => error_types(error),
+        End::Cleared(error) => error_types(error.get()),
+        End::Failed(error) => error_types(error.get()),
         _ => {}
     }
 }

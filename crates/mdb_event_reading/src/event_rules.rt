@@ -4,7 +4,7 @@ ghost use Rattle.std.specs.Prelude.{◌≡◌, ◌<◌, ◌^◌, IfSome};
 ghost use Rattle.mdb_event_reading.specs.EventTypes.{is_event, AreSizesOfTypes, IsEventOfTypes};
 
 use mdb_base::Moment;
-use mdb_events::{CmapEvent, ConnectionPoolOptions};
+use mdb_events::{CmapEvent, ConnectionPoolOptions, Held};
 use mdb_parts::number_types::{narrow, optional_id, wide};
 
 /// The address keeps the rules of addresses.
@@ -26,11 +26,12 @@ pub fn is_event(event: &CmapEvent) -> bool
     }
 }
 
-fn sizes(sizes: Option<ConnectionPoolOptions>)
-    ensures { IfSome sizes AreSizesOfTypes }
+fn sizes(sizes: &Option<Held<ConnectionPoolOptions>>)
+    ensures { IfSome sizes.now AreSizesOfTypes }
 {
     match sizes {
         Some(sizes) => {
+            let sizes = sizes.get();
             narrow(sizes.max_pool_size);
             narrow(sizes.min_pool_size);
             wide(sizes.max_idle_time);
@@ -52,7 +53,7 @@ pub fn event_types(event: &CmapEvent)
     ensures { IsEventOfTypes event.now }
 {
     match event {
-        CmapEvent::PoolCreated(e) => sizes(e.options),
+        CmapEvent::PoolCreated(e) => sizes(&e.options),
         CmapEvent::PoolCleared(e) => optional_id(e.service_id),
         CmapEvent::ConnectionCreated(e) => number(e.connection_id),
         CmapEvent::ConnectionReady(e) => {

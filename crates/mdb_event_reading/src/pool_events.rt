@@ -10,7 +10,7 @@ ghost use Rattle.mdb_parts.specs.Reading.{Gives};
 use crate::dashes::{narrow_or_dash, service_or_dash, truth, wide_or_dash};
 use crate::shapes::address_alone;
 use mdb_events::{
-    CmapEvent, ConnectionPoolOptions, PoolClearedEvent, PoolClosedEvent, PoolCreatedEvent,
+    CmapEvent, ConnectionPoolOptions, Held, PoolClearedEvent, PoolClosedEvent, PoolCreatedEvent,
     PoolReadyEvent,
 };
 use mdb_parts::LineError;
@@ -32,14 +32,17 @@ fn sizes(text: &str) -> Result<ConnectionPoolOptions, LineError>
     })
 }
 
-fn sizes_or_dash(text: &str) -> Result<Option<ConnectionPoolOptions>, LineError>
+fn sizes_or_dash(
+    alloc: Global,
+    text: &str,
+) -> Result<Option<Held<ConnectionPoolOptions>>, LineError>
     ensures { (o : Option ConnectionPoolOptions) → IfSome o AreSizesOfTypes → text.now ≡ codes " " ++ options_or_dash o → Gives o result }
 {
     if text == " -" {
         return Ok(None);
     }
     let sizes = sizes(text)?;
-    Ok(Some(sizes))
+    Ok(Some(Held::new(alloc, sizes)?))
 }
 
 /// A pool was made: its address and its sizes.
@@ -48,7 +51,7 @@ pub fn pool_created(alloc: Global, text: &str) -> Result<CmapEvent, LineError>
     ensures { ReadsCreated text.now result }
 {
     let (place, rest) = field(text, " ")?;
-    let options = sizes_or_dash(rest)?;
+    let options = sizes_or_dash(alloc, rest)?;
     let address = address_word(alloc, place)?;
     Ok(CmapEvent::PoolCreated(PoolCreatedEvent { address, options }))
 }

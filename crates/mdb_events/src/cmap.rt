@@ -1,5 +1,6 @@
 //! The events of connection pools, named as in the public standard (CMAP, "Events").
 
+use crate::held::Held;
 use crate::reasons::{ConnectionCheckoutFailedReason, ConnectionClosedReason};
 use mdb_base::{Moment, ObjectId, ServerAddress};
 
@@ -23,7 +24,7 @@ pub struct ConnectionPoolOptions {
 #[derive(Debug, Drop, PartialEq, Eq)]
 pub struct PoolCreatedEvent {
     pub address: ServerAddress,
-    pub options: Option<ConnectionPoolOptions>,
+    pub options: Option<Held<ConnectionPoolOptions>>,
 }
 
 /// A pool may create and hand out connections (CMAP, "PoolReadyEvent").

@@ -37,7 +37,10 @@ impl fmt::Display for PoolCreatedEvent {
     fn fmt<W: fmt::Write>(&self, f: &mut fmt::Formatter<W>) -> fmt::Result {
         let address = &self.address;
         match &self.options {
-            Some(options) => write!(f, "PoolCreated {address} {options}"),
+            Some(options) => {
+                let options = options.get();
+                write!(f, "PoolCreated {address} {options}")
+            }
             None => write!(f, "PoolCreated {address} -"),
         }
     }

@@ -2,6 +2,7 @@
 
 ghost use Rattle.std.specs.Prelude.{◌≡◌};
 
+use crate::held::Held;
 use mdb_base::Error;
 use std::alloc::AllocError;
 use std::fmt;
@@ -10,9 +11,9 @@ use std::fmt;
 #[derive(Debug, Drop, PartialEq, Eq)]
 pub enum End {
     /// Its pool was new or paused when it asked, or was cleared while it waited. Carries the cause.
-    Cleared(Error),
+    Cleared(Held<Error>),
     /// Its connection could not be established. Carries the cause.
-    Failed(Error),
+    Failed(Held<Error>),
     /// Its pool was closed.
     Closed,
     /// A warm request found enough connections.
@@ -49,8 +50,14 @@ impl fmt::Display for End {
 
     fn fmt<W: fmt::Write>(&self, f: &mut fmt::Formatter<W>) -> fmt::Result {
         match self {
-            End::Cleared(error) => write!(f, "Cleared {error}"),
-            End::Failed(error) => write!(f, "Failed {error}"),
+            End::Cleared(error) => {
+                let error = error.get();
+                write!(f, "Cleared {error}")
+            }
+            End::Failed(error) => {
+                let error = error.get();
+                write!(f, "Failed {error}")
+            }
             End::Closed => write!(f, "Closed"),
             End::Warmed => write!(f, "Warmed"),
             End::Filled => write!(f, "Filled"),

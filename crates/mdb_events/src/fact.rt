@@ -20,7 +20,7 @@ pub enum Fact {
     /// The request ended.
     Ended(u32, End),
     /// The generation of the pool, or of one service behind it, was raised by this cause.
-    Raised(u32, Option<ObjectId>, Error),
+    Raised(u32, Option<ObjectId>, Held<Error>),
     /// This event of a server or of the topology was made.
     Sdam(Held<SdamEvent>),
     /// The monitor of the address should check now.
@@ -43,6 +43,7 @@ impl fmt::Display for Fact {
             Fact::Ended(request, end) => write!(f, "Ended {request} {end}"),
             Fact::Raised(pool, service, error) => {
                 let service = ServiceOrDash(*service);
+                let error = error.get();
                 write!(f, "Raised {pool} {service} {error}")
             }
             Fact::Sdam(event) => {

@@ -43,6 +43,16 @@ impl<T: Drop> Held<T> {
     }
 }
 
+impl<T: Clone + Drop> Held<T> {
+    /// Keeps a copy of the value.
+    pub fn copy_of(alloc: Global, value: &T) -> Result<Held<T>, AllocError>
+        ensures { IfOk result (λ held. T.is_clone value.now held) }
+    {
+        let copy = value.clone()?;
+        Held::new(alloc, copy)
+    }
+}
+
 impl<T: Clone> Clone for Held<T> {
     ghost is_clone = { λ s t. T.is_clone s t };
 
@@ -50,4 +60,18 @@ impl<T: Clone> Clone for Held<T> {
         let inner = self.inner.clone()?;
         Ok(Held { inner })
     }
+}
+
+impl<T: PartialEq> PartialEq for Held<T> {
+    ghost eq = { λ x y. T.eq x y };
+
+    ghost laws = { T.laws };
+
+    fn eq(&self, other: &Self) -> bool {
+        *self.get() == *other.get()
+    }
+}
+
+impl<T: Eq> Eq for Held<T> {
+    ghost laws = { T.Eq.laws };
 }

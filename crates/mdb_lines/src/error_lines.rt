@@ -16,6 +16,7 @@ ghost use Rattle.mdb_lines.specs.Types.{IsFailedAtOfTypes};
 ghost use Rattle.mdb_lines.specs.Forms.{ReadsError, ReadsFailed};
 
 use mdb_base::{Error, ObjectId, cut};
+use mdb_events::Held;
 use mdb_log::{Act, FailedAt, Step};
 use mdb_parts::fields::{u32_field, u64_field};
 use mdb_parts::values::id_word;
@@ -31,7 +32,7 @@ pub fn met(alloc: Global, text: &str) -> Result<Step, LineError>
     let (moment, rest) = u64_field(text, " ")?;
     let (party, rest) = u32_field(rest, " ")?;
     let error = error(alloc, rest)?;
-    let act = Act::Error(party, error);
+    let act = Act::Error(party, Held::new(alloc, error)?);
     Ok(Step { moment, act })
 }
 
@@ -82,6 +83,6 @@ pub fn failed(alloc: Global, text: &str) -> Result<Step, LineError>
     let (pool, rest) = u32_field(rest, " ")?;
     let (id, rest) = u32_field(rest, " ")?;
     let (at, error) = failure(alloc, rest)?;
-    let act = Act::Failed(pool, id, at, error);
+    let act = Act::Failed(pool, id, at, Held::new(alloc, error)?);
     Ok(Step { moment, act })
 }

@@ -135,7 +135,7 @@ impl fmt::Display for LineText<'_> {
         let m = self.0;
         match self.1 {
             Act::Open(o) => {
-                let open = OpenText(o);
+                let open = OpenText(o.get());
                 write!(f, "{open}")
             }
             Act::Request(r, address) => write!(f, "request {m} {r} {address}"),
@@ -148,7 +148,7 @@ impl fmt::Display for LineText<'_> {
                 write!(f, "established {m} {p} {made}")
             }
             Act::Failed(p, c, at, e) => {
-                let lost = Lost(*c, *at, e);
+                let lost = Lost(*c, *at, e.get());
                 write!(f, "failed {m} {p} {lost}")
             }
             Act::Return(r, used) => {
@@ -164,7 +164,10 @@ impl fmt::Display for LineText<'_> {
             Act::Unpin(p, c) => write!(f, "unpin {m} {p} {c}"),
             Act::Maintain(address) => write!(f, "maintain {m} {address}"),
             Act::Expire(address) => write!(f, "expire {m} {address}"),
-            Act::Error(r, error) => write!(f, "error {m} {r} {error}"),
+            Act::Error(r, error) => {
+                let error = error.get();
+                write!(f, "error {m} {r} {error}")
+            }
             act => {
                 let line = TopologyText(m, act);
                 write!(f, "{line}")

@@ -21,7 +21,10 @@ impl fmt::Display for HelloText<'_> {
                 let fields = ReplyText(reply.get(), false);
                 write!(f, " ok rtt={rtt}{fields}")
             }
-            HelloResult::Err(error) => write!(f, " err {error}"),
+            HelloResult::Err(error) => {
+                let error = error.get();
+                write!(f, " err {error}")
+            }
         }
     }
 }
@@ -59,8 +62,14 @@ impl fmt::Display for BeatenText<'_> {
                 let fields = ReplyText(reply.get(), *more);
                 write!(f, " ok{fields}")
             }
-            BeatenResult::Err(error) => write!(f, " err {error}"),
-            BeatenResult::Cancelled(error) => write!(f, " cancelled {error}"),
+            BeatenResult::Err(error) => {
+                let error = error.get();
+                write!(f, " err {error}")
+            }
+            BeatenResult::Cancelled(error) => {
+                let error = error.get();
+                write!(f, " cancelled {error}")
+            }
         }
     }
 }

@@ -38,7 +38,7 @@ fn unanswered(alloc: Global, text: &str) -> Result<HelloResult, LineError>
 {
     let rest = last(text, " err")?;
     let error = error(alloc, rest)?;
-    Ok(HelloResult::Err(error))
+    Ok(HelloResult::Err(Held::new(alloc, error)?))
 }
 
 /// What a hello came to.
@@ -63,7 +63,7 @@ fn failed(alloc: Global, text: &str) -> Result<BeatenResult, LineError>
     ensures { (e : Error) → IsErrorOfTypes e → is_error e ≡ true → text.now ≡ codes " " ++ error_text e → Gives (beaten.Err e) result }
 {
     let error = error(alloc, text)?;
-    Ok(BeatenResult::Err(error))
+    Ok(BeatenResult::Err(Held::new(alloc, error)?))
 }
 
 fn cancelled(alloc: Global, text: &str) -> Result<BeatenResult, LineError>
@@ -71,7 +71,7 @@ fn cancelled(alloc: Global, text: &str) -> Result<BeatenResult, LineError>
 {
     let rest = last(text, " cancelled")?;
     let error = error(alloc, rest)?;
-    Ok(BeatenResult::Cancelled(error))
+    Ok(BeatenResult::Cancelled(Held::new(alloc, error)?))
 }
 
 /// What a check came to.

@@ -78,7 +78,7 @@ fn is_hello(alloc: Global, came: &HelloResult) -> Result<bool, OutOfMemory>
 {
     match came {
         HelloResult::Ok(_, reply) => is_reply(alloc, reply.get()),
-        HelloResult::Err(error) => Ok(is_error(error)),
+        HelloResult::Err(error) => Ok(is_error(error.get())),
     }
 }
 
@@ -87,8 +87,8 @@ fn is_beaten(alloc: Global, came: &BeatenResult) -> Result<bool, OutOfMemory>
 {
     match came {
         BeatenResult::Ok(reply, _) => is_reply(alloc, reply.get()),
-        BeatenResult::Err(error) => Ok(is_error(error)),
-        BeatenResult::Cancelled(error) => Ok(is_error(error)),
+        BeatenResult::Err(error) => Ok(is_error(error.get())),
+        BeatenResult::Cancelled(error) => Ok(is_error(error.get())),
     }
 }
 
@@ -120,7 +120,7 @@ pub fn keeps_rules(alloc: Global, step: &Step) -> Result<bool, OutOfMemory>
     ensures { IfOk result (λ keeps. keeps ≡ is_step step.now) }
 {
     match &step.act {
-        Act::Open(o) => Ok(step.moment == 0 && are_options(o)),
+        Act::Open(o) => Ok(step.moment == 0 && are_options(o.get())),
         Act::Request(_, address) => Ok(address.is_regular()),
         Act::Warm(_, address) => Ok(address.is_regular()),
         Act::Collect(_) => Ok(true),
@@ -134,8 +134,8 @@ pub fn keeps_rules(alloc: Global, step: &Step) -> Result<bool, OutOfMemory>
         Act::Unpin(_, _) => Ok(true),
         Act::Maintain(address) => Ok(address.is_regular()),
         Act::Expire(address) => Ok(address.is_regular()),
-        Act::Failed(_, _, _, error) => Ok(is_error(error)),
-        Act::Error(_, error) => Ok(is_error(error)),
+        Act::Failed(_, _, _, error) => Ok(is_error(error.get())),
+        Act::Error(_, error) => Ok(is_error(error.get())),
         act => keeps_topology_rules(alloc, act),
     }
 }

@@ -50,7 +50,7 @@ fn hello_types(came: &HelloResult)
             let _number = *rtt;
             reply_types(reply.get());
         }
-        HelloResult::Err(e) => error_types(e),
+        HelloResult::Err(e) => error_types(e.get()),
     }
 }
 
@@ -59,8 +59,8 @@ fn beaten_types(came: &BeatenResult)
 {
     match came {
         BeatenResult::Ok(reply, _) => reply_types(reply.get()),
-        BeatenResult::Err(e) => error_types(e),
-        BeatenResult::Cancelled(e) => error_types(e),
+        BeatenResult::Err(e) => error_types(e.get()),
+        BeatenResult::Cancelled(e) => error_types(e.get()),
     }
 }
 
@@ -107,7 +107,7 @@ pub fn step_types(step: &Step)
 {
     let _moment = step.moment;
     match &step.act {
-        Act::Open(o) => options(o),
+        Act::Open(o) => options(o.get()),
         Act::Request(r, _) => number(r),
         Act::Warm(r, _) => number(r),
         Act::Collect(r) => number(r),
@@ -119,11 +119,11 @@ pub fn step_types(step: &Step)
         Act::Failed(p, c, at, e) => {
             let _numbers = (*p, *c);
             failed_at(*at);
-            error_types(e);
+            error_types(e.get());
         }
         Act::Error(r, e) => {
             number(r);
-            error_types(e);
+            error_types(e.get());
         }
         Act::Return(r, _) => number(r),
         Act::Pin(r) => number(r),

@@ -12,7 +12,7 @@ use std::alloc::AllocError;
 pub enum HelloResult {
     /// The round trip, and the reply.
     Ok(Nanos, Held<HelloCommandResponse>),
-    Err(Error),
+    Err(Held<Error>),
 }
 
 impl Clone for HelloResult {
@@ -31,9 +31,9 @@ impl Clone for HelloResult {
 pub enum BeatenResult {
     /// The reply, and whether the server sends more replies unasked.
     Ok(Held<HelloCommandResponse>, bool),
-    Err(Error),
+    Err(Held<Error>),
     /// The check was cancelled by this cause.
-    Cancelled(Error),
+    Cancelled(Held<Error>),
 }
 
 impl Clone for BeatenResult {

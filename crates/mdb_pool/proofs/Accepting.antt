@@ -95,6 +95,10 @@ module _ (s : PoolCore) (step : Step) (none : refusal_now s step ≡ None) where
 is-here : (q p : ℕ) → (q == p) ≡ true → q ≡ p
 is-here q p e = grind (arith, e)
 
+-- a failure with the same cause
+pub as-failed : {act : Act} {q c : ℕ} {at : FailedAt} {error cause : Error} → act ≡ Failed q c at error → cause ≡ error → act ≡ Failed q c at cause
+as-failed {act} {q} {c} {at} is e = is ∙ ap (Failed q c at) (sym e)
+
 -- what a call does for its act, the step does
 module _ (s t : PoolCore) (before after : List Fact) {E : Type 0} (result : Result Reply E) (step : Step) where
   as-does : {act : Act} {ys : List PoolItem → List PoolItem} → step.act ≡ act → ((xs : List PoolItem) → Fits s xs → with_item s.pool step.moment act xs ≡ ys xs)

@@ -1,5 +1,5 @@
 -- An accepted step, done on the pool's items, is the answer of its history; and so are steps one after another.
-use Rattle.std.proofs.Common.{ℕ, ◌≡◌, List, [], ◌∷◌, ◌++◌, Some, None, refl, sym, ◌∙◌, ap, subst, nat_lt}
+use Rattle.std.proofs.Common.{ℕ, ◌≡◌, List, [], ◌∷◌, ◌++◌, Some, None, Result, Ok, Err, OnErr, refl, sym, ◌∙◌, ap, subst, nat_lt}
 use Rattle.mdb_base.specs.declared.address.ServerAddress.{ServerAddress}
 use Rattle.mdb_events.specs.declared.fact.Fact.{Fact}
 use Rattle.mdb_log.specs.declared.options.PoolOptions.{PoolOptions}
@@ -21,6 +21,11 @@ use Rattle.mdb_pool.specs.Parts.{Does, DoesOne, DoesAll, IsPrepared, Passes, ans
 use Rattle.mdb_pool.proofs.Acts.{own-answers, refuses}
 use Rattle.mdb_pool.proofs.Items.{first-passes, names-item, asks-item, item-is}
 use Rattle.mdb_pool.proofs.Refusals.{refused-now}
+
+-- what holds anyway holds where there is an error
+pub on-error : {T E : Type 0} (r : Result T E) {P : Type 0} → P → OnErr r P
+on-error (Ok v) p = tt
+on-error (Err e) p = p
 
 module _ (s : PoolCore) (step : Step) (none : refusal_now s step ≡ None) where
   rows : first_row (rows_now s step.act) ≡ None

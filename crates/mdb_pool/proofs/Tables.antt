@@ -1,7 +1,8 @@
 -- Lists of values that are named by a number.
-use Rattle.std.proofs.Common.{ℕ, ◌≡◌, ◌+◌, Bool, true, false, ◌==◌, List, [], ◌∷◌, ◌++◌, length, map, filter, find, Option, Some, None, is_some, refl, sym, ◌∙◌, ap, subst, ◌<◌, ◌≤◌, arith, if◌then◌else◌, not}
+use Rattle.std.proofs.Common.{ℕ, ◌≡◌, ◌+◌, Bool, true, false, ◌==◌, List, [], ◌∷◌, ◌++◌, length, map, filter, find, Option, Some, None, is_some, refl, sym, ◌∙◌, ap, subst, ◌<◌, ◌≤◌, arith, if◌then◌else◌, not, ◌&&◌}
 use Rattle.std.specs.Prelude.{count_by}
 use Rattle.std.proofs.lemmas.Grind.{common_steps}
+use Rattle.std.proofs.lemmas.List.Folds.{find-append}
 use Rattle.mdb_slots.specs.Keyed.{entry_at, others, put, swap}
 use Rattle.mdb_log.specs.History.{without}
 use Rattle.mdb_log.specs.Connections.{has, one_if}
@@ -163,6 +164,22 @@ module _ {T : Type 0} (key : T → ℕ) where
   others-swap x [] = refl
   others-swap x (y ∷ ys) = grind (arith, common_steps, others-swap x ys)
 
+  swap-absent : (x : T) (xs : List T) → swap key x (others key (key x) xs) ≡ others key (key x) xs
+  swap-absent x [] = refl
+  swap-absent x (y ∷ ys) = grind (arith, common_steps, swap-absent x ys)
+
+  swap-append : (x y : T) (xs : List T) → swap key y (xs ++ x ∷ []) ≡ swap key y xs ++ (if key x == key y then y else x) ∷ []
+  swap-append x y [] = refl
+  swap-append x y (z ∷ zs) = grind (arith, common_steps, swap-append x y zs)
+
+  -- a value takes the place of the one that was put last
+  pub swap-put : (x y : T) (xs : List T) → key y ≡ key x → swap key y (put key x xs) ≡ put key y xs
+  swap-put x y xs e = rw (← e) (grind (arith, common_steps, swap-append x y (others key (key y) xs), swap-absent y xs))
+
+  -- what is put is found first where nothing else meets the test
+  pub find-put : (p : T → Bool) (x : T) (xs : List T) → entry_at key (key x) xs ≡ None → find p xs ≡ None → find p (put key x xs) ≡ if p x then Some x else None
+  find-put p x xs new none = rw (others-absent (key x) xs new) (find-append p xs (x ∷ []) ∙ rw none refl)
+
   -- a member that passes the test is in that part
   pub member-has : (p : T → Bool) (x : T) (xs : List T) → In x xs → p x ≡ true → has (key x) (map key (filter p xs)) ≡ true
   member-has p x [] i e = elim i [ ]
@@ -180,6 +197,11 @@ module _ {T : Type 0} (key : T → ℕ) where
 pub one_if-le : (b : Bool) → one_if b ≤ 1
 one_if-le true = omega arith
 one_if-le false = omega arith
+
+-- what meets two tests is not found where nothing meets the first
+pub find-narrow : {T : Type 0} (p q : T → Bool) (xs : List T) → find p xs ≡ None → find (λ x. p x && q x) xs ≡ None
+find-narrow p q [] e = refl
+find-narrow p q (x ∷ xs) e = grind (arith, common_steps, find-narrow p q xs)
 
 pub find-member : {T : Type 0} (p : T → Bool) (x : T) (xs : List T) → find p xs ≡ Some x → In x xs × (p x ≡ true)
 find-member p x [] e = cc

@@ -89,10 +89,23 @@ warming s m q = if wants_now s then creating s m q else ending s q Warmed
 abbrev pub warming_facts : PoolCore → Request → List Fact
 warming_facts s q = if wants_now s then (created_fact s.pool s.address (s.created + 1) ∷ Granted q.number s.pool (s.created + 1) ∷ []) else (Ended q.number Warmed ∷ [])
 
+-- the connection where the request's caller has it
+abbrev pub handed : PoolCore → Connection → ℕ → Connection
+handed s x r = record x { place = Held; party = Some r; holder = Some r; timeouts = timeouts_in s.clears }
+
 abbrev pub granting : PoolCore → Connection → Request → PoolCore
 granting s x q = record s {
-  connections = put (λ x. x.id) (record x { place = Held; party = Some q.number; holder = Some q.number; timeouts = timeouts_in s.clears }) s.connections;
+  connections = put (λ x. x.id) (handed s x q.number) s.connections;
   requests = swap (λ q. q.number) (record q { phase = Given x.id }) s.requests;
+}
+
+-- a new caller gets an available connection at once, and is told so
+abbrev pub granting_at_once : PoolCore → ℕ → ℕ → Connection → PoolCore
+granting_at_once s m r x = record s {
+  last = m;
+  connections = put (λ y. y.id) (handed s x r) s.connections;
+  requests = put (λ q. q.number) (record { number = r; asked_at = m; warm = false; took = false; phase = Given x.id }) s.requests;
+  settled = marked r s.settled;
 }
 
 -- a connection is closed, and nobody has it

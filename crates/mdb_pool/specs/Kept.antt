@@ -299,6 +299,14 @@ perished_now s m x =
     else (if idle_since s.options.max_idle_time m x.since then Some Idle
     else None)
 
+-- the available connection that a new caller gets at once: the pool is ready, nobody waits in it, and the one that came back last has not perished
+abbrev pub ready_connection : PoolCore → ℕ → Option Connection
+ready_connection s m = if is_ready_now s.status && not (is_some (first_queued s)) then if_fresh (last_available s) else None
+  where
+    if_fresh : Option Connection → Option Connection
+    if_fresh None = None
+    if_fresh (Some x) = if is_some (perished_now s m x) then None else Some x
+
 -- the available connection that came back first among those that have perished
 abbrev pub first_perished : PoolCore → ℕ → Option Connection
 first_perished s m = find (λ x. is_available x.place && is_some (perished_now s m x)) s.connections

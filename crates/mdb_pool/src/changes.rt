@@ -11,7 +11,7 @@ use super::{Established, Reply};
 use mdb_base::{Error, ErrorKind, Items, Moment, OutOfMemory, Text};
 use mdb_events::{
     CmapEvent, ConnectionCheckedOutEvent, ConnectionCheckoutStartedEvent, ConnectionClosedReason,
-    ConnectionCreatedEvent, ConnectionReadyEvent, End, Fact,
+    ConnectionCreatedEvent, ConnectionReadyEvent, End, Fact, Held,
 };
 use std::alloc::{AllocError, Global};
 
@@ -29,10 +29,10 @@ pub(super) fn new_pool_error(alloc: Global) -> Result<Error, AllocError>
 }
 
 impl Draft {
-    ghost use Rattle.mdb_slots.specs.Keyed.{swap};
+    ghost use Rattle.mdb_slots.specs.Keyed.{put, swap};
     ghost use Rattle.mdb_pool.specs.Places.{is_queued};
     ghost use Rattle.mdb_pool.specs.Kept.{outcome_now};
-    ghost use Rattle.mdb_pool.specs.Changes.{asking, away, away_end, away_facts, discarding, creating, spawning, ending, granting, establishing, telling};
+    ghost use Rattle.mdb_pool.specs.Changes.{asking, away, away_end, away_facts, discarding, creating, spawning, ending, granting, establishing, telling, handed};
     ghost use Rattle.mdb_events.specs.declared.fact.Fact.TheVariants.{Pool, Granted, Ended};
     ghost use Rattle.mdb_events.specs.declared.cmap.CmapEvent.TheVariants.{ConnectionCreated, ConnectionCheckedOut};
 
@@ -92,6 +92,18 @@ impl Draft {
         Ok(())
     }
 
+    // A caller's request has begun.
+    pub(super) fn push_started(&self, facts: &mut Vec<Fact>) -> Result<(), OutOfMemory>
+        ensures { OnOk result (facts.new.items ≡ facts.old.items ++ started_fact self.now.pool self.now.address ∷ []) }
+    {
+        let address = self.address().clone()?;
+        facts.push(Fact::Pool(
+            self.number(),
+            CmapEvent::ConnectionCheckoutStarted(ConnectionCheckoutStartedEvent { address }),
+        ))?;
+        Ok(())
+    }
+
     // A new caller comes last.
     pub(super) fn ask(
         &mut self,
@@ -104,12 +116,8 @@ impl Draft {
         ensures facts { OnOk result (facts.new.items ≡ facts.old.items ++ started_fact self.old.pool self.old.address ∷ []) }
         ensures inner { self.new.inner ≡ self.old.inner }
     {
-        let address = self.address().clone()?;
         self.enqueue(alloc, moment, request, false)?;
-        facts.push(Fact::Pool(
-            self.number(),
-            CmapEvent::ConnectionCheckoutStarted(ConnectionCheckoutStartedEvent { address }),
-        ))?;
+        self.push_started(facts)?;
         Ok(())
     }
 
@@ -120,12 +128,9 @@ impl Draft {
         match self.status() {
             Status::New => {
                 let error = new_pool_error(alloc)?;
-                Ok(Some(End::Cleared(error)))
+                Ok(Some(End::Cleared(Held::new(alloc, error)?)))
             }
-            Status::Paused(cause) => {
-                let error = cause.clone()?;
-                Ok(Some(End::Cleared(error)))
-            }
+            Status::Paused(cause) => { Ok(Some(End::Cleared(Held::copy_of(alloc, cause)?))) }
             _ => Ok(None),
         }
     }
@@ -286,6 +291,35 @@ impl Draft {
         Ok(())
     }
 
+    // The request's caller has an available connection.
+    pub(super) fn hand(
+        &mut self,
+        alloc: Global,
+        facts: &mut Vec<Fact>,
+        connection: Connection,
+        number: u32,
+        waited: Moment,
+    ) -> Result<(), OutOfMemory>
+        ensures core { OnOk result (self.new ≡ record self.old { connections = put (λ x. x.id) (handed self.old connection number) self.old.connections }) }
+        ensures facts { OnOk result (facts.new.items ≡ facts.old.items ++ Granted number self.old.pool connection.id ∷ checked_out_fact self.old.pool self.old.address connection.id waited ∷ []) }
+        ensures inner { self.new.inner ≡ self.old.inner }
+    {
+        let timeouts = self.timeouts();
+        self.put_connection(
+            alloc,
+            Connection {
+                place: Place::Held,
+                party: Some(number),
+                holder: Some(number),
+                timeouts,
+                ..connection
+            },
+        )?;
+        facts.push(Fact::Granted(number, self.number(), connection.id))?;
+        self.push_checked_out(facts, connection.id, waited)?;
+        Ok(())
+    }
+
     // The request gets an available connection.
     pub(super) fn grant(
         &mut self,
@@ -301,21 +335,8 @@ impl Draft {
     {
         let number = request.number;
         let waited = moment.saturating_sub(request.asked_at);
-        let timeouts = self.timeouts();
         self.enter_phase(alloc, request, Phase::Given(connection.id))?;
-        self.put_connection(
-            alloc,
-            Connection {
-                place: Place::Held,
-                party: Some(number),
-                holder: Some(number),
-                timeouts,
-                ..connection
-            },
-        )?;
-        facts.push(Fact::Granted(number, self.number(), connection.id))?;
-        self.push_checked_out(facts, connection.id, waited)?;
-        Ok(())
+        self.hand(alloc, facts, connection, number, waited)
     }
 
     // An available connection that has perished is closed.

@@ -8,7 +8,7 @@ use super::request::{Phase, Request};
 use super::status::{Clear, Status};
 use super::{Act, Reply, Step, What};
 use mdb_base::{Error, Moment, ObjectId, OutOfMemory};
-use mdb_events::{CmapEvent, End, Fact, PoolClearedEvent};
+use mdb_events::{CmapEvent, End, Fact, Held, PoolClearedEvent};
 use std::alloc::Global;
 
 impl Draft {
@@ -37,9 +37,9 @@ impl Draft {
     {
         let (number, warm) = (request.number, request.warm);
         let waited = moment.saturating_sub(request.asked_at);
-        let kept = cause.clone()?;
+        let kept = Held::copy_of(alloc, cause)?;
         self.enter_phase(alloc, request, Phase::Ended(End::Cleared(kept)))?;
-        let told = cause.clone()?;
+        let told = Held::copy_of(alloc, cause)?;
         self.push_end(facts, number, warm, waited, End::Cleared(told))?;
         Ok(())
     }
@@ -68,6 +68,7 @@ impl Draft {
     // The pool, or a service of it, is cleared.
     fn raise(
         &mut self,
+        alloc: Global,
         facts: &mut Vec<Fact>,
         moment: Moment,
         service: Option<ObjectId>,
@@ -77,7 +78,7 @@ impl Draft {
         ensures facts { OnOk result (facts.new.items ≡ facts.old.items ++ Raised self.old.pool service cause.now ∷ []) }
         ensures inner { self.new.inner ≡ self.old.inner }
     {
-        let told = cause.clone()?;
+        let told = Held::copy_of(alloc, cause)?;
         facts.push(Fact::Raised(self.number(), service, told))?;
         self.push_clear(Clear {
             service,
@@ -127,7 +128,7 @@ impl Draft {
         ensures moves { OnOk result ((xs : List PoolItem) → Fits self.old xs → Clears self.old self.new moment None cause.now facts.old.items facts.new.items xs) }
         ensures inner { self.new.inner ≡ self.old.inner }
     {
-        self.raise(facts, moment, None, cause)?;
+        self.raise(alloc, facts, moment, None, cause)?;
         self.push_cleared(facts, None, cause)?;
         self.end_queue(alloc, facts, moment, cause)?;
         Ok(())
@@ -149,7 +150,7 @@ impl Draft {
         ensures inner { self.new.inner ≡ self.old.inner }
     {
         if service.is_some() {
-            self.raise(facts, moment, service, cause)?;
+            self.raise(alloc, facts, moment, service, cause)?;
             self.push_cleared(facts, service, cause)?;
             return Ok(());
         }
@@ -157,7 +158,7 @@ impl Draft {
             self.clear_ready(alloc, facts, moment, cause)?;
             return Ok(());
         }
-        self.raise(facts, moment, None, cause)?;
+        self.raise(alloc, facts, moment, None, cause)?;
         Ok(())
     }
 
@@ -216,6 +217,10 @@ impl PoolCore {
         ensures err_facts { OnErr result (facts.new.items ≡ facts.old.items) }
         ensures passes { OnErr result (Passes self.old (record { moment = moment; act = ClearAct self.old.pool service cause })) }
     {
+        if let Some(why) = self.draft.body.clearing_refusal(moment, service) {
+            return Ok(Reply::Refused(why));
+        }
+        let cause = Held::new(alloc, cause)?;
         let step = Step {
             moment,
             act: Act::Clear(self.draft.body.pool, service, cause),

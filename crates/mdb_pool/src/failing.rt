@@ -11,7 +11,7 @@ use super::{Act, FailedAt, Reply, Step};
 use mdb_base::{Error, Moment, OutOfMemory};
 use mdb_events::{
     CmapEvent, ConnectionCheckoutFailedEvent, ConnectionCheckoutFailedReason,
-    ConnectionClosedReason, End, Fact,
+    ConnectionClosedReason, End, Fact, Held,
 };
 use std::alloc::Global;
 
@@ -80,10 +80,10 @@ impl Draft {
     {
         let (number, warm) = (request.number, request.warm);
         let waited = moment.saturating_sub(request.asked_at);
-        let kept = cause.clone()?;
+        let kept = Held::copy_of(alloc, cause)?;
         self.enter_phase(alloc, request, Phase::Ended(End::Failed(kept)))?;
         self.push_close(facts, connection, ConnectionClosedReason::Error)?;
-        let told = cause.clone()?;
+        let told = Held::copy_of(alloc, cause)?;
         self.push_end(facts, number, warm, waited, End::Failed(told))?;
         self.set_last(moment);
         self.remove_connection(alloc, connection.id)?;
@@ -168,6 +168,10 @@ impl PoolCore {
         ensures err_facts { OnErr result (facts.new.items ≡ facts.old.items) }
         ensures passes { OnErr result (Passes self.old (record { moment = moment; act = FailedAct self.old.pool id at error })) }
     {
+        if let Some(why) = self.draft.body.failing_refusal(moment, id, at) {
+            return Ok(Reply::Refused(why));
+        }
+        let error = Held::new(alloc, error)?;
         let step = Step {
             moment,
             act: Act::Failed(self.draft.body.pool, id, at, error),

@@ -200,6 +200,24 @@ impl Body {
         self.refusal_at(moment, self.request_refusal(request, &self.address))
     }
 
+    // Why the failure of a connection of this pool is refused.
+    pub(super) fn failing_refusal(&self, moment: Moment, id: u32, at: FailedAt) -> Option<Refused>
+        ensures { (error : Error) → result ≡ if nat_lt moment self.now.last.now then Some (TimeBack self.now.last.now) else first_row (rows_now (now_of self.now) (FailedAct self.now.pool id at error)) }
+    {
+        self.refusal_at(moment, self.failed_refusal(self.pool, id, at))
+    }
+
+    // Why a clear of this pool is refused.
+    pub(super) fn clearing_refusal(
+        &self,
+        moment: Moment,
+        service: Option<ObjectId>,
+    ) -> Option<Refused>
+        ensures { (pool : ℕ) (error : Error) → result ≡ if nat_lt moment self.now.last.now then Some (TimeBack self.now.last.now) else first_row (rows_now (now_of self.now) (Clear pool service error)) }
+    {
+        self.refusal_at(moment, self.clear_refusal(service))
+    }
+
     // Why a step that names the pool's own address alone is refused.
     pub(super) fn home_refusal(&self, moment: Moment) -> Option<Refused>
         ensures { result ≡ if nat_lt moment self.now.last.now then Some (TimeBack self.now.last.now) else first_row (rows_now (now_of self.now) (Maintain self.now.address)) }

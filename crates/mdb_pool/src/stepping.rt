@@ -10,6 +10,16 @@ use mdb_base::{Items, OutOfMemory};
 use mdb_events::Fact;
 use std::alloc::{AllocError, Global};
 
+// How many facts the act makes as a rule.
+fn usual_facts(act: &Act) -> usize {
+    match act {
+        Act::Request(_, _) => 3,
+        Act::Established(_, _, _) => 2,
+        Act::Collect(_) | Act::Claim => 0,
+        _ => 1,
+    }
+}
+
 // One more entry, of a copy of the step. Its facts keep no memory beyond their own.
 fn log_step(
     log: &mut Log,
@@ -76,7 +86,7 @@ impl Draft {
                 self.accept_established(alloc, facts, moment, *id, *made)
             }
             Act::Failed(_, id, at, cause) => {
-                self.accept_failed(alloc, facts, moment, *id, *at, cause)
+                self.accept_failed(alloc, facts, moment, *id, *at, cause.get())
             }
             Act::Return(party, used) => self.accept_return(alloc, facts, moment, *party, *used),
             Act::Pin(party) => self.accept_pin(alloc, facts, moment, *party),
@@ -85,7 +95,7 @@ impl Draft {
             Act::Unpin(_, id) => self.accept_unpin(alloc, facts, moment, *id),
             Act::Ready(pool) => self.accept_ready(alloc, facts, moment, *pool),
             Act::Clear(pool, service, cause) => {
-                self.accept_clear(alloc, facts, moment, *pool, *service, cause)
+                self.accept_clear(alloc, facts, moment, *pool, *service, cause.get())
             }
             Act::Close(pool) => self.accept_close(alloc, facts, moment, *pool),
             Act::Warm(request, _) => self.accept_warm(alloc, facts, moment, *request),
@@ -152,7 +162,7 @@ impl Draft {
         ensures err { OnErr result (log.new ≡ log.old) }
         ensures inner { self.new.inner ≡ self.old.inner }
     {
-        let mut facts = Vec::new(alloc);
+        let mut facts = Vec::with_capacity(alloc, usual_facts(&step.act))?;
         let reply = self.perform(alloc, &mut facts, step)?;
         log_step(log, seat, step, reply, facts)?;
         Ok(())

@@ -74,7 +74,7 @@ fn fact_types(fact: &Fact)
         Fact::Raised(pool, service, error) => {
             number(*pool);
             optional_id(*service);
-            error_types(error);
+            error_types(error.get());
         }
         Fact::Sdam(event) => sdam_types(event.get()),
         _ => {}

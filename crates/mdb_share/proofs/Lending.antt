@@ -50,7 +50,7 @@ beaten : IsSync BeatenResult.the_field.row
 beaten = search (response, rules) depth 20
 
 act : IsSync Act.the_field.row
-act = enum_sync (variants Act.the_type) ((options, tt), ((number, (address, tt)), ((number, (address, tt)), ((number, tt), (tt, ((number, tt), ((number, (number, (established, tt))), ((number, (number, (failed_at, (error, tt)))), ((number, (used, tt)), ((number, tt), ((number, (number, tt)), ((number, (number, (number, tt))), ((number, (number, tt)), ((number, (error, tt)), ((address, (number, (hello, tt))), ((address, (number, tt)), ((address, (number, (duration, (beaten, tt)))), ((address, (number, (duration, tt))), ((search rules depth 20, tt), ((search rules depth 20, tt), ((number, tt), ((number, tt), (tt, ((address, tt), ((address, tt), ((number, tt), ((number, (search rules depth 20, (error, tt))), ((number, tt), tt))))))))))))))))))))))))))))
+act = enum_sync (variants Act.the_type) ((search (options, rules) depth 20, tt), ((number, (address, tt)), ((number, (address, tt)), ((number, tt), (tt, ((number, tt), ((number, (number, (established, tt))), ((number, (number, (failed_at, (search rules depth 20, tt)))), ((number, (used, tt)), ((number, tt), ((number, (number, tt)), ((number, (number, (number, tt))), ((number, (number, tt)), ((number, (search rules depth 20, tt)), ((address, (number, (hello, tt))), ((address, (number, tt)), ((address, (number, (duration, (beaten, tt)))), ((address, (number, (duration, tt))), ((search rules depth 20, tt), ((search rules depth 20, tt), ((number, tt), ((number, tt), (tt, ((address, tt), ((address, tt), ((number, tt), ((number, (search rules depth 20, (search rules depth 20, tt))), ((number, tt), tt))))))))))))))))))))))))))))
 
 pub step : IsSync Step.the_field.row
 step = struct_sync (shape Step.the_type) (duration, (act, tt))

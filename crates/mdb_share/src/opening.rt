@@ -19,7 +19,7 @@ pub(super) fn open(alloc: Global, first: &Step) -> Result<(TopologyCore, Log), O
     let Act::Open(options) = &first.act else {
         unreachable!()
     };
-    let options = options.clone()?;
+    let options = options.get().clone()?;
     let mut log = Log::new(alloc);
     let core = TopologyCore::open_seeds(alloc, &mut log, 0, options)?;
     Ok((core, log))

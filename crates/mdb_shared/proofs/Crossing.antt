@@ -92,7 +92,7 @@ sdam : IsSend Sdam.the_field.row
 sdam = enum_send (variants Sdam.the_type) ((server_changed, tt), ((opening, tt), ((closed, tt), ((topology_changed, tt), ((topology_opening, tt), ((topology_closed, tt), ((started, tt), ((checked, tt), ((failed, tt), tt)))))))))
 
 fact : IsSend Fact.the_field.row
-fact = enum_send (variants Fact.the_type) ((number, (address, tt)), ((number, (cmap, tt)), ((number, (number, (number, tt))), ((number, (end, tt)), ((number, (search rules depth 20, (error, tt))), ((search (sdam, rules) depth 20, tt), ((address, tt), ((address, tt), tt))))))))
+fact = enum_send (variants Fact.the_type) ((number, (address, tt)), ((number, (cmap, tt)), ((number, (number, (number, tt))), ((number, (end, tt)), ((number, (search rules depth 20, (search rules depth 20, tt))), ((search (sdam, rules) depth 20, tt), ((address, tt), ((address, tt), tt))))))))
 
 -- what steps ask
 hello : IsSend HelloResult.the_field.row
@@ -102,7 +102,7 @@ beaten : IsSend BeatenResult.the_field.row
 beaten = search (response, rules) depth 20
 
 act : IsSend Act.the_field.row
-act = enum_send (variants Act.the_type) ((options, tt), ((number, (address, tt)), ((number, (address, tt)), ((number, tt), (tt, ((number, tt), ((number, (number, (established, tt))), ((number, (number, (failed_at, (error, tt)))), ((number, (used, tt)), ((number, tt), ((number, (number, tt)), ((number, (number, (number, tt))), ((number, (number, tt)), ((number, (error, tt)), ((address, (number, (hello, tt))), ((address, (number, tt)), ((address, (number, (duration, (beaten, tt)))), ((address, (number, (duration, tt))), ((search rules depth 20, tt), ((search rules depth 20, tt), ((number, tt), ((number, tt), (tt, ((address, tt), ((address, tt), ((number, tt), ((number, (search rules depth 20, (error, tt))), ((number, tt), tt))))))))))))))))))))))))))))
+act = enum_send (variants Act.the_type) ((search (options, rules) depth 20, tt), ((number, (address, tt)), ((number, (address, tt)), ((number, tt), (tt, ((number, tt), ((number, (number, (established, tt))), ((number, (number, (failed_at, (search rules depth 20, tt)))), ((number, (used, tt)), ((number, tt), ((number, (number, tt)), ((number, (number, (number, tt))), ((number, (number, tt)), ((number, (search rules depth 20, tt)), ((address, (number, (hello, tt))), ((address, (number, tt)), ((address, (number, (duration, (beaten, tt)))), ((address, (number, (duration, tt))), ((search rules depth 20, tt), ((search rules depth 20, tt), ((number, tt), ((number, tt), (tt, ((address, tt), ((address, tt), ((number, tt), ((number, (search rules depth 20, (search rules depth 20, tt))), ((number, tt), tt))))))))))))))))))))))))))))
 
 entry : IsSend Entry.the_field.row
 entry = search (act, answer, fact, rules) depth 20

@@ -5,7 +5,7 @@ ghost use Rattle.std.specs.Prelude.{◌≡◌, ◌<◌, IfOk, length};
 use crate::change::Change;
 use crate::pools::Pools;
 use mdb_base::{Error, Moment, ObjectId, OutOfMemory};
-use mdb_events::Fact;
+use mdb_events::{Fact, Held};
 use mdb_log::{Act, Refused, Step};
 use std::alloc::Global;
 
@@ -31,7 +31,7 @@ impl Pools {
         if !wanted {
             return Ok(None);
         }
-        let error = error.clone()?;
+        let error = Held::copy_of(alloc, error)?;
         let act = Act::Clear(self.cores[place].number(), service, error);
         let step = Step { moment, act };
         if let Some(why) = self.cores[place].refusal_now(&step) {

@@ -57,7 +57,7 @@ impl Driver {
         let Act::Open(options) = &step.act else {
             unreachable!()
         };
-        let options = options.clone()?;
+        let options = options.get().clone()?;
         let core = TopologyCore::open_seeds(alloc, log, 0, options)?;
         self.core = Some(core);
         Ok(())

@@ -27,8 +27,8 @@ fn check_result(
         BeatenResult::Ok(reply, more) => {
             CheckResult::Ok(hello_reply(alloc, address, reply.get())?, *more)
         }
-        BeatenResult::Err(error) => CheckResult::Err(error.clone()?),
-        BeatenResult::Cancelled(error) => CheckResult::Cancelled(error.clone()?),
+        BeatenResult::Err(error) => CheckResult::Err(error.get().clone()?),
+        BeatenResult::Cancelled(error) => CheckResult::Cancelled(error.get().clone()?),
     })
 }
 
@@ -177,7 +177,15 @@ impl TopologyCore {
         let (monitor, finish) = self.with_end(alloc, index, address, duration, came)?;
         let monitoring = Monitoring::Checked(index, monitor, self.fresh);
         if let BeatenResult::Err(error) = came {
-            return self.fail(alloc, step, index, address, error, monitoring, finish.event);
+            return self.fail(
+                alloc,
+                step,
+                index,
+                address,
+                error.get(),
+                monitoring,
+                finish.event,
+            );
         }
         match self.after_check(alloc, address, came, &finish.report, step.moment) {
             Ok(later) => self.conclude(alloc, step, monitoring, finish.event, later),

@@ -14,7 +14,7 @@ use crate::marked::Asked;
 use crate::marking::ask;
 use crate::pools::Pools;
 use mdb_base::{Error, ObjectId, OutOfMemory, ServerAddress};
-use mdb_events::Fact;
+use mdb_events::{Fact, Held};
 use mdb_log::{Act, Refused, Step};
 use mdb_pool::PoolCore;
 use mdb_pool::parts::{Answered, prepare};
@@ -154,7 +154,7 @@ impl Pools {
             self.plan_failed(alloc, place, step, error, asked, facts, changes)?;
             return Ok(None);
         }
-        let error = error.clone()?;
+        let error = Held::copy_of(alloc, error)?;
         let act = Act::Clear(self.cores[place].number(), service, error);
         let moment = step.moment;
         let clear = Step { moment, act };

@@ -15,7 +15,7 @@ use crate::telling_changes::push_monitor;
 use crate::topology::TopologyCore;
 use mdb_base::{Items, Options, OutOfMemory};
 use mdb_describe::TopologyDescription;
-use mdb_events::Fact;
+use mdb_events::{Fact, Held};
 use mdb_log::{Act, Entry, Log, Reply, Step};
 use mdb_monitor::{CheckCount, MonitorCore};
 use mdb_pool::PoolCore;
@@ -39,6 +39,7 @@ fn pool_monitors(
 
 // The log gets its first entry, of an opening with these facts.
 fn enter_opening(
+    alloc: Global,
     log: &mut Log,
     seat: u32,
     options: &Options,
@@ -47,7 +48,7 @@ fn enter_opening(
     ensures ok { OnOk result (log.new ≡ log.old ++ record { seat = seat; step = opening_step options.now; reply = Done; facts = facts.items } ∷ []) }
     ensures err { OnErr result (log.new ≡ log.old) }
 {
-    match options.clone() {
+    match Held::copy_of(alloc, options) {
         Ok(options) => log.push(Entry {
             seat,
             step: Step {
@@ -87,7 +88,7 @@ fn begin(alloc: Global, log: &mut Log, seat: u32, options: &Options) -> Result<B
         facts,
     } = open(alloc, options, 0)?;
     match pool_monitors(alloc, options, pools.cores.as_slice()) {
-        Ok(monitors) => match enter_opening(log, seat, options, facts) {
+        Ok(monitors) => match enter_opening(alloc, log, seat, options, facts) {
             Ok(()) => Ok(Begun {
                 pools,
                 description,

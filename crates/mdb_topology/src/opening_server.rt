@@ -1,6 +1,6 @@
 //! A server that comes: a pool with the next number is opened and created for it, and then it is opened.
 
-ghost use Rattle.std.specs.Prelude.{◌≡◌, ◌≤◌, ◌<◌, ◌+◌, ◌++◌, ◌∷◌, ◌^◌, [], OnOk, None, List, ℕ, length, map, true};
+ghost use Rattle.std.specs.Prelude.{◌≡◌, ◌≤◌, ◌<◌, ◌+◌, ◌++◌, ◌∷◌, ◌^◌, [], OnOk, IfOk, None, List, ℕ, length, map, true};
 ghost use Rattle.mdb_base.specs.Equality.{same_address};
 ghost use Rattle.mdb_base.specs.OptionRules.{all_different};
 ghost use Rattle.mdb_describe.specs.Servers.{is_listed};
@@ -15,23 +15,26 @@ use crate::pool_options::pool_options;
 use crate::sdam_facts::tell_event;
 use mdb_base::{Options, OutOfMemory, ServerAddress};
 use mdb_events::{
-    CmapEvent, ConnectionPoolOptions, Fact, PoolCreatedEvent, SdamEvent, ServerOpeningEvent,
+    CmapEvent, ConnectionPoolOptions, Fact, Held, PoolCreatedEvent, SdamEvent, ServerOpeningEvent,
 };
 use mdb_pool::PoolCore;
 use std::alloc::{AllocError, Global};
 
 // A pool was created.
-fn created(address: ServerAddress, options: &Options) -> CmapEvent
-    ensures { result ≡ created (pool_options options.now) address }
+fn created(
+    alloc: Global,
+    address: ServerAddress,
+    options: &Options,
+) -> Result<CmapEvent, AllocError>
+    ensures { IfOk result (λ event. event ≡ created (pool_options options.now) address) }
 {
-    CmapEvent::PoolCreated(PoolCreatedEvent {
-        address,
-        options: Some(ConnectionPoolOptions {
-            max_idle_time: options.max_idle_time,
-            max_pool_size: options.max_pool_size,
-            min_pool_size: options.min_pool_size,
-        }),
-    })
+    let sizes = ConnectionPoolOptions {
+        max_idle_time: options.max_idle_time,
+        max_pool_size: options.max_pool_size,
+        min_pool_size: options.min_pool_size,
+    };
+    let options = Some(Held::new(alloc, sizes)?);
+    Ok(CmapEvent::PoolCreated(PoolCreatedEvent { address, options }))
 }
 
 // The facts of a server that comes, for which the pool is opened.
@@ -45,7 +48,7 @@ fn tell_opened(
     ensures { OnOk result (facts.new.items ≡ facts.old.items ++ opened_at options.now address.now number) }
 {
     facts.push(Fact::Opened(number, address.clone()?))?;
-    let event = created(address.clone()?, options);
+    let event = created(alloc, address.clone()?, options)?;
     facts.push(Fact::Pool(number, event))?;
     let address = address.clone()?;
     let event = ServerOpeningEvent {

@@ -221,11 +221,11 @@ impl TopologyCore {
                 self.hello(alloc, step, address, *pool, *rtt, reply.get())
             }
             Act::Hello(address, pool, HelloResult::Err(error)) => {
-                self.hello_error(alloc, step, address, *pool, error)
+                self.hello_error(alloc, step, address, *pool, error.get())
             }
-            Act::Error(party, error) => self.operation_error(alloc, step, *party, error),
+            Act::Error(party, error) => self.operation_error(alloc, step, *party, error.get()),
             Act::Failed(pool, id, at, error) => {
-                self.connection_failed(alloc, step, *pool, *id, *at, error)
+                self.connection_failed(alloc, step, *pool, *id, *at, error.get())
             }
             Act::Hosts(hosts) => self.hosts(alloc, step, hosts.as_slice()),
             Act::ClusterTime(time) => self.cluster_time(alloc, step, *time),

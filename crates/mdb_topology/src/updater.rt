@@ -61,8 +61,8 @@ impl TopologyCore {
         ensures err_core { OnErr result (IsSame self.old self.new) }
         ensures err_log { OnErr result (log.new ≡ log.old) }
     {
-        let came = HelloResult::Err(error);
-        let act = Act::Hello(address, pool, came);
+        let held = Held::new(alloc, error)?;
+        let act = Act::Hello(address, pool, HelloResult::Err(held));
         self.step(alloc, log, seat, &Step { moment, act })
     }
 
@@ -84,7 +84,8 @@ impl TopologyCore {
         ensures err_core { OnErr result (IsSame self.old self.new) }
         ensures err_log { OnErr result (log.new ≡ log.old) }
     {
-        let act = Act::Error(party, error);
+        let held = Held::new(alloc, error)?;
+        let act = Act::Error(party, held);
         self.step(alloc, log, seat, &Step { moment, act })
     }
 

@@ -8,6 +8,7 @@ ghost use Rattle.mdb_workers.specs.Memory.{made_so_far, refusals};
 
 use crate::establishing::{Call, EstablishError, Establisher};
 use mdb_base::Error;
+use mdb_events::Held;
 use mdb_log::{Established, Job, PoolGeneration, PoolStamp};
 use std::alloc::{AllocError, Global};
 
@@ -79,13 +80,13 @@ impl MemEstablisher {
     }
 
     // Refuses the job, and remembers that.
-    fn refuse(&mut self, job: Job) -> Result<Error, AllocError>
+    fn refuse(&mut self, alloc: Global, job: Job) -> Result<Held<Error>, AllocError>
         ensures calls { IfOk result (λ error. made_so_far self.new ≡ calls_after (made_so_far self.old) job (Err (Refused false None error))) }
         ensures rose { OnOk result (Rose (refusals self.old) (refusals self.new)) }
         ensures err { OnErr result ((made_so_far self.new ≡ made_so_far self.old) × (refusals self.new ≡ refusals self.old)) }
     {
-        let error = self.error.clone()?;
-        let told = self.error.clone()?;
+        let error = Held::copy_of(alloc, &self.error)?;
+        let told = Held::copy_of(alloc, &self.error)?;
         self.calls.push(Call {
             job,
             answer: Err(EstablishError::Refused(false, None, told)),
@@ -115,12 +116,12 @@ impl Establisher for MemEstablisher {
 
     ghost faults = { refusals };
 
-    fn establish(&mut self, _alloc: Global, job: &Job) -> Result<Established, EstablishError> {
+    fn establish(&mut self, alloc: Global, job: &Job) -> Result<Established, EstablishError> {
         let Ok(job) = copied_job(job) else {
             return Err(EstablishError::OutOfMemory);
         };
         if self.refuses() {
-            return match self.refuse(job) {
+            return match self.refuse(alloc, job) {
                 Ok(error) => Err(EstablishError::Refused(false, None, error)),
                 Err(_) => Err(EstablishError::OutOfMemory),
             };

@@ -36,4 +36,4 @@ returns c = λ o types rules e.
     let sizes = c.pool_sizes.ensures o types kind.1 in
     let checks = c.check_options.ensures o types sizes.1 in
     let limits = c.limit_options-limits.ensures o types checks.1 in
-    rw (c.options_of-options.ensures o r.id seeds kind.0 sizes.0 checks.0 limits) refl
+    rw (c.in_ok-new.ensures, c.options_of-options.ensures o r.id seeds kind.0 sizes.0 checks.0 limits) refl

@@ -1,4 +1,5 @@
-use Rattle.std.proofs.Common.{sym, ◌∙◌}
+use Rattle.std.proofs.Common.{sym, ap, ◌∙◌}
+use Rattle.mdb_log.specs.declared.step.Act.TheVariants.{Open}
 use Rattle.mdb_audit.specs.Shown.{entry_of}
 use Rattle.mdb_audit.proofs.LegalOn.{opens-refused}
 use Rattle.mdb_audit.proofs.auditor.Auditor.take_first.Goals as goal
@@ -7,4 +8,4 @@ pub returns-then-is_refused : goal.returns-then-is_refused
 returns-then-is_refused c = λ audits. opens-refused c.args.shown.now.step.act (entry_of c.args.shown.now) (sym c.is_refused.ensures ∙ c.if-is_refused.true)
 
 pub returns-in-Open : goal.returns-in-Open
-returns-in-Open c = λ audits. c.open.ensures c.in-Open.is (sym c.is_refused.ensures ∙ c.if-is_refused.false) audits
+returns-in-Open c = λ audits. c.open.ensures (c.in-Open.is ∙ ap Open (sym c.get.ensures)) (sym c.is_refused.ensures ∙ c.if-is_refused.false) audits

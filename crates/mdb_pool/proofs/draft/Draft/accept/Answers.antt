@@ -1,5 +1,6 @@
-use Rattle.std.proofs.Common.{refl}
-use Rattle.mdb_pool.proofs.Accepting.{bare-does, request-does, give-up-does, established-does, failed-does, return-does, pin-does, replicate-does, take-does, unpin-does, warm-does, maintain-does, expire-does}
+use Rattle.std.proofs.Common.{refl, sym, ◌∙◌, ap}
+use Rattle.mdb_log.specs.declared.step.Act.TheVariants.{Clear}
+use Rattle.mdb_pool.proofs.Accepting.{as-failed, bare-does, request-does, give-up-does, established-does, failed-does, return-does, pin-does, replicate-does, take-does, unpin-does, warm-does, maintain-does, expire-does}
 use Rattle.mdb_pool.proofs.draft.Draft.accept.Goals as goal
 
 pub returns-in-Request-clause-does : goal.returns-in-Request-clause-does
@@ -12,7 +13,7 @@ pub returns-in-Established-clause-does : goal.returns-in-Established-clause-does
 returns-in-Established-clause-does c = established-does c.args.self.now c.accept_established.new.self c.args.facts.now.items c.accept_established.new.facts.items c.accept_established.result c.args.step.now c.requires.passes c.in-Established.is c.accept_established.ensures.accepts
 
 pub returns-in-Failed-clause-does : goal.returns-in-Failed-clause-does
-returns-in-Failed-clause-does c = failed-does c.args.self.now c.accept_failed.new.self c.args.facts.now.items c.accept_failed.new.facts.items c.accept_failed.result c.args.step.now c.requires.passes c.in-Failed.is c.accept_failed.ensures.accepts
+returns-in-Failed-clause-does c = failed-does c.args.self.now c.accept_failed.new.self c.args.facts.now.items c.accept_failed.new.facts.items c.accept_failed.result c.args.step.now c.requires.passes (as-failed c.in-Failed.is c.get.ensures) c.accept_failed.ensures.accepts
 
 pub returns-in-Return-clause-does : goal.returns-in-Return-clause-does
 returns-in-Return-clause-does c = return-does c.args.self.now c.accept_return.new.self c.args.facts.now.items c.accept_return.new.facts.items c.accept_return.result c.args.step.now c.requires.passes c.in-Return.is c.accept_return.ensures.accepts
@@ -45,7 +46,7 @@ pub returns-in-Ready-clause-does : goal.returns-in-Ready-clause-does
 returns-in-Ready-clause-does c = bare-does c.args.self.now c.accept_ready.new.self c.args.facts.now.items c.accept_ready.new.facts.items c.accept_ready.result c.args.step.now c.in-Ready.is (λ xs. refl) c.accept_ready.ensures.accepts
 
 pub returns-in-Clear-clause-does : goal.returns-in-Clear-clause-does
-returns-in-Clear-clause-does c = bare-does c.args.self.now c.accept_clear.new.self c.args.facts.now.items c.accept_clear.new.facts.items c.accept_clear.result c.args.step.now c.in-Clear.is (λ xs. refl) c.accept_clear.ensures.accepts
+returns-in-Clear-clause-does c = bare-does c.args.self.now c.accept_clear.new.self c.args.facts.now.items c.accept_clear.new.facts.items c.accept_clear.result c.args.step.now (c.in-Clear.is ∙ ap (Clear c.in-Clear.pool c.in-Clear.service) (sym c.get-in-Clear.ensures)) (λ xs. refl) c.accept_clear.ensures.accepts
 
 pub returns-in-Close-clause-does : goal.returns-in-Close-clause-does
 returns-in-Close-clause-does c = bare-does c.args.self.now c.accept_close.new.self c.args.facts.now.items c.accept_close.new.facts.items c.accept_close.result c.args.step.now c.in-Close.is (λ xs. refl) c.accept_close.ensures.accepts

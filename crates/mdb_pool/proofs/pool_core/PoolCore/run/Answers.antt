@@ -1,16 +1,13 @@
-use Rattle.std.proofs.Common.{rules, ℕ, List, Result, Ok, Err, OnErr, ◌≡◌, ◌++◌, ◌∷◌, [], take, ◌+◌, sym, ◌∙◌, subst, arith}
+use Rattle.std.proofs.Common.{rules, ℕ, List, ◌≡◌, ◌++◌, ◌∷◌, [], take, ◌+◌, sym, ◌∙◌, subst, arith}
 use Rattle.std.proofs.lemmas.Grind.{common_steps}
 use Rattle.mdb_log.specs.Acts.{IsPoolAct}
 use Rattle.mdb_log.specs.declared.step.Step.{Step}
 use Rattle.mdb_log.specs.declared.log.Entry.{Entry}
 use Rattle.mdb_pool.specs.Core.{PoolCore}
 use Rattle.mdb_pool.specs.Standing.{SameHome, Runs}
+use Rattle.mdb_pool.proofs.Answering.{on-error}
 use Rattle.mdb_pool.proofs.Runs.{run-more}
 use Rattle.mdb_pool.proofs.pool_core.PoolCore.run.Goals as goal
-
-on-error : {T E : Type 0} (r : Result T E) {P : Type 0} → P → OnErr r P
-on-error (Ok v) p = tt
-on-error (Err e) p = p
 
 pub loop-step-preserved : goal.loop-step-preserved
 loop-step-preserved c =

@@ -5,4 +5,4 @@ use Rattle.mdb_topology.proofs.Driven.{first-step-is}
 
 pub returns-clause-ok : goal.returns-clause-ok
 returns-clause-ok c =
-    c.in_ok-core.ensures.entry ∙ ap (λ s. entry_after 0 [] s ∷ []) (first-step-is c.args.step.now c.in-Open.options c.in_ok-options.options c.requires.opens c.in-Open.is c.in_ok-options.ensures.cases)
+    c.in_ok-core.ensures.entry ∙ ap (λ s. entry_after 0 [] s ∷ []) (first-step-is c.args.step.now c.in-Open.options c.in_ok-options.options c.requires.opens c.in-Open.is (c.in_ok-options.ensures.cases ∙ c.get.ensures))

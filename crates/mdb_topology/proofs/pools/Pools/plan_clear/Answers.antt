@@ -20,7 +20,7 @@ returns-clause-clears c =
     let e = c.in_ok-error.error in
     let at_i : slice_get pools i ≡ Some s = slice_get_read pools (length pools) i s refl c.requires.there c.index.ensures in
     let one : Act = ClearAct c.number.result c.args.service e in
-    let same : one ≡ clear_act c.args.service c.args.error.now s.pool = ap (λ p. ClearAct p c.args.service e) c.number.ensures ∙ ap (λ x. ClearAct s.pool c.args.service x) c.in_ok-error.ensures.cases in
+    let same : one ≡ clear_act c.args.service c.args.error.now s.pool = ap (λ p. ClearAct p c.args.service e) c.number.ensures ∙ ap (λ x. ClearAct s.pool c.args.service x) c.in_ok-error.ensures in
     let d : PlansOne pools i m (clear_act c.args.service c.args.error.now) c.args.changes.now.items c.plan_act.new.changes.items c.args.facts.now.items c.plan_act.new.facts.items =
     planned-as pools i m one (clear_act c.args.service c.args.error.now) c.args.changes.now.items c.plan_act.new.changes.items c.args.facts.now.items c.plan_act.new.facts.items
     (λ x get. same ∙ ap (λ (y : PoolCore). clear_act c.args.service c.args.error.now y.pool) (some-same s x (slice_get pools i) at_i get)) c.in_ok-plan_act.ensures.planned in

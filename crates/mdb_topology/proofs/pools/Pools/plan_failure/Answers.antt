@@ -38,7 +38,7 @@ plan_both-requires-clause-still c = λ s at t a d.
     let p = c.index.result.now in
     let at_i : slice_get pools i ≡ Some p = slice_get_read pools (length pools) i p refl c.requires.there c.index.ensures in
     let same : ClearAct c.number.result c.args.service c.in_ok-error.error ≡ clear_act c.args.service c.args.error.now s.pool =
-    ap (λ n. ClearAct n c.args.service c.in_ok-error.error) (c.number.ensures ∙ ap (λ (x : PoolCore). x.pool) (some-same p s (slice_get pools i) at_i at)) ∙ ap (λ e. ClearAct s.pool c.args.service e) c.in_ok-error.ensures.cases in
+    ap (λ n. ClearAct n c.args.service c.in_ok-error.error) (c.number.ensures ∙ ap (λ (x : PoolCore). x.pool) (some-same p s (slice_get pools i) at_i at)) ∙ ap (λ e. ClearAct s.pool c.args.service e) c.in_ok-error.ensures in
     c.requires.still s at t a (subst (λ (x : Act). IsDone s t (record { moment = c.args.step.now.moment; act = x }) a) same d)
 
 pub returns-clause-fails : goal.returns-clause-fails
@@ -53,7 +53,7 @@ returns-clause-fails c =
     let changes = c.plan_both.new.changes.items in
     let at_i : slice_get pools i ≡ Some p = slice_get_read pools (length pools) i p refl c.requires.there c.index.ensures in
     let one : Act = ClearAct c.number.result c.args.service c.in_ok-error.error in
-    let same : one ≡ clear_act c.args.service c.args.error.now p.pool = ap (λ n. ClearAct n c.args.service c.in_ok-error.error) c.number.ensures ∙ ap (λ e. ClearAct p.pool c.args.service e) c.in_ok-error.ensures.cases in
+    let same : one ≡ clear_act c.args.service c.args.error.now p.pool = ap (λ n. ClearAct n c.args.service c.in_ok-error.error) c.number.ensures ∙ ap (λ e. ClearAct p.pool c.args.service e) c.in_ok-error.ensures in
     let d : PlansTwo pools i (clear_act c.args.service c.args.error.now) c.args.step.now c.args.asked earlier changes before after =
     two-as pools i one (clear_act c.args.service c.args.error.now) c.args.step.now c.args.asked earlier changes before after
     (λ x get. same ∙ ap (λ (y : PoolCore). clear_act c.args.service c.args.error.now y.pool) (some-same p x (slice_get pools i) at_i get)) c.in_ok-plan_both.ensures.planned in

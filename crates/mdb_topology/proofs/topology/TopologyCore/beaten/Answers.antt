@@ -1,4 +1,4 @@
-use Rattle.std.proofs.Common.{◌≡◌, length, slice_get, true, false, Some, sym, refl, subst}
+use Rattle.std.proofs.Common.{◌≡◌, ◌∙◌, length, slice_get, true, false, Some, sym, refl, ap, subst}
 use Rattle.std.proofs.lemmas.Option.{slice_get_read}
 use Rattle.std.proofs.lemmas.Result.{IfOk-weaker}
 use Rattle.mdb_describe.specs.Descriptions.{failed}
@@ -96,7 +96,8 @@ returns-in-Err-clause-becomes c =
     let a = c.args.address.now in
     let p = c.args.pool in
     let d = c.args.duration in
-    let e = c.in-Err.error in
+    let e = c.get.result.now in
+    let came : c.args.came.now ≡ Err e = c.in-Err.is ∙ ap Err (sym c.get.ensures) in
     let ms = w.monitors.items in
     let x = c.index.result.now in
     let y = c.in_ok-monitor.monitor in
@@ -104,13 +105,13 @@ returns-in-Err-clause-becomes c =
     let own : c.in-Some.index ≡ p = c.in-Some.ensures.place in
     let at_i : slice_get ms c.in-Some.index ≡ Some x = slice_get_read ms (length ms) c.in-Some.index x refl c.in-Some.ensures.within c.index.ensures in
     let at_p : slice_get ms p ≡ Some x = subst (λ q. slice_get ms q ≡ Some x) own at_i in
-    let ends : Ends x y d (check_result a (Err e)) f = subst (λ v. Ends x y d (check_result a v) f) c.in-Err.is (c.in_ok-monitor.ensures x at_i) in
+    let ends : Ends x y d (check_result a (Err e)) f = subst (λ v. Ends x y d (check_result a v) f) came (c.in_ok-monitor.ensures x at_i) in
     let there = sym c.in-Some.ensures.here in
     IfOk-weaker c.fail.result _ _ (λ stepped r h z.
     let running : runs_at h p ≡ true = sym (c.if-not-running.ensures.items (monitor_items h p) (z.monitors.each p x at_p)) in
     let met = its_trouble w h z m c.requires.in_time a p d e there running c.if-self-2.false x y f at_p ends in
     subst (λ v. BecomesOf w (record { moment = m; act = v }) stepped h) (sym c.requires.act)
-    (subst (λ v. BecomesOf w (record { moment = m; act = Beaten a p d v }) stepped h) (sym c.in-Err.is)
+    (subst (λ v. BecomesOf w (record { moment = m; act = Beaten a p d v }) stepped h) (sym came)
     (fails-become w h z m c.requires.in_time a p d e there running c.if-self-2.false x y f at_p ends stepped
     (subst (λ q. FailsAs w m (Checked q y w.fresh) f.event (updated w.description (failed a e)) met stepped) own
     (r met (subst (λ q. IsOfPool w.options met q a e true Nothing) (sym own) (failure-of-pool w h z m c.requires.in_time a p d e there running c.if-self-2.false x y f at_p ends))))))) c.fail.ensures.fails
