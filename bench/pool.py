@@ -5,13 +5,14 @@ usage: pool.py PROGRAM
 
 It builds nothing. A round of `available` is a request, which gets the connection that came back last, and its return. A round of
 `waiting` is a return, a collect by the caller that waits longest, who has the connection now, and the request of a new caller,
-who comes last. For each kind and size it runs `PROGRAM KIND CONNECTIONS 0` and `PROGRAM KIND CONNECTIONS 50000` five times each,
-in turn, and takes the best of each: a round takes what they differ by, over the number of rounds. So the start of the process and
-the opening of the pool are left out, and the making of the log is not. Beside the time that passes it tells the processor's, that of
-the program and of the system for it, which other work on the machine changes less.
+who comes last. The program does the rounds twice, each time on a pool of its own, and says when the pool is opened and when the rounds are
+done: a round takes what passes between the two, over the number of rounds. So the start of the process, the opening of the pool and the
+giving back of the log's memory are left out, and the making of the log is not. The first time the memory is fresh from the system,
+the second time it is what the process had before, as far as the C library kept it. For each kind and size the program is run five times, and the
+best of each is told. Beside the time that passes it tells the processor's, which other work on the machine changes less.
 
-Bytes a round are those by which the greatest resident sizes differ: of the log, and of what the pool keeps. A size is at least
-that of this script, some 15 MB, so that where the opened pool is smaller they are up to 300 too few.
+Bytes a round are those by which the greatest resident size of a run exceeds that of one without rounds: of the log, and of what the pool
+keeps. A size is at least that of this script, some 15 MB, so that where the opened pool is smaller they are up to 300 too few.
 """
 import os
 import subprocess
@@ -23,6 +24,7 @@ SIZES = (1, 10, 100, 1000, 10000)
 COMPARED = (10, 10000)
 ROUNDS = 50000
 REPEATS = 5
+PASSES = 2
 
 
 def wanted(kind, connections, rounds):
@@ -33,55 +35,62 @@ def wanted(kind, connections, rounds):
     return f"kind={kind} connections={connections} rounds={rounds} entries={entries} granted={connections + rounds} slots={slots}"
 
 
+def ran(process):
+    """The nanoseconds that the process has had a processor."""
+    with open(f"/proc/{process.pid}/schedstat", encoding="ascii") as told:
+        return int(told.read().split()[0])
+
+
+def marked(process, line):
+    """When the process wrote this line, and how long it had run by then."""
+    written = process.stdout.readline()
+    moment = time.perf_counter_ns()
+    if written != line + "\n":
+        raise SystemExit(f"{process.args} wrote {written!r}")
+    return moment, ran(process)
+
+
 def timed(program, kind, connections, rounds):
-    """The seconds of a run, those of the processor, and its greatest resident size in bytes."""
+    """The nanoseconds of the rounds and those of the processor, of each pass, and the greatest resident size in bytes."""
     command = [program, kind, str(connections), str(rounds)]
-    reading, writing = os.pipe()
-    begun = time.perf_counter()
-    process = subprocess.Popen(command, stdin=subprocess.DEVNULL, stdout=writing)
-    os.close(writing)
-    with os.fdopen(reading) as output:
-        written = output.read()
+    process = subprocess.Popen(command, stdin=subprocess.DEVNULL, stdout=subprocess.PIPE, text=True)
+    passes = []
+    for _ in range(PASSES):
+        begun, idle = marked(process, "opened")
+        done, worked = marked(process, "done")
+        marked(process, wanted(kind, connections, rounds))
+        passes.append((done - begun, worked - idle))
     _, status, usage = os.wait4(process.pid, 0)
-    seconds = time.perf_counter() - begun
     process.returncode = os.waitstatus_to_exitcode(status)
     if process.returncode != 0:
         raise SystemExit(f"{' '.join(command)} ended with status {process.returncode}")
-    if written != wanted(kind, connections, rounds) + "\n":
-        raise SystemExit(f"{' '.join(command)} wrote {written!r}")
-    return seconds, usage.ru_utime + usage.ru_stime, usage.ru_maxrss * 1024
-
-
-def best(runs):
-    """The least times of some runs, with the greatest size of all."""
-    seconds, worked, sizes = zip(*runs)
-    return min(seconds), min(worked), max(sizes)
+    return passes, usage.ru_maxrss * 1024
 
 
 def measured(program, kind, connections):
-    """The nanoseconds of a round and those of the processor, beside a line of all that was measured."""
-    none, full = [], []
-    for _ in range(REPEATS):
-        none.append(timed(program, kind, connections, 0))
-        full.append(timed(program, kind, connections, ROUNDS))
-    (idle, idle_worked, least), (seconds, worked, most) = best(none), best(full)
-    taken, done = 1e9 * (seconds - idle) / ROUNDS, 1e9 * (worked - idle_worked) / ROUNDS
-    print(f"{kind:>9} {connections:>11} {taken:>8.0f} {done:>12.0f} {1e3 * idle:>8.1f} {1e3 * seconds:>8.1f}"
+    """The nanoseconds of a round and those of the processor, first and again, beside a line of all that was measured."""
+    least = min(timed(program, kind, connections, 0)[1] for _ in range(REPEATS))
+    runs = [timed(program, kind, connections, ROUNDS) for _ in range(REPEATS)]
+    most = max(size for _, size in runs)
+    best = [[min(passes[which][part] for passes, _ in runs) / ROUNDS for part in (0, 1)] for which in range(PASSES)]
+    (first, first_worked), (again, again_worked) = best
+    print(f"{kind:>9} {connections:>11} {first:>8.0f} {first_worked:>12.0f} {again:>8.0f} {again_worked:>12.0f}"
           f" {least / 1e6:>8.1f} {most / 1e6:>8.1f} {(most - least) / ROUNDS:>11.0f}", flush=True)
-    return taken, done
+    return best
 
 
 def main():
     if len(sys.argv) != 2:
         raise SystemExit(__doc__)
     program = os.path.abspath(sys.argv[1])
-    print(f"{'kind':>9} {'connections':>11} {'ns/round':>8} {'processor ns':>12} {'ms, none':>8} {'ms, all':>8}"
+    print(f"{'kind':>9} {'connections':>11} {'ns/round':>8} {'processor ns':>12} {'ns again':>8} {'processor ns':>12}"
           f" {'MB, none':>8} {'MB, all':>8} {'bytes/round':>11}")
     for kind in STEPS:
         rounds = {connections: measured(program, kind, connections) for connections in SIZES}
-        (few, few_done), (many, many_done) = (rounds[connections] for connections in COMPARED)
-        print(f"a round at {COMPARED[1]} takes {many / few:.2f} times a round at {COMPARED[0]},"
-              f" and {many_done / few_done:.2f} times its time of the processor")
+        few, many = (rounds[connections] for connections in COMPARED)
+        first, again = ([many[which][part] / few[which][part] for part in (0, 1)] for which in range(PASSES))
+        print(f"a round at {COMPARED[1]} takes {first[0]:.2f} times a round at {COMPARED[0]}, and {first[1]:.2f} times its time of the processor;"
+              f" again {again[0]:.2f} and {again[1]:.2f}")
 
 
 if __name__ == "__main__":

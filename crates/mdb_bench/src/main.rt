@@ -12,7 +12,7 @@ mod rounds;
 mod slots;
 
 use plan::{Plan, USAGE};
-use rounds::measure;
+use rounds::Bench;
 use std::alloc::{AllocError, Global};
 use std::io::ErrorKind;
 use std::process::ExitCode;
@@ -47,16 +47,40 @@ fn read_plan(rt: &HostRuntime) -> Result<Option<Plan>, AllocError>
     Ok(plan)
 }
 
-fn tell(rt: &HostRuntime, plan: Plan) -> io::Result<ExitCode>
+// Does the rounds, and tells what they came to. What times them reads the first two lines.
+fn tell_rounds(rt: &HostRuntime, bench: &mut Bench, plan: Plan) -> io::Result<()>
     requires { IsWithin plan }
 {
-    match measure(rt.alloc(), plan) {
-        Ok(outcome) => {
-            println!(rt; "{plan} {outcome}")?;
-            Ok(ExitCode::SUCCESS)
+    println!(rt; "opened")?;
+    if bench.run(plan).is_err() {
+        return Err(AllocError.into());
+    }
+    println!(rt; "done")?;
+    let outcome = bench.outcome(plan);
+    println!(rt; "{plan} {outcome}")
+}
+
+// Opens a pool for the rounds.
+fn pass(rt: &HostRuntime, plan: Plan) -> io::Result<()>
+    requires { IsWithin plan }
+{
+    match Bench::open(rt.alloc(), plan) {
+        Ok(mut bench) => {
+            let told = tell_rounds(rt, &mut bench, plan);
+            drop(bench);
+            told
         }
         Err(_) => Err(AllocError.into()),
     }
+}
+
+// The second time the memory is that which the first gave back.
+fn tell(rt: &HostRuntime, plan: Plan) -> io::Result<ExitCode>
+    requires { IsWithin plan }
+{
+    pass(rt, plan)?;
+    pass(rt, plan)?;
+    Ok(ExitCode::SUCCESS)
 }
 
 fn main(rt: HostRuntime) -> io::Result<ExitCode> {

@@ -36,20 +36,27 @@ fn options(connections: u32) -> PoolOptions {
 
 /// A pool with the log of its steps.
 #[derive(Drop)]
-struct Bench {
+pub struct Bench {
     alloc: Global,
     core: PoolCore,
     log: Log,
+    // A request, of the party that asked last.
+    asking: Step,
 }
 
 impl Bench {
     fn new(alloc: Global, connections: u32) -> Result<Bench, AllocError> {
         let host = String::from_str(alloc, "localhost")?;
         let address = ServerAddress::new(host, 27017);
+        let asking = Step {
+            moment: 0,
+            act: Act::Request(0, address.clone()?),
+        };
         Ok(Bench {
             alloc,
             core: PoolCore::new(alloc, POOL, address, options(connections)),
             log: Log::new(alloc),
+            asking,
         })
     }
 
@@ -64,8 +71,11 @@ impl Bench {
     }
 
     fn request(&mut self, party: u32) -> Stepped {
-        let address = self.core.address().clone()?;
-        self.step(Act::Request(party, address))
+        match &mut self.asking.act {
+            Act::Request(number, _) => *number = party,
+            _ => return Ok(()),
+        }
+        self.core.step(self.alloc, &mut self.log, 0, &self.asking)
     }
 
     // The caller of a request that waited is told that it has its connection.
@@ -97,13 +107,24 @@ impl Bench {
         Ok(())
     }
 
+    // What the rounds meet: all connections come back, or as many callers wait.
+    fn set_up(&mut self, plan: Plan) -> Stepped
+        requires { IsWithin plan }
+    {
+        self.fill(plan.connections)?;
+        for i in 0..plan.connections {
+            match plan.kind {
+                Kind::Available => self.give_back(i + 1)?,
+                Kind::Waiting => self.request(plan.connections + i + 1)?,
+            }
+        }
+        Ok(())
+    }
+
     // Each round a party gets the connection that came back last, and returns it.
     fn available_rounds(&mut self, plan: Plan) -> Stepped
         requires { IsWithin plan }
     {
-        for i in 0..plan.connections {
-            self.give_back(i + 1)?;
-        }
         for i in 0..plan.rounds {
             let party = plan.connections + i + 1;
             self.request(party)?;
@@ -116,9 +137,6 @@ impl Bench {
     fn waiting_rounds(&mut self, plan: Plan) -> Stepped
         requires { IsWithin plan }
     {
-        for i in 0..plan.connections {
-            self.request(plan.connections + i + 1)?;
-        }
         for i in 0..plan.rounds {
             self.give_back(i + 1)?;
             self.collect(plan.connections + i + 1)?;
@@ -127,26 +145,35 @@ impl Bench {
         Ok(())
     }
 
-    fn run(&mut self, plan: Plan) -> Stepped
+    /// A pool that is ready for the rounds of the plan.
+    pub fn open(alloc: Global, plan: Plan) -> Result<Bench, OutOfMemory>
         requires { IsWithin plan }
     {
-        self.fill(plan.connections)?;
+        let mut bench = Bench::new(alloc, plan.connections)?;
+        match bench.set_up(plan) {
+            Ok(()) => Ok(bench),
+            Err(e) => {
+                drop(bench);
+                Err(e)
+            }
+        }
+    }
+
+    /// Does the rounds of the plan.
+    pub fn run(&mut self, plan: Plan) -> Stepped
+        requires { IsWithin plan }
+    {
         match plan.kind {
             Kind::Available => self.available_rounds(plan),
             Kind::Waiting => self.waiting_rounds(plan),
         }
     }
-}
 
-/// Does the rounds of the plan, and counts what the log and the pool have then.
-pub fn measure(alloc: Global, plan: Plan) -> Result<Outcome, OutOfMemory>
-    requires { IsWithin plan }
-{
-    let mut bench = Bench::new(alloc, plan.connections)?;
-    let ran = bench.run(plan);
-    let counts = Counts::of(bench.log.entries());
-    let slots = count_slots(bench.core.available(), plan.connections);
-    drop(bench);
-    ran?;
-    Ok(Outcome { counts, slots })
+    /// What the log and the pool have.
+    pub fn outcome(&self, plan: Plan) -> Outcome {
+        Outcome {
+            counts: Counts::of(self.log.entries()),
+            slots: count_slots(self.core.available(), plan.connections),
+        }
+    }
 }
