@@ -12,7 +12,7 @@ processors) and for at most N seconds (900), once for each call and each of thes
                stored output; or the run recovers: status 0 and the stored output.
   read, write  fails with an error. The program tells it, with its status, after a front of the stored output; a failing
                read leaves mdb_script with no output, and so does want of memory with `share K`. Of `share 2`, whose log is the
-               schedule's, only the number of lines is compared.
+               schedule's, only the number of lines is compared, and a run may end before the call that was to fail.
   short_read, short_write   moves one byte, and so does each of them in a further run. Nothing changes.
 
 The tests of mdb_total share a driver among threads and seats. Each runs once for each of its first allocations, which is refused: it
@@ -191,9 +191,9 @@ def judge(subject, kind, at, ended):
     """What a run with a fault counts as, 'ended', 'unharmed', 'answered', 'known' or 'found', and the cases that changed."""
     if subject.ends is DEMO_ENDS and kind == 'allocation' and ended.status == 'none':
         return 'known', []
-    if not ended.counts or ended.counts[-1][SORTS[kind]] < max(at, 1):
-        return 'found', []
     is_unharmed = (ended.status, ended.told) == (0, b'') and is_whole(subject, ended.written)
+    if not ended.counts or ended.counts[-1][SORTS[kind]] < max(at, 1):
+        return ('unharmed' if ended.counts and is_unharmed and is_by_schedule(subject) else 'found'), []
     if kind in ('short_read', 'short_write'):
         return ('unharmed' if is_unharmed else 'found'), []
     if kind == 'allocation' and ended.status == 0:
