@@ -1,16 +1,16 @@
 //! The address of a server.
 
-ghost use Rattle.std.specs.Prelude.{◌≡◌, string_bytes, ◌==◌};
+ghost use Rattle.std.specs.Prelude.{◌≡◌, string_bytes, ◌==◌, IfOk};
 ghost use Rattle.std.specs.List.{list_any};
 
-use crate::text::Text;
+use crate::host::Host;
 use std::alloc::AllocError;
 use std::fmt;
 
-/// A host, without brackets, and a port.
+/// A host, without brackets, and a port. Copies share the host, so they take no memory.
 #[derive(Debug, Drop, PartialEq, Eq, PartialOrd, Ord)]
 pub struct ServerAddress {
-    pub host: Text,
+    pub host: Host,
     pub port: u16,
 }
 
@@ -18,14 +18,12 @@ impl ServerAddress {
     ghost use Rattle.mdb_base.specs.Equality.{same_address};
 
     /// Keeps the host as it is.
-    pub fn new(host: String, port: u16) -> ServerAddress
-        ensures host { result.host ≡ string_bytes host }
-        ensures port { result.port ≡ port }
+    pub fn new(host: String, port: u16) -> Result<ServerAddress, AllocError>
+        ensures host { IfOk result (λ address. address.host ≡ string_bytes host) }
+        ensures port { IfOk result (λ address. address.port ≡ port) }
     {
-        ServerAddress {
-            host: Text::new(host),
-            port,
-        }
+        let host = Host::new(host)?;
+        Ok(ServerAddress { host, port })
     }
 
     /// The host, without brackets.

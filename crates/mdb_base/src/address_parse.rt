@@ -34,7 +34,7 @@ fn lowered(alloc: Global, host: &str, port: u16) -> Result<ServerAddress, Addres
     ensures { MatchResult result (λ a. a ≡ lowered host.now port) (λ e. e ≡ NoMemory) }
 {
     let host = host.to_ascii_lowercase(alloc)?;
-    Ok(ServerAddress::new(host, port))
+    Ok(ServerAddress::new(host, port)?)
 }
 
 impl ServerAddress {

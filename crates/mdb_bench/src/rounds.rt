@@ -1,7 +1,8 @@
 //! The rounds of a pool. Parties have the numbers from 1 on, in the order in which they ask.
 
-ghost use Rattle.std.specs.Prelude.{◌≤◌};
+ghost use Rattle.std.specs.Prelude.{◌≡◌, ◌≤◌};
 ghost use Rattle.mdb_log.specs.Acts.{IsPoolAct};
+ghost use Rattle.mdb_bench.specs.Counts.{counts_of};
 ghost use Rattle.mdb_bench.specs.Plans.{IsWithin};
 
 use crate::counting::Counts;
@@ -47,7 +48,7 @@ pub struct Bench {
 impl Bench {
     fn new(alloc: Global, connections: u32) -> Result<Bench, AllocError> {
         let host = String::from_str(alloc, "localhost")?;
-        let address = ServerAddress::new(host, 27017);
+        let address = ServerAddress::new(host, 27017)?;
         let asking = Step {
             moment: 0,
             act: Act::Request(0, address.clone()?),
@@ -170,7 +171,9 @@ impl Bench {
     }
 
     /// What the log and the pool have.
-    pub fn outcome(&self, plan: Plan) -> Outcome {
+    pub fn outcome(&self, plan: Plan) -> Outcome
+        ensures { result.counts ≡ counts_of self.now.log }
+    {
         Outcome {
             counts: Counts::of(self.log.entries()),
             slots: count_slots(self.core.available(), plan.connections),

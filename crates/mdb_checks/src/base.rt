@@ -81,8 +81,12 @@ pub fn error(page: &mut Page, given: &str) {
 /// `same-address a:1 A:1`: whether the two addresses are one, and whether both are regular.
 pub fn same_address(page: &mut Page, given: &str) {
     let (own, other) = parted(given);
-    let own = page.address(own);
-    let other = page.address(other);
+    let Some(own) = page.address(own) else {
+        return;
+    };
+    let Some(other) = page.address(other) else {
+        return;
+    };
     page.answer(own.is(&other));
     page.put_if(own.is_regular() && other.is_regular(), " regular");
 }

@@ -122,6 +122,7 @@ fn of_value(page: &mut Page, kind: &str, given: &str) {
         "chain" => slots::chain(page, given),
         "turned" => slots::turned(page, given),
         "table" => slots::table(page, given),
+        "set" => slots::set(page, given),
         "handle" => pool_values::handle(page, given),
         _ => of_lines(page, kind, given),
     }

@@ -47,9 +47,11 @@ fn greet(page: &mut Page, core: &mut TopologyCore, log: &mut Log)
     requires stands { IsDriverOf core.old log.old }
     ensures { IsDriverOf core.new log.new }
 {
+    let Some(address) = page.address("a:1") else {
+        return;
+    };
     match Held::new(page.alloc, HelloCommandResponse::default()) {
         Ok(reply) => {
-            let address = page.address("a:1");
             let came = HelloResult::Ok(5, reply);
             take(page, core, log, 1, Act::Hello(address, 0, came));
         }
@@ -62,8 +64,10 @@ fn ask(page: &mut Page, core: &mut TopologyCore, log: &mut Log)
     requires stands { IsDriverOf core.old log.old }
     ensures { IsDriverOf core.new log.new }
 {
+    let Some(address) = page.address("a:1") else {
+        return;
+    };
     greet(page, core, log);
-    let address = page.address("a:1");
     take(page, core, log, 2, Act::Request(1, address));
 }
 
@@ -116,7 +120,10 @@ fn tell_reply(page: &mut Page, told: &Result<Reply, OutOfMemory>) {
 }
 
 // What the driver tells of itself.
-fn tell(page: &mut Page, core: &TopologyCore, address: &ServerAddress) {
+fn tell(page: &mut Page, core: &TopologyCore) {
+    let Some(address) = page.address("a:1") else {
+        return;
+    };
     page.put(" ");
     topologies::tell(page, core.description());
     page.put(" published ");
@@ -124,7 +131,7 @@ fn tell(page: &mut Page, core: &TopologyCore, address: &ServerAddress) {
     page.put(" last ");
     page.show(&core.last_moment());
     page.put(" pool ");
-    page.debug(&core.open_pool(address));
+    page.debug(&core.open_pool(&address));
     page.put(" asks ");
     page.show(&core.check_count());
     page.put_if(core.pool(0).is_some(), " has 0");
@@ -146,7 +153,9 @@ fn err(page: &mut Page, core: &mut TopologyCore, log: &mut Log, kind: &str, addr
 fn call(page: &mut Page, core: &mut TopologyCore, log: &mut Log, kind: &str)
     requires stands { IsDriverOf core.old log.old }
 {
-    let address = page.address("a:1");
+    let Some(address) = page.address("a:1") else {
+        return;
+    };
     let alloc = page.alloc;
     let told = match kind {
         "update" => {
@@ -167,9 +176,10 @@ fn run(page: &mut Page, core: &mut TopologyCore, log: &mut Log, kind: &str)
         "open" => page.put("opened"),
         "job" => jobs(page, core, log),
         "monitor-error" | "application-error" => {
-            lend(page, core, log);
-            let address = page.address("a:1");
-            err(page, core, log, kind, address);
+            if let Some(address) = page.address("a:1") {
+                lend(page, core, log);
+                err(page, core, log, kind, address);
+            }
         }
         _ => call(page, core, log, kind),
     }
@@ -187,8 +197,7 @@ pub fn driver(page: &mut Page, given: &str) {
     match TopologyCore::open_seeds(page.alloc, &mut log, 0, options) {
         Ok(mut core) => {
             run(page, &mut core, &mut log, kind);
-            let address = page.address("a:1");
-            tell(page, &core, &address);
+            tell(page, &core);
             drop(core);
         }
         Err(_) => page.fail(),

@@ -125,7 +125,7 @@ fn of_server(page: &mut Page, words: &str) -> Option<Fact> {
 fn counted(page: &mut Page, name: &str, words: &str) -> Option<Fact> {
     let (pool, rest) = parted(words);
     match name {
-        "Opened" => Some(Fact::Opened(small(pool), page.address(rest))),
+        "Opened" => Some(Fact::Opened(small(pool), page.address(rest)?)),
         "Ended" => Some(Fact::Ended(small(pool), made_end(page, rest))),
         "Raised" => Some(Fact::Raised(small(pool), service(rest), held_down(page)?)),
         _ => None,
@@ -138,8 +138,8 @@ pub fn made_fact(page: &mut Page, name: &str, words: &str) -> Option<Fact> {
         "Granted" => Some(grant(words)),
         "Pool" => of_pool(page, words),
         "Sdam" => of_server(page, words),
-        "CheckNow" => Some(Fact::CheckNow(page.address(words))),
-        "Cancel" => Some(Fact::Cancel(page.address(words))),
+        "CheckNow" => Some(Fact::CheckNow(page.address(words)?)),
+        "Cancel" => Some(Fact::Cancel(page.address(words)?)),
         _ => counted(page, name, words),
     }
 }

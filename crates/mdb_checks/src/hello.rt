@@ -2,7 +2,7 @@
 
 use crate::page::Page;
 use crate::words::{signed, some_version, value_of, version};
-use mdb_base::{DateTime, Doc, Error, ErrorKind, Items, ObjectId, ServerAddress, Text, Value};
+use mdb_base::{DateTime, Doc, Error, ErrorKind, Items, ObjectId, Text, Value};
 use mdb_hello::{
     AwaitableHelloOptions, Command, HelloCommandResponse, HelloError, HelloReply, MemLink,
     RunHelloError, ServerApi, hello_command, run_hello,
@@ -253,7 +253,9 @@ fn link(page: &mut Page, given: &str) -> MemLink {
 }
 
 fn greet_by(page: &mut Page, link: &mut MemLink, command: &Command) {
-    let address = ServerAddress::new(page.string("a"), 27017);
+    let Some(address) = page.address("a:27017") else {
+        return;
+    };
     for _ in 0..3 {
         let answer = run_hello(page.alloc, link, &address, command);
         show_answer(page, answer);

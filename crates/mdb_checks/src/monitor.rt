@@ -19,13 +19,14 @@ pub struct Monitor {
 }
 
 // A monitor of this server, whose checks are 10 apart and have 20 for a connection.
-fn open(page: &mut Page, given: &str) -> Monitor {
+fn open(page: &mut Page, given: &str) -> Option<Monitor> {
     let (address, mode) = parted(given);
-    let core = MonitorCore::new(page.address(address), mode == "streaming", 10, 20);
-    Monitor {
+    let address = page.address(address)?;
+    let core = MonitorCore::new(address, mode == "streaming", 10, 20);
+    Some(Monitor {
         core,
         asking: CheckCount::new(page.alloc),
-    }
+    })
 }
 
 fn show_begin(page: &mut Page, begin: &Begin) {
@@ -60,9 +61,9 @@ fn response(words: &str) -> HelloCommandResponse {
     response
 }
 
-fn reply(page: &mut Page, words: &str) -> HelloReply {
+fn reply(page: &mut Page, server_address: ServerAddress, words: &str) -> HelloReply {
     HelloReply {
-        server_address: ServerAddress::new(page.string("a"), 1),
+        server_address,
         command_response: response(words),
         raw_command_response: Document::new(document(page, words)),
         cluster_time: None,
@@ -79,9 +80,12 @@ fn failure(page: &mut Page, words: &str) -> Error {
     error
 }
 
-fn outcome(page: &mut Page, kind: &str, words: &str) -> CheckResult {
+fn outcome(page: &mut Page, address: ServerAddress, kind: &str, words: &str) -> CheckResult {
     match kind {
-        "ok" => CheckResult::Ok(reply(page, words), value_of(words, "more") == "true"),
+        "ok" => CheckResult::Ok(
+            reply(page, address, words),
+            value_of(words, "more") == "true",
+        ),
         "cancelled" => CheckResult::Cancelled(failure(page, words)),
         _ => CheckResult::Err(failure(page, words)),
     }
@@ -122,10 +126,13 @@ fn finish(page: &mut Page, core: &mut MonitorCore, given: &str) {
         page.put("malformed");
         return;
     }
+    let Some(address) = page.address("a:1") else {
+        return;
+    };
     let (kind, words) = parted(given);
     let duration = number(value_of(words, "ns"));
     let available = value_of(words, "new") != "true";
-    let outcome = outcome(page, kind, words);
+    let outcome = outcome(page, address, kind, words);
     match core.finish(page.alloc, duration, outcome, available) {
         Ok(finish) => {
             show_finish(page, &finish);
@@ -169,7 +176,7 @@ fn step(page: &mut Page, monitor: &mut Monitor, kind: &str, given: &str) {
 pub fn follow(page: &mut Page, monitor: &mut Option<Monitor>, given: &str) {
     let (kind, given) = parted(given);
     if kind == "open" {
-        *monitor = Some(open(page, given));
+        *monitor = open(page, given);
     }
     if let Some(monitor) = monitor {
         step(page, monitor, kind, given);

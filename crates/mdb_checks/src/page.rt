@@ -123,27 +123,35 @@ impl Page {
         list
     }
 
-    /// The address, and `malformed` in the answer where the words are none.
-    pub fn address(&mut self, words: &str) -> ServerAddress {
+    /// The address; none, and `malformed` in the answer, where the words are none.
+    pub fn address(&mut self, words: &str) -> Option<ServerAddress> {
         match ServerAddress::parse(self.alloc, words) {
-            Ok(address) => return address,
+            Ok(address) => return Some(address),
             Err(AddressError::BadAddress) => self.put("malformed"),
             Err(AddressError::OutOfMemory) => self.fail(),
         }
-        ServerAddress::new(String::new(self.alloc), 0)
+        None
     }
 
-    pub fn same_address(&mut self, address: &ServerAddress) -> ServerAddress {
-        ServerAddress::new(self.string(address.host()), address.port)
+    /// A copy of the address; none where it cannot be copied.
+    pub fn same_address(&mut self, address: &ServerAddress) -> Option<ServerAddress> {
+        match address.clone() {
+            Ok(address) => Some(address),
+            Err(_) => {
+                self.fail();
+                None
+            }
+        }
     }
 
-    /// Addresses with commas between; none where there is no word.
+    /// Addresses with commas between; none where there is no word. What is no address is left out.
     pub fn addresses(&mut self, words: &str) -> Vec<ServerAddress> {
         let mut list = Vec::new(self.alloc);
         for word in words.split(',') {
             if !word.is_empty() {
-                let address = self.address(word);
-                self.keep(&mut list, address);
+                if let Some(address) = self.address(word) {
+                    self.keep(&mut list, address);
+                }
             }
         }
         list

@@ -77,13 +77,13 @@ fn options(words: &str) -> PoolOptions {
     }
 }
 
-fn open(page: &mut Page, words: &str) -> Pool {
-    let address = page.address("a:1");
-    Pool {
+fn open(page: &mut Page, words: &str) -> Option<Pool> {
+    let address = page.address("a:1")?;
+    Some(Pool {
         core: PoolCore::new(page.alloc, 0, address, options(words)),
         facts: Vec::new(page.alloc),
         log: Log::new(page.alloc),
-    }
+    })
 }
 
 fn fail(page: &mut Page, pool: &mut Pool, moment: Moment, words: &str) -> Answer {
@@ -184,7 +184,7 @@ fn act_on(page: &mut Page, pool: &mut Pool, act: &str, words: &str) {
 pub fn follow(page: &mut Page, pool: &mut Option<Pool>, given: &str) {
     let (act, words) = parted(given);
     if act == "open" {
-        let before = mem::replace(pool, Some(open(page, words)));
+        let before = mem::replace(pool, open(page, words));
         drop(before);
     }
     if let Some(pool) = pool {

@@ -10,8 +10,8 @@ use mdb_events::{
     Held, PoolClearedEvent, PoolClosedEvent, PoolCreatedEvent, PoolReadyEvent,
 };
 
-/// The address that stands first.
-pub fn first_address(page: &mut Page, words: &str) -> ServerAddress {
+/// The address that stands first, and none where the first word is no address.
+pub fn first_address(page: &mut Page, words: &str) -> Option<ServerAddress> {
     page.address(parted(words).0)
 }
 
@@ -65,100 +65,100 @@ fn sizes(page: &mut Page, words: &str) -> Option<Held<ConnectionPoolOptions>> {
     }
 }
 
-fn pool_created(page: &mut Page, words: &str) -> CmapEvent {
-    CmapEvent::from(PoolCreatedEvent {
-        address: first_address(page, words),
+fn pool_created(page: &mut Page, words: &str) -> Option<CmapEvent> {
+    Some(CmapEvent::from(PoolCreatedEvent {
+        address: first_address(page, words)?,
         options: sizes(page, words),
-    })
+    }))
 }
 
-fn pool_ready(page: &mut Page, words: &str) -> CmapEvent {
-    CmapEvent::from(PoolReadyEvent {
-        address: first_address(page, words),
-    })
+fn pool_ready(page: &mut Page, words: &str) -> Option<CmapEvent> {
+    Some(CmapEvent::from(PoolReadyEvent {
+        address: first_address(page, words)?,
+    }))
 }
 
-fn pool_cleared(page: &mut Page, words: &str) -> CmapEvent {
-    CmapEvent::from(PoolClearedEvent {
-        address: first_address(page, words),
+fn pool_cleared(page: &mut Page, words: &str) -> Option<CmapEvent> {
+    Some(CmapEvent::from(PoolClearedEvent {
+        address: first_address(page, words)?,
         service_id: service(words),
         interrupt_in_use_connections: words.ends_with(" interrupt"),
-    })
+    }))
 }
 
-fn pool_closed(page: &mut Page, words: &str) -> CmapEvent {
-    CmapEvent::from(PoolClosedEvent {
-        address: first_address(page, words),
-    })
+fn pool_closed(page: &mut Page, words: &str) -> Option<CmapEvent> {
+    Some(CmapEvent::from(PoolClosedEvent {
+        address: first_address(page, words)?,
+    }))
 }
 
-fn connection_created(page: &mut Page, words: &str) -> CmapEvent {
-    CmapEvent::from(ConnectionCreatedEvent {
-        address: first_address(page, words),
+fn connection_created(page: &mut Page, words: &str) -> Option<CmapEvent> {
+    Some(CmapEvent::from(ConnectionCreatedEvent {
+        address: first_address(page, words)?,
         connection_id: id(words),
-    })
+    }))
 }
 
-fn connection_ready(page: &mut Page, words: &str) -> CmapEvent {
-    CmapEvent::from(ConnectionReadyEvent {
-        address: first_address(page, words),
+fn connection_ready(page: &mut Page, words: &str) -> Option<CmapEvent> {
+    Some(CmapEvent::from(ConnectionReadyEvent {
+        address: first_address(page, words)?,
         connection_id: id(words),
         duration: milliseconds(words),
-    })
+    }))
 }
 
-fn connection_closed(page: &mut Page, words: &str) -> CmapEvent {
-    CmapEvent::from(ConnectionClosedEvent {
-        address: first_address(page, words),
+fn connection_closed(page: &mut Page, words: &str) -> Option<CmapEvent> {
+    Some(CmapEvent::from(ConnectionClosedEvent {
+        address: first_address(page, words)?,
         connection_id: id(words),
         reason: closed_reason(value_of(words, "reason")),
         service_id: service(words),
-    })
+    }))
 }
 
-fn checkout_started(page: &mut Page, words: &str) -> CmapEvent {
-    CmapEvent::from(ConnectionCheckoutStartedEvent {
-        address: first_address(page, words),
-    })
+fn checkout_started(page: &mut Page, words: &str) -> Option<CmapEvent> {
+    Some(CmapEvent::from(ConnectionCheckoutStartedEvent {
+        address: first_address(page, words)?,
+    }))
 }
 
-fn checkout_failed(page: &mut Page, words: &str) -> CmapEvent {
-    CmapEvent::from(ConnectionCheckoutFailedEvent {
-        address: first_address(page, words),
+fn checkout_failed(page: &mut Page, words: &str) -> Option<CmapEvent> {
+    Some(CmapEvent::from(ConnectionCheckoutFailedEvent {
+        address: first_address(page, words)?,
         reason: failed_reason(value_of(words, "reason")),
         duration: milliseconds(words),
-    })
+    }))
 }
 
-fn checked_out(page: &mut Page, words: &str) -> CmapEvent {
-    CmapEvent::from(ConnectionCheckedOutEvent {
-        address: first_address(page, words),
+fn checked_out(page: &mut Page, words: &str) -> Option<CmapEvent> {
+    Some(CmapEvent::from(ConnectionCheckedOutEvent {
+        address: first_address(page, words)?,
         connection_id: id(words),
         duration: milliseconds(words),
-    })
+    }))
 }
 
-fn checked_in(page: &mut Page, words: &str) -> CmapEvent {
-    CmapEvent::from(ConnectionCheckedInEvent {
-        address: first_address(page, words),
+fn checked_in(page: &mut Page, words: &str) -> Option<CmapEvent> {
+    Some(CmapEvent::from(ConnectionCheckedInEvent {
+        address: first_address(page, words)?,
         connection_id: id(words),
-    })
+    }))
 }
 
 /// The event of a pool that has this name, and none where no such event has it.
 pub fn pool_event(page: &mut Page, name: &str, words: &str) -> Option<CmapEvent> {
     match name {
-        "PoolCreated" => Some(pool_created(page, words)),
-        "PoolReady" => Some(pool_ready(page, words)),
-        "PoolCleared" => Some(pool_cleared(page, words)),
-        "PoolClosed" => Some(pool_closed(page, words)),
-        "ConnectionCreated" => Some(connection_created(page, words)),
-        "ConnectionReady" => Some(connection_ready(page, words)),
-        "ConnectionClosed" => Some(connection_closed(page, words)),
-        "ConnectionCheckoutStarted" => Some(checkout_started(page, words)),
-        "ConnectionCheckoutFailed" => Some(checkout_failed(page, words)),
-        "ConnectionCheckedOut" => Some(checked_out(page, words)),
-        "ConnectionCheckedIn" => Some(checked_in(page, words)),
+        "PoolCreated" => pool_created(page, words),
+        "PoolReady" => pool_ready(page, words),
+        "PoolCleared" => pool_cleared(page, words),
+        "PoolClosed" => pool_closed(page, words),
+        "ConnectionCreated" => connection_created(page, words),
+        "ConnectionReady" => connection_ready(page, words),
+        "ConnectionClosed" => connection_closed(page, words),
+        "ConnectionCheckoutStarted" => checkout_started(page, words),
+        "ConnectionCheckoutFailed" => checkout_failed(page, words),
+        "ConnectionCheckedOut" => checked_out(page, words),
+        "ConnectionCheckedIn" => checked_in(page, words),
         _ => None,
     }
 }

@@ -13,10 +13,13 @@ use mdb_pool::parts::{Answered, Plan, apply, prepare};
 
 /// `pool would MOMENT PARTY`: why the pool refuses the party's request, if it does.
 pub fn would(page: &mut Page, core: &PoolCore, words: &str) {
+    let Some(address) = page.address("a:1") else {
+        return;
+    };
     let (moment, party) = parted(words);
     let step = Step {
         moment: number(moment),
-        act: Act::Request(small(party), page.address("a:1")),
+        act: Act::Request(small(party), address),
     };
     page.debug(&core.refusal_now(&step));
     drop(step);
@@ -41,10 +44,13 @@ fn finish(core: &mut PoolCore, plan: Plan, applies: bool)
 
 /// `pool plan MOMENT PARTY`: what the party's request is answered in the first part; the plan is dropped. `pool do MOMENT PARTY`: it is applied.
 pub fn request_in_parts(page: &mut Page, pool: &mut Pool, words: &str, applies: bool) {
+    let Some(address) = page.address("a:1") else {
+        return;
+    };
     let (moment, party) = parted(words);
     let steps = [Step {
         moment: number(moment),
-        act: Act::Request(small(party), page.address("a:1")),
+        act: Act::Request(small(party), address),
     }];
     let prepared = prepare(page.alloc, &mut pool.core, &steps);
     drop(steps);

@@ -24,13 +24,19 @@ fn take_step(page: &mut Page, pool: &mut Pool, moment: Moment, act: Act) -> Step
 
 fn request(page: &mut Page, pool: &mut Pool, moment: Moment, words: &str) -> Stepped {
     let (party, address) = parted(words);
-    let act = Act::Request(small(party), page.address(address));
+    let Some(address) = page.address(address) else {
+        return Ok(());
+    };
+    let act = Act::Request(small(party), address);
     take_step(page, pool, moment, act)
 }
 
 fn warm(page: &mut Page, pool: &mut Pool, moment: Moment, words: &str) -> Stepped {
     let (party, address) = parted(words);
-    let act = Act::Warm(small(party), page.address(address));
+    let Some(address) = page.address(address) else {
+        return Ok(());
+    };
+    let act = Act::Warm(small(party), address);
     take_step(page, pool, moment, act)
 }
 
@@ -96,12 +102,18 @@ fn unpin(page: &mut Page, pool: &mut Pool, moment: Moment, words: &str) -> Stepp
 }
 
 fn maintain(page: &mut Page, pool: &mut Pool, moment: Moment, words: &str) -> Stepped {
-    let act = Act::Maintain(page.address(words));
+    let Some(address) = page.address(words) else {
+        return Ok(());
+    };
+    let act = Act::Maintain(address);
     take_step(page, pool, moment, act)
 }
 
 fn expire(page: &mut Page, pool: &mut Pool, moment: Moment, words: &str) -> Stepped {
-    let act = Act::Expire(page.address(words));
+    let Some(address) = page.address(words) else {
+        return Ok(());
+    };
+    let act = Act::Expire(address);
     take_step(page, pool, moment, act)
 }
 
@@ -198,7 +210,10 @@ fn run_two(page: &mut Page, pool: &mut Pool, first: Act, second: Act) -> Stepped
 }
 
 fn run_both(page: &mut Page, pool: &mut Pool, words: &str) -> Stepped {
-    let first = Act::Request(1, page.address("a:1"));
+    let Some(address) = page.address("a:1") else {
+        return Ok(());
+    };
+    let first = Act::Request(1, address);
     let second = Act::Established(0, 1, made(words));
     run_two(page, pool, first, second)
 }

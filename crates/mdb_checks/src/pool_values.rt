@@ -60,7 +60,9 @@ fn tell_info(page: &mut Page, info: &ConnectionInfo) {
 }
 
 fn show_info(page: &mut Page, connection: &PooledConnection, server: &str) {
-    let address = page.address("a:1");
+    let Some(address) = page.address("a:1") else {
+        return;
+    };
     match connection.info(page.alloc, server.parse::<i64>().ok(), &address) {
         Ok(info) => tell_info(page, &info),
         Err(_) => page.fail(),

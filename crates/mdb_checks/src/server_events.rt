@@ -5,7 +5,7 @@ use crate::hello::{document, down};
 use crate::page::Page;
 use crate::pool_events::first_address;
 use crate::words::{number, parted, small, value_of};
-use mdb_base::{Document, ObjectId, OutOfMemory};
+use mdb_base::{Document, ObjectId, OutOfMemory, ServerAddress};
 use mdb_describe::{ServerDescription, TopologyDescription};
 use mdb_events::{
     SdamEvent, ServerClosedEvent, ServerDescriptionChangedEvent, ServerHeartbeatFailedEvent,
@@ -41,9 +41,8 @@ fn kept<T: Drop>(page: &mut Page, made: Result<T, OutOfMemory>) -> Option<T> {
 }
 
 // The description of a server of this type.
-fn server(page: &mut Page, address: &str, word: &str) -> Option<ServerDescription> {
-    let address = page.address(address);
-    let made = ServerDescription::new(page.alloc, &address);
+fn server(page: &mut Page, address: &ServerAddress, word: &str) -> Option<ServerDescription> {
+    let made = ServerDescription::new(page.alloc, address);
     let mut description = kept(page, made)?;
     description.server_type = server_type(word);
     Some(description)
@@ -57,15 +56,16 @@ fn topology(page: &mut Page, words: &str) -> Option<TopologyDescription> {
 }
 
 fn server_changed(page: &mut Page, words: &str) -> Option<SdamEvent> {
-    let (address, types) = parted(words);
+    let address = first_address(page, words)?;
+    let (_, types) = parted(words);
     let (old, new) = parted(types);
-    let previous_description = server(page, address, old)?;
-    let Some(new_description) = server(page, address, new) else {
+    let previous_description = server(page, &address, old)?;
+    let Some(new_description) = server(page, &address, new) else {
         drop(previous_description);
         return None;
     };
     Some(SdamEvent::from(ServerDescriptionChangedEvent {
-        address: first_address(page, words),
+        address,
         topology_id: TOPOLOGY,
         previous_description,
         new_description,
@@ -86,18 +86,18 @@ fn topology_changed(page: &mut Page, words: &str) -> Option<SdamEvent> {
     }))
 }
 
-fn server_opening(page: &mut Page, words: &str) -> SdamEvent {
-    SdamEvent::from(ServerOpeningEvent {
-        address: first_address(page, words),
+fn server_opening(page: &mut Page, words: &str) -> Option<SdamEvent> {
+    Some(SdamEvent::from(ServerOpeningEvent {
+        address: first_address(page, words)?,
         topology_id: TOPOLOGY,
-    })
+    }))
 }
 
-fn server_closed(page: &mut Page, words: &str) -> SdamEvent {
-    SdamEvent::from(ServerClosedEvent {
-        address: first_address(page, words),
+fn server_closed(page: &mut Page, words: &str) -> Option<SdamEvent> {
+    Some(SdamEvent::from(ServerClosedEvent {
+        address: first_address(page, words)?,
         topology_id: TOPOLOGY,
-    })
+    }))
 }
 
 fn topology_opening() -> SdamEvent {
@@ -128,49 +128,51 @@ fn nanoseconds(words: &str) -> u64 {
     number(value_of(words, "ns"))
 }
 
-fn heartbeat_started(page: &mut Page, words: &str) -> SdamEvent {
-    SdamEvent::from(ServerHeartbeatStartedEvent {
-        server_address: first_address(page, words),
+fn heartbeat_started(page: &mut Page, words: &str) -> Option<SdamEvent> {
+    Some(SdamEvent::from(ServerHeartbeatStartedEvent {
+        server_address: first_address(page, words)?,
         awaited: awaited(words),
         driver_connection_id: driver(words),
         server_connection_id: of_server(words),
-    })
+    }))
 }
 
-fn heartbeat_succeeded(page: &mut Page, words: &str) -> SdamEvent {
-    SdamEvent::from(ServerHeartbeatSucceededEvent {
+fn heartbeat_succeeded(page: &mut Page, words: &str) -> Option<SdamEvent> {
+    let server_address = first_address(page, words)?;
+    Some(SdamEvent::from(ServerHeartbeatSucceededEvent {
         duration: nanoseconds(words),
         reply: Document::new(document(page, words)),
-        server_address: first_address(page, words),
+        server_address,
         awaited: awaited(words),
         driver_connection_id: driver(words),
         server_connection_id: of_server(words),
-    })
+    }))
 }
 
-fn heartbeat_failed(page: &mut Page, words: &str) -> SdamEvent {
-    SdamEvent::from(ServerHeartbeatFailedEvent {
+fn heartbeat_failed(page: &mut Page, words: &str) -> Option<SdamEvent> {
+    let server_address = first_address(page, words)?;
+    Some(SdamEvent::from(ServerHeartbeatFailedEvent {
         duration: nanoseconds(words),
         failure: down(page),
-        server_address: first_address(page, words),
+        server_address,
         awaited: awaited(words),
         driver_connection_id: driver(words),
         server_connection_id: of_server(words),
-    })
+    }))
 }
 
 /// The event of a server or a topology that has this name, and none where no such event has it.
 pub fn server_event(page: &mut Page, name: &str, words: &str) -> Option<SdamEvent> {
     match name {
         "ServerDescriptionChanged" => server_changed(page, words),
-        "ServerOpening" => Some(server_opening(page, words)),
-        "ServerClosed" => Some(server_closed(page, words)),
+        "ServerOpening" => server_opening(page, words),
+        "ServerClosed" => server_closed(page, words),
         "TopologyDescriptionChanged" => topology_changed(page, words),
         "TopologyOpening" => Some(topology_opening()),
         "TopologyClosed" => Some(topology_closed()),
-        "ServerHeartbeatStarted" => Some(heartbeat_started(page, words)),
-        "ServerHeartbeatSucceeded" => Some(heartbeat_succeeded(page, words)),
-        "ServerHeartbeatFailed" => Some(heartbeat_failed(page, words)),
+        "ServerHeartbeatStarted" => heartbeat_started(page, words),
+        "ServerHeartbeatSucceeded" => heartbeat_succeeded(page, words),
+        "ServerHeartbeatFailed" => heartbeat_failed(page, words),
         _ => None,
     }
 }

@@ -26,9 +26,9 @@ fn failed(page: &mut Page, address: ServerAddress, words: &str) -> ServerDescrip
     ServerDescription::new_from_error(address, error)
 }
 
-fn reply(page: &mut Page, address: &ServerAddress, words: &str) -> HelloReply {
+fn reply(page: &mut Page, server_address: ServerAddress, words: &str) -> HelloReply {
     HelloReply {
-        server_address: page.same_address(address),
+        server_address,
         command_response: response(page, words),
         raw_command_response: Document::new(Doc {
             fields: Vec::new(page.alloc),
@@ -38,7 +38,8 @@ fn reply(page: &mut Page, address: &ServerAddress, words: &str) -> HelloReply {
 }
 
 fn replied(page: &mut Page, address: ServerAddress, words: &str) -> Option<ServerDescription> {
-    let reply = reply(page, &address, words);
+    let own = page.same_address(&address)?;
+    let reply = reply(page, own, words);
     let description = ServerDescription::new_from_hello_reply(page.alloc, address, reply, 1, 2);
     made(page, description)
 }
@@ -49,14 +50,14 @@ fn unknown(page: &mut Page, address: &ServerAddress) -> Option<ServerDescription
 }
 
 fn balancer(page: &mut Page, address: &ServerAddress) -> Option<ServerDescription> {
-    let address = page.same_address(address);
+    let address = page.same_address(address)?;
     Some(ServerDescription::new_load_balancer(address))
 }
 
-// The description of a server by its address, its kind and its fields; none where memory is short.
+// The description of a server by its address, its kind and its fields; none where the first word is no address, or where memory is short.
 pub fn server(page: &mut Page, given: &str) -> Option<ServerDescription> {
     let (host, words) = parted(given);
-    let address = page.address(host);
+    let address = page.address(host)?;
     match words {
         "" => unknown(page, &address),
         "balancer" => balancer(page, &address),
@@ -148,8 +149,13 @@ pub fn alike(page: &mut Page, given: &str) {
 /// `literal a:1 secondary set=foo me=A:1`: whether a server names its own address or none, in a reply that stands as it is.
 pub fn literal(page: &mut Page, given: &str) {
     let (host, words) = parted(given);
-    let address = page.address(host);
-    let reply = reply(page, &address, words);
+    let Some(address) = page.address(host) else {
+        return;
+    };
+    let Some(own) = page.same_address(&address) else {
+        return;
+    };
+    let reply = reply(page, own, words);
     let server = ServerDescription {
         address,
         server_type: reply.command_response.server_type(),

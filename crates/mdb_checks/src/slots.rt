@@ -1,10 +1,10 @@
-//! Cases of mdb_slots: records in a chain of slots, a table by number, and changes that are taken back and made again.
+//! Cases of mdb_slots: records in a chain of slots, a table by number, a set of numbers, and changes that are taken back and made again.
 
 ghost use Rattle.std.specs.Prelude.{◌≡◌};
 
 use crate::page::Page;
 use crate::words::small;
-use mdb_slots::{Keyed, SlotRef, SlotTable, Table, Touches, Turned};
+use mdb_slots::{Keyed, NumberSet, SlotRef, SlotTable, Table, Touches, Turned};
 
 /// A number, and what stands under it.
 #[derive(Drop)]
@@ -212,4 +212,35 @@ pub fn table(page: &mut Page, given: &str) {
     page.put(" / ");
     table.redo(redo);
     tell_table(page, &table);
+}
+
+fn insert_all(page: &mut Page, set: &mut NumberSet, given: &str) {
+    for word in given.split(' ') {
+        let number = small(word);
+        if !set.contains(number) && set.insert(number).is_err() {
+            page.fail();
+        }
+    }
+}
+
+// A plus for each of 1, 2 and 3 that is there, and a minus for each that is not.
+fn tell_set(page: &mut Page, set: &NumberSet) {
+    for number in 1..4 {
+        page.put(if set.contains(number) { "+" } else { "-" });
+    }
+}
+
+/// `set 1 3 1`: whether 1, 2 and 3 are in the set of these numbers and 2; without 2, which came last; and once that is made again.
+pub fn set(page: &mut Page, given: &str) {
+    let mut set = NumberSet::new(page.alloc);
+    insert_all(page, &mut set, given);
+    set.settle();
+    insert_all(page, &mut set, "2");
+    tell_set(page, &set);
+    page.put(" / ");
+    let redo = set.turn(page.alloc);
+    tell_set(page, &set);
+    page.put(" / ");
+    set.redo(redo);
+    tell_set(page, &set);
 }

@@ -143,7 +143,9 @@ fn stop(page: &mut Page, topology: &mut TopologyDescription) {
 
 // The server of this address: its type, and the counter of its version.
 fn server_of(page: &mut Page, topology: &TopologyDescription, given: &str) {
-    let address = page.address(given);
+    let Some(address) = page.address(given) else {
+        return;
+    };
     match topology.server(&address) {
         Some(server) => {
             tell_server(page, server);

@@ -1,8 +1,9 @@
 -- What the lists beside the tables of a pool say.
-use Rattle.std.proofs.Common.{◌≡◌, ℕ, Bool, true, false, not, ◌&&◌, ◌||◌, is_some, Option, Some, None, List, [], ◌∷◌, filter, find, length, refl, ◌∙◌, ap, arith}
+use Rattle.std.proofs.Common.{◌≡◌, ℕ, Bool, true, false, not, ◌&&◌, ◌||◌, Option, Some, None, List, [], ◌∷◌, filter, find, length, refl, ◌∙◌, ap, arith}
 use Rattle.std.proofs.lemmas.Grind.{common_steps}
 use Rattle.mdb_log.specs.Connections.{has}
-use Rattle.mdb_slots.specs.Keyed.{entry_at, last_after}
+use Rattle.mdb_slots.specs.Lists.{has as among}
+use Rattle.mdb_slots.specs.Keyed.{last_after}
 use Rattle.std.specs.List.{count_by}
 use Rattle.std.proofs.lemmas.List.{length-map}
 use Rattle.std.proofs.lemmas.List.Sums.{length-filter}
@@ -15,8 +16,8 @@ use Rattle.mdb_pool.specs.Kept.{last_from}
 use Rattle.mdb_pool.specs.declared.connection.Connection.{Connection}
 use Rattle.mdb_pool.specs.declared.request.Request.{Request}
 
--- a number is in a list where it is found there
-pub found_number : (k : ℕ) (ks : List ℕ) → is_some (entry_at (λ j. j) k ks) ≡ has k ks
+-- a number is in a list of a set of numbers where it is in the list
+pub found_number : (k : ℕ) (ks : List ℕ) → among k ks ≡ has k ks
 found_number k [] = refl
 found_number k (j ∷ js) = grind (arith, common_steps, found_number k js)
 

@@ -19,6 +19,9 @@ use Rattle.mdb_log.specs.State.{state_of}
 use Rattle.mdb_pool.specs.Facts.{all_ends, close_facts, closed_fact, pool_closed_fact}
 use Rattle.mdb_pool.specs.Kept.{connection_at, request_at, given_in, given_of, end_in, end_at, state_in, is_shut, unserved_in, holder_at, is_asked_at, numbers_asked}
 use Rattle.mdb_pool.specs.Places.{is_pending, is_available, is_queued}
+use Rattle.std.specs.List.{filter_map}
+use Rattle.mdb_pool.proofs.Unserved.{found-unserved, all-ended}
+use Rattle.mdb_pool.specs.Ended.{ended_all}
 use Rattle.mdb_pool.specs.Changes.{closing, closing_facts, shut_facts, off_facts, available_ones, pending_ones, unserved_ones, over_facts}
 use Rattle.mdb_log.specs.Legal.{AllFirstCome}
 use Rattle.mdb_log.specs.Own.{AllOwn, shuts}
@@ -276,3 +279,10 @@ closed-accepts s s1 t before after n q xs z shut s1_is home notes serves =
     (λ c. ap (has c) (notes.claimed ∙ ap (λ k. k.claimed) s1_is))
     tt
     tt
+
+-- the requests with the numbers of the unserved ones are these
+pub all-told : (s : PoolCore) (xs : List PoolItem) → Fits s xs → (ks : List ℕ) → ks ≡ map number_of (unserved_ones s) → filter (λ q. unserved_in s q.phase) (filter_map (request_at s) ks) ≡ unserved_ones s
+all-told s xs z ks e = ap (λ js. filter (λ q. unserved_in s q.phase) (filter_map (request_at s) js)) e ∙ found-unserved s (λ q i. req-at s xs z 0 q i)
+
+pub all-end : (s : PoolCore) (m : ℕ) (ks : List ℕ) → ks ≡ map number_of (unserved_ones s) → record (closing s m) { requests = ended_all s ks } ≡ closing s m
+all-end s m ks e = ap (λ qs. record (closing s m) { requests = qs }) (ap (ended_all s) e ∙ all-ended s)

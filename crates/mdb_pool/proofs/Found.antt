@@ -10,7 +10,7 @@ use Rattle.mdb_pool.specs.Core.{PoolCore}
 use Rattle.mdb_log.specs.History.{PoolItem}
 use Rattle.mdb_pool.specs.Serving.{last_of}
 use Rattle.mdb_pool.specs.Matching.{Matches}
-use Rattle.mdb_pool.specs.Kept.{connection_at, request_at, ids_where, numbers_where, first_queued, candidate_now, blocked_now, first_perished, perished_now, last_available, last_from, held_connection, if_held, given_in, given_of, if_pending, pending_connection, holder_at}
+use Rattle.mdb_pool.specs.Kept.{connection_at, request_at, ids_where, numbers_where, first_queued, candidate_now, blocked_now, first_perished, perished_now, last_available, last_from, held_given, held_connection, if_held, given_in, given_of, if_pending, pending_connection, holder_at}
 use Rattle.mdb_pool.specs.Places.{is_pending, is_available, is_held, is_at_pin, is_queued}
 use Rattle.mdb_log.proofs.Bools.{both-left, both-right}
 use Rattle.mdb_pool.proofs.Tables.{In, here, there, member-at, one_if-le, find-member, entry_at-key}
@@ -114,6 +114,10 @@ is-pinned Pending e = cc
 is-pinned Available e = cc
 is-pinned Held e = cc
 is-pinned Pinned e = refl
+
+-- what the request of a party was given, where the party holds it
+pub held-by : (s : PoolCore) (r : ℕ) (q : Request) (x : Connection) → Some q ≡ request_at s r → Some x ≡ held_given s (given_in q.phase) → held_connection s r ≡ Some x
+held-by s r q x e f = ap (λ o. held_given s (given_of o)) (sym e) ∙ sym f
 
 -- who holds a connection has a request that was given it
 pub record Holder (s : PoolCore) (r : ℕ) (x : Connection) (q : Request) : Type 0 where

@@ -70,6 +70,7 @@ pub mod Bodies
 pub mod SameKept
 mod Available
 pub mod Searches
-pub mod Overall
 pub mod Unserved
+pub mod UnservedCount
+pub mod WalksBack
 pub mod Marks

@@ -1,32 +1,27 @@
--- A number that was put into a list of numbers.
-use Rattle.std.proofs.Common.{◌≡◌, ℕ, Bool, true, false, not, ◌==◌, ◌&&◌, ◌||◌, List, [], ◌∷◌, refl, ◌∙◌, ap, subst, arith}
-use Rattle.std.proofs.lemmas.Grind.{common_steps}
+-- Numbers that are noted.
+use Rattle.std.proofs.Common.{◌≡◌, ℕ, Bool, true, false, ◌==◌, ◌||◌, List, [], ◌∷◌, ◌++◌, refl, sym, subst}
+use Rattle.std.proofs.Math.Bool.{or-false}
 use Rattle.mdb_log.specs.Connections.{has}
 use Rattle.mdb_log.proofs.Numbers.{has-append}
 use Rattle.mdb_slots.proofs.Numbers.{same-number}
-use Rattle.mdb_slots.specs.Keyed.{others}
 use Rattle.mdb_pool.specs.Keyed.{marked}
-
-has-others : (k r : ℕ) (ks : List ℕ) → has k (others (λ j. j) r ks) ≡ (has k ks && not (r == k))
-has-others k r [] = refl
-has-others k r (j ∷ js) = on (j == r) (j == k) refl refl (has-others k r js)
-  where
-    on : (b d : Bool) → (j == r) ≡ b → (j == k) ≡ d → has k (others (λ j. j) r js) ≡ (has k js && not (r == k)) → has k (others (λ j. j) r (j ∷ js)) ≡ (has k (j ∷ js) && not (r == k))
-    on true true e f h =
-        let w : (r == k) ≡ true = subst (λ i. (i == k) ≡ true) (same-number j r e) f in
-        grind (arith, common_steps, e, f, h, w)
-    on true false e f h = grind (arith, common_steps, e, f, h)
-    on false true e f h =
-        let w : (r == k) ≡ false = grind (arith, common_steps, e, f) in
-        grind (arith, common_steps, e, f, h, w)
-    on false false e f h = grind (arith, common_steps, e, f, h)
 
 -- it is there, and the others stay
 pub has-marked : (k r : ℕ) (ks : List ℕ) → has k (marked r ks) ≡ (has k ks || (r == k))
-has-marked k r ks = has-append k r (others (λ j. j) r ks) ∙ (ap (λ b. b || (r == k)) (has-others k r ks) ∙ either (has k ks) (r == k))
+has-marked k r ks = on (has r ks) refl
   where
-    either : (a b : Bool) → ((a && not b) || b) ≡ (a || b)
-    either true true = refl
-    either true false = refl
-    either false true = refl
-    either false false = refl
+    there : (b : Bool) → (r == k) ≡ b → has r ks ≡ true → has k ks ≡ (has k ks || (r == k))
+    there true f e = let w : has k ks ≡ true = subst (λ i. has i ks ≡ true) (same-number r k f) e in rw w refl
+    there false f e = rw f (sym (or-false (has k ks)))
+
+    on : (b : Bool) → has r ks ≡ b → has k (marked r ks) ≡ (has k ks || (r == k))
+    on true e = rw e (there (r == k) refl e)
+    on false e = rw e (has-append k r ks)
+
+-- a number that is there is not noted again
+pub marked-again : (k : ℕ) (ks : List ℕ) → has k ks ≡ true → ks ≡ marked k ks
+marked-again k ks e = rw e refl
+
+-- and a new one comes last
+pub marked-new : (k : ℕ) (ks : List ℕ) → has k ks ≡ false → ks ++ k ∷ [] ≡ marked k ks
+marked-new k ks e = rw e refl

@@ -15,7 +15,7 @@ use Rattle.mdb_pool.specs.Places.{is_pending, is_available, is_queued}
 use Rattle.mdb_log.specs.declared.step.Use.TheVariants.{Ok}
 use Rattle.mdb_log.proofs.Pins.{pinned-again, queued-asked}
 use Rattle.mdb_pool.specs.Changes.{asking, creating, granting, spawning}
-use Rattle.mdb_pool.proofs.Tables.{entry_at-put, named, named-put, length-put, passes, has-where, where-put_out, where-put_stay, where-put_in, entry_at-swap, named-swap, where-swap_out}
+use Rattle.mdb_pool.proofs.Tables.{entry_at-put, named, named-put, length-put, passes, has-where, where-put_out, where-put_stay, where-put_in, entry_at-swap, named-swap, length-swap, where-swap_out, where-swap_stay}
 
 without-one : (o : Option ℕ) (r : ℕ) → without r (one_party o) ≡ if is_number o r then [] else one_party o
 without-one None r = refl
@@ -62,7 +62,7 @@ module _ (s : PoolCore) (xs : List PoolItem) (m : Matches s xs) (x : Connection)
   granted_q = record q { phase = Given x.id }
 
   new_connection : (c : ℕ) → connection_at (granting s x q) c ≡ if x.id == c then Some granted_x else connection_at s c
-  new_connection c = entry_at-put id_of c granted_x s.connections
+  new_connection c = entry_at-swap id_of c granted_x s.connections (ap is_some at_x)
 
   pub new_request : (r : ℕ) → request_at (granting s x q) r ≡ if q.number == r then Some granted_q else request_at s r
   new_request r = entry_at-swap number_of r granted_q s.requests (ap is_some at_q)
@@ -77,10 +77,10 @@ module _ (s : PoolCore) (xs : List PoolItem) (m : Matches s xs) (x : Connection)
   grant-matches cold = record {
     counts = record {
       created = m.counts.created;
-      live_all = grind (arith, m.counts.live_all, length-put id_of granted_x s.connections, m.counts.single x.id);
-      pending = m.counts.pending ∙ sym (where-put_stay id_of (λ y. is_pending y.place) granted_x s.connections refl (m.counts.single x.id) (ap (passes id_of (λ y. is_pending y.place)) at_x ∙ ap is_pending place));
-      available = ap (without x.id) m.counts.available ∙ sym (where-put_out id_of (λ y. is_available y.place) granted_x s.connections refl);
-      single = λ c. grind (arith, named-put id_of c granted_x s.connections, new_connection c, m.counts.single c);
+      live_all = m.counts.live_all ∙ sym (length-swap id_of granted_x s.connections);
+      pending = m.counts.pending ∙ sym (where-swap_stay id_of (λ y. is_pending y.place) granted_x s.connections refl (m.counts.single x.id) (ap (passes id_of (λ y. is_pending y.place)) at_x ∙ ap is_pending place));
+      available = ap (without x.id) m.counts.available ∙ sym (where-swap_out id_of (λ y. is_available y.place) granted_x s.connections refl);
+      single = λ c. grind (arith, named-swap id_of c granted_x s.connections, new_connection c, m.counts.single c);
       unused = λ c h. grind (arith, new_connection c, m.counts.unused c h);
     };
     connections = record {

@@ -1,5 +1,5 @@
 -- What a request does is the answer to its step.
-use Rattle.std.proofs.Common.{ℕ, ◌≡◌, Bool, true, false, not, ◌||◌, ◌==◌, List, [], ◌∷◌, ◌++◌, find, Some, None, refl, sym, ◌∙◌, ap, subst, if◌then◌else◌, ◌&&◌, ◌-◌, Option, arith, append_assoc, append-nil}
+use Rattle.std.proofs.Common.{ℕ, ◌≡◌, Bool, true, false, not, ◌||◌, ◌==◌, List, [], ◌∷◌, ◌++◌, find, Some, None, refl, sym, ◌∙◌, ap, subst, if◌then◌else◌, ◌&&◌, ◌-◌, Option, is_some, arith, append_assoc, append-nil}
 use Rattle.mdb_events.specs.declared.fact.Fact.{Fact}
 use Rattle.mdb_events.specs.declared.fact.Fact.TheVariants.{Granted}
 use Rattle.mdb_events.specs.declared.end.End.{End}
@@ -31,7 +31,8 @@ use Rattle.mdb_log.specs.State.{state_of}
 use Rattle.mdb_log.specs.Legal.{AllFirstCome}
 use Rattle.mdb_log.specs.Own.{shuts, AllOwn}
 use Rattle.mdb_slots.specs.Keyed.{entry_at, put}
-use Rattle.mdb_pool.proofs.Tables.{entry_at-put, swap-put, find-put, find-narrow}
+use Rattle.mdb_pool.proofs.Tables.{entry_at-put, entry_at-swap, swap-put, find-put, find-narrow}
+use Rattle.mdb_pool.proofs.Found.{available-at}
 use Rattle.mdb_pool.proofs.Staleness.{ready-status}
 use Rattle.mdb_pool.proofs.Serving.{starts, turn-meet-to, ends-empty}
 
@@ -185,16 +186,16 @@ module _ (s : PoolCore) (n r : ℕ) (x : Connection) (absent : request_at s r �
       (turn-meet-to asked_s asked_s given_s (record { pool = refl; address = refl; options = refl }) n before before after xs asked_q x (starts asked_s n before xs z) m.ready candidate-first refl m.last meets (told ∙ ap (λ fs. before ++ fs) facts_are))
       (ready-status s.status m.ready) candidate-none
 
-  outcome-pooled : outcome_now given_s r ≡ Pooled s.pool x.id
-  outcome-pooled =
+  outcome-pooled : connection_at s x.id ≡ Some x → outcome_now given_s r ≡ Pooled s.pool x.id
+  outcome-pooled there =
       let at_r : request_at given_s r ≡ Some given_q = ap (entry_at (λ (k : Request). k.number) r) requests-are ∙ (entry_at-put (λ (k : Request). k.number) r given_q s.requests ∙ rw (same-number r) refl) in
-      let at_x : connection_at given_s x.id ≡ Some (handed s x r) = entry_at-put (λ (y : Connection). y.id) x.id (handed s x r) s.connections ∙ rw (same-number x.id) refl in
+      let at_x : connection_at given_s x.id ≡ Some (handed s x r) = entry_at-swap (λ (y : Connection). y.id) x.id (handed s x r) s.connections (ap is_some there) ∙ rw (same-number x.id) refl in
       rw (at_r, at_x) refl
 
-  told-at-once : granting_at_once s n r x ≡ telling given_s r
-  told-at-once =
+  told-at-once : connection_at s x.id ≡ Some x → granting_at_once s n r x ≡ telling given_s r
+  told-at-once there =
       ap (λ qs. record (granting_at_once s n r x) { requests = qs }) (sym requests-are)
-      ∙ sym (ap (λ o. record given_s { settled = if is_outcome o then marked r given_s.settled else given_s.settled }) outcome-pooled)
+      ∙ sym (ap (λ o. record given_s { settled = if is_outcome o then marked r given_s.settled else given_s.settled }) (outcome-pooled there))
 
 pub at-once-accepts : (s u : PoolCore) (before after : List Fact) (n r : ℕ) (x : Connection) (reply : Reply) (xs : List PoolItem) → Fits s xs
     → request_at s r ≡ None → ready_connection s n ≡ Some x → u ≡ granting_at_once s n r x
@@ -204,10 +205,11 @@ at-once-accepts s u before after n r x reply xs z absent e u_is told reply_is =
     let m : MeetsAtOnce s n x = meets-at-once s n x e in
     let asked_s : PoolCore = asking s r n false in
     let begun : List Fact = before ++ started_fact s.pool s.address ∷ [] in
+    let there : connection_at s x.id ≡ Some x = (available-at s xs z.matches x m.last).0 in
     let stays : away_end s.status ≡ None = rw (ready-status s.status m.ready) refl in
     request-accepts s asked_s asked_s (given_s s n r x absent m) u before begun begun after n r reply xs z absent refl refl
     (sym (ap (away asked_s r n false) stays))
     (sym (ap (λ o. begun ++ away_facts asked_s r false o) stays ∙ append-nil begun))
     (record { pool = refl; address = refl; options = refl }) (record { settled = refl; claimed = refl; status = refl })
     (λ k v. serves-once s n r x absent m begun after k (told ∙ sym (append_assoc before (started_fact s.pool s.address ∷ []) (Granted r s.pool x.id ∷ checked_out_fact s.pool s.address x.id 0 ∷ []))) v)
-    (u_is ∙ told-at-once s n r x absent m) (reply_is ∙ sym (outcome-pooled s n r x absent m))
+    (u_is ∙ told-at-once s n r x absent m there) (reply_is ∙ sym (outcome-pooled s n r x absent m there))

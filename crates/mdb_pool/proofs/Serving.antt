@@ -6,7 +6,7 @@ use Rattle.mdb_events.specs.declared.fact.Fact.TheVariants.{Granted, Ended}
 use Rattle.mdb_events.specs.declared.end.End.TheVariants.{Warmed}
 use Rattle.mdb_log.specs.declared.options.PoolOptions.{PoolOptions}
 use Rattle.mdb_pool.specs.declared.connection.Connection.{Connection}
-use Rattle.mdb_pool.specs.declared.connection.Place.TheVariants.{Pending, Available, Held}
+use Rattle.mdb_pool.specs.declared.connection.Place.TheVariants.{Pending, Available}
 use Rattle.mdb_pool.specs.declared.status.Status.TheVariants.{Ready}
 use Rattle.mdb_events.specs.declared.reasons.ConnectionClosedReason.{ConnectionClosedReason}
 use Rattle.mdb_pool.specs.declared.request.Request.{Request}
@@ -21,7 +21,7 @@ use Rattle.mdb_pool.specs.Serving.{last_of, wants_connection, is_blocked, candid
 use Rattle.mdb_pool.specs.Facts.{created_fact, checked_out_fact, perished, closed_fact}
 use Rattle.mdb_pool.specs.Standing.{Fits, SameHome, SameNotes, Serves}
 use Rattle.mdb_pool.specs.Kept.{connection_at, request_at, ids_where, numbers_where, pending_count, candidate_now, blocked_now, wants_now, last_available, has_room, given_in, asked_at_of, warm_of, timeouts_in, is_ready_now, idle_since, perished_now}
-use Rattle.mdb_pool.specs.Changes.{creating, granting, ending, warming, warming_facts, discarding, meeting, meeting_facts}
+use Rattle.mdb_pool.specs.Changes.{creating, handed, granting, ending, warming, warming_facts, discarding, meeting, meeting_facts}
 use Rattle.mdb_log.specs.declared.step.Use.TheVariants.{Ok}
 use Rattle.mdb_pool.specs.Places.{is_pending, is_available, is_queued}
 use Rattle.mdb_pool.proofs.Tables.{In, member-has, here as head_in, there, find-member, member-at, one_if-le, length-without, length-where, where-put_out, map-filter-others, passes, has-where, where-swap_out, length-without_has}
@@ -264,7 +264,7 @@ turn-create-to s t u home n before after facts xs q g r e cold f room new added 
 smaller-grant : (t : PoolCore) (q : Request) (x : Connection) → candidate_now t ≡ Some q → load (granting t x q) < load t
 smaller-grant t q x e =
     let a : length (numbers_where is_queued (granting t x q).requests) < length (numbers_where is_queued t.requests) = queue-falls t q (Given x.id) e refl in
-    let b : length (ids_where is_available (granting t x q).connections) ≤ length (ids_where is_available t.connections) = available-stays (record x { place = Held; party = Some q.number; holder = Some q.number; timeouts = timeouts_in t.clears }) t.connections refl in
+    let b : length (ids_where is_available (granting t x q).connections) ≤ length (ids_where is_available t.connections) = rw (where-swap_out (λ (y : Connection). y.id) (λ y. is_available y.place) (handed t x q.number) t.connections refl) (length-without x.id (ids_where is_available t.connections)) in
     omega arith
 
 pub smaller-create : (t u : PoolCore) (n : ℕ) (q : Request) → candidate_now t ≡ Some q → u ≡ creating t n q → load u < load t

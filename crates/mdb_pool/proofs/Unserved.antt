@@ -1,5 +1,5 @@
 -- The requests of a pool end that nothing was handed to, one after another.
-use Rattle.std.proofs.Common.{◌≡◌, ℕ, suc, ◌<◌, ◌==◌, Bool, true, false, Option, Some, None, List, [], ◌∷◌, ◌++◌, map, length, refl, sym, ◌∙◌, ap, subst, arith, if◌then◌else◌, ◌-◌, filter, append_assoc, append-nil}
+use Rattle.std.proofs.Common.{◌≡◌, ℕ, ◌==◌, Bool, true, false, Option, Some, None, List, [], ◌∷◌, ◌++◌, map, refl, sym, ◌∙◌, ap, subst, arith, if◌then◌else◌, ◌-◌, filter, append_assoc, append-nil}
 use Rattle.mdb_events.specs.declared.end.End.TheVariants.{Closed as ClosedEnd}
 use Rattle.std.proofs.lemmas.Grind.{common_steps}
 use Rattle.mdb_slots.specs.Keyed.{after_key, rest_of, entry_at, swap}
@@ -13,10 +13,14 @@ use Rattle.mdb_pool.specs.declared.request.Request.{Request}
 use Rattle.mdb_pool.specs.declared.request.Phase.TheVariants.{Ended as EndedPhase}
 use Rattle.mdb_pool.specs.Core.{PoolCore}
 use Rattle.mdb_pool.specs.Kept.{unserved_in, request_at}
-use Rattle.mdb_pool.proofs.Tables.{entry_at-key}
-use Rattle.mdb_pool.specs.Changes.{ended_request, ended_one, number_in, over_facts, off_facts, shut_facts}
+use Rattle.mdb_pool.proofs.Tables.{In, here, there, entry_at-key, member-has}
+use Rattle.mdb_log.specs.Connections.{has as member}
+use Rattle.mdb_log.proofs.Numbers.{has-append}
+use Rattle.std.specs.List.{filter_map}
+use Rattle.std.proofs.lemmas.List.Elements.{filter-append, filter_map-append}
+use Rattle.mdb_pool.specs.Ended.{ended_all}
+use Rattle.mdb_pool.specs.Changes.{ended_request, ended_one, over_facts, off_facts, shut_facts, unserved_ones}
 use Rattle.mdb_pool.specs.Facts.{closed_fact}
-use Rattle.mdb_pool.proofs.Overall.{Walk, walk-begins, walk-goes, walk-ends, walk-less, left_at}
 
 abbrev pub number_of : Request → ℕ
 number_of q = q.number
@@ -35,16 +39,6 @@ ended-again s q = on (unserved_in s q.phase) refl
     on true w = rw w refl
     on false w = rw (w, w) refl
 
--- all requests before one of this number have ended that nothing was handed to
-pub record Unserved (s t : PoolCore) (next : Option ℕ) : Type 0 where
-  pub at : Option Request
-  pub is_at : next ≡ number_in at
-  pub walk : Walk number_of (ended_request s) (ended-number s) (ended-again s) s.requests t.requests at
-  pub rest : t ≡ record s { requests = t.requests }
-
-pub unserved-starts : (s : PoolCore) (at : Option Request) → rest_of number_of at s.requests ≡ s.requests → Unserved s s (number_in at)
-unserved-starts s at e = record { at = at; is_at = refl; walk = walk-begins number_of (ended_request s) (ended-number s) (ended-again s) s.requests at e; rest = refl }
-
 -- the connections alone tell what is unserved
 same-ends : (s t : PoolCore) (k : ℕ) → t ≡ record s { requests = t.requests } → ended_one t k ≡ map (λ q. if q.number == k then ended_request s q else q) t.requests
 same-ends s t k e = ap (λ u. map (λ q. if q.number == k then ended_request u q else q) t.requests) e ∙ each t.requests
@@ -56,66 +50,62 @@ same-ends s t k e = ap (λ u. map (λ q. if q.number == k then ended_request u q
     each [] = refl
     each (q ∷ qs) = rw (one q, each qs) refl
 
-module _ (s t u : PoolCore) (k : ℕ) (v : Unserved s t (Some k)) (core : u ≡ record t { requests = ended_one t k }) (next : Option Request) (rest : rest_of number_of next u.requests ≡ after_key number_of k u.requests) where
-  changed : u.requests ≡ map (λ q. if q.number == k then ended_request s q else q) t.requests
-  changed = ap (λ c. c.requests) core ∙ same-ends s t k v.rest
-
-  pub unserved-less : left_at number_of (number_in next) u.requests < left_at number_of (Some k) t.requests
-  unserved-less = on next rest
-    where
-      on : (next : Option Request) → rest_of number_of next u.requests ≡ after_key number_of k u.requests → left_at number_of (number_in next) u.requests < left_at number_of (Some k) t.requests
-      on None e = omega arith
-      on (Some q) e = subst (λ qs. rest_of number_of (Some q) qs ≡ after_key number_of k qs → suc (length (after_key number_of q.number qs)) < left_at number_of (Some k) t.requests) (sym changed)
-          (λ e. walk-less number_of (ended_request s) (ended-number s) (ended-again s) t.requests k (Some q) e) e
-
-  pub unserved-goes : Unserved s u (number_in next)
-  unserved-goes = on v.at v.is_at v.walk
-    where
-      on : (at : Option Request) → Some k ≡ number_in at → Walk number_of (ended_request s) (ended-number s) (ended-again s) s.requests t.requests at → Unserved s u (number_in next)
-      on None e w = cc
-      on (Some q) e w =
-          let same : k ≡ q.number = cc in
-          let led = subst (λ qs. rest_of number_of next qs ≡ after_key number_of k qs) changed rest in
-          record {
-            at = next;
-            is_at = refl;
-            walk = subst (λ qs. Walk number_of (ended_request s) (ended-number s) (ended-again s) s.requests qs next) (sym (changed ∙ ap (λ j. map (λ q. if q.number == j then ended_request s q else q) t.requests) same))
-                (walk-goes number_of (ended_request s) (ended-number s) (ended-again s) s.requests t.requests q next w (subst (λ j. rest_of number_of next (map (λ q. if q.number == j then ended_request s q else q) t.requests) ≡ after_key number_of j (map (λ q. if q.number == j then ended_request s q else q) t.requests)) same led));
-            rest =
-                let moved : record t { requests = ended_one t k } ≡ record s { requests = ended_one t k } = ap (λ (c : PoolCore). record c { requests = ended_one t k }) v.rest in
-                let named : record s { requests = ended_one t k } ≡ record s { requests = u.requests } = ap (λ (qs : List Request). record s { requests = qs }) (sym (ap (λ (c : PoolCore). c.requests) core)) in
-                core ∙ (moved ∙ named);
-          }
-
-pub unserved-ends : (s t : PoolCore) → Unserved s t None → t ≡ record s { requests = map (ended_request s) s.requests }
-unserved-ends s t v = v.rest ∙ ap (λ qs. record s { requests = qs }) (on v.at v.is_at v.walk)
+pub none-ended : (s : PoolCore) → s ≡ record s { requests = ended_all s [] }
+none-ended s = ap (λ (qs : List Request). record s { requests = qs }) (each s.requests)
   where
-    on : (at : Option Request) → None ≡ number_in at → Walk number_of (ended_request s) (ended-number s) (ended-again s) s.requests t.requests at → t.requests ≡ map (ended_request s) s.requests
-    on None e w = walk-ends number_of (ended_request s) (ended-number s) (ended-again s) s.requests t.requests w
-    on (Some q) e w = cc
+    each : (qs : List Request) → qs ≡ map (λ q. if member q.number [] then ended_request s q else q) qs
+    each [] = refl
+    each (q ∷ qs) = ap (λ rs. q ∷ rs) (each qs)
+
+both : {x y : Request} {xs ys : List Request} → x ≡ y → xs ≡ ys → x ∷ xs ≡ y ∷ ys
+both {x} {y} {xs} {ys} e f = ap (λ z. z ∷ xs) e ∙ ap (λ zs. y ∷ zs) f
+
+-- one more of them ends
+pub one-more-ended : (s t u : PoolCore) (rs : List ℕ) (k : ℕ) → t ≡ record s { requests = ended_all s rs } → u ≡ record t { requests = ended_one t k } → u ≡ record s { requests = ended_all s (rs ++ k ∷ []) }
+one-more-ended s t u rs k e f = f ∙ (ap (λ (c : PoolCore). record c { requests = ended_one t k }) e ∙ ap (λ (qs : List Request). record s { requests = qs }) changed)
+  where
+    each : (qs : List Request) → map (λ q. if q.number == k then ended_request s q else q) (map (λ q. if member q.number rs then ended_request s q else q) qs) ≡ map (λ q. if member q.number (rs ++ k ∷ []) then ended_request s q else q) qs
+    each [] = refl
+    each (q ∷ qs) = on (member q.number rs) (k == q.number) refl refl (each qs)
+      where
+        turned : (b : Bool) → (k == q.number) ≡ b → (q.number == k) ≡ b
+        turned true w = grind arith
+        turned false w = grind arith
+
+        on : (a b : Bool) → member q.number rs ≡ a → (k == q.number) ≡ b → map (λ q. if q.number == k then ended_request s q else q) (map (λ q. if member q.number rs then ended_request s q else q) qs) ≡ map (λ q. if member q.number (rs ++ k ∷ []) then ended_request s q else q) qs
+            → map (λ q. if q.number == k then ended_request s q else q) (map (λ q. if member q.number rs then ended_request s q else q) (q ∷ qs)) ≡ map (λ q. if member q.number (rs ++ k ∷ []) then ended_request s q else q) (q ∷ qs)
+        on true true v w more = rw (has-append q.number k rs, v) (both (ap (λ b. if b then ended_request s (ended_request s q) else ended_request s q) (ap (λ n. n == k) (ended-number s q) ∙ turned true w) ∙ ended-again s q) more)
+        on true false v w more = rw (has-append q.number k rs, v) (both (ap (λ b. if b then ended_request s (ended_request s q) else ended_request s q) (ap (λ n. n == k) (ended-number s q) ∙ turned false w)) more)
+        on false true v w more = rw (has-append q.number k rs, v, w, turned true w) (both refl more)
+        on false false v w more = rw (has-append q.number k rs, v, w, turned false w) (both refl more)
+
+    changed : ended_one t k ≡ ended_all s (rs ++ k ∷ [])
+    changed = same-ends s t k (e ∙ ap (λ (qs : List Request). record s { requests = qs }) (sym (ap (λ (c : PoolCore). c.requests) e)))
+        ∙ (ap (map (λ q. if q.number == k then ended_request s q else q)) (ap (λ (c : PoolCore). c.requests) e) ∙ each s.requests)
+
+-- where they are those that nothing was handed to, all such requests end
+pub all-ended : (s : PoolCore) → ended_all s (map number_of (unserved_ones s)) ≡ map (ended_request s) s.requests
+all-ended s = each s.requests (λ q i. i)
+  where
+    each : (qs : List Request) → ((q : Request) → In q qs → In q s.requests) → map (λ q. if member q.number (map number_of (unserved_ones s)) then ended_request s q else q) qs ≡ map (ended_request s) qs
+    each [] all = refl
+    each (q ∷ qs) all = on (unserved_in s q.phase) refl (each qs (λ r i. all r (there i)))
+      where
+        stays : (b : Bool) → unserved_in s q.phase ≡ false → (if b then ended_request s q else q) ≡ ended_request s q
+        stays true u = refl
+        stays false u = rw u refl
+
+        on : (b : Bool) → unserved_in s q.phase ≡ b → map (λ q. if member q.number (map number_of (unserved_ones s)) then ended_request s q else q) qs ≡ map (ended_request s) qs → map (λ q. if member q.number (map number_of (unserved_ones s)) then ended_request s q else q) (q ∷ qs) ≡ map (ended_request s) (q ∷ qs)
+        on true u more =
+            let h : member q.number (map number_of (unserved_ones s)) ≡ true = member-has number_of (λ r. unserved_in s r.phase) q s.requests (all q here) u in
+            rw (h, more) refl
+        on false u more = ap (λ r. r ∷ map (λ q. if member q.number (map number_of (unserved_ones s)) then ended_request s q else q) qs) (stays (member q.number (map number_of (unserved_ones s))) u) ∙ ap (λ rs. ended_request s q ∷ rs) more
 
 -- a connection is closed, and the facts of those after it are left
 pub shut-on : (s : PoolCore) (ys : List Connection) (before after : List Fact) (x : Connection) (at next : Option Connection) → at ≡ Some x → rest_of (λ x. x.id) next ys ≡ after_key (λ x. x.id) x.id ys
     → after ≡ before ++ closed_fact s.pool s.address x.id PoolClosedReason x.service ∷ []
     → after ++ shut_facts s (rest_of (λ x. x.id) next ys) ≡ before ++ shut_facts s (rest_of (λ x. x.id) at ys)
 shut-on s ys before after x at next is e f = rw (e, f, is) (append_assoc before (closed_fact s.pool s.address x.id PoolClosedReason x.service ∷ []) (shut_facts s (after_key (λ x. x.id) x.id ys)))
-
--- the fact of a request is told, and those of the requests after it are left
-off-on : (s : PoolCore) (m : ℕ) (qs : List Request) (before after : List Fact) (q : Request) (next : Option Request) → rest_of number_of next qs ≡ after_key number_of q.number qs
-    → unserved_in s q.phase ≡ true → after ≡ before ++ over_facts s q.number q.warm (m - q.asked_at) ClosedEnd
-    → after ++ off_facts s m (filter (λ q. unserved_in s q.phase) (rest_of number_of next qs)) ≡ before ++ off_facts s m (filter (λ q. unserved_in s q.phase) (rest_of number_of (Some q) qs))
-off-on s m qs before after q next e u f = rw (e, f) (append_assoc before (over_facts s q.number q.warm (m - q.asked_at) ClosedEnd) (off_facts s m (filter (λ q. unserved_in s q.phase) (after_key number_of q.number qs))) ∙ ap (λ k. before ++ k) (sym (told (after_key number_of q.number qs))))
-  where
-    told : (rs : List Request) → off_facts s m (filter (λ q. unserved_in s q.phase) (q ∷ rs)) ≡ over_facts s q.number q.warm (m - q.asked_at) ClosedEnd ++ off_facts s m (filter (λ q. unserved_in s q.phase) rs)
-    told rs = rw u refl
-
-off-past : (s : PoolCore) (m : ℕ) (qs : List Request) (before : List Fact) (q : Request) (next : Option Request) → rest_of number_of next qs ≡ after_key number_of q.number qs
-    → unserved_in s q.phase ≡ false
-    → before ++ off_facts s m (filter (λ q. unserved_in s q.phase) (rest_of number_of next qs)) ≡ before ++ off_facts s m (filter (λ q. unserved_in s q.phase) (rest_of number_of (Some q) qs))
-off-past s m qs before q next e u = rw e (ap (λ k. before ++ off_facts s m k) (sym (past (after_key number_of q.number qs))))
-  where
-    past : (rs : List Request) → filter (λ q. unserved_in s q.phase) (q ∷ rs) ≡ filter (λ q. unserved_in s q.phase) rs
-    past rs = rw u refl
 
 -- what is told of one request
 pub off-one : (s : PoolCore) (m : ℕ) (q : Request) → unserved_in s q.phase ≡ true → over_facts s q.number q.warm (m - q.asked_at) ClosedEnd ≡ off_facts s m (filter (λ q. unserved_in s q.phase) (q ∷ []))
@@ -124,15 +114,44 @@ off-one s m q u = rw u (sym (append-nil (over_facts s q.number q.warm (m - q.ask
 pub off-none : (s : PoolCore) (m : ℕ) (before : List Fact) (q : Request) → unserved_in s q.phase ≡ false → before ≡ before ++ off_facts s m (filter (λ q. unserved_in s q.phase) (q ∷ []))
 off-none s m before q u = rw u (sym (append-nil before))
 
--- and what of those after it is left
-pub off-told : (s : PoolCore) (m : ℕ) (qs : List Request) (before after : List Fact) (q : Request) (at next : Option Request) → at ≡ Some q → rest_of number_of next qs ≡ after_key number_of q.number qs
-    → after ≡ before ++ off_facts s m (filter (λ q. unserved_in s q.phase) (q ∷ []))
-    → after ++ off_facts s m (filter (λ q. unserved_in s q.phase) (rest_of number_of next qs)) ≡ before ++ off_facts s m (filter (λ q. unserved_in s q.phase) (rest_of number_of at qs))
-off-told s m qs before after q at next is e f = on (unserved_in s q.phase) refl ∙ ap (λ o. before ++ off_facts s m (filter (λ q. unserved_in s q.phase) (rest_of number_of o qs))) (sym is)
+-- what is told of more requests
+off-told : (s : PoolCore) (m : ℕ) (qs ks : List Request) (first before after : List Fact) → before ≡ first ++ off_facts s m (filter (λ r. unserved_in s r.phase) qs) → after ≡ before ++ off_facts s m (filter (λ r. unserved_in s r.phase) ks)
+    → after ≡ first ++ off_facts s m (filter (λ r. unserved_in s r.phase) (qs ++ ks))
+off-told s m qs ks first before after e f =
+    f ∙ (ap (λ fs. fs ++ off_facts s m (filter (λ r. unserved_in s r.phase) ks)) e
+    ∙ (append_assoc first (off_facts s m (filter (λ r. unserved_in s r.phase) qs)) (off_facts s m (filter (λ r. unserved_in s r.phase) ks))
+    ∙ ap (λ fs. first ++ fs) (sym (off-both (filter (λ r. unserved_in s r.phase) qs) (filter (λ r. unserved_in s r.phase) ks)) ∙ ap (off_facts s m) (sym (filter-append (λ r. unserved_in s r.phase) qs ks)))))
   where
-    on : (b : Bool) → unserved_in s q.phase ≡ b → after ++ off_facts s m (filter (λ q. unserved_in s q.phase) (rest_of number_of next qs)) ≡ before ++ off_facts s m (filter (λ q. unserved_in s q.phase) (rest_of number_of (Some q) qs))
-    on true u = off-on s m qs before after q next e u (f ∙ ap (λ k. before ++ k) (sym (off-one s m q u)))
-    on false u = ap (λ k. k ++ off_facts s m (filter (λ q. unserved_in s q.phase) (rest_of number_of next qs))) (f ∙ sym (off-none s m before q u)) ∙ off-past s m qs before q next e u
+    off-both : (rs ks : List Request) → off_facts s m (rs ++ ks) ≡ off_facts s m rs ++ off_facts s m ks
+    off-both [] ks = refl
+    off-both (r ∷ rs) ks = ap (λ fs. over_facts s r.number r.warm (m - r.asked_at) ClosedEnd ++ fs) (off-both rs ks) ∙ sym (append_assoc (over_facts s r.number r.warm (m - r.asked_at) ClosedEnd) (off_facts s m rs) (off_facts s m ks))
+
+-- what is told of one more number
+pub number-told : (s : PoolCore) (m : ℕ) (ks : List ℕ) (k : ℕ) (first before after : List Fact) → before ≡ first ++ off_facts s m (filter (λ r. unserved_in s r.phase) (filter_map (request_at s) ks))
+    → after ≡ before ++ off_facts s m (filter (λ r. unserved_in s r.phase) (filter_map (request_at s) (k ∷ []))) → after ≡ first ++ off_facts s m (filter (λ r. unserved_in s r.phase) (filter_map (request_at s) (ks ++ k ∷ [])))
+number-told s m ks k first before after e f =
+    off-told s m (filter_map (request_at s) ks) (filter_map (request_at s) (k ∷ [])) first before after e f
+    ∙ ap (λ rs. first ++ off_facts s m (filter (λ r. unserved_in s r.phase) rs)) (sym (filter_map-append (request_at s) ks (k ∷ [])))
+
+-- what a number finds
+pub found-one : (s : PoolCore) (k : ℕ) (q : Request) → request_at s k ≡ Some q → filter_map (request_at s) (k ∷ []) ≡ q ∷ []
+found-one s k q e = rw e refl
+
+pub found-none : (s : PoolCore) (k : ℕ) → request_at s k ≡ None → filter_map (request_at s) (k ∷ []) ≡ []
+found-none s k e = rw e refl
+
+-- those that the numbers of the unserved requests find are these
+pub found-unserved : (s : PoolCore) → ((q : Request) → In q s.requests → request_at s q.number ≡ Some q) → filter (λ q. unserved_in s q.phase) (filter_map (request_at s) (map number_of (unserved_ones s))) ≡ unserved_ones s
+found-unserved s at = each s.requests at
+  where
+    each : (qs : List Request) → ((q : Request) → In q qs → request_at s q.number ≡ Some q) → filter (λ q. unserved_in s q.phase) (filter_map (request_at s) (map number_of (filter (λ q. unserved_in s q.phase) qs))) ≡ filter (λ q. unserved_in s q.phase) qs
+    each [] at = refl
+    each (q ∷ qs) at = on (unserved_in s q.phase) refl (each qs (λ r i. at r (there i)))
+      where
+        on : (b : Bool) → unserved_in s q.phase ≡ b → filter (λ q. unserved_in s q.phase) (filter_map (request_at s) (map number_of (filter (λ q. unserved_in s q.phase) qs))) ≡ filter (λ q. unserved_in s q.phase) qs
+            → filter (λ q. unserved_in s q.phase) (filter_map (request_at s) (map number_of (filter (λ q. unserved_in s q.phase) (q ∷ qs)))) ≡ filter (λ q. unserved_in s q.phase) (q ∷ qs)
+        on true u more = rw (u, at q here, u) (ap (λ rs. q ∷ rs) more)
+        on false u more = rw u more
 
 -- where no two requests have one number, the one that is found is the only one that ends
 none-ends : (s : PoolCore) (k : ℕ) (qs : List Request) → has k (map number_of qs) ≡ false → map (λ q. if q.number == k then ended_request s q else q) qs ≡ qs

@@ -2,7 +2,9 @@
 use Rattle.std.specs.Prelude.{◌&&◌, not, ℕ, Option, None}
 use Rattle.mdb_base.specs.declared.object_id.ObjectId.{ObjectId}
 use Rattle.mdb_slots.specs.Open.{ListSteps, or_else, list_after, ListFits, room_after as length_after}
-use Rattle.mdb_slots.specs.Table.{TableSteps, items, shelf_after, capacity_after, Fits as TableFits}
+use Rattle.mdb_slots.specs.Table.{items}
+use Rattle.mdb_slots.specs.SlotIndex.{IndexSteps, indexing_after, index_room_after, IndexFits}
+use Rattle.mdb_slots.specs.NumberSet.{numbers_kept}
 use Rattle.mdb_slots.specs.Sided.{SidedSteps, SidedFits, sided_after, sided_capacity_after}
 use Rattle.mdb_pool.specs.Places.{is_available, is_pending, is_queued}
 use Rattle.mdb_pool.specs.declared.connection.Connection.{Connection}
@@ -21,8 +23,8 @@ pub record PoolSteps : Type 0 where
   pub requests : SidedSteps Request
   pub status : Option Status
   pub clears : ListSteps Clear
-  pub settled : TableSteps ℕ
-  pub claimed : TableSteps ℕ
+  pub settled : IndexSteps
+  pub claimed : IndexSteps
 
 -- the pool that is read from it
 abbrev pub pool_of : Inner → PoolCore
@@ -36,8 +38,8 @@ pool_of i = record {
   requests = items i.base.requests.table;
   status = i.base.status;
   clears = i.base.clears;
-  settled = items i.base.settled;
-  claimed = items i.base.claimed;
+  settled = numbers_kept i.base.settled;
+  claimed = numbers_kept i.base.claimed;
   inner = i;
 }
 
@@ -53,8 +55,8 @@ pool_after p s = record {
   requests = sided_after p.requests s.requests;
   status = or_else p.status s.status;
   clears = list_after p.clears s.clears;
-  settled = shelf_after p.settled s.settled;
-  claimed = shelf_after p.claimed s.claimed;
+  settled = indexing_after p.settled s.settled;
+  claimed = indexing_after p.claimed s.claimed;
 }
 
 -- how long each part becomes without memory once the changes are made
@@ -63,8 +65,8 @@ room_after p r = record {
   connections = sided_capacity_after p.connections r.connections;
   requests = sided_capacity_after p.requests r.requests;
   clears = length_after p.clears r.clears;
-  settled = capacity_after p.settled r.settled;
-  claimed = capacity_after p.claimed r.claimed;
+  settled = index_room_after p.settled r.settled;
+  claimed = index_room_after p.claimed r.claimed;
 }
 
 abbrev pub inner_after : PoolSteps → Inner → Inner
@@ -77,17 +79,14 @@ led p s = pool_of (inner_after p s.inner)
 abbrev pub no_service : {T : Type 0} → T → Option ObjectId
 no_service x = None
 
-abbrev pub number_of : ℕ → ℕ
-number_of k = k
-
 -- the changes can be made without memory, and lead to a pool
 abbrev pub PoolFits : PoolSteps → Inner → Type 0
 PoolFits p i =
     SidedFits (λ x. x.id) (λ x. x.service) (λ x. x.since) (λ x. is_available x.place) (λ x. is_pending x.place) p.connections i.base.connections i.room.connections
     × SidedFits (λ q. q.number) no_service (λ q. q.asked_at) (λ q. is_queued q.phase) (λ q. is_queued q.phase && not q.warm) p.requests i.base.requests i.room.requests
     × ListFits p.clears i.base.clears i.room.clears
-    × TableFits number_of p.settled i.base.settled i.room.settled
-    × TableFits number_of p.claimed i.base.claimed i.room.claimed
+    × IndexFits p.settled i.base.settled i.room.settled
+    × IndexFits p.claimed i.base.claimed i.room.claimed
 
 -- the same of the parts of a pool
 abbrev pub base_of : Body → PoolShelf

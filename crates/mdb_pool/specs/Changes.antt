@@ -95,7 +95,7 @@ handed s x r = record x { place = Held; party = Some r; holder = Some r; timeout
 
 abbrev pub granting : PoolCore → Connection → Request → PoolCore
 granting s x q = record s {
-  connections = put (λ x. x.id) (handed s x q.number) s.connections;
+  connections = swap (λ x. x.id) (handed s x q.number) s.connections;
   requests = swap (λ q. q.number) (record q { phase = Given x.id }) s.requests;
 }
 
@@ -103,7 +103,7 @@ granting s x q = record s {
 abbrev pub granting_at_once : PoolCore → ℕ → ℕ → Connection → PoolCore
 granting_at_once s m r x = record s {
   last = m;
-  connections = put (λ y. y.id) (handed s x r) s.connections;
+  connections = swap (λ y. y.id) (handed s x r) s.connections;
   requests = put (λ q. q.number) (record { number = r; asked_at = m; warm = false; took = false; phase = Given x.id }) s.requests;
   settled = marked r s.settled;
 }

@@ -114,13 +114,14 @@ abbrev pub if_held : Option Connection → Option Connection
 if_held None = None
 if_held (Some x) = if is_held x.place then Some x else None
 
+-- the connection that was given, where a party holds it
+abbrev pub held_given : PoolCore → Option ℕ → Option Connection
+held_given s None = None
+held_given s (Some c) = if_held (connection_at s c)
+
 -- the connection that the party holds
 abbrev pub held_connection : PoolCore → ℕ → Option Connection
-held_connection s r = of_given (given_of (request_at s r))
-  where
-    of_given : Option ℕ → Option Connection
-    of_given None = None
-    of_given (Some c) = if_held (connection_at s c)
+held_connection s r = held_given s (given_of (request_at s r))
 
 abbrev pub if_pending : Option Connection → Option Connection
 if_pending None = None

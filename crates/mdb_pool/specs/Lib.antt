@@ -17,3 +17,4 @@ pub mod Quiet
 pub mod Parts
 pub mod Composing
 pub mod Body
+pub mod Ended

@@ -9,7 +9,7 @@ use super::connection::Connection;
 use super::request::Request;
 use super::status::{Clear, Status};
 use mdb_base::{Moment, ServerAddress};
-use mdb_slots::{Redo, Sides, SidesRedo, Table, TableRedo, Turned, TurnedOne};
+use mdb_slots::{NumberSet, NumberSetRedo, Redo, Sides, SidesRedo, Turned, TurnedOne};
 use std::alloc::Global;
 use std::marker::Model;
 
@@ -25,8 +25,8 @@ pub struct Body {
     pub requests: Sides<Request>,
     pub status: TurnedOne<Status>,
     pub clears: Turned<Clear>,
-    pub settled: Table<u32>,
-    pub claimed: Table<u32>,
+    pub settled: NumberSet,
+    pub claimed: NumberSet,
 }
 
 /// Changes of a pool that were taken back, to be made again.
@@ -38,8 +38,8 @@ pub struct BodyRedo {
     requests: SidesRedo<Request>,
     status: Option<Status>,
     clears: Redo<Clear>,
-    settled: TableRedo<u32>,
-    claimed: TableRedo<u32>,
+    settled: NumberSetRedo,
+    claimed: NumberSetRedo,
 }
 
 impl Model for BodyRedo {

@@ -29,7 +29,7 @@ pub(super) fn new_pool_error(alloc: Global) -> Result<Error, AllocError>
 }
 
 impl Draft {
-    ghost use Rattle.mdb_slots.specs.Keyed.{put, swap};
+    ghost use Rattle.mdb_slots.specs.Keyed.{swap};
     ghost use Rattle.mdb_pool.specs.Places.{is_queued};
     ghost use Rattle.mdb_pool.specs.Kept.{outcome_now};
     ghost use Rattle.mdb_pool.specs.Changes.{asking, away, away_end, away_facts, discarding, creating, spawning, ending, granting, establishing, telling, handed};
@@ -292,6 +292,7 @@ impl Draft {
     }
 
     // The request's caller has an available connection.
+    #[tactic(auto, using(crate::proofs::Bodies::stays_out))]
     pub(super) fn hand(
         &mut self,
         alloc: Global,
@@ -300,12 +301,12 @@ impl Draft {
         number: u32,
         waited: Moment,
     ) -> Result<(), OutOfMemory>
-        ensures core { OnOk result (self.new ≡ record self.old { connections = put (λ x. x.id) (handed self.old connection number) self.old.connections }) }
+        ensures core { OnOk result (self.new ≡ record self.old { connections = swap (λ x. x.id) (handed self.old connection number) self.old.connections }) }
         ensures facts { OnOk result (facts.new.items ≡ facts.old.items ++ Granted number self.old.pool connection.id ∷ checked_out_fact self.old.pool self.old.address connection.id waited ∷ []) }
         ensures inner { self.new.inner ≡ self.old.inner }
     {
         let timeouts = self.timeouts();
-        self.put_connection(
+        self.replace_connection(
             alloc,
             Connection {
                 place: Place::Held,

@@ -1,7 +1,7 @@
 //! A pool is closed.
 
-ghost use Rattle.std.specs.Prelude.{◌≡◌, ◌++◌, ◌∷◌, [], not, OnOk, IfOk, List, map, filter, OnErr, option_copied};
-ghost use Rattle.mdb_pool.specs.Changes.{number_in};
+ghost use Rattle.std.specs.Prelude.{◌≡◌, ◌++◌, ◌∷◌, [], not, OnOk, IfOk, List, map, filter, OnErr};
+ghost use Rattle.std.specs.List.{filter_map};
 ghost use Rattle.mdb_pool.specs.Places.{is_available, is_pending};
 
 use super::draft::Draft;
@@ -13,20 +13,12 @@ use mdb_base::{Moment, OutOfMemory};
 use mdb_events::{CmapEvent, ConnectionClosedReason, End, Fact, PoolClosedEvent};
 use std::alloc::Global;
 
-fn number_in(request: Option<&Request>) -> Option<u32>
-    ensures { result ≡ number_in (option_copied request.entry) }
-{
-    match request {
-        Some(request) => Some(request.number),
-        None => None,
-    }
-}
-
 impl Draft {
-    ghost use Rattle.mdb_pool.specs.Changes.{closing, shut_facts, off_facts, ended_request, ended_one, available_ones, pending_ones, unserved_ones};
+    ghost use Rattle.mdb_pool.specs.Changes.{closing, shut_facts, off_facts, ended_one, available_ones, pending_ones, unserved_ones};
+    ghost use Rattle.mdb_pool.specs.Ended.{ended_all};
     ghost use Rattle.mdb_pool.specs.Standing.{SameHome, Fits, Accepts};
     ghost use Rattle.mdb_log.specs.History.{PoolItem};
-    ghost use Rattle.mdb_pool.specs.Kept.{unserved_in};
+    ghost use Rattle.mdb_pool.specs.Kept.{request_at, unserved_in};
     ghost use Rattle.mdb_log.specs.declared.step.Act.TheVariants.{Close};
     ghost use Rattle.mdb_pool.specs.Facts.{pool_closed_fact};
 
@@ -54,17 +46,6 @@ impl Draft {
         Ok(())
     }
 
-    // Nothing was handed to the request: it is queued, or its connection is pending.
-    fn is_unserved(&self, request: &Request) -> bool
-        ensures { result ≡ unserved_in self.now request.now.phase }
-    {
-        match &request.phase {
-            Phase::Queued => true,
-            Phase::Given(id) => self.body.is_pending(*id),
-            _ => false,
-        }
-    }
-
     // The end of the request is told where nothing was handed to it.
     fn push_off(
         &self,
@@ -82,14 +63,32 @@ impl Draft {
         Ok(())
     }
 
-    // The requests end that nothing was handed to: all are looked at, once for good.
-    fn push_unserved(&self, facts: &mut Vec<Fact>, moment: Moment) -> Result<(), OutOfMemory>
-        ensures { OnOk result (facts.new.items ≡ facts.old.items ++ off_facts self.now moment (unserved_ones self.now)) }
+    // So is the end of the request that has the number.
+    fn push_numbered(
+        &self,
+        facts: &mut Vec<Fact>,
+        moment: Moment,
+        number: u32,
+    ) -> Result<(), OutOfMemory>
+        ensures { OnOk result (facts.new.items ≡ facts.old.items ++ off_facts self.now moment (filter (λ q. unserved_in self.now q.phase) (filter_map (request_at self.now) (number ∷ [])))) }
     {
-        let mut next = self.first_request();
-        while let Some(q) = next {
-            self.push_off(facts, moment, q)?;
-            next = self.next_request(q.number);
+        match self.request(number) {
+            Some(request) => self.push_off(facts, moment, request),
+            None => Ok(()),
+        }
+    }
+
+    // So are the ends of the requests with these numbers.
+    fn push_unserved(
+        &self,
+        facts: &mut Vec<Fact>,
+        moment: Moment,
+        numbers: &[u32],
+    ) -> Result<(), OutOfMemory>
+        ensures { OnOk result (facts.new.items ≡ facts.old.items ++ off_facts self.now moment (filter (λ q. unserved_in self.now q.phase) (filter_map (request_at self.now) numbers.now))) }
+    {
+        for number in numbers {
+            self.push_numbered(facts, moment, *number)?;
         }
         Ok(())
     }
@@ -117,15 +116,13 @@ impl Draft {
         self.replace_request(alloc, ended)
     }
 
-    // So do all requests.
-    fn end_all_unserved(&mut self, alloc: Global) -> Result<(), OutOfMemory>
-        ensures core { OnOk result (self.new ≡ record self.old { requests = map (ended_request self.old) self.old.requests }) }
+    // So do the requests with these numbers.
+    fn end_all_unserved(&mut self, alloc: Global, numbers: &[u32]) -> Result<(), OutOfMemory>
+        ensures core { OnOk result (self.new ≡ record self.old { requests = ended_all self.old numbers.now }) }
         ensures inner { self.new.inner ≡ self.old.inner }
     {
-        let mut next = number_in(self.first_request());
-        while let Some(number) = next {
-            self.end_unserved(alloc, number)?;
-            next = number_in(self.next_request(number));
+        for number in numbers {
+            self.end_unserved(alloc, *number)?;
         }
         Ok(())
     }
@@ -139,30 +136,49 @@ impl Draft {
         self.body.connections.clear_right(alloc)
     }
 
-    // A pool that is not closed is.
+    // A pool is closed, and the requests with these numbers end that nothing was handed to.
     #[tactic(auto, using(crate::proofs::Bodies::stay_ones))]
+    fn close_with(
+        &mut self,
+        alloc: Global,
+        facts: &mut Vec<Fact>,
+        moment: Moment,
+        numbers: &[u32],
+    ) -> Result<(), OutOfMemory>
+        ensures core { OnOk result (self.new ≡ record (closing self.old moment) { requests = ended_all self.old numbers.now }) }
+        ensures facts { OnOk result (facts.new.items ≡ (((facts.old.items ++ shut_facts self.old (available_ones self.old)) ++ shut_facts self.old (pending_ones self.old)) ++ off_facts self.old moment (filter (λ q. unserved_in self.old q.phase) (filter_map (request_at self.old) numbers.now))) ++ pool_closed_fact self.old.pool self.old.address ∷ []) }
+        ensures inner { self.new.inner ≡ self.old.inner }
+    {
+        self.push_available(facts)?;
+        self.push_pending(facts)?;
+        self.push_unserved(facts, moment, numbers)?;
+        let address = self.address().clone()?;
+        facts.push(Fact::Pool(
+            self.number(),
+            CmapEvent::PoolClosed(PoolClosedEvent { address }),
+        ))?;
+        self.end_all_unserved(alloc, numbers)?;
+        self.drop_connections(alloc)?;
+        self.set_status(Status::Closed);
+        self.set_last(moment);
+        Ok(())
+    }
+
+    // A pool that is not closed is.
     fn close_open(
         &mut self,
         alloc: Global,
         facts: &mut Vec<Fact>,
         moment: Moment,
     ) -> Result<(), OutOfMemory>
-        ensures core { OnOk result (self.new ≡ closing self.old moment) }
-        ensures facts { OnOk result (facts.new.items ≡ (((facts.old.items ++ shut_facts self.old (available_ones self.old)) ++ shut_facts self.old (pending_ones self.old)) ++ off_facts self.old moment (unserved_ones self.old)) ++ pool_closed_fact self.old.pool self.old.address ∷ []) }
+        ensures home { OnOk result (SameHome self.old self.new) }
+        ensures last { OnOk result (self.new.last ≡ moment) }
+        ensures core { OnOk result ((xs : List PoolItem) → Fits self.old xs → self.new ≡ closing self.old moment) }
+        ensures facts { OnOk result ((xs : List PoolItem) → Fits self.old xs → facts.new.items ≡ (((facts.old.items ++ shut_facts self.old (available_ones self.old)) ++ shut_facts self.old (pending_ones self.old)) ++ off_facts self.old moment (unserved_ones self.old)) ++ pool_closed_fact self.old.pool self.old.address ∷ []) }
         ensures inner { self.new.inner ≡ self.old.inner }
     {
-        self.push_available(facts)?;
-        self.push_pending(facts)?;
-        self.push_unserved(facts, moment)?;
-        let address = self.address().clone()?;
-        facts.push(Fact::Pool(
-            self.number(),
-            CmapEvent::PoolClosed(PoolClosedEvent { address }),
-        ))?;
-        self.end_all_unserved(alloc)?;
-        self.drop_connections(alloc)?;
-        self.set_status(Status::Closed);
-        self.set_last(moment);
+        let numbers = self.unserved_numbers(alloc)?;
+        self.close_with(alloc, facts, moment, numbers.as_slice())?;
         Ok(())
     }
 

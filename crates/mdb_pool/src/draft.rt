@@ -85,7 +85,8 @@ impl Draft {
 
     // How many requests there are.
     pub(super) fn asked(&self) -> usize
-        ensures { apart (map (λ q. q.number) self.now.requests) ≡ true }
+        ensures value { result ≡ length self.now.requests }
+        ensures apart { apart (map (λ q. q.number) self.now.requests) ≡ true }
     {
         self.body.requests.len()
     }
@@ -148,14 +149,20 @@ impl Draft {
         ensures core { OnOk result (self.new ≡ record self.old { settled = marked number self.old.settled }) }
         ensures inner { self.new.inner ≡ self.old.inner }
     {
-        self.body.settled.put(number)
+        if self.is_settled(number) {
+            return Ok(());
+        }
+        self.body.settled.insert(number)
     }
 
     pub(super) fn claim(&mut self, id: u32) -> Result<(), OutOfMemory>
         ensures core { OnOk result (self.new ≡ record self.old { claimed = marked id self.old.claimed }) }
         ensures inner { self.new.inner ≡ self.old.inner }
     {
-        self.body.claimed.put(id)
+        if self.is_claimed(id) {
+            return Ok(());
+        }
+        self.body.claimed.insert(id)
     }
 
     // The connection comes last.

@@ -1,6 +1,6 @@
 //! What a changed pool has among its connections and requests.
 
-ghost use Rattle.std.specs.Prelude.{◌≡◌, option_copied, IfOk};
+ghost use Rattle.std.specs.Prelude.{◌≡◌, count_by, option_copied, IfOk};
 
 use super::Reply;
 use super::connection::Connection;
@@ -12,12 +12,12 @@ use mdb_slots::SlotTable;
 
 impl Draft {
     ghost use Rattle.mdb_slots.specs.Items.{records_of};
-    ghost use Rattle.mdb_slots.specs.Keyed.{after_key, rest_of};
+    ghost use Rattle.mdb_slots.specs.Keyed.{after_key, entry_before, last_of, rest_of};
     ghost use Rattle.mdb_slots.specs.Sided.{noted};
     ghost use Rattle.mdb_slots.specs.Slots.{listing};
-    ghost use Rattle.mdb_pool.specs.Places.{is_available};
+    ghost use Rattle.mdb_pool.specs.Places.{is_available, is_queued};
     ghost use Rattle.mdb_pool.specs.Changes.{available_ones, pending_ones};
-    ghost use Rattle.mdb_pool.specs.Kept.{is_ended_at, request_at, outcome_now, wants_now, candidate_now, fills_now, first_perished, first_overdue, first_queued, last_available, has_room, held_connection, pending_connection, holder_request, first_unclaimed, stale_for, perished_now, reason_now, timeouts_in};
+    ghost use Rattle.mdb_pool.specs.Kept.{pending_count, is_ended_at, request_at, outcome_now, wants_now, candidate_now, fills_now, first_perished, first_overdue, first_queued, last_available, has_room, given_in, held_given, held_connection, pending_connection, holder_request, first_unclaimed, stale_for, perished_now, reason_now, timeouts_in};
 
     pub(super) fn first_queued(&self) -> Option<&Request>
         ensures { option_copied result ≡ first_queued self.now }
@@ -58,7 +58,14 @@ impl Draft {
     pub(super) fn held_connection(&self, party: u32) -> Option<Connection>
         ensures { result ≡ held_connection self.now party }
     {
-        self.body.held_connection(party)
+        self.body.held_connection(party).copied()
+    }
+
+    // The connection of the request, where a party holds it.
+    pub(super) fn held_for(&self, request: &Request) -> Option<Connection>
+        ensures { result ≡ held_given self.now (given_in request.now.phase) }
+    {
+        self.body.held_for(request).copied()
     }
 
     pub(super) fn pending_connection(&self, party: u32) -> Option<Connection>
@@ -139,6 +146,12 @@ impl Draft {
         self.body.connections.next_left(id).copied()
     }
 
+    pub(super) fn pending_count(&self) -> usize
+        ensures { result ≡ pending_count self.now }
+    {
+        self.body.pending_count()
+    }
+
     pub(super) fn first_pending(&self) -> Option<Connection>
         ensures { rest_of (λ x. x.id) result (pending_ones self.now) ≡ pending_ones self.now }
     {
@@ -152,17 +165,26 @@ impl Draft {
         self.body.connections.next_right(id).copied()
     }
 
-    pub(super) fn first_request(&self) -> Option<&Request>
-        ensures { rest_of (λ q. q.number) (option_copied result) self.now.requests ≡ self.now.requests }
+    // How many requests are queued.
+    #[tactic(auto, using(crate::proofs::Bodies::listed_length))]
+    pub(super) fn queued_count(&self) -> usize
+        ensures { result ≡ count_by (λ q. is_queued q.phase) self.now.requests }
     {
-        self.body.requests.first()
+        self.body.requests.left().len()
     }
 
-    // The one that follows it among all requests.
-    pub(super) fn next_request(&self, number: u32) -> Option<&Request>
-        ensures { rest_of (λ q. q.number) (option_copied result) self.now.requests ≡ after_key (λ q. q.number) number self.now.requests }
+    // The request that was put after all others.
+    pub(super) fn last_request(&self) -> Option<&Request>
+        ensures { option_copied result ≡ last_of self.now.requests }
     {
-        self.body.requests.next(number)
+        self.body.requests.last()
+    }
+
+    // The one that precedes it among all requests.
+    pub(super) fn previous_request(&self, number: u32) -> Option<&Request>
+        ensures { option_copied result ≡ entry_before (λ q. q.number) number self.now.requests }
+    {
+        self.body.requests.previous(number)
     }
 
     // The request ended in another way.

@@ -15,28 +15,20 @@ pub const DEFAULT_MAX_POOL_SIZE: u32 = 10;
 
 impl Body {
     ghost use Rattle.mdb_log.specs.State.{max_connecting};
-    ghost use Rattle.mdb_pool.specs.Kept.{wants_now, blocked_now, candidate_now, fills_now, first_perished, first_overdue, overdue_since, first_queued, last_available, pending_count, has_room, held_connection, pending_connection, holder_request, outcome_now, first_unclaimed};
+    ghost use Rattle.mdb_pool.specs.Kept.{wants_now, blocked_now, candidate_now, fills_now, first_perished, first_overdue, overdue_since, first_queued, last_available, pending_count, has_room, given_in, held_given, held_connection, pending_connection, holder_request, outcome_now, first_unclaimed};
 
     // The outcome of the request was told, or it gave up or came back.
-    #[tactic(auto, using(crate::proofs::Bodies::found_number))]
     pub fn is_settled(&self, number: u32) -> bool
         ensures { result ≡ has number self.now.settled.now }
     {
-        match self.settled.get(number) {
-            Some(_) => true,
-            None => false,
-        }
+        self.settled.contains(number)
     }
 
     // A claim was told to establish the connection.
-    #[tactic(auto, using(crate::proofs::Bodies::found_number))]
     pub fn is_claimed(&self, id: u32) -> bool
         ensures { result ≡ has id self.now.claimed.now }
     {
-        match self.claimed.get(id) {
-            Some(_) => true,
-            None => false,
-        }
+        self.claimed.contains(id)
     }
 
     pub fn first_queued(&self) -> Option<&Request>
@@ -114,18 +106,25 @@ impl Body {
             && *self.created.get() < self.options.limit_id
     }
 
-    // The connection that the party holds.
-    pub fn held_connection(&self, party: u32) -> Option<Connection>
-        ensures { result ≡ held_connection (now_of self.now) party }
+    // The connection of the request, where a party holds it.
+    pub fn held_for(&self, request: &Request) -> Option<&Connection>
+        ensures { option_copied result ≡ held_given (now_of self.now) (given_in request.now.phase) }
     {
-        match self.requests.get(party) {
-            Some(request) => match request.phase {
-                Phase::Given(id) => match self.connections.get(id) {
-                    Some(connection) if connection.is_held() => Some(*connection),
-                    _ => None,
-                },
+        match &request.phase {
+            Phase::Given(id) => match self.connections.get(*id) {
+                Some(connection) if connection.is_held() => Some(connection),
                 _ => None,
             },
+            _ => None,
+        }
+    }
+
+    // The connection that the party holds.
+    pub fn held_connection(&self, party: u32) -> Option<&Connection>
+        ensures { option_copied result ≡ held_connection (now_of self.now) party }
+    {
+        match self.requests.get(party) {
+            Some(request) => self.held_for(request),
             None => None,
         }
     }

@@ -36,6 +36,7 @@ mod status;
 mod stepping;
 mod taking;
 mod unpinning;
+mod waiting;
 mod warming;
 
 pub use finding::DEFAULT_MAX_POOL_SIZE;

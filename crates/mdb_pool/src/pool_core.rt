@@ -7,7 +7,7 @@ use super::draft::Draft;
 use super::status::Status;
 use super::{PoolOptions, PoolState};
 use mdb_base::{Error, ServerAddress};
-use mdb_slots::{Sides, SlotTable, Table, Turned, TurnedOne};
+use mdb_slots::{NumberSet, Sides, SlotTable, Turned, TurnedOne};
 use std::alloc::Global;
 use std::marker::Model;
 
@@ -64,8 +64,8 @@ impl PoolCore {
                     requests: Sides::new(alloc),
                     status: TurnedOne::new(Status::at_first(options.load_balanced)),
                     clears: Turned::new(alloc),
-                    settled: Table::new(alloc),
-                    claimed: Table::new(alloc),
+                    settled: NumberSet::new(alloc),
+                    claimed: NumberSet::new(alloc),
                 },
             },
         }

@@ -32,10 +32,10 @@ impl Draft {
         ensures accepts { IfOk result (λ reply. (xs : List PoolItem) → Fits self.old xs → Accepts self.old self.new facts.old.items facts.new.items moment (ReturnAct party used) reply xs (returned party used ∷ xs)) }
         ensures inner { self.new.inner ≡ self.old.inner }
     {
-        let Some(connection) = self.held_connection(party) else {
+        let Some(request) = self.request(party) else {
             unreachable!()
         };
-        let Some(request) = self.request(party) else {
+        let Some(connection) = self.held_for(request) else {
             unreachable!()
         };
         let request = request.copy()?;

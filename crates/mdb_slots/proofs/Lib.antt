@@ -29,3 +29,4 @@ pub mod Rests
 pub mod Sweeps
 pub mod TableWalks
 pub mod Lent
+pub mod NumbersIn

@@ -1,5 +1,5 @@
 -- The records of the values that meet a test, after a change of the values.
-use Rattle.std.proofs.Common.{◌≡◌, ℕ, Bool, true, false, ◌==◌, if◌then◌else◌, Option, None, List, [], ◌∷◌, ◌++◌, map, refl, ◌∙◌, subst, arith}
+use Rattle.std.proofs.Common.{◌≡◌, ℕ, Bool, true, false, ◌==◌, if◌then◌else◌, Option, None, Some, List, [], ◌∷◌, ◌++◌, map, refl, ◌∙◌, subst, arith}
 use Rattle.std.proofs.lemmas.Grind.{common_steps}
 use Rattle.mdb_base.specs.declared.object_id.ObjectId.{ObjectId}
 use Rattle.mdb_slots.specs.declared.records.Record.{Record}
@@ -71,3 +71,29 @@ module _ {T : Type 0} (key : T → ℕ) (service : T → Option ObjectId) (since
       on : (b : Bool) → test x ≡ b → list (swap key x xs) ≡ amended b (note x) (list xs)
       on true e = kept-in-place x xs e a s
       on false e = dropped x xs e
+
+  -- a value that is not there, or stands on another side, has no record in the list
+  pub noted-none : (k : ℕ) (xs : List T) → entry_at key k xs ≡ None → others id_of k (list xs) ≡ list xs
+  noted-none k [] e = refl
+  noted-none k (y ∷ ys) e = on (key y == k) refl (noted-none k ys)
+    where
+      on : (b : Bool) → (key y == k) ≡ b → (entry_at key k ys ≡ None → others id_of k (list ys) ≡ list ys) → others id_of k (list (y ∷ ys)) ≡ list (y ∷ ys)
+      on true w more = let f : entry_at key k (y ∷ ys) ≡ Some y = rw w refl in cc
+      on false w more =
+          let g : entry_at key k ys ≡ None = grind (arith, common_steps, w, e) in
+          grind (arith, common_steps, w, more g)
+
+  pub noted-off : (k : ℕ) (xs : List T) (x : T) → apart (map key xs) ≡ true → entry_at key k xs ≡ Some x → test x ≡ false → others id_of k (list xs) ≡ list xs
+  noted-off k [] x a e t = refl
+  noted-off k (y ∷ ys) x a e t = on (key y == k) refl (noted-off k ys x (apart-rest (key y) (map key ys) a))
+    where
+      on : (b : Bool) → (key y == k) ≡ b → (entry_at key k ys ≡ Some x → test x ≡ false → others id_of k (list ys) ≡ list ys) → others id_of k (list (y ∷ ys)) ≡ list (y ∷ ys)
+      on true w more =
+          let h : has k (map key ys) ≡ false = subst (λ k. has k (map key ys) ≡ false) (same-number (key y) k w) (apart-first (key y) (map key ys) a) in
+          let f : entry_at key k (y ∷ ys) ≡ Some y = rw w refl in
+          let s : y ≡ x = cc in
+          let u : test y ≡ false = rw s t in
+          grind (arith, common_steps, u, noted-none k ys (absent k ys h))
+      on false w more =
+          let g : entry_at key k ys ≡ Some x = grind (arith, common_steps, w, e) in
+          grind (arith, common_steps, w, more g t)

@@ -11,3 +11,4 @@ pub mod Cells
 pub mod Slots
 pub mod Table
 pub mod Sided
+pub mod NumberSet

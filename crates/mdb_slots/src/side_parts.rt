@@ -1,6 +1,6 @@
 //! A table and the two lists beside it, changed together.
 
-ghost use Rattle.std.specs.Prelude.{◌≡◌, ◌&&◌, true, Bool, OnOk};
+ghost use Rattle.std.specs.Prelude.{◌≡◌, ◌&&◌, true, false, Bool, OnOk};
 ghost use Rattle.mdb_slots.specs.Keyed.{entry_at, others, put, swap};
 ghost use Rattle.mdb_slots.specs.Table.{items};
 ghost use Rattle.mdb_slots.specs.Sided.{relisted, amended, stays, PartsInStep, sides_base, sides_capacity};
@@ -32,8 +32,14 @@ fn relist(list: &mut Table<Record>, listed: Record, stands: bool) -> Result<(), 
     list.remove(listed.id)
 }
 
-// The record changes where it stands in the list, and is gone where it does not.
-fn amend(list: &mut Table<Record>, listed: Record, stands: bool) -> Result<(), OutOfMemory>
+// The record changes where it stands in the list, and is gone where it does not. Where it did not stand there, nothing is looked up.
+fn amend(
+    list: &mut Table<Record>,
+    listed: Record,
+    stood: bool,
+    stands: bool,
+) -> Result<(), OutOfMemory>
+    requires { stood ≡ false → others (λ r. r.id) listed.id list.old.now ≡ list.old.now }
     ensures now { OnOk result (list.new.now ≡ amended stands listed list.old.now) }
     ensures base { list.new.base ≡ list.old.base }
     ensures capacity { list.new.capacity ≡ list.old.capacity }
@@ -41,10 +47,28 @@ fn amend(list: &mut Table<Record>, listed: Record, stands: bool) -> Result<(), O
     if stands {
         return list.replace(listed);
     }
-    list.remove(listed.id)
+    if stood {
+        return list.remove(listed.id);
+    }
+    Ok(())
 }
 
 impl<T: Sided> SideParts<T> {
+    // On which sides the value stands that has the number.
+    fn stood(&self, key: u32) -> (bool, bool)
+        requires { PartsInStep T.key T.service T.since T.on_left T.on_right self.now }
+        ensures left { result.0 ≡ false → others (λ r. r.id) key self.now.left.now ≡ self.now.left.now }
+        ensures right { result.1 ≡ false → others (λ r. r.id) key self.now.right.now ≡ self.now.right.now }
+    {
+        if self.left.len() == 0 && self.right.len() == 0 {
+            return (false, false);
+        }
+        match self.table.get(key) {
+            Some(old) => (old.on_left(), old.on_right()),
+            None => (false, false),
+        }
+    }
+
     /// The item comes last, in place of the one that had its number.
     pub fn put(&mut self, item: T) -> Result<(), OutOfMemory>
         requires { PartsInStep T.key T.service T.since T.on_left T.on_right self.old }
@@ -75,9 +99,10 @@ impl<T: Sided> SideParts<T> {
         let on_left = item.on_left();
         let on_right = item.on_right();
         let listed = item.record();
+        let stood = self.stood(listed.id);
         self.table.replace(item)?;
-        amend(&mut self.left, listed, on_left)?;
-        amend(&mut self.right, listed, on_right)?;
+        amend(&mut self.left, listed, stood.0, on_left)?;
+        amend(&mut self.right, listed, stood.1, on_right)?;
         Ok(())
     }
 

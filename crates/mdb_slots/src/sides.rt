@@ -1,7 +1,7 @@
 //! A table with lists of the values on its left and on its right. Changes are made in place, and can be taken back.
 
 ghost use Rattle.std.specs.Prelude.{◌≡◌, [], true, not, length, map, filter, find, OnOk, option_copied};
-ghost use Rattle.mdb_slots.specs.Keyed.{entry_at, entry_after, after_key, rest_of, first_of, last_of, others, put, swap};
+ghost use Rattle.mdb_slots.specs.Keyed.{entry_at, entry_after, entry_before, after_key, rest_of, first_of, last_of, others, put, swap};
 ghost use Rattle.mdb_slots.specs.Lists.{apart};
 ghost use Rattle.mdb_slots.specs.Items.{records_of};
 ghost use Rattle.mdb_slots.specs.Slots.{listing};
@@ -93,6 +93,20 @@ impl<T: Sided> Sides<T> {
         ensures rest { rest_of T.key (option_copied result) self.now.now ≡ after_key T.key key self.now.now }
     {
         self.parts.table.next(key)
+    }
+
+    /// The value that was put after all others.
+    pub fn last(&self) -> Option<&T>
+        ensures { option_copied result ≡ last_of self.now.now }
+    {
+        self.parts.table.last()
+    }
+
+    /// The value that precedes the one that has the number. `None` where there is none.
+    pub fn previous(&self, key: u32) -> Option<&T>
+        ensures { option_copied result ≡ entry_before T.key key self.now.now }
+    {
+        self.parts.table.previous(key)
     }
 
     // The value whose record it is.

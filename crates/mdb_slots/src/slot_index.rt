@@ -1,6 +1,6 @@
 //! The slots by number, whose changes can be taken back and made again.
 
-ghost use Rattle.std.specs.Prelude.{◌≡◌, ◌≢◌, ◌==◌, ◌+◌, ◌<◌, ◌≤◌, ◌^◌, [], ℕ, None, Some, length, OnOk, if◌then◌else◌};
+ghost use Rattle.std.specs.Prelude.{◌≡◌, ◌≢◌, ◌==◌, ◌+◌, ◌++◌, ◌∷◌, ◌<◌, ◌≤◌, ◌^◌, [], ℕ, None, Some, length, slice_set, OnOk, OnErr, if◌then◌else◌};
 ghost use Rattle.mdb_slots.specs.SlotIndex.{slot_of, numbers_of, nothing_indexed, indexing_after, index_room_after, IndexFits, AreWithin, LeavesAll, both};
 
 use crate::bucket::{Buckets, bucket_of, empty, lengthen};
@@ -59,6 +59,13 @@ impl SlotIndex {
         }
     }
 
+    /// How many slots there are.
+    pub fn len(&self) -> usize
+        ensures { result ≡ length self.now.now }
+    {
+        self.buckets.entries.as_slice().len()
+    }
+
     /// The slot that has the number.
     pub fn get(&self, number: u32) -> Option<u32>
         ensures { result ≡ slot_of number self.now.now }
@@ -76,6 +83,8 @@ impl SlotIndex {
         ensures now { (q : ℕ) → slot_of q self.new.now ≡ slot_of q self.old.now }
         ensures len { OnOk result (length self.new.now ≡ length self.old.now + 1) }
         ensures longer { length self.old.now ≤ length self.new.now }
+        ensures grown { OnOk result (self.new.now ≡ self.old.now ++ None ∷ []) }
+        ensures same { OnErr result (self.new.now ≡ self.old.now) }
         ensures base { self.new.base ≡ self.old.base }
         ensures capacity { self.new.capacity ≡ self.old.capacity }
     {
@@ -86,7 +95,7 @@ impl SlotIndex {
         Ok(())
     }
 
-    // Twice as many buckets.
+    // Four times as many buckets.
     #[cold]
     #[inline(never)]
     fn widen(&mut self) -> Result<(), OutOfMemory>
@@ -100,8 +109,8 @@ impl SlotIndex {
         if slots > u32::MAX as usize {
             return Err(OutOfMemory);
         }
-        let more = self.buckets.heads.as_slice().len().max(FIRST_WIDTH);
-        self.buckets.heads.ready(3 * slots + FIRST_WIDTH)?;
+        let more = (3 * self.buckets.heads.as_slice().len()).max(FIRST_WIDTH);
+        self.buckets.heads.ready(5 * slots + FIRST_WIDTH)?;
         self.buckets.heads.reserve(more)?;
         self.buckets.entries.ready(slots)?;
         empty(&mut self.buckets.heads);
@@ -146,6 +155,7 @@ impl SlotIndex {
         requires free { (q : ℕ) → slot_of q self.old.now ≢ Some slot }
         requires room { AreWithin (both 1 1) self.old.room }
         ensures now { (q : ℕ) → slot_of q self.new.now ≡ if number == q then Some slot else slot_of q self.old.now }
+        ensures slots { self.new.now ≡ slice_set self.old.now slot (Some number) }
         ensures len { length self.new.now ≡ length self.old.now }
         ensures base { self.new.base ≡ self.old.base }
         ensures capacity { self.new.capacity ≡ self.old.capacity }

@@ -51,14 +51,15 @@ fn hosts_of(alloc: Global, records: Vec<SrvRecord>) -> Result<Vec<ServerAddress>
 {
     let mut hosts = Vec::with_capacity(alloc, records.len())?;
     for found in records {
-        hosts.push(host_of(found))?;
+        let host = host_of(found)?;
+        hosts.push(host)?;
     }
     Ok(hosts)
 }
 
 // The host that a record names.
-fn host_of(found: SrvRecord) -> ServerAddress
-    ensures { result ≡ srv.host_of found }
+fn host_of(found: SrvRecord) -> Result<ServerAddress, AllocError>
+    ensures { IfOk result (λ host. host ≡ srv.host_of found) }
 {
     let SrvRecord { target, port, .. } = found;
     ServerAddress::new(without_dot(target.into_inner()), port)

@@ -1,26 +1,27 @@
-use Rattle.std.proofs.Common.{◌<◌, ◌∙◌, Some, ap, sym, subst}
+use Rattle.std.proofs.Common.{◌≡◌, List, ℕ, ◌∙◌, ap, sym, subst, take}
+use Rattle.std.specs.List.{slice_index}
+use Rattle.std.proofs.lemmas.List.{take_more, take_all}
 use Rattle.mdb_pool.specs.Core.{PoolCore}
-use Rattle.mdb_pool.proofs.Overall.{left_at}
-use Rattle.mdb_pool.proofs.Unserved.{Unserved, unserved-starts, unserved-less, unserved-goes, unserved-ends}
+use Rattle.mdb_pool.specs.Ended.{ended_all}
+use Rattle.mdb_pool.proofs.Unserved.{none-ended, one-more-ended}
 use Rattle.mdb_pool.proofs.draft.Draft.end_all_unserved.Goals as goal
 
-pub loop-next-init : goal.loop-next-init
-loop-next-init c = subst (Unserved c.args.self.now c.args.self.now) (sym c.number_in-next.ensures) (unserved-starts c.args.self.now _ c.first_request.ensures)
+pub loop-number-init : goal.loop-number-init
+loop-number-init c = none-ended c.args.self.now
 
-pub loop-next-smaller : goal.loop-next-smaller
-loop-next-smaller c =
-    subst (λ o. left_at (λ q. q.number) c.number_in-next-in-Some.result c.end_unserved.new.self.requests < left_at (λ q. q.number) o c.loop-next.self.requests) (sym c.in-Some.is)
-    (subst (λ o. left_at (λ q. q.number) o c.end_unserved.new.self.requests < left_at (λ q. q.number) (Some c.in-Some.number) c.loop-next.self.requests) (sym c.number_in-next-in-Some.ensures)
-    (unserved-less c.args.self.now c.loop-next.self c.end_unserved.new.self c.in-Some.number (subst (Unserved c.args.self.now c.loop-next.self) c.in-Some.is c.loop-next.invariant) c.in_ok-end_unserved.ensures.core _ c.next_request.ensures))
-
-pub loop-next-preserved : goal.loop-next-preserved
-loop-next-preserved c = subst (Unserved c.args.self.now c.end_unserved.new.self) (sym c.number_in-next-in-Some.ensures) (unserved-goes c.args.self.now c.loop-next.self c.end_unserved.new.self c.in-Some.number (subst (Unserved c.args.self.now c.loop-next.self) c.in-Some.is c.loop-next.invariant) c.in_ok-end_unserved.ensures.core _ c.next_request.ensures)
+pub loop-number-preserved : goal.loop-number-preserved
+loop-number-preserved c =
+    let s = c.args.self.now in let ks = c.args.numbers.now in let i = c.loop-number.number-index in
+    subst (λ (js : List ℕ). c.end_unserved.new.self ≡ record s { requests = ended_all s js }) (sym (take_more ks i 0 c.loop-number-test.true))
+    (one-more-ended s c.loop-number.self c.end_unserved.new.self (take i ks) (slice_index ks i) c.loop-number.invariant c.in_ok-end_unserved.ensures.core)
 
 pub returns-clause-core : goal.returns-clause-core
-returns-clause-core c = unserved-ends c.args.self.now c.loop-next.self (subst (Unserved c.args.self.now c.loop-next.self) c.in_default.is c.loop-next.invariant)
+returns-clause-core c =
+    let s = c.args.self.now in
+    c.loop-number.invariant ∙ ap (λ (js : List ℕ). record s { requests = ended_all s js }) (take_all c.loop-number.number-index c.args.numbers.now c.loop-number-test.false)
 
 pub returns-clause-inner : goal.returns-clause-inner
-returns-clause-inner c = ap (λ (p : PoolCore). p.inner) c.loop-next.invariant.rest
+returns-clause-inner c = ap (λ (p : PoolCore). p.inner) c.loop-number.invariant
 
 pub returns-in_err-end_unserved-clause-inner : goal.returns-in_err-end_unserved-clause-inner
-returns-in_err-end_unserved-clause-inner c = c.end_unserved.ensures.inner ∙ ap (λ (p : PoolCore). p.inner) c.loop-next.invariant.rest
+returns-in_err-end_unserved-clause-inner c = c.end_unserved.ensures.inner ∙ ap (λ (p : PoolCore). p.inner) c.loop-number.invariant

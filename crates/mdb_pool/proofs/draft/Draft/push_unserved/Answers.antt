@@ -1,20 +1,14 @@
-use Rattle.std.proofs.Common.{◌++◌, filter, sym, ◌∙◌, ap, append-nil}
-use Rattle.std.specs.Prelude.{option_copied}
-use Rattle.mdb_slots.specs.Keyed.{rest_of}
-use Rattle.mdb_pool.specs.Kept.{unserved_in}
+use Rattle.std.proofs.Common.{◌≡◌, ◌++◌, filter, take, sym, subst}
+use Rattle.std.specs.List.{filter_map, slice_index}
+use Rattle.std.proofs.lemmas.List.{take_more}
+use Rattle.mdb_pool.specs.Kept.{request_at, unserved_in}
 use Rattle.mdb_pool.specs.Changes.{off_facts}
-use Rattle.mdb_pool.proofs.Unserved.{off-told}
-use Rattle.mdb_pool.proofs.Searches.{walk-shorter}
+use Rattle.mdb_pool.proofs.Unserved.{number-told}
 use Rattle.mdb_pool.proofs.draft.Draft.push_unserved.Goals as goal
 
-pub loop-next-init : goal.loop-next-init
-loop-next-init c = ap (λ qs. c.args.facts.now.items ++ off_facts c.args.self.now c.args.moment (filter (λ q. unserved_in c.args.self.now q.phase) qs)) c.first_request-next.ensures
-
-pub loop-next-smaller : goal.loop-next-smaller
-loop-next-smaller c = walk-shorter (λ q. q.number) c.args.self.now.requests c.in-Some.q.now (option_copied c.loop-next.next) _ (ap option_copied c.in-Some.is) c.next_request-next.ensures
-
-pub loop-next-preserved : goal.loop-next-preserved
-loop-next-preserved c = off-told c.args.self.now c.args.moment c.args.self.now.requests c.loop-next.facts.items c.push_off.new.facts.items c.in-Some.q.now (option_copied c.loop-next.next) _ (ap option_copied c.in-Some.is) c.next_request-next.ensures c.in_ok-push_off.ensures ∙ c.loop-next.invariant
-
-pub returns : goal.returns
-returns c = sym (append-nil c.loop-next.facts.items) ∙ (sym (ap (λ o. c.loop-next.facts.items ++ off_facts c.args.self.now c.args.moment (filter (λ q. unserved_in c.args.self.now q.phase) (rest_of (λ q. q.number) (option_copied o) c.args.self.now.requests))) c.in_default.is) ∙ c.loop-next.invariant)
+pub loop-number-preserved : goal.loop-number-preserved
+loop-number-preserved c =
+    let s = c.args.self.now in let ks = c.args.numbers.now in let i = c.loop-number.number-index in
+    subst (λ js. c.push_numbered.new.facts.items ≡ c.args.facts.now.items ++ off_facts s c.args.moment (filter (λ q. unserved_in s q.phase) (filter_map (request_at s) js)))
+    (sym (take_more ks i 0 c.loop-number-test.true))
+    (number-told s c.args.moment (take i ks) (slice_index ks i) c.args.facts.now.items c.loop-number.facts.items c.push_numbered.new.facts.items c.loop-number.invariant c.in_ok-push_numbered.ensures)

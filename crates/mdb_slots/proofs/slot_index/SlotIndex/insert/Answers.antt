@@ -1,6 +1,6 @@
 use Rattle.std.proofs.Common.{◌≡◌, ◌≢◌, ◌<◌, ℕ, Some, None, length, ap, sym, subst}
 use Rattle.mdb_slots.specs.SlotIndex.{Indexing, OpenIndex, KeepsIndex, slot_of, numbers_of}
-use Rattle.mdb_slots.proofs.Numbers.{numbers-length}
+use Rattle.mdb_slots.proofs.Numbers.{numbers-length, numbers-set}
 use Rattle.mdb_slots.proofs.IndexSteps.{inserted, slot_of-inserted}
 use Rattle.mdb_slots.proofs.slot_index.SlotIndex.insert.Goals as goal
 
@@ -21,3 +21,6 @@ returns-clause-now c =
     let a : slot_of c.args.number (numbers_of c.self.inside.buckets.entries.now) ≡ None = rw (ap (λ (o : OpenIndex). o.now) c.self.view_is) c.requires.absent in
     let f : (q : ℕ) → slot_of q (numbers_of c.self.inside.buckets.entries.now) ≢ Some c.args.slot = rw (ap (λ (o : OpenIndex). o.now) c.self.view_is) c.requires.free in
     rw (c.put_first.ensures.entries, ← c.self.view_is) (slot_of-inserted c.self.invariant.0 c.args.number c.args.slot p w a f)
+
+pub returns-clause-slots : goal.returns-clause-slots
+returns-clause-slots c = rw (c.put_first.ensures.entries, ← c.self.view_is) (numbers-set _ c.args.slot _)
