@@ -3,28 +3,61 @@
 
 usage: pool.py PROGRAM
 
-It builds nothing. A round of `available` is a request, which gets the connection that came back last, and its return. A round of
-`waiting` is a return, a collect by the caller that waits longest, who has the connection now, and the request of a new caller,
+It builds nothing but a loop of additions by gcc. A round of `available` is a request, which gets the connection that came back last, and its return. A
+round of `waiting` is a return, a collect by the caller that waits longest, who has the connection now, and the request of a new caller,
 who comes last. The program does the rounds twice, each time on a pool of its own, and says when the pool is opened and when the rounds are
 done: a round takes what passes between the two, over the number of rounds. So the start of the process, the opening of the pool and the
 giving back of the log's memory are left out, and the making of the log is not. The first time the memory is fresh from the system,
-the second time it is what the process had before, as far as the C library kept it. For each kind and size the program is run five times, and the
-best of each is told. Beside the time that passes it tells the processor's, which other work on the machine changes less.
+the second time it is what the process had before, as far as the C library kept it. All kinds and sizes are run one after another, nine times over.
+There are so many rounds that the tables of all requests grow as often for each size.
+
+A virtual machine gives a process a changing part of its processor: the same additions, one a cycle, were seen to run at 1.1 to 3.0 GHz within minutes. So
+they are timed before and after each run, and a run counts where the two agree to a tenth. Its cycles are the time that passed by the mean of the two
+clocks. Told are the least time as it passed, and the median of the cycles as the time that they take at 2.5 GHz.
 
 Bytes a round are those by which the greatest resident size of a run exceeds that of one without rounds: of the log, and of what the pool
 keeps. A size is at least that of this script, some 15 MB, so that where the opened pool is smaller they are up to 300 too few.
 """
 import os
+import statistics
 import subprocess
 import sys
+import tempfile
 import time
 
 STEPS = {"available": 2, "waiting": 3}
 SIZES = (1, 10, 100, 1000, 10000)
 COMPARED = (10, 10000)
-ROUNDS = 50000
-REPEATS = 5
+ROUNDS = 100000
+REPEATS = 9
 PASSES = 2
+CLOCK = 2.5
+ADDITIONS = r"""
+#include <stdio.h>
+#include <time.h>
+int main(void)
+{
+    struct timespec begun, done;
+    unsigned long sum = 0;
+    clock_gettime(CLOCK_MONOTONIC, &begun);
+    for (long i = 0; i < 50000000; i++)
+        __asm__ volatile("add $1, %0" : "+r"(sum));
+    clock_gettime(CLOCK_MONOTONIC, &done);
+    printf("%f\n", sum / ((done.tv_sec - begun.tv_sec) * 1e9 + (done.tv_nsec - begun.tv_nsec)));
+    return 0;
+}
+"""
+
+
+def built(folder):
+    """The program that tells its clock in GHz."""
+    program = os.path.join(folder, "clock")
+    subprocess.run(["gcc", "-O2", "-x", "c", "-o", program, "-"], input=ADDITIONS, text=True, check=True)
+    return program
+
+
+def clock_of(program):
+    return float(subprocess.run([program], stdout=subprocess.PIPE, text=True, check=True).stdout)
 
 
 def wanted(kind, connections, rounds):
@@ -35,31 +68,24 @@ def wanted(kind, connections, rounds):
     return f"kind={kind} connections={connections} rounds={rounds} entries={entries} granted={connections + rounds} slots={slots}"
 
 
-def ran(process):
-    """The nanoseconds that the process has had a processor."""
-    with open(f"/proc/{process.pid}/schedstat", encoding="ascii") as told:
-        return int(told.read().split()[0])
-
-
 def marked(process, line):
-    """When the process wrote this line, and how long it had run by then."""
+    """When the process wrote this line."""
     written = process.stdout.readline()
     moment = time.perf_counter_ns()
     if written != line + "\n":
         raise SystemExit(f"{process.args} wrote {written!r}")
-    return moment, ran(process)
+    return moment
 
 
 def timed(program, kind, connections, rounds):
-    """The nanoseconds of the rounds and those of the processor, of each pass, and the greatest resident size in bytes."""
+    """The nanoseconds of the rounds of each pass, and the greatest resident size in bytes."""
     command = [program, kind, str(connections), str(rounds)]
     process = subprocess.Popen(command, stdin=subprocess.DEVNULL, stdout=subprocess.PIPE, text=True)
     passes = []
     for _ in range(PASSES):
-        begun, idle = marked(process, "opened")
-        done, worked = marked(process, "done")
+        begun = marked(process, "opened")
+        passes.append(marked(process, "done") - begun)
         marked(process, wanted(kind, connections, rounds))
-        passes.append((done - begun, worked - idle))
     _, status, usage = os.wait4(process.pid, 0)
     process.returncode = os.waitstatus_to_exitcode(status)
     if process.returncode != 0:
@@ -67,30 +93,57 @@ def timed(program, kind, connections, rounds):
     return passes, usage.ru_maxrss * 1024
 
 
-def measured(program, kind, connections):
-    """The nanoseconds of a round and those of the processor, first and again, beside a line of all that was measured."""
-    least = min(timed(program, kind, connections, 0)[1] for _ in range(REPEATS))
-    runs = [timed(program, kind, connections, ROUNDS) for _ in range(REPEATS)]
-    most = max(size for _, size in runs)
-    best = [[min(passes[which][part] for passes, _ in runs) / ROUNDS for part in (0, 1)] for which in range(PASSES)]
-    (first, first_worked), (again, again_worked) = best
-    print(f"{kind:>9} {connections:>11} {first:>8.0f} {first_worked:>12.0f} {again:>8.0f} {again_worked:>12.0f}"
-          f" {least / 1e6:>8.1f} {most / 1e6:>8.1f} {(most - least) / ROUNDS:>11.0f}", flush=True)
-    return best
+def clocked(program, clock, kind, connections):
+    """A run, and the clock that it had, 0 where that changed."""
+    before = clock_of(clock)
+    passes, size = timed(program, kind, connections, ROUNDS)
+    after = clock_of(clock)
+    steady = abs(before - after) <= 0.1 * max(before, after)
+    return passes, size, (before + after) / 2 if steady else 0
+
+
+def of_round(runs):
+    """The nanoseconds of a round in each pass: the least, and the median at 2.5 GHz."""
+    least = [min(passes[which] for passes, _, _ in runs) / ROUNDS for which in range(PASSES)]
+    steady = [(passes, clock) for passes, _, clock in runs if clock > 0] or [([float("nan")] * PASSES, CLOCK)]
+    median = [statistics.median(passes[which] * clock / CLOCK for passes, clock in steady) / ROUNDS for which in range(PASSES)]
+    return least, median
+
+
+def tell(kind, connections, empty, runs):
+    """A line of all that was measured, where `empty` is the size of a run without rounds."""
+    (first, again), (first_at, again_at) = of_round(runs)
+    most = max(size for _, size, _ in runs)
+    clocks = [clock for _, _, clock in runs if clock > 0]
+    print(f"{kind:>9} {connections:>11} {first:>8.0f} {first_at:>10.0f} {again:>8.0f} {again_at:>10.0f} {len(clocks):>6}"
+          f" {empty / 1e6:>8.1f} {most / 1e6:>8.1f} {(most - empty) / ROUNDS:>11.0f}")
+
+
+def compare(kind, few, many):
+    """How much longer a round takes among many connections than among few."""
+    first, again = (many[1][which] / few[1][which] for which in range(PASSES))
+    print(f"{kind}: a round at {COMPARED[1]} takes {first:.2f} times a round at {COMPARED[0]} at {CLOCK} GHz, again {again:.2f} times")
 
 
 def main():
     if len(sys.argv) != 2:
         raise SystemExit(__doc__)
     program = os.path.abspath(sys.argv[1])
-    print(f"{'kind':>9} {'connections':>11} {'ns/round':>8} {'processor ns':>12} {'ns again':>8} {'processor ns':>12}"
+    kinds = [(kind, connections) for kind in STEPS for connections in SIZES]
+    empty = {one: timed(program, *one, 0)[1] for one in kinds}
+    runs = {one: [] for one in kinds}
+    with tempfile.TemporaryDirectory() as folder:
+        clock = built(folder)
+        for _ in range(REPEATS):
+            for one in kinds:
+                runs[one].append(clocked(program, clock, *one))
+    print(f"{'kind':>9} {'connections':>11} {'ns/round':>8} {'at 2.5 GHz':>10} {'ns again':>8} {'at 2.5 GHz':>10} {'steady':>6}"
           f" {'MB, none':>8} {'MB, all':>8} {'bytes/round':>11}")
     for kind in STEPS:
-        rounds = {connections: measured(program, kind, connections) for connections in SIZES}
-        few, many = (rounds[connections] for connections in COMPARED)
-        first, again = ([many[which][part] / few[which][part] for part in (0, 1)] for which in range(PASSES))
-        print(f"a round at {COMPARED[1]} takes {first[0]:.2f} times a round at {COMPARED[0]}, and {first[1]:.2f} times its time of the processor;"
-              f" again {again[0]:.2f} and {again[1]:.2f}")
+        for connections in SIZES:
+            tell(kind, connections, empty[kind, connections], runs[kind, connections])
+        few, many = (of_round(runs[kind, connections]) for connections in COMPARED)
+        compare(kind, few, many)
 
 
 if __name__ == "__main__":
