@@ -18,6 +18,7 @@ clocks. Told are the least time as it passed, and the median of the cycles as th
 Bytes a round are those by which the greatest resident size of a run exceeds that of one without rounds: of the log, and of what the pool
 keeps. A size is at least that of this script, some 15 MB, so that where the opened pool is smaller they are up to 300 too few.
 """
+import math
 import os
 import statistics
 import subprocess
@@ -94,34 +95,36 @@ def timed(program, kind, connections, rounds):
 
 
 def clocked(program, clock, kind, connections):
-    """A run, and the clock that it had, 0 where that changed."""
+    """The nanoseconds of each pass of a run, its greatest resident size, and the clock that it had: None where that changed."""
     before = clock_of(clock)
     passes, size = timed(program, kind, connections, ROUNDS)
     after = clock_of(clock)
     steady = abs(before - after) <= 0.1 * max(before, after)
-    return passes, size, (before + after) / 2 if steady else 0
+    return passes, size, (before + after) / 2 if steady else None
 
 
-def of_round(runs):
-    """The nanoseconds of a round in each pass: the least, and the median at 2.5 GHz."""
-    least = [min(passes[which] for passes, _, _ in runs) / ROUNDS for which in range(PASSES)]
-    steady = [(passes, clock) for passes, _, clock in runs if clock > 0] or [([float("nan")] * PASSES, CLOCK)]
-    median = [statistics.median(passes[which] * clock / CLOCK for passes, clock in steady) / ROUNDS for which in range(PASSES)]
-    return least, median
+def least(runs, which):
+    """The least nanoseconds of a round in this pass."""
+    return min(passes[which] for passes, _, _ in runs) / ROUNDS
+
+
+def at_clock(runs, which):
+    """The median of the nanoseconds that a round in this pass takes at 2.5 GHz; nan where the clock changed in each run."""
+    times = [passes[which] * clock / CLOCK for passes, _, clock in runs if clock is not None]
+    return statistics.median(times) / ROUNDS if times else math.nan
 
 
 def tell(kind, connections, empty, runs):
     """A line of all that was measured, where `empty` is the size of a run without rounds."""
-    (first, again), (first_at, again_at) = of_round(runs)
     most = max(size for _, size, _ in runs)
-    clocks = [clock for _, _, clock in runs if clock > 0]
-    print(f"{kind:>9} {connections:>11} {first:>8.0f} {first_at:>10.0f} {again:>8.0f} {again_at:>10.0f} {len(clocks):>6}"
+    steady = sum(clock is not None for _, _, clock in runs)
+    print(f"{kind:>9} {connections:>11} {least(runs, 0):>8.0f} {at_clock(runs, 0):>10.0f} {least(runs, 1):>8.0f} {at_clock(runs, 1):>10.0f} {steady:>6}"
           f" {empty / 1e6:>8.1f} {most / 1e6:>8.1f} {(most - empty) / ROUNDS:>11.0f}")
 
 
 def compare(kind, few, many):
     """How much longer a round takes among many connections than among few."""
-    first, again = (many[1][which] / few[1][which] for which in range(PASSES))
+    first, again = (at_clock(many, which) / at_clock(few, which) for which in range(PASSES))
     print(f"{kind}: a round at {COMPARED[1]} takes {first:.2f} times a round at {COMPARED[0]} at {CLOCK} GHz, again {again:.2f} times")
 
 
@@ -142,8 +145,7 @@ def main():
     for kind in STEPS:
         for connections in SIZES:
             tell(kind, connections, empty[kind, connections], runs[kind, connections])
-        few, many = (of_round(runs[kind, connections]) for connections in COMPARED)
-        compare(kind, few, many)
+        compare(kind, *(runs[kind, connections] for connections in COMPARED))
 
 
 if __name__ == "__main__":
