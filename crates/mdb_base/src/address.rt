@@ -17,7 +17,7 @@ pub struct ServerAddress {
 impl ServerAddress {
     ghost use Rattle.mdb_base.specs.Equality.{same_address};
 
-    /// Keeps the host as it is.
+    /// Keeps the host as it is. Fails where there is no memory for the count of the copies that share it.
     pub fn new(host: String, port: u16) -> Result<ServerAddress, AllocError>
         ensures host { IfOk result (λ address. address.host ≡ string_bytes host) }
         ensures port { IfOk result (λ address. address.port ≡ port) }

@@ -1,5 +1,5 @@
 -- What the lists beside the tables of a pool say.
-use Rattle.std.proofs.Common.{◌≡◌, ℕ, Bool, true, false, not, ◌&&◌, ◌||◌, Option, Some, None, List, [], ◌∷◌, filter, find, length, refl, ◌∙◌, ap, arith}
+use Rattle.std.proofs.Common.{◌≡◌, ◌≤◌, ℕ, Bool, true, false, not, ◌&&◌, ◌||◌, Option, Some, None, List, [], ◌∷◌, filter, find, length, refl, ◌∙◌, ap, arith}
 use Rattle.std.proofs.lemmas.Grind.{common_steps}
 use Rattle.mdb_log.specs.Connections.{has}
 use Rattle.mdb_slots.specs.Lists.{has as among}
@@ -8,7 +8,7 @@ use Rattle.std.specs.List.{count_by}
 use Rattle.std.proofs.lemmas.List.{length-map}
 use Rattle.std.proofs.lemmas.List.Sums.{length-filter}
 use Rattle.mdb_base.specs.declared.object_id.ObjectId.{ObjectId}
-use Rattle.mdb_slots.specs.Sided.{stays, noted, record_of}
+use Rattle.mdb_slots.specs.Sided.{stays, noted, numbered, record_of}
 use Rattle.mdb_pool.specs.Places.{is_available, is_pending, is_queued, stays as stays_open}
 use Rattle.mdb_pool.specs.declared.connection.Place.{Place}
 use Rattle.mdb_pool.specs.declared.connection.Place.TheVariants.{Pending, Available, Held, Pinned}
@@ -49,14 +49,23 @@ pub find_among : {T : Type 0} (p q : T → Bool) (xs : List T) → find (λ x. p
 find_among p q [] = refl
 find_among p q (x ∷ xs) = grind (arith, common_steps, find_among p q xs)
 
--- and so is what meets three of them
-pub find_among_two : {T : Type 0} (p q r : T → Bool) (xs : List T) → find (λ x. p x && (q x && r x)) xs ≡ find r (filter (λ x. p x && q x) xs)
-find_among_two p q r [] = refl
-find_among_two p q r (x ∷ xs) = grind (arith, common_steps, find_among_two p q r xs)
-
 -- a list has as many records as values meet its test
 pub listed_length : {T : Type 0} (key : T → ℕ) (service : T → Option ObjectId) (since : T → ℕ) (test : T → Bool) (xs : List T) → length (noted key service since test xs) ≡ count_by test xs
 listed_length key service since test xs = length-map (filter test xs) (record_of key service since) ∙ length-filter test xs
+
+-- a list has as many numbers as values meet its test
+pub numbered_length : {T : Type 0} (key : T → ℕ) (test : T → Bool) (xs : List T) → length (numbered key test xs) ≡ count_by test xs
+numbered_length key test xs = length-map (filter test xs) key ∙ length-filter test xs
+
+-- no more meet two tests than one of them
+fewer_both : {T : Type 0} (p w : T → Bool) (xs : List T) → count_by (λ x. p x && w x) xs ≤ count_by p xs
+fewer_both p w [] = omega arith
+fewer_both p w (x ∷ xs) = grind (arith, common_steps, fewer_both p w xs)
+
+-- where as many do, none meets the one and not the other
+pub none_else : {T : Type 0} (p w : T → Bool) (xs : List T) → count_by (λ x. p x && w x) xs ≡ count_by p xs → find (λ x. p x && not (w x)) xs ≡ None
+none_else p w [] e = refl
+none_else p w (x ∷ xs) e = grind (arith, common_steps, fewer_both p w xs, none_else p w xs, e)
 
 -- one in the state of another takes its place
 pub stays_same : {T : Type 0} (test : T → Bool) (x y : T) (o : Option T) → o ≡ Some y → test x ≡ test y → stays test x o ≡ true

@@ -1,5 +1,5 @@
 -- What a pool is read from, and how its changes are made again.
-use Rattle.std.specs.Prelude.{◌&&◌, not, ℕ, Option, None}
+use Rattle.std.specs.Prelude.{◌&&◌, ℕ, Option, None}
 use Rattle.mdb_base.specs.declared.object_id.ObjectId.{ObjectId}
 use Rattle.mdb_slots.specs.Open.{ListSteps, or_else, list_after, ListFits, room_after as length_after}
 use Rattle.mdb_slots.specs.Table.{items}
@@ -83,7 +83,7 @@ no_service x = None
 abbrev pub PoolFits : PoolSteps → Inner → Type 0
 PoolFits p i =
     SidedFits (λ x. x.id) (λ x. x.service) (λ x. x.since) (λ x. is_available x.place) (λ x. is_pending x.place) p.connections i.base.connections i.room.connections
-    × SidedFits (λ q. q.number) no_service (λ q. q.asked_at) (λ q. is_queued q.phase) (λ q. is_queued q.phase && not q.warm) p.requests i.base.requests i.room.requests
+    × SidedFits (λ q. q.number) no_service (λ q. q.asked_at) (λ q. is_queued q.phase && q.warm) (λ q. is_queued q.phase) p.requests i.base.requests i.room.requests
     × ListFits p.clears i.base.clears i.room.clears
     × IndexFits p.settled i.base.settled i.room.settled
     × IndexFits p.claimed i.base.claimed i.room.claimed

@@ -266,11 +266,6 @@ ended_request s q = if unserved_in s q.phase then record q { phase = EndedPhase 
 abbrev pub ended_one : PoolCore → ℕ → List Request
 ended_one s r = map (λ q. if q.number == r then ended_request s q else q) s.requests
 
--- the number of the request
-abbrev pub number_in : Option Request → Option ℕ
-number_in None = None
-number_in (Some q) = Some q.number
-
 abbrev pub closing : PoolCore → ℕ → PoolCore
 closing s m = record s {
   last = m;

@@ -70,6 +70,10 @@ wants_now s = nat_lt (length s.connections) (min_size s.options) && (nat_lt (len
 abbrev pub blocked_now : PoolCore → Bool
 blocked_now s = wants_now s && not (nat_lt (pending_count s) (max_connecting s.options))
 
+-- the first queued caller
+abbrev pub first_caller : PoolCore → Option Request
+first_caller s = find (λ q. is_queued q.phase && not q.warm) s.requests
+
 -- the first of the queued requests that is no blocked warm one
 abbrev pub candidate_now : PoolCore → Option Request
 candidate_now s = find (λ q. is_queued q.phase && not (q.warm && blocked_now s)) s.requests

@@ -166,11 +166,11 @@ impl Draft {
     }
 
     // How many requests are queued.
-    #[tactic(auto, using(crate::proofs::Bodies::listed_length))]
+    #[tactic(auto, using(crate::proofs::Bodies::numbered_length))]
     pub(super) fn queued_count(&self) -> usize
         ensures { result ≡ count_by (λ q. is_queued q.phase) self.now.requests }
     {
-        self.body.requests.left().len()
+        self.body.requests.right().len()
     }
 
     // The request that was put after all others.

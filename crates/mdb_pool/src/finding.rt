@@ -1,6 +1,6 @@
 //! What the parts of a pool have among their connections and requests.
 
-ghost use Rattle.std.specs.Prelude.{◌≡◌, nat_lt, option_copied, IfOk};
+ghost use Rattle.std.specs.Prelude.{◌≡◌, ◌&&◌, not, nat_lt, option_copied, IfOk};
 ghost use Rattle.mdb_log.specs.Connections.{has};
 ghost use Rattle.mdb_pool.specs.Body.{now_of};
 
@@ -15,7 +15,7 @@ pub const DEFAULT_MAX_POOL_SIZE: u32 = 10;
 
 impl Body {
     ghost use Rattle.mdb_log.specs.State.{max_connecting};
-    ghost use Rattle.mdb_pool.specs.Kept.{wants_now, blocked_now, candidate_now, fills_now, first_perished, first_overdue, overdue_since, first_queued, last_available, pending_count, has_room, given_in, held_given, held_connection, pending_connection, holder_request, outcome_now, first_unclaimed};
+    ghost use Rattle.mdb_pool.specs.Kept.{wants_now, blocked_now, first_caller, candidate_now, fills_now, first_perished, first_overdue, overdue_since, first_queued, last_available, pending_count, has_room, given_in, held_given, held_connection, pending_connection, holder_request, outcome_now, first_unclaimed};
 
     // The outcome of the request was told, or it gave up or came back.
     pub fn is_settled(&self, number: u32) -> bool
@@ -34,7 +34,7 @@ impl Body {
     pub fn first_queued(&self) -> Option<&Request>
         ensures { option_copied result ≡ first_queued (now_of self.now) }
     {
-        self.requests.first_left()
+        self.requests.first_right()
     }
 
     #[tactic(auto, using(crate::proofs::Bodies::last_there))]
@@ -44,7 +44,7 @@ impl Body {
         self.connections.last_left().copied()
     }
 
-    #[tactic(auto, using(crate::proofs::Bodies::listed_length))]
+    #[tactic(auto, using(crate::proofs::Bodies::numbered_length))]
     pub fn pending_count(&self) -> usize
         ensures { result ≡ pending_count (now_of self.now) }
     {
@@ -85,15 +85,32 @@ impl Body {
         self.wants_connection() && !self.may_connect()
     }
 
+    // The first of the queued callers. Warm requests that are queued before it are passed by.
+    fn first_caller(&self) -> Option<&Request>
+        ensures { option_copied result ≡ first_caller (now_of self.now) }
+    {
+        if self.requests.left().len() == self.requests.right().len() {
+            return None;
+        }
+        let mut next = self.requests.first_right();
+        while let Some(q) = next {
+            if !q.warm {
+                return Some(q);
+            }
+            next = self.requests.next_right(q.number);
+        }
+        None
+    }
+
     // The first of the queued requests that is no blocked warm one.
     #[tactic(auto, using(crate::proofs::Bodies::candidate_blocked, crate::proofs::Bodies::candidate_free))]
     pub fn candidate(&self) -> Option<&Request>
         ensures { option_copied result ≡ candidate_now (now_of self.now) }
     {
         if self.is_blocked() {
-            return self.requests.first_right();
+            return self.first_caller();
         }
-        self.requests.first_left()
+        self.requests.first_right()
     }
 
     // Maintenance may create a connection.
@@ -169,13 +186,16 @@ impl Body {
         None
     }
 
-    // A caller that asked then has waited for too long.
-    fn is_overdue(&self, moment: Moment, asked_at: Moment) -> bool
-        ensures { result ≡ overdue_since self.now.options.max_wait moment asked_at }
+    // It is a caller that has waited for too long, if it waits.
+    fn is_overdue(&self, moment: Moment, request: &Request) -> bool
+        ensures { result ≡ (not request.now.warm && overdue_since self.now.options.max_wait moment request.now.asked_at) }
     {
+        if request.warm {
+            return false;
+        }
         match self.options.max_wait {
             None => false,
-            Some(limit) => 0 < limit && limit <= moment.saturating_sub(asked_at),
+            Some(limit) => 0 < limit && limit <= moment.saturating_sub(request.asked_at),
         }
     }
 
@@ -185,7 +205,7 @@ impl Body {
     {
         let mut next = self.requests.first_right();
         while let Some(q) = next {
-            if self.is_overdue(moment, q.asked_at) {
+            if self.is_overdue(moment, q) {
                 return Some(q);
             }
             next = self.requests.next_right(q.number);

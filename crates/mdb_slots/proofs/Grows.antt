@@ -1,5 +1,5 @@
 -- A slot is added.
-use Rattle.std.proofs.Common.{◌≡◌, ℕ, ◌+◌, ◌<◌, ◌^◌, false, Option, Some, None, List, [], ◌∷◌, ◌++◌, length, refl, ◌∙◌, ap, arith, length-append}
+use Rattle.std.proofs.Common.{◌≡◌, ℕ, ◌+◌, ◌-◌, ◌<◌, ◌^◌, false, Option, Some, None, List, [], ◌∷◌, ◌++◌, length, refl, ◌∙◌, ap, arith, length-append}
 use Rattle.std.proofs.lemmas.Grind.{common_steps}
 use Rattle.mdb_slots.specs.declared.node.Node.{Node}
 use Rattle.mdb_slots.specs.Lists.{has}
@@ -29,7 +29,7 @@ vacant-below : (ns : List Node) (xs : List ℕ) → Vacant ns xs → has (length
 vacant-below ns [] c = refl
 vacant-below ns (x ∷ xs) c = grind (arith, common_steps, c.0, vacant-below ns xs c.2)
 
-pub laid-grow : (ns : List Node) (f l fr : Option ℕ) (len sp : ℕ) (us fs : List ℕ) → length ns < 2 ^ 32 → IsLaid ns f l fr len sp us fs → IsLaid (ns ++ node None fr false ∷ []) f l (Some (length ns)) len (sp + 1) us (length ns ∷ fs)
+pub laid-grow : (ns : List Node) (f l fr : Option ℕ) (len sp : ℕ) (us fs : List ℕ) → length ns < 2 ^ 32 - 1 → IsLaid ns f l fr len sp us fs → IsLaid (ns ++ node None fr false ∷ []) f l (Some (length ns)) len (sp + 1) us (length ns ∷ fs)
 laid-grow ns f l fr len sp us fs r h =
     record {
       chain = chain-grow ns (node None fr false) None us None h.chain;

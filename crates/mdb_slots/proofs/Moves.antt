@@ -1,5 +1,5 @@
 -- A slot is taken as the newest, or given back.
-use Rattle.std.proofs.Common.{◌≡◌, ℕ, ◌+◌, ◌-◌, ◌<◌, ◌==◌, if◌then◌else◌, Bool, true, false, Option, Some, None, IsSome, IfSome, List, [], ◌∷◌, ◌++◌, length, refl, sym, ◌∙◌, ap, subst, arith, set, get_or-set_same, length-set, length-append}
+use Rattle.std.proofs.Common.{◌≡◌, ℕ, ◌+◌, ◌-◌, ◌^◌, ◌<◌, ◌==◌, if◌then◌else◌, Bool, true, false, Option, Some, None, IsSome, IfSome, List, [], ◌∷◌, ◌++◌, length, refl, sym, ◌∙◌, ap, subst, arith, set, get_or-set_same, length-set, length-append}
 use Rattle.std.proofs.lemmas.Grind.{common_steps}
 use Rattle.mdb_slots.specs.declared.node.Node.{Node}
 use Rattle.mdb_slots.specs.Lists.{has, apart, head_or, last_or}
@@ -87,6 +87,10 @@ pub free-within : {ns : List Node} {f l fr : Option ℕ} {len sp : ℕ} {us fs :
 free-within {ns = ns} {fr = fr} {fs = fs} s h e =
     let t = led s fr fs h.free_is e in
     (subst (λ (xs : List ℕ). Vacant ns xs) t.is h.vacant).0
+
+-- so few slots that one stands for none
+pub free-few : {ns : List Node} {f l fr : Option ℕ} {len sp : ℕ} {us fs : List ℕ} → (s : ℕ) (h : IsLaid ns f l fr len sp us fs) → (e : fr ≡ Some s) → s < 2 ^ 32 - 1
+free-few s h e = omega (arith, h.few, free-within s h e)
 
 pub free-new : {ns : List Node} {f l fr : Option ℕ} {len sp : ℕ} {us fs : List ℕ} → (s : ℕ) (h : IsLaid ns f l fr len sp us fs) → (e : fr ≡ Some s) → has s us ≡ false
 free-new {ns = ns} {fr = fr} {us = us} {fs = fs} s h e =

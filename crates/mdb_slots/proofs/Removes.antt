@@ -1,5 +1,5 @@
 -- A slot is given back, and slots are added.
-use Rattle.std.proofs.Common.{◌≡◌, ℕ, ◌+◌, ◌-◌, ◌<◌, ◌==◌, if◌then◌else◌, Bool, true, false, Option, Some, None, IfSome, List, [], ◌∷◌, ◌++◌, length, refl, sym, ◌∙◌, ap, subst, arith, set, get_or-set_same, length-set, length-append}
+use Rattle.std.proofs.Common.{◌≡◌, ℕ, ◌+◌, ◌-◌, ◌^◌, ◌<◌, ◌==◌, if◌then◌else◌, Bool, true, false, Option, Some, None, IfSome, List, [], ◌∷◌, ◌++◌, length, refl, sym, ◌∙◌, ap, subst, arith, set, get_or-set_same, length-set, length-append}
 use Rattle.std.proofs.lemmas.Grind.{common_steps}
 use Rattle.mdb_slots.specs.declared.node.Node.{Node}
 use Rattle.mdb_slots.specs.Lists.{has, apart, head_or, last_or, without, next, previous}
@@ -164,6 +164,10 @@ before-is {ns = ns} {us = us} k h e =
     let s = stands ns k us h.chain e in
     let a = apart-parts k s.xs s.ys (subst (λ (zs : List ℕ). apart zs ≡ true) s.is h.once) in
     ap (λ (n : Node). n.before) s.node_is ∙ sym (previous-at None k s.xs s.ys a.k_before) ∙ ap (λ (zs : List ℕ). previous None k zs) (sym s.is)
+
+-- so few slots that one stands for none
+pub few-slots : {ns : List Node} {f l fr : Option ℕ} {len sp : ℕ} {us fs : List ℕ} → (k : ℕ) → IsLaid ns f l fr len sp us fs → has k us ≡ true → k < 2 ^ 32 - 1
+few-slots {ns = ns} {us = us} k h e = omega (arith, h.few, (stands ns k us h.chain e).within)
 
 -- the neighbours are in range
 pub before-within : {ns : List Node} {f l fr : Option ℕ} {len sp : ℕ} {us fs : List ℕ} → (k : ℕ) → IsLaid ns f l fr len sp us fs → has k us ≡ true → IfSome (node_at ns k).before (λ j. j < length ns)

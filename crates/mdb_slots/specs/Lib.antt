@@ -1,5 +1,6 @@
 pub mod Chain
 pub mod Lists
+pub mod MaybeSlot
 pub mod Links
 pub mod Items
 pub mod Change

@@ -1,5 +1,5 @@
 -- What a caller sees of the order of slots, and what the nodes keep.
-use Rattle.std.specs.Prelude.{◌≡◌, ℕ, ◌+◌, ◌^◌, ◌≤◌, true, Option, None, Some, List, length}
+use Rattle.std.specs.Prelude.{◌≡◌, ℕ, ◌+◌, ◌^◌, ◌<◌, true, Option, None, Some, List, length}
 use Rattle.mdb_slots.specs.declared.node.Node.{Node}
 use Rattle.mdb_slots.specs.Lists.{has, apart, head_or, last_or}
 use Rattle.mdb_slots.specs.Chain.{node_at, Chain, Vacant, walk}
@@ -22,7 +22,7 @@ pub record IsLaid (ns : List Node) (first last free : Option ℕ) (len spare : �
   pub spare_is : spare ≡ length fs
   pub all : length ns ≡ len + spare
   pub cover : (k : ℕ) → (node_at ns k).used ≡ has k us
-  pub few : length ns ≤ 2 ^ 32
+  pub few : length ns < 2 ^ 32
 
 -- what is kept of the fields: the lists are the walks from their first slots
 abbrev pub Keeps : List Node → Option ℕ → Option ℕ → Option ℕ → ℕ → ℕ → Type 0

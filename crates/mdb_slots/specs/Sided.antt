@@ -1,4 +1,4 @@
--- A table with two lists beside it: records of the values on its left, and of those on its right.
+-- A table with two lists beside it: records of the values on its left, and numbers of those on its right.
 use Rattle.std.specs.Prelude.{◌≡◌, ℕ, Bool, true, not, ◌||◌, if◌then◌else◌, Option, None, Some, List, map, filter}
 use Rattle.mdb_base.specs.declared.object_id.ObjectId.{ObjectId}
 use Rattle.mdb_slots.specs.declared.records.Record.{Record}
@@ -7,13 +7,18 @@ use Rattle.mdb_slots.specs.Lists.{apart}
 use Rattle.mdb_slots.specs.Keyed.{entry_at, put, others, swap}
 use Rattle.mdb_slots.specs.Table.{Shelf, TableSteps, Capacities, items, nothing_shelved, shelf_after, capacity_after, Fits as TableFits}
 
--- the record comes last where it stands in the list, and is gone where it does not
-abbrev pub relisted : Bool → Record → List Record → List Record
-relisted stands r rs = if stands then put (λ x. x.id) r rs else others (λ x. x.id) r.id rs
+module _ {L : Type 0} (key : L → ℕ) where
+  -- the entry comes last where it stands in the list, and is gone where it does not
+  abbrev pub relisted : Bool → L → List L → List L
+  relisted stands r rs = if stands then put key r rs else others key (key r) rs
 
--- the record changes where it stands in the list, and is gone where it does not
-abbrev pub amended : Bool → Record → List Record → List Record
-amended stands r rs = if stands then swap (λ x. x.id) r rs else others (λ x. x.id) r.id rs
+  -- the entry changes where it stands in the list, and is gone where it does not
+  abbrev pub amended : Bool → L → List L → List L
+  amended stands r rs = if stands then swap key r rs else others key (key r) rs
+
+-- the list stays where the number stands in it, and the number is gone where it does not
+abbrev pub remaining : Bool → ℕ → List ℕ → List ℕ
+remaining stands n ns = if stands then ns else others (λ k. k) n ns
 
 module _ {T : Type 0} where
   -- the value does not come to stand where the one that had its number did not
@@ -21,21 +26,21 @@ module _ {T : Type 0} where
   stays test x None = true
   stays test x (Some y) = not (test x) || test y
 
--- the value whose record it is
-abbrev pub picked : {T : Type 0} → (T → ℕ) → Option Record → List T → Option T
-picked key None xs = None
-picked key (Some r) xs = entry_at key r.id xs
+-- the value that has the number of the entry
+abbrev pub picked : {T L : Type 0} → (T → ℕ) → (L → ℕ) → Option L → List T → Option T
+picked key number None xs = None
+picked key number (Some r) xs = entry_at key (number r) xs
 
 -- what the table and its lists are read from
 pub record SidedShelf (T : Type 0) : Type 0 where
   pub table : Shelf T
   pub left : Shelf Record
-  pub right : Shelf Record
+  pub right : Shelf ℕ
 
 pub record SidedSteps (T : Type 0) : Type 0 where
   pub table : TableSteps T
   pub left : TableSteps Record
-  pub right : TableSteps Record
+  pub right : TableSteps ℕ
 
 pub record SidedCapacities : Type 0 where
   pub table : Capacities
@@ -74,12 +79,17 @@ module _ {T : Type 0} (key : T → ℕ) (service : T → Option ObjectId) (since
   abbrev pub noted : (T → Bool) → List T → List Record
   noted test xs = map record_of (filter test xs)
 
+module _ {T : Type 0} (key : T → ℕ) where
+  -- the numbers of the values that meet the test, in their order
+  abbrev pub numbered : (T → Bool) → List T → List ℕ
+  numbered test xs = map key (filter test xs)
+
 module _ {T : Type 0} (key : T → ℕ) (service : T → Option ObjectId) (since : T → ℕ) (on_left on_right : T → Bool) where
-  -- no two values have the same number, and the lists have the records of the values on their sides
-  pub record InStep (values : List T) (left right : List Record) : Type 0 where
+  -- no two values have the same number, and the lists have the records of the values on the left and the numbers of those on the right
+  pub record InStep (values : List T) (left : List Record) (right : List ℕ) : Type 0 where
     pub apart_is : apart (map key values) ≡ true
     pub left_is : left ≡ noted key service since on_left values
-    pub right_is : right ≡ noted key service since on_right values
+    pub right_is : right ≡ numbered key on_right values
 
   abbrev pub PartsInStep : SideParts T → Type 0
   PartsInStep p = InStep p.table.now p.left.now p.right.now
@@ -89,7 +99,7 @@ module _ {T : Type 0} (key : T → ℕ) (service : T → Option ObjectId) (since
 
   -- the changes can be made without memory, and lead to a table with its lists
   abbrev pub SidedFits : SidedSteps T → SidedShelf T → SidedCapacities → Type 0
-  SidedFits p s c = TableFits key p.table s.table c.table × TableFits (λ x. x.id) p.left s.left c.left × TableFits (λ x. x.id) p.right s.right c.right × ShelvesInStep (sided_after p s)
+  SidedFits p s c = TableFits key p.table s.table c.table × TableFits (λ x. x.id) p.left s.left c.left × TableFits (λ k. k) p.right s.right c.right × ShelvesInStep (sided_after p s)
 
   -- the changes can be made without memory, and lead to these values
   abbrev pub SidedPlans : SidedSteps T → SidedShelf T → SidedCapacities → List T → Type 0

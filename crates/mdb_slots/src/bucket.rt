@@ -1,15 +1,16 @@
 //! The buckets of an index: a slot comes first in its bucket, and all slots are chained again.
 
-ghost use Rattle.std.specs.Prelude.{◌≡◌, ◌<◌, ◌≤◌, ◌+◌, ◌^◌, ℕ, suc, Some, None, length, slice_set};
+ghost use Rattle.std.specs.Prelude.{◌≡◌, ◌<◌, ◌≤◌, ◌+◌, ◌-◌, ◌^◌, ℕ, suc, Some, None, length, slice_set};
 ghost use Rattle.mdb_slots.specs.SlotIndex.{bucket_in, entry, head_at, numbers_of, number_at, masked, Single, IsIndex, base_of, capacity_of, room_of, both, AreWithin, LeavesAll};
 
-use crate::entry::Entry;
+use crate::entry::{Entry, entry_of};
+use crate::maybe_slot::MaybeSlot;
 use crate::turned::Turned;
 
 /// The first slot of each bucket, and the entry of each slot.
 #[derive(Drop)]
 pub struct Buckets {
-    pub heads: Turned<Option<u32>>,
+    pub heads: Turned<MaybeSlot>,
     pub entries: Turned<Entry>,
 }
 
@@ -22,8 +23,17 @@ pub fn bucket_of(number: u32, width: usize) -> usize
     number as usize & (width - 1)
 }
 
+/// The first slot of the bucket.
+#[inline]
+pub fn head_of(heads: &[MaybeSlot], bucket: usize) -> MaybeSlot
+    requires { bucket < length heads.now }
+    ensures { result ≡ head_at heads.now bucket }
+{
+    heads[bucket]
+}
+
 /// No bucket has a slot.
-pub fn empty(heads: &mut Turned<Option<u32>>)
+pub fn empty(heads: &mut Turned<MaybeSlot>)
     requires { length heads.old.now ≤ heads.old.room }
     ensures none { (b : ℕ) → head_at heads.new.now b ≡ None }
     ensures len { length heads.new.now ≡ length heads.old.now }
@@ -34,12 +44,12 @@ pub fn empty(heads: &mut Turned<Option<u32>>)
 {
     let width = heads.as_slice().len();
     for bucket in 0..width {
-        heads.set_ready(bucket, None);
+        heads.set_ready(bucket, MaybeSlot::none());
     }
 }
 
 /// So many more buckets, without slots.
-pub fn lengthen(heads: &mut Turned<Option<u32>>, more: usize)
+pub fn lengthen(heads: &mut Turned<MaybeSlot>, more: usize)
     requires none { (b : ℕ) → head_at heads.old.now b ≡ None }
     requires within { length heads.old.now + more ≤ heads.old.reach }
     requires room { more ≤ heads.old.room }
@@ -50,7 +60,7 @@ pub fn lengthen(heads: &mut Turned<Option<u32>>, more: usize)
     ensures room { heads.old.room ≤ heads.new.room + more }
 {
     for _bucket in 0..more {
-        heads.push_ready(None);
+        heads.push_ready(MaybeSlot::none());
     }
 }
 
@@ -59,6 +69,7 @@ impl Buckets {
     pub fn put_first(&mut self, number: u32, slot: u32)
         requires width { 0 < length self.old.heads.now }
         requires within { slot < length self.old.entries.now }
+        requires few { slot < 2 ^ 32 - 1 }
         requires room { AreWithin (both 1 1) (room_of self.old) }
         ensures heads { self.new.heads.now ≡ slice_set self.old.heads.now (bucket_in number (length self.old.heads.now)) (Some slot) }
         ensures entries { self.new.entries.now ≡ slice_set self.old.entries.now slot (entry (Some number) (head_at self.old.heads.now (bucket_in number (length self.old.heads.now)))) }
@@ -72,13 +83,14 @@ impl Buckets {
             same: self.heads.as_slice()[bucket],
         };
         self.entries.set_ready(slot as usize, entry);
-        self.heads.set_ready(bucket, Some(slot));
+        self.heads.set_ready(bucket, MaybeSlot::some(slot));
     }
 
     // The slot is chained, where it has a number.
     fn chain_slot(&mut self, slot: u32)
         requires width { 0 < length self.old.heads.now }
         requires within { slot < length self.old.entries.now }
+        requires few { slot < 2 ^ 32 - 1 }
         requires room { AreWithin (both 1 1) (room_of self.old) }
         requires single { Single (numbers_of self.old.entries.now) }
         requires index { IsIndex self.old.heads.now self.old.entries.now (masked slot (numbers_of self.old.entries.now)) }
@@ -89,7 +101,7 @@ impl Buckets {
         ensures capacity { capacity_of self.new ≡ capacity_of self.old }
         ensures room { LeavesAll (room_of self.new) (both 1 1) (room_of self.old) }
     {
-        match self.entries.as_slice()[slot as usize].number {
+        match entry_of(self.entries.as_slice(), slot).number {
             Some(number) => self.put_first(number, slot),
             None => {}
         }

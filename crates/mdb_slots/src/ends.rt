@@ -3,12 +3,14 @@
 ghost use Rattle.std.specs.Prelude.{◌≡◌, if◌then◌else◌};
 ghost use Rattle.mdb_slots.specs.Links.{where_none};
 
+use crate::maybe_slot::MaybeSlot;
+
 /// Where the chains begin and end, and how long they are.
 #[derive(Clone, Copy)]
 pub struct Ends {
-    pub first: Option<u32>,
-    pub last: Option<u32>,
-    pub free: Option<u32>,
+    pub first: MaybeSlot,
+    pub last: MaybeSlot,
+    pub free: MaybeSlot,
     pub len: usize,
     pub spare: usize,
 }
@@ -21,9 +23,9 @@ impl Ends {
         ensures { result ≡ no_ends }
     {
         Ends {
-            first: None,
-            last: None,
-            free: None,
+            first: MaybeSlot::none(),
+            last: MaybeSlot::none(),
+            free: MaybeSlot::none(),
             len: 0,
             spare: 0,
         }
@@ -31,10 +33,10 @@ impl Ends {
 }
 
 /// The one where there is nothing, the other elsewhere.
-pub fn where_none(test: Option<u32>, one: Option<u32>, other: Option<u32>) -> Option<u32>
+pub fn where_none(test: MaybeSlot, one: MaybeSlot, other: MaybeSlot) -> MaybeSlot
     ensures { result ≡ where_none test one other }
 {
-    match test {
+    match test.get() {
         None => one,
         Some(_) => other,
     }

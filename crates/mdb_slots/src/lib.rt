@@ -7,6 +7,7 @@ mod change;
 mod ends;
 mod entry;
 mod keyed;
+mod maybe_slot;
 mod naming;
 mod node;
 mod number_set;

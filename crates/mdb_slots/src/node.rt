@@ -4,6 +4,7 @@ ghost use Rattle.std.specs.Prelude.{◌≡◌, ◌+◌, ◌-◌, ◌^◌, ◌<�
 ghost use Rattle.mdb_slots.specs.Chain.{node_at, lead_to, lead_back};
 ghost use Rattle.mdb_slots.specs.Open.{GoesBack};
 
+use crate::maybe_slot::MaybeSlot;
 use crate::touches::Touches;
 use crate::turned::Turned;
 use crate::visits::{read, write};
@@ -11,8 +12,8 @@ use crate::visits::{read, write};
 /// The neighbours of a slot in the chain.
 #[derive(Clone, Copy)]
 pub struct Node {
-    pub before: Option<u32>,
-    pub after: Option<u32>,
+    pub before: MaybeSlot,
+    pub after: MaybeSlot,
     pub used: bool,
 }
 
@@ -28,8 +29,8 @@ pub fn node_of(nodes: &Turned<Node>, at: u32, touches: &mut Touches) -> Node
 /// The node there, if there is one, is followed by `after` from now on.
 pub fn set_after(
     nodes: &mut Turned<Node>,
-    at: Option<u32>,
-    after: Option<u32>,
+    at: MaybeSlot,
+    after: MaybeSlot,
     stays: bool,
     touches: &mut Touches,
 )
@@ -41,7 +42,7 @@ pub fn set_after(
     ensures room { nodes.old.room ≤ nodes.new.room + 1 }
     ensures counts { touches.new.count ≤ touches.old.count + 2 }
 {
-    if let Some(at) = at {
+    if let Some(at) = at.get() {
         let node = node_of(nodes, at, touches);
         write(nodes, at, Node { after, ..node }, stays, touches);
     }
@@ -50,8 +51,8 @@ pub fn set_after(
 /// The node there, if there is one, is preceded by `before` from now on.
 pub fn set_before(
     nodes: &mut Turned<Node>,
-    at: Option<u32>,
-    before: Option<u32>,
+    at: MaybeSlot,
+    before: MaybeSlot,
     stays: bool,
     touches: &mut Touches,
 )
@@ -63,7 +64,7 @@ pub fn set_before(
     ensures room { nodes.old.room ≤ nodes.new.room + 1 }
     ensures counts { touches.new.count ≤ touches.old.count + 2 }
 {
-    if let Some(at) = at {
+    if let Some(at) = at.get() {
         let node = node_of(nodes, at, touches);
         write(nodes, at, Node { before, ..node }, stays, touches);
     }

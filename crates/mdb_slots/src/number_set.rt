@@ -60,7 +60,7 @@ impl NumberSet {
         ensures capacity { self.new.capacity ≡ self.old.capacity }
     {
         let slot = self.index.len();
-        if slot > u32::MAX as usize {
+        if slot >= u32::MAX as usize {
             return Err(OutOfMemory);
         }
         self.changed = true;

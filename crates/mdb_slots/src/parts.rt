@@ -43,7 +43,7 @@ impl<T: Keyed> Parts<T> {
         if self.slots.free() > 0 {
             return Ok(());
         }
-        if self.slots.size() > u32::MAX as usize {
+        if self.slots.size() >= u32::MAX as usize {
             return Err(OutOfMemory);
         }
         self.index.grow()?;

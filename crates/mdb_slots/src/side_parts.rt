@@ -3,7 +3,7 @@
 ghost use Rattle.std.specs.Prelude.{◌≡◌, ◌&&◌, true, false, Bool, OnOk};
 ghost use Rattle.mdb_slots.specs.Keyed.{entry_at, others, put, swap};
 ghost use Rattle.mdb_slots.specs.Table.{items};
-ghost use Rattle.mdb_slots.specs.Sided.{relisted, amended, stays, PartsInStep, sides_base, sides_capacity};
+ghost use Rattle.mdb_slots.specs.Sided.{relisted, amended, remaining, stays, PartsInStep, sides_base, sides_capacity};
 
 use crate::keyed::Keyed;
 use crate::records::Record;
@@ -12,24 +12,24 @@ use crate::table::Table;
 use mdb_base::OutOfMemory;
 use std::alloc::Global;
 
-/// The values, and the records of those on the left and on the right.
+/// The values, the records of those on the left, and the numbers of those on the right.
 #[derive(Drop)]
 pub struct SideParts<T: Keyed> {
     pub table: Table<T>,
     pub left: Table<Record>,
-    pub right: Table<Record>,
+    pub right: Table<u32>,
 }
 
-// The record comes last where it stands in the list, and is gone where it does not.
-fn relist(list: &mut Table<Record>, listed: Record, stands: bool) -> Result<(), OutOfMemory>
-    ensures now { OnOk result (list.new.now ≡ relisted stands listed list.old.now) }
+// The entry comes last where it stands in the list, and is gone where it does not.
+fn relist<L: Keyed>(list: &mut Table<L>, listed: L, stands: bool) -> Result<(), OutOfMemory>
+    ensures now { OnOk result (list.new.now ≡ relisted L.key stands listed list.old.now) }
     ensures base { list.new.base ≡ list.old.base }
     ensures capacity { list.new.capacity ≡ list.old.capacity }
 {
     if stands {
         return list.put(listed);
     }
-    list.remove(listed.id)
+    list.remove(listed.key())
 }
 
 // The record changes where it stands in the list, and is gone where it does not. Where it did not stand there, nothing is looked up.
@@ -40,7 +40,7 @@ fn amend(
     stands: bool,
 ) -> Result<(), OutOfMemory>
     requires { stood ≡ false → others (λ r. r.id) listed.id list.old.now ≡ list.old.now }
-    ensures now { OnOk result (list.new.now ≡ amended stands listed list.old.now) }
+    ensures now { OnOk result (list.new.now ≡ amended (λ r. r.id) stands listed list.old.now) }
     ensures base { list.new.base ≡ list.old.base }
     ensures capacity { list.new.capacity ≡ list.old.capacity }
 {
@@ -53,12 +53,25 @@ fn amend(
     Ok(())
 }
 
+// The number is gone where it does not stand in the list. Where it did not stand there, nothing is looked up.
+fn retain(list: &mut Table<u32>, number: u32, stood: bool, stands: bool) -> Result<(), OutOfMemory>
+    requires { stood ≡ false → others (λ k. k) number list.old.now ≡ list.old.now }
+    ensures now { OnOk result (list.new.now ≡ remaining stands number list.old.now) }
+    ensures base { list.new.base ≡ list.old.base }
+    ensures capacity { list.new.capacity ≡ list.old.capacity }
+{
+    if stood && !stands {
+        return list.remove(number);
+    }
+    Ok(())
+}
+
 impl<T: Sided> SideParts<T> {
     // On which sides the value stands that has the number.
     fn stood(&self, key: u32) -> (bool, bool)
         requires { PartsInStep T.key T.service T.since T.on_left T.on_right self.now }
         ensures left { result.0 ≡ false → others (λ r. r.id) key self.now.left.now ≡ self.now.left.now }
-        ensures right { result.1 ≡ false → others (λ r. r.id) key self.now.right.now ≡ self.now.right.now }
+        ensures right { result.1 ≡ false → others (λ k. k) key self.now.right.now ≡ self.now.right.now }
     {
         if self.left.len() == 0 && self.right.len() == 0 {
             return (false, false);
@@ -82,7 +95,7 @@ impl<T: Sided> SideParts<T> {
         let listed = item.record();
         self.table.put(item)?;
         relist(&mut self.left, listed, on_left)?;
-        relist(&mut self.right, listed, on_right)?;
+        relist(&mut self.right, listed.id, on_right)?;
         Ok(())
     }
 
@@ -102,7 +115,7 @@ impl<T: Sided> SideParts<T> {
         let stood = self.stood(listed.id);
         self.table.replace(item)?;
         amend(&mut self.left, listed, stood.0, on_left)?;
-        amend(&mut self.right, listed, stood.1, on_right)?;
+        retain(&mut self.right, listed.id, stood.1, on_right)?;
         Ok(())
     }
 

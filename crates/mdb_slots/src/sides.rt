@@ -1,4 +1,4 @@
-//! A table with lists of the values on its left and on its right. Changes are made in place, and can be taken back.
+//! A table with lists of the values on its left and on its right: records on the left, numbers on the right. Changes are made in place, and can be taken back.
 
 ghost use Rattle.std.specs.Prelude.{◌≡◌, [], true, not, length, map, filter, find, OnOk, option_copied};
 ghost use Rattle.mdb_slots.specs.Keyed.{entry_at, entry_after, entry_before, after_key, rest_of, first_of, last_of, others, put, swap};
@@ -6,7 +6,7 @@ ghost use Rattle.mdb_slots.specs.Lists.{apart};
 ghost use Rattle.mdb_slots.specs.Items.{records_of};
 ghost use Rattle.mdb_slots.specs.Slots.{listing};
 ghost use Rattle.mdb_slots.specs.Table.{items};
-ghost use Rattle.mdb_slots.specs.Sided.{stays, noted, picked, nothing_sided, sided_after, sided_capacity_after, SidedFits, SidedPlans};
+ghost use Rattle.mdb_slots.specs.Sided.{stays, noted, numbered, picked, nothing_sided, sided_after, sided_capacity_after, SidedFits, SidedPlans};
 
 use crate::records::Record;
 use crate::side_parts::SideParts;
@@ -17,7 +17,7 @@ use mdb_base::OutOfMemory;
 use std::alloc::Global;
 use std::marker::Model;
 
-/// At most one value for each number, with lists of those on the left and on the right: as they are, and as they were when they were last settled.
+/// At most one value for each number, with lists of those on the left and on the right: as they are, and as they were when they were last settled. The left list keeps records, the right one numbers.
 #[derive(Drop)]
 pub struct Sides<T: Sided> {
     parts: SideParts<T>,
@@ -38,7 +38,7 @@ impl<T: Sided> Model for Sides<T> {
 pub struct SidesRedo<T: Sided> {
     table: TableRedo<T>,
     left: TableRedo<Record>,
-    right: TableRedo<Record>,
+    right: TableRedo<u32>,
 }
 
 impl<T: Sided> Model for SidesRedo<T> {
@@ -111,10 +111,20 @@ impl<T: Sided> Sides<T> {
 
     // The value whose record it is.
     fn of_record(&self, listed: Option<Record>) -> Option<&T>
-        ensures { option_copied result ≡ picked T.key listed self.now.now }
+        ensures { option_copied result ≡ picked T.key (λ r. r.id) listed self.now.now }
     {
         match listed {
             Some(found) => self.parts.table.get(found.id),
+            None => None,
+        }
+    }
+
+    // The value that has the number.
+    fn of_number(&self, listed: Option<u32>) -> Option<&T>
+        ensures { option_copied result ≡ picked T.key (λ k. k) listed self.now.now }
+    {
+        match listed {
+            Some(found) => self.parts.table.get(found),
             None => None,
         }
     }
@@ -134,7 +144,7 @@ impl<T: Sided> Sides<T> {
         ensures apart { apart (map T.key self.now.now) ≡ true }
         ensures rest { rest_of T.key (option_copied result) (filter T.on_right self.now.now) ≡ filter T.on_right self.now.now }
     {
-        self.of_record(self.parts.right.first().copied())
+        self.of_number(self.parts.right.first().copied())
     }
 
     /// The last value on the left.
@@ -155,7 +165,7 @@ impl<T: Sided> Sides<T> {
     pub fn next_right(&self, key: u32) -> Option<&T>
         ensures { rest_of T.key (option_copied result) (filter T.on_right self.now.now) ≡ after_key T.key key (filter T.on_right self.now.now) }
     {
-        self.of_record(self.parts.right.next(key).copied())
+        self.of_number(self.parts.right.next(key).copied())
     }
 
     /// The records of the values on the left, in their order.
@@ -172,9 +182,9 @@ impl<T: Sided> Sides<T> {
         self.parts.left.slots()
     }
 
-    /// The records of the values on the right, in their order.
-    pub fn right(&self) -> &Table<Record>
-        ensures { result.now.now ≡ noted T.key T.service T.since T.on_right self.now.now }
+    /// The numbers of the values on the right, in their order.
+    pub fn right(&self) -> &Table<u32>
+        ensures { result.now.now ≡ numbered T.key T.on_right self.now.now }
     {
         &self.parts.right
     }

@@ -1,11 +1,12 @@
 //! The slots by number, whose changes can be taken back and made again.
 
-ghost use Rattle.std.specs.Prelude.{◌≡◌, ◌≢◌, ◌==◌, ◌+◌, ◌++◌, ◌∷◌, ◌<◌, ◌≤◌, ◌^◌, [], ℕ, None, Some, length, slice_set, OnOk, OnErr, if◌then◌else◌};
+ghost use Rattle.std.specs.Prelude.{◌≡◌, ◌≢◌, ◌==◌, ◌+◌, ◌-◌, ◌++◌, ◌∷◌, ◌<◌, ◌≤◌, ◌^◌, [], ℕ, None, Some, length, slice_set, OnOk, OnErr, if◌then◌else◌};
 ghost use Rattle.mdb_slots.specs.SlotIndex.{slot_of, numbers_of, nothing_indexed, indexing_after, index_room_after, IndexFits, AreWithin, LeavesAll, both};
 
-use crate::bucket::{Buckets, bucket_of, empty, lengthen};
+use crate::bucket::{Buckets, bucket_of, empty, head_of, lengthen};
 use crate::ends::where_none;
-use crate::entry::{Entry, find_before, find_number, set_same};
+use crate::entry::{Entry, entry_of, find_before, find_number, set_same};
+use crate::maybe_slot::MaybeSlot;
 use crate::turned::{Redo, Turned};
 use mdb_base::OutOfMemory;
 use std::alloc::Global;
@@ -34,7 +35,7 @@ impl Model for SlotIndex {
 /// Changes of an index that were taken back, to be made again.
 #[derive(Drop)]
 pub struct IndexRedo {
-    heads: Redo<Option<u32>>,
+    heads: Redo<MaybeSlot>,
     entries: Redo<Entry>,
 }
 
@@ -74,7 +75,7 @@ impl SlotIndex {
         if width == 0 {
             return None;
         }
-        let first = self.buckets.heads.as_slice()[bucket_of(number, width)];
+        let first = head_of(self.buckets.heads.as_slice(), bucket_of(number, width));
         find_number(self.buckets.entries.as_slice(), first, number)
     }
 
@@ -90,7 +91,7 @@ impl SlotIndex {
     {
         self.buckets.entries.push(Entry {
             number: None,
-            same: None,
+            same: MaybeSlot::none(),
         })?;
         Ok(())
     }
@@ -151,6 +152,7 @@ impl SlotIndex {
     pub fn insert(&mut self, number: u32, slot: u32)
         requires width { 0 < self.old.width }
         requires within { slot < length self.old.now }
+        requires few { slot < 2 ^ 32 - 1 }
         requires absent { slot_of number self.old.now ≡ None }
         requires free { (q : ℕ) → slot_of q self.old.now ≢ Some slot }
         requires room { AreWithin (both 1 1) self.old.room }
@@ -175,13 +177,13 @@ impl SlotIndex {
         ensures capacity { self.new.capacity ≡ self.old.capacity }
     {
         let bucket = bucket_of(number, self.buckets.heads.as_slice().len());
-        let first = self.buckets.heads.as_slice()[bucket];
+        let first = head_of(self.buckets.heads.as_slice(), bucket);
         let before = find_before(self.buckets.entries.as_slice(), first, slot);
-        let same = self.buckets.entries.as_slice()[slot as usize].same;
+        let same = entry_of(self.buckets.entries.as_slice(), slot).same;
         set_same(&mut self.buckets.entries, before, same);
         let freed = Entry {
             number: None,
-            same: None,
+            same: MaybeSlot::none(),
         };
         self.buckets.entries.set_ready(slot as usize, freed);
         self.buckets

@@ -5,6 +5,7 @@ ghost use Rattle.mdb_slots.specs.Lists.{has, apart, without, head_or, last_or, n
 ghost use Rattle.mdb_slots.specs.SlotOrder.{nothing_laid, order_of, laid_after, order_room_after, OrderFits};
 
 use crate::ends::{Ends, lasting, where_none};
+use crate::maybe_slot::MaybeSlot;
 use crate::node::{Node, node_of, set_after, set_before};
 use crate::touches::Touches;
 use crate::turned::{Redo, Turned};
@@ -62,7 +63,7 @@ impl SlotOrder {
     pub fn len(&self) -> usize
         ensures value { result ≡ length self.now.now.used }
         ensures apart { apart self.now.now.used ≡ true }
-        ensures few { length self.now.now.used + self.now.now.spare ≤ 2 ^ 32 }
+        ensures few { length self.now.now.used + self.now.now.spare < 2 ^ 32 }
     {
         self.ends.len
     }
@@ -76,13 +77,13 @@ impl SlotOrder {
     pub fn first(&self) -> Option<u32>
         ensures { result ≡ head_or None self.now.now.used }
     {
-        self.ends.first
+        self.ends.first.get()
     }
 
     pub fn last(&self) -> Option<u32>
         ensures { result ≡ last_or None self.now.now.used }
     {
-        self.ends.last
+        self.ends.last.get()
     }
 
     /// The slot that came after this one.
@@ -92,7 +93,7 @@ impl SlotOrder {
         ensures value { result ≡ next at self.now.now.used }
         ensures counts { touches.new.count ≤ touches.old.count + 1 }
     {
-        node_of(&self.nodes, at, touches).after
+        node_of(&self.nodes, at, touches).after.get()
     }
 
     /// The slot that came before this one.
@@ -102,7 +103,7 @@ impl SlotOrder {
         ensures value { result ≡ previous None at self.now.now.used }
         ensures counts { touches.new.count ≤ touches.old.count + 1 }
     {
-        node_of(&self.nodes, at, touches).before
+        node_of(&self.nodes, at, touches).before.get()
     }
 
     /// So many changes of nodes may come without memory.
@@ -117,7 +118,7 @@ impl SlotOrder {
 
     /// One more slot may be used.
     pub fn grow(&mut self) -> Result<(), OutOfMemory>
-        requires { length self.old.now.used + self.old.now.spare < 2 ^ 32 }
+        requires { length self.old.now.used + self.old.now.spare < 2 ^ 32 - 1 }
         ensures used { self.new.now.used ≡ self.old.now.used }
         ensures spare { OnOk result (self.new.now.spare ≡ self.old.now.spare + 1) }
         ensures kept { self.old.now.spare ≤ self.new.now.spare }
@@ -127,11 +128,11 @@ impl SlotOrder {
     {
         let at = self.nodes.as_slice().len() as u32;
         self.nodes.push(Node {
-            before: None,
+            before: MaybeSlot::none(),
             after: self.ends.free,
             used: false,
         })?;
-        self.ends.free = Some(at);
+        self.ends.free = MaybeSlot::some(at);
         self.ends.spare += 1;
         Ok(())
     }
@@ -145,22 +146,24 @@ impl SlotOrder {
         ensures spare { self.new.now.spare + 1 ≡ self.old.now.spare }
         ensures new { has result self.old.now.used ≡ false }
         ensures within { result < length self.old.now.used + self.old.now.spare }
+        ensures few { result < 2 ^ 32 - 1 }
         ensures open { stays ≡ false → (self.new.base ≡ self.old.base) × (self.new.capacity ≡ self.old.capacity) }
         ensures lasts { stays ≡ true → order_of self.new.base ≡ self.new.now }
         ensures counts { touches.new.count ≤ touches.old.count + 4 }
     {
-        let at = self.ends.free.unwrap();
+        let free = self.ends.free;
+        let at = free.get().unwrap();
         let node = node_of(&self.nodes, at, touches);
-        set_after(&mut self.nodes, self.ends.last, Some(at), stays, touches);
+        set_after(&mut self.nodes, self.ends.last, free, stays, touches);
         let newest = Node {
             before: self.ends.last,
-            after: None,
+            after: MaybeSlot::none(),
             used: true,
         };
         write(&mut self.nodes, at, newest, stays, touches);
         self.ends = Ends {
-            first: where_none(self.ends.last, Some(at), self.ends.first),
-            last: Some(at),
+            first: where_none(self.ends.last, free, self.ends.first),
+            last: free,
             free: node.after,
             len: self.ends.len + 1,
             spare: self.ends.spare - 1,
@@ -185,7 +188,7 @@ impl SlotOrder {
         set_after(&mut self.nodes, node.before, node.after, stays, touches);
         set_before(&mut self.nodes, node.after, node.before, stays, touches);
         let freed = Node {
-            before: None,
+            before: MaybeSlot::none(),
             after: self.ends.free,
             used: false,
         };
@@ -193,7 +196,7 @@ impl SlotOrder {
         self.ends = Ends {
             first: where_none(node.before, node.after, self.ends.first),
             last: where_none(node.after, node.before, self.ends.last),
-            free: Some(at),
+            free: MaybeSlot::some(at),
             len: self.ends.len - 1,
             spare: self.ends.spare + 1,
         };
@@ -212,19 +215,20 @@ impl SlotOrder {
         ensures counts { touches.new.count ≤ touches.old.count + 8 }
     {
         let node = node_of(&self.nodes, at, touches);
-        match node.after {
+        match node.after.get() {
             Some(_) => {
                 set_after(&mut self.nodes, node.before, node.after, false, touches);
                 set_before(&mut self.nodes, node.after, node.before, false, touches);
-                set_after(&mut self.nodes, self.ends.last, Some(at), false, touches);
+                let renewed = MaybeSlot::some(at);
+                set_after(&mut self.nodes, self.ends.last, renewed, false, touches);
                 let newest = Node {
                     before: self.ends.last,
-                    after: None,
+                    after: MaybeSlot::none(),
                     used: true,
                 };
                 write(&mut self.nodes, at, newest, false, touches);
                 self.ends.first = where_none(node.before, node.after, self.ends.first);
-                self.ends.last = Some(at);
+                self.ends.last = renewed;
             }
             None => {}
         }
@@ -254,7 +258,7 @@ impl SlotOrder {
         let OrderRedo { nodes, ends } = redo;
         self.nodes.redo(nodes);
         self.ends = ends;
-        self.was = ends;
+        self.was = self.ends;
     }
 
     /// The changes stay.

@@ -64,7 +64,7 @@ impl<T: Drop> Slots<T> {
     pub(crate) fn size(&self) -> usize
         ensures value { result ≡ length self.now.order.used }
         ensures apart { apart self.now.order.used ≡ true }
-        ensures few { length self.now.order.used + self.now.order.spare ≤ 2 ^ 32 }
+        ensures few { length self.now.order.used + self.now.order.spare < 2 ^ 32 }
     {
         self.order.len()
     }
@@ -136,7 +136,7 @@ impl<T: Drop> Slots<T> {
 
     /// One more slot may be used.
     pub(crate) fn grow(&mut self) -> Result<(), OutOfMemory>
-        requires { length self.old.order.used + self.old.order.spare < 2 ^ 32 }
+        requires { length self.old.order.used + self.old.order.spare < 2 ^ 32 - 1 }
         ensures used { self.new.order.used ≡ self.old.order.used }
         ensures spare { OnOk result (self.new.order.spare ≡ self.old.order.spare + 1) }
         ensures kept { self.old.order.spare ≤ self.new.order.spare }
@@ -161,6 +161,7 @@ impl<T: Drop> Slots<T> {
         ensures spare { self.new.order.spare + 1 ≡ self.old.order.spare }
         ensures new { has result self.old.order.used ≡ false }
         ensures within { result < length self.old.order.used + self.old.order.spare }
+        ensures few { result < 2 ^ 32 - 1 }
         ensures cell { result < length self.old.cells }
         ensures cells { self.new.cells ≡ slice_set self.old.cells result (Some value) }
         ensures open { stays ≡ false → SlotsGoBack self.old self.new }

@@ -7,7 +7,7 @@ use Rattle.mdb_pool.proofs.body.Body.first_overdue.Given as goal
 
 -- what is left of the walk decides
 abbrev pub invariant-loop-next : goal.invariant-loop-next
-invariant-loop-next l = find (λ q. overdue_since l.self.options.max_wait l.moment q.asked_at) (rest_of (λ q. q.number) (option_copied l.next) (filter (λ q. is_queued q.phase && not q.warm) l.self.requests.now)) ≡ find (λ q. overdue_since l.self.options.max_wait l.moment q.asked_at) (filter (λ q. is_queued q.phase && not q.warm) l.self.requests.now)
+invariant-loop-next l = find (λ q. not q.warm && overdue_since l.self.options.max_wait l.moment q.asked_at) (rest_of (λ q. q.number) (option_copied l.next) (filter (λ q. is_queued q.phase) l.self.requests.now)) ≡ find (λ q. not q.warm && overdue_since l.self.options.max_wait l.moment q.asked_at) (filter (λ q. is_queued q.phase) l.self.requests.now)
 
 abbrev pub decreases-loop-next : goal.decreases-loop-next
-decreases-loop-next l = length (rest_of (λ q. q.number) (option_copied l.next) (filter (λ q. is_queued q.phase && not q.warm) l.self.requests.now))
+decreases-loop-next l = length (rest_of (λ q. q.number) (option_copied l.next) (filter (λ q. is_queued q.phase) l.self.requests.now))

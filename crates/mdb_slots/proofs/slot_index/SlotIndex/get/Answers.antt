@@ -10,4 +10,4 @@ returns-then-width-eq0 c =
 pub returns : goal.returns
 returns c =
     let p : 0 < length c.self.inside.buckets.heads.now = rw (← c.as_slice-width.ensures) (omega (arith, c.if-width-eq0.false)) in
-    rw (← c.self.view_is, c.find_number.ensures, c.as_slice-2.ensures, c.bucket_of.ensures.value, c.as_slice.ensures, c.as_slice-width.ensures) (found c.self.invariant.0 c.args.number p)
+    rw (← c.self.view_is, c.find_number.ensures, c.as_slice-2.ensures, c.head_of-first.ensures, c.bucket_of.ensures.value, c.as_slice.ensures, c.as_slice-width.ensures) (found c.self.invariant.0 c.args.number p)

@@ -10,15 +10,15 @@ bucket_of-bucket-requires c =
     let e : slot_of c.args.number (numbers_of c.self.inside.buckets.entries.now) ≡ Some c.args.slot = rw (ap (λ (o : OpenIndex). o.now) c.self.view_is) c.requires.slot in
     rw c.as_slice.ensures (headed c.self.invariant.0 c.args.number c.args.slot e)
 
-pub bounds-as_slice-slot : goal.bounds-as_slice-slot
-bounds-as_slice-slot c =
+pub entry_of-requires : goal.entry_of-requires
+entry_of-requires c =
     let e : slot_of c.args.number (numbers_of c.self.inside.buckets.entries.now) ≡ Some c.args.slot = rw (ap (λ (o : OpenIndex). o.now) c.self.view_is) c.requires.slot in
     rw c.as_slice-4.ensures (slot-inside c.self.invariant.0 c.args.number c.args.slot e)
 
 pub set_same-requires-clause-within : goal.set_same-requires-clause-within
 set_same-requires-clause-within c =
     let e : slot_of c.args.number (numbers_of c.self.inside.buckets.entries.now) ≡ Some c.args.slot = rw (ap (λ (o : OpenIndex). o.now) c.self.view_is) c.requires.slot in
-    let f : c.find_before-before.result ≡ previous None c.args.slot (trail (length c.self.inside.buckets.entries.now) (head_at c.self.inside.buckets.heads.now (bucket_in c.args.number (length c.self.inside.buckets.heads.now))) c.self.inside.buckets.entries.now) = rw (c.find_before-before.ensures, c.as_slice-3.ensures, c.as_slice-2.ensures, c.bucket_of-bucket.ensures.value, c.as_slice.ensures) refl in
+    let f : c.find_before-before.result ≡ previous None c.args.slot (trail (length c.self.inside.buckets.entries.now) (head_at c.self.inside.buckets.heads.now (bucket_in c.args.number (length c.self.inside.buckets.heads.now))) c.self.inside.buckets.entries.now) = rw (c.find_before-before.ensures, c.as_slice-3.ensures, c.head_of-first.ensures, c.as_slice-2.ensures, c.bucket_of-bucket.ensures.value, c.as_slice.ensures) refl in
     before-within c.self.invariant.0 c.args.number c.args.slot e _ f
 
 pub set_ready-requires-clause-within : goal.set_ready-requires-clause-within
@@ -29,11 +29,11 @@ set_ready-requires-clause-within c =
 pub invariant_of-self : goal.invariant_of-self
 invariant_of-self c =
     let e : slot_of c.args.number (numbers_of c.self.inside.buckets.entries.now) ≡ Some c.args.slot = rw (ap (λ (o : OpenIndex). o.now) c.self.view_is) c.requires.slot in
-    let f : c.find_before-before.result ≡ previous None c.args.slot (trail (length c.self.inside.buckets.entries.now) (head_at c.self.inside.buckets.heads.now (bucket_in c.args.number (length c.self.inside.buckets.heads.now))) c.self.inside.buckets.entries.now) = rw (c.find_before-before.ensures, c.as_slice-3.ensures, c.as_slice-2.ensures, c.bucket_of-bucket.ensures.value, c.as_slice.ensures) refl in
-    rw (c.set_ready-2.ensures.now, c.set_ready-2.ensures.base, c.set_ready.ensures.now, c.set_ready.ensures.base, c.where_none.ensures, c.set_same.ensures.now, c.set_same.ensures.base, c.as_slice-4.ensures, c.as_slice-2.ensures, c.bucket_of-bucket.ensures.value, c.as_slice.ensures) (removed c.self.invariant.0 c.args.number c.args.slot e _ f, c.self.invariant.1)
+    let f : c.find_before-before.result ≡ previous None c.args.slot (trail (length c.self.inside.buckets.entries.now) (head_at c.self.inside.buckets.heads.now (bucket_in c.args.number (length c.self.inside.buckets.heads.now))) c.self.inside.buckets.entries.now) = rw (c.find_before-before.ensures, c.as_slice-3.ensures, c.head_of-first.ensures, c.as_slice-2.ensures, c.bucket_of-bucket.ensures.value, c.as_slice.ensures) refl in
+    rw (c.set_ready-2.ensures.now, c.set_ready-2.ensures.base, c.set_ready.ensures.now, c.none.ensures, c.set_ready.ensures.base, c.where_none.ensures, c.set_same.ensures.now, c.set_same.ensures.base, c.entry_of.ensures, c.as_slice-4.ensures, c.head_of-first.ensures, c.as_slice-2.ensures, c.bucket_of-bucket.ensures.value, c.as_slice.ensures) (removed c.self.invariant.0 c.args.number c.args.slot e _ f, c.self.invariant.1)
 
 pub returns-clause-now : goal.returns-clause-now
 returns-clause-now c =
     let e : slot_of c.args.number (numbers_of c.self.inside.buckets.entries.now) ≡ Some c.args.slot = rw (ap (λ (o : OpenIndex). o.now) c.self.view_is) c.requires.slot in
-    let f : c.find_before-before.result ≡ previous None c.args.slot (trail (length c.self.inside.buckets.entries.now) (head_at c.self.inside.buckets.heads.now (bucket_in c.args.number (length c.self.inside.buckets.heads.now))) c.self.inside.buckets.entries.now) = rw (c.find_before-before.ensures, c.as_slice-3.ensures, c.as_slice-2.ensures, c.bucket_of-bucket.ensures.value, c.as_slice.ensures) refl in
-    rw (c.set_ready.ensures.now, c.set_same.ensures.now, c.as_slice-4.ensures, ← c.self.view_is) (slot_of-removed c.self.invariant.0 c.args.number c.args.slot e _ f)
+    let f : c.find_before-before.result ≡ previous None c.args.slot (trail (length c.self.inside.buckets.entries.now) (head_at c.self.inside.buckets.heads.now (bucket_in c.args.number (length c.self.inside.buckets.heads.now))) c.self.inside.buckets.entries.now) = rw (c.find_before-before.ensures, c.as_slice-3.ensures, c.head_of-first.ensures, c.as_slice-2.ensures, c.bucket_of-bucket.ensures.value, c.as_slice.ensures) refl in
+    rw (c.set_ready.ensures.now, c.none.ensures, c.set_same.ensures.now, c.entry_of.ensures, c.as_slice-4.ensures, ← c.self.view_is) (slot_of-removed c.self.invariant.0 c.args.number c.args.slot e _ f)

@@ -4,4 +4,4 @@ use Rattle.mdb_slots.proofs.Removes.{before-is}
 use Rattle.mdb_slots.proofs.slot_order.SlotOrder.before.Goals as goal
 
 pub returns-clause-value : goal.returns-clause-value
-returns-clause-value c = rw (← c.self.view_is, c.node_of.ensures.value) (before-is c.args.at c.self.invariant.0 (rw (ap (λ (o : OpenOrder). o.now.used) c.self.view_is) c.requires.member))
+returns-clause-value c = rw (← c.self.view_is, c.get.ensures, c.node_of.ensures.value) (before-is c.args.at c.self.invariant.0 (rw (ap (λ (o : OpenOrder). o.now.used) c.self.view_is) c.requires.member))
