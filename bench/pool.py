@@ -13,7 +13,8 @@ There are so many rounds that the tables of all requests grow as often for each 
 
 A virtual machine gives a process a changing part of its processor: the same additions, one a cycle, were seen to run at 1.1 to 3.0 GHz within minutes. So
 they are timed before and after each run, and a run counts where the two agree to a tenth. Its cycles are the time that passed by the mean of the two
-clocks. Told are the least time as it passed, and the median of the cycles as the time that they take at 2.5 GHz.
+clocks. Told are the least time as it passed, and the median of the cycles as the time that they take at 2.5 GHz. While the machine is slow, the least
+times are not those of its full clock; while its clock changes much, few runs count for the medians. So sizes are compared by both.
 
 Bytes a round are those by which the greatest resident size of a run exceeds that of one without rounds: of the log, and of what the pool
 keeps. A size is at least that of this script, some 15 MB, so that where the opened pool is smaller they are up to 300 too few.
@@ -123,9 +124,9 @@ def tell(kind, connections, empty, runs):
 
 
 def compare(kind, few, many):
-    """How much longer a round takes among many connections than among few."""
-    first, again = (at_clock(many, which) / at_clock(few, which) for which in range(PASSES))
-    print(f"{kind}: a round at {COMPARED[1]} takes {first:.2f} times a round at {COMPARED[0]} at {CLOCK} GHz, again {again:.2f} times")
+    """How much longer a round takes among many connections than among few: by the least times, and at 2.5 GHz."""
+    told = [f"{of(many, which) / of(few, which):.2f}" for which in range(PASSES) for of in (least, at_clock)]
+    print(f"{kind}: a round at {COMPARED[1]} takes {told[0]} times a round at {COMPARED[0]} ({told[1]} at {CLOCK} GHz), again {told[2]} ({told[3]})")
 
 
 def main():
