@@ -42,7 +42,7 @@ pool-accepted h z act (Some x) = reply-accepted x.number (is_claimed h x.number)
 pool-accepted h z Do.Claim None = tt
 pool-accepted h z _ None = tt
 
-accepts : (o : Options) (h : List Item) (step : Step) (z : List Item) (act : Act) → IsAccepted (reply_to o h step z act)
+pub accepts : (o : Options) (h : List Item) (step : Step) (z : List Item) (act : Act) → IsAccepted (reply_to o h step z act)
 accepts o h step z (Do.Hello a p came) = tt
 accepts o h step z (Do.Beaten a p duration came) = tt
 accepts o h step z (Do.Error r error) = tt
@@ -61,10 +61,7 @@ changed-by : (rule : Option Rule) (t : TopologyDescription) (d : Diff) → chang
 changed-by None t d e = cc
 changed-by (Some rule) t d e = e
 
-module _ (w : TopologyCore) (h : List Item) (z : StandsFor w h) (m : ℕ) (act : Act) (driver : IsDriverAct act) where
-  abbrev o : Options
-  o = w.options
-
+module _ (o : Options) (h : List Item) (m : ℕ) (act : Act) (sound : IsSound o (description_of o h) h) (marks : marks_of (step_facts o h (record { moment = m; act = act })) ≡ caused o h (record { moment = m; act = act })) where
   abbrev step : Step
   step = record { moment = m; act = act }
 
@@ -73,12 +70,6 @@ module _ (w : TopologyCore) (h : List Item) (z : StandsFor w h) (m : ℕ) (act :
 
   abbrev F : List Fact
   F = step_facts o h step
-
-  sound : IsSound o t h
-  sound = sound-of w h z
-
-  marks : marks_of F ≡ caused o h step
-  marks = step-marks o h m act driver sound
 
   module _ (accepted : refusal o h step ≡ None) where
     facts-are : (answer o h step).facts ≡ F
@@ -127,4 +118,4 @@ module _ (w : TopologyCore) (h : List Item) (z : StandsFor w h) (m : ℕ) (act :
     causes = record { marks_are = ap marks_of facts-are ∙ marks; open_for = λ a. open-then a ∙ ap (λ (u : TopologyDescription). is_known a u.servers) (sym described); none_left = none-left; generation_is = risen }
 
 pub has-causes : (w : TopologyCore) (h : List Item) (step : Step) → StandsFor w h → IsDriverAct step.act → refusal w.options h step ≡ None → HasCauses w.options h step
-has-causes w h step z driver accepted = causes w h z step.moment step.act driver accepted
+has-causes w h step z driver accepted = let sound = sound-of w h z in causes w.options h step.moment step.act sound (step-marks w.options h step.moment step.act driver sound) accepted

@@ -13,3 +13,5 @@ mod Caused
 mod OpenFor
 mod Risen
 mod Causes
+mod Opening
+pub mod WholeLogs

@@ -47,7 +47,7 @@ use Rattle.mdb_laws.proofs.Published.{IsSound, IsFresh, says-published}
 use Rattle.mdb_laws.proofs.Ordered.{updates-ordered, syncs-ordered}
 
 -- a list of servers does not differ from itself
-same-servers : (xs : List ServerDescription) → in_order xs ≡ true → difference xs xs ≡ None
+pub same-servers : (xs : List ServerDescription) → in_order xs ≡ true → difference xs xs ≡ None
 same-servers xs e = rw (unchanged xs e, none) refl
   where
     none : missing xs xs ≡ []

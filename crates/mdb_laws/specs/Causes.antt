@@ -11,7 +11,8 @@ use Rattle.mdb_events.specs.declared.cmap.CmapEvent.TheVariants.{PoolCreated, Po
 use Rattle.mdb_events.specs.declared.fact.Fact.{Fact}
 use Rattle.mdb_events.specs.declared.fact.Fact.TheVariants.{Opened, Pool, Raised}
 use Rattle.mdb_log.specs.declared.step.Step.{Step}
-use Rattle.mdb_log.specs.History.{Item, of_pool, open_pool, same_service}
+use Rattle.mdb_log.specs.Answer.{Answer}
+use Rattle.mdb_log.specs.History.{Item, of_pool, open_pool, same_service, with_answer}
 use Rattle.mdb_log.specs.Connections.{one_if}
 use Rattle.mdb_log.specs.Homes.{homes}
 use Rattle.mdb_log.specs.State.{state_of, ready, generation_of}
@@ -21,7 +22,6 @@ use Rattle.mdb_topology.specs.Description.{description_of, rule_after, applied, 
 use Rattle.mdb_topology.specs.Facts.{trouble, clear_of}
 use Rattle.mdb_topology.specs.Touching.{is_ready_at}
 use Rattle.mdb_topology.specs.Answer.{answer}
-use Rattle.mdb_laws.specs.Stale.{after}
 
 -- What becomes of a pool as a whole.
 pub data Mark : Type 0 where
@@ -108,9 +108,13 @@ clears_among p s [] = 0
 clears_among p s (cleared q t error ∷ marks) = clears_among p s marks + one_if ((q == p) && same_service t s)
 clears_among p s (_ ∷ marks) = clears_among p s marks
 
--- The facts say of whole pools what is caused, no less and no more. Then a pool is open exactly where a server is known, and none at the address of a server that went; and its generations are greater by its clears.
-pub record HasCauses (o : Options) (h : List Item) (step : Step) : Type 0 where
-  pub marks_are : marks_of (answer o h step).facts ≡ caused o h step
-  pub open_for : (a : ServerAddress) → is_some (open_pool (after o h step) a) ≡ is_known a (description_of o (after o h step)).servers
-  pub none_left : (a : ServerAddress) → is_listed (gone (difference_by o h step)) a ≡ true → open_pool (after o h step) a ≡ None
-  pub generation_is : (p : ℕ) (s : Option ObjectId) → generation_of (of_pool p (after o h step)) s ≡ generation_of (of_pool p h) s + clears_among p s (caused o h step)
+-- What the answer to an accepted step tells of whole pools is what the step causes, no less and no more. Then a pool is open exactly where a server is known, and none at the address of a server that went; and its generations are greater by its clears.
+pub record TellsCauses (o : Options) (h : List Item) (step : Step) (a : Answer) : Type 0 where
+  pub marks_are : marks_of a.facts ≡ caused o h step
+  pub open_for : (b : ServerAddress) → is_some (open_pool (with_answer step a.reply a.facts h) b) ≡ is_known b (description_of o (with_answer step a.reply a.facts h)).servers
+  pub none_left : (b : ServerAddress) → is_listed (gone (difference_by o h step)) b ≡ true → open_pool (with_answer step a.reply a.facts h) b ≡ None
+  pub generation_is : (p : ℕ) (s : Option ObjectId) → generation_of (of_pool p (with_answer step a.reply a.facts h)) s ≡ generation_of (of_pool p h) s + clears_among p s (caused o h step)
+
+-- A driver's own answer does.
+abbrev pub HasCauses : Options → List Item → Step → Type 0
+HasCauses o h step = TellsCauses o h step (answer o h step)

@@ -1,3 +1,4 @@
 pub mod Alike
 pub mod Causes
 pub mod Stale
+pub mod Logs

@@ -7,6 +7,7 @@ use Rattle.mdb_describe.specs.declared.topology.TopologyDescription.{TopologyDes
 use Rattle.mdb_log.specs.declared.step.Step.{Step}
 use Rattle.mdb_log.specs.declared.step.Act.{Act}
 use Rattle.mdb_log.specs.declared.step.Act.TheVariants as Do
+use Rattle.mdb_log.specs.Answer.{Answer}
 use Rattle.mdb_log.specs.History.{Item, of_pool, open_pool, with_answer}
 use Rattle.mdb_log.specs.State.{state_of, generation_of}
 use Rattle.mdb_log.specs.Opening.{pool_options}
@@ -41,10 +42,14 @@ is_stale_failure o h step = on step.act
 abbrev pub after : Options → List Item → Step → List Item
 after o h step = with_answer step (answer o h step).reply (answer o h step).facts h
 
--- The step makes no fact of a server, and leaves what is known of the servers, which pools are open, and the states and generations of all pools.
-pub record SparesServer (o : Options) (h : List Item) (step : Step) : Type 0 where
-  pub facts_are : All (λ f. is_of_server f ≡ false) (answer o h step).facts
-  pub described_is : description_of o (after o h step) ≡ description_of o h
-  pub open_is : (a : ServerAddress) → open_pool (after o h step) a ≡ open_pool h a
-  pub state_is : (p : ℕ) → state_of (pool_options o) (of_pool p (after o h step)) ≡ state_of (pool_options o) (of_pool p h)
-  pub generation_is : (p : ℕ) (s : Option ObjectId) → generation_of (of_pool p (after o h step)) s ≡ generation_of (of_pool p h) s
+-- The answer to the step makes no fact of a server, and leaves what is known of the servers, which pools are open, and the states and generations of all pools.
+pub record SparesServerBy (o : Options) (h : List Item) (step : Step) (a : Answer) : Type 0 where
+  pub facts_are : All (λ f. is_of_server f ≡ false) a.facts
+  pub described_is : description_of o (with_answer step a.reply a.facts h) ≡ description_of o h
+  pub open_is : (b : ServerAddress) → open_pool (with_answer step a.reply a.facts h) b ≡ open_pool h b
+  pub state_is : (p : ℕ) → state_of (pool_options o) (of_pool p (with_answer step a.reply a.facts h)) ≡ state_of (pool_options o) (of_pool p h)
+  pub generation_is : (p : ℕ) (s : Option ObjectId) → generation_of (of_pool p (with_answer step a.reply a.facts h)) s ≡ generation_of (of_pool p h) s
+
+-- A driver's own answer does.
+abbrev pub SparesServer : Options → List Item → Step → Type 0
+SparesServer o h step = SparesServerBy o h step (answer o h step)

@@ -2,4 +2,5 @@
 #![tactic(auto)]
 
 pub mod errors;
+pub mod logs;
 pub mod pools;

@@ -1,4 +1,4 @@
--- Each answer of the log of plain steps is plain.
+-- Each answer to plain steps is plain.
 use Rattle.std.proofs.Common.{◌≡◌, true, List, [], ◌∷◌, ◌++◌, refl, sym, subst}
 use Rattle.std.specs.List.{AllByRecursion, list_all}
 use Rattle.std.proofs.lemmas.Bool.{and_from}
@@ -9,7 +9,8 @@ use Rattle.mdb_log.specs.declared.reply.Reply.TheVariants as reply
 use Rattle.mdb_log.specs.declared.step.Step.{Step}
 use Rattle.mdb_log.specs.History.{Item, did, with_answer, with_entries, history_of}
 use Rattle.mdb_lines.specs.Script.{AreAllowed}
-use Rattle.mdb_topology.specs.Lines.{options_in, answer_after, entry_after, log_after, log_of, steps_of}
+use Rattle.mdb_topology.specs.Lines.{options_in, answer_after, steps_of}
+use Rattle.mdb_told.specs.Answers.{IsAnswer, AreAnswers}
 use Rattle.mdb_entries.specs.Answers.{is_plain_reply, is_plain_fact, has_plain_answer, IsTyped, TextShows}
 use Rattle.mdb_entries.proofs.AnswerLemmas.{log_shows}
 use Rattle.mdb_readable.proofs.Plain.{IsPlainReply, ArePlainFacts, IsPlainHistory}
@@ -39,11 +40,17 @@ after-plain : (log : List Entry) (s : Step) → AllByRecursion IsPlainEntry log 
 after-plain [] s i j = answer-plain (options_in s.act) [] s tt j
 after-plain (first ∷ log) s i j = answer-plain (options_in first.step.act) (history_of (first ∷ log)) s (entries-plain (first ∷ log) [] i tt) j
 
-log-plain : (log : List Entry) (steps : List Step) → AllByRecursion IsPlainEntry log → AllByRecursion IsPlainStep steps → AllByRecursion IsPlainEntry (log_after log steps)
-log-plain log [] i j = i
-log-plain log (s ∷ ss) i j =
-    let got = after-plain log s i j.0 in
-    log-plain (log ++ entry_after 0 log s ∷ []) ss (all-both IsPlainEntry log (entry_after 0 log s ∷ []) i (record { step = j.0; reply = got.reply; facts = got.facts }, tt)) j.1
+next-plain : (log : List Entry) (e : Entry) → AllByRecursion IsPlainEntry log → IsAnswer log e → IsPlainStep e.step → IsPlainEntry e
+next-plain log e i is j =
+    let got = after-plain log e.step i j in
+    subst IsPlainEntry (sym is) (record { step = j; reply = got.reply; facts = got.facts })
+
+-- the entries that answer plain steps after a log of plain entries are plain
+answered-plain : (log es : List Entry) → AllByRecursion IsPlainEntry log → AreAnswers log es → AllByRecursion IsPlainStep (steps_of es) → AllByRecursion IsPlainEntry es
+answered-plain log [] i are j = tt
+answered-plain log (e ∷ es) i are j =
+    let one : IsPlainEntry e = next-plain log e i are.0 j.0 in
+    (one, answered-plain (log ++ e ∷ []) es (all-both IsPlainEntry log (e ∷ []) i (one, tt)) are.1 j.1)
 
 answers-told : (log : List Entry) → AllByRecursion IsPlainEntry log → list_all has_plain_answer log ≡ true
 answers-told [] i = refl
@@ -51,10 +58,9 @@ answers-told (e ∷ es) i =
     and_from (has_plain_answer e) (list_all has_plain_answer es)
     (and_from (is_plain_reply e.reply) (list_all is_plain_fact e.facts) (i.0).reply (all-told is_plain_fact e.facts (i.0).facts)) (answers-told es i.1)
 
-pub answers-plain : (steps : List Step) → AreAllowed 1 steps → list_all has_plain_answer (log_of steps) ≡ true
-answers-plain steps h = answers-told (log_of steps) (log-plain [] steps tt (allowed-plain 1 steps h))
+pub answers-plain : (log : List Entry) → AreAnswers [] log → AreAllowed 1 (steps_of log) → list_all has_plain_answer log ≡ true
+answers-plain log are h = answers-told log (answered-plain [] log tt are (allowed-plain 1 (steps_of log) h))
 
--- The text of a log that is answered so shows its entries, where its numbers are of their types.
-pub text-shows : (log : List Entry) → AllByRecursion IsTyped log → log ≡ log_of (steps_of log) → AreAllowed 1 (steps_of log) → TextShows log
-text-shows log types e steps =
-    log_shows log (record { steps = steps; types = types; rules = subst (λ (l : List Entry). list_all has_plain_answer l ≡ true) (sym e) (answers-plain (steps_of log) steps) })
+-- The text of a log of answers shows its entries, where its numbers are of their types.
+pub text-shows : (log : List Entry) → AllByRecursion IsTyped log → AreAnswers [] log → AreAllowed 1 (steps_of log) → TextShows log
+text-shows log types are steps = log_shows log (record { steps = steps; types = types; rules = answers-plain log are steps })

@@ -1,5 +1,5 @@
 -- A run, line by line.
-use Rattle.std.proofs.Common.{◌≡◌, ℕ, suc, ◌+◌, ◌<◌, ◌≤◌, true, List, [], ◌∷◌, ◌++◌, length, take, map, codes, Option, Ok, Err, refl, sym, ap, ◌∙◌, arith, append_assoc, inl, inr, subst, length-append}
+use Rattle.std.proofs.Common.{◌≡◌, ℕ, suc, ◌+◌, ◌<◌, ◌≤◌, true, List, [], ◌∷◌, ◌++◌, length, take, map, codes, Option, Some, None, Ok, Err, refl, sym, ap, ◌∙◌, arith, append_assoc, inl, inr, subst, length-append}
 use Rattle.std.proofs.lemmas.List.{append-nil, append_cancel_right}
 use Rattle.std.proofs.lemmas.List.Elements.{All-nil, All-push}
 use Rattle.std.proofs.Math.Seq.{take-append-add, take-length}
@@ -15,14 +15,15 @@ use Rattle.mdb_base.specs.AddressReading.{beyond}
 use Rattle.mdb_lines.specs.Loops.{ReadsAll, ReadEnds}
 use Rattle.mdb_lines.proofs.Loops.{took_nothing, took_more, took_no_more, line_not_last}
 use Rattle.mdb_topology.specs.Stepping.{is_driver_act}
-use Rattle.mdb_topology.specs.Driving.{may_come}
+use Rattle.mdb_topology.specs.declared.topology.TopologyCore.{TopologyCore}
+use Rattle.mdb_topology.specs.Driving.{may_come, Holds}
 use Rattle.mdb_topology.specs.Lines.{entry_after, log_of, log_after, steps_of}
 use Rattle.mdb_log.specs.LegalLog.{IsLegalLog}
 use Rattle.mdb_log.specs.History.{history_of}
 use Rattle.mdb_log.specs.PlainLegal.{LegalLog}
 use Rattle.mdb_topology.specs.Logging.{IsKept}
 use Rattle.mdb_histories.specs.SoundHistory.{SoundHistory}
-use Rattle.mdb_runs.specs.Runs.{IsWithin, Begins, IsNextLine, IsBad, LineRuns, Ran, RunEnds, Seen, Ended}
+use Rattle.mdb_runs.specs.Runs.{IsWithin, Begins, IsNextLine, IsBad, LineRuns, HasDriver, Ran, RunEnds, Seen, Ended}
 
 -- what holds between two lines
 pub record Between (input rest : List ℕ) (n : ℕ) (entries : List Entry) (held new_held : Option Held) (faults new_faults : ℕ) : Type 0 where
@@ -100,11 +101,17 @@ goes_on input rest line behind n log new_log held mid new_held faults old_faults
       same = same ∙ s.same;
     }
 
+-- what a script's driver holds to is the log of a driver
+pub has-driver : (core : Option TopologyCore) (log : List Entry) → Holds core log → HasDriver log
+has-driver None log h = subst HasDriver (sym h) tt
+has-driver (Some w) [] h = tt
+has-driver (Some w) (e ∷ es) h = (w, h)
+
 pub done : (input : List ℕ) (n : ℕ) (log : List Entry) (held new_held : Option Held) (faults new_faults : ℕ) (rest : List ℕ) → length rest ≡ 0
-    → Between input rest n log held new_held faults new_faults → IsLegalLog log → LegalLog log → IsKept log → SoundHistory (history_of log) → Ran input log held new_held faults new_faults
+    → Between input rest n log held new_held faults new_faults → HasDriver log → IsLegalLog log → LegalLog log → IsKept log → SoundHistory (history_of log) → Ran input log held new_held faults new_faults
 unfolding lines_of
-done input n log held new_held faults new_faults [] none s legal plain kept sound = record { begins = s.begins; answers = s.answers; legal = legal; plain = plain; kept = kept; sound = sound; taken = s.taken; same = s.same }
-done input n log held new_held faults new_faults (b ∷ bs) none s legal plain kept sound = absurd (omega arith)
+done input n log held new_held faults new_faults [] none s driver legal plain kept sound = record { begins = s.begins; answers = s.answers; driver = driver; legal = legal; plain = plain; kept = kept; sound = sound; taken = s.taken; same = s.same }
+done input n log held new_held faults new_faults (b ∷ bs) none s driver legal plain kept sound = absurd (omega arith)
 
 -- the line that is next ends the run
 pub line_ends : (input rest line behind : List ℕ) (n : ℕ) (log new_log : List Entry) (held mid new_held : Option Held) (faults old_faults new_faults : ℕ) (e : RunError)

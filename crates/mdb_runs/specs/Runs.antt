@@ -1,5 +1,5 @@
 -- What a run reads, answers and writes.
-use Rattle.std.specs.Prelude.{◌≡◌, ℕ, ◌+◌, ◌<◌, List, [], ◌∷◌, ◌++◌, length, map, true, All, Option, Result, Ok, Err, ◌⊎◌}
+use Rattle.std.specs.Prelude.{◌≡◌, ℕ, ◌+◌, ◌<◌, List, [], ◌∷◌, ◌++◌, length, map, true, All, Option, Result, Ok, Err, ◌⊎◌, ⊤}
 use Rattle.std.specs.Io.KnownBytes.{Consumes}
 use Rattle.mdb_base.specs.Outside.{Rose, Held, Took, IsFlushed}
 use Rattle.mdb_log.specs.declared.step.Step.{Step}
@@ -16,7 +16,8 @@ use Rattle.mdb_topology.specs.Lines.{entry_after, log_of, steps_of}
 use Rattle.mdb_log.specs.LegalLog.{IsLegalLog}
 use Rattle.mdb_log.specs.History.{history_of}
 use Rattle.mdb_log.specs.PlainLegal.{LegalLog}
-use Rattle.mdb_topology.specs.Logging.{IsKept}
+use Rattle.mdb_topology.specs.declared.topology.TopologyCore.{TopologyCore}
+use Rattle.mdb_topology.specs.Logging.{IsDriverOf, IsKept}
 use Rattle.mdb_histories.specs.SoundHistory.{SoundHistory}
 
 -- the first step opens seeds, and every later step is one that may come after it
@@ -24,7 +25,7 @@ abbrev pub IsWithin : List Step → Type 0
 IsWithin [] = Unit {0}
 IsWithin (first ∷ steps) = (opens_seeds first.act ≡ true) × All (λ s. is_driver_act s.act ≡ true) steps
 
--- The input is a script of these steps, all of which are lines of this stage.
+-- The input is a script of these steps.
 pub record IsScript (input : List ℕ) (steps : List Step) : Type 0 where
   pub lines : lines_of input ≡ map line_of steps
   pub allowed : AreAllowed 1 steps
@@ -65,10 +66,16 @@ LineRuns n line log new_log held new_held faults new_faults (Err (errors.Malform
     (m ≡ n) × ((s : Step) → IsNextLine n (steps_of log) line s → ⊥) × Took held new_held [] × (new_faults ≡ faults)
 LineRuns n line log new_log held new_held faults new_faults (Err errors.TooLong) = ⊥
 
--- The lines of the input are those of the log's steps, the log is theirs, legal, by the plain sentences too, kept and sound, and the sink took its text.
+-- Some driver stands for the log, once it has an entry. So every law of the logs of drivers is one of this log.
+abbrev pub HasDriver : List Entry → Type 0
+HasDriver [] = ⊤
+HasDriver (e ∷ es) = (w : TopologyCore) × IsDriverOf w (e ∷ es)
+
+-- The lines of the input are those of the log's steps, the log is theirs and a driver's, legal, by the plain sentences too, kept and sound, and the sink took its text.
 pub record Ran (input : List ℕ) (log : List Entry) (held new_held : Option Held) (faults new_faults : ℕ) : Type 0 where
   pub begins : Begins input (steps_of log) []
   pub answers : log ≡ log_of (steps_of log)
+  pub driver : HasDriver log
   pub legal : IsLegalLog log
   pub plain : LegalLog log
   pub kept : IsKept log

@@ -36,7 +36,7 @@ EndsAs (command.Make n) old new told new_told answer = ToolMakes n old new told 
 EndsAs (command.Share k) old new told new_told answer = ToolRefuses old new told new_told answer
 EndsAs command.Usage old new told new_told answer = ToolRefuses old new told new_told answer
 
--- The tool ends as the command that the words say. Parts that share a script are not built yet: `share` is a usage.
+-- The tool ends as the command that the words say. It runs a script by one part: `share` is a usage here.
 abbrev pub ToolEnds : List (List ℕ) → Seen → Seen → Told → Told → ℕ → Type 0
 ToolEnds words old new told new_told answer = (c : ToolCommand) × Says words c × EndsAs c old new told new_told answer
 

@@ -19,9 +19,11 @@ use Rattle.mdb_topology.proofs.Driven.{legal-log, kept-log}
 use Rattle.mdb_histories.proofs.Logs.{sound-log}
 use Rattle.mdb_plain.proofs.Drivers.{plain-log}
 use Rattle.mdb_runs.specs.Runs.{IsWithin}
+use Rattle.mdb_runs.proofs.Between.{has-driver}
 use Rattle.mdb_runs.proofs.Taken.{taken}
 use Rattle.mdb_share.specs.Parts.{IsSharedOn}
-use Rattle.mdb_share.specs.Scripts.{AreAnswers, Shared}
+use Rattle.mdb_told.specs.Answers.{AreAnswers}
+use Rattle.mdb_share.specs.Scripts.{Shared}
 
 driver_spelled : (a : Act) → IsDriverAct a → is_spelled a ≡ true
 driver_spelled (act.Ready p) d = absurd d
@@ -71,14 +73,14 @@ pub later_acts : (first : Step) (later : List Step) → IsWithin (first ∷ late
 later_acts first later within = All-weaker (λ (s : Step). is_driver_act s.act ≡ true) (λ (s : Step). IsDriverAct s.act) (λ s h. driver_act s.act h) later within.1
 
 pub shared_none : (k : ℕ) → Shared k [] []
-shared_none k = record { shares = refl; legal = legal-log None [] refl; plain = plain-log None [] refl; kept = kept-log None [] refl; sound = sound-log None [] refl }
+shared_none k = record { shares = refl; driver = tt; legal = legal-log None [] refl; plain = plain-log None [] refl; kept = kept-log None [] refl; sound = sound-log None [] refl }
 
 pub shared_some : (k : ℕ) (first : Step) (later : List Step) (log : List Entry) → IsFirstStep first → IsSharedOn IsDriverOf k (entry_after 0 [] first ∷ []) later log
     → Shared k (first ∷ later) log × All (λ (e : Entry). HasSpelling e.step) log
 shared_some k first later log opens (entries, is, shared, (w, stands)) =
     let e : Entry = entry_after 0 [] first in
     let s = stood w log entries e is stands in (
-      record { shares = (entries, is, shared, s.0); legal = legal-log (Some w) log stands; plain = plain-log (Some w) log stands; kept = kept-log (Some w) log stands; sound = sound-log (Some w) log stands },
+      record { shares = (entries, is, shared, s.0); driver = has-driver (Some w) log stands; legal = legal-log (Some w) log stands; plain = plain-log (Some w) log stands; kept = kept-log (Some w) log stands; sound = sound-log (Some w) log stands },
       subst (λ (l : List Entry). All (λ (f : Entry). HasSpelling f.step) l) (sym is) (All-cons (λ (f : Entry). HasSpelling f.step) e entries (first_spelled first opens) s.1),
     )
 

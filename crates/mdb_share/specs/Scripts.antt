@@ -7,13 +7,10 @@ use Rattle.mdb_log.specs.LegalLog.{IsLegalLog}
 use Rattle.mdb_log.specs.PlainLegal.{LegalLog}
 use Rattle.mdb_topology.specs.Lines.{entry_after}
 use Rattle.mdb_topology.specs.Logging.{IsKept}
+use Rattle.mdb_told.specs.Answers.{AreAnswers}
 use Rattle.mdb_histories.specs.SoundHistory.{SoundHistory}
+use Rattle.mdb_runs.specs.Runs.{HasDriver}
 use Rattle.mdb_share.specs.Shares.{IsShared}
-
--- each entry is the answer to its step after the log and the entries before it
-abbrev pub AreAnswers : List Entry → List Entry → Type 0
-AreAnswers log [] = Unit {0}
-AreAnswers log (e ∷ es) = (e ≡ entry_after e.seat log e.step) × AreAnswers (log ++ e ∷ []) es
 
 -- The log of a script that k parts share: the first step opens the driver, and the others are shared.
 abbrev pub SharesSteps : ℕ → List Step → List Entry → Type 0
@@ -22,9 +19,10 @@ SharesSteps k (first ∷ later) log =
     (entries : List Entry) × (log ≡ entry_after 0 [] first ∷ entries)
     × IsShared k (entry_after 0 [] first ∷ []) later entries × AreAnswers (entry_after 0 [] first ∷ []) entries
 
--- The log of a shared script, which is legal, by the plain sentences too, kept and sound.
+-- The log of a shared script, which is a driver's, legal, by the plain sentences too, kept and sound.
 pub record Shared (k : ℕ) (steps : List Step) (log : List Entry) : Type 0 where
   pub shares : SharesSteps k steps log
+  pub driver : HasDriver log
   pub legal : IsLegalLog log
   pub plain : LegalLog log
   pub kept : IsKept log

@@ -1,4 +1,4 @@
 mod Accepted
 mod Once
 mod Outcomes
-mod Logs
+pub mod Logs

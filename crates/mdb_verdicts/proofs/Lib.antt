@@ -1,0 +1,2 @@
+mod Raised
+mod SharedSteps

@@ -2,5 +2,6 @@
 #![tactic(auto)]
 
 mod laws;
+mod moments;
 
-pub use laws::run_logs_are_legal;
+pub use laws::{run_logs_are_legal, shared_logs_are_legal};

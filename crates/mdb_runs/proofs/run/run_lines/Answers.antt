@@ -1,6 +1,6 @@
 use Rattle.std.proofs.Common.{arith, length, ◌≡◌}
 use Rattle.std.proofs.lemmas.Grind.{common_steps}
-use Rattle.mdb_runs.proofs.Between.{goes_on, done, line_ends, last_ends}
+use Rattle.mdb_runs.proofs.Between.{goes_on, has-driver, done, line_ends, last_ends}
 use Rattle.mdb_topology.proofs.Driven.{legal-log, kept-log}
 use Rattle.mdb_histories.proofs.Logs.{sound-log}
 use Rattle.mdb_plain.proofs.Drivers.{plain-log}
@@ -36,4 +36,4 @@ returns-clause-ran g c =
     let l = c.loop-rest in
     let none : length l.rest.now ≡ 0 = grind (arith, common_steps) in
     done c.args.input.now l.number l.log (g.K.Sink.held c.args.sink.now) (g.K.Sink.held l.sink) (g.K.Sink.faults c.args.sink.now) (g.K.Sink.faults l.sink) l.rest.now none l.invariant.between
-    (legal-log l.driver.core l.log l.invariant.stands) (plain-log l.driver.core l.log l.invariant.stands) (kept-log l.driver.core l.log l.invariant.stands) (sound-log l.driver.core l.log l.invariant.stands)
+    (has-driver l.driver.core l.log l.invariant.stands) (legal-log l.driver.core l.log l.invariant.stands) (plain-log l.driver.core l.log l.invariant.stands) (kept-log l.driver.core l.log l.invariant.stands) (sound-log l.driver.core l.log l.invariant.stands)

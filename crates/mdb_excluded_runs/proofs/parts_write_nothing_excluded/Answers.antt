@@ -1,0 +1,25 @@
+use Rattle.std.proofs.Common.{◌∷◌, ◌++◌}
+use Rattle.mdb_excluded_runs.proofs.Drivers.{closes-by-cause, is-answered, tells-once, tells-causes}
+use Rattle.mdb_excluded_runs.proofs.parts_write_nothing_excluded.Goals as goal
+
+-- what parts write keeps each law
+pub returns-clause-legal : goal.returns-clause-legal
+returns-clause-legal c = λ front later e k steps x shared. x.2 later shared.plain
+
+pub returns-clause-within : goal.returns-clause-within
+returns-clause-within c = λ front later e k steps x shared. x.2 later shared.kept.within
+
+pub returns-clause-fresh : goal.returns-clause-fresh
+returns-clause-fresh c = λ front later e k steps x shared. x.2 later shared.kept.fresh
+
+pub returns-clause-closes : goal.returns-clause-closes
+returns-clause-closes c = λ front later e k steps x shared. x.2 later (closes-by-cause (front ++ e ∷ later) shared.driver)
+
+pub returns-clause-answered : goal.returns-clause-answered
+returns-clause-answered c = λ front later e k steps x shared. x.2 later (is-answered (front ++ e ∷ later) shared.driver)
+
+pub returns-clause-once : goal.returns-clause-once
+returns-clause-once c = λ front later e k steps x shared. x.2 later (tells-once (front ++ e ∷ later) shared.driver)
+
+pub returns-clause-causes : goal.returns-clause-causes
+returns-clause-causes c = λ front later e k steps x shared. x.2 later (tells-causes (front ++ e ∷ later) shared.driver)

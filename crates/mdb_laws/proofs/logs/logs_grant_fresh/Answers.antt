@@ -1,0 +1,6 @@
+use Rattle.std.proofs.Common.{Some}
+use Rattle.mdb_topology.proofs.Driven.{kept-log}
+use Rattle.mdb_laws.proofs.logs.logs_grant_fresh.Goals as goal
+
+pub returns : goal.returns
+returns c = λ w log z. (kept-log (Some w) log z).fresh
