@@ -1,11 +1,12 @@
 #!/usr/bin/env python3
 """Runs built programs with one call of the C library failing: each allocation, each read and each write in turn.
 
-usage: checks/faults.py [--script PROGRAM] [--checks PROGRAM] [--demo PROGRAM] [--tests PROGRAM] [--jobs N] [--seconds N] [--every]
+usage: checks/faults.py [--script PROGRAM] [--low PROGRAM] [--mid PROGRAM] [--top PROGRAM] [--demo PROGRAM] [--tests PROGRAM] [--jobs N] [--seconds N] [--every]
 
-PROGRAM is crates/CRATE/out/CRATE, of mdb_script, mdb_checks and mdb_pool_demo, and crates/mdb_total/out/mdb_total_tests, where it is left out; nothing is built.
-mdb_script runs its stored script, also with `share 1` and `share 2`, `make 10`, and the scripts of mdb_checks that SWEPT names (with --every all of them);
-mdb_checks runs its stored cases, and mdb_pool_demo its threads: of its allocations the first DEMO_FIRST fail in turn, and then each DEMO_STEP-th. Each runs once as it is, and then, up to N runs side by side (as many as there are
+PROGRAM is crates/CRATE/out/CRATE, of mdb_script, the three programs of cases (mdb_checks_low, mdb_checks_mid and mdb_checks_top) and mdb_pool_demo, and
+crates/mdb_trials/out/mdb_trials_tests, where it is left out; nothing is built. mdb_script runs its stored script, also with `share 1` and `share 2`, `make 10`, and
+the scripts of mdb_checks_top that SWEPT names (with --every all of them); the programs of cases run their stored cases, and mdb_pool_demo its threads: of its
+allocations the first DEMO_FIRST fail in turn, and then each DEMO_STEP-th. Each runs once as it is, and then, up to N runs side by side (as many as there are
 processors) and for at most N seconds (900), once for each call and each of these faults:
 
   allocation   is refused. The program tells want of memory, with status 1, after whole entries or lines, the first of the
@@ -15,13 +16,13 @@ processors) and for at most N seconds (900), once for each call and each of thes
                schedule's, only the number of lines is compared, and a run may end before the call that was to fail.
   short_read, short_write   moves one byte, and so does each of them in a further run. Nothing changes.
 
-The tests of mdb_total share a driver among threads and seats. Each runs once for each of its first allocations, which is refused: it
+The tests of mdb_trials over a running total share a driver among threads and seats. Each runs once for each of its first allocations, which is refused: it
 ends well, or stops where it has no memory, or in the test of two threads where one of them made a step less; it never hangs.
 
 A run of mdb_pool_demo that does not end within DEMO_LIMIT seconds is known: where a thread can't be started its part is played by the caller, which
 then waits for parts that were not begun.
 
-A case of mdb_checks may answer want of memory where it runs the tool (counted as answered). One that is answered otherwise
+A case may answer want of memory where it runs the tool (counted as answered). One that is answered otherwise
 for want of memory is known where its kind is in KNOWN, and else a finding. Cases of more than LONG allocations are left out.
 Each finding has a line, and the counts come last; runs for which there was no time are counted as left. The status is 0
 where nothing was found, 1 where something was, and 2 where a program is missing or can't be run so. Needs gcc, and programs that are linked with the C library (by `rt run`).
@@ -36,20 +37,24 @@ import tempfile
 import time
 from collections import Counter, namedtuple
 
+sys.dont_write_bytecode = True  # the repository is left as it is
+from cases import CRATES, fits, lines_of
+
 HERE = os.path.dirname(os.path.abspath(__file__))
-CRATES = os.path.join(os.path.dirname(HERE), 'crates')
+CHECKS = ('mdb_checks_low', 'mdb_checks_mid', 'mdb_checks_top')
 SORTS = {'allocation': 0, 'read': 1, 'write': 2, 'short_read': 1, 'short_write': 2}
 MADE = b'lines=22 granted=10 created=4 closed=1 live=3\n'
 # Kinds of cases that may be answered otherwise for want of memory: a write to a `Vec` that has no room is told as failed.
-KNOWN = (b'writing',)
+KNOWN = (b'base writing',)
 # The end of an answer that is itself want of memory, told by a run of the tool within a case.
 WANT = b'"out of memory\\n"'
 FIRST = 1000  # allocations of a test that are refused in turn
+TESTS = 'totals::'  # the tests that are run so
 THREADS = 'two_threads_make_one_log'
 REST = 30  # seconds between two lines of progress
 LIMIT = 120  # seconds for one run
 LONG = 2000  # allocations of one case; one that takes more is left out
-# The scripts of mdb_checks that mdb_script runs too, by the beginnings of the remarks above them: a set that drops a member,
+# The scripts of mdb_checks_top that mdb_script runs too, by the beginnings of the remarks above them: a set that drops a member,
 # one that takes it back, pins.
 SWEPT = ('A primary that lists one server less', 'An error of a connection of a pool that was closed', 'The connection stands at its pin',
          'Pins are refused')
@@ -74,24 +79,23 @@ def stored(crate):
 
 
 def scripts():
-    """The scripts of mdb_checks that run to their end: the remark above, the lines, and the lines of the log."""
+    """The scripts of mdb_checks_top that run to their end: the remark above, the lines, and the lines of the log, where ` ..` stands for any text."""
     remark, found = '', []
-    with open(os.path.join(CRATES, 'mdb_checks', 'stdin'), encoding='utf-8', newline='\n') as file:
-        for case in file.read().split('\n'):
-            kind, _, given = case.partition(' ')
-            line, _, wanted = given.partition(' => ')
-            if kind == '#':
-                remark = given
-            elif kind == 'script':
-                found.append((remark, [line], [line + ' | ' + wanted]))
-            elif kind == 'then':
-                found[-1][1].append(line)
-                found[-1][2].append(line + ' | ' + wanted)
+    for case in lines_of('mdb_checks_top'):
+        kind, _, given = case.partition(' ')
+        line, _, wanted = given.partition(' => ')
+        if kind == '#':
+            remark = given
+        elif kind == 'script':
+            found.append((remark, [line], [line + ' | ' + wanted]))
+        elif kind == 'then':
+            found[-1][1].append(line)
+            found[-1][2].append(line + ' | ' + wanted)
     return [it for it in found if not any(' | status ' in line for line in it[2])]
 
 
 def swept(program, folder, is_every):
-    """The runs of scripts of mdb_checks. Their inputs are written to the folder."""
+    """The runs of scripts of mdb_checks_top. Their inputs are written to the folder."""
     found = []
     for number, (remark, lines, log) in enumerate(scripts()):
         if is_every or remark.startswith(SWEPT):
@@ -105,15 +109,16 @@ def swept(program, folder, is_every):
 
 def subjects(script, checks, demo, folder, is_every):
     """The runs that are disturbed, of the programs that are there; and the programs that are missing."""
-    found, missing = [], [program for program in (script, checks, demo) if not os.path.isfile(program)]
+    found, missing = [], [program for program in (script, *checks, demo) if not os.path.isfile(program)]
     if script not in missing:
         found.append(Subject('mdb_script', script, [], *stored('mdb_script'), SCRIPT_ENDS))
         for parts in ('1', '2'):
             found.append(Subject('mdb_script share ' + parts, script, ['share', parts], *stored('mdb_script'), SHARE_ENDS))
         found.append(Subject('mdb_script make 10', script, ['make', '10'], os.devnull, MADE, SCRIPT_ENDS))
         found.extend(swept(script, folder, is_every))
-    if checks not in missing:
-        found.append(Subject('mdb_checks', checks, [], *stored('mdb_checks'), CHECKS_ENDS))
+    for crate, program in zip(CHECKS, checks):
+        if program not in missing:
+            found.append(Subject(crate, program, [], *stored(crate), CHECKS_ENDS))
     if demo not in missing:
         found.append(Subject('mdb_pool_demo', demo, [], os.devnull, stored('mdb_pool_demo')[1], DEMO_ENDS))
     return found, missing
@@ -142,7 +147,10 @@ def is_whole(subject, written):
     """Whether this is what the subject is to write."""
     if is_by_schedule(subject):
         return written.endswith(b'\n') and written.count(b'\n') == subject.wanted.count(b'\n')
-    return written == subject.wanted
+    if written == subject.wanted:
+        return True
+    lines, others = (text.decode(errors='replace').split('\n') for text in (written, subject.wanted))
+    return subject.ends is SCRIPT_ENDS and len(lines) == len(others) and all(fits(line, other) for line, other in zip(lines, others))
 
 
 def is_front(subject, written, by_lines):
@@ -174,7 +182,7 @@ def judge_change(subject, ended):
         return 'found', []
     if all(line.endswith(WANT) for line in changed):
         return 'answered', []
-    is_known = all(line.split(b' ')[1] in KNOWN for line in changed)
+    is_known = all(any(line.startswith(b'differs: %s ' % kind) for kind in KNOWN) for line in changed)
     return ('known' if is_known else 'found'), changed
 
 
@@ -271,6 +279,8 @@ def sweep(subject, library, folder, jobs, until):
     if plain:
         subject = shortened(subject, plain, folder)
         plain = plain_run(subject, library, folder)
+        if plain and subject.ends is SCRIPT_ENDS:
+            subject = subject._replace(wanted=plain.written)
     if not plain:
         return Counter({('none', 'found'): 1})
     print('%s: %d allocations, %d reads, %d writes' % (subject.name, *plain.counts[-1]), flush=True)
@@ -302,7 +312,7 @@ def tell(subject, tally, seconds):
 def tests_of(program):
     """The names of the tests of a program of tests."""
     told = subprocess.run([program, '--list'], capture_output=True, text=True, timeout=LIMIT).stdout
-    return [line[:-len(': test')] for line in told.splitlines() if line.endswith(': test')]
+    return [line[:-len(': test')] for line in told.splitlines() if line.endswith(': test') and TESTS in line]
 
 
 def one_test(program, library, name, at):
@@ -329,7 +339,7 @@ def sweep_tests(program, library, jobs):
             tally['allocation', verdict] += 1
             for line in lines:
                 print(line, flush=True)
-    tell(Subject('mdb_total_tests', program, [], os.devnull, b'', CHECKS_ENDS), tally, time.monotonic() - begun)
+    tell(Subject('mdb_trials_tests', program, [], os.devnull, b'', CHECKS_ENDS), tally, time.monotonic() - begun)
     return tally
 
 
@@ -349,9 +359,10 @@ def options():
     """The words of the command line."""
     reader = argparse.ArgumentParser(usage=__doc__.split('usage: ')[1])
     reader.add_argument('--script', default=os.path.join(CRATES, 'mdb_script/out/mdb_script'))
-    reader.add_argument('--checks', default=os.path.join(CRATES, 'mdb_checks/out/mdb_checks'))
+    for crate in CHECKS:
+        reader.add_argument('--' + crate.rsplit('_', 1)[1], default=os.path.join(CRATES, crate, 'out', crate))
     reader.add_argument('--demo', default=os.path.join(CRATES, 'mdb_pool_demo/out/mdb_pool_demo'))
-    reader.add_argument('--tests', default=os.path.join(CRATES, 'mdb_total/out/mdb_total_tests'))
+    reader.add_argument('--tests', default=os.path.join(CRATES, 'mdb_trials/out/mdb_trials_tests'))
     reader.add_argument('--jobs', type=int, default=os.cpu_count())
     reader.add_argument('--seconds', type=int, default=900)
     reader.add_argument('--every', action='store_true')
@@ -363,8 +374,8 @@ def main():
     given, tally = options(), Counter()
     until = time.monotonic() + given.seconds
     with tempfile.TemporaryDirectory() as folder:
-        programs = [os.path.abspath(it) for it in (given.script, given.checks, given.demo)]
-        found, missing = subjects(*programs, folder, given.every)
+        checks = [os.path.abspath(it) for it in (given.low, given.mid, given.top)]
+        found, missing = subjects(os.path.abspath(given.script), checks, os.path.abspath(given.demo), folder, given.every)
         library = build(folder) if found else None
         for subject in found:
             tally.update(sweep(subject, library, folder, given.jobs, until))

@@ -4,7 +4,7 @@
 usage: checks/audit/mutants.py [--script PROGRAM] [--auditor PROGRAM] [--mutants N] [--seed N] [--keep FOLDER]
 
 PROGRAM is crates/mdb_script/out/mdb_script and crates/mdb_auditor/out/mdb_auditor where it is left out; nothing is built. The
-logs are what mdb_script writes of the scripts of mdb_checks and of scripts made here at random. Each log is audited as it is,
+logs are what mdb_script writes of the scripts of mdb_checks_top and of scripts made here at random. Each log is audited as it is,
 and must be legal; then N times (1000) one of them is changed in one place: a line dropped, doubled or swapped with another, a
 fact dropped or doubled, a party or a connection renamed. plain.py says what the verdict is: it shares nothing with the
 auditor. Each difference has a line, FOLDER keeps its text, and the last line tells how many mutants were tried, by verdict.

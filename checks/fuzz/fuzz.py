@@ -5,7 +5,7 @@ usage: checks/fuzz/fuzz.py --model MODEL [--program PROGRAM] [--seconds N] [--fo
 
 MODEL is a Python file with `run_script(data)`, as judge.py tells; it is no part of this repository. PROGRAM is
 crates/mdb_script/out/mdb_script where it is left out; nothing is built. It runs for N seconds (1800), at the lowest priority
-and in one process, and begins with the scripts of crates/mdb_checks/stdin. FOLDER (a new one) keeps what was found, in
+and in one process, and begins with the scripts of crates/mdb_checks_top/stdin. FOLDER (a new one) keeps what was found, in
 `differences`: the input, how the program ended and how the model says. The last lines tell how many inputs were tried, by
 status, and how many differ. The status is 0 where none does, 1 where one does, and 2 where something is missing. Needs
 `afl-fuzz` (the package afl++).
@@ -31,7 +31,7 @@ TIMEOUT = 60000  # milliseconds for one input
 
 
 def seeds(folder):
-    """The scripts of mdb_checks, each in a file of its own."""
+    """The scripts of mdb_checks_top, each in a file of its own."""
     os.makedirs(folder)
     for number, (_, lines, _) in enumerate(scripts()):
         with open(os.path.join(folder, '%03d' % number), 'w', encoding='utf-8', newline='\n') as file:

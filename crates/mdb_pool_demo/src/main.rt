@@ -6,8 +6,6 @@ mod counting;
 mod opening;
 mod parts;
 mod running;
-#[cfg(test)]
-mod tests;
 
 use crate::counting::Counts;
 use crate::running::run;

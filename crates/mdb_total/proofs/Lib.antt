@@ -1,2 +1,1 @@
 pub mod Totalled
-pub mod Crossing

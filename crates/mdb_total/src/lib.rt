@@ -1,8 +1,6 @@
-//! The smallest driver: a running total, and what a shared driver does over it.
+//! The smallest driver: a running total.
 #![tactic(auto)]
 
-#[cfg(test)]
-mod tests;
 mod total;
 
 pub use total::Total;

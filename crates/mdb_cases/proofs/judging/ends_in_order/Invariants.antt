@@ -1,0 +1,10 @@
+use denote.Text.{Utf8}
+use denote.Shadow.{shadow}
+use Rattle.mdb_cases.proofs.judging.ends_in_order.Given as goal
+
+-- what is left to look at is text
+abbrev pub invariant-loop-piece : goal.invariant-loop-piece
+invariant-loop-piece l =
+    (goal.iterator-loop-piece).can_next l.piece-iterator ×
+    (goal.iterator-loop-piece).is_finite l.piece-iterator ×
+    shadow (Utf8 l.rest)

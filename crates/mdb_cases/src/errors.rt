@@ -1,0 +1,36 @@
+//! Errors by their words.
+
+use crate::page::Page;
+use crate::words::{some_version, value_of};
+use mdb_base::{Error, ErrorKind, Items};
+
+fn kind(word: &str) -> ErrorKind {
+    match word {
+        "network" => ErrorKind::Network,
+        "timeout" => ErrorKind::NetworkTimeout,
+        "auth" => ErrorKind::Auth,
+        "incompatible" => ErrorKind::IncompatibleServer,
+        "other" => ErrorKind::Other,
+        code => ErrorKind::Command(code.parse::<i32>().unwrap_or(0)),
+    }
+}
+
+/// The error that the words name: `kind=`, `labels=` and `version=`.
+pub fn made_error(page: &mut Page, words: &str, message: &str) -> Error {
+    Error {
+        kind: kind(value_of(words, "kind")),
+        labels: page.texts(value_of(words, "labels")),
+        topology_version: some_version(value_of(words, "version")),
+        message: page.text(message),
+    }
+}
+
+/// A network error.
+pub fn down(page: &mut Page) -> Error {
+    Error {
+        kind: ErrorKind::Network,
+        labels: Items::new(Vec::new(page.alloc)),
+        topology_version: None,
+        message: page.text("down"),
+    }
+}

@@ -1,5 +1,0 @@
-use Rattle.std.proofs.Common.{◌≡◌, All}
-use Rattle.mdb_pool_demo.proofs.tests.many.take_turns.Given as goal
-
-abbrev pub invariant-loop-seat : goal.invariant-loop-seat
-invariant-loop-seat g l = All (λ s. s.driver ≡ l.fn.driver.id) l.done.items

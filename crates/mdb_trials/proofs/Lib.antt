@@ -1,0 +1,3 @@
+mod TotalCrossing
+mod DriverCrossing
+mod WorkerCrossing

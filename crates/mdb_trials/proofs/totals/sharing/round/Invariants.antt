@@ -1,0 +1,5 @@
+use Rattle.std.proofs.Common.{◌≡◌, All}
+use Rattle.mdb_trials.proofs.totals.sharing.round.Given as goal
+
+abbrev pub invariant-loop-seat : goal.invariant-loop-seat
+invariant-loop-seat g l = All (λ s. s.driver ≡ l.fn.driver.id) l.after.items

@@ -1,0 +1,7 @@
+//! The tests that need threads: of the lock, over a running total, and of what threads do with a driver.
+#![tactic(auto)]
+
+#[cfg(test)]
+mod drivers;
+#[cfg(test)]
+mod totals;
