@@ -1,0 +1,216 @@
+// Bars: the connections of a pool and its requests.
+import { PENDING, AVAILABLE, HELD } from './things.js';
+import { firstBar } from './layout.js';
+import { CHARACTER } from './frame.js';
+
+const FINE = 3; // a stretch below so many pixels is put together with its neighbours
+const MARGIN = 3;
+
+function paintPlace(frame, place, x0, x1, y, height) {
+  const { palette } = frame;
+  if (place === AVAILABLE) frame.box(palette.available, x0, x1, y + height / 2 - 2, 4);
+  else if (place === PENDING) frame.box(palette.pendingHatch, x0, x1, y, height);
+  else if (place === HELD) frame.box(palette.held, x0, x1, y, height);
+  else frame.box(palette.pinnedHatch, x0, x1, y, height);
+}
+
+/** Short stretches, of which the longest place is drawn for all; neighbours of one place are one box. */
+class Bucket {
+  constructor(frame, y, height) {
+    Object.assign(this, { frame, y, height });
+    this.shares = [0, 0, 0, 0];
+    this.from = -1;
+    this.to = -1;
+    this.run = { place: -1, from: 0, to: 0 };
+  }
+
+  add(place, x0, x1) {
+    if (this.from < 0) this.from = x0;
+    this.shares[place] += x1 - x0;
+    this.to = x1;
+    if (this.to - this.from >= 2) this.close();
+  }
+
+  /** The stretches so far have one place, and join the box before where that has it too. */
+  close() {
+    if (this.from < 0) return;
+    const { shares, run } = this;
+    let most = 0;
+    for (let at = 1; at < shares.length; at += 1) if (shares[at] > shares[most]) most = at;
+    if (run.place === most) run.to = this.to;
+    else {
+      this.paint();
+      Object.assign(run, { place: most, from: this.from, to: this.to });
+    }
+    shares.fill(0);
+    this.from = -1;
+  }
+
+  paint() {
+    const { run } = this;
+    if (run.place >= 0) paintPlace(this.frame, run.place, run.from, run.to, this.y, this.height);
+    run.place = -1;
+  }
+
+  flush() {
+    this.close();
+    this.paint();
+  }
+}
+
+/** The party in the middle of what is seen of its stretch, but not where the connection's name stands. */
+function partyLabel(frame, bar, at, x0, x1, y) {
+  const words = String(bar.parties[at]);
+  const isNamed = at < 2 || x0 < frame.left;
+  const [from, to] = frame.inside(x0, x1);
+  const start = isNamed ? from + bar.name.length * CHARACTER + 6 : from;
+  if (bar.parties[at] >= 0 && to - start >= words.length * CHARACTER) frame.text(words, (start + to - words.length * CHARACTER) / 2, y, frame.palette.onheld);
+}
+
+function paintStretches(frame, bar, y, height) {
+  const bucket = new Bucket(frame, y, height);
+  const { entries, places } = bar;
+  for (let at = Math.max(0, bar.stretchAt(frame.firstEntry)); at < entries.length; at += 1) {
+    const x0 = frame.x(entries[at]);
+    if (x0 > frame.right) break;
+    const x1 = at + 1 < entries.length ? frame.x(entries[at + 1]) : frame.endX(bar.end);
+    frame.drawn.stretches += 1;
+    if (x1 - x0 < FINE) bucket.add(places[at], x0, x1);
+    else {
+      bucket.flush();
+      paintStretch(frame, bar, at, [x0, x1], y, height);
+    }
+  }
+  bucket.flush();
+}
+
+/** A stretch of its own; between two parties a gap is left. */
+function paintStretch(frame, bar, at, [x0, x1], y, height) {
+  const isHandedOn = at > 0 && bar.places[at] === HELD && bar.places[at - 1] === HELD && x1 - x0 >= 4;
+  paintPlace(frame, bar.places[at], isHandedOn ? x0 + 1 : x0, x1, y, height);
+  if (bar.places[at] === HELD) partyLabel(frame, bar, at, x0, x1, y + height - 3);
+}
+
+/** The room behind a bar, up to the next one of its row. */
+function roomBehind(frame, bars, at) {
+  return at + 1 < bars.length ? frame.x(bars[at + 1].start) - frame.endX(bars[at].end) : frame.right;
+}
+
+function paintEnd(frame, bars, at, y, height) {
+  const bar = bars[at];
+  if (bar.end < 0) return;
+  const x = frame.x(bar.end);
+  if (x < frame.left || x > frame.right) return;
+  const colour = bar.reason === 'Error' ? frame.palette.bad : bar.reason === 'Stale' ? frame.palette.warn : frame.palette.ink;
+  frame.box(colour, x - 1, x + 2, y - 1, height + 2);
+  frame.drawn.ends += 1;
+  if (roomBehind(frame, bars, at) > bar.reason.length * CHARACTER + 10) frame.text(bar.reason, x + 5, y + height - 3, colour, true);
+}
+
+function rim(frame, x0, x1, y, height) {
+  const from = Math.max(x0, frame.left) - 2;
+  const to = Math.min(Math.max(x1, x0 + 2), frame.right) + 2;
+  frame.pen.lineWidth = 2;
+  frame.pen.strokeStyle = frame.palette.accent;
+  frame.pen.strokeRect(from, y - 1, to - from, height + 2);
+}
+
+/** Its name stands behind the stretch in which it was pending, which is to be seen. */
+function connectionName(frame, bar, x0, x1, y) {
+  const name = bar.name;
+  const width = name.length * CHARACTER;
+  const settled = bar.places[0] === PENDING && bar.entries.length > 1 ? frame.x(bar.entries[1]) : x0;
+  const [from, to] = frame.inside(settled, x1);
+  if (to - from < width + 2) return;
+  frame.pen.fillStyle = frame.palette.page;
+  frame.pen.fillRect(from - 2, y - 9, width + 4, 11);
+  frame.text(name, from, y, frame.palette.ink);
+}
+
+export function paintConnections(frame, bars, y, rowHeight) {
+  const height = rowHeight - 2 * MARGIN;
+  let drawnTo = -Infinity;
+  for (let at = firstBar(bars, frame.firstEntry); at < bars.length; at += 1) {
+    const bar = bars[at];
+    const x0 = frame.x(bar.start);
+    const x1 = frame.endX(bar.end);
+    if (x0 > frame.right) break;
+    if (x1 < frame.left) continue;
+    frame.drawn.connections += 1;
+    if (x1 < drawnTo && !frame.isLit(bar)) continue;
+    paintStretches(frame, bar, y + MARGIN, height);
+    paintEnd(frame, bars, at, y + MARGIN, height);
+    connectionName(frame, bar, x0, x1, y + MARGIN + height - 3);
+    if (frame.isLit(bar)) rim(frame, x0, x1, y + MARGIN, height);
+    drawnTo = Math.max(x1, x0 + 1);
+  }
+}
+
+const BAD_ENDS = new Set(['Cleared', 'Failed', 'TimedOut', 'Closed']);
+
+function cross(frame, x, y, size, colour) {
+  const { pen } = frame;
+  pen.lineWidth = 1.8;
+  pen.strokeStyle = colour;
+  pen.beginPath();
+  pen.moveTo(x - size, y - size);
+  pen.lineTo(x + size, y + size);
+  pen.moveTo(x - size, y + size);
+  pen.lineTo(x + size, y - size);
+  pen.stroke();
+}
+
+function paintRequestEnd(frame, bars, at, y, height) {
+  const bar = bars[at];
+  if (bar.end < 0) return;
+  const x = frame.x(bar.end);
+  if (x < frame.left || x > frame.right) return;
+  frame.drawn.ends += 1;
+  const isBad = BAD_ENDS.has(bar.how);
+  if (isBad) cross(frame, x, y + height / 2, 3, frame.palette.bad);
+  else frame.box(frame.palette.muted, x - 1, x + 1, y, height);
+  const words = bar.how.startsWith('returned') ? (bar.how === 'returned ok' ? '' : bar.how) : bar.how;
+  if (words !== '' && roomBehind(frame, bars, at) > words.length * CHARACTER + 14 + labelWidth(bars[at + 1])) frame.text(words, x + 7, y + height, isBad ? frame.palette.bad : frame.palette.muted, true);
+}
+
+const label = (bar) => (bar.kind === 'request' ? String(bar.party) : `${bar.kind} ${bar.party}`);
+const labelWidth = (bar) => (bar === undefined ? 0 : label(bar).length * CHARACTER);
+
+/** The party stands before its bar where there is room, else on it. */
+function requestName(frame, bars, at, x1, y) {
+  const bar = bars[at];
+  const x0 = frame.x(bar.start);
+  const width = labelWidth(bar);
+  const freeFrom = at > 0 ? frame.endX(bars[at - 1].end) : frame.left;
+  if (x0 - width - 5 > Math.max(freeFrom + 3, frame.left)) frame.text(label(bar), x0 - width - 4, y, frame.palette.ink, true);
+  else if (x1 - Math.max(x0, frame.left) > width + 14) frame.textIn(label(bar), x0, x1, y, frame.palette.ink, true);
+}
+
+function paintRequest(frame, bar, x1, y, height) {
+  const { palette } = frame;
+  const asked = frame.x(bar.start);
+  const granted = bar.granted < 0 ? x1 : frame.x(bar.granted);
+  const ready = bar.ready < 0 ? x1 : frame.x(bar.ready);
+  if (granted > asked) frame.box(palette.waiting, asked, granted, y, height);
+  if (ready > granted) frame.box(palette.pendingHatch, granted, ready, y, height);
+  frame.box(palette.held, ready, x1, y + height / 2 - 1, 2);
+}
+
+export function paintRequests(frame, bars, y, rowHeight) {
+  const height = rowHeight - 2 * MARGIN;
+  let drawnTo = -Infinity;
+  for (let at = firstBar(bars, frame.firstEntry); at < bars.length; at += 1) {
+    const bar = bars[at];
+    const x0 = frame.x(bar.start);
+    const x1 = frame.endX(bar.end);
+    if (x0 > frame.right) break;
+    if (x1 < frame.left) continue;
+    frame.drawn.requests += 1;
+    if (x1 < drawnTo + 1 && !frame.isLit(bar)) continue;
+    paintRequest(frame, bar, x1, y + MARGIN, height);
+    paintRequestEnd(frame, bars, at, y + MARGIN, height);
+    requestName(frame, bars, at, x1, y + MARGIN + height + 1);
+    if (frame.isLit(bar)) rim(frame, x0, x1, y + MARGIN, height);
+    drawnTo = Math.max(x1, x0 + 1);
+  }
+}

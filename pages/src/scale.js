@@ -1,0 +1,96 @@
+// Where an entry stands along the picture: by its moment or by its number.
+
+const SPREAD = 0.9; // of a millisecond, over which the entries of one moment are spread in their order
+
+/** A place along the time for each entry: its moment, and within one moment the order of the log. */
+function timesOf(moments) {
+  const times = new Float64Array(moments.length);
+  let from = 0;
+  while (from < moments.length) {
+    let to = from + 1;
+    while (to < moments.length && moments[to] === moments[from]) to += 1;
+    for (let at = from; at < to; at += 1) times[at] = moments[from] + (SPREAD * (at - from)) / (to - from);
+    from = to;
+  }
+  for (let at = 1; at < times.length; at += 1) if (times[at] < times[at - 1]) times[at] = times[at - 1];
+  return times;
+}
+
+const GREAT_GAP = 0.6; // of the whole: then the time is a bad first picture
+
+export class Scale {
+  constructor(moments) {
+    this.count = moments.length;
+    this.times = timesOf(moments);
+    this.numbers = Float64Array.from({ length: this.count }, (_, at) => at);
+    this.setAxis(this.isUneven() ? 'entries' : 'time');
+  }
+
+  setAxis(axis) {
+    this.axis = axis;
+    this.places = axis === 'time' ? this.times : this.numbers;
+  }
+
+  isUneven() {
+    const { times, count } = this;
+    const whole = count > 0 ? times[count - 1] - times[0] : 0;
+    let gap = 0;
+    for (let at = 1; at < count; at += 1) gap = Math.max(gap, times[at] - times[at - 1]);
+    return whole < 2 || (count > 20 && gap > GREAT_GAP * whole);
+  }
+
+  at(entry) {
+    return this.places[entry];
+  }
+
+  /** The first and the last place. */
+  extent() {
+    if (this.count === 0) return [0, 1];
+    return this.axis === 'time' ? [this.times[0], this.times[this.count - 1] + 1] : [0, this.count];
+  }
+
+  /** The last entry at or before a place. */
+  entryAt(place) {
+    if (this.axis === 'entries') return Math.min(Math.max(Math.floor(place), 0), this.count - 1);
+    let low = 0;
+    let high = this.count;
+    while (low < high) {
+      const middle = (low + high) >> 1;
+      if (this.times[middle] <= place) low = middle + 1;
+      else high = middle;
+    }
+    return Math.max(0, low - 1);
+  }
+
+  nearest(place) {
+    const before = this.entryAt(place);
+    const after = Math.min(before + 1, this.count - 1);
+    return place - this.at(before) <= this.at(after) - place ? before : after;
+  }
+}
+
+const STEPS = [1, 2, 5];
+
+/** Round places between two others, at least so far apart. */
+export function ticks(from, to, least) {
+  const power = 10 ** Math.floor(Math.log10(least));
+  const step = [...STEPS.map((it) => it * power), 10 * power].find((it) => it >= least) ?? 10 * power;
+  const found = [];
+  for (let at = Math.ceil(from / step) * step; at <= to && found.length < 200; at += step) found.push(at);
+  return { step, places: found };
+}
+
+const UNITS = [[86400000, 'd'], [3600000, 'h'], [60000, 'min'], [1000, 's'], [1, 'ms']];
+
+export function durationText(milliseconds) {
+  const [size, unit] = UNITS.find((it) => Math.abs(milliseconds) >= it[0]) ?? UNITS[4];
+  const value = milliseconds / size;
+  return `${Number(value.toPrecision(Math.abs(value) >= 100 ? 4 : 3))} ${unit}`;
+}
+
+/** A round trip in nanoseconds. */
+export function nanosText(nanos) {
+  if (nanos < 1000) return nanos + ' ns';
+  if (nanos < 1000000) return Number((nanos / 1000).toPrecision(3)) + ' µs';
+  return durationText(nanos / 1000000);
+}
