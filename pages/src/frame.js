@@ -31,7 +31,7 @@ export class Frame {
   }
 
   x(entry) {
-    return this.place(this.scale.at(entry));
+    return this.left + (this.scale.places[entry] - this.from) * this.factor;
   }
 
   /** Where something ends that ended at this entry, or lives at the end of the log. */

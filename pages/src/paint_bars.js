@@ -4,14 +4,15 @@ import { firstBar } from './layout.js';
 import { CHARACTER } from './frame.js';
 
 const FINE = 3; // a stretch below so many pixels is put together with its neighbours
+const HATCHED = 4; // pixels from which on a hatch can be seen
 const MARGIN = 3;
 
 function paintPlace(frame, place, x0, x1, y, height) {
   const { palette } = frame;
   if (place === AVAILABLE) frame.box(palette.available, x0, x1, y + height / 2 - 2, 4);
-  else if (place === PENDING) frame.box(palette.pendingHatch, x0, x1, y, height);
+  else if (place === PENDING) frame.box(x1 - x0 < HATCHED ? palette.pending : palette.pendingHatch, x0, x1, y, height);
   else if (place === HELD) frame.box(palette.held, x0, x1, y, height);
-  else frame.box(palette.pinnedHatch, x0, x1, y, height);
+  else frame.box(x1 - x0 < HATCHED ? palette.pinned : palette.pinnedHatch, x0, x1, y, height);
 }
 
 /** Short stretches, of which the longest place is drawn for all; neighbours of one place are one box. */
@@ -70,9 +71,9 @@ function partyLabel(frame, bar, at, x0, x1, y) {
 function paintStretches(frame, bar, y, height) {
   const bucket = new Bucket(frame, y, height);
   const { entries, places } = bar;
-  for (let at = Math.max(0, bar.stretchAt(frame.firstEntry)); at < entries.length; at += 1) {
-    const x0 = frame.x(entries[at]);
-    if (x0 > frame.right) break;
+  let at = Math.max(0, bar.stretchAt(frame.firstEntry));
+  let x0 = frame.x(entries[at]);
+  for (; at < entries.length && x0 <= frame.right; at += 1) {
     const x1 = at + 1 < entries.length ? frame.x(entries[at + 1]) : frame.endX(bar.end);
     frame.drawn.stretches += 1;
     if (x1 - x0 < FINE) bucket.add(places[at], x0, x1);
@@ -80,6 +81,7 @@ function paintStretches(frame, bar, y, height) {
       bucket.flush();
       paintStretch(frame, bar, at, [x0, x1], y, height);
     }
+    x0 = x1;
   }
   bucket.flush();
 }
@@ -100,7 +102,7 @@ function paintEnd(frame, bars, at, y, height) {
   const bar = bars[at];
   if (bar.end < 0) return;
   const x = frame.x(bar.end);
-  if (x < frame.left || x > frame.right) return;
+  if (x < frame.left - 1 || x > frame.right + 1) return;
   const colour = bar.reason === 'Error' ? frame.palette.bad : bar.reason === 'Stale' ? frame.palette.warn : frame.palette.ink;
   frame.box(colour, x - 1, x + 2, y - 1, height + 2);
   frame.drawn.ends += 1;
@@ -196,21 +198,56 @@ function paintRequest(frame, bar, x1, y, height) {
   frame.box(palette.held, ready, x1, y + height / 2 - 1, 2);
 }
 
+/** Bars too small to show their parts: one box for neighbours that are alike. */
+class SmallRequests {
+  constructor(frame, y, height) {
+    Object.assign(this, { frame, y, height, fill: '', from: 0, to: 0 });
+  }
+
+  add(bar, x0, x1) {
+    const { palette } = this.frame;
+    const waited = (bar.granted < 0 ? x1 : this.frame.x(bar.granted)) - x0;
+    const fill = BAD_ENDS.has(bar.how) ? palette.bad : 2 * waited > x1 - x0 ? palette.waiting : palette.held;
+    if (fill !== this.fill || x0 - this.to > 2) {
+      this.paint();
+      Object.assign(this, { fill, from: x0 });
+    }
+    this.to = Math.max(x1, x0 + 1);
+  }
+
+  paint() {
+    const { frame, y, height } = this;
+    if (this.fill === frame.palette.held) frame.box(this.fill, this.from, this.to, y + height / 2 - 1, 2);
+    else if (this.fill !== '') frame.box(this.fill, this.from, this.to, y, height);
+    this.fill = '';
+  }
+}
+
 export function paintRequests(frame, bars, y, rowHeight) {
   const height = rowHeight - 2 * MARGIN;
-  let drawnTo = -Infinity;
+  const small = new SmallRequests(frame, y + MARGIN, height);
   for (let at = firstBar(bars, frame.firstEntry); at < bars.length; at += 1) {
     const bar = bars[at];
     const x0 = frame.x(bar.start);
-    const x1 = frame.endX(bar.end);
     if (x0 > frame.right) break;
+    const x1 = frame.endX(bar.end);
     if (x1 < frame.left) continue;
     frame.drawn.requests += 1;
-    if (x1 < drawnTo + 1 && !frame.isLit(bar)) continue;
-    paintRequest(frame, bar, x1, y + MARGIN, height);
-    paintRequestEnd(frame, bars, at, y + MARGIN, height);
-    requestName(frame, bars, at, x1, y + MARGIN + height + 1);
-    if (frame.isLit(bar)) rim(frame, x0, x1, y + MARGIN, height);
-    drawnTo = Math.max(x1, x0 + 1);
+    if (bar.end >= 0 && x1 - x0 < FINE && roomBehind(frame, bars, at) < 3 * FINE && !frame.isLit(bar)) {
+      small.add(bar, x0, x1);
+      frame.drawn.ends += 1;
+    } else {
+      small.paint();
+      paintWholeRequest(frame, bars, at, [x0, x1], y + MARGIN, height);
+    }
   }
+  small.paint();
+}
+
+function paintWholeRequest(frame, bars, at, [x0, x1], y, height) {
+  const bar = bars[at];
+  paintRequest(frame, bar, x1, y, height);
+  paintRequestEnd(frame, bars, at, y, height);
+  requestName(frame, bars, at, x1, y + height + 1);
+  if (frame.isLit(bar)) rim(frame, x0, x1, y, height);
 }

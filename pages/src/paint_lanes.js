@@ -84,32 +84,41 @@ function paintTypes(frame, server, y) {
     if (item.type === '') return;
     frame.drawn.types += 1;
     const [band, ink] = typeColours(frame.palette, item.type);
-    frame.box(band, x0, x1 - 1, y, 18);
+    frame.box(item.type === 'Unknown' && x1 - x0 < 6 ? frame.palette.unknown : band, x0, x1 - 1, y, 18);
     frame.textIn(item.type, x0 + 8, x1, y + 13, ink, item.type === 'Unknown');
   });
 }
 
-/** Round trips as dots, from the least below to the greatest above; a line for the text of the last one in view. */
+const TRIP = 3; // the width of a round trip's dot
+
+/** Round trips as dots, from nothing below to the greatest in view above; those of one place along are one line. */
 function paintTrips(frame, server, y, height) {
   const { trips } = server;
   const from = Math.max(0, lastBefore(trips, frame.firstEntry));
   let most = 1;
   let to = from;
   for (; to < trips.length && trips[to].entry <= frame.lastEntry; to += 1) most = Math.max(most, trips[to].nanos);
-  let column = -Infinity;
-  let level = -1;
+  const level = (nanos) => y + (height - TRIP) * (1 - nanos / most);
+  let column = null;
+  const paint = () => column !== null && frame.box(frame.palette.accent, column.x - 1, column.x + 2, level(column.high), level(column.low) - level(column.high) + TRIP);
   for (let at = from; at < to; at += 1) {
-    const x = frame.x(trips[at].entry);
+    const { entry, nanos } = trips[at];
+    const x = frame.x(entry);
     if (x < frame.left) continue;
     frame.drawn.trips += 1;
-    const now = Math.round((height - 4) * (1 - trips[at].nanos / most));
-    if (x - column < 1 && now === level) continue;
-    column = x;
-    level = now;
-    dot(frame, x, y + 2 + now, frame.palette.accent);
+    if (column !== null && x - column.x < TRIP) {
+      column.low = Math.min(column.low, nanos);
+      column.high = Math.max(column.high, nanos);
+    } else {
+      paint();
+      column = { x, low: nanos, high: nanos };
+    }
   }
+  paint();
   if (to > from) frame.tripsMost = nanosText(most);
 }
+
+const CROWDED = 9; // pixels between two marks; closer ones are plain lines
 
 /** Marks of one kind that fall on one pixel are drawn once, and all are counted. */
 function paintServerMarks(frame, server, y) {
@@ -117,15 +126,23 @@ function paintServerMarks(frame, server, y) {
   inView(frame, server.marks, (item, x0, x1) => {
     if (x0 < frame.left - 6) return;
     frame.mark(item.kind);
-    if (x0 - (drawnTo[item.kind] ?? -Infinity) < 3) return;
+    const away = x0 - (drawnTo[item.kind] ?? -Infinity);
+    if (away < 3) return;
     drawnTo[item.kind] = x0;
-    if (item.kind === 'clear') {
-      frame.box(frame.palette.bad, x0 - 1, x0 + 1, y, 46);
-      triangle(frame, x0, y + 5, 5, frame.palette.bad, false);
-      if (x1 - x0 > 70) frame.textIn(item.text, x0 + 4, x1, y + 34, frame.palette.bad, true);
-    } else if (item.kind === 'failed check') triangle(frame, x0, y + 25, 4, frame.palette.warn, true);
-    else dot(frame, x0, y + 40, frame.palette.ink);
+    paintServerMark(frame, item, x0, y, away < CROWDED);
+    if (item.kind === 'clear' && x1 - x0 > 70) frame.textIn(item.text, x0 + 4, x1, y + 34, frame.palette.bad, true);
   });
+}
+
+function paintServerMark(frame, item, x, y, isCrowded) {
+  const { palette } = frame;
+  if (item.kind === 'clear') {
+    frame.box(palette.bad, x - 1, x + 1, y, 46);
+    if (!isCrowded) triangle(frame, x, y + 5, 5, palette.bad, false);
+  } else if (item.kind === 'failed check') {
+    if (isCrowded) frame.box(palette.warn, x - 1, x + 1, y + 21, 8);
+    else triangle(frame, x, y + 25, 4, palette.warn, true);
+  } else dot(frame, x, y + 40, palette.ink);
 }
 
 export function paintServer(frame, lane, y) {
@@ -136,6 +153,7 @@ export function paintServer(frame, lane, y) {
   paintServerMarks(frame, lane.server, y + 3);
 }
 
+const SPARSE = 300; // columns; of more, a hatch cannot be seen
 const LAYERS = [['held', 2], ['pinned', 3], ['pending', 0], ['available', 1]]; // from the bottom; each with its place in the counts
 
 /** The sizes in view by pixel columns: within one, the entry with the most live connections and the most waiting. */
@@ -189,7 +207,7 @@ function paintStack(frame, pool, columns, right, y, height, most) {
   for (const column of columns) column.under = 0;
   for (const [name, place] of LAYERS) {
     const amount = (column) => pool.sizes[column.offset + 1 + place];
-    const fill = name === 'pending' ? frame.palette.pendingHatch : frame.palette[name];
+    const fill = name === 'pending' && columns.length < SPARSE ? frame.palette.pendingHatch : frame.palette[name];
     frame.pen.globalAlpha = name === 'available' ? 0.55 : 1;
     fillSteps(frame, columns, right, fill, (column) => level(column.under), (column) => level(column.under + amount(column)));
     frame.pen.globalAlpha = 1;
@@ -255,11 +273,13 @@ function sign(frame, words, x, y) {
 
 /** Errors that operations met on their connections: full where they counted, hollow where they changed nothing. */
 export function paintErrors(frame, lane, y) {
+  const drawnTo = new Map(); // by row
   inView(frame, lane.pool.errors, (item, x0) => {
     if (x0 < frame.left - 6) return;
     frame.mark(item.isVoid ? 'void error' : 'error');
     const at = y + item.connection.row * lane.rowHeight + lane.rowHeight / 2;
-    if (at < -10 || at > frame.height + 10) return;
+    if (at < -10 || at > frame.height + 10 || x0 - (drawnTo.get(item.connection.row) ?? -Infinity) < 3) return;
+    drawnTo.set(item.connection.row, x0);
     diamond(frame, x0, at, 5.5, frame.palette.bad, item.isVoid);
     if (frame.isLit(item.connection)) sign(frame, (item.isLate ? 'late error' : 'error') + (item.isVoid ? ', no effect' : ''), x0, at);
   });

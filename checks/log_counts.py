@@ -1,0 +1,141 @@
+"""What is to be counted in a printed log, read off its text anew: nothing is taken from the page that draws it.
+
+The places of connections are those of the plain definitions of checks/audit/plain.py.
+"""
+import os
+import re
+import sys
+from collections import Counter
+
+sys.path.insert(0, os.path.join(os.path.dirname(os.path.abspath(__file__)), 'audit'))
+from plain import History, act, fact
+
+READY = re.compile(r'Pool \d+ PoolReady ')
+
+
+def entries(text):
+    """The entries as step, reply and facts."""
+    return [(line.split(' | ')[0], line.split(' | ')[1], line.split(' | ')[2:]) for line in text.split('\n')[:-1]]
+
+
+class Counts:
+    """Counts of one log, entry by entry."""
+
+    def __init__(self, text):
+        self.n, self.closed, self.ended, self.asked, self.jumps = Counter(), Counter(), Counter(), Counter(), Counter()
+        self.marks, self.open, self.addresses, self.waiting, self.over, self.live = Counter(), {}, set(), set(), set(), Counter()
+        self.balanced = False
+        for step, reply, facts in entries(text):
+            self.n['lines'] += 1
+            if reply.startswith('Refused'):
+                self.jumps['refusal'] += 1
+            else:
+                self.step(step.split(' '), reply)
+                for said in facts:
+                    self.fact(said.split(' '))
+
+    def step(self, words, reply):
+        kind = words[0]
+        if kind == 'open':
+            self.balanced = 'lb' in words
+        elif kind in ('request', 'warm', 'take'):
+            self.asked[kind] += 1
+            if kind == 'request':
+                self.waiting.add(words[2])
+        elif kind == 'return':
+            self.n['returned'] += words[2] not in self.over
+        elif kind == 'error':
+            self.jumps['void error' if reply == 'Changed false' else 'error'] += 1
+        elif kind in ('hello', 'beaten', 'rtt') and self.open.get(words[2]) == words[3]:
+            is_good = kind == 'rtt' or words[4 if kind == 'hello' else 5] == 'ok'
+            self.n['trips' if is_good else 'failed checks'] += 1
+            if not is_good:
+                self.jumps['failed check'] += 1
+
+    def fact(self, words):
+        name = words[2] if words[0] == 'Pool' else words[1] if words[0] == 'Sdam' else words[0]
+        self.n[name] += 1
+        if name == 'Opened':
+            self.open[words[2]] = words[1]
+            self.addresses.add(words[2])
+            self.live[int(words[1])] += 0
+        elif name == 'PoolClosed' and self.open.get(words[3]) == words[1]:
+            del self.open[words[3]]
+        elif name == 'ConnectionCreated':
+            self.live[int(words[1])] += 1
+        elif name == 'ConnectionClosed':
+            self.closed[words[5]] += 1
+            self.live[int(words[1])] -= 1
+        elif name == 'Ended':
+            self.ended[words[2]] += 1
+        elif name == 'Raised':
+            self.jumps['clear'] += 1
+        if name == 'Ended':
+            self.over.add(words[1])
+        if name in ('Granted', 'Ended'):
+            self.waiting.discard(words[1])
+
+    def as_page(self):
+        """The counts under the names that the page gives them."""
+        n = self.n
+        return {
+            'lines': n['lines'], 'read': n['lines'], 'unread': 0, 'servers': len(self.addresses), 'pools': n['Opened'], 'created': n['ConnectionCreated'],
+            'closed': dict(self.closed), 'grants': n['Granted'], 'ended': dict(self.ended), 'connections': n['ConnectionCreated'],
+            'requests': dict(self.asked), 'waiting': len(self.waiting), 'jumps': dict(self.jumps), 'clears': n['Raised'],
+            'types': n['ServerOpening'] + n['ServerDescriptionChanged'], 'trips': n['trips'],
+            'ready': n['PoolReady'] + (n['Opened'] if self.balanced else 0), 'live': [self.live[p] for p in sorted(self.live)],
+        }
+
+    def as_drawn(self):
+        """What a picture of the whole log has."""
+        page = self.as_page()
+        marks = Counter(self.jumps)
+        marks.update({'check now': self.n['CheckNow'], 'cancel': self.n['Cancel']})
+        return {
+            'servers': page['servers'], 'types': page['types'] + self.n['TopologyDescriptionChanged'], 'trips': page['trips'], 'pools': page['pools'],
+            'connections': page['connections'], 'requests': sum(page['requests'].values()), 'grants': page['grants'],
+            'ends': sum(page['closed'].values()) + self.finished, 'marks': {kind: many for kind, many in marks.items() if many},
+        }
+
+    @property
+    def finished(self):
+        """Bars of requests that end: by an end, or by a return without one."""
+        return self.n['Ended'] + self.n['returned']
+
+
+def place(h, pool, number):
+    """Where a connection is after a history, in words, or nothing."""
+    xs = h.of_pool(pool)
+    if xs.closings(number) or not xs.creations(number):
+        return None
+    if xs.is_pending(number):
+        return 'pending'
+    if number in xs.available:
+        return 'available'
+    if h.is_pinned(pool, number):
+        return 'at its pin'
+    return 'with a party %d' % next(r for r in xs.parties(number) if h.holds(pool, r, number))
+
+
+def places(text):
+    """After each entry: the place of each live connection, by the plain definitions."""
+    h, found, known = History(), [], []
+    for step, reply, facts in entries(text):
+        if not reply.startswith('Refused'):
+            h = History(('did', act(step)), h)
+            for said in facts:
+                h = History(('made', fact(said)), h)
+                if fact(said)[0] == 'ConnectionCreated':
+                    known.append(fact(said)[1:])
+        now = {'%d.%d' % it: place(h, *it) for it in known}
+        found.append({name: where for name, where in now.items() if where})
+    return found
+
+
+def stretches(text):
+    """How often a connection's place changes, its first one with them."""
+    found, before = 0, {}
+    for now in places(text):
+        found += sum(1 for name, where in now.items() if before.get(name) != where)
+        before = now
+    return found
