@@ -136,7 +136,8 @@ class Browser:
         self.settle()
 
     def key(self, name, modifiers=0):
-        said = {'key': name, 'windowsVirtualKeyCode': CODES.get(name, ord(name[0].upper())), 'modifiers': modifiers}
+        code = CODES[name] if name in CODES else ord(name.upper()) if name.isalnum() else 0
+        said = {'key': name, 'windowsVirtualKeyCode': code, 'modifiers': modifiers}
         text = '\r' if name == 'Enter' else name if len(name) == 1 else ''
         self.call('Input.dispatchKeyEvent', type='keyDown' if text else 'rawKeyDown', **said, **({'text': text} if text else {}))
         self.call('Input.dispatchKeyEvent', type='keyUp', **said)

@@ -83,6 +83,7 @@ export class History {
   close(connection, entry, reason) {
     if (connection.end >= 0) return;
     if (connection.entries.length > 0) connection.pool.counts[connection.place] -= 1;
+    connection.leave(entry);
     connection.end = entry;
     connection.reason = reason;
     connection.pool.connectionRows.release(connection.row, entry);

@@ -7,7 +7,9 @@ import { CHARACTER } from './frame.js';
 
 /** Runs over the items of a list in view, with the place where each begins and where the next one does. */
 function inView(frame, items, visit) {
-  for (let at = Math.max(0, lastBefore(items, frame.firstEntry)); at < items.length; at += 1) {
+  let from = Math.max(0, lastBefore(items, frame.firstEntry));
+  while (from > 0 && items[from - 1].entry === items[from].entry) from -= 1;
+  for (let at = from; at < items.length; at += 1) {
     const x0 = frame.x(items[at].entry);
     if (x0 > frame.right) break;
     visit(items[at], x0, at + 1 < items.length ? frame.x(items[at + 1].entry) : frame.place(frame.stop));

@@ -19,6 +19,7 @@ export function thingName(thing) {
 function connectionState(connection, entry) {
   if (connection.end >= 0 && entry >= connection.end) return 'closed: ' + connection.reason;
   const at = Math.max(0, connection.stretchAt(entry));
+  if (connection.places.length === 0) return 'its place is not known';
   const party = connection.parties[at];
   return PLACES[connection.places[at]] + (party >= 0 ? ` ${party}` : '');
 }

@@ -73,7 +73,7 @@ function barAt(picture, bars, place) {
 function entryOf(picture, bar, place) {
   const entry = picture.scale.entryAt(place);
   if (bar.end >= 0 && picture.scale.at(bar.end) - place < REACH / picture.factor / 2) return bar.end;
-  if (bar.entries !== undefined) return bar.entries[Math.max(0, bar.stretchAt(entry))];
+  if (bar.entries !== undefined) return bar.entries[Math.max(0, bar.stretchAt(entry))] ?? bar.start;
   return [bar.ready, bar.granted, bar.start].find((it) => it >= 0 && it <= entry) ?? bar.start;
 }
 

@@ -109,6 +109,13 @@ export class Connection {
     }
   }
 
+  /** At its close it has no place any more: one that it got in the same entry was none. */
+  leave(entry) {
+    const last = this.entries.length - 1;
+    if (last < 1 || this.entries[last] !== entry) return;
+    for (const list of [this.entries, this.places, this.parties]) list.pop();
+  }
+
   /** The stretch that this entry falls in, or -1 before its creation. */
   stretchAt(entry) {
     let low = 0;

@@ -1,0 +1,98 @@
+"""Logs in the page: each is read without a complaint, counted, and drawn whole."""
+import os
+import subprocess
+
+from faults import scripts
+from log_counts import Counts, places, stretches
+from mutants import changed
+from plain import verdict
+
+ROOT = os.path.dirname(os.path.dirname(os.path.abspath(__file__)))
+LONG = 400  # entries of a log for which the plain definitions are asked after each
+TALL = 12000  # pixels; a picture that is higher is compared in its counts alone
+
+
+def stored(*path):
+    with open(os.path.join(ROOT, *path), encoding='ascii', newline='\n') as file:
+        return file.read()
+
+
+def worked():
+    """The worked logs by name."""
+    found = {'mdb_script': stored('crates', 'mdb_script', 'stdout'), 'mdb_auditor': stored('crates', 'mdb_auditor', 'stdin'), 'empty': '',
+             'failover': stored('pages', 'examples', 'failover.log')}
+    for number, (remark, _, log) in enumerate(scripts()):
+        found['%d: %s' % (number, remark[:60])] = ''.join(line + '\n' for line in log)
+    return found
+
+
+def folder(path):
+    for name in sorted(os.listdir(path)) if path else []:
+        with open(os.path.join(path, name), encoding='ascii', newline='\n') as file:
+            yield name, file.read()
+
+
+def judge(auditor, text):
+    """What the built auditor says of a log, or else what the plain definitions say."""
+    if auditor is None:
+        return verdict(text)
+    return subprocess.run([auditor], input=text.encode(), stdout=subprocess.PIPE, timeout=120).stdout.decode().strip()
+
+
+def compare_counts(checks, name, text):
+    counts, page = Counts(text), checks.timeline('counts()')
+    wanted = counts.as_page()
+    checks.equal('counts of ' + name, {key: page[key] for key in wanted}, wanted, 'logs counted')
+    return counts, page
+
+
+def compare_places(checks, name, text, page):
+    checks.equal('changes of place in ' + name, page['stretches'], stretches(text), 'logs with their changes of place')
+    for entry, wanted in enumerate(places(text)):
+        checks.equal('places after entry %d of %s' % (entry + 1, name), checks.timeline('places(%d)' % entry), wanted, 'sets of places')
+
+
+def compare_picture(checks, name, counts, page):
+    """In a window as high as all lanes, the picture has everything."""
+    height = checks.ask('document.getElementById("space").offsetHeight')
+    if height > TALL:
+        return
+    checks.browser.size(1400, height + 300)
+    checks.browser.settle()
+    wanted = {**counts.as_drawn(), 'stretches': page['stretches']}
+    drawn = checks.timeline('drawn()')
+    checks.equal('picture of ' + name, {key: drawn[key] for key in wanted}, wanted, 'whole pictures')
+    checks.browser.size(1400, 900)
+
+
+def draw(checks, name, text):
+    """A legal log: no complaint, the right counts, the right places, the whole picture."""
+    checks.open(name, text)
+    if not checks.equal('complaints of ' + name, checks.timeline('unread()'), [], 'legal logs without a complaint'):
+        return
+    counts, page = compare_counts(checks, name, text)
+    if page['lines'] <= LONG:
+        compare_places(checks, name, text, page)
+    compare_picture(checks, name, counts, page)
+
+
+def mutate(checks, chance, logs, said):
+    """Logs with one change: those that are still legal are drawn without a complaint too."""
+    for number in range(said.mutants):
+        kind, text = changed(chance, chance.choice(logs))
+        checks.open('mutant', text)
+        if judge(said.auditor, text).startswith('legal'):
+            checks.equal('complaints of mutant %d (%s)' % (number, kind), checks.timeline('unread()'), [], 'legal mutants without a complaint')
+        else:
+            checks.true('mutant %d (%s) is drawn' % (number, kind), checks.timeline('counts()')['lines'] == text.count('\n'))
+
+
+def run(checks, chance, said):
+    logs = worked()
+    for name, text in logs.items():
+        checks.equal('verdict on ' + name, judge(said.auditor, text).split(' ')[0], 'legal', 'verdicts')
+        draw(checks, name, text)
+    for name, text in folder(said.logs):
+        if judge(said.auditor, text).startswith('legal'):
+            draw(checks, name, text)
+    mutate(checks, chance, [text for text in logs.values() if text], said)
