@@ -119,11 +119,38 @@ def jumps(checks):
     checks.ask("document.querySelector('#kinds input[value=\"error\"]').click()")
 
 
+def folding(checks):
+    """A click on a pool's name hides its bars, and another one shows them."""
+    many = lambda: (checks.browser.settle(), checks.timeline('drawn()')['requests'])[1]
+    checks.ask('document.getElementById("fit").click(); document.getElementById("scroll").scrollTop = 0')
+    before, point = many(), checks.point('pool', 0, 0)
+    checks.browser.click(20, point['y'])
+    folded = many()
+    checks.browser.click(20, point['y'])
+    checks.true('a click on the name of a pool folds it', folded < before == many(), (before, folded))
+
+
+def moments(checks):
+    """Moments above 2^53 are told as they are, and a refused step far ahead moves nothing."""
+    opening = lines()[0]
+    far = ['hello 9223372036854775807 db1:27017 0 err other msg=x | Changed false', 'claim 18446744073709551615 | Refused NotHolder', 'claim 9223372036854775809 | NoJob']
+    checks.open('far', '\n'.join([opening, *far]) + '\n')
+    checks.browser.key('Home')
+    checks.ask('document.getElementById("scroll").focus()')
+    checks.browser.key('Home')
+    checks.browser.key('.')
+    checks.true('a great moment', '9223372036854775807 ms' in checks.ask('document.getElementById("selected").textContent'), checks.ask('document.getElementById("selected").textContent'))
+    near = [opening, 'claim 5 | NoJob', 'claim 1000000 | Refused NotHolder', 'claim 7 | NoJob']
+    checks.open('near', '\n'.join(near) + '\n')
+    checks.true('a refused step does not stretch the axis', checks.timeline('view()')['whole'][1] < 10, checks.timeline('view()'))
+
+
 def run(checks, is_quick):
     checks.browser.size(1400, 900)
     checks.open('failover.log', stored(*FAILOVER))
-    for part in (clicks, wheel, touch, search, jumps):
+    for part in (clicks, wheel, touch, search, jumps, folding):
         part(checks)
     page_keys.run(checks, lines())
+    moments(checks)
     page_ways.run(checks)
     page_looks.run(checks, is_quick)

@@ -9,6 +9,7 @@ from plain import verdict
 
 ROOT = os.path.dirname(os.path.dirname(os.path.abspath(__file__)))
 LONG = 400  # entries of a log for which the plain definitions are asked after each
+FINE = ('ends', 'stretches')
 TALL = 12000  # pixels; a picture that is higher is compared in its counts alone
 
 
@@ -53,15 +54,19 @@ def compare_places(checks, name, text, page):
 
 
 def compare_picture(checks, name, counts, page):
-    """In a window as high as all lanes, the picture has everything."""
+    """In a window as high as all lanes, the picture has everything; in time parts of a bar may fall on one pixel."""
     height = checks.ask('document.getElementById("space").offsetHeight')
     if height > TALL:
         return
     checks.browser.size(1400, height + 300)
     checks.browser.settle()
     wanted = {**counts.as_drawn(), 'stretches': page['stretches']}
-    drawn = checks.timeline('drawn()')
-    checks.equal('picture of ' + name, {key: drawn[key] for key in wanted}, wanted, 'whole pictures')
+    for axis in ('time', 'entries'):
+        checks.ask('document.getElementById("axis%s").click()' % axis)
+        checks.browser.settle()
+        drawn = checks.timeline('drawn()')
+        keys = [key for key in wanted if axis == 'entries' or key not in FINE]
+        checks.equal('picture of %s along %s' % (name, axis), {key: drawn[key] for key in keys}, {key: wanted[key] for key in keys}, 'whole pictures')
     checks.browser.size(1400, 900)
 
 

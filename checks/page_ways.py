@@ -1,11 +1,11 @@
 """How a log comes in, and what is said of lines that cannot be read."""
-import base64
-import gzip
 import os
+import subprocess
+import sys
 import tempfile
 import urllib.parse
 
-from page_logs import stored
+from page_logs import ROOT, stored
 from page_keys import SMALL
 
 
@@ -23,9 +23,10 @@ def fragments(checks):
     checks.browser.goto(checks.address + '#name=worked&axis=entries&entry=3&log=' + urllib.parse.quote(log))
     opened(checks, 'a log in the fragment', 5)
     checks.equal('the entry and the axis of the fragment', (checks.timeline('selected()')['entry'], checks.timeline('view()')['axis']), (2, 'entries'))
-    packed = base64.urlsafe_b64encode(gzip.compress(SMALL.encode())).decode().rstrip('=')
-    checks.browser.goto(checks.address + '#gzip=' + packed)
+    link = subprocess.run([sys.executable, os.path.join(ROOT, 'pages', 'link.py'), '--entry', '4', '--axis', 'entries'], input=SMALL.encode(), stdout=subprocess.PIPE, check=True)
+    checks.browser.goto(link.stdout.decode().strip())
     opened(checks, 'a packed log in the fragment', SMALL.count('\n'))
+    checks.equal('the entry of the packed log', checks.timeline('selected()')['entry'], 3)
     checks.browser.goto(checks.address + '#log=%')
     checks.browser.wait('document.getElementById("summary").textContent.includes("no log that can be read")')
     checks.browser.goto(checks.address)

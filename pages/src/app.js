@@ -85,7 +85,8 @@ class App {
     const { log, history } = this.picture;
     const { created, grants } = history.tallies;
     const plural = (count, one, more) => `${count} ${count === 1 ? one : more}`;
-    this.tell([log.name, plural(log.count, 'entry', 'entries'), plural(history.servers.size, 'server', 'servers'), plural(created, 'connection', 'connections'),
+    const entries = plural(history.tallies.entries, 'entry', 'entries') + (log.unread.length > 0 ? ` in ${plural(log.count, 'line', 'lines')}` : '');
+    this.tell([log.name, entries, plural(history.servers.size, 'server', 'servers'), plural(created, 'connection', 'connections'),
       plural(grants, 'grant', 'grants')].join(' · '));
   }
 
@@ -111,6 +112,7 @@ class App {
     const name = THEMES[this.theme];
     document.documentElement.dataset.theme = name;
     page.themes.textContent = '◐ ' + name;
+    page.themes.setAttribute('aria-label', 'Theme: ' + name);
     if (this.picture.log) this.picture.resize();
   }
 

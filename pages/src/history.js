@@ -6,6 +6,7 @@ export class History {
   constructor(count) {
     this.moments = new Float64Array(count); // of each line; of one that tells none, that of the line before
     this.isRead = new Uint8Array(count);
+    this.isDone = new Uint8Array(count); // of each entry whether its step was done, at its moment: not the opening, none that was refused
     this.pools = new Map();
     this.servers = new Map();
     this.open = new Map(); // the open pool of each address
@@ -27,6 +28,7 @@ export class History {
       this.jump(entry, 'refusal', `${step.kind}: ${reply.value}`);
       return;
     }
+    this.isDone[entry] = step.kind === 'open' ? 0 : 1;
     this.step = step;
     this.reply = reply;
     if (Object.hasOwn(ACTS, step.kind)) ACTS[step.kind](this, step, entry);
@@ -138,11 +140,17 @@ export class History {
     this.touched.length = 0;
   }
 
-  /** After the last line: lines without a moment get the one before, and the opening the one behind it. */
+  /** After the last line: one without a moment of its own, or whose step was refused, stands between those that were done before and behind. */
   end() {
-    const { moments, isRead } = this;
-    for (let at = 1; at < moments.length; at += 1) if (isRead[at] === 0) moments[at] = moments[at - 1];
-    if (moments.length > 1 && this.topology.length > 0) moments[0] = moments[1];
+    const { moments, isRead, isDone } = this;
+    const next = new Float64Array(moments.length + 1).fill(-1); // the moment of the next step that was done
+    for (let at = moments.length - 1; at >= 0; at -= 1) next[at] = isDone[at] === 1 ? moments[at] : next[at + 1];
+    let last = Math.max(next[0], 0);
+    for (let at = 0; at < moments.length; at += 1) {
+      const own = isRead[at] === 1 ? moments[at] : last;
+      if (isDone[at] === 0) moments[at] = Math.max(last, Math.min(own, next[at]));
+      last = moments[at];
+    }
   }
 }
 

@@ -42,7 +42,7 @@ export class Input {
     this.picture.zoom(Math.exp(-delta * WHEEL * wheelPixels(event, 400)), this.place(event).x);
   }
 
-  /** Alone a wheel scrolls down; with Ctrl, Command or Alt it zooms; with Shift, or sideways, it pans. */
+  /** Alone a wheel scrolls down, or zooms where all lanes are in view; with Ctrl, Command or Alt it zooms; with Shift, or sideways, it pans. */
   wheel(event) {
     if (!this.picture.log) return;
     const unit = wheelPixels(event, this.picture.height);
@@ -50,7 +50,7 @@ export class Input {
     else if (event.shiftKey || Math.abs(event.deltaX) > Math.abs(event.deltaY)) {
       event.preventDefault();
       this.picture.pan((event.deltaX || event.deltaY) * unit);
-    }
+    } else if (this.page.scroll.scrollHeight <= this.page.scroll.clientHeight + 1) this.zoomBy(event, event.deltaY);
   }
 
   down(event) {

@@ -4,6 +4,7 @@ import { firstBar } from './layout.js';
 import { CHARACTER } from './frame.js';
 
 const FINE = 3; // a stretch below so many pixels is put together with its neighbours
+const SMALL = 12; // pixels; a bar below that ends in a thin line
 const HATCHED = 4; // pixels from which on a hatch can be seen
 const MARGIN = 3;
 
@@ -62,9 +63,8 @@ class Bucket {
 /** The party in the middle of what is seen of its stretch, but not where the connection's name stands. */
 function partyLabel(frame, bar, at, x0, x1, y) {
   const words = String(bar.parties[at]);
-  const isNamed = at < 2 || x0 < frame.left;
   const [from, to] = frame.inside(x0, x1);
-  const start = isNamed ? from + bar.name.length * CHARACTER + 6 : from;
+  const start = Math.max(from, frame.namedTo);
   if (bar.parties[at] >= 0 && to - start >= words.length * CHARACTER) frame.text(words, (start + to - words.length * CHARACTER) / 2, y, frame.palette.onheld);
 }
 
@@ -104,7 +104,8 @@ function paintEnd(frame, bars, at, y, height) {
   const x = frame.x(bar.end);
   if (x < frame.left - 1 || x > frame.right + 1) return;
   const colour = bar.reason === 'Error' ? frame.palette.bad : bar.reason === 'Stale' ? frame.palette.warn : frame.palette.ink;
-  frame.box(colour, x - 1, x + 2, y - 1, height + 2);
+  const isSmall = x - frame.x(bar.start) < SMALL;
+  frame.box(colour, isSmall ? x : x - 1, isSmall ? x + 1 : x + 2, y - 1, height + 2);
   frame.drawn.ends += 1;
   if (roomBehind(frame, bars, at) > bar.reason.length * CHARACTER + 10) frame.text(bar.reason, x + 5, y + height - 3, colour, true);
 }
@@ -117,16 +118,22 @@ function rim(frame, x0, x1, y, height) {
   frame.pen.strokeRect(from, y - 1, to - from, height + 2);
 }
 
-/** Its name stands behind the stretch in which it was pending, which is to be seen. */
-function connectionName(frame, bar, x0, x1, y) {
-  const name = bar.name;
-  const width = name.length * CHARACTER;
+/** Where its name stands: behind the stretch in which it was pending, which is to be seen; nothing where there is no room. */
+function nameSpan(frame, bar, x0, x1) {
+  const width = bar.name.length * CHARACTER;
   const settled = bar.places[0] === PENDING && bar.entries.length > 1 ? frame.x(bar.entries[1]) : x0;
   const [from, to] = frame.inside(settled, x1);
-  if (to - from < width + 2) return;
+  return to - from < width + 2 ? null : { from, width };
+}
+
+function paintConnection(frame, bar, [x0, x1], y, height) {
+  const span = nameSpan(frame, bar, x0, x1);
+  frame.namedTo = span === null ? -Infinity : span.from + span.width + 4;
+  paintStretches(frame, bar, y, height);
+  if (span === null) return;
   frame.pen.fillStyle = frame.palette.page;
-  frame.pen.fillRect(from - 2, y - 9, width + 4, 11);
-  frame.text(name, from, y, frame.palette.ink);
+  frame.pen.fillRect(span.from - 2, y + height - 12, span.width + 4, 11);
+  frame.text(bar.name, span.from, y + height - 3, frame.palette.ink);
 }
 
 export function paintConnections(frame, bars, y, rowHeight) {
@@ -140,9 +147,8 @@ export function paintConnections(frame, bars, y, rowHeight) {
     if (x1 < frame.left) continue;
     frame.drawn.connections += 1;
     if (x1 < drawnTo && !frame.isLit(bar)) continue;
-    paintStretches(frame, bar, y + MARGIN, height);
+    paintConnection(frame, bar, [x0, x1], y + MARGIN, height);
     paintEnd(frame, bars, at, y + MARGIN, height);
-    connectionName(frame, bar, x0, x1, y + MARGIN + height - 3);
     if (frame.isLit(bar)) rim(frame, x0, x1, y + MARGIN, height);
     drawnTo = Math.max(x1, x0 + 1);
   }

@@ -4,10 +4,15 @@ import { durationText } from './scale.js';
 
 export const entryName = (entry) => 'entry ' + (entry + 1);
 
-export function momentText(picture, entry) {
-  const moment = picture.history.moments[entry];
-  return `${moment} ms`;
+const DIGITS = /^\d+$/;
+
+/** The moment that an entry's line tells, exact also above 2^53; of the opening that of the next entry. */
+function momentOf(picture, entry) {
+  const told = picture.log.line(entry).split(' ', 2)[1] ?? '';
+  return DIGITS.test(told) ? BigInt(told) : BigInt(Math.round(picture.history.moments[entry]));
 }
+
+export const momentText = (picture, entry) => `${momentOf(picture, entry)} ms`;
 
 export function thingName(thing) {
   if (thing.places !== undefined) return 'Connection ' + thing.name;
@@ -44,7 +49,7 @@ export function stateText(picture, thing, entry) {
 }
 
 function took(picture, from, to) {
-  return from < 0 || to < 0 ? '' : durationText(picture.history.moments[to] - picture.history.moments[from]);
+  return from < 0 || to < 0 ? '' : durationText(Number(momentOf(picture, to) - momentOf(picture, from)));
 }
 
 /** The life of a thing: each step of it with its entry. */
