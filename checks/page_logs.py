@@ -1,5 +1,6 @@
 """Logs in the page: each is read without a complaint, counted, and drawn whole."""
 import os
+import re
 import subprocess
 
 from faults import scripts
@@ -14,7 +15,7 @@ TALL = 12000  # pixels; a picture that is higher is compared in its counts alone
 
 
 def stored(*path):
-    with open(os.path.join(ROOT, *path), encoding='ascii', newline='\n') as file:
+    with open(os.path.join(ROOT, *path), encoding='utf-8', newline='\n') as file:
         return file.read()
 
 
@@ -29,7 +30,7 @@ def worked():
 
 def folder(path):
     for name in sorted(os.listdir(path)) if path else []:
-        with open(os.path.join(path, name), encoding='ascii', newline='\n') as file:
+        with open(os.path.join(path, name), encoding='utf-8', newline='\n') as file:
             yield name, file.read()
 
 
@@ -81,6 +82,41 @@ def draw(checks, name, text):
     compare_picture(checks, name, counts, page)
 
 
+OPENING = 'open seeds=a:1'
+SPELLED = re.compile(r'(line|event|fact|entry) (?:(\d+) )?(.*?) => (.*)')
+
+
+def spellings():
+    """Lines of a log that the cases of mdb_checks spell or refuse: whether it is the first one, the line, and whether it is read."""
+    for case in stored('crates', 'mdb_checks', 'stdin').split('\n'):
+        found = SPELLED.fullmatch(case)
+        if found is None or '\\' in found[3]:
+            continue
+        kind, number, given, wanted = found.groups()
+        if kind == 'line':
+            yield number == '1', given + ' | Done', wanted == 'read'
+        elif kind == 'entry':
+            yield False, wanted[1:-3], True
+        elif kind == 'fact':
+            yield False, 'claim 5 | Done | ' + wanted, True
+        else:
+            yield False, 'claim 5 | Done | %s %s' % ('Pool 0' if wanted.startswith(('Pool', 'Connection')) else 'Sdam', wanted), True
+
+
+def spell(checks):
+    """The page reads what the cases read, and tells what they refuse."""
+    cases = list(spellings())
+    later = [(line, is_read) for is_first, line, is_read in cases if not is_first]
+    checks.open('spellings', ''.join(line + '\n' for line in [OPENING + ' | Done'] + [line for line, _ in later]))
+    told = {it['line'] - 1 for it in checks.timeline('unread()')}
+    for number, (line, is_read) in enumerate(later):
+        checks.equal('whether it reads %r' % line, number not in told, is_read, 'spellings')
+    for is_first, line, is_read in cases:
+        if is_first:
+            checks.open('opening', line + '\n')
+            checks.equal('whether it opens by %r' % line, checks.timeline('unread()') == [], is_read, 'spellings')
+
+
 def mutate(checks, chance, logs, said):
     """Logs with one change: those that are still legal are drawn without a complaint too."""
     for number in range(said.mutants):
@@ -100,4 +136,5 @@ def run(checks, chance, said):
     for name, text in folder(said.logs):
         if judge(said.auditor, text).startswith('legal'):
             draw(checks, name, text)
+    spell(checks)
     mutate(checks, chance, [text for text in logs.values() if text], said)

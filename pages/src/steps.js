@@ -85,10 +85,25 @@ const TAILS = {
   },
 };
 
+const MOST_SIZE = 65535;
+
+/** The first rule that options break, or nothing. */
+function brokenRule(seeds, o) {
+  const isSize = (size, least) => size === undefined || (size >= least && size <= MOST_SIZE);
+  if ((o.direct || o.lb) && seeds.length !== 1) return 'more than one seed with direct or lb';
+  if (o.direct && o.lb) return 'both direct and lb';
+  if (o.lb && o.set !== undefined) return 'a set behind a load balancer';
+  if (!isSize(o.max, 1) || !isSize(o.connecting, 1) || !isSize(o.min, 0)) return 'a size out of its bounds';
+  return o.limit_pool !== undefined && seeds.length - 1 > o.limit_pool ? 'more seeds than pools' : null;
+}
+
 function readOpen(words) {
   if (words[1] === undefined || !words[1].startsWith('seeds=')) unreadable('no seeds', words.join(' '));
   const seeds = addressList(words[1].slice(6));
-  return { kind: 'open', moment: 0, momentText: '', seeds, options: named(words.slice(2), OPTIONS) };
+  const options = named(words.slice(2), OPTIONS);
+  const rule = brokenRule(seeds, options);
+  if (rule !== null) unreadable(rule, words.join(' '));
+  return { kind: 'open', moment: 0, momentText: '', seeds, options };
 }
 
 /** The step that a line spells. `open` is the first of a log, and no other is. */

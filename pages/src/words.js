@@ -139,6 +139,6 @@ export function error(text) {
     at += 1;
   }
   const message = words.slice(at).join(' ');
-  if (!message.startsWith('msg=') || message.length > MOST_MESSAGE + 4) unreadable('no message of an error', message);
+  if (!message.startsWith('msg=') || message.length > MOST_MESSAGE + 4 || message.includes('|')) unreadable('no message of an error', message);
   return found;
 }
