@@ -1,10 +1,11 @@
 #!/usr/bin/env python3
 """Opens logs in pages/timeline.html, in a real browser, and compares what it drew with counts of its own.
 
-usage: checks/page.py [--browser PROGRAM] [--auditor PROGRAM] [--logs FOLDER] [--mutants N] [--seed N] [--pictures FOLDER] [--quick]
+usage: checks/page.py [--browser PROGRAM] [--script PROGRAM] [--auditor PROGRAM] [--logs FOLDER] [--mutants N] [--seed N] [--pictures FOLDER] [--quick]
 
 Needs chromium (Debian's package of that name; PROGRAM is `chromium` where it is left out) and nothing else: no network, no library
-of Python beyond its own. It builds nothing: pages/build.py made the page, and it is refused where the sources build another.
+of Python beyond its own. It builds nothing: pages/build.py made the page, and it is refused where the sources build another. Where
+mdb_script is given as PROGRAM, the log of the failover is to be what it writes of its script.
 
 - The logs are those of mdb_script and mdb_auditor, the scripts of mdb_checks, the failover of pages/examples, what FOLDER has, and
   N (200) that differ from one of them in one place. What is legal by the plain definitions (checks/audit/plain.py), or by the
@@ -37,6 +38,7 @@ from page_checks import Checks
 def words():
     said = argparse.ArgumentParser(usage=__doc__.split('\n')[2][7:])
     said.add_argument('--browser', default='chromium')
+    said.add_argument('--script')
     said.add_argument('--auditor')
     said.add_argument('--logs')
     said.add_argument('--mutants', type=int, default=200)

@@ -5,7 +5,7 @@ import subprocess
 
 from faults import scripts
 from log_counts import Counts, places, stretches
-from mutants import changed
+from mutants import changed, log_of
 from plain import verdict
 
 ROOT = os.path.dirname(os.path.dirname(os.path.abspath(__file__)))
@@ -130,6 +130,9 @@ def mutate(checks, chance, logs, said):
 
 def run(checks, chance, said):
     logs = worked()
+    if said.script:
+        script = stored('pages', 'examples', 'failover.script').split('\n')[:-1]
+        checks.true('mdb_script writes the log of the failover', log_of(said.script, script) == logs['failover'])
     for name, text in logs.items():
         checks.equal('verdict on ' + name, judge(said.auditor, text).split(' ')[0], 'legal', 'verdicts')
         draw(checks, name, text)

@@ -68,7 +68,29 @@ function partyLabel(frame, bar, at, x0, x1, y) {
   if (bar.parties[at] >= 0 && to - start >= words.length * CHARACTER) frame.text(words, (start + to - words.length * CHARACTER) / 2, y, frame.palette.onheld);
 }
 
-function paintStretches(frame, bar, y, height) {
+const FEW = 8; // stretches of a narrow bar that are worth painting each
+
+/** The place that a connection had longest, along the axis; kept with the connection. */
+function mainPlace(frame, bar) {
+  const { axis, places } = frame.scale;
+  if (bar.main?.axis === axis) return bar.main.place;
+  const shares = [0, 0, 0, 0];
+  bar.entries.forEach((entry, at) => {
+    const to = at + 1 < bar.entries.length ? places[bar.entries[at + 1]] : bar.end < 0 ? frame.stop : places[bar.end];
+    shares[bar.places[at]] += to - places[entry];
+  });
+  bar.main = { axis, place: shares.indexOf(Math.max(...shares)) };
+  return bar.main.place;
+}
+
+function paintStretches(frame, bar, [from, to], y, height) {
+  if (to - from < 2 * FINE && bar.entries.length > FEW) {
+    frame.drawn.stretches += bar.entries.length;
+    paintPlace(frame, mainPlace(frame, bar), from, to, y, height);
+  } else paintEachStretch(frame, bar, y, height);
+}
+
+function paintEachStretch(frame, bar, y, height) {
   const bucket = new Bucket(frame, y, height);
   const { entries, places } = bar;
   let at = Math.max(0, bar.stretchAt(frame.firstEntry));
@@ -129,7 +151,7 @@ function nameSpan(frame, bar, x0, x1) {
 function paintConnection(frame, bar, [x0, x1], y, height) {
   const span = nameSpan(frame, bar, x0, x1);
   frame.namedTo = span === null ? -Infinity : span.from + span.width + 4;
-  paintStretches(frame, bar, y, height);
+  paintStretches(frame, bar, [x0, x1], y, height);
   if (span === null) return;
   frame.pen.fillStyle = frame.palette.page;
   frame.pen.fillRect(span.from - 2, y + height - 12, span.width + 4, 11);

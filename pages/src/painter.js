@@ -99,7 +99,7 @@ function paintPair(frame, connections, requests) {
   pen.beginPath();
   pen.rect(frame.left, 0, frame.width, frame.height);
   pen.clip();
-  paintGrants(frame, connections, requests);
+  paintGrants(frame, { connections, requests });
   pen.font = TEXT_FONT;
   paintErrors(frame, connections, connections.y - frame.top);
   pen.restore();
