@@ -81,7 +81,7 @@ class Counts:
         return {
             'lines': n['lines'], 'read': n['lines'], 'unread': 0, 'servers': len(self.addresses), 'pools': n['Opened'], 'created': n['ConnectionCreated'],
             'closed': dict(self.closed), 'grants': n['Granted'], 'ended': dict(self.ended), 'connections': n['ConnectionCreated'],
-            'requests': dict(self.asked), 'waiting': len(self.waiting), 'jumps': dict(self.jumps), 'clears': n['Raised'],
+            'had': n['ConnectionCheckedOut'], 'requests': dict(self.asked), 'waiting': len(self.waiting), 'jumps': dict(self.jumps), 'clears': n['Raised'],
             'types': n['ServerOpening'] + n['ServerDescriptionChanged'], 'trips': n['trips'],
             'ready': n['PoolReady'] + (n['Opened'] if self.balanced else 0), 'live': [self.live[p] for p in sorted(self.live)],
         }
@@ -138,4 +138,30 @@ def stretches(text):
     for now in places(text):
         found += sum(1 for name, where in now.items() if before.get(name) != where)
         before = now
+    return found
+
+
+PARTY_STEPS = ('request', 'warm', 'collect', 'giveup', 'return', 'pin', 'take', 'error')
+ADDRESS = {'request': 3, 'warm': 3, 'hello': 2, 'beat': 2, 'beaten': 2, 'rtt': 2, 'maintain': 2, 'expire': 2}
+CONNECTION = {'established': 2, 'failed': 2, 'replicate': 2, 'unpin': 2, 'take': 3}
+
+
+def names(line):
+    """The connections, parties and servers that an entry names, but for those of its opening and of a list of hosts."""
+    step, reply, *facts = (part.split(' ') for part in line.split(' | '))
+    found = {'Connection ' + step[at] + '.' + step[at + 1] for at in [CONNECTION.get(step[0])] if at}
+    found |= {'party ' + step[2]} if step[0] in PARTY_STEPS else set()
+    found |= {'Server ' + step[ADDRESS[step[0]]]} if step[0] in ADDRESS else set()
+    found |= {'Connection ' + reply[1]} if reply[0] in ('Pooled', 'Establishing', 'Job') else set()
+    for words in facts:
+        if words[0] == 'Granted':
+            found |= {'party ' + words[1], 'Connection ' + words[2]}
+        elif words[0] == 'Ended':
+            found.add('party ' + words[1])
+        elif words[0] == 'Pool':
+            found.add('Server ' + words[3])
+            if words[2].startswith('Connection') and len(words) > 4 and words[4].isdigit():
+                found.add('Connection ' + words[1] + '.' + words[4])
+        elif words[0] == 'Sdam' and words[1].startswith('Server'):
+            found.add('Server ' + words[2])
     return found

@@ -1,8 +1,11 @@
 """What the page does: pointers, wheel, touch, keys, search, the ways in, what cannot be read, looks, and long logs."""
+import re
+
 import page_keys
 import page_looks
 import page_ways
 from browser import CTRL, SHIFT
+from log_counts import names
 from page_logs import stored
 
 FAILOVER = ('pages', 'examples', 'failover.log')
@@ -39,6 +42,14 @@ def clicks(checks):
     checks.true('the late error is told as one without effect', 'late error of party %s, without effect' % party in checks.ask('document.getElementById("selected").textContent'))
     checks.ask("[...document.querySelectorAll('#selected .name')].find((it) => it.textContent === '%s').click()" % party)
     checks.equal('a click on a name in the text', checks.timeline('selected()')['thing'], 'Request of party ' + party)
+
+
+def lit(checks):
+    """Each entry lights all that it names."""
+    for entry, line in enumerate(lines()):
+        checks.ask('timeline.select(%d)' % entry)
+        shown = {re.sub('^(Request of|Take by|Warm request) (party )?', 'party ', it) for it in checks.timeline('selected()')['lit']}
+        checks.equal('what entry %d names and does not light' % (entry + 1), names(line) - shown, set(), 'entries that light what they name')
 
 
 def wheel(checks):
@@ -148,7 +159,7 @@ def moments(checks):
 def run(checks, is_quick):
     checks.browser.size(1400, 900)
     checks.open('failover.log', stored(*FAILOVER))
-    for part in (clicks, wheel, touch, search, jumps, folding):
+    for part in (clicks, lit, wheel, touch, search, jumps, folding):
         part(checks)
     page_keys.run(checks, lines())
     moments(checks)

@@ -7,7 +7,7 @@ import { Input } from './input.js';
 import { rowPlace } from './layout.js';
 import { readText, fromFragment, listen } from './opening.js';
 import { thingName, stateText } from './say.js';
-import { countsOf, placesOf } from './counts.js';
+import { answerScripts } from './answers.js';
 
 const SIGNS = { clear: '▼', refusal: '✕', error: '◆', 'void error': '◇', 'failed check': '▽' };
 const THEMES = ['auto', 'light', 'dark'];
@@ -207,17 +207,5 @@ class App {
 
 const app = new App();
 
-/** What a script may ask of the page. */
-window.timeline = {
-  open: (name, text) => app.open(name, text),
-  opened: () => app.opened ?? null,
-  counts: () => countsOf(app.picture),
-  places: (entry) => placesOf(app.picture, entry),
-  drawn: () => app.picture.drawn,
-  unread: () => app.picture.log?.unread ?? [],
-  view: () => ({ ...app.picture.view, axis: app.picture.scale?.axis, scroll: page.scroll.scrollTop, height: app.picture.height, whole: app.picture.scale?.extent() }),
-  selected: () => ({ entry: app.picture.entry, thing: app.picture.thing === null ? null : thingName(app.picture.thing), lit: [...app.picture.lit].map(thingName).sort() }),
-  where: (kind, key, entry) => app.picture.where(kind, key, entry),
-};
-
+answerScripts(app, page);
 app.openFragment();

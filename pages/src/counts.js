@@ -13,7 +13,7 @@ export function countsOf({ log, history }) {
     created: history.tallies.created, closed: history.tallies.closed, grants: history.tallies.grants, ended: history.tallies.ended,
     connections: pools.reduce((sum, pool) => sum + pool.connections.size, 0),
     stretches: pools.reduce((sum, pool) => sum + [...pool.connections.values()].reduce((many, it) => many + it.entries.length, 0), 0),
-    requests: tally(requests.map((it) => it.kind)), waiting: pools.reduce((sum, pool) => sum + pool.waiting, 0),
+    had: requests.filter((it) => it.kind === 'request' && it.ready >= 0).length, requests: tally(requests.map((it) => it.kind)), waiting: pools.reduce((sum, pool) => sum + pool.waiting, 0),
     jumps: tally(history.jumps.map((it) => it.kind)), clears: pools.reduce((sum, pool) => sum + pool.clears, 0),
     types: servers.reduce((sum, it) => sum + it.types.filter((one) => one.type !== '').length, 0),
     trips: servers.reduce((sum, it) => sum + it.trips.length, 0),

@@ -1,8 +1,10 @@
 // Paints the lanes that are in view.
 import { Frame, TEXT_FONT, LABEL_FONT, BOLD_FONT } from './frame.js';
 import { firstLaneFrom } from './layout.js';
-import { paintTopology, paintServer, paintPool, paintErrors } from './paint_lanes.js';
-import { paintConnections, paintRequests } from './paint_bars.js';
+import { paintTopology, paintServer } from './paint_servers.js';
+import { paintPool, paintErrors } from './paint_pools.js';
+import { paintConnections } from './paint_connections.js';
+import { paintRequests } from './paint_requests.js';
 import { paintGrants } from './paint_grants.js';
 
 /** The rows of a lane that are in view, each with its height on the canvas. */
