@@ -5,7 +5,7 @@ The places of connections are those of the plain definitions of checks/audit/pla
 import os
 import re
 import sys
-from collections import Counter
+from collections import Counter, namedtuple
 
 sys.path.insert(0, os.path.join(os.path.dirname(os.path.abspath(__file__)), 'audit'))
 from plain import History, act, fact
@@ -117,8 +117,11 @@ def place(h, pool, number):
     return 'with a party %d' % next(r for r in xs.parties(number) if h.holds(pool, r, number))
 
 
-def places(text):
-    """After each entry: the place of each live connection, by the plain definitions."""
+After = namedtuple('After', 'places waiting')  # after an entry: the place of each live connection; the callers that wait, by pool
+
+
+def after_each(text):
+    """What is so after each entry, by the plain definitions."""
     h, found, known = History(), [], []
     for step, reply, facts in entries(text):
         if not reply.startswith('Refused'):
@@ -128,16 +131,27 @@ def places(text):
                 if fact(said)[0] == 'ConnectionCreated':
                     known.append(fact(said)[1:])
         now = {'%d.%d' % it: place(h, *it) for it in known}
-        found.append({name: where for name, where in now.items() if where})
+        found.append(After({name: where for name, where in now.items() if where}, {number: len(h.waiting(number)) for number, _ in h.homes}))
     return found
 
 
-def stretches(text):
+def stretches(afters):
     """How often a connection's place changes, its first one with them."""
     found, before = 0, {}
-    for now in places(text):
-        found += sum(1 for name, where in now.items() if before.get(name) != where)
-        before = now
+    for now in afters:
+        found += sum(1 for name, where in now.places.items() if before.get(name) != where)
+        before = now.places
+    return found
+
+
+KINDS = ('pending', 'available', 'with', 'at')  # the first words of the places
+
+
+def sizes(after):
+    """Of each pool the connections by place, and who waits."""
+    found = {pool: [0, 0, 0, 0, many] for pool, many in after.waiting.items()}
+    for name, where in after.places.items():
+        found[int(name.split('.')[0])][KINDS.index(where.split(' ')[0])] += 1
     return found
 
 

@@ -4,7 +4,7 @@ import re
 import subprocess
 
 from faults import scripts
-from log_counts import Counts, places, stretches
+from log_counts import Counts, after_each, sizes, stretches
 from mutants import changed, log_of
 from plain import verdict
 
@@ -49,9 +49,12 @@ def compare_counts(checks, name, text):
 
 
 def compare_places(checks, name, text, page):
-    checks.equal('changes of place in ' + name, page['stretches'], stretches(text), 'logs with their changes of place')
-    for entry, wanted in enumerate(places(text)):
-        checks.equal('places after entry %d of %s' % (entry + 1, name), checks.timeline('places(%d)' % entry), wanted, 'sets of places')
+    afters, drawn = after_each(text), checks.timeline('sizes()')
+    checks.equal('changes of place in ' + name, page['stretches'], stretches(afters), 'logs with their changes of place')
+    for entry, after in enumerate(afters):
+        checks.equal('places after entry %d of %s' % (entry + 1, name), checks.timeline('places(%d)' % entry), after.places, 'sets of places')
+        now = {int(pool): next((it[1:] for it in reversed(them) if it[0] <= entry), None) for pool, them in drawn.items()}
+        checks.equal('sizes of pools after entry %d of %s' % (entry + 1, name), {pool: it for pool, it in now.items() if it}, sizes(after), 'sets of sizes')
 
 
 def compare_picture(checks, name, counts, page):

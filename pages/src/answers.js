@@ -1,6 +1,6 @@
 // What a script may ask of the page.
 import { thingName } from './say.js';
-import { countsOf, placesOf } from './counts.js';
+import { countsOf, placesOf, sizesOf } from './counts.js';
 
 /** `window.timeline` answers what the page has read, drawn and selected. */
 export function answerScripts(app, page) {
@@ -9,6 +9,7 @@ export function answerScripts(app, page) {
     opened: () => app.opened ?? null,
     counts: () => countsOf(app.picture),
     places: (entry) => placesOf(app.picture, entry),
+    sizes: () => sizesOf(app.picture),
     drawn: () => app.picture.drawn,
     unread: () => app.picture.log?.unread ?? [],
     view: () => ({ ...app.picture.view, axis: app.picture.scale?.axis, scroll: page.scroll.scrollTop, height: app.picture.height, whole: app.picture.scale?.extent() }),

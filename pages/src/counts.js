@@ -1,5 +1,5 @@
 // What the page knows of its log, as numbers: to be compared with those that another reader finds.
-import { PLACES } from './things.js';
+import { PLACES, SIZE_WIDTH } from './things.js';
 
 const tally = (items) => items.reduce((found, it) => ({ ...found, [it]: (found[it] ?? 0) + 1 }), {});
 
@@ -32,6 +32,16 @@ export function placesOf({ history }, entry) {
       const place = PLACES[connection.places[at]];
       found[connection.name] = place === 'with a party' ? place + ' ' + connection.parties[at] : place;
     }
+  }
+  return found;
+}
+
+/** What each pool's lane is drawn from: the entries that changed it, with its connections by place and its waiting callers. */
+export function sizesOf({ history }) {
+  const found = {};
+  for (const pool of history.pools.values()) {
+    found[pool.number] = [];
+    for (let at = 0; at < pool.sizes.length; at += SIZE_WIDTH) found[pool.number].push(pool.sizes.slice(at, at + SIZE_WIDTH));
   }
   return found;
 }

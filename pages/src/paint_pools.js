@@ -82,7 +82,7 @@ function limitLine(frame, words, amount, most, box, colour) {
   frame.text(words, Math.min(right + 4, frame.right - words.length * CHARACTER - 6), at + (at < y + 8 ? 10 : -2), colour, true);
 }
 
-const STATE_COLOURS = { Ready: 'available', Paused: 'bad', New: 'unknown', Closed: 'ink' };
+const STATE_COLOURS = { Ready: 'available', Paused: 'bad', New: 'unknown', Closed: 'muted' };
 const DEFAULT_MOST = 10;
 
 function paintStates(frame, pool, y) {
@@ -100,12 +100,12 @@ export function paintPool(frame, lane, y) {
   const seen = columns.reduce((most, column) => Math.max(most, column.live), 0);
   const waited = columns.reduce((most, column) => Math.max(most, column.waiting), 0);
   const most = Math.max(limit, seen, pool.min ?? 0, 1) * 1.08;
-  const right = Math.min(frame.right, frame.endX(pool.end));
+  const right = Math.min(frame.right, frame.place(frame.stop));
   paintStack(frame, pool, columns, right, y + 3, 36, most);
   if (waited > 0) {
     fillSteps(frame, columns, right, frame.palette.waiting, () => y + 52, (column) => y + 52 - (11 * column.waiting) / waited);
   }
-  const box = { y: y + 3, height: 36, left: frame.x(pool.start), right };
+  const box = { y: y + 3, height: 36, left: frame.x(pool.start), right: Math.min(right, frame.endX(pool.end)) };
   limitLine(frame, 'max ' + limit, limit, most, box, frame.palette.bad);
   if (pool.min) limitLine(frame, 'min ' + pool.min, pool.min, most, box, frame.palette.muted);
   frame.waited = waited;
