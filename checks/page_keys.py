@@ -128,4 +128,11 @@ def run(checks, lines):
     checks.equal('complaints of the small log', checks.timeline('unread()'), [])
     found = walk(checks, 16)
     checks.equal('what the arrow keys do not reach', REACHED - found, set())
+    checks.ask('document.getElementById("scroll").focus()')
+    many = lambda: (checks.browser.settle(), checks.timeline('drawn()')['connections'])[1]
+    before = many()
+    checks.browser.key('Enter')
+    folded = many()
+    checks.browser.key('Enter')
+    checks.equal('Enter hides the bars of a pool and shows them', (before - folded, many()), (1, before))
     checks.true('the screen reader is told', 'Entry' in checks.ask('document.getElementById("live").textContent'), json.dumps(sorted(map(str, found)))[:200])

@@ -159,7 +159,7 @@ export class Input {
       '+': () => picture.zoom(STEP), '=': () => picture.zoom(STEP), '-': () => picture.zoom(1 / STEP), 0: () => picture.fit(), f: () => picture.fit(),
       PageUp: () => page.scroll.scrollBy(0, -picture.height * 0.8), PageDown: () => page.scroll.scrollBy(0, picture.height * 0.8),
       ',': () => app.step(-1), '.': () => app.step(1), Home: () => app.go(0, null), End: () => app.go(picture.log.count - 1, null),
-      Enter: () => this.row !== null && this.row.lane.pool && picture.fold(this.row.lane.pool),
+      Enter: () => this.fold(),
     };
   }
 
@@ -168,6 +168,15 @@ export class Input {
     const { lanes } = this.picture;
     const lane = this.row === null ? undefined : lanes.find((it) => it.kind === this.row.lane.kind && it.pool === this.row.lane.pool && it.server === this.row.lane.server);
     return lane === undefined ? { lane: lanes[0], row: 0 } : { lane, row: Math.min(this.row.row, lane.rows.length - 1) };
+  }
+
+  /** Shows or hides the bars of the pool where the keys are, which are then at the pool itself. */
+  fold() {
+    const { picture } = this;
+    const { pool } = this.here().lane;
+    if (pool === undefined) return;
+    picture.fold(pool);
+    this.row = { lane: picture.lanes.find((it) => it.kind === 'pool' && it.pool === pool), row: 0 };
   }
 
   toStop(by) {
