@@ -64,6 +64,7 @@ class App {
     const started = performance.now();
     this.tell(`Reading ${name} ..`);
     const { log, history } = await readText(name, text, (done, count) => this.tell(`Reading ${name}: ${done} of ${count} lines`));
+    document.title = name + ' · Timeline';
     document.body.classList.add('opened');
     this.picture.show(log, history);
     this.showAxis();

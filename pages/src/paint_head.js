@@ -94,7 +94,7 @@ function paintAxis(pen, picture) {
   const factor = (width - gutter) / (view.to - view.from);
   const isFar = scale.axis === 'time' && scale.count > 0 && scale.times[0] >= GREAT_START;
   const shift = isFar ? scale.times[0] : scale.axis === 'entries' ? -1 : 0;
-  const { step, places } = ticks(view.from - shift, view.to - shift, Math.max(100 / factor, scale.axis === 'entries' ? 1 : 0));
+  const { step, places } = ticks(view.from - shift, view.to - shift, Math.max(100 / factor, scale.axis === 'entries' ? 1 : 0), scale.axis === 'time');
   pen.font = TEXT_FONT;
   for (const place of places) {
     const x = Math.round(gutter + (place + shift - view.from) * factor) + 0.5;

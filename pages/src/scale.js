@@ -71,16 +71,30 @@ export class Scale {
 
 const STEPS = [1, 2, 5];
 
-/** Round places between two others, at least so far apart. */
-export function ticks(from, to, least) {
+const [SECOND, MINUTE, HOUR, DAY] = [1000, 60000, 3600000, 86400000];
+const LONG_STEPS = [...[1, 2, 5, 10, 15, 30].map((it) => it * SECOND), ...[1, 2, 5, 10, 15, 30].map((it) => it * MINUTE), ...[1, 2, 3, 6, 12].map((it) => it * HOUR)];
+
+/** The least round number that is as great: 1, 2 or 5 of a power of ten. */
+function roundStep(least) {
   const power = 10 ** Math.floor(Math.log10(least));
-  const step = [...STEPS.map((it) => it * power), 10 * power].find((it) => it >= least) ?? 10 * power;
+  return STEPS.map((it) => it * power).find((it) => it >= least) ?? 10 * power;
+}
+
+/** In milliseconds: from a second on, such numbers of seconds, minutes, hours and days as clocks have. */
+function timeStep(least) {
+  if (least <= SECOND / 2) return roundStep(least);
+  return LONG_STEPS.find((it) => it >= least) ?? roundStep(least / DAY) * DAY;
+}
+
+/** Round places between two others, at least so far apart. */
+export function ticks(from, to, least, isTime) {
+  const step = isTime ? timeStep(least) : roundStep(least);
   const found = [];
   for (let at = Math.ceil(from / step) * step; at <= to && found.length < 200; at += step) found.push(at);
   return { step, places: found };
 }
 
-const UNITS = [[86400000, 'd'], [3600000, 'h'], [60000, 'min'], [1000, 's'], [1, 'ms']];
+const UNITS = [[DAY, 'd'], [HOUR, 'h'], [MINUTE, 'min'], [SECOND, 's'], [1, 'ms']];
 
 export function durationText(milliseconds) {
   const [size, unit] = UNITS.find((it) => Math.abs(milliseconds) >= it[0]) ?? UNITS[4];
