@@ -1,0 +1,70 @@
+// Long lists of entries to jump to: only the rows in view are in the page.
+import { element } from './details.js';
+
+const ROW = 26;
+const MORE = 4; // rows above and below those in view
+
+export class JumpList {
+  constructor(box, label, go) {
+    this.box = box;
+    this.go = go;
+    this.items = [];
+    this.active = -1;
+    this.inner = element('div', { className: 'rows' });
+    box.replaceChildren(this.inner);
+    box.tabIndex = 0;
+    box.setAttribute('role', 'listbox');
+    box.setAttribute('aria-label', label);
+    box.addEventListener('scroll', () => this.draw());
+    box.addEventListener('keydown', (event) => this.key(event));
+  }
+
+  show(items) {
+    this.items = items;
+    this.active = -1;
+    this.inner.style.height = items.length * ROW + 'px';
+    this.box.hidden = items.length === 0;
+    this.box.style.height = Math.min(items.length * ROW + 2, 230) + 'px';
+    this.draw();
+  }
+
+  draw() {
+    const from = Math.max(0, Math.floor(this.box.scrollTop / ROW) - MORE);
+    const to = Math.min(this.items.length, Math.ceil((this.box.scrollTop + this.box.clientHeight) / ROW) + MORE);
+    this.inner.replaceChildren();
+    for (let at = from; at < to; at += 1) this.inner.append(this.row(at));
+    if (this.active >= 0) this.box.setAttribute('aria-activedescendant', `${this.box.id}-${this.active}`);
+    else this.box.removeAttribute('aria-activedescendant');
+  }
+
+  row(at) {
+    const item = this.items[at];
+    const row = element('div', { id: `${this.box.id}-${at}`, className: 'row', title: item.text, onclick: () => this.pick(at) });
+    row.setAttribute('role', 'option');
+    row.setAttribute('aria-selected', String(at === this.active));
+    row.setAttribute('aria-posinset', String(at + 1));
+    row.setAttribute('aria-setsize', String(this.items.length));
+    row.style.top = at * ROW + 'px';
+    if (item.kind !== undefined) row.append(element('span', { className: 'sign ' + item.kind.replace(' ', '-'), textContent: item.sign }));
+    row.append(element('span', { className: 'number', textContent: item.label }), ' ', item.text);
+    return row;
+  }
+
+  pick(at) {
+    this.active = at;
+    const top = at * ROW;
+    if (top < this.box.scrollTop) this.box.scrollTop = top;
+    else if (top + ROW > this.box.scrollTop + this.box.clientHeight) this.box.scrollTop = top + ROW - this.box.clientHeight;
+    this.draw();
+    this.go(this.items[at]);
+  }
+
+  key(event) {
+    const last = this.items.length - 1;
+    const next = { ArrowDown: this.active + 1, ArrowUp: this.active - 1, Home: 0, End: last, PageDown: this.active + 8, PageUp: this.active - 8, Enter: this.active }[event.key];
+    if (next === undefined || last < 0) return;
+    event.preventDefault();
+    event.stopPropagation();
+    this.pick(Math.min(Math.max(next, 0), last));
+  }
+}
