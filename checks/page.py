@@ -7,7 +7,7 @@ Needs chromium (Debian's package of that name; PROGRAM is `chromium` where it is
 of Python beyond its own. It builds nothing: pages/build.py made the page, and it is refused where the sources build another. Where
 mdb_script is given as PROGRAM, the log of the failover is to be what it writes of its script.
 
-- The logs are those of mdb_script and mdb_auditor, the scripts of mdb_checks, the failover of pages/examples, what FOLDER has, and
+- The logs are those of mdb_script and mdb_auditor, the scripts of mdb_checks_top, the failover of pages/examples, what FOLDER has, and
   N (200) that differ from one of them in one place. What is legal by the plain definitions (checks/audit/plain.py), or by the
   built auditor where PROGRAM is given, is to be drawn without a complaint; counts of connections, closes, requests, grants, ends,
   clears, refusals, errors, round trips and types are to be those of log_counts.py, and after each entry each live connection is to

@@ -3,6 +3,7 @@ import os
 import re
 import subprocess
 
+from cases import lines_of
 from faults import scripts
 from log_counts import Counts, after_each, sizes, stretches
 from mutants import changed, log_of
@@ -24,7 +25,8 @@ def worked():
     found = {'mdb_script': stored('crates', 'mdb_script', 'stdout'), 'mdb_auditor': stored('crates', 'mdb_auditor', 'stdin'), 'empty': '',
              'failover': stored('pages', 'examples', 'failover.log')}
     for number, (remark, _, log) in enumerate(scripts()):
-        found['%d: %s' % (number, remark[:60])] = ''.join(line + '\n' for line in log)
+        if not any(' ..' in line for line in log):
+            found['%d: %s' % (number, remark[:60])] = ''.join(line + '\n' for line in log)
     return found
 
 
@@ -90,8 +92,8 @@ SPELLED = re.compile(r'(line|event|fact|entry) (?:(\d+) )?(.*?) => (.*)')
 
 
 def spellings():
-    """Lines of a log that the cases of mdb_checks spell or refuse: whether it is the first one, the line, and whether it is read."""
-    for case in stored('crates', 'mdb_checks', 'stdin').split('\n'):
+    """Lines of a log that the cases of mdb_checks_low and mdb_checks_mid spell or refuse: whether it is the first one, the line, and whether it is read."""
+    for case in [*lines_of('mdb_checks_low'), *lines_of('mdb_checks_mid')]:
         found = SPELLED.fullmatch(case)
         if found is None or '\\' in found[3]:
             continue
