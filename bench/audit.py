@@ -1,11 +1,13 @@
 #!/usr/bin/env python3
-"""Times the auditor on logs of its own: of 1, 4 and 8 MiB, on pools of three sizes.
+"""Times the auditor on logs of its own: of 1, 4 and 8 MiB, on pools of three sizes; and on texts that no core writes.
 
-usage: audit.py AUDITOR
+usage: audit.py AUDITOR [MIB]
 
 It builds nothing. Each log is legal: all connections of a pool are held, and then one party after another asks and waits, an
-earlier one returns its connection, and the next is granted it. Each run is made three times, and the best is taken; the time
-is of the whole run, with the start of the process.
+earlier one returns its connection, and the next is granted it. The other texts, of 8 MiB or of MIB, are legal too, but nobody's
+logs: much of what they say concerns all that was said before, as when a party that took thousands of connections pins them, gives
+up, or ends again and again. Each run is made three times, and the best is taken; the time is of the whole run, with the start of
+the process. Where the work still grows faster than the text, the text is a 64th of that size, and a star stands before its name.
 """
 import os
 import sys
@@ -46,20 +48,116 @@ def log(most, size):
         pieces.append(piece)
 
 
+SHORT = "open seeds=a:1 lb | Done | Opened 0 a:1 | Pool 0 PoolCreated a:1 -\n"
+IDLE = "claim 1 | NoJob"
+
+
+def pieces(size, first, second):
+    """The opening, first(1), first(2) .. for half of the size, and then second(1, n), second(2, n) .., where n is how many came first."""
+    length, count = len(SHORT), 0
+    yield SHORT
+    while length < size // 2:
+        count += 1
+        piece = first(count)
+        length += len(piece)
+        yield piece
+    turn = 0
+    while True:
+        turn += 1
+        piece = second(turn, count)
+        length += len(piece)
+        if length > size:
+            return
+        yield piece
+
+
+def lines(size, first, second):
+    """A text of lines of two kinds."""
+    return "".join(pieces(size, first, second))
+
+
+def facts(size, first, second):
+    """Lines of the first kind, and then facts of one entry."""
+    text = list(pieces(size - len(IDLE) - 1, first, second))
+    begun = next(n for n, piece in enumerate(text) if piece.startswith(" |"))
+    return "".join(text[:begun] + [IDLE] + text[begun:] + ["\n"])
+
+
+def openings(size, fact, second):
+    """Pools that one entry opens, and then lines."""
+    text = list(pieces(size - len(IDLE) - 1, fact, second))
+    begun = next(n for n, piece in enumerate(text) if n and not piece.startswith(" |"))
+    return "".join([SHORT, IDLE] + text[1:begun] + ["\n"] + text[begun:])
+
+
+def grid(size):
+    """Parties that take the same connections, and then pins of one and unpins of another."""
+    side = int((size / 50) ** 0.5)
+    return lines(size, lambda n: f"take 1 {n // side + 1} 0 {n % side + 1} | Done\n", lambda n, m: f"pin 1 {n % side + 1} | Done\nunpin 1 0 {n * 7 % side + 1} | Done\n")
+
+
+def taken(n):
+    return f"take 1 1 0 {n} | Done\n"
+
+
+def kept(n):
+    return taken(n) + f"failed 1 0 {n} pre network msg= | Done | Pool 0 ConnectionCreated a:1 {n}\n"
+
+
+def shared(n):
+    return f"take 1 {n} 0 1 | Done\n"
+
+
+KINDS = (
+    ("connections of one party, its ends in one entry", lambda size: facts(size, taken, lambda n, m: " | Ended 1 Closed")),
+    ("connections of one party, its pins", lambda size: lines(size, taken, lambda n, m: "pin 1 1 | Done\n")),
+    ("connections of one party, its give-ups", lambda size: lines(size, taken, lambda n, m: "giveup 1 1 | Done\n")),
+    ("connections of one party, its pins and give-ups", lambda size: lines(size, taken, lambda n, m: "pin 1 1 | Done\ngiveup 1 1 | Done\n")),
+    ("connections of one party, its returns", lambda size: lines(size, taken, lambda n, m: "return 1 1 ok | Done\n")),
+    ("one connection of many parties, unpins", lambda size: lines(size, shared, lambda n, m: "unpin 1 0 1 | Done\n")),
+    ("one connection of many parties, returns", lambda size: lines(size, shared, lambda n, m: f"return 1 {n % m + 1} ok | Done\n")),
+    ("many connections of many parties, pins and unpins", grid),
+    ("created connections of one party, its pins", lambda size: lines(size, kept, lambda n, m: "pin 1 1 | Done\n")),
+    ("created connections of one party, its give-ups", lambda size: lines(size, kept, lambda n, m: "giveup 1 1 | Done\n")),
+    ("created connections of one party, one pinned, give-ups", lambda size: lines(size, kept, lambda n, m: "unpin 1 0 1 | Done\nreplicate 1 0 1 | Done\ngiveup 1 1 | Done\n")),
+    ("openings, requests", lambda size: openings(size, lambda n: f" | Opened {n} a:{n % 65535 + 1}", lambda n, m: f"request 1 {n} a:{n % 65535 + 1} | Waiting\n")),
+    ("openings, closings", lambda size: openings(size, lambda n: f" | Opened {n} b{n}:1", lambda n, m: f"{IDLE} | Pool {n % m + 1} PoolClosed a:1\n")),
+    ("openings of one number, its closings", lambda size: openings(size, lambda n: f" | Opened 1 b{n}:1", lambda n, m: f"{IDLE} | Pool 1 PoolClosed a:1\n")),
+    ("requests at no pool, their ends", lambda size: lines(size, lambda n: f"request 1 {n} b:1 | Waiting\n", lambda n, m: f"{IDLE} | Ended {n % m + 1} Closed\n")),
+    ("one entry of facts", lambda size: facts(size, lambda n: IDLE + "\n", lambda n, m: " | CheckNow a:1")),
+    ("short lines", lambda size: lines(size, lambda n: IDLE + "\n", lambda n, m: "stop 1 | Done\n")),
+)
+
+
+# the work is what a party has times what it does
+STARRED = tuple(name for name, _ in KINDS if "its pins" in name or "give-ups" in name or name.startswith("many connections"))
+
+
+def measured(program, text):
+    """How many entries the legal text has, the least seconds of its runs, and the greatest size."""
+    runs = [timed([program], text) for _ in range(REPEATS)]
+    entries = text.count(b"\n")
+    if runs[0][2] != f"legal entries={entries}\n".encode():
+        raise SystemExit(f"the auditor says {runs[0][2]!r}")
+    return entries, min(it[0] for it in runs), max(it[1] for it in runs)
+
+
 def main():
-    if len(sys.argv) != 2:
+    if len(sys.argv) not in (2, 3):
         raise SystemExit(__doc__)
     program = os.path.abspath(sys.argv[1])
+    most_bytes = int(sys.argv[2]) if len(sys.argv) == 3 else max(MIB)
     print(f"{'max':>5} {'MiB':>4} {'entries':>8} {'seconds':>8} {'entries/s':>10} {'MB':>7}")
     for most in SIZES:
         for size in MIB:
             text = log(most, size * 1_048_576)
-            runs = [timed([program], text) for _ in range(REPEATS)]
-            entries = text.count(b"\n")
-            if runs[0][2] != f"legal entries={entries}\n".encode():
-                raise SystemExit(f"the auditor says {runs[0][2]!r}")
-            seconds, most_size = min(it[0] for it in runs), max(it[1] for it in runs)
+            entries, seconds, most_size = measured(program, text)
             print(f"{most:>5} {size:>4} {entries:>8} {seconds:>8.2f} {entries / seconds:>10.0f} {most_size:>7.1f}")
+    print(f"{'a text of ' + str(most_bytes) + ' MiB':<58} {'entries':>8} {'seconds':>8} {'MB':>7}")
+    for name, make in KINDS:
+        size = most_bytes * 1_048_576 // (64 if name in STARRED else 1)
+        entries, seconds, most_size = measured(program, make(size).encode())
+        print(f"{'* ' * (name in STARRED) + name:<58} {entries:>8} {seconds:>8.2f} {most_size:>7.1f}", flush=True)
 
 
 if __name__ == "__main__":

@@ -1,11 +1,13 @@
 """Whether a text is that of a legal log, by the plain definitions: slow, and with nothing taken from the auditor.
 
 A history is read off the entries, newest item first, and each question is asked of the whole of it. `verdict(text)` gives
-`legal entries=N` or `bad entry=N why=W`, as the program mdb_auditor writes it. It knows the words of steps and facts that the
-definitions ask for; that every other word of a line is spelled as it should be is taken for granted.
+`legal entries=N` or `bad entry=N why=W`, as the program mdb_auditor writes it. Whether a line is the text of an entry is asked
+of spelling.py, which is a reader of its own.
 """
 import sys
 from functools import cached_property, wraps
+
+from spelling import is_spelled
 
 sys.setrecursionlimit(1_000_000)
 LAST_ID = 4_294_967_295
@@ -344,9 +346,9 @@ def fault(o, h, is_first, line, facts):
 def verdict(text):
     lines, h, o = text.split('\n'), History(), None
     for number, line in enumerate(lines[:-1], 1):
-        said, reply, *facts = line.split(' | ')
-        if (said.split(' ')[0] == 'open') != (number == 1):
+        if not is_spelled(line, number):
             return 'bad entry=%d why=spelling' % number
+        said, reply, *facts = line.split(' | ')
         if reply.startswith('Refused'):
             if number == 1:
                 return 'bad entry=1 why=opening'

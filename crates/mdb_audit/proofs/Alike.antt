@@ -1,8 +1,7 @@
 -- Histories that differ in nothing that legality asks of: they stay so, whatever comes after both, and events of servers and of the topology add nothing.
-use Rattle.std.proofs.Common.{ℕ, ◌+◌, ◌≡◌, Bool, true, false, not, ◌&&◌, ◌||◌, if◌then◌else◌, List, [], ◌∷◌, ◌++◌, Option, Some, None, refl, sym, ap, ◌∙◌}
+use Rattle.std.proofs.Common.{ℕ, ◌≡◌, if◌then◌else◌, List, [], ◌∷◌, ◌++◌, Some, None, refl, sym, ap, ◌∙◌}
 use Rattle.mdb_base.specs.declared.address.ServerAddress.{ServerAddress}
 use Rattle.mdb_base.specs.Equality.{same_address}
-use Rattle.mdb_events.specs.declared.cmap.CmapEvent.{CmapEvent}
 use Rattle.mdb_events.specs.declared.cmap.CmapEvent.TheVariants.{PoolClosed}
 use Rattle.mdb_events.specs.declared.sdam.SdamEvent.{SdamEvent}
 use Rattle.mdb_events.specs.declared.fact.Fact.{Fact}
@@ -12,7 +11,7 @@ use Rattle.mdb_log.specs.declared.step.Act.{Act}
 use Rattle.mdb_log.specs.declared.step.Act.TheVariants.{Request, Warm}
 use Rattle.mdb_log.specs.declared.reply.Reply.{Reply}
 use Rattle.mdb_log.specs.History.{Item, did, made, open_pool, is_number}
-use Rattle.mdb_log.specs.Homes.{Home, homes}
+use Rattle.mdb_log.specs.Homes.{homes}
 use Rattle.mdb_log.specs.Connections.{has}
 use Rattle.mdb_log.specs.PlainRequests.{requests}
 use Rattle.mdb_tallies.specs.Standing.{connection_of, gift_of, party_of, pool_stands}

@@ -1,7 +1,7 @@
 -- Pools that stand for a history, and follow one more item, stand for the history with it.
-use Rattle.std.proofs.Common.{ℕ, ◌≡◌, Bool, true, false, ◌==◌, if◌then◌else◌, List, [], ◌∷◌, ◌++◌, map, Option, Some, None, refl, sym, ap, ◌∙◌, subst}
-use Rattle.std.specs.List.{fold}
-use Rattle.std.proofs.lemmas.List.Sums.{fold_push}
+use Rattle.std.proofs.Common.{ℕ, ◌+◌, ◌≡◌, ◌≤◌, Bool, true, false, ◌==◌, if◌then◌else◌, List, [], ◌∷◌, ◌++◌, map, Option, Some, None, refl, sym, ap, ◌∙◌, subst, arith}
+use Rattle.std.specs.Prelude.{unwrap_or}
+use Rattle.std.proofs.lemmas.Grind.{common_steps}
 use Rattle.mdb_base.specs.declared.address.ServerAddress.{ServerAddress}
 use Rattle.mdb_base.specs.Equality.{same_address}
 use Rattle.mdb_events.specs.declared.cmap.CmapEvent.TheVariants as event
@@ -16,67 +16,97 @@ use Rattle.mdb_log.specs.Homes.{homes}
 use Rattle.mdb_audit.specs.declared.homes.OpenedPool.{OpenedPool}
 use Rattle.mdb_audit.specs.declared.homes.Homes.{Homes}
 use Rattle.mdb_audit.specs.Shown.{facts_of}
-use Rattle.mdb_audit.specs.Opens.{home_of, still_open, last_at, open_at, once_closed, HomesStand, HomesFollow}
+use Rattle.mdb_log.proofs.Numbers.{same-number}
+use Rattle.mdb_tallies.specs.Tables.{at}
+use Rattle.mdb_tallies.specs.declared.table.Table.{Table}
+use Rattle.mdb_tallies.proofs.Placed.{same}
+use Rattle.mdb_audit.specs.Newest.{last_at}
+use Rattle.mdb_audit.specs.declared.newest.Last.{Last}
+use Rattle.mdb_audit.specs.declared.newest.Newest.{Newest}
+use Rattle.mdb_audit.specs.Opens.{home_of, still_open, open_at, HomesStand, IsOpened, IsClosed, HomesFollow}
 
 -- the number found, unless this pool was closed
 abbrev unless_closed : ℕ → Option ℕ → Option ℕ
 unless_closed p found = if is_number found p then None else found
 
-still-closed : (p number : ℕ) (is_open test : Bool) (address : ServerAddress) → (number == p) ≡ test → still_open (if test then record { number = number; address = address; is_open = false } else record { number = number; address = address; is_open = is_open }) ≡ unless_closed p (if is_open then Some number else None)
-still-closed p number true true address e = rw e refl
-still-closed p number true false address e = rw e refl
-still-closed p number false true address e = refl
-still-closed p number false false address e = refl
+-- the test of a number that was counted once more
+once-more : (n m : ℕ) → n ≤ m → (m + 1 == n) ≡ false
+once-more n m l = grind (arith, common_steps)
 
-same-address : (a : ServerAddress) (p : ℕ) (x : OpenedPool) → same_address (once_closed p x).address a ≡ same_address x.address a
-same-address a p x = here (x.number == p)
-  where
-    here : (b : Bool) → same_address (if b then record x { is_open = false } else x).address a ≡ same_address x.address a
-    here true = refl
-    here false = refl
+-- the test the other way round
+apart-back : (p n : ℕ) → (p == n) ≡ false → (n == p) ≡ false
+apart-back p n e = grind (arith, common_steps)
 
-last-here : (p : ℕ) (s : Bool) (found y z : Option ℕ) → z ≡ unless_closed p y → (if s then z else unless_closed p found) ≡ unless_closed p (if s then y else found)
-last-here p true found y z e = e
-last-here p false found y z e = refl
-
-last-closed : (a : ServerAddress) (p : ℕ) (found : Option ℕ) (x : OpenedPool) → last_at a (unless_closed p found) (once_closed p x) ≡ unless_closed p (last_at a found x)
-last-closed a p found x = ap (λ s. if s then still_open (once_closed p x) else unless_closed p found) (same-address a p x) ∙ last-here p (same_address x.address a) found (still_open x) (still_open (once_closed p x)) (still-closed p x.number x.is_open (x.number == p) x.address refl)
-
-fold-closed : (a : ServerAddress) (p : ℕ) (found : Option ℕ) (xs : List OpenedPool) → fold (last_at a) (unless_closed p found) (map (once_closed p) xs) ≡ unless_closed p (fold (last_at a) found xs)
-fold-closed a p found [] = refl
-fold-closed a p found (x ∷ xs) = ap (λ f. fold (last_at a) f (map (once_closed p) xs)) (last-closed a p found x) ∙ fold-closed a p (last_at a found x) xs
-
-home-closed : (p : ℕ) (xs : List OpenedPool) → map home_of (map (once_closed p) xs) ≡ map home_of xs
-home-closed p [] = refl
-home-closed p (x ∷ xs) = (λ i. here (x.number == p) i ∷ home-closed p xs i)
-  where
-    here : (b : Bool) → home_of (if b then record x { is_open = false } else x) ≡ home_of x
-    here true = refl
-    here false = refl
+some-same : {A : Type 0} (x y : A) → Some x ≡ Some y → x ≡ y
+some-same x y e = ap (λ o. unwrap_or o x) e
 
 map-push : (xs : List OpenedPool) (x : OpenedPool) → map home_of (xs ++ x ∷ []) ≡ map home_of xs ++ home_of x ∷ []
 map-push [] x = refl
 map-push (y ∷ xs) x = ap (λ ys. home_of y ∷ ys) (map-push xs x)
 
 -- a pool was opened
-home-opened : (m p : ℕ) (a : ServerAddress) (h : List Item) (old new : Homes) → HomesStand h old → HomesFollow (shown.Opened p a) old new → HomesStand (made m (fact.Opened p a) ∷ h) new
+home-opened : (m p : ℕ) (a : ServerAddress) (h : List Item) (old new : Homes) → HomesStand h old → IsOpened p a old new → HomesStand (made m (fact.Opened p a) ∷ h) new
 home-opened m p a h old new s f = record {
-  all = ap (map home_of) f ∙ map-push old.all.items (record { number = p; address = a; is_open = true }) ∙ ap (λ xs. xs ++ record { number = p; address = a } ∷ []) s.all;
-  here = λ b. ap (λ xs. open_at xs b) f ∙ fold_push (last_at b) None old.all.items (record { number = p; address = a; is_open = true }) ∙ ap (λ found. if same_address a b then Some p else found) (s.here b);
+  all = ap (map home_of) f.all ∙ map-push old.all.items (record { number = p; address = a }) ∙ ap (λ xs. xs ++ record { number = p; address = a } ∷ []) s.all;
+  here = λ b. ap (still_open new) (f.newest b) ∙ here b (same_address a b);
+  within = λ b last e. within b last (same_address a b) (sym (f.newest b) ∙ e);
 }
+  where
+    l : Last
+    l = record { number = p; closings = at old.closings p 0 0 }
+
+    itself : (if at new.closings p 0 0 == at old.closings p 0 0 then Some p else None) ≡ Some p
+    itself = rw (ap (λ (t : Table ℕ). at t p 0 0) f.closings, same-number (at old.closings p 0 0)) refl
+
+    before : (x : Option Last) → still_open new x ≡ still_open old x
+    before None = refl
+    before (Some last) = ap (λ (t : Table ℕ). if at t last.number 0 0 == last.closings then Some last.number else None) f.closings
+
+    here : (b : ServerAddress) (same : Bool) → still_open new (if same then Some l else last_at old.newest b) ≡ (if same then Some p else open_pool h b)
+    here b true = itself
+    here b false = before (last_at old.newest b) ∙ s.here b
+
+    within : (b : ServerAddress) (last : Last) (same : Bool) → (if same then Some l else last_at old.newest b) ≡ Some last → last.closings ≤ at new.closings last.number 0 0
+    within b last true e = subst (λ (x : Last). x.closings ≤ at new.closings x.number 0 0) (some-same l last e) (subst (λ (t : Table ℕ). at old.closings p 0 0 ≤ at t p 0 0) (sym f.closings) (omega arith))
+    within b last false e = subst (λ (t : Table ℕ). last.closings ≤ at t last.number 0 0) (sym f.closings) (s.within b last e)
 
 -- a pool was closed
-home-shut : (m p : ℕ) (h : List Item) (old new : Homes) → HomesStand h old → new.all.items ≡ map (once_closed p) old.all.items → (k : List Item) → homes k ≡ homes h → ((b : ServerAddress) → open_pool k b ≡ unless_closed p (open_pool h b)) → HomesStand k new
+home-shut : (m p : ℕ) (h : List Item) (old new : Homes) → HomesStand h old → IsClosed p old new → (k : List Item) → homes k ≡ homes h → ((b : ServerAddress) → open_pool k b ≡ unless_closed p (open_pool h b)) → HomesStand k new
 home-shut m p h old new s f k all here = record {
-  all = ap (map home_of) f ∙ home-closed p old.all.items ∙ s.all ∙ sym all;
-  here = λ b. ap (λ xs. open_at xs b) f ∙ fold-closed b p None old.all.items ∙ ap (unless_closed p) (s.here b) ∙ sym (here b);
+  all = ap (map home_of) f.all ∙ s.all ∙ sym all;
+  here = λ b. ap (λ (y : Newest). still_open new (last_at y b)) f.newest ∙ shut b (last_at old.newest b) refl ∙ ap (unless_closed p) (s.here b) ∙ sym (here b);
+  within = λ b last e. more last (p == last.number) refl (s.within b last (ap (λ (y : Newest). last_at y b) (sym f.newest) ∙ e));
 }
+  where
+    more : (last : Last) (b : Bool) → (p == last.number) ≡ b → last.closings ≤ at old.closings last.number 0 0 → last.closings ≤ at new.closings last.number 0 0
+    more last true u l = let is : p ≡ last.number = same p last.number u in rw (f.closings last.number 0 0, u, is) (omega arith)
+    more last false u l = rw (f.closings last.number 0 0, u) l
+
+    closed : (last : Last) (b : Bool) → (p == last.number) ≡ b → last.closings ≤ at old.closings last.number 0 0 → still_open new (Some last) ≡ unless_closed p (still_open old (Some last))
+    closed last true u l =
+        let is : p ≡ last.number = same p last.number u in
+        let over : (at old.closings last.number 0 0 + 1 == last.closings) ≡ false = once-more last.closings (at old.closings last.number 0 0) l in
+        rw (f.closings last.number 0 0, u, is, over) (none (at old.closings last.number 0 0 == last.closings))
+      where
+        none : (t : Bool) → None ≡ unless_closed last.number (if t then Some last.number else None)
+        none true = rw (same-number last.number) refl
+        none false = refl
+    closed last false u l = rw (f.closings last.number 0 0, u) (other (at old.closings last.number 0 0 == last.closings))
+      where
+        other : (t : Bool) → (if t then Some last.number else None) ≡ unless_closed p (if t then Some last.number else None)
+        other true = rw (apart-back p last.number u) refl
+        other false = refl
+
+    shut : (b : ServerAddress) (x : Option Last) → last_at old.newest b ≡ x → still_open new x ≡ unless_closed p (still_open old x)
+    shut b None e = refl
+    shut b (Some last) e = closed last (p == last.number) refl (s.within b last e)
 
 -- nothing was said of pools that were opened
 homes-same : (h k : List Item) (old new : Homes) → HomesStand h old → new ≡ old → homes k ≡ homes h → ((b : ServerAddress) → open_pool k b ≡ open_pool h b) → HomesStand k new
 homes-same h k old new s f all here = record {
   all = ap (λ (x : Homes). map home_of x.all.items) f ∙ s.all ∙ sym all;
-  here = λ b. ap (λ (x : Homes). open_at x.all.items b) f ∙ s.here b ∙ sym (here b);
+  here = λ b. ap (λ (x : Homes). open_at x b) f ∙ s.here b ∙ sym (here b);
+  within = λ b last e. subst (λ (x : Homes). last.closings ≤ at x.closings last.number 0 0) (sym f) (s.within b last (ap (λ (x : Homes). last_at x.newest b) (sym f) ∙ e));
 }
 
 -- one more fact, as it is shown
@@ -110,4 +140,4 @@ homes-told shown h old new e s f = subst (λ fs. HomesStand (with_facts 0 fs h) 
 
 -- One more accepted step.
 pub homes-step : (step : Step) (reply : Reply) (h : List Item) (x : Homes) → HomesStand h x → HomesStand (did step reply ∷ h) x
-homes-step step reply h x s = record { all = s.all; here = s.here }
+homes-step step reply h x s = record { all = s.all; here = s.here; within = s.within }

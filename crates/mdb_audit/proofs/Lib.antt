@@ -1,7 +1,6 @@
 pub mod Alike
 pub mod AuditEnding
 pub mod Callers
-pub mod Closing
 pub mod FewReads
 pub mod FirstCome
 pub mod Firsts
@@ -16,6 +15,7 @@ pub mod Openings
 pub mod Queued
 pub mod Queueing
 pub mod QueuesStand
+pub mod Ranks
 pub mod Read
 pub mod TakenEntry
 pub mod TakenFacts

@@ -1,9 +1,13 @@
 -- What is touched once more is touched.
-use Rattle.std.proofs.Common.{ℕ, ◌≡◌, ◌==◌, Bool, true, false, ◌&&◌, ◌||◌, List, [], ◌∷◌, ◌++◌, refl, sym, ap, ◌∙◌}
+use Rattle.std.proofs.Common.{ℕ, ◌≡◌, ◌==◌, Bool, true, false, not, ◌&&◌, ◌||◌, List, [], ◌∷◌, ◌++◌, refl, sym, ap, ◌∙◌}
 use Rattle.mdb_tallies.specs.declared.connection.Place.{Place}
 use Rattle.mdb_audit.specs.declared.touched.Touched.{Touched}
 use Rattle.mdb_tallies.specs.Lists.{is_place}
-use Rattle.mdb_audit.specs.Touching.{has_place, Adds}
+use Rattle.mdb_tallies.specs.declared.change.How.{How}
+use Rattle.mdb_tallies.specs.declared.tables.Tables.{Tables}
+use Rattle.mdb_tallies.specs.Changes.{done_now}
+use Rattle.mdb_tallies.specs.Tables.{at}
+use Rattle.mdb_audit.specs.Touching.{has_place, was_given, reaches, Adds}
 use Rattle.mdb_log.specs.Connections.{has}
 use Rattle.mdb_log.proofs.Numbers.{has-append}
 
@@ -39,7 +43,26 @@ adds_pool old new q same e = record { places = λ p c. ap (λ xs. has_place xs.i
 pub adds_place : (old new : Touched) (x : Place) (q d : ℕ) → x ≡ record { pool = q; id = d } → new.places.items ≡ old.places.items ++ x ∷ [] → new.pools.items ≡ old.pools.items ++ q ∷ [] → Adds (λ p c. (q == p) && (d == c)) (λ p. q == p) old new
 adds_place old new x q d is f e = record { places = λ p c. ap (λ xs. has_place xs p c) f ∙ has_place-append old.places.items x p c ∙ ap (λ y. has_place old.places.items p c || is_place y p c) is; pools = λ p. ap (has p) e ∙ has-append p q old.pools.items }
 
-pub adds_all : (old new : Touched) (f : ℕ → ℕ → Bool) → ((p c : ℕ) → has_place new.places.items p c ≡ has_place old.places.items p c || f p c) → new.pools ≡ old.pools → Adds f (λ p. false) old new
-adds_all old new f e same = record { places = e; pools = λ p. ap (λ xs. has p xs.items) same ∙ or-none (has p old.pools.items) }
+and-true : (b : Bool) → b ≡ b && true
+and-true true = refl
+and-true false = refl
 
-pub ruleset adds = (adds_none, adds_pool, adds_all)
+and-false : (b : Bool) → false ≡ b && false
+and-false true = refl
+and-false false = refl
+
+-- nothing is reached any more
+pub reaches_none : (how : How) (r : ℕ) (t : Tables) (x : Touched) → done_now how (at t.parties r 0 0) ≡ true → Adds (reaches how r t) (λ p. false) x x
+reaches_none how r t x e = record {
+  places = λ p c. or-none (has_place x.places.items p c) ∙ ap (λ b. has_place x.places.items p c || b) (and-false (was_given t r p c) ∙ ap (λ b. was_given t r p c && not b) (sym e));
+  pools = λ p. or-none (has p x.pools.items);
+}
+
+-- all that the party was given is reached
+pub reaches_all : (how : How) (r : ℕ) (t : Tables) (old new : Touched) → done_now how (at t.parties r 0 0) ≡ false → ((p c : ℕ) → has_place new.places.items p c ≡ has_place old.places.items p c || was_given t r p c) → new.pools ≡ old.pools → Adds (reaches how r t) (λ p. false) old new
+reaches_all how r t old new e f same = record {
+  places = λ p c. f p c ∙ ap (λ b. has_place old.places.items p c || b) (and-true (was_given t r p c) ∙ ap (λ b. was_given t r p c && not b) (sym e));
+  pools = λ p. ap (λ xs. has p xs.items) same ∙ or-none (has p old.pools.items);
+}
+
+pub ruleset adds = (adds_none, adds_pool)

@@ -13,18 +13,26 @@ use Rattle.mdb_tallies.specs.declared.tables.Tables.{Tables}
 use Rattle.mdb_audit.specs.declared.touched.Touched.{Touched}
 use Rattle.mdb_tallies.specs.Standing.{is_lent}
 use Rattle.mdb_tallies.specs.Tables.{at}
-use Rattle.mdb_tallies.specs.Changes.{connection_after, party_after, pool_after, by_party, changed_if, pool_if, kept_now, lent_now, once_created, once_closed, once_checked_in, once_established, once_failed, once_pinned, once_unpinned, once_granted, once_taken}
+use Rattle.mdb_tallies.specs.Changes.{connection_after, party_after, pool_after, by_party, changed_if, pool_if, done_now, kept_now, lent_now, once_created, once_closed, once_checked_in, once_established, once_failed, once_pinned, once_unpinned, once_granted, once_taken}
 use Rattle.mdb_tallies.specs.Kept.{Covers, Follows}
-use Rattle.mdb_audit.specs.Touching.{has_place, was_given, touches_place, touches_pool, Touches, Tracks}
+use Rattle.mdb_audit.specs.Touching.{has_place, was_given, reaches, touches_place, touches_pool, Touches, Tracks}
 use Rattle.mdb_tallies.specs.Verdicts.{waits_now}
-use Rattle.mdb_tallies.proofs.PartyDoings.{left-false, right-false, nothing-given}
+use Rattle.mdb_tallies.proofs.PartyDoings.{left-false, right-false, nothing-given, nothing-left}
 use Rattle.mdb_audit.proofs.Queued.{waits-after, keeps_waiting}
 
 pub tracks-none : (t : Tables) (x : Touched) → Tracks t t x
 tracks-none t x = record { connections = λ p c e. refl; pools = λ p e. refl; waits = λ p e r w. w }
 
-not-given : (how : How) (t : Tables) (r p c : ℕ) (x : Connection) → Covers t → was_given t r p c ≡ false → by_party how (at t.gifts r p c) (at t.parties r 0 0) x ≡ x
-not-given how t r p c x covers e = nothing-given how (at t.gifts r p c) (at t.parties r 0 0) x (sym (covers.all r p c) ∙ e)
+not-given : (how : How) (t : Tables) (r p c : ℕ) (x : Connection) → Covers t → reaches how r t p c ≡ false → by_party how (at t.gifts r p c) (at t.parties r 0 0) x ≡ x
+not-given how t r p c x covers e = by (done_now how (at t.parties r 0 0)) refl
+  where
+    by : (b : Bool) → done_now how (at t.parties r 0 0) ≡ b → by_party how (at t.gifts r p c) (at t.parties r 0 0) x ≡ x
+    by true u = nothing-left how (at t.gifts r p c) (at t.parties r 0 0) x u
+    by false u = nothing-given how (at t.gifts r p c) (at t.parties r 0 0) x (sym (covers.all r p c) ∙ alone (was_given t r p c) (ap (λ d. was_given t r p c && not d) (sym u) ∙ e))
+      where
+        alone : (a : Bool) → a && true ≡ false → a ≡ false
+        alone true v = cc
+        alone false v = refl
 
 not-here : (b : Bool) (f : Connection → Connection) (x : Connection) → b ≡ false → changed_if b f x ≡ x
 not-here true f x e = cc

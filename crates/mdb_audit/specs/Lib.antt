@@ -5,6 +5,7 @@ pub mod Faults
 pub mod Judging
 pub mod LegalText
 pub mod LineTaking
+pub mod Newest
 pub mod Opens
 pub mod Queueing
 pub mod Shown

@@ -1,12 +1,15 @@
 -- What an entry touches: all that it does not touch is as it was.
-use Rattle.std.specs.Prelude.{ℕ, ◌≡◌, Bool, true, false, ◌&&◌, ◌||◌, ◌==◌, List, [], ◌∷◌}
+use Rattle.std.specs.Prelude.{ℕ, ◌≡◌, Bool, true, false, not, ◌&&◌, ◌||◌, ◌==◌, List, [], ◌∷◌}
 use Rattle.mdb_log.specs.History.{is_number}
 use Rattle.mdb_log.specs.Connections.{has}
 use Rattle.mdb_tallies.specs.declared.connection.Place.{Place}
 use Rattle.mdb_tallies.specs.declared.change.Change.{Change}
 use Rattle.mdb_tallies.specs.declared.change.Change.TheVariants as change
+use Rattle.mdb_tallies.specs.declared.change.How.{How}
+use Rattle.mdb_tallies.specs.declared.change.How.TheVariants as how
 use Rattle.mdb_tallies.specs.declared.tables.Tables.{Tables}
 use Rattle.mdb_audit.specs.declared.touched.Touched.{Touched}
+use Rattle.mdb_tallies.specs.Changes.{done_now}
 use Rattle.mdb_tallies.specs.Tables.{at}
 use Rattle.mdb_tallies.specs.Lists.{nth, len, listed, is_place}
 use Rattle.mdb_tallies.specs.Verdicts.{waits_now}
@@ -20,12 +23,16 @@ has_place (x ∷ xs) p c = is_place x p c || has_place xs p c
 abbrev pub was_given : Tables → ℕ → ℕ → ℕ → Bool
 was_given t r p c = listed (len t.places r) (nth t.places r) p c
 
+-- what the party does so reaches the connection: it was given that, and does so to some connection still
+abbrev pub reaches : How → ℕ → Tables → ℕ → ℕ → Bool
+reaches how r t p c = was_given t r p c && not (done_now how (at t.parties r 0 0))
+
 -- the connection c of pool p is one that the change touches
 abbrev pub touches_place : Change → Tables → ℕ → ℕ → Bool
-touches_place (change.GivenUp r) t p c = was_given t r p c
-touches_place (change.Returned r) t p c = was_given t r p c
-touches_place (change.Pinned r) t p c = was_given t r p c
-touches_place (change.Ended r) t p c = was_given t r p c
+touches_place (change.GivenUp r) t p c = reaches how.GaveUp r t p c
+touches_place (change.Returned r) t p c = reaches how.GaveBack r t p c
+touches_place (change.Pinned r) t p c = reaches how.Pinned r t p c
+touches_place (change.Ended r) t p c = reaches how.Over r t p c
 touches_place (change.Replicated q d) t p c = (q == p) && (d == c)
 touches_place (change.Taken r q d) t p c = (q == p) && (d == c)
 touches_place (change.Unpinned q d) t p c = (q == p) && (d == c)

@@ -1,13 +1,16 @@
 //! The pools that were opened, and which is open at an address.
 
-ghost use Rattle.std.specs.Prelude.{◌≡◌, ℕ, List, [], ◌++◌, ◌∷◌, map, true, OnOk};
+ghost use Rattle.std.specs.Prelude.{◌≡◌, ℕ, ◌+◌, List, [], ◌++◌, ◌∷◌, if◌then◌else◌, OnOk};
 ghost use Rattle.mdb_log.specs.History.{Item, open_pool};
-ghost use Rattle.mdb_audit.specs.Opens.{HomesStand, HomesFollow, open_at, last_at, once_closed};
+ghost use Rattle.mdb_tallies.specs.Tables.{at, same_key};
+ghost use Rattle.mdb_audit.specs.Opens.{HomesStand, HomesFollow, IsOpened, IsClosed, still_open};
 ghost use Rattle.mdb_audit.specs.declared.homes.OpenedPool.{OpenedPool};
 
+use crate::newest::{Last, Newest};
 use mdb_base::{OutOfMemory, ServerAddress};
 use mdb_entries::ShownFact;
 use mdb_events::CmapEvent;
+use mdb_tallies::Table;
 use std::alloc::Global;
 
 /// A pool that was opened.
@@ -15,55 +18,14 @@ use std::alloc::Global;
 pub struct OpenedPool {
     pub number: u32,
     pub address: ServerAddress,
-    /// It was not closed since.
-    pub is_open: bool,
 }
 
-/// The pools in the order in which they were opened.
-#[derive(Debug, Drop)]
+/// The pools in the order in which they were opened, the last one at each address, and how often each was closed.
+#[derive(Drop)]
 pub struct Homes {
     pub all: Vec<OpenedPool>,
-}
-
-impl OpenedPool {
-    // The pool is closed, where this is its number.
-    fn close_if(&mut self, number: u32)
-        ensures { self.new ≡ once_closed number self.old }
-    {
-        if self.number == number {
-            self.is_open = false;
-        }
-    }
-}
-
-// The pool that is open at the address, where this one was opened after the one found.
-fn last_at(address: &ServerAddress, found: Option<u32>, pool: &OpenedPool) -> Option<u32>
-    ensures { result ≡ last_at address.now found pool.now }
-{
-    if !pool.address.is(address) {
-        found
-    } else if pool.is_open {
-        Some(pool.number)
-    } else {
-        None
-    }
-}
-
-fn open_at(pools: &[OpenedPool], address: &ServerAddress) -> Option<u32>
-    ensures { result ≡ open_at pools.now address.now }
-{
-    pools
-        .iter()
-        .fold(None, |found, pool| last_at(address, found, pool))
-}
-
-// The pools of this number are closed.
-fn close(pools: &mut [OpenedPool], number: u32)
-    ensures { pools.new ≡ map (once_closed number) pools.old }
-{
-    for pool in pools.iter_mut() {
-        pool.close_if(number);
-    }
+    pub newest: Newest,
+    pub closings: Table<u32>,
 }
 
 impl Homes {
@@ -72,6 +34,24 @@ impl Homes {
     {
         Homes {
             all: Vec::new(alloc),
+            newest: Newest::new(alloc),
+            closings: Table::new(alloc, 0),
+        }
+    }
+
+    // The number of the pool, where it was not closed since it was opened.
+    fn still_open(&self, last: Option<Last>) -> Option<u32>
+        ensures { result ≡ still_open self.now last }
+    {
+        match last {
+            Some(last) => {
+                if self.closings.get((last.number, 0, 0)) == last.closings {
+                    Some(last.number)
+                } else {
+                    None
+                }
+            }
+            None => None,
         }
     }
 
@@ -79,20 +59,32 @@ impl Homes {
     pub fn open_pool(&self, address: &ServerAddress) -> Option<u32>
         ensures { (h : List Item) → HomesStand h self.now → result ≡ open_pool h address.now }
     {
-        open_at(&self.all, address)
+        self.still_open(self.newest.get(address))
     }
 
     // A pool was opened.
-    fn add(&mut self, number: u32, address: &ServerAddress) -> Result<(), OutOfMemory>
-        ensures { OnOk result (self.new.all.items ≡ self.old.all.items ++ record { number = number; address = address.now; is_open = true } ∷ []) }
+    fn open(&mut self, number: u32, address: &ServerAddress) -> Result<(), OutOfMemory>
+        ensures { OnOk result (IsOpened number address.now self.old self.new) }
     {
+        let closings = self.closings.get((number, 0, 0));
+        self.newest
+            .set(address.clone()?, Last { number, closings })?;
         let pool = OpenedPool {
             number,
             address: address.clone()?,
-            is_open: true,
         };
         self.all.push(pool)?;
         Ok(())
+    }
+
+    // The pools of this number were closed. A count past 2^32 - 1 is more than memory could have brought.
+    fn close(&mut self, number: u32) -> Result<(), OutOfMemory>
+        ensures { OnOk result (IsClosed number self.old self.new) }
+    {
+        match self.closings.get((number, 0, 0)).checked_add(1) {
+            Some(closings) => self.closings.set((number, 0, 0), closings),
+            None => Err(OutOfMemory),
+        }
     }
 
     /// What the fact says of the pools.
@@ -100,11 +92,8 @@ impl Homes {
         ensures { OnOk result (HomesFollow fact.now self.old self.new) }
     {
         match fact {
-            ShownFact::Opened(number, address) => self.add(*number, address),
-            ShownFact::Pool(number, CmapEvent::PoolClosed(_)) => {
-                close(&mut self.all, *number);
-                Ok(())
-            }
+            ShownFact::Opened(number, address) => self.open(*number, address),
+            ShownFact::Pool(number, CmapEvent::PoolClosed(_)) => self.close(*number),
             _ => Ok(()),
         }
     }

@@ -6,6 +6,7 @@ mod grants;
 mod homes;
 mod laws;
 mod leftovers;
+mod newest;
 mod opening;
 mod queues;
 mod reading;

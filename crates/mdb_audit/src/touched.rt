@@ -1,10 +1,10 @@
 //! The connections and pools that an entry touched: all others are as they were.
 
 ghost use Rattle.std.specs.Prelude.{◌≡◌, ◌&&◌, ◌||◌, ◌==◌, ℕ, [], false, OnOk};
-ghost use Rattle.mdb_audit.specs.Touching.{Adds, Touches, has_place, was_given};
+ghost use Rattle.mdb_audit.specs.Touching.{Adds, Touches, has_place, reaches, was_given};
 
 use mdb_base::OutOfMemory;
-use mdb_tallies::{Change, Place, Tables};
+use mdb_tallies::{Change, How, Place, Tables, is_done};
 use std::alloc::Global;
 
 /// What an entry touched.
@@ -64,9 +64,13 @@ impl Touched {
     }
 
     #[tactic(auto, using(crate::proofs::Touches::adds))]
-    fn touch_all(&mut self, tables: &Tables, party: u32) -> Result<(), OutOfMemory>
-        ensures { OnOk result (Adds (was_given tables.now party) (λ p. false) self.old self.new) }
+    fn touch_all(&mut self, tables: &Tables, how: How, party: u32) -> Result<(), OutOfMemory>
+        ensures { OnOk result (Adds (reaches how party tables.now) (λ p. false) self.old self.new) }
     {
+        let known = tables.parties.get((party, 0, 0));
+        if is_done(how, &known) {
+            return Ok(());
+        }
         add_all(&mut self.places, tables, party)
     }
 
@@ -81,10 +85,10 @@ impl Touched {
             | Change::Opened(pool)
             | Change::Began(pool)
             | Change::Turned(pool, _) => self.touch_pool(*pool),
-            Change::GivenUp(party)
-            | Change::Returned(party)
-            | Change::Pinned(party)
-            | Change::Ended(party) => self.touch_all(tables, *party),
+            Change::GivenUp(party) => self.touch_all(tables, How::GaveUp, *party),
+            Change::Returned(party) => self.touch_all(tables, How::GaveBack, *party),
+            Change::Pinned(party) => self.touch_all(tables, How::Pinned, *party),
+            Change::Ended(party) => self.touch_all(tables, How::Over, *party),
             Change::Replicated(pool, id)
             | Change::Taken(_, pool, id)
             | Change::Unpinned(pool, id)

@@ -5,7 +5,8 @@
 pub enum Why {
     /// The line is no entry's text, or has no newline.
     Spelling,
-    /// The first entry doesn't open exactly the seeds.
+    /// The first entry was refused; or it doesn't open exactly the seeds, in the order of their addresses, with numbers from 0;
+    /// or a pool that it opens isn't ready, where there is a load balancer.
     Opening,
     /// A grant isn't to who comes first.
     Grant,

@@ -1,5 +1,5 @@
 -- What a party did is done to one connection after the other that it was given.
-use Rattle.std.proofs.Common.{ℕ, ◌+◌, ◌-◌, ◌≡◌, ◌<◌, ◌==◌, Bool, true, false, ◌&&◌, ◌||◌, if◌then◌else◌, refl, sym, ap, ◌∙◌, arith, add-one}
+use Rattle.std.proofs.Common.{ℕ, ◌+◌, ◌-◌, ◌≡◌, ◌<◌, ◌==◌, Bool, true, false, not, ◌&&◌, ◌||◌, if◌then◌else◌, refl, sym, ap, ◌∙◌, arith, add-one}
 use Rattle.mdb_tallies.specs.declared.connection.Connection.{Connection}
 use Rattle.mdb_tallies.specs.declared.connection.Place.{Place}
 use Rattle.mdb_tallies.specs.declared.party.Gift.{Gift}
@@ -11,11 +11,29 @@ use Rattle.mdb_tallies.specs.declared.change.How.TheVariants.{GaveUp, GaveBack, 
 use Rattle.mdb_tallies.specs.Tables.{at, same_key}
 use Rattle.mdb_tallies.specs.Lists.{nth, len, listed}
 use Rattle.mdb_tallies.specs.Kept.{Covers, SoFar, PartyDid}
-use Rattle.mdb_tallies.specs.Changes.{by_party}
+use Rattle.mdb_tallies.specs.Changes.{by_party, done_now}
+use Rattle.mdb_tallies.specs.Standing.{is_lent}
 use Rattle.mdb_tallies.proofs.Placed.{same}
 
 none_less : (n : ℕ) → n - 0 ≡ n
 none_less n = omega arith
+
+-- who returned keeps nothing, and nothing is lent to it
+back-kept : (t : Bool) → t && not true ≡ false
+back-kept true = refl
+back-kept false = refl
+
+back-lent : (g t over : Bool) → is_lent g t true over ≡ false
+back-lent true true over = refl
+back-lent true false over = refl
+back-lent false t over = refl
+
+over-lent : (g t back over : Bool) → back || over ≡ true → is_lent g t back over ≡ false
+over-lent true true back over e = refl
+over-lent true false true over e = refl
+over-lent true false false true e = refl
+over-lent true false false false e = cc
+over-lent false t back over e = refl
 
 pub left-false : (a b : Bool) → a || b ≡ false → a ≡ false
 left-false true b e = cc
@@ -34,6 +52,16 @@ nothing-given how g x y e = by how (left-false g.is_granted g.is_taken e) (right
     by GaveBack u v = rw (u, v, none_less y.kept, none_less y.lent) refl
     by Pinned u v = rw (u, v) refl
     by Over u v = rw (u, none_less y.lent) refl
+
+-- who does so no more changes nothing
+pub nothing-left : (how : How) (g : Gift) (x : Party) (y : Connection) → done_now how x ≡ true → by_party how g x y ≡ y
+nothing-left GaveUp g x y e = rw (e, back-kept g.is_taken, back-lent g.is_granted g.is_taken x.is_ended) refl
+nothing-left GaveBack g x y e = rw (e, back-kept g.is_taken, back-lent g.is_granted g.is_taken x.is_ended, none_less y.kept, none_less y.lent) refl
+nothing-left Pinned g x y e = rw (e, back-kept g.is_taken, back-lent g.is_granted g.is_taken x.is_ended) refl
+nothing-left Over g x y e = rw (over-lent g.is_granted g.is_taken x.is_returned x.is_ended e, none_less y.lent) refl
+
+pub did-nothing : (how : How) (r : ℕ) (t : Tables) → done_now how (at t.parties r 0 0) ≡ true → PartyDid how r t t
+did-nothing how r t e = record { connections = λ p c. sym (nothing-left how (at t.gifts r p c) (at t.parties r 0 0) (at t.connections p c 0) e); gifts = refl; parties = refl; pools = refl; places = refl }
 
 pub did-none : (how : How) (r : ℕ) (t : Tables) → SoFar how r 0 t t
 did-none how r t = record { connections = λ p c. refl; gifts = refl; parties = refl; pools = refl; places = refl }

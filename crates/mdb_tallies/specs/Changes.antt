@@ -73,6 +73,11 @@ pending_now x = nat_lt 0 x.creations && (not x.is_tried && not (nat_lt 0 x.closi
 abbrev pub held_by_now : Gift → Party → Connection → Bool
 held_by_now gift party x = kept_now gift party || (lent_now gift party && not (pending_now x))
 
+-- the party does so no more to any connection that it was given: it returned, or its request ended before
+abbrev pub done_now : How → Party → Bool
+done_now how.Over party = party.is_returned || party.is_ended
+done_now how party = party.is_returned
+
 -- where the test holds
 abbrev pub changed_if : Bool → (Connection → Connection) → Connection → Connection
 changed_if b change x = if b then change x else x

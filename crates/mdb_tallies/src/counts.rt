@@ -2,7 +2,7 @@
 
 ghost use Rattle.std.specs.Prelude.{◌≡◌, ◌+◌, ◌-◌, ◌&&◌, ◌||◌, not, true, false, nat_lt, IfOk};
 ghost use Rattle.mdb_log.specs.Connections.{one_if};
-ghost use Rattle.mdb_tallies.specs.Changes.{pending_now, at_hand_now, closed_now, once_created, once_closed, once_checked_in, once_established, once_failed, once_pinned, once_unpinned, once_back, once_granted, once_taken, once_over, once_returned, kept_now, lent_now, held_by_now, by_party};
+ghost use Rattle.mdb_tallies.specs.Changes.{pending_now, at_hand_now, closed_now, once_created, once_closed, once_checked_in, once_established, once_failed, once_pinned, once_unpinned, once_back, once_granted, once_taken, once_over, once_returned, kept_now, lent_now, held_by_now, done_now, by_party};
 ghost use Rattle.mdb_tallies.specs.Standing.{is_lent};
 
 use crate::change::How;
@@ -169,6 +169,16 @@ pub fn is_held(gift: &Gift, party: &Party, connection: &Connection) -> bool
     ensures { result ≡ held_by_now gift.now party.now connection.now }
 {
     is_kept(gift, party) || (is_lent(gift, party) && !connection.is_pending())
+}
+
+/// The party does so no more to any connection that it was given: it returned, or its request ended before.
+pub fn is_done(how: How, party: &Party) -> bool
+    ensures { result ≡ done_now how party.now }
+{
+    match how {
+        How::Over => party.is_returned || party.is_ended,
+        _ => party.is_returned,
+    }
 }
 
 /// The connection after what one of its parties did.

@@ -4,7 +4,7 @@ ghost use Rattle.std.specs.Prelude.{OnOk};
 ghost use Rattle.mdb_tallies.specs.Kept.{PartyDid, Covers};
 
 use crate::change::How;
-use crate::counts::by_party;
+use crate::counts::{by_party, is_done};
 use crate::tables::Tables;
 use mdb_base::OutOfMemory;
 
@@ -14,6 +14,9 @@ impl Tables {
         ensures { OnOk result (Covers self.old → PartyDid how party self.old self.new) }
     {
         let known = self.parties.get((party, 0, 0));
+        if is_done(how, &known) {
+            return Ok(());
+        }
         let count = self.places.len(party);
         for index in 0..count {
             let place = self.places.get(party, index);

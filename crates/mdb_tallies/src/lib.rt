@@ -19,6 +19,7 @@ mod tables;
 pub use apply::of_event;
 pub use change::{Change, How};
 pub use connection::{Connection, Place};
+pub use counts::is_done;
 pub use lists::Lists;
 pub use party::{Gift, Party};
 pub use pools::Pool;

@@ -1,9 +1,12 @@
-use Rattle.std.proofs.Common.{◌≡◌, ◌<◌, ℕ, arith, ap, ◌∙◌}
+use Rattle.std.proofs.Common.{◌≡◌, ◌<◌, ℕ, arith, ap, sym, ◌∙◌}
 use Rattle.mdb_tallies.specs.Tables.{at}
 use Rattle.mdb_tallies.specs.Lists.{nth, len}
-use Rattle.mdb_tallies.specs.Changes.{by_party}
-use Rattle.mdb_tallies.proofs.PartyDoings.{did-none, did-next, did-all}
+use Rattle.mdb_tallies.specs.Changes.{by_party, done_now}
+use Rattle.mdb_tallies.proofs.PartyDoings.{did-none, did-nothing, did-next, did-all}
 use Rattle.mdb_tallies.proofs.tables.Tables.party_did.Goals as goal
+
+pub returns-then-is_done : goal.returns-then-is_done
+returns-then-is_done c = λ covers. did-nothing c.args.how c.args.party c.args.self.now (ap (done_now c.args.how) (sym c.get-known.ensures) ∙ sym c.is_done.ensures ∙ c.if-is_done.true)
 
 pub loop-index-init : goal.loop-index-init
 loop-index-init c = λ covers. did-none c.args.how c.args.party c.args.self.now
