@@ -42,7 +42,7 @@ reply_now s k = reply_of (length s.members) k (member_at s k)
 
 -- The member's reply is put on the wire.
 abbrev pub asked : ReplicaSet → ℕ → ReplicaSet
-asked s k = record s { wire = s.wire ++ record { member = k; response = reply_now s k } ∷ [] }
+asked s k = record s { wire = s.wire ++ record { member = k; said = member_at s k; response = reply_now s k } ∷ [] }
 
 -- one more change of any member can be counted
 abbrev pub HasRoom : ReplicaSet → Type 0

@@ -133,8 +133,13 @@ impl Fleet {
         ensures err { OnErr result (self.new ≡ self.old) }
     {
         let number = self.wire.len() as u32;
+        let said = self.members[member as usize];
         let response = self.reply_now(alloc, member)?;
-        self.wire.push(Sent { member, response })?;
+        self.wire.push(Sent {
+            member,
+            said,
+            response,
+        })?;
         Ok(number)
     }
 

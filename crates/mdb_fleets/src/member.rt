@@ -63,10 +63,11 @@ impl Member {
     }
 }
 
-/// A reply on the wire, and the number of the member that sent it.
+/// A reply on the wire, the number of the member that sent it, and what that member then held for true.
 #[derive(Debug, Drop)]
 pub struct Sent {
     pub member: u32,
+    pub said: Member,
     pub response: HelloCommandResponse,
 }
 
