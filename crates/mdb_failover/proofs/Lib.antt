@@ -1,0 +1,11 @@
+pub mod Orders
+pub mod Addresses
+pub mod Texts
+pub mod Lists
+pub mod Says
+pub mod Tops
+pub mod Growing
+pub mod Opening
+pub mod Takes
+pub mod Primaries
+pub mod Falling

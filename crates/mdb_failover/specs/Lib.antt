@@ -1,0 +1,3 @@
+pub mod Elections
+pub mod Followed
+pub mod Says

@@ -1,0 +1,4 @@
+pub mod Members
+pub mod ReplicaSet
+pub mod MemberReplies
+pub mod FleetLinks
