@@ -1,0 +1,12 @@
+pub mod Bools
+pub mod Logged
+pub mod Turned
+pub mod Within
+pub mod Numbers
+pub mod Kept
+pub mod Hands
+pub mod Telling
+pub mod Charges
+pub mod TurnLoop
+pub mod Counting
+pub mod Sounds

@@ -1,0 +1,125 @@
+-- What the tables of a proxy hold.
+use Rattle.std.specs.Prelude.{◌≡◌, ℕ, ◌+◌, ◌≤◌, ◌<◌, Bool, true, false, not, ◌&&◌, ◌||◌, if◌then◌else◌, ◌==◌, nat_eq, nat_lt, nat_le, List, [], ◌∷◌, length, Option, Some, None, option_map, ⊤}
+use Rattle.std.specs.List.{list_any}
+use Rattle.std.specs.HashMap.{get}
+use Rattle.mdb_base.specs.Equality.{same_address}
+use Rattle.mdb_base.specs.declared.address.ServerAddress.{ServerAddress}
+use Rattle.mdb_log.specs.declared.log.Entry.{Entry}
+use Rattle.mdb_log.specs.Driver.{is_refusal}
+use Rattle.mdb_proxies.specs.declared.asked.Asked.{Asked}
+use Rattle.mdb_proxies.specs.declared.asked.Standing.{Standing}
+use Rattle.mdb_proxies.specs.declared.asked.Note.{Note}
+use Rattle.mdb_proxies.specs.declared.books.Books.{Books}
+use Rattle.mdb_proxies.specs.declared.books.Fate.{Fate}
+use Rattle.mdb_proxies.specs.declared.books.Fate.TheVariants.{Stays, Charged, Gone}
+use Rattle.mdb_proxies.specs.Shares.{share_of}
+use Rattle.mdb_proxies.specs.Charge.{requests, ends, settles, since, is_held, counts}
+
+-- ---- the standing asks
+
+abbrev pub standing_at : ℕ → ServerAddress → Standing → Bool
+standing_at t a o = (o.tenant == t) && same_address o.address a
+
+abbrev pub charged_at : ℕ → ServerAddress → Standing → Bool
+charged_at t a o = standing_at t a o && not o.held
+
+abbrev pub held_at : ℕ → ServerAddress → Standing → Bool
+held_at t a o = standing_at t a o && o.held
+
+-- the charge, by the standing asks
+abbrev pub charge_in : List Standing → ℕ → ServerAddress → ℕ
+charge_in [] t a = 0
+charge_in (o ∷ os) t a = if charged_at t a o then 1 + charge_in os t a else charge_in os t a
+
+-- how many of the standing asks are held back
+abbrev pub held_in : List Standing → ℕ
+held_in [] = 0
+held_in (o ∷ os) = if o.held then 1 + held_in os else held_in os
+
+-- the ask may be handed on
+abbrev pub may_go : List ℕ → List Standing → Standing → Bool
+may_go shares os o = o.held && nat_lt (charge_in os o.tenant o.address) (share_of shares o.tenant)
+
+-- some standing ask may be handed on
+abbrev pub some_may_go : List ℕ → List Standing → Bool
+some_may_go shares os = list_any (may_go shares os) os
+
+-- what an entry makes of a standing ask
+abbrev pub fate_of : Entry → Standing → Fate
+fate_of e o =
+    if o.held then (if requests o.request e.step.act then (if is_refusal e.reply || ends o.request e.facts then Gone else Charged) else Stays)
+    else (if settles o.request e then Gone else Stays)
+
+abbrev pub fated : Fate → Standing → List Standing → List Standing
+fated Stays o os = o ∷ os
+fated Charged o os = record o { held = false } ∷ os
+fated Gone o os = os
+
+-- the standing asks after one more entry
+abbrev pub turned : Entry → List Standing → List Standing
+turned e [] = []
+turned e (o ∷ os) = fated (fate_of e o) o (turned e os)
+
+abbrev pub standing_of : Asked → Bool → Standing
+standing_of x h = record { tenant = x.tenant; request = x.request; address = x.address; held = h }
+
+abbrev pub standing_if : Bool → Bool → Asked → List Standing → List Standing
+standing_if true c x os = standing_of x true ∷ os
+standing_if false true x os = standing_of x false ∷ os
+standing_if false false x os = os
+
+-- the standing ones of these asks, after the log
+abbrev pub standings : List Entry → List Asked → List Standing
+standings log [] = []
+standings log (x ∷ xs) = standing_if (is_held log x) (counts log x) x (standings log xs)
+
+-- ---- the notes
+
+abbrev pub blank : Note
+blank = record { kept = None; returned = false }
+
+-- ---- the numbers
+
+-- no ask has the number
+abbrev pub is_fresh : ℕ → List Asked → Bool
+is_fresh r [] = true
+is_fresh r (x ∷ xs) = not (r == x.request) && is_fresh r xs
+
+-- no two asks have one number
+abbrev pub AreSingle : List Asked → Type 0
+AreSingle [] = ⊤
+AreSingle (x ∷ xs) = (is_fresh x.request xs ≡ true) × AreSingle xs
+
+-- the place of the ask of this number
+abbrev pub place_of : ℕ → List Asked → Option ℕ
+place_of r [] = None
+place_of r (x ∷ xs) = if r == x.request then Some 0 else option_map (λ n. n + 1) (place_of r xs)
+
+-- every ask was made at this length of the log or before
+abbrev pub AreMade : ℕ → List Asked → Type 0
+AreMade n [] = ⊤
+AreMade n (x ∷ xs) = (x.entries ≤ n) × AreMade n xs
+
+-- What stands, and the places of the numbers, are those of these asks after the log.
+pub record Keeps (log : List Entry) (os : List Standing) (xs : List Asked) (known : ℕ → Option ℕ) : Type 0 where
+  pub standing : os ≡ standings log xs
+  pub made : AreMade (length log) xs
+  pub single : AreSingle xs
+  pub placed : (r : ℕ) → known r ≡ place_of r xs
+
+-- the books are those of the log
+abbrev pub KeptBy : List Entry → Books → Type 0
+KeptBy log b = Keeps log b.standing.items b.asks.items (λ r. get nat_eq b.known r)
+
+-- no tenant has more than its share
+abbrev pub AreWithin : List ℕ → List Standing → Type 0
+AreWithin shares os = (t : ℕ) (a : ServerAddress) → charge_in os t a ≤ share_of shares t
+
+-- The books are those of the log, and no tenant is past its share.
+pub record Sound (log : List Entry) (shares : List ℕ) (b : Books) : Type 0 where
+  pub keeps : KeptBy log b
+  pub within : AreWithin shares b.standing.items
+
+-- a new ask of the tenant is held back: its charge is not below its share, or an earlier ask is held back there
+abbrev pub is_off_in : List ℕ → List Standing → ℕ → ServerAddress → Bool
+is_off_in shares os t a = nat_le (share_of shares t) (charge_in os t a) || list_any (held_at t a) os
