@@ -1,0 +1,3 @@
+module mdb
+
+go 1.19

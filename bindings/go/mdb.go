@@ -1,0 +1,274 @@
+// Package mdb is one driver's connection pools, and what it knows of its servers, over the C library of include/mdb.h. It is told what happened, step by
+// step: moments are in milliseconds. `make -C bindings` builds the library that it links.
+package mdb
+
+/*
+#cgo CFLAGS: -I${SRCDIR}/../../include
+#cgo LDFLAGS: ${SRCDIR}/../out/libmdb.a
+#include "mdb.h"
+*/
+import "C"
+
+import (
+	"fmt"
+	"sync"
+	"unsafe"
+)
+
+// A Status is why a call was not done. Nothing changed then.
+type Status uint32
+
+const (
+	NoMemory  Status = C.MDB_NO_MEMORY
+	Malformed Status = C.MDB_MALFORMED
+	NoRoom    Status = C.MDB_NO_ROOM
+	Closed    Status = C.MDB_CLOSED
+	Opened    Status = C.MDB_OPENED
+	NoEntry   Status = C.MDB_NO_ENTRY
+)
+
+var words = map[Status]string{
+	NoMemory: "out of memory", Malformed: "malformed", NoRoom: "the text does not fit", Closed: "the driver is closed",
+	Opened: "the driver is open already", NoEntry: "there is no such fact or pool",
+}
+
+func (s Status) Error() string {
+	if word, known := words[s]; known {
+		return word
+	}
+	return fmt.Sprintf("status %d", uint32(s))
+}
+
+// A Kind is the kind of a reply.
+type Kind uint32
+
+const (
+	Pooled       Kind = C.MDB_POOLED
+	Establishing Kind = C.MDB_ESTABLISHING
+	Waiting      Kind = C.MDB_WAITING
+	Ended        Kind = C.MDB_ENDED
+	Job          Kind = C.MDB_JOB
+	NoJob        Kind = C.MDB_NO_JOB
+	Changed      Kind = C.MDB_CHANGED
+	Count        Kind = C.MDB_COUNT
+	Done         Kind = C.MDB_DONE
+	Refused      Kind = C.MDB_REFUSED
+)
+
+// A Use is how a connection was used by the party that returns it.
+type Use uint32
+
+const (
+	Used      Use = C.MDB_USE_OK
+	Errored   Use = C.MDB_USE_ERRORED
+	Dropped   Use = C.MDB_USE_DROPPED
+	Streaming Use = C.MDB_USE_STREAMING
+)
+
+// A Connection is named by the number of its pool and its own.
+type Connection struct{ Pool, ID uint32 }
+
+// A Reply is what the one who makes a step is told. A number that the kind does not have is 0; the header names those of Why.
+type Reply struct {
+	Kind          Kind
+	Pool, ID, Why uint32
+	Number        uint64
+}
+
+// Connection is that of Pooled, Establishing and Job.
+func (r Reply) Connection() Connection { return Connection{r.Pool, r.ID} }
+
+// A Fact of the last entry, with its text. A number that the kind does not have is 0; the header names all of them.
+type Fact struct {
+	Kind, Event, Pool, ID, Party, Why uint32
+	Number                            uint64
+	Text                              string
+}
+
+// A Driver may be shared by many goroutines: a lock gives it to one call at a time.
+type Driver struct {
+	turn sync.Mutex
+	slot C.mdb_slot // memory of Go's, which holds a pointer of C's alone
+}
+
+// Open opens a driver by an `open` line of a script, as `open seeds=a:27017 max=10`.
+func Open(line string) (*Driver, error) {
+	if C.mdb_abi() != C.MDB_ABI {
+		return nil, fmt.Errorf("the library has the interface %d", C.mdb_abi())
+	}
+	d := new(Driver)
+	text := []byte(line)
+	if err := failed(C.mdb_open_line(&d.slot, 0, start(text), C.size_t(len(text)))); err != nil {
+		return nil, err
+	}
+	return d, nil
+}
+
+// Close frees the driver. Each later call answers Closed; a second Close does nothing.
+func (d *Driver) Close() {
+	d.turn.Lock()
+	defer d.turn.Unlock()
+	C.mdb_close(&d.slot)
+}
+
+// Line does the step that a line of a script spells, any but `open`.
+func (d *Driver) Line(seat uint32, line string) (Reply, error) {
+	text := []byte(line)
+	return d.told(func(reply *C.mdb_reply) C.mdb_status {
+		return C.mdb_line(&d.slot, C.uint32_t(seat), start(text), C.size_t(len(text)), reply)
+	})
+}
+
+// Request: a caller asks for a connection to the address.
+func (d *Driver) Request(moment uint64, party uint32, address string) (Reply, error) {
+	at, text := when(moment), []byte(address)
+	return d.told(func(reply *C.mdb_reply) C.mdb_status {
+		return C.mdb_request(&d.slot, &at, C.uint32_t(party), start(text), C.size_t(len(text)), reply)
+	})
+}
+
+// Collect: the caller of a request asks how it stands.
+func (d *Driver) Collect(moment uint64, party uint32) (Reply, error) {
+	at := when(moment)
+	return d.told(func(reply *C.mdb_reply) C.mdb_status { return C.mdb_collect(&d.slot, &at, C.uint32_t(party), reply) })
+}
+
+// GiveUp: the caller of a request no longer wants its connection.
+func (d *Driver) GiveUp(moment uint64, party uint32) (Reply, error) {
+	at := when(moment)
+	return d.told(func(reply *C.mdb_reply) C.mdb_status { return C.mdb_give_up(&d.slot, &at, C.uint32_t(party), reply) })
+}
+
+// Return: a party returns its connection.
+func (d *Driver) Return(moment uint64, party uint32, used Use) (Reply, error) {
+	at := when(moment)
+	return d.told(func(reply *C.mdb_reply) C.mdb_status {
+		return C.mdb_return(&d.slot, &at, C.uint32_t(party), C.uint32_t(used), reply)
+	})
+}
+
+// Claim: a worker asks for a connection to establish.
+func (d *Driver) Claim(moment uint64) (Reply, error) {
+	at := when(moment)
+	return d.told(func(reply *C.mdb_reply) C.mdb_status { return C.mdb_claim(&d.slot, &at, reply) })
+}
+
+// Established: a pending connection is ready. The service is that behind a load balancer in 24 hex digits, or empty.
+func (d *Driver) Established(moment uint64, connection Connection, wire int32, service string) (Reply, error) {
+	at, text := when(moment), []byte(service)
+	made := C.mdb_established_as{pool: C.uint32_t(connection.Pool), id: C.uint32_t(connection.ID), wire: C.int32_t(wire), server_id: -1}
+	return d.told(func(reply *C.mdb_reply) C.mdb_status {
+		return C.mdb_established(&d.slot, &at, &made, start(text), C.size_t(len(text)), reply)
+	})
+}
+
+// Failed: a pending connection failed: `pre ERROR` before the server's hello, `post ERROR` or `post sid=ID ERROR` after it.
+func (d *Driver) Failed(moment uint64, connection Connection, outcome string) (Reply, error) {
+	at, text := when(moment), []byte(outcome)
+	place := C.mdb_connection{pool: C.uint32_t(connection.Pool), id: C.uint32_t(connection.ID)}
+	return d.told(func(reply *C.mdb_reply) C.mdb_status {
+		return C.mdb_failed(&d.slot, &at, &place, start(text), C.size_t(len(text)), reply)
+	})
+}
+
+// Error: an operation of a party met an error on its connection, as `network msg=reset`.
+func (d *Driver) Error(moment uint64, party uint32, met string) (Reply, error) {
+	at, text := when(moment), []byte(met)
+	return d.told(func(reply *C.mdb_reply) C.mdb_status {
+		return C.mdb_error(&d.slot, &at, C.uint32_t(party), start(text), C.size_t(len(text)), reply)
+	})
+}
+
+// Hello: what the hello of a monitor came to: `ok rtt=NANOSECONDS FIELD=VALUE ..` or `err ERROR`. The address has its port.
+func (d *Driver) Hello(moment uint64, address string, pool uint32, outcome string) (Reply, error) {
+	at, monitor, text := when(moment), []byte(fmt.Sprintf("%s %d", address, pool)), []byte(outcome)
+	return d.told(func(reply *C.mdb_reply) C.mdb_status {
+		return C.mdb_hello(&d.slot, &at, start(monitor), C.size_t(len(monitor)), start(text), C.size_t(len(text)), reply)
+	})
+}
+
+// Maintain: the timer of the pool of the address.
+func (d *Driver) Maintain(moment uint64, address string) (Reply, error) {
+	at, text := when(moment), []byte(address)
+	return d.told(func(reply *C.mdb_reply) C.mdb_status {
+		return C.mdb_maintain(&d.slot, &at, start(text), C.size_t(len(text)), reply)
+	})
+}
+
+// Stop: the driver's pools and monitors are closed.
+func (d *Driver) Stop(moment uint64) (Reply, error) {
+	at := when(moment)
+	return d.told(func(reply *C.mdb_reply) C.mdb_status { return C.mdb_stop(&d.slot, &at, reply) })
+}
+
+// EntryText is the text of the last entry, with its newline.
+func (d *Driver) EntryText() (string, error) {
+	d.turn.Lock()
+	defer d.turn.Unlock()
+	return text(func(out *C.uint8_t, room C.size_t, needed *C.size_t) C.mdb_status {
+		return C.mdb_entry_text(&d.slot, out, room, needed)
+	})
+}
+
+// Facts are those of the last entry, in the order in which they became true. Where goroutines share a driver, another step may come between a step and this.
+func (d *Driver) Facts() ([]Fact, error) {
+	d.turn.Lock()
+	defer d.turn.Unlock()
+	var count C.size_t
+	if err := failed(C.mdb_fact_count(&d.slot, &count)); err != nil {
+		return nil, err
+	}
+	facts := make([]Fact, 0, int(count))
+	for i := C.size_t(0); i < count; i++ {
+		var f C.mdb_fact
+		if err := failed(C.mdb_fact_at(&d.slot, i, &f)); err != nil {
+			return nil, err
+		}
+		told, err := text(func(out *C.uint8_t, room C.size_t, needed *C.size_t) C.mdb_status {
+			return C.mdb_fact_text(&d.slot, i, out, room, needed)
+		})
+		if err != nil {
+			return nil, err
+		}
+		facts = append(facts, Fact{uint32(f.kind), uint32(f.event), uint32(f.pool), uint32(f.id), uint32(f.party), uint32(f.why), uint64(f.number), told})
+	}
+	return facts, nil
+}
+
+func (d *Driver) told(call func(*C.mdb_reply) C.mdb_status) (Reply, error) {
+	d.turn.Lock()
+	defer d.turn.Unlock()
+	var r C.mdb_reply
+	if err := failed(call(&r)); err != nil {
+		return Reply{}, err
+	}
+	return Reply{Kind(r.kind), uint32(r.pool), uint32(r.id), uint32(r.why), uint64(r.number)}, nil
+}
+
+func failed(status C.mdb_status) error {
+	if status == C.MDB_OK {
+		return nil
+	}
+	return Status(status)
+}
+
+func when(moment uint64) C.mdb_at { return C.mdb_at{moment: C.uint64_t(moment)} }
+
+// Where the bytes begin, which is never null.
+func start(bytes []byte) *C.uint8_t {
+	if len(bytes) == 0 {
+		return new(C.uint8_t)
+	}
+	return (*C.uint8_t)(unsafe.Pointer(&bytes[0]))
+}
+
+func text(call func(*C.uint8_t, C.size_t, *C.size_t) C.mdb_status) (string, error) {
+	out, needed := make([]byte, 1024), C.size_t(0)
+	for {
+		status := call(start(out), C.size_t(len(out)), &needed)
+		if status != C.MDB_NO_ROOM {
+			return string(out[:needed]), failed(status)
+		}
+		out = make([]byte, int(needed))
+	}
+}

@@ -1,0 +1,136 @@
+package mdb
+
+import (
+	"fmt"
+	"strings"
+	"sync"
+	"testing"
+)
+
+func opened(t testing.TB) *Driver {
+	d, err := Open("open seeds=a:27017 max=100")
+	if err != nil {
+		t.Fatal(err)
+	}
+	if r, err := d.Line(0, "hello 1 a:27017 0 ok rtt=1000000 isWritablePrimary=true maxWireVersion=21"); err != nil || r.Kind != Changed {
+		t.Fatal(r, err)
+	}
+	r, err := d.Request(2, 1, "a")
+	if err != nil || r.Kind != Establishing {
+		t.Fatal(r, err)
+	}
+	if made, err := d.Established(3, r.Connection(), 21, ""); err != nil || made.Kind != Done {
+		t.Fatal(made, err)
+	}
+	return d
+}
+
+func TestOrdinaryPath(t *testing.T) {
+	d := opened(t)
+	defer d.Close()
+	facts, err := d.Facts()
+	if err != nil || len(facts) != 2 || facts[1].Text != "Pool 0 ConnectionCheckedOut a:27017 1 1" {
+		t.Fatal(facts, err)
+	}
+	if r, err := d.Return(4, 1, Used); err != nil || r.Kind != Done {
+		t.Fatal(r, err)
+	}
+	if text, err := d.EntryText(); err != nil || text != "return 4 1 ok | Done | Pool 0 ConnectionCheckedIn a:27017 1\n" {
+		t.Fatal(text, err)
+	}
+}
+
+func TestErrors(t *testing.T) {
+	d := opened(t)
+	if _, err := d.Request(4, 2, "a:0"); err != Malformed {
+		t.Fatal(err)
+	}
+	if _, err := d.Line(0, ""); err != Malformed {
+		t.Fatal(err)
+	}
+	if r, err := d.Hello(4, "a:27017", 0, "err network msg=x"); err != nil || r.Number != 1 {
+		t.Fatal(r, err)
+	}
+	if r, err := d.Error(4, 1, "network msg=late"); err != nil || r.Kind != Changed || r.Number != 0 {
+		t.Fatal(r, err)
+	}
+	if r, err := d.Failed(4, Connection{0, 9}, "pre other msg=x"); err != nil || r.Kind != Refused {
+		t.Fatal(r, err)
+	}
+	if r, err := d.Claim(0); err != nil || r.Kind != Refused || r.Number != 4 {
+		t.Fatal(r, err)
+	}
+	d.Close()
+	d.Close()
+	if _, err := d.Claim(5); err != Closed {
+		t.Fatal(err)
+	}
+	if _, err := Open("claim 1"); err != Malformed {
+		t.Fatal(err)
+	}
+}
+
+func TestLongTexts(t *testing.T) {
+	seeds := make([]string, 128)
+	for i := range seeds {
+		seeds[i] = fmt.Sprintf("h%d:1", i)
+	}
+	d, err := Open("open seeds=" + strings.Join(seeds, ","))
+	if err != nil {
+		t.Fatal(err)
+	}
+	defer d.Close()
+	if text, err := d.EntryText(); err != nil || len(text) < 8192 {
+		t.Fatal(len(text), err)
+	}
+}
+
+func TestGoroutines(t *testing.T) {
+	d := opened(t)
+	defer d.Close()
+	var crew sync.WaitGroup
+	for seat := uint32(0); seat < 4; seat++ {
+		crew.Add(1)
+		go func(seat uint32) {
+			defer crew.Done()
+			for n := uint32(0); n < 300; n++ {
+				party := 2 + seat*300 + n
+				r, err := d.Request(5, party, "a:27017")
+				if err != nil {
+					t.Error(err)
+					return
+				}
+				if r.Kind == Establishing {
+					if _, err := d.Established(5, r.Connection(), 21, ""); err != nil {
+						t.Error(err)
+					}
+				}
+				if r.Kind == Waiting {
+					if _, err := d.GiveUp(5, party); err != nil {
+						t.Error(err)
+					}
+				} else if _, err := d.Return(5, party, Used); err != nil {
+					t.Error(err)
+				}
+			}
+		}(seat)
+	}
+	crew.Wait()
+}
+
+func BenchmarkCalls(b *testing.B) {
+	d := opened(b)
+	defer d.Close()
+	if _, err := d.Return(4, 1, Used); err != nil {
+		b.Fatal(err)
+	}
+	b.ResetTimer()
+	for n := 0; n < b.N; n++ {
+		if r, err := d.Request(5, uint32(n)+2, "a:27017"); err != nil || r.Kind != Pooled {
+			b.Fatal(r, err)
+		}
+		if _, err := d.Return(5, uint32(n)+2, Used); err != nil {
+			b.Fatal(err)
+		}
+	}
+}

@@ -1,0 +1,19 @@
+"""The connection pools and the server discovery of a MongoDB driver, proved, as a package over the C library of include/mdb.h.
+
+    import mdb
+
+    with mdb.Driver("open seeds=a:27017 lb max=10") as driver:
+        reply = driver.request(0, 1, "a:27017")
+        driver.established(1, reply.connection, wire=21, service="0102030405060708090a0b0c")
+        driver.return_(2, 1)
+"""
+
+from .driver import Driver
+from .errors import Closed, Malformed, MdbError, NoEntry, NoMemory, NoRoom, Opened
+from .values import Connection, End, Event, Fact, FactKind, Kind, Reply, Use, Why
+
+__all__ = [
+    "Closed", "Connection", "Driver", "End", "Event", "Fact", "FactKind", "Kind", "Malformed", "MdbError", "NoEntry", "NoMemory", "NoRoom", "Opened", "Reply",
+    "Use", "Why",
+]
+__version__ = "0.1.0"

@@ -1,0 +1,99 @@
+"""The shared library and its functions, as include/mdb.h declares them."""
+
+from __future__ import annotations
+
+import ctypes
+import os
+from ctypes import POINTER, Structure, c_int32, c_int64, c_size_t, c_uint32, c_uint64, c_void_p
+
+ABI = 1
+
+
+class Slot(Structure):
+    """Memory for one driver. Its words are the library's."""
+
+    _fields_ = [("state", c_uint64), ("at", c_void_p)]
+
+
+class ReplyNumbers(Structure):
+    _fields_ = [("kind", c_uint32), ("pool", c_uint32), ("id", c_uint32), ("why", c_uint32), ("number", c_uint64)]
+
+
+class FactNumbers(Structure):
+    _fields_ = [
+        ("kind", c_uint32), ("event", c_uint32), ("pool", c_uint32), ("id", c_uint32), ("party", c_uint32), ("why", c_uint32), ("number", c_uint64),
+    ]
+
+
+class At(Structure):
+    _fields_ = [("moment", c_uint64), ("seat", c_uint32)]
+
+
+class ConnectionNumbers(Structure):
+    _fields_ = [("pool", c_uint32), ("id", c_uint32)]
+
+
+class EstablishedNumbers(Structure):
+    _fields_ = [("pool", c_uint32), ("id", c_uint32), ("wire", c_int32), ("server_id", c_int64)]
+
+
+_SLOT, _AT, _REPLY, _SIZE = POINTER(Slot), POINTER(At), POINTER(ReplyNumbers), POINTER(c_size_t)
+# A text that is read is a bytes object, which ctypes passes as a pointer to its first byte, and never as NULL.
+_IN, _OUT = [ctypes.c_char_p, c_size_t], [c_void_p, c_size_t, _SIZE]
+
+_CALLS = {
+    "mdb_open_line": [_SLOT, c_uint32, *_IN],
+    "mdb_line": [_SLOT, c_uint32, *_IN, _REPLY],
+    "mdb_entry_text": [_SLOT, *_OUT],
+    "mdb_request": [_SLOT, _AT, c_uint32, *_IN, _REPLY],
+    "mdb_warm": [_SLOT, _AT, c_uint32, *_IN, _REPLY],
+    "mdb_collect": [_SLOT, _AT, c_uint32, _REPLY],
+    "mdb_give_up": [_SLOT, _AT, c_uint32, _REPLY],
+    "mdb_return": [_SLOT, _AT, c_uint32, c_uint32, _REPLY],
+    "mdb_claim": [_SLOT, _AT, _REPLY],
+    "mdb_established": [_SLOT, _AT, POINTER(EstablishedNumbers), *_IN, _REPLY],
+    "mdb_pin": [_SLOT, _AT, c_uint32, _REPLY],
+    "mdb_replicate": [_SLOT, _AT, POINTER(ConnectionNumbers), _REPLY],
+    "mdb_take": [_SLOT, _AT, c_uint32, POINTER(ConnectionNumbers), _REPLY],
+    "mdb_unpin": [_SLOT, _AT, POINTER(ConnectionNumbers), _REPLY],
+    "mdb_maintain": [_SLOT, _AT, *_IN, _REPLY],
+    "mdb_expire": [_SLOT, _AT, *_IN, _REPLY],
+    "mdb_beat": [_SLOT, _AT, *_IN, c_uint32, _REPLY],
+    "mdb_want": [_SLOT, _AT, c_uint32, _REPLY],
+    "mdb_unwant": [_SLOT, _AT, c_uint32, _REPLY],
+    "mdb_error": [_SLOT, _AT, c_uint32, *_IN, _REPLY],
+    "mdb_failed": [_SLOT, _AT, POINTER(ConnectionNumbers), *_IN, _REPLY],
+    "mdb_hello": [_SLOT, _AT, *_IN, *_IN, _REPLY],
+    "mdb_beaten": [_SLOT, _AT, *_IN, *_IN, _REPLY],
+    "mdb_stop": [_SLOT, _AT, _REPLY],
+    "mdb_fact_count": [_SLOT, _SIZE],
+    "mdb_fact_at": [_SLOT, c_size_t, POINTER(FactNumbers)],
+    "mdb_fact_text": [_SLOT, c_size_t, *_OUT],
+    "mdb_last_moment": [_SLOT, POINTER(c_uint64)],
+    "mdb_published": [_SLOT, POINTER(c_uint64)],
+    "mdb_open_pool": [_SLOT, *_IN, POINTER(c_uint32)],
+}
+
+
+def _path() -> str:
+    """The library that MDB_LIBRARY names, that of bindings/out beside this package, or that of the system."""
+    named = os.environ.get("MDB_LIBRARY")
+    if named:
+        return named
+    built = os.path.join(os.path.dirname(os.path.abspath(__file__)), "..", "..", "out", "libmdb.so")
+    return built if os.path.exists(built) else f"libmdb.so.{ABI}"
+
+
+def _load() -> ctypes.CDLL:
+    library = ctypes.CDLL(_path())
+    library.mdb_abi.argtypes, library.mdb_abi.restype = [], c_uint32
+    if library.mdb_abi() != ABI:
+        raise ImportError(f"the library has the interface {library.mdb_abi()}, and this package is for {ABI}")
+    for name, types in _CALLS.items():
+        function = getattr(library, name)
+        function.argtypes, function.restype = types, c_uint32
+    library.mdb_close.argtypes, library.mdb_close.restype = [_SLOT], None
+    return library
+
+
+LIBRARY = _load()

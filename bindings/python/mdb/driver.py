@@ -1,0 +1,232 @@
+"""A driver."""
+
+from __future__ import annotations
+
+import threading
+from ctypes import byref, c_size_t, c_uint32, c_uint64, create_string_buffer
+from typing import Iterator
+
+from ._library import LIBRARY, At, ConnectionNumbers, EstablishedNumbers, FactNumbers, ReplyNumbers, Slot
+from .errors import NoRoom, check
+from .values import Connection, Event, Fact, FactKind, Kind, Reply, Use
+
+_ROOM = 4096
+
+
+def _number(value: int, bits: int) -> int:
+    """The number, if it fits: ctypes would drop the bits beyond."""
+    if not 0 <= value < 1 << bits:
+        raise OverflowError(f"{value} is no number of {bits} bits")
+    return value
+
+
+def _bytes(text: str | bytes) -> bytes:
+    return text.encode("utf-8") if isinstance(text, str) else text
+
+
+class Driver:
+    """One driver: its connection pools, and what it knows of its servers.
+
+    It opens no socket and reads no clock: it is told what happened, step by step. Moments are in milliseconds, durations of checks in nanoseconds.
+    Any number of threads may share one; a lock gives it to one call at a time, and `lock` can be held around a step and its facts.
+    """
+
+    def __init__(self, line: str | bytes, seat: int = 0) -> None:
+        """Opens a driver by an `open` line of a script, as `open seeds=a:27017 max=10`. Raises Malformed or NoMemory."""
+        self._slot = Slot()
+        self.lock = threading.RLock()
+        self._reply, self._fact, self._size = ReplyNumbers(), FactNumbers(), c_size_t()
+        self._out = create_string_buffer(_ROOM)
+        text = _bytes(line)
+        check(LIBRARY.mdb_open_line(byref(self._slot), _number(seat, 32), text, len(text)), line)
+
+    def close(self) -> None:
+        """Frees the driver. Each later call raises Closed; a second close does nothing."""
+        with self.lock:
+            LIBRARY.mdb_close(byref(self._slot))
+
+    def __enter__(self) -> "Driver":
+        return self
+
+    def __exit__(self, *_: object) -> None:
+        self.close()
+
+    def __del__(self) -> None:
+        if getattr(self, "_slot", None) is not None and LIBRARY is not None:
+            LIBRARY.mdb_close(byref(self._slot))
+
+    # ---- by lines
+
+    def line(self, line: str | bytes, seat: int = 0) -> Reply:
+        """Does the step that a line of a script spells, any but `open`."""
+        text = _bytes(line)
+        with self.lock:
+            check(LIBRARY.mdb_line(byref(self._slot), _number(seat, 32), text, len(text), byref(self._reply)), line)
+            return self._told()
+
+    def entry_text(self) -> str:
+        """The text of the last entry, with its newline."""
+        return self._text(LIBRARY.mdb_entry_text)
+
+    # ---- by calls
+
+    def request(self, moment: int, party: int, address: str, seat: int = 0) -> Reply:
+        """A caller asks for a connection to the address (CMAP, "Checking Out a Connection")."""
+        text = _bytes(address)
+        return self._step(LIBRARY.mdb_request, moment, seat, _number(party, 32), text, len(text))
+
+    def warm(self, moment: int, party: int, address: str, seat: int = 0) -> Reply:
+        """One connection more for the pool of the address, where fewer live than its minimum."""
+        text = _bytes(address)
+        return self._step(LIBRARY.mdb_warm, moment, seat, _number(party, 32), text, len(text))
+
+    def collect(self, moment: int, party: int, seat: int = 0) -> Reply:
+        """The caller of a request asks how it stands. That it ended is told once."""
+        return self._step(LIBRARY.mdb_collect, moment, seat, _number(party, 32))
+
+    def give_up(self, moment: int, party: int, seat: int = 0) -> Reply:
+        """The caller of a request no longer wants its connection."""
+        return self._step(LIBRARY.mdb_give_up, moment, seat, _number(party, 32))
+
+    def return_(self, moment: int, party: int, used: Use = Use.OK, seat: int = 0) -> Reply:
+        """A party returns its connection (CMAP, "Checking In a Connection")."""
+        return self._step(LIBRARY.mdb_return, moment, seat, _number(party, 32), _number(used, 32))
+
+    def claim(self, moment: int, seat: int = 0) -> Reply:
+        """A worker asks for a connection to establish (CMAP, "Establishing a Connection")."""
+        return self._step(LIBRARY.mdb_claim, moment, seat)
+
+    def established(
+        self, moment: int, connection: Connection, wire: int, service: str = "", server_id: int | None = None, seat: int = 0
+    ) -> Reply:
+        """A pending connection was established. `service` is the service behind a load balancer, in 24 hex digits."""
+        text = _bytes(service)
+        told = -1 if server_id is None else _number(server_id, 63)
+        made = EstablishedNumbers(_number(connection.pool, 32), _number(connection.id, 32), _number(wire, 31), told)
+        return self._step(LIBRARY.mdb_established, moment, seat, byref(made), text, len(text))
+
+    def pin(self, moment: int, party: int, seat: int = 0) -> Reply:
+        """A party pins its connection, so that it stays with its session when it comes back."""
+        return self._step(LIBRARY.mdb_pin, moment, seat, _number(party, 32))
+
+    def replicate(self, moment: int, connection: Connection, seat: int = 0) -> Reply:
+        """One pin more of a pinned connection."""
+        return self._step(LIBRARY.mdb_replicate, moment, seat, self._connection(connection))
+
+    def take(self, moment: int, party: int, connection: Connection, seat: int = 0) -> Reply:
+        """A new party takes a pinned connection."""
+        return self._step(LIBRARY.mdb_take, moment, seat, _number(party, 32), self._connection(connection))
+
+    def unpin(self, moment: int, connection: Connection, seat: int = 0) -> Reply:
+        """One pin less of a pinned connection."""
+        return self._step(LIBRARY.mdb_unpin, moment, seat, self._connection(connection))
+
+    def maintain(self, moment: int, address: str, seat: int = 0) -> Reply:
+        """The timer of the pool of the address: stale and idle connections are closed (CMAP, "Background Thread")."""
+        text = _bytes(address)
+        return self._step(LIBRARY.mdb_maintain, moment, seat, text, len(text))
+
+    def expire(self, moment: int, address: str, seat: int = 0) -> Reply:
+        """The callers of the pool of the address that waited for too long end."""
+        text = _bytes(address)
+        return self._step(LIBRARY.mdb_expire, moment, seat, text, len(text))
+
+    def beat(self, moment: int, address: str, pool: int, seat: int = 0) -> Reply:
+        """The monitor of the address begins a check, for the pool of this number."""
+        text = _bytes(address)
+        return self._step(LIBRARY.mdb_beat, moment, seat, text, len(text), _number(pool, 32))
+
+    def want(self, moment: int, watcher: int, seat: int = 0) -> Reply:
+        """A watcher wants the servers checked at once."""
+        return self._step(LIBRARY.mdb_want, moment, seat, _number(watcher, 32))
+
+    def unwant(self, moment: int, watcher: int, seat: int = 0) -> Reply:
+        """A watcher no longer wants it."""
+        return self._step(LIBRARY.mdb_unwant, moment, seat, _number(watcher, 32))
+
+    def error(self, moment: int, party: int, error: str, seat: int = 0) -> Reply:
+        """An operation of a party met an error on its connection, as `network msg=reset`."""
+        text = _bytes(error)
+        return self._step(LIBRARY.mdb_error, moment, seat, _number(party, 32), text, len(text))
+
+    def failed(self, moment: int, connection: Connection, outcome: str, seat: int = 0) -> Reply:
+        """A pending connection failed: `pre ERROR` before the server's hello, `post ERROR` or `post sid=ID ERROR` after it."""
+        text = _bytes(outcome)
+        return self._step(LIBRARY.mdb_failed, moment, seat, self._connection(connection), text, len(text))
+
+    def hello(self, moment: int, address: str, pool: int, outcome: str, seat: int = 0) -> Reply:
+        """What the hello of a monitor came to: `ok rtt=NANOSECONDS FIELD=VALUE ..` or `err ERROR`. The address has its port."""
+        monitor, text = _bytes(f"{address} {pool}"), _bytes(outcome)
+        return self._step(LIBRARY.mdb_hello, moment, seat, monitor, len(monitor), text, len(text))
+
+    def beaten(self, moment: int, address: str, pool: int, outcome: str, seat: int = 0) -> Reply:
+        """The check of a monitor ended: its nanoseconds, and then `ok FIELD=VALUE ..`, `err ERROR` or `cancelled ERROR`."""
+        monitor, text = _bytes(f"{address} {pool}"), _bytes(outcome)
+        return self._step(LIBRARY.mdb_beaten, moment, seat, monitor, len(monitor), text, len(text))
+
+    def stop(self, moment: int, seat: int = 0) -> Reply:
+        """The driver stops: its pools and its monitors are closed."""
+        return self._step(LIBRARY.mdb_stop, moment, seat)
+
+    # ---- what is known; no steps
+
+    def facts(self) -> list[Fact]:
+        """The facts of the last entry, in the order in which they became true. Hold `lock` around the step and this where threads share the driver."""
+        with self.lock:
+            return list(self._facts())
+
+    def last_moment(self) -> int:
+        """The moment of the last step that was accepted."""
+        return self._wide(LIBRARY.mdb_last_moment)
+
+    def published(self) -> int:
+        """How often an accepted step told of the topology, its opening included."""
+        return self._wide(LIBRARY.mdb_published)
+
+    def open_pool(self, address: str) -> int:
+        """The number of the pool that is open at the address. Raises NoEntry where there is none."""
+        text, pool = _bytes(address), c_uint32()
+        with self.lock:
+            check(LIBRARY.mdb_open_pool(byref(self._slot), text, len(text), byref(pool)), address)
+            return pool.value
+
+    # ---- within
+
+    def _step(self, call, moment: int, seat: int, *values) -> Reply:
+        at = At(_number(moment, 64), _number(seat, 32))
+        with self.lock:
+            check(call(byref(self._slot), byref(at), *values, byref(self._reply)))
+            return self._told()
+
+    def _told(self) -> Reply:
+        told = self._reply
+        return Reply(Kind(told.kind), told.pool, told.id, told.why, told.number)
+
+    @staticmethod
+    def _connection(connection: Connection):
+        return byref(ConnectionNumbers(_number(connection.pool, 32), _number(connection.id, 32)))
+
+    def _wide(self, call) -> int:
+        found = c_uint64()
+        with self.lock:
+            check(call(byref(self._slot), byref(found)))
+            return found.value
+
+    def _text(self, call, *index: int) -> str:
+        """A text that the call writes, with a larger buffer where it does not fit."""
+        with self.lock:
+            while True:
+                room = len(self._out)
+                status = call(byref(self._slot), *index, self._out, room, byref(self._size))
+                if status != NoRoom.status:
+                    check(status)
+                    return self._out.raw[: self._size.value].decode("ascii")
+                self._out = create_string_buffer(2 * self._size.value)
+
+    def _facts(self) -> Iterator[Fact]:
+        check(LIBRARY.mdb_fact_count(byref(self._slot), byref(self._size)))
+        for index in range(self._size.value):
+            check(LIBRARY.mdb_fact_at(byref(self._slot), index, byref(self._fact)), index)
+            fact = self._fact
+            text = self._text(LIBRARY.mdb_fact_text, index)
+            yield Fact(FactKind(fact.kind), Event(fact.event), fact.pool, fact.id, fact.party, fact.why, fact.number, text)

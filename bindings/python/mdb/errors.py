@@ -1,0 +1,54 @@
+"""An exception for each status that is not OK."""
+
+from __future__ import annotations
+
+
+class MdbError(Exception):
+    """A call was not done, and nothing changed. `status` is the number of include/mdb.h."""
+
+    status = 0
+
+
+class NoMemory(MdbError, MemoryError):
+    """There was no memory. The call may be made again."""
+
+    status = 1
+
+
+class Malformed(MdbError, ValueError):
+    """The line spells no such step, or a text or a number means nothing."""
+
+    status = 2
+
+
+class NoRoom(MdbError):
+    """A text did not fit into its buffer. The package asks again with a larger one, so its users do not see this."""
+
+    status = 3
+
+
+class Closed(MdbError):
+    """The driver is closed."""
+
+    status = 4
+
+
+class Opened(MdbError):
+    """The slot holds a driver already."""
+
+    status = 5
+
+
+class NoEntry(MdbError, LookupError):
+    """There is no such fact or pool."""
+
+    status = 6
+
+
+_BY_STATUS = {error.status: error for error in (NoMemory, Malformed, NoRoom, Closed, Opened, NoEntry)}
+
+
+def check(status: int, what: object = "") -> None:
+    """Raises the exception of the status, unless it is OK."""
+    if status:
+        raise _BY_STATUS.get(status, MdbError)(what)

@@ -1,0 +1,157 @@
+"""Replies and facts."""
+
+from __future__ import annotations
+
+from dataclasses import dataclass
+from enum import IntEnum
+
+
+class Kind(IntEnum):
+    """The kind of a reply."""
+
+    POOLED = 1
+    """The party has the connection."""
+    ESTABLISHING = 2
+    """Its connection is pending."""
+    WAITING = 3
+    """The request is in the queue."""
+    ENDED = 4
+    """The request has ended with no connection in hand."""
+    JOB = 5
+    """A pending connection to establish."""
+    NO_JOB = 6
+    """Every pending connection is being established."""
+    CHANGED = 7
+    """Whether the step changed the topology or cleared a pool."""
+    COUNT = 8
+    """An average round trip, or how many watchers ask."""
+    DONE = 9
+    """The step was done, and there is no more to tell."""
+    REFUSED = 10
+    """The step changed nothing."""
+
+
+class End(IntEnum):
+    """How a request ended."""
+
+    CLEARED = 1
+    FAILED = 2
+    CLOSED = 3
+    WARMED = 4
+    FILLED = 5
+    GAVE_UP = 6
+    TIMED_OUT = 7
+
+
+class Why(IntEnum):
+    """Why a step was refused: the first reason that holds, in this order."""
+
+    TIME_BACK = 1
+    UNKNOWN_SERVER = 2
+    REQUEST_KNOWN = 3
+    UNKNOWN_REQUEST = 4
+    NOT_HOLDER = 5
+    NOT_PENDING = 6
+    UNPINNED = 7
+    PIN_IN_USE = 8
+    PIN_STATE = 9
+    CHECK_RUNNING = 10
+    NOT_CHECKING = 11
+    WRONG_MODE = 12
+    EXHAUSTED = 13
+
+
+class Use(IntEnum):
+    """How a connection was used by the party that returns it."""
+
+    OK = 0
+    ERRORED = 1
+    DROPPED = 2
+    STREAMING = 3
+
+
+class FactKind(IntEnum):
+    """The kind of a fact."""
+
+    OPENED = 1
+    POOL = 2
+    GRANTED = 3
+    ENDED = 4
+    RAISED = 5
+    SDAM = 6
+    CHECK_NOW = 7
+    CANCEL = 8
+
+
+class Event(IntEnum):
+    """The event of a fact of a pool (CMAP, "Events"), or of a server or the topology (SDAM monitoring)."""
+
+    NONE = 0
+    POOL_CREATED = 1
+    POOL_READY = 2
+    POOL_CLEARED = 3
+    POOL_CLOSED = 4
+    CONNECTION_CREATED = 5
+    CONNECTION_READY = 6
+    CONNECTION_CLOSED = 7
+    CHECKOUT_STARTED = 8
+    CHECKOUT_FAILED = 9
+    CHECKED_OUT = 10
+    CHECKED_IN = 11
+    SERVER_CHANGED = 32
+    SERVER_OPENING = 33
+    SERVER_CLOSED = 34
+    TOPOLOGY_CHANGED = 35
+    TOPOLOGY_OPENING = 36
+    TOPOLOGY_CLOSED = 37
+    HEARTBEAT_STARTED = 38
+    HEARTBEAT_SUCCEEDED = 39
+    HEARTBEAT_FAILED = 40
+
+
+@dataclass(frozen=True)
+class Connection:
+    """A connection, by the number of its pool and its own."""
+
+    pool: int
+    id: int
+
+
+@dataclass(frozen=True)
+class Reply:
+    """What the one who makes a step is told. A number that the kind does not have is 0."""
+
+    kind: Kind
+    pool: int = 0
+    id: int = 0
+    why: int = 0
+    number: int = 0
+
+    @property
+    def connection(self) -> Connection:
+        """Of POOLED, ESTABLISHING and JOB."""
+        return Connection(self.pool, self.id)
+
+    @property
+    def end(self) -> End:
+        """Of ENDED."""
+        return End(self.why)
+
+    @property
+    def refusal(self) -> Why:
+        """Of REFUSED."""
+        return Why(self.why)
+
+
+@dataclass(frozen=True)
+class Fact:
+    """A fact of the last entry, with its text. A number that the kind does not have is 0."""
+
+    kind: FactKind
+    event: Event
+    pool: int
+    id: int
+    party: int
+    why: int
+    number: int
+    text: str

@@ -1,0 +1,165 @@
+"""The package: exceptions, threads, numbers, what is known."""
+
+import threading
+
+import pytest
+
+import mdb
+from mdb import Closed, Connection, Driver, End, Event, FactKind, Kind, Malformed, NoEntry, Use, Why
+
+
+def opened() -> Driver:
+    driver = Driver("open seeds=a:27017 max=2 wait=5")
+    assert driver.line("hello 1 a:27017 0 ok rtt=5 minWireVersion=0 maxWireVersion=21").kind is Kind.CHANGED
+    return driver
+
+
+def test_ordinary_path():
+    with opened() as driver:
+        reply = driver.request(2, 1, "a")
+        assert (reply.kind, reply.connection) == (Kind.ESTABLISHING, Connection(0, 1))
+        assert driver.claim(2).kind is Kind.JOB
+        assert driver.established(3, reply.connection, wire=21).kind is Kind.DONE
+        assert [fact.event for fact in driver.facts()] == [Event.CONNECTION_READY, Event.CHECKED_OUT]
+        assert driver.collect(3, 1).kind is Kind.POOLED
+        assert driver.return_(4, 1).kind is Kind.DONE
+        (fact,) = driver.facts()
+        assert (fact.kind, fact.event, fact.pool, fact.id) == (FactKind.POOL, Event.CHECKED_IN, 0, 1)
+        assert fact.text == "Pool 0 ConnectionCheckedIn a:27017 1"
+
+
+def test_refusals():
+    with opened() as driver:
+        assert driver.request(2, 1, "b:1").refusal is Why.UNKNOWN_SERVER
+        assert driver.facts() == []
+        assert driver.return_(2, 1, Use.ERRORED).refusal is Why.NOT_HOLDER
+        reply = driver.claim(0)
+        assert (reply.refusal, reply.number) == (Why.TIME_BACK, 1)
+
+
+def test_waiting_callers_end():
+    with opened() as driver:
+        for party in range(1, 4):
+            reply = driver.request(2, party, "a:27017")
+        assert reply.kind is Kind.WAITING
+        assert driver.expire(7, "a:27017").kind is Kind.DONE
+        ended = [fact for fact in driver.facts() if fact.kind is FactKind.ENDED]
+        assert [(fact.party, End(fact.why)) for fact in ended] == [(3, End.TIMED_OUT)]
+        assert driver.collect(7, 3).end is End.TIMED_OUT
+
+
+def test_what_is_known():
+    with opened() as driver:
+        assert driver.last_moment() == 1
+        assert driver.published() == 2
+        assert driver.open_pool("A") == 0
+        with pytest.raises(NoEntry):
+            driver.open_pool("b:1")
+        with pytest.raises(Malformed):
+            driver.open_pool("b:0")
+        assert driver.stop(9).kind is Kind.DONE
+        assert driver.last_moment() == 9
+        with pytest.raises(NoEntry):
+            driver.open_pool("a:27017")
+
+
+def test_closed():
+    driver = opened()
+    driver.close()
+    driver.close()
+    for call in (lambda: driver.claim(1), lambda: driver.line("claim 1"), driver.entry_text, driver.facts, driver.last_moment, lambda: driver.open_pool("a:1")):
+        with pytest.raises(Closed):
+            call()
+
+
+@pytest.mark.parametrize("line", ["", "open", "open seeds=", "open seeds=a:1,a:1", "open seeds=a:1 direct lb", "claim 0", "open seeds=a:1\n", "open seeds=\xe9:1"])
+def test_malformed_openings(line):
+    with pytest.raises(Malformed):
+        Driver(line)
+
+
+@pytest.mark.parametrize("address", ["", "a:0", "a:65536", "a b", "[::1", "\xe9", "a\x00"])
+def test_malformed_addresses(address):
+    with opened() as driver:
+        before = driver.entry_text()
+        for call in (lambda: driver.hello(2, address, 0, "ok rtt=5"), lambda: driver.request(2, 1, address), lambda: driver.maintain(2, address), lambda: driver.beat(2, address, 0)):
+            with pytest.raises(Malformed):
+                call()
+        assert driver.entry_text() == before
+
+
+@pytest.mark.parametrize("outcome", ["", "network", "network msg=a|b", "network msg=\n", "network msg=\xe9", "ok", "ok rtt=01", "err other"])
+def test_malformed_outcomes(outcome):
+    with opened() as driver:
+        before = driver.entry_text()
+        for call in (
+            lambda: driver.error(2, 1, outcome),
+            lambda: driver.failed(2, Connection(0, 1), outcome),
+            lambda: driver.hello(2, "a:27017", 0, outcome),
+            lambda: driver.beaten(2, "a:27017", 0, outcome),
+        ):
+            with pytest.raises(Malformed):
+                call()
+        assert driver.entry_text() == before
+
+
+def test_errors_and_outcomes():
+    with opened() as driver:
+        reply = driver.request(2, 1, "a:27017")
+        assert driver.failed(2, reply.connection, "pre network msg=refused").kind is Kind.DONE
+        assert driver.collect(2, 1).end is End.FAILED
+        assert driver.hello(3, "a:27017", 0, "err network msg=x").number == 1
+        assert driver.beat(4, "a:27017", 0).kind is Kind.DONE
+        assert driver.beaten(5, "a:27017", 0, "900000 ok minWireVersion=0 maxWireVersion=21").kind is Kind.CHANGED
+        assert driver.error(6, 1, "network msg=late").refusal is Why.NOT_HOLDER
+
+
+def test_numbers_that_do_not_fit():
+    with opened() as driver:
+        for call in (lambda: driver.claim(-1), lambda: driver.claim(1 << 64), lambda: driver.collect(2, 1 << 32), lambda: driver.claim(2, seat=-1)):
+            with pytest.raises(OverflowError):
+                call()
+        with pytest.raises(Malformed):
+            driver.return_(2, 1, 4)
+        with pytest.raises(Malformed):
+            driver.established(2, Connection(0, 1), 21, service="0102")
+
+
+def test_long_texts():
+    seeds = ",".join(f"h{n}:1" for n in range(128))
+    with Driver(f"open seeds={seeds}") as driver:
+        text = driver.entry_text()
+        assert len(text) > 8192 and text.startswith(f"open seeds={seeds} | Done | ") and text.endswith("\n")
+        assert len(driver.facts()) == text.count(" | ") - 1
+
+
+def test_threads_share_a_driver():
+    driver, rounds = opened(), 200
+    faults = []
+
+    def work(seat):
+        try:
+            for n in range(rounds):
+                party = 1 + seat * rounds + n
+                with driver.lock:
+                    reply = driver.request(5, party, "a:27017", seat)
+                    if reply.kind is Kind.ESTABLISHING:
+                        driver.established(5, reply.connection, 21)
+                        assert driver.collect(5, party).kind is Kind.POOLED
+                    else:
+                        assert reply.kind is Kind.POOLED
+                    assert driver.return_(5, party, seat=seat).kind is Kind.DONE
+        except BaseException as fault:
+            faults.append(fault)
+
+    crew = [threading.Thread(target=work, args=(seat,)) for seat in range(4)]
+    for one in crew:
+        one.start()
+    for one in crew:
+        one.join()
+    driver.close()
+    assert not faults
+
+
+def test_version():
+    assert mdb.__version__ == "0.1.0"

@@ -1,0 +1,240 @@
+//! A driver's connection pools, and what it knows of its servers, over the C library of `include/mdb.h`. What the header asks of a caller is kept by the
+//! types: `&mut self` is one call at a time, a slice's pointer is never null, and a driver is closed once.
+
+mod values;
+
+pub use values::{Connection, End, Error, Event, Fact, FactKind, Kind, Reply, Use, Why};
+
+use mdb_sys as c;
+use std::ptr::null_mut;
+
+/// One driver. It opens no socket and reads no clock: it is told what happened, step by step. Moments are in milliseconds.
+pub struct Driver(c::mdb_slot);
+
+// SAFETY: the library keeps no thread-local state, and a driver is in one call at a time. This is tested under ThreadSanitizer, and not proved.
+#[cfg(feature = "threads")]
+unsafe impl Send for Driver {}
+
+// The reply of a call that makes a step.
+macro_rules! step {
+    ($driver:ident, $call:ident, $moment:ident $(, $more:expr)*) => {{
+        let at = c::mdb_at { moment: $moment, seat: 0 };
+        let mut reply = c::mdb_reply::default();
+        // SAFETY: a slot of this driver's, and other parameters of their own, each slice with its length.
+        Error::check(unsafe { c::$call(&mut $driver.0, &at $(, $more)*, &mut reply) })?;
+        Reply::of(reply)
+    }};
+}
+
+impl Driver {
+    /// Opens a driver by an `open` line of a script, as `open seeds=a:27017 max=10`.
+    ///
+    /// # Errors
+    ///
+    /// `Malformed`, `NoMemory`.
+    pub fn open(line: &str) -> Result<Driver, Error> {
+        // SAFETY: it takes nothing.
+        assert_eq!(unsafe { c::mdb_abi() }, c::MDB_ABI, "the library has another interface");
+        let mut driver = Driver(c::mdb_slot { state: 0, at: null_mut() });
+        // SAFETY: a slot of zeros, and a slice with its length.
+        Error::check(unsafe { c::mdb_open_line(&mut driver.0, 0, line.as_ptr(), line.len()) })?;
+        Ok(driver)
+    }
+
+    /// Does the step that a line of a script spells, any but `open`. The entry has the seat, a number that changes nothing.
+    ///
+    /// # Errors
+    ///
+    /// `Malformed`, `NoMemory`; nothing was done then, here and below.
+    pub fn line(&mut self, seat: u32, line: &str) -> Result<Reply, Error> {
+        let mut reply = c::mdb_reply::default();
+        // SAFETY: a slot of this driver's, a slice with its length, and a reply of its own.
+        Error::check(unsafe { c::mdb_line(&mut self.0, seat, line.as_ptr(), line.len(), &mut reply) })?;
+        Reply::of(reply)
+    }
+
+    /// The text of the last entry, with its newline.
+    ///
+    /// # Errors
+    ///
+    /// `NoMemory`.
+    pub fn entry_text(&mut self) -> Result<String, Error> {
+        // SAFETY: a slot of this driver's, a buffer with its length, and a number of its own.
+        text(|out, room, needed| unsafe { c::mdb_entry_text(&mut self.0, out, room, needed) })
+    }
+
+    /// A caller asks for a connection to the address (CMAP, "Checking Out a Connection").
+    pub fn request(&mut self, moment: u64, party: u32, address: &str) -> Result<Reply, Error> {
+        step!(self, mdb_request, moment, party, address.as_ptr(), address.len())
+    }
+
+    /// One connection more for the pool of the address, where fewer live than its minimum.
+    pub fn warm(&mut self, moment: u64, party: u32, address: &str) -> Result<Reply, Error> {
+        step!(self, mdb_warm, moment, party, address.as_ptr(), address.len())
+    }
+
+    /// The caller of a request asks how it stands. That it ended is told once.
+    pub fn collect(&mut self, moment: u64, party: u32) -> Result<Reply, Error> {
+        step!(self, mdb_collect, moment, party)
+    }
+
+    /// The caller of a request no longer wants its connection.
+    pub fn give_up(&mut self, moment: u64, party: u32) -> Result<Reply, Error> {
+        step!(self, mdb_give_up, moment, party)
+    }
+
+    /// A party returns its connection (CMAP, "Checking In a Connection").
+    pub fn return_connection(&mut self, moment: u64, party: u32, used: Use) -> Result<Reply, Error> {
+        step!(self, mdb_return, moment, party, used as u32)
+    }
+
+    /// A worker asks for a connection to establish (CMAP, "Establishing a Connection").
+    pub fn claim(&mut self, moment: u64) -> Result<Reply, Error> {
+        step!(self, mdb_claim, moment)
+    }
+
+    /// A pending connection was established. `service` is the service behind a load balancer in 24 hex digits, or empty; `server_id` the server's own number.
+    pub fn established(&mut self, moment: u64, connection: Connection, wire: i32, service: &str, server_id: Option<i64>) -> Result<Reply, Error> {
+        let made = c::mdb_established_as { pool: connection.pool, id: connection.id, wire, server_id: server_id.unwrap_or(-1) };
+        step!(self, mdb_established, moment, &made, service.as_ptr(), service.len())
+    }
+
+    /// A party pins its connection, so that it stays with its session when it comes back.
+    pub fn pin(&mut self, moment: u64, party: u32) -> Result<Reply, Error> {
+        step!(self, mdb_pin, moment, party)
+    }
+
+    /// One pin more of a pinned connection.
+    pub fn replicate(&mut self, moment: u64, connection: Connection) -> Result<Reply, Error> {
+        step!(self, mdb_replicate, moment, &connection.numbers())
+    }
+
+    /// A new party takes a pinned connection.
+    pub fn take(&mut self, moment: u64, party: u32, connection: Connection) -> Result<Reply, Error> {
+        step!(self, mdb_take, moment, party, &connection.numbers())
+    }
+
+    /// One pin less of a pinned connection.
+    pub fn unpin(&mut self, moment: u64, connection: Connection) -> Result<Reply, Error> {
+        step!(self, mdb_unpin, moment, &connection.numbers())
+    }
+
+    /// The timer of the pool of the address: stale and idle connections are closed (CMAP, "Background Thread").
+    pub fn maintain(&mut self, moment: u64, address: &str) -> Result<Reply, Error> {
+        step!(self, mdb_maintain, moment, address.as_ptr(), address.len())
+    }
+
+    /// The callers of the pool of the address that waited for too long end.
+    pub fn expire(&mut self, moment: u64, address: &str) -> Result<Reply, Error> {
+        step!(self, mdb_expire, moment, address.as_ptr(), address.len())
+    }
+
+    /// The monitor of the address begins a check, for the pool of this number.
+    pub fn beat(&mut self, moment: u64, address: &str, pool: u32) -> Result<Reply, Error> {
+        step!(self, mdb_beat, moment, address.as_ptr(), address.len(), pool)
+    }
+
+    /// A watcher wants the servers checked at once.
+    pub fn want(&mut self, moment: u64, watcher: u32) -> Result<Reply, Error> {
+        step!(self, mdb_want, moment, watcher)
+    }
+
+    /// A watcher no longer wants it.
+    pub fn unwant(&mut self, moment: u64, watcher: u32) -> Result<Reply, Error> {
+        step!(self, mdb_unwant, moment, watcher)
+    }
+
+    /// An operation of a party met an error on its connection, as `network msg=reset`.
+    pub fn error(&mut self, moment: u64, party: u32, error: &str) -> Result<Reply, Error> {
+        step!(self, mdb_error, moment, party, error.as_ptr(), error.len())
+    }
+
+    /// A pending connection failed: `pre ERROR` before the server's hello, `post ERROR` or `post sid=ID ERROR` after it.
+    pub fn failed(&mut self, moment: u64, connection: Connection, outcome: &str) -> Result<Reply, Error> {
+        step!(self, mdb_failed, moment, &connection.numbers(), outcome.as_ptr(), outcome.len())
+    }
+
+    /// What the hello of a monitor came to: `ok rtt=NANOSECONDS FIELD=VALUE ..` or `err ERROR`. The address has its port.
+    pub fn hello(&mut self, moment: u64, address: &str, pool: u32, outcome: &str) -> Result<Reply, Error> {
+        let monitor = format!("{address} {pool}");
+        step!(self, mdb_hello, moment, monitor.as_ptr(), monitor.len(), outcome.as_ptr(), outcome.len())
+    }
+
+    /// The check of a monitor ended: its nanoseconds, and then `ok FIELD=VALUE ..`, `err ERROR` or `cancelled ERROR`.
+    pub fn beaten(&mut self, moment: u64, address: &str, pool: u32, outcome: &str) -> Result<Reply, Error> {
+        let monitor = format!("{address} {pool}");
+        step!(self, mdb_beaten, moment, monitor.as_ptr(), monitor.len(), outcome.as_ptr(), outcome.len())
+    }
+
+    /// The driver stops: its pools and its monitors are closed.
+    pub fn stop(&mut self, moment: u64) -> Result<Reply, Error> {
+        step!(self, mdb_stop, moment)
+    }
+
+    /// The facts of the last entry, in the order in which they became true.
+    pub fn facts(&mut self) -> Result<Vec<Fact>, Error> {
+        let mut count = 0;
+        // SAFETY: a slot of this driver's, and a number of its own.
+        Error::check(unsafe { c::mdb_fact_count(&mut self.0, &mut count) })?;
+        (0..count).map(|index| self.fact(index)).collect()
+    }
+
+    fn fact(&mut self, index: usize) -> Result<Fact, Error> {
+        let mut numbers = c::mdb_fact::default();
+        // SAFETY: a slot of this driver's, and numbers of their own.
+        Error::check(unsafe { c::mdb_fact_at(&mut self.0, index, &mut numbers) })?;
+        // SAFETY: as in `entry_text`.
+        let text = text(|out, room, needed| unsafe { c::mdb_fact_text(&mut self.0, index, out, room, needed) })?;
+        Fact::of(numbers, text)
+    }
+
+    /// The moment of the last step that was accepted.
+    pub fn last_moment(&mut self) -> Result<u64, Error> {
+        let mut moment = 0;
+        // SAFETY: a slot of this driver's, and a number of its own.
+        Error::check(unsafe { c::mdb_last_moment(&mut self.0, &mut moment) })?;
+        Ok(moment)
+    }
+
+    /// How often an accepted step told of the topology, its opening included.
+    pub fn published(&mut self) -> Result<u64, Error> {
+        let mut count = 0;
+        // SAFETY: a slot of this driver's, and a number of its own.
+        Error::check(unsafe { c::mdb_published(&mut self.0, &mut count) })?;
+        Ok(count)
+    }
+
+    /// The number of the pool that is open at the address, if there is one.
+    pub fn open_pool(&mut self, address: &str) -> Result<Option<u32>, Error> {
+        let mut pool = 0;
+        // SAFETY: a slot of this driver's, a slice with its length, and a number of its own.
+        match Error::check(unsafe { c::mdb_open_pool(&mut self.0, address.as_ptr(), address.len(), &mut pool) }) {
+            Ok(()) => Ok(Some(pool)),
+            Err(Error::NoEntry) => Ok(None),
+            Err(error) => Err(error),
+        }
+    }
+}
+
+impl Drop for Driver {
+    fn drop(&mut self) {
+        // SAFETY: a slot of this driver's.
+        unsafe { c::mdb_close(&mut self.0) }
+    }
+}
+
+// A text that the call writes, with a larger buffer where it does not fit.
+fn text(mut call: impl FnMut(*mut u8, usize, *mut usize) -> u32) -> Result<String, Error> {
+    let mut out = vec![0; 1024];
+    let mut needed = 0;
+    loop {
+        match Error::check(call(out.as_mut_ptr(), out.len(), &mut needed)) {
+            Ok(()) => {
+                out.truncate(needed);
+                return String::from_utf8(out).map_err(|_| Error::Unknown(u32::MAX));
+            }
+            Err(Error::NoRoom) => out.resize(needed, 0),
+            Err(error) => return Err(error),
+        }
+    }
+}

@@ -1,0 +1,112 @@
+use mdb::{Connection, Driver, End, Error, Event, Kind, Use, Why};
+
+fn opened() -> Driver {
+    let mut driver = Driver::open("open seeds=a:27017 max=2 wait=5").unwrap();
+    let reply = driver.line(0, "hello 1 a:27017 0 ok rtt=5 minWireVersion=0 maxWireVersion=21").unwrap();
+    assert_eq!(reply.kind, Kind::Changed);
+    driver
+}
+
+#[test]
+fn the_ordinary_path_is_done() {
+    let mut driver = opened();
+    let reply = driver.request(2, 1, "a").unwrap();
+    assert_eq!((reply.kind, reply.connection()), (Kind::Establishing, Some(Connection { pool: 0, id: 1 })));
+    assert_eq!(driver.claim(2).unwrap().kind, Kind::Job);
+    assert_eq!(driver.established(3, Connection { pool: 0, id: 1 }, 21, "", None).unwrap().kind, Kind::Done);
+    let events: Vec<_> = driver.facts().unwrap().iter().map(|fact| fact.event).collect();
+    assert_eq!(events, [Event::ConnectionReady, Event::CheckedOut]);
+    assert_eq!(driver.collect(3, 1).unwrap().kind, Kind::Pooled);
+    assert_eq!(driver.return_connection(4, 1, Use::Ok).unwrap().kind, Kind::Done);
+    assert_eq!(driver.entry_text().unwrap(), "return 4 1 ok | Done | Pool 0 ConnectionCheckedIn a:27017 1\n");
+    assert_eq!(driver.facts().unwrap()[0].text, "Pool 0 ConnectionCheckedIn a:27017 1");
+}
+
+#[test]
+fn refusals_and_ends_are_told() {
+    let mut driver = opened();
+    assert_eq!(driver.request(2, 1, "b:1").unwrap().refusal(), Some(Why::UnknownServer));
+    for party in 1..=3 {
+        driver.request(2, party, "a:27017").unwrap();
+    }
+    driver.expire(7, "a:27017").unwrap();
+    assert_eq!(driver.collect(7, 3).unwrap().end(), Some(End::TimedOut));
+    assert_eq!(driver.claim(0).unwrap().number, 7);
+}
+
+#[test]
+fn malformed_texts_change_nothing() {
+    let mut driver = opened();
+    let before = driver.entry_text();
+    assert_eq!(driver.request(2, 1, "a:0"), Err(Error::Malformed));
+    assert_eq!(driver.request(2, 1, ""), Err(Error::Malformed));
+    assert_eq!(driver.line(0, ""), Err(Error::Malformed));
+    assert_eq!(driver.established(2, Connection { pool: 0, id: 1 }, -1, "", None), Err(Error::Malformed));
+    assert_eq!(driver.entry_text(), before);
+    assert_eq!(Driver::open("open").err(), Some(Error::Malformed));
+}
+
+#[test]
+fn errors_and_outcomes_are_told() {
+    let mut driver = opened();
+    let connection = driver.request(2, 1, "a:27017").unwrap().connection().unwrap();
+    assert_eq!(driver.failed(2, connection, "pre network msg=refused").unwrap().kind, Kind::Done);
+    assert_eq!(driver.collect(2, 1).unwrap().end(), Some(End::Failed));
+    assert_eq!(driver.hello(3, "a:27017", 0, "err network msg=x").unwrap().number, 1);
+    assert_eq!(driver.beat(4, "a:27017", 0).unwrap().kind, Kind::Done);
+    assert_eq!(driver.beaten(5, "a:27017", 0, "9 ok minWireVersion=0 maxWireVersion=21").unwrap().kind, Kind::Changed);
+    assert_eq!(driver.error(6, 1, "network msg=late").unwrap().refusal(), Some(Why::NotHolder));
+    assert_eq!(driver.error(6, 1, "network"), Err(Error::Malformed));
+}
+
+#[test]
+fn what_is_known_is_told() {
+    let mut driver = opened();
+    assert_eq!((driver.last_moment(), driver.published()), (Ok(1), Ok(2)));
+    assert_eq!((driver.open_pool("A"), driver.open_pool("b:1"), driver.open_pool("b:0")), (Ok(Some(0)), Ok(None), Err(Error::Malformed)));
+}
+
+#[test]
+fn long_texts_are_told_whole() {
+    let seeds: Vec<String> = (0..128).map(|n| format!("h{n}:1")).collect();
+    let mut driver = Driver::open(&format!("open seeds={}", seeds.join(","))).unwrap();
+    let text = driver.entry_text().unwrap();
+    assert!(text.len() > 8192 && text.ends_with('\n'));
+    assert_eq!(driver.facts().unwrap().len() + 1, text.matches(" | ").count());
+}
+
+#[test]
+fn pins_hold_a_connection() {
+    let mut driver = Driver::open("open seeds=a:1 lb").unwrap();
+    let connection = driver.request(1, 1, "a:1").unwrap().connection().unwrap();
+    driver.established(1, connection, 21, "0102030405060708090a0b0c", Some(5)).unwrap();
+    assert_eq!(driver.pin(2, 1).unwrap().kind, Kind::Done);
+    assert_eq!(driver.return_connection(2, 1, Use::Ok).unwrap().kind, Kind::Done);
+    assert_eq!(driver.take(2, 2, connection).unwrap().connection(), Some(connection));
+    assert_eq!(driver.take(2, 3, connection).unwrap().refusal(), Some(Why::PinInUse));
+}
+
+#[cfg(feature = "threads")]
+#[test]
+fn threads_share_a_driver() {
+    use std::sync::{Arc, Mutex};
+    let driver = Arc::new(Mutex::new(opened()));
+    let crew: Vec<_> = (0..4u32)
+        .map(|seat| {
+            let driver = Arc::clone(&driver);
+            std::thread::spawn(move || {
+                for n in 0..500 {
+                    let (party, mut driver) = (1 + seat * 500 + n, driver.lock().unwrap());
+                    let reply = driver.request(5, party, "a:27017").unwrap();
+                    if reply.kind == Kind::Establishing {
+                        driver.established(5, reply.connection().unwrap(), 21, "", None).unwrap();
+                    }
+                    assert_eq!(driver.return_connection(5, party, Use::Ok).unwrap().kind, Kind::Done);
+                }
+            })
+        })
+        .collect();
+    for one in crew {
+        one.join().unwrap();
+    }
+}

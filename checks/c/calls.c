@@ -1,0 +1,261 @@
+// Drives a driver by calls, and a second one by the lines of the same steps: after each step the two have the same reply and the same entry text, and
+// the facts by index are those of the text. Ends with status 1 and the line of the check that fails, or with 0.
+#include "mdb.h"
+#include <inttypes.h>
+#include <stdio.h>
+#include <stdlib.h>
+#include <string.h>
+
+_Static_assert(sizeof(mdb_slot) == 16, "a slot has 16 bytes");
+_Static_assert(sizeof(mdb_reply) == 24, "a reply has 24 bytes");
+_Static_assert(sizeof(mdb_at) == 16, "a moment and a seat have 16 bytes");
+_Static_assert(sizeof(mdb_connection) == 8, "a connection has 8 bytes");
+_Static_assert(sizeof(mdb_established_as) == 24, "what was established has 24 bytes");
+_Static_assert(sizeof(mdb_fact) == 32, "a fact has 32 bytes");
+
+#define CHECK(what) do { if (!(what)) { fprintf(stderr, "line %d: %s\n", __LINE__, #what); exit(1); } } while (0)
+#define ADDRESS (const uint8_t *)"a:27017", 7
+#define TEXT(text) (const uint8_t *)text, sizeof text - 1
+#define NO_TEXT (const uint8_t *)"", 0
+
+static mdb_slot calls = MDB_SLOT_INIT, lines = MDB_SLOT_INIT;
+static mdb_reply reply;
+
+static size_t text_of(mdb_slot *slot, char *out) {
+    size_t needed = 0;
+    CHECK(mdb_entry_text(slot, (uint8_t *)out, 8191, &needed) == MDB_OK && needed < 8192);
+    out[needed] = 0;
+    return needed;
+}
+
+// The texts of the facts that the call layer tells, behind bars, are those of the entry.
+static void facts_agree(const char *entry) {
+    size_t count = 99, needed = 99;
+    CHECK(mdb_fact_count(&calls, &count) == MDB_OK);
+    const char *at = strstr(entry, " | ");
+    CHECK(at);
+    at = strstr(at + 3, " | ");
+    for (size_t i = 0; i < count; i++) {
+        char text[4096];
+        mdb_fact fact;
+        CHECK(at);
+        CHECK(mdb_fact_at(&calls, i, &fact) == MDB_OK && fact.kind >= MDB_FACT_OPENED && fact.kind <= MDB_FACT_CANCEL);
+        CHECK(mdb_fact_text(&calls, i, (uint8_t *)text, sizeof text - 1, &needed) == MDB_OK);
+        text[needed] = 0;
+        CHECK(strncmp(at + 3, text, needed) == 0);
+        CHECK((fact.kind == MDB_FACT_POOL) == (strncmp(text, "Pool ", 5) == 0));
+        CHECK((fact.kind == MDB_FACT_SDAM) == (strncmp(text, "Sdam ", 5) == 0));
+        if (fact.kind == MDB_FACT_GRANTED) {
+            char granted[64];
+            snprintf(granted, sizeof granted, "Granted %" PRIu32 " %" PRIu32 ".%" PRIu32, fact.party, fact.pool, fact.id);
+            CHECK(strcmp(granted, text) == 0);
+        }
+        if (fact.kind == MDB_FACT_POOL && fact.event == MDB_CONNECTION_CLOSED) CHECK(strstr(text, "ConnectionClosed") && fact.id > 0 && fact.why >= MDB_CLOSED_STALE);
+        if (fact.kind == MDB_FACT_POOL && fact.event == MDB_CHECKED_OUT) CHECK(strstr(text, "ConnectionCheckedOut"));
+        if (fact.kind == MDB_FACT_POOL && fact.event == MDB_CHECKED_IN) CHECK(strstr(text, "ConnectionCheckedIn"));
+        at = strstr(at + 3 + needed, " | ");
+    }
+    CHECK(!at);
+    mdb_fact fact = {.kind = 77};
+    CHECK(mdb_fact_at(&calls, count, &fact) == MDB_NO_ENTRY && fact.kind == 77);
+    CHECK(mdb_fact_text(&calls, count, (uint8_t *)"", 0, &needed) == MDB_NO_ENTRY && needed == 0);
+    if (count) CHECK(mdb_fact_text(&calls, 0, (uint8_t *)"", 0, &needed) == MDB_NO_ROOM && needed > 0);
+}
+
+// The step was done by a call: now the line of it, and the comparison.
+static void agrees(mdb_status status, const char *line) {
+    static char one[8192], other[8192];
+    mdb_reply told;
+    CHECK(status == MDB_OK);
+    CHECK(mdb_line(&lines, 7, (const uint8_t *)line, strlen(line), &told) == MDB_OK);
+    CHECK(memcmp(&told, &reply, sizeof told) == 0);
+    text_of(&calls, one);
+    text_of(&lines, other);
+    if (strcmp(one, other) != 0) {
+        fprintf(stderr, "%s\n%s%s", line, one, other);
+        exit(1);
+    }
+    facts_agree(one);
+}
+
+static const char *spelled(const char *form, ...) __attribute__((format(printf, 1, 2)));
+#include <stdarg.h>
+static const char *spelled(const char *form, ...) {
+    static char line[256];
+    va_list words;
+    va_start(words, form);
+    vsnprintf(line, sizeof line, form, words);
+    va_end(words);
+    return line;
+}
+
+// The same line to both.
+static void both(const char *line) { agrees(mdb_line(&calls, 7, (const uint8_t *)line, strlen(line), &reply), line); }
+
+static void open_both(const char *line) {
+    CHECK(mdb_open_line(&calls, 7, (const uint8_t *)line, strlen(line)) == MDB_OK);
+    CHECK(mdb_open_line(&lines, 7, (const uint8_t *)line, strlen(line)) == MDB_OK);
+}
+
+static void closed_slots(void) {
+    mdb_slot none = MDB_SLOT_INIT;
+    mdb_at at = {1, 0};
+    mdb_connection connection = {0, 1};
+    mdb_established_as made = {0, 1, 21, -1};
+    mdb_reply kept = {77, 77, 77, 77, 77}, before = kept;
+    size_t count = 77, needed = 77;
+    uint64_t wide = 77;
+    uint32_t narrow = 77;
+    mdb_fact fact;
+    uint8_t out[4];
+    for (int again = 0; again < 2; again++) {
+        CHECK(mdb_request(&none, &at, 1, ADDRESS, &kept) == MDB_CLOSED && mdb_warm(&none, &at, 1, ADDRESS, &kept) == MDB_CLOSED);
+        CHECK(mdb_collect(&none, &at, 1, &kept) == MDB_CLOSED && mdb_give_up(&none, &at, 1, &kept) == MDB_CLOSED);
+        CHECK(mdb_return(&none, &at, 1, 0, &kept) == MDB_CLOSED && mdb_claim(&none, &at, &kept) == MDB_CLOSED);
+        CHECK(mdb_established(&none, &at, &made, NO_TEXT, &kept) == MDB_CLOSED && mdb_pin(&none, &at, 1, &kept) == MDB_CLOSED);
+        CHECK(mdb_replicate(&none, &at, &connection, &kept) == MDB_CLOSED && mdb_take(&none, &at, 1, &connection, &kept) == MDB_CLOSED);
+        CHECK(mdb_unpin(&none, &at, &connection, &kept) == MDB_CLOSED && mdb_maintain(&none, &at, ADDRESS, &kept) == MDB_CLOSED);
+        CHECK(mdb_expire(&none, &at, ADDRESS, &kept) == MDB_CLOSED && mdb_beat(&none, &at, ADDRESS, 0, &kept) == MDB_CLOSED);
+        CHECK(mdb_want(&none, &at, 1, &kept) == MDB_CLOSED && mdb_unwant(&none, &at, 1, &kept) == MDB_CLOSED && mdb_stop(&none, &at, &kept) == MDB_CLOSED);
+        CHECK(mdb_error(&none, &at, 1, TEXT("network msg=x"), &kept) == MDB_CLOSED && mdb_failed(&none, &at, &connection, TEXT("pre network msg=x"), &kept) == MDB_CLOSED);
+        CHECK(mdb_hello(&none, &at, TEXT("a:1 0"), TEXT("ok rtt=5"), &kept) == MDB_CLOSED && mdb_beaten(&none, &at, TEXT("a:1 0"), TEXT("7 ok"), &kept) == MDB_CLOSED);
+        CHECK(mdb_fact_count(&none, &count) == MDB_CLOSED && count == 77 && mdb_fact_at(&none, 0, &fact) == MDB_CLOSED);
+        CHECK(mdb_fact_text(&none, 0, out, sizeof out, &needed) == MDB_CLOSED && needed == 0);
+        CHECK(mdb_last_moment(&none, &wide) == MDB_CLOSED && mdb_published(&none, &wide) == MDB_CLOSED && wide == 77);
+        CHECK(mdb_open_pool(&none, ADDRESS, &narrow) == MDB_CLOSED && narrow == 77);
+        CHECK(memcmp(&kept, &before, sizeof kept) == 0);
+        mdb_close(&none);
+        mdb_close(&none);
+        none.state = again ? 0 : 0x1234567890abcdef; // another word than that of an open slot is a closed one
+    }
+}
+
+static void malformed(void) {
+    mdb_at at = {50, 0};
+    mdb_established_as made = {0, 1, -1, -1};
+    mdb_reply kept = {77, 77, 77, 77, 77}, before = kept;
+    uint32_t narrow = 77;
+    const char *bad[] = {"", "a:0", "a:65536", "a:", ":1", "a b:1", "a:1 ", "\xff:1", "[::1", "a\n:1"};
+    for (size_t i = 0; i < sizeof bad / sizeof *bad; i++) {
+        const uint8_t *text = (const uint8_t *)bad[i];
+        size_t len = strlen(bad[i]);
+        CHECK(mdb_request(&calls, &at, 999, text, len, &kept) == MDB_MALFORMED && mdb_warm(&calls, &at, 999, text, len, &kept) == MDB_MALFORMED);
+        CHECK(mdb_maintain(&calls, &at, text, len, &kept) == MDB_MALFORMED && mdb_expire(&calls, &at, text, len, &kept) == MDB_MALFORMED);
+        CHECK(mdb_beat(&calls, &at, text, len, 0, &kept) == MDB_MALFORMED && mdb_open_pool(&calls, text, len, &narrow) == MDB_MALFORMED);
+    }
+    CHECK(mdb_established(&calls, &at, &made, NO_TEXT, &kept) == MDB_MALFORMED);
+    made.wire = 21;
+    CHECK(mdb_established(&calls, &at, &made, (const uint8_t *)"0102", 4, &kept) == MDB_MALFORMED);
+    CHECK(mdb_established(&calls, &at, &made, (const uint8_t *)"0102030405060708090a0b0g", 24, &kept) == MDB_MALFORMED);
+    const char *outcomes[] = {"", "network", "network msg=a|b", "network msg=\n", "\xff", "ok rtt=01", "pre", "post sid=01 network msg=x", "err", "7"};
+    for (size_t i = 0; i < sizeof outcomes / sizeof *outcomes; i++) {
+        const uint8_t *text = (const uint8_t *)outcomes[i];
+        mdb_connection connection = {0, 1};
+        size_t len = strlen(outcomes[i]);
+        CHECK(mdb_error(&calls, &at, 1, text, len, &kept) == MDB_MALFORMED && mdb_failed(&calls, &at, &connection, text, len, &kept) == MDB_MALFORMED);
+        CHECK(mdb_hello(&calls, &at, TEXT("a:27017 0"), text, len, &kept) == MDB_MALFORMED && mdb_beaten(&calls, &at, TEXT("a:27017 0"), text, len, &kept) == MDB_MALFORMED);
+        CHECK(mdb_hello(&calls, &at, text, len, TEXT("ok rtt=5"), &kept) == MDB_MALFORMED && mdb_beaten(&calls, &at, text, len, TEXT("7 ok"), &kept) == MDB_MALFORMED);
+    }
+    CHECK(mdb_return(&calls, &at, 1, 4, &kept) == MDB_MALFORMED && mdb_return(&calls, &at, 1, UINT32_MAX, &kept) == MDB_MALFORMED);
+    CHECK(memcmp(&kept, &before, sizeof kept) == 0 && narrow == 77);
+}
+
+static void normal_pool(int rounds) {
+    mdb_at at = {2, 7};
+    uint64_t wide;
+    uint32_t pool = 77;
+    open_both("open seeds=a:27017 max=10 min=1 wait=5");
+    static char opened[8192];
+    text_of(&calls, opened);
+    facts_agree(opened);
+    both("hello 1 a:27017 0 ok rtt=1000000 isWritablePrimary=true maxWireVersion=21");
+    CHECK(mdb_last_moment(&calls, &wide) == MDB_OK && wide == 1);
+    CHECK(mdb_published(&calls, &wide) == MDB_OK && wide == 2);
+    CHECK(mdb_open_pool(&calls, (const uint8_t *)"A", 1, &pool) == MDB_OK && pool == 0);
+    CHECK(mdb_open_pool(&calls, (const uint8_t *)"b:1", 3, &pool) == MDB_NO_ENTRY && pool == 0);
+    malformed();
+    agrees(mdb_warm(&calls, &at, 100, ADDRESS, &reply), "warm 2 100 a:27017");
+    agrees(mdb_claim(&calls, &at, &reply), "claim 2");
+    mdb_established_as made = {reply.pool, reply.id, 21, 5};
+    agrees(mdb_established(&calls, &at, &made, NO_TEXT, &reply), spelled("established 2 0 %u wire=21 server=5", made.id));
+    agrees(mdb_collect(&calls, &at, 100, &reply), "collect 2 100");
+    CHECK(reply.kind == MDB_ENDED && reply.why == MDB_END_FILLED);
+    agrees(mdb_request(&calls, &at, 1, ADDRESS, &reply), "request 2 1 a:27017");
+    agrees(mdb_request(&calls, &at, 1, ADDRESS, &reply), "request 2 1 a:27017");
+    CHECK(reply.kind == MDB_REFUSED && reply.why == MDB_WHY_REQUEST_KNOWN);
+    agrees(mdb_return(&calls, &at, 1, MDB_USE_OK, &reply), "return 2 1 ok");
+    at.moment = 1;
+    agrees(mdb_claim(&calls, &at, &reply), "claim 1");
+    CHECK(reply.kind == MDB_REFUSED && reply.why == MDB_WHY_TIME_BACK && reply.number == 2);
+    static const char *words[] = {"ok", "errored", "dropped", "streaming"};
+    for (int i = 0; i < rounds; i++) {
+        uint32_t party = 1000 + (uint32_t)i, used = (uint32_t)(i % 4);
+        at.moment = 3 + (uint64_t)i;
+        agrees(mdb_request(&calls, &at, party, ADDRESS, &reply), spelled("request %" PRIu64 " %u a:27017", at.moment, party));
+        if (reply.kind == MDB_ESTABLISHING) {
+            if (i % 7 == 3) {
+                agrees(mdb_give_up(&calls, &at, party, &reply), spelled("giveup %" PRIu64 " %u", at.moment, party));
+                at.moment++, i++;
+                continue;
+            }
+            made.pool = reply.pool, made.id = reply.id, made.server_id = -1;
+            agrees(mdb_claim(&calls, &at, &reply), spelled("claim %" PRIu64, at.moment));
+            agrees(mdb_established(&calls, &at, &made, NO_TEXT, &reply), spelled("established %" PRIu64 " 0 %u wire=21", at.moment, made.id));
+            if (reply.kind != MDB_REFUSED) agrees(mdb_collect(&calls, &at, party, &reply), spelled("collect %" PRIu64 " %u", at.moment, party));
+        }
+        agrees(mdb_return(&calls, &at, party, used, &reply), spelled("return %" PRIu64 " %u %s", at.moment, party, words[used]));
+        if (i % 5 == 0) agrees(mdb_maintain(&calls, &at, ADDRESS, &reply), spelled("maintain %" PRIu64 " a:27017", at.moment));
+        if (i % 6 == 0) agrees(mdb_expire(&calls, &at, ADDRESS, &reply), spelled("expire %" PRIu64 " a:27017", at.moment));
+        if (i % 9 == 0) agrees(mdb_want(&calls, &at, party, &reply), spelled("want %" PRIu64 " %u", at.moment, party));
+        if (i % 9 == 1) agrees(mdb_unwant(&calls, &at, party - 1, &reply), spelled("unwant %" PRIu64 " %u", at.moment, party - 1));
+        if (i % 11 == 0) {
+            agrees(mdb_beat(&calls, &at, ADDRESS, 0, &reply), spelled("beat %" PRIu64 " a:27017 0", at.moment));
+            both(spelled("beaten %" PRIu64 " a:27017 0 900000 ok isWritablePrimary=true maxWireVersion=21", at.moment));
+        }
+    }
+    at.moment = 900000;
+    agrees(mdb_request(&calls, &at, 900000, ADDRESS, &reply), "request 900000 900000 a:27017");
+    agrees(mdb_error(&calls, &at, 900000, TEXT("command.91 labels=A,B msg=shutting down"), &reply), "error 900000 900000 command.91 labels=A,B msg=shutting down");
+    agrees(mdb_error(&calls, &at, 900000, TEXT("network msg=late"), &reply), "error 900000 900000 network msg=late");
+    agrees(mdb_hello(&calls, &at, TEXT("a:27017 0"), TEXT("ok rtt=7 isWritablePrimary=true maxWireVersion=21"), &reply), "hello 900000 a:27017 0 ok rtt=7 isWritablePrimary=true maxWireVersion=21");
+    agrees(mdb_request(&calls, &at, 900001, ADDRESS, &reply), "request 900000 900001 a:27017");
+    mdb_connection pending = {reply.pool, reply.id};
+    agrees(mdb_failed(&calls, &at, &pending, TEXT("pre network msg=refused"), &reply), spelled("failed 900000 0 %u pre network msg=refused", pending.id));
+    agrees(mdb_beat(&calls, &at, ADDRESS, 0, &reply), "beat 900000 a:27017 0");
+    agrees(mdb_beaten(&calls, &at, TEXT("a:27017 0"), TEXT("7 err timeout msg=slow"), &reply), "beaten 900000 a:27017 0 7 err timeout msg=slow");
+    at.moment = 1000000;
+    agrees(mdb_stop(&calls, &at, &reply), "stop 1000000");
+    mdb_close(&calls);
+    mdb_close(&lines);
+}
+
+static void balanced_pool(void) {
+    mdb_at at = {2, 7};
+    const char *service = "0102030405060708090a0b0c";
+    open_both("open seeds=a:27017 lb");
+    agrees(mdb_request(&calls, &at, 1, ADDRESS, &reply), "request 2 1 a:27017");
+    CHECK(reply.kind == MDB_ESTABLISHING);
+    mdb_connection connection = {reply.pool, reply.id};
+    mdb_established_as made = {reply.pool, reply.id, 21, -1};
+    agrees(mdb_established(&calls, &at, &made, (const uint8_t *)service, 24, &reply), spelled("established 2 0 1 wire=21 sid=%s", service));
+    agrees(mdb_collect(&calls, &at, 1, &reply), "collect 2 1");
+    agrees(mdb_pin(&calls, &at, 1, &reply), "pin 2 1");
+    agrees(mdb_replicate(&calls, &at, &connection, &reply), "replicate 2 0 1");
+    agrees(mdb_return(&calls, &at, 1, MDB_USE_OK, &reply), "return 2 1 ok");
+    agrees(mdb_take(&calls, &at, 2, &connection, &reply), "take 2 2 0 1");
+    agrees(mdb_take(&calls, &at, 3, &connection, &reply), "take 2 3 0 1");
+    agrees(mdb_unpin(&calls, &at, &connection, &reply), "unpin 2 0 1");
+    agrees(mdb_unpin(&calls, &at, &connection, &reply), "unpin 2 0 1");
+    agrees(mdb_unpin(&calls, &at, &connection, &reply), "unpin 2 0 1");
+    agrees(mdb_return(&calls, &at, 2, MDB_USE_OK, &reply), "return 2 2 ok");
+    mdb_close(&calls);
+    mdb_close(&lines);
+}
+
+int main(int argc, char **argv) {
+    CHECK(mdb_abi() == MDB_ABI);
+    closed_slots();
+    normal_pool(argc > 1 ? atoi(argv[1]) : 5000);
+    balanced_pool();
+    return 0;
+}

@@ -1,0 +1,170 @@
+// A target for AFL++, and for files of its own: an input is lines, and a line that begins with a byte of 128 or more is a call whose numbers are the bytes
+// behind it. After each call the text of the last entry and its facts agree, and at the end the lines of all entries, given to a second driver, make the
+// same log. The switches over replies and facts are what guides AFL++, since the library itself is not instrumented.
+// usage: fuzz < FILE
+#include "mdb.h"
+#include <stdio.h>
+#include <stdlib.h>
+#include <string.h>
+#include <unistd.h>
+
+#define CHECK(what) do { if (!(what)) { fprintf(stderr, "line %d: %s\n", __LINE__, #what); abort(); } } while (0)
+#define MOST (1 << 16)
+
+static mdb_slot slot, twin;
+static char log_[1 << 22];
+static size_t told, starts[MOST + 1], entries;
+static volatile unsigned seen;
+
+// Each case is a branch of its own for the fuzzer.
+static void notice(const mdb_reply *reply) {
+    switch (reply->kind) {
+        case MDB_POOLED: seen += 1; break;
+        case MDB_ESTABLISHING: seen += 2; break;
+        case MDB_WAITING: seen += 3; break;
+        case MDB_ENDED: switch (reply->why) { case 1: seen += 4; break; case 2: seen += 5; break; case 3: seen += 6; break; case 4: seen += 7; break; case 5: seen += 8; break; case 6: seen += 9; break; default: seen += 10; } break;
+        case MDB_JOB: seen += 11; break;
+        case MDB_NO_JOB: seen += 12; break;
+        case MDB_CHANGED: if (reply->number) seen += 13; else seen += 14; break;
+        case MDB_COUNT: seen += 15; break;
+        case MDB_DONE: seen += 16; break;
+        case MDB_REFUSED: switch (reply->why) { case 1: seen += 20; break; case 2: seen += 21; break; case 3: seen += 22; break; case 4: seen += 23; break; case 5: seen += 24; break; case 6: seen += 25; break; case 7: seen += 26; break; case 8: seen += 27; break; case 9: seen += 28; break; case 10: seen += 29; break; case 11: seen += 30; break; case 12: seen += 31; break; case 13: seen += 32; break; default: CHECK(0); } break;
+        default: CHECK(0);
+    }
+}
+
+static void notice_fact(const mdb_fact *fact) {
+    CHECK(fact->kind >= MDB_FACT_OPENED && fact->kind <= MDB_FACT_CANCEL);
+    switch (fact->kind * 64 + fact->event) {
+        case 128 + 1: seen += 40; break; case 128 + 2: seen += 41; break; case 128 + 3: seen += 42; break; case 128 + 4: seen += 43; break;
+        case 128 + 5: seen += 44; break; case 128 + 6: seen += 45; break; case 128 + 7: switch (fact->why) { case 1: seen += 46; break; case 2: seen += 47; break; case 3: seen += 48; break; case 4: seen += 49; break; case 5: seen += 50; break; default: CHECK(0); } break;
+        case 128 + 8: seen += 51; break; case 128 + 9: if (fact->why == 1) seen += 52; else seen += 53; break; case 128 + 10: seen += 54; break; case 128 + 11: seen += 55; break;
+        case 384 + 32: seen += 56; break; case 384 + 33: seen += 57; break; case 384 + 34: seen += 58; break; case 384 + 35: seen += 59; break; case 384 + 36: seen += 60; break;
+        case 384 + 37: seen += 61; break; case 384 + 38: seen += 62; break; case 384 + 39: seen += 63; break; case 384 + 40: seen += 64; break;
+        default: seen += 65 + fact->kind;
+    }
+}
+
+// The last entry's text is kept, and its facts are those of the text.
+static void look(void) {
+    size_t needed = 0, count = 0, length = 0;
+    if (entries == MOST || sizeof log_ - told < 1 << 18) return;
+    CHECK(mdb_entry_text(&slot, (uint8_t *)log_ + told, sizeof log_ - told, &needed) == MDB_OK && needed > 4 && log_[told + needed - 1] == '\n');
+    CHECK(mdb_fact_count(&slot, &count) == MDB_OK);
+    const char *entry = log_ + told, *at = entry + needed - 1;
+    // the facts from the last one back, each behind a bar
+    for (size_t i = count; i-- > 0;) {
+        static uint8_t text[1 << 17];
+        mdb_fact fact;
+        CHECK(mdb_fact_at(&slot, i, &fact) == MDB_OK);
+        notice_fact(&fact);
+        CHECK(mdb_fact_text(&slot, i, text, sizeof text, &length) == MDB_OK && (size_t)(at - entry) > length + 3);
+        at -= length;
+        CHECK(memcmp(at, text, length) == 0 && memcmp(at - 3, " | ", 3) == 0);
+        at -= 3;
+    }
+    starts[entries++] = told;
+    told += needed;
+    starts[entries] = told;
+}
+
+static uint64_t number(const uint8_t **at, const uint8_t *end) { return *at < end ? *(*at)++ : 0; }
+
+// A call of the bytes of a line.
+static mdb_status called(const uint8_t *at, const uint8_t *end, mdb_reply *reply) {
+    static const char *const addresses[] = {"a:1", "a", "b:2", "A:1", "z:9", "", "a:0", "[::1]:9"};
+    static const char *const services[] = {"", "0102030405060708090a0b0c", "0102030405060708090A0B0C", "01"};
+    uint32_t kind = (uint32_t)(number(&at, end) & 31);
+    mdb_at when = {number(&at, end), (uint32_t)number(&at, end)};
+    uint32_t party = (uint32_t)number(&at, end);
+    const char *address = addresses[number(&at, end) % 8], *service = services[number(&at, end) % 4];
+    mdb_connection connection = {(uint32_t)number(&at, end), (uint32_t)number(&at, end)};
+    mdb_established_as made = {connection.pool, connection.id, (int32_t)number(&at, end) - 1, (int64_t)number(&at, end) - 1};
+    const uint8_t *text = (const uint8_t *)address;
+    size_t n = strlen(address);
+    switch (kind) {
+        case 0: return mdb_request(&slot, &when, party, text, n, reply);
+        case 1: return mdb_warm(&slot, &when, party, text, n, reply);
+        case 2: return mdb_collect(&slot, &when, party, reply);
+        case 3: return mdb_give_up(&slot, &when, party, reply);
+        case 4: return mdb_return(&slot, &when, party, connection.pool, reply);
+        case 5: return mdb_claim(&slot, &when, reply);
+        case 6: return mdb_established(&slot, &when, &made, (const uint8_t *)service, strlen(service), reply);
+        case 7: return mdb_pin(&slot, &when, party, reply);
+        case 8: return mdb_replicate(&slot, &when, &connection, reply);
+        case 9: return mdb_take(&slot, &when, party, &connection, reply);
+        case 10: return mdb_unpin(&slot, &when, &connection, reply);
+        case 11: return mdb_maintain(&slot, &when, text, n, reply);
+        case 12: return mdb_expire(&slot, &when, text, n, reply);
+        case 13: return mdb_beat(&slot, &when, text, n, connection.pool, reply);
+        case 14: return mdb_want(&slot, &when, party, reply);
+        case 15: return mdb_unwant(&slot, &when, party, reply);
+        case 16: return mdb_stop(&slot, &when, reply);
+        case 17: return mdb_error(&slot, &when, party, at, (size_t)(end - at), reply);
+        case 18: return mdb_failed(&slot, &when, &connection, at, (size_t)(end - at), reply);
+        case 19: return mdb_hello(&slot, &when, (const uint8_t *)"a:1 0", 5, at, (size_t)(end - at), reply);
+        case 20: return mdb_beaten(&slot, &when, (const uint8_t *)"a:1 0", 5, at, (size_t)(end - at), reply);
+        default: return mdb_request(&slot, &when, party, at, (size_t)(end - at), reply); // an address of any bytes
+    }
+}
+
+static void replay(void) {
+    for (size_t i = 0; i < entries; i++) {
+        static uint8_t out[1 << 19];
+        const char *entry = log_ + starts[i], *bar = strstr(entry, " | ");
+        size_t length = starts[i + 1] - starts[i], needed;
+        mdb_reply reply;
+        const uint8_t *line = (const uint8_t *)entry;
+        CHECK(bar && bar < entry + length);
+        mdb_status status = i ? mdb_line(&twin, 0, line, (size_t)(bar - entry), &reply) : mdb_open_line(&twin, 0, line, (size_t)(bar - entry));
+        CHECK(status == MDB_OK);
+        CHECK(mdb_entry_text(&twin, out, sizeof out, &needed) == MDB_OK && needed == length && memcmp(out, entry, length) == 0);
+    }
+    mdb_close(&twin);
+}
+
+static void run(const uint8_t *input, size_t length) {
+    told = entries = 0;
+    for (const uint8_t *at = input, *end = input + length; at < end;) {
+        const uint8_t *newline = memchr(at, '\n', (size_t)(end - at)), *stop = newline ? newline : end;
+        mdb_reply reply = {77, 77, 77, 77, 77}, kept = reply;
+        mdb_status status;
+        if (slot.state == 0) {
+            status = mdb_line(&slot, 0, at, (size_t)(stop - at), &reply);
+            CHECK(status == MDB_CLOSED || status == MDB_MALFORMED);
+            status = mdb_open_line(&slot, 0, at, (size_t)(stop - at));
+        } else if (at < stop && *at >= 128) {
+            status = called(at, stop, &reply);
+        } else {
+            status = mdb_line(&slot, 0, at, (size_t)(stop - at), &reply);
+            if (status == MDB_MALFORMED) CHECK(mdb_open_line(&slot, 0, at, (size_t)(stop - at)) == MDB_OPENED);
+        }
+        CHECK(status == MDB_OK || status == MDB_MALFORMED || status == MDB_NO_MEMORY);
+        if (status != MDB_OK) CHECK(memcmp(&reply, &kept, sizeof kept) == 0);
+        if (status == MDB_OK) {
+            if (reply.kind != 77) notice(&reply);
+            look();
+        }
+        at = stop + 1;
+    }
+    mdb_close(&slot);
+    mdb_close(&slot);
+    log_[told] = 0;
+    replay();
+}
+
+#ifdef __AFL_COMPILER
+__AFL_FUZZ_INIT();
+int main(void) {
+    __AFL_INIT();
+    const uint8_t *input = __AFL_FUZZ_TESTCASE_BUF;
+    while (__AFL_LOOP(10000)) run(input, (size_t)__AFL_FUZZ_TESTCASE_LEN);
+    return 0;
+}
+#else
+int main(void) {
+    static uint8_t input[1 << 20];
+    run(input, fread(input, 1, sizeof input - 1, stdin));
+    return 0;
+}
+#endif

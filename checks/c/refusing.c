@@ -1,0 +1,107 @@
+// Runs the script on standard input over a heap of its own that refuses each allocation in turn. Where a call has no memory its slot's next call answers as
+// if it had not been made: the log that comes of calling again is the one with memory. Writes how many allocations were refused. Ends with status 1 and the
+// line of the check that fails, or with 0. Linked in place of bindings/heap.c.
+#include "mdb.h"
+#include <stdbool.h>
+#include <stdio.h>
+#include <stdlib.h>
+#include <string.h>
+
+#define CHECK(what) do { if (!(what)) { fprintf(stderr, "line %d: %s\n", __LINE__, #what); exit(1); } } while (0)
+
+struct block {
+    bool ok;
+    void *at;
+};
+
+static long left = -1, asked, live;
+
+static bool refuses(void) {
+    asked++;
+    return left-- == 0;
+}
+
+struct block rattle_alloc(size_t size, size_t align) {
+    void *at = refuses() ? 0 : malloc(size ? size : align);
+    if (at) live++;
+    return (struct block){at != 0, at};
+}
+
+struct block rattle_realloc(void *at, size_t old_size, size_t size, size_t align) {
+    (void)old_size;
+    void *moved = refuses() ? 0 : realloc(at, size ? size : align);
+    return (struct block){moved != 0, moved};
+}
+
+void rattle_dealloc(void *at) {
+    if (at) live--;
+    free(at);
+}
+
+static char script[1 << 17], log_with[1 << 22], log_without[1 << 22];
+static size_t length;
+static mdb_slot slot = MDB_SLOT_INIT;
+
+// One step, made again once where it had no memory: the reply is not written then, and the last entry still has its text.
+static bool step(const char *line, size_t n, bool opens, mdb_reply *reply, size_t *told, char *log) {
+    mdb_reply kept = {77, 77, 77, 77, 77};
+    *reply = kept;
+    mdb_status status = opens ? mdb_open_line(&slot, 0, (const uint8_t *)line, n) : mdb_line(&slot, 0, (const uint8_t *)line, n, reply);
+    if (status == MDB_NO_MEMORY) {
+        CHECK(memcmp(reply, &kept, sizeof kept) == 0);
+        CHECK(opens ? slot.state == 0 : slot.state != 0);
+        if (!opens) {
+            static char again[1 << 20];
+            size_t needed;
+            CHECK(mdb_entry_text(&slot, (uint8_t *)again, sizeof again, &needed) == MDB_OK);
+            CHECK(needed <= *told && memcmp(log + *told - needed, again, needed) == 0);
+        }
+        status = opens ? mdb_open_line(&slot, 0, (const uint8_t *)line, n) : mdb_line(&slot, 0, (const uint8_t *)line, n, reply);
+    }
+    if (status == MDB_MALFORMED) return false;
+    CHECK(status == MDB_OK);
+    size_t needed = 0, room = sizeof log_with - *told, count = 0;
+    status = mdb_entry_text(&slot, (uint8_t *)log + *told, room, &needed);
+    if (status == MDB_NO_MEMORY) {
+        CHECK(needed == 0);
+        status = mdb_entry_text(&slot, (uint8_t *)log + *told, room, &needed);
+    }
+    CHECK(status == MDB_OK);
+    *told += needed;
+    CHECK(mdb_fact_count(&slot, &count) == MDB_OK);
+    for (size_t i = 0; i < count; i++) {
+        uint8_t text[8192];
+        status = mdb_fact_text(&slot, i, text, sizeof text, &needed);
+        CHECK(status == MDB_OK || status == MDB_NO_MEMORY);
+    }
+    return true;
+}
+
+static size_t run(char *log) {
+    size_t told = 0;
+    mdb_reply reply;
+    bool opens = true;
+    for (char *at = script, *end; at < script + length; at = end + 1) {
+        end = memchr(at, '\n', (size_t)(script + length - at));
+        if (!end) break;
+        if (!step(at, (size_t)(end - at), opens, &reply, &told, log)) break;
+        opens = false;
+    }
+    mdb_close(&slot);
+    CHECK(live == 0);
+    return told;
+}
+
+int main(int argc, char **argv) {
+    long most = argc > 1 ? atol(argv[1]) : 1000000;
+    length = fread(script, 1, sizeof script, stdin);
+    size_t with = run(log_with);
+    long calls = asked;
+    long n = 0;
+    for (; n < calls && n < most; n++) {
+        left = n;
+        CHECK(run(log_without) == with && memcmp(log_with, log_without, with) == 0);
+    }
+    printf("%ld of %ld allocations refused\n", n, calls);
+    return 0;
+}

@@ -1,0 +1,202 @@
+#!/usr/bin/env python3
+"""Checks the C library from C: the header against the archive, clients under valgrind and sanitizers, refused allocations, random and fuzzed calls.
+
+usage: checks/c_library.py [--library ARCHIVE] [--program PROGRAM] [--scripts N] [--seconds N] [--folder FOLDER] [--only WORD]
+
+ARCHIVE is crates/mdb_c/out/libmdb_c.a where it is left out (`rt lib` in crates/mdb_c makes it), and PROGRAM crates/mdb_script/out/mdb_script; neither is
+built here. In order:
+
+  header     include/mdb.h is C11 and C++ with no warning; the archive defines each function that it declares, and no other global name, and wants no
+             function but those of the heap and of copying
+  clients    checks/c/lines.c and calls.c, plain, under valgrind (no error, no leak) and with the address and undefined-behaviour sanitizers; the
+             example of bindings/examples
+  threads    checks/c/threads.c, plain, under helgrind and with ThreadSanitizer
+  memory     each allocation of N random scripts (6) is refused in turn (checks/c/refusing.c), and once so under valgrind
+  program    N random scripts give the log that PROGRAM writes (left out where it is not built)
+  fuzz       AFL++ for N seconds (60) over checks/c/fuzz.c with the sanitizers, or as many random inputs where there is no AFL++
+
+The sanitizers see the client and the heap; the library's own code is not instrumented, so valgrind is what looks at its reads and writes. Each check has a
+line, and the status is 0 where all are well, 1 where one is not, and 2 where the archive is missing. FOLDER keeps what was built and found. Needs gcc,
+g++, nm, valgrind, and for the last check afl-fuzz (the package afl++).
+"""
+import argparse
+import os
+import random
+import re
+import shutil
+import subprocess
+import sys
+import tempfile
+import time
+
+HERE = os.path.dirname(os.path.abspath(__file__))
+TOP = os.path.dirname(HERE)
+sys.dont_write_bytecode = True
+sys.path.insert(0, os.path.join(TOP, 'bindings', 'python', 'tests'))
+from scripts import script
+
+C = os.path.join(HERE, 'c')
+INCLUDE = os.path.join(TOP, 'include')
+HEAP = os.path.join(TOP, 'bindings', 'heap.c')
+WANTED = {'rattle_alloc', 'rattle_realloc', 'rattle_dealloc', 'memcpy', 'memmove', 'memset', 'memcmp', 'bcmp'}
+ENTRY = 'return 4 1 ok | Done | Pool 0 ConnectionCheckedIn a:27017 1\n'
+FLAGS = ['-std=gnu11', '-Wall', '-Wextra', '-Werror', '-O1', '-g', '-fno-omit-frame-pointer']
+SANITIZERS = ['-fsanitize=address,undefined', '-fno-sanitize-recover=all']
+VALGRIND = ['valgrind', '--quiet', '--error-exitcode=99', '--leak-check=full', '--show-leak-kinds=all']
+
+
+def run(words, **how):
+    """Runs a command and answers whether it ended well, with what it told."""
+    ran = subprocess.run(words, stdout=subprocess.PIPE, stderr=subprocess.STDOUT, **how)
+    return ran.returncode == 0, ran.stdout.decode('utf-8', 'replace')
+
+
+class Checks:
+    def __init__(self, given, folder):
+        self.given, self.folder, self.failed = given, folder, 0
+
+    def tell(self, name, well, what=''):
+        self.failed += not well
+        print('%s %s%s' % ('ok' if well else 'FAILED', name, ' ' + what.strip() if what else ''), flush=True)
+
+    def built(self, source, flags=(), heap=True, compiler='gcc', name=None):
+        """A client of checks/c, linked with the library."""
+        to = os.path.join(self.folder, name or source + ''.join(flags[:1]).replace('/', '_'))
+        words = [compiler, *FLAGS, *flags, '-I' + INCLUDE, os.path.join(C, source + '.c'), self.given.library, *([HEAP] if heap else []), '-lpthread', '-o', to]
+        well, told = run(words)
+        if not well:
+            self.tell('build of ' + source, False, told)
+        return to if well else None
+
+    def ran(self, name, program, words=(), before=(), **how):
+        if program:
+            began = time.monotonic()
+            well, told = run([*before, program, *words], **how)
+            self.tell(name, well, '%.1f s' % (time.monotonic() - began) if well else told[-2000:])
+            return told if well else None
+
+    def header(self):
+        empty = os.path.join(self.folder, 'empty.c')
+        with open(empty, 'w') as file:
+            file.write('#include "mdb.h"\n')
+        for words in (['gcc', '-std=c11'], ['g++', '-x', 'c++']):
+            well, told = run([*words, '-pedantic', '-Wall', '-Wextra', '-Werror', '-I' + INCLUDE, '-c', empty, '-o', os.devnull])
+            self.tell('header ' + words[0], well, told)
+        with open(os.path.join(INCLUDE, 'mdb.h')) as file:
+            declared = set(re.findall(r'^(?:mdb_status|void|uint32_t) (mdb_\w+)\(', file.read(), re.M))
+        _, told = run(['nm', '-g', self.given.library])
+        symbols = re.findall(r'^[0-9a-f ]{16} ([A-Za-z]) (\S+)$', told, re.M)
+        defined, missing = {it for kind, it in symbols if kind != 'U'}, {it for kind, it in symbols if kind == 'U'}
+        self.tell('symbols', defined == declared and missing <= WANTED, '%d calls' % len(declared) if defined == declared else str(sorted(defined ^ declared)) + str(missing - WANTED))
+
+    def clients(self):
+        for source, many, few in (('lines', '100000', '200'), ('calls', '20000', '300')):
+            self.ran(source, self.built(source), [many])
+            self.ran(source + ' under valgrind', self.built(source), [few], VALGRIND)
+            self.ran(source + ' with sanitizers', self.built(source, SANITIZERS), [few])
+
+        example = os.path.join(self.folder, 'round')
+        well, told = run(['gcc', '-std=c11', '-Wall', '-Wextra', '-Werror', '-I' + INCLUDE, os.path.join(TOP, 'bindings', 'examples', 'round.c'), self.given.library, HEAP, '-o', example])
+        well, told = run([example]) if well else (well, told)
+        self.tell('example', well and told == ENTRY, told)
+
+    def threads(self):
+        self.ran('threads', self.built('threads'), ['2000'])
+        self.ran('threads under helgrind', self.built('threads'), ['60'], ['valgrind', '--quiet', '--tool=helgrind', '--error-exitcode=99'])
+        self.ran('threads with ThreadSanitizer', self.built('threads', ['-fsanitize=thread']), ['500'], ['setarch', '-R'] if shutil.which('setarch') else [])
+
+    def memory(self):
+        program = self.built('refusing', heap=False)
+        for seed in range(self.given.scripts):
+            told = self.ran('memory, script %d' % seed, program, input=text_of(seed, 60))
+            if told:
+                print('   ' + told.strip())
+        self.ran('memory under valgrind', program, ['150'], VALGRIND, input=text_of(0, 15))
+
+    def program(self):
+        if not os.path.exists(self.given.program):
+            print('left out: %s is not built' % self.given.program)
+            return
+        client, differ = self.built('script'), 0
+        for seed in range(self.given.scripts):
+            ran = [subprocess.run([it], input=text_of(seed, 200), stdout=subprocess.PIPE, stderr=subprocess.PIPE) for it in (client, self.given.program)]
+            differ += (ran[0].returncode, ran[0].stdout, ran[0].stderr) != (ran[1].returncode, ran[1].stdout, ran[1].stderr)
+        self.tell('program', differ == 0, '%d scripts, %d differ' % (self.given.scripts, differ))
+
+    def fuzz(self):
+        seeds = os.path.join(self.folder, 'seeds')
+        os.makedirs(seeds)
+        for seed in range(20):
+            with open(os.path.join(seeds, str(seed)), 'wb') as file:
+                file.write(text_of(seed, 12) if seed % 2 else calls_of(seed, 20))
+        if shutil.which('afl-fuzz') and shutil.which('afl-clang-fast'):
+            program = self.built('fuzz', SANITIZERS, compiler='afl-clang-fast', name='fuzz-afl')
+            if program:
+                self.by_afl(program, seeds)
+            return
+        program, chance, inputs, until = self.built('fuzz', SANITIZERS), random.Random(1), 0, time.monotonic() + self.given.seconds
+        while program and time.monotonic() < until and not self.failed:
+            data = calls_of(inputs, 40) if inputs % 2 else bytes(chance.randrange(256) for _ in range(200))
+            well, told = run([program], input=data)
+            inputs += 1
+            if not well:
+                self.tell('random input', False, told)
+        self.tell('random inputs', not self.failed, '%d' % inputs)
+
+    def by_afl(self, program, seeds):
+        found = os.path.join(self.folder, 'afl')
+        settings = {**os.environ, 'AFL_SKIP_CPUFREQ': '1', 'AFL_NO_UI': '1', 'AFL_NO_AFFINITY': '1', 'AFL_I_DONT_CARE_ABOUT_MISSING_CRASHES': '1',
+                    'ASAN_OPTIONS': 'abort_on_error=1:symbolize=0:detect_leaks=0', 'UBSAN_OPTIONS': 'abort_on_error=1:symbolize=0'}
+        words = ['afl-fuzz', '-V', str(self.given.seconds), '-m', 'none', '-t', '2000+', '-i', seeds, '-o', found, '--', program]
+        well, told = run(words, env=settings, stdin=subprocess.DEVNULL)
+        stats = os.path.join(found, 'default', 'fuzzer_stats')
+        if not os.path.exists(stats):
+            self.tell('fuzz', False, told[-2000:])
+            return
+        with open(stats) as file:
+            numbers = dict(re.findall(r'^(\w+) *: (.*)$', file.read(), re.M))
+        crashes, hangs = int(numbers['saved_crashes']), int(numbers['saved_hangs'])
+        self.tell('fuzz', crashes == 0 and hangs == 0, '%s inputs in %s s, %s kept, %d crashes, %d hangs: %s' % (
+            numbers['execs_done'], numbers['run_time'], numbers['corpus_count'], crashes, hangs, found))
+
+
+def text_of(seed, length):
+    return ''.join(line + '\n' for line in script(seed, length)).encode()
+
+
+def calls_of(seed, length):
+    """An opening and random calls, as fuzz.c reads them."""
+    chance = random.Random(seed)
+    calls = [bytes([128 + chance.randrange(18), chance.randrange(9), 0, chance.randrange(1, 6), *[chance.randrange(4) for _ in range(2)], 0, chance.randrange(1, 5), 22, 0])
+             for _ in range(length)]
+    opening = [b'open seeds=a:1 max=2', b'hello 0 a:1 0 ok rtt=5 minWireVersion=0 maxWireVersion=21'] if seed % 4 else [b'open seeds=a:1 lb']
+    return b'\n'.join(opening + [it.replace(b'\n', b'\x0b') for it in calls]) + b'\n'
+
+
+def main():
+    parser = argparse.ArgumentParser(description=__doc__, formatter_class=argparse.RawDescriptionHelpFormatter)
+    parser.add_argument('--library', default=os.path.join(TOP, 'crates', 'mdb_c', 'out', 'libmdb_c.a'))
+    parser.add_argument('--program', default=os.path.join(TOP, 'crates', 'mdb_script', 'out', 'mdb_script'))
+    parser.add_argument('--scripts', type=int, default=6)
+    parser.add_argument('--seconds', type=int, default=60)
+    parser.add_argument('--folder')
+    parser.add_argument('--only', default='')
+    given = parser.parse_args()
+    given.library, given.program = os.path.abspath(given.library), os.path.abspath(given.program)
+    if not os.path.exists(given.library):
+        print('%s is missing: `rt lib` in crates/mdb_c makes it' % given.library)
+        return 2
+    folder = given.folder or tempfile.mkdtemp(prefix='mdb-c-')
+    os.makedirs(folder, exist_ok=True)
+    checks = Checks(given, folder)
+    for name in ('header', 'clients', 'threads', 'memory', 'program', 'fuzz'):
+        if given.only in ('', name):
+            getattr(checks, name)()
+    print('all is well' if not checks.failed else '%d failed: %s' % (checks.failed, folder))
+    if not given.folder and not checks.failed:
+        shutil.rmtree(folder)
+    return 1 if checks.failed else 0
+
+
+if __name__ == '__main__':
+    sys.exit(main())

@@ -1,0 +1,6 @@
+pub mod Crossing
+pub mod Grown
+pub mod Kept
+pub mod Values
+pub mod Words
+pub mod Slots

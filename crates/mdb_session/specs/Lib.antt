@@ -1,0 +1,6 @@
+pub mod Numbers
+pub mod Facts
+pub mod Sessions
+pub mod Answers
+pub mod Holding
+pub mod Texts

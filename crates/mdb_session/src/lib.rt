@@ -1,0 +1,25 @@
+//! One driver that keeps the last entry of its log while contracts see the whole log, and the slot in which a program in C keeps it.
+#![tactic(auto)]
+
+mod at;
+mod fact_numbers;
+mod loose;
+mod numbers;
+mod past;
+mod reads;
+mod session;
+mod slot;
+mod status;
+mod steps;
+mod telling;
+mod texts;
+mod word;
+
+pub use at::At;
+pub use fact_numbers::{FactNumbers, numbers_of_fact};
+pub use numbers::{ReplyNumbers, numbers_of};
+pub use session::Session;
+pub use slot::Slot;
+pub use status::{CLOSED, MALFORMED, NO_ENTRY, NO_MEMORY, NO_ROOM, OK, OPENED, Status, status_of};
+pub use texts::{address_in, text_in};
+pub use word::Word;

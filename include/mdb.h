@@ -1,0 +1,305 @@
+/* The connection pools and the server discovery of a MongoDB driver, proved: the static library of crates/mdb_c.
+ *
+ * A driver is a state machine. It opens no socket, reads no clock and starts no thread: its user tells it what happened, one step at a time, and it
+ * answers with a reply and with facts, in the order in which they became true. A step is atomic: it is done whole or not at all. The rules are
+ * those of the public standards "Connection Monitoring and Pooling" (CMAP) and "Server Discovery and Monitoring" (SDAM).
+ *
+ * Two layers lead to one driver, and may be mixed. By lines: the text of a step in, the text of its entry out, as docs/SCRIPT.md has them. By
+ * calls: the steps of the ordinary path with numbers in place of a line, and the facts of the last entry by index.
+ *
+ * Units. A moment is in milliseconds, of any clock that never goes back; a step whose moment is below that of the last accepted step is refused
+ *   (MDB_WHY_TIME_BACK, with that moment). Round trips and durations of checks are in nanoseconds. Sizes are in bytes.
+ *
+ * Numbers. A party is a caller's number, new for every request, warm request and take of a driver. Pools are numbered from 0 in the order in which
+ *   they open, the connections of a pool from 1; neither is used twice. A seat is a number that entries carry, such as that of a thread; it
+ *   changes nothing.
+ *
+ * Texts are a pointer and a length, with no zero at the end. An address is `host`, `host:port`, `[v6]` or `[v6]:port`, in letters of any case; the
+ *   default port is 27017. Bytes beyond printable ASCII (32 to 126) are MDB_MALFORMED.
+ *
+ * Errors. Each call but mdb_close and mdb_abi answers a status. At any status but MDB_OK no step was done, no parameter was written but *needed, and
+ *   the call may be made again. A refusal is no error: the status is MDB_OK, the reply MDB_REFUSED with its reason, nothing changed but the log, which
+ *   has an entry with no fact.
+ *
+ * Ownership. A slot is its user's memory, and what it leads to the library's until mdb_close. The library keeps no pointer that it was given, and
+ *   hands none out: all that it tells is copied into its caller's buffers.
+ *
+ * Threads. One call at a time has a slot: who shares one among threads locks around each call, or around a step and the facts that it reads then.
+ *   A step takes some microseconds and never blocks. Calls on different slots need no order. There is no thread-local state, no signal, no callback.
+ *   What a slot holds may go from thread to thread where a lock, a thread's start or join, or a sequentially consistent atomic orders the calls: that
+ *   is proved of its type.
+ *
+ * What a caller owes, and nothing checks: a pointer is not NULL, also for no bytes, is aligned, and leads to the memory that its parameter names for as
+ *   long as the call lasts; no two parameters of a call overlap; a length is below 2^63; a slot begins as zeros, and nobody else writes or copies its
+ *   words (it may be moved while no call has it). malloc, realloc and free are those of one allocator. No call is made from a signal handler, or in
+ *   the child of a fork of a program with threads. Everything else is tested by each call: numbers, texts, lengths of texts, sizes of buffers, the
+ *   order of steps, and a slot that is not open.
+ *
+ * Memory. The library asks for it by malloc, realloc and free (bindings/heap.c, three functions that may be replaced). It keeps the last entry alone.
+ *   What a driver keeps beside that grows with the parties that it has known, since a party's number is never taken again: 170 to 500 bytes for each.
+ *   2^32 parties end a driver: its requests are then refused as MDB_WHY_REQUEST_KNOWN.
+ *
+ * Proved, by the contract of the function of the same name in crates/mdb_c/src: what each call answers is what the driver's definitions say after the
+ *   log of all calls so far; what it writes and leaves; when it answers MDB_MALFORMED, MDB_CLOSED, MDB_OPENED, MDB_NO_ROOM and MDB_NO_ENTRY. For want of
+ *   memory a call may fail at any time. Tested by checks/c_library.py: that it does not fail with memory at hand, this header against the library,
+ *   clients under valgrind and sanitizers, each allocation refused in turn. This file is written by hand. */
+#ifndef MDB_H
+#define MDB_H
+
+#include <stddef.h>
+#include <stdint.h>
+
+#ifdef __cplusplus
+extern "C" {
+#endif
+
+#define MDB_VERSION "0.1.0"
+#define MDB_VERSION_NUMBER 100 /* major * 10000 + minor * 100 + patch */
+
+/* Which header the library was built for: link only where mdb_abi() == MDB_ABI. It changes where a call, a struct or a number does. */
+#define MDB_ABI 1
+uint32_t mdb_abi(void);
+
+/* ---- statuses */
+
+typedef uint32_t mdb_status;
+
+enum {
+    MDB_OK = 0,
+    MDB_NO_MEMORY = 1,
+    MDB_MALFORMED = 2, /* the line spells no such step, or a text or a number means nothing */
+    MDB_NO_ROOM = 3,   /* *needed bytes do not fit into the buffer */
+    MDB_CLOSED = 4,    /* the slot holds no driver */
+    MDB_OPENED = 5,    /* the slot holds one already */
+    MDB_NO_ENTRY = 6   /* no such fact or pool */
+};
+
+/* ---- slots */
+
+/* Memory for one driver, which begins as MDB_SLOT_INIT. Its members are the library's. */
+typedef struct mdb_slot {
+    uint64_t state;
+    void *at;
+} mdb_slot;
+
+#define MDB_SLOT_INIT { 0, 0 }
+
+/* Frees the driver, if there is one. The slot is closed then, and may be opened again. A second close does nothing. */
+void mdb_close(mdb_slot *slot);
+
+/* ---- replies */
+
+/* What the one who makes a step is told. A member that the kind does not name is 0. */
+typedef struct mdb_reply {
+    uint32_t kind;   /* MDB_POOLED .. */
+    uint32_t pool;   /* of MDB_POOLED, MDB_ESTABLISHING, MDB_JOB */
+    uint32_t id;     /* the connection, of the same three */
+    uint32_t why;    /* MDB_END_ of MDB_ENDED, MDB_WHY_ of MDB_REFUSED */
+    uint64_t number; /* MDB_CHANGED: 0 or 1. MDB_COUNT: the count. MDB_WHY_TIME_BACK: the last moment. MDB_WHY_EXHAUSTED: MDB_WHAT_ */
+} mdb_reply;
+
+enum { /* kind */
+    MDB_POOLED = 1,       /* the party has the connection */
+    MDB_ESTABLISHING = 2, /* its connection is pending */
+    MDB_WAITING = 3,      /* the request is in the queue */
+    MDB_ENDED = 4,        /* the request has ended with no connection in hand */
+    MDB_JOB = 5,          /* a pending connection to establish */
+    MDB_NO_JOB = 6,       /* every pending connection is being established */
+    MDB_CHANGED = 7,      /* whether the step changed the topology or cleared a pool */
+    MDB_COUNT = 8,        /* an average round trip, or how many watchers ask */
+    MDB_DONE = 9,
+    MDB_REFUSED = 10      /* the step changed nothing */
+};
+
+enum { /* how a request ended */
+    MDB_END_CLEARED = 1, /* its pool was new or paused when it asked, or was cleared while it waited */
+    MDB_END_FAILED,      /* its connection could not be established */
+    MDB_END_CLOSED,      /* its pool was closed */
+    MDB_END_WARMED,      /* a warm request found enough connections */
+    MDB_END_FILLED,      /* a warm request's connection was established */
+    MDB_END_GAVE_UP,     /* the one who asked gave up */
+    MDB_END_TIMED_OUT    /* a caller waited for as long as a caller may */
+};
+
+enum { /* why a step was refused: the first reason that holds, in this order */
+    MDB_WHY_TIME_BACK = 1,   /* the moment is before that of the last accepted step */
+    MDB_WHY_UNKNOWN_SERVER,  /* no pool is open at the address */
+    MDB_WHY_REQUEST_KNOWN,   /* the number was used by an earlier request, warm request or taking party */
+    MDB_WHY_UNKNOWN_REQUEST, /* the request is not open */
+    MDB_WHY_NOT_HOLDER,      /* the party holds no connection */
+    MDB_WHY_NOT_PENDING,     /* no such connection is pending */
+    MDB_WHY_UNPINNED,        /* the connection has no pin */
+    MDB_WHY_PIN_IN_USE,      /* the pinned connection is held */
+    MDB_WHY_PIN_STATE,       /* the connection is pinned already */
+    MDB_WHY_CHECK_RUNNING,   /* the monitor's check has no result yet */
+    MDB_WHY_NOT_CHECKING,    /* no check runs there */
+    MDB_WHY_WRONG_MODE,      /* the step does not go with the mode, normal or load balanced */
+    MDB_WHY_EXHAUSTED        /* a number would pass its limit */
+};
+
+enum { MDB_WHAT_POOL = 1, MDB_WHAT_GENERATION, MDB_WHAT_MONITOR, MDB_WHAT_SERVERS };
+
+/* ---- by lines: the grammar of docs/SCRIPT.md, one line without its newline */
+
+/* Opens a driver in a closed slot by an `open` line. MDB_MALFORMED, MDB_OPENED. */
+mdb_status mdb_open_line(mdb_slot *slot, uint32_t seat, const uint8_t *line, size_t line_len);
+
+/* Does the step that a line spells: every line of the grammar but `open`. MDB_MALFORMED, MDB_CLOSED. */
+mdb_status mdb_line(mdb_slot *slot, uint32_t seat, const uint8_t *line, size_t line_len, mdb_reply *reply);
+
+/* Writes the text of the last entry to the beginning of `out`: `LINE | REPLY | FACT ..` with its newline, as a script's log has it. The driver keeps
+ * the last entry until the next step that is done, so a buffer that is too small, and want of memory, lose nothing: ask again. *needed is the length of
+ * the text, and 0 at MDB_NO_MEMORY and MDB_CLOSED. At MDB_NO_ROOM nothing is written. The texts of all entries of a driver, one behind the other, are
+ * its log. */
+mdb_status mdb_entry_text(mdb_slot *slot, uint8_t *out, size_t out_len, size_t *needed);
+
+/* ---- by calls: one step each. All answer MDB_CLOSED where the slot is not open. */
+
+/* When a step is made, and by which seat. */
+typedef struct mdb_at {
+    uint64_t moment; /* milliseconds */
+    uint32_t seat;
+} mdb_at;
+
+/* A connection, by the number of its pool and its own. */
+typedef struct mdb_connection {
+    uint32_t pool;
+    uint32_t id;
+} mdb_connection;
+
+/* A caller asks for a connection to the address (CMAP, "Checking Out a Connection"): MDB_POOLED, MDB_ESTABLISHING, MDB_WAITING, MDB_ENDED or
+ * MDB_REFUSED. MDB_MALFORMED where it is no address, here and below. */
+mdb_status mdb_request(mdb_slot *slot, const mdb_at *at, uint32_t party, const uint8_t *address, size_t address_len, mdb_reply *reply);
+
+/* One connection more for the pool of the address, where fewer live than its minimum (CMAP, "minPoolSize"). */
+mdb_status mdb_warm(mdb_slot *slot, const mdb_at *at, uint32_t party, const uint8_t *address, size_t address_len, mdb_reply *reply);
+
+/* The caller of a request asks how it stands. That it ended is told once. */
+mdb_status mdb_collect(mdb_slot *slot, const mdb_at *at, uint32_t party, mdb_reply *reply);
+
+/* The caller of a request no longer wants its connection. */
+mdb_status mdb_give_up(mdb_slot *slot, const mdb_at *at, uint32_t party, mdb_reply *reply);
+
+/* A party returns its connection (CMAP, "Checking In a Connection"). MDB_MALFORMED for any other number of use. */
+enum {
+    MDB_USE_OK = 0,    /* it was used well */
+    MDB_USE_ERRORED,   /* it met an error */
+    MDB_USE_DROPPED,   /* the party stopped in the middle of an operation */
+    MDB_USE_STREAMING  /* more replies of the server were to come */
+};
+mdb_status mdb_return(mdb_slot *slot, const mdb_at *at, uint32_t party, uint32_t used, mdb_reply *reply);
+
+/* A worker asks for a connection to establish (CMAP, "Establishing a Connection"): MDB_JOB or MDB_NO_JOB. */
+mdb_status mdb_claim(mdb_slot *slot, const mdb_at *at, mdb_reply *reply);
+
+/* What establishing a connection found out. */
+typedef struct mdb_established_as {
+    uint32_t pool;
+    uint32_t id;
+    int32_t wire;      /* the greatest wire version of the server; MDB_MALFORMED where it is negative */
+    int64_t server_id; /* the server's own number of the connection, negative where it told none */
+} mdb_established_as;
+
+/* A pending connection was established. `service` is the service behind the load balancer, in 24 hex digits, or no bytes; MDB_MALFORMED where it is
+ * neither. */
+mdb_status mdb_established(mdb_slot *slot, const mdb_at *at, const mdb_established_as *made, const uint8_t *service, size_t service_len, mdb_reply *reply);
+
+/* Pins, under load balancing: the party pins what it holds; one pin more; a new party takes it from its pin; one pin less. */
+mdb_status mdb_pin(mdb_slot *slot, const mdb_at *at, uint32_t party, mdb_reply *reply);
+mdb_status mdb_replicate(mdb_slot *slot, const mdb_at *at, const mdb_connection *connection, mdb_reply *reply);
+mdb_status mdb_take(mdb_slot *slot, const mdb_at *at, uint32_t party, const mdb_connection *connection, mdb_reply *reply);
+mdb_status mdb_unpin(mdb_slot *slot, const mdb_at *at, const mdb_connection *connection, mdb_reply *reply);
+
+/* The timers of a pool: stale and idle connections are closed (CMAP, "Background Thread"); callers that waited too long end (CMAP,
+ * "waitQueueTimeoutMS"). */
+mdb_status mdb_maintain(mdb_slot *slot, const mdb_at *at, const uint8_t *address, size_t address_len, mdb_reply *reply);
+mdb_status mdb_expire(mdb_slot *slot, const mdb_at *at, const uint8_t *address, size_t address_len, mdb_reply *reply);
+
+/* The monitor of the address begins a check, for the pool of this number (SDAM monitoring, "ServerHeartbeatStartedEvent"). */
+mdb_status mdb_beat(mdb_slot *slot, const mdb_at *at, const uint8_t *address, size_t address_len, uint32_t pool, mdb_reply *reply);
+
+/* A watcher, by its number, wants the servers checked at once, or no longer (SDAM monitoring, "Requesting an immediate check"). */
+mdb_status mdb_want(mdb_slot *slot, const mdb_at *at, uint32_t watcher, mdb_reply *reply);
+mdb_status mdb_unwant(mdb_slot *slot, const mdb_at *at, uint32_t watcher, mdb_reply *reply);
+
+/* The steps that carry an error or a server's reply, as a line has them (docs/SCRIPT.md); MDB_MALFORMED where the text is none. ERROR is as
+ * `network msg=reset`. An operation of a party met an error on its connection (SDAM, "Error handling"). */
+mdb_status mdb_error(mdb_slot *slot, const mdb_at *at, uint32_t party, const uint8_t *error, size_t error_len, mdb_reply *reply);
+
+/* A pending connection failed: `outcome` is `pre ERROR` before the server's hello, and after it `post ERROR`, or `post sid=ID ERROR` where it named a
+ * service. */
+mdb_status mdb_failed(mdb_slot *slot, const mdb_at *at, const mdb_connection *connection, const uint8_t *outcome, size_t outcome_len, mdb_reply *reply);
+
+/* What the hello of a monitor came to (SDAM, "Updating the TopologyDescription"): `monitor` is the address and the number of the pool that it was begun
+ * for, as `a:27017 0`, with the port, and `outcome` is `ok rtt=NANOSECONDS FIELD=VALUE ..` or `err ERROR`. */
+mdb_status mdb_hello(mdb_slot *slot, const mdb_at *at, const uint8_t *monitor, size_t monitor_len, const uint8_t *outcome, size_t outcome_len, mdb_reply *reply);
+
+/* The check of a monitor ended (SDAM monitoring, "ServerHeartbeatSucceededEvent"): `outcome` is its nanoseconds, and then `ok FIELD=VALUE ..`,
+ * `err ERROR` or `cancelled ERROR`. */
+mdb_status mdb_beaten(mdb_slot *slot, const mdb_at *at, const uint8_t *monitor, size_t monitor_len, const uint8_t *outcome, size_t outcome_len, mdb_reply *reply);
+
+/* The driver stops: its pools and its monitors are closed. */
+mdb_status mdb_stop(mdb_slot *slot, const mdb_at *at, mdb_reply *reply);
+
+/* ---- the facts of the last entry, by index from 0, until the next step that is done. Whoever made a step reads its facts under the same lock.
+ * MDB_CLOSED, MDB_NO_ENTRY. */
+
+/* A member that the kind and the event do not name is 0. */
+typedef struct mdb_fact {
+    uint32_t kind;   /* MDB_FACT_OPENED .. */
+    uint32_t event;  /* of MDB_FACT_POOL: MDB_POOL_CREATED ..; of MDB_FACT_SDAM: MDB_SDAM_SERVER_CHANGED .. */
+    uint32_t pool;   /* of MDB_FACT_OPENED, MDB_FACT_POOL, MDB_FACT_GRANTED, MDB_FACT_RAISED */
+    uint32_t id;     /* the connection of MDB_FACT_GRANTED and of events that name one; of a heartbeat the driver's number of the monitor's connection */
+    uint32_t party;  /* of MDB_FACT_GRANTED, MDB_FACT_ENDED */
+    uint32_t why;    /* MDB_END_ of MDB_FACT_ENDED; MDB_CLOSED_ of MDB_CONNECTION_CLOSED; MDB_FAILED_ of MDB_CHECKOUT_FAILED; of a heartbeat 1 where the
+                      * server answers when something changes */
+    uint64_t number; /* the milliseconds of MDB_CONNECTION_READY, MDB_CHECKED_OUT and MDB_CHECKOUT_FAILED; the nanoseconds of a heartbeat that ended; 1 of
+                      * an MDB_POOL_CLEARED that interrupts the connections in use */
+} mdb_fact;
+
+enum { /* kind */
+    MDB_FACT_OPENED = 1, /* a pool was opened */
+    MDB_FACT_POOL,       /* the pool made an event (CMAP, "Events") */
+    MDB_FACT_GRANTED,    /* a connection was granted to the party */
+    MDB_FACT_ENDED,      /* the party's request ended */
+    MDB_FACT_RAISED,     /* the generation of the pool, or of one service behind it, was raised */
+    MDB_FACT_SDAM,       /* a server or the topology made an event (SDAM monitoring) */
+    MDB_FACT_CHECK_NOW,  /* the monitor of an address should check now */
+    MDB_FACT_CANCEL      /* the check of an address that runs should be cancelled */
+};
+
+enum { /* event */
+    MDB_POOL_CREATED = 1, MDB_POOL_READY, MDB_POOL_CLEARED, MDB_POOL_CLOSED, MDB_CONNECTION_CREATED, MDB_CONNECTION_READY, MDB_CONNECTION_CLOSED,
+    MDB_CHECKOUT_STARTED, MDB_CHECKOUT_FAILED, MDB_CHECKED_OUT, MDB_CHECKED_IN,
+    MDB_SDAM_SERVER_CHANGED = 32, MDB_SDAM_SERVER_OPENING, MDB_SDAM_SERVER_CLOSED, MDB_SDAM_TOPOLOGY_CHANGED, MDB_SDAM_TOPOLOGY_OPENING,
+    MDB_SDAM_TOPOLOGY_CLOSED, MDB_SDAM_HEARTBEAT_STARTED, MDB_SDAM_HEARTBEAT_SUCCEEDED, MDB_SDAM_HEARTBEAT_FAILED
+};
+
+enum { MDB_CLOSED_STALE = 1, MDB_CLOSED_IDLE, MDB_CLOSED_ERROR, MDB_CLOSED_DROPPED, MDB_CLOSED_POOL_CLOSED };
+
+enum { MDB_FAILED_TIMEOUT = 1, MDB_FAILED_CONNECTION_ERROR };
+
+/* How many facts the last entry has: 0 after a refusal. */
+mdb_status mdb_fact_count(mdb_slot *slot, size_t *count);
+mdb_status mdb_fact_at(mdb_slot *slot, size_t index, mdb_fact *fact);
+
+/* The whole text of a fact, as an entry's text has it. *needed is its length, and 0 at MDB_NO_ENTRY, MDB_NO_MEMORY and MDB_CLOSED; at MDB_NO_ROOM nothing
+ * is written. */
+mdb_status mdb_fact_text(mdb_slot *slot, size_t index, uint8_t *out, size_t out_len, size_t *needed);
+
+/* ---- what is known; no steps */
+
+/* The moment of the last step that was accepted. */
+mdb_status mdb_last_moment(mdb_slot *slot, uint64_t *moment);
+
+/* How often an accepted step told of the topology, its opening included. */
+mdb_status mdb_published(mdb_slot *slot, uint64_t *count);
+
+/* The number of the pool that is open at the address. MDB_NO_ENTRY, MDB_MALFORMED. */
+mdb_status mdb_open_pool(mdb_slot *slot, const uint8_t *address, size_t address_len, uint32_t *pool);
+
+#ifdef __cplusplus
+}
+#endif
+
+#endif
