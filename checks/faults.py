@@ -1,18 +1,18 @@
 #!/usr/bin/env python3
 """Runs built programs with one call of the C library failing: each allocation, each read and each write in turn.
 
-usage: checks/faults.py [--script PROGRAM] [--low PROGRAM] [--mid PROGRAM] [--top PROGRAM] [--demo PROGRAM] [--tests PROGRAM] [--jobs N] [--seconds N] [--every]
+usage: checks/faults.py [--script PROGRAM] [--fleet PROGRAM] [--low PROGRAM] [--mid PROGRAM] [--top PROGRAM] [--demo PROGRAM] [--tests PROGRAM] [--jobs N] [--seconds N] [--every]
 
-PROGRAM is crates/CRATE/out/CRATE, of mdb_script, the three programs of cases (mdb_checks_low, mdb_checks_mid and mdb_checks_top) and mdb_pool_demo, and
+PROGRAM is crates/CRATE/out/CRATE, of mdb_script, mdb_fleet, the three programs of cases (mdb_checks_low, mdb_checks_mid and mdb_checks_top) and mdb_pool_demo, and
 crates/mdb_trials/out/mdb_trials_tests, where it is left out; nothing is built. mdb_script runs its stored script, also with `share 1` and `share 2`, `make 10`, and
-the scripts of mdb_checks_top that SWEPT names (with --every all of them); the programs of cases run their stored cases, and mdb_pool_demo its threads: of its
+the scripts of mdb_checks_top that SWEPT names (with --every all of them); mdb_fleet runs its stored run, the programs of cases their stored cases, and mdb_pool_demo its threads: of its
 allocations the first DEMO_FIRST fail in turn, and then each DEMO_STEP-th. Each runs once as it is, and then, up to N runs side by side (as many as there are
 processors) and for at most N seconds (900), once for each call and each of these faults:
 
   allocation   is refused. The program tells want of memory, with status 1, after whole entries or lines, the first of the
                stored output; or the run recovers: status 0 and the stored output.
   read, write  fails with an error. The program tells it, with its status, after a front of the stored output; a failing
-               read leaves mdb_script with no output, and so does want of memory with `share K`. Of `share 2`, whose log is the
+               read leaves mdb_script and mdb_fleet with no output, and so does want of memory with `share K`. Of `share 2`, whose log is the
                schedule's, only the number of lines is compared, and a run may end before the call that was to fail.
   short_read, short_write   moves one byte, and so does each of them in a further run. Nothing changes.
 
@@ -107,15 +107,17 @@ def swept(program, folder, is_every):
     return found
 
 
-def subjects(script, checks, demo, folder, is_every):
+def subjects(script, fleet, checks, demo, folder, is_every):
     """The runs that are disturbed, of the programs that are there; and the programs that are missing."""
-    found, missing = [], [program for program in (script, *checks, demo) if not os.path.isfile(program)]
+    found, missing = [], [program for program in (script, fleet, *checks, demo) if not os.path.isfile(program)]
     if script not in missing:
         found.append(Subject('mdb_script', script, [], *stored('mdb_script'), SCRIPT_ENDS))
         for parts in ('1', '2'):
             found.append(Subject('mdb_script share ' + parts, script, ['share', parts], *stored('mdb_script'), SHARE_ENDS))
         found.append(Subject('mdb_script make 10', script, ['make', '10'], os.devnull, MADE, SCRIPT_ENDS))
         found.extend(swept(script, folder, is_every))
+    if fleet not in missing:
+        found.append(Subject('mdb_fleet', fleet, [], *stored('mdb_fleet'), SCRIPT_ENDS))
     for crate, program in zip(CHECKS, checks):
         if program not in missing:
             found.append(Subject(crate, program, [], *stored(crate), CHECKS_ENDS))
@@ -359,6 +361,7 @@ def options():
     """The words of the command line."""
     reader = argparse.ArgumentParser(usage=__doc__.split('usage: ')[1])
     reader.add_argument('--script', default=os.path.join(CRATES, 'mdb_script/out/mdb_script'))
+    reader.add_argument('--fleet', default=os.path.join(CRATES, 'mdb_fleet/out/mdb_fleet'))
     for crate in CHECKS:
         reader.add_argument('--' + crate.rsplit('_', 1)[1], default=os.path.join(CRATES, crate, 'out', crate))
     reader.add_argument('--demo', default=os.path.join(CRATES, 'mdb_pool_demo/out/mdb_pool_demo'))
@@ -375,7 +378,7 @@ def main():
     until = time.monotonic() + given.seconds
     with tempfile.TemporaryDirectory() as folder:
         checks = [os.path.abspath(it) for it in (given.low, given.mid, given.top)]
-        found, missing = subjects(os.path.abspath(given.script), checks, os.path.abspath(given.demo), folder, given.every)
+        found, missing = subjects(os.path.abspath(given.script), os.path.abspath(given.fleet), checks, os.path.abspath(given.demo), folder, given.every)
         library = build(folder) if found else None
         for subject in found:
             tally.update(sweep(subject, library, folder, given.jobs, until))
