@@ -1,12 +1,12 @@
 -- A description goes on following where a pair changes no top, and where one more election is won.
-use Rattle.std.proofs.Common.{◌≡◌, ℕ, zero, suc, ◌+◌, ◌-◌, ◌<◌, ◌^◌, Bool, true, List, [], ◌∷◌, ◌++◌, Option, Some, None, refl, sym, ap, ◌∙◌, subst}
+use Rattle.std.proofs.Common.{◌≡◌, ℕ, zero, suc, ◌-◌, ◌<◌, ◌^◌, List, [], ◌∷◌, ◌++◌, Option, Some, None, ap, ◌∙◌, subst}
 use Rattle.std.specs.Prelude.{slice_get, option_map, pos, IfSome}
 use Rattle.mdb_describe.specs.declared.description.ServerDescription.{ServerDescription}
 use Rattle.mdb_describe.specs.declared.topology.TopologyDescription.{TopologyDescription}
 use Rattle.mdb_fleets.specs.declared.member.Member.{Member}
 use Rattle.mdb_fleets.specs.MemberReplies.{election_id as id_of}
 use Rattle.mdb_failover.specs.Elections.{Pair, top}
-use Rattle.mdb_failover.specs.Followed.{Won, IsHonest, Leads, LeadsBy, LeadsIfPrimary, Each, Follows}
+use Rattle.mdb_failover.specs.Followed.{Won, IsHonest, LeadsBy, LeadsIfPrimary, Each, Follows}
 use Rattle.mdb_failover.proofs.Lists.{each-map}
 
 -- only the greatest pair counts

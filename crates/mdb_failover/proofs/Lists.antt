@@ -1,17 +1,16 @@
 -- Lists of servers that keep their addresses.
-use Rattle.std.proofs.Common.{◌≡◌, ℕ, ◌+◌, ◌<◌, ◌≤◌, Bool, true, false, not, ◌&&◌, ◌||◌, ◌⊎◌, inl, inr, List, [], ◌∷◌, map, length, filter, refl, sym, ap, ◌∙◌, subst, arith}
-use Rattle.std.specs.Prelude.{if◌then◌else◌}
-use Rattle.std.specs.List.{list_any, list_all}
-use Rattle.std.proofs.lemmas.Bool.{cases_Bool, and_parts, and_from}
+use Rattle.std.proofs.Common.{◌≡◌, Bool, true, false, not, ◌||◌, inl, inr, List, [], ◌∷◌, refl, ap, ◌∙◌, subst}
+use Rattle.std.specs.List.{list_all}
+use Rattle.std.proofs.lemmas.Bool.{cases_Bool, and_parts}
 use Rattle.mdb_base.specs.declared.address.ServerAddress.{ServerAddress}
-use Rattle.mdb_base.specs.AddressOrder.{is_before, is_before_first, in_order as are_in_order}
+use Rattle.mdb_base.specs.AddressOrder.{is_before, is_before_first}
 use Rattle.mdb_base.specs.Equality.{same_address}
 use Rattle.mdb_base.proofs.AddressOrder.{before_on, same_not_before, same_back}
 use Rattle.mdb_failover.proofs.Addresses.{same-address}
 use Rattle.mdb_describe.specs.declared.description.ServerDescription.{ServerDescription}
 use Rattle.mdb_describe.specs.Descriptions.{unknown}
-use Rattle.mdb_describe.specs.Servers.{addresses_of, in_order, is_known, is_listed, is_primary_type, has_primary, store, forget_where, forget_other_primaries, add, add_all, keep_listed}
-use Rattle.mdb_failover.specs.Followed.{Each, AtMostOnePrimary}
+use Rattle.mdb_describe.specs.Servers.{addresses_of, in_order, is_known, is_listed, is_primary_type, has_primary, store, forget_where, add_all, keep_listed}
+use Rattle.mdb_failover.specs.Followed.{Each}
 
 abbrev Test : Type 0
 Test = ServerDescription → Bool

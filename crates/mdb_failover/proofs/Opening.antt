@@ -1,6 +1,6 @@
 -- A driver that was opened with all members as seeds follows the replica set, of which nothing is known yet.
-use Rattle.std.proofs.Common.{◌≡◌, ℕ, zero, suc, ◌+◌, ◌<◌, length, get_or, zero-add, arith, Bool, true, false, ◌&&◌, ◌||◌, ◌⊎◌, inl, inr, List, [], ◌∷◌, codes, Option, Some, None, refl, sym, ap, ◌∙◌}
-use Rattle.std.specs.List.{list_any, list_all, range_with_len}
+use Rattle.std.proofs.Common.{◌≡◌, ℕ, zero, suc, ◌<◌, length, get_or, zero-add, arith, Bool, true, false, ◌&&◌, ◌||◌, inl, inr, List, [], ◌∷◌, codes, Some, refl, sym, ap, ◌∙◌}
+use Rattle.std.specs.List.{list_any, list_all}
 use Rattle.std.proofs.lemmas.List.FromFn.{length-map-range_with_len, get_or-map-range_with_len}
 use Rattle.std.proofs.lemmas.Bool.{cases_Bool, and_parts, and_from}
 use Rattle.mdb_base.specs.declared.address.ServerAddress.{ServerAddress}
@@ -13,7 +13,7 @@ use Rattle.mdb_describe.specs.Servers.{addresses_of, is_known, is_listed, is_pri
 use Rattle.mdb_describe.specs.Topology.{opened}
 use Rattle.mdb_describe.proofs.InOrder.{added_in_order}
 use Rattle.mdb_fleets.specs.MemberReplies.{address_of, addresses_of as members_of}
-use Rattle.mdb_failover.specs.Followed.{OwnProcess, LeadsIfPrimary, Each, Follows}
+use Rattle.mdb_failover.specs.Followed.{OwnProcess, Each, Follows}
 use Rattle.mdb_failover.proofs.Addresses.{own-address}
 use Rattle.mdb_failover.proofs.Lists.{known-address}
 

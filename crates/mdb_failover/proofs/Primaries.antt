@@ -1,6 +1,5 @@
 -- At most one server of a description that follows a replica set is a primary.
-use Rattle.std.proofs.Common.{◌≡◌, ℕ, ◌-◌, ◌≤◌, Bool, true, false, List, [], ◌∷◌, length, filter, Option, Some, None, refl, sym, ap, ◌∙◌, subst, arith}
-use Rattle.std.specs.Prelude.{slice_get}
+use Rattle.std.proofs.Common.{◌≡◌, ℕ, Bool, true, false, List, [], ◌∷◌, filter, Option, Some, None, refl, sym, ap, ◌∙◌, subst, arith}
 use Rattle.std.proofs.lemmas.Bool.{cases_Bool, and_parts}
 use Rattle.std.proofs.Common.{inl, inr}
 use Rattle.mdb_base.specs.declared.address.ServerAddress.{ServerAddress}
@@ -10,7 +9,7 @@ use Rattle.mdb_describe.specs.declared.description.ServerDescription.{ServerDesc
 use Rattle.mdb_describe.specs.Servers.{addresses_of, in_order, is_primary_type}
 use Rattle.mdb_fleets.specs.MemberReplies.{address_of}
 use Rattle.mdb_failover.specs.Elections.{Pair}
-use Rattle.mdb_failover.specs.Followed.{Leads, LeadsBy, LeadsIfPrimary, Each, AtMostOnePrimary}
+use Rattle.mdb_failover.specs.Followed.{LeadsBy, LeadsIfPrimary, Each, AtMostOnePrimary}
 use Rattle.mdb_failover.proofs.Addresses.{own-address}
 use Rattle.mdb_failover.proofs.Lists.{apart}
 

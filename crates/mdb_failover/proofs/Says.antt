@@ -1,19 +1,18 @@
 -- A member's reply is described as it says.
-use Rattle.std.proofs.Common.{◌≡◌, ℕ, zero, suc, ◌+◌, ◌^◌, ◌<◌, ◌≤◌, Bool, true, false, not, ◌&&◌, List, [], ◌∷◌, ◌++◌, map, drop, Option, Some, None, refl, sym, ap, ◌∙◌, subst, arith}
-use Rattle.std.specs.Prelude.{nat_eq, is_some, pos, int_lt, if◌then◌else◌}
-use Rattle.std.specs.List.{list_all, range_with_len}
-use Rattle.std.specs.Cmp.Lexicographic.{pointwise}
+use Rattle.std.proofs.Common.{◌≡◌, ℕ, zero, suc, ◌+◌, ◌^◌, ◌<◌, ◌≤◌, Bool, true, false, not, ◌&&◌, map, drop, Some, refl, sym, ap, ◌∙◌, arith}
+use Rattle.std.specs.Prelude.{is_some, pos, int_lt, if◌then◌else◌}
+use Rattle.std.specs.List.{range_with_len}
 use Rattle.std.proofs.lemmas.List.{append-nil}
 use Rattle.mdb_base.specs.declared.address.ServerAddress.{ServerAddress}
 use Rattle.mdb_base.specs.Spelling.{address}
 use Rattle.mdb_hello.specs.declared.response.HelloReply.{HelloReply}
 use Rattle.mdb_hello.specs.declared.response.HelloCommandResponse.{HelloCommandResponse}
 use Rattle.mdb_describe.specs.declared.description.ServerDescription.{ServerDescription}
-use Rattle.mdb_describe.specs.Descriptions.{from_reply, replied, listed_texts, lowered, lowered_reply}
-use Rattle.mdb_describe.specs.Listed.{lower, parsed, addresses, are_addresses, with_address}
+use Rattle.mdb_describe.specs.Descriptions.{from_reply, listed_texts, lowered}
+use Rattle.mdb_describe.specs.Listed.{lower, addresses, are_addresses}
 use Rattle.mdb_describe.proofs.Parsed.{own_bytes}
 use Rattle.mdb_fleets.specs.declared.member.Member.{Member}
-use Rattle.mdb_fleets.specs.MemberReplies.{address_of, address_text, addresses_of, address_texts, process_of, reply_of}
+use Rattle.mdb_fleets.specs.MemberReplies.{address_of, address_text, address_texts, process_of, reply_of}
 use Rattle.mdb_fleets.specs.Members.{is_primary}
 use Rattle.mdb_hello.specs.ServerTypes.{type_of as server_type_of}
 use Rattle.mdb_hello.specs.declared.server_type.ServerType.TheVariants.{RsPrimary, RsSecondary}

@@ -1,8 +1,8 @@
 -- A description that follows a replica set goes on doing so, whatever it takes.
-use Rattle.std.proofs.Common.{◌≡◌, ℕ, ◌+◌, ◌<◌, ◌≤◌, ◌^◌, Bool, true, false, not, ◌&&◌, ◌||◌, ◌⊎◌, inl, inr, List, [], ◌∷◌, ◌++◌, codes, Option, Some, None, refl, sym, ap, ◌∙◌, subst, arith}
-use Rattle.std.specs.Prelude.{ℤ, pos, option_map, if◌then◌else◌, IfSome}
+use Rattle.std.proofs.Common.{◌≡◌, ℕ, ◌<◌, ◌^◌, Bool, true, false, not, ◌&&◌, inl, inr, List, [], ◌∷◌, ◌++◌, Option, Some, None, refl, sym, ap, ◌∙◌, subst}
+use Rattle.std.specs.Prelude.{ℤ, pos, option_map, IfSome}
 use Rattle.std.specs.List.{list_all}
-use Rattle.std.proofs.lemmas.Bool.{cases_Bool, and_parts}
+use Rattle.std.proofs.lemmas.Bool.{cases_Bool}
 use Rattle.std.proofs.lemmas.List.{append-nil}
 use Rattle.mdb_base.specs.declared.address.ServerAddress.{ServerAddress}
 use Rattle.mdb_base.specs.declared.error.Error.{Error}
@@ -10,19 +10,18 @@ use Rattle.mdb_base.specs.declared.object_id.ObjectId.{ObjectId}
 use Rattle.mdb_base.specs.Equality.{same_address}
 use Rattle.mdb_hello.specs.declared.server_type.ServerType.{ServerType}
 use Rattle.mdb_hello.specs.declared.server_type.ServerType.TheVariants.{RsPrimary, RsSecondary, Unknown}
-use Rattle.mdb_srv.specs.declared.topology_type.TopologyType.{TopologyType}
 use Rattle.mdb_srv.specs.declared.topology_type.TopologyType.TheVariants.{ReplicaSetNoPrimary, ReplicaSetWithPrimary}
 use Rattle.mdb_describe.specs.declared.description.ServerDescription.{ServerDescription}
 use Rattle.mdb_describe.specs.declared.topology.TopologyDescription.{TopologyDescription}
 use Rattle.mdb_describe.specs.Descriptions.{unknown, failed}
-use Rattle.mdb_describe.specs.Fields.{election_id, set_version, set_name, invalid_me}
-use Rattle.mdb_describe.specs.Servers.{addresses_of, in_order, is_listed, is_primary_type, has_primary, store, forget, forget_other_primaries, add_all, keep_listed}
-use Rattle.mdb_describe.specs.Update.{updated, decided, table, stored, is_new, kind_by_primary, check, of_type, names_other, learn, listed, is_modern, is_outdated, is_outdated_modern, pair_is_below, primary_rule, ranked, leads, name_or, with_maxima, forgotten, member_rule_a, member_rule_b, with_compatibility}
+use Rattle.mdb_describe.specs.Fields.{election_id, set_version, set_name}
+use Rattle.mdb_describe.specs.Servers.{addresses_of, in_order, is_listed, is_primary_type, has_primary, store, forget_other_primaries, add_all, keep_listed}
+use Rattle.mdb_describe.specs.Update.{updated, table, stored, is_new, kind_by_primary, check, names_other, learn, listed, is_outdated, pair_is_below, ranked, leads, name_or, forgotten, with_compatibility}
 use Rattle.mdb_describe.proofs.InOrder.{stored_in_order, forgotten_in_order}
 use Rattle.mdb_fleets.specs.declared.member.Member.{Member}
-use Rattle.mdb_fleets.specs.MemberReplies.{address_of, addresses_of as members_of, election_id as id_of}
+use Rattle.mdb_fleets.specs.MemberReplies.{addresses_of as members_of, election_id as id_of}
 use Rattle.mdb_failover.specs.Elections.{Pair, is_below, greater, top}
-use Rattle.mdb_failover.specs.Followed.{OwnProcess, Won, IsHonest, pair_of, with_pair, Leads, LeadsBy, LeadsIfPrimary, Each, Follows}
+use Rattle.mdb_failover.specs.Followed.{OwnProcess, Won, IsHonest, pair_of, with_pair, Leads, LeadsIfPrimary, Each, Follows}
 use Rattle.mdb_failover.specs.Says.{Says}
 use Rattle.mdb_failover.proofs.Lists.{stored-addresses, forgotten-addresses, added-none, kept-all, each-stored, each-forgotten, each-map, each-where, stored-alone, stored-secondary}
 use Rattle.mdb_failover.proofs.Addresses.{own-address}

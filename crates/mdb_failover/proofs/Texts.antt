@@ -1,12 +1,12 @@
 -- The texts of members are addresses, in small letters.
-use Rattle.std.proofs.Common.{◌≡◌, ℕ, zero, suc, ◌+◌, ◌<◌, ◌≤◌, Bool, true, false, ◌&&◌, List, [], ◌∷◌, ◌++◌, map, length, get_or, Some, refl, sym, ap, ◌∙◌, subst, arith, inl, zero-add}
+use Rattle.std.proofs.Common.{◌≡◌, ℕ, zero, suc, ◌<◌, Bool, true, ◌&&◌, List, [], ◌∷◌, length, get_or, Some, refl, ◌∙◌, subst, arith, inl, zero-add}
 use Rattle.std.specs.Prelude.{nat_eq}
 use Rattle.std.specs.Fmt.{digits}
 use Rattle.std.specs.List.{list_all, range_with_len}
 use Rattle.std.specs.Cmp.Lexicographic.{pointwise}
 use Rattle.std.proofs.lemmas.Bool.{and_parts}
-use Rattle.std.proofs.lemmas.List.FromFn.{length-range_with_len, get_or-range_with_len}
-use Rattle.mdb_base.specs.AddressRule.{is_address, is_name_host, is_v6_host, IsSpelledAddress, IsAddressText}
+use Rattle.std.proofs.lemmas.List.FromFn.{get_or-range_with_len}
+use Rattle.mdb_base.specs.AddressRule.{is_address, is_name_host, is_v6_host}
 use Rattle.mdb_base.specs.Spelling.{address}
 use Rattle.mdb_describe.specs.Listed.{lower, parsed}
 use Rattle.mdb_describe.proofs.Parsed.{same_bytes, parsed_some}

@@ -1,12 +1,11 @@
 -- The greatest pair, and the rule by which a primary is outdated.
-use Rattle.std.proofs.Common.{◌≡◌, ℕ, ◌<◌, ◌^◌, Bool, true, false, ◌&&◌, ◌||◌, ◌⊎◌, inl, inr, List, [], ◌∷◌, ◌++◌, Option, Some, None, refl, sym, ap, ◌∙◌, subst, arith}
-use Rattle.std.specs.Prelude.{nat_lt, nat_eq, ◌==◌, pos, int_lt, option_map, if◌then◌else◌}
+use Rattle.std.proofs.Common.{◌≡◌, ℕ, ◌<◌, ◌^◌, true, false, inl, inr, List, [], ◌∷◌, ◌++◌, Option, Some, None, refl, sym, ◌∙◌, arith}
+use Rattle.std.specs.Prelude.{◌==◌, pos}
 use Rattle.std.specs.List.{fold}
-use Rattle.std.specs.Cmp.Lexicographic.{pointwise}
 use Rattle.std.proofs.lemmas.Bool.{cases_Bool, cases_eq}
 use Rattle.mdb_base.specs.Equality.{same_id}
 use Rattle.mdb_describe.proofs.Parsed.{same_bytes, own_bytes}
-use Rattle.mdb_describe.specs.Update.{id_is_below, pair_is_below}
+use Rattle.mdb_describe.specs.Update.{pair_is_below}
 use Rattle.mdb_fleets.specs.MemberReplies.{election_id}
 use Rattle.mdb_failover.specs.Elections.{Pair, is_below, greater, top}
 use Rattle.mdb_failover.proofs.Orders.{id-below, ids-apart}

@@ -1,5 +1,5 @@
 -- What the description of a member's reply says.
-use Rattle.std.specs.Prelude.{◌≡◌, ℕ, true, false, pos, codes, Option, Some, option_map, if◌then◌else◌}
+use Rattle.std.specs.Prelude.{◌≡◌, ℕ, true, false, pos, codes, Some, option_map, if◌then◌else◌}
 use Rattle.mdb_hello.specs.declared.server_type.ServerType.{ServerType}
 use Rattle.mdb_hello.specs.declared.server_type.ServerType.TheVariants.{RsPrimary, RsSecondary}
 use Rattle.mdb_describe.specs.declared.description.ServerDescription.{ServerDescription}
