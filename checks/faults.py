@@ -1,10 +1,10 @@
 #!/usr/bin/env python3
 """Runs built programs with one call of the C library failing: each allocation, each read and each write in turn.
 
-usage: checks/faults.py [--script PROGRAM] [--checks PROGRAM] [--demo PROGRAM] [--tests PROGRAM] [--jobs N] [--seconds N] [--every]
+usage: checks/faults.py [--script PROGRAM] [--proxy PROGRAM] [--checks PROGRAM] [--demo PROGRAM] [--tests PROGRAM] [--jobs N] [--seconds N] [--every]
 
-PROGRAM is crates/CRATE/out/CRATE, of mdb_script, mdb_checks and mdb_pool_demo, and crates/mdb_total/out/mdb_total_tests, where it is left out; nothing is built.
-mdb_script runs its stored script, also with `share 1` and `share 2`, `make 10`, and the scripts of mdb_checks that SWEPT names (with --every all of them);
+PROGRAM is crates/CRATE/out/CRATE, of mdb_script, mdb_proxy, mdb_checks and mdb_pool_demo, and crates/mdb_total/out/mdb_total_tests, where it is left out; nothing is built.
+mdb_proxy runs its stored script; mdb_script too, also with `share 1` and `share 2`, `make 10`, and the scripts of mdb_checks that SWEPT names (with --every all of them);
 mdb_checks runs its stored cases, and mdb_pool_demo its threads: of its allocations the first DEMO_FIRST fail in turn, and then each DEMO_STEP-th. Each runs once as it is, and then, up to N runs side by side (as many as there are
 processors) and for at most N seconds (900), once for each call and each of these faults:
 
@@ -103,15 +103,17 @@ def swept(program, folder, is_every):
     return found
 
 
-def subjects(script, checks, demo, folder, is_every):
+def subjects(script, proxy, checks, demo, folder, is_every):
     """The runs that are disturbed, of the programs that are there; and the programs that are missing."""
-    found, missing = [], [program for program in (script, checks, demo) if not os.path.isfile(program)]
+    found, missing = [], [program for program in (script, proxy, checks, demo) if not os.path.isfile(program)]
     if script not in missing:
         found.append(Subject('mdb_script', script, [], *stored('mdb_script'), SCRIPT_ENDS))
         for parts in ('1', '2'):
             found.append(Subject('mdb_script share ' + parts, script, ['share', parts], *stored('mdb_script'), SHARE_ENDS))
         found.append(Subject('mdb_script make 10', script, ['make', '10'], os.devnull, MADE, SCRIPT_ENDS))
         found.extend(swept(script, folder, is_every))
+    if proxy not in missing:
+        found.append(Subject('mdb_proxy', proxy, [], *stored('mdb_proxy'), SCRIPT_ENDS))
     if checks not in missing:
         found.append(Subject('mdb_checks', checks, [], *stored('mdb_checks'), CHECKS_ENDS))
     if demo not in missing:
@@ -349,6 +351,7 @@ def options():
     """The words of the command line."""
     reader = argparse.ArgumentParser(usage=__doc__.split('usage: ')[1])
     reader.add_argument('--script', default=os.path.join(CRATES, 'mdb_script/out/mdb_script'))
+    reader.add_argument('--proxy', default=os.path.join(CRATES, 'mdb_proxy/out/mdb_proxy'))
     reader.add_argument('--checks', default=os.path.join(CRATES, 'mdb_checks/out/mdb_checks'))
     reader.add_argument('--demo', default=os.path.join(CRATES, 'mdb_pool_demo/out/mdb_pool_demo'))
     reader.add_argument('--tests', default=os.path.join(CRATES, 'mdb_total/out/mdb_total_tests'))
@@ -363,7 +366,7 @@ def main():
     given, tally = options(), Counter()
     until = time.monotonic() + given.seconds
     with tempfile.TemporaryDirectory() as folder:
-        programs = [os.path.abspath(it) for it in (given.script, given.checks, given.demo)]
+        programs = [os.path.abspath(it) for it in (given.script, given.proxy, given.checks, given.demo)]
         found, missing = subjects(*programs, folder, given.every)
         library = build(folder) if found else None
         for subject in found:
