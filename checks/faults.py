@@ -1,11 +1,11 @@
 #!/usr/bin/env python3
 """Runs built programs with one call of the C library failing: each allocation, each read and each write in turn.
 
-usage: checks/faults.py [--script PROGRAM] [--fleet PROGRAM] [--low PROGRAM] [--mid PROGRAM] [--top PROGRAM] [--demo PROGRAM] [--tests PROGRAM] [--jobs N] [--seconds N] [--every]
+usage: checks/faults.py [--script PROGRAM] [--fleet PROGRAM] [--proxy PROGRAM] [--low PROGRAM] [--mid PROGRAM] [--top PROGRAM] [--demo PROGRAM] [--tests PROGRAM] [--jobs N] [--seconds N] [--every]
 
-PROGRAM is crates/CRATE/out/CRATE, of mdb_script, mdb_fleet, the three programs of cases (mdb_checks_low, mdb_checks_mid and mdb_checks_top) and mdb_pool_demo, and
+PROGRAM is crates/CRATE/out/CRATE, of mdb_script, mdb_fleet, mdb_proxy, the three programs of cases (mdb_checks_low, mdb_checks_mid and mdb_checks_top) and mdb_pool_demo, and
 crates/mdb_trials/out/mdb_trials_tests, where it is left out; nothing is built. mdb_script runs its stored script, also with `share 1` and `share 2`, `make 10`, and
-the scripts of mdb_checks_top that SWEPT names (with --every all of them); mdb_fleet runs its stored run, the programs of cases their stored cases, and mdb_pool_demo its threads: of its
+the scripts of mdb_checks_top that SWEPT names (with --every all of them); mdb_fleet and mdb_proxy run their stored runs, the programs of cases their stored cases, and mdb_pool_demo its threads: of its
 allocations the first DEMO_FIRST fail in turn, and then each DEMO_STEP-th. Each runs once as it is, and then, up to N runs side by side (as many as there are
 processors) and for at most N seconds (900), once for each call and each of these faults:
 
@@ -107,9 +107,9 @@ def swept(program, folder, is_every):
     return found
 
 
-def subjects(script, fleet, checks, demo, folder, is_every):
+def subjects(script, fleet, proxy, checks, demo, folder, is_every):
     """The runs that are disturbed, of the programs that are there; and the programs that are missing."""
-    found, missing = [], [program for program in (script, fleet, *checks, demo) if not os.path.isfile(program)]
+    found, missing = [], [program for program in (script, fleet, proxy, *checks, demo) if not os.path.isfile(program)]
     if script not in missing:
         found.append(Subject('mdb_script', script, [], *stored('mdb_script'), SCRIPT_ENDS))
         for parts in ('1', '2'):
@@ -118,6 +118,8 @@ def subjects(script, fleet, checks, demo, folder, is_every):
         found.extend(swept(script, folder, is_every))
     if fleet not in missing:
         found.append(Subject('mdb_fleet', fleet, [], *stored('mdb_fleet'), SCRIPT_ENDS))
+    if proxy not in missing:
+        found.append(Subject('mdb_proxy', proxy, [], *stored('mdb_proxy'), SCRIPT_ENDS))
     for crate, program in zip(CHECKS, checks):
         if program not in missing:
             found.append(Subject(crate, program, [], *stored(crate), CHECKS_ENDS))
@@ -361,6 +363,7 @@ def options():
     """The words of the command line."""
     reader = argparse.ArgumentParser(usage=__doc__.split('usage: ')[1])
     reader.add_argument('--script', default=os.path.join(CRATES, 'mdb_script/out/mdb_script'))
+    reader.add_argument('--proxy', default=os.path.join(CRATES, 'mdb_proxy/out/mdb_proxy'))
     reader.add_argument('--fleet', default=os.path.join(CRATES, 'mdb_fleet/out/mdb_fleet'))
     for crate in CHECKS:
         reader.add_argument('--' + crate.rsplit('_', 1)[1], default=os.path.join(CRATES, crate, 'out', crate))
@@ -378,7 +381,8 @@ def main():
     until = time.monotonic() + given.seconds
     with tempfile.TemporaryDirectory() as folder:
         checks = [os.path.abspath(it) for it in (given.low, given.mid, given.top)]
-        found, missing = subjects(os.path.abspath(given.script), os.path.abspath(given.fleet), checks, os.path.abspath(given.demo), folder, given.every)
+        script, fleet, proxy, demo = (os.path.abspath(it) for it in (given.script, given.fleet, given.proxy, given.demo))
+        found, missing = subjects(script, fleet, proxy, checks, demo, folder, given.every)
         library = build(folder) if found else None
         for subject in found:
             tally.update(sweep(subject, library, folder, given.jobs, until))

@@ -1,0 +1,70 @@
+#!/usr/bin/env python3
+"""What an ask costs that is held back, handed on and finished, with 1, 8 and 64 tenants of share 1, over the built program.
+
+usage: bench/proxy.py [--proxy PROGRAM] [--script PROGRAM] [--runs N]
+
+Each tenant holds a connection. A round is three lines: the tenant asks and is held back, returns its connection, by which the ask is handed on and
+served, and collects. mdb_script runs the same rounds with a request in the place of the ask. Each script runs N times (9), the two programs and both
+lengths in turn, and the least time counts. Told are microseconds a round, from the difference of two lengths, so that the start of the program, the
+opening and the first asks are left out; and, to see whether a round costs more the more asks were made, a round of the first half and of the second.
+An input has at most 131,072 bytes, which are some 2,400 rounds."""
+import argparse
+import os
+import subprocess
+import time
+
+CRATES = os.path.join(os.path.dirname(os.path.dirname(os.path.abspath(__file__))), 'crates')
+TENANTS = (1, 8, 64)
+SID = '000000000000000000000001'
+ROUNDS = 2000
+
+
+def script(tenants, rounds, is_proxy):
+    """The lines of so many rounds."""
+    ask, finish = ('ask 0 %d %d a:1', 'finish 0 %d ok') if is_proxy else ('request 0 %d a:1', 'return 0 %d ok')
+    lines = ['shares=' + ','.join(['1'] * tenants)] if is_proxy else []
+    lines.append('open seeds=a:1 lb max=%d connecting=%d' % (tenants, tenants))
+    for t in range(tenants):
+        lines.append(ask % ((t, t) if is_proxy else t))
+    for t in range(tenants):
+        lines.append('established 0 0 %d wire=21 sid=%s' % (t + 1, SID))
+    held = list(range(tenants))
+    for n in range(rounds):
+        t, new = n % tenants, tenants + n
+        lines += [ask % ((t, new) if is_proxy else new), finish % held[t], 'collect 0 %d' % new]
+        held[t] = new
+    return ''.join(line + '\n' for line in lines).encode()
+
+
+def run(program, data):
+    """Seconds of one run."""
+    begun = time.perf_counter()
+    ended = subprocess.run([program], input=data, capture_output=True, check=False)
+    took = time.perf_counter() - begun
+    if ended.returncode or ended.stderr:
+        raise SystemExit('%s: status %d, %s' % (program, ended.returncode, ended.stderr.decode()))
+    return took
+
+
+def main():
+    """Prints a line for each number of tenants."""
+    reader = argparse.ArgumentParser(usage=__doc__.split('usage: ')[1])
+    reader.add_argument('--proxy', default=os.path.join(CRATES, 'mdb_proxy/out/mdb_proxy'))
+    reader.add_argument('--script', default=os.path.join(CRATES, 'mdb_script/out/mdb_script'))
+    reader.add_argument('--runs', type=int, default=9)
+    given = reader.parse_args()
+    programs = [(given.proxy, True)] + ([(given.script, False)] if os.path.isfile(given.script) else [])
+    for tenants in TENANTS:
+        inputs = {(program, rounds): script(tenants, rounds, is_proxy) for program, is_proxy in programs for rounds in (0, ROUNDS // 2, ROUNDS)}
+        least = {}
+        for _ in range(given.runs):
+            for key, data in inputs.items():
+                least[key] = min(least.get(key, 9e9), run(key[0], data))
+        for program, is_proxy in programs:
+            none, half, whole = (least[program, rounds] for rounds in (0, ROUNDS // 2, ROUNDS))
+            micros = [1e6 * seconds / rounds for seconds, rounds in ((whole - none, ROUNDS), (half - none, ROUNDS // 2), (whole - half, ROUNDS // 2))]
+            print('%-10s %2d tenants: %6.2f us a round; first half %6.2f, second half %6.2f' % ('mdb_proxy' if is_proxy else 'mdb_script', tenants, *micros))
+
+
+if __name__ == '__main__':
+    main()
