@@ -143,7 +143,7 @@ fn ask<C: Core, R: Wait>(
     Ok(())
 }
 
-// The client has gone: a step tells it to those who wait.
+// The client has gone: a step that is news to all tells it to those who wait.
 fn leave<C: Core, R: Wait>(
     driver: &SharedDriver<C>,
     rt: &R,
@@ -155,10 +155,9 @@ fn leave<C: Core, R: Wait>(
     ensures own { seat.new.driver ≡ seat.old.driver }
 {
     left.fetch_sub(1, Ordering::SeqCst);
-    let address = address(alloc)?;
     let step = Step {
         moment: 0,
-        act: Act::Expire(address),
+        act: Act::Unwant(0),
     };
     let reply = driver.step(rt, alloc, seat, step)?;
     drop(reply);
