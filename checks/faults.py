@@ -19,8 +19,8 @@ processors) and for at most N seconds (900), once for each call and each of thes
 The tests of mdb_trials over a running total share a driver among threads and seats. Each runs once for each of its first allocations, which is refused: it
 ends well, or stops where it has no memory, or in the test of two threads where one of them made a step less; it never hangs.
 
-A run of mdb_pool_demo that does not end within DEMO_LIMIT seconds is known: where a thread can't be started its part is played by the caller, which
-then waits for parts that were not begun.
+Each run of mdb_pool_demo ends, whichever allocation is refused in whichever thread. It recovers, or tells want of memory, or what came of it: that a
+thread was not started, which it waits for some seconds, or that a request ended since its connection could not be established.
 
 A case may answer want of memory where it runs the tool (counted as answered). One that is answered otherwise
 for want of memory is known where its kind is in KNOWN, and else a finding. Cases of more than LONG allocations are left out.
@@ -68,6 +68,8 @@ FAULT = b'Error: Os { code: 5, kind: Uncategorized, message: "Input/output error
 CHECKS_ENDS = {'allocation': (1, b'Error: Kind(OutOfMemory)\n'), 'read': (1, FAULT), 'write': (1, FAULT)}
 SHARE_ENDS = dict(SCRIPT_ENDS)
 DEMO_ENDS = dict(CHECKS_ENDS)
+# What the demo may tell at a refused allocation, beside want of memory.
+DEMO_TOLD = ((1, b'a thread was not started\n'), (1, b'the request has ended\n'))
 DEMO_LIMIT = 30  # seconds for one run of the demo
 DEMO_FIRST, DEMO_STEP = 200, 4999  # which allocations of the demo fail; how many it makes is up to the schedule
 
@@ -193,6 +195,8 @@ def judge_change(subject, ended):
 def judge_end(subject, kind, ended):
     """What a run counts as that did not come to its end."""
     is_told = (ended.status, ended.told) == subject.ends[kind]
+    if subject.ends is DEMO_ENDS and kind == 'allocation':
+        is_told = is_told or (ended.status, ended.told) in DEMO_TOLD
     owes_silence = {id(SCRIPT_ENDS): ('read',), id(SHARE_ENDS): ('read', 'allocation')}.get(id(subject.ends), ())
     is_silent = kind not in owes_silence or not ended.written
     is_good = is_told and is_silent and is_front(subject, ended.written, kind == 'allocation')
@@ -201,8 +205,6 @@ def judge_end(subject, kind, ended):
 
 def judge(subject, kind, at, ended):
     """What a run with a fault counts as, 'ended', 'unharmed', 'answered', 'known' or 'found', and the cases that changed."""
-    if subject.ends is DEMO_ENDS and kind == 'allocation' and ended.status == 'none':
-        return 'known', []
     is_unharmed = (ended.status, ended.told) == (0, b'') and is_whole(subject, ended.written)
     if not ended.counts or ended.counts[-1][SORTS[kind]] < max(at, 1):
         return ('unharmed' if ended.counts and is_unharmed and is_by_schedule(subject) else 'found'), []

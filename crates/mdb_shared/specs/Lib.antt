@@ -2,3 +2,4 @@ pub mod Turning
 pub mod Seats
 pub mod Checkout
 pub mod Claims
+pub mod News

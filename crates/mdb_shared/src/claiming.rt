@@ -80,13 +80,10 @@ fn one_claim<C: Core>(
         Ok(reply) => {
             let claimed = with_job(&core, alloc, &log, reply);
             finish(table, place, core, log, number);
-            table.shared.wake_one(1);
-            table.shared.wake_one(0);
             Ok(claimed)
         }
         Err(OutOfMemory) => {
             give_back(table, place, core, log);
-            table.shared.wake_one(0);
             Err(NoClaim::OutOfMemory)
         }
     }
@@ -101,7 +98,11 @@ impl<C: Core> SharedDriver<C> {
         ensures job { IfOk result (Holds (C.job_after seat.new.seen)) }
         ensures err { IfErr result (Missed seat.old seat.new) }
     {
-        one_claim(&self.table, &mut seat.place, alloc, seat.number)
+        let claimed = one_claim(&self.table, &mut seat.place, alloc, seat.number);
+        if !matches!(&claimed, Err(NoClaim::Busy(_))) {
+            self.pass_turn();
+        }
+        claimed
     }
 
     /// Claims a connection to establish. Nothing is claimed where there is no memory for the step. It may wait for the turn.
@@ -123,7 +124,7 @@ impl<C: Core> SharedDriver<C> {
                 Ok(claimed) => return Ok(claimed),
                 Err(NoClaim::OutOfMemory) => return Err(OutOfMemory),
                 Err(NoClaim::Busy(word)) => {
-                    self.table.shared.park(rt, 0, (word % (1 << 32)) as u32);
+                    self.await_turn(rt, word);
                 }
             }
         }

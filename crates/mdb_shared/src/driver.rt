@@ -19,6 +19,7 @@ use std::alloc::Global;
 use std::marker::Model;
 use std::snapshot::Snapshot;
 use std::sync::Wait;
+use std::sync::atomic::AtomicU64;
 
 /// A core and its log behind a turn, for up to 64 seats. The entries of all seats stand in one log. Every step needs the turn, which one seat has
 /// at a time. Contracts see the log that the driver was given and the number of its seats.
@@ -26,6 +27,9 @@ use std::sync::Wait;
 pub struct SharedDriver<C: Core> {
     pub(crate) table: Lock<C>,
     made: u32,
+    // How many sleep for the turn, and how many until the log tells news.
+    pub(crate) at_turn: AtomicU64,
+    pub(crate) at_bell: AtomicU64,
 }
 
 impl<C: Core> Model for SharedDriver<C> {
@@ -72,7 +76,13 @@ impl<C: Core> SharedDriver<C> {
             Err(Refused { slots: _ }) => return Err(OutOfMemory),
         };
         let list = make_seats(alloc, &table, keeper, seats)?;
-        Ok((SharedDriver { table, made: seats }, list))
+        let driver = SharedDriver {
+            table,
+            made: seats,
+            at_turn: AtomicU64::new(0),
+            at_bell: AtomicU64::new(0),
+        };
+        Ok((driver, list))
     }
 
     /// Adds one entry to the log, unless another seat has the turn or memory runs out. The moment of the step is raised to the last one where it
@@ -86,7 +96,22 @@ impl<C: Core> SharedDriver<C> {
         ensures in_time { IfOk result (λ reply. IsTrue (is_in_time step.act reply)) }
         ensures err { IfErr result (λ why. Failed seat.old seat.new step why) }
     {
-        one_step(&self.table, &mut seat.place, alloc, seat.number, step)
+        let mut is_news = false;
+        let answer = one_step(
+            &self.table,
+            &mut seat.place,
+            alloc,
+            seat.number,
+            step,
+            &mut is_news,
+        );
+        if !matches!(&answer, Err(TryError::Busy(_, _))) {
+            self.pass_turn();
+        }
+        if is_news {
+            self.wake();
+        }
+        answer
     }
 
     /// Adds one entry to the log. The moment of the step is raised to the last one where it is smaller. It may wait for the turn.
@@ -112,11 +137,18 @@ impl<C: Core> SharedDriver<C> {
                 Err(TryError::OutOfMemory) => return Err(OutOfMemory),
                 Err(TryError::Busy(word, back)) => {
                     step = back;
-                    self.table.shared.park(rt, 0, (word % (1 << 32)) as u32);
+                    self.await_turn(rt, word);
                 }
             }
         }
         unreachable!()
+    }
+
+    /// How many seats it was made with.
+    pub fn seats(&self) -> u32
+        ensures { result ≡ self.now.seats }
+    {
+        self.made
     }
 
     /// How many entries the log has. The seat has then seen them all. It waits for nobody and takes no memory.
@@ -156,7 +188,12 @@ impl<C: Core> SharedDriver<C> {
                 missing,
             });
         }
-        let SharedDriver { table, made: _ } = self;
+        let SharedDriver {
+            table,
+            made: _,
+            at_turn: _,
+            at_bell: _,
+        } = self;
         let all = gather(&table, seats);
         Ok(end(table, all))
     }

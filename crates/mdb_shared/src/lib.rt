@@ -2,6 +2,7 @@
 #![tactic(auto)]
 
 mod answers;
+mod bell;
 mod checkout;
 mod claiming;
 mod driver;
@@ -12,8 +13,10 @@ mod meeting;
 mod rule;
 mod seat;
 mod turn;
+mod waiting;
 
 pub use answers::{TryError, Unclosed};
+pub use bell::is_news;
 pub use checkout::{Back, BackWhy, Poll};
 pub use claiming::Claimed;
 pub use driver::SharedDriver;

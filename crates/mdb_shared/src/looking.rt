@@ -1,4 +1,4 @@
-//! Looks at the core and its log, which add no entry, and sleeps until the log grows.
+//! Looks at the core and its log, which add no entry.
 
 ghost use Rattle.std.specs.Prelude.{◌≡◌, ◌≢◌, ◌+◌, ◌∷◌, ◌++◌, [], IfOk, IfErr};
 ghost use Rattle.mdb_shared.specs.Seats.{IsReady, seat_view, OnlySaw, FoundBusy};
@@ -47,7 +47,6 @@ fn one_look<C: Core, L: Look<C>>(
     };
     let found = look.look(&core, &log);
     give_back(table, place, core, log);
-    table.shared.wake_one(0);
     Ok(found)
 }
 
@@ -59,7 +58,11 @@ impl<C: Core> SharedDriver<C> {
         ensures ok { IfOk result (λ found. OnlySaw seat.old seat.new × (seat.new.busy ≡ seat.old.busy) × L.tells look.now seat.new.seen found) }
         ensures err { IfErr result (λ word. (word ≢ 0) × (word ≢ seat.old.number + 1) × (seat.new.seen ≡ seat.old.seen) × (seat.new.mine ≡ seat.old.mine) × (seat.new.busy ≡ seat.old.busy ++ word ∷ [])) }
     {
-        one_look(&self.table, &mut seat.place, seat.number, look)
+        let found = one_look(&self.table, &mut seat.place, seat.number, look);
+        if found.is_ok() {
+            self.pass_turn();
+        }
+        found
     }
 
     /// Looks at the driver: what it finds is of all that the seat has seen then. It adds no entry. It may wait for the turn.
@@ -73,19 +76,9 @@ impl<C: Core> SharedDriver<C> {
         for _ in rt.forever() {
             match self.try_look(seat, look) {
                 Ok(found) => return found,
-                Err(word) => self.table.shared.park(rt, 0, (word % (1 << 32)) as u32),
+                Err(word) => self.await_turn(rt, word),
             }
         }
         unreachable!()
-    }
-
-    /// Sleeps while the log has this many entries, until a step wakes it. It may also return for no reason.
-    pub fn sleep<R: Wait>(&self, rt: &R, count: u64) {
-        self.table.shared.park(rt, 1, (count % (1 << 32)) as u32);
-    }
-
-    /// Wakes one that sleeps, if there is one.
-    pub fn wake(&self) {
-        self.table.shared.wake_one(1);
     }
 }

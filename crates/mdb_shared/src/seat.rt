@@ -12,6 +12,17 @@ pub struct Seat<C: Core> {
     pub(crate) number: u32,
 }
 
+impl<C: Core> Seat<C> {
+    ghost use Rattle.std.specs.Prelude.{◌≡◌};
+
+    /// Its number, which its entries carry.
+    pub fn number(&self) -> u32
+        ensures { result ≡ self.now.number }
+    {
+        self.number
+    }
+}
+
 impl<C: Core> Model for Seat<C> {
     ghost use Rattle.std.specs.Coded.{codes};
     ghost use Rattle.mdb_base.specs.DocumentCode.{fields_coded};

@@ -8,6 +8,7 @@ ghost use Rattle.mdb_shared.specs.Turning.{part, with_turn, without_turn, with_e
 ghost use Rattle.mdb_shared.specs.Seats.{IsReady, mine_of, seat_view, Stepped, Failed, raised};
 
 use crate::answers::TryError;
+use crate::bell::rings;
 use crate::rule::{Add, Claim, Lock, Place, Release};
 use mdb_base::{Moment, OutOfMemory};
 use mdb_log::{Core, Log, Reply, Step};
@@ -71,13 +72,14 @@ pub(super) fn raise(step: Step, last: Moment) -> Step
     step
 }
 
-// One step by the seat of this number, if the turn isn't taken.
+// One step by the seat of this number, if the turn isn't taken. It says whether its entry is news to others.
 pub(super) fn one_step<C: Core>(
     table: &Lock<C>,
     place: &mut Place<C>,
     alloc: Global,
     number: u32,
     step: Step,
+    is_news: &mut bool,
 ) -> Result<Reply, TryError>
     requires table { (table.now.shared.table_id.words ≡ 2) × (table.now.shared.table_id.slots ≡ 1) × (place.old.table_id ≡ table.now.shared.table_id) }
     requires ready { IsReady number place.old.me }
@@ -97,14 +99,12 @@ pub(super) fn one_step<C: Core>(
     drop(raised);
     match stepped {
         Ok(reply) => {
+            *is_news = rings(&log);
             finish(table, place, core, log, number);
-            table.shared.wake_one(1);
-            table.shared.wake_one(0);
             Ok(reply)
         }
         Err(OutOfMemory) => {
             give_back(table, place, core, log);
-            table.shared.wake_one(0);
             Err(TryError::OutOfMemory)
         }
     }

@@ -2,3 +2,7 @@ mod Adding
 mod Questions
 mod Laboring
 mod Looking
+mod Numbering
+mod Tending
+mod Clocking
+mod Waiting

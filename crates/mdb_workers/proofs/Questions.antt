@@ -1,5 +1,5 @@
 -- What the questions of a check-out add up to.
-use Rattle.std.proofs.Common.{◌≡◌, ℕ, List, [], ◌∷◌, ◌++◌, append-nil, refl, sym, subst, ◌∙◌, IsTrue, Result, Ok, Err}
+use Rattle.std.proofs.Common.{◌≡◌, ℕ, List, [], ◌∷◌, ◌++◌, append-nil, refl, sym, subst, ap, ◌∙◌, IsTrue, Result, Ok, Err, inl, inr}
 use Rattle.mdb_base.specs.declared.address.ServerAddress.{ServerAddress}
 use Rattle.mdb_log.specs.declared.log.Entry.{Entry}
 use Rattle.mdb_events.specs.declared.end.End.{End}
@@ -8,120 +8,137 @@ use Rattle.mdb_log.specs.declared.step.Act.TheVariants.{Request, Collect}
 use Rattle.mdb_log.specs.declared.reply.Refused.{Refused as WhyRefused}
 use Rattle.mdb_log.specs.declared.reply.Reply.{Reply}
 use Rattle.mdb_log.specs.Driver.{StartsWith}
-use Rattle.mdb_shared.specs.Checkout.{is_pending, told_by, collecting, Names}
+use Rattle.mdb_shared.specs.Checkout.{is_pending, told_by, Names}
 use Rattle.mdb_shared.specs.declared.checkout.Poll.{Poll}
 use Rattle.mdb_shared.specs.declared.checkout.Poll.TheVariants.{Ready, NotYet, Ended as PollEnded, Refused as PollRefused}
-use Rattle.mdb_shared.specs.Seats.{SeatView, Each, FoundBusy, IsSameSeat, OnlySaw, Stepped}
+use Rattle.mdb_shared.specs.Seats.{SeatView, Each, IsSameSeat}
 use Rattle.mdb_workers.specs.declared.asking.CheckOutError.{CheckOutError}
-use Rattle.mdb_workers.specs.declared.asking.CheckOutError.TheVariants.{Ended, Refused, OutOfMemory}
-use Rattle.mdb_workers.specs.CheckingOut.{Tells, IsOpen, AskFor, Requests, Settled}
+use Rattle.mdb_workers.specs.declared.asking.CheckOutError.TheVariants.{Ended, Refused, OutOfTime, GaveUp, OutOfMemory}
+use Rattle.mdb_workers.specs.CheckingOut.{Tells, IsOpen, Asks, AskFor, Requests, IsGivenUp, Settled, LeftBy}
 use Rattle.mdb_workers.specs.Making.{Made, OneMore}
-use Rattle.mdb_workers.proofs.Adding.{each_more, made_none, made_then, made_nothing, made_step}
+use Rattle.mdb_workers.proofs.Adding.{each_more, made_none, made_then}
 
 -- a seat that has only seen more
-pub made_same : (s s' : SeatView) → IsSameSeat s s' → StartsWith s'.seen s.seen → Made s s' []
-made_same s s' same more = (same.0, same.1, more, same.2 ∙ sym (append-nil s.mine), ([], same.3 ∙ sym (append-nil s.busy), tt))
+pub made_same : {T : Type 0} (stands : T → List Entry → Type 0) (s s' : SeatView) → IsSameSeat s s' → StartsWith s'.seen s.seen → Made stands s s' []
+made_same stands s s' same more = (same.0, same.1, more, same.2 ∙ sym (append-nil s.mine), ([], same.3 ∙ sym (append-nil s.busy), tt))
 
--- what was asked so far, while the request is open
-abbrev pub Asked : ℕ → SeatView → SeatView → Type 0
-Asked request s s' = (es : List Entry) × Made s s' es × AskFor request es × Each IsOpen es
+-- an entry whose reply is the poll's tells what the poll tells
+module _ (request : ℕ) (e : Entry) (poll : Poll) (told : e.reply ≡ told_by poll) where
+  tells_ready : (connection : PooledConnection) → poll ≡ Ready connection → Names request poll → Tells request e (Ok connection)
+  tells_ready connection is names = let n : Names request (Ready connection) = subst (Names request) is names in (told ∙ ap told_by is, n)
 
-pub asked_none : (request : ℕ) (s : SeatView) → Asked request s s
-asked_none request s = ([], made_none s, tt, tt)
+  tells_ended : (end : End) → poll ≡ PollEnded end → Tells request e (Err (Ended end))
+  tells_ended end is = told ∙ ap told_by is
 
--- the seat has seen more, and added nothing
-pub asked_later : (request : ℕ) (s t u : SeatView) → Asked request s t → Made t u [] → Asked request s u
-asked_later request s t u a none = (a.0, subst (Made s u) (append-nil a.0) (made_then s t u a.0 [] a.1 none), a.2, a.3)
+  tells_refused : (why : WhyRefused) → poll ≡ PollRefused why → Tells request e (Err (Refused why))
+  tells_refused why is = told ∙ ap told_by is
 
--- one question more
-pub asked_more : (request : ℕ) (s t u : SeatView) (reply : Reply) → Asked request s t → OneMore t u (Collect request) reply → IsTrue (is_pending reply) → Asked request s u
-asked_more request s t u reply a one open_still = (
-  a.0 ++ one.0 ∷ [],
-  made_then s t u a.0 (one.0 ∷ []) a.1 one.3,
-  each_more (λ (e : Entry). e.step.act ≡ Collect request) a.0 (one.0 ∷ []) a.2 (one.1, tt),
-  each_more IsOpen a.0 (one.0 ∷ []) a.3 (subst (λ (r : Reply). IsTrue (is_pending r)) (sym one.2) open_still, tt),
-)
+  -- the request is still open
+  still_open : (reply : Reply) → poll ≡ NotYet reply → Names request poll → IsOpen e
+  still_open reply is names =
+      let n : Names request (NotYet reply) = subst (Names request) is names in
+      subst (λ (r : Reply). IsTrue (is_pending r)) (sym (told ∙ ap told_by is)) n
 
--- the last entry tells the answer
-pub settles : (Kind : List Entry → Type 0) (request : ℕ) (s s' : SeatView) (es : List Entry) (e : Entry) (answer : Result PooledConnection CheckOutError)
-    → Made s s' (es ++ e ∷ []) → Kind (es ++ e ∷ []) → Each IsOpen es → Tells request e.reply answer → Settled Kind request s s' answer
-settles Kind request s s' es e (Ok connection) made kind waits told = (es, e, made, kind, waits, told)
-settles Kind request s s' es e (Err (Ended end)) made kind waits told = (es, e, made, kind, waits, told)
-settles Kind request s s' es e (Err (Refused why)) made kind waits told = (es, e, made, kind, waits, told)
-settles Kind request s s' es e (Err OutOfMemory) made kind waits told = absurd told
+module _ {T : Type 0} (stands : T → List Entry → Type 0) (MayEnd : Type 0) (request : ℕ) where
+  -- what was asked so far, while the request is open
+  abbrev pub Asked : SeatView → SeatView → Type 0
+  Asked s s' = (es : List Entry) × Made stands s s' es × AskFor MayEnd request es × Each IsOpen es
 
-pub asked_last : (request : ℕ) (s t u : SeatView) (reply : Reply) (answer : Result PooledConnection CheckOutError) → Asked request s t → OneMore t u (Collect request) reply → Tells request reply answer → Settled (AskFor request) request s u answer
-asked_last request s t u reply answer a one told = settles (AskFor request) request s u a.0 one.0 answer
-    (made_then s t u a.0 (one.0 ∷ []) a.1 one.3)
-    (each_more (λ (e : Entry). e.step.act ≡ Collect request) a.0 (one.0 ∷ []) a.2 (one.1, tt))
-    a.3
-    (subst (λ (r : Reply). Tells request r answer) (sym one.2) told)
+  pub asked_none : (s : SeatView) → Asked s s
+  asked_none s = ([], made_none stands s, tt, tt)
 
--- there was no memory for the question
-pub asked_in_vain : (request : ℕ) (s t : SeatView) → Asked request s t → Settled (AskFor request) request s t (Err OutOfMemory)
-asked_in_vain request s t a = a
+  -- the seat has seen more, and added nothing
+  pub asked_later : (s t u : SeatView) → Asked s t → Made stands t u [] → Asked s u
+  asked_later s t u a none = (a.0, subst (Made stands s u) (append-nil a.0) (made_then stands s t u a.0 [] a.1 none), a.2, a.3)
 
--- a poll that tells a connection, an end or a refusal
-tells_ready : (request : ℕ) (poll : Poll) (connection : PooledConnection) → poll ≡ Ready connection → Names request poll → Tells request (told_by poll) (Ok connection)
-tells_ready request poll connection is names = let n : Names request (Ready connection) = subst (Names request) is names in subst (λ (p : Poll). Tells request (told_by p) (Ok connection)) (sym is) (refl, n)
+  -- the last entry tells the answer
+  settles : (Kind : List Entry → Type 0) (s s' : SeatView) (es : List Entry) (e : Entry) (answer : Result PooledConnection CheckOutError)
+      → Made stands s s' (es ++ e ∷ []) → Kind (es ++ e ∷ []) → Each IsOpen es → Tells request e answer → Settled stands Kind request s s' answer
+  settles Kind s s' es e (Ok connection) made kind waits told = (es, e, made, kind, waits, told)
+  settles Kind s s' es e (Err (Ended end)) made kind waits told = (es, e, made, kind, waits, told)
+  settles Kind s s' es e (Err (Refused why)) made kind waits told = (es, e, made, kind, waits, told)
+  settles Kind s s' es e (Err OutOfTime) made kind waits told = (es, e, made, kind, waits, told)
+  settles Kind s s' es e (Err GaveUp) made kind waits told = absurd told
+  settles Kind s s' es e (Err OutOfMemory) made kind waits told = absurd told
 
-tells_ended : (request : ℕ) (poll : Poll) (end : End) → poll ≡ PollEnded end → Tells request (told_by poll) (Err (Ended end))
-tells_ended request poll end is = subst (λ (p : Poll). Tells request (told_by p) (Err (Ended end))) (sym is) refl
+  -- one entry more, and its answer
+  asked_last : (s t u : SeatView) (e : Entry) (answer : Result PooledConnection CheckOutError) → Asked s t → Made stands t u (e ∷ []) → Asks MayEnd request e → Tells request e answer → Settled stands (AskFor MayEnd request) request s u answer
+  asked_last s t u e answer a made asks told = settles (AskFor MayEnd request) s u a.0 e answer (made_then stands s t u a.0 (e ∷ []) a.1 made) (each_more (Asks MayEnd request) a.0 (e ∷ []) a.2 (asks, tt)) a.3 told
 
-tells_refused : (request : ℕ) (poll : Poll) (why : WhyRefused) → poll ≡ PollRefused why → Tells request (told_by poll) (Err (Refused why))
-tells_refused request poll why is = subst (λ (p : Poll). Tells request (told_by p) (Err (Refused why))) (sym is) refl
+  -- the time is over, and the request was given up
+  pub asked_left : MayEnd → (s t u : SeatView) (answer : Result PooledConnection CheckOutError) → Asked s t → LeftBy stands request t u answer → Settled stands (AskFor MayEnd request) request s u answer
+  asked_left may s t u (Ok connection) a l = asked_last s t u l.0 (Ok connection) a l.1 (inr (may, l.2)) l.3
+  asked_left may s t u (Err (Ended end)) a l = asked_last s t u l.0 (Err (Ended end)) a l.1 (inr (may, l.2)) l.3
+  asked_left may s t u (Err (Refused why)) a l = asked_last s t u l.0 (Err (Refused why)) a l.1 (inr (may, l.2)) l.3
+  asked_left may s t u (Err OutOfTime) a l = asked_last s t u l.0 (Err OutOfTime) a l.1 (inr (may, l.2)) l.3
+  asked_left may s t u (Err GaveUp) a l = absurd l.3
+  asked_left may s t u (Err OutOfMemory) a l = asked_later s t u a l
 
--- a poll of a request that is still open
-pub still_pending : (request : ℕ) (poll : Poll) (reply : Reply) → poll ≡ NotYet reply → Names request poll → IsTrue (is_pending (told_by poll))
-still_pending request poll reply is names = let n : Names request (NotYet reply) = subst (Names request) is names in subst (λ (p : Poll). IsTrue (is_pending (told_by p))) (sym is) n
+  -- another seat gave it up
+  pub asked_given_up : (s t : SeatView) → Asked s t → IsGivenUp request t.seen → Settled stands (AskFor MayEnd request) request s t (Err GaveUp)
+  asked_given_up s t a given = (a.0, a.1, a.2, a.3, given)
 
--- A poll, after the seat has seen more.
-module _ {T : Type 0} (stands : T → List Entry → Type 0) (request : ℕ) (s t u v : SeatView) (a : Asked request s t) (none : Made t u []) (d : v.driver ≡ u.driver) (n : v.number ≡ u.number) (f : FoundBusy u v) where
-  pub asked_again : (poll : Poll) (reply : Reply) → poll ≡ NotYet reply → Names request poll → Stepped stands u v (collecting request) (told_by poll) → Asked request s v
-  asked_again poll reply is names st = asked_more request s u v (told_by poll) (asked_later request s t u a none) (made_step stands u v (collecting request) (told_by poll) d n f st) (still_pending request poll reply is names)
+  -- there was no memory for the question
+  pub asked_no_more : (s t u : SeatView) → Asked s t → Made stands t u [] → Settled stands (AskFor MayEnd request) request s u (Err OutOfMemory)
+  asked_no_more s t u a none = asked_later s t u a none
 
-  asked_out : (poll : Poll) (answer : Result PooledConnection CheckOutError) → Stepped stands u v (collecting request) (told_by poll) → Tells request (told_by poll) answer → Settled (AskFor request) request s v answer
-  asked_out poll answer st told = asked_last request s u v (told_by poll) answer (asked_later request s t u a none) (made_step stands u v (collecting request) (told_by poll) d n f st) told
+  -- A poll.
+  module _ (s t u : SeatView) (poll : Poll) (a : Asked s t) (one : OneMore stands t u (Collect request) (told_by poll)) where
+    pub asked_again : (reply : Reply) → poll ≡ NotYet reply → Names request poll → Asked s u
+    asked_again reply is names = (
+      a.0 ++ one.0 ∷ [],
+      made_then stands s t u a.0 (one.0 ∷ []) a.1 one.3,
+      each_more (Asks MayEnd request) a.0 (one.0 ∷ []) a.2 (inl one.1, tt),
+      each_more IsOpen a.0 (one.0 ∷ []) a.3 (still_open request one.0 poll one.2 reply is names, tt),
+    )
 
-  pub asked_ready : (poll : Poll) (connection : PooledConnection) → poll ≡ Ready connection → Names request poll → Stepped stands u v (collecting request) (told_by poll) → Settled (AskFor request) request s v (Ok connection)
-  asked_ready poll connection is names st = asked_out poll (Ok connection) st (tells_ready request poll connection is names)
+    pub asked_ready : (connection : PooledConnection) → poll ≡ Ready connection → Names request poll → Settled stands (AskFor MayEnd request) request s u (Ok connection)
+    asked_ready connection is names = asked_last s t u one.0 (Ok connection) a one.3 (inl one.1) (tells_ready request one.0 poll one.2 connection is names)
 
-  pub asked_ended : (poll : Poll) (end : End) → poll ≡ PollEnded end → Stepped stands u v (collecting request) (told_by poll) → Settled (AskFor request) request s v (Err (Ended end))
-  asked_ended poll end is st = asked_out poll (Err (Ended end)) st (tells_ended request poll end is)
+    pub asked_ended : (end : End) → poll ≡ PollEnded end → Settled stands (AskFor MayEnd request) request s u (Err (Ended end))
+    asked_ended end is = asked_last s t u one.0 (Err (Ended end)) a one.3 (inl one.1) (tells_ended request one.0 poll one.2 end is)
 
-  pub asked_refused : (poll : Poll) (why : WhyRefused) → poll ≡ PollRefused why → Stepped stands u v (collecting request) (told_by poll) → Settled (AskFor request) request s v (Err (Refused why))
-  asked_refused poll why is st = asked_out poll (Err (Refused why)) st (tells_refused request poll why is)
+    pub asked_refused : (why : WhyRefused) → poll ≡ PollRefused why → Settled stands (AskFor MayEnd request) request s u (Err (Refused why))
+    asked_refused why is = asked_last s t u one.0 (Err (Refused why)) a one.3 (inl one.1) (tells_refused request one.0 poll one.2 why is)
 
-  pub asked_no_more : OnlySaw u v → Settled (AskFor request) request s v (Err OutOfMemory)
-  asked_no_more saw = asked_later request s u v (asked_later request s t u a none) (made_nothing u v d n f saw)
+  -- there was no memory for the request
+  pub never_asked : (address : ServerAddress) (s t u : SeatView) → Made stands s t [] → Made stands t u [] → Settled stands (Requests MayEnd request address) request s u (Err OutOfMemory)
+  never_asked address s t u m k = ([], made_then stands s t u [] [] m k, tt, tt)
 
--- there was no memory for the request
-pub never_asked : (request : ℕ) (address : ServerAddress) (s t u : SeatView) → Made s t [] → Made t u [] → Settled (Requests request address) request s u (Err OutOfMemory)
-never_asked request address s t u m k = ([], made_then s t u [] [] m k, tt, tt)
+  module _ (address : ServerAddress) (s t u : SeatView) (poll : Poll) (none : Made stands s t []) (one : OneMore stands t u (Request request address) (told_by poll)) where
+    first : Made stands s u (one.0 ∷ [])
+    first = made_then stands s t u [] (one.0 ∷ []) none one.3
 
-module _ (request : ℕ) (address : ServerAddress) (s t u : SeatView) (poll : Poll) (none : Made s t []) (one : OneMore t u (Request request address) (told_by poll)) where
-  first : Made s u (one.0 ∷ [])
-  first = made_then s t u [] (one.0 ∷ []) none one.3
+    -- the request alone settles it
+    settled_at_once : (answer : Result PooledConnection CheckOutError) → Tells request one.0 answer → Settled stands (Requests MayEnd request address) request s u answer
+    settled_at_once answer told = settles (Requests MayEnd request address) s u [] one.0 answer first (one.1, tt) tt told
 
-  -- the request alone settles it
-  settled_at_once : (answer : Result PooledConnection CheckOutError) → Tells request (told_by poll) answer → Settled (Requests request address) request s u answer
-  settled_at_once answer told = settles (Requests request address) request s u [] one.0 answer first (one.1, tt) tt (subst (λ (r : Reply). Tells request r answer) (sym one.2) told)
+    pub settled_ready : (connection : PooledConnection) → poll ≡ Ready connection → Names request poll → Settled stands (Requests MayEnd request address) request s u (Ok connection)
+    settled_ready connection is names = settled_at_once (Ok connection) (tells_ready request one.0 poll one.2 connection is names)
 
-  pub settled_ready : (connection : PooledConnection) → poll ≡ Ready connection → Names request poll → Settled (Requests request address) request s u (Ok connection)
-  settled_ready connection is names = settled_at_once (Ok connection) (tells_ready request poll connection is names)
+    pub settled_ended : (end : End) → poll ≡ PollEnded end → Settled stands (Requests MayEnd request address) request s u (Err (Ended end))
+    settled_ended end is = settled_at_once (Err (Ended end)) (tells_ended request one.0 poll one.2 end is)
 
-  pub settled_ended : (end : End) → poll ≡ PollEnded end → Settled (Requests request address) request s u (Err (Ended end))
-  settled_ended end is = settled_at_once (Err (Ended end)) (tells_ended request poll end is)
+    pub settled_refused : (why : WhyRefused) → poll ≡ PollRefused why → Settled stands (Requests MayEnd request address) request s u (Err (Refused why))
+    settled_refused why is = settled_at_once (Err (Refused why)) (tells_refused request one.0 poll one.2 why is)
 
-  pub settled_refused : (why : WhyRefused) → poll ≡ PollRefused why → Settled (Requests request address) request s u (Err (Refused why))
-  settled_refused why is = settled_at_once (Err (Refused why)) (tells_refused request poll why is)
+    -- the request, and then its questions
+    settled_later : (v : SeatView) (answer : Result PooledConnection CheckOutError) → IsOpen one.0 → Settled stands (AskFor MayEnd request) request u v answer → Settled stands (Requests MayEnd request address) request s v answer
+    settled_later v (Ok connection) waits t = (one.0 ∷ t.0, t.1, made_then stands s u v (one.0 ∷ []) (t.0 ++ t.1 ∷ []) first t.2, (one.1, t.3), (waits, t.4), t.5)
+    settled_later v (Err (Ended end)) waits t = (one.0 ∷ t.0, t.1, made_then stands s u v (one.0 ∷ []) (t.0 ++ t.1 ∷ []) first t.2, (one.1, t.3), (waits, t.4), t.5)
+    settled_later v (Err (Refused why)) waits t = (one.0 ∷ t.0, t.1, made_then stands s u v (one.0 ∷ []) (t.0 ++ t.1 ∷ []) first t.2, (one.1, t.3), (waits, t.4), t.5)
+    settled_later v (Err OutOfTime) waits t = (one.0 ∷ t.0, t.1, made_then stands s u v (one.0 ∷ []) (t.0 ++ t.1 ∷ []) first t.2, (one.1, t.3), (waits, t.4), t.5)
+    settled_later v (Err GaveUp) waits t = (one.0 ∷ t.0, made_then stands s u v (one.0 ∷ []) t.0 first t.1, (one.1, t.2), (waits, t.3), t.4)
+    settled_later v (Err OutOfMemory) waits t = (one.0 ∷ t.0, made_then stands s u v (one.0 ∷ []) t.0 first t.1, (one.1, t.2), (waits, t.3))
 
-  -- the request, and then its questions
-  settled_later : (v : SeatView) (answer : Result PooledConnection CheckOutError) → IsTrue (is_pending (told_by poll)) → Settled (AskFor request) request u v answer → Settled (Requests request address) request s v answer
-  settled_later v (Ok connection) open_still t = (one.0 ∷ t.0, t.1, made_then s u v (one.0 ∷ []) (t.0 ++ t.1 ∷ []) first t.2, (one.1, t.3), (subst (λ (r : Reply). IsTrue (is_pending r)) (sym one.2) open_still, t.4), t.5)
-  settled_later v (Err (Ended end)) open_still t = (one.0 ∷ t.0, t.1, made_then s u v (one.0 ∷ []) (t.0 ++ t.1 ∷ []) first t.2, (one.1, t.3), (subst (λ (r : Reply). IsTrue (is_pending r)) (sym one.2) open_still, t.4), t.5)
-  settled_later v (Err (Refused why)) open_still t = (one.0 ∷ t.0, t.1, made_then s u v (one.0 ∷ []) (t.0 ++ t.1 ∷ []) first t.2, (one.1, t.3), (subst (λ (r : Reply). IsTrue (is_pending r)) (sym one.2) open_still, t.4), t.5)
-  settled_later v (Err OutOfMemory) open_still t = (one.0 ∷ t.0, made_then s u v (one.0 ∷ []) t.0 first t.1, (one.1, t.2), (subst (λ (r : Reply). IsTrue (is_pending r)) (sym one.2) open_still, t.3))
+    pub settled_asking : (v : SeatView) (answer : Result PooledConnection CheckOutError) (reply : Reply) → poll ≡ NotYet reply → Names request poll → Settled stands (AskFor MayEnd request) request u v answer → Settled stands (Requests MayEnd request address) request s v answer
+    settled_asking v answer reply is names t = settled_later v answer (still_open request one.0 poll one.2 reply is names) t
 
-  pub settled_asking : (v : SeatView) (answer : Result PooledConnection CheckOutError) (reply : Reply) → poll ≡ NotYet reply → Names request poll → Settled (AskFor request) request u v answer → Settled (Requests request address) request s v answer
-  settled_asking v answer reply is names t = settled_later v answer (still_pending request poll reply is names) t
+  -- whatever the answer, it is the seat that it was
+  pub settled_same : (Kind : List Entry → Type 0) (s s' : SeatView) (answer : Result PooledConnection CheckOutError) → Settled stands Kind request s s' answer → (s'.driver ≡ s.driver) × (s'.number ≡ s.number)
+  settled_same Kind s s' (Ok connection) t = (t.2.0, t.2.1)
+  settled_same Kind s s' (Err (Ended end)) t = (t.2.0, t.2.1)
+  settled_same Kind s s' (Err (Refused why)) t = (t.2.0, t.2.1)
+  settled_same Kind s s' (Err OutOfTime) t = (t.2.0, t.2.1)
+  settled_same Kind s s' (Err GaveUp) t = (t.1.0, t.1.1)
+  settled_same Kind s s' (Err OutOfMemory) t = (t.1.0, t.1.1)

@@ -38,12 +38,13 @@ abbrev pub is_stopped : Option Reply → Bool
 is_stopped (Some reply) = not (is_establishing reply)
 is_stopped None = false
 
--- One warm request after the other until one isn't answered by a connection that was made, or the budget is spent.
-abbrev pub Filled : ServerAddress → ℕ → ℕ → SeatView → SeatView → Fill → Type 0
-Filled address first budget s s' fill =
-    (es : List Entry) × Made s s' es × AreWarm address first es × EndsIn fill.last es
-    × (length es ≡ fill.made) × (fill.made ≤ budget) × (fill.made < budget → IsTrue (is_stopped fill.last))
+module _ {T : Type 0} (stands : T → List Entry → Type 0) where
+  -- One warm request after the other until one isn't answered by a connection that was made, or the budget is spent.
+  abbrev pub Filled : ServerAddress → ℕ → ℕ → SeatView → SeatView → Fill → Type 0
+  Filled address first budget s s' fill =
+      (es : List Entry) × Made stands s s' es × AreWarm address first es × EndsIn fill.last es
+      × (length es ≡ fill.made) × (fill.made ≤ budget) × (fill.made < budget → IsTrue (is_stopped fill.last))
 
--- There was no memory for one of the warm requests: those before it stand in the log.
-abbrev pub FilledInPart : ServerAddress → ℕ → ℕ → SeatView → SeatView → Type 0
-FilledInPart address first budget s s' = (es : List Entry) × Made s s' es × AreWarm address first es × Each GoesOn es × (length es < budget)
+  -- There was no memory for one of the warm requests: those before it stand in the log.
+  abbrev pub FilledInPart : ServerAddress → ℕ → ℕ → SeatView → SeatView → Type 0
+  FilledInPart address first budget s s' = (es : List Entry) × Made stands s s' es × AreWarm address first es × Each GoesOn es × (length es < budget)

@@ -1,8 +1,13 @@
 pub mod Counting
+pub mod Numbers
 pub mod Making
+pub mod Hearing
+pub mod Ticking
 pub mod Filling
 pub mod CheckingOut
+pub mod Standing
 pub mod Establishing
 pub mod Working
+pub mod Persisting
 pub mod Watching
 pub mod Memory

@@ -1,18 +1,23 @@
-//! Checking connections out (CMAP, "Checking Out a Connection"): a request, and then questions how it stands, with sleep between them.
+//! Checking connections out (CMAP, "Checking Out a Connection"): a request, and then questions how it stands. Between them the caller sleeps until the log
+//! tells that its request is settled, so a request that waits takes one question more, and not one for each piece of news.
 
 ghost use Rattle.std.specs.Prelude.{◌≡◌, [], IfOk, OnErr};
 ghost use Rattle.mdb_log.specs.declared.step.Act.TheVariants.{Request};
 ghost use Rattle.mdb_shared.specs.Checkout.{told_by, Names};
 ghost use Rattle.mdb_workers.specs.Making.{Made, OneMore};
-ghost use Rattle.mdb_workers.specs.CheckingOut.{Collected, CheckedOut};
+ghost use Rattle.mdb_workers.specs.CheckingOut.{Collected, CheckedOut, CheckedOutWithin, LeftBy, SettledFrom};
 
-use crate::news::next_news;
+use crate::limits::{Endless, Limit, Within};
+use crate::standing::{Standing, State, await_outcome};
+use crate::steps::{add, ask, let_go};
 use mdb_base::{OutOfMemory, ServerAddress};
 use mdb_events::End;
 use mdb_log::{Act, Core, PooledConnection, Refused, Reply, Step};
 use mdb_shared::{Poll, Seat, SharedDriver};
 use std::alloc::Global;
+use std::rt::Clock;
 use std::sync::Wait;
+use std::time::{Duration, Instant};
 use thiserror::Error;
 
 /// Why no connection was checked out.
@@ -21,9 +26,15 @@ pub enum CheckOutError {
     /// The request has ended.
     #[error("the request has ended")]
     Ended(End),
-    /// The request, or a question how it stands, was refused.
+    /// The request, a question how it stands, or the giving up was refused.
     #[error("the request was refused")]
     Refused(Refused),
+    /// The time that the caller had was over, and the request was given up.
+    #[error("the time was over")]
+    OutOfTime,
+    /// Another seat gave the request up.
+    #[error("the request was given up")]
+    GaveUp,
     /// There was no memory. The request may be open.
     #[error("out of memory")]
     OutOfMemory,
@@ -39,15 +50,16 @@ fn request_once<C: Core, R: Wait>(
     address: ServerAddress,
 ) -> Result<Poll, OutOfMemory>
     requires own { seat.old.driver ≡ driver.now.id }
-    ensures ok { IfOk result (λ poll. OneMore seat.old seat.new (Request request address) (told_by poll)) }
+    ensures same { (seat.new.driver ≡ seat.old.driver) × (seat.new.number ≡ seat.old.number) }
+    ensures ok { IfOk result (λ poll. OneMore C.stands seat.old seat.new (Request request address) (told_by poll)) }
     ensures names { IfOk result (λ poll. Names request poll) }
-    ensures err { OnErr result (Made seat.old seat.new []) }
+    ensures err { OnErr result (Made C.stands seat.old seat.new []) }
 {
     let step = Step {
         moment: 0,
         act: Act::Request(request, address),
     };
-    match driver.step(rt, alloc, seat, step)? {
+    match add(driver, rt, alloc, seat, step)? {
         Reply::Pooled(pool, id) => Ok(Poll::Ready(PooledConnection {
             pool,
             id,
@@ -61,24 +73,63 @@ fn request_once<C: Core, R: Wait>(
     }
 }
 
-// Asks how the request stands each time that the log tells news, from this entry on.
-fn collect<C: Core, R: Wait>(
+// The time is over: the request is given up, and what that told is the answer.
+fn leave<C: Core, R: Wait>(
     driver: &SharedDriver<C>,
     rt: &R,
     alloc: Global,
     seat: &mut Seat<C>,
     request: u32,
-    from: u64,
 ) -> Result<PooledConnection, CheckOutError>
     requires own { seat.old.driver ≡ driver.now.id }
     ensures same { (seat.new.driver ≡ seat.old.driver) × (seat.new.number ≡ seat.old.number) }
-    ensures answer { Collected request seat.old seat.new result }
+    ensures left { LeftBy C.stands request seat.old seat.new result }
 {
-    let mut seen = from;
+    match let_go(driver, rt, alloc, seat, request) {
+        Ok(Reply::Done) => Err(CheckOutError::OutOfTime),
+        Ok(Reply::Ended(end)) => Err(CheckOutError::Ended(end)),
+        Ok(Reply::Refused(why)) => Err(CheckOutError::Refused(why)),
+        Ok(_) => unreachable!(),
+        Err(OutOfMemory) => Err(CheckOutError::OutOfMemory),
+    }
+}
+
+// The connection that is being established for the request, where the reply tells it.
+fn place_of(reply: Reply) -> Option<(u32, u32)> {
+    match reply {
+        Reply::Establishing(pool, id) => Some((pool, id)),
+        _ => None,
+    }
+}
+
+// Asks how the request stands once the log tells that it is settled.
+fn collect<C: Core, R: Wait, L: Limit>(
+    driver: &SharedDriver<C>,
+    rt: &R,
+    alloc: Global,
+    seat: &mut Seat<C>,
+    mut standing: Standing,
+    limit: &L,
+) -> Result<PooledConnection, CheckOutError>
+    requires own { seat.old.driver ≡ driver.now.id }
+    ensures answer { Collected C.stands (L.ends limit.now) standing.request seat.old seat.new result }
+{
+    let request = standing.request;
     for _ in rt.forever() {
-        seen = next_news(driver, rt, seat, seen);
-        match driver.poll_check_out(rt, alloc, seat, request) {
-            Ok(Poll::NotYet(reply)) => drop(reply),
+        let outlook = await_outcome(driver, rt, seat, standing, limit);
+        match outlook.state {
+            State::Open => return leave(driver, rt, alloc, seat, request),
+            State::GivenUp => return Err(CheckOutError::GaveUp),
+            State::Settled => {}
+        }
+        match ask(driver, rt, alloc, seat, request) {
+            Ok(Poll::NotYet(reply)) => {
+                standing = Standing {
+                    request,
+                    from: outlook.known.from,
+                    at: place_of(reply),
+                };
+            }
             Ok(Poll::Ready(connection)) => return Ok(connection),
             Ok(Poll::Ended(end)) => return Err(CheckOutError::Ended(end)),
             Ok(Poll::Refused(why)) => return Err(CheckOutError::Refused(why)),
@@ -88,8 +139,38 @@ fn collect<C: Core, R: Wait>(
     unreachable!()
 }
 
-/// Requests a connection to the address, and waits for it. After `OutOfMemory` the request may be open. It may wait for the turn, and for the
-/// connection.
+// The request, and then questions.
+fn check_out_by<C: Core, R: Wait, L: Limit>(
+    driver: &SharedDriver<C>,
+    rt: &R,
+    alloc: Global,
+    seat: &mut Seat<C>,
+    request: u32,
+    address: ServerAddress,
+    limit: &L,
+) -> Result<PooledConnection, CheckOutError>
+    requires own { seat.old.driver ≡ driver.now.id }
+    ensures answer { SettledFrom C.stands (L.ends limit.now) request address seat.old seat.new result }
+{
+    let from = driver.seen_count(seat);
+    match request_once(driver, rt, alloc, seat, request, address) {
+        Ok(Poll::NotYet(reply)) => {
+            let standing = Standing {
+                request,
+                from,
+                at: place_of(reply),
+            };
+            collect(driver, rt, alloc, seat, standing, limit)
+        }
+        Ok(Poll::Ready(connection)) => Ok(connection),
+        Ok(Poll::Ended(end)) => Err(CheckOutError::Ended(end)),
+        Ok(Poll::Refused(why)) => Err(CheckOutError::Refused(why)),
+        Err(OutOfMemory) => Err(CheckOutError::OutOfMemory),
+    }
+}
+
+/// Requests a connection to the address, and waits for it. `GaveUp` comes where another seat gives the request up meanwhile, `OutOfTime` never. After
+/// `OutOfMemory` the request may be open: `abandon` gives it up. It may wait for the turn, and for the connection.
 pub fn check_out<C: Core, R: Wait>(
     driver: &SharedDriver<C>,
     rt: &R,
@@ -100,17 +181,30 @@ pub fn check_out<C: Core, R: Wait>(
 ) -> Result<PooledConnection, CheckOutError>
     requires own { seat.old.driver ≡ driver.now.id }
     ensures same { (seat.new.driver ≡ seat.old.driver) × (seat.new.number ≡ seat.old.number) }
-    ensures answer { CheckedOut request address seat.old seat.new result }
+    ensures answer { CheckedOut C.stands request address seat.old seat.new result }
 {
-    let seen = driver.seen_count(seat);
-    match request_once(driver, rt, alloc, seat, request, address) {
-        Ok(Poll::NotYet(reply)) => {
-            drop(reply);
-            collect(driver, rt, alloc, seat, request, seen)
-        }
-        Ok(Poll::Ready(connection)) => Ok(connection),
-        Ok(Poll::Ended(end)) => Err(CheckOutError::Ended(end)),
-        Ok(Poll::Refused(why)) => Err(CheckOutError::Refused(why)),
-        Err(OutOfMemory) => Err(CheckOutError::OutOfMemory),
-    }
+    check_out_by(driver, rt, alloc, seat, request, address, &Endless)
+}
+
+/// Requests a connection to the address, and waits for it as long as this (CMAP's `waitQueueTimeoutMS`, of one caller). Then it gives the request up and
+/// answers `OutOfTime`. Nothing is claimed of the time that passes.
+pub fn check_out_within<C: Core, R: Wait + Clock>(
+    driver: &SharedDriver<C>,
+    rt: &R,
+    alloc: Global,
+    seat: &mut Seat<C>,
+    request: u32,
+    address: ServerAddress,
+    limit: Duration,
+) -> Result<PooledConnection, CheckOutError>
+    requires own { seat.old.driver ≡ driver.now.id }
+    ensures same { (seat.new.driver ≡ seat.old.driver) × (seat.new.number ≡ seat.old.number) }
+    ensures answer { CheckedOutWithin C.stands request address seat.old seat.new result }
+{
+    let within = Within {
+        clock: rt,
+        start: Instant::now(rt).ok(),
+        limit,
+    };
+    check_out_by(driver, rt, alloc, seat, request, address, &within)
 }

@@ -5,6 +5,7 @@ ghost use Rattle.mdb_log.specs.declared.step.Act.TheVariants.{Warm};
 ghost use Rattle.mdb_workers.specs.Making.{Made, OneMore};
 ghost use Rattle.mdb_workers.specs.Filling.{Filled, FilledInPart, told_reply};
 
+use crate::steps::add;
 use mdb_base::{OutOfMemory, ServerAddress};
 use mdb_log::{Act, Core, Reply, Step};
 use mdb_shared::{Seat, SharedDriver};
@@ -30,15 +31,16 @@ fn warm<C: Core, R: Wait>(
     request: u32,
 ) -> Result<Reply, OutOfMemory>
     requires own { seat.old.driver ≡ driver.now.id }
-    ensures ok { IfOk result (λ reply. OneMore seat.old seat.new (Warm request address.now) reply) }
-    ensures err { OnErr result (Made seat.old seat.new []) }
+    ensures same { (seat.new.driver ≡ seat.old.driver) × (seat.new.number ≡ seat.old.number) }
+    ensures ok { IfOk result (λ reply. OneMore C.stands seat.old seat.new (Warm request address.now) reply) }
+    ensures err { OnErr result (Made C.stands seat.old seat.new []) }
 {
     let address = address.clone()?;
     let step = Step {
         moment: 0,
         act: Act::Warm(request, address),
     };
-    driver.step(rt, alloc, seat, step)
+    add(driver, rt, alloc, seat, step)
 }
 
 // The reply that names the connection, where there is one.
@@ -62,8 +64,8 @@ fn fill_at<C: Core, R: Wait>(
     requires own { seat.old.driver ≡ driver.now.id }
     requires numbers { first + budget < 2 ^ 32 }
     ensures same { (seat.new.driver ≡ seat.old.driver) × (seat.new.number ≡ seat.old.number) }
-    ensures ok { IfOk result (Filled address.now first budget seat.old seat.new) }
-    ensures err { OnErr result (FilledInPart address.now first budget seat.old seat.new) }
+    ensures ok { IfOk result (Filled C.stands address.now first budget seat.old seat.new) }
+    ensures err { OnErr result (FilledInPart C.stands address.now first budget seat.old seat.new) }
 {
     let mut last = None;
     for made in 0..budget {
@@ -97,8 +99,8 @@ pub fn fill_pool<C: Core, R: Wait>(
     requires own { seat.old.driver ≡ driver.now.id }
     requires numbers { first + budget < 2 ^ 32 }
     ensures same { (seat.new.driver ≡ seat.old.driver) × (seat.new.number ≡ seat.old.number) }
-    ensures ok { IfOk result (Filled address first budget seat.old seat.new) }
-    ensures err { OnErr result (FilledInPart address first budget seat.old seat.new) }
+    ensures ok { IfOk result (Filled C.stands address first budget seat.old seat.new) }
+    ensures err { OnErr result (FilledInPart C.stands address first budget seat.old seat.new) }
 {
     fill_at(driver, rt, alloc, seat, &address, first, budget)
 }

@@ -4,8 +4,10 @@ ghost use Rattle.std.specs.Prelude.{◌≡◌, true, false, [], IfOk, OnOk, OnEr
 ghost use Rattle.mdb_log.specs.declared.step.Act.TheVariants.{Want, Unwant};
 ghost use Rattle.mdb_log.specs.declared.reply.Reply.TheVariants.{Count};
 ghost use Rattle.mdb_workers.specs.Making.{Made, OneMore};
-ghost use Rattle.mdb_workers.specs.Watching.{Shows, new_watcher, with_mark, wanting, IsWish, Retracted, Waited};
+ghost use Rattle.mdb_workers.specs.Watching.{Shows, new_watcher, with_mark, wanting, IsWish, Retracted, Waited, WaitedOn};
 
+use crate::listening::has_stopped;
+use crate::steps::{add, glance};
 use mdb_base::{ClusterTime, OutOfMemory};
 use mdb_describe::{TopologyDescription, TopologyType};
 use mdb_log::{Act, Core, Log, Reply, Step};
@@ -61,6 +63,30 @@ impl<C: Core> Look<C> for Publications {
     }
 }
 
+// How many entries the log has, how often the topology was published, and whether one of the entries from this one on stopped the driver.
+#[derive(Clone, Copy)]
+struct Updates {
+    from: u64,
+}
+
+impl<C: Core> Look<C> for Updates {
+    type Found = (u64, u64, bool);
+
+    ghost use Rattle.std.specs.Prelude.{◌≡◌, IsTrue};
+    ghost use Rattle.mdb_workers.specs.Hearing.{HasStopped};
+
+    ghost tells = { λ s log found. (found.1 ≡ C.publications log) × (IsTrue found.2 → HasStopped log) };
+
+    fn look(&self, core: &C, log: &Log) -> (u64, u64, bool) {
+        let entries = log.entries();
+        (
+            entries.len() as u64,
+            core.published(),
+            has_stopped(entries, self.from as usize),
+        )
+    }
+}
+
 // The type of the topology.
 #[derive(Clone, Copy)]
 struct Kind;
@@ -99,10 +125,10 @@ fn counted<C: Core, R: Wait>(
 ) -> Result<u64, OutOfMemory>
     requires own { seat.old.driver ≡ driver.now.id }
     requires act { IsWish act }
-    ensures ok { IfOk result (λ count. OneMore seat.old seat.new act (Count count)) }
-    ensures err { OnErr result (Made seat.old seat.new []) }
+    ensures ok { IfOk result (λ count. OneMore C.stands seat.old seat.new act (Count count)) }
+    ensures err { OnErr result (Made C.stands seat.old seat.new []) }
 {
-    match driver.step(rt, alloc, seat, Step { moment: 0, act })? {
+    match add(driver, rt, alloc, seat, Step { moment: 0, act })? {
         Reply::Count(count) => Ok(count),
         _ => unreachable!(),
     }
@@ -140,10 +166,10 @@ impl TopologyWatcher {
         seat: &mut Seat<C>,
     ) -> Result<TopologyState, OutOfMemory>
         requires own { seat.old.driver ≡ driver.now.id }
-        ensures saw { Made seat.old seat.new [] }
+        ensures saw { Made C.stands seat.old seat.new [] }
         ensures state { IfOk result (Shows (C.described seat.new.seen) (C.publications seat.new.seen)) }
     {
-        driver.look(rt, seat, &State)
+        glance(driver, rt, seat, &State)
     }
 
     /// The same, and the watcher has seen it then.
@@ -155,7 +181,7 @@ impl TopologyWatcher {
         seat: &mut Seat<C>,
     ) -> Result<TopologyState, OutOfMemory>
         requires own { seat.old.driver ≡ driver.now.id }
-        ensures saw { Made seat.old seat.new [] }
+        ensures saw { Made C.stands seat.old seat.new [] }
         ensures state { IfOk result (Shows (C.described seat.new.seen) (C.publications seat.new.seen)) }
         ensures marked { IfOk result (λ state. self.new ≡ with_mark self.old state.published) }
         ensures err { OnErr result (self.new ≡ self.old) }
@@ -174,17 +200,18 @@ impl TopologyWatcher {
         seat: &mut Seat<C>,
     ) -> Result<u64, OutOfMemory>
         requires own { seat.old.driver ≡ driver.now.id }
-        ensures ok { IfOk result (λ count. OneMore seat.old seat.new (Want self.old.number) (Count count)) }
+        ensures ok { IfOk result (λ count. OneMore C.stands seat.old seat.new (Want self.old.number) (Count count)) }
         ensures wants { IfOk result (λ count. self.new ≡ wanting self.old true) }
-        ensures err { OnErr result (Made seat.old seat.new [] × (self.new ≡ self.old)) }
+        ensures err { OnErr result (Made C.stands seat.old seat.new [] × (self.new ≡ self.old)) }
     {
         let count = counted(driver, rt, alloc, seat, Act::Want(self.number))?;
         self.wants = true;
         Ok(count)
     }
 
-    // No longer asks, where it did.
-    fn retract<C: Core, R: Wait>(
+    /// Takes its request for checks back, where one stands. A watcher that isn't to ask any more does this before it is dropped: the request stands
+    /// in the driver, and not in the watcher.
+    pub fn retract<C: Core, R: Wait>(
         &mut self,
         rt: &R,
         alloc: Global,
@@ -192,13 +219,31 @@ impl TopologyWatcher {
         seat: &mut Seat<C>,
     ) -> Result<(), OutOfMemory>
         requires own { seat.old.driver ≡ driver.now.id }
-        ensures ok { OnOk result (Retracted seat.old seat.new self.old × (self.new ≡ wanting self.old false)) }
-        ensures err { OnErr result (Made seat.old seat.new [] × (self.new ≡ self.old)) }
+        ensures ok { OnOk result (Retracted C.stands seat.old seat.new self.old × (self.new ≡ wanting self.old false)) }
+        ensures err { OnErr result (Made C.stands seat.old seat.new [] × (self.new ≡ self.old)) }
     {
         if self.wants {
             counted(driver, rt, alloc, seat, Act::Unwant(self.number))?;
             self.wants = false;
         }
+        Ok(())
+    }
+
+    // A later publication was found: no longer asks for checks, and has seen it.
+    fn mark<C: Core, R: Wait>(
+        &mut self,
+        rt: &R,
+        alloc: Global,
+        driver: &SharedDriver<C>,
+        seat: &mut Seat<C>,
+        published: u64,
+    ) -> Result<(), OutOfMemory>
+        requires own { seat.old.driver ≡ driver.now.id }
+        ensures ok { OnOk result (Retracted C.stands seat.old seat.new self.old × (self.new ≡ with_mark (wanting self.old false) published)) }
+        ensures err { OnErr result (Made C.stands seat.old seat.new [] × (self.new ≡ self.old)) }
+    {
+        self.retract(rt, alloc, driver, seat)?;
+        self.seen = published;
         Ok(())
     }
 
@@ -213,18 +258,46 @@ impl TopologyWatcher {
         turns: u32,
     ) -> Result<bool, OutOfMemory>
         requires own { seat.old.driver ≡ driver.now.id }
-        ensures found { IfOk result (Waited C.publications turns seat.old seat.new self.old self.new) }
-        ensures err { OnErr result (Made seat.old seat.new [] × (self.new ≡ self.old)) }
+        ensures found { IfOk result (Waited C.stands C.publications turns seat.old seat.new self.old self.new) }
+        ensures err { OnErr result (Made C.stands seat.old seat.new [] × (self.new ≡ self.old)) }
     {
         for _ in 0..turns {
-            let published = driver.look(rt, seat, &Publications);
+            let published = glance(driver, rt, seat, &Publications);
             if published > self.seen {
-                self.retract(rt, alloc, driver, seat)?;
-                self.seen = published;
+                self.mark(rt, alloc, driver, seat, published)?;
                 return Ok(true);
             }
         }
         Ok(false)
+    }
+
+    /// Sleeps until the topology was published since what the watcher has seen, and then does as `wait_for_update`; or until the driver has stopped,
+    /// with nothing published since, and answers false.
+    pub fn await_update<C: Core, R: Wait>(
+        &mut self,
+        rt: &R,
+        alloc: Global,
+        driver: &SharedDriver<C>,
+        seat: &mut Seat<C>,
+    ) -> Result<bool, OutOfMemory>
+        requires own { seat.old.driver ≡ driver.now.id }
+        ensures found { IfOk result (WaitedOn C.stands C.publications seat.old seat.new self.old self.new) }
+        ensures err { OnErr result (Made C.stands seat.old seat.new [] × (self.new ≡ self.old)) }
+    {
+        let mut from = 0;
+        for _ in rt.forever() {
+            let (count, published, is_over) = glance(driver, rt, seat, &Updates { from });
+            if published > self.seen {
+                self.mark(rt, alloc, driver, seat, published)?;
+                return Ok(true);
+            }
+            if is_over {
+                return Ok(false);
+            }
+            from = count;
+            driver.sleep(rt, count);
+        }
+        unreachable!()
     }
 
     /// The type of the topology.
@@ -235,10 +308,10 @@ impl TopologyWatcher {
         seat: &mut Seat<C>,
     ) -> TopologyType
         requires own { seat.old.driver ≡ driver.now.id }
-        ensures saw { Made seat.old seat.new [] }
+        ensures saw { Made C.stands seat.old seat.new [] }
         ensures kind { result ≡ (C.described seat.new.seen).topology_type }
     {
-        driver.look(rt, seat, &Kind)
+        glance(driver, rt, seat, &Kind)
     }
 
     /// The time of the cluster, where one was told.
@@ -249,9 +322,9 @@ impl TopologyWatcher {
         seat: &mut Seat<C>,
     ) -> Option<ClusterTime>
         requires own { seat.old.driver ≡ driver.now.id }
-        ensures saw { Made seat.old seat.new [] }
+        ensures saw { Made C.stands seat.old seat.new [] }
         ensures time { result ≡ (C.described seat.new.seen).cluster_time }
     {
-        driver.look(rt, seat, &Time)
+        glance(driver, rt, seat, &Time)
     }
 }

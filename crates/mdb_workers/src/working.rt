@@ -10,6 +10,7 @@ ghost use Rattle.mdb_workers.specs.Working.{CalledOnce, Reported, LeftOver, Work
 
 use crate::ends::{Work, WorkError};
 use crate::establishing::{EstablishError, Establisher, Gate};
+use crate::steps::add;
 use mdb_base::{ObjectId, OutOfMemory};
 use mdb_log::{Act, Core, Established, FailedAt, Job, Step};
 use mdb_shared::{Claimed, Seat, SharedDriver};
@@ -44,7 +45,7 @@ fn report_of(pool: u32, id: u32, answer: Result<Established, EstablishError>) ->
 }
 
 // Establishes the connection of a job, with the gate told, and gives the step that reports it.
-fn establish<E: Establisher, G: Gate>(
+pub(crate) fn establish<E: Establisher, G: Gate>(
     alloc: Global,
     establisher: &mut E,
     gate: &mut G,
@@ -53,7 +54,7 @@ fn establish<E: Establisher, G: Gate>(
     job: &Job,
 ) -> Option<Step>
     ensures some { IfSome result (λ step. CalledOnce pool id job.now (E.calls establisher.old) (E.calls establisher.new) step.act) }
-    ensures act { IfSome result (λ step. IsDriverAct step.act) }
+    ensures act { IfSome result (λ step. (step.moment ≡ 0) × IsDriverAct step.act) }
     ensures none { IfNone result (E.calls establisher.new ≡ E.calls establisher.old) }
 {
     gate.before(job);
@@ -72,14 +73,15 @@ fn report<C: Core, R: Wait>(
     step: Step,
 ) -> Result<(), Step>
     requires own { seat.old.driver ≡ driver.now.id }
-    requires act { IsDriverAct step.act }
-    ensures ok { OnOk result ((e : Entry) × (e.step.act ≡ step.act) × Made seat.old seat.new (e ∷ [])) }
-    ensures err { IfErr result (λ back. (back ≡ step) × Made seat.old seat.new []) }
+    requires act { (step.moment ≡ 0) × IsDriverAct step.act }
+    ensures same { (seat.new.driver ≡ seat.old.driver) × (seat.new.number ≡ seat.old.number) }
+    ensures ok { OnOk result ((e : Entry) × (e.step.act ≡ step.act) × Made C.stands seat.old seat.new (e ∷ [])) }
+    ensures err { IfErr result (λ back. (back ≡ step) × Made C.stands seat.old seat.new []) }
 {
     let Ok(copy) = step.clone() else {
         return Err(step);
     };
-    match driver.step(rt, alloc, seat, copy) {
+    match add(driver, rt, alloc, seat, copy) {
         Ok(reply) => {
             drop(reply);
             drop(step);
@@ -103,8 +105,8 @@ fn one_job<C: Core, R: Wait, E: Establisher, G: Gate>(
 ) -> Result<(), WorkError>
     requires own { seat.old.driver ≡ driver.now.id }
     ensures same { (seat.new.driver ≡ seat.old.driver) × (seat.new.number ≡ seat.old.number) }
-    ensures ok { OnOk result (Reported pool id job seat.old seat.new (E.calls establisher.old) (E.calls establisher.new)) }
-    ensures err { IfErr result (LeftOver pool id job seat.old seat.new (E.calls establisher.old) (E.calls establisher.new)) }
+    ensures ok { OnOk result (Reported C.stands pool id job seat.old seat.new (E.calls establisher.old) (E.calls establisher.new)) }
+    ensures err { IfErr result (LeftOver C.stands pool id job seat.old seat.new (E.calls establisher.old) (E.calls establisher.new)) }
 {
     let named = Some((pool, id));
     let Some(step) = establish(alloc, establisher, gate, pool, id, &job) else {
@@ -129,7 +131,7 @@ pub fn work<C: Core, R: Wait, E: Establisher, G: Gate>(
 ) -> Result<Work, WorkError>
     requires own { seat.old.driver ≡ driver.now.id }
     ensures same { (seat.new.driver ≡ seat.old.driver) × (seat.new.number ≡ seat.old.number) }
-    ensures jobs { Worked C.job_after budget seat.old seat.new (E.calls establisher.old) (E.calls establisher.new) result }
+    ensures jobs { Worked C.job_after C.stands budget seat.old seat.new (E.calls establisher.old) (E.calls establisher.new) result }
 {
     for _ in 0..budget {
         match driver.claim(rt, alloc, seat) {

@@ -1,37 +1,33 @@
-use Rattle.std.proofs.Common.{◌∙◌}
-use Rattle.mdb_workers.proofs.Questions.{asked_again, asked_ready, asked_ended, asked_refused, asked_no_more}
+use Rattle.std.proofs.Common.{ℕ, refl, subst}
+use Rattle.mdb_workers.specs.CheckingOut.{IsGivenUp}
+use Rattle.mdb_workers.specs.Standing.{MayBe, HasEnded}
+use Rattle.mdb_workers.proofs.Questions.{asked_none, asked_later, asked_left, asked_given_up, asked_no_more, asked_again, asked_ready, asked_ended, asked_refused}
 use Rattle.mdb_workers.proofs.asking.collect.Goals as goal
+
+pub loop-init : goal.loop-init
+loop-init g c = record { asked = asked_none g.C.Core.stands (g.L.Limit.ends c.args.limit.now) c.args.standing.request c.args.seat.now; same = refl; request = refl }
 
 pub loop-preserved : goal.loop-preserved
 loop-preserved g c = record {
-  asked = asked_again g.C.Core.stands c.args.request c.args.seat.now c.loop.seat c.next_news-seen.new.seat c.poll_check_out.new.seat c.loop.invariant.asked c.next_news-seen.ensures
-      c.poll_check_out.ensures.same.0 c.poll_check_out.ensures.same.1 c.poll_check_out.ensures.busy _ _ c.in-Ok-NotYet.field-0-is c.in-Ok-NotYet.ensures.names c.in-Ok-NotYet.ensures.entry;
+  asked = asked_again g.C.Core.stands (g.L.Limit.ends c.args.limit.now) c.args.standing.request c.args.seat.now c.await_outcome-outlook.new.seat c.ask.new.seat _ (asked_later g.C.Core.stands (g.L.Limit.ends c.args.limit.now) c.args.standing.request c.args.seat.now c.loop.seat c.await_outcome-outlook.new.seat c.loop.invariant.asked c.await_outcome-outlook.ensures.saw) c.in-Ok-NotYet.ensures.ok _ c.in-Ok-NotYet.field-0-is c.in-Ok-NotYet.ensures.names;
+  same = refl;
+  request = refl;
 }
 
-pub returns-in-Ok-Ready-clause-answer : goal.returns-in-Ok-Ready-clause-answer
-returns-in-Ok-Ready-clause-answer g c = asked_ready g.C.Core.stands c.args.request c.args.seat.now c.loop.seat c.next_news-seen.new.seat c.poll_check_out.new.seat c.loop.invariant.asked c.next_news-seen.ensures
-    c.poll_check_out.ensures.same.0 c.poll_check_out.ensures.same.1 c.poll_check_out.ensures.busy _ _ c.in-Ok-Ready.field-0-is c.in-Ok-Ready.ensures.names c.in-Ok-Ready.ensures.entry
+pub returns-in-Open : goal.returns-in-Open
+returns-in-Open g c = record { answer = asked_left g.C.Core.stands (g.L.Limit.ends c.args.limit.now) c.args.standing.request (subst (HasEnded _) c.in-Open.is c.await_outcome-outlook.ensures.ended) c.args.seat.now c.await_outcome-outlook.new.seat c.leave.new.seat c.leave.result (asked_later g.C.Core.stands (g.L.Limit.ends c.args.limit.now) c.args.standing.request c.args.seat.now c.loop.seat c.await_outcome-outlook.new.seat c.loop.invariant.asked c.await_outcome-outlook.ensures.saw) c.leave.ensures.left }
 
-pub returns-in-Ok-Ended-clause-answer : goal.returns-in-Ok-Ended-clause-answer
-returns-in-Ok-Ended-clause-answer g c = asked_ended g.C.Core.stands c.args.request c.args.seat.now c.loop.seat c.next_news-seen.new.seat c.poll_check_out.new.seat c.loop.invariant.asked c.next_news-seen.ensures
-    c.poll_check_out.ensures.same.0 c.poll_check_out.ensures.same.1 c.poll_check_out.ensures.busy _ _ c.in-Ok-Ended.field-0-is c.in-Ok-Ended.ensures.entry
+pub returns-in-GivenUp : goal.returns-in-GivenUp
+returns-in-GivenUp g c = record { answer = asked_given_up g.C.Core.stands (g.L.Limit.ends c.args.limit.now) c.args.standing.request c.args.seat.now c.await_outcome-outlook.new.seat (asked_later g.C.Core.stands (g.L.Limit.ends c.args.limit.now) c.args.standing.request c.args.seat.now c.loop.seat c.await_outcome-outlook.new.seat c.loop.invariant.asked c.await_outcome-outlook.ensures.saw) (subst (λ (r : ℕ). IsGivenUp r c.await_outcome-outlook.new.seat.seen) c.loop.invariant.same (subst (MayBe c.loop.standing.request c.await_outcome-outlook.new.seat.seen) c.in-GivenUp.is c.await_outcome-outlook.ensures.outlook)) }
 
-pub returns-in-Ok-Refused-clause-answer : goal.returns-in-Ok-Refused-clause-answer
-returns-in-Ok-Refused-clause-answer g c = asked_refused g.C.Core.stands c.args.request c.args.seat.now c.loop.seat c.next_news-seen.new.seat c.poll_check_out.new.seat c.loop.invariant.asked c.next_news-seen.ensures
-    c.poll_check_out.ensures.same.0 c.poll_check_out.ensures.same.1 c.poll_check_out.ensures.busy _ _ c.in-Ok-Refused.field-0-is c.in-Ok-Refused.ensures.entry
+pub returns-in-Ok-Ready : goal.returns-in-Ok-Ready
+returns-in-Ok-Ready g c = record { answer = asked_ready g.C.Core.stands (g.L.Limit.ends c.args.limit.now) c.args.standing.request c.args.seat.now c.await_outcome-outlook.new.seat c.ask.new.seat _ (asked_later g.C.Core.stands (g.L.Limit.ends c.args.limit.now) c.args.standing.request c.args.seat.now c.loop.seat c.await_outcome-outlook.new.seat c.loop.invariant.asked c.await_outcome-outlook.ensures.saw) c.in-Ok-Ready.ensures.ok _ c.in-Ok-Ready.field-0-is c.in-Ok-Ready.ensures.names }
 
-pub returns-in-Err-clause-answer : goal.returns-in-Err-clause-answer
-returns-in-Err-clause-answer g c = asked_no_more g.C.Core.stands c.args.request c.args.seat.now c.loop.seat c.next_news-seen.new.seat c.poll_check_out.new.seat c.loop.invariant.asked c.next_news-seen.ensures
-    c.poll_check_out.ensures.same.0 c.poll_check_out.ensures.same.1 c.poll_check_out.ensures.busy c.in-Err.ensures.err
+pub returns-in-Ok-Ended : goal.returns-in-Ok-Ended
+returns-in-Ok-Ended g c = record { answer = asked_ended g.C.Core.stands (g.L.Limit.ends c.args.limit.now) c.args.standing.request c.args.seat.now c.await_outcome-outlook.new.seat c.ask.new.seat _ (asked_later g.C.Core.stands (g.L.Limit.ends c.args.limit.now) c.args.standing.request c.args.seat.now c.loop.seat c.await_outcome-outlook.new.seat c.loop.invariant.asked c.await_outcome-outlook.ensures.saw) c.in-Ok-Ended.ensures.ok _ c.in-Ok-Ended.field-0-is }
 
-pub returns-in-Ok-Ready-clause-same : goal.returns-in-Ok-Ready-clause-same
-returns-in-Ok-Ready-clause-same g c = let was = c.loop.invariant.asked.1 in let news = c.next_news-seen.ensures in let same = c.poll_check_out.ensures.same in (same.0 ∙ (news.0 ∙ was.0), same.1 ∙ (news.1 ∙ was.1))
+pub returns-in-Ok-Refused : goal.returns-in-Ok-Refused
+returns-in-Ok-Refused g c = record { answer = asked_refused g.C.Core.stands (g.L.Limit.ends c.args.limit.now) c.args.standing.request c.args.seat.now c.await_outcome-outlook.new.seat c.ask.new.seat _ (asked_later g.C.Core.stands (g.L.Limit.ends c.args.limit.now) c.args.standing.request c.args.seat.now c.loop.seat c.await_outcome-outlook.new.seat c.loop.invariant.asked c.await_outcome-outlook.ensures.saw) c.in-Ok-Refused.ensures.ok _ c.in-Ok-Refused.field-0-is }
 
-pub returns-in-Ok-Ended-clause-same : goal.returns-in-Ok-Ended-clause-same
-returns-in-Ok-Ended-clause-same g c = let was = c.loop.invariant.asked.1 in let news = c.next_news-seen.ensures in let same = c.poll_check_out.ensures.same in (same.0 ∙ (news.0 ∙ was.0), same.1 ∙ (news.1 ∙ was.1))
-
-pub returns-in-Ok-Refused-clause-same : goal.returns-in-Ok-Refused-clause-same
-returns-in-Ok-Refused-clause-same g c = let was = c.loop.invariant.asked.1 in let news = c.next_news-seen.ensures in let same = c.poll_check_out.ensures.same in (same.0 ∙ (news.0 ∙ was.0), same.1 ∙ (news.1 ∙ was.1))
-
-pub returns-in-Err-clause-same : goal.returns-in-Err-clause-same
-returns-in-Err-clause-same g c = let was = c.loop.invariant.asked.1 in let news = c.next_news-seen.ensures in let same = c.poll_check_out.ensures.same in (same.0 ∙ (news.0 ∙ was.0), same.1 ∙ (news.1 ∙ was.1))
+pub returns-in-Err : goal.returns-in-Err
+returns-in-Err g c = record { answer = asked_no_more g.C.Core.stands (g.L.Limit.ends c.args.limit.now) c.args.standing.request c.args.seat.now c.await_outcome-outlook.new.seat c.ask.new.seat (asked_later g.C.Core.stands (g.L.Limit.ends c.args.limit.now) c.args.standing.request c.args.seat.now c.loop.seat c.await_outcome-outlook.new.seat c.loop.invariant.asked c.await_outcome-outlook.ensures.saw) c.in-Err.ensures.err }

@@ -4,7 +4,7 @@ use Rattle.mdb_workers.proofs.watching.TopologyWatcher.wait_for_update.Given as 
 
 abbrev pub invariant-loop : goal.invariant-loop
 invariant-loop g l = record {
-  none : Made l.initial.seat l.seat [];
+  none : Made g.C.Core.stands l.initial.seat l.seat [];
   self : l.self ≡ l.initial.self;
   looked : 0 < l.counter → g.C.Core.publications l.seat.seen ≤ l.self.seen;
 }

@@ -1,0 +1,267 @@
+//! Calls that try again while there is no memory, with a short sleep between two tries. They end once there is, so that nothing that a seat was given is
+//! lost: no connection stays claimed, no request stays open, no connection stays out, and the driver stops.
+
+ghost use Rattle.std.specs.Prelude.{◌≡◌, ◌∷◌, [], IfSome, IfOk, IfErr, OnOk};
+ghost use Rattle.mdb_log.specs.Acts.{IsDriverAct};
+ghost use Rattle.mdb_log.specs.declared.log.Entry.{Entry};
+ghost use Rattle.mdb_log.specs.declared.step.Act.TheVariants.{GiveUp, Return, Stop};
+ghost use Rattle.mdb_log.specs.declared.reply.Reply.TheVariants.{Done, Refused as IsRefused};
+ghost use Rattle.mdb_workers.specs.Making.{Made, OneMore};
+ghost use Rattle.mdb_workers.specs.Persisting.{IsTry, LeftAct, SettledIf, TendedBy, TriedBack, tried_by};
+ghost use Rattle.mdb_workers.specs.Working.{SettledBy};
+
+use crate::ends::Work;
+use crate::establishing::{Establisher, Gate};
+use crate::steps::{add, give_back, let_go, pause};
+use crate::working::establish;
+use mdb_base::{Error, ErrorKind, Items, OutOfMemory, Text};
+use mdb_events::Held;
+use mdb_log::{Act, Core, FailedAt, PooledConnection, Refused, Reply, Step, Use};
+use mdb_shared::{Back, BackWhy, Claimed, Seat, SharedDriver};
+use std::alloc::Global;
+use std::sync::Wait;
+
+/// A connection that wasn't checked in, since the return was refused: the party doesn't hold it.
+pub struct Unreturned {
+    pub connection: PooledConnection,
+    pub why: Refused,
+}
+
+/// Gives the request up. It tries again while there is no memory.
+pub fn abandon<C: Core, R: Wait>(
+    driver: &SharedDriver<C>,
+    rt: &R,
+    alloc: Global,
+    seat: &mut Seat<C>,
+    request: u32,
+) -> Reply
+    requires own { seat.old.driver ≡ driver.now.id }
+    ensures same { (seat.new.driver ≡ seat.old.driver) × (seat.new.number ≡ seat.old.number) }
+    ensures entry { OneMore C.stands seat.old seat.new (GiveUp request) result }
+{
+    for _ in rt.forever() {
+        match let_go(driver, rt, alloc, seat, request) {
+            Ok(reply) => return reply,
+            Err(OutOfMemory) => pause(driver, rt, seat),
+        }
+    }
+    unreachable!()
+}
+
+// What a try to check a connection in came to.
+enum Tried {
+    Back,
+    Refused(Unreturned),
+    // There was no memory.
+    Again(PooledConnection),
+}
+
+fn tried_of(back: Back) -> Tried
+    ensures { result ≡ tried_by back.connection back.why }
+{
+    let Back { connection, why } = back;
+    match why {
+        BackWhy::Refused(why) => Tried::Refused(Unreturned { connection, why }),
+        BackWhy::OutOfMemory => Tried::Again(connection),
+    }
+}
+
+// One try to check a connection in.
+fn try_back<C: Core, R: Wait>(
+    driver: &SharedDriver<C>,
+    rt: &R,
+    alloc: Global,
+    seat: &mut Seat<C>,
+    connection: PooledConnection,
+    used: Use,
+) -> Tried
+    requires own { seat.old.driver ≡ driver.now.id }
+    ensures same { (seat.new.driver ≡ seat.old.driver) × (seat.new.number ≡ seat.old.number) }
+    ensures tried { TriedBack C.stands seat.old seat.new connection used result }
+{
+    match give_back(driver, rt, alloc, seat, connection, used) {
+        Ok(()) => Tried::Back,
+        Err(back) => tried_of(back),
+    }
+}
+
+/// Checks the connection in. It tries again while there is no memory.
+pub fn hand_back<C: Core, R: Wait>(
+    driver: &SharedDriver<C>,
+    rt: &R,
+    alloc: Global,
+    seat: &mut Seat<C>,
+    mut connection: PooledConnection,
+    used: Use,
+) -> Result<(), Unreturned>
+    requires own { seat.old.driver ≡ driver.now.id }
+    ensures same { (seat.new.driver ≡ seat.old.driver) × (seat.new.number ≡ seat.old.number) }
+    ensures ok { OnOk result (OneMore C.stands seat.old seat.new (Return connection.party used) Done) }
+    ensures err { IfErr result (λ back. (back.connection ≡ connection) × OneMore C.stands seat.old seat.new (Return connection.party used) (IsRefused back.why)) }
+{
+    for _ in rt.forever() {
+        match try_back(driver, rt, alloc, seat, connection, used) {
+            Tried::Back => return Ok(()),
+            Tried::Refused(unreturned) => return Err(unreturned),
+            Tried::Again(held) => {
+                connection = held;
+                pause(driver, rt, seat);
+            }
+        }
+    }
+    unreachable!()
+}
+
+// One more try of a step.
+fn try_once<C: Core, R: Wait>(
+    driver: &SharedDriver<C>,
+    rt: &R,
+    alloc: Global,
+    seat: &mut Seat<C>,
+    act: Act,
+) -> bool
+    requires own { seat.old.driver ≡ driver.now.id }
+    requires act { IsDriverAct act }
+    ensures same { (seat.new.driver ≡ seat.old.driver) × (seat.new.number ≡ seat.old.number) }
+    ensures entry { IsTry C.stands seat.old seat.new act result }
+{
+    match add(driver, rt, alloc, seat, Step { moment: 0, act }) {
+        Ok(reply) => {
+            drop(reply);
+            true
+        }
+        Err(OutOfMemory) => false,
+    }
+}
+
+/// Stops the driver: its pools close, those who wait end, and those who sleep are woken. It tries again while there is no memory.
+pub fn stop<C: Core, R: Wait>(driver: &SharedDriver<C>, rt: &R, alloc: Global, seat: &mut Seat<C>)
+    requires own { seat.old.driver ≡ driver.now.id }
+    ensures same { (seat.new.driver ≡ seat.old.driver) × (seat.new.number ≡ seat.old.number) }
+    ensures entry { (e : Entry) × (e.step.act ≡ Stop) × Made C.stands seat.old seat.new (e ∷ []) }
+{
+    for _ in rt.forever() {
+        if try_once(driver, rt, alloc, seat, Act::Stop) {
+            return;
+        }
+        pause(driver, rt, seat);
+    }
+    unreachable!()
+}
+
+fn no_memory(alloc: Global) -> Error {
+    Error {
+        kind: ErrorKind::Other,
+        labels: Items::new(Vec::new(alloc)),
+        topology_version: None,
+        message: Text::new(String::new(alloc)),
+    }
+}
+
+// The act that reports what was left: that of the step, or else that the connection failed.
+fn left_act(alloc: Global, pool: u32, id: u32, step: &Option<Step>) -> Result<Act, OutOfMemory>
+    requires { IfSome step.now (λ s. IsDriverAct s.act) }
+    ensures { IfOk result (LeftAct pool id step.now) }
+{
+    match step {
+        Some(step) => Ok(step.act.clone()?),
+        None => {
+            let error = Held::new(alloc, no_memory(alloc))?;
+            Ok(Act::Failed(pool, id, FailedAt::Pre, error))
+        }
+    }
+}
+
+// One try to report what was left.
+fn try_left<C: Core, R: Wait>(
+    driver: &SharedDriver<C>,
+    rt: &R,
+    alloc: Global,
+    seat: &mut Seat<C>,
+    pool: u32,
+    id: u32,
+    step: &Option<Step>,
+) -> bool
+    requires own { seat.old.driver ≡ driver.now.id }
+    requires act { IfSome step.now (λ s. IsDriverAct s.act) }
+    ensures same { (seat.new.driver ≡ seat.old.driver) × (seat.new.number ≡ seat.old.number) }
+    ensures entry { SettledIf C.stands pool id step.now seat.old seat.new result }
+{
+    match left_act(alloc, pool, id, step) {
+        Ok(act) => try_once(driver, rt, alloc, seat, act),
+        Err(OutOfMemory) => false,
+    }
+}
+
+fn settle_left<C: Core, R: Wait>(
+    driver: &SharedDriver<C>,
+    rt: &R,
+    alloc: Global,
+    seat: &mut Seat<C>,
+    pool: u32,
+    id: u32,
+    step: &Option<Step>,
+)
+    requires own { seat.old.driver ≡ driver.now.id }
+    requires act { IfSome step.now (λ s. IsDriverAct s.act) }
+    ensures same { (seat.new.driver ≡ seat.old.driver) × (seat.new.number ≡ seat.old.number) }
+    ensures entry { (e : Entry) × SettledBy pool id step.now e × Made C.stands seat.old seat.new (e ∷ []) }
+{
+    for _ in rt.forever() {
+        if try_left(driver, rt, alloc, seat, pool, id, step) {
+            return;
+        }
+        pause(driver, rt, seat);
+    }
+    unreachable!()
+}
+
+/// Reports what `work` left at want of memory, the pool and the number of the connection that was claimed with the step that wasn't reported. Where there
+/// is none, the connection has failed before the hello. It tries again while there is no memory.
+pub fn settle<C: Core, R: Wait>(
+    driver: &SharedDriver<C>,
+    rt: &R,
+    alloc: Global,
+    seat: &mut Seat<C>,
+    pool: u32,
+    id: u32,
+    step: Option<Step>,
+)
+    requires own { seat.old.driver ≡ driver.now.id }
+    requires act { IfSome step (λ s. IsDriverAct s.act) }
+    ensures same { (seat.new.driver ≡ seat.old.driver) × (seat.new.number ≡ seat.old.number) }
+    ensures entry { (e : Entry) × SettledBy pool id step e × Made C.stands seat.old seat.new (e ∷ []) }
+{
+    settle_left(driver, rt, alloc, seat, pool, id, &step);
+}
+
+/// Establishes one connection, where there is one to establish: it is claimed, established and reported. Where there is no memory for that it is reported as
+/// failed, and where there is none for the report it tries again. `Idle` comes exactly where the claim found none.
+pub fn tend<C: Core, R: Wait, E: Establisher, G: Gate>(
+    driver: &SharedDriver<C>,
+    rt: &R,
+    alloc: Global,
+    seat: &mut Seat<C>,
+    establisher: &mut E,
+    gate: &mut G,
+) -> Work
+    requires own { seat.old.driver ≡ driver.now.id }
+    ensures tended { TendedBy C.stands seat.old seat.new }
+{
+    match driver.claim(rt, alloc, seat) {
+        Ok(Claimed::Job(pool, id, job)) => {
+            let step = establish(alloc, establisher, gate, pool, id, &job);
+            settle(driver, rt, alloc, seat, pool, id, step);
+            Work::Spent
+        }
+        Ok(Claimed::NoJob) => Work::Idle,
+        Ok(Claimed::Unread(pool, id)) => {
+            settle(driver, rt, alloc, seat, pool, id, None);
+            Work::Spent
+        }
+        Err(OutOfMemory) => {
+            pause(driver, rt, seat);
+            Work::Spent
+        }
+    }
+}

@@ -1,0 +1,124 @@
+//! Single calls of a shared driver, with what each adds to the entries of its seat.
+
+ghost use Rattle.std.specs.Prelude.{◌≡◌, [], IsTrue, IfOk, IfErr, OnOk, OnErr};
+ghost use Rattle.mdb_log.specs.Acts.{IsDriverAct};
+ghost use Rattle.mdb_log.specs.Driver.{is_reply_to};
+ghost use Rattle.mdb_log.specs.declared.step.Act.TheVariants.{Collect, GiveUp, Return};
+ghost use Rattle.mdb_log.specs.declared.reply.Reply.TheVariants.{Done};
+ghost use Rattle.mdb_shared.specs.Checkout.{told_by, Names};
+ghost use Rattle.mdb_workers.specs.Making.{Made, OneMore, OneMoreAt, StaysOut};
+
+use mdb_base::OutOfMemory;
+use mdb_log::{Core, PooledConnection, Reply, Step, Use};
+use mdb_shared::{Back, Look, Poll, Seat, SharedDriver};
+use std::alloc::Global;
+use std::sync::Wait;
+use std::time::Duration;
+
+// How long one waits before one tries again what there was no memory for.
+const PAUSE: u64 = 1;
+
+// One step.
+pub(crate) fn add<C: Core, R: Wait>(
+    driver: &SharedDriver<C>,
+    rt: &R,
+    alloc: Global,
+    seat: &mut Seat<C>,
+    step: Step,
+) -> Result<Reply, OutOfMemory>
+    requires own { seat.old.driver ≡ driver.now.id }
+    requires act { IsDriverAct step.act }
+    ensures same { (seat.new.driver ≡ seat.old.driver) × (seat.new.number ≡ seat.old.number) }
+    ensures ok { IfOk result (λ reply. OneMoreAt C.stands step.moment seat.old seat.new step.act reply) }
+    ensures kind { IfOk result (λ reply. IsTrue (is_reply_to step.act reply)) }
+    ensures err { OnErr result (Made C.stands seat.old seat.new []) }
+{
+    match driver.step(rt, alloc, seat, step) {
+        Ok(reply) => Ok(reply),
+        Err(OutOfMemory) => Err(OutOfMemory),
+    }
+}
+
+// One question how a request stands.
+pub(crate) fn ask<C: Core, R: Wait>(
+    driver: &SharedDriver<C>,
+    rt: &R,
+    alloc: Global,
+    seat: &mut Seat<C>,
+    request: u32,
+) -> Result<Poll, OutOfMemory>
+    requires own { seat.old.driver ≡ driver.now.id }
+    ensures same { (seat.new.driver ≡ seat.old.driver) × (seat.new.number ≡ seat.old.number) }
+    ensures ok { IfOk result (λ poll. OneMore C.stands seat.old seat.new (Collect request) (told_by poll)) }
+    ensures names { IfOk result (λ poll. Names request poll) }
+    ensures err { OnErr result (Made C.stands seat.old seat.new []) }
+{
+    match driver.poll_check_out(rt, alloc, seat, request) {
+        Ok(poll) => Ok(poll),
+        Err(OutOfMemory) => Err(OutOfMemory),
+    }
+}
+
+// One request given up.
+pub(crate) fn let_go<C: Core, R: Wait>(
+    driver: &SharedDriver<C>,
+    rt: &R,
+    alloc: Global,
+    seat: &mut Seat<C>,
+    request: u32,
+) -> Result<Reply, OutOfMemory>
+    requires own { seat.old.driver ≡ driver.now.id }
+    ensures same { (seat.new.driver ≡ seat.old.driver) × (seat.new.number ≡ seat.old.number) }
+    ensures ok { IfOk result (λ reply. OneMore C.stands seat.old seat.new (GiveUp request) reply) }
+    ensures kind { IfOk result (λ reply. IsTrue (is_reply_to (GiveUp request) reply)) }
+    ensures err { OnErr result (Made C.stands seat.old seat.new []) }
+{
+    match driver.give_up(rt, alloc, seat, request) {
+        Ok(reply) => Ok(reply),
+        Err(OutOfMemory) => Err(OutOfMemory),
+    }
+}
+
+// One connection given back.
+pub(crate) fn give_back<C: Core, R: Wait>(
+    driver: &SharedDriver<C>,
+    rt: &R,
+    alloc: Global,
+    seat: &mut Seat<C>,
+    connection: PooledConnection,
+    used: Use,
+) -> Result<(), Back>
+    requires own { seat.old.driver ≡ driver.now.id }
+    ensures same { (seat.new.driver ≡ seat.old.driver) × (seat.new.number ≡ seat.old.number) }
+    ensures ok { OnOk result (OneMore C.stands seat.old seat.new (Return connection.party used) Done) }
+    ensures connection { IfErr result (λ back. back.connection ≡ connection) }
+    ensures why { IfErr result (λ back. StaysOut C.stands seat.old seat.new (Return connection.party used) back.why) }
+{
+    match driver.check_in(rt, alloc, seat, connection, used) {
+        Ok(()) => Ok(()),
+        Err(back) => Err(back),
+    }
+}
+
+// One look.
+pub(crate) fn glance<C: Core, R: Wait, L: Look<C>>(
+    driver: &SharedDriver<C>,
+    rt: &R,
+    seat: &mut Seat<C>,
+    look: &L,
+) -> L::Found
+    requires own { seat.old.driver ≡ driver.now.id }
+    ensures saw { Made C.stands seat.old seat.new [] }
+    ensures told { L.tells look.now seat.new.seen result }
+{
+    driver.look(rt, seat, look)
+}
+
+// Waits a little, so that others may give memory back.
+pub(crate) fn pause<C: Core, R: Wait>(driver: &SharedDriver<C>, rt: &R, seat: &mut Seat<C>)
+    requires own { seat.old.driver ≡ driver.now.id }
+    ensures { Made C.stands seat.old seat.new [] }
+{
+    let count = driver.seen_count(seat);
+    driver.sleep_for(rt, count, Duration::from_millis(PAUSE));
+}

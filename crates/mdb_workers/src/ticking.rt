@@ -1,0 +1,200 @@
+//! The clock of a driver: time enters by its steps alone, and all other calls have the grain of its ticks.
+
+ghost use Rattle.std.specs.Prelude.{◌≡◌, ◌∷◌, [], map, IfOk, OnOk, OnErr};
+ghost use Rattle.mdb_workers.specs.Hearing.{HasStopped};
+ghost use Rattle.mdb_log.specs.declared.log.Entry.{Entry};
+ghost use Rattle.mdb_workers.specs.Making.{Made, MadeAt};
+ghost use Rattle.mdb_workers.specs.Ticking.{BothDue, IsDueAct, Ticked, TickedInPart, TickedBy};
+
+use crate::listening::has_stopped;
+use crate::steps::{add, glance};
+use mdb_base::{Moment, OutOfMemory, ServerAddress};
+use mdb_describe::ServerDescription;
+use mdb_log::{Act, Core, Log, Step};
+use mdb_shared::{Look, Seat, SharedDriver};
+use std::alloc::Global;
+use std::rt::Clock;
+use std::sync::Wait;
+use std::thread::sleep;
+use std::time::{Duration, Instant};
+
+// The addresses, copied.
+fn addresses_in(
+    alloc: Global,
+    servers: &[ServerDescription],
+) -> Result<Vec<ServerAddress>, OutOfMemory>
+    ensures { IfOk result (λ v. v.items ≡ map (λ d. d.address) servers.now) }
+{
+    let mut addresses = Vec::new(alloc);
+    for server in servers {
+        addresses.push(server.address.clone()?)?;
+    }
+    Ok(addresses)
+}
+
+// The addresses of the servers that the driver knows.
+#[derive(Clone, Copy)]
+struct Addresses {
+    alloc: Global,
+}
+
+impl<C: Core> Look<C> for Addresses {
+    type Found = Result<Vec<ServerAddress>, OutOfMemory>;
+
+    ghost use Rattle.std.specs.Prelude.{◌≡◌, IfOk};
+    ghost use Rattle.mdb_workers.specs.Ticking.{addresses_of};
+
+    ghost tells = { λ s log found. IfOk found (λ v. v.items ≡ addresses_of (C.described log)) };
+
+    fn look(&self, core: &C, _log: &Log) -> Result<Vec<ServerAddress>, OutOfMemory> {
+        addresses_in(self.alloc, core.description().servers())
+    }
+}
+
+// One step of the clock.
+fn due<C: Core, R: Wait>(
+    driver: &SharedDriver<C>,
+    rt: &R,
+    alloc: Global,
+    seat: &mut Seat<C>,
+    moment: Moment,
+    act: Act,
+) -> Result<(), OutOfMemory>
+    requires own { seat.old.driver ≡ driver.now.id }
+    requires act { IsDueAct act }
+    ensures ok { OnOk result ((e : Entry) × (e.step.act ≡ act) × MadeAt C.stands moment seat.old seat.new (e ∷ [])) }
+    ensures err { OnErr result (Made C.stands seat.old seat.new []) }
+{
+    match add(driver, rt, alloc, seat, Step { moment, act }) {
+        Ok(reply) => {
+            drop(reply);
+            Ok(())
+        }
+        Err(OutOfMemory) => Err(OutOfMemory),
+    }
+}
+
+// What is due at the address.
+fn due_at<C: Core, R: Wait>(
+    driver: &SharedDriver<C>,
+    rt: &R,
+    alloc: Global,
+    seat: &mut Seat<C>,
+    moment: Moment,
+    address: ServerAddress,
+) -> Result<(), OutOfMemory>
+    requires own { seat.old.driver ≡ driver.now.id }
+    ensures ok { OnOk result (BothDue C.stands moment address seat.old seat.new) }
+    ensures err { OnErr result (TickedInPart C.stands moment seat.old seat.new) }
+{
+    let copy = address.clone()?;
+    due(driver, rt, alloc, seat, moment, Act::Expire(copy))?;
+    match due(driver, rt, alloc, seat, moment, Act::Maintain(address)) {
+        Ok(()) => Ok(()),
+        Err(OutOfMemory) => Err(OutOfMemory),
+    }
+}
+
+// What is due at the addresses.
+fn tick_at<C: Core, R: Wait>(
+    driver: &SharedDriver<C>,
+    rt: &R,
+    alloc: Global,
+    seat: &mut Seat<C>,
+    moment: Moment,
+    addresses: Vec<ServerAddress>,
+) -> Result<(), OutOfMemory>
+    requires own { seat.old.driver ≡ driver.now.id }
+    ensures ok { OnOk result (TickedBy C.stands moment addresses.items seat.old seat.new) }
+    ensures err { OnErr result (TickedInPart C.stands moment seat.old seat.new) }
+{
+    for address in addresses {
+        due_at(driver, rt, alloc, seat, moment, address)?;
+    }
+    Ok(())
+}
+
+/// One tick: at this moment, at each server that the driver knows, the callers that waited too long end (`max_wait`), and the pool is maintained: what is
+/// stale or idle closes (`max_idle_time`), and the pool is filled up to its minimum. After `OutOfMemory` a part of it was done.
+pub fn tick<C: Core, R: Wait>(
+    driver: &SharedDriver<C>,
+    rt: &R,
+    alloc: Global,
+    seat: &mut Seat<C>,
+    moment: Moment,
+) -> Result<(), OutOfMemory>
+    requires own { seat.old.driver ≡ driver.now.id }
+    ensures ok { OnOk result (Ticked C.stands C.described moment seat.old seat.new) }
+    ensures err { OnErr result (TickedInPart C.stands moment seat.old seat.new) }
+{
+    let addresses = glance(driver, rt, seat, &Addresses { alloc })?;
+    match tick_at(driver, rt, alloc, seat, moment, addresses) {
+        Ok(()) => Ok(()),
+        Err(OutOfMemory) => Err(OutOfMemory),
+    }
+}
+
+// The driver was stopped by one of the entries from this one on.
+#[derive(Clone, Copy)]
+struct Ending {
+    from: u64,
+}
+
+impl<C: Core> Look<C> for Ending {
+    type Found = (u64, bool);
+
+    ghost use Rattle.std.specs.Prelude.{◌≡◌, IsTrue, length};
+    ghost use Rattle.mdb_workers.specs.Hearing.{HasStopped};
+
+    ghost tells = { λ s log found. (found.0 ≡ length log) × (IsTrue found.1 → HasStopped log) };
+
+    fn look(&self, _core: &C, log: &Log) -> (u64, bool) {
+        let entries = log.entries();
+        (
+            entries.len() as u64,
+            has_stopped(entries, self.from as usize),
+        )
+    }
+}
+
+// The milliseconds since the start, 0 where the clock can't be read.
+fn moment_since<R: Clock>(rt: &R, start: &Instant) -> Moment {
+    match start.elapsed(rt) {
+        Ok(passed) => {
+            let millis = passed.as_secs().saturating_mul(1_000);
+            millis.saturating_add(passed.subsec_millis() as u64)
+        }
+        Err(e) => {
+            drop(e);
+            0
+        }
+    }
+}
+
+/// Ticks each so long until the driver stops; the moments are the milliseconds since the start. A tick for which there is no memory is left to the next
+/// one. Nothing is claimed of the time that passes.
+pub fn keep_time<C: Core, R: Wait + Clock>(
+    driver: &SharedDriver<C>,
+    rt: &R,
+    alloc: Global,
+    seat: &mut Seat<C>,
+    start: Instant,
+    every: Duration,
+)
+    requires own { seat.old.driver ≡ driver.now.id }
+    ensures same { (seat.new.driver ≡ seat.old.driver) × (seat.new.number ≡ seat.old.number) }
+    ensures stopped { HasStopped seat.new.seen }
+{
+    let mut from = 0;
+    for _ in rt.forever() {
+        let (count, is_over) = glance(driver, rt, seat, &Ending { from });
+        if is_over {
+            return;
+        }
+        from = count;
+        let moment = moment_since(rt, &start);
+        drop(tick(driver, rt, alloc, seat, moment));
+        sleep(rt, every);
+    }
+    unreachable!()
+}
