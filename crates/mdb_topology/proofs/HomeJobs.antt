@@ -1,6 +1,7 @@
 -- Each pool is the one at its number, and a job that was told is there.
-use Rattle.std.proofs.Common.{ℕ, ◌≡◌, ◌==◌, ◌||◌, ◌<◌, Bool, true, false, List, [], ◌∷◌, find, Option, Some, None, is_some, refl, sym, ◌∙◌, ap, subst, arith}
+use Rattle.std.proofs.Common.{ℕ, zero, suc, length, nat_lt, ◌≡◌, ◌==◌, ◌||◌, ◌<◌, Bool, true, false, List, [], ◌∷◌, find, Option, Some, None, is_some, refl, sym, ◌∙◌, ap, subst, arith}
 use Rattle.std.specs.Prelude.{slice_get}
+use Rattle.std.proofs.lemmas.Bool.Decides.{nat_tests}
 use Rattle.mdb_base.specs.declared.options.Options.{Options}
 use Rattle.mdb_log.specs.declared.options.PoolOptions.{PoolOptions}
 use Rattle.mdb_log.specs.declared.log.Entry.{Entry}
@@ -29,6 +30,12 @@ use Rattle.mdb_topology.specs.Logging.{IsDriverOf}
 use Rattle.mdb_topology.specs.Standing.{home, PoolFits, PoolsFit}
 use Rattle.mdb_topology.proofs.Lists.{find-at, find-none}
 use Rattle.mdb_topology.proofs.Placed.{number-at}
+
+-- there is something at each place below the length
+pub some-place : {T : Type 0} (xs : List T) (p : ℕ) → is_some (slice_get xs p) ≡ nat_lt p (length xs)
+some-place [] p = grind (arith, nat_tests)
+some-place (x ∷ xs) zero = grind (arith, nat_tests)
+some-place (x ∷ xs) (suc p) = grind (arith, nat_tests, some-place xs p)
 
 module _ (o : PoolOptions) (pools : List PoolCore) (h : List Item) (z : PoolsFit o pools h) (p : ℕ) where
   -- the pool at the place has its number

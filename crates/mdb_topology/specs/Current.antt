@@ -64,7 +64,7 @@ is_of_generation o xs c (establishing Pre) = not o.load_balanced && nat_le (gene
 is_of_generation o xs c (establishing (Post s)) = not (is_stale (pool_options o) xs c)
 is_of_generation o xs c operating = not (is_stale (pool_options o) xs c)
 
--- Current: no incompatible server's, of the open pool of its address, not older than what is known, and of the pool's generation.
+-- Current: no incompatible server's, of the open pool of its address, more recent than what is known where both have a version, and of the pool's generation.
 abbrev pub is_current : Options → List Item → TopologyDescription → Complaint → Bool
 is_current o k t x =
     not (is_incompatible x.error.kind)

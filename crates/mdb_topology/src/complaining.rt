@@ -76,7 +76,7 @@ impl TopologyCore {
     ghost use Rattle.mdb_topology.specs.Complaining.{concerns_now};
     ghost use Rattle.mdb_topology.specs.Current.{known_version, may_tell};
 
-    /// What the error tells of the server is not older than what is known.
+    /// What the error tells of the server is more recent than what is known, or one of them has no version.
     pub(crate) fn may_tell(&self, address: &ServerAddress, error: &Error) -> bool
         ensures { result ≡ may_tell (known_version (server_at address.now self.now.description.servers)) error.now.topology_version }
     {

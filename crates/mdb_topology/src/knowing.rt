@@ -1,6 +1,6 @@
 //! What a driver knows, as its log tells it.
 
-ghost use Rattle.std.specs.Prelude.{◌≡◌, IfOk, List, option_copied, slice_get};
+ghost use Rattle.std.specs.Prelude.{◌≡◌, IfOk, List, Some, is_some, length, nat_lt, option_copied, slice_get};
 
 use crate::topology::TopologyCore;
 use mdb_base::{Moment, OutOfMemory, ServerAddress};
@@ -12,25 +12,35 @@ use std::alloc::Global;
 impl TopologyCore {
     ghost use Rattle.mdb_log.specs.declared.log.Entry.{Entry};
     ghost use Rattle.mdb_log.specs.History.{Item, last_moment, open_pool};
+    ghost use Rattle.mdb_log.specs.Homes.{homes};
+    ghost use Rattle.mdb_log.specs.Opening.{pool_options};
+    ghost use Rattle.mdb_pool.specs.Core.{PoolCore as Core};
     ghost use Rattle.mdb_topology.specs.Description.{description_of, published};
     ghost use Rattle.mdb_topology.specs.Jobs.{job_after};
     ghost use Rattle.mdb_topology.specs.Logging.{IsDriverOf};
     ghost use Rattle.mdb_topology.specs.Monitors.{check_count};
-    ghost use Rattle.mdb_topology.specs.Standing.{StandsFor};
+    ghost use Rattle.mdb_topology.specs.Standing.{StandsFor, PoolFits};
 
     /// What is known of the topology.
     pub fn description(&self) -> &TopologyDescription
-        ensures kept { result.now ≡ self.now.description }
-        ensures history { (h : List Item) → StandsFor self.now h → result.now ≡ description_of self.now.options h }
+        ensures { (h : List Item) → StandsFor self.now h → result.now ≡ description_of self.now.options h }
     {
         &self.description
     }
 
-    /// The pool with the number. A pool that was closed keeps its number.
-    pub fn pool(&self, number: u32) -> Option<&PoolCore>
+    // The pool at the place.
+    fn pool_at(&self, number: u32) -> Option<&PoolCore>
         ensures { option_copied result ≡ slice_get self.now.pools.cores.items number }
     {
         self.pools.cores.get(number as usize)
+    }
+
+    /// The pool with the number, which fits what the driver's history says of it. `None` where no pool of this number was opened. A pool that was closed keeps its number.
+    pub fn pool(&self, number: u32) -> Option<&PoolCore>
+        ensures opened { (h : List Item) → StandsFor self.now h → is_some (option_copied result) ≡ nat_lt number (length (homes h)) }
+        ensures fits { (h : List Item) (s : Core) → StandsFor self.now h → option_copied result ≡ Some s → PoolFits (pool_options self.now.options) h number s }
+    {
+        self.pool_at(number)
     }
 
     /// The number of the pool that is open at the address.
@@ -69,7 +79,7 @@ impl TopologyCore {
     pub fn job(&self, alloc: Global, pool: u32, id: u32) -> Result<Option<Job>, OutOfMemory>
         ensures { IfOk result (λ job. (log : List Entry) → IsDriverOf self.now log → job ≡ job_after log pool id) }
     {
-        match self.pool(pool) {
+        match self.pool_at(pool) {
             Some(known) => known.job(alloc, id),
             None => Ok(None),
         }

@@ -88,6 +88,7 @@ impl TopologyCore {
     ghost use Rattle.mdb_topology.specs.Answer.{answer};
     ghost use Rattle.mdb_topology.specs.Checking.{monitors_after, numbers_after, watchers_after, IsPlaced};
     ghost use Rattle.mdb_topology.specs.Finding.{is_pool_act};
+    ghost use Rattle.mdb_topology.specs.Logging.{IsDriverOf};
     ghost use Rattle.mdb_topology.specs.Stepping.{is_topology_act, BecomesOf, Follows, FollowsSome, Logs};
 
     // Room for the pools and monitors that come, and the number of publications afterwards.
@@ -274,8 +275,8 @@ impl TopologyCore {
         self.topology_act(alloc, step)
     }
 
-    /// One step of the driver: the log gets its entry, of the seat. After `OutOfMemory` the driver and the log are as before, but for the room of lists.
-    pub fn step(
+    // One step: the log gets its entry, or driver and log are as before.
+    fn log_step(
         &mut self,
         alloc: Global,
         log: &mut Log,
@@ -297,5 +298,26 @@ impl TopologyCore {
             }
             Stepped::Accepted(next) => self.accept(log, seat, step, next),
         }
+    }
+
+    /// One step of the driver: the log gets its entry, of the seat. Where the driver stood for the log, opened by its first entry, it stands for the longer one, so that each law of the logs of
+    /// drivers goes on to hold. After `OutOfMemory` the driver and the log are as before, but for the room of lists.
+    pub fn step(
+        &mut self,
+        alloc: Global,
+        log: &mut Log,
+        seat: u32,
+        step: &Step,
+    ) -> Result<Reply, OutOfMemory>
+        requires stands { StandsForSome self.old }
+        requires act { IsDriverAct step.now.act }
+        ensures options { self.new.options ≡ self.old.options }
+        ensures logs { OnOk result ((h : List Item) → StandsFor self.old h → Logs self.old self.new log.old log.new seat step.now h) }
+        ensures driver { IsDriverOf self.old log.old → IsDriverOf self.new log.new }
+        ensures reply { IfOk result (λ reply. (h : List Item) → StandsFor self.old h → reply ≡ (answer self.old.options h step.now).reply) }
+        ensures err_core { OnErr result (IsSame self.old self.new) }
+        ensures err_log { OnErr result (log.new ≡ log.old) }
+    {
+        self.log_step(alloc, log, seat, step)
     }
 }

@@ -1,4 +1,4 @@
-//! The updater's calls. Each is one step of the driver.
+//! The updater's calls. Each is one step of the driver, and keeps that the driver stands for its log.
 
 ghost use Rattle.std.specs.Prelude.{◌≡◌, OnOk, OnErr, IfOk, List};
 ghost use Rattle.mdb_log.specs.declared.step.Act.TheVariants as act;
@@ -13,6 +13,7 @@ use std::alloc::Global;
 
 impl TopologyCore {
     ghost use Rattle.mdb_topology.specs.Answer.{answer};
+    ghost use Rattle.mdb_topology.specs.Logging.{IsDriverOf};
     ghost use Rattle.mdb_topology.specs.Standing.{StandsFor, StandsForSome, IsSame};
     ghost use Rattle.mdb_topology.specs.Stepping.{IsLogged};
     ghost use Rattle.mdb_log.specs.History.{Item};
@@ -33,6 +34,7 @@ impl TopologyCore {
         requires stands { StandsForSome self.old }
         ensures options { self.new.options ≡ self.old.options }
         ensures logs { OnOk result (IsLogged self.old self.new log.old log.new seat (record { moment = moment; act = act.Hello address pool (hello.Ok rtt reply) })) }
+        ensures driver { IsDriverOf self.old log.old → IsDriverOf self.new log.new }
         ensures reply { IfOk result (λ told. (h : List Item) → StandsFor self.old h → told ≡ (answer self.old.options h (record { moment = moment; act = act.Hello address pool (hello.Ok rtt reply) })).reply) }
         ensures err_core { OnErr result (IsSame self.old self.new) }
         ensures err_log { OnErr result (log.new ≡ log.old) }
@@ -57,6 +59,7 @@ impl TopologyCore {
         requires stands { StandsForSome self.old }
         ensures options { self.new.options ≡ self.old.options }
         ensures logs { OnOk result (IsLogged self.old self.new log.old log.new seat (record { moment = moment; act = act.Hello address pool (hello.Err error) })) }
+        ensures driver { IsDriverOf self.old log.old → IsDriverOf self.new log.new }
         ensures reply { IfOk result (λ told. (h : List Item) → StandsFor self.old h → told ≡ (answer self.old.options h (record { moment = moment; act = act.Hello address pool (hello.Err error) })).reply) }
         ensures err_core { OnErr result (IsSame self.old self.new) }
         ensures err_log { OnErr result (log.new ≡ log.old) }
@@ -80,6 +83,7 @@ impl TopologyCore {
         requires stands { StandsForSome self.old }
         ensures options { self.new.options ≡ self.old.options }
         ensures logs { OnOk result (IsLogged self.old self.new log.old log.new seat (record { moment = moment; act = act.Error party error })) }
+        ensures driver { IsDriverOf self.old log.old → IsDriverOf self.new log.new }
         ensures reply { IfOk result (λ told. (h : List Item) → StandsFor self.old h → told ≡ (answer self.old.options h (record { moment = moment; act = act.Error party error })).reply) }
         ensures err_core { OnErr result (IsSame self.old self.new) }
         ensures err_log { OnErr result (log.new ≡ log.old) }
@@ -102,6 +106,7 @@ impl TopologyCore {
         requires stands { StandsForSome self.old }
         ensures options { self.new.options ≡ self.old.options }
         ensures logs { OnOk result (IsLogged self.old self.new log.old log.new seat (record { moment = moment; act = act.Hosts hosts.items })) }
+        ensures driver { IsDriverOf self.old log.old → IsDriverOf self.new log.new }
         ensures reply { IfOk result (λ told. (h : List Item) → StandsFor self.old h → told ≡ (answer self.old.options h (record { moment = moment; act = act.Hosts hosts.items })).reply) }
         ensures err_core { OnErr result (IsSame self.old self.new) }
         ensures err_log { OnErr result (log.new ≡ log.old) }
@@ -122,6 +127,7 @@ impl TopologyCore {
         requires stands { StandsForSome self.old }
         ensures options { self.new.options ≡ self.old.options }
         ensures logs { OnOk result (IsLogged self.old self.new log.old log.new seat (record { moment = moment; act = act.ClusterTime to })) }
+        ensures driver { IsDriverOf self.old log.old → IsDriverOf self.new log.new }
         ensures reply { IfOk result (λ told. (h : List Item) → StandsFor self.old h → told ≡ (answer self.old.options h (record { moment = moment; act = act.ClusterTime to })).reply) }
         ensures err_core { OnErr result (IsSame self.old self.new) }
         ensures err_log { OnErr result (log.new ≡ log.old) }
@@ -141,6 +147,7 @@ impl TopologyCore {
         requires stands { StandsForSome self.old }
         ensures options { self.new.options ≡ self.old.options }
         ensures logs { OnOk result (IsLogged self.old self.new log.old log.new seat (record { moment = moment; act = act.Stop })) }
+        ensures driver { IsDriverOf self.old log.old → IsDriverOf self.new log.new }
         ensures reply { IfOk result (λ told. (h : List Item) → StandsFor self.old h → told ≡ (answer self.old.options h (record { moment = moment; act = act.Stop })).reply) }
         ensures err_core { OnErr result (IsSame self.old self.new) }
         ensures err_log { OnErr result (log.new ≡ log.old) }

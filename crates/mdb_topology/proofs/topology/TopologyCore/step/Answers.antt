@@ -1,13 +1,17 @@
-use Rattle.std.proofs.Common.{List, OnOk, subst}
-use Rattle.mdb_log.specs.History.{Item}
-use Rattle.std.proofs.lemmas.Result.{on_ok_weaker}
-use Rattle.mdb_topology.specs.Standing.{StandsFor}
-use Rattle.mdb_topology.specs.Stepping.{BecomesOf, Follows, Logs}
+use Rattle.std.proofs.Common.{sym, subst}
+use Rattle.mdb_topology.specs.Logging.{IsDriverOf}
+use Rattle.mdb_topology.proofs.CoreLog.{in-either, still-driver}
+use Rattle.mdb_topology.proofs.Driven.{still-opened}
 use Rattle.mdb_topology.proofs.topology.TopologyCore.step.Goals as goal
 
-pub returns-in-Accepted-clause-logs : goal.returns-in-Accepted-clause-logs
-returns-in-Accepted-clause-logs c =
+pub returns-clause-driver : goal.returns-clause-driver
+returns-clause-driver c = λ z.
     let w = c.args.self.now in
-    let step = c.args.step.now in
-    let logs = subst (λ x. OnOk c.accept.result ((h : List Item) → StandsFor x h → Follows x c.in-Accepted.next step h → Logs x c.accept.new.self c.args.log.now c.accept.new.log c.args.seat step h)) c.in_ok-why.ensures.same c.accept.ensures.logs in
-    on_ok_weaker c.accept.result (λ f h z. f h z (subst (λ x. BecomesOf w step x h) c.in-Accepted.is (c.in_ok-why.ensures.becomes h z))) logs
+    let v = c.log_step.new.self in
+    let before = c.args.log.now in
+    let after = c.log_step.new.log in
+    in-either c.log_step.result _ _ (IsDriverOf v after) c.log_step.ensures.logs c.log_step.ensures.err_log
+    (λ logs. still-driver w v before after c.args.seat c.args.step.now z c.log_step.ensures.options logs c.requires.act)
+    (λ same. in-either c.log_step.result _ _ (IsDriverOf v after) c.log_step.ensures.logs c.log_step.ensures.err_core
+    (λ logs. still-driver w v before after c.args.seat c.args.step.now z c.log_step.ensures.options logs c.requires.act)
+    (λ kept. subst (IsDriverOf v) (sym same) (still-opened w v before z kept)))

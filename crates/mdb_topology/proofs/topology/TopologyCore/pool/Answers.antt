@@ -1,0 +1,13 @@
+use Rattle.std.proofs.Common.{sym, ◌∙◌, ap, length, is_some, nat_lt}
+use Rattle.std.proofs.lemmas.List.{length-map}
+use Rattle.mdb_topology.specs.Standing.{home}
+use Rattle.mdb_topology.proofs.HomeJobs.{some-place}
+use Rattle.mdb_topology.proofs.topology.TopologyCore.pool.Goals as goal
+
+pub returns-clause-opened : goal.returns-clause-opened
+returns-clause-opened c = λ h z.
+    let pools = c.args.self.now.pools.cores.items in
+    ap is_some c.pool_at.ensures ∙ (some-place pools c.args.number ∙ ap (nat_lt c.args.number) (sym (length-map pools home) ∙ ap length (sym z.pools.fit.homes_are)))
+
+pub returns-clause-fits : goal.returns-clause-fits
+returns-clause-fits c = λ h s z e. z.pools.fit.each c.args.number s (sym c.pool_at.ensures ∙ e)
