@@ -129,8 +129,8 @@ KINDS = (
 )
 
 
-# the work is what a party has times what it does
-STARRED = tuple(name for name, _ in KINDS if "its pins" in name or "give-ups" in name or name.startswith("many connections"))
+# at each give-up all connections are looked at that the party was given
+STARRED = tuple(name for name, _ in KINDS if "give-ups" in name)
 
 
 def measured(program, text):

@@ -1,18 +1,23 @@
 -- Histories that differ in nothing that legality asks of: they stay so, whatever comes after both, and events of servers and of the topology add nothing.
-use Rattle.std.proofs.Common.{ℕ, ◌≡◌, if◌then◌else◌, List, [], ◌∷◌, ◌++◌, Some, None, refl, sym, ap, ◌∙◌}
+use Rattle.std.proofs.Common.{ℕ, ◌+◌, nat_lt, ◌≡◌, Bool, true, false, not, ◌&&◌, ◌||◌, if◌then◌else◌, List, [], ◌∷◌, ◌++◌, Option, Some, None, refl, sym, ap, ◌∙◌}
 use Rattle.mdb_base.specs.declared.address.ServerAddress.{ServerAddress}
 use Rattle.mdb_base.specs.Equality.{same_address}
+use Rattle.mdb_events.specs.declared.cmap.CmapEvent.{CmapEvent}
 use Rattle.mdb_events.specs.declared.cmap.CmapEvent.TheVariants.{PoolClosed}
 use Rattle.mdb_events.specs.declared.sdam.SdamEvent.{SdamEvent}
 use Rattle.mdb_events.specs.declared.fact.Fact.{Fact}
 use Rattle.mdb_events.specs.declared.fact.Fact.TheVariants as fact
 use Rattle.mdb_log.specs.declared.options.PoolOptions.{PoolOptions}
 use Rattle.mdb_log.specs.declared.step.Act.{Act}
-use Rattle.mdb_log.specs.declared.step.Act.TheVariants.{Request, Warm}
+use Rattle.mdb_log.specs.declared.step.Act.TheVariants.{Request, Warm, Return, GiveUp, Pin}
 use Rattle.mdb_log.specs.declared.reply.Reply.{Reply}
 use Rattle.mdb_log.specs.History.{Item, did, made, open_pool, is_number}
-use Rattle.mdb_log.specs.Homes.{homes}
-use Rattle.mdb_log.specs.Connections.{has}
+use Rattle.mdb_log.specs.Homes.{Home, homes}
+use Rattle.mdb_log.specs.Connections.{has, one_if}
+use Rattle.mdb_log.specs.PlainHolders.{holds, pins_made, pins_dropped, is_pinned, adds_pin, drops_pin, comes_back, is_taking}
+use Rattle.mdb_tallies.specs.Changes.{held_by_now}
+use Rattle.mdb_tallies.proofs.Steps.{held-now}
+use Rattle.mdb_pins.proofs.Stood.{pinned-again}
 use Rattle.mdb_log.specs.PlainRequests.{requests}
 use Rattle.mdb_tallies.specs.Standing.{connection_of, gift_of, party_of, pool_stands}
 use Rattle.mdb_tallies.specs.Changes.{connection_after, gift_after, party_after, pool_after}
@@ -31,6 +36,9 @@ pub record Alike (o : PoolOptions) (h k : List Item) : Type 0 where
   pub open_at : (a : ServerAddress) → open_pool h a ≡ open_pool k a
   pub homes_are : homes h ≡ homes k
   pub requests_are : requests h ≡ requests k
+  pub made_are : (p c : ℕ) → pins_made p h c ≡ pins_made p k c
+  pub dropped_are : (p c : ℕ) → pins_dropped p h c ≡ pins_dropped p k c
+  pub pinned_are : (p c : ℕ) → is_pinned p h c ≡ is_pinned p k c
 
 pub alike-none : (o : PoolOptions) → Alike o [] []
 alike-none o = record {
@@ -41,6 +49,9 @@ alike-none o = record {
   open_at = λ a. refl;
   homes_are = refl;
   requests_are = refl;
+  made_are = λ p c. refl;
+  dropped_are = λ p c. refl;
+  pinned_are = λ p c. refl;
 }
 
 -- facts
@@ -67,6 +78,9 @@ alike-fact o m f h k x =
       open_at = λ a. fact-open m f h k a (x.open_at a);
       homes_are = fact-homes m f h k x.homes_are;
       requests_are = x.requests_are;
+      made_are = x.made_are;
+      dropped_are = x.dropped_are;
+      pinned_are = λ p c. pinned-again p h c ∙ x.pinned_are p c ∙ sym (pinned-again p k c);
     }
 
 -- an event of a server or of the topology says nothing of pools
@@ -79,9 +93,30 @@ alike-told o m event h k x = record {
   open_at = x.open_at;
   homes_are = x.homes_are;
   requests_are = x.requests_are;
+  made_are = x.made_are;
+  dropped_are = x.dropped_are;
+  pinned_are = λ p c. pinned-again p h c ∙ x.pinned_are p c;
 }
 
 -- steps
+
+holds-same : (o : PoolOptions) (h k : List Item) (p r c : ℕ) → Alike o h k → holds p h r c ≡ holds p k r c
+holds-same o h k p r c x = held-now p h r c ∙ (λ i. held_by_now (x.gifts r p c i) (x.parties r i) (x.connections p c i)) ∙ sym (held-now p k r c)
+
+adds-same : (o : PoolOptions) (act : Act) (h k : List Item) (p c : ℕ) → Alike o h k → adds_pin p act h c ≡ adds_pin p act k c
+adds-same o (Pin r) h k p c x = holds-same o h k p r c x
+adds-same o act h k p c x = refl
+
+comes-same : (o : PoolOptions) (m : ℕ) (act : Act) (reply : Reply) (h k : List Item) (p c : ℕ) → Alike o h k → comes_back p (did (record { moment = m; act = act }) reply) h c ≡ comes_back p (did (record { moment = m; act = act }) reply) k c
+comes-same o m (Return r used) reply h k p c x = holds-same o h k p r c x
+comes-same o m (GiveUp r) reply h k p c x = holds-same o h k p r c x
+comes-same o m act reply h k p c x = refl
+
+made-same : (o : PoolOptions) (m : ℕ) (act : Act) (reply : Reply) (h k : List Item) (p c : ℕ) → Alike o h k → pins_made p (did (record { moment = m; act = act }) reply ∷ h) c ≡ pins_made p (did (record { moment = m; act = act }) reply ∷ k) c
+made-same o m act reply h k p c x = (λ i. x.made_are p c i + one_if (adds-same o act h k p c x i))
+
+dropped-same : (o : PoolOptions) (m : ℕ) (act : Act) (reply : Reply) (h k : List Item) (p c : ℕ) → Alike o h k → pins_dropped p (did (record { moment = m; act = act }) reply ∷ h) c ≡ pins_dropped p (did (record { moment = m; act = act }) reply ∷ k) c
+dropped-same o m act reply h k p c x = (λ i. x.dropped_are p c i + one_if (drops_pin p act c))
 
 step-requests : (m : ℕ) (act : Act) (reply : Reply) (h k : List Item) → requests h ≡ requests k → requests (did (record { moment = m; act = act }) reply ∷ h) ≡ requests (did (record { moment = m; act = act }) reply ∷ k)
 step-requests m (Request r a) reply h k e = ap (λ rs. if has r rs then rs else (rs ++ r ∷ [])) e
@@ -101,4 +136,7 @@ alike-step o m act reply h k x =
       open_at = x.open_at;
       homes_are = x.homes_are;
       requests_are = step-requests m act reply h k x.requests_are;
+      made_are = λ p c. made-same o m act reply h k p c x;
+      dropped_are = λ p c. dropped-same o m act reply h k p c x;
+      pinned_are = λ p c. (λ i. (if comes-same o m act reply h k p c x i then true else (if is_taking p (did (record { moment = m; act = act }) reply) c then false else x.pinned_are p c i)) && nat_lt (dropped-same o m act reply h k p c x i) (made-same o m act reply h k p c x i));
     }

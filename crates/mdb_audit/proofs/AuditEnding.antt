@@ -1,18 +1,18 @@
 -- How a run of the tool ends.
-use Rattle.std.proofs.Common.{◌≡◌, ℕ, ◌≤◌, ◌<◌, inl, inr, List, [], ◌∷◌, ◌++◌, length, map, Option, Some, None, Result, Ok, Err, refl, sym, ap, ◌∙◌, arith, subst, length-append}
+use Rattle.std.proofs.Common.{◌≡◌, ℕ, ◌+◌, ◌≤◌, ◌<◌, ◌⊎◌, inl, inr, List, [], ◌∷◌, ◌++◌, length, map, Option, Some, None, Result, Ok, Err, refl, sym, ap, ◌∙◌, arith, subst, length-append}
 use Rattle.std.proofs.lemmas.List.{append-nil}
 use Rattle.std.proofs.Math.Seq.{take-length}
 use Rattle.std.specs.Io.KnownBytes.{Consumes, IsAtEnd}
 use Rattle.mdb_base.specs.Outside.{Rose, Held, Took, IsFlushed}
 use Rattle.mdb_lines.specs.declared.run_error.RunError.{RunError}
 use Rattle.mdb_lines.specs.declared.run_error.RunError.TheVariants as errors
-use Rattle.mdb_lines.specs.Status.{Told}
+use Rattle.mdb_lines.specs.Status.{Told, Tells, status, message}
 use Rattle.mdb_lines.specs.Loops.{TookFront}
 use Rattle.mdb_lines.proofs.Loops.{took_no_more}
 use Rattle.mdb_audit.specs.LegalText.{IsVerdict}
 use Rattle.mdb_audit.specs.declared.verdict.Verdict.{Verdict}
 use Rattle.mdb_audit.specs.declared.verdict.Verdict.TheVariants.{Legal, Bad}
-use Rattle.mdb_audit.specs.AuditRuns.{max_log, ReadsLog, LineWritten, Seen, RunsAudit, AuditEnds, EndsAudit, TellsTooLong, verdict_line, verdict_status}
+use Rattle.mdb_audit.specs.AuditRuns.{max_log, ReadsLog, LineWritten, Seen, Audited, NotWritten, AuditFails, RunsAudit, AuditEnds, EndsAudit, TellsTooLong, verdict_line, verdict_status}
 
 -- the sink took the line, and what was flushed is no more
 pub line-flushed : (a b c : Option Held) (line : List ℕ) (before now later : ℕ) → Took a b line → Took b c [] → IsFlushed c → now ≡ before → later ≡ now → LineWritten line a c before later (Ok tt)

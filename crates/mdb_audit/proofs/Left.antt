@@ -1,9 +1,10 @@
 -- Nothing is wrong after an entry where nothing was before it, and nothing is with what the entry touched.
-use Rattle.std.proofs.Common.{ℕ, ◌≡◌, ◌==◌, Bool, true, false, ◌&&◌, ◌||◌, is_some, length, filter, List, [], ◌∷◌, Option, ◌⊎◌, inl, inr, refl, sym, ap, ◌∙◌}
+use Rattle.std.proofs.lemmas.Grind.{common_steps}
+use Rattle.std.proofs.Common.{ℕ, ◌+◌, ◌≤◌, nat_lt, nat_le, if◌then◌else◌, arith, ◌≡◌, ◌==◌, Bool, true, false, ◌&&◌, ◌||◌, is_some, length, filter, List, [], ◌∷◌, Option, ◌⊎◌, inl, inr, refl, sym, ap, ◌∙◌}
 use Rattle.std.specs.List.{list_any}
 use Rattle.std.proofs.Math.Bool.{and-false}
 use Rattle.mdb_log.specs.declared.options.PoolOptions.{PoolOptions}
-use Rattle.mdb_log.specs.History.{Item, is_number}
+use Rattle.mdb_log.specs.History.{Item, is_number, of_pool}
 use Rattle.mdb_log.specs.Connections.{has}
 use Rattle.mdb_log.specs.Legal.{first}
 use Rattle.mdb_log.specs.PlainRequests.{requests, pool_of, waiting}
@@ -14,12 +15,20 @@ use Rattle.mdb_tallies.specs.declared.connection.Place.{Place}
 use Rattle.mdb_tallies.specs.declared.pools.Pool.{Pool}
 use Rattle.mdb_tallies.specs.declared.tables.Tables.{Tables}
 use Rattle.mdb_audit.specs.declared.touched.Touched.{Touched}
-use Rattle.mdb_tallies.specs.Standing.{party_of, pool_stands}
+use Rattle.mdb_tallies.specs.Standing.{connection_of, party_of, pool_stands}
+use Rattle.mdb_tallies.specs.declared.connection.Connection.{Connection}
+use Rattle.mdb_log.specs.PlainHolders.{is_pinned, has_returned}
+use Rattle.mdb_pins.specs.declared.story.PinStory.{PinStory}
+use Rattle.mdb_pins.specs.Following.{pinned_now}
+use Rattle.mdb_pins.specs.Standing.{PinsStand, weigh}
+use Rattle.mdb_pins.proofs.Weights.{weigh-counted}
 use Rattle.mdb_tallies.specs.Tables.{at}
 use Rattle.mdb_tallies.specs.Kept.{Stands}
 use Rattle.mdb_audit.specs.Taking.{all_in_place, is_left_at, is_left}
 use Rattle.mdb_audit.specs.Touching.{has_place, Tracks}
-use Rattle.mdb_tallies.specs.Verdicts.{in_place_now, could_grant_now, waits_now}
+use Rattle.mdb_log.specs.Connections.{one_if}
+use Rattle.mdb_tallies.specs.Changes.{pending_now}
+use Rattle.mdb_tallies.specs.Verdicts.{in_place_now, places_now, could_grant_now, waits_now}
 use Rattle.mdb_tallies.proofs.Counted.{in-place, in-place-not, could-grant}
 use Rattle.mdb_audit.proofs.FirstCome.{asked-here, is-some}
 use Rattle.mdb_tallies.proofs.Placed.{same}
@@ -31,33 +40,68 @@ right-true : (a b : Bool) → a && b ≡ true → b ≡ true
 right-true true b e = e
 right-true false b e = cc
 
--- one of the places that are all in place
-pub all-touched : (t : Tables) (xs : List Place) (p c : ℕ) → all_in_place t xs ≡ true → has_place xs p c ≡ true → in_place_now (at t.connections p c 0) ≡ true
-all-touched t [] p c e f = cc
-all-touched t (x ∷ xs) p c e f = by (all-touched t xs p c) (x.pool == p) (x.id == c) refl refl
-  where
-    here : Bool
-    here = in_place_now (at t.connections x.pool x.id 0)
+-- the connection is in place, by the tables and the pins
+abbrev placed_now : Tables → PinStory → ℕ → ℕ → Bool
+placed_now t s p c = in_place_now (at t.connections p c 0) (pinned_now s (at t.connections p c 0).kept p c)
 
-    by : (all_in_place t xs ≡ true → has_place xs p c ≡ true → in_place_now (at t.connections p c 0) ≡ true) → (a b : Bool) → (x.pool == p) ≡ a → (x.id == c) ≡ b → in_place_now (at t.connections p c 0) ≡ true
-    by rest true true u v = ap (λ n. in_place_now (at t.connections n c 0)) (sym (same x.pool p u)) ∙ ap (λ n. in_place_now (at t.connections x.pool n 0)) (sym (same x.id c v)) ∙ left-true here (all_in_place t xs) e
-    by rest true false u v = rest (right-true here (all_in_place t xs) e) (rw (u, v) at f)
-    by rest false b u v = rest (right-true here (all_in_place t xs) e) (rw u at f)
+few-is : (n : ℕ) → nat_le n 1 ≡ true → n ≤ 1
+few-is n e = grind (arith, common_steps)
+
+many-is : (n k l m : ℕ) → nat_le k 1 ≡ false → nat_le (n + (k + l) + m) 1 ≡ false
+many-is n k l m e = grind (arith, common_steps)
+
+-- what one party at most keeps is pinned or not; what more keep is not in place either way
+either : (x : Connection) (a b : Bool) → (x.kept ≤ 1 → a ≡ b) → in_place_now x a ≡ in_place_now x b
+either x a b e = by (nat_le x.kept 1) refl
+  where
+    here : ℕ
+    here = one_if (pending_now x) + one_if x.is_available
+
+    lent : ℕ
+    lent = if pending_now x then 0 else x.lent
+
+    by : (t : Bool) → nat_le x.kept 1 ≡ t → in_place_now x a ≡ in_place_now x b
+    by true u = ap (in_place_now x) (e (few-is x.kept u))
+    by false u = go (nat_lt 0 x.creations)
+      where
+        go : (t : Bool) → (if t then ((places_now x a + x.closings == x.creations) && nat_le (places_now x a) 1) else (x.closings == 0)) ≡ (if t then ((places_now x b + x.closings == x.creations) && nat_le (places_now x b) 1) else (x.closings == 0))
+        go true = (λ i. (places_now x a + x.closings == x.creations) && many-is here x.kept lent (one_if a) u i) ∙ and-false (places_now x a + x.closings == x.creations) ∙ sym (and-false (places_now x b + x.closings == x.creations)) ∙ (λ i. (places_now x b + x.closings == x.creations) && sym (many-is here x.kept lent (one_if b) u) i)
+        go false = refl
+
+-- the tables and the pins say of a connection what the history says
+placed-is : (o : PoolOptions) (k : List Item) (t : Tables) (s : PinStory) (p c : ℕ) → Stands o k t → PinsStand k s → placed_now t s p c ≡ in_place_now (connection_of k p c) (is_pinned p k c)
+placed-is o k t s p c y z = ap (λ x. in_place_now x (pinned_now s (at t.connections p c 0).kept p c)) (y.connections p c) ∙ either (connection_of k p c) (pinned_now s (at t.connections p c 0).kept p c) (is_pinned p k c) (λ q. ap (λ n. pinned_now s n p c) kept ∙ (z.fits p c).pinned_is (rw (← counted) q))
+  where
+    counted : (connection_of k p c).kept ≡ weigh (λ r. 1) (of_pool p k) (has_returned k) c
+    counted = weigh-counted (of_pool p k) (has_returned k) c
+
+    kept : (at t.connections p c 0).kept ≡ weigh (λ r. 1) (of_pool p k) (has_returned k) c
+    kept = ap (λ x. x.kept) (y.connections p c) ∙ counted
+
+-- one of the places that are all in place
+pub all-touched : (t : Tables) (s : PinStory) (xs : List Place) (p c : ℕ) → all_in_place t s xs ≡ true → has_place xs p c ≡ true → placed_now t s p c ≡ true
+all-touched t s [] p c e f = cc
+all-touched t s (x ∷ xs) p c e f = by (all-touched t s xs p c) (x.pool == p) (x.id == c) refl refl
+  where
+    by : (all_in_place t s xs ≡ true → has_place xs p c ≡ true → placed_now t s p c ≡ true) → (a b : Bool) → (x.pool == p) ≡ a → (x.id == c) ≡ b → placed_now t s p c ≡ true
+    by rest true true u v = ap (λ n. placed_now t s n c) (sym (same x.pool p u)) ∙ ap (λ n. placed_now t s x.pool n) (sym (same x.id c v)) ∙ left-true (placed_now t s x.pool x.id) (all_in_place t s xs) e
+    by rest true false u v = rest (right-true (placed_now t s x.pool x.id) (all_in_place t s xs) e) (rw (u, v) at f)
+    by rest false b u v = rest (right-true (placed_now t s x.pool x.id) (all_in_place t s xs) e) (rw u at f)
 
 -- all of them, where each connection is
-pub all-placed : (t : Tables) (xs : List Place) → ((p c : ℕ) → in_place_now (at t.connections p c 0) ≡ true) → all_in_place t xs ≡ true
-all-placed t [] e = refl
-all-placed t (x ∷ xs) e = rw (e x.pool x.id) (all-placed t xs e)
+pub all-placed : (t : Tables) (s : PinStory) (xs : List Place) → ((p c : ℕ) → placed_now t s p c ≡ true) → all_in_place t s xs ≡ true
+all-placed t s [] e = refl
+all-placed t s (x ∷ xs) e = rw (e x.pool x.id) (all-placed t s xs e)
 
-pub one-place : (o : PoolOptions) (h k : List Item) (start t : Tables) (x : Touched) → Stands o h start → OnePlace h → Stands o k t → Tracks start t x → all_in_place t x.places.items ≡ true → OnePlace k
-one-place o h k start t x was placed s tracks e = λ p c. in-place p k c (ap in_place_now (sym (s.connections p c)) ∙ by p c (has_place x.places.items p c) refl)
+pub one-place : (o : PoolOptions) (h k : List Item) (start t : Tables) (y : PinStory) (x : Touched) → Stands o h start → OnePlace h → Stands o k t → PinsStand k y → Tracks start t x → ((p c : ℕ) → has_place x.places.items p c ≡ false → is_pinned p k c ≡ is_pinned p h c) → all_in_place t y x.places.items ≡ true → OnePlace k
+one-place o h k start t y x was placed s z tracks pins e = λ p c. in-place p k c (by p c (has_place x.places.items p c) refl)
   where
-    by : (p c : ℕ) (b : Bool) → has_place x.places.items p c ≡ b → in_place_now (at t.connections p c 0) ≡ true
-    by p c true f = all-touched t x.places.items p c e f
-    by p c false f = ap in_place_now (tracks.connections p c f ∙ was.connections p c) ∙ in-place-not p h c (placed p c)
+    by : (p c : ℕ) (b : Bool) → has_place x.places.items p c ≡ b → in_place_now (connection_of k p c) (is_pinned p k c) ≡ true
+    by p c true f = sym (placed-is o k t y p c s z) ∙ all-touched t y x.places.items p c e f
+    by p c false f = (λ i. in_place_now ((sym (s.connections p c) ∙ tracks.connections p c f ∙ was.connections p c) i) (pins p c f i)) ∙ in-place-not p h c (placed p c)
 
-pub not-one-place : (o : PoolOptions) (k : List Item) (t : Tables) (xs : List Place) → Stands o k t → all_in_place t xs ≡ false → OnePlace k → ⊥
-not-one-place o k t xs s e placed = let all : true ≡ false = sym (all-placed t xs (λ p c. ap in_place_now (s.connections p c) ∙ in-place-not p k c (placed p c))) ∙ e in cc
+pub not-one-place : (o : PoolOptions) (k : List Item) (t : Tables) (y : PinStory) (xs : List Place) → Stands o k t → PinsStand k y → all_in_place t y xs ≡ false → OnePlace k → ⊥
+not-one-place o k t y xs s z e placed = let all : true ≡ false = sym (all-placed t y xs (λ p c. placed-is o k t y p c s z ∙ in-place-not p k c (placed p c))) ∙ e in cc
 
 -- nobody passes
 none-passes : (f : ℕ → Bool) (ks : List ℕ) → ((k : ℕ) → has k ks ≡ true → f k ≡ false) → filter f ks ≡ []

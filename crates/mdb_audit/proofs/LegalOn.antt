@@ -167,7 +167,7 @@ pub first-taken : (o : Options) (e : Entry) (opens : Bool) (why : Option Why) (o
 first-taken o e opens why old new is accepted audits fault says = by opens why refl refl
   where
     kept : Keeps (pool_options o) [] (record old { options = Some (pool_options o) })
-    kept = let k = audits.kept (pool_options o) tt in record { tables = k.tables; queues = k.queues; homes = k.homes }
+    kept = let k = audits.kept (pool_options o) tt in record { tables = k.tables; pins = k.pins; queues = k.queues; homes = k.homes }
 
     after : Keeps (pool_options o) (with_entry [] e) new
     after = fault.kept [] accepted kept

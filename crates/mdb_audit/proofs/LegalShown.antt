@@ -1,5 +1,5 @@
 -- What the printed entries of a legal log show is a legal log: events of servers and of the topology, of which the text alone is shown, say nothing of pools.
-use Rattle.std.proofs.Common.{ℕ, ◌≡◌, Bool, true, false, not, ◌&&◌, ◌||◌, if◌then◌else◌, filter, List, [], ◌∷◌, map, Option, Some, None, ◌⊎◌, inl, inr, refl, sym, ap, ◌∙◌, subst}
+use Rattle.std.proofs.Common.{ℕ, ◌≡◌, Bool, true, false, not, ◌&&◌, ◌||◌, if◌then◌else◌, filter, List, [], ◌∷◌, map, All, Option, Some, None, ◌⊎◌, inl, inr, refl, sym, ap, ◌∙◌, subst}
 use Rattle.std.specs.Bool.{MatchBool}
 use Rattle.std.specs.List.{list_all}
 use Rattle.std.specs.Prelude.{nat_lt}
@@ -17,16 +17,16 @@ use Rattle.mdb_log.specs.declared.reply.Reply.{Reply}
 use Rattle.mdb_log.specs.declared.reply.Reply.TheVariants.{Refused}
 use Rattle.mdb_log.specs.History.{Item, did, made, is_number, of_pool, with_facts, with_answer}
 use Rattle.mdb_log.specs.Connections.{has}
-use Rattle.mdb_log.specs.Homes.{Home}
+use Rattle.mdb_log.specs.Homes.{Home, homes}
 use Rattle.mdb_log.specs.Legal.{first}
 use Rattle.mdb_log.specs.Opening.{is_opening, pool_options}
-use Rattle.mdb_log.specs.PlainLegal.{IsNext, FirstCome, AllFirstCome, IsFairAnswer, OnePlace, NoneLeftWaiting, IsLegal, IsOpened, LegalLog, with_entry, counts_from, is_ascending, has_address, opens_seeds}
+use Rattle.mdb_log.specs.PlainLegal.{IsNext, FirstCome, AllFirstCome, IsFairAnswer, InPlace, OnePlace, NoneLeftWaiting, IsLegal, IsOpened, LegalLog, with_entry, counts_from, is_ascending, has_address, opens_seeds}
 use Rattle.mdb_log.specs.PlainRequests.{requests, waiting}
 use Rattle.mdb_log.specs.State.{State}
 use Rattle.mdb_log.specs.PlainState.{pools, last_state, has_ready, is_ready_pool, could_be_granted}
 use Rattle.mdb_entries.specs.OfLog.{shown_of_fact, shown_of}
 use Rattle.mdb_audit.specs.Shown.{facts_of, entry_of, entries_of}
-use Rattle.mdb_tallies.specs.Standing.{party_of}
+use Rattle.mdb_tallies.specs.Standing.{connection_of, party_of, pool_stands}
 use Rattle.mdb_tallies.specs.Verdicts.{in_place_now, could_grant_now}
 use Rattle.mdb_tallies.specs.declared.party.Party.{Party}
 use Rattle.mdb_audit.proofs.Alike.{Alike, alike-none, alike-fact, alike-told, alike-step}
@@ -83,7 +83,7 @@ fair-answer o h k step reply facts x fair = fair-facts o step.moment facts (did 
 -- places, and who waits
 
 one-place-same : (o : PoolOptions) (h k : List Item) → Alike o h k → OnePlace h → OnePlace k
-one-place-same o h k x one = λ p c. in-place p k c (sym (ap in_place_now (x.connections p c)) ∙ in-place-not p h c (one p c))
+one-place-same o h k x one = λ p c. in-place p k c ((λ i. in_place_now (sym (x.connections p c) i) (sym (x.pinned_are p c) i)) ∙ in-place-not p h c (one p c))
 
 -- who waits, by the same
 abbrev waiting_by : (ℕ → Party) → List ℕ → ℕ → List ℕ

@@ -1,12 +1,12 @@
 -- The text of a legal log is a legal one, where its lines show its entries.
-use Rattle.std.proofs.Common.{ℕ, ◌+◌, List, [], ◌∷◌, map, length, refl, sym, subst}
+use Rattle.std.proofs.Common.{ℕ, ◌+◌, ◌≡◌, List, [], ◌∷◌, map, length, refl, sym, subst}
 use Rattle.std.proofs.lemmas.List.{length-map}
 use Rattle.mdb_log.specs.declared.log.Entry.{Entry}
 use Rattle.mdb_log.specs.PlainLegal.{LegalLog}
 use Rattle.mdb_lines.specs.LogText.{text_of}
 use Rattle.mdb_entries.specs.Answers.{shown_line, ShowAll, TextShows}
 use Rattle.mdb_entries.specs.OfLog.{shown_of}
-use Rattle.mdb_audit.specs.LegalText.{AreLines, IsVerdict}
+use Rattle.mdb_audit.specs.LegalText.{IsLine, AreLines, IsVerdict}
 use Rattle.mdb_audit.specs.declared.verdict.Verdict.TheVariants.{Legal}
 use Rattle.mdb_audit.proofs.LegalShown.{legal-log-shown}
 

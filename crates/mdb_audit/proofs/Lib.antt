@@ -12,6 +12,7 @@ pub mod LegalShown
 pub mod LegalTexts
 pub mod OneVerdict
 pub mod Openings
+pub mod PinsTracked
 pub mod Queued
 pub mod Queueing
 pub mod QueuesStand

@@ -1,6 +1,6 @@
 -- Two addresses are the same where the order of keys has them so.
 use Rattle.std.proofs.Common.{◌≡◌, ℕ, Bool, true, false, ◌&&◌, ◌==◌, if◌then◌else◌, refl, sym, ap, ◌∙◌, arith}
-use Rattle.std.specs.Prelude.{cond}
+use Rattle.std.specs.Prelude.{cond, Option}
 use Rattle.std.specs.declared.cmp.Ordering.{Ordering}
 use Rattle.std.specs.declared.cmp.Ordering.TheVariants.{Less, Equal, Greater}
 use Rattle.std.specs.Cmp.Lexicographic.{slice_cmp}

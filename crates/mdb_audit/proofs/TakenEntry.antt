@@ -1,5 +1,5 @@
 -- An auditor that takes an accepted entry stands for the history with it, and says what is wrong.
-use Rattle.std.proofs.Common.{◌≡◌, Bool, true, false, List, ◌∷◌, Option, Some, None, refl, sym, ◌∙◌, subst}
+use Rattle.std.proofs.Common.{◌≡◌, Bool, true, false, ◌||◌, List, ◌∷◌, Option, Some, None, refl, sym, ap, ◌∙◌, subst}
 use Rattle.mdb_events.specs.declared.fact.Fact.{Fact}
 use Rattle.mdb_log.specs.declared.log.Entry.{Entry}
 use Rattle.mdb_log.specs.declared.options.PoolOptions.{PoolOptions}
@@ -21,11 +21,18 @@ use Rattle.mdb_audit.specs.Opens.{HomesStand}
 use Rattle.mdb_audit.specs.Queueing.{QueuesFollow}
 use Rattle.mdb_tallies.specs.Reading.{of_act}
 use Rattle.mdb_audit.specs.Shown.{entry_of, facts_of}
-use Rattle.mdb_audit.specs.Taking.{Tells, TakesChange, Reaches, TakesFacts, all_in_place, is_left, why_of, JudgedAs}
+use Rattle.mdb_audit.specs.Taking.{Tells, TakesChange, Start, Reaches, TakesFacts, all_in_place, is_left, why_of, JudgedAs}
 use Rattle.mdb_audit.proofs.HomesOn.{homes-step}
 use Rattle.mdb_audit.proofs.Left.{one-place, not-one-place, none-left, not-none-left}
 use Rattle.mdb_audit.proofs.QueuesStand.{queues-step}
 use Rattle.mdb_tallies.proofs.StandsOn.{stands-step}
+use Rattle.mdb_log.specs.PlainHolders.{is_pinned}
+use Rattle.mdb_tallies.proofs.PartyDoings.{left-false, right-false}
+use Rattle.mdb_pins.specs.Following.{PinsFollow}
+use Rattle.mdb_pins.proofs.Stood.{grants-of}
+use Rattle.mdb_pins.proofs.StoodSteps.{stood-step}
+use Rattle.mdb_audit.specs.Touching.{has_place, touches_place}
+use Rattle.mdb_audit.proofs.PinsTracked.{untouched-pin}
 use Rattle.mdb_audit.proofs.Tracked.{tracks-none, tracks-next}
 
 with-accepted : (step : Step) (reply : Reply) (facts : List Fact) (h : List Item) → is_refused reply ≡ false → with_answer step reply facts h ≡ with_facts step.moment facts (did step reply ∷ h)
@@ -40,14 +47,19 @@ fair-accepted b step reply facts h e t = t
 keeps-step : (o : PoolOptions) (h : List Item) (step : Step) (reply : Reply) (ch : Change) (old new : Auditor) → ((k : List Item) → HomesStand k old.homes → ch ≡ of_act (open_pool k) step.act) → Keeps o h old → TakesChange o.load_balanced ch old new → Keeps o (did step reply ∷ h) new
 keeps-step o h step reply ch old new says k t = record {
   tables = stands-step o step.moment step.act reply h old.tables new.tables k.tables (subst (λ c. Follows o.load_balanced c old.tables new.tables) (says h k.homes) (t.tables k.tables.lists));
+  pins = stood-step o step.moment step.act reply h old.tables old.pins new.pins k.tables k.pins (subst (λ c. PinsFollow c old.tables old.pins new.pins) (says h k.homes) (t.pins k.tables.lists (grants-of o h old.tables old.pins k.tables k.pins)));
   queues = queues-step o step.moment step.act reply h old.tables old.queues new.queues k.tables k.queues (subst (λ c. QueuesFollow c old.tables old.queues new.queues) (says h k.homes) t.queues);
   homes = subst (λ y. HomesStand (did step reply ∷ h) y) (sym t.homes) (homes-step step reply h old.homes k.homes);
 }
 
-reaches-step : (o : PoolOptions) (balanced : Bool) (h : List Item) (start : Tables) (step : Step) (reply : Reply) (ch : Change) (old new : Auditor) → o.load_balanced ≡ balanced → ((k : List Item) → HomesStand k old.homes → ch ≡ of_act (open_pool k) step.act) → Reaches o h start old → TakesChange balanced ch old new → Reaches o (did step reply ∷ h) start new
+reaches-step : (o : PoolOptions) (balanced : Bool) (h : List Item) (start : Start) (step : Step) (reply : Reply) (ch : Change) (old new : Auditor) → o.load_balanced ≡ balanced → ((k : List Item) → HomesStand k old.homes → ch ≡ of_act (open_pool k) step.act) → Reaches o h start old → TakesChange balanced ch old new → Reaches o (did step reply ∷ h) start new
 reaches-step o balanced h start step reply ch old new e says r t = record {
   kept = keeps-step o h step reply ch old new says r.kept (subst (λ z. TakesChange z ch old new) (sym e) t);
-  tracks = tracks-next balanced ch start old.tables new.tables old.touched new.touched r.kept.tables.lists r.tracks t.touched (t.tables r.kept.tables.lists);
+  tracks = tracks-next balanced ch start.tables old.tables new.tables old.touched new.touched r.kept.tables.lists r.tracks t.touched (t.tables r.kept.tables.lists);
+  pins = λ p c u.
+      let apart : has_place old.touched.places.items p c || touches_place ch old.tables p c ≡ false = sym (t.touched.places p c) ∙ u in
+      untouched-pin o h old.tables step reply p c r.kept.tables (ap (λ z. touches_place z old.tables p c) (sym (says h r.kept.homes)) ∙ right-false (has_place old.touched.places.items p c) (touches_place ch old.tables p c) apart)
+      ∙ r.pins p c (left-false (has_place old.touched.places.items p c) (touches_place ch old.tables p c) apart);
 }
 
 -- The step and the facts of an accepted entry.
@@ -59,11 +71,11 @@ took-entry balanced b shown ch old mid new says t f = record {
 }
 
 -- What is wrong after an entry.
-pub judged-as : (is_fair placed left : Bool) (o : PoolOptions) (h k : List Item) (start : Tables) (a : Auditor) → placed ≡ all_in_place a.tables a.touched.places.items → left ≡ is_left o k a.touched.pools.items → Stands o h start → OnePlace h → NoneLeftWaiting o h → Reaches o k start a → JudgedAs is_fair o k (why_of is_fair placed left)
-judged-as false placed left o h k start a e f s one none r = refl
-judged-as true false left o h k start a e f s one none r = (refl, not-one-place o k a.tables a.touched.places.items r.kept.tables (sym e))
-judged-as true true true o h k start a e f s one none r = (refl, one-place o h k start a.tables a.touched s one r.kept.tables r.tracks (sym e), not-none-left o k a.touched.pools.items (sym f))
-judged-as true true false o h k start a e f s one none r = (refl, one-place o h k start a.tables a.touched s one r.kept.tables r.tracks (sym e), none-left o h k start a.tables a.touched s none r.kept.tables r.tracks (sym f))
+pub judged-as : (is_fair placed left : Bool) (o : PoolOptions) (h k : List Item) (start : Start) (a : Auditor) → placed ≡ all_in_place a.tables a.pins a.touched.places.items → left ≡ is_left o k a.touched.pools.items → start.before ≡ h → Stands o h start.tables → OnePlace h → NoneLeftWaiting o h → Reaches o k start a → JudgedAs is_fair o k (why_of is_fair placed left)
+judged-as false placed left o h k start a e f b s one none r = refl
+judged-as true false left o h k start a e f b s one none r = (refl, not-one-place o k a.tables a.pins a.touched.places.items r.kept.tables r.kept.pins (sym e))
+judged-as true true true o h k start a e f b s one none r = (refl, one-place o h k start.tables a.tables a.pins a.touched s one r.kept.tables r.kept.pins r.tracks (λ p c u. r.pins p c u ∙ ap (λ g. is_pinned p g c) b) (sym e), not-none-left o k a.touched.pools.items (sym f))
+judged-as true true false o h k start a e f b s one none r = (refl, one-place o h k start.tables a.tables a.pins a.touched s one r.kept.tables r.kept.pins r.tracks (λ p c u. r.pins p c u ∙ ap (λ g. is_pinned p g c) b) (sym e), none-left o h k start.tables a.tables a.touched s none r.kept.tables r.tracks (sym f))
 
 fault-as : (b : Bool) (o : PoolOptions) (h : List Item) (e : Entry) (why : Option Why) → Tells b (IsFairAnswer h e.step e.reply e.facts) → JudgedAs b o (with_entry h e) why → FaultAs o h e why
 fault-as b o h e None t j = (subst (λ z. Tells z (IsFairAnswer h e.step e.reply e.facts)) j.0 t, j.1, j.2)
@@ -79,6 +91,6 @@ faulted o e b why old mid new t j = record {
   options = j.options ∙ t.options;
   places = j.places;
   pools = j.pools;
-  kept = λ h a k. j.kept (with_entry h e) (t.reaches o h old.tables refl a (record { kept = k; tracks = tracks-none old.tables old.touched })).kept;
-  judged = λ h a k one none. fault-as b o h e why (t.fair o h refl a k) (j.judged h (with_entry h e) old.tables k.tables one none (t.reaches o h old.tables refl a (record { kept = k; tracks = tracks-none old.tables old.touched })));
+  kept = λ h a k. j.kept (with_entry h e) (t.reaches o h (record { tables = old.tables; before = h }) refl a (record { kept = k; tracks = tracks-none old.tables old.touched; pins = λ p c u. refl })).kept;
+  judged = λ h a k one none. fault-as b o h e why (t.fair o h refl a k) (j.judged h (with_entry h e) (record { tables = old.tables; before = h }) refl k.tables one none (t.reaches o h (record { tables = old.tables; before = h }) refl a (record { kept = k; tracks = tracks-none old.tables old.touched; pins = λ p c u. refl })));
 }

@@ -20,12 +20,17 @@ use Rattle.mdb_audit.specs.Opens.{HomesStand, HomesFollow}
 use Rattle.mdb_audit.specs.Queueing.{QueuesStand, QueuesFollow}
 use Rattle.mdb_tallies.specs.Reading.{of_fact}
 use Rattle.mdb_audit.specs.Shown.{facts_of, shown_change}
-use Rattle.mdb_audit.specs.Taking.{Tells, TakesChange, Reaches, TakesFacts}
+use Rattle.mdb_audit.specs.Taking.{Tells, TakesChange, Start, Reaches, TakesFacts}
 use Rattle.mdb_audit.specs.TakingOn.{Fares, Between, TookSoFar}
 use Rattle.mdb_audit.proofs.HomesOn.{homes-fact, homes-told}
 use Rattle.mdb_audit.proofs.QueuesStand.{queues-fact, queues-same}
 use Rattle.mdb_audit.proofs.Read.{shown-says}
 use Rattle.mdb_tallies.proofs.StandsOn.{stands-fact}
+use Rattle.mdb_log.specs.PlainHolders.{is_pinned}
+use Rattle.mdb_tallies.proofs.PartyDoings.{left-false}
+use Rattle.mdb_pins.specs.Following.{PinsFollow}
+use Rattle.mdb_pins.proofs.Stood.{pinned-again, stood-fact, stood-same, grants-of}
+use Rattle.mdb_audit.specs.Touching.{has_place, touches_place}
 use Rattle.mdb_audit.proofs.Tracked.{tracks-none, tracks-next}
 
 -- tables that follow nothing stand for the same history
@@ -48,6 +53,7 @@ pub record Noted (balanced : Bool) (fact : ShownFact) (ch : Change) (old new : A
 keeps-made : (o : PoolOptions) (m : ℕ) (h : List Item) (fact : ShownFact) (f : Fact) (ch : Change) (old new : Auditor) (q : Queues) (x : Homes) → facts_of (fact ∷ []) ≡ f ∷ [] → shown_change fact ≡ of_fact f → Keeps o h old → QueuesStand h q → Noted o.load_balanced fact ch old new q x → Keeps o (made m f ∷ h) new
 keeps-made o m h fact f ch old new q x is says k s n = record {
   tables = stands-fact o m f h old.tables new.tables k.tables (subst (λ c. Follows o.load_balanced c old.tables new.tables) (n.says ∙ says) (n.taken.tables k.tables.lists));
+  pins = stood-fact o m f h old.tables old.pins new.pins k.tables k.pins (subst (λ c. PinsFollow c old.tables old.pins new.pins) (n.says ∙ says) (n.taken.pins k.tables.lists (grants-of o h old.tables old.pins k.tables k.pins)));
   queues = queues-fact o m f h old.tables q new.queues k.tables s (subst (λ c. QueuesFollow c old.tables q new.queues) (n.says ∙ says) n.taken.queues);
   homes = subst (λ y. HomesStand (made m f ∷ h) y) (sym n.taken.homes) (homes-fact m fact f h old.homes x is k.homes n.homes);
 }
@@ -56,6 +62,7 @@ keeps-made o m h fact f ch old new q x is says k s n = record {
 keeps-told : (o : PoolOptions) (h : List Item) (fact : ShownFact) (ch : Change) (old new : Auditor) (q : Queues) (x : Homes) → facts_of (fact ∷ []) ≡ [] → shown_change fact ≡ change.Nothing → Keeps o h old → QueuesStand h q → Noted o.load_balanced fact ch old new q x → Keeps o h new
 keeps-told o h fact ch old new q x is says k s n = record {
   tables = stands-same o o.load_balanced h old.tables new.tables k.tables (subst (λ c. Follows o.load_balanced c old.tables new.tables) (n.says ∙ says) (n.taken.tables k.tables.lists));
+  pins = stood-same h old.tables old.pins new.pins k.pins (subst (λ c. PinsFollow c old.tables old.pins new.pins) (n.says ∙ says) (n.taken.pins k.tables.lists (grants-of o h old.tables old.pins k.tables k.pins)));
   queues = queues-same h old.tables q new.queues s (subst (λ c. QueuesFollow c old.tables q new.queues) (n.says ∙ says) n.taken.queues);
   homes = subst (λ y. HomesStand h y) (sym n.taken.homes) (homes-told fact h old.homes x is k.homes n.homes);
 }
@@ -85,13 +92,25 @@ fair-shown m h b (shown.Sdam event) t = t
 fair-shown m h b (shown.CheckNow a) t = tells-one b _ _ (λ y. (tt, tt)) (λ y. tt) t
 fair-shown m h b (shown.Cancel a) t = tells-one b _ _ (λ y. (tt, tt)) (λ y. tt) t
 
+-- a fact leaves each connection at its pin, or not there
+shown-pinned : (m : ℕ) (fact : ShownFact) (h : List Item) (p c : ℕ) → is_pinned p (with_facts m (facts_of (fact ∷ [])) h) c ≡ is_pinned p h c
+shown-pinned m (shown.Opened q a) h p c = pinned-again p h c
+shown-pinned m (shown.Pool q e) h p c = pinned-again p h c
+shown-pinned m (shown.Granted r q d) h p c = pinned-again p h c
+shown-pinned m (shown.Ended r e) h p c = pinned-again p h c
+shown-pinned m (shown.Raised q service e) h p c = pinned-again p h c
+shown-pinned m (shown.Sdam event) h p c = refl
+shown-pinned m (shown.CheckNow a) h p c = pinned-again p h c
+shown-pinned m (shown.Cancel a) h p c = pinned-again p h c
+
 -- One fact.
 pub took-fact : (balanced b : Bool) (fact : ShownFact) (ch : Change) (old new : Auditor) (q : Queues) (x : Homes) → ((o : PoolOptions) (h : List Item) → Stands o h old.tables → QueuesStand h old.queues → Tells b (FairFact h fact)) → ((o : PoolOptions) (h : List Item) → Stands o h old.tables → QueuesStand h old.queues → QueuesStand h q) → Noted balanced fact ch old new q x → TakesFacts balanced b (fact ∷ []) old new
 took-fact balanced b fact ch old new q x fair stood n = record {
   options = n.taken.options;
   reaches = λ o m h start e r. record {
     kept = keeps-shown o m h fact ch old new q x r.kept (stood o h r.kept.tables r.kept.queues) (subst (λ z. Noted z fact ch old new q x) (sym e) n);
-    tracks = tracks-next balanced ch start old.tables new.tables old.touched new.touched r.kept.tables.lists r.tracks n.taken.touched (n.taken.tables r.kept.tables.lists);
+    tracks = tracks-next balanced ch start.tables old.tables new.tables old.touched new.touched r.kept.tables.lists r.tracks n.taken.touched (n.taken.tables r.kept.tables.lists);
+    pins = λ p c u. shown-pinned m fact h p c ∙ r.pins p c (left-false (has_place old.touched.places.items p c) (touches_place ch old.tables p c) (sym (n.taken.touched.places p c) ∙ u));
   };
   fair = λ o m h e k. fair-shown m h b fact (fair o h k.tables k.queues);
 }
@@ -135,7 +154,7 @@ took-next balanced a b facts fact more old now new s t = record {
   between = λ o m h start e r. one o m h start e (s.between o m h start e r);
 }
   where
-    one : (o : PoolOptions) (m : ℕ) (h : List Item) (start : Tables) → o.load_balanced ≡ balanced → Between a o m h start facts (fact ∷ more) now → Between (a && b) o m h start facts more new
+    one : (o : PoolOptions) (m : ℕ) (h : List Item) (start : Start) → o.load_balanced ≡ balanced → Between a o m h start facts (fact ∷ more) now → Between (a && b) o m h start facts more new
     one o m h start e g = record {
       history = with_facts m (facts_of (fact ∷ [])) g.history;
       reaches = t.reaches o m g.history start e g.reaches;
@@ -147,7 +166,7 @@ pub took-all : (balanced a : Bool) (facts : List ShownFact) (old new : Auditor) 
 took-all balanced a facts old new s = record {
   options = s.options;
   reaches = λ o m h start e r. let g = s.between o m h start e r in subst (λ k. Reaches o k start new) (sym g.ends) g.reaches;
-  fair = λ o m h e k. by a (AllFirstCome m h (facts_of facts)) (s.between o m h old.tables e (record { kept = k; tracks = tracks-none old.tables old.touched })).fair;
+  fair = λ o m h e k. by a (AllFirstCome m h (facts_of facts)) (s.between o m h (record { tables = old.tables; before = h }) e (record { kept = k; tracks = tracks-none old.tables old.touched; pins = λ p c u. refl })).fair;
 }
   where
     by : (a : Bool) (All : Type 0) → Fares a All (Unit {0}) → Tells a All

@@ -1,5 +1,5 @@
 -- A text is taken line by line.
-use Rattle.std.proofs.Common.{◌≡◌, ℕ, ◌+◌, eqb, inl, inr, false, suc, List, [], ◌∷◌, ◌++◌, length, codes, Option, Some, None, Result, Ok, Err, refl, sym, ap, ◌∙◌, subst, arith, append_assoc, length-append}
+use Rattle.std.proofs.Common.{◌≡◌, ℕ, ◌+◌, ◌==◌, eqb, inl, inr, false, Bool, suc, List, [], ◌∷◌, ◌++◌, length, map, codes, Option, Some, None, Result, Ok, Err, refl, sym, ap, ◌∙◌, subst, arith, append_assoc, length-append}
 use Rattle.std.proofs.lemmas.Bool.{cases_Bool, eqb-true}
 use Rattle.std.proofs.lemmas.List.{append-nil, append_cancel_right, map-append}
 use Rattle.mdb_base.specs.AddressReading.{beyond}
@@ -17,7 +17,7 @@ use Rattle.mdb_entries.specs.Shows.{shown_text, Shows}
 use Rattle.mdb_audit.specs.Shown.{entry_of, entries_of}
 use Rattle.mdb_audit.specs.Faults.{OpensOnce, IsEntryFault}
 use Rattle.mdb_audit.specs.Audited.{Audits, TakenFor}
-use Rattle.mdb_audit.specs.LegalText.{IsLine, AreLines, IsFault, IsVerdict}
+use Rattle.mdb_audit.specs.LegalText.{IsLine, AreLines, ShowsFault, IsFault, IsVerdict}
 use Rattle.mdb_audit.specs.LineTaking.{ShowsThis, LineTaken, Between}
 use Rattle.mdb_audit.specs.declared.auditor.Auditor.{Auditor}
 use Rattle.mdb_audit.specs.declared.verdict.Why.{Why}

@@ -8,12 +8,12 @@ use Rattle.mdb_tallies.specs.declared.pools.Pool.{Pool}
 use Rattle.mdb_tallies.specs.declared.change.Change.{Change}
 use Rattle.mdb_tallies.specs.declared.change.Change.TheVariants as change
 use Rattle.mdb_tallies.specs.declared.change.How.{How}
-use Rattle.mdb_tallies.specs.declared.change.How.TheVariants.{GaveUp, GaveBack, Pinned, Over}
+use Rattle.mdb_tallies.specs.declared.change.How.TheVariants.{GaveBack, Over}
 use Rattle.mdb_tallies.specs.declared.tables.Tables.{Tables}
 use Rattle.mdb_audit.specs.declared.touched.Touched.{Touched}
 use Rattle.mdb_tallies.specs.Standing.{is_lent}
 use Rattle.mdb_tallies.specs.Tables.{at}
-use Rattle.mdb_tallies.specs.Changes.{connection_after, party_after, pool_after, by_party, changed_if, pool_if, done_now, kept_now, lent_now, once_created, once_closed, once_checked_in, once_established, once_failed, once_pinned, once_unpinned, once_granted, once_taken}
+use Rattle.mdb_tallies.specs.Changes.{connection_after, party_after, pool_after, by_party, changed_if, pool_if, done_now, kept_now, lent_now, once_created, once_closed, once_checked_in, once_established, once_failed, once_granted, once_taken}
 use Rattle.mdb_tallies.specs.Kept.{Covers, Follows}
 use Rattle.mdb_audit.specs.Touching.{has_place, was_given, reaches, touches_place, touches_pool, Touches, Tracks}
 use Rattle.mdb_tallies.specs.Verdicts.{waits_now}
@@ -40,13 +40,9 @@ not-here false f x e = refl
 
 -- a connection that a change does not touch is as it was
 pub untouched-place : (ch : Change) (t : Tables) (p c : ℕ) (x : Connection) → Covers t → touches_place ch t p c ≡ false → connection_after ch (λ r. at t.gifts r p c) (λ r. at t.parties r 0 0) p c x ≡ x
-untouched-place (change.GivenUp r) t p c x k e = not-given GaveUp t r p c x k e
 untouched-place (change.Returned r) t p c x k e = not-given GaveBack t r p c x k e
-untouched-place (change.Pinned r) t p c x k e = not-given Pinned t r p c x k e
 untouched-place (change.Ended r) t p c x k e = not-given Over t r p c x k e
-untouched-place (change.Replicated q d) t p c x k e = not-here ((q == p) && (d == c)) once_pinned x e
 untouched-place (change.Taken r q d) t p c x k e = not-here ((q == p) && (d == c)) (once_taken (kept_now (at t.gifts r p c) (at t.parties r 0 0)) (not (at t.parties r 0 0).is_returned) (lent_now (at t.gifts r p c) (at t.parties r 0 0))) x e
-untouched-place (change.Unpinned q d) t p c x k e = not-here ((q == p) && (d == c)) once_unpinned x e
 untouched-place (change.Established q d) t p c x k e = not-here ((q == p) && (d == c)) once_established x e
 untouched-place (change.Failed q d) t p c x k e = not-here ((q == p) && (d == c)) once_failed x e
 untouched-place (change.Created q d) t p c x k e = not-here ((q == p) && (d == c)) once_created x e

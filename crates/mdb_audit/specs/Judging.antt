@@ -5,17 +5,16 @@ use Rattle.mdb_log.specs.declared.options.PoolOptions.{PoolOptions}
 use Rattle.mdb_log.specs.History.{Item}
 use Rattle.mdb_log.specs.PlainLegal.{with_entry, is_refused, IsFairAnswer, OnePlace, NoneLeftWaiting}
 use Rattle.mdb_audit.specs.declared.auditor.Auditor.{Auditor}
-use Rattle.mdb_tallies.specs.declared.tables.Tables.{Tables}
 use Rattle.mdb_audit.specs.declared.verdict.Why.{Why}
 use Rattle.mdb_audit.specs.declared.verdict.Why.TheVariants.{Opening, Grant, Place, Waiting}
 use Rattle.mdb_audit.specs.Audited.{Keeps}
 use Rattle.mdb_tallies.specs.Kept.{Stands}
-use Rattle.mdb_audit.specs.Taking.{Tells, Reaches, JudgedAs}
+use Rattle.mdb_audit.specs.Taking.{Tells, Start, Reaches, JudgedAs}
 
 -- the auditor stands for the history with the entry too, and the truth value tells whether its grants are fair
 pub record TakesEntry (balanced is_fair : Bool) (e : Entry) (old new : Auditor) : Type 0 where
   pub options : new.options ≡ old.options
-  pub reaches : (o : PoolOptions) (h : List Item) (start : Tables) → o.load_balanced ≡ balanced → is_refused e.reply ≡ false → Reaches o h start old → Reaches o (with_entry h e) start new
+  pub reaches : (o : PoolOptions) (h : List Item) (start : Start) → o.load_balanced ≡ balanced → is_refused e.reply ≡ false → Reaches o h start old → Reaches o (with_entry h e) start new
   pub fair : (o : PoolOptions) (h : List Item) → o.load_balanced ≡ balanced → is_refused e.reply ≡ false → Keeps o h old → Tells is_fair (IsFairAnswer h e.step e.reply e.facts)
 
 -- The auditor says what is wrong with its history k, where nothing was wrong with the history h of the tables since which it knows what was touched.
@@ -24,7 +23,7 @@ pub record Judges (is_fair : Bool) (o : PoolOptions) (why : Option Why) (old new
   pub places : new.touched.places.items ≡ []
   pub pools : new.touched.pools.items ≡ []
   pub kept : (h : List Item) → Keeps o h old → Keeps o h new
-  pub judged : (h k : List Item) (start : Tables) → Stands o h start → OnePlace h → NoneLeftWaiting o h → Reaches o k start old → JudgedAs is_fair o k why
+  pub judged : (h k : List Item) (start : Start) → start.before ≡ h → Stands o h start.tables → OnePlace h → NoneLeftWaiting o h → Reaches o k start old → JudgedAs is_fair o k why
 
 -- what is wrong with the entry after the history, if something is
 abbrev pub FaultAs : PoolOptions → List Item → Entry → Option Why → Type 0

@@ -1,5 +1,6 @@
 -- When the text of a log is legal, and what is wrong with one that isn't.
-use Rattle.std.specs.Prelude.{ℕ, ◌+◌, ◌≡◌, List, [], ◌∷◌, ◌++◌, length, codes, ⊤}
+use Rattle.std.specs.Prelude.{ℕ, ◌+◌, ◌≡◌, List, [], ◌∷◌, ◌++◌, length, codes, Option, Some, None, Result, Ok, Err, ⊤}
+use Rattle.mdb_base.specs.declared.out_of_memory.OutOfMemory.{OutOfMemory}
 use Rattle.mdb_log.specs.PlainLegal.{LegalLog}
 use Rattle.mdb_lines.specs.Script.{lines_of}
 use Rattle.mdb_entries.specs.declared.shown.Shown.{Shown}

@@ -1,5 +1,5 @@
 -- What is said of the next line of a text.
-use Rattle.std.specs.Prelude.{◌≡◌, ℕ, List, [], ◌∷◌, ◌++◌, length, Option, Some, None, Result, Ok, Err, ⊤}
+use Rattle.std.specs.Prelude.{◌≡◌, ℕ, ◌+◌, List, [], ◌∷◌, ◌++◌, length, codes, Option, Some, None, Result, Ok, Err, ⊤}
 use Rattle.mdb_base.specs.declared.out_of_memory.OutOfMemory.{OutOfMemory}
 use Rattle.mdb_log.specs.PlainLegal.{LegalLog}
 use Rattle.mdb_lines.specs.Script.{lines_of}

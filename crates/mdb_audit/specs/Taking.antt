@@ -16,10 +16,13 @@ use Rattle.mdb_audit.specs.declared.verdict.Why.{Why}
 use Rattle.mdb_audit.specs.declared.verdict.Why.TheVariants.{Grant, Place as Misplaced, Waiting}
 use Rattle.mdb_tallies.specs.Tables.{at}
 use Rattle.mdb_tallies.specs.Kept.{Covers, Follows}
+use Rattle.mdb_log.specs.PlainHolders.{is_pinned}
+use Rattle.mdb_pins.specs.declared.story.PinStory.{PinStory}
+use Rattle.mdb_pins.specs.Following.{Grants, PinsFollow, pinned_now}
 use Rattle.mdb_audit.specs.Queueing.{QueuesFollow}
 use Rattle.mdb_audit.specs.Audited.{Keeps}
 use Rattle.mdb_audit.specs.Shown.{facts_of}
-use Rattle.mdb_audit.specs.Touching.{Touches, Tracks}
+use Rattle.mdb_audit.specs.Touching.{has_place, Touches, Tracks}
 use Rattle.mdb_tallies.specs.Verdicts.{in_place_now}
 
 -- the truth value tells whether this holds
@@ -33,23 +36,30 @@ pub record TakesChange (balanced : Bool) (change : Change) (old new : Auditor) :
   pub homes : new.homes ≡ old.homes
   pub queues : QueuesFollow change old.tables old.queues new.queues
   pub touched : Touches change old.tables old.touched new.touched
+  pub pins : Covers old.tables → Grants old.tables old.pins.grants → PinsFollow change old.tables old.pins new.pins
   pub tables : Covers old.tables → Follows balanced change old.tables new.tables
 
--- the auditor stands for the history, and knows what was touched since these tables
-pub record Reaches (o : PoolOptions) (h : List Item) (start : Tables) (a : Auditor) : Type 0 where
+-- the tables before an entry, and the history
+pub record Start : Type 0 where
+  pub tables : Tables
+  pub before : List Item
+
+-- the auditor stands for the history, and knows what was touched since these tables: a connection that was not stands at its pin where it stood there
+pub record Reaches (o : PoolOptions) (h : List Item) (start : Start) (a : Auditor) : Type 0 where
   pub kept : Keeps o h a
-  pub tracks : Tracks start a.tables a.touched
+  pub tracks : Tracks start.tables a.tables a.touched
+  pub pins : (p c : ℕ) → has_place a.touched.places.items p c ≡ false → is_pinned p h c ≡ is_pinned p start.before c
 
 -- the auditor stands for the history with these facts too, and the truth value tells whether their grants are fair
 pub record TakesFacts (balanced is_fair : Bool) (facts : List ShownFact) (old new : Auditor) : Type 0 where
   pub options : new.options ≡ old.options
-  pub reaches : (o : PoolOptions) (m : ℕ) (h : List Item) (start : Tables) → o.load_balanced ≡ balanced → Reaches o h start old → Reaches o (with_facts m (facts_of facts) h) start new
+  pub reaches : (o : PoolOptions) (m : ℕ) (h : List Item) (start : Start) → o.load_balanced ≡ balanced → Reaches o h start old → Reaches o (with_facts m (facts_of facts) h) start new
   pub fair : (o : PoolOptions) (m : ℕ) (h : List Item) → o.load_balanced ≡ balanced → Keeps o h old → Tells is_fair (AllFirstCome m h (facts_of facts))
 
 -- each of these places is in place
-abbrev pub all_in_place : Tables → List Place → Bool
-all_in_place t [] = true
-all_in_place t (x ∷ xs) = in_place_now (at t.connections x.pool x.id 0) && all_in_place t xs
+abbrev pub all_in_place : Tables → PinStory → List Place → Bool
+all_in_place t s [] = true
+all_in_place t s (x ∷ xs) = in_place_now (at t.connections x.pool x.id 0) (pinned_now s (at t.connections x.pool x.id 0).kept x.pool x.id) && all_in_place t s xs
 
 -- somebody waits at the pool who could be granted a connection
 abbrev pub is_left_at : PoolOptions → List Item → ℕ → Bool

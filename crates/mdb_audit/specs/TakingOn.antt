@@ -5,9 +5,8 @@ use Rattle.mdb_log.specs.History.{Item, with_facts}
 use Rattle.mdb_log.specs.PlainLegal.{AllFirstCome}
 use Rattle.mdb_entries.specs.declared.shown.ShownFact.{ShownFact}
 use Rattle.mdb_audit.specs.declared.auditor.Auditor.{Auditor}
-use Rattle.mdb_tallies.specs.declared.tables.Tables.{Tables}
 use Rattle.mdb_audit.specs.Shown.{facts_of}
-use Rattle.mdb_audit.specs.Taking.{Reaches}
+use Rattle.mdb_audit.specs.Taking.{Start, Reaches}
 
 -- all is fair where the rest is, unless something was unfair before
 abbrev pub Fares : Bool → Type 0 → Type 0 → Type 0
@@ -15,7 +14,7 @@ Fares true All Rest = (All → Rest) × (Rest → All)
 Fares false All Rest = All → ⊥
 
 -- the auditor stands for a history to which the rest of the facts adds what all of them add to h
-pub record Between (are_fair : Bool) (o : PoolOptions) (m : ℕ) (h : List Item) (start : Tables) (facts rest : List ShownFact) (now : Auditor) : Type 0 where
+pub record Between (are_fair : Bool) (o : PoolOptions) (m : ℕ) (h : List Item) (start : Start) (facts rest : List ShownFact) (now : Auditor) : Type 0 where
   pub history : List Item
   pub reaches : Reaches o history start now
   pub ends : with_facts m (facts_of facts) h ≡ with_facts m (facts_of rest) history
@@ -24,4 +23,4 @@ pub record Between (are_fair : Bool) (o : PoolOptions) (m : ℕ) (h : List Item)
 -- the auditor took the facts before the rest
 pub record TookSoFar (balanced are_fair : Bool) (facts rest : List ShownFact) (old now : Auditor) : Type 0 where
   pub options : now.options ≡ old.options
-  pub between : (o : PoolOptions) (m : ℕ) (h : List Item) (start : Tables) → o.load_balanced ≡ balanced → Reaches o h start old → Between are_fair o m h start facts rest now
+  pub between : (o : PoolOptions) (m : ℕ) (h : List Item) (start : Start) → o.load_balanced ≡ balanced → Reaches o h start old → Between are_fair o m h start facts rest now

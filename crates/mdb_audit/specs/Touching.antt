@@ -29,9 +29,8 @@ reaches how r t p c = was_given t r p c && not (done_now how (at t.parties r 0 0
 
 -- the connection c of pool p is one that the change touches
 abbrev pub touches_place : Change → Tables → ℕ → ℕ → Bool
-touches_place (change.GivenUp r) t p c = reaches how.GaveUp r t p c
+touches_place (change.GivenUp r) t p c = reaches how.GaveBack r t p c
 touches_place (change.Returned r) t p c = reaches how.GaveBack r t p c
-touches_place (change.Pinned r) t p c = reaches how.Pinned r t p c
 touches_place (change.Ended r) t p c = reaches how.Over r t p c
 touches_place (change.Replicated q d) t p c = (q == p) && (d == c)
 touches_place (change.Taken r q d) t p c = (q == p) && (d == c)

@@ -21,6 +21,7 @@ use crate::verdict::Why;
 use mdb_base::{Options, OutOfMemory};
 use mdb_entries::{Shown, ShownFact};
 use mdb_log::{Act, PoolOptions, Reply};
+use mdb_pins::PinStory;
 use mdb_tallies::{Change, Tables};
 use std::alloc::Global;
 
@@ -29,6 +30,7 @@ use std::alloc::Global;
 pub struct Auditor {
     options: Option<PoolOptions>,
     tables: Tables,
+    pins: PinStory,
     queues: Queues,
     homes: Homes,
     touched: Touched,
@@ -78,6 +80,7 @@ impl Auditor {
         Auditor {
             options: None,
             tables: Tables::new(alloc),
+            pins: PinStory::new(alloc),
             queues: Queues::new(alloc),
             homes: Homes::new(alloc),
             touched: Touched::new(alloc),
@@ -89,6 +92,7 @@ impl Auditor {
     {
         self.queues.note(&self.tables, &change)?;
         self.touched.note(&self.tables, &change)?;
+        self.pins.note(&self.tables, &change)?;
         self.tables.apply(is_balanced, change)
     }
 
@@ -129,7 +133,7 @@ impl Auditor {
     fn judge(&mut self, options: &PoolOptions, is_fair: bool) -> Result<Option<Why>, OutOfMemory>
         ensures { IfOk result (λ why. Judges is_fair options.now why self.old self.new) }
     {
-        let placed = are_in_place(&self.tables, self.touched.places.as_slice())?;
+        let placed = are_in_place(&self.tables, &self.pins, self.touched.places.as_slice())?;
         let left = is_left(
             options,
             &self.tables,

@@ -9,16 +9,18 @@ ghost use Rattle.mdb_audit.specs.Taking.{all_in_place, is_left_at, is_left};
 use crate::queues::Queues;
 use mdb_base::OutOfMemory;
 use mdb_log::PoolOptions;
+use mdb_pins::PinStory;
 use mdb_tallies::{Place, Tables};
 
 /// Each of these connections is in place.
-pub fn are_in_place(tables: &Tables, places: &[Place]) -> Result<bool, OutOfMemory>
-    ensures { IfOk result (λ b. b ≡ all_in_place tables.now places.now) }
+pub fn are_in_place(tables: &Tables, pins: &PinStory, places: &[Place]) -> Result<bool, OutOfMemory>
+    ensures { IfOk result (λ b. b ≡ all_in_place tables.now pins.now places.now) }
 {
     let mut rest = places;
     while let [place, more @ ..] = rest {
         let connection = tables.connections.get((place.pool, place.id, 0));
-        if !connection.is_in_place()? {
+        let is_pinned = pins.is_pinned(connection.kept, place.pool, place.id)?;
+        if !connection.is_in_place(is_pinned)? {
             return Ok(false);
         }
         rest = more;

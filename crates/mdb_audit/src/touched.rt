@@ -80,14 +80,14 @@ impl Touched {
         ensures { OnOk result (Touches change.now tables.now self.old self.new) }
     {
         match change {
-            Change::Nothing | Change::Asked(_, None, _) => Ok(()),
+            Change::Nothing | Change::Asked(_, None, _) | Change::Pinned(_) => Ok(()),
             Change::Asked(_, Some(pool), _)
             | Change::Opened(pool)
             | Change::Began(pool)
             | Change::Turned(pool, _) => self.touch_pool(*pool),
-            Change::GivenUp(party) => self.touch_all(tables, How::GaveUp, *party),
-            Change::Returned(party) => self.touch_all(tables, How::GaveBack, *party),
-            Change::Pinned(party) => self.touch_all(tables, How::Pinned, *party),
+            Change::GivenUp(party) | Change::Returned(party) => {
+                self.touch_all(tables, How::GaveBack, *party)
+            }
             Change::Ended(party) => self.touch_all(tables, How::Over, *party),
             Change::Replicated(pool, id)
             | Change::Taken(_, pool, id)

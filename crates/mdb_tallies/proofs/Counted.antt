@@ -8,7 +8,7 @@ use Rattle.mdb_log.specs.History.{Item, of_pool}
 use Rattle.mdb_log.specs.Connections.{has, one_if}
 use Rattle.mdb_log.specs.State.{State}
 use Rattle.mdb_log.specs.PlainConnections.{connections, is_created, is_pending, is_available, closings, creations}
-use Rattle.mdb_log.specs.PlainHolders.{holds, held, has_returned, is_granted_to, is_taken_by, parties}
+use Rattle.mdb_log.specs.PlainHolders.{holds, held, has_returned, is_granted_to, is_taken_by, parties, is_pinned}
 use Rattle.mdb_log.specs.PlainRequests.{is_ended}
 use Rattle.mdb_log.specs.PlainState.{pools, last_state, has_ready, could_be_granted}
 use Rattle.mdb_log.specs.PlainLegal.{places, InPlace}
@@ -78,7 +78,7 @@ held-counted p h c =
     ∙ total-both (λ r. one_if (keeps (of_pool p h) (has_returned h) c r)) (λ r. one_if (borrows (of_pool p h) (has_returned h) (is_ended h) c r && not (is_pending (of_pool p h) c))) (parties (of_pool p h) c)
     ∙ ap (λ n. count (keeps (of_pool p h) (has_returned h) c) (parties (of_pool p h) c) + n) (lent_all (is_pending (of_pool p h) c) (borrows (of_pool p h) (has_returned h) (is_ended h) c) (parties (of_pool p h) c))
 
-pub places-counted : (p : ℕ) (h : List Item) (c : ℕ) → places p h c ≡ places_now (connection_of h p c)
+pub places-counted : (p : ℕ) (h : List Item) (c : ℕ) → places p h c ≡ places_now (connection_of h p c) (is_pinned p h c)
 places-counted p h c = rw (held-counted p h c) refl
 
 in_place : (b : Bool) (n k m : ℕ) → (if b then ((n + k == m) && nat_le n 1) else (k == 0)) ≡ true → MatchBool b ((n + k ≡ m) × (n ≤ 1)) (k ≡ 0)
@@ -90,11 +90,11 @@ in_place_not true n k m e = let a = e.0 in let b = e.1 in grind (arith, common_s
 in_place_not false n k m e = grind (arith, common_steps)
 
 -- One place, by the counts.
-pub in-place : (p : ℕ) (h : List Item) (c : ℕ) → in_place_now (connection_of h p c) ≡ true → InPlace p h c
-in-place p h c e = rw (places-counted p h c) (in_place (is_created (of_pool p h) c) (places_now (connection_of h p c)) (closings (of_pool p h) c) (creations (of_pool p h) c) e)
+pub in-place : (p : ℕ) (h : List Item) (c : ℕ) → in_place_now (connection_of h p c) (is_pinned p h c) ≡ true → InPlace p h c
+in-place p h c e = rw (places-counted p h c) (in_place (is_created (of_pool p h) c) (places_now (connection_of h p c) (is_pinned p h c)) (closings (of_pool p h) c) (creations (of_pool p h) c) e)
 
-pub in-place-not : (p : ℕ) (h : List Item) (c : ℕ) → InPlace p h c → in_place_now (connection_of h p c) ≡ true
-in-place-not p h c e = in_place_not (is_created (of_pool p h) c) (places_now (connection_of h p c)) (closings (of_pool p h) c) (creations (of_pool p h) c) (rw (places-counted p h c) at e)
+pub in-place-not : (p : ℕ) (h : List Item) (c : ℕ) → InPlace p h c → in_place_now (connection_of h p c) (is_pinned p h c) ≡ true
+in-place-not p h c e = in_place_not (is_created (of_pool p h) c) (places_now (connection_of h p c) (is_pinned p h c)) (closings (of_pool p h) c) (creations (of_pool p h) c) (rw (places-counted p h c) at e)
 
 opened_ready : (b : Bool) (s : Option State) → has_ready (if b then s else None) ≡ b && has_ready s
 opened_ready true s = refl

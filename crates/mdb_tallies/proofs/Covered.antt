@@ -15,7 +15,7 @@ use Rattle.mdb_tallies.proofs.Placed.{same}
 use Rattle.mdb_tallies.proofs.Pushed.{pushed-len, pushed-last, pushed-below, apart-len, apart-nth}
 
 -- lists that agree below a number list the same below it
-listed-same : (n : ℕ) (f g : ℕ → Place) (p c : ℕ) → ((i : ℕ) → i < n → f i ≡ g i) → listed n f p c ≡ listed n g p c
+pub listed-same : (n : ℕ) (f g : ℕ → Place) (p c : ℕ) → ((i : ℕ) → i < n → f i ≡ g i) → listed n f p c ≡ listed n g p c
 listed-same zero f g p c e = refl
 listed-same (suc n) f g p c e = let last : f n ≡ g n = e n (omega arith) in let rest : listed n f p c ≡ listed n g p c = listed-same n f g p c (λ i l. e i (omega arith)) in rw (last, rest) refl
 

@@ -60,12 +60,12 @@ pub borrows-none : (xs : List PoolItem) (gone over : ℕ → Bool) (c r : ℕ) �
 borrows-none xs gone over c r e = none-lent (is_granted_to xs r c) (is_taken_by xs r c) (gone r) (over r) (sym (parties-given xs r c) ∙ e)
 
 -- an end: lent to the party no more
-pub over-changes : (r : ℕ) (xs : List PoolItem) (gone over : ℕ → Bool) (made dropped : ℕ) (pinned : Bool) (c : ℕ) → connection_by xs gone (λ q. (r == q) || over q) made dropped pinned c ≡ once_over (borrows xs gone over c r) (connection_by xs gone over made dropped pinned c)
-over-changes r xs gone over made dropped pinned c =
+pub over-changes : (r : ℕ) (xs : List PoolItem) (gone over : ℕ → Bool) (c : ℕ) → connection_by xs gone (λ q. (r == q) || over q) c ≡ once_over (borrows xs gone over c r) (connection_by xs gone over c)
+over-changes r xs gone over c =
     let lent : count (borrows xs gone (λ q. (r == q) || over q) c) (parties xs c) ≡ (count (borrows xs gone over c) (parties xs c) + one_if (borrows xs gone (λ q. (r == q) || over q) c r)) - one_if (borrows xs gone over c r) = count-change (borrows xs gone over c) (borrows xs gone (λ q. (r == q) || over q) c) r (parties xs c) (parties xs c) (parties-once xs c) (parties-once xs c) refl (λ j e. rw e refl) (borrows-none xs gone over c r) (borrows-none xs gone (λ q. (r == q) || over q) c r) in
     let now : borrows xs gone (λ q. (r == q) || over q) c r ≡ false = rw (same-number r) (ended (is_granted_to xs r c) (is_taken_by xs r c) (gone r)) in
     let fewer : count (borrows xs gone (λ q. (r == q) || over q) c) (parties xs c) ≡ count (borrows xs gone over c) (parties xs c) - one_if (borrows xs gone over c r) = let none : one_if (borrows xs gone (λ q. (r == q) || over q) c r) ≡ 0 = ap one_if now in omega arith in
-    ap (λ n. record (connection_by xs gone over made dropped pinned c) { lent = n }) fewer
+    ap (λ n. record (connection_by xs gone over c) { lent = n }) fewer
   where
     ended : (g t gone : Bool) → is_lent g t gone true ≡ false
     ended true true gone = refl

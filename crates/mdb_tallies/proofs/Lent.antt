@@ -47,22 +47,22 @@ kept_same r xs gone c =
     let e = count-change (keeps xs gone c) (keeps xs gone c) r (parties xs c) (r ∷ without r (parties xs c)) (parties-once xs c) (once-first r (parties xs c) (parties-once xs c)) (without-first r (parties xs c)) (λ j a. refl) (keeps-none xs gone c r) (λ a. is_true (sym (found r (parties xs c)) ∙ a)) in
     e ∙ no-more (count (keeps xs gone c) (parties xs c)) (keeps xs gone c r)
 
-granted_one : (t : Bool) (r d : ℕ) (xs : List PoolItem) (gone over : ℕ → Bool) (made dropped : ℕ) (pinned : Bool) (c : ℕ) →
-    record (connection_by xs gone over made dropped pinned c) {
+granted_one : (t : Bool) (r d : ℕ) (xs : List PoolItem) (gone over : ℕ → Bool) (c : ℕ) →
+    record (connection_by xs gone over c) {
       is_granted = is_some (if t then (Some r) else granted_to xs c);
       is_available = if t then false else is_available xs c;
       kept = count (keeps xs gone c) (if t then (r ∷ without r (parties xs c)) else parties xs c);
       lent = count (λ q. is_lent (((r == q) && t) || is_granted_to xs q c) (is_taken_by xs q c) (gone q) (over q)) (if t then (r ∷ without r (parties xs c)) else parties xs c);
     }
-    ≡ (if t then once_granted (borrows xs gone over c r) (is_lent true (is_taken_by xs r c) (gone r) (over r)) (connection_by xs gone over made dropped pinned c) else connection_by xs gone over made dropped pinned c)
-granted_one true r d xs gone over made dropped pinned c = rw (granted_here r xs gone over c, kept_same r xs gone c) refl
-granted_one false r d xs gone over made dropped pinned c =
-    ap (λ n. record (connection_by xs gone over made dropped pinned c) { lent = n }) (count-same (λ q. is_lent (((r == q) && false) || is_granted_to xs q c) (is_taken_by xs q c) (gone q) (over q)) (borrows xs gone over c) (parties xs c) (λ q. ap (λ g. is_lent g (is_taken_by xs q c) (gone q) (over q)) (apart r q (is_granted_to xs q c))))
+    ≡ (if t then once_granted (borrows xs gone over c r) (is_lent true (is_taken_by xs r c) (gone r) (over r)) (connection_by xs gone over c) else connection_by xs gone over c)
+granted_one true r d xs gone over c = rw (granted_here r xs gone over c, kept_same r xs gone c) refl
+granted_one false r d xs gone over c =
+    ap (λ n. record (connection_by xs gone over c) { lent = n }) (count-same (λ q. is_lent (((r == q) && false) || is_granted_to xs q c) (is_taken_by xs q c) (gone q) (over q)) (borrows xs gone over c) (parties xs c) (λ q. ap (λ g. is_lent g (is_taken_by xs q c) (gone q) (over q)) (apart r q (is_granted_to xs q c))))
 
 -- a grant: of the connection that it names
-pub granted-changes : (b : Bool) (r d : ℕ) (xs : List PoolItem) (gone over : ℕ → Bool) (made dropped : ℕ) (pinned : Bool) (c : ℕ) → connection_by (if_so b (granted r d) xs) gone over made dropped pinned c ≡ (if b && (d == c) then once_granted (borrows xs gone over c r) (is_lent true (is_taken_by xs r c) (gone r) (over r)) (connection_by xs gone over made dropped pinned c) else connection_by xs gone over made dropped pinned c)
-granted-changes true r d xs gone over made dropped pinned c = rw (departs d c (available_list xs)) (granted_one (d == c) r d xs gone over made dropped pinned c)
-granted-changes false r d xs gone over made dropped pinned c = refl
+pub granted-changes : (b : Bool) (r d : ℕ) (xs : List PoolItem) (gone over : ℕ → Bool) (c : ℕ) → connection_by (if_so b (granted r d) xs) gone over c ≡ (if b && (d == c) then once_granted (borrows xs gone over c r) (is_lent true (is_taken_by xs r c) (gone r) (over r)) (connection_by xs gone over c) else connection_by xs gone over c)
+granted-changes true r d xs gone over c = rw (departs d c (available_list xs)) (granted_one (d == c) r d xs gone over c)
+granted-changes false r d xs gone over c = refl
 
 -- of the connection that was taken
 taken_here : (r : ℕ) (xs : List PoolItem) (gone : ℕ → Bool) (c : ℕ) → count (λ q. (((r == q) && true) || is_taken_by xs q c) && not (gone q)) (r ∷ without r (parties xs c)) ≡ (count (keeps xs gone c) (parties xs c) + one_if (not (gone r))) - one_if (keeps xs gone c r)
@@ -81,23 +81,22 @@ lent_no_more r xs gone over c =
     let none : one_if (is_lent (is_granted_to xs r c) (((r == r) && true) || is_taken_by xs r c) (gone r) (over r)) ≡ 0 = ap one_if now in
     omega arith
 
-taken_one : (t : Bool) (r d : ℕ) (xs : List PoolItem) (gone over : ℕ → Bool) (made dropped : ℕ) (pinned : Bool) (c : ℕ) →
-    record (connection_by xs gone over made dropped pinned c) {
+taken_one : (t : Bool) (r d : ℕ) (xs : List PoolItem) (gone over : ℕ → Bool) (c : ℕ) →
+    record (connection_by xs gone over c) {
       kept = count (λ q. (((r == q) && t) || is_taken_by xs q c) && not (gone q)) (if t then (r ∷ without r (parties xs c)) else parties xs c);
       lent = count (λ q. is_lent (is_granted_to xs q c) (((r == q) && t) || is_taken_by xs q c) (gone q) (over q)) (if t then (r ∷ without r (parties xs c)) else parties xs c);
-      is_pinned = if t then false else pinned;
     }
-    ≡ (if t then once_taken (keeps xs gone c r) (not (gone r)) (borrows xs gone over c r) (connection_by xs gone over made dropped pinned c) else connection_by xs gone over made dropped pinned c)
-taken_one true r d xs gone over made dropped pinned c = rw (taken_here r xs gone c, lent_no_more r xs gone over c) refl
-taken_one false r d xs gone over made dropped pinned c =
+    ≡ (if t then once_taken (keeps xs gone c r) (not (gone r)) (borrows xs gone over c r) (connection_by xs gone over c) else connection_by xs gone over c)
+taken_one true r d xs gone over c = rw (taken_here r xs gone c, lent_no_more r xs gone over c) refl
+taken_one false r d xs gone over c =
     let kept : count (λ q. (((r == q) && false) || is_taken_by xs q c) && not (gone q)) (parties xs c) ≡ count (keeps xs gone c) (parties xs c) = count-same (λ q. (((r == q) && false) || is_taken_by xs q c) && not (gone q)) (keeps xs gone c) (parties xs c) (λ q. ap (λ t. t && not (gone q)) (apart r q (is_taken_by xs q c))) in
     let lent : count (λ q. is_lent (is_granted_to xs q c) (((r == q) && false) || is_taken_by xs q c) (gone q) (over q)) (parties xs c) ≡ count (borrows xs gone over c) (parties xs c) = count-same (λ q. is_lent (is_granted_to xs q c) (((r == q) && false) || is_taken_by xs q c) (gone q) (over q)) (borrows xs gone over c) (parties xs c) (λ q. ap (λ t. is_lent (is_granted_to xs q c) t (gone q) (over q)) (apart r q (is_taken_by xs q c))) in
     rw (kept, lent) refl
 
 -- a take: of the connection that it names
-pub taken-changes : (b : Bool) (r d : ℕ) (xs : List PoolItem) (gone over : ℕ → Bool) (made dropped : ℕ) (pinned : Bool) (c : ℕ) → connection_by (if_so b (taken r d) xs) gone over made dropped (if b && (d == c) then false else pinned) c ≡ (if b && (d == c) then once_taken (keeps xs gone c r) (not (gone r)) (borrows xs gone over c r) (connection_by xs gone over made dropped pinned c) else connection_by xs gone over made dropped pinned c)
-taken-changes true r d xs gone over made dropped pinned c = taken_one (d == c) r d xs gone over made dropped pinned c
-taken-changes false r d xs gone over made dropped pinned c = refl
+pub taken-changes : (b : Bool) (r d : ℕ) (xs : List PoolItem) (gone over : ℕ → Bool) (c : ℕ) → connection_by (if_so b (taken r d) xs) gone over c ≡ (if b && (d == c) then once_taken (keeps xs gone c r) (not (gone r)) (borrows xs gone over c r) (connection_by xs gone over c) else connection_by xs gone over c)
+taken-changes true r d xs gone over c = taken_one (d == c) r d xs gone over c
+taken-changes false r d xs gone over c = refl
 
 gone_kept : (t : Bool) → t && not true ≡ false
 gone_kept true = refl
@@ -109,8 +108,8 @@ gone_lent true false over = refl
 gone_lent false t over = refl
 
 -- a return: neither kept by the party nor lent to it
-pub returned-changes : (r : ℕ) (xs : List PoolItem) (gone over : ℕ → Bool) (made dropped : ℕ) (pinned : Bool) (c : ℕ) → connection_by xs (λ q. (r == q) || gone q) over made dropped pinned c ≡ once_returned (keeps xs gone c r) (borrows xs gone over c r) (connection_by xs gone over made dropped pinned c)
-returned-changes r xs gone over made dropped pinned c =
+pub returned-changes : (r : ℕ) (xs : List PoolItem) (gone over : ℕ → Bool) (c : ℕ) → connection_by xs (λ q. (r == q) || gone q) over c ≡ once_returned (keeps xs gone c r) (borrows xs gone over c r) (connection_by xs gone over c)
+returned-changes r xs gone over c =
     let k = count-change (keeps xs gone c) (keeps xs (λ q. (r == q) || gone q) c) r (parties xs c) (parties xs c) (parties-once xs c) (parties-once xs c) refl (λ j e. rw e refl) (keeps-none xs gone c r) (keeps-none xs (λ q. (r == q) || gone q) c r) in
     let l = count-change (borrows xs gone over c) (borrows xs (λ q. (r == q) || gone q) over c) r (parties xs c) (parties xs c) (parties-once xs c) (parties-once xs c) refl (λ j e. rw e refl) (borrows-none xs gone over c r) (borrows-none xs (λ q. (r == q) || gone q) over c r) in
     let k_now : keeps xs (λ q. (r == q) || gone q) c r ≡ false = rw (same-number r) (gone_kept (is_taken_by xs r c)) in

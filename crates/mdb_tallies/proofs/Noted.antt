@@ -5,7 +5,7 @@ use Rattle.mdb_tallies.specs.declared.pools.Pool.{Pool}
 use Rattle.mdb_tallies.specs.declared.table.Table.{Table}
 use Rattle.mdb_tallies.specs.declared.tables.Tables.{Tables}
 use Rattle.mdb_tallies.specs.declared.change.Change.TheVariants as change
-use Rattle.mdb_tallies.specs.declared.change.How.TheVariants.{GaveUp, GaveBack, Pinned, Over}
+use Rattle.mdb_tallies.specs.declared.change.How.TheVariants.{GaveBack, Over}
 use Rattle.mdb_tallies.specs.Tables.{at, same_key}
 use Rattle.mdb_tallies.specs.Kept.{Follows, PartyDid}
 use Rattle.mdb_tallies.specs.Changes.{party_after}
@@ -18,12 +18,6 @@ noted k v f old new n e q = n q 0 0 ∙ go (k == q) refl
     go : (b : Bool) → (k == q) ≡ b → (if (b && true) && true then v else at old q 0 0) ≡ (if b then f (at old q 0 0) else at old q 0 0)
     go true u = e ∙ ap (λ m. f (at old m 0 0)) (same k q u)
     go false u = refl
-
-pub given_up-follows : (b : Bool) (r : ℕ) (old new : Tables) → PartyDid GaveUp r old new → Follows b (change.GivenUp r) old new
-given_up-follows b r old new d = record { connections = d.connections; gifts = λ s p c. ap (λ t. at t s p c) d.gifts; parties = λ s. ap (λ t. at t s 0 0) d.parties; pools = λ p. ap (λ t. at t p 0 0) d.pools; lists = covers-same old new d.gifts d.places }
-
-pub pinned-follows : (b : Bool) (r : ℕ) (old new : Tables) → PartyDid Pinned r old new → Follows b (change.Pinned r) old new
-pinned-follows b r old new d = record { connections = d.connections; gifts = λ s p c. ap (λ t. at t s p c) d.gifts; parties = λ s. ap (λ t. at t s 0 0) d.parties; pools = λ p. ap (λ t. at t p 0 0) d.pools; lists = covers-same old new d.gifts d.places }
 
 pub returned-follows : (b : Bool) (r : ℕ) (old now : Tables) (t : Table Party) (v : Party) → PartyDid GaveBack r old now → ((a b c : ℕ) → at t a b c ≡ (if same_key r 0 0 a b c then v else at now.parties a b c)) → v ≡ record (at now.parties r 0 0) { is_returned = true } → Follows b (change.Returned r) old (record now { parties = t })
 returned-follows b r old now t v d n e = record { connections = d.connections; gifts = λ s p c. ap (λ x. at x s p c) d.gifts; parties = λ s. noted r v (λ x. record x { is_returned = true }) now.parties t n e s ∙ ap (λ x. party_after (change.Returned r) s (at x s 0 0)) d.parties; pools = λ p. ap (λ x. at x p 0 0) d.pools; lists = covers-same old (record now { parties = t }) d.gifts d.places }
@@ -51,4 +45,4 @@ asked-follows b r pool warm now t v n e = record { connections = λ p c. refl; g
     first true x = turned-round x.is_asked x (record x { is_asked = true; pool = pool; is_warm = warm })
     first false x = refl
 
-pub ruleset note_follows = (given_up-follows, pinned-follows, returned-follows, ended-follows, opened-follows, turned-follows, began-follows, asked-follows)
+pub ruleset note_follows = (returned-follows, ended-follows, opened-follows, turned-follows, began-follows, asked-follows)

@@ -7,7 +7,7 @@ use Rattle.mdb_tallies.specs.declared.party.Party.{Party}
 use Rattle.mdb_tallies.specs.declared.table.Table.{Table}
 use Rattle.mdb_tallies.specs.declared.tables.Tables.{Tables}
 use Rattle.mdb_tallies.specs.declared.change.How.{How}
-use Rattle.mdb_tallies.specs.declared.change.How.TheVariants.{GaveUp, GaveBack, Pinned, Over}
+use Rattle.mdb_tallies.specs.declared.change.How.TheVariants.{GaveBack, Over}
 use Rattle.mdb_tallies.specs.Tables.{at, same_key}
 use Rattle.mdb_tallies.specs.Lists.{nth, len, listed}
 use Rattle.mdb_tallies.specs.Kept.{Covers, SoFar, PartyDid}
@@ -48,16 +48,12 @@ pub nothing-given : (how : How) (g : Gift) (x : Party) (y : Connection) → g.is
 nothing-given how g x y e = by how (left-false g.is_granted g.is_taken e) (right-false g.is_granted g.is_taken e)
   where
     by : (how : How) → g.is_granted ≡ false → g.is_taken ≡ false → by_party how g x y ≡ y
-    by GaveUp u v = rw (u, v) refl
     by GaveBack u v = rw (u, v, none_less y.kept, none_less y.lent) refl
-    by Pinned u v = rw (u, v) refl
     by Over u v = rw (u, none_less y.lent) refl
 
 -- who does so no more changes nothing
 pub nothing-left : (how : How) (g : Gift) (x : Party) (y : Connection) → done_now how x ≡ true → by_party how g x y ≡ y
-nothing-left GaveUp g x y e = rw (e, back-kept g.is_taken, back-lent g.is_granted g.is_taken x.is_ended) refl
 nothing-left GaveBack g x y e = rw (e, back-kept g.is_taken, back-lent g.is_granted g.is_taken x.is_ended, none_less y.kept, none_less y.lent) refl
-nothing-left Pinned g x y e = rw (e, back-kept g.is_taken, back-lent g.is_granted g.is_taken x.is_ended) refl
 nothing-left Over g x y e = rw (over-lent g.is_granted g.is_taken x.is_returned x.is_ended e, none_less y.lent) refl
 
 pub did-nothing : (how : How) (r : ℕ) (t : Tables) → done_now how (at t.parties r 0 0) ≡ true → PartyDid how r t t

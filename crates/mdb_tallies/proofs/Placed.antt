@@ -8,7 +8,7 @@ use Rattle.mdb_tallies.specs.declared.tables.Tables.{Tables}
 use Rattle.mdb_tallies.specs.declared.change.Change.TheVariants as change
 use Rattle.mdb_tallies.specs.Tables.{at, same_key}
 use Rattle.mdb_tallies.specs.Kept.{Replaces, Follows, Covers}
-use Rattle.mdb_tallies.specs.Changes.{recounted, pool_if, changed_if, pending_now, at_hand_now, closed_now, once_created, once_closed, once_checked_in, once_established, once_failed, once_pinned, once_unpinned}
+use Rattle.mdb_tallies.specs.Changes.{recounted, pool_if, changed_if, pending_now, at_hand_now, closed_now, once_created, once_closed, once_checked_in, once_established, once_failed}
 
 pub same : (q p : ℕ) → (q == p) ≡ true → q ≡ p
 same q p e = grind arith
@@ -71,8 +71,24 @@ placed-unseen q d x f old new s r e p = r.pools p 0 0 ∙ go (q == p) refl
         ∙ ap (λ n. at old.pools n 0 0) (same q p u)
     go false u = refl
 
-pub same_follows : (b : Bool) (t : Tables) → Follows b change.Nothing t t
-same_follows b t = record { connections = λ p c. refl; gifts = λ s p c. refl; parties = λ s. refl; pools = λ p. refl; lists = λ covers. covers }
+-- changes of which the tables say nothing
+
+pub nothing-follows : (b : Bool) (t : Tables) → Follows b change.Nothing t t
+nothing-follows b t = record { connections = λ p c. refl; gifts = λ s p c. refl; parties = λ s. refl; pools = λ p. refl; lists = λ covers. covers }
+
+pub given_up-follows : (b : Bool) (r : ℕ) (t : Tables) → Follows b (change.GivenUp r) t t
+given_up-follows b r t = record { connections = λ p c. refl; gifts = λ s p c. refl; parties = λ s. refl; pools = λ p. refl; lists = λ covers. covers }
+
+pub pinned-follows : (b : Bool) (r : ℕ) (t : Tables) → Follows b (change.Pinned r) t t
+pinned-follows b r t = record { connections = λ p c. refl; gifts = λ s p c. refl; parties = λ s. refl; pools = λ p. refl; lists = λ covers. covers }
+
+pub replicated-follows : (b : Bool) (q d : ℕ) (t : Tables) → Follows b (change.Replicated q d) t t
+replicated-follows b q d t = record { connections = λ p c. refl; gifts = λ s p c. refl; parties = λ s. refl; pools = λ p. refl; lists = λ covers. covers }
+
+pub unpinned-follows : (b : Bool) (q d : ℕ) (t : Tables) → Follows b (change.Unpinned q d) t t
+unpinned-follows b q d t = record { connections = λ p c. refl; gifts = λ s p c. refl; parties = λ s. refl; pools = λ p. refl; lists = λ covers. covers }
+
+pub ruleset quiet_follows = (nothing-follows, given_up-follows, pinned-follows, replicated-follows, unpinned-follows)
 
 pub created-follows : (b : Bool) (q d : ℕ) (x : Connection) (old new : Tables) → Replaces q d x 1 old new → x ≡ once_created (at old.connections q d 0) → Follows b (change.Created q d) old new
 created-follows b q d x old new r e = record { connections = placed q d 1 x once_created old new r e; gifts = λ s p c. ap (λ t. at t s p c) r.gifts; parties = λ s. ap (λ t. at t s 0 0) r.parties; pools = placed-pool q d 1 x old new r; lists = covers-same old new r.gifts r.places }
@@ -89,10 +105,4 @@ established-follows b q d x old new r e = record { connections = placed q d 0 x 
 pub failed-follows : (b : Bool) (q d : ℕ) (x : Connection) (old new : Tables) → Replaces q d x 0 old new → x ≡ once_failed (at old.connections q d 0) → Follows b (change.Failed q d) old new
 failed-follows b q d x old new r e = record { connections = placed q d 0 x once_failed old new r e; gifts = λ s p c. ap (λ t. at t s p c) r.gifts; parties = λ s. ap (λ t. at t s 0 0) r.parties; pools = placed-pool-none q d x old new r; lists = covers-same old new r.gifts r.places }
 
-pub replicated-follows : (b : Bool) (q d : ℕ) (x : Connection) (old new : Tables) → Replaces q d x 0 old new → x ≡ once_pinned (at old.connections q d 0) → Follows b (change.Replicated q d) old new
-replicated-follows b q d x old new r e = record { connections = placed q d 0 x once_pinned old new r e; gifts = λ s p c. ap (λ t. at t s p c) r.gifts; parties = λ s. ap (λ t. at t s 0 0) r.parties; pools = placed-unseen q d x once_pinned old new (λ y. (refl, refl, refl)) r e; lists = covers-same old new r.gifts r.places }
-
-pub unpinned-follows : (b : Bool) (q d : ℕ) (x : Connection) (old new : Tables) → Replaces q d x 0 old new → x ≡ once_unpinned (at old.connections q d 0) → Follows b (change.Unpinned q d) old new
-unpinned-follows b q d x old new r e = record { connections = placed q d 0 x once_unpinned old new r e; gifts = λ s p c. ap (λ t. at t s p c) r.gifts; parties = λ s. ap (λ t. at t s 0 0) r.parties; pools = placed-unseen q d x once_unpinned old new (λ y. (refl, refl, refl)) r e; lists = covers-same old new r.gifts r.places }
-
-pub ruleset place_follows = (created-follows, closed-follows, checked_in-follows, established-follows, failed-follows, replicated-follows, unpinned-follows)
+pub ruleset place_follows = (created-follows, closed-follows, checked_in-follows, established-follows, failed-follows)

@@ -23,33 +23,33 @@ created_one : (t : Bool) (x : Connection) → record x { creations = x.creations
 created_one true x = refl
 created_one false x = let none : x.creations + 0 ≡ x.creations = omega arith in rw none refl
 
-pub created-changes : (b : Bool) (d m : ℕ) (xs : List PoolItem) (gone over : ℕ → Bool) (made dropped : ℕ) (pinned : Bool) (c : ℕ) → connection_by (if_so b (created d m) xs) gone over made dropped pinned c ≡ (if b && (d == c) then once_created (connection_by xs gone over made dropped pinned c) else connection_by xs gone over made dropped pinned c)
-created-changes true d m xs gone over made dropped pinned c = created_one (d == c) (connection_by xs gone over made dropped pinned c)
-created-changes false d m xs gone over made dropped pinned c = refl
+pub created-changes : (b : Bool) (d m : ℕ) (xs : List PoolItem) (gone over : ℕ → Bool) (c : ℕ) → connection_by (if_so b (created d m) xs) gone over c ≡ (if b && (d == c) then once_created (connection_by xs gone over c) else connection_by xs gone over c)
+created-changes true d m xs gone over c = created_one (d == c) (connection_by xs gone over c)
+created-changes false d m xs gone over c = refl
 
 closed_one : (t : Bool) (x : Connection) → record x { closings = x.closings + one_if t; is_available = if t then false else x.is_available } ≡ (if t then once_closed x else x)
 closed_one true x = refl
 closed_one false x = let none : x.closings + 0 ≡ x.closings = omega arith in rw none refl
 
-pub closed-changes : (b : Bool) (d : ℕ) (xs : List PoolItem) (gone over : ℕ → Bool) (made dropped : ℕ) (pinned : Bool) (c : ℕ) → connection_by (if_so b (closed d) xs) gone over made dropped pinned c ≡ (if b && (d == c) then once_closed (connection_by xs gone over made dropped pinned c) else connection_by xs gone over made dropped pinned c)
-closed-changes true d xs gone over made dropped pinned c = rw (departs d c (available_list xs)) (closed_one (d == c) (connection_by xs gone over made dropped pinned c))
-closed-changes false d xs gone over made dropped pinned c = refl
+pub closed-changes : (b : Bool) (d : ℕ) (xs : List PoolItem) (gone over : ℕ → Bool) (c : ℕ) → connection_by (if_so b (closed d) xs) gone over c ≡ (if b && (d == c) then once_closed (connection_by xs gone over c) else connection_by xs gone over c)
+closed-changes true d xs gone over c = rw (departs d c (available_list xs)) (closed_one (d == c) (connection_by xs gone over c))
+closed-changes false d xs gone over c = refl
 
 checked_one : (t : Bool) (x : Connection) → record x { is_available = if t then true else x.is_available } ≡ (if t then once_checked_in x else x)
 checked_one true x = refl
 checked_one false x = refl
 
-pub checked_in-changes : (b : Bool) (d m : ℕ) (xs : List PoolItem) (gone over : ℕ → Bool) (made dropped : ℕ) (pinned : Bool) (c : ℕ) → connection_by (if_so b (checked_in d m) xs) gone over made dropped pinned c ≡ (if b && (d == c) then once_checked_in (connection_by xs gone over made dropped pinned c) else connection_by xs gone over made dropped pinned c)
-checked_in-changes true d m xs gone over made dropped pinned c = rw (arrives d c (available_list xs)) (checked_one (d == c) (connection_by xs gone over made dropped pinned c))
-checked_in-changes false d m xs gone over made dropped pinned c = refl
+pub checked_in-changes : (b : Bool) (d m : ℕ) (xs : List PoolItem) (gone over : ℕ → Bool) (c : ℕ) → connection_by (if_so b (checked_in d m) xs) gone over c ≡ (if b && (d == c) then once_checked_in (connection_by xs gone over c) else connection_by xs gone over c)
+checked_in-changes true d m xs gone over c = rw (arrives d c (available_list xs)) (checked_one (d == c) (connection_by xs gone over c))
+checked_in-changes false d m xs gone over c = refl
 
 failed_one : (t : Bool) (x : Connection) → record x { is_tried = t || x.is_tried } ≡ (if t then once_failed x else x)
 failed_one true x = refl
 failed_one false x = refl
 
-pub failed-changes : (b : Bool) (d : ℕ) (service : Option ObjectId) (xs : List PoolItem) (gone over : ℕ → Bool) (made dropped : ℕ) (pinned : Bool) (c : ℕ) → connection_by (if_so b (failed d service) xs) gone over made dropped pinned c ≡ (if b && (d == c) then once_failed (connection_by xs gone over made dropped pinned c) else connection_by xs gone over made dropped pinned c)
-failed-changes true d service xs gone over made dropped pinned c = failed_one (d == c) (connection_by xs gone over made dropped pinned c)
-failed-changes false d service xs gone over made dropped pinned c = refl
+pub failed-changes : (b : Bool) (d : ℕ) (service : Option ObjectId) (xs : List PoolItem) (gone over : ℕ → Bool) (c : ℕ) → connection_by (if_so b (failed d service) xs) gone over c ≡ (if b && (d == c) then once_failed (connection_by xs gone over c) else connection_by xs gone over c)
+failed-changes true d service xs gone over c = failed_one (d == c) (connection_by xs gone over c)
+failed-changes false d service xs gone over c = refl
 
 -- established in the background, where it was never granted
 pub established_available : (d c : ℕ) (xs : List PoolItem) → has c (if is_some (granted_to xs d) then available_list xs else (without d (available_list xs) ++ d ∷ [])) ≡ (if d == c then (is_available xs c || not (is_some (granted_to xs c))) else is_available xs c)
@@ -59,6 +59,6 @@ established_one : (t : Bool) (x : Connection) → record x { is_tried = t || x.i
 established_one true x = refl
 established_one false x = refl
 
-pub established-changes : (b : Bool) (d : ℕ) (how : Established) (m : ℕ) (xs : List PoolItem) (gone over : ℕ → Bool) (made dropped : ℕ) (pinned : Bool) (c : ℕ) → connection_by (if_so b (established d how m) xs) gone over made dropped pinned c ≡ (if b && (d == c) then once_established (connection_by xs gone over made dropped pinned c) else connection_by xs gone over made dropped pinned c)
-established-changes true d how m xs gone over made dropped pinned c = rw (established_available d c xs) (established_one (d == c) (connection_by xs gone over made dropped pinned c))
-established-changes false d how m xs gone over made dropped pinned c = refl
+pub established-changes : (b : Bool) (d : ℕ) (how : Established) (m : ℕ) (xs : List PoolItem) (gone over : ℕ → Bool) (c : ℕ) → connection_by (if_so b (established d how m) xs) gone over c ≡ (if b && (d == c) then once_established (connection_by xs gone over c) else connection_by xs gone over c)
+established-changes true d how m xs gone over c = rw (established_available d c xs) (established_one (d == c) (connection_by xs gone over c))
+established-changes false d how m xs gone over c = refl

@@ -30,16 +30,6 @@ once_established x = record x { is_tried = true; is_available = x.is_available |
 abbrev pub once_failed : Connection → Connection
 once_failed x = record x { is_tried = true }
 
-abbrev pub once_pinned : Connection → Connection
-once_pinned x = record x { pins = x.pins + 1 }
-
-abbrev pub once_unpinned : Connection → Connection
-once_unpinned x = record x { unpins = x.unpins + 1; is_pinned = x.is_pinned && nat_lt (x.unpins + 1) x.pins }
-
--- a holder returned it or gave it up
-abbrev pub once_back : Connection → Connection
-once_back x = record x { is_pinned = nat_lt x.unpins x.pins }
-
 -- parties: was and now tell whether it was kept by, or lent to, the party
 
 -- it was granted to a party
@@ -48,7 +38,7 @@ once_granted was now x = record x { is_granted = true; is_available = false; len
 
 -- a party took it
 abbrev pub once_taken : Bool → Bool → Bool → Connection → Connection
-once_taken was now lent x = record x { kept = (x.kept + one_if now) - one_if was; lent = x.lent - one_if lent; is_pinned = false }
+once_taken was now lent x = record x { kept = (x.kept + one_if now) - one_if was; lent = x.lent - one_if lent }
 
 -- the request of a party ended
 abbrev pub once_over : Bool → Connection → Connection
@@ -84,19 +74,13 @@ changed_if b change x = if b then change x else x
 
 -- a connection after what one of its parties did
 abbrev pub by_party : How → Gift → Party → Connection → Connection
-by_party how.GaveUp gift party x = changed_if (held_by_now gift party x) once_back x
-by_party how.GaveBack gift party x = once_returned (kept_now gift party) (lent_now gift party) (changed_if (held_by_now gift party x) once_back x)
-by_party how.Pinned gift party x = changed_if (held_by_now gift party x) once_pinned x
+by_party how.GaveBack gift party x = once_returned (kept_now gift party) (lent_now gift party) x
 by_party how.Over gift party x = once_over (lent_now gift party) x
 
 -- The connection c of pool p after a change: gifts tells how each party was given it, and parties what is known of each.
 abbrev pub connection_after : Change → (ℕ → Gift) → (ℕ → Party) → ℕ → ℕ → Connection → Connection
-connection_after (change.GivenUp r) gifts parties p c x = by_party how.GaveUp (gifts r) (parties r) x
 connection_after (change.Returned r) gifts parties p c x = by_party how.GaveBack (gifts r) (parties r) x
-connection_after (change.Pinned r) gifts parties p c x = by_party how.Pinned (gifts r) (parties r) x
-connection_after (change.Replicated q d) gifts parties p c x = changed_if ((q == p) && (d == c)) once_pinned x
 connection_after (change.Taken r q d) gifts parties p c x = changed_if ((q == p) && (d == c)) (once_taken (kept_now (gifts r) (parties r)) (not (parties r).is_returned) (lent_now (gifts r) (parties r))) x
-connection_after (change.Unpinned q d) gifts parties p c x = changed_if ((q == p) && (d == c)) once_unpinned x
 connection_after (change.Established q d) gifts parties p c x = changed_if ((q == p) && (d == c)) once_established x
 connection_after (change.Failed q d) gifts parties p c x = changed_if ((q == p) && (d == c)) once_failed x
 connection_after (change.Created q d) gifts parties p c x = changed_if ((q == p) && (d == c)) once_created x

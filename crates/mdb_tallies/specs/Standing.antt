@@ -6,7 +6,7 @@ use Rattle.mdb_log.specs.Requests.{some_act, was_asked}
 use Rattle.mdb_log.specs.declared.options.PoolOptions.{PoolOptions}
 use Rattle.mdb_log.specs.PlainConnections.{connections, creations, closings, is_tried, is_available, pending_total, closed_total}
 use Rattle.mdb_log.specs.PlainRequests.{pool_of, is_warm, is_granted, is_ended}
-use Rattle.mdb_log.specs.PlainHolders.{has_returned, is_granted_to, is_taken_by, parties, pins_made, pins_dropped, is_pinned}
+use Rattle.mdb_log.specs.PlainHolders.{has_returned, is_granted_to, is_taken_by, parties}
 use Rattle.mdb_log.specs.PlainState.{pools, last_state, has_ready}
 use Rattle.mdb_tallies.specs.Totals.{count}
 use Rattle.mdb_tallies.specs.declared.connection.Connection.{Connection}
@@ -26,9 +26,9 @@ is_lent granted taken gone over = granted && (not taken && (not gone && not over
 abbrev pub borrows : List PoolItem → (ℕ → Bool) → (ℕ → Bool) → ℕ → ℕ → Bool
 borrows xs gone over c r = is_lent (is_granted_to xs r c) (is_taken_by xs r c) (gone r) (over r)
 
--- a connection by its pool's items, by who returned and whose request ended, and by its pins
-abbrev pub connection_by : List PoolItem → (ℕ → Bool) → (ℕ → Bool) → ℕ → ℕ → Bool → ℕ → Connection
-connection_by xs gone over made dropped pinned c = record {
+-- a connection by its pool's items, and by who returned and whose request ended
+abbrev pub connection_by : List PoolItem → (ℕ → Bool) → (ℕ → Bool) → ℕ → Connection
+connection_by xs gone over c = record {
   creations = creations xs c;
   closings = closings xs c;
   is_tried = is_tried xs c;
@@ -36,14 +36,11 @@ connection_by xs gone over made dropped pinned c = record {
   is_available = is_available xs c;
   kept = count (keeps xs gone c) (parties xs c);
   lent = count (borrows xs gone over c) (parties xs c);
-  pins = made;
-  unpins = dropped;
-  is_pinned = pinned;
 }
 
 -- the connection c of pool p
 abbrev pub connection_of : List Item → ℕ → ℕ → Connection
-connection_of h p c = connection_by (of_pool p h) (has_returned h) (is_ended h) (pins_made p h c) (pins_dropped p h c) (is_pinned p h c) c
+connection_of h p c = connection_by (of_pool p h) (has_returned h) (is_ended h) c
 
 -- how the party r was given the connection c, by its pool's items
 abbrev pub gift_by : List PoolItem → ℕ → ℕ → Gift

@@ -13,12 +13,13 @@ use Rattle.mdb_tallies.specs.declared.pools.Pool.{Pool}
 abbrev pub held_now : Connection → ℕ
 held_now x = x.kept + (if pending_now x then 0 else x.lent)
 
-abbrev pub places_now : Connection → ℕ
-places_now x = one_if (pending_now x) + one_if x.is_available + held_now x + one_if x.is_pinned
+-- how many places it has, by whether it stands at its pin
+abbrev pub places_now : Connection → Bool → ℕ
+places_now x pinned = one_if (pending_now x) + one_if x.is_available + held_now x + one_if pinned
 
 -- as many places as creations beyond its closings, and one at most
-abbrev pub in_place_now : Connection → Bool
-in_place_now x = if nat_lt 0 x.creations then ((places_now x + x.closings == x.creations) && nat_le (places_now x) 1) else (x.closings == 0)
+abbrev pub in_place_now : Connection → Bool → Bool
+in_place_now x pinned = if nat_lt 0 x.creations then ((places_now x pinned + x.closings == x.creations) && nat_le (places_now x pinned) 1) else (x.closings == 0)
 
 -- it asked, and was neither granted a connection nor did its request end
 abbrev pub queued_now : Party → Bool

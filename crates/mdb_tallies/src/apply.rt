@@ -26,19 +26,19 @@ pub fn of_event(pool: u32, event: &CmapEvent) -> Change
 
 impl Tables {
     /// The tables after a change; is_balanced tells whether pools are ready from the start.
-    #[tactic(auto, using(crate::proofs::Placed::same_follows))]
+    #[tactic(auto, using(crate::proofs::Placed::quiet_follows))]
     pub fn apply(&mut self, is_balanced: bool, change: Change) -> Result<(), OutOfMemory>
         ensures { OnOk result (Covers self.old → Follows is_balanced change self.old self.new) }
     {
         match change {
-            Change::Nothing => Ok(()),
+            Change::Nothing
+            | Change::GivenUp(_)
+            | Change::Pinned(_)
+            | Change::Replicated(_, _)
+            | Change::Unpinned(_, _) => Ok(()),
             Change::Asked(party, pool, is_warm) => self.ask(party, pool, is_warm),
-            Change::GivenUp(party) => self.give_up(party),
             Change::Returned(party) => self.give_back(party),
-            Change::Pinned(party) => self.pin(party),
-            Change::Replicated(pool, id) => self.replicate(pool, id),
             Change::Taken(party, pool, id) => self.take(party, pool, id),
-            Change::Unpinned(pool, id) => self.unpin(pool, id),
             Change::Established(pool, id) => self.establish(pool, id),
             Change::Failed(pool, id) => self.fail(pool, id),
             Change::Opened(pool) => self.open(pool),

@@ -30,9 +30,7 @@ pub enum Change {
 /// What a party did that concerns each connection which it was given.
 #[derive(Clone, Copy)]
 pub enum How {
-    GaveUp,
     GaveBack,
-    Pinned,
     /// Its request ended.
     Over,
 }

@@ -21,7 +21,4 @@ pub struct Connection {
     pub kept: u64,
     /// How many parties were granted it, did not take it, did not return and whose request did not end.
     pub lent: u64,
-    pub pins: u64,
-    pub unpins: u64,
-    pub is_pinned: bool,
 }

@@ -2,7 +2,7 @@
 
 ghost use Rattle.std.specs.Prelude.{◌≡◌, ◌+◌, ◌-◌, ◌&&◌, ◌||◌, not, true, false, nat_lt, IfOk};
 ghost use Rattle.mdb_log.specs.Connections.{one_if};
-ghost use Rattle.mdb_tallies.specs.Changes.{pending_now, at_hand_now, closed_now, once_created, once_closed, once_checked_in, once_established, once_failed, once_pinned, once_unpinned, once_back, once_granted, once_taken, once_over, once_returned, kept_now, lent_now, held_by_now, done_now, by_party};
+ghost use Rattle.mdb_tallies.specs.Changes.{pending_now, at_hand_now, closed_now, once_created, once_closed, once_checked_in, once_established, once_failed, once_granted, once_taken, once_over, once_returned, kept_now, lent_now, held_by_now, done_now, by_party};
 ghost use Rattle.mdb_tallies.specs.Standing.{is_lent};
 
 use crate::change::How;
@@ -72,39 +72,12 @@ impl Connection {
         })
     }
 
-    pub fn once_pinned(self) -> Result<Connection, OutOfMemory>
-        ensures { IfOk result (λ x. x ≡ once_pinned self) }
-    {
-        let pins = one_more(self.pins)?;
-        Ok(Connection { pins, ..self })
-    }
-
-    pub fn once_unpinned(self) -> Result<Connection, OutOfMemory>
-        ensures { IfOk result (λ x. x ≡ once_unpinned self) }
-    {
-        let unpins = one_more(self.unpins)?;
-        Ok(Connection {
-            unpins,
-            is_pinned: self.is_pinned && unpins < self.pins,
-            ..self
-        })
-    }
-
     pub fn once_established(self) -> Connection
         ensures { result ≡ once_established self }
     {
         Connection {
             is_tried: true,
             is_available: self.is_available || !self.is_granted,
-            ..self
-        }
-    }
-
-    pub fn once_back(self) -> Connection
-        ensures { result ≡ once_back self }
-    {
-        Connection {
-            is_pinned: self.unpins < self.pins,
             ..self
         }
     }
@@ -128,7 +101,6 @@ impl Connection {
         Ok(Connection {
             kept,
             lent: self.lent.saturating_sub(one_if(lent)),
-            is_pinned: false,
             ..self
         })
     }
@@ -182,22 +154,11 @@ pub fn is_done(how: How, party: &Party) -> bool
 }
 
 /// The connection after what one of its parties did.
-pub fn by_party(
-    how: How,
-    gift: &Gift,
-    party: &Party,
-    old: Connection,
-) -> Result<Connection, OutOfMemory>
-    ensures { IfOk result (λ x. x ≡ by_party how gift.now party.now old) }
+pub fn by_party(how: How, gift: &Gift, party: &Party, old: Connection) -> Connection
+    ensures { result ≡ by_party how gift.now party.now old }
 {
-    let held = is_held(gift, party, &old);
     match how {
-        How::GaveUp => Ok(if held { old.once_back() } else { old }),
-        How::GaveBack => {
-            let back = if held { old.once_back() } else { old };
-            Ok(back.once_returned(is_kept(gift, party), is_lent(gift, party)))
-        }
-        How::Pinned => { if held { old.once_pinned() } else { Ok(old) } }
-        How::Over => Ok(old.once_over(is_lent(gift, party))),
+        How::GaveBack => old.once_returned(is_kept(gift, party), is_lent(gift, party)),
+        How::Over => old.once_over(is_lent(gift, party)),
     }
 }

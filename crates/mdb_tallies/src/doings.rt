@@ -22,7 +22,7 @@ impl Tables {
             let place = self.places.get(party, index);
             let gift = self.gifts.get((party, place.pool, place.id));
             let old = self.connections.get((place.pool, place.id, 0));
-            let new = by_party(how, &gift, &known, old)?;
+            let new = by_party(how, &gift, &known, old);
             self.connections.set((place.pool, place.id, 0), new)?;
         }
         Ok(())

@@ -12,7 +12,8 @@ use crate::party::{Gift, Party};
 use crate::tables::Tables;
 use mdb_base::OutOfMemory;
 
-fn push_if(
+/// The place is the last of the party's list, where the test holds.
+pub fn push_if(
     test: bool,
     places: &mut Lists<Place>,
     party: u32,

@@ -30,21 +30,22 @@ impl Connection {
         }
     }
 
-    fn places(&self) -> Result<u64, OutOfMemory>
-        ensures { IfOk result (λ n. n ≡ places_now self.now) }
+    fn places(&self, is_pinned: bool) -> Result<u64, OutOfMemory>
+        ensures { IfOk result (λ n. n ≡ places_now self.now is_pinned) }
     {
-        let here = one_if(self.is_pending()) + one_if(self.is_available) + one_if(self.is_pinned);
+        let here = one_if(self.is_pending()) + one_if(self.is_available) + one_if(is_pinned);
         sum(here, self.held()?)
     }
 
     /// It has as many places as creations beyond its closings, and one at most; one that was never created was never closed.
-    pub fn is_in_place(&self) -> Result<bool, OutOfMemory>
-        ensures { IfOk result (λ b. b ≡ in_place_now self.now) }
+    /// Whether it stands at its pin is told.
+    pub fn is_in_place(&self, is_pinned: bool) -> Result<bool, OutOfMemory>
+        ensures { IfOk result (λ b. b ≡ in_place_now self.now is_pinned) }
     {
         if self.creations == 0 {
             return Ok(self.closings == 0);
         }
-        let places = self.places()?;
+        let places = self.places(is_pinned)?;
         Ok(sum(places, self.closings)? == self.creations && places <= 1)
     }
 }

@@ -12,22 +12,6 @@ use mdb_base::OutOfMemory;
 
 impl Tables {
     #[tactic(auto, using(crate::proofs::Noted::note_follows))]
-    pub fn give_up(&mut self, party: u32) -> Result<(), OutOfMemory>
-        ensures { OnOk result (Covers self.old → (b : Bool) → Follows b (change.GivenUp party) self.old self.new) }
-    {
-        self.party_did(How::GaveUp, party)?;
-        Ok(())
-    }
-
-    #[tactic(auto, using(crate::proofs::Noted::note_follows))]
-    pub fn pin(&mut self, party: u32) -> Result<(), OutOfMemory>
-        ensures { OnOk result (Covers self.old → (b : Bool) → Follows b (change.Pinned party) self.old self.new) }
-    {
-        self.party_did(How::Pinned, party)?;
-        Ok(())
-    }
-
-    #[tactic(auto, using(crate::proofs::Noted::note_follows))]
     pub fn give_back(&mut self, party: u32) -> Result<(), OutOfMemory>
         ensures { OnOk result (Covers self.old → (b : Bool) → Follows b (change.Returned party) self.old self.new) }
     {

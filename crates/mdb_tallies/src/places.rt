@@ -61,22 +61,4 @@ impl Tables {
         self.replace(pool, id, new, 0)?;
         Ok(())
     }
-
-    #[tactic(auto, using(crate::proofs::Placed::place_follows))]
-    pub fn replicate(&mut self, pool: u32, id: u32) -> Result<(), OutOfMemory>
-        ensures { OnOk result ((b : Bool) → Follows b (change.Replicated pool id) self.old self.new) }
-    {
-        let new = self.connections.get((pool, id, 0)).once_pinned()?;
-        self.replace(pool, id, new, 0)?;
-        Ok(())
-    }
-
-    #[tactic(auto, using(crate::proofs::Placed::place_follows))]
-    pub fn unpin(&mut self, pool: u32, id: u32) -> Result<(), OutOfMemory>
-        ensures { OnOk result ((b : Bool) → Follows b (change.Unpinned pool id) self.old self.new) }
-    {
-        let new = self.connections.get((pool, id, 0)).once_unpinned()?;
-        self.replace(pool, id, new, 0)?;
-        Ok(())
-    }
 }

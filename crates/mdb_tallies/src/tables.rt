@@ -65,9 +65,6 @@ impl Tables {
             is_available: false,
             kept: 0,
             lent: 0,
-            pins: 0,
-            unpins: 0,
-            is_pinned: false,
         };
         let nobody = Party {
             is_asked: false,

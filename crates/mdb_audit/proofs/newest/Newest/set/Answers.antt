@@ -1,4 +1,5 @@
 use Rattle.std.proofs.Common.{◌∙◌, ap, if◌then◌else◌, Some}
+use Rattle.mdb_base.specs.Equality.{same_address}
 use Rattle.mdb_audit.specs.Newest.{by_host, last_at}
 use Rattle.std.specs.Ordering.{is_eq}
 use Rattle.mdb_audit.proofs.Ranks.{same-key, cond-if}

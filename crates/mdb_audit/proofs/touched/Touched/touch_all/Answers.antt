@@ -1,6 +1,6 @@
-use Rattle.std.proofs.Common.{sym, ap, ◌∙◌}
+use Rattle.std.proofs.Common.{sym, ap, ◌∙◌, refl}
 use Rattle.mdb_tallies.specs.Changes.{done_now}
-use Rattle.mdb_audit.proofs.Touches.{reaches_none}
+use Rattle.mdb_audit.proofs.Touches.{reaches_none, reaches_all}
 use Rattle.mdb_audit.proofs.touched.Touched.touch_all.Goals as goal
 
 pub returns-then-is_done : goal.returns-then-is_done

@@ -17,11 +17,11 @@ loop-index-preserved c = λ covers.
     let below : c.loop-index.index < len c.args.self.now.places c.args.party = omega (arith, c.loop-index-test.true, c.len-count.ensures) in
     let so_far = c.loop-index.invariant covers in
     let place = c.get-place.ensures ∙ ap (λ l. nth l c.args.party c.loop-index.index) so_far.places in
-    let here = c.in_ok-new.ensures
+    let here = c.by_party-new.ensures
     ∙ ap (λ g. by_party c.args.how g c.get-known.result c.get-old.result) c.get-gift.ensures
     ∙ ap (λ x. by_party c.args.how (at c.loop-index.self.gifts c.args.party c.get-place.result.pool c.get-place.result.id) x c.get-old.result) c.get-known.ensures
     ∙ ap (λ y. by_party c.args.how (at c.loop-index.self.gifts c.args.party c.get-place.result.pool c.get-place.result.id) (at c.args.self.now.parties c.args.party 0 0) y) c.get-old.ensures in
-    did-next c.args.how c.args.party c.loop-index.index c.args.self.now c.loop-index.self c.set.new.self c.get-place.result c.in_ok-new.new covers so_far below place here c.in_ok-set.ensures
+    did-next c.args.how c.args.party c.loop-index.index c.args.self.now c.loop-index.self c.set.new.self c.get-place.result c.by_party-new.result covers so_far below place here c.in_ok-set.ensures
 
 pub returns : goal.returns
 returns c = λ covers.

@@ -1,0 +1,4 @@
+pub mod Counts
+pub mod Following
+pub mod Numbered
+pub mod Standing
