@@ -1,0 +1,4 @@
+use Rattle.mdb_session_laws.proofs.laws.logs_are_sound.Goals as goal
+
+pub returns : goal.returns
+returns c = c.driver_logs_are_sound.ensures c.logs_are_legal.ensures.driver.0 c.args.session.now c.logs_are_legal.ensures.driver.1

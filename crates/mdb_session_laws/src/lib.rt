@@ -1,0 +1,6 @@
+//! What every log of a session keeps, whoever made its steps and by whichever calls.
+#![tactic(auto)]
+
+mod laws;
+
+pub use laws::{logs_are_legal, logs_are_sound, slots_cross};
