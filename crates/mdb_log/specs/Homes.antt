@@ -1,5 +1,5 @@
 -- The pools that a history opened, and which of them an act concerns.
-use Rattle.std.specs.Prelude.{ℕ, Bool, false, not, ◌==◌, is_some, List, [], ◌∷◌, ◌++◌, find, Option}
+use Rattle.std.specs.Prelude.{ℕ, Bool, false, not, ◌==◌, is_some, List, [], ◌∷◌, ◌++◌}
 use Rattle.std.specs.List.{list_any}
 use Rattle.mdb_base.specs.declared.address.ServerAddress.{ServerAddress}
 use Rattle.mdb_events.specs.declared.fact.Fact.TheVariants.{Opened}
@@ -40,7 +40,3 @@ concerns h (Replicate q c) p = q == p
 concerns h (Take r q c) p = q == p
 concerns h (Unpin q c) p = q == p
 concerns h _ p = false
-
--- the first pool, by number, that the act concerns
-abbrev pub home_of : List Item → Act → Option Home
-home_of h act = find (λ x. concerns h act x.number) (homes h)
