@@ -2,5 +2,6 @@
 #![tactic(auto)]
 
 pub mod errors;
+pub mod handed;
 pub mod logs;
 pub mod pools;
