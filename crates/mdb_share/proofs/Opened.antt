@@ -17,12 +17,12 @@ use Rattle.mdb_topology.specs.Lines.{entry_after}
 use Rattle.mdb_topology.specs.Logging.{IsDriverOf, AreDriven, opening_step}
 use Rattle.mdb_topology.proofs.Driven.{legal-log, kept-log}
 use Rattle.mdb_histories.proofs.Logs.{sound-log}
-use Rattle.mdb_plain.proofs.Drivers.{plain-log}
+use Rattle.mdb_histories.proofs.OfPlain.Drivers.{plain-log}
 use Rattle.mdb_runs.specs.Runs.{IsWithin}
 use Rattle.mdb_runs.proofs.Between.{has-driver}
 use Rattle.mdb_runs.proofs.Taken.{taken}
 use Rattle.mdb_share.specs.Parts.{IsSharedOn}
-use Rattle.mdb_told.specs.Answers.{AreAnswers}
+use Rattle.mdb_laws.specs.Answers.{AreAnswers}
 use Rattle.mdb_share.specs.Scripts.{Shared}
 
 driver_spelled : (a : Act) → IsDriverAct a → is_spelled a ≡ true

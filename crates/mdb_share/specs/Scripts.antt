@@ -7,7 +7,7 @@ use Rattle.mdb_log.specs.LegalLog.{IsLegalLog}
 use Rattle.mdb_log.specs.PlainLegal.{LegalLog}
 use Rattle.mdb_topology.specs.Lines.{entry_after}
 use Rattle.mdb_topology.specs.Logging.{IsKept}
-use Rattle.mdb_told.specs.Answers.{AreAnswers}
+use Rattle.mdb_laws.specs.Answers.{AreAnswers}
 use Rattle.mdb_histories.specs.SoundHistory.{SoundHistory}
 use Rattle.mdb_runs.specs.Runs.{HasDriver}
 use Rattle.mdb_share.specs.Shares.{IsShared}

@@ -6,7 +6,7 @@ use Rattle.mdb_log.specs.declared.log.Entry.{Entry}
 use Rattle.mdb_log.specs.declared.step.Step.{Step}
 use Rattle.mdb_lines.specs.Script.{Spells, AreAllowed}
 use Rattle.mdb_lines.specs.Spelling.{spelling}
-use Rattle.mdb_told.specs.Answers.{AreAnswers}
+use Rattle.mdb_laws.specs.Answers.{AreAnswers}
 use Rattle.mdb_topology.specs.Lines.{entry_after, steps_of}
 use Rattle.mdb_shared.specs.Turning.{own}
 use Rattle.mdb_shared.specs.Seats.{raised, last_in}
