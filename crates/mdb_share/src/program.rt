@@ -15,20 +15,11 @@ ghost use Rattle.mdb_share.specs.Program.{ProgramShares, ProgramEnds, AsksScript
 use crate::shared::run_shared;
 use mdb_base::{Sink, Source};
 use mdb_generator::{ToolCommand, read_words};
-use mdb_lines::{MAX_INPUT, RunError, Status, status_of, tell_error};
+use mdb_lines::{MAX_INPUT, Status, end_with_error};
 use mdb_runs::run_tool;
 use std::alloc::Global;
 use std::sync::Wait;
 use std::thread::Threads;
-
-// Says why a run ended before its end, and answers its status.
-fn ended<E: Sink>(errors: &mut E, e: RunError) -> Status
-    ensures status { result ≡ status e }
-    ensures told { Tells (record { held = E.held errors.old; faults = E.faults errors.old }) (record { held = E.held errors.new; faults = E.faults errors.new }) (message e) }
-{
-    tell_error(errors, e);
-    status_of(e)
-}
 
 // How many parts the words ask for.
 fn parts_of(words: &[&str]) -> Option<u32>
@@ -66,7 +57,7 @@ fn share<R: Threads + Wait + Sync, S: Source, K: Sink, E: Sink>(
 {
     match run_shared(rt, alloc, k, source, sink) {
         Ok(_log) => 0,
-        Err(e) => ended(errors, e),
+        Err(e) => end_with_error(errors, e),
     }
 }
 
