@@ -63,11 +63,11 @@ impl Body {
     pub fn may_connect(&self) -> bool
         ensures { result ≡ nat_lt (pending_count (now_of self.now)) (max_connecting self.now.options) }
     {
-        self.pending_count()
-            < self
-                .options
-                .max_connecting
-                .unwrap_or(DEFAULT_MAX_CONNECTING) as usize
+        let most = self
+            .options
+            .max_connecting
+            .unwrap_or(DEFAULT_MAX_CONNECTING);
+        self.pending_count() < most as usize
     }
 
     // A connection may be created for a caller.
