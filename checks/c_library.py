@@ -167,7 +167,7 @@ def text_of(seed, length):
 def calls_of(seed, length):
     """An opening and random calls, as fuzz.c reads them."""
     chance = random.Random(seed)
-    calls = [bytes([128 + chance.randrange(18), chance.randrange(9), 0, chance.randrange(1, 6), *[chance.randrange(4) for _ in range(2)], 0, chance.randrange(1, 5), 22, 0])
+    calls = [bytes([128 + chance.randrange(24), chance.randrange(9), 0, chance.randrange(1, 6), *[chance.randrange(4) for _ in range(2)], 0, chance.randrange(1, 5), 22, 0])
              for _ in range(length)]
     opening = [b'open seeds=a:1 max=2', b'hello 0 a:1 0 ok rtt=5 minWireVersion=0 maxWireVersion=21'] if seed % 4 else [b'open seeds=a:1 lb']
     return b'\n'.join(opening + [it.replace(b'\n', b'\x0b') for it in calls]) + b'\n'

@@ -2,6 +2,7 @@
 // behind it. After each call the text of the last entry and its facts agree, and at the end the lines of all entries, given to a second driver, make the
 // same log. The switches over replies and facts are what guides AFL++, since the library itself is not instrumented.
 // usage: fuzz < FILE
+#define _GNU_SOURCE
 #include "mdb.h"
 #include <stdio.h>
 #include <stdlib.h>
@@ -45,6 +46,34 @@ static void notice_fact(const mdb_fact *fact) {
     }
 }
 
+// The address that a fact names stands in its text, and the types of a change are types.
+static void names(size_t index, const char *text, size_t length) {
+    uint8_t address[512];
+    size_t needed = 0;
+    mdb_types types;
+    mdb_status status = mdb_fact_address(&slot, index, address, sizeof address, &needed);
+    CHECK(status == MDB_NO_ENTRY || (status == MDB_OK && needed > 2 && memmem(text, length, address, needed)));
+    if (mdb_fact_types(&slot, index, &types) == MDB_OK) CHECK(types.before >= 1 && types.before <= 9 && types.after >= 1 && types.after <= 9);
+}
+
+// What is known: as many servers as the topology says, each found by its own address, and each text as long as it says.
+static void know(void) {
+    static uint8_t text[1 << 16];
+    mdb_topology topology;
+    mdb_server server;
+    size_t needed, place;
+    CHECK(mdb_topology_get(&slot, &topology) == MDB_OK && topology.kind >= 1 && topology.kind <= 6);
+    for (uint32_t which = 0; which < 6; which++) CHECK(mdb_topology_text(&slot, which, text, sizeof text, &needed) != MDB_NO_ROOM);
+    for (size_t i = 0; i < topology.servers; i++) {
+        CHECK(mdb_server_get(&slot, i, &server) == MDB_OK && server.kind >= 1 && server.kind <= 9);
+        CHECK(mdb_server_text(&slot, i, MDB_TEXT_ADDRESS, text, sizeof text, &needed) == MDB_OK);
+        CHECK(mdb_server_at(&slot, text, needed, &place) == MDB_OK && place == i);
+        CHECK((mdb_server_text(&slot, i, MDB_TEXT_ERROR, text, sizeof text, &needed) == MDB_OK) == (server.has_error == 1));
+        for (uint32_t which = 5; which < 13; which++) CHECK(mdb_server_text(&slot, i, which, text, sizeof text, &needed) != MDB_NO_ROOM);
+    }
+    CHECK(mdb_server_get(&slot, topology.servers, &server) == MDB_NO_ENTRY);
+}
+
 // The last entry's text is kept, and its facts are those of the text.
 static void look(void) {
     size_t needed = 0, count = 0, length = 0;
@@ -61,8 +90,10 @@ static void look(void) {
         CHECK(mdb_fact_text(&slot, i, text, sizeof text, &length) == MDB_OK && (size_t)(at - entry) > length + 3);
         at -= length;
         CHECK(memcmp(at, text, length) == 0 && memcmp(at - 3, " | ", 3) == 0);
+        names(i, at, length);
         at -= 3;
     }
+    know();
     starts[entries++] = told;
     told += needed;
     starts[entries] = told;
@@ -104,6 +135,9 @@ static mdb_status called(const uint8_t *at, const uint8_t *end, mdb_reply *reply
         case 18: return mdb_failed(&slot, &when, &connection, at, (size_t)(end - at), reply);
         case 19: return mdb_hello(&slot, &when, (const uint8_t *)"a:1 0", 5, at, (size_t)(end - at), reply);
         case 20: return mdb_beaten(&slot, &when, (const uint8_t *)"a:1 0", 5, at, (size_t)(end - at), reply);
+        case 21: return mdb_rtt(&slot, &when, (const uint8_t *)"a:1 0", 5, (uint64_t)party << connection.pool % 57, reply);
+        case 22: return mdb_hosts(&slot, &when, at, (size_t)(end - at), reply);
+        case 23: return mdb_cluster_time(&slot, &when, (uint64_t)party << connection.pool % 57, reply);
         default: return mdb_request(&slot, &when, party, at, (size_t)(end - at), reply); // an address of any bytes
     }
 }

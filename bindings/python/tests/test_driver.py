@@ -162,4 +162,4 @@ def test_threads_share_a_driver():
 
 
 def test_version():
-    assert mdb.__version__ == "0.1.0"
+    assert mdb.__version__ == "0.2.0"

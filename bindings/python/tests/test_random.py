@@ -7,7 +7,7 @@ import pytest
 
 from mdb import Driver, Malformed
 from scripts import script
-from spoken import step
+from spoken import by_call
 
 HERE = os.path.dirname(os.path.abspath(__file__))
 PROGRAM = os.environ.get("MDB_SCRIPT", os.path.join(HERE, "..", "..", "..", "crates", "mdb_script", "out", "mdb_script"))
@@ -28,12 +28,12 @@ def log_by(take, lines):
 def test_lines_and_calls_agree(seed):
     lines = script(seed, LENGTH)
     by_lines = log_by(lambda driver, line: driver.line(line), lines)
-    assert log_by(step, lines) == by_lines
+    assert log_by(by_call, lines) == by_lines
     assert [text.split(" | ")[0] for text in by_lines] == lines
 
 
 def test_scripts_reach_much():
-    entries = [text for seed in range(20) for text in log_by(step, script(seed, LENGTH))]
+    entries = [text for seed in range(20) for text in log_by(by_call, script(seed, LENGTH))]
     for word in ("Pooled", "Establishing", "Waiting", "Ended", "Job", "NoJob", "Changed true", "Changed false", "Count", "Done", "Refused NotHolder", "ConnectionClosed", "PoolCleared"):
         assert any(word in text for text in entries), word
 

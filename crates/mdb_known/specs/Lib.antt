@@ -1,0 +1,4 @@
+pub mod Types
+pub mod Topologies
+pub mod Servers
+pub mod FactParts
