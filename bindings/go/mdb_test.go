@@ -70,6 +70,51 @@ func TestErrors(t *testing.T) {
 	}
 }
 
+func TestServers(t *testing.T) {
+	d, err := Open("open seeds=a:1,b:2")
+	if err != nil {
+		t.Fatal(err)
+	}
+	defer d.Close()
+	if r, err := d.Hello(3, "a:1", 0, "ok rtt=9 isWritablePrimary=true hosts=a:1,c:3 setVersion=7 setName=rs maxWireVersion=21"); err != nil || r.Number != 1 {
+		t.Fatal(r, err)
+	}
+	if facts, err := d.Facts(); err != nil || len(facts) == 0 || facts[0].Address != "a:1" {
+		t.Fatal(facts, err)
+	}
+	if topology, err := d.Topology(); err != nil || topology.Kind != 4 || topology.Servers != 2 || topology.MaxSetVersion != 7 || !topology.Compatible {
+		t.Fatal(topology, err)
+	}
+	if name, err := d.TopologyText(SetName); err != nil || name != "rs" {
+		t.Fatal(name, err)
+	}
+	if _, err := d.TopologyText(ErrorText); err != NoEntry {
+		t.Fatal(err)
+	}
+	place, err := d.ServerAt("A:1")
+	if err != nil || place != 0 {
+		t.Fatal(place, err)
+	}
+	if server, err := d.Server(place); err != nil || server.Kind != 4 || server.RoundTrip != 9 || server.Updated != 3 || server.SetVersion != 7 || !server.HasRoundTrip {
+		t.Fatal(server, err)
+	}
+	if hosts, err := d.ServerText(place, Hosts); err != nil || hosts != "a:1,c:3" {
+		t.Fatal(hosts, err)
+	}
+	if _, err := d.Server(2); err != NoEntry {
+		t.Fatal(err)
+	}
+	if r, err := d.ClusterTime(4, 5); err != nil || r.Kind != Done {
+		t.Fatal(r, err)
+	}
+	if r, err := d.RTT(4, "a:1", 0, 7); err != nil || r.Kind != Count {
+		t.Fatal(r, err)
+	}
+	if _, err := d.Hosts(4, "B:2"); err != Malformed {
+		t.Fatal(err)
+	}
+}
+
 func TestLongTexts(t *testing.T) {
 	seeds := make([]string, 128)
 	for i := range seeds {
@@ -116,6 +161,23 @@ func TestGoroutines(t *testing.T) {
 		}(seat)
 	}
 	crew.Wait()
+}
+
+func BenchmarkLines(b *testing.B) {
+	d := opened(b)
+	defer d.Close()
+	if _, err := d.Line(0, "return 4 1 ok"); err != nil {
+		b.Fatal(err)
+	}
+	b.ResetTimer()
+	for n := 0; n < b.N; n++ {
+		if r, err := d.Line(0, fmt.Sprintf("request 5 %d a:27017", n+2)); err != nil || r.Kind != Pooled {
+			b.Fatal(r, err)
+		}
+		if _, err := d.Line(0, fmt.Sprintf("return 5 %d ok", n+2)); err != nil {
+			b.Fatal(err)
+		}
+	}
 }
 
 func BenchmarkCalls(b *testing.B) {

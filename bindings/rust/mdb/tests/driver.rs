@@ -1,4 +1,4 @@
-use mdb::{Connection, Driver, End, Error, Event, Kind, Use, Why};
+use mdb::{Connection, Driver, End, Error, Event, Kind, ServerKind, Text, TopologyKind, Use, Why};
 
 fn opened() -> Driver {
     let mut driver = Driver::open("open seeds=a:27017 max=2 wait=5").unwrap();
@@ -64,6 +64,28 @@ fn what_is_known_is_told() {
     let mut driver = opened();
     assert_eq!((driver.last_moment(), driver.published()), (Ok(1), Ok(2)));
     assert_eq!((driver.open_pool("A"), driver.open_pool("b:1"), driver.open_pool("b:0")), (Ok(Some(0)), Ok(None), Err(Error::Malformed)));
+}
+
+#[test]
+fn servers_and_the_topology_are_told() {
+    let mut driver = Driver::open("open seeds=a:1,b:2").unwrap();
+    assert_eq!(driver.topology().unwrap().kind, TopologyKind::Unknown);
+    driver.hello(3, "a:1", 0, "ok rtt=9 isWritablePrimary=true hosts=a:1,c:3 setVersion=7 setName=rs maxWireVersion=21").unwrap();
+    let facts = driver.facts().unwrap();
+    assert!(facts.iter().any(|fact| fact.event == Event::ServerChanged && fact.address.as_deref() == Some("a:1")));
+    let topology = driver.topology().unwrap();
+    assert_eq!((topology.kind, topology.servers, topology.max_set_version), (TopologyKind::ReplicaSetWithPrimary, 2, Some(7)));
+    assert_eq!(driver.topology_text(Text::SetName).unwrap().as_deref(), Some("rs"));
+    assert_eq!(driver.topology_text(Text::Error), Ok(None));
+    assert_eq!((driver.server_at("A:1"), driver.server_at("b:2")), (Ok(Some(0)), Ok(None)));
+    let server = driver.server(0).unwrap().unwrap();
+    assert_eq!((server.kind, server.round_trip, server.updated, server.set_version), (ServerKind::RsPrimary, Some(9), Some(3), Some(7)));
+    assert_eq!(driver.server_text(0, Text::Hosts).unwrap().as_deref(), Some("a:1,c:3"));
+    assert_eq!((driver.server(2), driver.server_text(2, Text::Address)), (Ok(None), Ok(None)));
+    assert_eq!(driver.cluster_time(4, 5).unwrap().kind, Kind::Done);
+    assert_eq!(driver.topology().unwrap().cluster_time, Some(5));
+    assert_eq!(driver.rtt(4, "a:1", 0, 7).unwrap().kind, Kind::Count);
+    assert_eq!(driver.hosts(4, "B:2"), Err(Error::Malformed));
 }
 
 #[test]
