@@ -4,6 +4,7 @@ import (
 	"fmt"
 	"strings"
 	"sync"
+	"syscall"
 	"testing"
 )
 
@@ -163,36 +164,54 @@ func TestGoroutines(t *testing.T) {
 	crew.Wait()
 }
 
-func BenchmarkLines(b *testing.B) {
-	d := opened(b)
-	defer d.Close()
-	if _, err := d.Line(0, "return 4 1 ok"); err != nil {
-		b.Fatal(err)
+// The processor time of this process, in nanoseconds.
+func spent() int64 {
+	var used syscall.Rusage
+	if err := syscall.Getrusage(syscall.RUSAGE_SELF, &used); err != nil {
+		panic(err)
 	}
-	b.ResetTimer()
-	for n := 0; n < b.N; n++ {
-		if r, err := d.Line(0, fmt.Sprintf("request 5 %d a:27017", n+2)); err != nil || r.Kind != Pooled {
-			b.Fatal(r, err)
-		}
-		if _, err := d.Line(0, fmt.Sprintf("return 5 %d ok", n+2)); err != nil {
-			b.Fatal(err)
-		}
-	}
+	return used.Utime.Nano() + used.Stime.Nano()
 }
 
-func BenchmarkCalls(b *testing.B) {
+// Times a round of a request and a return, and reports its processor time as the least of pieces of 500 rounds.
+func timed(b *testing.B, round func(d *Driver, party uint32) error) {
 	d := opened(b)
 	defer d.Close()
 	if _, err := d.Return(4, 1, Used); err != nil {
 		b.Fatal(err)
 	}
+	least := int64(1) << 62
 	b.ResetTimer()
-	for n := 0; n < b.N; n++ {
-		if r, err := d.Request(5, uint32(n)+2, "a:27017"); err != nil || r.Kind != Pooled {
-			b.Fatal(r, err)
-		}
-		if _, err := d.Return(5, uint32(n)+2, Used); err != nil {
+	for n, began := 0, spent(); n < b.N; n++ {
+		if err := round(d, uint32(n)+2); err != nil {
 			b.Fatal(err)
 		}
+		if n%500 == 499 {
+			if took := (spent() - began) / 500; took < least {
+				least = took
+			}
+			began = spent()
+		}
 	}
+	b.ReportMetric(float64(least), "least-cpu-ns/op")
+}
+
+func BenchmarkLines(b *testing.B) {
+	timed(b, func(d *Driver, party uint32) error {
+		if _, err := d.Line(0, fmt.Sprintf("request 5 %d a:27017", party)); err != nil {
+			return err
+		}
+		_, err := d.Line(0, fmt.Sprintf("return 5 %d ok", party))
+		return err
+	})
+}
+
+func BenchmarkCalls(b *testing.B) {
+	timed(b, func(d *Driver, party uint32) error {
+		if _, err := d.Request(5, party, "a:27017"); err != nil {
+			return err
+		}
+		_, err := d.Return(5, party, Used)
+		return err
+	})
 }

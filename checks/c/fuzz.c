@@ -1,12 +1,13 @@
 // A target for AFL++, and for files of its own: an input is lines, and a line that begins with a byte of 128 or more is a call whose numbers are the bytes
 // behind it. After each call the text of the last entry and its facts agree, and at the end the lines of all entries, given to a second driver, make the
 // same log. The switches over replies and facts are what guides AFL++, since the library itself is not instrumented.
-// usage: fuzz < FILE
+// usage: fuzz < FILE, or fuzz SECONDS SEED: random openings and calls for so long, and how many inputs and calls there were
 #define _GNU_SOURCE
 #include "mdb.h"
 #include <stdio.h>
 #include <stdlib.h>
 #include <string.h>
+#include <time.h>
 #include <unistd.h>
 
 #define CHECK(what) do { if (!(what)) { fprintf(stderr, "line %d: %s\n", __LINE__, #what); abort(); } } while (0)
@@ -196,9 +197,45 @@ int main(void) {
     return 0;
 }
 #else
-int main(void) {
+static uint64_t state = 1;
+
+static uint32_t below(uint32_t n) {
+    state ^= state << 13, state ^= state >> 7, state ^= state << 17;
+    return (uint32_t)(state >> 33) % n;
+}
+
+// An opening, a hello, and random calls; the bytes of a call are small numbers, for the most part, so that parties, pools and connections meet.
+static size_t made(uint8_t *out) {
+    static const char *const openings[] = {"open seeds=a:1 max=2", "open seeds=a:1 lb", "open seeds=a:1,b:2 set=rs", "open seeds=a:1 max=3 min=1 idle=4 wait=3", "open seeds=a:1 limit_id=9"};
+    static const char *const hellos[] = {
+        "hello 0 a:1 0 ok rtt=5 isWritablePrimary=true maxWireVersion=21", "hello 0 a:1 0 ok rtt=5 hosts=a:1,c:3 setName=rs secondary=true maxWireVersion=21", "hello 0 a:1 0 err network msg=x",
+        "hello 0 a:1 0 ok rtt=5 isWritablePrimary=true hosts=a:1,b:2 setVersion=1 setName=rs maxWireVersion=21 electionId=000000000000000000000001 topologyVersion=000000000000000000000001.5", "beat 0 a:1 0",
+    };
+    static const char *const texts[] = {"network msg=x", "timeout msg=", "pre network msg=x", "post auth msg=y", "ok rtt=7 isWritablePrimary=true maxWireVersion=21", "7 ok msg=isdbgrid maxWireVersion=21", "7 err network msg=z", "err other msg=", "b:2,c:3", "command.91 labels=A msg=", "7 cancelled network msg=z"};
+    size_t n = (size_t)sprintf((char *)out, "%s\n%s\n", openings[below(5)], hellos[below(5)]);
+    for (uint32_t calls = 20 + below(180); calls > 0; calls--) {
+        uint8_t kind = (uint8_t)(128 + (below(4) ? below(7) : below(25)));
+        uint8_t bytes[] = {kind, (uint8_t)(1 + below(9)), 1, (uint8_t)(1 + below(8)), (uint8_t)below(below(4) ? 2 : 8), (uint8_t)below(4), 0, (uint8_t)(1 + below(5)), 22, 0};
+        for (size_t i = 0; i < sizeof bytes; i++) out[n++] = bytes[i] == 10 ? 11 : bytes[i];
+        if (kind >= 128 + 17) n += (size_t)sprintf((char *)out + n, "%s", texts[below(11)]);
+        out[n++] = 10;
+    }
+    return n;
+}
+
+int main(int argc, char **argv) {
     static uint8_t input[1 << 20];
-    run(input, fread(input, 1, sizeof input - 1, stdin));
+    if (argc < 3) {
+        run(input, fread(input, 1, sizeof input - 1, stdin));
+        return 0;
+    }
+    time_t until = time(0) + atol(argv[1]);
+    unsigned long inputs = 0, steps = 0;
+    for (state = strtoul(argv[2], 0, 10) * 2 + 1; time(0) < until; inputs++) {
+        run(input, made(input));
+        steps += entries;
+    }
+    printf("%lu inputs, %lu entries\n", inputs, steps);
     return 0;
 }
 #endif

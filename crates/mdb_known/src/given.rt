@@ -35,7 +35,7 @@ impl fmt::Display for Listed<'_> {
 
 /// A copy of the text, if there is one.
 pub fn text_of(alloc: Global, text: Option<&str>) -> Result<Option<String>, OutOfMemory>
-    ensures { IfOk result (λ copy. option_map string_bytes copy ≡ option_copied text) }
+    ensures { IfOk result (λ copy. option_map string_bytes copy ≡ option_copied text.entry) }
 {
     match text {
         Some(text) => Ok(Some(format!(in alloc; "{text}")?)),

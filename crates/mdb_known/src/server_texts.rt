@@ -46,7 +46,7 @@ fn text_of_reply(
 
 // The text of the error, if there is one.
 fn text_of_error(alloc: Global, error: Option<&Error>) -> Result<Option<String>, OutOfMemory>
-    ensures { IfOk result (λ text. option_map string_bytes text ≡ option_map error_text (option_copied error)) }
+    ensures { IfOk result (λ text. option_map string_bytes text ≡ option_map error_text (option_copied error.entry)) }
 {
     match error {
         Some(error) => Ok(Some(format!(in alloc; "{error}")?)),
