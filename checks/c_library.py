@@ -162,9 +162,9 @@ class Checks:
 
     def by_afl(self, program, seeds):
         found = os.path.join(self.folder, 'afl')
-        settings = {**os.environ, 'AFL_SKIP_CPUFREQ': '1', 'AFL_NO_UI': '1', 'AFL_NO_AFFINITY': '1', 'AFL_I_DONT_CARE_ABOUT_MISSING_CRASHES': '1',
+        settings = {**os.environ, 'AFL_SKIP_CPUFREQ': '1', 'AFL_NO_UI': '1', 'AFL_NO_AFFINITY': '1', 'AFL_HANG_TMOUT': '60000', 'AFL_I_DONT_CARE_ABOUT_MISSING_CRASHES': '1',
                     'ASAN_OPTIONS': 'abort_on_error=1:symbolize=0:detect_leaks=0', 'UBSAN_OPTIONS': 'abort_on_error=1:symbolize=0'}
-        words = ['afl-fuzz', '-V', str(self.given.seconds), '-m', 'none', '-t', '2000+', '-i', seeds, '-o', found, '--', program]
+        words = ['afl-fuzz', '-V', str(self.given.seconds), '-m', 'none', '-t', '20000', '-i', seeds, '-o', found, '--', program]
         well, told = run(words, env=settings, stdin=subprocess.DEVNULL)
         stats = os.path.join(found, 'default', 'fuzzer_stats')
         if not os.path.exists(stats):
