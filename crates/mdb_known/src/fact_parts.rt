@@ -9,7 +9,7 @@ use mdb_events::{CmapEvent, Fact, SdamEvent};
 
 /// The types of a server or of the topology before and after a change.
 #[repr(C)]
-#[derive(Clone, Copy, Debug, PartialEq, Eq)]
+#[derive(Clone, Copy)]
 pub struct TypesNumbers {
     /// Before the change, from 1.
     pub before: u32,

@@ -9,7 +9,7 @@ use mdb_describe::{ServerDescription, ServerInfo};
 
 /// What is known of a server. A number that is not known is 0.
 #[repr(C)]
-#[derive(Clone, Copy, Debug, PartialEq, Eq)]
+#[derive(Clone, Copy)]
 pub struct ServerNumbers {
     /// The average round trip, in nanoseconds.
     pub round_trip: u64,

@@ -9,7 +9,7 @@ use mdb_describe::TopologyDescription;
 
 /// What is known of a topology. A number that is not known is 0.
 #[repr(C)]
-#[derive(Clone, Copy, Debug, PartialEq, Eq)]
+#[derive(Clone, Copy)]
 pub struct TopologyNumbers {
     /// How many servers it has.
     pub servers: u64,
