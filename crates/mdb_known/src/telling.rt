@@ -1,12 +1,11 @@
 //! What the driver in a slot tells of its topology and its servers, without a step.
 
-ghost use Rattle.std.specs.Prelude.{◌≡◌, ◌≢◌, ◌↔◌, ◌++◌, ◌<◌, ℕ, List, None, Some, length, drop, slice_get};
+ghost use Rattle.std.specs.Prelude.{◌≡◌, ◌≢◌, ◌↔◌, ◌++◌, ◌<◌, ℕ, List, None, Some, length, drop};
 ghost use Rattle.mdb_base.specs.declared.address.ServerAddress.{ServerAddress as Address};
-ghost use Rattle.mdb_describe.specs.declared.description.ServerDescription.{ServerDescription as Server};
 ghost use Rattle.mdb_log.specs.declared.log.Entry.{Entry};
 ghost use Rattle.mdb_topology.specs.Lines.{described};
 ghost use Rattle.mdb_session.specs.Texts.{IsAddressOf};
-ghost use Rattle.mdb_known.specs.Servers.{numbers_at, server_numbers, text_at, place_of};
+ghost use Rattle.mdb_known.specs.Servers.{numbers_at, text_at, place_of};
 ghost use Rattle.mdb_known.specs.Topologies.{topology_numbers, topology_text};
 
 use crate::given::give;
@@ -75,8 +74,8 @@ fn numbers_at(servers: &[ServerDescription], index: usize) -> Option<ServerNumbe
 
 /// Tells the numbers of a server, by its place in the order of the servers' addresses.
 pub fn server(alloc: Global, slot: &mut Slot, index: usize, told: &mut ServerNumbers) -> Status
-    ensures ok { result ≡ OK → (log : List Entry) × (s : Server) × (slot.old.word.value ≡ Some log) × (slice_get (described log).servers index ≡ Some s) × (told.new ≡ server_numbers s) }
-    ensures none { result ≡ NO_ENTRY → (log : List Entry) × (slot.old.word.value ≡ Some log) × (slice_get (described log).servers index ≡ None) }
+    ensures ok { result ≡ OK → (log : List Entry) × (slot.old.word.value ≡ Some log) × (numbers_at (described log).servers index ≡ Some told.new) }
+    ensures none { result ≡ NO_ENTRY → (log : List Entry) × (slot.old.word.value ≡ Some log) × (numbers_at (described log).servers index ≡ None) }
     ensures other { result ≢ OK → told.new ≡ told.old }
     ensures same { slot.new.word.value ≡ slot.old.word.value }
     ensures closed { (result ≡ CLOSED) ↔ (slot.old.word.value ≡ None) }
