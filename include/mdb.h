@@ -193,6 +193,10 @@ mdb_status mdb_return(mdb_slot *slot, const mdb_at *at, uint32_t party, uint32_t
 /* A worker asks for a connection to establish (CMAP, "Establishing a Connection"): MDB_JOB or MDB_NO_JOB. */
 mdb_status mdb_claim(mdb_slot *slot, const mdb_at *at, mdb_reply *reply);
 
+/* The address to which a pending connection goes, as `a:27017`. *needed is its length, and 0 at MDB_NO_ENTRY, MDB_NO_MEMORY and MDB_CLOSED; at
+ * MDB_NO_ROOM nothing is written. MDB_NO_ENTRY where it is not pending. No step. */
+mdb_status mdb_job_address(mdb_slot *slot, uint32_t pool, uint32_t id, uint8_t *out, size_t out_len, size_t *needed);
+
 /* What establishing a connection found out. */
 typedef struct mdb_established_as {
     uint32_t pool;

@@ -190,6 +190,15 @@ func (d *Driver) Claim(moment uint64) (Reply, error) {
 	return d.told(func(reply *C.mdb_reply) C.mdb_status { return C.mdb_claim(&d.slot, &at, reply) })
 }
 
+// JobAddress is the address to which a pending connection goes; NoEntry where it is not pending.
+func (d *Driver) JobAddress(connection Connection) (string, error) {
+	d.turn.Lock()
+	defer d.turn.Unlock()
+	return text(func(out *C.uint8_t, room C.size_t, needed *C.size_t) C.mdb_status {
+		return C.mdb_job_address(&d.slot, C.uint32_t(connection.Pool), C.uint32_t(connection.ID), out, room, needed)
+	})
+}
+
 // Established: a pending connection is ready. The service is that behind a load balancer in 24 hex digits, or empty.
 func (d *Driver) Established(moment uint64, connection Connection, wire int32, service string) (Reply, error) {
 	at, text := when(moment), []byte(service)

@@ -20,6 +20,9 @@ func opened(t testing.TB) *Driver {
 	if err != nil || r.Kind != Establishing {
 		t.Fatal(r, err)
 	}
+	if address, err := d.JobAddress(r.Connection()); err != nil || address != "a:27017" {
+		t.Fatal(address, err)
+	}
 	if made, err := d.Established(3, r.Connection(), 21, ""); err != nil || made.Kind != Done {
 		t.Fatal(made, err)
 	}

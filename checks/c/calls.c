@@ -149,6 +149,8 @@ static void closed_slots(void) {
         CHECK(mdb_topology_get(&none, &topology) == MDB_CLOSED && mdb_server_get(&none, 0, &server) == MDB_CLOSED && types.after == 77);
         CHECK(topology.kind == 77 && server.kind == 77 && mdb_server_at(&none, ADDRESS, &count) == MDB_CLOSED && count == 77);
         needed = 77;
+        CHECK(mdb_job_address(&none, 0, 1, out, sizeof out, &needed) == MDB_CLOSED && needed == 0);
+        needed = 77;
         CHECK(mdb_topology_text(&none, MDB_TEXT_ERROR, out, sizeof out, &needed) == MDB_CLOSED && needed == 0);
         needed = 77;
         CHECK(mdb_server_text(&none, 0, MDB_TEXT_ADDRESS, out, sizeof out, &needed) == MDB_CLOSED && needed == 0);
@@ -210,10 +212,17 @@ static void normal_pool(int rounds) {
     malformed();
     agrees(mdb_warm(&calls, &at, 100, ADDRESS, &reply), "warm 2 100 a:27017");
     agrees(mdb_claim(&calls, &at, &reply), "claim 2");
+    uint8_t to[8];
+    size_t needed = 77;
+    CHECK(mdb_job_address(&calls, reply.pool, reply.id, to, sizeof to, &needed) == MDB_OK && needed == 7 && memcmp(to, "a:27017", 7) == 0);
+    CHECK(mdb_job_address(&calls, reply.pool, reply.id, to, 6, &needed) == MDB_NO_ROOM && needed == 7);
+    CHECK(mdb_job_address(&calls, reply.pool, reply.id + 1, to, sizeof to, &needed) == MDB_NO_ENTRY && needed == 0);
+    CHECK(mdb_job_address(&calls, 1, reply.id, to, sizeof to, &needed) == MDB_NO_ENTRY);
     mdb_established_as made = {reply.pool, reply.id, 21, 5};
     agrees(mdb_established(&calls, &at, &made, NO_TEXT, &reply), spelled("established 2 0 %u wire=21 server=5", made.id));
     agrees(mdb_collect(&calls, &at, 100, &reply), "collect 2 100");
     CHECK(reply.kind == MDB_ENDED && reply.why == MDB_END_FILLED);
+    CHECK(mdb_job_address(&calls, made.pool, made.id, to, sizeof to, &needed) == MDB_NO_ENTRY); // it is no longer pending
     agrees(mdb_request(&calls, &at, 1, ADDRESS, &reply), "request 2 1 a:27017");
     agrees(mdb_request(&calls, &at, 1, ADDRESS, &reply), "request 2 1 a:27017");
     CHECK(reply.kind == MDB_REFUSED && reply.why == MDB_WHY_REQUEST_KNOWN);

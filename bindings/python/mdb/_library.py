@@ -69,6 +69,7 @@ _CALLS = {
     "mdb_give_up": [_SLOT, _AT, c_uint32, _REPLY],
     "mdb_return": [_SLOT, _AT, c_uint32, c_uint32, _REPLY],
     "mdb_claim": [_SLOT, _AT, _REPLY],
+    "mdb_job_address": [_SLOT, c_uint32, c_uint32, *_OUT],
     "mdb_established": [_SLOT, _AT, POINTER(EstablishedNumbers), *_IN, _REPLY],
     "mdb_pin": [_SLOT, _AT, c_uint32, _REPLY],
     "mdb_replicate": [_SLOT, _AT, POINTER(ConnectionNumbers), _REPLY],

@@ -216,6 +216,10 @@ class Driver:
             check(LIBRARY.mdb_server_at(byref(self._slot), text, len(text), byref(place)), address)
             return self._server(place.value)
 
+    def job_address(self, connection: Connection) -> str:
+        """The address to which a pending connection goes. Raises NoEntry where it is not pending."""
+        return self._text(LIBRARY.mdb_job_address, _number(connection.pool, 32), _number(connection.id, 32))
+
     def last_moment(self) -> int:
         """The moment of the last step that was accepted."""
         return self._wide(LIBRARY.mdb_last_moment)

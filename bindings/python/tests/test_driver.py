@@ -19,6 +19,9 @@ def test_ordinary_path():
         reply = driver.request(2, 1, "a")
         assert (reply.kind, reply.connection) == (Kind.ESTABLISHING, Connection(0, 1))
         assert driver.claim(2).kind is Kind.JOB
+        assert driver.job_address(reply.connection) == "a:27017"
+        with pytest.raises(NoEntry):
+            driver.job_address(Connection(0, 2))
         assert driver.established(3, reply.connection, wire=21).kind is Kind.DONE
         assert [fact.event for fact in driver.facts()] == [Event.CONNECTION_READY, Event.CHECKED_OUT]
         assert driver.collect(3, 1).kind is Kind.POOLED
@@ -133,7 +136,7 @@ def test_closed():
     driver = opened()
     driver.close()
     driver.close()
-    for call in (lambda: driver.claim(1), lambda: driver.line("claim 1"), driver.entry_text, driver.facts, driver.last_moment, lambda: driver.open_pool("a:1"), driver.topology, driver.servers, lambda: driver.server("a:1")):
+    for call in (lambda: driver.claim(1), lambda: driver.line("claim 1"), driver.entry_text, driver.facts, driver.last_moment, lambda: driver.open_pool("a:1"), driver.topology, driver.servers, lambda: driver.server("a:1"), lambda: driver.job_address(Connection(0, 1))):
         with pytest.raises(Closed):
             call()
 

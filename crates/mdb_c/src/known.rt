@@ -7,6 +7,7 @@ ghost use Rattle.mdb_topology.specs.Lines.{described};
 ghost use Rattle.mdb_session.specs.Sessions.{IsLast};
 ghost use Rattle.mdb_session.specs.Texts.{IsAddressOf};
 ghost use Rattle.mdb_known.specs.FactParts.{address_at, types_at};
+ghost use Rattle.mdb_known.specs.Jobs.{job_address};
 ghost use Rattle.mdb_known.specs.Servers.{numbers_at, text_at, place_of};
 ghost use Rattle.mdb_known.specs.Topologies.{topology_numbers, topology_text};
 
@@ -136,4 +137,24 @@ pub extern "C" fn mdb_fact_types(
     ensures closed { (result ≡ CLOSED) ↔ (slot.old.word.value ≡ None) }
 {
     mdb_known::fact_types(alloc, slot, index, types)
+}
+
+/// Writes the address to which a pending connection goes (CMAP, "Establishing a Connection") to the beginning of `out`, and how long it is to `needed`.
+#[unsafe(no_mangle)]
+pub extern "C" fn mdb_job_address(
+    alloc: Global,
+    slot: &mut Slot,
+    pool: u32,
+    id: u32,
+    out: &mut [u8],
+    needed: &mut usize,
+) -> Status
+    ensures ok { result ≡ OK → (log : List Entry) × (text : List ℕ) × (slot.old.word.value ≡ Some log) × (job_address log pool id ≡ Some text) × (needed.new ≡ length text) × (out.new ≡ text ++ drop (length text) out.old) }
+    ensures room { result ≡ NO_ROOM → (log : List Entry) × (text : List ℕ) × (slot.old.word.value ≡ Some log) × (job_address log pool id ≡ Some text) × (needed.new ≡ length text) × (length out.old < length text) }
+    ensures none { result ≡ NO_ENTRY → (log : List Entry) × (slot.old.word.value ≡ Some log) × (job_address log pool id ≡ None) }
+    ensures other { result ≢ OK → out.new ≡ out.old }
+    ensures same { slot.new.word.value ≡ slot.old.word.value }
+    ensures closed { (result ≡ CLOSED) ↔ (slot.old.word.value ≡ None) }
+{
+    mdb_known::job_address(alloc, slot, pool, id, out, needed)
 }

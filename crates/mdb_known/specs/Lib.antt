@@ -2,3 +2,4 @@ pub mod Types
 pub mod Topologies
 pub mod Servers
 pub mod FactParts
+pub mod Jobs

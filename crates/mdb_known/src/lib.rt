@@ -3,6 +3,7 @@
 
 mod fact_parts;
 mod given;
+mod jobs;
 mod server_numbers;
 mod server_texts;
 mod telling;
@@ -13,6 +14,7 @@ mod types;
 mod which;
 
 pub use fact_parts::TypesNumbers;
+pub use jobs::job_address;
 pub use server_numbers::ServerNumbers;
 pub use telling::{server, server_at, server_text, topology, topology_text};
 pub use telling_facts::{fact_address, fact_types};

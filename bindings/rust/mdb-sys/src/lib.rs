@@ -118,6 +118,7 @@ extern "C" {
     pub fn mdb_established(
         slot: *mut mdb_slot, at: *const mdb_at, made: *const mdb_established_as, service: *const u8, service_len: usize, reply: *mut mdb_reply,
     ) -> u32;
+    pub fn mdb_job_address(slot: *mut mdb_slot, pool: u32, id: u32, out: *mut u8, out_len: usize, needed: *mut usize) -> u32;
     pub fn mdb_pin(slot: *mut mdb_slot, at: *const mdb_at, party: u32, reply: *mut mdb_reply) -> u32;
     pub fn mdb_replicate(slot: *mut mdb_slot, at: *const mdb_at, connection: *const mdb_connection, reply: *mut mdb_reply) -> u32;
     pub fn mdb_take(slot: *mut mdb_slot, at: *const mdb_at, party: u32, connection: *const mdb_connection, reply: *mut mdb_reply) -> u32;

@@ -205,6 +205,12 @@ impl Driver {
         Fact::of(numbers, text, address)
     }
 
+    /// The address to which a pending connection goes, if it is pending.
+    pub fn job_address(&mut self, connection: Connection) -> Result<Option<String>, Error> {
+        // SAFETY: as in `entry_text`.
+        some_text(|out, room, needed| unsafe { c::mdb_job_address(&mut self.0, connection.pool, connection.id, out, room, needed) })
+    }
+
     /// What is known of the topology.
     pub fn topology(&mut self) -> Result<Topology, Error> {
         let mut told = c::mdb_topology::default();

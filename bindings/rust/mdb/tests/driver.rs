@@ -13,6 +13,8 @@ fn the_ordinary_path_is_done() {
     let reply = driver.request(2, 1, "a").unwrap();
     assert_eq!((reply.kind, reply.connection()), (Kind::Establishing, Some(Connection { pool: 0, id: 1 })));
     assert_eq!(driver.claim(2).unwrap().kind, Kind::Job);
+    assert_eq!(driver.job_address(Connection { pool: 0, id: 1 }).unwrap().as_deref(), Some("a:27017"));
+    assert_eq!(driver.job_address(Connection { pool: 0, id: 2 }), Ok(None));
     assert_eq!(driver.established(3, Connection { pool: 0, id: 1 }, 21, "", None).unwrap().kind, Kind::Done);
     let events: Vec<_> = driver.facts().unwrap().iter().map(|fact| fact.event).collect();
     assert_eq!(events, [Event::ConnectionReady, Event::CheckedOut]);
