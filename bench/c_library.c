@@ -1,5 +1,5 @@
-// Times the C library: a request and a return by calls, by lines, and with texts and facts; refusals; a hello; opening and closing. Each number is the least
-// of 20 runs. And the memory that stays of a round, by a counting heap.
+// Times the C library: a request and a return by calls, by lines, and with texts and facts; refusals; a hello; opening and closing. Each number is processor
+// time, the least of 200 runs, so that other work on the machine tells less. And the memory that stays of a round, by a counting heap.
 // usage: c_library [ROUNDS]
 #include "mdb.h"
 #include <malloc.h>
@@ -10,7 +10,7 @@
 #include <time.h>
 
 #define TEXT(text) (const uint8_t *)text, sizeof text - 1
-#define RUNS 20
+#define RUNS 200
 
 struct block {
     bool ok;
@@ -45,7 +45,7 @@ static uint8_t out[4096];
 
 static double now(void) {
     struct timespec t;
-    clock_gettime(CLOCK_MONOTONIC, &t);
+    clock_gettime(CLOCK_PROCESS_CPUTIME_ID, &t);
     return (double)t.tv_sec * 1e9 + (double)t.tv_nsec;
 }
 
@@ -116,6 +116,21 @@ static void malformed_line(void) { is(mdb_line(&slot, 0, TEXT("request 5 1 a:270
 
 static void hello_line(void) { is(mdb_line(&slot, 0, TEXT("hello 5 a:27017 0 ok rtt=1000000 isWritablePrimary=true maxWireVersion=21"), &reply) == MDB_OK && reply.kind == MDB_CHANGED); }
 
+static void topology(void) {
+    mdb_topology told;
+    is(mdb_topology_get(&slot, &told) == MDB_OK && told.servers == 1);
+}
+
+static void server(void) {
+    mdb_server told;
+    is(mdb_server_get(&slot, 0, &told) == MDB_OK && told.has_round_trip);
+}
+
+static void address(void) {
+    size_t needed;
+    is(mdb_server_text(&slot, 0, MDB_TEXT_ADDRESS, out, sizeof out, &needed) == MDB_OK && needed == 7);
+}
+
 static void closed(void) {
     mdb_slot none = MDB_SLOT_INIT;
     mdb_at at = {5, 0};
@@ -157,6 +172,9 @@ int main(int argc, char **argv) {
     timed("a refused request by a line", refused_line, rounds);
     timed("a malformed line", malformed_line, rounds);
     timed("a hello that changes nothing, one server", hello_line, rounds / 10);
+    timed("what is known of the topology", topology, rounds);
+    timed("what is known of a server", server, rounds);
+    timed("the address of a server", address, rounds);
     timed("a claim on a closed slot", closed, rounds);
     timed("open and close", open_and_close, rounds / 10);
     mdb_close(&slot);

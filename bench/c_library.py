@@ -4,7 +4,7 @@
 usage: bench/c_library.py [--library ARCHIVE] [--rounds N]
 
 ARCHIVE is crates/mdb_c/out/libmdb_c.a where it is left out; the other languages take bindings/out, which `make -C bindings` builds. Needs gcc. Each number is
-the least of several runs, and a request and a return are two calls and two entries.
+the least of several runs of processor time, and a request and a return are two calls and two entries.
 """
 import argparse
 import os
@@ -32,20 +32,31 @@ def from_python(rounds):
         driver.line('hello 1 a:27017 0 ok rtt=1000000 isWritablePrimary=true maxWireVersion=21')
         driver.established(3, driver.request(2, 0, 'a:27017').connection, 21)
         driver.return_(4, 0)
-        for what in ('calls', 'lines'):
-            least, party = 1e9, 1 + (what == 'lines') * rounds
-            for _ in range(10):
-                began = time.perf_counter()
-                for _ in range(rounds // 10):
-                    if what == 'calls':
-                        driver.request(5, party, 'a:27017')
-                        driver.return_(5, party)
-                    else:
-                        driver.line('request 5 %d a:27017' % party)
-                        driver.line('return 5 %d ok' % party)
-                    party += 1
-                least = min(least, (time.perf_counter() - began) / (rounds // 10))
-            print('python: request and return by %-6s %12.2f us' % (what, least * 1e6), flush=True)
+        party = iter(range(1, 1 << 32))
+        for what, one in (('calls', lambda: by_calls(driver, next(party))), ('lines', lambda: by_lines(driver, next(party)))):
+            print('python: request and return by %-6s %12.2f us' % (what, least_of(one, rounds) * 1e6), flush=True)
+        for what, one in (('facts of an entry', driver.facts), ('topology', driver.topology), ('servers', driver.servers)):
+            print('python: %-28s %12.2f us' % (what, least_of(one, rounds // 10) * 1e6), flush=True)
+
+
+def by_calls(driver, party):
+    driver.request(5, party, 'a:27017')
+    driver.return_(5, party)
+
+
+def by_lines(driver, party):
+    driver.line('request 5 %d a:27017' % party)
+    driver.line('return 5 %d ok' % party)
+
+
+def least_of(one, rounds):
+    least, many = 1e9, rounds // 100
+    for _ in range(100):
+        began = time.process_time()
+        for _ in range(many):
+            one()
+        least = min(least, (time.process_time() - began) / many)
+    return least
 
 
 def main():
@@ -60,7 +71,7 @@ def main():
     from_python(given.rounds // 5)
     bindings = os.path.join(TOP, 'bindings')
     if shutil.which('go'):
-        subprocess.run(['go', 'test', '-run', 'none', '-bench', '.', '-benchtime', '2s', '-count', '3'], cwd=os.path.join(bindings, 'go'))
+        subprocess.run(['go', 'test', '-run', 'none', '-bench', '.', '-benchtime', '20000x'], cwd=os.path.join(bindings, 'go'))
     if shutil.which('cargo'):
         subprocess.run(['cargo', 'run', '--offline', '--quiet', '--release', '--example', 'rounds'], cwd=os.path.join(bindings, 'rust'))
 

@@ -1,10 +1,10 @@
 #!/usr/bin/env python3
 """Checks the C library from C: the header against the archive, clients under valgrind and sanitizers, refused allocations, random and fuzzed calls.
 
-usage: checks/c_library.py [--library ARCHIVE] [--program PROGRAM] [--scripts N] [--seconds N] [--folder FOLDER] [--only WORD]
+usage: checks/c_library.py [--library ARCHIVE] [--program PROGRAM] [--auditor AUDITOR] [--scripts N] [--seconds N] [--folder FOLDER] [--only WORD]
 
-ARCHIVE is crates/mdb_c/out/libmdb_c.a where it is left out (`rt lib` in crates/mdb_c makes it), and PROGRAM crates/mdb_script/out/mdb_script; neither is
-built here. In order:
+ARCHIVE is crates/mdb_c/out/libmdb_c.a where it is left out (`rt lib` in crates/mdb_c makes it), PROGRAM crates/mdb_script/out/mdb_script, and AUDITOR
+crates/mdb_auditor/out/mdb_auditor; none is built here. In order:
 
   header     include/mdb.h is C11 and C++ with no warning; the archive defines each function that it declares, and no other global name, and wants no
              function but those of the heap and of copying
@@ -13,7 +13,8 @@ built here. In order:
   threads    checks/c/threads.c, plain, under helgrind and with ThreadSanitizer
   memory     each allocation of N random scripts (6) is refused in turn (checks/c/refusing.c), and once so under valgrind
   program    N random scripts give the log that PROGRAM writes (left out where it is not built)
-  fuzz       AFL++ for N seconds (60) over checks/c/fuzz.c with the sanitizers, or as many random inputs where there is no AFL++
+  auditor    AUDITOR calls the text of all entries of N random scripts legal, and one with a party changed not (left out where it is not built)
+  fuzz       AFL++ for N seconds (60) over checks/c/fuzz.c with the sanitizers, where there is one, and random calls for as long
 
 The sanitizers see the client and the heap; the library's own code is not instrumented, so valgrind is what looks at its reads and writes. Each check has a
 line, and the status is 0 where all are well, 1 where one is not, and 2 where the archive is missing. FOLDER keeps what was built and found. Needs gcc,
@@ -123,6 +124,25 @@ class Checks:
             differ += (ran[0].returncode, ran[0].stdout, ran[0].stderr) != (ran[1].returncode, ran[1].stdout, ran[1].stderr)
         self.tell('program', differ == 0, '%d scripts, %d differ' % (self.given.scripts, differ))
 
+    def auditor(self):
+        if not os.path.exists(self.given.auditor):
+            print('left out: %s is not built' % self.given.auditor)
+            return
+        client, wrong, entries = self.built('script'), [], 0
+        for seed in range(self.given.scripts if client else 0):
+            log = subprocess.run([client], input=text_of(seed, 200), stdout=subprocess.PIPE).stdout
+            entries += log.count(b'\n')
+            if self.judged(log) != (0, 'legal entries=%d' % log.count(b'\n')):
+                wrong.append((seed, self.judged(log)))
+            granted = re.search(rb'\| Granted (\d+) (\S+)', log)
+            if granted and self.judged(log[:granted.start(1)] + b'9' + log[granted.start(1):])[0] != 7:
+                wrong.append((seed, 'another party passes'))
+        self.tell('auditor', bool(client) and not wrong, '%d scripts, %d entries%s' % (self.given.scripts, entries, ', ' + str(wrong) if wrong else ''))
+
+    def judged(self, log):
+        ran = subprocess.run([self.given.auditor], input=log, stdout=subprocess.PIPE)
+        return ran.returncode, ran.stdout.decode().strip()
+
     def fuzz(self):
         seeds = os.path.join(self.folder, 'seeds')
         os.makedirs(seeds)
@@ -133,21 +153,18 @@ class Checks:
             program = self.built('fuzz', SANITIZERS, compiler='afl-clang-fast', name='fuzz-afl')
             if program:
                 self.by_afl(program, seeds)
-            return
-        program, chance, inputs, until = self.built('fuzz', SANITIZERS), random.Random(1), 0, time.monotonic() + self.given.seconds
-        while program and time.monotonic() < until and not self.failed:
-            data = calls_of(inputs, 40) if inputs % 2 else bytes(chance.randrange(256) for _ in range(200))
-            well, told = run([program], input=data)
-            inputs += 1
-            if not well:
-                self.tell('random input', False, told)
-        self.tell('random inputs', not self.failed, '%d' % inputs)
+        else:
+            print('left out: no afl-fuzz')
+        program = self.built('fuzz', SANITIZERS)
+        if program:
+            well, told = run([program, str(self.given.seconds), '1'])
+            self.tell('random calls', well, told)
 
     def by_afl(self, program, seeds):
         found = os.path.join(self.folder, 'afl')
-        settings = {**os.environ, 'AFL_SKIP_CPUFREQ': '1', 'AFL_NO_UI': '1', 'AFL_NO_AFFINITY': '1', 'AFL_I_DONT_CARE_ABOUT_MISSING_CRASHES': '1',
+        settings = {**os.environ, 'AFL_SKIP_CPUFREQ': '1', 'AFL_NO_UI': '1', 'AFL_NO_AFFINITY': '1', 'AFL_HANG_TMOUT': '60000', 'AFL_I_DONT_CARE_ABOUT_MISSING_CRASHES': '1',
                     'ASAN_OPTIONS': 'abort_on_error=1:symbolize=0:detect_leaks=0', 'UBSAN_OPTIONS': 'abort_on_error=1:symbolize=0'}
-        words = ['afl-fuzz', '-V', str(self.given.seconds), '-m', 'none', '-t', '2000+', '-i', seeds, '-o', found, '--', program]
+        words = ['afl-fuzz', '-V', str(self.given.seconds), '-m', 'none', '-t', '20000', '-i', seeds, '-o', found, '--', program]
         well, told = run(words, env=settings, stdin=subprocess.DEVNULL)
         stats = os.path.join(found, 'default', 'fuzzer_stats')
         if not os.path.exists(stats):
@@ -167,7 +184,7 @@ def text_of(seed, length):
 def calls_of(seed, length):
     """An opening and random calls, as fuzz.c reads them."""
     chance = random.Random(seed)
-    calls = [bytes([128 + chance.randrange(18), chance.randrange(9), 0, chance.randrange(1, 6), *[chance.randrange(4) for _ in range(2)], 0, chance.randrange(1, 5), 22, 0])
+    calls = [bytes([128 + chance.randrange(24), chance.randrange(9), 0, chance.randrange(1, 6), *[chance.randrange(4) for _ in range(2)], 0, chance.randrange(1, 5), 22, 0])
              for _ in range(length)]
     opening = [b'open seeds=a:1 max=2', b'hello 0 a:1 0 ok rtt=5 minWireVersion=0 maxWireVersion=21'] if seed % 4 else [b'open seeds=a:1 lb']
     return b'\n'.join(opening + [it.replace(b'\n', b'\x0b') for it in calls]) + b'\n'
@@ -177,19 +194,20 @@ def main():
     parser = argparse.ArgumentParser(description=__doc__, formatter_class=argparse.RawDescriptionHelpFormatter)
     parser.add_argument('--library', default=os.path.join(TOP, 'crates', 'mdb_c', 'out', 'libmdb_c.a'))
     parser.add_argument('--program', default=os.path.join(TOP, 'crates', 'mdb_script', 'out', 'mdb_script'))
+    parser.add_argument('--auditor', default=os.path.join(TOP, 'crates', 'mdb_auditor', 'out', 'mdb_auditor'))
     parser.add_argument('--scripts', type=int, default=6)
     parser.add_argument('--seconds', type=int, default=60)
     parser.add_argument('--folder')
     parser.add_argument('--only', default='')
     given = parser.parse_args()
-    given.library, given.program = os.path.abspath(given.library), os.path.abspath(given.program)
+    given.library, given.program, given.auditor = (os.path.abspath(it) for it in (given.library, given.program, given.auditor))
     if not os.path.exists(given.library):
         print('%s is missing: `rt lib` in crates/mdb_c makes it' % given.library)
         return 2
     folder = given.folder or tempfile.mkdtemp(prefix='mdb-c-')
     os.makedirs(folder, exist_ok=True)
     checks = Checks(given, folder)
-    for name in ('header', 'clients', 'threads', 'memory', 'program', 'fuzz'):
+    for name in ('header', 'clients', 'threads', 'memory', 'program', 'auditor', 'fuzz'):
         if given.only in ('', name):
             getattr(checks, name)()
     print('all is well' if not checks.failed else '%d failed: %s' % (checks.failed, folder))

@@ -5,7 +5,8 @@
  * those of the public standards "Connection Monitoring and Pooling" (CMAP) and "Server Discovery and Monitoring" (SDAM).
  *
  * Two layers lead to one driver, and may be mixed. By lines: the text of a step in, the text of its entry out, as docs/SCRIPT.md has them. By
- * calls: the steps of the ordinary path with numbers in place of a line, and the facts of the last entry by index.
+ * calls: each step but the opening with numbers in place of a line, the facts of the last entry by index, and what is known of the topology and its
+ * servers. By lines only: the opening, with its options, and the text of a whole entry.
  *
  * Units. A moment is in milliseconds, of any clock that never goes back; a step whose moment is below that of the last accepted step is refused
  *   (MDB_WHY_TIME_BACK, with that moment). Round trips and durations of checks are in nanoseconds. Sizes are in bytes.
@@ -53,11 +54,11 @@
 extern "C" {
 #endif
 
-#define MDB_VERSION "0.1.0"
-#define MDB_VERSION_NUMBER 100 /* major * 10000 + minor * 100 + patch */
+#define MDB_VERSION "0.2.0"
+#define MDB_VERSION_NUMBER 200 /* major * 10000 + minor * 100 + patch */
 
 /* Which header the library was built for: link only where mdb_abi() == MDB_ABI. It changes where a call, a struct or a number does. */
-#define MDB_ABI 1
+#define MDB_ABI 2
 uint32_t mdb_abi(void);
 
 /* ---- statuses */
@@ -71,7 +72,7 @@ enum {
     MDB_NO_ROOM = 3,   /* *needed bytes do not fit into the buffer */
     MDB_CLOSED = 4,    /* the slot holds no driver */
     MDB_OPENED = 5,    /* the slot holds one already */
-    MDB_NO_ENTRY = 6   /* no such fact or pool */
+    MDB_NO_ENTRY = 6   /* no such fact, pool, server or text */
 };
 
 /* ---- slots */
@@ -192,6 +193,10 @@ mdb_status mdb_return(mdb_slot *slot, const mdb_at *at, uint32_t party, uint32_t
 /* A worker asks for a connection to establish (CMAP, "Establishing a Connection"): MDB_JOB or MDB_NO_JOB. */
 mdb_status mdb_claim(mdb_slot *slot, const mdb_at *at, mdb_reply *reply);
 
+/* The address to which a pending connection goes, as `a:27017`. *needed is its length, and 0 at MDB_NO_ENTRY, MDB_NO_MEMORY and MDB_CLOSED; at
+ * MDB_NO_ROOM nothing is written. MDB_NO_ENTRY where it is not pending. No step. */
+mdb_status mdb_job_address(mdb_slot *slot, uint32_t pool, uint32_t id, uint8_t *out, size_t out_len, size_t *needed);
+
 /* What establishing a connection found out. */
 typedef struct mdb_established_as {
     uint32_t pool;
@@ -237,6 +242,17 @@ mdb_status mdb_hello(mdb_slot *slot, const mdb_at *at, const uint8_t *monitor, s
 /* The check of a monitor ended (SDAM monitoring, "ServerHeartbeatSucceededEvent"): `outcome` is its nanoseconds, and then `ok FIELD=VALUE ..`,
  * `err ERROR` or `cancelled ERROR`. */
 mdb_status mdb_beaten(mdb_slot *slot, const mdb_at *at, const uint8_t *monitor, size_t monitor_len, const uint8_t *outcome, size_t outcome_len, mdb_reply *reply);
+
+/* A round trip of so many nanoseconds was measured beside the checks of a monitor, which is as for a hello (SDAM monitoring, "Measuring RTT"):
+ * MDB_COUNT with the average. */
+mdb_status mdb_rtt(mdb_slot *slot, const mdb_at *at, const uint8_t *monitor, size_t monitor_len, uint64_t nanos, mdb_reply *reply);
+
+/* DNS names these servers now ("Polling SRV Records for mongos Discovery"); it counts in topologies of type unknown and sharded. `hosts` is as a line has
+ * them: 1 to 128 different addresses with their ports, and commas between them. */
+mdb_status mdb_hosts(mdb_slot *slot, const mdb_at *at, const uint8_t *hosts, size_t hosts_len, mdb_reply *reply);
+
+/* A reply told this time of the cluster's clock (sessions, "Gossipping the cluster time"). */
+mdb_status mdb_cluster_time(mdb_slot *slot, const mdb_at *at, uint64_t time, mdb_reply *reply);
 
 /* The driver stops: its pools and its monitors are closed. */
 mdb_status mdb_stop(mdb_slot *slot, const mdb_at *at, mdb_reply *reply);
@@ -287,7 +303,79 @@ mdb_status mdb_fact_at(mdb_slot *slot, size_t index, mdb_fact *fact);
  * is written. */
 mdb_status mdb_fact_text(mdb_slot *slot, size_t index, uint8_t *out, size_t out_len, size_t *needed);
 
-/* ---- what is known; no steps */
+/* The address that a fact names: that of MDB_FACT_OPENED, MDB_FACT_POOL, MDB_FACT_CHECK_NOW, MDB_FACT_CANCEL, and of events of a server.
+ * MDB_NO_ENTRY where it names none; else as mdb_fact_text. */
+mdb_status mdb_fact_address(mdb_slot *slot, size_t index, uint8_t *out, size_t out_len, size_t *needed);
+
+/* The types before and after a change: MDB_SERVER_ of MDB_SDAM_SERVER_CHANGED, MDB_TOPOLOGY_ of MDB_SDAM_TOPOLOGY_CHANGED. MDB_NO_ENTRY at any other fact. */
+typedef struct mdb_types {
+    uint32_t before;
+    uint32_t after;
+} mdb_types;
+mdb_status mdb_fact_types(mdb_slot *slot, size_t index, mdb_types *types);
+
+/* ---- what is known of the topology and its servers (SDAM, "TopologyDescription", "ServerDescription"); no steps. A member whose has_ member is 0 is 0. */
+
+enum { MDB_TOPOLOGY_UNKNOWN = 1, MDB_TOPOLOGY_SINGLE, MDB_TOPOLOGY_NO_PRIMARY, MDB_TOPOLOGY_WITH_PRIMARY, MDB_TOPOLOGY_SHARDED, MDB_TOPOLOGY_LOAD_BALANCED };
+
+enum {
+    MDB_SERVER_UNKNOWN = 1, MDB_SERVER_STANDALONE, MDB_SERVER_MONGOS, MDB_SERVER_RS_PRIMARY, MDB_SERVER_RS_SECONDARY, MDB_SERVER_RS_ARBITER,
+    MDB_SERVER_RS_OTHER, MDB_SERVER_RS_GHOST, MDB_SERVER_LOAD_BALANCER
+};
+
+typedef struct mdb_topology {
+    uint64_t servers;         /* how many there are */
+    uint64_t cluster_time;    /* the latest that was told */
+    uint64_t session_minutes; /* the least session timeout of the servers that hold data */
+    uint32_t kind;            /* MDB_TOPOLOGY_UNKNOWN .. */
+    int32_t max_set_version;  /* the greatest of a primary */
+    uint32_t has_max_set_version;
+    uint32_t has_cluster_time;
+    uint32_t has_session_minutes;
+    uint32_t compatible;      /* 0 where the driver cannot speak to one of the servers, 1 else */
+} mdb_topology;
+
+typedef struct mdb_server {
+    uint64_t round_trip; /* nanoseconds, on average */
+    int64_t updated;     /* the moment of the last reply */
+    uint32_t kind;       /* MDB_SERVER_UNKNOWN .. */
+    int32_t min_wire;    /* wire versions; 0 where the server told none */
+    int32_t max_wire;
+    int32_t set_version; /* the version of its set's configuration */
+    uint32_t has_round_trip;
+    uint32_t has_updated;
+    uint32_t has_set_version;
+    uint32_t has_error;  /* 1 where its last check or an operation failed */
+} mdb_server;
+
+mdb_status mdb_topology_get(mdb_slot *slot, mdb_topology *topology);
+
+/* A server, by its place from 0 in the order of the servers' addresses. A step that is done may change places. MDB_NO_ENTRY. */
+mdb_status mdb_server_get(mdb_slot *slot, size_t index, mdb_server *server);
+
+/* The place of the server with the address. MDB_NO_ENTRY, MDB_MALFORMED. */
+mdb_status mdb_server_at(mdb_slot *slot, const uint8_t *address, size_t address_len, size_t *index);
+
+enum { /* texts: the first three of a topology, all of a server */
+    MDB_TEXT_SET_NAME = 1, /* the name of the replica set */
+    MDB_TEXT_ELECTION_ID,  /* 24 hex digits; of a topology the greatest of a primary */
+    MDB_TEXT_ERROR,        /* of a topology why it is not compatible; of a server the error of its last check or of an operation, as a line has it */
+    MDB_TEXT_ADDRESS,      /* as `a:27017` */
+    MDB_TEXT_INFO,         /* all that is told of the server, for people */
+    MDB_TEXT_ME,           /* the address by which the set knows the server */
+    MDB_TEXT_PRIMARY,      /* the address of the primary, as the server knows it */
+    MDB_TEXT_HOSTS,        /* the members of its set, with commas between them: those that can be elected */
+    MDB_TEXT_PASSIVES,     /* those that hold data and cannot be elected */
+    MDB_TEXT_ARBITERS,     /* those that vote and hold no data */
+    MDB_TEXT_REPLY         /* the fields of its last reply as a line has them, each behind a space */
+};
+
+/* Writes the text of this number to the beginning of `out`. *needed is its length, and 0 at MDB_NO_ENTRY, MDB_NO_MEMORY and MDB_CLOSED; at MDB_NO_ROOM
+ * nothing is written. MDB_NO_ENTRY where there is no such text or no such server. */
+mdb_status mdb_topology_text(mdb_slot *slot, uint32_t which, uint8_t *out, size_t out_len, size_t *needed);
+mdb_status mdb_server_text(mdb_slot *slot, size_t index, uint32_t which, uint8_t *out, size_t out_len, size_t *needed);
+
+/* ---- what is known of the log and the pools; no steps */
 
 /* The moment of the last step that was accepted. */
 mdb_status mdb_last_moment(mdb_slot *slot, uint64_t *moment);

@@ -10,7 +10,7 @@ int main(void) {
     uint8_t entry[1024];
     size_t n;
     if (mdb_open_line(&driver, 0, TEXT("open seeds=a:27017 max=10")) != MDB_OK) return 1;
-    mdb_hello(&driver, &(mdb_at){.moment = 1}, TEXT("a:27017 0"), TEXT("ok rtt=5 minWireVersion=0 maxWireVersion=21"), &r);
+    mdb_hello(&driver, &(mdb_at){.moment = 1}, TEXT("a:27017 0"), TEXT("ok rtt=5 maxWireVersion=21"), &r);
     mdb_request(&driver, &(mdb_at){.moment = 2}, 1, TEXT("a:27017"), &r); /* party 1: r.kind is MDB_ESTABLISHING */
     mdb_claim(&driver, &(mdb_at){.moment = 2}, &r);                       /* a worker takes the job: connect to r.pool, r.id */
     mdb_established(&driver, &(mdb_at){.moment = 3}, &(mdb_established_as){r.pool, r.id, 21, -1}, TEXT(""), &r);

@@ -3,7 +3,7 @@
 import mdb
 
 with mdb.Driver("open seeds=a:27017 max=10") as driver:
-    driver.hello(1, "a:27017", 0, "ok rtt=5 minWireVersion=0 maxWireVersion=21")
+    driver.hello(1, "a:27017", 0, "ok rtt=5 maxWireVersion=21")
     assert driver.request(2, 1, "a:27017").kind is mdb.Kind.ESTABLISHING
     job = driver.claim(2)                                     # a worker connects to job.connection
     driver.established(3, job.connection, wire=21)

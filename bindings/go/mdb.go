@@ -29,7 +29,7 @@ const (
 
 var words = map[Status]string{
 	NoMemory: "out of memory", Malformed: "malformed", NoRoom: "the text does not fit", Closed: "the driver is closed",
-	Opened: "the driver is open already", NoEntry: "there is no such fact or pool",
+	Opened: "the driver is open already", NoEntry: "there is no such fact, pool, server or text",
 }
 
 func (s Status) Error() string {
@@ -83,6 +83,43 @@ type Fact struct {
 	Kind, Event, Pool, ID, Party, Why uint32
 	Number                            uint64
 	Text                              string
+	Address                           string // that it names, or empty
+}
+
+// A Text is a text of a server; the first three are also texts of a topology.
+type Text uint32
+
+const (
+	SetName    Text = C.MDB_TEXT_SET_NAME
+	ElectionID Text = C.MDB_TEXT_ELECTION_ID
+	ErrorText  Text = C.MDB_TEXT_ERROR
+	Address    Text = C.MDB_TEXT_ADDRESS
+	Info       Text = C.MDB_TEXT_INFO
+	Me         Text = C.MDB_TEXT_ME
+	Primary    Text = C.MDB_TEXT_PRIMARY
+	Hosts      Text = C.MDB_TEXT_HOSTS
+	Passives   Text = C.MDB_TEXT_PASSIVES
+	Arbiters   Text = C.MDB_TEXT_ARBITERS
+	ReplyText  Text = C.MDB_TEXT_REPLY
+)
+
+// A Topology is what is known of the topology. The header names its kinds; a number whose Has is false is 0.
+type Topology struct {
+	Kind                                                uint32
+	Servers                                             int
+	MaxSetVersion                                       int32
+	ClusterTime, SessionMinutes                         uint64
+	HasMaxSetVersion, HasClusterTime, HasSessionMinutes bool
+	Compatible                                          bool
+}
+
+// A Server is what is known of a server. The header names its kinds; a number whose Has is false is 0.
+type Server struct {
+	Kind                                              uint32
+	RoundTrip                                         uint64 // nanoseconds, on average
+	Updated                                           int64  // the moment of the last reply
+	MinWire, MaxWire, SetVersion                      int32
+	HasRoundTrip, HasUpdated, HasSetVersion, HasError bool
 }
 
 // A Driver may be shared by many goroutines: a lock gives it to one call at a time.
@@ -153,6 +190,15 @@ func (d *Driver) Claim(moment uint64) (Reply, error) {
 	return d.told(func(reply *C.mdb_reply) C.mdb_status { return C.mdb_claim(&d.slot, &at, reply) })
 }
 
+// JobAddress is the address to which a pending connection goes; NoEntry where it is not pending.
+func (d *Driver) JobAddress(connection Connection) (string, error) {
+	d.turn.Lock()
+	defer d.turn.Unlock()
+	return text(func(out *C.uint8_t, room C.size_t, needed *C.size_t) C.mdb_status {
+		return C.mdb_job_address(&d.slot, C.uint32_t(connection.Pool), C.uint32_t(connection.ID), out, room, needed)
+	})
+}
+
 // Established: a pending connection is ready. The service is that behind a load balancer in 24 hex digits, or empty.
 func (d *Driver) Established(moment uint64, connection Connection, wire int32, service string) (Reply, error) {
 	at, text := when(moment), []byte(service)
@@ -195,6 +241,88 @@ func (d *Driver) Maintain(moment uint64, address string) (Reply, error) {
 	})
 }
 
+// RTT: a round trip of so many nanoseconds was measured beside the checks of a monitor. The address has its port.
+func (d *Driver) RTT(moment uint64, address string, pool uint32, nanos uint64) (Reply, error) {
+	at, monitor := when(moment), []byte(fmt.Sprintf("%s %d", address, pool))
+	return d.told(func(reply *C.mdb_reply) C.mdb_status {
+		return C.mdb_rtt(&d.slot, &at, start(monitor), C.size_t(len(monitor)), C.uint64_t(nanos), reply)
+	})
+}
+
+// Hosts: DNS names these servers now: addresses with their ports, and commas between them.
+func (d *Driver) Hosts(moment uint64, hosts string) (Reply, error) {
+	at, text := when(moment), []byte(hosts)
+	return d.told(func(reply *C.mdb_reply) C.mdb_status {
+		return C.mdb_hosts(&d.slot, &at, start(text), C.size_t(len(text)), reply)
+	})
+}
+
+// ClusterTime: a reply told this time of the cluster.
+func (d *Driver) ClusterTime(moment, time uint64) (Reply, error) {
+	at := when(moment)
+	return d.told(func(reply *C.mdb_reply) C.mdb_status {
+		return C.mdb_cluster_time(&d.slot, &at, C.uint64_t(time), reply)
+	})
+}
+
+// Topology is what is known of the topology.
+func (d *Driver) Topology() (Topology, error) {
+	d.turn.Lock()
+	defer d.turn.Unlock()
+	var t C.mdb_topology
+	if err := failed(C.mdb_topology_get(&d.slot, &t)); err != nil {
+		return Topology{}, err
+	}
+	return Topology{
+		Kind: uint32(t.kind), Servers: int(t.servers), MaxSetVersion: int32(t.max_set_version), ClusterTime: uint64(t.cluster_time),
+		SessionMinutes: uint64(t.session_minutes), HasMaxSetVersion: t.has_max_set_version == 1, HasClusterTime: t.has_cluster_time == 1,
+		HasSessionMinutes: t.has_session_minutes == 1, Compatible: t.compatible == 1,
+	}, nil
+}
+
+// TopologyText is SetName, ElectionID or ErrorText of the topology; NoEntry where there is no such text.
+func (d *Driver) TopologyText(which Text) (string, error) {
+	d.turn.Lock()
+	defer d.turn.Unlock()
+	return text(func(out *C.uint8_t, room C.size_t, needed *C.size_t) C.mdb_status {
+		return C.mdb_topology_text(&d.slot, C.uint32_t(which), out, room, needed)
+	})
+}
+
+// Server is what is known of the server at the place, in the order of the servers' addresses; NoEntry where there is none.
+func (d *Driver) Server(place int) (Server, error) {
+	d.turn.Lock()
+	defer d.turn.Unlock()
+	var s C.mdb_server
+	if err := failed(C.mdb_server_get(&d.slot, C.size_t(place), &s)); err != nil {
+		return Server{}, err
+	}
+	return Server{
+		Kind: uint32(s.kind), RoundTrip: uint64(s.round_trip), Updated: int64(s.updated), MinWire: int32(s.min_wire), MaxWire: int32(s.max_wire),
+		SetVersion: int32(s.set_version), HasRoundTrip: s.has_round_trip == 1, HasUpdated: s.has_updated == 1, HasSetVersion: s.has_set_version == 1,
+		HasError: s.has_error == 1,
+	}, nil
+}
+
+// ServerAt is the place of the server with the address; NoEntry where there is none.
+func (d *Driver) ServerAt(address string) (int, error) {
+	d.turn.Lock()
+	defer d.turn.Unlock()
+	var place C.size_t
+	text := []byte(address)
+	err := failed(C.mdb_server_at(&d.slot, start(text), C.size_t(len(text)), &place))
+	return int(place), err
+}
+
+// ServerText is a text of the server at the place; NoEntry where there is no such text.
+func (d *Driver) ServerText(place int, which Text) (string, error) {
+	d.turn.Lock()
+	defer d.turn.Unlock()
+	return text(func(out *C.uint8_t, room C.size_t, needed *C.size_t) C.mdb_status {
+		return C.mdb_server_text(&d.slot, C.size_t(place), C.uint32_t(which), out, room, needed)
+	})
+}
+
 // Stop: the driver's pools and monitors are closed.
 func (d *Driver) Stop(moment uint64) (Reply, error) {
 	at := when(moment)
@@ -230,7 +358,13 @@ func (d *Driver) Facts() ([]Fact, error) {
 		if err != nil {
 			return nil, err
 		}
-		facts = append(facts, Fact{uint32(f.kind), uint32(f.event), uint32(f.pool), uint32(f.id), uint32(f.party), uint32(f.why), uint64(f.number), told})
+		address, err := text(func(out *C.uint8_t, room C.size_t, needed *C.size_t) C.mdb_status {
+			return C.mdb_fact_address(&d.slot, i, out, room, needed)
+		})
+		if err != nil && err != NoEntry {
+			return nil, err
+		}
+		facts = append(facts, Fact{uint32(f.kind), uint32(f.event), uint32(f.pool), uint32(f.id), uint32(f.party), uint32(f.why), uint64(f.number), told, address})
 	}
 	return facts, nil
 }

@@ -4,6 +4,7 @@ import (
 	"fmt"
 	"strings"
 	"sync"
+	"syscall"
 	"testing"
 )
 
@@ -18,6 +19,9 @@ func opened(t testing.TB) *Driver {
 	r, err := d.Request(2, 1, "a")
 	if err != nil || r.Kind != Establishing {
 		t.Fatal(r, err)
+	}
+	if address, err := d.JobAddress(r.Connection()); err != nil || address != "a:27017" {
+		t.Fatal(address, err)
 	}
 	if made, err := d.Established(3, r.Connection(), 21, ""); err != nil || made.Kind != Done {
 		t.Fatal(made, err)
@@ -70,6 +74,51 @@ func TestErrors(t *testing.T) {
 	}
 }
 
+func TestServers(t *testing.T) {
+	d, err := Open("open seeds=a:1,b:2")
+	if err != nil {
+		t.Fatal(err)
+	}
+	defer d.Close()
+	if r, err := d.Hello(3, "a:1", 0, "ok rtt=9 isWritablePrimary=true hosts=a:1,c:3 setVersion=7 setName=rs maxWireVersion=21"); err != nil || r.Number != 1 {
+		t.Fatal(r, err)
+	}
+	if facts, err := d.Facts(); err != nil || len(facts) == 0 || facts[0].Address != "a:1" {
+		t.Fatal(facts, err)
+	}
+	if topology, err := d.Topology(); err != nil || topology.Kind != 4 || topology.Servers != 2 || topology.MaxSetVersion != 7 || !topology.Compatible {
+		t.Fatal(topology, err)
+	}
+	if name, err := d.TopologyText(SetName); err != nil || name != "rs" {
+		t.Fatal(name, err)
+	}
+	if _, err := d.TopologyText(ErrorText); err != NoEntry {
+		t.Fatal(err)
+	}
+	place, err := d.ServerAt("A:1")
+	if err != nil || place != 0 {
+		t.Fatal(place, err)
+	}
+	if server, err := d.Server(place); err != nil || server.Kind != 4 || server.RoundTrip != 9 || server.Updated != 3 || server.SetVersion != 7 || !server.HasRoundTrip {
+		t.Fatal(server, err)
+	}
+	if hosts, err := d.ServerText(place, Hosts); err != nil || hosts != "a:1,c:3" {
+		t.Fatal(hosts, err)
+	}
+	if _, err := d.Server(2); err != NoEntry {
+		t.Fatal(err)
+	}
+	if r, err := d.ClusterTime(4, 5); err != nil || r.Kind != Done {
+		t.Fatal(r, err)
+	}
+	if r, err := d.RTT(4, "a:1", 0, 7); err != nil || r.Kind != Count {
+		t.Fatal(r, err)
+	}
+	if _, err := d.Hosts(4, "B:2"); err != Malformed {
+		t.Fatal(err)
+	}
+}
+
 func TestLongTexts(t *testing.T) {
 	seeds := make([]string, 128)
 	for i := range seeds {
@@ -118,19 +167,54 @@ func TestGoroutines(t *testing.T) {
 	crew.Wait()
 }
 
-func BenchmarkCalls(b *testing.B) {
+// The processor time of this process, in nanoseconds.
+func spent() int64 {
+	var used syscall.Rusage
+	if err := syscall.Getrusage(syscall.RUSAGE_SELF, &used); err != nil {
+		panic(err)
+	}
+	return used.Utime.Nano() + used.Stime.Nano()
+}
+
+// Times a round of a request and a return, and reports its processor time as the least of pieces of 500 rounds.
+func timed(b *testing.B, round func(d *Driver, party uint32) error) {
 	d := opened(b)
 	defer d.Close()
 	if _, err := d.Return(4, 1, Used); err != nil {
 		b.Fatal(err)
 	}
+	least := int64(1) << 62
 	b.ResetTimer()
-	for n := 0; n < b.N; n++ {
-		if r, err := d.Request(5, uint32(n)+2, "a:27017"); err != nil || r.Kind != Pooled {
-			b.Fatal(r, err)
-		}
-		if _, err := d.Return(5, uint32(n)+2, Used); err != nil {
+	for n, began := 0, spent(); n < b.N; n++ {
+		if err := round(d, uint32(n)+2); err != nil {
 			b.Fatal(err)
 		}
+		if n%500 == 499 {
+			if took := (spent() - began) / 500; took < least {
+				least = took
+			}
+			began = spent()
+		}
 	}
+	b.ReportMetric(float64(least), "least-cpu-ns/op")
+}
+
+func BenchmarkLines(b *testing.B) {
+	timed(b, func(d *Driver, party uint32) error {
+		if _, err := d.Line(0, fmt.Sprintf("request 5 %d a:27017", party)); err != nil {
+			return err
+		}
+		_, err := d.Line(0, fmt.Sprintf("return 5 %d ok", party))
+		return err
+	})
+}
+
+func BenchmarkCalls(b *testing.B) {
+	timed(b, func(d *Driver, party uint32) error {
+		if _, err := d.Request(5, party, "a:27017"); err != nil {
+			return err
+		}
+		_, err := d.Return(5, party, Used)
+		return err
+	})
 }

@@ -12,6 +12,9 @@ _Static_assert(sizeof(mdb_at) == 16, "a moment and a seat have 16 bytes");
 _Static_assert(sizeof(mdb_connection) == 8, "a connection has 8 bytes");
 _Static_assert(sizeof(mdb_established_as) == 24, "what was established has 24 bytes");
 _Static_assert(sizeof(mdb_fact) == 32, "a fact has 32 bytes");
+_Static_assert(sizeof(mdb_types) == 8, "two types have 8 bytes");
+_Static_assert(sizeof(mdb_topology) == 48, "a topology has 48 bytes");
+_Static_assert(sizeof(mdb_server) == 48, "a server has 48 bytes");
 
 #define CHECK(what) do { if (!(what)) { fprintf(stderr, "line %d: %s\n", __LINE__, #what); exit(1); } } while (0)
 #define ADDRESS (const uint8_t *)"a:27017", 7
@@ -45,6 +48,18 @@ static void facts_agree(const char *entry) {
         CHECK(strncmp(at + 3, text, needed) == 0);
         CHECK((fact.kind == MDB_FACT_POOL) == (strncmp(text, "Pool ", 5) == 0));
         CHECK((fact.kind == MDB_FACT_SDAM) == (strncmp(text, "Sdam ", 5) == 0));
+        char named[512];
+        mdb_status has_address = mdb_fact_address(&calls, i, (uint8_t *)named, sizeof named - 1, &needed);
+        int on_topology = fact.kind == MDB_FACT_SDAM && fact.event >= MDB_SDAM_TOPOLOGY_CHANGED && fact.event <= MDB_SDAM_TOPOLOGY_CLOSED;
+        CHECK((has_address == MDB_NO_ENTRY) == (fact.kind == MDB_FACT_GRANTED || fact.kind == MDB_FACT_ENDED || fact.kind == MDB_FACT_RAISED || on_topology));
+        named[needed] = 0;
+        CHECK(has_address == MDB_OK ? needed > 0 && strstr(text, named) != 0 : has_address == MDB_NO_ENTRY && needed == 0);
+        mdb_types types = {77, 77};
+        mdb_status has_types = mdb_fact_types(&calls, i, &types);
+        CHECK(has_types == (fact.kind == MDB_FACT_SDAM && (fact.event == MDB_SDAM_SERVER_CHANGED || fact.event == MDB_SDAM_TOPOLOGY_CHANGED) ? MDB_OK : MDB_NO_ENTRY));
+        CHECK(has_types == MDB_OK ? types.before >= 1 && types.after >= 1 : types.before == 77 && types.after == 77);
+        if (has_types == MDB_OK && fact.event == MDB_SDAM_SERVER_CHANGED) CHECK((types.after == MDB_SERVER_UNKNOWN) == (strcmp(text + strlen(text) - 8, " Unknown") == 0));
+        needed = strlen(text);
         if (fact.kind == MDB_FACT_GRANTED) {
             char granted[64];
             snprintf(granted, sizeof granted, "Granted %" PRIu32 " %" PRIu32 ".%" PRIu32, fact.party, fact.pool, fact.id);
@@ -56,6 +71,9 @@ static void facts_agree(const char *entry) {
         at = strstr(at + 3 + needed, " | ");
     }
     CHECK(!at);
+    mdb_types types = {77, 77};
+    CHECK(mdb_fact_types(&calls, count, &types) == MDB_NO_ENTRY && types.before == 77);
+    CHECK(mdb_fact_address(&calls, count, (uint8_t *)"", 0, &needed) == MDB_NO_ENTRY && needed == 0);
     mdb_fact fact = {.kind = 77};
     CHECK(mdb_fact_at(&calls, count, &fact) == MDB_NO_ENTRY && fact.kind == 77);
     CHECK(mdb_fact_text(&calls, count, (uint8_t *)"", 0, &needed) == MDB_NO_ENTRY && needed == 0);
@@ -107,6 +125,9 @@ static void closed_slots(void) {
     uint64_t wide = 77;
     uint32_t narrow = 77;
     mdb_fact fact;
+    mdb_types types = {77, 77};
+    mdb_topology topology = {.kind = 77};
+    mdb_server server = {.kind = 77};
     uint8_t out[4];
     for (int again = 0; again < 2; again++) {
         CHECK(mdb_request(&none, &at, 1, ADDRESS, &kept) == MDB_CLOSED && mdb_warm(&none, &at, 1, ADDRESS, &kept) == MDB_CLOSED);
@@ -121,6 +142,18 @@ static void closed_slots(void) {
         CHECK(mdb_hello(&none, &at, TEXT("a:1 0"), TEXT("ok rtt=5"), &kept) == MDB_CLOSED && mdb_beaten(&none, &at, TEXT("a:1 0"), TEXT("7 ok"), &kept) == MDB_CLOSED);
         CHECK(mdb_fact_count(&none, &count) == MDB_CLOSED && count == 77 && mdb_fact_at(&none, 0, &fact) == MDB_CLOSED);
         CHECK(mdb_fact_text(&none, 0, out, sizeof out, &needed) == MDB_CLOSED && needed == 0);
+        CHECK(mdb_rtt(&none, &at, TEXT("a:1 0"), 5, &kept) == MDB_CLOSED && mdb_hosts(&none, &at, TEXT("a:1"), &kept) == MDB_CLOSED);
+        CHECK(mdb_cluster_time(&none, &at, 5, &kept) == MDB_CLOSED);
+        needed = 77;
+        CHECK(mdb_fact_address(&none, 0, out, sizeof out, &needed) == MDB_CLOSED && needed == 0 && mdb_fact_types(&none, 0, &types) == MDB_CLOSED);
+        CHECK(mdb_topology_get(&none, &topology) == MDB_CLOSED && mdb_server_get(&none, 0, &server) == MDB_CLOSED && types.after == 77);
+        CHECK(topology.kind == 77 && server.kind == 77 && mdb_server_at(&none, ADDRESS, &count) == MDB_CLOSED && count == 77);
+        needed = 77;
+        CHECK(mdb_job_address(&none, 0, 1, out, sizeof out, &needed) == MDB_CLOSED && needed == 0);
+        needed = 77;
+        CHECK(mdb_topology_text(&none, MDB_TEXT_ERROR, out, sizeof out, &needed) == MDB_CLOSED && needed == 0);
+        needed = 77;
+        CHECK(mdb_server_text(&none, 0, MDB_TEXT_ADDRESS, out, sizeof out, &needed) == MDB_CLOSED && needed == 0);
         CHECK(mdb_last_moment(&none, &wide) == MDB_CLOSED && mdb_published(&none, &wide) == MDB_CLOSED && wide == 77);
         CHECK(mdb_open_pool(&none, ADDRESS, &narrow) == MDB_CLOSED && narrow == 77);
         CHECK(memcmp(&kept, &before, sizeof kept) == 0);
@@ -135,6 +168,7 @@ static void malformed(void) {
     mdb_established_as made = {0, 1, -1, -1};
     mdb_reply kept = {77, 77, 77, 77, 77}, before = kept;
     uint32_t narrow = 77;
+    size_t place = 77;
     const char *bad[] = {"", "a:0", "a:65536", "a:", ":1", "a b:1", "a:1 ", "\xff:1", "[::1", "a\n:1"};
     for (size_t i = 0; i < sizeof bad / sizeof *bad; i++) {
         const uint8_t *text = (const uint8_t *)bad[i];
@@ -142,6 +176,8 @@ static void malformed(void) {
         CHECK(mdb_request(&calls, &at, 999, text, len, &kept) == MDB_MALFORMED && mdb_warm(&calls, &at, 999, text, len, &kept) == MDB_MALFORMED);
         CHECK(mdb_maintain(&calls, &at, text, len, &kept) == MDB_MALFORMED && mdb_expire(&calls, &at, text, len, &kept) == MDB_MALFORMED);
         CHECK(mdb_beat(&calls, &at, text, len, 0, &kept) == MDB_MALFORMED && mdb_open_pool(&calls, text, len, &narrow) == MDB_MALFORMED);
+        CHECK(mdb_server_at(&calls, text, len, &place) == MDB_MALFORMED && place == 77 && mdb_hosts(&calls, &at, text, len, &kept) == MDB_MALFORMED);
+        CHECK(mdb_rtt(&calls, &at, text, len, 5, &kept) == MDB_MALFORMED);
     }
     CHECK(mdb_established(&calls, &at, &made, NO_TEXT, &kept) == MDB_MALFORMED);
     made.wire = 21;
@@ -176,10 +212,17 @@ static void normal_pool(int rounds) {
     malformed();
     agrees(mdb_warm(&calls, &at, 100, ADDRESS, &reply), "warm 2 100 a:27017");
     agrees(mdb_claim(&calls, &at, &reply), "claim 2");
+    uint8_t to[8];
+    size_t needed = 77;
+    CHECK(mdb_job_address(&calls, reply.pool, reply.id, to, sizeof to, &needed) == MDB_OK && needed == 7 && memcmp(to, "a:27017", 7) == 0);
+    CHECK(mdb_job_address(&calls, reply.pool, reply.id, to, 6, &needed) == MDB_NO_ROOM && needed == 7);
+    CHECK(mdb_job_address(&calls, reply.pool, reply.id + 1, to, sizeof to, &needed) == MDB_NO_ENTRY && needed == 0);
+    CHECK(mdb_job_address(&calls, 1, reply.id, to, sizeof to, &needed) == MDB_NO_ENTRY);
     mdb_established_as made = {reply.pool, reply.id, 21, 5};
     agrees(mdb_established(&calls, &at, &made, NO_TEXT, &reply), spelled("established 2 0 %u wire=21 server=5", made.id));
     agrees(mdb_collect(&calls, &at, 100, &reply), "collect 2 100");
     CHECK(reply.kind == MDB_ENDED && reply.why == MDB_END_FILLED);
+    CHECK(mdb_job_address(&calls, made.pool, made.id, to, sizeof to, &needed) == MDB_NO_ENTRY); // it is no longer pending
     agrees(mdb_request(&calls, &at, 1, ADDRESS, &reply), "request 2 1 a:27017");
     agrees(mdb_request(&calls, &at, 1, ADDRESS, &reply), "request 2 1 a:27017");
     CHECK(reply.kind == MDB_REFUSED && reply.why == MDB_WHY_REQUEST_KNOWN);
@@ -208,6 +251,8 @@ static void normal_pool(int rounds) {
         if (i % 6 == 0) agrees(mdb_expire(&calls, &at, ADDRESS, &reply), spelled("expire %" PRIu64 " a:27017", at.moment));
         if (i % 9 == 0) agrees(mdb_want(&calls, &at, party, &reply), spelled("want %" PRIu64 " %u", at.moment, party));
         if (i % 9 == 1) agrees(mdb_unwant(&calls, &at, party - 1, &reply), spelled("unwant %" PRIu64 " %u", at.moment, party - 1));
+        if (i % 13 == 0) agrees(mdb_rtt(&calls, &at, TEXT("a:27017 0"), 9 + at.moment, &reply), spelled("rtt %" PRIu64 " a:27017 0 %" PRIu64, at.moment, 9 + at.moment));
+        if (i % 13 == 1) agrees(mdb_cluster_time(&calls, &at, at.moment, &reply), spelled("ctime %" PRIu64 " %" PRIu64, at.moment, at.moment));
         if (i % 11 == 0) {
             agrees(mdb_beat(&calls, &at, ADDRESS, 0, &reply), spelled("beat %" PRIu64 " a:27017 0", at.moment));
             both(spelled("beaten %" PRIu64 " a:27017 0 900000 ok isWritablePrimary=true maxWireVersion=21", at.moment));
@@ -252,10 +297,70 @@ static void balanced_pool(void) {
     mdb_close(&lines);
 }
 
+// A text of the topology (place -1) or of a server is this one, or there is none.
+static void has_text(long place, uint32_t which, const char *wanted) {
+    uint8_t out[1024];
+    size_t needed = 77;
+    mdb_status status = place < 0 ? mdb_topology_text(&calls, which, out, sizeof out, &needed) : mdb_server_text(&calls, (size_t)place, which, out, sizeof out, &needed);
+    if (!wanted) {
+        CHECK(status == MDB_NO_ENTRY && needed == 0);
+        return;
+    }
+    CHECK(status == MDB_OK && needed == strlen(wanted) && memcmp(out, wanted, needed) == 0);
+    memset(out, 77, sizeof out);
+    status = place < 0 ? mdb_topology_text(&calls, which, out, needed - 1, &needed) : mdb_server_text(&calls, (size_t)place, which, out, needed - 1, &needed);
+    CHECK(status == MDB_NO_ROOM && needed == strlen(wanted) && out[0] == 77);
+}
+
+static void known(void) {
+    mdb_at at = {3, 7};
+    mdb_topology topology;
+    mdb_server server;
+    size_t place = 77;
+    open_both("open seeds=a:1,b:2 set=rs");
+    CHECK(mdb_topology_get(&calls, &topology) == MDB_OK && topology.kind == MDB_TOPOLOGY_NO_PRIMARY && topology.servers == 2 && topology.compatible == 1);
+    CHECK(!topology.has_max_set_version && !topology.has_cluster_time && !topology.has_session_minutes && !topology.max_set_version);
+    CHECK(mdb_server_get(&calls, 0, &server) == MDB_OK && server.kind == MDB_SERVER_UNKNOWN && !server.has_round_trip && !server.has_updated && !server.has_error);
+    has_text(-1, MDB_TEXT_SET_NAME, "rs"), has_text(-1, MDB_TEXT_ELECTION_ID, 0), has_text(-1, MDB_TEXT_ERROR, 0), has_text(-1, MDB_TEXT_ADDRESS, 0);
+    has_text(0, MDB_TEXT_ADDRESS, "a:1"), has_text(1, MDB_TEXT_ADDRESS, "b:2"), has_text(2, MDB_TEXT_ADDRESS, 0), has_text(0, MDB_TEXT_REPLY, 0);
+    agrees(mdb_hello(&calls, &at, TEXT("a:1 0"), TEXT("ok rtt=9 isWritablePrimary=true hosts=a:1,c:3 passives=d:4 me=a:1 setVersion=7 setName=rs logicalSessionTimeoutMinutes=30 minWireVersion=6 maxWireVersion=21 electionId=0102030405060708090a0b0c"), &reply),
+        "hello 3 a:1 0 ok rtt=9 isWritablePrimary=true hosts=a:1,c:3 passives=d:4 me=a:1 setVersion=7 setName=rs logicalSessionTimeoutMinutes=30 minWireVersion=6 maxWireVersion=21 electionId=0102030405060708090a0b0c");
+    CHECK(reply.kind == MDB_CHANGED && reply.number == 1);
+    CHECK(mdb_topology_get(&calls, &topology) == MDB_OK && topology.kind == MDB_TOPOLOGY_WITH_PRIMARY && topology.servers == 3);
+    CHECK(topology.has_max_set_version && topology.max_set_version == 7 && topology.has_session_minutes && topology.session_minutes == 30);
+    has_text(-1, MDB_TEXT_ELECTION_ID, "0102030405060708090a0b0c");
+    CHECK(mdb_server_at(&calls, (const uint8_t *)"A:1", 3, &place) == MDB_OK && place == 0);
+    CHECK(mdb_server_at(&calls, (const uint8_t *)"b:2", 3, &place) == MDB_NO_ENTRY && place == 0);
+    CHECK(mdb_server_get(&calls, 0, &server) == MDB_OK && server.kind == MDB_SERVER_RS_PRIMARY && server.has_round_trip && server.round_trip == 9);
+    CHECK(server.has_updated && server.updated == 3 && server.min_wire == 6 && server.max_wire == 21 && server.has_set_version && server.set_version == 7);
+    CHECK(mdb_server_get(&calls, 3, &server) == MDB_NO_ENTRY);
+    has_text(0, MDB_TEXT_SET_NAME, "rs"), has_text(0, MDB_TEXT_ME, "a:1"), has_text(0, MDB_TEXT_PRIMARY, 0), has_text(0, MDB_TEXT_HOSTS, "a:1,c:3");
+    has_text(0, MDB_TEXT_PASSIVES, "d:4"), has_text(0, MDB_TEXT_ARBITERS, 0), has_text(0, MDB_TEXT_ERROR, 0), has_text(0, 0, 0), has_text(0, 12, 0);
+    has_text(0, MDB_TEXT_REPLY, " isWritablePrimary=true hosts=a:1,c:3 passives=d:4 me=a:1 setVersion=7 setName=rs logicalSessionTimeoutMinutes=30 minWireVersion=6 maxWireVersion=21 electionId=0102030405060708090a0b0c");
+    has_text(0, MDB_TEXT_INFO, "{ Address: a:1, Type: RsPrimary, Average RTT: 9ns, Last Update Time: 3, Max Wire Version: 21, Min Wire Version: 6, Replica Set Name: rs, Replica Set Version: 7 }");
+    has_text(1, MDB_TEXT_ADDRESS, "c:3"), has_text(2, MDB_TEXT_ADDRESS, "d:4");
+    agrees(mdb_rtt(&calls, &at, TEXT("a:1 0"), 19, &reply), "rtt 3 a:1 0 19");
+    agrees(mdb_cluster_time(&calls, &at, 5, &reply), "ctime 3 5");
+    CHECK(mdb_topology_get(&calls, &topology) == MDB_OK && topology.has_cluster_time && topology.cluster_time == 5);
+    agrees(mdb_hosts(&calls, &at, TEXT("e:5"), &reply), "hosts 3 e:5");
+    agrees(mdb_hello(&calls, &at, TEXT("a:1 0"), TEXT("err network msg=reset"), &reply), "hello 3 a:1 0 err network msg=reset");
+    CHECK(mdb_server_get(&calls, 0, &server) == MDB_OK && server.kind == MDB_SERVER_UNKNOWN && server.has_error == 1 && !server.has_round_trip);
+    has_text(0, MDB_TEXT_ERROR, "network msg=reset"), has_text(0, MDB_TEXT_REPLY, 0), has_text(0, MDB_TEXT_SET_NAME, 0);
+    mdb_close(&calls);
+    mdb_close(&lines);
+    open_both("open seeds=a:1");
+    agrees(mdb_hello(&calls, &at, TEXT("a:1 0"), TEXT("ok rtt=1 isWritablePrimary=true maxWireVersion=5"), &reply), "hello 3 a:1 0 ok rtt=1 isWritablePrimary=true maxWireVersion=5");
+    CHECK(mdb_topology_get(&calls, &topology) == MDB_OK && topology.compatible == 0);
+    has_text(-1, MDB_TEXT_ERROR, "server a:1 reports wire version 5, this driver needs at least 8");
+    mdb_close(&calls);
+    mdb_close(&lines);
+}
+
 int main(int argc, char **argv) {
     CHECK(mdb_abi() == MDB_ABI);
     closed_slots();
     normal_pool(argc > 1 ? atoi(argv[1]) : 5000);
     balanced_pool();
+    known();
     return 0;
 }

@@ -1,11 +1,13 @@
 // A target for AFL++, and for files of its own: an input is lines, and a line that begins with a byte of 128 or more is a call whose numbers are the bytes
 // behind it. After each call the text of the last entry and its facts agree, and at the end the lines of all entries, given to a second driver, make the
 // same log. The switches over replies and facts are what guides AFL++, since the library itself is not instrumented.
-// usage: fuzz < FILE
+// usage: fuzz < FILE, or fuzz SECONDS SEED: random openings and calls for so long, and how many inputs and calls there were
+#define _GNU_SOURCE
 #include "mdb.h"
 #include <stdio.h>
 #include <stdlib.h>
 #include <string.h>
+#include <time.h>
 #include <unistd.h>
 
 #define CHECK(what) do { if (!(what)) { fprintf(stderr, "line %d: %s\n", __LINE__, #what); abort(); } } while (0)
@@ -45,6 +47,34 @@ static void notice_fact(const mdb_fact *fact) {
     }
 }
 
+// The address that a fact names stands in its text, and the types of a change are types.
+static void names(size_t index, const char *text, size_t length) {
+    uint8_t address[512];
+    size_t needed = 0;
+    mdb_types types;
+    mdb_status status = mdb_fact_address(&slot, index, address, sizeof address, &needed);
+    CHECK(status == MDB_NO_ENTRY || (status == MDB_OK && needed > 2 && memmem(text, length, address, needed)));
+    if (mdb_fact_types(&slot, index, &types) == MDB_OK) CHECK(types.before >= 1 && types.before <= 9 && types.after >= 1 && types.after <= 9);
+}
+
+// What is known: as many servers as the topology says, each found by its own address, and each text as long as it says.
+static void know(void) {
+    static uint8_t text[1 << 16];
+    mdb_topology topology;
+    mdb_server server;
+    size_t needed, place;
+    CHECK(mdb_topology_get(&slot, &topology) == MDB_OK && topology.kind >= 1 && topology.kind <= 6);
+    for (uint32_t which = 0; which < 6; which++) CHECK(mdb_topology_text(&slot, which, text, sizeof text, &needed) != MDB_NO_ROOM);
+    for (size_t i = 0; i < topology.servers; i++) {
+        CHECK(mdb_server_get(&slot, i, &server) == MDB_OK && server.kind >= 1 && server.kind <= 9);
+        CHECK(mdb_server_text(&slot, i, MDB_TEXT_ADDRESS, text, sizeof text, &needed) == MDB_OK);
+        CHECK(mdb_server_at(&slot, text, needed, &place) == MDB_OK && place == i);
+        CHECK((mdb_server_text(&slot, i, MDB_TEXT_ERROR, text, sizeof text, &needed) == MDB_OK) == (server.has_error == 1));
+        for (uint32_t which = 5; which < 13; which++) CHECK(mdb_server_text(&slot, i, which, text, sizeof text, &needed) != MDB_NO_ROOM);
+    }
+    CHECK(mdb_server_get(&slot, topology.servers, &server) == MDB_NO_ENTRY);
+}
+
 // The last entry's text is kept, and its facts are those of the text.
 static void look(void) {
     size_t needed = 0, count = 0, length = 0;
@@ -61,8 +91,10 @@ static void look(void) {
         CHECK(mdb_fact_text(&slot, i, text, sizeof text, &length) == MDB_OK && (size_t)(at - entry) > length + 3);
         at -= length;
         CHECK(memcmp(at, text, length) == 0 && memcmp(at - 3, " | ", 3) == 0);
+        names(i, at, length);
         at -= 3;
     }
+    know();
     starts[entries++] = told;
     told += needed;
     starts[entries] = told;
@@ -104,6 +136,9 @@ static mdb_status called(const uint8_t *at, const uint8_t *end, mdb_reply *reply
         case 18: return mdb_failed(&slot, &when, &connection, at, (size_t)(end - at), reply);
         case 19: return mdb_hello(&slot, &when, (const uint8_t *)"a:1 0", 5, at, (size_t)(end - at), reply);
         case 20: return mdb_beaten(&slot, &when, (const uint8_t *)"a:1 0", 5, at, (size_t)(end - at), reply);
+        case 21: return mdb_rtt(&slot, &when, (const uint8_t *)"a:1 0", 5, (uint64_t)party << connection.pool % 57, reply);
+        case 22: return mdb_hosts(&slot, &when, at, (size_t)(end - at), reply);
+        case 23: return mdb_cluster_time(&slot, &when, (uint64_t)party << connection.pool % 57, reply);
         default: return mdb_request(&slot, &when, party, at, (size_t)(end - at), reply); // an address of any bytes
     }
 }
@@ -162,9 +197,45 @@ int main(void) {
     return 0;
 }
 #else
-int main(void) {
+static uint64_t state = 1;
+
+static uint32_t below(uint32_t n) {
+    state ^= state << 13, state ^= state >> 7, state ^= state << 17;
+    return (uint32_t)(state >> 33) % n;
+}
+
+// An opening, a hello, and random calls; the bytes of a call are small numbers, for the most part, so that parties, pools and connections meet.
+static size_t made(uint8_t *out) {
+    static const char *const openings[] = {"open seeds=a:1 max=2", "open seeds=a:1 lb", "open seeds=a:1,b:2 set=rs", "open seeds=a:1 max=3 min=1 idle=4 wait=3", "open seeds=a:1 limit_id=9"};
+    static const char *const hellos[] = {
+        "hello 0 a:1 0 ok rtt=5 isWritablePrimary=true maxWireVersion=21", "hello 0 a:1 0 ok rtt=5 hosts=a:1,c:3 setName=rs secondary=true maxWireVersion=21", "hello 0 a:1 0 err network msg=x",
+        "hello 0 a:1 0 ok rtt=5 isWritablePrimary=true hosts=a:1,b:2 setVersion=1 setName=rs maxWireVersion=21 electionId=000000000000000000000001 topologyVersion=000000000000000000000001.5", "beat 0 a:1 0",
+    };
+    static const char *const texts[] = {"network msg=x", "timeout msg=", "pre network msg=x", "post auth msg=y", "ok rtt=7 isWritablePrimary=true maxWireVersion=21", "7 ok msg=isdbgrid maxWireVersion=21", "7 err network msg=z", "err other msg=", "b:2,c:3", "command.91 labels=A msg=", "7 cancelled network msg=z"};
+    size_t n = (size_t)sprintf((char *)out, "%s\n%s\n", openings[below(5)], hellos[below(5)]);
+    for (uint32_t calls = 20 + below(180); calls > 0; calls--) {
+        uint8_t kind = (uint8_t)(128 + (below(4) ? below(7) : below(25)));
+        uint8_t bytes[] = {kind, (uint8_t)(1 + below(9)), 1, (uint8_t)(1 + below(8)), (uint8_t)below(below(4) ? 2 : 8), (uint8_t)below(4), 0, (uint8_t)(1 + below(5)), 22, 0};
+        for (size_t i = 0; i < sizeof bytes; i++) out[n++] = bytes[i] == 10 ? 11 : bytes[i];
+        if (kind >= 128 + 17) n += (size_t)sprintf((char *)out + n, "%s", texts[below(11)]);
+        out[n++] = 10;
+    }
+    return n;
+}
+
+int main(int argc, char **argv) {
     static uint8_t input[1 << 20];
-    run(input, fread(input, 1, sizeof input - 1, stdin));
+    if (argc < 3) {
+        run(input, fread(input, 1, sizeof input - 1, stdin));
+        return 0;
+    }
+    time_t until = time(0) + atol(argv[1]);
+    unsigned long inputs = 0, steps = 0;
+    for (state = strtoul(argv[2], 0, 10) * 2 + 1; time(0) < until; inputs++) {
+        run(input, made(input));
+        steps += entries;
+    }
+    printf("%lu inputs, %lu entries\n", inputs, steps);
     return 0;
 }
 #endif

@@ -73,6 +73,15 @@ static bool step(const char *line, size_t n, bool opens, mdb_reply *reply, size_
         uint8_t text[8192];
         status = mdb_fact_text(&slot, i, text, sizeof text, &needed);
         CHECK(status == MDB_OK || status == MDB_NO_MEMORY);
+        status = mdb_fact_address(&slot, i, text, sizeof text, &needed);
+        CHECK(status == MDB_OK || status == MDB_NO_ENTRY || (status == MDB_NO_MEMORY && needed == 0));
+    }
+    for (uint32_t which = MDB_TEXT_SET_NAME; which <= MDB_TEXT_REPLY; which++) {
+        uint8_t told_text[8192];
+        status = mdb_server_text(&slot, 0, which, told_text, sizeof told_text, &needed);
+        CHECK(status == MDB_OK || status == MDB_NO_ENTRY || (status == MDB_NO_MEMORY && needed == 0));
+        status = mdb_topology_text(&slot, which, told_text, sizeof told_text, &needed);
+        CHECK(status == MDB_OK || status == MDB_NO_ENTRY || (status == MDB_NO_MEMORY && needed == 0));
     }
     return true;
 }

@@ -10,10 +10,10 @@
 
 from .driver import Driver
 from .errors import Closed, Malformed, MdbError, NoEntry, NoMemory, NoRoom, Opened
-from .values import Connection, End, Event, Fact, FactKind, Kind, Reply, Use, Why
+from .values import Connection, End, Event, Fact, FactKind, Kind, Reply, Server, ServerKind, Text, Topology, TopologyKind, Use, Why
 
 __all__ = [
     "Closed", "Connection", "Driver", "End", "Event", "Fact", "FactKind", "Kind", "Malformed", "MdbError", "NoEntry", "NoMemory", "NoRoom", "Opened", "Reply",
-    "Use", "Why",
+    "Server", "ServerKind", "Text", "Topology", "TopologyKind", "Use", "Why",
 ]
-__version__ = "0.1.0"
+__version__ = "0.2.0"

@@ -6,7 +6,7 @@ import ctypes
 import os
 from ctypes import POINTER, Structure, c_int32, c_int64, c_size_t, c_uint32, c_uint64, c_void_p
 
-ABI = 1
+ABI = 2
 
 
 class Slot(Structure):
@@ -37,6 +37,24 @@ class EstablishedNumbers(Structure):
     _fields_ = [("pool", c_uint32), ("id", c_uint32), ("wire", c_int32), ("server_id", c_int64)]
 
 
+class TopologyNumbers(Structure):
+    _fields_ = [
+        ("servers", c_uint64), ("cluster_time", c_uint64), ("session_minutes", c_uint64), ("kind", c_uint32), ("max_set_version", c_int32),
+        ("has_max_set_version", c_uint32), ("has_cluster_time", c_uint32), ("has_session_minutes", c_uint32), ("compatible", c_uint32),
+    ]
+
+
+class ServerNumbers(Structure):
+    _fields_ = [
+        ("round_trip", c_uint64), ("updated", c_int64), ("kind", c_uint32), ("min_wire", c_int32), ("max_wire", c_int32), ("set_version", c_int32),
+        ("has_round_trip", c_uint32), ("has_updated", c_uint32), ("has_set_version", c_uint32), ("has_error", c_uint32),
+    ]
+
+
+class TypesNumbers(Structure):
+    _fields_ = [("before", c_uint32), ("after", c_uint32)]
+
+
 _SLOT, _AT, _REPLY, _SIZE = POINTER(Slot), POINTER(At), POINTER(ReplyNumbers), POINTER(c_size_t)
 # A text that is read is a bytes object, which ctypes passes as a pointer to its first byte, and never as NULL.
 _IN, _OUT = [ctypes.c_char_p, c_size_t], [c_void_p, c_size_t, _SIZE]
@@ -51,6 +69,7 @@ _CALLS = {
     "mdb_give_up": [_SLOT, _AT, c_uint32, _REPLY],
     "mdb_return": [_SLOT, _AT, c_uint32, c_uint32, _REPLY],
     "mdb_claim": [_SLOT, _AT, _REPLY],
+    "mdb_job_address": [_SLOT, c_uint32, c_uint32, *_OUT],
     "mdb_established": [_SLOT, _AT, POINTER(EstablishedNumbers), *_IN, _REPLY],
     "mdb_pin": [_SLOT, _AT, c_uint32, _REPLY],
     "mdb_replicate": [_SLOT, _AT, POINTER(ConnectionNumbers), _REPLY],
@@ -65,10 +84,20 @@ _CALLS = {
     "mdb_failed": [_SLOT, _AT, POINTER(ConnectionNumbers), *_IN, _REPLY],
     "mdb_hello": [_SLOT, _AT, *_IN, *_IN, _REPLY],
     "mdb_beaten": [_SLOT, _AT, *_IN, *_IN, _REPLY],
+    "mdb_rtt": [_SLOT, _AT, *_IN, c_uint64, _REPLY],
+    "mdb_hosts": [_SLOT, _AT, *_IN, _REPLY],
+    "mdb_cluster_time": [_SLOT, _AT, c_uint64, _REPLY],
     "mdb_stop": [_SLOT, _AT, _REPLY],
     "mdb_fact_count": [_SLOT, _SIZE],
     "mdb_fact_at": [_SLOT, c_size_t, POINTER(FactNumbers)],
     "mdb_fact_text": [_SLOT, c_size_t, *_OUT],
+    "mdb_fact_address": [_SLOT, c_size_t, *_OUT],
+    "mdb_fact_types": [_SLOT, c_size_t, POINTER(TypesNumbers)],
+    "mdb_topology_get": [_SLOT, POINTER(TopologyNumbers)],
+    "mdb_topology_text": [_SLOT, c_uint32, *_OUT],
+    "mdb_server_get": [_SLOT, c_size_t, POINTER(ServerNumbers)],
+    "mdb_server_at": [_SLOT, *_IN, _SIZE],
+    "mdb_server_text": [_SLOT, c_size_t, c_uint32, *_OUT],
     "mdb_last_moment": [_SLOT, POINTER(c_uint64)],
     "mdb_published": [_SLOT, POINTER(c_uint64)],
     "mdb_open_pool": [_SLOT, *_IN, POINTER(c_uint32)],

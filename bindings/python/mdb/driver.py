@@ -6,9 +6,11 @@ import threading
 from ctypes import byref, c_size_t, c_uint32, c_uint64, create_string_buffer
 from typing import Iterator
 
-from ._library import LIBRARY, At, ConnectionNumbers, EstablishedNumbers, FactNumbers, ReplyNumbers, Slot
-from .errors import NoRoom, check
-from .values import Connection, Event, Fact, FactKind, Kind, Reply, Use
+from ._library import (
+    LIBRARY, At, ConnectionNumbers, EstablishedNumbers, FactNumbers, ReplyNumbers, ServerNumbers, Slot, TopologyNumbers, TypesNumbers,
+)
+from .errors import NoEntry, NoRoom, check
+from .values import Connection, Event, Fact, FactKind, Kind, Reply, Server, ServerKind, Text, Topology, TopologyKind, Use
 
 _ROOM = 4096
 
@@ -164,6 +166,20 @@ class Driver:
         monitor, text = _bytes(f"{address} {pool}"), _bytes(outcome)
         return self._step(LIBRARY.mdb_beaten, moment, seat, monitor, len(monitor), text, len(text))
 
+    def rtt(self, moment: int, address: str, pool: int, nanos: int, seat: int = 0) -> Reply:
+        """A round trip was measured beside the checks of a monitor. The address has its port."""
+        monitor = _bytes(f"{address} {pool}")
+        return self._step(LIBRARY.mdb_rtt, moment, seat, monitor, len(monitor), _number(nanos, 64))
+
+    def hosts(self, moment: int, hosts: str, seat: int = 0) -> Reply:
+        """DNS names these servers now: addresses with their ports, and commas between them."""
+        text = _bytes(hosts)
+        return self._step(LIBRARY.mdb_hosts, moment, seat, text, len(text))
+
+    def cluster_time(self, moment: int, time: int, seat: int = 0) -> Reply:
+        """A reply told this time of the cluster."""
+        return self._step(LIBRARY.mdb_cluster_time, moment, seat, _number(time, 64))
+
     def stop(self, moment: int, seat: int = 0) -> Reply:
         """The driver stops: its pools and its monitors are closed."""
         return self._step(LIBRARY.mdb_stop, moment, seat)
@@ -174,6 +190,35 @@ class Driver:
         """The facts of the last entry, in the order in which they became true. Hold `lock` around the step and this where threads share the driver."""
         with self.lock:
             return list(self._facts())
+
+    def topology(self) -> Topology:
+        """What is known of the topology."""
+        told = TopologyNumbers()
+        with self.lock:
+            check(LIBRARY.mdb_topology_get(byref(self._slot), byref(told)))
+            texts = [self._some_text(LIBRARY.mdb_topology_text, which) for which in (Text.SET_NAME, Text.ELECTION_ID, Text.ERROR)]
+        return Topology(
+            TopologyKind(told.kind), told.servers, bool(told.compatible), texts[0], told.max_set_version if told.has_max_set_version else None, texts[1],
+            told.cluster_time if told.has_cluster_time else None, told.session_minutes if told.has_session_minutes else None, texts[2],
+        )
+
+    def servers(self) -> list[Server]:
+        """What is known of the servers, in the order of their addresses."""
+        told = TopologyNumbers()
+        with self.lock:
+            check(LIBRARY.mdb_topology_get(byref(self._slot), byref(told)))
+            return [self._server(index) for index in range(told.servers)]
+
+    def server(self, address: str) -> Server:
+        """What is known of the server with the address. Raises NoEntry where there is none."""
+        text, place = _bytes(address), c_size_t()
+        with self.lock:
+            check(LIBRARY.mdb_server_at(byref(self._slot), text, len(text), byref(place)), address)
+            return self._server(place.value)
+
+    def job_address(self, connection: Connection) -> str:
+        """The address to which a pending connection goes. Raises NoEntry where it is not pending."""
+        return self._text(LIBRARY.mdb_job_address, _number(connection.pool, 32), _number(connection.id, 32))
 
     def last_moment(self) -> int:
         """The moment of the last step that was accepted."""
@@ -229,4 +274,32 @@ class Driver:
             check(LIBRARY.mdb_fact_at(byref(self._slot), index, byref(self._fact)), index)
             fact = self._fact
             text = self._text(LIBRARY.mdb_fact_text, index)
-            yield Fact(FactKind(fact.kind), Event(fact.event), fact.pool, fact.id, fact.party, fact.why, fact.number, text)
+            address = self._some_text(LIBRARY.mdb_fact_address, index)
+            yield Fact(FactKind(fact.kind), Event(fact.event), fact.pool, fact.id, fact.party, fact.why, fact.number, text, address, *self._types(index, fact.event))
+
+    def _types(self, index: int, event: int):
+        kinds = {Event.SERVER_CHANGED: ServerKind, Event.TOPOLOGY_CHANGED: TopologyKind}.get(event)
+        if kinds is None:
+            return None, None
+        types = TypesNumbers()
+        check(LIBRARY.mdb_fact_types(byref(self._slot), index, byref(types)), index)
+        return kinds(types.before), kinds(types.after)
+
+    def _some_text(self, call, *index: int) -> str | None:
+        """A text that the call writes, and None where there is no such text."""
+        try:
+            return self._text(call, *index)
+        except NoEntry:
+            return None
+
+    def _server(self, index: int) -> Server:
+        told = ServerNumbers()
+        check(LIBRARY.mdb_server_get(byref(self._slot), index, byref(told)), index)
+        texts = {which: self._some_text(LIBRARY.mdb_server_text, index, which) for which in Text}
+        lists = [tuple((texts[which] or "").split(",")) if texts[which] else () for which in (Text.HOSTS, Text.PASSIVES, Text.ARBITERS)]
+        reply = texts[Text.REPLY]
+        return Server(
+            texts[Text.ADDRESS] or "", ServerKind(told.kind), told.round_trip if told.has_round_trip else None, told.updated if told.has_updated else None,
+            told.min_wire, told.max_wire, texts[Text.SET_NAME], told.set_version if told.has_set_version else None, *lists, texts[Text.ME],
+            texts[Text.PRIMARY], texts[Text.ELECTION_ID], texts[Text.ERROR], None if reply is None else reply.strip(),
+        )

@@ -40,7 +40,7 @@ class Opened(MdbError):
 
 
 class NoEntry(MdbError, LookupError):
-    """There is no such fact or pool."""
+    """There is no such fact, pool, server or text."""
 
     status = 6
 

@@ -109,6 +109,47 @@ class Event(IntEnum):
     HEARTBEAT_FAILED = 40
 
 
+class TopologyKind(IntEnum):
+    """The type of a topology (SDAM, "TopologyType")."""
+
+    UNKNOWN = 1
+    SINGLE = 2
+    REPLICA_SET_NO_PRIMARY = 3
+    REPLICA_SET_WITH_PRIMARY = 4
+    SHARDED = 5
+    LOAD_BALANCED = 6
+
+
+class ServerKind(IntEnum):
+    """The type of a server (SDAM, "ServerType")."""
+
+    UNKNOWN = 1
+    STANDALONE = 2
+    MONGOS = 3
+    RS_PRIMARY = 4
+    RS_SECONDARY = 5
+    RS_ARBITER = 6
+    RS_OTHER = 7
+    RS_GHOST = 8
+    LOAD_BALANCER = 9
+
+
+class Text(IntEnum):
+    """A text of a server; the first three are also texts of a topology."""
+
+    SET_NAME = 1
+    ELECTION_ID = 2
+    ERROR = 3
+    ADDRESS = 4
+    INFO = 5
+    ME = 6
+    PRIMARY = 7
+    HOSTS = 8
+    PASSIVES = 9
+    ARBITERS = 10
+    REPLY = 11
+
+
 @dataclass(frozen=True)
 class Connection:
     """A connection, by the number of its pool and its own."""
@@ -155,3 +196,53 @@ class Fact:
     why: int
     number: int
     text: str
+    address: str | None = None
+    """The address that it names, if it names one."""
+    before: ServerKind | TopologyKind | None = None
+    """Of SERVER_CHANGED and TOPOLOGY_CHANGED, the type before the change."""
+    after: ServerKind | TopologyKind | None = None
+    """The type after it."""
+
+
+@dataclass(frozen=True)
+class Topology:
+    """What is known of the topology (SDAM, "TopologyDescription"). What is not known is None."""
+
+    kind: TopologyKind
+    servers: int
+    """How many servers it has."""
+    compatible: bool
+    """Whether the driver can speak to each server; else `error` says why not."""
+    set_name: str | None
+    max_set_version: int | None
+    max_election_id: str | None
+    cluster_time: int | None
+    session_minutes: int | None
+    """The least session timeout of the servers that hold data."""
+    error: str | None
+
+
+@dataclass(frozen=True)
+class Server:
+    """What is known of a server (SDAM, "ServerDescription"). What is not known is None."""
+
+    address: str
+    kind: ServerKind
+    round_trip: int | None
+    """Nanoseconds, on average."""
+    updated: int | None
+    """The moment of the last reply."""
+    min_wire: int
+    max_wire: int
+    set_name: str | None
+    set_version: int | None
+    hosts: tuple[str, ...]
+    passives: tuple[str, ...]
+    arbiters: tuple[str, ...]
+    me: str | None
+    primary: str | None
+    election_id: str | None
+    error: str | None
+    """The error of its last check or of an operation, as a line has it."""
+    reply: str | None
+    """The fields of its last reply, as a line has them."""

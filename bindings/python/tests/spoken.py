@@ -1,4 +1,4 @@
-"""A line of a script said as a call, where the call layer has it."""
+"""A line of a script, any but `open`, said as a call."""
 
 from __future__ import annotations
 
@@ -7,11 +7,9 @@ from mdb import Connection, Driver, Reply, Use
 _USES = {"ok": Use.OK, "errored": Use.ERRORED, "dropped": Use.DROPPED, "streaming": Use.STREAMING}
 
 
-def by_call(driver: Driver, line: str) -> Reply | None:
-    """The reply of the call that makes the step of the line, and None where only a line can say it."""
+def by_call(driver: Driver, line: str) -> Reply:
+    """The reply of the call that makes the step of the line."""
     word, *words = line.split(" ")
-    if word in ("rtt", "hosts", "ctime"):
-        return None
     moment, *words = [int(words[0]), *words[1:]]
     if word in ("request", "warm"):
         return getattr(driver, word)(moment, int(words[0]), words[1])
@@ -39,14 +37,12 @@ def by_call(driver: Driver, line: str) -> Reply | None:
         return driver.failed(moment, Connection(int(words[0]), int(words[1])), " ".join(words[2:]))
     if word in ("hello", "beaten"):
         return getattr(driver, word)(moment, words[0], int(words[1]), " ".join(words[2:]))
+    if word == "rtt":
+        return driver.rtt(moment, words[0], int(words[1]), int(words[2]))
+    if word == "hosts":
+        return driver.hosts(moment, words[0])
+    if word == "ctime":
+        return driver.cluster_time(moment, int(words[0]))
     if word == "beat":
         return driver.beat(moment, words[0], int(words[1]))
     raise AssertionError(line)
-
-
-def step(driver: Driver, line: str) -> bool:
-    """Makes the step of the line, by a call where there is one. Tells whether it was."""
-    if by_call(driver, line) is not None:
-        return True
-    driver.line(line)
-    return False

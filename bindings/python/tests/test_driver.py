@@ -5,7 +5,7 @@ import threading
 import pytest
 
 import mdb
-from mdb import Closed, Connection, Driver, End, Event, FactKind, Kind, Malformed, NoEntry, Use, Why
+from mdb import Closed, Connection, Driver, End, Event, FactKind, Kind, Malformed, NoEntry, ServerKind, TopologyKind, Use, Why
 
 
 def opened() -> Driver:
@@ -19,6 +19,9 @@ def test_ordinary_path():
         reply = driver.request(2, 1, "a")
         assert (reply.kind, reply.connection) == (Kind.ESTABLISHING, Connection(0, 1))
         assert driver.claim(2).kind is Kind.JOB
+        assert driver.job_address(reply.connection) == "a:27017"
+        with pytest.raises(NoEntry):
+            driver.job_address(Connection(0, 2))
         assert driver.established(3, reply.connection, wire=21).kind is Kind.DONE
         assert [fact.event for fact in driver.facts()] == [Event.CONNECTION_READY, Event.CHECKED_OUT]
         assert driver.collect(3, 1).kind is Kind.POOLED
@@ -63,11 +66,77 @@ def test_what_is_known():
             driver.open_pool("a:27017")
 
 
+FIELDS = (
+    "isWritablePrimary=true hosts=a:1,c:3 passives=d:4 me=a:1 setVersion=7 setName=rs logicalSessionTimeoutMinutes=30 minWireVersion=6 maxWireVersion=21"
+    " electionId=0102030405060708090a0b0c"
+)
+
+
+def test_servers_and_topology():
+    with Driver("open seeds=a:1,b:2") as driver:
+        before = driver.topology()
+        assert (before.kind, before.servers, before.set_name, before.max_set_version, before.cluster_time) == (TopologyKind.UNKNOWN, 2, None, None, None)
+        assert [(it.address, it.kind, it.round_trip, it.updated, it.hosts, it.reply) for it in driver.servers()] == [
+            ("a:1", ServerKind.UNKNOWN, None, None, (), None), ("b:2", ServerKind.UNKNOWN, None, None, (), None),
+        ]
+        assert driver.hello(3, "a:1", 0, "ok rtt=9 " + FIELDS).number == 1
+        topology = driver.topology()
+        assert (topology.kind, topology.servers, topology.set_name, topology.max_set_version) == (TopologyKind.REPLICA_SET_WITH_PRIMARY, 3, "rs", 7)
+        assert (topology.max_election_id, topology.session_minutes, topology.compatible, topology.error) == ("0102030405060708090a0b0c", 30, True, None)
+        primary = driver.server("A:1")
+        assert (primary.kind, primary.round_trip, primary.updated, primary.min_wire, primary.max_wire) == (ServerKind.RS_PRIMARY, 9, 3, 6, 21)
+        assert (primary.set_name, primary.set_version, primary.hosts, primary.passives, primary.me) == ("rs", 7, ("a:1", "c:3"), ("d:4",), "a:1")
+        assert (primary.election_id, primary.primary, primary.error, primary.reply) == ("0102030405060708090a0b0c", None, None, FIELDS)
+        assert [it.address for it in driver.servers()] == ["a:1", "c:3", "d:4"]
+        with pytest.raises(NoEntry):
+            driver.server("b:2")
+        with pytest.raises(Malformed):
+            driver.server("b:0")
+        driver.hello(4, "a:1", 0, "err network msg=reset")
+        assert driver.server("a:1").error == "network msg=reset"
+        assert driver.topology().kind is TopologyKind.REPLICA_SET_NO_PRIMARY
+
+
+def test_incompatible_servers():
+    with Driver("open seeds=a:1") as driver:
+        driver.hello(1, "a:1", 0, "ok rtt=1 isWritablePrimary=true maxWireVersion=5")
+        topology = driver.topology()
+        assert (topology.compatible, topology.error) == (False, "server a:1 reports wire version 5, this driver needs at least 8")
+
+
+def test_facts_name_addresses_and_types():
+    with Driver("open seeds=a:1,b:2") as driver:
+        assert {fact.address for fact in driver.facts() if fact.kind is FactKind.OPENED} == {"a:1", "b:2"}
+        driver.hello(3, "a:1", 0, "ok rtt=9 " + FIELDS)
+        facts = driver.facts()
+        assert [(it.address, it.before, it.after) for it in facts if it.event is Event.SERVER_CHANGED] == [("a:1", ServerKind.UNKNOWN, ServerKind.RS_PRIMARY)]
+        assert [(it.address, it.before, it.after) for it in facts if it.event is Event.TOPOLOGY_CHANGED] == [
+            (None, TopologyKind.UNKNOWN, TopologyKind.REPLICA_SET_WITH_PRIMARY),
+        ]
+        for fact in facts:
+            assert fact.address is None or f" {fact.address}" in fact.text
+
+
+def test_round_trips_hosts_and_the_cluster_time():
+    with Driver("open seeds=a:1") as driver:
+        driver.beat(1, "a:1", 0)
+        driver.beaten(1, "a:1", 0, "800 ok msg=isdbgrid maxWireVersion=21")
+        reply = driver.rtt(2, "a:1", 0, 1800)
+        assert (reply.kind, reply.number) == (Kind.COUNT, 1000)
+        assert driver.cluster_time(3, 5).kind is Kind.DONE
+        assert driver.topology().cluster_time == 5
+        assert driver.hosts(4, "b:2,c:3").kind is Kind.CHANGED
+        assert [it.address for it in driver.servers()] == ["b:2", "c:3"]
+        for hosts in ("", "b", "b:2,b:2", "B:2"):
+            with pytest.raises(Malformed):
+                driver.hosts(5, hosts)
+
+
 def test_closed():
     driver = opened()
     driver.close()
     driver.close()
-    for call in (lambda: driver.claim(1), lambda: driver.line("claim 1"), driver.entry_text, driver.facts, driver.last_moment, lambda: driver.open_pool("a:1")):
+    for call in (lambda: driver.claim(1), lambda: driver.line("claim 1"), driver.entry_text, driver.facts, driver.last_moment, lambda: driver.open_pool("a:1"), driver.topology, driver.servers, lambda: driver.server("a:1"), lambda: driver.job_address(Connection(0, 1))):
         with pytest.raises(Closed):
             call()
 
@@ -162,4 +231,4 @@ def test_threads_share_a_driver():
 
 
 def test_version():
-    assert mdb.__version__ == "0.1.0"
+    assert mdb.__version__ == "0.2.0"

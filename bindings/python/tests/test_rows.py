@@ -4,7 +4,7 @@ import pytest
 
 from mdb import Driver, Malformed
 from rows import fits, rows
-from spoken import step
+from spoken import by_call
 
 ROWS = rows()
 
@@ -26,7 +26,7 @@ def test_row(title, lines, calls):
         if driver is None:
             driver = Driver(line)
         elif calls:
-            step(driver, line)
+            by_call(driver, line)
         else:
             driver.line(line)
         assert fits(driver.entry_text(), f"{line} | {wanted}\n"), title

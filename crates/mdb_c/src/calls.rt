@@ -7,8 +7,8 @@ ghost use Rattle.mdb_log.specs.declared.step.Act.TheVariants as act;
 ghost use Rattle.mdb_log.specs.declared.step.Established.{Established};
 ghost use Rattle.mdb_log.specs.declared.step.Step.{Step};
 ghost use Rattle.mdb_log.specs.declared.step.Use.{Use as Used};
-ghost use Rattle.mdb_calls.specs.Calls.{use_of, made_of};
-ghost use Rattle.mdb_calls.specs.Lines.{error_line, failed_line, hello_line, beaten_line};
+ghost use Rattle.mdb_calls.specs.Calls.{use_of, made_of, cluster};
+ghost use Rattle.mdb_calls.specs.Lines.{error_line, failed_line, hello_line, beaten_line, rtt_line, hosts_line};
 ghost use Rattle.mdb_session.specs.Sessions.{IsStepped, step_at};
 ghost use Rattle.mdb_session.specs.Texts.{IsAddressOf};
 
@@ -384,4 +384,56 @@ pub extern "C" fn mdb_beaten(
     ensures closed { result ≡ CLOSED → slot.old.word.value ≡ None }
 {
     mdb_calls::beaten(alloc, slot, at, monitor, outcome, reply)
+}
+
+/// A round trip was measured beside the checks of a monitor (SDAM monitoring, "Measuring RTT"), in nanoseconds. `monitor` is as for a hello.
+#[unsafe(no_mangle)]
+pub extern "C" fn mdb_rtt(
+    alloc: Global,
+    slot: &mut Slot,
+    at: &At,
+    monitor: &[u8],
+    nanos: u64,
+    reply: &mut ReplyNumbers,
+) -> Status
+    ensures ok { result ≡ OK → (s : Step) × Spells 2 (rtt_line at.now monitor.now nanos) s × IsStepped slot.old.word.value slot.new.word.value at.now.seat s reply.new }
+    ensures other { result ≢ OK → (slot.new.word.value ≡ slot.old.word.value) × (reply.new ≡ reply.old) }
+    ensures malformed { result ≡ MALFORMED → (s : Step) → Spells 2 (rtt_line at.now monitor.now nanos) s → ⊥ }
+    ensures closed { result ≡ CLOSED → slot.old.word.value ≡ None }
+{
+    mdb_calls::rtt(alloc, slot, at, monitor, nanos, reply)
+}
+
+/// DNS names these servers now ("Polling SRV Records for mongos Discovery"). `hosts` is as a line has them: 1 to 128 different addresses with their ports, and commas between them.
+#[unsafe(no_mangle)]
+pub extern "C" fn mdb_hosts(
+    alloc: Global,
+    slot: &mut Slot,
+    at: &At,
+    hosts: &[u8],
+    reply: &mut ReplyNumbers,
+) -> Status
+    ensures ok { result ≡ OK → (s : Step) × Spells 2 (hosts_line at.now hosts.now) s × IsStepped slot.old.word.value slot.new.word.value at.now.seat s reply.new }
+    ensures other { result ≢ OK → (slot.new.word.value ≡ slot.old.word.value) × (reply.new ≡ reply.old) }
+    ensures malformed { result ≡ MALFORMED → (s : Step) → Spells 2 (hosts_line at.now hosts.now) s → ⊥ }
+    ensures closed { result ≡ CLOSED → slot.old.word.value ≡ None }
+{
+    mdb_calls::hosts(alloc, slot, at, hosts, reply)
+}
+
+/// A reply told this time of the cluster (sessions, "Gossipping the cluster time").
+#[unsafe(no_mangle)]
+pub extern "C" fn mdb_cluster_time(
+    alloc: Global,
+    slot: &mut Slot,
+    at: &At,
+    time: u64,
+    reply: &mut ReplyNumbers,
+) -> Status
+    ensures ok { result ≡ OK → IsStepped slot.old.word.value slot.new.word.value at.now.seat (step_at at.now (act.ClusterTime (cluster time))) reply.new }
+    ensures other { result ≢ OK → (slot.new.word.value ≡ slot.old.word.value) × (reply.new ≡ reply.old) }
+    ensures formed { result ≢ MALFORMED }
+    ensures closed { (result ≡ CLOSED) ↔ (slot.old.word.value ≡ None) }
+{
+    mdb_calls::cluster_time(alloc, slot, at, time, reply)
 }

@@ -4,4 +4,5 @@
 
 mod calls;
 mod facts;
+mod known;
 mod lines;

@@ -9,7 +9,7 @@ use Rattle.mdb_lines.specs.Script.{Spells}
 use Rattle.mdb_log.specs.declared.step.Step.{Step}
 use Rattle.mdb_session.specs.Texts.{text_in}
 use Rattle.mdb_session.specs.declared.at.At.{At}
-use Rattle.mdb_calls.specs.Lines.{error_line, failed_line, hello_line, beaten_line}
+use Rattle.mdb_calls.specs.Lines.{error_line, failed_line, hello_line, beaten_line, rtt_line, hosts_line}
 use Rattle.mdb_calls.specs.declared.connections.ConnectionNumbers.{ConnectionNumbers}
 
 parts : (xs ys : List ℕ) → is_printable (xs ++ ys) ≡ true → (is_printable xs ≡ true) × (is_printable ys ≡ true)
@@ -56,3 +56,9 @@ beaten_monitor at monitor outcome none s h = lacks_text monitor (both_texts (cod
 
 pub beaten_outcome : (at : At) (monitor outcome : List ℕ) → None ≡ text_in outcome → (s : Step) → Spells 2 (beaten_line at monitor outcome) s → ⊥
 beaten_outcome at monitor outcome none s h = lacks_text outcome (both_texts (codes "beaten ") at monitor outcome h.printable).1 none
+
+pub hosts_printable : (at : At) (hosts : List ℕ) → None ≡ text_in hosts → (s : Step) → Spells 2 (hosts_line at hosts) s → ⊥
+hosts_printable at hosts none s h = lacks_text hosts (behind_moment (codes "hosts ") at hosts h.printable) none
+
+pub rtt_printable : (at : At) (monitor : List ℕ) (nanos : ℕ) → None ≡ text_in monitor → (s : Step) → Spells 2 (rtt_line at monitor nanos) s → ⊥
+rtt_printable at monitor nanos none s h = lacks_text monitor (both_texts (codes "rtt ") at monitor (decimal nanos) h.printable).0 none

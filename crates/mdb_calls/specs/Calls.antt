@@ -2,6 +2,7 @@
 use Rattle.std.specs.Prelude.{ℕ, ℤ, ◌==◌, List, [], ◌∷◌, Option, Some, None, option_map, int_le, pos, if◌then◌else◌}
 use Rattle.mdb_base.specs.Spelling.{id_of}
 use Rattle.mdb_base.specs.declared.object_id.ObjectId.{ObjectId}
+use Rattle.mdb_base.specs.declared.times.ClusterTime.{ClusterTime}
 use Rattle.mdb_log.specs.declared.step.Established.{Established}
 use Rattle.mdb_log.specs.declared.step.Use.{Use}
 use Rattle.mdb_log.specs.declared.step.Use.TheVariants as use_
@@ -31,3 +32,7 @@ made_of made service =
     if int_le (pos 0) made.wire
     then option_map (λ s. record { wire = made.wire; service_id = s; server_id = server_of made.server_id }) (service_of service)
     else None
+
+-- the time of the cluster that has this number
+abbrev pub cluster : ℕ → ClusterTime
+cluster n = record { 0 = n }

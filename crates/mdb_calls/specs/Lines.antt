@@ -14,3 +14,9 @@ hello_line at monitor outcome = codes "hello " ++ (decimal at.moment ++ (codes "
 
 abbrev pub beaten_line : At → List ℕ → List ℕ → List ℕ
 beaten_line at monitor outcome = codes "beaten " ++ (decimal at.moment ++ (codes " " ++ (monitor ++ (codes " " ++ outcome))))
+
+abbrev pub hosts_line : At → List ℕ → List ℕ
+hosts_line at hosts = codes "hosts " ++ (decimal at.moment ++ (codes " " ++ hosts))
+
+abbrev pub rtt_line : At → List ℕ → ℕ → List ℕ
+rtt_line at monitor nanos = codes "rtt " ++ (decimal at.moment ++ (codes " " ++ (monitor ++ (codes " " ++ decimal nanos))))

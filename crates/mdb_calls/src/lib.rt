@@ -11,6 +11,6 @@ pub use callers::{collect, give_up, request, return_connection, warm};
 pub use connections::{
     ConnectionNumbers, EstablishedNumbers, claim, established, pin, replicate, take, unpin,
 };
-pub use monitors::{beat, unwant, want};
-pub use outcomes::{beaten, error, failed, hello};
+pub use monitors::{beat, cluster_time, unwant, want};
+pub use outcomes::{beaten, error, failed, hello, hosts, rtt};
 pub use timers::{expire, maintain, stop};

@@ -1,11 +1,13 @@
-//! The steps of monitors that tell no reply, and of watchers.
+//! The steps of monitors that tell no reply, of watchers, and of the cluster's time.
 
 ghost use Rattle.std.specs.Prelude.{◌≡◌, ◌≢◌, ◌↔◌, None};
 ghost use Rattle.mdb_base.specs.declared.address.ServerAddress.{ServerAddress};
 ghost use Rattle.mdb_log.specs.declared.step.Act.TheVariants as act;
+ghost use Rattle.mdb_calls.specs.Calls.{cluster};
 ghost use Rattle.mdb_session.specs.Sessions.{IsStepped, step_at};
 ghost use Rattle.mdb_session.specs.Texts.{IsAddressOf};
 
+use mdb_base::ClusterTime;
 use mdb_log::Act;
 use mdb_session::{At, CLOSED, MALFORMED, OK, ReplyNumbers, Slot, Status, address_in, status_of};
 use std::alloc::Global;
@@ -60,4 +62,20 @@ pub fn unwant(
     ensures closed { (result ≡ CLOSED) ↔ (slot.old.word.value ≡ None) }
 {
     slot.step(alloc, at, Act::Unwant(watcher), reply)
+}
+
+/// A reply told this time of the cluster (sessions, "Gossipping the cluster time").
+pub fn cluster_time(
+    alloc: Global,
+    slot: &mut Slot,
+    at: &At,
+    time: u64,
+    reply: &mut ReplyNumbers,
+) -> Status
+    ensures ok { result ≡ OK → IsStepped slot.old.word.value slot.new.word.value at.now.seat (step_at at.now (act.ClusterTime (cluster time))) reply.new }
+    ensures other { result ≢ OK → (slot.new.word.value ≡ slot.old.word.value) × (reply.new ≡ reply.old) }
+    ensures formed { result ≢ MALFORMED }
+    ensures closed { (result ≡ CLOSED) ↔ (slot.old.word.value ≡ None) }
+{
+    slot.step(alloc, at, Act::ClusterTime(ClusterTime(time)), reply)
 }

@@ -1,9 +1,9 @@
-//! The steps that carry an error or a server's reply, which stay texts.
+//! The steps that carry an error, a server's reply, a monitor or a list of hosts, which stay texts.
 
 ghost use Rattle.std.specs.Prelude.{◌≡◌, ◌≢◌, ◌↔◌, None, string_bytes};
 ghost use Rattle.mdb_lines.specs.Script.{Spells};
 ghost use Rattle.mdb_log.specs.declared.step.Step.{Step};
-ghost use Rattle.mdb_calls.specs.Lines.{error_line, failed_line, hello_line, beaten_line};
+ghost use Rattle.mdb_calls.specs.Lines.{error_line, failed_line, hello_line, beaten_line, rtt_line, hosts_line};
 ghost use Rattle.mdb_session.specs.Sessions.{IsStepped};
 
 use crate::connections::ConnectionNumbers;
@@ -116,6 +116,55 @@ pub fn beaten(
     };
     let moment = at.moment;
     match format!(in alloc; "beaten {moment} {monitor} {outcome}") {
+        Ok(line) => slot.line(alloc, at.seat, line.as_bytes(), reply),
+        Err(_) => NO_MEMORY,
+    }
+}
+
+/// A round trip was measured beside the checks of a monitor (SDAM monitoring, "Measuring RTT"), in nanoseconds. `monitor` is as for a hello.
+#[tactic(auto, using(crate::proofs::LineLemmas::rtt_printable))]
+pub fn rtt(
+    alloc: Global,
+    slot: &mut Slot,
+    at: &At,
+    monitor: &[u8],
+    nanos: u64,
+    reply: &mut ReplyNumbers,
+) -> Status
+    ensures ok { result ≡ OK → (s : Step) × Spells 2 (rtt_line at.now monitor.now nanos) s × IsStepped slot.old.word.value slot.new.word.value at.now.seat s reply.new }
+    ensures other { result ≢ OK → (slot.new.word.value ≡ slot.old.word.value) × (reply.new ≡ reply.old) }
+    ensures malformed { result ≡ MALFORMED → (s : Step) → Spells 2 (rtt_line at.now monitor.now nanos) s → ⊥ }
+    ensures closed { result ≡ CLOSED → slot.old.word.value ≡ None }
+{
+    let Some(monitor) = text_in(monitor) else {
+        return MALFORMED;
+    };
+    let moment = at.moment;
+    match format!(in alloc; "rtt {moment} {monitor} {nanos}") {
+        Ok(line) => slot.line(alloc, at.seat, line.as_bytes(), reply),
+        Err(_) => NO_MEMORY,
+    }
+}
+
+/// DNS names these servers now ("Polling SRV Records for mongos Discovery"). `hosts` is as a line has them: 1 to 128 different addresses with their ports, and commas between them.
+#[tactic(auto, using(crate::proofs::LineLemmas::hosts_printable))]
+pub fn hosts(
+    alloc: Global,
+    slot: &mut Slot,
+    at: &At,
+    hosts: &[u8],
+    reply: &mut ReplyNumbers,
+) -> Status
+    ensures ok { result ≡ OK → (s : Step) × Spells 2 (hosts_line at.now hosts.now) s × IsStepped slot.old.word.value slot.new.word.value at.now.seat s reply.new }
+    ensures other { result ≢ OK → (slot.new.word.value ≡ slot.old.word.value) × (reply.new ≡ reply.old) }
+    ensures malformed { result ≡ MALFORMED → (s : Step) → Spells 2 (hosts_line at.now hosts.now) s → ⊥ }
+    ensures closed { result ≡ CLOSED → slot.old.word.value ≡ None }
+{
+    let Some(hosts) = text_in(hosts) else {
+        return MALFORMED;
+    };
+    let moment = at.moment;
+    match format!(in alloc; "hosts {moment} {hosts}") {
         Ok(line) => slot.line(alloc, at.seat, line.as_bytes(), reply),
         Err(_) => NO_MEMORY,
     }

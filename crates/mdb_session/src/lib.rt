@@ -21,5 +21,5 @@ pub use numbers::{ReplyNumbers, numbers_of};
 pub use session::Session;
 pub use slot::Slot;
 pub use status::{CLOSED, MALFORMED, NO_ENTRY, NO_MEMORY, NO_ROOM, OK, OPENED, Status, status_of};
-pub use texts::{address_in, text_in};
+pub use texts::{address_in, copied, text_in};
 pub use word::Word;

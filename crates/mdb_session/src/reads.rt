@@ -5,7 +5,7 @@ ghost use Rattle.mdb_events.specs.FactText.{fact_text};
 ghost use Rattle.mdb_events.specs.declared.fact.Fact.{Fact};
 ghost use Rattle.mdb_log.specs.History.{history_of, open_pool};
 ghost use Rattle.mdb_topology.specs.Jobs.{job_after};
-ghost use Rattle.mdb_topology.specs.Lines.{last_of, publications};
+ghost use Rattle.mdb_topology.specs.Lines.{described, last_of, publications};
 ghost use Rattle.mdb_lines.specs.Spelling.{HasSpelling};
 ghost use Rattle.mdb_session.specs.Facts.{fact_numbers};
 ghost use Rattle.mdb_session.specs.Sessions.{IsLast, IsLastFact, LacksFact};
@@ -14,6 +14,7 @@ use crate::fact_numbers::{FactNumbers, numbers_of_fact};
 use crate::session::Session;
 use crate::texts::copied;
 use mdb_base::{Moment, OutOfMemory, ServerAddress};
+use mdb_describe::TopologyDescription;
 use mdb_log::{Entry, Job};
 use std::alloc::Global;
 
@@ -72,6 +73,13 @@ impl Session {
         ensures { result ≡ publications self.now }
     {
         self.core.published()
+    }
+
+    /// What is known of the topology and its servers.
+    pub fn described(&self) -> &TopologyDescription
+        ensures { result.now ≡ described self.now }
+    {
+        self.core.description()
     }
 
     /// The number of the pool that is open at the address.

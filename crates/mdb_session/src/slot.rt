@@ -38,8 +38,8 @@ impl Slot {
         }
     }
 
-    // An open slot.
-    pub(crate) fn holding(session: Box<Session>) -> Slot
+    /// An open slot with this session.
+    pub fn holding(session: Box<Session>) -> Slot
         ensures { result.word.value ≡ Some session.value }
     {
         Slot {
@@ -56,9 +56,9 @@ impl Slot {
         self.state == OPEN
     }
 
-    // Takes the session out, if there is one. The slot is closed then.
+    /// Takes the session out, if there is one. The slot is closed then.
     #[tactic(auto, using(crate::proofs::Slots::nothing))]
-    pub(crate) fn take(&mut self, alloc: Global) -> Option<Box<Session>>
+    pub fn take(&mut self, alloc: Global) -> Option<Box<Session>>
         ensures closed { self.new.word.value ≡ None }
         ensures some { IfSome result (λ b. self.old.word.value ≡ Some b.value) }
         ensures none { IfNone result (self.old.word.value ≡ None) }

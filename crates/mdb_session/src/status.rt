@@ -26,7 +26,7 @@ pub const CLOSED: Status = 4;
 /// The slot is open already, and nothing was done.
 pub const OPENED: Status = 5;
 
-/// There is no such fact, pool, connection or server.
+/// There is no such fact, pool, server or text.
 pub const NO_ENTRY: Status = 6;
 
 /// The status that tells of an error.

@@ -38,7 +38,7 @@ pub fn address_in(alloc: Global, bytes: &[u8]) -> Result<ServerAddress, LineErro
 }
 
 /// Copies the text to the beginning of `out` where it fits there, and answers how long it is.
-pub(crate) fn copied(text: &[u8], out: &mut [u8]) -> usize
+pub fn copied(text: &[u8], out: &mut [u8]) -> usize
     ensures length { result ≡ length text.now }
     ensures fits { length text.now ≤ length out.old → out.new ≡ text.now ++ drop (length text.now) out.old }
     ensures small { length out.old < length text.now → out.new ≡ out.old }

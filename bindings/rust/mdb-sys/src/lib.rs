@@ -4,7 +4,7 @@
 
 use core::ffi::c_void;
 
-pub const MDB_ABI: u32 = 1;
+pub const MDB_ABI: u32 = 2;
 
 pub const MDB_OK: u32 = 0;
 pub const MDB_NO_MEMORY: u32 = 1;
@@ -65,6 +65,42 @@ pub struct mdb_established_as {
     pub server_id: i64,
 }
 
+#[repr(C)]
+#[derive(Clone, Copy, Debug, Default, PartialEq, Eq)]
+pub struct mdb_types {
+    pub before: u32,
+    pub after: u32,
+}
+
+#[repr(C)]
+#[derive(Clone, Copy, Debug, Default, PartialEq, Eq)]
+pub struct mdb_topology {
+    pub servers: u64,
+    pub cluster_time: u64,
+    pub session_minutes: u64,
+    pub kind: u32,
+    pub max_set_version: i32,
+    pub has_max_set_version: u32,
+    pub has_cluster_time: u32,
+    pub has_session_minutes: u32,
+    pub compatible: u32,
+}
+
+#[repr(C)]
+#[derive(Clone, Copy, Debug, Default, PartialEq, Eq)]
+pub struct mdb_server {
+    pub round_trip: u64,
+    pub updated: i64,
+    pub kind: u32,
+    pub min_wire: i32,
+    pub max_wire: i32,
+    pub set_version: i32,
+    pub has_round_trip: u32,
+    pub has_updated: u32,
+    pub has_set_version: u32,
+    pub has_error: u32,
+}
+
 extern "C" {
     pub fn mdb_abi() -> u32;
     pub fn mdb_close(slot: *mut mdb_slot);
@@ -82,6 +118,7 @@ extern "C" {
     pub fn mdb_established(
         slot: *mut mdb_slot, at: *const mdb_at, made: *const mdb_established_as, service: *const u8, service_len: usize, reply: *mut mdb_reply,
     ) -> u32;
+    pub fn mdb_job_address(slot: *mut mdb_slot, pool: u32, id: u32, out: *mut u8, out_len: usize, needed: *mut usize) -> u32;
     pub fn mdb_pin(slot: *mut mdb_slot, at: *const mdb_at, party: u32, reply: *mut mdb_reply) -> u32;
     pub fn mdb_replicate(slot: *mut mdb_slot, at: *const mdb_at, connection: *const mdb_connection, reply: *mut mdb_reply) -> u32;
     pub fn mdb_take(slot: *mut mdb_slot, at: *const mdb_at, party: u32, connection: *const mdb_connection, reply: *mut mdb_reply) -> u32;
@@ -101,11 +138,21 @@ extern "C" {
     pub fn mdb_beaten(
         slot: *mut mdb_slot, at: *const mdb_at, monitor: *const u8, monitor_len: usize, outcome: *const u8, outcome_len: usize, reply: *mut mdb_reply,
     ) -> u32;
+    pub fn mdb_rtt(slot: *mut mdb_slot, at: *const mdb_at, monitor: *const u8, monitor_len: usize, nanos: u64, reply: *mut mdb_reply) -> u32;
+    pub fn mdb_hosts(slot: *mut mdb_slot, at: *const mdb_at, hosts: *const u8, hosts_len: usize, reply: *mut mdb_reply) -> u32;
+    pub fn mdb_cluster_time(slot: *mut mdb_slot, at: *const mdb_at, time: u64, reply: *mut mdb_reply) -> u32;
     pub fn mdb_stop(slot: *mut mdb_slot, at: *const mdb_at, reply: *mut mdb_reply) -> u32;
 
     pub fn mdb_fact_count(slot: *mut mdb_slot, count: *mut usize) -> u32;
     pub fn mdb_fact_at(slot: *mut mdb_slot, index: usize, fact: *mut mdb_fact) -> u32;
     pub fn mdb_fact_text(slot: *mut mdb_slot, index: usize, out: *mut u8, out_len: usize, needed: *mut usize) -> u32;
+    pub fn mdb_fact_address(slot: *mut mdb_slot, index: usize, out: *mut u8, out_len: usize, needed: *mut usize) -> u32;
+    pub fn mdb_fact_types(slot: *mut mdb_slot, index: usize, types: *mut mdb_types) -> u32;
+    pub fn mdb_topology_get(slot: *mut mdb_slot, topology: *mut mdb_topology) -> u32;
+    pub fn mdb_topology_text(slot: *mut mdb_slot, which: u32, out: *mut u8, out_len: usize, needed: *mut usize) -> u32;
+    pub fn mdb_server_get(slot: *mut mdb_slot, index: usize, server: *mut mdb_server) -> u32;
+    pub fn mdb_server_at(slot: *mut mdb_slot, address: *const u8, address_len: usize, index: *mut usize) -> u32;
+    pub fn mdb_server_text(slot: *mut mdb_slot, index: usize, which: u32, out: *mut u8, out_len: usize, needed: *mut usize) -> u32;
     pub fn mdb_last_moment(slot: *mut mdb_slot, moment: *mut u64) -> u32;
     pub fn mdb_published(slot: *mut mdb_slot, count: *mut u64) -> u32;
     pub fn mdb_open_pool(slot: *mut mdb_slot, address: *const u8, address_len: usize, pool: *mut u32) -> u32;

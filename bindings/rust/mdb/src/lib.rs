@@ -3,7 +3,7 @@
 
 mod values;
 
-pub use values::{Connection, End, Error, Event, Fact, FactKind, Kind, Reply, Use, Why};
+pub use values::{Connection, End, Error, Event, Fact, FactKind, Kind, Reply, Server, ServerKind, Text, Topology, TopologyKind, Use, Why};
 
 use mdb_sys as c;
 use std::ptr::null_mut;
@@ -11,8 +11,7 @@ use std::ptr::null_mut;
 /// One driver. It opens no socket and reads no clock: it is told what happened, step by step. Moments are in milliseconds.
 pub struct Driver(c::mdb_slot);
 
-// SAFETY: the library keeps no thread-local state, and a driver is in one call at a time. This is tested under ThreadSanitizer, and not proved.
-#[cfg(feature = "threads")]
+// SAFETY: what a slot holds may go from thread to thread: the library's `Word` is proved to be `Send`, and `&mut self` is one call at a time.
 unsafe impl Send for Driver {}
 
 // The reply of a call that makes a step.
@@ -166,6 +165,22 @@ impl Driver {
         step!(self, mdb_beaten, moment, monitor.as_ptr(), monitor.len(), outcome.as_ptr(), outcome.len())
     }
 
+    /// A round trip was measured beside the checks of a monitor. The address has its port.
+    pub fn rtt(&mut self, moment: u64, address: &str, pool: u32, nanos: u64) -> Result<Reply, Error> {
+        let monitor = format!("{address} {pool}");
+        step!(self, mdb_rtt, moment, monitor.as_ptr(), monitor.len(), nanos)
+    }
+
+    /// DNS names these servers now: addresses with their ports, and commas between them.
+    pub fn hosts(&mut self, moment: u64, hosts: &str) -> Result<Reply, Error> {
+        step!(self, mdb_hosts, moment, hosts.as_ptr(), hosts.len())
+    }
+
+    /// A reply told this time of the cluster.
+    pub fn cluster_time(&mut self, moment: u64, time: u64) -> Result<Reply, Error> {
+        step!(self, mdb_cluster_time, moment, time)
+    }
+
     /// The driver stops: its pools and its monitors are closed.
     pub fn stop(&mut self, moment: u64) -> Result<Reply, Error> {
         step!(self, mdb_stop, moment)
@@ -185,7 +200,57 @@ impl Driver {
         Error::check(unsafe { c::mdb_fact_at(&mut self.0, index, &mut numbers) })?;
         // SAFETY: as in `entry_text`.
         let text = text(|out, room, needed| unsafe { c::mdb_fact_text(&mut self.0, index, out, room, needed) })?;
-        Fact::of(numbers, text)
+        // SAFETY: as in `entry_text`.
+        let address = some_text(|out, room, needed| unsafe { c::mdb_fact_address(&mut self.0, index, out, room, needed) })?;
+        Fact::of(numbers, text, address)
+    }
+
+    /// The address to which a pending connection goes, if it is pending.
+    pub fn job_address(&mut self, connection: Connection) -> Result<Option<String>, Error> {
+        // SAFETY: as in `entry_text`.
+        some_text(|out, room, needed| unsafe { c::mdb_job_address(&mut self.0, connection.pool, connection.id, out, room, needed) })
+    }
+
+    /// What is known of the topology.
+    pub fn topology(&mut self) -> Result<Topology, Error> {
+        let mut told = c::mdb_topology::default();
+        // SAFETY: a slot of this driver's, and numbers of their own.
+        Error::check(unsafe { c::mdb_topology_get(&mut self.0, &mut told) })?;
+        Topology::of(told)
+    }
+
+    /// A text of the topology, `SetName`, `ElectionId` or `Error`, if there is one.
+    pub fn topology_text(&mut self, which: Text) -> Result<Option<String>, Error> {
+        // SAFETY: as in `entry_text`.
+        some_text(|out, room, needed| unsafe { c::mdb_topology_text(&mut self.0, which as u32, out, room, needed) })
+    }
+
+    /// What is known of the server at the place, in the order of the servers' addresses, if there is one.
+    pub fn server(&mut self, place: usize) -> Result<Option<Server>, Error> {
+        let mut told = c::mdb_server::default();
+        // SAFETY: a slot of this driver's, and numbers of their own.
+        match Error::check(unsafe { c::mdb_server_get(&mut self.0, place, &mut told) }) {
+            Ok(()) => Server::of(told).map(Some),
+            Err(Error::NoEntry) => Ok(None),
+            Err(error) => Err(error),
+        }
+    }
+
+    /// The place of the server with the address, if there is one.
+    pub fn server_at(&mut self, address: &str) -> Result<Option<usize>, Error> {
+        let mut place = 0;
+        // SAFETY: a slot of this driver's, a slice with its length, and a number of its own.
+        match Error::check(unsafe { c::mdb_server_at(&mut self.0, address.as_ptr(), address.len(), &mut place) }) {
+            Ok(()) => Ok(Some(place)),
+            Err(Error::NoEntry) => Ok(None),
+            Err(error) => Err(error),
+        }
+    }
+
+    /// A text of the server at the place, if there is one.
+    pub fn server_text(&mut self, place: usize, which: Text) -> Result<Option<String>, Error> {
+        // SAFETY: as in `entry_text`.
+        some_text(|out, room, needed| unsafe { c::mdb_server_text(&mut self.0, place, which as u32, out, room, needed) })
     }
 
     /// The moment of the last step that was accepted.
@@ -220,6 +285,15 @@ impl Drop for Driver {
     fn drop(&mut self) {
         // SAFETY: a slot of this driver's.
         unsafe { c::mdb_close(&mut self.0) }
+    }
+}
+
+// A text that the call writes, if there is one.
+fn some_text(call: impl FnMut(*mut u8, usize, *mut usize) -> u32) -> Result<Option<String>, Error> {
+    match text(call) {
+        Ok(text) => Ok(Some(text)),
+        Err(Error::NoEntry) => Ok(None),
+        Err(error) => Err(error),
     }
 }
 

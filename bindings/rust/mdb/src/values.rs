@@ -16,7 +16,7 @@ pub enum Error {
     Closed,
     /// The slot holds a driver already.
     Opened,
-    /// There is no such fact or pool.
+    /// There is no such fact, pool, server or text.
     NoEntry,
     /// A number that this crate does not know.
     Unknown(u32),
@@ -45,7 +45,7 @@ impl fmt::Display for Error {
             Error::NoRoom => f.write_str("the text does not fit"),
             Error::Closed => f.write_str("the driver is closed"),
             Error::Opened => f.write_str("the driver is open already"),
-            Error::NoEntry => f.write_str("there is no such fact or pool"),
+            Error::NoEntry => f.write_str("there is no such fact, pool, server or text"),
             Error::Unknown(number) => write!(f, "unknown number {number}"),
         }
     }
@@ -300,11 +300,140 @@ pub struct Fact {
     pub why: u32,
     pub number: u64,
     pub text: String,
+    /// The address that it names, if it names one.
+    pub address: Option<String>,
 }
 
 impl Fact {
-    pub(crate) fn of(told: c::mdb_fact, text: String) -> Result<Fact, Error> {
+    pub(crate) fn of(told: c::mdb_fact, text: String, address: Option<String>) -> Result<Fact, Error> {
         let (kind, event) = (FactKind::of(told.kind)?, Event::of(told.event)?);
-        Ok(Fact { kind, event, pool: told.pool, id: told.id, party: told.party, why: told.why, number: told.number, text })
+        Ok(Fact { kind, event, pool: told.pool, id: told.id, party: told.party, why: told.why, number: told.number, text, address })
+    }
+}
+
+/// The type of a topology (SDAM, "TopologyType").
+#[derive(Clone, Copy, Debug, PartialEq, Eq)]
+pub enum TopologyKind {
+    Unknown = 1,
+    Single = 2,
+    ReplicaSetNoPrimary = 3,
+    ReplicaSetWithPrimary = 4,
+    Sharded = 5,
+    LoadBalanced = 6,
+}
+
+impl TopologyKind {
+    fn of(number: u32) -> Result<TopologyKind, Error> {
+        match number {
+            1 => Ok(TopologyKind::Unknown),
+            2 => Ok(TopologyKind::Single),
+            3 => Ok(TopologyKind::ReplicaSetNoPrimary),
+            4 => Ok(TopologyKind::ReplicaSetWithPrimary),
+            5 => Ok(TopologyKind::Sharded),
+            6 => Ok(TopologyKind::LoadBalanced),
+            other => Err(Error::Unknown(other)),
+        }
+    }
+}
+
+/// The type of a server (SDAM, "ServerType").
+#[derive(Clone, Copy, Debug, PartialEq, Eq)]
+pub enum ServerKind {
+    Unknown = 1,
+    Standalone = 2,
+    Mongos = 3,
+    RsPrimary = 4,
+    RsSecondary = 5,
+    RsArbiter = 6,
+    RsOther = 7,
+    RsGhost = 8,
+    LoadBalancer = 9,
+}
+
+impl ServerKind {
+    fn of(number: u32) -> Result<ServerKind, Error> {
+        match number {
+            1 => Ok(ServerKind::Unknown),
+            2 => Ok(ServerKind::Standalone),
+            3 => Ok(ServerKind::Mongos),
+            4 => Ok(ServerKind::RsPrimary),
+            5 => Ok(ServerKind::RsSecondary),
+            6 => Ok(ServerKind::RsArbiter),
+            7 => Ok(ServerKind::RsOther),
+            8 => Ok(ServerKind::RsGhost),
+            9 => Ok(ServerKind::LoadBalancer),
+            other => Err(Error::Unknown(other)),
+        }
+    }
+}
+
+/// A text of a server; the first three are also texts of a topology.
+#[derive(Clone, Copy, Debug, PartialEq, Eq)]
+pub enum Text {
+    SetName = 1,
+    ElectionId = 2,
+    Error = 3,
+    Address = 4,
+    Info = 5,
+    Me = 6,
+    Primary = 7,
+    Hosts = 8,
+    Passives = 9,
+    Arbiters = 10,
+    Reply = 11,
+}
+
+/// What is known of the topology (SDAM, "TopologyDescription").
+#[derive(Clone, Copy, Debug, PartialEq, Eq)]
+pub struct Topology {
+    pub kind: TopologyKind,
+    pub servers: usize,
+    pub max_set_version: Option<i32>,
+    pub cluster_time: Option<u64>,
+    /// The least session timeout of the servers that hold data, in minutes.
+    pub session_minutes: Option<u64>,
+    /// Whether the driver can speak to each of the servers.
+    pub compatible: bool,
+}
+
+impl Topology {
+    pub(crate) fn of(told: c::mdb_topology) -> Result<Topology, Error> {
+        Ok(Topology {
+            kind: TopologyKind::of(told.kind)?,
+            servers: told.servers as usize,
+            max_set_version: (told.has_max_set_version == 1).then_some(told.max_set_version),
+            cluster_time: (told.has_cluster_time == 1).then_some(told.cluster_time),
+            session_minutes: (told.has_session_minutes == 1).then_some(told.session_minutes),
+            compatible: told.compatible == 1,
+        })
+    }
+}
+
+/// What is known of a server (SDAM, "ServerDescription").
+#[derive(Clone, Copy, Debug, PartialEq, Eq)]
+pub struct Server {
+    pub kind: ServerKind,
+    /// Nanoseconds, on average.
+    pub round_trip: Option<u64>,
+    /// The moment of the last reply.
+    pub updated: Option<i64>,
+    pub min_wire: i32,
+    pub max_wire: i32,
+    pub set_version: Option<i32>,
+    /// Whether its last check or an operation failed.
+    pub has_error: bool,
+}
+
+impl Server {
+    pub(crate) fn of(told: c::mdb_server) -> Result<Server, Error> {
+        Ok(Server {
+            kind: ServerKind::of(told.kind)?,
+            round_trip: (told.has_round_trip == 1).then_some(told.round_trip),
+            updated: (told.has_updated == 1).then_some(told.updated),
+            min_wire: told.min_wire,
+            max_wire: told.max_wire,
+            set_version: (told.has_set_version == 1).then_some(told.set_version),
+            has_error: told.has_error == 1,
+        })
     }
 }

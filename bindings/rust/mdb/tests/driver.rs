@@ -1,4 +1,4 @@
-use mdb::{Connection, Driver, End, Error, Event, Kind, Use, Why};
+use mdb::{Connection, Driver, End, Error, Event, Kind, ServerKind, Text, TopologyKind, Use, Why};
 
 fn opened() -> Driver {
     let mut driver = Driver::open("open seeds=a:27017 max=2 wait=5").unwrap();
@@ -13,6 +13,8 @@ fn the_ordinary_path_is_done() {
     let reply = driver.request(2, 1, "a").unwrap();
     assert_eq!((reply.kind, reply.connection()), (Kind::Establishing, Some(Connection { pool: 0, id: 1 })));
     assert_eq!(driver.claim(2).unwrap().kind, Kind::Job);
+    assert_eq!(driver.job_address(Connection { pool: 0, id: 1 }).unwrap().as_deref(), Some("a:27017"));
+    assert_eq!(driver.job_address(Connection { pool: 0, id: 2 }), Ok(None));
     assert_eq!(driver.established(3, Connection { pool: 0, id: 1 }, 21, "", None).unwrap().kind, Kind::Done);
     let events: Vec<_> = driver.facts().unwrap().iter().map(|fact| fact.event).collect();
     assert_eq!(events, [Event::ConnectionReady, Event::CheckedOut]);
@@ -67,6 +69,28 @@ fn what_is_known_is_told() {
 }
 
 #[test]
+fn servers_and_the_topology_are_told() {
+    let mut driver = Driver::open("open seeds=a:1,b:2").unwrap();
+    assert_eq!(driver.topology().unwrap().kind, TopologyKind::Unknown);
+    driver.hello(3, "a:1", 0, "ok rtt=9 isWritablePrimary=true hosts=a:1,c:3 setVersion=7 setName=rs maxWireVersion=21").unwrap();
+    let facts = driver.facts().unwrap();
+    assert!(facts.iter().any(|fact| fact.event == Event::ServerChanged && fact.address.as_deref() == Some("a:1")));
+    let topology = driver.topology().unwrap();
+    assert_eq!((topology.kind, topology.servers, topology.max_set_version), (TopologyKind::ReplicaSetWithPrimary, 2, Some(7)));
+    assert_eq!(driver.topology_text(Text::SetName).unwrap().as_deref(), Some("rs"));
+    assert_eq!(driver.topology_text(Text::Error), Ok(None));
+    assert_eq!((driver.server_at("A:1"), driver.server_at("b:2")), (Ok(Some(0)), Ok(None)));
+    let server = driver.server(0).unwrap().unwrap();
+    assert_eq!((server.kind, server.round_trip, server.updated, server.set_version), (ServerKind::RsPrimary, Some(9), Some(3), Some(7)));
+    assert_eq!(driver.server_text(0, Text::Hosts).unwrap().as_deref(), Some("a:1,c:3"));
+    assert_eq!((driver.server(2), driver.server_text(2, Text::Address)), (Ok(None), Ok(None)));
+    assert_eq!(driver.cluster_time(4, 5).unwrap().kind, Kind::Done);
+    assert_eq!(driver.topology().unwrap().cluster_time, Some(5));
+    assert_eq!(driver.rtt(4, "a:1", 0, 7).unwrap().kind, Kind::Count);
+    assert_eq!(driver.hosts(4, "B:2"), Err(Error::Malformed));
+}
+
+#[test]
 fn long_texts_are_told_whole() {
     let seeds: Vec<String> = (0..128).map(|n| format!("h{n}:1")).collect();
     let mut driver = Driver::open(&format!("open seeds={}", seeds.join(","))).unwrap();
@@ -86,7 +110,6 @@ fn pins_hold_a_connection() {
     assert_eq!(driver.take(2, 3, connection).unwrap().refusal(), Some(Why::PinInUse));
 }
 
-#[cfg(feature = "threads")]
 #[test]
 fn threads_share_a_driver() {
     use std::sync::{Arc, Mutex};

@@ -1,0 +1,5 @@
+pub mod Types
+pub mod Topologies
+pub mod Servers
+pub mod FactParts
+pub mod Jobs
