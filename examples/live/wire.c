@@ -97,7 +97,7 @@ enum trouble wire_send(struct link *link, struct talk *talk, const char *databas
     uint8_t front[HEAD_SIZE + 96];
     size_t length = HEAD_SIZE + front_of(front + HEAD_SIZE, talk->form, database, exhaust);
     talk->asked = next_id();
-    talk->told = 0;
+    talk->more = false;
     uint8_t *at = write_u32(front, (uint32_t)(length + command->len));
     at = write_u32(at, (uint32_t)talk->asked);
     at = write_u32(at, 0);
@@ -136,12 +136,13 @@ enum trouble wire_receive(struct link *link, struct talk *talk, struct message *
     enum trouble trouble = link_read(link, bytes, HEAD_SIZE);
     if (trouble) return trouble;
     if (!wire_head(&head, bytes)) return MALFORMED;
-    // A reply answers the command; one that comes unasked answers the command, or the reply before it.
-    if (head.answers != talk->asked && (talk->told == 0 || head.answers != talk->told)) return MALFORMED;
+    // A reply answers the command, and one that comes unasked the reply before it.
+    if (head.answers != (talk->more ? talk->told : talk->asked)) return MALFORMED;
     trouble = read_body(link, message, (size_t)head.length - HEAD_SIZE);
     if (trouble) return trouble;
     if (!wire_document(message, head.code, talk->form)) return MALFORMED;
-    message->id = talk->told = head.id;
+    talk->told = head.id;
+    talk->more = message->more;
     return FINE;
 }
 

@@ -23,7 +23,6 @@ struct head {
 struct message {
     uint8_t *body;      // what follows the head, `size` bytes of the heap
     size_t size;
-    int32_t id;         // the server's own number of it
     bool more;          // another one will follow unasked (moreToCome)
     const uint8_t *document; // stands in the body
     uint32_t length;
@@ -38,7 +37,8 @@ bool wire_document(struct message *message, int32_t code, enum wire_form form);
 // What was last said over a link.
 struct talk {
     int32_t asked;  // the number of the last command
-    int32_t told;   // the number of the last reply, 0 before it
+    int32_t told;   // the server's number of the last reply
+    bool more;      // which said that another one would follow
     enum wire_form form;
 };
 
