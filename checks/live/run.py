@@ -2,11 +2,11 @@
 """Plays scenarios of servers that fail and recover, and compares what mdb_live describes of them with what is to be described by the standard, and with what
 two other drivers describe: pymongo and the Go driver, where they are installed.
 
-usage: checks/live/run.py [--program MDB_LIVE] [--python PYTHON] [--list] [NAME ..]
+usage: checks/live/run.py [--program MDB_LIVE] [--auditor MDB_AUDITOR] [--python PYTHON] [--list] [NAME ..]
 
 PROGRAM is examples/live/out/mdb_live where it is left out (its Makefile builds it). PYTHON is /usr/bin/python3, which has Debian's python3-bson and
 python3-pymongo; the Go witness is built with Debian's golang-go and golang-mongodb-mongo-driver-dev. After each command every view is to be the wanted one
-within 3 seconds. A witness that shows another view is a failure, but for the differences that DIFFERENCES explains. Status 0 where all is well, else 1.
+within 3 seconds. Where AUDITOR (crates/mdb_auditor/out/mdb_auditor) is built it judges the log of each run of mdb_live. A witness that shows another view is a failure, but for the differences that DIFFERENCES explains. Status 0 where all is well, else 1.
 """
 import argparse
 import os
@@ -22,7 +22,7 @@ from scenarios import DIFFERENCES, SCENARIOS
 
 HERE = os.path.dirname(os.path.abspath(__file__))
 TOP = os.path.dirname(os.path.dirname(HERE))
-LIMIT, QUIET = 3.0, 1.0
+LIMIT, STARTING, QUIET = 3.0, 15.0, 1.0
 LETTERS = {'U': 'Unknown', 'P': 'RSPrimary', 'S': 'RSSecondary', 'A': 'RSArbiter', 'O': 'RSOther', 'G': 'RSGhost', 'T': 'Standalone', 'M': 'Mongos', 'L': 'LoadBalancer'}
 TYPES = {'No': 'ReplicaSetNoPrimary', 'With': 'ReplicaSetWithPrimary'}
 
@@ -87,12 +87,12 @@ def shortened(line, addresses):
 
 class Runs:
     def __init__(self, given, folder):
-        self.given, self.failed, self.steps, self.explained, self.slowest = given, 0, 0, [], {}
+        self.given, self.folder, self.judged, self.failed, self.steps, self.explained, self.slowest = given, folder, 0, 0, 0, [], {}
         self.witnesses = {}
         if subprocess.run([given.python, '-c', 'import pymongo'], stderr=subprocess.DEVNULL).returncode == 0:
             self.witnesses['pymongo'] = [given.python, os.path.join(HERE, 'witness', 'by_pymongo.py')]
         by_go = os.path.join(folder, 'by_go')
-        env = {**os.environ, 'GO111MODULE': 'off', 'GOPATH': '/usr/share/gocode', 'GOCACHE': os.path.join(folder, 'cache')}
+        env = {**os.environ, 'GO111MODULE': 'off', 'GOPATH': '/usr/share/gocode'}
         try:
             if subprocess.run(['go', 'build', '-o', by_go, os.path.join(HERE, 'witness', 'by_go.go')], env=env, stderr=subprocess.DEVNULL).returncode == 0:
                 self.witnesses['go'] = [by_go]
@@ -104,17 +104,18 @@ class Runs:
         print('FAILED %s: %s' % (name, why), flush=True)
 
     def settle(self, views, wanted, command):
-        """Waits until each view is the wanted one, for at most 3 seconds; a command that is to change nothing is given a second to do so."""
+        """Waits until each view is the wanted one, for at most 3 seconds; a command that is to change nothing is given a second to do so, and a program 15
+        seconds to start."""
         began, took = time.monotonic(), {}
         if all(it.line in wanted[it.name] for it in views):
             time.sleep(QUIET)
-        while len(took) < len(views) and time.monotonic() < began + LIMIT:
+        while len(took) < len(views) and time.monotonic() < began + (STARTING if command == 'begin' else LIMIT):
             for view in views:
                 if view.name not in took and view.line in wanted[view.name]:
                     took[view.name] = time.monotonic() - began
             time.sleep(0.01)
         for name, seconds in took.items():
-            self.slowest[name] = max(seconds, self.slowest.get(name, 0))
+            self.slowest[name] = max(seconds * (command != 'begin'), self.slowest.get(name, 0))
         return [it for it in views if it.name not in took]
 
     def step(self, scenario, command, wanted, views, addresses):
@@ -139,7 +140,7 @@ class Runs:
         try:
             for command in scenario.get('before', []):
                 servers.do(command)
-            views.append(View('mdb_live', [self.given.program, uri, '100'], names and names.env()))
+            views.append(View('mdb_live', [self.given.program, uri, '100', '--log', os.path.join(self.folder, 'log')], names and names.env()))
             views += [View(name, [*words, uri, '100']) for name, words in self.witnesses.items() if name not in scenario.get('without', ())]
             for command, wanted in scenario['steps']:
                 if command.startswith('names '):
@@ -155,11 +156,22 @@ class Runs:
             servers.close()
             if names:
                 names.close()
+        self.judge(scenario)
+
+    def judge(self, scenario):
+        """What the auditor says of the log."""
+        if os.path.exists(self.given.auditor):
+            with open(os.path.join(self.folder, 'log'), 'rb') as log:
+                said = subprocess.run([self.given.auditor], stdin=log, stdout=subprocess.PIPE, text=True).stdout.strip()
+            self.judged += 1
+            if not said.startswith('legal entries='):
+                self.tell(scenario['name'], 'the log is ' + said)
 
 
 def main():
     parser = argparse.ArgumentParser(description=__doc__, formatter_class=argparse.RawDescriptionHelpFormatter)
     parser.add_argument('--program', default=os.path.join(TOP, 'examples', 'live', 'out', 'mdb_live'))
+    parser.add_argument('--auditor', default=os.path.join(TOP, 'crates', 'mdb_auditor', 'out', 'mdb_auditor'))
     parser.add_argument('--python', default='/usr/bin/python3')
     parser.add_argument('--list', action='store_true')
     parser.add_argument('names', nargs='*')
@@ -177,8 +189,8 @@ def main():
             print('%s %s' % ('ok' if runs.failed == before else 'FAILED', scenario['name']), flush=True)
     for line in runs.explained:
         print('explained: ' + line)
-    print('%d scenarios, %d commands, %d failed; slowest view %s' % (
-        len(chosen), runs.steps, runs.failed, ', '.join('%s %.2f s' % it for it in sorted(runs.slowest.items()))))
+    print('%d scenarios, %d commands, %d logs legal, %d failed; slowest view %s' % (
+        len(chosen), runs.steps, runs.judged, runs.failed, ', '.join('%s %.2f s' % it for it in sorted(runs.slowest.items()))))
     return 1 if runs.failed else 0
 
 

@@ -32,6 +32,7 @@ SCENARIOS = [
     replica('kill-a-secondary', [('begin', ALL), ('kill 2', 'With 0=P 1=S 2=U'), ('start 2', ALL)]),
     replica('kill-all', [('begin', ALL), ('kill 0', 'No 0=U 1=S 2=S'), ('kill 1', 'No 0=U 1=U 2=S'), ('kill 2', 'No 0=U 1=U 2=U'), ('start 1', 'No 0=U 1=S 2=U')]),
     replica('freeze-the-primary', [('begin', ALL), ('freeze 0', 'No 0=U 1=S 2=S'), ('elect 2', 'With 0=U 1=S 2=P'), ('thaw 0', 'With 0=S 1=S 2=P')]),
+    replica('connect-time-out', [('begin', ALL), ('clog 2', LOST), ('start 2', ALL), ('clog 0', 'No 0=U 1=S 2=S'), ('elect 1', 'With 0=U 1=P 2=S'), ('start 0', 'With 0=S 1=P 2=S')]),
     replica('slow', [('begin', ALL), ('slow 1 200', ALL), ('elect 1', 'With 0=S 1=P 2=S'), ('slow 1 0', 'With 0=S 1=P 2=S')]),
     replica('reset', [('begin', ALL), ('reset 0', ALL), ('reset 1', ALL), ('elect 1', 'With 0=S 1=P 2=S')]),
     replica('reconfigure', [('begin', 'With 0=P 1=S'), ('reconfigure 0,1,2', ALL), ('reconfigure 0,2', 'With 0=P 2=S'), ('reconfigure 0,1', 'With 0=P 1=S')],

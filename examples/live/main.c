@@ -49,22 +49,6 @@ static void wait_for_end(struct live *live, const sigset_t *signals) {
     }
 }
 
-// Lets the loaders end: they are given half a second for their operations, and then the sockets are shut.
-static void end_loaders(struct live *live, struct loader *loaders, unsigned count) {
-    live->stopping = true;
-    live_lock(live);
-    pthread_cond_broadcast(&live->news);
-    live_unlock(live);
-    for (unsigned i = 0, waits = 0; i < count; waits++) {
-        live_lock(live);
-        bool done = loaders[i].done;
-        live_unlock(live);
-        if (done) pthread_join(loaders[i++].thread, 0);
-        else nanosleep(&(struct timespec){ .tv_nsec = 10000000 }, 0);
-        if (!done && waits > 50) interrupt_all(live);
-    }
-}
-
 static void stop(struct live *live) {
     mdb_reply reply;
     live_lock(live);
@@ -74,6 +58,26 @@ static void stop(struct live *live) {
     pthread_cond_broadcast(&live->jobs);
     pthread_cond_broadcast(&live->news);
     live_unlock(live);
+}
+
+static bool all_done(struct live *live, const struct loader *loaders, unsigned count) {
+    bool done = true;
+    live_lock(live);
+    for (unsigned i = 0; i < count; i++) done = done && loaders[i].done;
+    live_unlock(live);
+    return done;
+}
+
+// Lets the loaders end: they have half a second for their operations, then the driver stops, and their sockets are shut.
+static void end_all(struct live *live, struct loader *loaders, unsigned count) {
+    live_lock(live);
+    live->stopping = true;
+    pthread_cond_broadcast(&live->news);
+    live_unlock(live);
+    for (int waits = 0; waits < 50 && !all_done(live, loaders, count); waits++) nanosleep(&(struct timespec){ .tv_nsec = 10000000 }, 0);
+    stop(live);
+    interrupt_all(live);
+    for (unsigned i = 0; i < count; i++) pthread_join(loaders[i].thread, 0);
 }
 
 static unsigned workers_of(const struct options *options) {
@@ -92,8 +96,7 @@ static void run(struct live *live, const sigset_t *signals, uint32_t ttl) {
     if (live->options.srv_host[0]) srv_poll_start(&poll, live, ttl);
     for (unsigned i = 0; i < loading; i++) loader_start(&loaders[i], live, 100 + i);
     wait_for_end(live, signals);
-    end_loaders(live, loaders, loading);
-    stop(live);
+    end_all(live, loaders, loading);
     for (unsigned i = 0; i < working; i++) worker_join(&workers[i]);
     if (working) pthread_join(timer.thread, 0);
     if (live->options.srv_host[0]) pthread_join(poll.thread, 0);
