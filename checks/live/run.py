@@ -10,6 +10,7 @@ within 3 seconds. Where AUDITOR (crates/mdb_auditor/out/mdb_auditor) is built it
 """
 import argparse
 import os
+import socket
 import subprocess
 import sys
 import tempfile
@@ -68,6 +69,38 @@ class Servers:
     def close(self):
         self.program.stdin.close()
         self.program.wait(10)
+
+
+class Forwarder:
+    """Takes connections on ::1 and hands their bytes on to a server on 127.0.0.1, so that it has an address of IPv6."""
+
+    def __init__(self, address):
+        self.to = ('127.0.0.1', int(address.rpartition(':')[2]))
+        self.listener = socket.create_server(('::1', 0), family=socket.AF_INET6)
+        self.port = self.listener.getsockname()[1]
+        threading.Thread(target=self.serve, daemon=True).start()
+
+    def serve(self):
+        while True:
+            try:
+                taken = self.listener.accept()[0]
+            except OSError:
+                return
+            made = socket.create_connection(self.to)
+            for ends in ((taken, made), (made, taken)):
+                threading.Thread(target=self.hand_on, args=ends, daemon=True).start()
+
+    def hand_on(self, one, other):
+        try:
+            while data := one.recv(65536):
+                other.sendall(data)
+        except OSError:
+            pass
+        for end in (one, other):
+            try:
+                end.shutdown(socket.SHUT_RDWR)
+            except OSError:
+                pass
 
 
 def spelled(wanted, addresses):
@@ -134,6 +167,10 @@ class Runs:
         seeds = scenario.get('seeds') or ','.join(servers.addresses)
         for number, address in enumerate(servers.addresses):
             seeds = seeds.replace('#%d' % number, address).replace('@%d' % number, address.rpartition(':')[2])
+        addresses = list(servers.addresses)
+        if 'six' in scenario:
+            seeds = '[::1]:%d' % Forwarder(addresses[0]).port
+            addresses[0] = seeds
         names = Names(scenario['names'], servers.addresses) if 'names' in scenario else None
         uri = '%s://%s/?%s' % ('mongodb+srv' if names else 'mongodb', seeds, scenario['options'])
         views = []
@@ -147,7 +184,7 @@ class Runs:
                     names.records = command[6:].split()
                 elif command != 'begin':
                     servers.do(command)
-                self.step(scenario, command, wanted, views, servers.addresses)
+                self.step(scenario, command, wanted, views, addresses)
         finally:
             for view in views:
                 why = view.close()

@@ -45,6 +45,7 @@ SCENARIOS = [
     replica('direct', [('begin', 'Single 1=S'), ('elect 1', 'Single 1=P'), ('kill 1', 'Single 1=U'), ('start 1', 'Single 1=S')], seeds='#1',
             options='directConnection=true&' + ANY),
     replica('a-name-of-two-addresses', [('begin', 'Single localhost:@0=P'), ('stepdown', 'Single localhost:@0=S')], seeds='localhost:@0', options='directConnection=true&' + ANY),
+    {'name': 'an-address-of-IPv6', 'kind': 'standalone', 'count': 1, 'options': ANY, 'six': True, 'steps': [('begin', 'Single 0=T'), ('role 0 router', 'Single 0=M'), ('role 0 standalone', 'Single 0=T')]},
     {'name': 'routers', 'kind': 'router', 'count': 3, 'options': ANY,
      'steps': [('begin', 'Sharded 0=M 1=M 2=M'), ('kill 1', 'Sharded 0=M 1=U 2=M'), ('start 1', 'Sharded 0=M 1=M 2=M'), ('role 2 standalone', 'Sharded 0=M 1=M')]},
     {'name': 'load-balancer', 'kind': 'balancer', 'count': 1, 'options': 'loadBalanced=true', 'without': ('pymongo',),

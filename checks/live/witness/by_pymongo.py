@@ -20,7 +20,7 @@ class Listener(monitoring.TopologyListener):
 
     def description_changed(self, event):
         new = event.new_description
-        servers = sorted(('%s:%d' % address, server.server_type_name) for address, server in new.server_descriptions().items())
+        servers = sorted(('%s:%d' % ('[%s]' % host if ':' in host else host, port), server.server_type_name) for (host, port), server in new.server_descriptions().items())
         print('%.3f topology %s %s' % (time.monotonic() - BEGAN, new.topology_type_name, ','.join('%s=%s' % it for it in servers) or '-'), flush=True)
 
 
