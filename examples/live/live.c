@@ -33,6 +33,14 @@ static void say(const struct live *live, const char *what, const char *text) {
     fflush(stdout);
 }
 
+static void say_event(struct live *live, size_t index) {
+    char text[4096];
+    size_t length = 0;
+    if (mdb_fact_text(&live->slot, index, (uint8_t *)text, sizeof text - 1, &length) != MDB_OK) return;
+    text[length] = 0;
+    say(live, "event ", text);
+}
+
 static void write_entry(struct live *live) {
     size_t needed = 0;
     uint8_t small[8192], *text = small;
@@ -59,24 +67,26 @@ static void take_facts(struct live *live) {
     mdb_fact_count(&live->slot, &count);
     for (size_t i = 0; i < count; i++) {
         mdb_fact fact;
-        char text[4096];
+        char address[ADDRESS_ROOM];
         size_t length = 0;
         if (mdb_fact_at(&live->slot, i, &fact) != MDB_OK) continue;
-        if (mdb_fact_text(&live->slot, i, (uint8_t *)text, sizeof text - 1, &length) != MDB_OK) length = 0;
-        text[length] = 0;
+        if (mdb_fact_address(&live->slot, i, (uint8_t *)address, sizeof address - 1, &length) != MDB_OK) length = 0;
+        address[length] = 0;
         count_fact(live, &fact);
-        shown_fact(&live->shown, &fact, text);
-        monitors_fact(live, &fact, text);
-        pool_fact(live, &fact, text);
-        if (live->options.events && (fact.kind == MDB_FACT_POOL || fact.kind == MDB_FACT_SDAM)) say(live, "event ", text);
+        monitors_fact(live, &fact, address);
+        pool_fact(live, &fact, address);
+        if (live->options.events && (fact.kind == MDB_FACT_POOL || fact.kind == MDB_FACT_SDAM)) say_event(live, i);
     }
 }
 
-// Writes the line of the topology, where it is another one than the last.
+// Writes the line of the topology, where the library told of it since the last one, and it is another.
 static void show(struct live *live) {
     char room[SHOWN_ROOM];
     struct text line = TEXT_IN(room);
-    shown_line(&live->shown, &line);
+    uint64_t published = 0;
+    if (mdb_published(&live->slot, &published) != MDB_OK || published == live->published) return;
+    live->published = published;
+    shown_line(&live->slot, &line);
     if (strcmp(room, live->last_line)) say(live, "", strcpy(live->last_line, room));
     pthread_cond_broadcast(&live->news);
 }
@@ -92,7 +102,7 @@ void live_took(struct live *live, mdb_status status) {
     }
     if (live->log) write_entry(live);
     take_facts(live);
-    if (live->shown.changed) show(live);
+    show(live);
 }
 
 bool live_open(struct live *live) {

@@ -25,7 +25,6 @@ struct live {
     mdb_slot slot;
     uint64_t began; // nanoseconds of the monotonic clock: the moment 0
     struct options options;
-    struct shown shown;
     pthread_cond_t news;  // the topology changed, or all is to stop
     pthread_cond_t jobs;  // a connection is to be established, or all is to stop
     struct monitor *monitors;
@@ -38,6 +37,7 @@ struct live {
     atomic_bool stopping; // no more operations
     atomic_bool stopped;  // the driver has stopped
     FILE *log;
+    uint64_t published;   // how often the library had told of the topology when the last line was written
     char last_line[SHOWN_ROOM];
     struct counts counts;
 };

@@ -78,16 +78,15 @@ static bool choose(struct loader *loader, char address[ADDRESS_ROOM]) {
     uint64_t until = clock_now() + live->options.selection * 1000000;
     bool wanted = false;
     live_lock(live);
-    const char *found = "";
-    while (!live->stopping && !*(found = shown_writable(&live->shown, loader->turn)) && clock_now() < until) {
+    bool found = false;
+    while (!live->stopping && !(found = shown_writable(&live->slot, loader->turn, address)) && clock_now() < until) {
         if (!wanted) want(loader, wanted = true);
         else live_wait_until(live, &live->news, until);
     }
     if (wanted) want(loader, false);
     loader->turn++;
-    snprintf(address, ADDRESS_ROOM, "%s", live->stopping ? "" : found);
     live_unlock(live);
-    return *address;
+    return found;
 }
 
 static void pause_for(unsigned milliseconds) {

@@ -112,6 +112,7 @@ int main(int count, char **words) {
     uint32_t ttl = 0;
     sigset_t signals;
     if (!read_words(&live.options, count, words)) return usage();
+    if (mdb_abi() != MDB_ABI) return fprintf(stderr, "mdb_live: built for another libmdb\n"), 1;
     bool well = uri_read(&live.options, words[1], &wrong);
     if (well && live.options.srv_host[0]) well = srv_resolve(&live.options, &ttl, &wrong);
     if (well && live.options.log && !(live.log = fopen(live.options.log, "w"))) well = false, text_add(&wrong, "the log cannot be written");

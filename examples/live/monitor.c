@@ -48,7 +48,7 @@ static enum next end_check(struct monitor *m, uint64_t took) {
     const struct greeted *greeted = &m->greeted;
     outcome_of(greeted, took, &outcome);
     live_lock(m->live);
-    bool available = shown_available(&m->live->shown, m->address);
+    bool available = shown_available(&m->live->slot, m->address);
     m->checking = false;
     if (!m->closed) {
         mdb_at at = live_now(m->live, 0);
@@ -113,12 +113,10 @@ static void monitor_close(struct monitor *m) {
     pthread_cond_broadcast(&m->news);
 }
 
-void monitors_fact(struct live *live, const mdb_fact *fact, const char *text) {
-    char address[ADDRESS_ROOM];
-    bool one = fact->kind == MDB_FACT_CHECK_NOW || fact->kind == MDB_FACT_CANCEL;
-    if (fact->kind == MDB_FACT_OPENED && !live->options.load_balanced && sscanf(text, "Opened %*u %271s", address) == 1) monitor_open(live, address, fact->pool);
+void monitors_fact(struct live *live, const mdb_fact *fact, const char *address) {
     bool closed = fact->kind == MDB_FACT_SDAM && fact->event == MDB_SDAM_SERVER_CLOSED;
-    if (!(one && sscanf(text, "%*s %271s", address) == 1) && !(closed && sscanf(text, "%*s %*s %271s", address) == 1)) return;
+    if (fact->kind == MDB_FACT_OPENED && !live->options.load_balanced) monitor_open(live, address, fact->pool);
+    if (!closed && fact->kind != MDB_FACT_CHECK_NOW && fact->kind != MDB_FACT_CANCEL) return;
     for (struct monitor *m = live->monitors; m; m = m->next) {
         if (m->closed || strcmp(m->address, address) != 0) continue;
         if (closed) monitor_close(m);

@@ -27,8 +27,9 @@ struct monitor {
     struct greeted rtt_greeted;
 };
 
-// What a fact means for the monitors: a pool opened, a server closed, a check wanted or cancelled. The lock is held.
-void monitors_fact(struct live *live, const mdb_fact *fact, const char *text);
+// What a fact means for the monitors: a pool opened, a server closed, a check wanted or cancelled. `address` is the one that it names, empty where it
+// names none. The lock is held.
+void monitors_fact(struct live *live, const mdb_fact *fact, const char *address);
 
 // Frees the monitors whose threads have ended, and with `all` waits for the others, which were closed. Not under the lock.
 void monitors_reap(struct live *live, bool all);

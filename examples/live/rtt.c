@@ -1,6 +1,5 @@
 // Round trips are measured on a connection of their own, while the checks wait for news (SDAM, "Round Trip Time Monitoring").
 #include "monitor.h"
-#include <inttypes.h>
 #include <string.h>
 #include <sys/eventfd.h>
 
@@ -22,13 +21,11 @@ static void wait_between(struct monitor *m) {
 
 // Tells the library of a round trip, in nanoseconds; a measure that came after the server was closed or failed is dropped.
 static void tell(struct monitor *m, uint64_t took) {
-    char line[ADDRESS_ROOM + 80];
-    struct text text = TEXT_IN(line);
     mdb_reply reply;
     live_lock(m->live);
     if (!m->closed && m->streams) {
-        text_add(&text, "rtt %" PRIu64 " %s %" PRIu64, live_milliseconds(m->live), m->name, took);
-        live_took(m->live, mdb_line(&m->live->slot, 0, (const uint8_t *)line, text.length, &reply));
+        mdb_at at = live_now(m->live, 0);
+        live_took(m->live, mdb_rtt(&m->live->slot, &at, (const uint8_t *)m->name, strlen(m->name), took, &reply));
     }
     live_unlock(m->live);
 }

@@ -1,72 +1,49 @@
 #include "shown.h"
-#include <stdio.h>
 #include <string.h>
 
-// Where the address stands, or is to stand.
-static int place_of(const struct shown *shown, const char *address) {
-    int i = 0;
-    while (i < shown->count && strcmp(shown->servers[i].address, address) < 0) i++;
-    return i;
-}
+static const char *const TOPOLOGIES[] = { "?", "Unknown", "Single", "ReplicaSetNoPrimary", "ReplicaSetWithPrimary", "Sharded", "LoadBalanced" };
+static const char *const SERVERS[] = { "?", "Unknown", "Standalone", "Mongos", "RSPrimary", "RSSecondary", "RSArbiter", "RSOther", "RSGhost", "LoadBalancer" };
 
-static bool stands_at(const struct shown *shown, int i, const char *address) { return i < shown->count && !strcmp(shown->servers[i].address, address); }
-
-static void server_set(struct shown *shown, const char *address, const char *type) {
-    int i = place_of(shown, address);
-    if (!stands_at(shown, i, address)) {
-        if (shown->count == SEED_MOST) return;
-        memmove(&shown->servers[i + 1], &shown->servers[i], sizeof *shown->servers * (size_t)(shown->count - i));
-        shown->count++;
-        snprintf(shown->servers[i].address, ADDRESS_ROOM, "%s", address);
+void shown_line(mdb_slot *slot, struct text *line) {
+    mdb_topology topology = { .kind = 0 };
+    mdb_server server = { .kind = 0 };
+    char address[ADDRESS_ROOM];
+    mdb_topology_get(slot, &topology);
+    text_add(line, "topology %s ", TOPOLOGIES[topology.kind]);
+    for (size_t i = 0; i < topology.servers && shown_address(slot, i, address); i++) {
+        mdb_server_get(slot, i, &server);
+        text_add(line, "%s%s=%s", i ? "," : "", address, SERVERS[server.kind]);
     }
-    // The library writes Rs where the standard has RS.
-    snprintf(shown->servers[i].type, sizeof shown->servers[i].type, "%s%s", !strncmp(type, "Rs", 2) ? "RS" : "", type + (!strncmp(type, "Rs", 2) ? 2 : 0));
-    shown->changed = true;
+    if (topology.servers == 0) text_add(line, "-");
 }
 
-static void server_gone(struct shown *shown, const char *address) {
-    int i = place_of(shown, address);
-    if (!stands_at(shown, i, address)) return;
-    memmove(&shown->servers[i], &shown->servers[i + 1], sizeof *shown->servers * (size_t)(shown->count - i - 1));
-    shown->count--;
-    shown->changed = true;
+bool shown_address(mdb_slot *slot, size_t place, char address[ADDRESS_ROOM]) {
+    size_t length = 0;
+    if (mdb_server_text(slot, place, MDB_TEXT_ADDRESS, (uint8_t *)address, ADDRESS_ROOM - 1, &length) != MDB_OK) return false;
+    address[length] = 0;
+    return true;
 }
 
-void shown_fact(struct shown *shown, const mdb_fact *fact, const char *text) {
-    char address[ADDRESS_ROOM], type[24];
-    if (fact->kind != MDB_FACT_SDAM) return;
-    if (fact->event == MDB_SDAM_SERVER_OPENING && sscanf(text, "%*s %*s %271s", address) == 1) server_set(shown, address, "Unknown");
-    if (fact->event == MDB_SDAM_SERVER_CLOSED && sscanf(text, "%*s %*s %271s", address) == 1) server_gone(shown, address);
-    if (fact->event == MDB_SDAM_SERVER_CHANGED && sscanf(text, "%*s %*s %271s %*s %23s", address, type) == 2) server_set(shown, address, type);
-    if (fact->event == MDB_SDAM_TOPOLOGY_CHANGED && sscanf(text, "%*s %*s %*s %23[^/]", type) == 1) {
-        strcpy(shown->type, type);
-        shown->changed = true;
+bool shown_available(mdb_slot *slot, const char *address) {
+    size_t place;
+    mdb_server server;
+    if (mdb_server_at(slot, (const uint8_t *)address, strlen(address), &place) != MDB_OK) return false;
+    return mdb_server_get(slot, place, &server) == MDB_OK && server.kind != MDB_SERVER_UNKNOWN;
+}
+
+// Whether a server of this kind takes writes in such a topology (server selection, "Topology type" and operation type).
+static bool takes_writes(uint32_t topology, uint32_t server) {
+    if (topology == MDB_TOPOLOGY_SINGLE) return server != MDB_SERVER_UNKNOWN;
+    return server == MDB_SERVER_RS_PRIMARY || server == MDB_SERVER_MONGOS || server == MDB_SERVER_STANDALONE || server == MDB_SERVER_LOAD_BALANCER;
+}
+
+bool shown_writable(mdb_slot *slot, unsigned turn, char address[ADDRESS_ROOM]) {
+    size_t places[SEED_MOST], count = 0;
+    mdb_topology topology;
+    mdb_server server;
+    if (mdb_topology_get(slot, &topology) != MDB_OK) return false;
+    for (size_t i = 0; i < topology.servers && count < SEED_MOST; i++) {
+        if (mdb_server_get(slot, i, &server) == MDB_OK && takes_writes(topology.kind, server.kind)) places[count++] = i;
     }
-}
-
-void shown_line(struct shown *shown, struct text *line) {
-    text_add(line, "topology %s ", shown->type[0] ? shown->type : "Unknown");
-    for (int i = 0; i < shown->count; i++) text_add(line, "%s%s=%s", i ? "," : "", shown->servers[i].address, shown->servers[i].type);
-    if (shown->count == 0) text_add(line, "-");
-    shown->changed = false;
-}
-
-bool shown_available(const struct shown *shown, const char *address) {
-    int i = place_of(shown, address);
-    return stands_at(shown, i, address) && strcmp(shown->servers[i].type, "Unknown") != 0;
-}
-
-// Whether a server of this type takes writes (SDAM, "Server Selection").
-static bool takes_writes(const struct shown *shown, const char *type) {
-    if (!strcmp(shown->type, "Single")) return strcmp(type, "Unknown") != 0;
-    return !strcmp(type, "RSPrimary") || !strcmp(type, "Mongos") || !strcmp(type, "Standalone") || !strcmp(type, "LoadBalancer");
-}
-
-const char *shown_writable(const struct shown *shown, unsigned turn) {
-    const char *found[SEED_MOST];
-    unsigned count = 0;
-    for (int i = 0; i < shown->count; i++) {
-        if (takes_writes(shown, shown->servers[i].type)) found[count++] = shown->servers[i].address;
-    }
-    return count ? found[turn % count] : "";
+    return count > 0 && shown_address(slot, places[turn % count], address);
 }

@@ -45,11 +45,11 @@ void interrupt_all(struct live *live) {
     live_unlock(live);
 }
 
-void pool_named(struct live *live, uint32_t pool, const char *opened) {
+void pool_named(struct live *live, uint32_t pool, const char *address) {
     struct pool_name *made = calloc(1, sizeof *made);
     if (!made) abort();
     made->pool = pool;
-    if (sscanf(opened, "Opened %*u %271s", made->address) != 1) abort();
+    snprintf(made->address, sizeof made->address, "%s", address);
     made->next = live->pools;
     live->pools = made;
 }

@@ -21,8 +21,8 @@ void socket_close(struct live *live, const mdb_connection *name);
 // Shuts the sockets of the pool that parties hold.
 void sockets_interrupt(struct live *live, uint32_t pool);
 
-// Which server a pool is for, from the text of the fact that tells of its opening.
-void pool_named(struct live *live, uint32_t pool, const char *opened);
+// Which server a pool is for.
+void pool_named(struct live *live, uint32_t pool, const char *address);
 const char *pool_address(const struct live *live, uint32_t pool);
 
 #endif

@@ -122,13 +122,13 @@ bool srv_resolve(struct options *options, uint32_t *ttl, struct text *wrong) {
 }
 
 static void tell_hosts(struct live *live, const struct found *found) {
-    char room[SEED_MOST * ADDRESS_ROOM + 64];
-    struct text line = TEXT_IN(room);
+    char room[SEED_MOST * ADDRESS_ROOM];
+    struct text hosts = TEXT_IN(room);
     mdb_reply reply;
+    for (int i = 0; i < found->count; i++) text_add(&hosts, "%s%s", i ? "," : "", found->hosts[i]);
     live_lock(live);
-    text_add(&line, "hosts %llu ", (unsigned long long)live_milliseconds(live));
-    for (int i = 0; i < found->count; i++) text_add(&line, "%s%s", i ? "," : "", found->hosts[i]);
-    if (!live->stopped) live_took(live, mdb_line(&live->slot, 0, (const uint8_t *)room, line.length, &reply));
+    mdb_at at = live_now(live, 0);
+    if (!live->stopped) live_took(live, mdb_hosts(&live->slot, &at, (const uint8_t *)room, hosts.length, &reply));
     live_unlock(live);
 }
 
@@ -137,7 +137,8 @@ static bool sleep_until_poll(struct live *live, uint64_t seconds) {
     uint64_t until = clock_now() + seconds * 1000000000u;
     live_lock(live);
     while (!live->stopped && clock_now() < until) live_wait_until(live, &live->news, until);
-    bool polled = !live->stopped && srv_polled(live->shown.type);
+    mdb_topology topology = { .kind = 0 };
+    bool polled = !live->stopped && mdb_topology_get(&live->slot, &topology) == MDB_OK && srv_polled(topology.kind);
     live_unlock(live);
     return polled;
 }

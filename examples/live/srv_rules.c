@@ -1,4 +1,5 @@
 #include "srv_rules.h"
+#include "mdb.h"
 #include <string.h>
 #include <strings.h>
 
@@ -33,4 +34,4 @@ bool srv_txt(struct options *options, const char *record, struct text *wrong) {
 
 uint64_t srv_rescan(uint64_t seconds) { return seconds > 60 ? seconds : 60; }
 
-bool srv_polled(const char *topology_type) { return !strcmp(topology_type, "Unknown") || !strcmp(topology_type, "Sharded"); }
+bool srv_polled(uint32_t topology) { return topology == MDB_TOPOLOGY_UNKNOWN || topology == MDB_TOPOLOGY_SHARDED; }

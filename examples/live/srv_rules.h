@@ -13,7 +13,7 @@ bool srv_txt(struct options *options, const char *record, struct text *wrong);
 // After how many seconds the records are looked up again.
 uint64_t srv_rescan(uint64_t seconds);
 
-// Whether they are looked up again in a topology of this type.
-bool srv_polled(const char *topology_type);
+// Whether they are looked up again in a topology of this kind, one of MDB_TOPOLOGY_.
+bool srv_polled(uint32_t topology);
 
 #endif

@@ -9,8 +9,8 @@ enum { TICK = 20, TICKS_OF_MAINTENANCE = 25 }; // milliseconds; each half second
 static void tick(struct live *live, bool maintain) {
     live_lock(live);
     bool expire = live->options.wait >= 0 && live->waiters;
-    for (int i = 0; i < live->shown.count && !live->stopped; i++) {
-        const char *address = live->shown.servers[i].address;
+    char address[ADDRESS_ROOM];
+    for (size_t i = 0; (expire || maintain) && !live->stopped && shown_address(&live->slot, i, address); i++) {
         mdb_reply reply;
         mdb_at at = live_now(live, 0);
         if (expire) live_took(live, mdb_expire(&live->slot, &at, (const uint8_t *)address, strlen(address), &reply));
