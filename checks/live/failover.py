@@ -13,6 +13,7 @@ import re
 import subprocess
 import sys
 import tempfile
+import threading
 import time
 
 sys.dont_write_bytecode = True
@@ -71,37 +72,49 @@ class Reading:
             self.ended[words[2]] = self.ended.get(words[2], 0) + 1
 
 
+class Writing(threading.Thread):
+    """What mdb_live writes, each line with the moment at which it came."""
+
+    def __init__(self, program):
+        super().__init__()
+        self.program, self.lines = program, []
+        self.start()
+
+    def run(self):
+        for line in self.program.stdout:
+            self.lines.append((time.monotonic(), line.rstrip('\n')))
+
+    def since(self, began, shown):
+        """How many milliseconds after this moment a line of the topology showed this."""
+        return next(('%d' % round(1000 * (moment - began)) for moment, line in self.lines if moment >= began and shown in line), '-')
+
+    def counts(self):
+        return [line for _, line in self.lines if not re.match(r'\d+\.\d+ ', line)]
+
+
 def play(given, log):
-    """Plays the failover, and answers the status of mdb_live and what it wrote."""
+    """Plays the failover, and answers the status of mdb_live, what it wrote, when each command was given, and the addresses."""
     servers = subprocess.Popen([given.python, os.path.join(HERE, 'servers.py'), 'replica', '3', '--seconds', '120'], stdin=subprocess.PIPE, stdout=subprocess.PIPE, text=True)
     seeds = servers.stdout.readline().split()[1]
     commands = [(0, 'elect 0'), *PLAY]
-    told = []
-    live = None
+    told, writing = {}, None
     for wait, command in commands:
         time.sleep(wait)
         if command:
+            told[command] = time.monotonic()
             servers.stdin.write(command + '\n')
             servers.stdin.flush()
             servers.stdout.readline()
-            told.append((command, time.monotonic()))
-        if live is None:
+        if writing is None:
             uri = 'mongodb://%s/?replicaSet=rs&heartbeatFrequencyMS=500&connectTimeoutMS=1000&maxPoolSize=20&minPoolSize=2&waitQueueTimeoutMS=2000' % seeds
-            live = subprocess.Popen([given.program, uri, '100', '--load', str(given.threads), '--log', log], stdout=subprocess.PIPE, stderr=subprocess.STDOUT, text=True)
-            began = time.monotonic()
-    live.terminate()
-    wrote = live.communicate(timeout=30)[0]
+            words = [given.program, uri, '100', '--load', str(given.threads), '--log', log]
+            writing = Writing(subprocess.Popen(words, stdout=subprocess.PIPE, stderr=subprocess.STDOUT, text=True))
+    writing.program.terminate()
+    status = writing.program.wait(30)
+    writing.join()
     servers.stdin.close()
     servers.wait(10)
-    return live.returncode, wrote, {command: moment - began for command, moment in told}, seeds.split(',')
-
-
-def since(wrote, at, shown):
-    """How many milliseconds after this moment a line of the topology showed this."""
-    for moment, line in re.findall(r'^(\d+\.\d+) (topology .*)$', wrote, re.M):
-        if float(moment) >= at - 0.02 and shown in line:
-            return '%d' % max(0, round(1000 * (float(moment) - at)))
-    return '-'
+    return status, writing, told, seeds.split(',')
 
 
 def main():
@@ -114,19 +127,17 @@ def main():
     given = parser.parse_args()
     with tempfile.TemporaryDirectory() as folder:
         log = given.log or os.path.join(folder, 'log')
-        status, wrote, told, seeds = play(given, log)
+        status, writing, told, seeds = play(given, log)
         reading = Reading()
         with open(log) as file:
             for line in file:
                 reading.read(line)
         with open(log, 'rb') as file:
             judged = subprocess.run([given.auditor], stdin=file, stdout=subprocess.PIPE, text=True).stdout.strip() if os.path.exists(given.auditor) else 'not judged'
-    lines = wrote.splitlines()
-    counts = [it for it in lines if not re.match(r'\d+\.\d+ ', it)]
-    lost = since(wrote, told['kill 0'], 'topology ReplicaSetNoPrimary')
-    found = since(wrote, told['elect 1'], seeds[1] + '=RSPrimary')
-    back = since(wrote, told['start 0'], seeds[0] + '=RSSecondary')
-    print('\n'.join(counts))
+    lost = writing.since(told['kill 0'], 'topology ReplicaSetNoPrimary')
+    found = writing.since(told['elect 1'], seeds[1] + '=RSPrimary')
+    back = writing.since(told['start 0'], seeds[0] + '=RSSecondary')
+    print('\n'.join(writing.counts()))
     print('milliseconds from the kill to no primary %s, from the election to the new primary %s, from the start to the old one back %s' % (lost, found, back))
     print('grants %d, of stale connections %d' % (reading.grants, reading.stale))
     print('errors %d, late %d, which cleared %d pools; %s' % (reading.errors, reading.late, reading.late_clears, judged))

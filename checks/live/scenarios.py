@@ -51,7 +51,7 @@ SCENARIOS = [
     {'name': 'load-balancer', 'kind': 'balancer', 'count': 1, 'options': 'loadBalanced=true', 'without': ('pymongo',),
      'steps': [('begin', 'LoadBalanced 0=L'), ('kill 0', 'LoadBalanced 0=L'), ('start 0', 'LoadBalanced 0=L')]},
     replica('damaged-lengths', damaged(['short', 'negative', 'huge', 'overlong'])),
-    replica('damaged-heads', damaged(['opcode', 'answers', 'half', 'garbage'])),
+    replica('damaged-heads', damaged(['opcode', 'answers', 'half', 'stall', 'garbage'])),
     replica('damaged-replies', damaged(['nothing', 'deep', 'field'])),
     {'name': 'seed-list', 'kind': 'router', 'count': 1, 'options': ANY, 'seeds': 'cluster.live.test', 'without': ('pymongo', 'go'),
      'names': {'records': ['a.live.test:1', 'b.live.test:2']},

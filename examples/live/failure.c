@@ -15,7 +15,9 @@ struct findings {
     bool fine, has_code, has_message, has_labels, has_version, concern;
 };
 
-static bool is_number(const bson_iter_t *at) { return BSON_ITER_HOLDS_INT32(at) || BSON_ITER_HOLDS_INT64(at) || BSON_ITER_HOLDS_DOUBLE(at) || BSON_ITER_HOLDS_BOOL(at); }
+static bool is_number(const bson_iter_t *at) {
+    return BSON_ITER_HOLDS_INT32(at) || BSON_ITER_HOLDS_INT64(at) || BSON_ITER_HOLDS_DOUBLE(at) || BSON_ITER_HOLDS_BOOL(at);
+}
 
 static double number_of(const bson_iter_t *at) { return BSON_ITER_HOLDS_DOUBLE(at) ? bson_iter_double(at) : (double)bson_iter_as_int64(at); }
 
@@ -70,12 +72,12 @@ bool failure_of_reply(struct text *failure, const struct message *message) {
     bson_t document;
     bson_iter_t at;
     struct findings found = { .fine = false };
-    if (!bson_init_static(&document, message->document, message->length) || !bson_iter_init(&at, &document)) return failure_of_link(failure, MALFORMED, "reply"), true;
-    while (bson_iter_next(&at)) {
+    bool well = bson_init_static(&document, message->document, message->length) && bson_iter_init(&at, &document);
+    while (well && bson_iter_next(&at)) {
         find_one(&found, &at);
         find_concern(&found, &at);
     }
-    if (at.err_off) return failure_of_link(failure, MALFORMED, "reply"), true;
+    if (!well || at.err_off) return failure_of_link(failure, MALFORMED, "reply"), true;
     if (found.fine && !found.concern) return false;
     double code = found.has_code ? number_of(&found.code) : -1;
     if (code >= 0 && code <= INT32_MAX && code == (int32_t)code) text_add(failure, "command.%d", (int32_t)code);

@@ -1,5 +1,5 @@
-// For a fuzzer: bytes as a server may send them go through the reader of messages, and what it makes of them goes to the library, which must be able to read it.
-// The first byte says in which form the command was sent, and whether a reply came before. Ends by abort() where a line is malformed.
+// For a fuzzer: bytes as a server may send them go through the reader of messages, and what it makes of them goes to the library, which must be able to
+// read it. The first byte says in which form the command was sent, and whether a reply came before. Ends by abort() where a line is malformed.
 #include "greet.h"
 #include "mdb.h"
 #include <stdlib.h>

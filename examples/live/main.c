@@ -106,7 +106,8 @@ static void run(struct live *live, const sigset_t *signals, uint32_t ttl) {
 
 int main(int count, char **words) {
     static struct live live = { .lock = PTHREAD_MUTEX_INITIALIZER, .slot = MDB_SLOT_INIT };
-    live.options = (struct options){ .max = -1, .min = -1, .connecting = -1, .idle = -1, .wait = -1, .heartbeat = 10000, .connect = 10000, .selection = 30000, .pace = 1 };
+    live.options = (struct options){ .max = -1, .min = -1, .connecting = -1, .idle = -1, .wait = -1, .heartbeat = 10000, .connect = 10000, .selection = 30000 };
+    live.options.pace = 1;
     char room[512] = "";
     struct text wrong = TEXT_IN(room);
     uint32_t ttl = 0;

@@ -11,15 +11,16 @@ static void cancel(struct link *link) { eventfd_write(link->cancel, 1); }
 static bool begin_check(struct monitor *m, struct plan *plan) {
     eventfd_t nothing;
     mdb_reply reply = { .kind = MDB_REFUSED };
+    mdb_fact started = { .why = 0 };
     live_lock(m->live);
     if (!m->closed) {
         eventfd_read(m->link.cancel, &nothing);
         mdb_at at = live_now(m->live, 0);
         live_took(m->live, mdb_beat(&m->live->slot, &at, (const uint8_t *)m->address, strlen(m->address), m->pool, &reply));
-        m->checking = reply.kind != MDB_REFUSED;
+        m->checking = reply.kind != MDB_REFUSED && mdb_fact_at(&m->live->slot, 0, &started) == MDB_OK;
     }
     live_unlock(m->live);
-    rules_plan(&m->known, &m->live->options, plan);
+    rules_plan(&m->known, &started, &m->live->options, plan);
     return reply.kind != MDB_REFUSED;
 }
 
@@ -41,7 +42,7 @@ static void outcome_of(const struct greeted *greeted, uint64_t took, struct text
 }
 
 // Tells the library how the check ended, and answers what is next.
-static enum next end_check(struct monitor *m, uint64_t took) {
+static enum next end_check(struct monitor *m, const struct plan *plan, uint64_t took) {
     char room[REPLY_ROOM + 64];
     struct text outcome = TEXT_IN(room);
     mdb_reply reply;
@@ -55,7 +56,9 @@ static enum next end_check(struct monitor *m, uint64_t took) {
         live_took(m->live, mdb_beaten(&m->live->slot, &at, (const uint8_t *)m->name, strlen(m->name), (const uint8_t *)room, outcome.length, &reply));
     }
     bool network = greeted->network && greeted->trouble != CANCELLED;
-    enum next next = greeted->well ? rules_succeeded(&m->known, &greeted->told, greeted->more) : rules_failed(&m->known, network, available);
+    enum next next;
+    if (greeted->well) next = rules_succeeded(&m->known, plan, &greeted->told, greeted->more);
+    else next = rules_failed(&m->known, network, available);
     m->streams = m->known.has_version;
     pthread_cond_broadcast(&m->news);
     live_unlock(m->live);
@@ -80,7 +83,7 @@ static void *monitor_run(void *given) {
     while (begin_check(m, &plan)) {
         uint64_t began = clock_now();
         check(m, &plan);
-        if (end_check(m, clock_now() - began) == SLEEP) wait_for_check(m);
+        if (end_check(m, &plan, clock_now() - began) == SLEEP) wait_for_check(m);
     }
     link_close(&m->link);
     live_lock(m->live);

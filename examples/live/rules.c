@@ -1,13 +1,14 @@
 #include "rules.h"
 #include <string.h>
 
-void rules_plan(const struct known *known, const struct options *options, struct plan *plan) {
+void rules_plan(const struct known *known, const mdb_fact *started, const struct options *options, struct plan *plan) {
     memset(plan, 0, sizeof *plan);
-    plan->action = !known->connected ? CONNECT : known->more ? READ : HELLO;
+    plan->action = !known->connected || known->driver_id != started->id ? CONNECT : known->more ? READ : HELLO;
+    plan->driver_id = started->id;
     plan->timeout = options->connect + (known->has_version ? options->heartbeat : 0);
     plan->greeting.first = plan->action == CONNECT;
     plan->greeting.hello_known = known->hello_known;
-    if (plan->action == HELLO && known->has_version) {
+    if (plan->action == HELLO && started->why) {
         plan->greeting.awaits = true;
         plan->greeting.most = options->heartbeat;
         plan->greeting.counter = known->counter;
@@ -15,7 +16,8 @@ void rules_plan(const struct known *known, const struct options *options, struct
     }
 }
 
-enum next rules_succeeded(struct known *known, const struct told *told, bool more) {
+enum next rules_succeeded(struct known *known, const struct plan *plan, const struct told *told, bool more) {
+    known->driver_id = plan->driver_id;
     known->hello_known = told->hello_known || (known->connected && known->hello_known);
     known->connected = true;
     known->more = more;

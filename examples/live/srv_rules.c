@@ -26,7 +26,7 @@ bool srv_txt(struct options *options, const char *record, struct text *wrong) {
         if (!value || strchr(value + 1, '=')) return text_add(wrong, "TXT record string '%s' is not a value `key=value` option pair", part), false;
         *value++ = 0;
         bool known = !strcasecmp(part, "authSource") || !strcasecmp(part, "replicaSet") || !strcasecmp(part, "loadBalanced");
-        if (!known) return text_add(wrong, "TXT record option '%s' was returned, but only 'authSource', 'replicaSet', and 'loadBalanced' are allowed", part), false;
+        if (!known) return text_add(wrong, "TXT record option '%s' is not one of 'authSource', 'replicaSet', and 'loadBalanced'", part), false;
         if (strcasecmp(part, "authSource") && !option_set(options, part, value)) return text_add(wrong, "TXT record option '%s=%s'", part, value), false;
     }
     return true;
