@@ -139,9 +139,10 @@ class Runs:
     def settle(self, views, wanted, command):
         """Waits until each view is the wanted one, for at most 3 seconds; a command that is to change nothing is given a second to do so, and a program 15
         seconds to start."""
-        began, took = time.monotonic(), {}
+        took = {}
         if all(it.line in wanted[it.name] for it in views):
             time.sleep(QUIET)
+        began = time.monotonic()
         while len(took) < len(views) and time.monotonic() < began + (STARTING if command == 'begin' else LIMIT):
             for view in views:
                 if view.name not in took and view.line in wanted[view.name]:

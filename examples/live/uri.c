@@ -42,6 +42,7 @@ bool option_set(struct options *options, const char *name, const char *value) {
     if (!strcasecmp(name, "maxConnecting")) return number_in(value, 1, 65535, &options->connecting);
     if (!strcasecmp(name, "maxIdleTimeMS")) return number_in(value, 0, most, &options->idle);
     if (!strcasecmp(name, "waitQueueTimeoutMS")) return number_in(value, 1, most, &options->wait);
+    if (!strcasecmp(name, "tls") || !strcasecmp(name, "ssl")) return !strcmp(value, "false"); // there is none here
     fprintf(stderr, "mdb_live: the option %s is passed over\n", name);
     return true;
 }
