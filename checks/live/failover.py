@@ -1,5 +1,5 @@
 #!/usr/bin/env python3
-"""A failover under load: three members of a replica set, 32 threads that insert, the primary killed, another one elected, the old one back and elected again.
+"""A failover under load: three members of a replica set, 32 threads that insert, which takes 10 ms, the primary killed, another one elected, the old one back and elected again.
 
 usage: checks/live/failover.py [--program MDB_LIVE] [--auditor MDB_AUDITOR] [--python PYTHON] [--threads N] [--log FILE]
 
@@ -96,7 +96,7 @@ def play(given, log):
     """Plays the failover, and answers the status of mdb_live, what it wrote, when each command was given, and the addresses."""
     servers = subprocess.Popen([given.python, os.path.join(HERE, 'servers.py'), 'replica', '3', '--seconds', '120'], stdin=subprocess.PIPE, stdout=subprocess.PIPE, text=True)
     seeds = servers.stdout.readline().split()[1]
-    commands = [(0, 'elect 0'), *PLAY]
+    commands = [*((0, 'work %d 10' % it) for it in range(3)), (0, 'elect 0'), *PLAY]
     told, writing = {}, None
     for wait, command in commands:
         time.sleep(wait)
@@ -105,7 +105,7 @@ def play(given, log):
             servers.stdin.write(command + '\n')
             servers.stdin.flush()
             servers.stdout.readline()
-        if writing is None:
+        if command == 'elect 0' and writing is None:
             uri = 'mongodb://%s/?replicaSet=rs&heartbeatFrequencyMS=500&connectTimeoutMS=1000&maxPoolSize=20&minPoolSize=2&waitQueueTimeoutMS=2000' % seeds
             words = [given.program, uri, '100', '--load', str(given.threads), '--log', log]
             writing = Writing(subprocess.Popen(words, stdout=subprocess.PIPE, stderr=subprocess.STDOUT, text=True))

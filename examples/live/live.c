@@ -14,6 +14,17 @@ void live_unlock(struct live *live) { pthread_mutex_unlock(&live->lock); }
 
 mdb_at live_now(const struct live *live, uint32_t seat) { return (mdb_at){ .moment = live_milliseconds(live), .seat = seat }; }
 
+static void end_without_memory(void) {
+    fprintf(stderr, "mdb_live: out of memory\n");
+    _Exit(3);
+}
+
+void *live_new(size_t size) {
+    void *made = calloc(1, size);
+    if (!made) end_without_memory();
+    return made;
+}
+
 void condition_init(pthread_cond_t *condition) {
     pthread_condattr_t of_clock;
     pthread_condattr_init(&of_clock);
@@ -92,10 +103,7 @@ static void show(struct live *live) {
 }
 
 void live_took(struct live *live, mdb_status status) {
-    if (status == MDB_NO_MEMORY) {
-        fprintf(stderr, "mdb_live: out of memory\n");
-        _Exit(3);
-    }
+    if (status == MDB_NO_MEMORY) end_without_memory();
     if (status != MDB_OK) {
         fprintf(stderr, "mdb_live: a step was not done, status %u\n", status);
         return;

@@ -60,6 +60,9 @@ bool live_open(struct live *live);
 // Waits on a condition until that moment of the monotonic clock, in nanoseconds.
 void live_wait_until(struct live *live, pthread_cond_t *condition, uint64_t until);
 
+// Zeros of the heap. The program ends with status 3 where there is no memory.
+void *live_new(size_t size);
+
 void condition_init(pthread_cond_t *condition);
 
 #endif

@@ -93,9 +93,15 @@ static void *monitor_run(void *given) {
     return 0;
 }
 
+static void monitor_free(struct monitor *m) {
+    close(m->link.cancel);
+    close(m->rtt_link.cancel);
+    pthread_cond_destroy(&m->news);
+    free(m);
+}
+
 static void monitor_open(struct live *live, const char *address, uint32_t pool) {
-    struct monitor *m = calloc(1, sizeof *m);
-    if (!m) abort();
+    struct monitor *m = live_new(sizeof *m);
     m->live = live;
     m->pool = pool;
     snprintf(m->address, sizeof m->address, "%s", address);
@@ -104,9 +110,15 @@ static void monitor_open(struct live *live, const char *address, uint32_t pool) 
     m->link.cancel = eventfd(0, EFD_NONBLOCK | EFD_CLOEXEC);
     m->rtt_link.cancel = eventfd(0, EFD_NONBLOCK | EFD_CLOEXEC);
     condition_init(&m->news);
+    if (pthread_create(&m->thread, 0, monitor_run, m)) {
+        fprintf(stderr, "mdb_live: %s is not monitored, since there is no thread\n", address);
+        monitor_free(m);
+        return;
+    }
+    m->rtt_started = pthread_create(&m->rtt_thread, 0, rtt_run, m) == 0;
+    m->rtt_done = !m->rtt_started;
     m->next = live->monitors;
     live->monitors = m;
-    if (pthread_create(&m->thread, 0, monitor_run, m) || pthread_create(&m->rtt_thread, 0, rtt_run, m)) abort();
 }
 
 static void monitor_close(struct monitor *m) {
@@ -144,10 +156,7 @@ void monitors_reap(struct live *live, bool all) {
     struct monitor *m;
     while ((m = take_done(live, all))) {
         pthread_join(m->thread, 0);
-        pthread_join(m->rtt_thread, 0);
-        close(m->link.cancel);
-        close(m->rtt_link.cancel);
-        pthread_cond_destroy(&m->news);
-        free(m);
+        if (m->rtt_started) pthread_join(m->rtt_thread, 0);
+        monitor_free(m);
     }
 }

@@ -15,7 +15,7 @@ struct monitor {
     pthread_t thread, rtt_thread;
     pthread_cond_t news;
     // Under the lock:
-    bool checking, wanted, closed, streams, done, rtt_done;
+    bool checking, wanted, closed, streams, done, rtt_done, rtt_started;
     // The checking thread's own:
     struct link link;
     struct talk talk;

@@ -12,8 +12,7 @@ static struct connection **place_of(struct live *live, const mdb_connection *nam
 struct connection *socket_find(struct live *live, const mdb_connection *name) { return *place_of(live, name); }
 
 struct connection *socket_new(struct live *live, const mdb_connection *name, int worker) {
-    struct connection *made = calloc(1, sizeof *made);
-    if (!made) abort();
+    struct connection *made = live_new(sizeof *made);
     made->name = *name;
     made->worker = worker;
     made->link = (struct link){ .fd = -1, .cancel = -1, .deadline = NO_DEADLINE };
@@ -46,8 +45,7 @@ void interrupt_all(struct live *live) {
 }
 
 void pool_named(struct live *live, uint32_t pool, const char *address) {
-    struct pool_name *made = calloc(1, sizeof *made);
-    if (!made) abort();
+    struct pool_name *made = live_new(sizeof *made);
     made->pool = pool;
     snprintf(made->address, sizeof made->address, "%s", address);
     made->next = live->pools;
