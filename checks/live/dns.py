@@ -11,7 +11,7 @@ def name(text):
 
 
 class Names:
-    """`records` are targets with ports; a `#0` stands for the port of server 0. `txt` is the text of the TXT record, or None."""
+    """`records` are targets with ports; `@0` stands for the port of server 0. `txt` is the text of the TXT record, or None."""
 
     def __init__(self, names, addresses):
         self.records, self.txt, self.addresses = names['records'], names.get('txt'), addresses
@@ -42,6 +42,7 @@ class Names:
         if kind == SRV:
             for record in self.records:
                 target, _, port = record.rpartition(':')
+                port = self.addresses[int(port[1:])].rpartition(':')[2] if port[0] == '@' else port
                 data = struct.pack('>HHH', 0, 0, int(port)) + name(target)
                 answers.append(b'\xc0\x0c' + struct.pack('>HHIH', SRV, 1, 60, len(data)) + data)
         if kind == TXT and self.txt:

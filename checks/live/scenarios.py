@@ -44,7 +44,9 @@ SCENARIOS = [
     replica('ghost', [('begin', 'Unknown 0=G'), ('role 0 member', 'No 0=S'), ('elect 0', 'With 0=P')], before=('role 0 ghost',), count=1, options=ANY + '&directConnection=false'),
     replica('direct', [('begin', 'Single 1=S'), ('elect 1', 'Single 1=P'), ('kill 1', 'Single 1=U'), ('start 1', 'Single 1=S')], seeds='#1',
             options='directConnection=true&' + ANY),
-    replica('a-name-of-two-addresses', [('begin', 'Single localhost:@0=P'), ('stepdown', 'Single localhost:@0=S')], seeds='localhost:@0', options='directConnection=true&' + ANY),
+    # Nothing listens on the first of the two addresses, 127.0.0.2.
+    replica('a-name-of-two-addresses', [('begin', 'Single two.live.test:@0=P'), ('stepdown', 'Single two.live.test:@0=S')], seeds='two.live.test:@0', hosts=True,
+            options='directConnection=true&' + ANY),
     {'name': 'an-address-of-IPv6', 'kind': 'standalone', 'count': 1, 'options': ANY, 'six': True, 'steps': [('begin', 'Single 0=T'), ('role 0 router', 'Single 0=M'), ('role 0 standalone', 'Single 0=T')]},
     {'name': 'routers', 'kind': 'router', 'count': 3, 'options': ANY,
      'steps': [('begin', 'Sharded 0=M 1=M 2=M'), ('kill 1', 'Sharded 0=M 1=U 2=M'), ('start 1', 'Sharded 0=M 1=M 2=M'), ('role 2 standalone', 'Sharded 0=M 1=M')]},
@@ -53,12 +55,13 @@ SCENARIOS = [
     replica('damaged-lengths', damaged(['short', 'negative', 'huge', 'overlong'])),
     replica('damaged-heads', damaged(['opcode', 'answers', 'half', 'stall', 'garbage'])),
     replica('damaged-replies', damaged(['nothing', 'deep', 'field'])),
-    {'name': 'seed-list', 'kind': 'router', 'count': 1, 'options': ANY, 'seeds': 'cluster.live.test', 'without': ('pymongo', 'go'),
-     'names': {'records': ['a.live.test:1', 'b.live.test:2']},
-     'steps': [('begin', 'Unknown a.live.test:1=U b.live.test:2=U'), ('names b.live.test:2 c.live.test:3', 'Unknown b.live.test:2=U c.live.test:3=U'),
-               ('names x.other.test:4', 'Unknown b.live.test:2=U c.live.test:3=U')]},
-    {'name': 'seed-list-of-a-set', 'kind': 'router', 'count': 1, 'options': ANY, 'seeds': 'cluster.live.test', 'without': ('pymongo', 'go'),
-     'names': {'records': ['a.live.test:1'], 'txt': 'replicaSet=rs&authSource=admin'}, 'steps': [('begin', 'No a.live.test:1=U'), ('names b.live.test:2', 'No a.live.test:1=U')]},
+    {'name': 'seed-list', 'kind': 'router', 'count': 3, 'options': ANY, 'seeds': 'cluster.live.test', 'without': ('pymongo', 'go'), 'hosts': True,
+     'names': {'records': ['a.live.test:@0', 'b.live.test:@1']},
+     'steps': [('begin', 'Sharded a.live.test:@0=M b.live.test:@1=M'), ('names b.live.test:@1 c.live.test:@2', 'Sharded b.live.test:@1=M c.live.test:@2=M'),
+               ('names x.other.test:4', 'Sharded b.live.test:@1=M c.live.test:@2=M'), ('names x.other.test:4 a.live.test:@0', 'Sharded a.live.test:@0=M')]},
+    {'name': 'seed-list-of-a-set', 'kind': 'replica', 'count': 3, 'options': ANY, 'seeds': 'cluster.live.test', 'without': ('pymongo', 'go'), 'hosts': True, 'before': ['elect 0'],
+     'names': {'records': ['a.live.test:@0', 'b.live.test:@1'], 'txt': 'replicaSet=rs&authSource=admin'},
+     'steps': [('begin', ALL), ('names b.live.test:@1', ALL), ('elect 1', 'With 0=S 1=P 2=S')]},
 ]
 
 STREAMED = 'it does not compare the responseTo of streamed replies'
