@@ -25,7 +25,7 @@ from scenarios import DIFFERENCES, SCENARIOS
 HERE = os.path.dirname(os.path.abspath(__file__))
 TOP = os.path.dirname(os.path.dirname(HERE))
 LIMIT, STARTING, QUIET = 3.0, 15.0, 1.0
-HOSTS = '127.0.0.1 localhost\n127.0.0.2 two.live.test\n127.0.0.1 two.live.test a.live.test b.live.test c.live.test\n'
+HOSTS = '127.0.0.1 localhost\n::1 two.live.test\n127.0.0.1 two.live.test a.live.test b.live.test c.live.test\n'
 LETTERS = {'U': 'Unknown', 'P': 'RSPrimary', 'S': 'RSSecondary', 'A': 'RSArbiter', 'O': 'RSOther', 'G': 'RSGhost', 'T': 'Standalone', 'M': 'Mongos', 'L': 'LoadBalancer'}
 TYPES = {'No': 'ReplicaSetNoPrimary', 'With': 'ReplicaSetWithPrimary'}
 

@@ -44,7 +44,7 @@ SCENARIOS = [
     replica('ghost', [('begin', 'Unknown 0=G'), ('role 0 member', 'No 0=S'), ('elect 0', 'With 0=P')], before=('role 0 ghost',), count=1, options=ANY + '&directConnection=false'),
     replica('direct', [('begin', 'Single 1=S'), ('elect 1', 'Single 1=P'), ('kill 1', 'Single 1=U'), ('start 1', 'Single 1=S')], seeds='#1',
             options='directConnection=true&' + ANY),
-    # Nothing listens on the first of the two addresses, 127.0.0.2.
+    # Nothing listens on the first of the two addresses, ::1.
     replica('a-name-of-two-addresses', [('begin', 'Single two.live.test:@0=P'), ('stepdown', 'Single two.live.test:@0=S')], seeds='two.live.test:@0', hosts=True,
             options='directConnection=true&' + ANY),
     {'name': 'an-address-of-IPv6', 'kind': 'standalone', 'count': 1, 'options': ANY, 'six': True, 'steps': [('begin', 'Single 0=T'), ('role 0 router', 'Single 0=M'), ('role 0 standalone', 'Single 0=T')]},
