@@ -1,0 +1,69 @@
+// For a fuzzer: bytes as a server may send them go through the reader of messages, and what it makes of them goes to the library, which must be able to
+// read it. The first byte says in which form the command was sent, and whether a reply came before. Ends by abort() where a line is malformed.
+#include "greet.h"
+#include "mdb.h"
+#include <stdlib.h>
+#include <string.h>
+#include <sys/socket.h>
+#include <unistd.h>
+
+static const uint8_t OPEN[] = "open seeds=a:1", MONITOR[] = "a:1 0", ADDRESS[] = "a:1";
+
+// Begins and ends a check with this outcome.
+static void tell(const struct greeted *greeted) {
+    static mdb_slot slot = MDB_SLOT_INIT;
+    static unsigned steps = 0;
+    char room[REPLY_ROOM + 64];
+    struct text outcome = TEXT_IN(room);
+    mdb_reply reply;
+    mdb_at at = { 1, 0 };
+    if (steps++ % 1000 == 0) {
+        mdb_close(&slot);
+        if (mdb_open_line(&slot, 0, OPEN, sizeof OPEN - 1) != MDB_OK) abort();
+    }
+    if (mdb_beat(&slot, &at, ADDRESS, sizeof ADDRESS - 1, 0, &reply) != MDB_OK) abort();
+    if (reply.kind == MDB_REFUSED) { // the server was removed by the last reply
+        steps = 0;
+        return;
+    }
+    text_add(&outcome, "1 %s%s%s", greeted->well ? "ok" : "err ", greeted->room, greeted->well && greeted->more ? " more" : "");
+    mdb_status status = mdb_beaten(&slot, &at, MONITOR, sizeof MONITOR - 1, (const uint8_t *)room, outcome.length, &reply);
+    if (status != MDB_OK) {
+        fprintf(stderr, "status %u: %s\n", status, room);
+        abort();
+    }
+}
+
+static void try_bytes(const uint8_t *bytes, size_t length) {
+    static struct greeted greeted;
+    int ends[2];
+    if (length < 1 || length > 60000 || socketpair(AF_UNIX, SOCK_STREAM | SOCK_NONBLOCK, 0, ends)) return;
+    struct link link = { .fd = ends[0], .cancel = -1, .deadline = NO_DEADLINE };
+    struct talk talk = { .asked = 1, .told = 2, .more = bytes[0] & 2, .form = bytes[0] & 1 ? AS_MESSAGE : AS_QUERY };
+    if (write(ends[1], bytes + 1, length - 1) < 0) abort();
+    close(ends[1]);
+    for (int i = 0; i < 4; i++) {
+        greet(&greeted, &link, &talk, 0);
+        tell(&greeted);
+        if (greeted.network) break;
+    }
+    link_close(&link);
+}
+
+#ifdef __AFL_FUZZ_TESTCASE_LEN
+__AFL_FUZZ_INIT();
+
+int main(void) {
+    __AFL_INIT();
+    const uint8_t *bytes = __AFL_FUZZ_TESTCASE_BUF;
+    while (__AFL_LOOP(5000)) try_bytes(bytes, (size_t)__AFL_FUZZ_TESTCASE_LEN);
+    return 0;
+}
+#else
+int main(void) {
+    static uint8_t bytes[65536];
+    size_t length = fread(bytes, 1, sizeof bytes, stdin);
+    try_bytes(bytes, length);
+    return 0;
+}
+#endif
