@@ -1,5 +1,5 @@
 //! What threads do with a shared driver: they check connections out, fill pools, establish connections, watch the topology, and count the
-//! operations on its servers.
+//! operations on its servers. A `Handle` has all calls of one thread.
 #![tactic(auto)]
 
 mod asking;
