@@ -5,22 +5,18 @@ ghost use Rattle.std.specs.Prelude.{◌≡◌};
 use crate::errors::DemoError;
 use crate::opening::address;
 use mdb_log::{Core, PooledConnection, Use};
-use mdb_shared::{Seat, SharedDriver};
-use mdb_workers::{CheckOutError, PartyNumbers, Unreturned, abandon, check_out, hand_back};
+use mdb_workers::{CheckOutError, Handle, Unreturned};
 use std::alloc::Global;
 use std::sync::Wait;
 
 /// Each so many rounds a client drops its connection in the middle of an operation.
 pub const DROPS: u32 = 10;
 
-/// The numbers of a seat.
-pub fn numbers_of<C: Core>(driver: &SharedDriver<C>, seat: &Seat<C>) -> PartyNumbers {
-    PartyNumbers::new(seat.number(), driver.seats())
-}
-
-/// The next number.
-pub fn number(numbers: &mut PartyNumbers) -> Result<u32, DemoError> {
-    match numbers.take(1) {
+/// The next number for a request.
+pub fn number<C: Core, R: Wait>(me: &mut Handle<'_, C, R>) -> Result<u32, DemoError>
+    ensures own { me.new.seat.driver ≡ me.old.seat.driver }
+{
+    match me.take_numbers(1) {
         Some(number) => Ok(number),
         None => Err(DemoError::Number),
     }
@@ -28,20 +24,17 @@ pub fn number(numbers: &mut PartyNumbers) -> Result<u32, DemoError> {
 
 /// Checks a connection out. A request that may be open at want of memory is given up.
 pub fn take_out<C: Core, R: Wait>(
-    driver: &SharedDriver<C>,
-    rt: &R,
+    me: &mut Handle<'_, C, R>,
     alloc: Global,
-    seat: &mut Seat<C>,
     request: u32,
 ) -> Result<PooledConnection, DemoError>
-    requires own { seat.old.driver ≡ driver.now.id }
-    ensures own { seat.new.driver ≡ seat.old.driver }
+    ensures own { me.new.seat.driver ≡ me.old.seat.driver }
 {
     let address = address(alloc)?;
-    match check_out(driver, rt, alloc, seat, request, address) {
+    match me.check_out(request, address) {
         Ok(connection) => Ok(connection),
         Err(CheckOutError::OutOfMemory) => {
-            drop(abandon(driver, rt, alloc, seat, request));
+            drop(me.abandon(request));
             Err(DemoError::OutOfMemory)
         }
         Err(why) => Err(DemoError::CheckOut(why)),
@@ -50,17 +43,13 @@ pub fn take_out<C: Core, R: Wait>(
 
 /// Checks a connection in.
 pub fn bring_back<C: Core, R: Wait>(
-    driver: &SharedDriver<C>,
-    rt: &R,
-    alloc: Global,
-    seat: &mut Seat<C>,
+    me: &mut Handle<'_, C, R>,
     connection: PooledConnection,
     used: Use,
 ) -> Result<(), DemoError>
-    requires own { seat.old.driver ≡ driver.now.id }
-    ensures own { seat.new.driver ≡ seat.old.driver }
+    ensures own { me.new.seat.driver ≡ me.old.seat.driver }
 {
-    match hand_back(driver, rt, alloc, seat, connection, used) {
+    match me.hand_back(connection, used) {
         Ok(()) => Ok(()),
         Err(Unreturned { connection, why: _ }) => {
             let PooledConnection {
@@ -81,22 +70,29 @@ fn used(round: u32) -> Use {
     Use::Ok
 }
 
-/// So many rounds of a client: a connection out and in.
-pub fn ask<C: Core, R: Wait>(
-    driver: &SharedDriver<C>,
-    rt: &R,
+/// One round of a client: a connection out and in.
+pub fn round<C: Core, R: Wait>(
+    me: &mut Handle<'_, C, R>,
     alloc: Global,
-    seat: &mut Seat<C>,
+    used: Use,
+) -> Result<(), DemoError>
+    ensures own { me.new.seat.driver ≡ me.old.seat.driver }
+{
+    let request = number(me)?;
+    let connection = take_out(me, alloc, request)?;
+    bring_back(me, connection, used)
+}
+
+/// So many rounds of a client.
+pub fn ask<C: Core, R: Wait>(
+    me: &mut Handle<'_, C, R>,
+    alloc: Global,
     rounds: u32,
 ) -> Result<(), DemoError>
-    requires own { seat.old.driver ≡ driver.now.id }
-    ensures own { seat.new.driver ≡ seat.old.driver }
+    ensures own { me.new.seat.driver ≡ me.old.seat.driver }
 {
-    let mut numbers = numbers_of(driver, seat);
-    for round in 0..rounds {
-        let request = number(&mut numbers)?;
-        let connection = take_out(driver, rt, alloc, seat, request)?;
-        bring_back(driver, rt, alloc, seat, connection, used(round))?;
+    for at in 0..rounds {
+        round(me, alloc, used(at))?;
     }
     Ok(())
 }

@@ -2,14 +2,13 @@
 
 ghost use Rattle.std.specs.Prelude.{◌≡◌};
 
-use crate::clients::numbers_of;
 use crate::errors::DemoError;
 use crate::hall::Hall;
 use crate::opening::address;
 use mdb_events::{CmapEvent, Fact};
 use mdb_log::{Act, Core, Entry, Log};
-use mdb_shared::{Look, Seat, SharedDriver};
-use mdb_workers::{fill_pool, stop};
+use mdb_shared::Look;
+use mdb_workers::Handle;
 use std::alloc::Global;
 use std::sync::Wait;
 use std::time::Duration;
@@ -21,12 +20,10 @@ pub const LEAST: u32 = 2;
 const PAUSE: u64 = 10;
 
 /// Sleeps a little, or until there is news.
-pub fn rest<C: Core, R: Wait>(driver: &SharedDriver<C>, rt: &R, seat: &mut Seat<C>)
-    requires own { seat.old.driver ≡ driver.now.id }
-    ensures own { seat.new.driver ≡ seat.old.driver }
+pub fn pause<C: Core, R: Wait>(me: &mut Handle<'_, C, R>)
+    ensures own { me.new.seat.driver ≡ me.old.seat.driver }
 {
-    let count = driver.seen_count(seat);
-    driver.sleep_for(rt, count, Duration::from_millis(PAUSE));
+    me.rest(Duration::from_millis(PAUSE));
 }
 
 // Each connection that was created was reported.
@@ -68,52 +65,60 @@ impl<C: Core> Look<C> for Reported {
     }
 }
 
-// Fills the pool up to its minimum, and waits until what that created is established.
-fn fill<C: Core, R: Wait>(
-    driver: &SharedDriver<C>,
-    rt: &R,
-    alloc: Global,
-    seat: &mut Seat<C>,
-) -> Result<(), DemoError>
-    requires own { seat.old.driver ≡ driver.now.id }
-    ensures own { seat.new.driver ≡ seat.old.driver }
+// Waits until each connection that was created is established.
+fn await_reports<C: Core, R: Wait>(me: &mut Handle<'_, C, R>, rt: &R)
+    ensures own { me.new.seat.driver ≡ me.old.seat.driver }
 {
-    let mut numbers = numbers_of(driver, seat);
-    let Some(first) = numbers.take(LEAST) else {
-        return Err(DemoError::Number);
-    };
-    let address = address(alloc)?;
-    if first >= u32::MAX - LEAST {
-        return Err(DemoError::Number);
-    }
-    drop(fill_pool(driver, rt, alloc, seat, address, first, LEAST)?);
     for _ in rt.forever() {
-        if driver.look(rt, seat, &Reported) {
-            return Ok(());
+        if me.look(&Reported) {
+            return;
         }
-        rest(driver, rt, seat);
+        pause(me);
     }
     unreachable!()
 }
 
-/// Waits until all clients have left, fills the pool, and stops the driver, whatever came before.
+/// Fills the pool up to its minimum.
+pub fn fill<C: Core, R: Wait>(
+    me: &mut Handle<'_, C, R>,
+    alloc: Global,
+    least: u32,
+) -> Result<(), DemoError>
+    ensures own { me.new.seat.driver ≡ me.old.seat.driver }
+{
+    if least == 0 {
+        return Ok(());
+    }
+    let Some(first) = me.take_numbers(least) else {
+        return Err(DemoError::Number);
+    };
+    if first > u32::MAX - least {
+        return Err(DemoError::Number);
+    }
+    let address = address(alloc)?;
+    drop(me.fill_pool(address, first, least)?);
+    Ok(())
+}
+
+/// Waits until all clients have left, fills the pool, waits until what that created is established, and stops the driver, whatever came before.
 pub fn close_up<C: Core, R: Wait>(
-    driver: &SharedDriver<C>,
+    me: &mut Handle<'_, C, R>,
     rt: &R,
     alloc: Global,
-    seat: &mut Seat<C>,
     hall: &Hall,
 ) -> Result<(), DemoError>
-    requires own { seat.old.driver ≡ driver.now.id }
-    ensures own { seat.new.driver ≡ seat.old.driver }
+    ensures own { me.new.seat.driver ≡ me.old.seat.driver }
 {
     for _ in rt.forever() {
         if hall.is_empty() {
             break;
         }
-        rest(driver, rt, seat);
+        pause(me);
     }
-    let filled = fill(driver, rt, alloc, seat);
-    stop(driver, rt, alloc, seat);
+    let filled = fill(me, alloc, LEAST);
+    if filled.is_ok() {
+        await_reports(me, rt);
+    }
+    me.stop();
     filled
 }

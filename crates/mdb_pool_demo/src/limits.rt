@@ -2,14 +2,14 @@
 
 ghost use Rattle.std.specs.Prelude.{◌≡◌};
 
-use crate::clients::{bring_back, number, numbers_of, take_out};
-use crate::closing::rest;
+use crate::clients::{bring_back, number, take_out};
+use crate::closing::pause;
 use crate::errors::DemoError;
 use crate::opening::address;
 use mdb_events::{CmapEvent, ConnectionClosedReason, End, Fact};
 use mdb_log::{Act, Core, Entry, Log, PooledConnection, Reply, Use};
-use mdb_shared::{Look, Seat, SharedDriver};
-use mdb_workers::{CheckOutError, abandon, check_out, check_out_within, stop};
+use mdb_shared::Look;
+use mdb_workers::{CheckOutError, Handle};
 use std::alloc::Global;
 use std::rt::Clock;
 use std::sync::Wait;
@@ -55,23 +55,19 @@ impl<C: Core> Look<C> for IdleClosed {
 
 // The answer that the scene shows, and the connection given back where there is another.
 fn refused<C: Core, R: Wait>(
-    driver: &SharedDriver<C>,
-    rt: &R,
-    alloc: Global,
-    seat: &mut Seat<C>,
+    me: &mut Handle<'_, C, R>,
     request: u32,
     answer: Result<PooledConnection, CheckOutError>,
 ) -> Result<CheckOutError, DemoError>
-    requires own { seat.old.driver ≡ driver.now.id }
-    ensures own { seat.new.driver ≡ seat.old.driver }
+    ensures own { me.new.seat.driver ≡ me.old.seat.driver }
 {
     match answer {
         Ok(connection) => {
-            bring_back(driver, rt, alloc, seat, connection, Use::Ok)?;
+            bring_back(me, connection, Use::Ok)?;
             Err(DemoError::Answer)
         }
         Err(CheckOutError::OutOfMemory) => {
-            drop(abandon(driver, rt, alloc, seat, request));
+            drop(me.abandon(request));
             Err(DemoError::OutOfMemory)
         }
         Err(why) => Ok(why),
@@ -80,21 +76,17 @@ fn refused<C: Core, R: Wait>(
 
 // Holds the only connection, and asks for another one until the pool's time is over.
 fn wait_too_long<C: Core, R: Wait>(
-    driver: &SharedDriver<C>,
-    rt: &R,
+    me: &mut Handle<'_, C, R>,
     alloc: Global,
-    seat: &mut Seat<C>,
 ) -> Result<(), DemoError>
-    requires own { seat.old.driver ≡ driver.now.id }
-    ensures own { seat.new.driver ≡ seat.old.driver }
+    ensures own { me.new.seat.driver ≡ me.old.seat.driver }
 {
-    let mut numbers = numbers_of(driver, seat);
-    let (first, second) = (number(&mut numbers)?, number(&mut numbers)?);
+    let (first, second) = (number(me)?, number(me)?);
     let address = address(alloc)?;
-    let connection = take_out(driver, rt, alloc, seat, first)?;
-    let answer = check_out(driver, rt, alloc, seat, second, address);
-    let why = refused(driver, rt, alloc, seat, second, answer);
-    bring_back(driver, rt, alloc, seat, connection, Use::Ok)?;
+    let connection = take_out(me, alloc, first)?;
+    let answer = me.check_out(second, address);
+    let why = refused(me, second, answer);
+    bring_back(me, connection, Use::Ok)?;
     match why? {
         CheckOutError::Ended(End::TimedOut) => Ok(()),
         why => Err(DemoError::CheckOut(why)),
@@ -102,58 +94,49 @@ fn wait_too_long<C: Core, R: Wait>(
 }
 
 // Waits until the connection that lies idle is closed.
-fn await_idle<C: Core, R: Wait>(driver: &SharedDriver<C>, rt: &R, seat: &mut Seat<C>)
-    requires own { seat.old.driver ≡ driver.now.id }
-    ensures own { seat.new.driver ≡ seat.old.driver }
+fn await_idle<C: Core, R: Wait>(me: &mut Handle<'_, C, R>, rt: &R)
+    ensures own { me.new.seat.driver ≡ me.old.seat.driver }
 {
     for _ in rt.forever() {
-        if driver.look(rt, seat, &IdleClosed) {
+        if me.look(&IdleClosed) {
             return;
         }
-        rest(driver, rt, seat);
+        pause(me);
     }
     unreachable!()
 }
 
 /// Shows `max_wait` and `max_idle_time`, which the clock brings about. Then the driver stops.
 pub fn outlast<C: Core, R: Wait>(
-    driver: &SharedDriver<C>,
+    me: &mut Handle<'_, C, R>,
     rt: &R,
     alloc: Global,
-    seat: &mut Seat<C>,
 ) -> Result<(), DemoError>
-    requires own { seat.old.driver ≡ driver.now.id }
-    ensures own { seat.new.driver ≡ seat.old.driver }
+    ensures own { me.new.seat.driver ≡ me.old.seat.driver }
 {
-    let waited = wait_too_long(driver, rt, alloc, seat);
+    let waited = wait_too_long(me, alloc);
     if waited.is_ok() {
-        await_idle(driver, rt, seat);
+        await_idle(me, rt);
     }
-    stop(driver, rt, alloc, seat);
+    me.stop();
     waited
 }
 
 // Holds the only connection, and asks twice for another one: with a limit of its own, and until another seat gives the request up.
 fn ask_in_vain<C: Core, R: Wait + Clock>(
-    driver: &SharedDriver<C>,
-    rt: &R,
+    me: &mut Handle<'_, C, R>,
     alloc: Global,
-    seat: &mut Seat<C>,
 ) -> Result<(), DemoError>
-    requires own { seat.old.driver ≡ driver.now.id }
-    ensures own { seat.new.driver ≡ seat.old.driver }
+    ensures own { me.new.seat.driver ≡ me.old.seat.driver }
 {
-    let mut numbers = numbers_of(driver, seat);
-    let (first, second) = (number(&mut numbers)?, number(&mut numbers)?);
-    let third = number(&mut numbers)?;
+    let (first, second, third) = (number(me)?, number(me)?, number(me)?);
     let (address, other) = (address(alloc)?, address(alloc)?);
-    let connection = take_out(driver, rt, alloc, seat, first)?;
-    let limit = Duration::from_millis(HURRY);
-    let answer = check_out_within(driver, rt, alloc, seat, second, address, limit);
-    let late = refused(driver, rt, alloc, seat, second, answer);
-    let answer = check_out(driver, rt, alloc, seat, third, other);
-    let left = refused(driver, rt, alloc, seat, third, answer);
-    bring_back(driver, rt, alloc, seat, connection, Use::Ok)?;
+    let connection = take_out(me, alloc, first)?;
+    let answer = me.check_out_within(second, address, Duration::from_millis(HURRY));
+    let late = refused(me, second, answer);
+    let answer = me.check_out(third, other);
+    let left = refused(me, third, answer);
+    bring_back(me, connection, Use::Ok)?;
     match (late?, left?) {
         (CheckOutError::OutOfTime, CheckOutError::GaveUp) => Ok(()),
         (CheckOutError::OutOfTime, why) => Err(DemoError::CheckOut(why)),
@@ -163,16 +146,13 @@ fn ask_in_vain<C: Core, R: Wait + Clock>(
 
 /// Shows a limit of one caller, and that another seat gives a request up. Then the driver stops.
 pub fn hurry<C: Core, R: Wait + Clock>(
-    driver: &SharedDriver<C>,
-    rt: &R,
+    me: &mut Handle<'_, C, R>,
     alloc: Global,
-    seat: &mut Seat<C>,
 ) -> Result<(), DemoError>
-    requires own { seat.old.driver ≡ driver.now.id }
-    ensures own { seat.new.driver ≡ seat.old.driver }
+    ensures own { me.new.seat.driver ≡ me.old.seat.driver }
 {
-    let asked = ask_in_vain(driver, rt, alloc, seat);
-    stop(driver, rt, alloc, seat);
+    let asked = ask_in_vain(me, alloc);
+    me.stop();
     asked
 }
 
@@ -205,18 +185,17 @@ impl<C: Core> Look<C> for Third {
 }
 
 /// Gives the third request up once it waits.
-pub fn cancel<C: Core, R: Wait>(driver: &SharedDriver<C>, rt: &R, alloc: Global, seat: &mut Seat<C>)
-    requires own { seat.old.driver ≡ driver.now.id }
-    ensures own { seat.new.driver ≡ seat.old.driver }
+pub fn cancel<C: Core, R: Wait>(me: &mut Handle<'_, C, R>, rt: &R)
+    ensures own { me.new.seat.driver ≡ me.old.seat.driver }
 {
     for _ in rt.forever() {
-        match driver.look(rt, seat, &Third) {
+        match me.look(&Third) {
             (Some(request), false) => {
-                drop(abandon(driver, rt, alloc, seat, request));
+                drop(me.abandon(request));
                 return;
             }
             (_, true) => return,
-            (None, false) => rest(driver, rt, seat),
+            (None, false) => pause(me),
         }
     }
     unreachable!()

@@ -5,6 +5,7 @@
 mod clients;
 mod closing;
 mod counting;
+mod crowd;
 mod errors;
 mod hall;
 mod limits;
@@ -38,6 +39,7 @@ fn show(rt: &HostRuntime, told: &Told) -> io::Result<ExitCode> {
     println!(rt; "timed_out={}", told.timed_out)?;
     println!(rt; "idle={}", told.idle)?;
     println!(rt; "given_up={}", told.given_up)?;
+    println!(rt; "lent={}", told.lent)?;
     Ok(ExitCode::SUCCESS)
 }
 
@@ -61,7 +63,15 @@ fn show_measured(rt: &HostRuntime, plan: Plan, measured: &Measured) -> io::Resul
     )?;
     println!(rt;
         "check_outs={} entries={} micros={micros}",
-        measured.counts.returned, measured.entries
+        measured.counts.returned, measured.kinds.all
+    )?;
+    println!(rt;
+        "requests={} collects={} claims={} idle_claims={} others={}",
+        measured.kinds.requests,
+        measured.kinds.collects,
+        measured.kinds.claims,
+        measured.kinds.idle_claims,
+        measured.kinds.others
     )?;
     Ok(ExitCode::SUCCESS)
 }

@@ -10,7 +10,7 @@ use crate::limits::{cancel, hurry, outlast};
 use mdb_base::{Error, ErrorKind, Items, Text};
 use mdb_log::{Core, Established};
 use mdb_shared::{Seat, SharedDriver};
-use mdb_workers::{MemEstablisher, OpenGate, TopologyWatcher, keep_time, serve};
+use mdb_workers::{Handle, MemEstablisher, OpenGate, TopologyWatcher};
 use std::alloc::Global;
 use std::rt::Clock;
 use std::sync::Wait;
@@ -28,8 +28,8 @@ pub enum Role {
     Client(u32),
     /// Lets time enter.
     Clock,
-    /// Follows what is published of the topology.
-    Watcher,
+    /// Follows what is published of the topology, with this number.
+    Watcher(u32),
     /// Fills the pool once all clients have left, and stops the driver.
     Closer,
     /// Waits longer than a caller may.
@@ -65,8 +65,8 @@ pub fn establisher_of(alloc: Global, made: Established) -> MemEstablisher {
     MemEstablisher::new(alloc, made, error, Vec::new(alloc))
 }
 
-// An establisher for a server alone.
-fn establisher(alloc: Global) -> MemEstablisher {
+/// An establisher for a server alone.
+pub fn establisher(alloc: Global) -> MemEstablisher {
     let made = Established {
         wire: 21,
         service_id: None,
@@ -76,54 +76,48 @@ fn establisher(alloc: Global) -> MemEstablisher {
 }
 
 // Establishes connections until the driver stops.
-fn establish<C: Core, R: Wait>(
-    driver: &SharedDriver<C>,
-    rt: &R,
-    alloc: Global,
-    seat: &mut Seat<C>,
-) -> Result<u64, DemoError>
-    requires own { seat.old.driver ≡ driver.now.id }
-    ensures own { seat.new.driver ≡ seat.old.driver }
+fn establish<C: Core, R: Wait>(me: &mut Handle<'_, C, R>, alloc: Global)
+    ensures own { me.new.seat.driver ≡ me.old.seat.driver }
 {
     let mut establisher = establisher(alloc);
-    serve(driver, rt, alloc, seat, &mut establisher, &mut OpenGate);
-    Ok(0)
+    me.serve(&mut establisher, &mut OpenGate);
 }
 
-// Follows the topology until the driver stops, and tells how often it was published.
-fn watch<C: Core, R: Wait>(
-    driver: &SharedDriver<C>,
-    rt: &R,
-    alloc: Global,
-    seat: &mut Seat<C>,
-) -> Result<u64, DemoError>
-    requires own { seat.old.driver ≡ driver.now.id }
-    ensures own { seat.new.driver ≡ seat.old.driver }
+// Follows the topology until the driver stops, and tells how often it was published. At first it asks for a check, and takes that back at the end.
+fn watch<C: Core, R: Wait>(me: &mut Handle<'_, C, R>, rt: &R, number: u32) -> Result<u64, DemoError>
+    ensures own { me.new.seat.driver ≡ me.old.seat.driver }
 {
-    let mut watcher = TopologyWatcher::new(seat.number());
+    let mut watcher = TopologyWatcher::new(number);
+    let watched = follow(me, rt, &mut watcher);
+    me.dismiss(watcher);
+    watched
+}
+
+fn follow<C: Core, R: Wait>(
+    me: &mut Handle<'_, C, R>,
+    rt: &R,
+    watcher: &mut TopologyWatcher,
+) -> Result<u64, DemoError>
+    ensures own { me.new.seat.driver ≡ me.old.seat.driver }
+{
     for _ in rt.forever() {
-        if !watcher.await_update(rt, alloc, driver, seat)? {
+        if !me.await_update(watcher)? {
             break;
         }
     }
-    let state = watcher.observe_latest(rt, alloc, driver, seat)?;
+    let state = me.observe_latest(watcher)?;
     Ok(state.published)
 }
 
 // Lets time enter until the driver stops.
-fn tell_time<C: Core, R: Wait + Clock>(
-    driver: &SharedDriver<C>,
-    rt: &R,
-    alloc: Global,
-    seat: &mut Seat<C>,
-) -> Result<u64, DemoError>
-    requires own { seat.old.driver ≡ driver.now.id }
-    ensures own { seat.new.driver ≡ seat.old.driver }
+fn tell_time<C: Core, R: Wait + Clock>(me: &mut Handle<'_, C, R>, rt: &R) -> Result<(), DemoError>
+    ensures own { me.new.seat.driver ≡ me.old.seat.driver }
 {
-    if let Ok(start) = Instant::now(rt) {
-        keep_time(driver, rt, alloc, seat, start, Duration::from_millis(TICK));
-    }
-    Ok(0)
+    let Ok(start) = Instant::now(rt) else {
+        return Err(DemoError::Clock);
+    };
+    me.keep_time(start, Duration::from_millis(TICK));
+    Ok(())
 }
 
 // It has seen nothing published.
@@ -135,30 +129,31 @@ fn nothing(done: Result<(), DemoError>) -> Result<u64, DemoError> {
 }
 
 fn act<C: Core, R: Wait + Clock>(
-    driver: &SharedDriver<C>,
+    me: &mut Handle<'_, C, R>,
     rt: &R,
     alloc: Global,
-    seat: &mut Seat<C>,
     role: Role,
     hall: &Hall,
 ) -> Result<u64, DemoError>
-    requires own { seat.old.driver ≡ driver.now.id }
-    ensures own { seat.new.driver ≡ seat.old.driver }
+    ensures own { me.new.seat.driver ≡ me.old.seat.driver }
 {
     match role {
-        Role::Worker => establish(driver, rt, alloc, seat),
+        Role::Worker => {
+            establish(me, alloc);
+            Ok(0)
+        }
         Role::Client(rounds) => {
-            let asked = ask(driver, rt, alloc, seat, rounds);
+            let asked = ask(me, alloc, rounds);
             hall.leave();
             nothing(asked)
         }
-        Role::Clock => tell_time(driver, rt, alloc, seat),
-        Role::Watcher => watch(driver, rt, alloc, seat),
-        Role::Closer => nothing(close_up(driver, rt, alloc, seat, hall)),
-        Role::Patient => nothing(outlast(driver, rt, alloc, seat)),
-        Role::Hurried => nothing(hurry(driver, rt, alloc, seat)),
+        Role::Clock => nothing(tell_time(me, rt)),
+        Role::Watcher(number) => watch(me, rt, number),
+        Role::Closer => nothing(close_up(me, rt, alloc, hall)),
+        Role::Patient => nothing(outlast(me, rt, alloc)),
+        Role::Hurried => nothing(hurry(me, alloc)),
         Role::Canceller => {
-            cancel(driver, rt, alloc, seat);
+            cancel(me, rt);
             Ok(0)
         }
     }
@@ -175,13 +170,17 @@ pub fn play<C: Core, R: Wait + Clock>(
     requires own { part.seat.driver ≡ driver.now.id }
     ensures own { result.seat.driver ≡ part.seat.driver }
 {
-    let Part { mut seat, role } = part;
+    let Part { seat, role } = part;
     if !hall.begin(rt) {
         return Played {
             seat,
             done: Err(DemoError::Thread),
         };
     }
-    let done = act(driver, rt, alloc, &mut seat, role, hall);
-    Played { seat, done }
+    let mut me = Handle::new(driver, rt, alloc, seat);
+    let done = act(&mut me, rt, alloc, role, hall);
+    Played {
+        seat: me.into_seat(),
+        done,
+    }
 }

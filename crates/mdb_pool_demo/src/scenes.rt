@@ -1,6 +1,7 @@
 //! The scenes of the demo: a pool under load, and what ends a wait.
 
 use crate::counting::{Counts, count};
+use crate::crowd::crowd;
 use crate::errors::DemoError;
 use crate::opening::{Limits, open};
 use crate::parts::Role;
@@ -29,7 +30,7 @@ const LOAD_ROLES: [Role; 9] = [
     Role::Client(ROUNDS),
     Role::Client(ROUNDS),
     Role::Clock,
-    Role::Watcher,
+    Role::Watcher(1),
     Role::Closer,
 ];
 
@@ -76,6 +77,8 @@ pub struct Told {
     pub idle: u64,
     /// Requests that were given up, by the caller itself and by another seat.
     pub given_up: u64,
+    /// Connections that guests checked out and in, at seats that were lent to them.
+    pub lent: u64,
 }
 
 /// All scenes, one after the other.
@@ -84,11 +87,13 @@ pub fn run<R: Threads + Wait + Clock + Sync>(rt: &R, alloc: Global) -> Result<To
     let times = scene(rt, alloc, TIMES, &TIMES_ROLES)?;
     let leaving = scene(rt, alloc, LEAVING, &LEAVING_ROLES)?;
     let (times, left) = (count(&times.log), count(&leaving.log));
+    let lent = crowd(rt, alloc)?;
     Ok(Told {
         load: count(&load.log),
         published: load.watched,
         timed_out: times.timed_out,
         idle: times.idle,
         given_up: left.given_up,
+        lent: lent.returned,
     })
 }

@@ -13,7 +13,7 @@ pub still_published : (publications : List Entry → ℕ) → ((log more : List 
 still_published publications grow log more s = subst (λ (l : List Entry). publications log ≤ publications l) (sym s.1) (grow log s.0)
 
 module _ {T : Type 0} (stands : T → List Entry → Type 0) where
-  retracted_after : (wants : Bool) (number : ℕ) (s u v : SeatView) → Made stands s u [] → RetractedIf stands wants number u v → RetractedIf stands wants number s v
+  pub retracted_after : (wants : Bool) (number : ℕ) (s u v : SeatView) → Made stands s u [] → RetractedIf stands wants number u v → RetractedIf stands wants number s v
   retracted_after true number s u v m r = (r.0, (r.1.0, r.1.1, r.1.2, made_then stands s u v [] (r.1.0 ∷ []) m r.1.3))
   retracted_after false number s u v m r = made_then stands s u v [] [] m r
 

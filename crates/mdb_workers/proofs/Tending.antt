@@ -44,7 +44,7 @@ may_step None h = tt
 
 settled_report : (pool id : ℕ) (step : Option Step) (r : Entry) → MayReport pool id step → SettledBy pool id step r → IsReportOf pool id r.step.act
 settled_report pool id (Some step) r may by = subst (IsReportOf pool id) (sym by) may
-settled_report pool id None r may by = subst (IsReportOf pool id) (sym by.1) (refl, refl)
+settled_report pool id None r may by = subst (IsReportOf pool id) (sym by.2) (refl, refl)
 
 module _ {T : Type 0} (stands : T → List Entry → Type 0) where
   pub tended_none : (s : SeatView) → TendedBy stands s s
@@ -77,11 +77,11 @@ module _ {T : Type 0} (stands : T → List Entry → Type 0) where
 -- the act that reports what was left may be made, and its entry settles it
 pub may_act : (pool id : ℕ) (step : Option Step) (act : Act) → IfSome step (λ x. IsDriverAct x.act) → LeftAct pool id step act → IsDriverAct act
 may_act pool id (Some step) act may left = subst IsDriverAct (sym left) may
-may_act pool id None act may left = subst IsDriverAct (sym left.1) tt
+may_act pool id None act may left = subst IsDriverAct (sym left.2) tt
 
 settles_act : (pool id : ℕ) (step : Option Step) (act : Act) (e : Entry) → LeftAct pool id step act → e.step.act ≡ act → SettledBy pool id step e
 settles_act pool id (Some step) act e left is = is ∙ left
-settles_act pool id None act e left is = (left.0, is ∙ left.1)
+settles_act pool id None act e left is = (left.0, left.1, is ∙ left.2)
 
 pub settled_if : {T : Type 0} (stands : T → List Entry → Type 0) (s s' : SeatView) (pool id : ℕ) (step : Option Step) (act : Act) (done : Bool) → LeftAct pool id step act → IsTry stands s s' act done → SettledIf stands pool id step s s' done
 settled_if stands s s' pool id step act true left one = (one.0, settles_act pool id step act one.0 left one.1, one.2)

@@ -10,4 +10,5 @@ pub mod Establishing
 pub mod Working
 pub mod Persisting
 pub mod Watching
+pub mod Handles
 pub mod Memory

@@ -15,12 +15,12 @@ use Rattle.mdb_shared.specs.declared.checkout.BackWhy.TheVariants.{Refused as Ba
 use Rattle.mdb_workers.specs.declared.persisting.Tried.{Tried}
 use Rattle.mdb_workers.specs.declared.persisting.Tried.TheVariants.{Back, Refused, Again}
 use Rattle.mdb_workers.specs.Making.{Made, OneMore}
-use Rattle.mdb_workers.specs.Working.{SettledBy, Tended}
+use Rattle.mdb_workers.specs.Working.{IsWant, SettledBy, Tended}
 
--- The act that reports what was left: that of the step, or else that the connection failed before the hello.
+-- The act that reports what was left: that of the step, or else that the connection failed before the hello for want of memory.
 abbrev pub LeftAct : ℕ → ℕ → Option Step → Act → Type 0
 LeftAct pool id (Some step) act = act ≡ step.act
-LeftAct pool id None act = (error : Error) × (act ≡ Failed pool id Pre error)
+LeftAct pool id None act = (error : Error) × IsWant error × (act ≡ Failed pool id Pre error)
 
 -- what is tried again, and what not
 abbrev pub tried_by : PooledConnection → BackWhy → Tried

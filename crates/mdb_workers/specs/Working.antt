@@ -1,5 +1,5 @@
 -- The jobs of a worker: each is claimed, established outside, and reported.
-use Rattle.std.specs.Prelude.{◌≡◌, ℕ, List, [], ◌∷◌, ◌++◌, length, Option, Some, None, Result, Ok, Err, ◌⊎◌, ⊤}
+use Rattle.std.specs.Prelude.{◌≡◌, ℕ, List, [], ◌∷◌, ◌++◌, length, Option, Some, None, Result, Ok, Err, ◌⊎◌, codes, ⊤}
 use Rattle.mdb_log.specs.Driver.{StartsWith}
 use Rattle.mdb_log.specs.declared.job.Job.{Job}
 use Rattle.mdb_log.specs.declared.log.Entry.{Entry}
@@ -8,6 +8,7 @@ use Rattle.mdb_log.specs.declared.step.Act.{Act}
 use Rattle.mdb_log.specs.declared.step.Act.TheVariants.{Claim, Established, Failed}
 use Rattle.mdb_log.specs.declared.step.FailedAt.TheVariants.{Pre}
 use Rattle.mdb_base.specs.declared.error.Error.{Error}
+use Rattle.mdb_base.specs.declared.error.ErrorKind.TheVariants.{Other}
 use Rattle.mdb_log.specs.declared.reply.Reply.TheVariants.{Job as TellsJob, NoJob}
 use Rattle.mdb_shared.specs.Seats.{SeatView}
 use Rattle.mdb_workers.specs.declared.establishing.Call.{Call}
@@ -91,7 +92,11 @@ Tended [] = ⊤
 Tended (e ∷ []) = FindsNone e
 Tended (e ∷ f ∷ es) = (FindsNone e × Tended (f ∷ es)) ⊎ (IsDealtWith e f × Tended es)
 
--- The entry reports the connection: by this step, or, where there is none, as failed before the hello.
+-- The error of one who has no memory. Its server isn't to blame, which its label says.
+abbrev pub IsWant : Error → Type 0
+IsWant error = (error.kind ≡ Other) × (error.labels ≡ codes "SystemOverloadedError" ∷ [])
+
+-- The entry reports the connection: by this step, or, where there is none, as failed before the hello for want of memory.
 abbrev pub SettledBy : ℕ → ℕ → Option Step → Entry → Type 0
 SettledBy pool id (Some step) e = e.step.act ≡ step.act
-SettledBy pool id None e = (error : Error) × (e.step.act ≡ Failed pool id Pre error)
+SettledBy pool id None e = (error : Error) × IsWant error × (e.step.act ≡ Failed pool id Pre error)

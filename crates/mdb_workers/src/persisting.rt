@@ -1,18 +1,20 @@
 //! Calls that try again while there is no memory, with a short sleep between two tries. They end once there is, so that nothing that a seat was given is
 //! lost: no connection stays claimed, no request stays open, no connection stays out, and the driver stops.
 
-ghost use Rattle.std.specs.Prelude.{◌≡◌, ◌∷◌, [], IfSome, IfOk, IfErr, OnOk};
+ghost use Rattle.std.specs.Prelude.{◌≡◌, ◌∷◌, [], codes, IfSome, IfOk, IfErr, OnOk};
 ghost use Rattle.mdb_log.specs.Acts.{IsDriverAct};
 ghost use Rattle.mdb_log.specs.declared.log.Entry.{Entry};
 ghost use Rattle.mdb_log.specs.declared.step.Act.TheVariants.{GiveUp, Return, Stop};
 ghost use Rattle.mdb_log.specs.declared.reply.Reply.TheVariants.{Done, Refused as IsRefused};
 ghost use Rattle.mdb_workers.specs.Making.{Made, OneMore};
 ghost use Rattle.mdb_workers.specs.Persisting.{IsTry, LeftAct, SettledIf, TendedBy, TriedBack, tried_by};
-ghost use Rattle.mdb_workers.specs.Working.{SettledBy};
+ghost use Rattle.mdb_workers.specs.Watching.{Retracted};
+ghost use Rattle.mdb_workers.specs.Working.{IsWant, SettledBy};
 
 use crate::ends::Work;
 use crate::establishing::{Establisher, Gate};
 use crate::steps::{add, give_back, let_go, pause};
+use crate::watching::TopologyWatcher;
 use crate::working::establish;
 use mdb_base::{Error, ErrorKind, Items, OutOfMemory, Text};
 use mdb_events::Held;
@@ -149,13 +151,26 @@ pub fn stop<C: Core, R: Wait>(driver: &SharedDriver<C>, rt: &R, alloc: Global, s
     unreachable!()
 }
 
-fn no_memory(alloc: Global) -> Error {
-    Error {
+// The label of an error for which the server isn't to blame (SDAM, "Error handling pseudocode").
+fn overloaded(alloc: Global) -> Result<Items<Text>, OutOfMemory>
+    ensures { IfOk result (λ labels. labels ≡ codes "SystemOverloadedError" ∷ []) }
+{
+    let label = Text::new(String::from_str(alloc, "SystemOverloadedError")?);
+    let mut labels = Vec::new(alloc);
+    labels.push(label)?;
+    Ok(Items::new(labels))
+}
+
+fn no_memory(alloc: Global) -> Result<Error, OutOfMemory>
+    ensures { IfOk result IsWant }
+{
+    let labels = overloaded(alloc)?;
+    Ok(Error {
         kind: ErrorKind::Other,
-        labels: Items::new(Vec::new(alloc)),
+        labels,
         topology_version: None,
         message: Text::new(String::new(alloc)),
-    }
+    })
 }
 
 // The act that reports what was left: that of the step, or else that the connection failed.
@@ -166,7 +181,7 @@ fn left_act(alloc: Global, pool: u32, id: u32, step: &Option<Step>) -> Result<Ac
     match step {
         Some(step) => Ok(step.act.clone()?),
         None => {
-            let error = Held::new(alloc, no_memory(alloc))?;
+            let error = Held::new(alloc, no_memory(alloc)?)?;
             Ok(Act::Failed(pool, id, FailedAt::Pre, error))
         }
     }
@@ -217,7 +232,8 @@ fn settle_left<C: Core, R: Wait>(
 }
 
 /// Reports what `work` left at want of memory, the pool and the number of the connection that was claimed with the step that wasn't reported. Where there
-/// is none, the connection has failed before the hello. It tries again while there is no memory.
+/// is none, the connection has failed before the hello, with an error of the label `SystemOverloadedError`: so its server stays as it is, and its pool isn't
+/// cleared (SDAM, "Error handling pseudocode"). It tries again while there is no memory.
 pub fn settle<C: Core, R: Wait>(
     driver: &SharedDriver<C>,
     rt: &R,
@@ -233,6 +249,27 @@ pub fn settle<C: Core, R: Wait>(
     ensures entry { (e : Entry) × SettledBy pool id step e × Made C.stands seat.old seat.new (e ∷ []) }
 {
     settle_left(driver, rt, alloc, seat, pool, id, &step);
+}
+
+/// Takes the watcher's request for checks back, where one stands, and lets the watcher go. It tries again while there is no memory.
+pub fn dismiss<C: Core, R: Wait>(
+    driver: &SharedDriver<C>,
+    rt: &R,
+    alloc: Global,
+    seat: &mut Seat<C>,
+    mut watcher: TopologyWatcher,
+)
+    requires own { seat.old.driver ≡ driver.now.id }
+    ensures same { (seat.new.driver ≡ seat.old.driver) × (seat.new.number ≡ seat.old.number) }
+    ensures retracted { Retracted C.stands seat.old seat.new watcher }
+{
+    for _ in rt.forever() {
+        match watcher.retract(rt, alloc, driver, seat) {
+            Ok(()) => return,
+            Err(OutOfMemory) => pause(driver, rt, seat),
+        }
+    }
+    unreachable!()
 }
 
 /// Establishes one connection, where there is one to establish: it is claimed, established and reported. Where there is no memory for that it is reported as

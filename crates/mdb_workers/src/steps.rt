@@ -108,10 +108,26 @@ pub(crate) fn glance<C: Core, R: Wait, L: Look<C>>(
     look: &L,
 ) -> L::Found
     requires own { seat.old.driver ≡ driver.now.id }
+    ensures same { (seat.new.driver ≡ seat.old.driver) × (seat.new.number ≡ seat.old.number) }
     ensures saw { Made C.stands seat.old seat.new [] }
     ensures told { L.tells look.now seat.new.seen result }
 {
     driver.look(rt, seat, look)
+}
+
+// Sleeps until an entry is news to others, for no longer than this time.
+pub(crate) fn rest<C: Core, R: Wait>(
+    driver: &SharedDriver<C>,
+    rt: &R,
+    seat: &mut Seat<C>,
+    most: Duration,
+)
+    requires own { seat.old.driver ≡ driver.now.id }
+    ensures same { (seat.new.driver ≡ seat.old.driver) × (seat.new.number ≡ seat.old.number) }
+    ensures saw { Made C.stands seat.old seat.new [] }
+{
+    let count = driver.seen_count(seat);
+    driver.sleep_for(rt, count, most);
 }
 
 // Waits a little, so that others may give memory back.
@@ -119,6 +135,5 @@ pub(crate) fn pause<C: Core, R: Wait>(driver: &SharedDriver<C>, rt: &R, seat: &m
     requires own { seat.old.driver ≡ driver.now.id }
     ensures { Made C.stands seat.old seat.new [] }
 {
-    let count = driver.seen_count(seat);
-    driver.sleep_for(rt, count, Duration::from_millis(PAUSE));
+    rest(driver, rt, seat, Duration::from_millis(PAUSE));
 }

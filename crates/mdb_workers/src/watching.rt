@@ -23,7 +23,8 @@ pub struct TopologyState {
     pub published: u64,
 }
 
-/// Watches the topology of a driver. It knows which publication it has seen, and whether it asked for checks at once.
+/// Watches the topology of a driver. It knows which publication it has seen, and whether it asked for checks at once. One that is only dropped leaves that
+/// request standing in the driver: `dismiss` takes it back and lets the watcher go.
 #[derive(Debug, Drop)]
 pub struct TopologyWatcher {
     number: u32,

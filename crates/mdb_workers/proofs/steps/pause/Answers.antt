@@ -1,5 +1,0 @@
-use Rattle.mdb_workers.proofs.Questions.{made_same}
-use Rattle.mdb_workers.proofs.steps.pause.Goals as goal
-
-pub returns : goal.returns
-returns g c = made_same g.C.Core.stands c.args.seat.now c.seen_count-count.new.seat c.seen_count-count.ensures.same c.seen_count-count.ensures.seen
