@@ -20,7 +20,7 @@ use mdb_parts::{LineError, error};
 use std::alloc::Global;
 
 // The address and the numbers of a check, and what is left.
-#[tactic(auto, using(crate::proofs::WordLemmas::words_lack, mdb_parts::proofs::TextLemmas::follows, mdb_parts::proofs::AddressLemmas::address_lacks))]
+#[tactic(auto, using(crate::proofs::OfSdam::WordLemmas::words_lack, mdb_parts::proofs::TextLemmas::follows, mdb_parts::proofs::AddressLemmas::address_lacks))]
 fn beat(alloc: Global, text: &str) -> Result<(ShownBeat, &str), LineError>
     ensures { (b : ShownBeat) (rest : List ℕ) → IsBeat b → Follows rest → text.now ≡ beat_start b rest → GivesFirst b rest result }
 {

@@ -11,7 +11,7 @@ use mdb_parts::words::{field, last};
 use std::alloc::Global;
 
 /// A server's description changed: its address and both types.
-#[tactic(auto, using(crate::proofs::WordLemmas::type_lacks, mdb_parts::proofs::TextLemmas::follows, mdb_parts::proofs::AddressLemmas::address_lacks))]
+#[tactic(auto, using(crate::proofs::OfSdam::WordLemmas::type_lacks, mdb_parts::proofs::TextLemmas::follows, mdb_parts::proofs::AddressLemmas::address_lacks))]
 pub fn server_changed(alloc: Global, text: &str) -> Result<ShownSdam, LineError>
     ensures { ReadsServerChanged text.now result }
 {
@@ -43,7 +43,7 @@ pub fn server_closed(alloc: Global, text: &str) -> Result<ShownSdam, LineError>
 }
 
 /// The topology's description changed: both types, each with the number of servers.
-#[tactic(auto, using(crate::proofs::WordLemmas::kind_lacks, mdb_parts::proofs::TextLemmas::follows))]
+#[tactic(auto, using(crate::proofs::OfSdam::WordLemmas::kind_lacks, mdb_parts::proofs::TextLemmas::follows))]
 pub fn topology_changed(text: &str) -> Result<ShownSdam, LineError>
     ensures { ReadsTopologyChanged text.now result }
 {
