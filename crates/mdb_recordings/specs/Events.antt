@@ -1,7 +1,7 @@
 -- What one event tells.
 use Rattle.std.specs.Prelude.{ℕ, Bool, true, false, ◌==◌, Option, Some, None}
 use Rattle.mdb_recordings.specs.declared.event.Told.{Told}
-use Rattle.mdb_recordings.specs.declared.event.Told.TheVariants.{PoolCreated, PoolReady, PoolCleared, PoolClosed, ConnectionCreated, ConnectionReady, ConnectionClosed, CheckOutFailed, CheckedOut, CheckedIn}
+use Rattle.mdb_recordings.specs.declared.event.Told.TheVariants.{PoolCreated, PoolReady, PoolCleared, PoolClosed, ConnectionCreated, ConnectionReady, ConnectionClosed, CheckOutStarted, CheckOutFailed, CheckedOut, CheckedIn}
 use Rattle.mdb_recordings.specs.declared.event.CloseReason.{CloseReason}
 use Rattle.mdb_recordings.specs.declared.event.CloseReason.TheVariants.{Error}
 
@@ -82,6 +82,11 @@ is_error _ = false
 abbrev pub breaks_one : Told → Bool
 breaks_one (ConnectionClosed j reason) = is_error reason
 breaks_one _ = false
+
+-- a check-out was started
+abbrev pub starts_one : Told → Bool
+starts_one CheckOutStarted = true
+starts_one _ = false
 
 -- a check-out failed
 abbrev pub fails_one : Told → Bool

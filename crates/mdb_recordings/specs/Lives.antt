@@ -1,6 +1,6 @@
 -- What the events of one pool tell, newest first, since it was created.
 use Rattle.std.specs.Prelude.{ℕ, ◌+◌, Bool, true, false, not, ◌&&◌, ◌||◌, ◌==◌, if◌then◌else◌, List, [], ◌∷◌, Option, Some, None}
-use Rattle.mdb_recordings.specs.Events.{begins, turns_ready, clears, pauses, closes_pool, creates_one, creates, readies_one, readies, closes_one, closes, checks_out_one, checks_out, checks_in_one, checks_in, fails_one, breaks_one, rests}
+use Rattle.mdb_recordings.specs.Events.{begins, turns_ready, clears, pauses, closes_pool, creates_one, creates, readies_one, readies, closes_one, closes, checks_out_one, checks_out, checks_in_one, checks_in, fails_one, breaks_one, rests, starts_one}
 use Rattle.mdb_recordings.specs.declared.event.Event.{Event}
 use Rattle.mdb_recordings.specs.declared.event.Recorded.{Recorded}
 use Rattle.mdb_recordings.specs.declared.event.Limits.{Limits}
@@ -101,6 +101,7 @@ facts_of l = record {
   readied = count readies_one l;
   closed = count closes_one l;
   dropped = dropped l;
+  started = count starts_one l;
   outs = count checks_out_one l;
   ins = count checks_in_one l;
   failed = count fails_one l;

@@ -3,7 +3,7 @@ use Rattle.std.specs.Prelude.{ℕ, ◌+◌, true, false, not, ◌||◌, if◌the
 use Rattle.mdb_recordings.specs.Events.{is_error}
 use Rattle.mdb_recordings.specs.declared.event.CloseReason.{CloseReason}
 use Rattle.mdb_recordings.specs.declared.event.Told.{Told}
-use Rattle.mdb_recordings.specs.declared.event.Told.TheVariants.{PoolCreated, PoolReady, PoolCleared, PoolClosed, ConnectionCreated, ConnectionReady, ConnectionClosed, CheckOutFailed, CheckedOut, CheckedIn}
+use Rattle.mdb_recordings.specs.declared.event.Told.TheVariants.{PoolCreated, PoolReady, PoolCleared, PoolClosed, ConnectionCreated, ConnectionReady, ConnectionClosed, CheckOutStarted, CheckOutFailed, CheckedOut, CheckedIn}
 use Rattle.mdb_recordings.specs.declared.connection.Connection.{Connection}
 use Rattle.mdb_recordings.specs.declared.facts.Facts.{Facts}
 
@@ -29,6 +29,7 @@ abbrev pub facts_after_connection : Told → Connection → Facts → Facts
 facts_after_connection (ConnectionCreated i) c f = record f { created = 1 + f.created }
 facts_after_connection (ConnectionReady i) c f = record f { readied = 1 + f.readied }
 facts_after_connection (ConnectionClosed i reason) c f = facts_once_closed reason c f
+facts_after_connection CheckOutStarted c f = record f { started = 1 + f.started }
 facts_after_connection (CheckOutFailed reason) c f = record f { failed = 1 + f.failed }
 facts_after_connection (CheckedOut i) c f = record f { outs = 1 + f.outs }
 facts_after_connection (CheckedIn i) c f = record f { ins = 1 + f.ins }

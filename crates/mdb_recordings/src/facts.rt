@@ -24,7 +24,8 @@ pub struct Facts {
     pub closed: u64,
     /// Connections that were closed before they were ready.
     pub dropped: u64,
-    /// Check-outs, check-ins, and check-outs that failed.
+    /// Check-outs that were started, check-outs, check-ins, and check-outs that failed.
+    pub started: u64,
     pub outs: u64,
     pub ins: u64,
     pub failed: u64,
@@ -57,6 +58,7 @@ impl Facts {
         readied: 0,
         closed: 0,
         dropped: 0,
+        started: 0,
         outs: 0,
         ins: 0,
         failed: 0,
@@ -107,6 +109,10 @@ impl Facts {
                 Ok(Facts { readied, ..self })
             }
             Told::ConnectionClosed(_, reason) => self.once_closed(*reason, connection),
+            Told::CheckOutStarted => {
+                let started = one_more(self.started)?;
+                Ok(Facts { started, ..self })
+            }
             Told::CheckOutFailed(_) => {
                 let failed = one_more(self.failed)?;
                 Ok(Facts { failed, ..self })

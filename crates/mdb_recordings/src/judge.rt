@@ -2,6 +2,7 @@
 
 ghost use Rattle.std.specs.Prelude.{◌≡◌, ◌∷◌, [], List, OnOk};
 ghost use Rattle.mdb_recordings.specs.declared.event.Recorded.{Recorded as Event_};
+ghost use Rattle.mdb_recordings.specs.Lives.{facts_of, life};
 ghost use Rattle.mdb_recordings.specs.Noting.{Begins, GoesOn};
 ghost use Rattle.mdb_recordings.specs.Rules.{glance_of};
 ghost use Rattle.mdb_recordings.specs.Standing.{Stands};
@@ -46,6 +47,13 @@ impl Judge {
             facts: pool.facts,
             connection,
         }
+    }
+
+    /// What is known of the pool.
+    pub fn facts(&self, pool: u32) -> Facts
+        ensures { (h : List Event_) → Stands h self.now → result ≡ facts_of (life pool h) }
+    {
+        self.pools.get(pool).facts
     }
 
     // A pool begins at an address at which so many began before.
