@@ -9,7 +9,7 @@ pub returns-in-Ok-run_made-clause-ends : goal.returns-in-Ok-run_made-clause-ends
 returns-in-Ok-run_made-clause-ends g c = (Make c.in-Make.n, c.in-Make.ensures, (refl, refl, refl, inl (refl, c.in-Ok-run_made.ensures, refl)))
 
 pub returns-in-Err-run_made-clause-ends : goal.returns-in-Err-run_made-clause-ends
-returns-in-Err-run_made-clause-ends g c = (Make c.in-Make.n, c.in-Make.ensures, (refl, refl, refl, inr (c.in-Err-run_made.e, c.ended-in-Err-run_made.ensures.status, c.in-Err-run_made.ensures, c.ended-in-Err-run_made.ensures.told)))
+returns-in-Err-run_made-clause-ends g c = (Make c.in-Make.n, c.in-Make.ensures, (refl, refl, refl, inr (c.in-Err-run_made.e, c.end_with_error-in-Err-run_made.ensures.status, c.in-Err-run_made.ensures, c.end_with_error-in-Err-run_made.ensures.told)))
 
 pub returns-in-Usage-clause-complete : goal.returns-in-Usage-clause-complete
 returns-in-Usage-clause-complete g c = λ input steps none left short script read write. absurd (c.in-Usage.ensures Script (rw none refl))
@@ -20,8 +20,8 @@ returns-in-Ok-clause-malformed g c = λ input number none left short found read 
 pub returns-in-Err-clause-malformed : goal.returns-in-Err-clause-malformed
 returns-in-Err-clause-malformed g c =
     let old : Told = record { held = g.E.Sink.held c.args.errors.now; faults = g.E.Sink.faults c.args.errors.now } in
-    let new : Told = record { held = g.E.Sink.held c.ended.new.errors; faults = g.E.Sink.faults c.ended.new.errors } in
-    λ input number none left short found read write. tells_so (Malformed number) c.in-Err.e old new c.ended.result c.ended.ensures.status c.ended.ensures.told (c.in-Err.ensures.malformed input number left short found read write)
+    let new : Told = record { held = g.E.Sink.held c.end_with_error.new.errors; faults = g.E.Sink.faults c.end_with_error.new.errors } in
+    λ input number none left short found read write. tells_so (Malformed number) c.in-Err.e old new c.end_with_error.result c.end_with_error.ensures.status c.end_with_error.ensures.told (c.in-Err.ensures.malformed input number left short found read write)
 
 pub returns-in-Usage-clause-malformed : goal.returns-in-Usage-clause-malformed
 returns-in-Usage-clause-malformed g c = λ input number none left short found read write. absurd (c.in-Usage.ensures Script (rw none refl))

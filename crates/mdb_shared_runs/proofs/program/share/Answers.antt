@@ -9,5 +9,5 @@ returns-in-Ok-clause-malformed g c = λ input number left short found read write
 pub returns-in-Err-clause-malformed : goal.returns-in-Err-clause-malformed
 returns-in-Err-clause-malformed g c =
     let told : Told = record { held = g.E.Sink.held c.args.errors.now; faults = g.E.Sink.faults c.args.errors.now } in
-    let new_told : Told = record { held = g.E.Sink.held c.ended.new.errors; faults = g.E.Sink.faults c.ended.new.errors } in
-    λ input number left short found read write. tells_so (Malformed number) c.in-Err.e told new_told c.ended.result c.ended.ensures.status c.ended.ensures.told (c.in-Err.ensures.malformed input number left short found read write)
+    let new_told : Told = record { held = g.E.Sink.held c.end_with_error.new.errors; faults = g.E.Sink.faults c.end_with_error.new.errors } in
+    λ input number left short found read write. tells_so (Malformed number) c.in-Err.e told new_told c.end_with_error.result c.end_with_error.ensures.status c.end_with_error.ensures.told (c.in-Err.ensures.malformed input number left short found read write)
