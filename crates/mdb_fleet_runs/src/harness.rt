@@ -7,7 +7,7 @@ ghost use Rattle.mdb_log.specs.declared.log.Entry.{Entry};
 ghost use Rattle.mdb_fleets.specs.MemberReplies.{addresses_of};
 ghost use Rattle.mdb_fleets.specs.ReplicaSet.{HasRoom, new_set};
 ghost use Rattle.mdb_fleet_runs.specs.Harnesses.{Watches, WatchesSome, trial_in, Comes};
-ghost use Rattle.mdb_fleet_runs.specs.Trials.{fleet_options, opened, lost, hello_step, steps, outcome, happens};
+ghost use Rattle.mdb_fleet_runs.specs.Trials.{fleet_options, description_in, opened, lost, hello_step, steps, outcome, happens};
 ghost use Rattle.mdb_fleet_runs.specs.declared.event.FleetAct.TheVariants as act;
 
 use crate::answers::FleetAnswer;
@@ -97,7 +97,7 @@ impl Harness {
 
     /// What the driver describes.
     pub fn description(&self) -> &TopologyDescription
-        ensures { result.now ≡ self.now.core.description }
+        ensures { (n : ℕ) (log : List Entry) → Watches n self.now log → result.now ≡ description_in n (trial_in self.now log) }
     {
         self.core.description()
     }

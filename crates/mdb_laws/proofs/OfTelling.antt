@@ -1,4 +1,4 @@
-mod Accepted
-mod Once
-mod Outcomes
+pub mod Accepted
+pub mod Once
+pub mod Outcomes
 pub mod Logs
