@@ -1,6 +1,5 @@
 //! Cases of mdb_topology: what the pools of a driver tell of themselves.
 
-ghost use Rattle.mdb_log.specs.Acts.{IsDriverAct};
 ghost use Rattle.mdb_topology.specs.Logging.{IsDriverOf};
 
 use crate::drivers::take;
