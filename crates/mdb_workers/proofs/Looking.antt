@@ -17,6 +17,10 @@ module _ {T : Type 0} (stands : T → List Entry → Type 0) where
   retracted_after true number s u v m r = (r.0, (r.1.0, r.1.1, r.1.2, made_then stands s u v [] (r.1.0 ∷ []) m r.1.3))
   retracted_after false number s u v m r = made_then stands s u v [] [] m r
 
+  pub retracted_same : (wants : Bool) (number : ℕ) (s v : SeatView) → RetractedIf stands wants number s v → (v.driver ≡ s.driver) × (v.number ≡ s.number)
+  retracted_same true number s v r = (r.1.3.0, r.1.3.1)
+  retracted_same false number s v r = (r.0, r.1)
+
   retracted_seen : (wants : Bool) (number : ℕ) (u v : SeatView) → RetractedIf stands wants number u v → StartsWith v.seen u.seen
   retracted_seen true number u v r = made_seen stands 0 u v (r.1.0 ∷ []) r.1.3
   retracted_seen false number u v r = made_seen stands 0 u v [] r
