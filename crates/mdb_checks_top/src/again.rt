@@ -1,10 +1,10 @@
-//! Cases of mdb_share: the lines of a log that several parts made, run once more.
+//! Cases of mdb_shared_runs: the lines of a log that several parts made, run once more.
 
 use crate::shares::{front, lines_of};
 use mdb_base::{MemSink, PlainSource};
 use mdb_cases::{Page, decoded, parted};
 use mdb_runs::run_script;
-use mdb_share::run_program;
+use mdb_shared_runs::run_program;
 use std::sync::Wait;
 use std::thread::Threads;
 
