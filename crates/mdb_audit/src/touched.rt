@@ -39,10 +39,9 @@ fn add_if(
     ensures { OnOk result ((p c : ℕ) → has_place places.new.items p c ≡ has_place places.old.items p c || (test && in_list list.now party p c)) }
 {
     if test {
-        add_all(places, list, party)
-    } else {
-        Ok(())
+        add_all(places, list, party)?;
     }
+    Ok(())
 }
 
 // The party pinned since its last give-up.
@@ -116,8 +115,11 @@ impl Touched {
         }
         add_all(&mut self.places, &pins.grants, party)?;
         add_all(&mut self.places, &keepings.fresh, party)?;
-        let pinned = has_pinned(&pins.doings.get(u64::from(party)));
-        add_if(pinned, &mut self.places, &keepings.all, party)
+        let number = u64::from(party);
+        let own = pins.doings.get(number);
+        let pinned = has_pinned(&own);
+        add_if(pinned, &mut self.places, &keepings.all, party)?;
+        Ok(())
     }
 
     /// What the change touches; the tables, the pins and the keepings are those before it.

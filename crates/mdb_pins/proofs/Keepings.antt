@@ -1,5 +1,5 @@
 -- What was written in the lists of keepings stays there.
-use Rattle.std.proofs.Common.{ℕ, ◌≡◌, ◌==◌, Bool, true, false, ◌&&◌, ◌||◌, if◌then◌else◌, Option, Some, None, refl, sym, ap, subst, ◌∙◌}
+use Rattle.std.proofs.Common.{ℕ, ◌≡◌, ◌==◌, Bool, true, false, ◌&&◌, ◌||◌, if◌then◌else◌, Option, Some, None, unwrap_or, refl, sym, ap, subst, ◌∙◌}
 use Rattle.mdb_log.specs.History.{is_number}
 use Rattle.mdb_log.proofs.Numbers.{same-number}
 use Rattle.mdb_log.proofs.Bools.{both-left, both-right}
@@ -30,7 +30,7 @@ still-listed r v old new e n p c u = by (r == n) refl
 
     by : (b : Bool) → (r == n) ≡ b → in_list new n p c ≡ true
     by true w = subst (λ q. in_list old q p c ≡ true → in_list new q p c ≡ true) (same r n w) own u
-    by false w = let as-long : len new n ≡ len old n = apart-len r n v old new e w in rw as-long (listed-same (len old n) (nth new n) (nth old n) p c (λ j m. apart-nth r n v old new e w j) ∙ u)
+    by false w = let as-long : len new n ≡ len old n = apart-len r n v old new e w in (λ i. listed (as-long i) (nth new n) p c) ∙ listed-same (len old n) (nth new n) (nth old n) p c (λ j m. apart-nth r n v old new e w j) ∙ u
 
 -- what was pushed is there
 pub now-listed : (r p c : ℕ) (old new : Lists Place) → Pushes r (record { pool = p; id = c }) old new → in_list new r p c ≡ true
@@ -41,7 +41,7 @@ number-is None r e = cc
 number-is (Some m) r e = ap Some (same m r e)
 
 some-is : (m n : ℕ) → Some m ≡ Some n → m ≡ n
-some-is m n e = cc
+some-is m n e = ap (λ o. unwrap_or o m) e
 
 pub written-before : (r q d : ℕ) (k : Keepings) → is_number (at k.written q d 0) r ≡ true → WritesOnce r q d k k
 written-before r q d k e = record { all = λ n p c u. u; fresh = refl; written = λ w. w; here = λ w. w q d r (number-is (at k.written q d 0) r e) }
@@ -108,7 +108,9 @@ notes-gone r t s old new f = record {
     by : (n p c : ℕ) → (r == n) ≡ false → in_list old.fresh n p c ≡ true → in_list new.fresh n p c ≡ true
     by n p c o u =
         let as-long : len new.fresh n ≡ len old.fresh n = f.fresh.lengths n 0 0 ∙ rw o refl in
-        rw as-long (ap (λ z. listed (len old.fresh n) (λ i. at z n i 0) p c) f.fresh.items ∙ u)
+        (λ i. listed (as-long i) (nth new.fresh n) p c) ∙ ap (λ z. listed (len old.fresh n) (λ j. at z n j 0) p c) f.fresh.items ∙ u
 
 pub notes-nothing : (t : Tables) (s : PinStory) (k : Keepings) → Notes (λ p c. false) (λ r. false) t s k k
 notes-nothing t s k = record { all = λ n p c u. u; fresh = λ n p c o u. u; written = λ w. w; here = λ w p c e alone. cc }
+
+pub ruleset notes = (notes-gone, notes-nothing)

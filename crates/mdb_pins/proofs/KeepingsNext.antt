@@ -1,5 +1,6 @@
 -- The keepings that stand for tables and pins stand for those after one more change.
-use Rattle.std.proofs.Common.{ℕ, ◌+◌, ◌-◌, ◌≡◌, ◌≤◌, ◌==◌, Bool, true, false, not, ◌&&◌, ◌||◌, if◌then◌else◌, nat_lt, refl, sym, ap, subst, ◌∙◌, arith, ⊤}
+use Rattle.std.proofs.Common.{ℕ, ◌+◌, ◌-◌, ◌≡◌, ◌≤◌, ◌==◌, Bool, true, false, not, ◌&&◌, ◌||◌, if◌then◌else◌, nat_lt, refl, sym, ap, subst, ◌∙◌, arith}
+use Rattle.std.specs.Prelude.{⊤}
 use Rattle.std.proofs.lemmas.Grind.{common_steps}
 use Rattle.mdb_tallies.specs.declared.change.Change.{Change}
 use Rattle.mdb_tallies.specs.declared.change.Change.TheVariants as change
@@ -7,7 +8,8 @@ use Rattle.mdb_tallies.specs.declared.connection.Connection.{Connection}
 use Rattle.mdb_tallies.specs.declared.tables.Tables.{Tables}
 use Rattle.mdb_tallies.specs.Tables.{at}
 use Rattle.mdb_tallies.specs.Lists.{in_list}
-use Rattle.mdb_tallies.specs.Changes.{connection_after, changed_if, once_returned, kept_now, lent_now}
+use Rattle.mdb_tallies.specs.Changes.{connection_after, changed_if, once_created, once_closed, once_checked_in, once_established, once_failed, once_granted, once_taken, once_returned, kept_now, lent_now}
+use Rattle.mdb_tallies.specs.Standing.{is_lent}
 use Rattle.mdb_tallies.specs.Kept.{Follows}
 use Rattle.mdb_log.proofs.Bools.{both-left, both-right}
 use Rattle.mdb_pins.specs.declared.doings.Doings.{Doings}
@@ -15,7 +17,7 @@ use Rattle.mdb_pins.specs.declared.keepings.Keepings.{Keepings}
 use Rattle.mdb_pins.specs.declared.pins.Pins.{Pins}
 use Rattle.mdb_pins.specs.declared.story.PinStory.{PinStory}
 use Rattle.mdb_pins.specs.Numbered.{of_number}
-use Rattle.mdb_pins.specs.Counts.{keeper, is_above, is_at_pin, backed, once_unpinned}
+use Rattle.mdb_pins.specs.Counts.{nobody, keeper, is_above, is_at_pin, backed, once_unpinned}
 use Rattle.mdb_pins.specs.Following.{lends, keeps, only_at, pins_after, doings_after, PinsFollow}
 use Rattle.mdb_pins.specs.Keeping.{is_alone, is_settled, has_pinned, concerns, gives_up, KeepingsStand, KeepingsFollow, WrittenStand}
 use Rattle.mdb_pins.proofs.Fitting.{is-one}
@@ -75,7 +77,7 @@ more-than m n e = grind (arith, common_steps)
 
 -- who keeps it alone is its keeper
 pub alone-keeper : (x : Connection) (doings : ℕ → Doings) (y : Pins) → is_alone x ≡ true → keeper x.kept doings y ≡ doings y.keepers
-alone-keeper x doings y e = ap (λ b. if b then doings y.keepers else _) (both-right (nat_lt 0 x.creations) (x.kept == 1) e)
+alone-keeper x doings y e = ap (λ b. if b then doings y.keepers else nobody) (both-right (nat_lt 0 x.creations) (x.kept == 1) e)
 
 -- a connection that a change does not concern: one party kept it alone, it is its keeper still, and what it wanted it wants
 pub record Stays (ch : Change) (l m : Bool) (doings : ℕ → Doings) (x : Connection) (y y-now : Pins) : Type 0 where
@@ -192,13 +194,13 @@ stays (change.Returned r) t l m doings p c y allows ordered heard apart e =
     returned-stays r (keeps t r p c) (lends t r p c) l m _ doings (at t.connections p c 0) y both.0 both.1
 stays (change.Unpinned q d) t l m doings p c y allows ordered heard apart e = unpinned-stays q d ((q == p) && (d == c)) l m doings (at t.connections p c 0) y e
 stays (change.Replicated q d) t l m doings p c y allows ordered heard apart e = quiet (change.Replicated q d) l m doings (at t.connections p c 0) y _ (elsewhere ((q == p) && (d == c)) _ y apart) (λ n d. refl) (λ n. refl) e
-stays (change.Taken r q d) t l m doings p c y allows ordered heard apart e = quiet (change.Taken r q d) l m doings (at t.connections p c 0) y _ (elsewhere ((q == p) && (d == c)) _ y apart) (λ n d. refl) (λ n. refl) (alone-if ((q == p) && (d == c)) _ (at t.connections p c 0) apart e)
-stays (change.Created q d) t l m doings p c y allows ordered heard apart e = quiet (change.Created q d) l m doings (at t.connections p c 0) y y refl (λ n d. refl) (λ n. refl) (alone-if ((q == p) && (d == c)) _ (at t.connections p c 0) apart e)
-stays (change.Established q d) t l m doings p c y allows ordered heard apart e = quiet (change.Established q d) l m doings (at t.connections p c 0) y y refl (λ n d. refl) (λ n. refl) (alone-either ((q == p) && (d == c)) _ (at t.connections p c 0) refl e)
-stays (change.Failed q d) t l m doings p c y allows ordered heard apart e = quiet (change.Failed q d) l m doings (at t.connections p c 0) y y refl (λ n d. refl) (λ n. refl) (alone-either ((q == p) && (d == c)) _ (at t.connections p c 0) refl e)
-stays (change.Closed q d) t l m doings p c y allows ordered heard apart e = quiet (change.Closed q d) l m doings (at t.connections p c 0) y y refl (λ n d. refl) (λ n. refl) (alone-either ((q == p) && (d == c)) _ (at t.connections p c 0) refl e)
-stays (change.CheckedIn q d) t l m doings p c y allows ordered heard apart e = quiet (change.CheckedIn q d) l m doings (at t.connections p c 0) y y refl (λ n d. refl) (λ n. refl) (alone-either ((q == p) && (d == c)) _ (at t.connections p c 0) refl e)
-stays (change.Granted r q d) t l m doings p c y allows ordered heard apart e = quiet (change.Granted r q d) l m doings (at t.connections p c 0) y y refl (λ n d. refl) (λ n. refl) (alone-either ((q == p) && (d == c)) _ (at t.connections p c 0) refl e)
+stays (change.Taken r q d) t l m doings p c y allows ordered heard apart e = quiet (change.Taken r q d) l m doings (at t.connections p c 0) y _ (elsewhere ((q == p) && (d == c)) _ y apart) (λ n d. refl) (λ n. refl) (alone-if ((q == p) && (d == c)) (once_taken (kept_now (at t.gifts r p c) (at t.parties r 0 0)) (not (at t.parties r 0 0).is_returned) (lent_now (at t.gifts r p c) (at t.parties r 0 0))) (at t.connections p c 0) apart e)
+stays (change.Created q d) t l m doings p c y allows ordered heard apart e = quiet (change.Created q d) l m doings (at t.connections p c 0) y y refl (λ n d. refl) (λ n. refl) (alone-if ((q == p) && (d == c)) once_created (at t.connections p c 0) apart e)
+stays (change.Established q d) t l m doings p c y allows ordered heard apart e = quiet (change.Established q d) l m doings (at t.connections p c 0) y y refl (λ n d. refl) (λ n. refl) (alone-either ((q == p) && (d == c)) once_established (at t.connections p c 0) refl e)
+stays (change.Failed q d) t l m doings p c y allows ordered heard apart e = quiet (change.Failed q d) l m doings (at t.connections p c 0) y y refl (λ n d. refl) (λ n. refl) (alone-either ((q == p) && (d == c)) once_failed (at t.connections p c 0) refl e)
+stays (change.Closed q d) t l m doings p c y allows ordered heard apart e = quiet (change.Closed q d) l m doings (at t.connections p c 0) y y refl (λ n d. refl) (λ n. refl) (alone-either ((q == p) && (d == c)) once_closed (at t.connections p c 0) refl e)
+stays (change.CheckedIn q d) t l m doings p c y allows ordered heard apart e = quiet (change.CheckedIn q d) l m doings (at t.connections p c 0) y y refl (λ n d. refl) (λ n. refl) (alone-either ((q == p) && (d == c)) once_checked_in (at t.connections p c 0) refl e)
+stays (change.Granted r q d) t l m doings p c y allows ordered heard apart e = quiet (change.Granted r q d) l m doings (at t.connections p c 0) y y refl (λ n d. refl) (λ n. refl) (alone-either ((q == p) && (d == c)) (once_granted (lent_now (at t.gifts r p c) (at t.parties r 0 0)) (is_lent true (at t.gifts r p c).is_taken (at t.parties r 0 0).is_returned (at t.parties r 0 0).is_ended)) (at t.connections p c 0) refl e)
 stays ch t l m doings p c y allows ordered heard apart e = quiet ch l m doings (at t.connections p c 0) y y refl (λ n d. refl) (λ n. refl) e
 
 ordered-after : (ch : Change) (n : ℕ) (d : Doings) → d.pins_then ≤ d.pins → (doings_after ch n d).pins_then ≤ (doings_after ch n d).pins
@@ -238,7 +240,6 @@ keepings-next balanced ch t u s z k m allows heard stand f g n = record {
         let listed-now = (n.here stand.written p c w e).1 in
         ap (λ b. is_settled (of_number z.doings (at z.pins p c 0).keepers) (at z.pins p c 0) || (b || has_pinned (of_number z.doings (at z.pins p c 0).keepers))) listed-now ∙ or-true (is_settled (of_number z.doings (at z.pins p c 0).keepers) (at z.pins p c 0))
     fresh-now p c e false w =
-        let y : Pins = at s.pins p c 0 in
         let now = (stayed p c e w).wants (λ o l. n.fresh (at s.pins p c 0).keepers p c o l) (stand.fresh p c (stayed p c e w).alone) in
         subst (λ r. is_settled (of_number z.doings r) (at z.pins p c 0) || (in_list m.fresh r p c || has_pinned (of_number z.doings r)) ≡ true) (sym (keepers-are p c e w))
             (ap (λ v. is_settled (of_number z.doings (at s.pins p c 0).keepers) v || (in_list m.fresh (at s.pins p c 0).keepers p c || has_pinned (of_number z.doings (at s.pins p c 0).keepers))) (g.pins p c)

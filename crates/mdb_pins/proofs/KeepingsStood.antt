@@ -90,9 +90,6 @@ first-part k l e = omega (arith, e)
 unlent-alone : (o : PoolOptions) (h : List Item) (t : Tables) (r p c : ℕ) → Stands o h t → OnePlace h → is_alone (at t.connections p c 0) ≡ true → lends t r p c ≡ false
 unlent-alone o h t r p c s one e = by (lends t r p c) refl
   where
-    x : Connection
-    x = connection_of h p c
-
     alone : is_alone (connection_of h p c) ≡ true
     alone = ap is_alone (sym (s.connections p c)) ∙ e
 

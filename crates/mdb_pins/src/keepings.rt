@@ -5,7 +5,7 @@
 //! others than the party itself said of its connections since its last one, and at all of them only where it pinned since:
 //! each of them was unpinned as often since it was kept, or the give-up sets it at its pin.
 
-ghost use Rattle.std.specs.Prelude.{◌≡◌, ℕ, ◌==◌, ◌&&◌, false, None, OnOk};
+ghost use Rattle.std.specs.Prelude.{◌≡◌, ℕ, ◌==◌, ◌&&◌, false, None, IfOk, OnOk};
 ghost use Rattle.mdb_log.specs.History.{is_number};
 ghost use Rattle.mdb_tallies.specs.Tables.{at};
 ghost use Rattle.mdb_pins.specs.Keeping.{is_alone, WritesOnce, Writes, Forgets, Notes, KeepingsFollow};
@@ -31,6 +31,16 @@ fn is_alone(connection: &Connection) -> bool
     ensures { result ≡ is_alone connection.now }
 {
     0 < connection.creations && connection.kept == 1
+}
+
+// The one keeper's number, which is the sum of the keepers' numbers. A sum past 2^32 - 1 is of several.
+fn keeper_of(keepers: u64) -> Result<u32, OutOfMemory>
+    ensures { IfOk result (λ r. r ≡ keepers) }
+{
+    match u32::try_from(keepers) {
+        Ok(keeper) => Ok(keeper),
+        Err(_) => Err(OutOfMemory),
+    }
 }
 
 fn is_number(number: Option<u32>, other: u32) -> bool
@@ -75,7 +85,7 @@ impl Keepings {
         Ok(())
     }
 
-    // The connection is in the lists of the party that keeps it, where one does. The sum of the keepers' numbers is its number then.
+    // The connection is in the lists of the party that keeps it, where one does.
     fn follow(
         &mut self,
         tables: &Tables,
@@ -89,11 +99,10 @@ impl Keepings {
         if !is_alone(&known) {
             return Ok(());
         }
-        let keepers = pins.pins.get((pool, id, 0)).keepers;
-        match u32::try_from(keepers) {
-            Ok(keeper) => self.write(keeper, Place { pool, id }),
-            Err(_) => Err(OutOfMemory),
-        }
+        let story = pins.pins.get((pool, id, 0));
+        let keeper = keeper_of(story.keepers)?;
+        self.write(keeper, Place { pool, id })?;
+        Ok(())
     }
 
     // Nothing of the party is fresh.
@@ -105,6 +114,7 @@ impl Keepings {
     }
 
     /// What is kept after a change; the tables and the pins are those after it.
+    #[tactic(auto, using(crate::proofs::Keepings::notes))]
     pub fn note(
         &mut self,
         tables: &Tables,
