@@ -64,9 +64,9 @@ reaches-step o balanced h start step reply ch old new e says one r t = record {
       let apart : has_place old.touched.places.items p c || touches_place ch old.tables old.pins old.keepings p c ≡ false = sym (t.touched.places p c) ∙ u in
       let beside : touches_place ch old.tables old.pins old.keepings p c ≡ false = right-false (has_place old.touched.places.items p c) (touches_place ch old.tables old.pins old.keepings p c) apart in
       untouched-step o h old.tables old.pins old.keepings step reply p c r.kept.tables r.kept.pins r.kept.keepings
-          (ap (λ z. touches_place z old.tables old.pins old.keepings p c) (sym (says h r.kept.homes)) ∙ beside)
-          (sym (after.tables.connections p c) ∙ (t.tables r.kept.tables.lists).connections p c ∙ untouched-place ch old.tables old.pins old.keepings p c (at old.tables.connections p c 0) r.kept.tables.lists beside ∙ r.kept.tables.connections p c)
-          (r.placed p c (left-false (has_place old.touched.places.items p c) (touches_place ch old.tables old.pins old.keepings p c) apart) was);
+      (ap (λ z. touches_place z old.tables old.pins old.keepings p c) (sym (says h r.kept.homes)) ∙ beside)
+      (sym (after.tables.connections p c) ∙ (t.tables r.kept.tables.lists).connections p c ∙ untouched-place ch old.tables old.pins old.keepings p c (at old.tables.connections p c 0) r.kept.tables.lists beside ∙ r.kept.tables.connections p c)
+      (r.placed p c (left-false (has_place old.touched.places.items p c) (touches_place ch old.tables old.pins old.keepings p c) apart) was);
 }
   where
     after : Keeps o (did step reply ∷ h) new

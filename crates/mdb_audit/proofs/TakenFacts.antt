@@ -121,9 +121,9 @@ took-fact balanced b fact ch old new q x fair stood n = record {
         placed = λ p c u was.
             let apart : has_place old.touched.places.items p c || touches_place ch old.tables old.pins old.keepings p c ≡ false = sym (n.taken.touched.places p c) ∙ u in
             same-place h (with_facts m (facts_of (fact ∷ [])) h) p c
-                (sym (after.tables.connections p c) ∙ (n.taken.tables r.kept.tables.lists).connections p c ∙ untouched-place ch old.tables old.pins old.keepings p c (at old.tables.connections p c 0) r.kept.tables.lists (right-false (has_place old.touched.places.items p c) (touches_place ch old.tables old.pins old.keepings p c) apart) ∙ r.kept.tables.connections p c)
-                (shown-pinned m fact h p c)
-                (r.placed p c (left-false (has_place old.touched.places.items p c) (touches_place ch old.tables old.pins old.keepings p c) apart) was);
+            (sym (after.tables.connections p c) ∙ (n.taken.tables r.kept.tables.lists).connections p c ∙ untouched-place ch old.tables old.pins old.keepings p c (at old.tables.connections p c 0) r.kept.tables.lists (right-false (has_place old.touched.places.items p c) (touches_place ch old.tables old.pins old.keepings p c) apart) ∙ r.kept.tables.connections p c)
+            (shown-pinned m fact h p c)
+            (r.placed p c (left-false (has_place old.touched.places.items p c) (touches_place ch old.tables old.pins old.keepings p c) apart) was);
       };
   fair = λ o m h e k. fair-shown m h b fact (fair o h k.tables k.queues);
 }

@@ -91,3 +91,5 @@ recalls_all r t s k old new xs ys pinned e is f g h same = record {
 }
 
 pub ruleset adds = (adds_none, adds_pool)
+
+pub ruleset joins = (or-none)

@@ -30,6 +30,7 @@ fn add_all(places: &mut Vec<Place>, list: &Lists<Place>, party: u32) -> Result<(
 }
 
 // The party's list is among the places, where the test holds.
+#[tactic(auto, using(crate::proofs::Touches::joins))]
 fn add_if(
     test: bool,
     places: &mut Vec<Place>,

@@ -12,6 +12,7 @@ use mdb_topology::TopologyCore;
 use std::sync::Wait;
 
 type Driver = SharedDriver<TopologyCore>;
+
 type DriverSeat = Seat<TopologyCore>;
 
 fn request(page: &mut Page, moment: u64, party: u32) -> Option<Step>
@@ -142,7 +143,13 @@ fn put_closed(page: &mut Page, driver: Driver, one: DriverSeat, other: DriverSea
     }
 }
 
-fn meet<R: Wait>(rt: &R, page: &mut Page, driver: Driver, mut one: DriverSeat, mut other: DriverSeat)
+fn meet<R: Wait>(
+    rt: &R,
+    page: &mut Page,
+    driver: Driver,
+    mut one: DriverSeat,
+    mut other: DriverSeat,
+)
     requires own { (one.driver ≡ driver.id) × (other.driver ≡ driver.id) }
 {
     walk(rt, page, &driver, &mut one, &mut other);

@@ -242,6 +242,6 @@ keepings-next balanced ch t u s z k m allows heard stand f g n = record {
     fresh-now p c e false w =
         let now = (stayed p c e w).wants (λ o l. n.fresh (at s.pins p c 0).keepers p c o l) (stand.fresh p c (stayed p c e w).alone) in
         subst (λ r. is_settled (of_number z.doings r) (at z.pins p c 0) || (in_list m.fresh r p c || has_pinned (of_number z.doings r)) ≡ true) (sym (keepers-are p c e w))
-            (ap (λ v. is_settled (of_number z.doings (at s.pins p c 0).keepers) v || (in_list m.fresh (at s.pins p c 0).keepers p c || has_pinned (of_number z.doings (at s.pins p c 0).keepers))) (g.pins p c)
-            ∙ ap (λ d. is_settled d (pins_after ch t (of_number s.doings) p c (at s.pins p c 0)) || (in_list m.fresh (at s.pins p c 0).keepers p c || has_pinned d)) (g.doings (at s.pins p c 0).keepers)
-            ∙ now)
+        (ap (λ v. is_settled (of_number z.doings (at s.pins p c 0).keepers) v || (in_list m.fresh (at s.pins p c 0).keepers p c || has_pinned (of_number z.doings (at s.pins p c 0).keepers))) (g.pins p c)
+        ∙ ap (λ d. is_settled d (pins_after ch t (of_number s.doings) p c (at s.pins p c 0)) || (in_list m.fresh (at s.pins p c 0).keepers p c || has_pinned d)) (g.doings (at s.pins p c 0).keepers)
+        ∙ now)

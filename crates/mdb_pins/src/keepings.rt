@@ -125,9 +125,8 @@ impl Keepings {
     {
         match change {
             Change::GivenUp(party) => self.forget(*party),
-            Change::Replicated(pool, id) | Change::Taken(_, pool, id) | Change::Created(pool, id) => {
-                self.follow(tables, pins, *pool, *id)
-            }
+            Change::Replicated(pool, id) | Change::Taken(_, pool, id) | Change::Created(pool, id) =>
+                { self.follow(tables, pins, *pool, *id) }
             _ => Ok(()),
         }
     }
