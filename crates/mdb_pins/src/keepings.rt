@@ -114,7 +114,7 @@ impl Keepings {
     }
 
     /// What is kept after a change; the tables and the pins are those after it.
-    #[tactic(auto, using(crate::proofs::Keepings::notes))]
+    #[tactic(auto, using(crate::proofs::Listing::notes))]
     pub fn note(
         &mut self,
         tables: &Tables,

@@ -1,6 +1,6 @@
 use Rattle.std.proofs.Common.{sym, ap, ◌∙◌}
 use Rattle.mdb_pins.specs.Keeping.{is_alone}
-use Rattle.mdb_pins.proofs.Keepings.{notes-none, notes-one}
+use Rattle.mdb_pins.proofs.Listing.{notes-none, notes-one}
 use Rattle.mdb_pins.proofs.keepings.Keepings.follow.Goals as goal
 
 pub returns-then-not-is_alone : goal.returns-then-not-is_alone

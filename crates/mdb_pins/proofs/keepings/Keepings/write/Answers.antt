@@ -1,4 +1,4 @@
-use Rattle.mdb_pins.proofs.Keepings.{written-both}
+use Rattle.mdb_pins.proofs.Listing.{written-both}
 use Rattle.mdb_pins.proofs.keepings.Keepings.write.Goals as goal
 
 pub returns : goal.returns

@@ -1,6 +1,6 @@
 use Rattle.std.proofs.Common.{sym, ap, ◌∙◌}
 use Rattle.mdb_log.specs.History.{is_number}
-use Rattle.mdb_pins.proofs.Keepings.{written-before, written-now}
+use Rattle.mdb_pins.proofs.Listing.{written-before, written-now}
 use Rattle.mdb_pins.proofs.keepings.Keepings.write_once.Goals as goal
 
 pub returns-then-is_number : goal.returns-then-is_number
