@@ -7,7 +7,7 @@ It builds nothing. Each log is legal: all connections of a pool are held, and th
 earlier one returns its connection, and the next is granted it. The other texts, of 8 MiB or of MIB, are legal too, but nobody's
 logs: much of what they say concerns all that was said before, as when a party that took thousands of connections pins them, gives
 up, or ends again and again. Each run is made three times, and the best is taken; the time is of the whole run, with the start of
-the process. Where the work still grows faster than the text, the text is a 64th of that size, and a star stands before its name.
+the process.
 """
 import os
 import sys
@@ -104,6 +104,13 @@ def kept(n):
     return taken(n) + f"failed 1 0 {n} pre network msg= | Done | Pool 0 ConnectionCreated a:1 {n}\n"
 
 
+def weighed(size):
+    """Created connections of one party, each unpinned so often, and then as many of its pins, each with a give-up."""
+    side = int((size / 22) ** 0.5)
+    unpins = [f"unpin 1 0 {n} | Done\n" * side for n in range(1, side + 1)]
+    return "".join([SHORT] + [kept(n) for n in range(1, side + 1)] + unpins + ["pin 1 1 | Done\ngiveup 1 1 | Done\n" * side])[:size].rsplit("\n", 1)[0] + "\n"
+
+
 def shared(n):
     return f"take 1 {n} 0 1 | Done\n"
 
@@ -120,6 +127,9 @@ KINDS = (
     ("created connections of one party, its pins", lambda size: lines(size, kept, lambda n, m: "pin 1 1 | Done\n")),
     ("created connections of one party, its give-ups", lambda size: lines(size, kept, lambda n, m: "giveup 1 1 | Done\n")),
     ("created connections of one party, one pinned, give-ups", lambda size: lines(size, kept, lambda n, m: "unpin 1 0 1 | Done\nreplicate 1 0 1 | Done\ngiveup 1 1 | Done\n")),
+    ("created connections of one party, each pinned, give-ups", lambda size: lines(size, kept, lambda n, m: f"unpin 1 0 {n % m + 1} | Done\nreplicate 1 0 {n % m + 1} | Done\ngiveup 1 1 | Done\n")),
+    ("created connections of one party, as many unpins as pins", weighed),
+    ("created connections of one that returned, pins, give-ups", lambda size: lines(size, kept, lambda n, m: "return 1 1 ok | Done" + "".join(f" | Pool 0 ConnectionCheckedIn a:1 {k}" for k in range(1, m + 1)) + "\n" if n == 1 else "pin 1 1 | Done\ngiveup 1 1 | Done\n")),
     ("openings, requests", lambda size: openings(size, lambda n: f" | Opened {n} a:{n % 65535 + 1}", lambda n, m: f"request 1 {n} a:{n % 65535 + 1} | Waiting\n")),
     ("openings, closings", lambda size: openings(size, lambda n: f" | Opened {n} b{n}:1", lambda n, m: f"{IDLE} | Pool {n % m + 1} PoolClosed a:1\n")),
     ("openings of one number, its closings", lambda size: openings(size, lambda n: f" | Opened 1 b{n}:1", lambda n, m: f"{IDLE} | Pool 1 PoolClosed a:1\n")),
@@ -127,10 +137,6 @@ KINDS = (
     ("one entry of facts", lambda size: facts(size, lambda n: IDLE + "\n", lambda n, m: " | CheckNow a:1")),
     ("short lines", lambda size: lines(size, lambda n: IDLE + "\n", lambda n, m: "stop 1 | Done\n")),
 )
-
-
-# at each give-up all connections are looked at that the party was given
-STARRED = tuple(name for name, _ in KINDS if "give-ups" in name)
 
 
 def measured(program, text):
@@ -155,9 +161,8 @@ def main():
             print(f"{most:>5} {size:>4} {entries:>8} {seconds:>8.2f} {entries / seconds:>10.0f} {most_size:>7.1f}")
     print(f"{'a text of ' + str(most_bytes) + ' MiB':<58} {'entries':>8} {'seconds':>8} {'MB':>7}")
     for name, make in KINDS:
-        size = most_bytes * 1_048_576 // (64 if name in STARRED else 1)
-        entries, seconds, most_size = measured(program, make(size).encode())
-        print(f"{'* ' * (name in STARRED) + name:<58} {entries:>8} {seconds:>8.2f} {most_size:>7.1f}", flush=True)
+        entries, seconds, most_size = measured(program, make(most_bytes * 1_048_576).encode())
+        print(f"{name:<58} {entries:>8} {seconds:>8.2f} {most_size:>7.1f}", flush=True)
 
 
 if __name__ == "__main__":

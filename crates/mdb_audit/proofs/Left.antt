@@ -9,7 +9,7 @@ use Rattle.mdb_log.specs.Connections.{has}
 use Rattle.mdb_log.specs.Legal.{first}
 use Rattle.mdb_log.specs.PlainRequests.{requests, pool_of, waiting}
 use Rattle.mdb_log.specs.PlainState.{could_be_granted}
-use Rattle.mdb_log.specs.PlainLegal.{OnePlace, NoneLeftWaiting}
+use Rattle.mdb_log.specs.PlainLegal.{InPlace, OnePlace, NoneLeftWaiting}
 use Rattle.mdb_log.proofs.Numbers.{same-number}
 use Rattle.mdb_tallies.specs.declared.connection.Place.{Place}
 use Rattle.mdb_tallies.specs.declared.pools.Pool.{Pool}
@@ -93,12 +93,12 @@ pub all-placed : (t : Tables) (s : PinStory) (xs : List Place) → ((p c : ℕ) 
 all-placed t s [] e = refl
 all-placed t s (x ∷ xs) e = rw (e x.pool x.id) (all-placed t s xs e)
 
-pub one-place : (o : PoolOptions) (h k : List Item) (start t : Tables) (y : PinStory) (x : Touched) → Stands o h start → OnePlace h → Stands o k t → PinsStand k y → Tracks start t x → ((p c : ℕ) → has_place x.places.items p c ≡ false → is_pinned p k c ≡ is_pinned p h c) → all_in_place t y x.places.items ≡ true → OnePlace k
-one-place o h k start t y x was placed s z tracks pins e = λ p c. in-place p k c (by p c (has_place x.places.items p c) refl)
+pub one-place : (o : PoolOptions) (h k : List Item) (t : Tables) (y : PinStory) (x : Touched) → OnePlace h → Stands o k t → PinsStand k y → ((p c : ℕ) → has_place x.places.items p c ≡ false → InPlace p h c → InPlace p k c) → all_in_place t y x.places.items ≡ true → OnePlace k
+one-place o h k t y x placed s z still e = λ p c. by p c (has_place x.places.items p c) refl
   where
-    by : (p c : ℕ) (b : Bool) → has_place x.places.items p c ≡ b → in_place_now (connection_of k p c) (is_pinned p k c) ≡ true
-    by p c true f = sym (placed-is o k t y p c s z) ∙ all-touched t y x.places.items p c e f
-    by p c false f = (λ i. in_place_now ((sym (s.connections p c) ∙ tracks.connections p c f ∙ was.connections p c) i) (pins p c f i)) ∙ in-place-not p h c (placed p c)
+    by : (p c : ℕ) (b : Bool) → has_place x.places.items p c ≡ b → InPlace p k c
+    by p c true f = in-place p k c (sym (placed-is o k t y p c s z) ∙ all-touched t y x.places.items p c e f)
+    by p c false f = still p c f (placed p c)
 
 pub not-one-place : (o : PoolOptions) (k : List Item) (t : Tables) (y : PinStory) (xs : List Place) → Stands o k t → PinsStand k y → all_in_place t y xs ≡ false → OnePlace k → ⊥
 not-one-place o k t y xs s z e placed = let all : true ≡ false = sym (all-placed t y xs (λ p c. placed-is o k t y p c s z ∙ in-place-not p k c (placed p c))) ∙ e in cc

@@ -103,7 +103,7 @@ next-taken o before e why old new legal once audits has accepted fault = by why 
     judged = fault.judged (after_entries [] before) accepted kept now.0 now.1
 
     keeps : (p : PoolOptions) → MayHave (before ++ e ∷ []) p → Keeps p (after_entries [] (before ++ e ∷ [])) new
-    keeps p m = subst (λ q. Keeps q (after_entries [] (before ++ e ∷ [])) new) (has-one before o p has (may-before before e o p has m)) (subst (λ h. Keeps o h new) (sym (after-push [] before e)) (fault.kept (after_entries [] before) accepted kept))
+    keeps p m = subst (λ q. Keeps q (after_entries [] (before ++ e ∷ [])) new) (has-one before o p has (may-before before e o p has m)) (subst (λ h. Keeps o h new) (sym (after-push [] before e)) (fault.kept (after_entries [] before) accepted kept now.0))
 
     by : (w : Option Why) → why ≡ w → TakenFor before e new (Ok w)
     by None u =
@@ -167,10 +167,10 @@ pub first-taken : (o : Options) (e : Entry) (opens : Bool) (why : Option Why) (o
 first-taken o e opens why old new is accepted audits fault says = by opens why refl refl
   where
     kept : Keeps (pool_options o) [] (record old { options = Some (pool_options o) })
-    kept = let k = audits.kept (pool_options o) tt in record { tables = k.tables; pins = k.pins; queues = k.queues; homes = k.homes }
+    kept = let k = audits.kept (pool_options o) tt in record { tables = k.tables; pins = k.pins; keepings = k.keepings; queues = k.queues; homes = k.homes }
 
     after : Keeps (pool_options o) (with_entry [] e) new
-    after = fault.kept [] accepted kept
+    after = fault.kept [] accepted kept one-place-none
 
     seeds : opens ≡ opens_seeds o (with_entry [] e)
     seeds = says (with_entry [] e) after.homes after.tables

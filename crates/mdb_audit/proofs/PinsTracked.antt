@@ -1,4 +1,4 @@
--- A connection that a step does not touch stands at its pin where it stood there.
+-- A connection that a step does not touch is in place where it was in place.
 use Rattle.std.proofs.Common.{ℕ, ◌+◌, ◌≡◌, ◌==◌, Bool, true, false, not, ◌&&◌, ◌||◌, if◌then◌else◌, nat_lt, List, ◌∷◌, refl, sym, ap, ◌∙◌, arith}
 use Rattle.mdb_log.specs.declared.options.PoolOptions.{PoolOptions}
 use Rattle.mdb_log.specs.declared.reply.Reply.{Reply}
@@ -15,6 +15,16 @@ use Rattle.mdb_tallies.specs.Standing.{is_lent}
 use Rattle.mdb_tallies.specs.Changes.{pending_now}
 use Rattle.mdb_tallies.specs.Reading.{of_act}
 use Rattle.mdb_tallies.specs.Kept.{Stands}
+use Rattle.mdb_tallies.specs.declared.connection.Connection.{Connection}
+use Rattle.mdb_tallies.specs.Standing.{connection_of}
+use Rattle.mdb_tallies.specs.Verdicts.{in_place_now}
+use Rattle.mdb_tallies.proofs.Counted.{in-place, in-place-not}
+use Rattle.mdb_log.specs.PlainLegal.{InPlace}
+use Rattle.mdb_pins.specs.declared.keepings.Keepings.{Keepings}
+use Rattle.mdb_pins.specs.declared.story.PinStory.{PinStory}
+use Rattle.mdb_pins.specs.Keeping.{recalls, KeepingsStand}
+use Rattle.mdb_pins.specs.Standing.{PinsStand}
+use Rattle.mdb_pins.proofs.KeepingsStood.{few, first-part, give_up-pin}
 use Rattle.mdb_tallies.proofs.PartyDoings.{left-false, right-false}
 use Rattle.mdb_pins.specs.Following.{keeps, lends}
 use Rattle.mdb_pins.proofs.Following.{unlent, unkept, back-lent, back-kept}
@@ -43,14 +53,36 @@ unheld o h t r p c s e = holds-is o h t r p c s ∙ (λ i. sym (keeps-is o h t r
 still-more : (p c : ℕ) (h : List Item) (k : ℕ) → is_pinned p h c && nat_lt (pins_dropped p h c + 0) (pins_made p h c + k) ≡ is_pinned p h c
 still-more p c h k = rw (none_more (pins_dropped p h c)) (pin_stays (is_pinned p h c) (pins_dropped p h c) (pins_made p h c) k (pinned-again p h c))
 
-untouched-act : (o : PoolOptions) (m : ℕ) (act : Act) (h : List Item) (t : Tables) (reply : Reply) (p c : ℕ) → Stands o h t → touches_place (of_act (open_pool h) act) t p c ≡ false → is_pinned p (did (record { moment = m; act = act }) reply ∷ h) c ≡ is_pinned p h c
-untouched-act o m (GiveUp r) h t reply p c s e = ap (λ b. (if b then true else is_pinned p h c) && nat_lt (pins_dropped p h c + 0) (pins_made p h c + 0)) (unheld o h t r p c s e) ∙ still-pinned p c h
-untouched-act o m (Return r used) h t reply p c s e = ap (λ b. (if b then true else is_pinned p h c) && nat_lt (pins_dropped p h c + 0) (pins_made p h c + 0)) (unheld o h t r p c s e) ∙ still-pinned p c h
-untouched-act o m (Pin r) h t reply p c s e = still-more p c h (one_if (holds p h r c))
-untouched-act o m (Replicate q d) h t reply p c s e = still-more p c h (one_if ((q == p) && (d == c)))
-untouched-act o m (Unpin q d) h t reply p c s e = ap (λ b. is_pinned p h c && nat_lt (pins_dropped p h c + one_if b) (pins_made p h c + 0)) e ∙ still-pinned p c h
-untouched-act o m (Take r q d) h t reply p c s e = ap (λ b. (if b then false else is_pinned p h c) && nat_lt (pins_dropped p h c + 0) (pins_made p h c + 0)) e ∙ still-pinned p c h
-untouched-act o m act h t reply p c s e = still-pinned p c h
+-- an uncreated connection is in place whether it stands at its pin or not
+uncreated : (x : Connection) (a b : Bool) → nat_lt 0 x.creations ≡ false → in_place_now x a ≡ in_place_now x b
+uncreated x a b e = rw e refl
 
-pub untouched-pin : (o : PoolOptions) (h : List Item) (t : Tables) (step : Step) (reply : Reply) (p c : ℕ) → Stands o h t → touches_place (of_act (open_pool h) step.act) t p c ≡ false → is_pinned p (did step reply ∷ h) c ≡ is_pinned p h c
-untouched-pin o h t step reply p c s e = untouched-act o step.moment step.act h t reply p c s e
+alike : (x y : Connection) (a b : Bool) → y ≡ x → b ≡ a → in_place_now x a ≡ true → in_place_now y b ≡ true
+alike x y a b is pin e = (λ i. in_place_now (is i) (pin i)) ∙ e
+
+-- the connection is as it was, and stands at its pin where it did
+pub same-place : (h k : List Item) (p c : ℕ) → connection_of k p c ≡ connection_of h p c → is_pinned p k c ≡ is_pinned p h c → InPlace p h c → InPlace p k c
+same-place h k p c is pin e = in-place p k c (alike (connection_of h p c) (connection_of k p c) (is_pinned p h c) (is_pinned p k c) is pin (in-place-not p h c e))
+
+-- a give-up that does not look at the connection
+gave-up : (o : PoolOptions) (m r : ℕ) (h : List Item) (t : Tables) (s : PinStory) (x : Keepings) (reply : Reply) (p c : ℕ) → Stands o h t → PinsStand h s → KeepingsStand t s x → recalls t s x r p c ≡ false → connection_of (did (record { moment = m; act = GiveUp r }) reply ∷ h) p c ≡ connection_of h p c → InPlace p h c → InPlace p (did (record { moment = m; act = GiveUp r }) reply ∷ h) c
+gave-up o m r h t s x reply p c y z w e is placed = by (nat_lt 0 (connection_of h p c).creations) refl
+  where
+    before : in_place_now (connection_of h p c) (is_pinned p h c) ≡ true
+    before = in-place-not p h c placed
+
+    by : (b : Bool) → nat_lt 0 (connection_of h p c).creations ≡ b → InPlace p (did (record { moment = m; act = GiveUp r }) reply ∷ h) c
+    by false u = in-place p (did (record { moment = m; act = GiveUp r }) reply ∷ h) c (ap (λ k. in_place_now k (is_pinned p (did (record { moment = m; act = GiveUp r }) reply ∷ h) c)) is ∙ uncreated (connection_of h p c) (is_pinned p (did (record { moment = m; act = GiveUp r }) reply ∷ h) c) (is_pinned p h c) u ∙ before)
+    by true u = same-place h (did (record { moment = m; act = GiveUp r }) reply ∷ h) p c is (give_up-pin o m r reply h t s x p c y z w e u (first-part (connection_of h p c).kept _ (few (connection_of h p c) (is_pinned p h c) before u))) placed
+
+untouched-act : (o : PoolOptions) (m : ℕ) (act : Act) (h : List Item) (t : Tables) (s : PinStory) (k : Keepings) (reply : Reply) (p c : ℕ) → Stands o h t → PinsStand h s → KeepingsStand t s k → touches_place (of_act (open_pool h) act) t s k p c ≡ false → connection_of (did (record { moment = m; act = act }) reply ∷ h) p c ≡ connection_of h p c → InPlace p h c → InPlace p (did (record { moment = m; act = act }) reply ∷ h) c
+untouched-act o m (GiveUp r) h t s k reply p c y z w e is placed = gave-up o m r h t s k reply p c y z w e is placed
+untouched-act o m (Return r used) h t s k reply p c y z w e is placed = same-place h (did (record { moment = m; act = Return r used }) reply ∷ h) p c is (ap (λ b. (if b then true else is_pinned p h c) && nat_lt (pins_dropped p h c + 0) (pins_made p h c + 0)) (unheld o h t r p c y e) ∙ still-pinned p c h) placed
+untouched-act o m (Pin r) h t s k reply p c y z w e is placed = same-place h (did (record { moment = m; act = Pin r }) reply ∷ h) p c is (still-more p c h (one_if (holds p h r c))) placed
+untouched-act o m (Replicate q d) h t s k reply p c y z w e is placed = same-place h (did (record { moment = m; act = Replicate q d }) reply ∷ h) p c is (still-more p c h (one_if ((q == p) && (d == c)))) placed
+untouched-act o m (Unpin q d) h t s k reply p c y z w e is placed = same-place h (did (record { moment = m; act = Unpin q d }) reply ∷ h) p c is (ap (λ b. is_pinned p h c && nat_lt (pins_dropped p h c + one_if b) (pins_made p h c + 0)) e ∙ still-pinned p c h) placed
+untouched-act o m (Take r q d) h t s k reply p c y z w e is placed = same-place h (did (record { moment = m; act = Take r q d }) reply ∷ h) p c is (ap (λ b. (if b then false else is_pinned p h c) && nat_lt (pins_dropped p h c + 0) (pins_made p h c + 0)) e ∙ still-pinned p c h) placed
+untouched-act o m act h t s k reply p c y z w e is placed = same-place h (did (record { moment = m; act = act }) reply ∷ h) p c is (still-pinned p c h) placed
+
+pub untouched-step : (o : PoolOptions) (h : List Item) (t : Tables) (s : PinStory) (k : Keepings) (step : Step) (reply : Reply) (p c : ℕ) → Stands o h t → PinsStand h s → KeepingsStand t s k → touches_place (of_act (open_pool h) step.act) t s k p c ≡ false → connection_of (did step reply ∷ h) p c ≡ connection_of h p c → InPlace p h c → InPlace p (did step reply ∷ h) c
+untouched-step o h t s k step reply p c y z w e is placed = untouched-act o step.moment step.act h t s k reply p c y z w e is placed

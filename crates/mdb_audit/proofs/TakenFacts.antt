@@ -27,11 +27,15 @@ use Rattle.mdb_audit.proofs.QueuesStand.{queues-fact, queues-same}
 use Rattle.mdb_audit.proofs.Read.{shown-says}
 use Rattle.mdb_tallies.proofs.StandsOn.{stands-fact}
 use Rattle.mdb_log.specs.PlainHolders.{is_pinned}
-use Rattle.mdb_tallies.proofs.PartyDoings.{left-false}
+use Rattle.mdb_tallies.proofs.PartyDoings.{left-false, right-false}
+use Rattle.mdb_tallies.specs.Tables.{at}
 use Rattle.mdb_pins.specs.Following.{PinsFollow}
 use Rattle.mdb_pins.proofs.Stood.{pinned-again, stood-fact, stood-same, grants-of}
 use Rattle.mdb_audit.specs.Touching.{has_place, touches_place}
-use Rattle.mdb_audit.proofs.Tracked.{tracks-none, tracks-next}
+use Rattle.mdb_pins.proofs.KeepingsNext.{Allows, keepings-next}
+use Rattle.mdb_pins.proofs.KeepingsStood.{allows-fact, heard-of}
+use Rattle.mdb_audit.proofs.PinsTracked.{same-place}
+use Rattle.mdb_audit.proofs.Tracked.{tracks-none, tracks-next, untouched-place}
 
 -- tables that follow nothing stand for the same history
 stands-same : (o : PoolOptions) (b : Bool) (h : List Item) (old new : Tables) → Stands o h old → Follows b change.Nothing old new → Stands o h new
@@ -54,6 +58,7 @@ keeps-made : (o : PoolOptions) (m : ℕ) (h : List Item) (fact : ShownFact) (f :
 keeps-made o m h fact f ch old new q x is says k s n = record {
   tables = stands-fact o m f h old.tables new.tables k.tables (subst (λ c. Follows o.load_balanced c old.tables new.tables) (n.says ∙ says) (n.taken.tables k.tables.lists));
   pins = stood-fact o m f h old.tables old.pins new.pins k.tables k.pins (subst (λ c. PinsFollow c old.tables old.pins new.pins) (n.says ∙ says) (n.taken.pins k.tables.lists (grants-of o h old.tables old.pins k.tables k.pins)));
+  keepings = keepings-next o.load_balanced ch old.tables new.tables old.pins new.pins old.keepings new.keepings (subst (λ c. Allows c old.tables) (sym (n.says ∙ says)) (allows-fact f old.tables)) (heard-of o h old.tables old.pins k.tables k.pins) k.keepings (n.taken.tables k.tables.lists) (n.taken.pins k.tables.lists (grants-of o h old.tables old.pins k.tables k.pins)) n.taken.keepings;
   queues = queues-fact o m f h old.tables q new.queues k.tables s (subst (λ c. QueuesFollow c old.tables q new.queues) (n.says ∙ says) n.taken.queues);
   homes = subst (λ y. HomesStand (made m f ∷ h) y) (sym n.taken.homes) (homes-fact m fact f h old.homes x is k.homes n.homes);
 }
@@ -63,6 +68,7 @@ keeps-told : (o : PoolOptions) (h : List Item) (fact : ShownFact) (ch : Change) 
 keeps-told o h fact ch old new q x is says k s n = record {
   tables = stands-same o o.load_balanced h old.tables new.tables k.tables (subst (λ c. Follows o.load_balanced c old.tables new.tables) (n.says ∙ says) (n.taken.tables k.tables.lists));
   pins = stood-same h old.tables old.pins new.pins k.pins (subst (λ c. PinsFollow c old.tables old.pins new.pins) (n.says ∙ says) (n.taken.pins k.tables.lists (grants-of o h old.tables old.pins k.tables k.pins)));
+  keepings = keepings-next o.load_balanced ch old.tables new.tables old.pins new.pins old.keepings new.keepings (subst (λ c. Allows c old.tables) (sym (n.says ∙ says)) tt) (heard-of o h old.tables old.pins k.tables k.pins) k.keepings (n.taken.tables k.tables.lists) (n.taken.pins k.tables.lists (grants-of o h old.tables old.pins k.tables k.pins)) n.taken.keepings;
   queues = queues-same h old.tables q new.queues s (subst (λ c. QueuesFollow c old.tables q new.queues) (n.says ∙ says) n.taken.queues);
   homes = subst (λ y. HomesStand h y) (sym n.taken.homes) (homes-told fact h old.homes x is k.homes n.homes);
 }
@@ -107,11 +113,18 @@ shown-pinned m (shown.Cancel a) h p c = pinned-again p h c
 pub took-fact : (balanced b : Bool) (fact : ShownFact) (ch : Change) (old new : Auditor) (q : Queues) (x : Homes) → ((o : PoolOptions) (h : List Item) → Stands o h old.tables → QueuesStand h old.queues → Tells b (FairFact h fact)) → ((o : PoolOptions) (h : List Item) → Stands o h old.tables → QueuesStand h old.queues → QueuesStand h q) → Noted balanced fact ch old new q x → TakesFacts balanced b (fact ∷ []) old new
 took-fact balanced b fact ch old new q x fair stood n = record {
   options = n.taken.options;
-  reaches = λ o m h start e r. record {
-    kept = keeps-shown o m h fact ch old new q x r.kept (stood o h r.kept.tables r.kept.queues) (subst (λ z. Noted z fact ch old new q x) (sym e) n);
-    tracks = tracks-next balanced ch start.tables old.tables new.tables old.touched new.touched r.kept.tables.lists r.tracks n.taken.touched (n.taken.tables r.kept.tables.lists);
-    pins = λ p c u. shown-pinned m fact h p c ∙ r.pins p c (left-false (has_place old.touched.places.items p c) (touches_place ch old.tables p c) (sym (n.taken.touched.places p c) ∙ u));
-  };
+  reaches = λ o m h start e r.
+      let after : Keeps o (with_facts m (facts_of (fact ∷ [])) h) new = keeps-shown o m h fact ch old new q x r.kept (stood o h r.kept.tables r.kept.queues) (subst (λ z. Noted z fact ch old new q x) (sym e) n) in
+      record {
+        kept = after;
+        tracks = tracks-next balanced ch start.tables old.tables new.tables old.pins old.keepings old.touched new.touched r.kept.tables.lists r.tracks n.taken.touched (n.taken.tables r.kept.tables.lists);
+        placed = λ p c u was.
+            let apart : has_place old.touched.places.items p c || touches_place ch old.tables old.pins old.keepings p c ≡ false = sym (n.taken.touched.places p c) ∙ u in
+            same-place h (with_facts m (facts_of (fact ∷ [])) h) p c
+            (sym (after.tables.connections p c) ∙ (n.taken.tables r.kept.tables.lists).connections p c ∙ untouched-place ch old.tables old.pins old.keepings p c (at old.tables.connections p c 0) r.kept.tables.lists (right-false (has_place old.touched.places.items p c) (touches_place ch old.tables old.pins old.keepings p c) apart) ∙ r.kept.tables.connections p c)
+            (shown-pinned m fact h p c)
+            (r.placed p c (left-false (has_place old.touched.places.items p c) (touches_place ch old.tables old.pins old.keepings p c) apart) was);
+      };
   fair = λ o m h e k. fair-shown m h b fact (fair o h k.tables k.queues);
 }
 
@@ -166,7 +179,7 @@ pub took-all : (balanced a : Bool) (facts : List ShownFact) (old new : Auditor) 
 took-all balanced a facts old new s = record {
   options = s.options;
   reaches = λ o m h start e r. let g = s.between o m h start e r in subst (λ k. Reaches o k start new) (sym g.ends) g.reaches;
-  fair = λ o m h e k. by a (AllFirstCome m h (facts_of facts)) (s.between o m h (record { tables = old.tables; before = h }) e (record { kept = k; tracks = tracks-none old.tables old.touched; pins = λ p c u. refl })).fair;
+  fair = λ o m h e k. by a (AllFirstCome m h (facts_of facts)) (s.between o m h (record { tables = old.tables; before = h }) e (record { kept = k; tracks = tracks-none old.tables old.touched; placed = λ p c u was. was })).fair;
 }
   where
     by : (a : Bool) (All : Type 0) → Fares a All (Unit {0}) → Tells a All

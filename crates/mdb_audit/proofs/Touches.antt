@@ -2,11 +2,15 @@
 use Rattle.std.proofs.Common.{ℕ, ◌≡◌, ◌==◌, Bool, true, false, not, ◌&&◌, ◌||◌, List, [], ◌∷◌, ◌++◌, refl, sym, ap, ◌∙◌}
 use Rattle.mdb_tallies.specs.declared.connection.Place.{Place}
 use Rattle.mdb_audit.specs.declared.touched.Touched.{Touched}
-use Rattle.mdb_tallies.specs.Lists.{is_place}
+use Rattle.mdb_tallies.specs.Lists.{in_list, is_place}
 use Rattle.mdb_tallies.specs.declared.change.How.{How}
 use Rattle.mdb_tallies.specs.declared.tables.Tables.{Tables}
 use Rattle.mdb_tallies.specs.Changes.{done_now}
 use Rattle.mdb_tallies.specs.Tables.{at}
+use Rattle.mdb_pins.specs.declared.keepings.Keepings.{Keepings}
+use Rattle.mdb_pins.specs.declared.story.PinStory.{PinStory}
+use Rattle.mdb_pins.specs.Keeping.{has_pinned, recalls}
+use Rattle.mdb_pins.specs.Numbered.{of_number}
 use Rattle.mdb_audit.specs.Touching.{has_place, was_given, reaches, Adds}
 use Rattle.mdb_log.specs.Connections.{has}
 use Rattle.mdb_log.proofs.Numbers.{has-append}
@@ -65,4 +69,27 @@ reaches_all how r t old new e f same = record {
   pools = λ p. ap (λ xs. has p xs.items) same ∙ or-none (has p old.pools.items);
 }
 
+-- nothing is looked at of who returned
+pub recalls_none : (r : ℕ) (t : Tables) (s : PinStory) (k : Keepings) (x : Touched) → (at t.parties r 0 0).is_returned ≡ true → Adds (recalls t s k r) (λ p. false) x x
+recalls_none r t s k x e = record {
+  places = λ p c. or-none (has_place x.places.items p c) ∙ (λ i. has_place x.places.items p c || (not (sym e i) && (in_list s.grants r p c || (in_list k.fresh r p c || (has_pinned (of_number s.doings r) && in_list k.all r p c)))));
+  pools = λ p. or-none (has p x.pools.items);
+}
+
+regroup : (o g f a : Bool) → ((o || g) || f) || a ≡ o || (g || (f || a))
+regroup true g f a = refl
+regroup false true f a = refl
+regroup false false f a = refl
+
+-- what a give-up looks at, list by list
+pub recalls_all : (r : ℕ) (t : Tables) (s : PinStory) (k : Keepings) (old new : Touched) (xs ys : List Place) (pinned : Bool) → (at t.parties r 0 0).is_returned ≡ false → pinned ≡ has_pinned (of_number s.doings r) → ((p c : ℕ) → has_place xs p c ≡ has_place old.places.items p c || in_list s.grants r p c) → ((p c : ℕ) → has_place ys p c ≡ has_place xs p c || in_list k.fresh r p c) → ((p c : ℕ) → has_place new.places.items p c ≡ has_place ys p c || (pinned && in_list k.all r p c)) → new.pools ≡ old.pools → Adds (recalls t s k r) (λ p. false) old new
+recalls_all r t s k old new xs ys pinned e is f g h same = record {
+  places = λ p c. h p c ∙ (λ i. (g p c ∙ ap (λ x. x || in_list k.fresh r p c) (f p c)) i || (is i && in_list k.all r p c))
+      ∙ regroup (has_place old.places.items p c) (in_list s.grants r p c) (in_list k.fresh r p c) (has_pinned (of_number s.doings r) && in_list k.all r p c)
+      ∙ (λ i. has_place old.places.items p c || (not (sym e i) && (in_list s.grants r p c || (in_list k.fresh r p c || (has_pinned (of_number s.doings r) && in_list k.all r p c)))));
+  pools = λ p. ap (λ xs. has p xs.items) same ∙ or-none (has p old.pools.items);
+}
+
 pub ruleset adds = (adds_none, adds_pool)
+
+pub ruleset joins = (or-none)

@@ -17,6 +17,8 @@ use Rattle.mdb_tallies.specs.Changes.{connection_after, party_after, pool_after,
 use Rattle.mdb_tallies.specs.Kept.{Covers, Follows}
 use Rattle.mdb_audit.specs.Touching.{has_place, was_given, reaches, touches_place, touches_pool, Touches, Tracks}
 use Rattle.mdb_tallies.specs.Verdicts.{waits_now}
+use Rattle.mdb_pins.specs.declared.keepings.Keepings.{Keepings}
+use Rattle.mdb_pins.specs.declared.story.PinStory.{PinStory}
 use Rattle.mdb_tallies.proofs.PartyDoings.{left-false, right-false, nothing-given, nothing-left}
 use Rattle.mdb_audit.proofs.Queued.{waits-after, keeps_waiting}
 
@@ -39,17 +41,17 @@ not-here true f x e = cc
 not-here false f x e = refl
 
 -- a connection that a change does not touch is as it was
-pub untouched-place : (ch : Change) (t : Tables) (p c : ℕ) (x : Connection) → Covers t → touches_place ch t p c ≡ false → connection_after ch (λ r. at t.gifts r p c) (λ r. at t.parties r 0 0) p c x ≡ x
-untouched-place (change.Returned r) t p c x k e = not-given GaveBack t r p c x k e
-untouched-place (change.Ended r) t p c x k e = not-given Over t r p c x k e
-untouched-place (change.Taken r q d) t p c x k e = not-here ((q == p) && (d == c)) (once_taken (kept_now (at t.gifts r p c) (at t.parties r 0 0)) (not (at t.parties r 0 0).is_returned) (lent_now (at t.gifts r p c) (at t.parties r 0 0))) x e
-untouched-place (change.Established q d) t p c x k e = not-here ((q == p) && (d == c)) once_established x e
-untouched-place (change.Failed q d) t p c x k e = not-here ((q == p) && (d == c)) once_failed x e
-untouched-place (change.Created q d) t p c x k e = not-here ((q == p) && (d == c)) once_created x e
-untouched-place (change.Closed q d) t p c x k e = not-here ((q == p) && (d == c)) once_closed x e
-untouched-place (change.CheckedIn q d) t p c x k e = not-here ((q == p) && (d == c)) once_checked_in x e
-untouched-place (change.Granted r q d) t p c x k e = not-here ((q == p) && (d == c)) (once_granted (lent_now (at t.gifts r p c) (at t.parties r 0 0)) (is_lent true (at t.gifts r p c).is_taken (at t.parties r 0 0).is_returned (at t.parties r 0 0).is_ended)) x e
-untouched-place ch t p c x k e = refl
+pub untouched-place : (ch : Change) (t : Tables) (s : PinStory) (k : Keepings) (p c : ℕ) (x : Connection) → Covers t → touches_place ch t s k p c ≡ false → connection_after ch (λ r. at t.gifts r p c) (λ r. at t.parties r 0 0) p c x ≡ x
+untouched-place (change.Returned r) t s y p c x k e = not-given GaveBack t r p c x k e
+untouched-place (change.Ended r) t s y p c x k e = not-given Over t r p c x k e
+untouched-place (change.Taken r q d) t s y p c x k e = not-here ((q == p) && (d == c)) (once_taken (kept_now (at t.gifts r p c) (at t.parties r 0 0)) (not (at t.parties r 0 0).is_returned) (lent_now (at t.gifts r p c) (at t.parties r 0 0))) x e
+untouched-place (change.Established q d) t s y p c x k e = not-here ((q == p) && (d == c)) once_established x e
+untouched-place (change.Failed q d) t s y p c x k e = not-here ((q == p) && (d == c)) once_failed x e
+untouched-place (change.Created q d) t s y p c x k e = not-here ((q == p) && (d == c)) once_created x e
+untouched-place (change.Closed q d) t s y p c x k e = not-here ((q == p) && (d == c)) once_closed x e
+untouched-place (change.CheckedIn q d) t s y p c x k e = not-here ((q == p) && (d == c)) once_checked_in x e
+untouched-place (change.Granted r q d) t s y p c x k e = not-here ((q == p) && (d == c)) (once_granted (lent_now (at t.gifts r p c) (at t.parties r 0 0)) (is_lent true (at t.gifts r p c).is_taken (at t.parties r 0 0).is_returned (at t.parties r 0 0).is_ended)) x e
+untouched-place ch t s y p c x k e = refl
 
 not-there : (b : Bool) (y x : Pool) → b ≡ false → pool_if b y x ≡ x
 not-there true y x e = cc
@@ -89,11 +91,11 @@ untouched-waits (change.Returned q) p r x e w = left-true (waits_now p x) true (
 untouched-waits ch p r x e w = w
 
 -- One more change.
-pub tracks-next : (balanced : Bool) (ch : Change) (old now new : Tables) (x y : Touched) → Covers now → Tracks old now x → Touches ch now x y → Follows balanced ch now new → Tracks old new y
-tracks-next balanced ch old now new x y k t a f = record {
+pub tracks-next : (balanced : Bool) (ch : Change) (old now new : Tables) (s : PinStory) (z : Keepings) (x y : Touched) → Covers now → Tracks old now x → Touches ch now s z x y → Follows balanced ch now new → Tracks old new y
+tracks-next balanced ch old now new s z x y k t a f = record {
   connections = λ p c e.
-      let apart : has_place x.places.items p c || touches_place ch now p c ≡ false = sym (a.places p c) ∙ e in
-      f.connections p c ∙ untouched-place ch now p c (at now.connections p c 0) k (right-false (has_place x.places.items p c) (touches_place ch now p c) apart) ∙ t.connections p c (left-false (has_place x.places.items p c) (touches_place ch now p c) apart);
+      let apart : has_place x.places.items p c || touches_place ch now s z p c ≡ false = sym (a.places p c) ∙ e in
+      f.connections p c ∙ untouched-place ch now s z p c (at now.connections p c 0) k (right-false (has_place x.places.items p c) (touches_place ch now s z p c) apart) ∙ t.connections p c (left-false (has_place x.places.items p c) (touches_place ch now s z p c) apart);
   pools = λ p e.
       let apart : has p x.pools.items || touches_pool ch p ≡ false = sym (a.pools p) ∙ e in
       f.pools p ∙ untouched-pool ch balanced (λ c. at now.connections p c 0) (λ c. at new.connections p c 0) p (at now.pools p 0 0) (right-false (has p x.pools.items) (touches_pool ch p) apart) ∙ t.pools p (left-false (has p x.pools.items) (touches_pool ch p) apart);

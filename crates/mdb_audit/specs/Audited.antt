@@ -9,14 +9,16 @@ use Rattle.mdb_audit.specs.declared.auditor.Auditor.{Auditor}
 use Rattle.mdb_audit.specs.declared.verdict.Why.{Why}
 use Rattle.mdb_tallies.specs.Kept.{Stands}
 use Rattle.mdb_pins.specs.Standing.{PinsStand}
+use Rattle.mdb_pins.specs.Keeping.{KeepingsStand}
 use Rattle.mdb_audit.specs.Queueing.{QueuesStand}
 use Rattle.mdb_audit.specs.Opens.{HomesStand}
 use Rattle.mdb_audit.specs.Faults.{after_entries, HasOptions, IsEntryFault}
 
--- its tables, pins, queues and homes are those of the history, in pools that were opened with these options
+-- its tables, pins, keepings, queues and homes are those of the history, in pools that were opened with these options
 pub record Keeps (o : PoolOptions) (h : List Item) (a : Auditor) : Type 0 where
   pub tables : Stands o h a.tables
   pub pins : PinsStand h a.pins
+  pub keepings : KeepingsStand a.tables a.pins a.keepings
   pub queues : QueuesStand h a.queues
   pub homes : HomesStand h a.homes
 

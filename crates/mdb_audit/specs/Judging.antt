@@ -11,11 +11,11 @@ use Rattle.mdb_audit.specs.Audited.{Keeps}
 use Rattle.mdb_tallies.specs.Kept.{Stands}
 use Rattle.mdb_audit.specs.Taking.{Tells, Start, Reaches, JudgedAs}
 
--- the auditor stands for the history with the entry too, and the truth value tells whether its grants are fair
+-- the auditor stands for the history with the entry too, where each connection had its one place, and the truth value tells whether the entry's grants are fair
 pub record TakesEntry (balanced is_fair : Bool) (e : Entry) (old new : Auditor) : Type 0 where
   pub options : new.options ≡ old.options
-  pub reaches : (o : PoolOptions) (h : List Item) (start : Start) → o.load_balanced ≡ balanced → is_refused e.reply ≡ false → Reaches o h start old → Reaches o (with_entry h e) start new
-  pub fair : (o : PoolOptions) (h : List Item) → o.load_balanced ≡ balanced → is_refused e.reply ≡ false → Keeps o h old → Tells is_fair (IsFairAnswer h e.step e.reply e.facts)
+  pub reaches : (o : PoolOptions) (h : List Item) (start : Start) → o.load_balanced ≡ balanced → is_refused e.reply ≡ false → OnePlace h → Reaches o h start old → Reaches o (with_entry h e) start new
+  pub fair : (o : PoolOptions) (h : List Item) → o.load_balanced ≡ balanced → is_refused e.reply ≡ false → OnePlace h → Keeps o h old → Tells is_fair (IsFairAnswer h e.step e.reply e.facts)
 
 -- The auditor says what is wrong with its history k, where nothing was wrong with the history h of the tables since which it knows what was touched.
 pub record Judges (is_fair : Bool) (o : PoolOptions) (why : Option Why) (old new : Auditor) : Type 0 where
@@ -38,7 +38,7 @@ pub record FaultFor (o : PoolOptions) (e : Entry) (why : Option Why) (old new : 
   pub options : new.options ≡ old.options
   pub places : new.touched.places.items ≡ []
   pub pools : new.touched.pools.items ≡ []
-  pub kept : (h : List Item) → is_refused e.reply ≡ false → Keeps o h old → Keeps o (with_entry h e) new
+  pub kept : (h : List Item) → is_refused e.reply ≡ false → Keeps o h old → OnePlace h → Keeps o (with_entry h e) new
   pub judged : (h : List Item) → is_refused e.reply ≡ false → Keeps o h old → OnePlace h → NoneLeftWaiting o h → FaultAs o h e why
 
 -- what is wrong with the first entry, where the truth value tells whether it opens exactly the seeds

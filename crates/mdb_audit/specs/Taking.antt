@@ -6,7 +6,7 @@ use Rattle.mdb_log.specs.History.{Item, with_facts}
 use Rattle.mdb_log.specs.Legal.{first}
 use Rattle.mdb_log.specs.PlainRequests.{waiting}
 use Rattle.mdb_log.specs.PlainState.{could_be_granted}
-use Rattle.mdb_log.specs.PlainLegal.{AllFirstCome, OnePlace, NoneLeftWaiting}
+use Rattle.mdb_log.specs.PlainLegal.{InPlace, AllFirstCome, OnePlace, NoneLeftWaiting}
 use Rattle.mdb_entries.specs.declared.shown.ShownFact.{ShownFact}
 use Rattle.mdb_audit.specs.declared.auditor.Auditor.{Auditor}
 use Rattle.mdb_tallies.specs.declared.change.Change.{Change}
@@ -16,9 +16,9 @@ use Rattle.mdb_audit.specs.declared.verdict.Why.{Why}
 use Rattle.mdb_audit.specs.declared.verdict.Why.TheVariants.{Grant, Place as Misplaced, Waiting}
 use Rattle.mdb_tallies.specs.Tables.{at}
 use Rattle.mdb_tallies.specs.Kept.{Covers, Follows}
-use Rattle.mdb_log.specs.PlainHolders.{is_pinned}
 use Rattle.mdb_pins.specs.declared.story.PinStory.{PinStory}
 use Rattle.mdb_pins.specs.Following.{Grants, PinsFollow, pinned_now}
+use Rattle.mdb_pins.specs.Keeping.{KeepingsFollow}
 use Rattle.mdb_audit.specs.Queueing.{QueuesFollow}
 use Rattle.mdb_audit.specs.Audited.{Keeps}
 use Rattle.mdb_audit.specs.Shown.{facts_of}
@@ -35,20 +35,21 @@ pub record TakesChange (balanced : Bool) (change : Change) (old new : Auditor) :
   pub options : new.options ≡ old.options
   pub homes : new.homes ≡ old.homes
   pub queues : QueuesFollow change old.tables old.queues new.queues
-  pub touched : Touches change old.tables old.touched new.touched
+  pub touched : Touches change old.tables old.pins old.keepings old.touched new.touched
   pub pins : Covers old.tables → Grants old.tables old.pins.grants → PinsFollow change old.tables old.pins new.pins
   pub tables : Covers old.tables → Follows balanced change old.tables new.tables
+  pub keepings : KeepingsFollow change new.tables new.pins old.keepings new.keepings
 
 -- the tables before an entry, and the history
 pub record Start : Type 0 where
   pub tables : Tables
   pub before : List Item
 
--- the auditor stands for the history, and knows what was touched since these tables: a connection that was not stands at its pin where it stood there
+-- the auditor stands for the history, and knows what was touched since these tables: a connection that was not is in place where it was in place there
 pub record Reaches (o : PoolOptions) (h : List Item) (start : Start) (a : Auditor) : Type 0 where
   pub kept : Keeps o h a
   pub tracks : Tracks start.tables a.tables a.touched
-  pub pins : (p c : ℕ) → has_place a.touched.places.items p c ≡ false → is_pinned p h c ≡ is_pinned p start.before c
+  pub placed : (p c : ℕ) → has_place a.touched.places.items p c ≡ false → InPlace p start.before c → InPlace p h c
 
 -- the auditor stands for the history with these facts too, and the truth value tells whether their grants are fair
 pub record TakesFacts (balanced is_fair : Bool) (facts : List ShownFact) (old new : Auditor) : Type 0 where

@@ -11,8 +11,11 @@ use Rattle.mdb_tallies.specs.declared.tables.Tables.{Tables}
 use Rattle.mdb_audit.specs.declared.touched.Touched.{Touched}
 use Rattle.mdb_tallies.specs.Changes.{done_now}
 use Rattle.mdb_tallies.specs.Tables.{at}
-use Rattle.mdb_tallies.specs.Lists.{nth, len, listed, is_place}
+use Rattle.mdb_tallies.specs.Lists.{in_list, is_place}
 use Rattle.mdb_tallies.specs.Verdicts.{waits_now}
+use Rattle.mdb_pins.specs.declared.keepings.Keepings.{Keepings}
+use Rattle.mdb_pins.specs.declared.story.PinStory.{PinStory}
+use Rattle.mdb_pins.specs.Keeping.{recalls}
 
 -- one of the places is the connection c of pool p
 abbrev pub has_place : List Place → ℕ → ℕ → Bool
@@ -21,27 +24,27 @@ has_place (x ∷ xs) p c = is_place x p c || has_place xs p c
 
 -- the connection is one of those that the party was given
 abbrev pub was_given : Tables → ℕ → ℕ → ℕ → Bool
-was_given t r p c = listed (len t.places r) (nth t.places r) p c
+was_given t r p c = in_list t.places r p c
 
 -- what the party does so reaches the connection: it was given that, and does so to some connection still
 abbrev pub reaches : How → ℕ → Tables → ℕ → ℕ → Bool
 reaches how r t p c = was_given t r p c && not (done_now how (at t.parties r 0 0))
 
 -- the connection c of pool p is one that the change touches
-abbrev pub touches_place : Change → Tables → ℕ → ℕ → Bool
-touches_place (change.GivenUp r) t p c = reaches how.GaveBack r t p c
-touches_place (change.Returned r) t p c = reaches how.GaveBack r t p c
-touches_place (change.Ended r) t p c = reaches how.Over r t p c
-touches_place (change.Replicated q d) t p c = (q == p) && (d == c)
-touches_place (change.Taken r q d) t p c = (q == p) && (d == c)
-touches_place (change.Unpinned q d) t p c = (q == p) && (d == c)
-touches_place (change.Established q d) t p c = (q == p) && (d == c)
-touches_place (change.Failed q d) t p c = (q == p) && (d == c)
-touches_place (change.Created q d) t p c = (q == p) && (d == c)
-touches_place (change.Closed q d) t p c = (q == p) && (d == c)
-touches_place (change.CheckedIn q d) t p c = (q == p) && (d == c)
-touches_place (change.Granted r q d) t p c = (q == p) && (d == c)
-touches_place _ t p c = false
+abbrev pub touches_place : Change → Tables → PinStory → Keepings → ℕ → ℕ → Bool
+touches_place (change.GivenUp r) t s k p c = recalls t s k r p c
+touches_place (change.Returned r) t s k p c = reaches how.GaveBack r t p c
+touches_place (change.Ended r) t s k p c = reaches how.Over r t p c
+touches_place (change.Replicated q d) t s k p c = (q == p) && (d == c)
+touches_place (change.Taken r q d) t s k p c = (q == p) && (d == c)
+touches_place (change.Unpinned q d) t s k p c = (q == p) && (d == c)
+touches_place (change.Established q d) t s k p c = (q == p) && (d == c)
+touches_place (change.Failed q d) t s k p c = (q == p) && (d == c)
+touches_place (change.Created q d) t s k p c = (q == p) && (d == c)
+touches_place (change.Closed q d) t s k p c = (q == p) && (d == c)
+touches_place (change.CheckedIn q d) t s k p c = (q == p) && (d == c)
+touches_place (change.Granted r q d) t s k p c = (q == p) && (d == c)
+touches_place _ t s k p c = false
 
 -- the pool p is one that the change touches
 abbrev pub touches_pool : Change → ℕ → Bool
@@ -66,8 +69,8 @@ pub record Adds (is_here : ℕ → ℕ → Bool) (is_there : ℕ → Bool) (old 
   pub pools : (p : ℕ) → has p new.pools.items ≡ has p old.pools.items || is_there p
 
 -- what the change touches is touched too
-abbrev pub Touches : Change → Tables → Touched → Touched → Type 0
-Touches change t old new = Adds (touches_place change t) (touches_pool change) old new
+abbrev pub Touches : Change → Tables → PinStory → Keepings → Touched → Touched → Type 0
+Touches change t s k old new = Adds (touches_place change t s k) (touches_pool change) old new
 
 -- Between these tables all is the same but what is touched; and nobody waits at a pool that is not touched who did not wait there before.
 pub record Tracks (old new : Tables) (t : Touched) : Type 0 where

@@ -21,7 +21,7 @@ use crate::verdict::Why;
 use mdb_base::{Options, OutOfMemory};
 use mdb_entries::{Shown, ShownFact};
 use mdb_log::{Act, PoolOptions, Reply};
-use mdb_pins::PinStory;
+use mdb_pins::{Keepings, PinStory};
 use mdb_tallies::{Change, Tables};
 use std::alloc::Global;
 
@@ -31,6 +31,7 @@ pub struct Auditor {
     options: Option<PoolOptions>,
     tables: Tables,
     pins: PinStory,
+    keepings: Keepings,
     queues: Queues,
     homes: Homes,
     touched: Touched,
@@ -81,6 +82,7 @@ impl Auditor {
             options: None,
             tables: Tables::new(alloc),
             pins: PinStory::new(alloc),
+            keepings: Keepings::new(alloc),
             queues: Queues::new(alloc),
             homes: Homes::new(alloc),
             touched: Touched::new(alloc),
@@ -91,9 +93,11 @@ impl Auditor {
         ensures { OnOk result (TakesChange is_balanced change self.old self.new) }
     {
         self.queues.note(&self.tables, &change)?;
-        self.touched.note(&self.tables, &change)?;
+        self.touched
+            .note(&self.tables, &self.pins, &self.keepings, &change)?;
         self.pins.note(&self.tables, &change)?;
-        self.tables.apply(is_balanced, change)
+        self.tables.apply(is_balanced, change)?;
+        self.keepings.note(&self.tables, &self.pins, &change)
     }
 
     // It answers whether the fact is no grant, or one to who comes first.

@@ -1,10 +1,13 @@
 //! The connections and pools that an entry touched: all others are as they were.
 
 ghost use Rattle.std.specs.Prelude.{◌≡◌, ◌&&◌, ◌||◌, ◌==◌, ℕ, [], false, OnOk};
-ghost use Rattle.mdb_audit.specs.Touching.{Adds, Touches, has_place, reaches, was_given};
+ghost use Rattle.mdb_audit.specs.Touching.{Adds, Touches, has_place, reaches};
+ghost use Rattle.mdb_tallies.specs.Lists.{in_list};
+ghost use Rattle.mdb_pins.specs.Keeping.{has_pinned, recalls};
 
 use mdb_base::OutOfMemory;
-use mdb_tallies::{Change, How, Place, Tables, is_done};
+use mdb_pins::{Doings, Keepings, PinStory};
+use mdb_tallies::{Change, How, Lists, Place, Tables, is_done};
 use std::alloc::Global;
 
 /// What an entry touched.
@@ -14,16 +17,39 @@ pub struct Touched {
     pub pools: Vec<u32>,
 }
 
-// All that the party was given is among the places.
-fn add_all(places: &mut Vec<Place>, tables: &Tables, party: u32) -> Result<(), OutOfMemory>
-    ensures { OnOk result ((p c : ℕ) → has_place places.new.items p c ≡ has_place places.old.items p c || was_given tables.now party p c) }
+// The party's list is among the places.
+fn add_all(places: &mut Vec<Place>, list: &Lists<Place>, party: u32) -> Result<(), OutOfMemory>
+    ensures { OnOk result ((p c : ℕ) → has_place places.new.items p c ≡ has_place places.old.items p c || in_list list.now party p c) }
 {
-    let count = tables.places.len(party);
+    let count = list.len(party);
     for index in 0..count {
-        let place = tables.places.get(party, index);
+        let place = list.get(party, index);
         places.push(place)?;
     }
     Ok(())
+}
+
+// The party's list is among the places, where the test holds.
+#[tactic(auto, using(crate::proofs::Touches::joins))]
+fn add_if(
+    test: bool,
+    places: &mut Vec<Place>,
+    list: &Lists<Place>,
+    party: u32,
+) -> Result<(), OutOfMemory>
+    ensures { OnOk result ((p c : ℕ) → has_place places.new.items p c ≡ has_place places.old.items p c || (test && in_list list.now party p c)) }
+{
+    if test {
+        add_all(places, list, party)?;
+    }
+    Ok(())
+}
+
+// The party pinned since its last give-up.
+fn has_pinned(doings: &Doings) -> bool
+    ensures { result ≡ has_pinned doings.now }
+{
+    !(doings.pins == doings.pins_then)
 }
 
 impl Touched {
@@ -71,13 +97,42 @@ impl Touched {
         if is_done(how, &known) {
             return Ok(());
         }
-        add_all(&mut self.places, tables, party)
+        add_all(&mut self.places, &tables.places, party)
     }
 
-    /// What the change touches; the tables are those before it.
+    // What a give-up of the party may set at its pin.
+    fn touch_recalled(
+        &mut self,
+        tables: &Tables,
+        pins: &PinStory,
+        keepings: &Keepings,
+        party: u32,
+    ) -> Result<(), OutOfMemory>
+        ensures { OnOk result (Adds (recalls tables.now pins.now keepings.now party) (λ p. false) self.old self.new) }
+    {
+        let known = tables.parties.get((party, 0, 0));
+        if known.is_returned {
+            return Ok(());
+        }
+        add_all(&mut self.places, &pins.grants, party)?;
+        add_all(&mut self.places, &keepings.fresh, party)?;
+        let number = u64::from(party);
+        let own = pins.doings.get(number);
+        let pinned = has_pinned(&own);
+        add_if(pinned, &mut self.places, &keepings.all, party)?;
+        Ok(())
+    }
+
+    /// What the change touches; the tables, the pins and the keepings are those before it.
     #[tactic(auto, using(crate::proofs::Touches::adds))]
-    pub fn note(&mut self, tables: &Tables, change: &Change) -> Result<(), OutOfMemory>
-        ensures { OnOk result (Touches change.now tables.now self.old self.new) }
+    pub fn note(
+        &mut self,
+        tables: &Tables,
+        pins: &PinStory,
+        keepings: &Keepings,
+        change: &Change,
+    ) -> Result<(), OutOfMemory>
+        ensures { OnOk result (Touches change.now tables.now pins.now keepings.now self.old self.new) }
     {
         match change {
             Change::Nothing | Change::Asked(_, None, _) | Change::Pinned(_) => Ok(()),
@@ -85,9 +140,8 @@ impl Touched {
             | Change::Opened(pool)
             | Change::Began(pool)
             | Change::Turned(pool, _) => self.touch_pool(*pool),
-            Change::GivenUp(party) | Change::Returned(party) => {
-                self.touch_all(tables, How::GaveBack, *party)
-            }
+            Change::GivenUp(party) => self.touch_recalled(tables, pins, keepings, *party),
+            Change::Returned(party) => self.touch_all(tables, How::GaveBack, *party),
             Change::Ended(party) => self.touch_all(tables, How::Over, *party),
             Change::Replicated(pool, id)
             | Change::Taken(_, pool, id)

@@ -1,7 +1,9 @@
 //! Runs the cases of its input of runs: scripts line by line, runs of the tools, and scripts that several parts share.
 #![tactic(auto)]
 
+mod again;
 mod cases;
+mod meeting;
 mod runs;
 mod scripts;
 mod shares;

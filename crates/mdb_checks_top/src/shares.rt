@@ -12,8 +12,8 @@ use std::sync::Wait;
 use std::sync::atomic::{AtomicU64, Ordering};
 use std::thread::{Threads, yield_now};
 
-// The line of an entry.
-fn front(entry: &str) -> &str {
+/// The line of an entry.
+pub fn front(entry: &str) -> &str {
     match entry.split_once(" | ") {
         Some((front, _)) => front,
         None => entry,
@@ -46,8 +46,8 @@ fn is_in_order(part: u32, parts: u32, script: &str, entries: &[&str]) -> bool {
     true
 }
 
-// The lines of the text.
-fn lines_of<'a>(page: &mut Page, text: &'a str) -> Vec<&'a str> {
+/// The lines of the text.
+pub fn lines_of<'a>(page: &mut Page, text: &'a str) -> Vec<&'a str> {
     let mut list = Vec::new(page.alloc);
     for line in text.lines() {
         page.keep(&mut list, line);

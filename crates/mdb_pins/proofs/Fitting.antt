@@ -43,7 +43,7 @@ own doings made dropped pinned kept names sum x sole e l = ap (λ n. (if kept ==
     go false = refl
 
 -- more pins were made than dropped
-above : (made dropped sum given : ℕ) (x : Pins) → made + x.before ≡ x.made + sum → x.dropped ≡ dropped → given ≡ sum → is_above x given ≡ nat_lt dropped made
+pub above : (made dropped sum given : ℕ) (x : Pins) → made + x.before ≡ x.made + sum → x.dropped ≡ dropped → given ≡ sum → is_above x given ≡ nat_lt dropped made
 above made dropped sum given x m d e = rw (d, e) (lt-shift dropped made x.before (x.made + sum) m)
 
 as-much : (n : ℕ) → n ≤ n

@@ -2,6 +2,9 @@ pub mod Alone
 pub mod Fitting
 pub mod Following
 pub mod Granting
+pub mod KeepingsNext
+pub mod KeepingsStood
+pub mod Listing
 pub mod Stood
 pub mod StoodSteps
 pub mod Walks

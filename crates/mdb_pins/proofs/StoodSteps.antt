@@ -41,13 +41,13 @@ abbrev pub Holds : List Item → (ℕ → Doings) → ℕ → ℕ → Pins → T
 Holds h doings p c x = Fits doings (pins_made p h c) (pins_dropped p h c) (is_pinned p h c) (weigh (λ r. 1) (of_pool p h) (has_returned h) c) (weigh (λ r. r) (of_pool p h) (has_returned h) c) (weigh (λ r. (doings r).pins) (of_pool p h) (has_returned h) c) x
 
 -- how many keep it, by the tables
-kept-is : (o : PoolOptions) (h : List Item) (t : Tables) (p c : ℕ) → Stands o h t → (at t.connections p c 0).kept ≡ weigh (λ r. 1) (of_pool p h) (has_returned h) c
+pub kept-is : (o : PoolOptions) (h : List Item) (t : Tables) (p c : ℕ) → Stands o h t → (at t.connections p c 0).kept ≡ weigh (λ r. 1) (of_pool p h) (has_returned h) c
 kept-is o h t p c s = ap (λ x. x.kept) (s.connections p c) ∙ weigh-counted (of_pool p h) (has_returned h) c
 
 pub keeps-is : (o : PoolOptions) (h : List Item) (t : Tables) (r p c : ℕ) → Stands o h t → keeps t r p c ≡ keeps_in (of_pool p h) (has_returned h) c r
 keeps-is o h t r p c s = (λ i. kept_now (s.gifts r p c i) (s.parties r i))
 
-lends-is : (o : PoolOptions) (h : List Item) (t : Tables) (r p c : ℕ) → Stands o h t → lends t r p c ≡ lent_now (gift_of h r p c) (party_of h r) && not (pending_now (connection_of h p c))
+pub lends-is : (o : PoolOptions) (h : List Item) (t : Tables) (r p c : ℕ) → Stands o h t → lends t r p c ≡ lent_now (gift_of h r p c) (party_of h r) && not (pending_now (connection_of h p c))
 lends-is o h t r p c s = (λ i. lent_now (s.gifts r p c i) (s.parties r i) && not (pending_now (s.connections p c i)))
 
 -- who holds it keeps it, or was lent it

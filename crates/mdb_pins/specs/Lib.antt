@@ -1,4 +1,5 @@
 pub mod Counts
 pub mod Following
+pub mod Keeping
 pub mod Numbered
 pub mod Standing

@@ -5,6 +5,7 @@
 #![tactic(auto)]
 
 mod doings;
+mod keepings;
 mod laws;
 mod numbered;
 mod pins;
@@ -12,6 +13,7 @@ mod story;
 mod walk;
 
 pub use doings::Doings;
+pub use keepings::Keepings;
 pub use laws::pins_follow_histories;
 pub use numbered::Numbered;
 pub use pins::Pins;

@@ -5,6 +5,8 @@ ghost use Rattle.mdb_log.specs.History.{Item};
 ghost use Rattle.mdb_tallies.specs.Kept.{Covers};
 ghost use Rattle.mdb_tallies.specs.declared.change.Change.TheVariants as change;
 ghost use Rattle.mdb_pins.specs.Following.{Grants, PinsFollow, pinned_now};
+ghost use Rattle.mdb_pins.specs.Counts.{nobody};
+ghost use Rattle.mdb_pins.specs.Numbered.{of_number};
 ghost use Rattle.mdb_pins.specs.Standing.{PinsStand};
 
 use crate::doings::Doings;
@@ -29,7 +31,8 @@ pub struct PinStory {
 impl PinStory {
     /// The pins where nothing was read.
     pub fn new(alloc: Global) -> PinStory
-        ensures { PinsStand [] result }
+        ensures stands { PinsStand [] result }
+        ensures doings { (r : ℕ) → of_number result.doings r ≡ nobody }
     {
         let none = Pins {
             made: 0,

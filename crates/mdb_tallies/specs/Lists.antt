@@ -15,6 +15,11 @@ pub record Pushes {V : Type 0} (k : ℕ) (v : V) (old new : Lists V) : Type 0 wh
   pub items : (a b c : ℕ) → at new.items a b c ≡ (if same_key k (len old k) 0 a b c then v else at old.items a b c)
   pub lengths : (a b c : ℕ) → at new.lengths a b c ≡ (if same_key k 0 0 a b c then len old k + 1 else at old.lengths a b c)
 
+-- the list is empty now
+pub record Clears {V : Type 0} (k : ℕ) (old new : Lists V) : Type 0 where
+  pub items : new.items ≡ old.items
+  pub lengths : (a b c : ℕ) → at new.lengths a b c ≡ (if same_key k 0 0 a b c then 0 else at old.lengths a b c)
+
 -- the place is the connection c of pool p
 abbrev pub is_place : Place → ℕ → ℕ → Bool
 is_place x p c = (x.pool == p) && (x.id == c)
@@ -28,3 +33,7 @@ listed (suc n) places p c = is_place (places n) p c || listed n places p c
 abbrev pub PushesIf : {V : Type 0} → Bool → ℕ → V → Lists V → Lists V → Type 0
 PushesIf true k v old new = Pushes k v old new
 PushesIf false k v old new = new ≡ old
+
+-- the list has the connection c of pool p
+abbrev pub in_list : Lists Place → ℕ → ℕ → ℕ → Bool
+in_list l k p c = listed (len l k) (nth l k) p c

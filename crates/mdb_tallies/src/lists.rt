@@ -1,7 +1,7 @@
 //! Lists of values, one for each number.
 
 ghost use Rattle.std.specs.Prelude.{◌≡◌, ℕ, OnOk};
-ghost use Rattle.mdb_tallies.specs.Lists.{nth, len, Pushes};
+ghost use Rattle.mdb_tallies.specs.Lists.{nth, len, Pushes, Clears};
 
 use crate::table::Table;
 use mdb_base::OutOfMemory;
@@ -50,5 +50,12 @@ impl<V: Copy> Lists<V> {
             }
             None => Err(OutOfMemory),
         }
+    }
+    /// The list is empty.
+    pub fn clear(&mut self, list: u32) -> Result<(), OutOfMemory>
+        ensures { OnOk result (Clears list self.old self.new) }
+    {
+        self.lengths.set((list, 0, 0), 0)?;
+        Ok(())
     }
 }

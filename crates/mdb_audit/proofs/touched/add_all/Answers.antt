@@ -8,7 +8,7 @@ pub loop-index-preserved : goal.loop-index-preserved
 loop-index-preserved c = λ p d.
     let i : ℕ = c.loop-index.index in
     let before = has_place c.args.places.now.items p d in
-    let far = listed i (nth c.args.tables.now.places c.args.party) p d in
+    let far = listed i (nth c.args.list.now c.args.party) p d in
     rw (add-one i)
     (ap (λ xs. has_place xs p d) c.in_ok-push.ensures.items
     ∙ has_place-append c.loop-index.places.items c.get-place.result p d
