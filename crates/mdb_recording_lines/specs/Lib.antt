@@ -1,4 +1,0 @@
-pub mod EventNames
-pub mod LineForms
-pub mod Known
-pub mod Numbers
