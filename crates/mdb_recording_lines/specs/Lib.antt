@@ -1,0 +1,4 @@
+pub mod EventNames
+pub mod LineForms
+pub mod Known
+pub mod Numbers

@@ -1,0 +1,5 @@
+pub mod Ending
+pub mod Found
+pub mod Lines
+pub mod Pools
+pub mod Taken

@@ -1,0 +1,13 @@
+use Rattle.std.proofs.Common.{◌≡◌, length, arith}
+use Rattle.std.proofs.lemmas.Grind.{common_steps}
+use Rattle.mdb_recording_runs.proofs.Lines.{lines-start, lines-end}
+use Rattle.mdb_recording_runs.proofs.text.take_lines.Goals as goal
+
+pub loop-rest-init : goal.loop-rest-init
+loop-rest-init c = λ standard keeps. lines-start standard c.args.text.now c.args.reader.now keeps
+
+pub returns : goal.returns
+returns c = λ standard keeps.
+    let l = c.loop-rest in
+    let none : length l.rest.now ≡ 0 = grind (arith, common_steps) in
+    lines-end standard c.args.text.now l.rest.now l.read l.reader none (l.invariant standard keeps)

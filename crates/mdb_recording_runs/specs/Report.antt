@@ -1,0 +1,116 @@
+-- What is told of a recording.
+use Rattle.std.specs.Prelude.{ℕ, ◌+◌, ◌==◌, ◌&&◌, Bool, List, [], ◌∷◌, ◌++◌, codes, decimal, Option, Some, None, unwrap_or, if◌then◌else◌}
+use Rattle.mdb_lines.specs.Script.{lines_of}
+use Rattle.mdb_recordings.specs.Events.{id_of}
+use Rattle.mdb_recordings.specs.Lives.{life, facts_of}
+use Rattle.mdb_recordings.specs.Rules.{breaks}
+use Rattle.mdb_recordings.specs.declared.event.Event.{Event}
+use Rattle.mdb_recordings.specs.declared.event.Recorded.{Recorded}
+use Rattle.mdb_recordings.specs.declared.facts.Facts.{Facts}
+use Rattle.mdb_recordings.specs.declared.rule.Rule.{Rule}
+use Rattle.mdb_recordings.specs.declared.standard.Standard.{Standard}
+use Rattle.mdb_recording_lines.specs.Known.{place, with_named}
+use Rattle.mdb_recording_lines.specs.LineForms.{Said, malformed, passed, tells, said}
+use Rattle.mdb_recording_runs.specs.Cutting.{without_newline}
+use Rattle.mdb_recording_runs.specs.RuleWords.{all_rules, rule_word}
+
+-- What was read so far: the addresses in the order in which they were first named, the events, the last of them newest, and how many
+-- events, findings and malformed lines there were.
+pub record Read : Type 0 where
+  pub known : List (List ℕ)
+  pub history : List Recorded
+  pub events : ℕ
+  pub findings : ℕ
+  pub malformed : ℕ
+
+abbrev pub nothing : Read
+nothing = record { known = []; history = []; events = 0; findings = 0; malformed = 0 }
+
+-- findings
+
+-- the connection that is named, if one is
+abbrev pub id_text : Option ℕ → List ℕ
+id_text None = []
+id_text (Some i) = codes " connection=" ++ decimal i
+
+-- the line of a finding, by the number of the event's line and the address of its pool
+abbrev pub finding_line : ℕ → List ℕ → Recorded → Rule → List ℕ
+finding_line n a r rule = codes "event " ++ (decimal n ++ (codes ": " ++ (rule_word rule ++ (codes " pool=" ++ (a ++ (id_text (id_of r.event.told) ++ codes "\n"))))))
+
+-- the findings of an event after these: one for each of these rules that it breaks
+abbrev pub findings_text : Standard → List Recorded → ℕ → List ℕ → Recorded → List Rule → List ℕ
+findings_text standard h n a r [] = []
+findings_text standard h n a r (rule ∷ rules) = (if breaks standard rule h r then finding_line n a r rule else []) ++ findings_text standard h n a r rules
+
+abbrev pub findings_count : Standard → List Recorded → Recorded → List Rule → ℕ
+findings_count standard h r [] = 0
+findings_count standard h r (rule ∷ rules) = (if breaks standard rule h r then 1 else 0) + findings_count standard h r rules
+
+-- lines
+
+-- an event of the pool at the address, which has its number
+abbrev pub recorded_at : Read → List ℕ → Event → Recorded
+recorded_at s a e = record { pool = unwrap_or (place a (with_named a s.known)) 0; event = e }
+
+abbrev pub after_event : Standard → Read → List ℕ → Event → Read
+after_event standard s a e = record {
+  known = with_named a s.known;
+  history = recorded_at s a e ∷ s.history;
+  events = s.events + 1;
+  findings = s.findings + findings_count standard s.history (recorded_at s a e) all_rules;
+  malformed = s.malformed;
+}
+
+-- what was read with a line that tells this
+abbrev pub after_said : Standard → Read → Said → Read
+after_said standard s malformed = record s { malformed = s.malformed + 1 }
+after_said standard s passed = s
+after_said standard s (tells a e) = after_event standard s a e
+
+abbrev pub event_text : Standard → ℕ → Read → List ℕ → Event → List ℕ
+event_text standard n s a e = findings_text standard s.history n a (recorded_at s a e) all_rules
+
+-- what is told of the line of this number
+abbrev pub said_text : Standard → ℕ → Read → Said → List ℕ
+said_text standard n s malformed = codes "line " ++ (decimal n ++ codes ": malformed\n")
+said_text standard n s passed = []
+said_text standard n s (tells a e) = event_text standard n s a e
+
+-- what was read with these lines
+abbrev pub after_lines : Standard → Read → List (List ℕ) → Read
+after_lines standard s [] = s
+after_lines standard s (line ∷ lines) = after_lines standard (after_said standard s (said (without_newline line))) lines
+
+-- what is told of these lines, counted from this number
+abbrev pub lines_text : Standard → ℕ → Read → List (List ℕ) → List ℕ
+lines_text standard n s [] = []
+lines_text standard n s (line ∷ lines) = said_text standard n s (said (without_newline line)) ++ lines_text standard (n + 1) (after_said standard s (said (without_newline line))) lines
+
+-- the end
+
+-- what the last pool at an address did
+abbrev pub pool_line : List ℕ → Facts → List ℕ
+pool_line a f = codes "pool " ++ (a ++ (codes " created=" ++ (decimal f.created ++ (codes " ready=" ++ (decimal f.readied ++ (codes " closed=" ++ (decimal f.closed ++ (codes " started=" ++ (decimal f.started ++ (codes " out=" ++ (decimal f.outs ++ (codes " in=" ++ (decimal f.ins ++ (codes " failed=" ++ (decimal f.failed ++ (codes " cleared=" ++ (decimal f.clears ++ codes "\n")))))))))))))))))
+
+-- the pools at these addresses, numbered from this
+abbrev pub pools_text : List Recorded → ℕ → List (List ℕ) → List ℕ
+pools_text h p [] = []
+pools_text h p (a ∷ known) = pool_line a (facts_of (life p h)) ++ pools_text h (p + 1) known
+
+-- nothing was found
+abbrev pub is_clean : Read → Bool
+is_clean s = (s.findings == 0) && (s.malformed == 0)
+
+abbrev pub end_line : Read → List ℕ
+end_line s = if is_clean s then codes "clean events=" ++ (decimal s.events ++ codes "\n") else codes "findings=" ++ (decimal s.findings ++ (codes " malformed=" ++ (decimal s.malformed ++ (codes " events=" ++ (decimal s.events ++ codes "\n")))))
+
+-- all that is told of a recording that was read
+abbrev pub end_text : Read → List ℕ
+end_text s = pools_text s.history 0 s.known ++ end_line s
+
+-- what a recording comes to
+abbrev pub read_of : Standard → List ℕ → Read
+read_of standard text = after_lines standard nothing (lines_of text)
+
+abbrev pub report : Standard → List ℕ → List ℕ
+report standard text = lines_text standard 1 nothing (lines_of text) ++ end_text (read_of standard text)

@@ -1,0 +1,60 @@
+//! The rules, in the order in which they are told, and their words.
+
+ghost use Rattle.std.specs.Prelude.{◌≡◌};
+ghost use Rattle.mdb_recording_runs.specs.RuleWords.{all_rules, rule_word};
+
+use mdb_recordings::Rule;
+
+const RULES: [Rule; 18] = [
+    Rule::PoolCreatedTwice,
+    Rule::PoolNotCreated,
+    Rule::PoolIsClosed,
+    Rule::PoolNotReady,
+    Rule::CreatedTwice,
+    Rule::NotCreated,
+    Rule::ReadiedTwice,
+    Rule::NotReadied,
+    Rule::OutTwice,
+    Rule::NotOut,
+    Rule::ClosedTwice,
+    Rule::IsClosed,
+    Rule::ClosedWhileOut,
+    Rule::IsStale,
+    Rule::IsIdle,
+    Rule::TooMany,
+    Rule::TooManyPending,
+    Rule::HasNoReason,
+];
+
+/// All rules.
+pub fn all_rules() -> &'static [Rule]
+    ensures { result.now ≡ all_rules }
+{
+    &RULES
+}
+
+/// The word of a rule: how it is broken.
+pub fn rule_word(rule: Rule) -> &'static str
+    ensures { result.now ≡ rule_word rule }
+{
+    match rule {
+        Rule::PoolCreatedTwice => "pool-created-twice",
+        Rule::PoolNotCreated => "pool-not-created",
+        Rule::PoolIsClosed => "pool-is-closed",
+        Rule::PoolNotReady => "pool-not-ready",
+        Rule::CreatedTwice => "created-twice",
+        Rule::NotCreated => "not-created",
+        Rule::ReadiedTwice => "ready-twice",
+        Rule::NotReadied => "not-ready",
+        Rule::OutTwice => "checked-out-twice",
+        Rule::NotOut => "not-checked-out",
+        Rule::ClosedTwice => "closed-twice",
+        Rule::IsClosed => "is-closed",
+        Rule::ClosedWhileOut => "closed-while-out",
+        Rule::IsStale => "stale",
+        Rule::IsIdle => "idle",
+        Rule::TooMany => "too-many",
+        Rule::TooManyPending => "too-many-pending",
+        Rule::HasNoReason => "no-reason",
+    }
+}

@@ -1,0 +1,131 @@
+//! What is told of a whole recording.
+
+ghost use Rattle.std.specs.Prelude.{◌≡◌, ◌+◌, ◌++◌, List, ℕ, [], IfOk, OnOk, string_bytes, map};
+ghost use Rattle.mdb_lines.specs.Script.{lines_of};
+ghost use Rattle.mdb_recordings.specs.Standing.{Stands};
+ghost use Rattle.mdb_recordings.specs.declared.event.Recorded.{Recorded};
+ghost use Rattle.mdb_recordings.specs.declared.standard.Standard.{Standard as Standard_};
+ghost use Rattle.mdb_recording_runs.specs.Keeping.{Keeps};
+ghost use Rattle.mdb_recording_runs.specs.Report.{Read, end_line, is_clean, lines_text, nothing, pool_line, pools_text, read_of, report};
+
+use crate::reader::Reader;
+use json::Scratch;
+use mdb_base::OutOfMemory;
+use mdb_lines::cut_line;
+use mdb_recordings::{Facts, Judge, Standard};
+use std::alloc::Global;
+
+/// What is told of a recording, and whether nothing was found.
+#[derive(Drop)]
+pub struct Report {
+    pub text: String,
+    pub is_clean: bool,
+}
+
+fn next(read: u64) -> Result<u64, OutOfMemory>
+    ensures { IfOk result (λ n. n ≡ read + 1) }
+{
+    match read.checked_add(1) {
+        Some(number) => Ok(number),
+        None => Err(OutOfMemory),
+    }
+}
+
+// The lines, of which none was taken so far.
+fn take_lines(alloc: Global, reader: &mut Reader, text: &[u8]) -> Result<(), OutOfMemory>
+    ensures { OnOk result ((standard : Standard_) → Keeps standard nothing [] reader.old → Keeps standard (read_of standard text.now) (lines_text standard 1 nothing (lines_of text.now)) reader.new) }
+{
+    let mut scratch = Scratch::new(alloc);
+    let mut rest = text;
+    let mut read = 0u64;
+    while !rest.is_empty() {
+        let number = next(read)?;
+        match cut_line(rest) {
+            None => {
+                reader.take(&mut scratch, number, rest)?;
+                rest = &[];
+            }
+            Some((line, behind)) => {
+                reader.take(&mut scratch, number, line)?;
+                rest = behind;
+            }
+        }
+        read = number;
+    }
+    Ok(())
+}
+
+fn pool_line(alloc: Global, address: &str, f: &Facts) -> Result<String, OutOfMemory>
+    ensures { IfOk result (λ s. string_bytes s ≡ pool_line address.now f.now) }
+{
+    let (created, ready, closed) = (f.created, f.readied, f.closed);
+    let (started, outs, ins) = (f.started, f.outs, f.ins);
+    let (failed, cleared) = (f.failed, f.clears);
+    Ok(format!(in alloc;
+        "pool {address} created={created} ready={ready} closed={closed} started={started} out={outs} in={ins} failed={failed} cleared={cleared}\n"
+    )?)
+}
+
+fn next_pool(pool: u32) -> Result<u32, OutOfMemory>
+    ensures { IfOk result (λ n. n ≡ pool + 1) }
+{
+    match pool.checked_add(1) {
+        Some(number) => Ok(number),
+        None => Err(OutOfMemory),
+    }
+}
+
+// The line of each pool.
+fn tell_pools(
+    alloc: Global,
+    out: &mut String,
+    names: &[String],
+    judge: &Judge,
+) -> Result<(), OutOfMemory>
+    ensures { OnOk result ((h : List Recorded) → Stands h judge.now → string_bytes out.new ≡ string_bytes out.old ++ pools_text h 0 (map string_bytes names.now)) }
+{
+    let mut pool = 0u32;
+    let mut rest = names;
+    while let Some((name, more)) = rest.split_first() {
+        let facts = judge.facts(pool);
+        let line = pool_line(alloc, name.as_str(), &facts)?;
+        out.push_str(line.as_str())?;
+        pool = next_pool(pool)?;
+        rest = more;
+    }
+    Ok(())
+}
+
+fn end_line(alloc: Global, reader: &Reader) -> Result<String, OutOfMemory>
+    ensures { IfOk result (λ t. (standard : Standard_) (s : Read) (text : List ℕ) → Keeps standard s text reader.now → string_bytes t ≡ end_line s) }
+{
+    let (events, findings, malformed) = (reader.events, reader.findings, reader.malformed);
+    if findings == 0 && malformed == 0 {
+        Ok(format!(in alloc; "clean events={events}\n")?)
+    } else {
+        Ok(format!(in alloc; "findings={findings} malformed={malformed} events={events}\n")?)
+    }
+}
+
+/// What is told of a recording, by the standard of that time.
+pub fn judge(alloc: Global, standard: Standard, text: &[u8]) -> Result<Report, OutOfMemory>
+    ensures text { IfOk result (λ r. string_bytes r.text ≡ report standard text.now) }
+    ensures clean { IfOk result (λ r. r.is_clean ≡ is_clean (read_of standard text.now)) }
+{
+    let mut reader = Reader::new(alloc, standard);
+    take_lines(alloc, &mut reader, text)?;
+    tell_pools(
+        alloc,
+        &mut reader.out,
+        reader.names.list.as_slice(),
+        &reader.judge,
+    )?;
+    let line = end_line(alloc, &reader)?;
+    reader.out.push_str(line.as_str())?;
+    let is_clean = reader.findings == 0 && reader.malformed == 0;
+    let Reader { out, .. } = reader;
+    Ok(Report {
+        text: out,
+        is_clean,
+    })
+}
