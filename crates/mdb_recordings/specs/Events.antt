@@ -88,6 +88,19 @@ abbrev pub starts_one : Told → Bool
 starts_one CheckOutStarted = true
 starts_one _ = false
 
+-- a check-out is served: it gets a connection, or one is created for it
+abbrev pub serves : Told → Bool
+serves (CheckedOut j) = true
+serves (ConnectionCreated j) = true
+serves _ = false
+
+-- the wait of a check-out ends: it is served, or fails
+abbrev pub ends_wait : Told → Bool
+ends_wait (CheckedOut j) = true
+ends_wait (ConnectionCreated j) = true
+ends_wait (CheckOutFailed reason) = true
+ends_wait _ = false
+
 -- a check-out failed
 abbrev pub fails_one : Told → Bool
 fails_one (CheckOutFailed reason) = true

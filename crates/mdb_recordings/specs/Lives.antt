@@ -1,6 +1,6 @@
 -- What the events of one pool tell, newest first, since it was created.
-use Rattle.std.specs.Prelude.{ℕ, ◌+◌, Bool, true, false, not, ◌&&◌, ◌||◌, ◌==◌, if◌then◌else◌, List, [], ◌∷◌, Option, Some, None}
-use Rattle.mdb_recordings.specs.Events.{begins, turns_ready, clears, pauses, closes_pool, creates_one, creates, readies_one, readies, closes_one, closes, checks_out_one, checks_out, checks_in_one, checks_in, fails_one, breaks_one, rests, starts_one}
+use Rattle.std.specs.Prelude.{ℕ, ◌+◌, Bool, true, false, not, ◌&&◌, ◌||◌, ◌==◌, nat_lt, is_some, if◌then◌else◌, List, [], ◌∷◌, Option, Some, None}
+use Rattle.mdb_recordings.specs.Events.{begins, turns_ready, clears, pauses, closes_pool, creates_one, creates, readies_one, readies, closes_one, closes, checks_out_one, checks_out, checks_in_one, checks_in, fails_one, breaks_one, rests, starts_one, ends_wait, serves}
 use Rattle.mdb_recordings.specs.declared.event.Event.{Event}
 use Rattle.mdb_recordings.specs.declared.event.Recorded.{Recorded}
 use Rattle.mdb_recordings.specs.declared.event.Limits.{Limits}
@@ -8,6 +8,8 @@ use Rattle.mdb_recordings.specs.declared.event.Told.{Told}
 use Rattle.mdb_recordings.specs.declared.event.Told.TheVariants.{PoolCreated, ConnectionClosed}
 use Rattle.mdb_recordings.specs.declared.connection.Connection.{Connection}
 use Rattle.mdb_recordings.specs.declared.facts.Facts.{Facts}
+use Rattle.mdb_recordings.specs.declared.caller.Caller.{Caller}
+use Rattle.mdb_recordings.specs.declared.turns.Turns.{Turns}
 
 -- the events of a pool, this one newest: a creation begins anew
 abbrev pub onto : Event → List Event → List Event
@@ -106,3 +108,47 @@ facts_of l = record {
   ins = count checks_in_one l;
   failed = count fails_one l;
 }
+
+-- of numbered check-outs
+
+-- it has this number
+abbrev pub is_numbered : ℕ → Option ℕ → Bool
+is_numbered i None = false
+is_numbered i (Some j) = j == i
+
+-- how many numbered check-outs were started
+abbrev pub numbered : List Event → ℕ
+numbered [] = 0
+numbered (e ∷ l) = if starts_one e.told && is_some e.caller then 1 + numbered l else numbered l
+
+-- the place of a check-out in the order of their starts, since it was started last
+abbrev pub place : ℕ → List Event → ℕ
+place i [] = 0
+place i (e ∷ l) = if is_numbered i e.caller && starts_one e.told then 1 + numbered l else place i l
+
+-- a check-out was started, and neither served nor failed since
+abbrev pub waits : ℕ → List Event → Bool
+waits i [] = false
+waits i (e ∷ l) = if is_numbered i e.caller && starts_one e.told then true else (if is_numbered i e.caller && ends_wait e.told then false else waits i l)
+
+-- what the events tell of the check-out with this number
+abbrev pub caller_of : ℕ → List Event → Caller
+caller_of i l = record { is_waiting = waits i l; place = place i l }
+
+-- what they tell of the one that is numbered, if one is
+abbrev pub caller_numbered : Option ℕ → List Event → Caller
+caller_numbered None l = caller_of 0 []
+caller_numbered (Some i) l = caller_of i l
+
+-- the greater place, where one that waits is served
+abbrev pub latest_after : Told → Caller → ℕ → ℕ
+latest_after t c n = if serves t && (c.is_waiting && nat_lt n c.place) then c.place else n
+
+-- the greatest place of a check-out that waited and was served
+abbrev pub latest : List Event → ℕ
+latest [] = 0
+latest (e ∷ l) = latest_after e.told (caller_numbered e.caller l) (latest l)
+
+-- what the events tell of the order of their pool's numbered check-outs
+abbrev pub turns_of : List Event → Turns
+turns_of l = record { started = numbered l; latest = latest l }

@@ -1,20 +1,22 @@
 -- The rules: when an event breaks one, by what the events before it tell of its pool and of the connection that it names.
 use Rattle.std.specs.Prelude.{ℕ, ◌-◌, ◌*◌, Bool, true, false, not, ◌&&◌, nat_lt, nat_le, List, Option, Some}
-use Rattle.mdb_recordings.specs.Events.{begins, creates_one, readies_one, closes_one, checks_out_one, checks_in_one, uses_one, goes_on, needs_pool, id_of}
-use Rattle.mdb_recordings.specs.Lives.{life, facts_of, connection_named}
+use Rattle.mdb_recordings.specs.Events.{begins, creates_one, readies_one, closes_one, checks_out_one, checks_in_one, uses_one, goes_on, needs_pool, id_of, ends_wait}
+use Rattle.mdb_recordings.specs.Lives.{life, facts_of, connection_named, turns_of, caller_numbered}
 use Rattle.mdb_recordings.specs.declared.event.Event.{Event}
 use Rattle.mdb_recordings.specs.declared.event.Recorded.{Recorded}
 use Rattle.mdb_recordings.specs.declared.event.FailReason.{FailReason}
 use Rattle.mdb_recordings.specs.declared.event.FailReason.TheVariants as fails
 use Rattle.mdb_recordings.specs.declared.event.Told.{Told}
 use Rattle.mdb_recordings.specs.declared.event.Told.TheVariants.{CheckOutFailed}
+use Rattle.mdb_recordings.specs.declared.caller.Caller.{Caller}
 use Rattle.mdb_recordings.specs.declared.connection.Connection.{Connection}
 use Rattle.mdb_recordings.specs.declared.facts.Facts.{Facts}
 use Rattle.mdb_recordings.specs.declared.glance.Glance.{Glance}
 use Rattle.mdb_recordings.specs.declared.rule.Rule.{Rule}
-use Rattle.mdb_recordings.specs.declared.rule.Rule.TheVariants.{PoolCreatedTwice, PoolNotCreated, PoolIsClosed, PoolNotReady, CreatedTwice, NotCreated, ReadiedTwice, NotReadied, OutTwice, NotOut, ClosedTwice, IsClosed, ClosedWhileOut, IsStale, IsIdle, TooMany, TooManyPending, HasNoReason}
+use Rattle.mdb_recordings.specs.declared.rule.Rule.TheVariants.{PoolCreatedTwice, PoolNotCreated, PoolIsClosed, PoolNotReady, CreatedTwice, NotCreated, ReadiedTwice, NotReadied, OutTwice, NotOut, ClosedTwice, IsClosed, ClosedWhileOut, IsStale, IsIdle, TooMany, TooManyPending, HasNoReason, OutOfTurn}
 use Rattle.mdb_recordings.specs.declared.standard.Standard.{Standard}
 use Rattle.mdb_recordings.specs.declared.standard.Standard.TheVariants.{Current, Of2020}
+use Rattle.mdb_recordings.specs.declared.turns.Turns.{Turns}
 
 -- connections that were created and not closed
 abbrev pub live : Facts → ℕ
@@ -79,6 +81,17 @@ is_broken TooMany f c e = creates_one e.told && (nat_lt 0 f.limits.max_size && n
 is_broken TooManyPending f c e = creates_one e.told && nat_le f.limits.max_connecting (pending f)
 -- a check-out fails for a reason that the state of its pool allows
 is_broken HasNoReason f c e = fails_unfounded e.told f
+is_broken OutOfTurn f c e = false
+
+-- Check-outs that have numbers are served in the order of their starts: when the wait of one ends, none that was started after it was
+-- served before.
+abbrev pub is_passed : Told → Turns → Caller → Bool
+is_passed t x c = ends_wait t && (c.is_waiting && nat_lt c.place x.latest)
+
+-- an event breaks a rule, where so much is known before it
+abbrev pub is_seen : Rule → Glance → Event → Bool
+is_seen OutOfTurn g e = is_passed e.told g.turns g.caller
+is_seen rule g e = is_broken rule g.facts g.connection e
 
 -- The standard at that time has the rule. Pools are paused and limit what is pending since the end of 2020; since 2022 a pool that is
 -- cleared may close connections that are checked out.
@@ -93,8 +106,10 @@ abbrev pub glance_of : List Recorded → Recorded → Glance
 glance_of h r = record {
   facts = facts_of (life r.pool h);
   connection = connection_named (id_of r.event.told) (life r.pool h);
+  turns = turns_of (life r.pool h);
+  caller = caller_numbered r.event.caller (life r.pool h);
 }
 
 -- By the standard of that time the event breaks the rule, after these events, the last of them newest.
 abbrev pub breaks : Standard → Rule → List Recorded → Recorded → Bool
-breaks standard rule h r = has_rule standard rule && is_broken rule (facts_of (life r.pool h)) (connection_named (id_of r.event.told) (life r.pool h)) r.event
+breaks standard rule h r = has_rule standard rule && is_seen rule (glance_of h r) r.event

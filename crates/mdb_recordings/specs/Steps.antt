@@ -1,11 +1,14 @@
 -- What one event more changes in what is known of a connection and of its pool.
-use Rattle.std.specs.Prelude.{ℕ, ◌+◌, true, false, not, ◌||◌, if◌then◌else◌, Option}
-use Rattle.mdb_recordings.specs.Events.{is_error}
+use Rattle.std.specs.Prelude.{ℕ, ◌+◌, true, false, not, ◌&&◌, ◌||◌, is_some, if◌then◌else◌, Option}
+use Rattle.mdb_recordings.specs.Events.{is_error, starts_one, ends_wait}
+use Rattle.mdb_recordings.specs.Lives.{latest_after}
 use Rattle.mdb_recordings.specs.declared.event.CloseReason.{CloseReason}
 use Rattle.mdb_recordings.specs.declared.event.Told.{Told}
 use Rattle.mdb_recordings.specs.declared.event.Told.TheVariants.{PoolCreated, PoolReady, PoolCleared, PoolClosed, ConnectionCreated, ConnectionReady, ConnectionClosed, CheckOutStarted, CheckOutFailed, CheckedOut, CheckedIn}
 use Rattle.mdb_recordings.specs.declared.connection.Connection.{Connection}
 use Rattle.mdb_recordings.specs.declared.facts.Facts.{Facts}
+use Rattle.mdb_recordings.specs.declared.caller.Caller.{Caller}
+use Rattle.mdb_recordings.specs.declared.turns.Turns.{Turns}
 
 -- a connection after an event of that time that names it, where the pool was cleared so often before
 abbrev pub connection_after : Told → Option ℕ → ℕ → Connection → Connection
@@ -42,3 +45,11 @@ facts_after PoolReady c f = record f { is_ready = true }
 facts_after (PoolCleared all) c f = if all then record f { is_ready = false; clears = 1 + f.clears } else f
 facts_after PoolClosed c f = record f { is_ready = false; is_closed = true }
 facts_after told c f = facts_after_connection told c f
+
+-- a check-out after an event that has its number; one that starts has the place n
+abbrev pub caller_after : Told → ℕ → Caller → Caller
+caller_after t n c = if starts_one t then record { is_waiting = true; place = n } else (if ends_wait t then record c { is_waiting = false } else c)
+
+-- the order of check-outs after an event that may have the number of the caller
+abbrev pub turns_after : Told → Option ℕ → Caller → Turns → Turns
+turns_after t o c x = record { started = if starts_one t && is_some o then 1 + x.started else x.started; latest = latest_after t c x.latest }

@@ -8,7 +8,7 @@ use mdb_base::OutOfMemory;
 use std::alloc::Global;
 use std::collections::HashMap;
 
-/// A pool by the number of its address, how often one was created there, and a connection by its id.
+/// A pool by the number of its address, how often one was created there, and what has a number there: a connection by its id, or a check-out.
 pub type Key = (u32, u64, u64);
 
 /// The connections of all pools.

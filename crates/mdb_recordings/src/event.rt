@@ -1,7 +1,7 @@
 //! What a driver's listener is told of its pools (CMAP, "Connection Pool Monitoring").
 
 ghost use Rattle.std.specs.Prelude.{◌≡◌};
-ghost use Rattle.mdb_recordings.specs.Events.{begins, creates_one, readies_one, closes_one, checks_out_one, checks_in_one, id_of, uses_one, goes_on, needs_pool};
+ghost use Rattle.mdb_recordings.specs.Events.{begins, creates_one, readies_one, closes_one, checks_out_one, checks_in_one, id_of, uses_one, goes_on, needs_pool, starts_one, ends_wait, serves};
 
 /// The options with which a pool was created.
 #[derive(Clone, Copy, Debug, PartialEq, Eq)]
@@ -52,10 +52,12 @@ pub enum Told {
     CheckedIn(u64),
 }
 
-/// What an event tells, and when it came, in microseconds, where it says so.
+/// What an event tells, and when it came, in microseconds, and which check-out it concerns, where it says so.
 #[derive(Clone, Copy, Debug, PartialEq, Eq)]
 pub struct Event {
     pub at: Option<u64>,
+    /// The number of the check-out, which a driver's wrapper gives it.
+    pub caller: Option<u64>,
     pub told: Told,
 }
 
@@ -131,6 +133,29 @@ impl Told {
         ensures { result ≡ checks_in_one self.now }
     {
         matches!(self, Told::CheckedIn(_))
+    }
+
+    pub(crate) fn starts(&self) -> bool
+        ensures { result ≡ starts_one self.now }
+    {
+        matches!(self, Told::CheckOutStarted)
+    }
+
+    // It ends the wait of a check-out: it is served, or fails.
+    pub(crate) fn ends_wait(&self) -> bool
+        ensures { result ≡ ends_wait self.now }
+    {
+        matches!(
+            self,
+            Told::CheckedOut(_) | Told::ConnectionCreated(_) | Told::CheckOutFailed(_)
+        )
+    }
+
+    // It serves a check-out: it gets a connection, or one is created for it.
+    pub(crate) fn serves(&self) -> bool
+        ensures { result ≡ serves self.now }
+    {
+        matches!(self, Told::CheckedOut(_) | Told::ConnectionCreated(_))
     }
 
     // It uses a connection, which has to be created before.

@@ -3,24 +3,28 @@
 ghost use Rattle.std.specs.Prelude.{◌≡◌, ◌∷◌, [], List, OnOk};
 ghost use Rattle.mdb_recordings.specs.declared.event.Recorded.{Recorded as Event_};
 ghost use Rattle.mdb_recordings.specs.Lives.{facts_of, life};
-ghost use Rattle.mdb_recordings.specs.Noting.{Begins, GoesOn};
+ghost use Rattle.mdb_recordings.specs.Noting.{Begins, GoesOn, Names};
 ghost use Rattle.mdb_recordings.specs.Rules.{glance_of};
 ghost use Rattle.mdb_recordings.specs.Standing.{Stands};
 
+use crate::caller::Caller;
+use crate::callers::Callers;
 use crate::connection::Connection;
 use crate::connections::Connections;
 use crate::event::Recorded;
 use crate::facts::{Facts, one_more};
 use crate::glance::Glance;
 use crate::pools::{Pool, Pools};
+use crate::turns::Turns;
 use mdb_base::OutOfMemory;
 use std::alloc::Global;
 
-/// What was told of the pools so far. Each event takes two look-ups, whatever came before.
+/// What was told of the pools so far. Each event takes at most three look-ups, whatever came before.
 #[derive(Drop)]
 pub struct Judge {
     pub pools: Pools,
     pub connections: Connections,
+    pub callers: Callers,
 }
 
 impl Judge {
@@ -31,6 +35,7 @@ impl Judge {
         Judge {
             pools: Pools::new(alloc),
             connections: Connections::new(alloc),
+            callers: Callers::new(alloc),
         }
     }
 
@@ -43,9 +48,15 @@ impl Judge {
             Some(id) => self.connections.get((recorded.pool, pool.lives, id)),
             None => Connection::UNTOLD,
         };
+        let caller = match recorded.event.caller {
+            Some(number) => self.callers.get((recorded.pool, pool.lives, number)),
+            None => Caller::UNTOLD,
+        };
         Glance {
             facts: pool.facts,
             connection,
+            turns: pool.turns,
+            caller,
         }
     }
 
@@ -62,7 +73,31 @@ impl Judge {
     {
         let lives = one_more(lives)?;
         let facts = Facts::UNTOLD.after(&recorded.event.told, &Connection::UNTOLD)?;
-        self.pools.set(recorded.pool, Pool { lives, facts })
+        let turns = Turns::UNTOLD;
+        let pool = Pool {
+            lives,
+            facts,
+            turns,
+        };
+        self.pools.set(recorded.pool, pool)
+    }
+
+    // What is known of the connection that it names, and of the check-out, if it has the number of one.
+    fn name(&mut self, recorded: &Recorded, known: &Glance, lives: u64) -> Result<(), OutOfMemory>
+        ensures { OnOk result (Names recorded.now known.now lives self.old self.new) }
+    {
+        let event = &recorded.event;
+        if let Some(id) = event.told.id() {
+            let connection = known.connection.after(event, known.facts.clears);
+            self.connections
+                .set((recorded.pool, lives, id), connection)?;
+        }
+        if let Some(number) = event.caller {
+            let place = one_more(known.turns.started)?;
+            let caller = known.caller.after(&event.told, place);
+            self.callers.set((recorded.pool, lives, number), caller)?;
+        }
+        Ok(())
     }
 
     // An event of the pool of which so much is known.
@@ -71,12 +106,14 @@ impl Judge {
     {
         let event = &recorded.event;
         let facts = known.facts.after(&event.told, &known.connection)?;
-        if let Some(id) = event.told.id() {
-            let connection = known.connection.after(event, known.facts.clears);
-            self.connections
-                .set((recorded.pool, lives, id), connection)?;
-        }
-        self.pools.set(recorded.pool, Pool { lives, facts })
+        let turns = known.turns.after(event, &known.caller)?;
+        self.name(recorded, known, lives)?;
+        let pool = Pool {
+            lives,
+            facts,
+            turns,
+        };
+        self.pools.set(recorded.pool, pool)
     }
 
     /// The event comes; so much is known before it.

@@ -4,6 +4,7 @@ ghost use Rattle.std.specs.Prelude.{◌≡◌, ◌==◌, ℕ, OnOk, if◌then◌
 ghost use Rattle.mdb_recordings.specs.Tables.{pool_at, no_pool};
 
 use crate::facts::Facts;
+use crate::turns::Turns;
 use mdb_base::OutOfMemory;
 use std::alloc::Global;
 use std::collections::HashMap;
@@ -13,6 +14,7 @@ use std::collections::HashMap;
 pub struct Pool {
     pub lives: u64,
     pub facts: Facts,
+    pub turns: Turns,
 }
 
 /// The pools, by the numbers of their addresses.
@@ -39,6 +41,7 @@ impl Pools {
             None => Pool {
                 lives: 0,
                 facts: Facts::UNTOLD,
+                turns: Turns::UNTOLD,
             },
         }
     }

@@ -1,14 +1,16 @@
 //! The rules that a driver's pools keep, and when an event breaks one.
 
 ghost use Rattle.std.specs.Prelude.{◌≡◌, ◌-◌, List};
-ghost use Rattle.mdb_recordings.specs.Rules.{breaks, fails_unfounded, glance_of, has_rule, is_broken, is_past, is_unfounded, live, pending};
+ghost use Rattle.mdb_recordings.specs.Rules.{breaks, fails_unfounded, glance_of, has_rule, is_broken, is_passed, is_past, is_seen, is_unfounded, live, pending};
 ghost use Rattle.mdb_recordings.specs.declared.event.Recorded.{Recorded as Event_};
 
+use crate::caller::Caller;
 use crate::connection::Connection;
 use crate::event::{Event, FailReason, Recorded, Told};
 use crate::facts::Facts;
 use crate::glance::Glance;
 use crate::standard::Standard;
+use crate::turns::Turns;
 
 /// A rule of a driver's pools, named by how it is broken.
 #[derive(Clone, Copy, Debug, PartialEq, Eq)]
@@ -31,6 +33,7 @@ pub enum Rule {
     TooMany,
     TooManyPending,
     HasNoReason,
+    OutOfTurn,
 }
 
 fn live(facts: &Facts) -> u64
@@ -116,6 +119,23 @@ fn is_broken(rule: Rule, f: &Facts, c: &Connection, e: &Event) -> bool
         }
         Rule::TooManyPending => told.creates() && f.limits.max_connecting <= pending(f),
         Rule::HasNoReason => fails_unfounded(told, f),
+        Rule::OutOfTurn => false,
+    }
+}
+
+// The event ends the wait of the caller, and one that was started after it was served before.
+fn is_passed(told: &Told, turns: &Turns, caller: &Caller) -> bool
+    ensures { result ≡ is_passed told.now turns.now caller.now }
+{
+    told.ends_wait() && (caller.is_waiting && caller.place < turns.latest)
+}
+
+fn is_seen(rule: Rule, known: &Glance, event: &Event) -> bool
+    ensures { result ≡ is_seen rule known.now event.now }
+{
+    match rule {
+        Rule::OutOfTurn => is_passed(&event.told, &known.turns, &known.caller),
+        _ => is_broken(rule, &known.facts, &known.connection, event),
     }
 }
 
@@ -123,5 +143,5 @@ fn is_broken(rule: Rule, f: &Facts, c: &Connection, e: &Event) -> bool
 pub fn breaks(standard: Standard, rule: Rule, known: &Glance, recorded: &Recorded) -> bool
     ensures { (h : List Event_) → known.now ≡ glance_of h recorded.now → result ≡ breaks standard rule h recorded.now }
 {
-    has_rule(standard, rule) && is_broken(rule, &known.facts, &known.connection, &recorded.event)
+    has_rule(standard, rule) && is_seen(rule, known, &recorded.event)
 }
