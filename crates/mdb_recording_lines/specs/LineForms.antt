@@ -7,6 +7,11 @@ use Rattle.mdb_recordings.specs.declared.event.Event.{Event}
 use Rattle.mdb_recordings.specs.declared.event.Limits.{Limits}
 use Rattle.mdb_recordings.specs.declared.event.Told.{Told}
 use Rattle.mdb_recordings.specs.declared.event.Told.TheVariants as told
+use Rattle.mdb_recording_servers.specs.declared.event.ServerEvent.{ServerEvent}
+use Rattle.mdb_recording_servers.specs.declared.event.ServerKind.{ServerKind}
+use Rattle.mdb_recording_servers.specs.declared.event.ServerTold.{ServerTold}
+use Rattle.mdb_recording_servers.specs.declared.event.ServerTold.TheVariants as server
+use Rattle.mdb_recording_lines.specs.ServerNames.{check_named, kind_named, topology_named}
 use Rattle.mdb_recording_lines.specs.EventNames.{event_named, close_reason, fail_reason}
 use Rattle.mdb_recording_lines.specs.Numbers.{micros, whole}
 use Rattle.mdb_recording_lines.specs.declared.event_name.EventName.{EventName}
@@ -33,11 +38,13 @@ number_or key other j = number_from other (get key j)
 abbrev pub has_text : List ℕ → Json → Bool
 has_text key j = is_some (text_at key j)
 
--- What a line tells: nothing that can be read; nothing of a pool; or an event of the pool at an address.
+-- What a line tells: nothing that can be read; nothing that is judged; or an event of the pool or the server at an address, or of the topology.
 pub data Said : Type 0 where
   malformed : Said
   passed : Said
   tells : List ℕ → Event → Said
+  tells_server : List ℕ → ServerTold → Said
+  tells_topology : ServerEvent → Said
 
 abbrev pub limits_from : Option ℕ → Option ℕ → Option ℕ → Option Limits
 limits_from (Some size) (Some connecting) (Some idle) = Some (record { max_size = size; max_connecting = connecting; max_idle = idle })
@@ -76,24 +83,71 @@ time_from (Some j) = option_map (λ at. Some at) (option_and_then micros (as_num
 abbrev pub time_at : Json → Option (Option ℕ)
 time_at j = time_from (get (codes "t") j)
 
--- an event that tells this at an address and a time, if all are there
-abbrev pub told_from : Option (List ℕ) → Option Told → Option (Option ℕ) → Said
-told_from (Some address) (Some t) (Some at) = tells address (record { at = at; told = t })
-told_from _ _ _ = malformed
+-- the number of the check-out that it concerns, if it says so; nothing where that is no whole number
+abbrev pub caller_from : Option Json → Option (Option ℕ)
+caller_from None = Some None
+caller_from (Some j) = option_map (λ i. Some i) (option_and_then (whole 0) (as_number j))
+
+abbrev pub caller_at : Json → Option (Option ℕ)
+caller_at j = caller_from (get (codes "caller") j)
+
+-- an event that tells this at an address, a time and of a check-out, if all are there
+abbrev pub told_from : Option (List ℕ) → Option Told → Option (Option ℕ) → Option (Option ℕ) → Said
+told_from (Some address) (Some t) (Some at) (Some caller) = tells address (record { at = at; caller = caller; told = t })
+told_from _ _ _ _ = malformed
 
 abbrev pub named_from : Option EventName → Json → Said
 named_from None j = passed
-named_from (Some name) j = told_from (text_at (codes "address") j) (told_at name j) (time_at j)
+named_from (Some name) j = told_from (text_at (codes "address") j) (told_at name j) (time_at j) (caller_at j)
 
 -- an event of a pool, by its name
 abbrev pub pool_from : Option (List ℕ) → Json → Said
 pool_from None j = malformed
 pool_from (Some name) j = named_from (event_named name) j
 
+-- the kind of server that a member names
+abbrev pub kind_at : List ℕ → Json → Option ServerKind
+kind_at key j = option_and_then kind_named (text_at key j)
+
+-- what an event of that name tells of a server
+unfoldable pub server_named : List ℕ → Json → Option ServerTold
+server_named name j =
+    if bytes_eq name (codes "ServerDescriptionChanged") then Some (server.Changed (kind_at (codes "from") j) (kind_at (codes "to") j))
+    else if bytes_eq name (codes "ServerOpening") then Some server.Opened
+    else if bytes_eq name (codes "ServerClosed") then Some server.Closed
+    else None
+
+abbrev pub server_at_address : Option (List ℕ) → ServerTold → Said
+server_at_address None t = malformed
+server_at_address (Some address) t = tells_server address t
+
+-- an event of a server, which needs an address
+abbrev pub server_from : Option ServerTold → Json → Said
+server_from None j = passed
+server_from (Some t) j = server_at_address (text_at (codes "address") j) t
+
+abbrev pub topology_or_server : Option ServerEvent → List ℕ → Json → Said
+topology_or_server (Some e) name j = tells_topology e
+topology_or_server None name j = server_from (server_named name j) j
+
+-- an event of a server or of the topology, by its name
+abbrev pub sdam_from : Option (List ℕ) → Json → Said
+sdam_from None j = malformed
+sdam_from (Some name) j = topology_or_server (topology_named name) name j
+
+-- an event of a check of a server, by its name
+abbrev pub check_from : Option (List ℕ) → Json → Said
+check_from None j = malformed
+check_from (Some name) j = server_from (check_named name) j
+
 -- an object, by its kind
 abbrev pub kind_from : Option (List ℕ) → Json → Said
 kind_from None j = malformed
-kind_from (Some kind) j = if bytes_eq kind (codes "pool") then pool_from (text_at (codes "event") j) j else passed
+kind_from (Some kind) j =
+    if bytes_eq kind (codes "pool") then pool_from (text_at (codes "event") j) j
+    else if bytes_eq kind (codes "sdam") then sdam_from (text_at (codes "event") j) j
+    else if bytes_eq kind (codes "beat") then check_from (text_at (codes "event") j) j
+    else passed
 
 abbrev pub object_from : Option Json → Said
 object_from None = malformed
@@ -108,3 +162,5 @@ abbrev pub line_view : Line → Said
 line_view lines.Malformed = malformed
 line_view lines.Passed = passed
 line_view (lines.Told address event) = tells address.now event
+line_view (lines.OfServer address t) = tells_server address.now t
+line_view (lines.OfTopology e) = tells_topology e

@@ -4,7 +4,7 @@ ghost use Rattle.std.specs.Prelude.{◌≡◌};
 ghost use Rattle.mdb_recording_lines.specs.EventNames.{connection_event, event_named, pool_event};
 
 /// The events of pools, by their names in CMAP.
-#[derive(Clone, Copy, Debug, PartialEq, Eq)]
+#[derive(Clone, Copy, Debug)]
 pub enum EventName {
     PoolCreated,
     PoolReady,

@@ -2,7 +2,7 @@
 
 ghost use Rattle.std.specs.Prelude.{◌≡◌, option_map};
 ghost use Rattle.json.specs.Value.{value_view};
-ghost use Rattle.mdb_recording_lines.specs.LineForms.{has_text, number_at, number_or, text_at, time_at};
+ghost use Rattle.mdb_recording_lines.specs.LineForms.{caller_at, has_text, number_at, number_or, text_at, time_at};
 
 use crate::number::{micros, whole};
 use json::Value;
@@ -46,6 +46,19 @@ pub fn time_at(object: &Value<'_>) -> Option<Option<u64>>
         Some(member) => {
             let at = micros(member.as_number()?)?;
             Some(Some(at))
+        }
+    }
+}
+
+/// The number of the check-out that it concerns, if it has one: nothing where `caller` is no whole number.
+pub fn caller_at(object: &Value<'_>) -> Option<Option<u64>>
+    ensures { result ≡ caller_at (value_view object.now) }
+{
+    match object.get("caller") {
+        None => Some(None),
+        Some(member) => {
+            let caller = whole(member.as_number()?.as_bytes())?;
+            Some(Some(caller))
         }
     }
 }

@@ -1,4 +1,4 @@
-//! The lines of a recording: JSON objects that tell the events of a driver's pools.
+//! The lines of a recording: JSON objects that tell the events of a driver's pools and servers.
 #![tactic(auto)]
 
 mod event_name;
@@ -7,6 +7,8 @@ mod line;
 mod names;
 mod number;
 mod reasons;
+mod server_line;
+mod server_names;
 
 pub use line::{Line, read_line};
 pub use names::Names;

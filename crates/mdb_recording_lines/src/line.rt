@@ -5,10 +5,12 @@ ghost use Rattle.json.specs.Value.{value_view};
 ghost use Rattle.mdb_recording_lines.specs.LineForms.{kind_from, limits_at, line_view, named_from, pool_from, reason_at, said, text_at, told_at, told_from};
 
 use crate::event_name::{EventName, event_named};
-use crate::fields::{has_text, number_at, number_or, text_at, time_at};
+use crate::fields::{caller_at, has_text, number_at, number_or, text_at, time_at};
 use crate::reasons::{close_reason, fail_reason};
+use crate::server_line::{check_from, sdam_from};
 use json::{Error, Scratch, Value};
 use mdb_base::OutOfMemory;
+use mdb_recording_servers::{ServerEvent, ServerTold};
 use mdb_recordings::{Event, Limits, Told};
 use std::alloc::Global;
 
@@ -17,10 +19,14 @@ use std::alloc::Global;
 pub enum Line<'a> {
     /// It is no JSON object with a `kind`, or lacks what its event needs.
     Malformed,
-    /// It tells nothing of a pool.
+    /// It tells nothing that is judged.
     Passed,
     /// An event of the pool at an address.
     Told(&'a str, Event),
+    /// An event of the server at an address.
+    OfServer(&'a str, ServerTold),
+    /// An event of the topology.
+    OfTopology(ServerEvent),
 }
 
 fn limits_at(object: &Value<'_>) -> Option<Limits>
@@ -86,11 +92,18 @@ fn told_at(name: EventName, object: &Value<'_>) -> Option<Told>
 }
 
 // An event, if all of it is there.
-fn told_from(address: Option<&str>, told: Option<Told>, time: Option<Option<u64>>) -> Line<'_>
-    ensures { line_view result ≡ told_from (option_map (λ a. a.now) address.entry) told time }
+fn told_from(
+    address: Option<&str>,
+    told: Option<Told>,
+    time: Option<Option<u64>>,
+    caller: Option<Option<u64>>,
+) -> Line<'_>
+    ensures { line_view result ≡ told_from (option_map (λ a. a.now) address.entry) told time caller }
 {
-    match (address, told, time) {
-        (Some(address), Some(told), Some(at)) => Line::Told(address, Event { at, told }),
+    match (address, told, time, caller) {
+        (Some(address), Some(told), Some(at), Some(caller)) => {
+            Line::Told(address, Event { at, caller, told })
+        }
         _ => Line::Malformed,
     }
 }
@@ -105,6 +118,7 @@ fn named_from<'a>(name: Option<EventName>, object: &Value<'a>) -> Line<'a>
             text_at(object, "address"),
             told_at(name, object),
             time_at(object),
+            caller_at(object),
         ),
     }
 }
@@ -128,6 +142,10 @@ fn object_from<'a>(object: &Value<'a>) -> Line<'a>
         Some(kind) => {
             if kind == "pool" {
                 pool_from(object)
+            } else if kind == "sdam" {
+                sdam_from(object)
+            } else if kind == "beat" {
+                check_from(object)
             } else {
                 Line::Passed
             }

@@ -6,7 +6,7 @@ ghost use Rattle.mdb_recordings.specs.Steps.{caller_after};
 use crate::event::Told;
 
 /// What the events of a pool tell of the check-out with a number.
-#[derive(Clone, Copy, Debug, PartialEq, Eq)]
+#[derive(Clone, Copy, Debug)]
 pub struct Caller {
     /// It was started, and neither served nor failed since.
     pub is_waiting: bool,

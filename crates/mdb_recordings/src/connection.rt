@@ -6,7 +6,7 @@ ghost use Rattle.mdb_recordings.specs.Steps.{connection_after};
 use crate::event::{Event, Told};
 
 /// What the events of a pool tell of a connection.
-#[derive(Clone, Copy, Debug, PartialEq, Eq)]
+#[derive(Clone, Copy, Debug)]
 pub struct Connection {
     pub is_created: bool,
     pub is_readied: bool,

@@ -4,7 +4,7 @@ ghost use Rattle.std.specs.Prelude.{◌≡◌};
 ghost use Rattle.mdb_recordings.specs.Events.{begins, creates_one, readies_one, closes_one, checks_out_one, checks_in_one, id_of, uses_one, goes_on, needs_pool, starts_one, ends_wait, serves};
 
 /// The options with which a pool was created.
-#[derive(Clone, Copy, Debug, PartialEq, Eq)]
+#[derive(Clone, Copy, Debug)]
 pub struct Limits {
     /// The most connections; 0 for no limit.
     pub max_size: u64,
@@ -15,7 +15,7 @@ pub struct Limits {
 }
 
 /// Why a connection was closed.
-#[derive(Clone, Copy, Debug, PartialEq, Eq)]
+#[derive(Clone, Copy, Debug)]
 pub enum CloseReason {
     Idle,
     Stale,
@@ -26,7 +26,7 @@ pub enum CloseReason {
 }
 
 /// Why a check-out failed.
-#[derive(Clone, Copy, Debug, PartialEq, Eq)]
+#[derive(Clone, Copy, Debug)]
 pub enum FailReason {
     Timeout,
     ConnectionError,
@@ -36,7 +36,7 @@ pub enum FailReason {
 }
 
 /// What an event tells of its pool. A connection is named by its id.
-#[derive(Clone, Copy, Debug, PartialEq, Eq)]
+#[derive(Clone, Copy, Debug)]
 pub enum Told {
     PoolCreated(Limits),
     PoolReady,
@@ -53,7 +53,7 @@ pub enum Told {
 }
 
 /// What an event tells, and when it came, in microseconds, and which check-out it concerns, where it says so.
-#[derive(Clone, Copy, Debug, PartialEq, Eq)]
+#[derive(Clone, Copy, Debug)]
 pub struct Event {
     pub at: Option<u64>,
     /// The number of the check-out, which a driver's wrapper gives it.
@@ -62,7 +62,7 @@ pub struct Event {
 }
 
 /// An event, and the number of the address of its pool.
-#[derive(Clone, Copy, Debug, PartialEq, Eq)]
+#[derive(Clone, Copy, Debug)]
 pub struct Recorded {
     pub pool: u32,
     pub event: Event,

@@ -8,7 +8,7 @@ use crate::event::{CloseReason, Limits, Told};
 use mdb_base::OutOfMemory;
 
 /// What the events of a pool tell of it, since it was created.
-#[derive(Clone, Copy, Debug, PartialEq, Eq)]
+#[derive(Clone, Copy, Debug)]
 pub struct Facts {
     pub limits: Limits,
     pub is_created: bool,

@@ -13,7 +13,7 @@ use crate::standard::Standard;
 use crate::turns::Turns;
 
 /// A rule of a driver's pools, named by how it is broken.
-#[derive(Clone, Copy, Debug, PartialEq, Eq)]
+#[derive(Clone, Copy, Debug)]
 pub enum Rule {
     PoolCreatedTwice,
     PoolNotCreated,

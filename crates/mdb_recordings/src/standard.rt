@@ -1,7 +1,7 @@
 //! The age of the standard by which a driver is judged.
 
 /// The CMAP standard, as it stood.
-#[derive(Clone, Copy, Debug, PartialEq, Eq)]
+#[derive(Clone, Copy, Debug)]
 pub enum Standard {
     /// Since 2022.
     Current,

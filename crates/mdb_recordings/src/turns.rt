@@ -10,7 +10,7 @@ use crate::facts::one_more;
 use mdb_base::OutOfMemory;
 
 /// What the events of a pool tell of the order of its numbered check-outs.
-#[derive(Clone, Copy, Debug, PartialEq, Eq)]
+#[derive(Clone, Copy, Debug)]
 pub struct Turns {
     /// How many were started.
     pub started: u64,
