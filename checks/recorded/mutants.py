@@ -20,14 +20,50 @@ def made_up(chance):
     lines, now = [], 0.0
     pools = {}
 
-    def tell(address, event, **more):
+    def tell(address, event, kind='pool', **more):
         nonlocal now
         now += chance.choice((0, 0.0001, 0.01, 0.3, 1.5))
-        lines.append(json.dumps({'t': round(now, chance.choice((3, 6))), 'kind': 'pool', 'event': event, 'address': address, **more}))
+        where = {} if address is None else {'address': address}
+        lines.append(json.dumps({'t': round(now, chance.choice((3, 6))), 'kind': kind, 'event': event, **where, **more}))
 
     for n in range(chance.randint(1, 3)):
         pools['h%d:1' % n] = None
+    servers = {}
+    waiting = {address: [] for address in pools}
+
+    def served(address):
+        """Who is served, mostly the one that was started first."""
+        queue = waiting[address]
+        if not queue:
+            return {}
+        return queue.pop(0 if chance.random() < .8 else chance.randrange(len(queue)))
+
+    def tell_server():
+        address = chance.choice(list(pools))
+        server = servers.get(address)
+        if server is None:
+            if not servers and chance.random() < .8:
+                tell(None, 'TopologyOpening', 'sdam')
+            tell(address, 'ServerOpening', 'sdam')
+            servers[address] = {'kind': 'Unknown', 'checked': False}
+        elif chance.random() < .4:
+            tell(address, chance.choice(plain.BEATS[1:]) if server['checked'] else plain.BEATS[0], 'beat')
+            server['checked'] = not server['checked']
+        elif chance.random() < .1:
+            tell(address, 'ServerClosed', 'sdam')
+            servers[address] = None
+        else:
+            to = chance.choice(plain.KINDS)
+            tell(address, 'ServerDescriptionChanged', 'sdam', **{'from': server['kind'], 'to': to})
+            server['kind'] = to
+            if chance.random() < .8:
+                tell(None, 'TopologyDescriptionChanged', 'sdam')
+
+    beside = chance.choice((0, 0, .3, .6))
     for _ in range(chance.randint(10, 60)):
+        if chance.random() < beside:
+            tell_server()
+            continue
         address = chance.choice(list(pools))
         pool = pools[address]
         if pool is None:
@@ -46,11 +82,14 @@ def made_up(chance):
             tell(address, 'ConnectionPoolClosed')
             pools[address] = None
         elif act < .36:
-            tell(address, 'ConnectionCheckOutStarted')
+            callers = {'caller': chance.randint(1, 9)} if chance.random() < .8 else {}
+            tell(address, 'ConnectionCheckOutStarted', **callers)
+            if callers:
+                waiting[address].append(callers)
             if chance.random() < .3:
-                tell(address, 'ConnectionCheckOutFailed', reason=chance.choice(('timeout', 'connectionError', 'poolClosed', 'other')))
+                tell(address, 'ConnectionCheckOutFailed', reason=chance.choice(('timeout', 'connectionError', 'poolClosed', 'other')), **served(address))
         elif act < .5:
-            tell(address, 'ConnectionCreated', connectionId=pool['next'])
+            tell(address, 'ConnectionCreated', connectionId=pool['next'], **(served(address) if chance.random() < .5 else {}))
             pool['pending'].append(pool['next'])
             pool['next'] += 1
         elif act < .64 and pool['pending']:
@@ -58,7 +97,7 @@ def made_up(chance):
             pool['idle'].append(pool['pending'].pop(0))
         elif act < .8 and pool['idle']:
             pool['out'].append(pool['idle'].pop())
-            tell(address, 'ConnectionCheckedOut', connectionId=pool['out'][-1])
+            tell(address, 'ConnectionCheckedOut', connectionId=pool['out'][-1], **served(address))
         elif act < .92 and pool['out']:
             pool['idle'].append(pool['out'].pop(0))
             tell(address, 'ConnectionCheckedIn', connectionId=pool['idle'][-1])
@@ -81,10 +120,14 @@ def changed(line, chance):
     kind = chance.random()
     if kind < .15:
         del thing[key]
+    elif key in ('from', 'to'):
+        thing[key] = chance.choice(plain.KINDS + ('Other', '', 4, None))
+    elif key == 'caller':
+        thing[key] = chance.choice((0, 1, 2, 3, 4, 5, 2 ** 64, -1, 'one', None))
     elif key == 'connectionId':
         thing[key] = chance.choice((1, 2, 3, 0, 2 ** 64 - 1, 2 ** 64, -1, 1.5, 'one', None, thing[key]))
     elif key == 'event':
-        thing[key] = chance.choice(plain.NEEDS_ID + plain.OTHERS + ('Other',))
+        thing[key] = chance.choice(plain.NEEDS_ID + plain.OTHERS + plain.SERVERS + plain.TOPOLOGIES + plain.BEATS + ('Other',))
     elif key == 'reason':
         thing[key] = chance.choice(('idle', 'stale', 'error', 'connectionError', 'timeout', 'poolClosed', '', 7))
     elif key == 't':
@@ -117,7 +160,7 @@ def mutate(lines, chance):
             at = chance.randrange(len(lines[n]))
             lines[n] = lines[n][:at] + chance.choice('{}[],:"0 \\x') + lines[n][at + 1:]
         else:
-            lines.insert(m, chance.choice(('', '{}', '[]', '7', 'null', '{"kind":"sdam"}', '{"kind":"pool"}', ' {"kind": "beat"} ', 'nonsense')))
+            lines.insert(m, chance.choice(('', '{}', '[]', '7', 'null', '{"kind":"sdam"}', '{"kind":"pool"}', '{"kind":"sdam","event":"TopologyDescriptionChanged"}', ' {"kind": "beat"} ', 'nonsense')))
     return ('\n'.join(lines) + chance.choice(('\n', '\n', '\n', ''))).encode()
 
 

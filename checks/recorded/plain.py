@@ -8,6 +8,9 @@ import sys
 
 NEEDS_ID = ('ConnectionCreated', 'ConnectionReady', 'ConnectionClosed', 'ConnectionCheckedOut', 'ConnectionCheckedIn')
 OTHERS = ('ConnectionPoolCreated', 'ConnectionPoolReady', 'ConnectionPoolCleared', 'ConnectionPoolClosed', 'ConnectionCheckOutStarted', 'ConnectionCheckOutFailed')
+KINDS = ('Unknown', 'Standalone', 'Mongos', 'PossiblePrimary', 'RSPrimary', 'RSSecondary', 'RSArbiter', 'RSOther', 'RSGhost', 'LoadBalancer')
+SERVERS, TOPOLOGIES = ('ServerOpening', 'ServerClosed', 'ServerDescriptionChanged'), ('TopologyOpening', 'TopologyClosed', 'TopologyDescriptionChanged')
+BEATS = ('ServerHeartbeatStarted', 'ServerHeartbeatSucceeded', 'ServerHeartbeatFailed')
 POOL_LIFE = ('ConnectionPoolReady', 'ConnectionPoolCleared', 'ConnectionPoolClosed', 'ConnectionCreated', 'ConnectionReady', 'ConnectionCheckedOut')
 
 
@@ -65,12 +68,16 @@ def event_of(line):
     thing = loads(line)
     if not isinstance(thing, dict):
         raise Malformed
-    if text(thing, 'kind') != 'pool':
+    kind = text(thing, 'kind')
+    if kind not in ('pool', 'sdam', 'beat'):
         return None
     name = text(thing, 'event')
+    if kind != 'pool':
+        return server_event_of(thing, kind, name)
     if name not in NEEDS_ID and name not in OTHERS:
         return None
-    event = {'event': name, 'address': text(thing, 'address'), 'id': None, 'at': micros(thing['t']) if 't' in thing else None}
+    event = {'kind': 'pool', 'event': name, 'address': text(thing, 'address'), 'id': None, 'at': micros(thing['t']) if 't' in thing else None}
+    event['caller'] = number(thing['caller']) if 'caller' in thing else None
     if name in NEEDS_ID:
         if 'connectionId' not in thing:
             raise Malformed
@@ -83,6 +90,16 @@ def event_of(line):
         event['all'] = not isinstance(service, str) or isinstance(service, Number)
     reason = thing.get('reason')
     event['reason'] = reason if isinstance(reason, str) and not isinstance(reason, Number) else ''
+    return event
+
+
+def server_event_of(thing, kind, name):
+    if name not in (BEATS if kind == 'beat' else SERVERS + TOPOLOGIES):
+        return None
+    event = {'kind': kind, 'event': name, 'address': None if name in TOPOLOGIES else text(thing, 'address')}
+    for key in ('from', 'to'):
+        word = thing.get(key)
+        event[key] = word if isinstance(word, str) and not isinstance(word, Number) and word in KINDS else None
     return event
 
 
@@ -110,6 +127,54 @@ def clears(events):
 def is_ready(pool):
     last = newest(pool, lambda e: e['event'] in ('ConnectionPoolReady', 'ConnectionPoolClosed') or e['event'] == 'ConnectionPoolCleared' and e['all'])
     return last is not None and last['event'] == 'ConnectionPoolReady'
+
+
+ENDS_WAIT = ('ConnectionCheckedOut', 'ConnectionCreated', 'ConnectionCheckOutFailed')
+
+
+def start(pool, at):
+    """Where the check-out was started whose wait the event at this place of a pool's events ends; None where it ends none."""
+    e = pool[at]
+    if e['caller'] is None or e['event'] not in ENDS_WAIT:
+        return None
+    for n in range(at - 1, -1, -1):
+        if pool[n]['caller'] == e['caller']:
+            if pool[n]['event'] == 'ConnectionCheckOutStarted':
+                return n
+            if pool[n]['event'] in ENDS_WAIT:
+                return None
+    return None
+
+
+def is_passed(pool, e):
+    """It ends a wait, and a check-out that was started later was served before."""
+    mine = start(pool + [e], len(pool))
+    served = (start(pool, n) for n, x in enumerate(pool) if x['event'] in ENDS_WAIT[:2])
+    return mine is not None and any(n is not None and mine < n for n in served)
+
+
+def server_rules(events, e):
+    """The rules that an event of a server or of the topology breaks after all these."""
+    name, mine = e['event'], [x for x in events if x['address'] == e['address'] and e['address'] is not None]
+    state = newest(mine, lambda x: x['event'] in ('ServerOpening', 'ServerClosed'))
+    is_open = state is not None and state['event'] == 'ServerOpening'
+    if name == 'ServerOpening' and is_open:
+        yield 'server-opened-twice'
+    told = any(x['kind'] == 'sdam' for x in events)
+    if (name in ('ServerClosed', 'ServerDescriptionChanged') or name in BEATS and told) and not is_open:
+        yield 'server-not-open'
+    if name == 'ServerDescriptionChanged':
+        last = newest(mine, lambda x: x['event'] in SERVERS)
+        was = None if last is None else {'ServerOpening': 'Unknown', 'ServerClosed': None}.get(last['event'], last['to'])
+        if was is not None and e['from'] is not None and was != e['from']:
+            yield 'from-differs'
+    beat = newest(mine, lambda x: x['event'] in BEATS)
+    if name in BEATS[1:] and (beat is None or beat['event'] != BEATS[0]):
+        yield 'no-check'
+    if name == 'TopologyDescriptionChanged':
+        last = newest(events, lambda x: x['event'] in SERVERS + ('TopologyOpening', 'TopologyDescriptionChanged'))
+        if last is None or last['event'] == 'TopologyDescriptionChanged':
+            yield 'no-cause'
 
 
 def rules(pool, e, year):
@@ -165,11 +230,13 @@ def rules(pool, e, year):
         fair = {'timeout': True, 'poolClosed': closed_pool, 'connectionError': not is_ready(pool) or broken or 0 < clears(pool)}
         if not fair.get(e['reason'], False):
             yield 'no-reason'
+    if is_passed(pool, e):
+        yield 'out-of-turn'
 
 
 def report(data, year):
     """The text that mdb_recorded writes, and its status."""
-    lines, events, found, bad = [], [], 0, 0
+    lines, events, servers, found, bad = [], [], [], 0, 0
     for n, line in enumerate(data.split(b'\n')[:-1] if data.endswith(b'\n') else data.split(b'\n') if data else [], 1):
         try:
             event = event_of(line)
@@ -179,6 +246,12 @@ def report(data, year):
             continue
         if event is None:
             continue
+        if event['kind'] != 'pool':
+            for rule in server_rules(servers, event):
+                found += 1
+                lines.append('event %d: %s%s' % (n, rule, '' if event['address'] is None else ' server=' + event['address']))
+            servers.append(event)
+            continue
         for rule in rules(life(events, event['address']), event, year):
             found += 1
             lines.append('event %d: %s pool=%s%s' % (n, rule, event['address'], '' if event['id'] is None else ' connection=%d' % event['id']))
@@ -187,7 +260,8 @@ def report(data, year):
         pool = life(events, address)
         counts = [len(named(pool, kind)) for kind in NEEDS_ID[:3] + ('ConnectionCheckOutStarted',) + NEEDS_ID[3:] + ('ConnectionCheckOutFailed',)] + [clears(pool)]
         lines.append('pool %s created=%d ready=%d closed=%d started=%d out=%d in=%d failed=%d cleared=%d' % ((address,) + tuple(counts)))
-    lines.append('clean events=%d' % len(events) if not found and not bad else 'findings=%d malformed=%d events=%d' % (found, bad, len(events)))
+    judged = len(events) + len(servers)
+    lines.append('clean events=%d' % judged if not found and not bad else 'findings=%d malformed=%d events=%d' % (found, bad, judged))
     return ''.join(line + '\n' for line in lines).encode(), 0 if not found and not bad else 7
 
 

@@ -1,9 +1,9 @@
-// Records what the pools of the Go driver tell, as JSON lines that mdb_recorded reads.
+// Records what the Go driver tells of its pools, servers and topology, as JSON lines that mdb_recorded reads.
 //
 // usage: record_go URI SECONDS WORKERS > recording.jsonl      needs golang-mongodb-mongo-driver-dev; see run.py for how it is built
 //
-// `recorder` is all that your own program needs: options.Client().SetPoolMonitor(recorder(file)). The rest is a load: so many
-// goroutines that insert for so long, whatever fails.
+// `recorder` is all that your own program needs: its monitors are set by SetPoolMonitor and SetServerMonitor. The rest is a load:
+// so many goroutines that insert for so long, whatever fails.
 package main
 
 import (
@@ -11,9 +11,9 @@ import (
 	"context"
 	"encoding/json"
 	"fmt"
-	"io"
 	"os"
 	"strconv"
+	"strings"
 	"sync"
 	"sync/atomic"
 	"time"
@@ -21,6 +21,7 @@ import (
 	"go.mongodb.org/mongo-driver/bson"
 	"go.mongodb.org/mongo-driver/event"
 	"go.mongodb.org/mongo-driver/mongo"
+	"go.mongodb.org/mongo-driver/mongo/description"
 	"go.mongodb.org/mongo-driver/mongo/options"
 	"go.mongodb.org/mongo-driver/version"
 )
@@ -30,7 +31,9 @@ type line struct {
 	T       json.Number `json:"t"`
 	Kind    string      `json:"kind"`
 	Event   string      `json:"event"`
-	Address string      `json:"address"`
+	Address string      `json:"address,omitempty"`
+	From    string      `json:"from,omitempty"`
+	To      string      `json:"to,omitempty"`
 	ID      *uint64     `json:"connectionId,omitempty"`
 	Reason  string      `json:"reason,omitempty"`
 	Service string      `json:"serviceId,omitempty"`
@@ -39,14 +42,22 @@ type line struct {
 }
 
 // Writes each event as a line, in the order in which the driver tells them.
-func recorder(file io.Writer) *event.PoolMonitor {
-	var lock sync.Mutex
-	began, encoder := time.Now(), json.NewEncoder(file)
+type recorder struct {
+	lock    sync.Mutex
+	began   time.Time
+	encoder *json.Encoder
+}
+
+func (r *recorder) tell(told line) {
+	r.lock.Lock()
+	defer r.lock.Unlock()
+	told.T = json.Number(strconv.FormatFloat(time.Since(r.began).Seconds(), 'f', 6, 64))
+	r.encoder.Encode(told)
+}
+
+func (r *recorder) pools() *event.PoolMonitor {
 	return &event.PoolMonitor{Event: func(e *event.PoolEvent) {
-		lock.Lock()
-		defer lock.Unlock()
-		now := strconv.FormatFloat(time.Since(began).Seconds(), 'f', 6, 64)
-		told := line{T: json.Number(now), Kind: "pool", Event: e.Type, Address: e.Address, Reason: e.Reason}
+		told := line{Kind: "pool", Event: e.Type, Address: e.Address, Reason: e.Reason}
 		switch e.Type {
 		case event.PoolCreated:
 			told.Max, told.Min = &e.PoolOptions.MaxPoolSize, &e.PoolOptions.MinPoolSize
@@ -60,8 +71,39 @@ func recorder(file io.Writer) *event.PoolMonitor {
 		if e.Type == event.ConnectionClosed && e.Reason == event.ReasonConnectionErrored {
 			told.Reason = "error"
 		}
-		encoder.Encode(told)
+		r.tell(told)
 	}}
+}
+
+// The kind of a server by its name in SDAM.
+func kind(k description.ServerKind) string {
+	if k == description.RSMember {
+		return "RSOther"
+	}
+	return k.String()
+}
+
+// The address of a heartbeat's connection, whose name is host:port[-number].
+func address(connection string) string {
+	return strings.SplitN(connection, "[", 2)[0]
+}
+
+func (r *recorder) servers() *event.ServerMonitor {
+	sdam := func(name, address string) { r.tell(line{Kind: "sdam", Event: name, Address: address}) }
+	beat := func(name, connection string) { r.tell(line{Kind: "beat", Event: name, Address: address(connection)}) }
+	return &event.ServerMonitor{
+		ServerOpening: func(e *event.ServerOpeningEvent) { sdam("ServerOpening", e.Address.String()) },
+		ServerClosed:  func(e *event.ServerClosedEvent) { sdam("ServerClosed", e.Address.String()) },
+		ServerDescriptionChanged: func(e *event.ServerDescriptionChangedEvent) {
+			r.tell(line{Kind: "sdam", Event: "ServerDescriptionChanged", Address: e.Address.String(), From: kind(e.PreviousDescription.Kind), To: kind(e.NewDescription.Kind)})
+		},
+		TopologyOpening:            func(*event.TopologyOpeningEvent) { sdam("TopologyOpening", "") },
+		TopologyDescriptionChanged: func(*event.TopologyDescriptionChangedEvent) { sdam("TopologyDescriptionChanged", "") },
+		TopologyClosed:             func(*event.TopologyClosedEvent) { sdam("TopologyClosed", "") },
+		ServerHeartbeatStarted:     func(e *event.ServerHeartbeatStartedEvent) { beat("ServerHeartbeatStarted", e.ConnectionID) },
+		ServerHeartbeatSucceeded:   func(e *event.ServerHeartbeatSucceededEvent) { beat("ServerHeartbeatSucceeded", e.ConnectionID) },
+		ServerHeartbeatFailed:      func(e *event.ServerHeartbeatFailedEvent) { beat("ServerHeartbeatFailed", e.ConnectionID) },
+	}
 }
 
 func main() {
@@ -69,7 +111,8 @@ func main() {
 	workers, _ := strconv.Atoi(os.Args[3])
 	out := bufio.NewWriter(os.Stdout)
 	defer out.Flush()
-	client, err := mongo.Connect(context.Background(), options.Client().ApplyURI(os.Args[1]).SetPoolMonitor(recorder(out)))
+	told := &recorder{began: time.Now(), encoder: json.NewEncoder(out)}
+	client, err := mongo.Connect(context.Background(), options.Client().ApplyURI(os.Args[1]).SetPoolMonitor(told.pools()).SetServerMonitor(told.servers()))
 	if err != nil {
 		fmt.Fprintln(os.Stderr, err)
 		os.Exit(1)

@@ -1,4 +1,4 @@
-//! The findings of one event.
+//! The findings of one event of a pool.
 
 ghost use Rattle.std.specs.Prelude.{◌≡◌, ◌+◌, ◌++◌, List, IfOk, if◌then◌else◌, string_bytes, ◌∷◌, []};
 ghost use Rattle.mdb_recordings.specs.declared.event.Recorded.{Recorded as Event_};
@@ -53,7 +53,7 @@ fn tell_rule(
     rule: Rule,
 ) -> Result<u64, OutOfMemory>
     ensures { IfOk result (λ n. (h : List Event_) → place.now.known.now ≡ glance_of h place.now.recorded.now
-        → TellsRules place.now.standard h place.now.number place.now.address.now place.now.recorded.now (rule ∷ []) (string_bytes out.old) (string_bytes out.new) n) }
+        → TellsRules (λ r. breaks place.now.standard r h place.now.recorded.now) (λ r. finding_line place.now.number place.now.address.now place.now.recorded.now r) (rule ∷ []) (string_bytes out.old) (string_bytes out.new) n) }
 {
     if breaks(place.standard, rule, place.known, place.recorded) {
         let line = finding_line(alloc, place.number, place.address, place.recorded, rule)?;
@@ -76,13 +76,14 @@ pub fn sum(count: u64, more: u64) -> Result<u64, OutOfMemory>
 /// Tells of each rule that the event breaks, and answers how many these are.
 pub fn tell_findings(alloc: Global, out: &mut String, place: &Place<'_>) -> Result<u64, OutOfMemory>
     ensures { IfOk result (λ n. (h : List Event_) → place.now.known.now ≡ glance_of h place.now.recorded.now
-        → TellsRules place.now.standard h place.now.number place.now.address.now place.now.recorded.now all_rules (string_bytes out.old) (string_bytes out.new) n) }
+        → TellsRules (λ r. breaks place.now.standard r h place.now.recorded.now) (λ r. finding_line place.now.number place.now.address.now place.now.recorded.now r) all_rules (string_bytes out.old) (string_bytes out.new) n) }
 {
     let mut found = 0u64;
     let mut rest = all_rules();
     while let Some((rule, more)) = rest.split_first() {
         let one = tell_rule(alloc, out, place, *rule)?;
-        found = sum(found, one)?;
+        let next = sum(found, one)?;
+        found = next;
         rest = more;
     }
     Ok(found)
