@@ -1,11 +1,11 @@
 -- The lines are taken one after the other.
-use Rattle.std.proofs.Common.{◌≡◌, ℕ, ◌+◌, ◌==◌, Bool, true, false, if◌then◌else◌, List, [], ◌∷◌, ◌++◌, length, codes, refl, sym, ap, ◌∙◌, subst, arith, append_assoc}
+use Rattle.std.proofs.Common.{◌≡◌, ◌<◌, ℕ, ◌+◌, ◌==◌, Bool, true, false, if◌then◌else◌, List, [], ◌∷◌, ◌++◌, length, codes, refl, sym, ap, ◌∙◌, subst, arith, append_assoc}
 use Rattle.std.proofs.lemmas.List.{append-nil}
 use Rattle.mdb_base.specs.AddressReading.{beyond}
 use Rattle.mdb_lines.specs.Script.{lines_of}
 use Rattle.mdb_recordings.specs.declared.standard.Standard.{Standard}
 use Rattle.mdb_recording_lines.specs.LineForms.{said}
-use Rattle.mdb_recording_runs.specs.Cutting.{without_newline}
+use Rattle.mdb_recording_runs.specs.Cutting.{CutsFirst, without_newline}
 use Rattle.mdb_recording_runs.specs.Keeping.{Keeps}
 use Rattle.mdb_recording_runs.specs.Report.{Read, after_said, said_text, after_lines, lines_text, nothing, read_of}
 use Rattle.mdb_recording_runs.specs.declared.reader.Reader.{Reader}
@@ -43,33 +43,29 @@ pub lines-start : (standard : Standard) (text : List ℕ) (reader : Reader) → 
 lines-start standard text reader keeps = record { read = nothing; told = []; keeps = keeps; reads = refl; tells = refl }
 
 -- one line more
-line-more : (standard : Standard) (text rest more line whole : List ℕ) (n k : ℕ) (old new : Reader) → k ≡ n + 1 → lines_of rest ≡ whole ∷ lines_of more → without_newline whole ≡ line
+pub line-more : (standard : Standard) (text rest more line : List ℕ) (n k : ℕ) (old new : Reader) → k ≡ n + 1 → CutsFirst rest line more
     → ((s : Read) (told : List ℕ) → Keeps standard s told old → Keeps standard (after_said standard s (said line)) (told ++ said_text standard k s (said line)) new)
     → LinesLeft standard text rest n old → LinesLeft standard text more k new
-line-more standard text rest more line whole n k old new next cut front take left = record {
+line-more standard text rest more line n k old new next cut take left = record {
   read = after_said standard left.read (said line);
   told = left.told ++ said_text standard k left.read (said line);
   keeps = take left.read left.told left.keeps;
-  reads = ap (λ l. after_lines standard (after_said standard left.read (said l)) (lines_of more)) (sym front) ∙ ap (λ ls. after_lines standard left.read ls) (sym cut) ∙ left.reads;
+  reads = ap (λ l. after_lines standard (after_said standard left.read (said l)) (lines_of more)) (sym cut.own) ∙ ap (λ ls. after_lines standard left.read ls) (sym cut.lines) ∙ left.reads;
   tells =
       append_assoc left.told (said_text standard k left.read (said line)) (lines_text standard (k + 1) (after_said standard left.read (said line)) (lines_of more))
-      ∙ ap (λ l. left.told ++ (said_text standard k left.read (said l) ++ lines_text standard (k + 1) (after_said standard left.read (said l)) (lines_of more))) (sym front)
-      ∙ ap (λ m. left.told ++ lines_text standard m left.read (whole ∷ lines_of more)) next
-      ∙ ap (λ ls. left.told ++ lines_text standard (n + 1) left.read ls) (sym cut) ∙ left.tells;
+      ∙ ap (λ l. left.told ++ (said_text standard k left.read (said l) ++ lines_text standard (k + 1) (after_said standard left.read (said l)) (lines_of more))) (sym cut.own)
+      ∙ ap (λ m. left.told ++ lines_text standard m left.read (cut.whole ∷ lines_of more)) next
+      ∙ ap (λ ls. left.told ++ lines_text standard (n + 1) left.read ls) (sym cut.lines) ∙ left.tells;
 }
 
--- one line more, with its newline
-pub line-next : (standard : Standard) (text rest more line : List ℕ) (n k : ℕ) (old new : Reader) → k ≡ n + 1 → lines_of rest ≡ (line ++ codes "\n") ∷ lines_of more
-    → ((s : Read) (told : List ℕ) → Keeps standard s told old → Keeps standard (after_said standard s (said line)) (told ++ said_text standard k s (said line)) new)
-    → LinesLeft standard text rest n old → LinesLeft standard text more k new
-line-next standard text rest more line n k old new next cut take left = line-more standard text rest more line (line ++ codes "\n") n k old new next cut (cut-newline line) take left
+-- a line with its newline
+pub cuts-next : (text line behind : List ℕ) → lines_of text ≡ (line ++ codes "\n") ∷ lines_of behind → length behind < length text → CutsFirst text line behind
+cuts-next text line behind cut shorter = record { whole = line ++ codes "\n"; lines = cut; own = cut-newline line; shorter = shorter }
 
 -- the last line, which has no newline
-pub line-last : (standard : Standard) (text rest : List ℕ) (n k : ℕ) (old new : Reader) → k ≡ n + 1 → lines_of rest ≡ rest ∷ [] → beyond 10 rest ≡ []
-    → ((s : Read) (told : List ℕ) → Keeps standard s told old → Keeps standard (after_said standard s (said rest)) (told ++ said_text standard k s (said rest)) new)
-    → LinesLeft standard text rest n old → LinesLeft standard text [] k new
+pub cuts-last : (text : List ℕ) → lines_of text ≡ text ∷ [] → beyond 10 text ≡ [] → 0 < length text → CutsFirst text text []
 unfolding lines_of
-line-last standard text rest n k old new next cut none take left = line-more standard text rest [] rest rest n k old new next cut (no-newline rest none) take left
+cuts-last text cut none some = record { whole = text; lines = cut; own = no-newline text none; shorter = some }
 
 -- no line is left
 pub lines-end : (standard : Standard) (text rest : List ℕ) (n : ℕ) (reader : Reader) → length rest ≡ 0 → LinesLeft standard text rest n reader → Keeps standard (read_of standard text) (lines_text standard 1 nothing (lines_of text)) reader

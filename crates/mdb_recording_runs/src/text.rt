@@ -1,6 +1,7 @@
 //! What is told of a whole recording.
 
-ghost use Rattle.std.specs.Prelude.{◌≡◌, ◌+◌, ◌++◌, List, ℕ, [], IfOk, OnOk, string_bytes, map};
+ghost use Rattle.std.specs.Prelude.{◌≡◌, ◌+◌, ◌++◌, ◌<◌, List, ℕ, [], length, IfOk, OnOk, string_bytes, map};
+ghost use Rattle.mdb_recording_runs.specs.Cutting.{CutsFirst};
 ghost use Rattle.mdb_lines.specs.Script.{lines_of};
 ghost use Rattle.mdb_recordings.specs.Standing.{Stands};
 ghost use Rattle.mdb_recordings.specs.declared.event.Recorded.{Recorded};
@@ -31,6 +32,17 @@ fn next(read: u64) -> Result<u64, OutOfMemory>
     }
 }
 
+// The first line of a text, without its newline, and what stands behind it.
+fn first_line(text: &[u8]) -> (&[u8], &[u8])
+    requires { 0 < length text.now }
+    ensures { CutsFirst text.now result.0.now result.1.now }
+{
+    match cut_line(text) {
+        None => (text, &[]),
+        Some((line, behind)) => (line, behind),
+    }
+}
+
 // The lines, of which none was taken so far.
 fn take_lines(alloc: Global, reader: &mut Reader, text: &[u8]) -> Result<(), OutOfMemory>
     ensures { OnOk result ((standard : Standard_) → Keeps standard nothing [] reader.old → Keeps standard (read_of standard text.now) (lines_text standard 1 nothing (lines_of text.now)) reader.new) }
@@ -40,16 +52,9 @@ fn take_lines(alloc: Global, reader: &mut Reader, text: &[u8]) -> Result<(), Out
     let mut read = 0u64;
     while !rest.is_empty() {
         let number = next(read)?;
-        match cut_line(rest) {
-            None => {
-                reader.take(&mut scratch, number, rest)?;
-                rest = &[];
-            }
-            Some((line, behind)) => {
-                reader.take(&mut scratch, number, line)?;
-                rest = behind;
-            }
-        }
+        let cut = first_line(rest);
+        reader.take(&mut scratch, number, cut.0)?;
+        rest = cut.1;
         read = number;
     }
     Ok(())
