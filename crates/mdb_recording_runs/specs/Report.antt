@@ -138,21 +138,46 @@ lines_text standard n s (line ∷ lines) = said_text standard n s (said (without
 
 -- the end
 
+-- the counts of a pool's connections, of its check-outs, and of what failed and was cleared
+
+abbrev pub connections_text : Facts → List ℕ
+connections_text f = codes " created=" ++ (decimal f.created ++ (codes " ready=" ++ (decimal f.readied ++ (codes " closed=" ++ decimal f.closed))))
+
+abbrev pub check_outs_text : Facts → List ℕ
+check_outs_text f = codes " started=" ++ (decimal f.started ++ (codes " out=" ++ (decimal f.outs ++ (codes " in=" ++ decimal f.ins))))
+
+abbrev pub ends_text : Facts → List ℕ
+ends_text f = codes " failed=" ++ (decimal f.failed ++ (codes " cleared=" ++ decimal f.clears))
+
 -- what the last pool at an address did
 abbrev pub pool_line : List ℕ → Facts → List ℕ
-pool_line a f = codes "pool " ++ (a ++ (codes " created=" ++ (decimal f.created ++ (codes " ready=" ++ (decimal f.readied ++ (codes " closed=" ++ (decimal f.closed ++ (codes " started=" ++ (decimal f.started ++ (codes " out=" ++ (decimal f.outs ++ (codes " in=" ++ (decimal f.ins ++ (codes " failed=" ++ (decimal f.failed ++ (codes " cleared=" ++ (decimal f.clears ++ codes "\n")))))))))))))))))
+pool_line a f = codes "pool " ++ (a ++ (connections_text f ++ (check_outs_text f ++ (ends_text f ++ codes "\n"))))
 
 -- the pools at these addresses, numbered from this
 abbrev pub pools_text : List Recorded → ℕ → List (List ℕ) → List ℕ
 pools_text h p [] = []
 pools_text h p (a ∷ known) = pool_line a (facts_of (life p h)) ++ pools_text h (p + 1) known
 
+-- there is no finding and no malformed line
+abbrev pub nothing_found : ℕ → ℕ → Bool
+nothing_found found bad = (found == 0) && (bad == 0)
+
+abbrev pub clean_line : ℕ → List ℕ
+clean_line events = codes "clean events=" ++ (decimal events ++ codes "\n")
+
+abbrev pub found_line : ℕ → ℕ → ℕ → List ℕ
+found_line found bad events = codes "findings=" ++ (decimal found ++ (codes " malformed=" ++ (decimal bad ++ (codes " events=" ++ (decimal events ++ codes "\n")))))
+
+-- the last line, by these counts
+abbrev pub counts_line : ℕ → ℕ → ℕ → List ℕ
+counts_line found bad events = if nothing_found found bad then clean_line events else found_line found bad events
+
 -- nothing was found
 abbrev pub is_clean : Read → Bool
-is_clean s = (s.findings == 0) && (s.malformed == 0)
+is_clean s = nothing_found s.findings s.malformed
 
 abbrev pub end_line : Read → List ℕ
-end_line s = if is_clean s then codes "clean events=" ++ (decimal s.events ++ codes "\n") else codes "findings=" ++ (decimal s.findings ++ (codes " malformed=" ++ (decimal s.malformed ++ (codes " events=" ++ (decimal s.events ++ codes "\n")))))
+end_line s = counts_line s.findings s.malformed s.events
 
 -- all that is told of a recording that was read
 abbrev pub end_text : Read → List ℕ

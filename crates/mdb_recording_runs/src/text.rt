@@ -6,8 +6,8 @@ ghost use Rattle.mdb_lines.specs.Script.{lines_of};
 ghost use Rattle.mdb_recordings.specs.Standing.{Stands};
 ghost use Rattle.mdb_recordings.specs.declared.event.Recorded.{Recorded};
 ghost use Rattle.mdb_recordings.specs.declared.standard.Standard.{Standard as Standard_};
-ghost use Rattle.mdb_recording_runs.specs.Keeping.{Keeps};
-ghost use Rattle.mdb_recording_runs.specs.Report.{Read, end_line, is_clean, lines_text, nothing, pool_line, pools_text, read_of, report};
+ghost use Rattle.mdb_recording_runs.specs.Keeping.{Ends, Keeps};
+ghost use Rattle.mdb_recording_runs.specs.Report.{Read, check_outs_text, clean_line, connections_text, counts_line, ends_text, found_line, is_clean, lines_text, nothing, nothing_found, pool_line, pools_text, read_of, report};
 
 use crate::reader::Reader;
 use json::Scratch;
@@ -60,15 +60,34 @@ fn take_lines(alloc: Global, reader: &mut Reader, text: &[u8]) -> Result<(), Out
     Ok(())
 }
 
+fn connections_text(alloc: Global, f: &Facts) -> Result<String, OutOfMemory>
+    ensures { IfOk result (λ s. string_bytes s ≡ connections_text f.now) }
+{
+    let (created, ready, closed) = (f.created, f.readied, f.closed);
+    Ok(format!(in alloc; " created={created} ready={ready} closed={closed}")?)
+}
+
+fn check_outs_text(alloc: Global, f: &Facts) -> Result<String, OutOfMemory>
+    ensures { IfOk result (λ s. string_bytes s ≡ check_outs_text f.now) }
+{
+    let (started, outs, ins) = (f.started, f.outs, f.ins);
+    Ok(format!(in alloc; " started={started} out={outs} in={ins}")?)
+}
+
+fn ends_text(alloc: Global, f: &Facts) -> Result<String, OutOfMemory>
+    ensures { IfOk result (λ s. string_bytes s ≡ ends_text f.now) }
+{
+    let (failed, cleared) = (f.failed, f.clears);
+    Ok(format!(in alloc; " failed={failed} cleared={cleared}")?)
+}
+
 fn pool_line(alloc: Global, address: &str, f: &Facts) -> Result<String, OutOfMemory>
     ensures { IfOk result (λ s. string_bytes s ≡ pool_line address.now f.now) }
 {
-    let (created, ready, closed) = (f.created, f.readied, f.closed);
-    let (started, outs, ins) = (f.started, f.outs, f.ins);
-    let (failed, cleared) = (f.failed, f.clears);
-    Ok(format!(in alloc;
-        "pool {address} created={created} ready={ready} closed={closed} started={started} out={outs} in={ins} failed={failed} cleared={cleared}\n"
-    )?)
+    let connections = connections_text(alloc, f)?;
+    let outs = check_outs_text(alloc, f)?;
+    let ends = ends_text(alloc, f)?;
+    Ok(format!(in alloc; "pool {address}{connections}{outs}{ends}\n")?)
 }
 
 fn next_pool(pool: u32) -> Result<u32, OutOfMemory>
@@ -101,15 +120,57 @@ fn tell_pools(
     Ok(())
 }
 
-fn end_line(alloc: Global, reader: &Reader) -> Result<String, OutOfMemory>
-    ensures { IfOk result (λ t. (standard : Standard_) (s : Read) (text : List ℕ) → Keeps standard s text reader.now → string_bytes t ≡ end_line s) }
+fn nothing_found(findings: u64, malformed: u64) -> bool
+    ensures { result ≡ nothing_found findings malformed }
 {
-    let (events, findings, malformed) = (reader.events, reader.findings, reader.malformed);
-    if findings == 0 && malformed == 0 {
-        Ok(format!(in alloc; "clean events={events}\n")?)
+    findings == 0 && malformed == 0
+}
+
+fn clean_line(alloc: Global, events: u64) -> Result<String, OutOfMemory>
+    ensures { IfOk result (λ t. string_bytes t ≡ clean_line events) }
+{
+    Ok(format!(in alloc; "clean events={events}\n")?)
+}
+
+fn found_line(
+    alloc: Global,
+    findings: u64,
+    malformed: u64,
+    events: u64,
+) -> Result<String, OutOfMemory>
+    ensures { IfOk result (λ t. string_bytes t ≡ found_line findings malformed events) }
+{
+    Ok(format!(in alloc; "findings={findings} malformed={malformed} events={events}\n")?)
+}
+
+fn counts_line(
+    alloc: Global,
+    findings: u64,
+    malformed: u64,
+    events: u64,
+) -> Result<String, OutOfMemory>
+    ensures { IfOk result (λ t. string_bytes t ≡ counts_line findings malformed events) }
+{
+    if nothing_found(findings, malformed) {
+        clean_line(alloc, events)
     } else {
-        Ok(format!(in alloc; "findings={findings} malformed={malformed} events={events}\n")?)
+        found_line(alloc, findings, malformed, events)
     }
+}
+
+// All lines were read: the pools and the end.
+fn tell_end(alloc: Global, reader: &mut Reader) -> Result<(), OutOfMemory>
+    ensures { OnOk result ((standard : Standard_) (s : Read) (text : List ℕ) → Keeps standard s text reader.old → Ends s text reader.new) }
+{
+    tell_pools(
+        alloc,
+        &mut reader.out,
+        reader.names.list.as_slice(),
+        &reader.judge,
+    )?;
+    let line = counts_line(alloc, reader.findings, reader.malformed, reader.events)?;
+    reader.out.push_str(line.as_str())?;
+    Ok(())
 }
 
 /// What is told of a recording, by the standard of that time.
@@ -119,15 +180,8 @@ pub fn judge(alloc: Global, standard: Standard, text: &[u8]) -> Result<Report, O
 {
     let mut reader = Reader::new(alloc, standard);
     take_lines(alloc, &mut reader, text)?;
-    tell_pools(
-        alloc,
-        &mut reader.out,
-        reader.names.list.as_slice(),
-        &reader.judge,
-    )?;
-    let line = end_line(alloc, &reader)?;
-    reader.out.push_str(line.as_str())?;
-    let is_clean = reader.findings == 0 && reader.malformed == 0;
+    tell_end(alloc, &mut reader)?;
+    let is_clean = nothing_found(reader.findings, reader.malformed);
     let Reader { out, .. } = reader;
     Ok(Report {
         text: out,

@@ -1,6 +1,6 @@
 //! The tool: it reads a recording to its end and writes what it finds.
 
-ghost use Rattle.std.specs.Prelude.{◌≡◌, ◌≤◌, ◌<◌, ℕ, List, length, map, Some, IfOk, IfErr, string_bytes};
+ghost use Rattle.std.specs.Prelude.{◌≡◌, ◌≤◌, ◌<◌, if◌then◌else◌, ℕ, List, length, map, Some, IfOk, IfErr, string_bytes};
 ghost use Rattle.mdb_base.specs.Outside.{Rose};
 ghost use Rattle.mdb_lines.specs.Status.{Tells};
 ghost use Rattle.mdb_recordings.specs.declared.standard.Standard.{Standard as Standard_};
