@@ -1,5 +1,5 @@
 -- What the next check of a server does, as numbers.
-use Rattle.std.specs.Prelude.{ℕ, ℤ, pos, Bool, not, List, replicate, Option, Some, None, is_some, is_none, option_map, option_and_then}
+use Rattle.std.specs.Prelude.{ℕ, ℤ, pos, Bool, true, false, not, ◌&&◌, List, replicate, Option, Some, None, is_some, is_none, option_map, option_and_then}
 use Rattle.mdb_base.specs.declared.address.ServerAddress.{ServerAddress}
 use Rattle.mdb_describe.specs.Fields.{response}
 use Rattle.mdb_describe.specs.Topology.{server_at}
@@ -47,6 +47,12 @@ abbrev pub process_of : Option AwaitableHelloOptions → List ℕ
 process_of (Some options) = options.topology_version.process_id.0
 process_of None = replicate 12 0
 
+-- a check sends a command, unless it reads what comes unasked
+abbrev pub sends : Action → Bool
+sends Connect = true
+sends Read = false
+sends (Hello options) = true
+
 -- A command has the older name where the server is not known to know `hello`, and asks for that where nothing is known of it.
 abbrev pub check_numbers : Option Bool → Begin → CheckNumbers
 check_numbers hello_ok b = record {
@@ -57,8 +63,8 @@ check_numbers hello_ok b = record {
   action = action_number b.action;
   connection = b.driver_connection_id;
   awaits = flag_number (is_some (awaited_of b.action));
-  legacy = flag_number (not (is_current None None hello_ok));
-  asks = flag_number (is_none hello_ok);
+  legacy = flag_number (sends b.action && not (is_current None None hello_ok));
+  asks = flag_number (sends b.action && is_none hello_ok);
 }
 
 -- the check of a server that is described so

@@ -2,7 +2,7 @@
 
 ghost use Rattle.std.specs.Prelude.{◌≡◌, not, None, option_copied};
 ghost use Rattle.mdb_hello.specs.Commands.{is_current};
-ghost use Rattle.mdb_known.specs.Checks.{action_number, awaited_of, hello_ok_of, most_of, counter_of, process_of, check_with};
+ghost use Rattle.mdb_known.specs.Checks.{action_number, awaited_of, hello_ok_of, most_of, counter_of, process_of, sends, check_with};
 
 use crate::types::flag_number;
 use mdb_describe::ServerDescription;
@@ -65,6 +65,17 @@ fn hello_ok_of(action: Action, server: Option<&ServerDescription>) -> Option<boo
     }
 }
 
+// It sends a command.
+fn sends(action: Action) -> bool
+    ensures { result ≡ sends action }
+{
+    match action {
+        Action::Connect => true,
+        Action::Read => false,
+        Action::Hello(_) => true,
+    }
+}
+
 fn is_legacy(hello_ok: Option<bool>) -> bool
     ensures { result ≡ not (is_current None None hello_ok) }
 {
@@ -107,6 +118,7 @@ pub fn numbers_of_check(server: Option<&ServerDescription>, check: &Begin) -> Ch
 {
     let options = awaited_of(check.action);
     let hello_ok = hello_ok_of(check.action, server);
+    let sends = sends(check.action);
     CheckNumbers {
         timeout: check.timeout,
         most: most_of(&options),
@@ -115,7 +127,7 @@ pub fn numbers_of_check(server: Option<&ServerDescription>, check: &Begin) -> Ch
         action: action_number(check.action),
         connection: check.driver_connection_id,
         awaits: flag_number(options.is_some()),
-        legacy: flag_number(is_legacy(hello_ok)),
-        asks: flag_number(hello_ok.is_none()),
+        legacy: flag_number(sends && is_legacy(hello_ok)),
+        asks: flag_number(sends && hello_ok.is_none()),
     }
 }
