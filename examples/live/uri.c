@@ -43,6 +43,7 @@ static bool option_set(struct options *options, const char *name, const char *va
     if (!strcasecmp(name, "maxIdleTimeMS")) return number_in(value, 0, most, &options->idle);
     if (!strcasecmp(name, "waitQueueTimeoutMS")) return number_in(value, 1, most, &options->wait);
     if (!strcasecmp(name, "tls") || !strcasecmp(name, "ssl")) return !strcmp(value, "false"); // there is none here
+    if (!strcasecmp(name, "authSource")) return true; // nor authentication
     fprintf(stderr, "mdb_live: the option %s is passed over\n", name);
     return true;
 }
