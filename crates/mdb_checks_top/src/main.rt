@@ -3,7 +3,6 @@
 
 mod again;
 mod cases;
-mod meeting;
 mod runs;
 mod scripts;
 mod shares;
