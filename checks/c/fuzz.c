@@ -127,6 +127,10 @@ static mdb_status ends(const mdb_at *when, const uint8_t *outcome, size_t length
     mdb_status ahead = mdb_check_next(&slot, monitor, 5, outcome, length, &next), status = mdb_beaten(&slot, when, monitor, 5, outcome, length, reply);
     CHECK((ahead == MDB_MALFORMED) == (status == MDB_MALFORMED) && (ahead == MDB_OK) == (next != 77));
     if (status != MDB_OK || reply->kind == MDB_REFUSED) return status;
+    if (ahead == MDB_NO_ENTRY) { // the end of a check of a server that is gone changes nothing
+        CHECK(reply->number == 0);
+        return status;
+    }
     CHECK(ahead == MDB_OK);
     mdb_status open = mdb_check_get(&slot, monitor, 3, &check); // the server may be gone
     switch (next) {
