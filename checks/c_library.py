@@ -84,7 +84,7 @@ class Checks:
             well, told = run([*words, '-pedantic', '-Wall', '-Wextra', '-Werror', '-I' + INCLUDE, '-c', empty, '-o', os.devnull])
             self.tell('header ' + words[0], well, told)
         with open(os.path.join(INCLUDE, 'mdb.h')) as file:
-            declared = set(re.findall(r'^(?:mdb_status|void|uint32_t) (mdb_\w+)\(', file.read(), re.M))
+            declared = set(re.findall(r'^(?:mdb_status|void|uint32_t|uint64_t) (mdb_\w+)\(', file.read(), re.M))
         _, told = run(['nm', '-g', self.given.library])
         symbols = re.findall(r'^[0-9a-f ]{16} ([A-Za-z]) (\S+)$', told, re.M)
         defined, missing = {it for kind, it in symbols if kind != 'U'}, {it for kind, it in symbols if kind == 'U'}

@@ -5,8 +5,9 @@
  * those of the public standards "Connection Monitoring and Pooling" (CMAP) and "Server Discovery and Monitoring" (SDAM).
  *
  * Two layers lead to one driver, and may be mixed. By lines: the text of a step in, the text of its entry out, as docs/SCRIPT.md has them. By
- * calls: each step but the opening with numbers in place of a line, the facts of the last entry by index, and what is known of the topology and its
- * servers. By lines only: the opening, with its options, and the text of a whole entry.
+ * calls: each step but the opening with numbers in place of a line, the facts of the last entry by index, what is known of the topology and its
+ * servers, and what their checks do. By lines only: the opening, with its options, and the text of a whole entry. Three calls concern no driver: the
+ * rules of SRV and TXT records.
  *
  * Units. A moment is in milliseconds, of any clock that never goes back; a step whose moment is below that of the last accepted step is refused
  *   (MDB_WHY_TIME_BACK, with that moment). Round trips and durations of checks are in nanoseconds. Sizes are in bytes.
@@ -18,8 +19,8 @@
  * Texts are a pointer and a length, with no zero at the end. An address is `host`, `host:port`, `[v6]` or `[v6]:port`, in letters of any case; the
  *   default port is 27017. Bytes beyond printable ASCII (32 to 126) are MDB_MALFORMED.
  *
- * Errors. Each call but mdb_close and mdb_abi answers a status. At any status but MDB_OK no step was done, no parameter was written but *needed, and
- *   the call may be made again. A refusal is no error: the status is MDB_OK, the reply MDB_REFUSED with its reason, nothing changed but the log, which
+ * Errors. Each call but mdb_close, mdb_abi and mdb_srv_rescan answers a status. At any status but MDB_OK, and MDB_BAD_RECORDS with its text, no step was
+ *   done, no parameter was written but *needed, and the call may be made again. A refusal is no error: the status is MDB_OK, the reply MDB_REFUSED with its reason, nothing changed but the log, which
  *   has an entry with no fact.
  *
  * Ownership. A slot is its user's memory, and what it leads to the library's until mdb_close. The library keeps no pointer that it was given, and
@@ -41,7 +42,7 @@
  *   2^32 parties end a driver: its requests are then refused as MDB_WHY_REQUEST_KNOWN.
  *
  * Proved, by the contract of the function of the same name in crates/mdb_c/src: what each call answers is what the driver's definitions say after the
- *   log of all calls so far; what it writes and leaves; when it answers MDB_MALFORMED, MDB_CLOSED, MDB_OPENED, MDB_NO_ROOM and MDB_NO_ENTRY. For want of
+ *   log of all calls so far, or of the records that it was given; what it writes and leaves; when it answers MDB_MALFORMED, MDB_CLOSED, MDB_OPENED, MDB_NO_ROOM and MDB_NO_ENTRY. For want of
  *   memory a call may fail at any time. Tested by checks/c_library.py: that it does not fail with memory at hand, this header against the library,
  *   clients under valgrind and sanitizers, each allocation refused in turn. This file is written by hand. */
 #ifndef MDB_H
@@ -54,11 +55,11 @@
 extern "C" {
 #endif
 
-#define MDB_VERSION "0.2.0"
-#define MDB_VERSION_NUMBER 200 /* major * 10000 + minor * 100 + patch */
+#define MDB_VERSION "0.3.0"
+#define MDB_VERSION_NUMBER 300 /* major * 10000 + minor * 100 + patch */
 
 /* Which header the library was built for: link only where mdb_abi() == MDB_ABI. It changes where a call, a struct or a number does. */
-#define MDB_ABI 2
+#define MDB_ABI 3
 uint32_t mdb_abi(void);
 
 /* ---- statuses */
@@ -68,11 +69,12 @@ typedef uint32_t mdb_status;
 enum {
     MDB_OK = 0,
     MDB_NO_MEMORY = 1,
-    MDB_MALFORMED = 2, /* the line spells no such step, or a text or a number means nothing */
-    MDB_NO_ROOM = 3,   /* *needed bytes do not fit into the buffer */
-    MDB_CLOSED = 4,    /* the slot holds no driver */
-    MDB_OPENED = 5,    /* the slot holds one already */
-    MDB_NO_ENTRY = 6   /* no such fact, pool, server or text */
+    MDB_MALFORMED = 2,  /* the line spells no such step, or a text or a number means nothing */
+    MDB_NO_ROOM = 3,    /* *needed bytes do not fit into the buffer */
+    MDB_CLOSED = 4,     /* the slot holds no driver */
+    MDB_OPENED = 5,     /* the slot holds one already */
+    MDB_NO_ENTRY = 6,   /* no such fact, pool, server or text */
+    MDB_BAD_RECORDS = 7 /* of the calls for SRV and TXT records: the records break a rule, which the text names */
 };
 
 /* ---- slots */
@@ -220,7 +222,8 @@ mdb_status mdb_unpin(mdb_slot *slot, const mdb_at *at, const mdb_connection *con
 mdb_status mdb_maintain(mdb_slot *slot, const mdb_at *at, const uint8_t *address, size_t address_len, mdb_reply *reply);
 mdb_status mdb_expire(mdb_slot *slot, const mdb_at *at, const uint8_t *address, size_t address_len, mdb_reply *reply);
 
-/* The monitor of the address begins a check, for the pool of this number (SDAM monitoring, "ServerHeartbeatStartedEvent"). */
+/* The monitor of the address begins a check, for the pool of this number (SDAM monitoring, "ServerHeartbeatStartedEvent"). What the check does tells
+ * mdb_check_get, before it. */
 mdb_status mdb_beat(mdb_slot *slot, const mdb_at *at, const uint8_t *address, size_t address_len, uint32_t pool, mdb_reply *reply);
 
 /* A watcher, by its number, wants the servers checked at once, or no longer (SDAM monitoring, "Requesting an immediate check"). */
@@ -240,7 +243,8 @@ mdb_status mdb_failed(mdb_slot *slot, const mdb_at *at, const mdb_connection *co
 mdb_status mdb_hello(mdb_slot *slot, const mdb_at *at, const uint8_t *monitor, size_t monitor_len, const uint8_t *outcome, size_t outcome_len, mdb_reply *reply);
 
 /* The check of a monitor ended (SDAM monitoring, "ServerHeartbeatSucceededEvent"): `outcome` is its nanoseconds, and then `ok FIELD=VALUE ..`,
- * `err ERROR` or `cancelled ERROR`. */
+ * `err ERROR` or `cancelled ERROR`; of a reply behind which the server sends more unasked, ` more` is its last field. What the monitor does next tells
+ * mdb_check_next, before it. */
 mdb_status mdb_beaten(mdb_slot *slot, const mdb_at *at, const uint8_t *monitor, size_t monitor_len, const uint8_t *outcome, size_t outcome_len, mdb_reply *reply);
 
 /* A round trip of so many nanoseconds was measured beside the checks of a monitor, which is as for a hello (SDAM monitoring, "Measuring RTT"):
@@ -333,6 +337,7 @@ typedef struct mdb_topology {
     uint32_t has_cluster_time;
     uint32_t has_session_minutes;
     uint32_t compatible;      /* 0 where the driver cannot speak to one of the servers, 1 else */
+    uint32_t polled;          /* 1 where its SRV records are looked up again from time to time ("Polling SRV Records for mongos Discovery"), 0 else */
 } mdb_topology;
 
 typedef struct mdb_server {
@@ -374,6 +379,63 @@ enum { /* texts: the first three of a topology, all of a server */
  * nothing is written. MDB_NO_ENTRY where there is no such text or no such server. */
 mdb_status mdb_topology_text(mdb_slot *slot, uint32_t which, uint8_t *out, size_t out_len, size_t *needed);
 mdb_status mdb_server_text(mdb_slot *slot, size_t index, uint32_t which, uint8_t *out, size_t out_len, size_t *needed);
+
+/* ---- checks of servers beforehand (SDAM, "Server Monitoring"); no steps. Who runs monitors asks them under the lock under which the step is made that
+ * they are asked before: each answers of the driver as it is. */
+
+/* What the check of a server does that begins now. A member that the check does not have is 0. */
+typedef struct mdb_check {
+    uint64_t timeout;     /* after how many milliseconds the check counts as a network timeout */
+    uint64_t most;        /* of an awaited hello: the greatest time for which the server may wait, in milliseconds (`maxAwaitTimeMS`) */
+    int64_t counter;      /* of an awaited hello: its `topologyVersion`, with the process below */
+    uint8_t process[12];
+    uint32_t action;      /* MDB_CHECK_CONNECT .. */
+    uint32_t connection;  /* the driver's number of the connection that the check uses or makes, as the facts of heartbeats tell it */
+    uint32_t awaits;      /* 1 where the hello is answered when something changes, and may be answered by several replies (`exhaustAllowed`) */
+    uint32_t legacy;      /* 1 where the command is `isMaster`, 0 where it is `hello` */
+    uint32_t asks;        /* 1 where an `isMaster` says `helloOk: true` */
+} mdb_check;
+
+enum { /* action */
+    MDB_CHECK_CONNECT = 1, /* it makes a connection, whose first command is the check */
+    MDB_CHECK_READ,        /* it sends nothing and reads the next reply */
+    MDB_CHECK_HELLO        /* it sends the command over the connection that there is */
+};
+
+/* Asked before mdb_beat. MDB_NO_ENTRY where no pool is open at the address, MDB_MALFORMED. Where the driver's next number is past 32 bits `connection` is
+ * 4294967295, and a check that connects is refused (MDB_WHY_EXHAUSTED). */
+mdb_status mdb_check_get(mdb_slot *slot, const uint8_t *address, size_t address_len, mdb_check *check);
+
+enum { /* what a monitor does after a check */
+    MDB_NEXT_RETRY = 1, /* it checks again at once: a server that was available may have restarted */
+    MDB_NEXT_SLEEP,     /* it waits until the time between two checks is over, or a check is wanted */
+    MDB_NEXT_CONTINUE   /* it checks at once: the server answers when something changes */
+};
+
+/* What follows a check that ends so, asked before mdb_beaten, with the same two texts. MDB_NO_ENTRY where no pool is open at the address, MDB_MALFORMED. */
+mdb_status mdb_check_next(mdb_slot *slot, const uint8_t *monitor, size_t monitor_len, const uint8_t *outcome, size_t outcome_len, uint32_t *next);
+
+/* ---- the rules of SRV and TXT records, which concern no driver. They look nothing up: what the resolver told is handed in. A name is the host of a
+ * connection string, in small letters, as UTF-8. At MDB_OK and MDB_BAD_RECORDS a text stands at the beginning of `out`. *needed is its length, and 0 at
+ * MDB_MALFORMED and MDB_NO_MEMORY; at MDB_NO_ROOM nothing is written. */
+
+enum {
+    MDB_STRANGERS_REFUSE = 0, /* one host of another domain refuses the lookup ("Initial DNS Seedlist Discovery") */
+    MDB_STRANGERS_LEFT_OUT    /* such hosts are left out ("Polling SRV Records for mongos Discovery") */
+};
+
+/* The hosts of an SRV lookup of the name that are accepted, those in its domain, in their order. `found` are those that the records name, as `a.b.c:27017`,
+ * with commas between them and no dot at the end of a host. MDB_BAD_RECORDS where the lookup is refused, also where no host is left: the text says why. */
+mdb_status mdb_srv_hosts(const uint8_t *name, size_t name_len, const uint8_t *found, size_t found_len, uint32_t strangers, uint8_t *out, size_t out_len, size_t *needed);
+
+/* What the TXT records of the name set, as a connection string has its options, each behind `&`: `&authSource=NAME`, `&replicaSet=NAME`,
+ * `&loadBalanced=true` or `&loadBalanced=false`, in this order. `count` is how many records there are, and `text` the strings of the first one, joined;
+ * with no record nothing is set. MDB_BAD_RECORDS where there is more than one record, or one says anything else: the text says what. */
+mdb_status mdb_srv_txt(const uint8_t *name, size_t name_len, uint32_t count, const uint8_t *text, size_t text_len, uint8_t *out, size_t out_len, size_t *needed);
+
+/* After how many seconds SRV records are looked up again while the topology is polled. `accepted` is how many hosts the last lookup had that were accepted,
+ * 0 where it failed; `ttl` is the least time to live of its records and `heartbeat` the time between two checks, in seconds. */
+uint64_t mdb_srv_rescan(uint32_t accepted, uint32_t ttl, uint64_t heartbeat);
 
 /* ---- what is known of the log and the pools; no steps */
 

@@ -19,17 +19,19 @@ import (
 type Status uint32
 
 const (
-	NoMemory  Status = C.MDB_NO_MEMORY
-	Malformed Status = C.MDB_MALFORMED
-	NoRoom    Status = C.MDB_NO_ROOM
-	Closed    Status = C.MDB_CLOSED
-	Opened    Status = C.MDB_OPENED
-	NoEntry   Status = C.MDB_NO_ENTRY
+	NoMemory   Status = C.MDB_NO_MEMORY
+	Malformed  Status = C.MDB_MALFORMED
+	NoRoom     Status = C.MDB_NO_ROOM
+	Closed     Status = C.MDB_CLOSED
+	Opened     Status = C.MDB_OPENED
+	NoEntry    Status = C.MDB_NO_ENTRY
+	BadRecords Status = C.MDB_BAD_RECORDS
 )
 
 var words = map[Status]string{
 	NoMemory: "out of memory", Malformed: "malformed", NoRoom: "the text does not fit", Closed: "the driver is closed",
 	Opened: "the driver is open already", NoEntry: "there is no such fact, pool, server or text",
+	BadRecords: "the records break a rule",
 }
 
 func (s Status) Error() string {
@@ -111,6 +113,7 @@ type Topology struct {
 	ClusterTime, SessionMinutes                         uint64
 	HasMaxSetVersion, HasClusterTime, HasSessionMinutes bool
 	Compatible                                          bool
+	Polled                                              bool // its SRV records are looked up again from time to time
 }
 
 // A Server is what is known of a server. The header names its kinds; a number whose Has is false is 0.
@@ -121,6 +124,25 @@ type Server struct {
 	MinWire, MaxWire, SetVersion                      int32
 	HasRoundTrip, HasUpdated, HasSetVersion, HasError bool
 }
+
+// A Check is what the check of a server does that begins now. The header names its actions; a number that the check does not have is 0.
+type Check struct {
+	Action, Connection uint32
+	Timeout, Most      uint64 // milliseconds
+	Process            [12]byte
+	Counter            int64
+	Awaits             bool // it is answered when something changes
+	Legacy, Asks       bool // the command is `isMaster`; it says `helloOk: true`
+}
+
+// A Next is what a monitor does after a check.
+type Next uint32
+
+const (
+	Retry    Next = C.MDB_NEXT_RETRY
+	Sleep    Next = C.MDB_NEXT_SLEEP
+	Continue Next = C.MDB_NEXT_CONTINUE
+)
 
 // A Driver may be shared by many goroutines: a lock gives it to one call at a time.
 type Driver struct {
@@ -233,6 +255,51 @@ func (d *Driver) Hello(moment uint64, address string, pool uint32, outcome strin
 	})
 }
 
+// Beat: the monitor of the address begins a check, for the pool of this number.
+func (d *Driver) Beat(moment uint64, address string, pool uint32) (Reply, error) {
+	at, text := when(moment), []byte(address)
+	return d.told(func(reply *C.mdb_reply) C.mdb_status {
+		return C.mdb_beat(&d.slot, &at, start(text), C.size_t(len(text)), C.uint32_t(pool), reply)
+	})
+}
+
+// Beaten: the check of a monitor ended: its nanoseconds, and then `ok FIELD=VALUE ..`, `err ERROR` or `cancelled ERROR`. The address has its port.
+func (d *Driver) Beaten(moment uint64, address string, pool uint32, outcome string) (Reply, error) {
+	at, monitor, text := when(moment), []byte(fmt.Sprintf("%s %d", address, pool)), []byte(outcome)
+	return d.told(func(reply *C.mdb_reply) C.mdb_status {
+		return C.mdb_beaten(&d.slot, &at, start(monitor), C.size_t(len(monitor)), start(text), C.size_t(len(text)), reply)
+	})
+}
+
+// NextCheck is what the check of the server does that begins now, asked before Beat; NoEntry where no pool is open there.
+func (d *Driver) NextCheck(address string) (Check, error) {
+	d.turn.Lock()
+	defer d.turn.Unlock()
+	var c C.mdb_check
+	text := []byte(address)
+	if err := failed(C.mdb_check_get(&d.slot, start(text), C.size_t(len(text)), &c)); err != nil {
+		return Check{}, err
+	}
+	told := Check{
+		Action: uint32(c.action), Connection: uint32(c.connection), Timeout: uint64(c.timeout), Most: uint64(c.most), Counter: int64(c.counter),
+		Awaits: c.awaits == 1, Legacy: c.legacy == 1, Asks: c.asks == 1,
+	}
+	for i, b := range c.process {
+		told.Process[i] = byte(b)
+	}
+	return told, nil
+}
+
+// NextAfter is what follows a check that ends so, asked before Beaten, with the same words; NoEntry where no pool is open there.
+func (d *Driver) NextAfter(address string, pool uint32, outcome string) (Next, error) {
+	d.turn.Lock()
+	defer d.turn.Unlock()
+	var next C.uint32_t
+	monitor, text := []byte(fmt.Sprintf("%s %d", address, pool)), []byte(outcome)
+	err := failed(C.mdb_check_next(&d.slot, start(monitor), C.size_t(len(monitor)), start(text), C.size_t(len(text)), &next))
+	return Next(next), err
+}
+
 // Maintain: the timer of the pool of the address.
 func (d *Driver) Maintain(moment uint64, address string) (Reply, error) {
 	at, text := when(moment), []byte(address)
@@ -276,7 +343,7 @@ func (d *Driver) Topology() (Topology, error) {
 	return Topology{
 		Kind: uint32(t.kind), Servers: int(t.servers), MaxSetVersion: int32(t.max_set_version), ClusterTime: uint64(t.cluster_time),
 		SessionMinutes: uint64(t.session_minutes), HasMaxSetVersion: t.has_max_set_version == 1, HasClusterTime: t.has_cluster_time == 1,
-		HasSessionMinutes: t.has_session_minutes == 1, Compatible: t.compatible == 1,
+		HasSessionMinutes: t.has_session_minutes == 1, Compatible: t.compatible == 1, Polled: t.polled == 1,
 	}, nil
 }
 
@@ -367,6 +434,35 @@ func (d *Driver) Facts() ([]Fact, error) {
 		facts = append(facts, Fact{uint32(f.kind), uint32(f.event), uint32(f.pool), uint32(f.id), uint32(f.party), uint32(f.why), uint64(f.number), told, address})
 	}
 	return facts, nil
+}
+
+// AcceptedHosts are the hosts of an SRV lookup of the name that are in its domain, with commas between them; so are those found. One host of another
+// domain refuses the lookup, and with skip it is left out. At BadRecords the text says why it is refused.
+func AcceptedHosts(name, found string, skip bool) (string, error) {
+	host, hosts, strangers := []byte(name), []byte(found), C.uint32_t(C.MDB_STRANGERS_REFUSE)
+	if skip {
+		strangers = C.MDB_STRANGERS_LEFT_OUT
+	}
+	return text(func(out *C.uint8_t, room C.size_t, needed *C.size_t) C.mdb_status {
+		return C.mdb_srv_hosts(start(host), C.size_t(len(host)), start(hosts), C.size_t(len(hosts)), strangers, out, room, needed)
+	})
+}
+
+// TxtOptions is what the TXT records of the name set, each the join of its strings, as a connection string has its options, each behind `&`. At BadRecords
+// the text says which rule they break.
+func TxtOptions(name string, records []string) (string, error) {
+	host, first := []byte(name), []byte{}
+	if len(records) > 0 {
+		first = []byte(records[0])
+	}
+	return text(func(out *C.uint8_t, room C.size_t, needed *C.size_t) C.mdb_status {
+		return C.mdb_srv_txt(start(host), C.size_t(len(host)), C.uint32_t(len(records)), start(first), C.size_t(len(first)), out, room, needed)
+	})
+}
+
+// RescanSeconds is after how many seconds the records are looked up again, where so many hosts of the last lookup were accepted, 0 where it failed.
+func RescanSeconds(accepted, ttl uint32, heartbeat uint64) uint64 {
+	return uint64(C.mdb_srv_rescan(C.uint32_t(accepted), C.uint32_t(ttl), C.uint64_t(heartbeat)))
 }
 
 func (d *Driver) told(call func(*C.mdb_reply) C.mdb_status) (Reply, error) {

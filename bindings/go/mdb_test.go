@@ -176,6 +176,73 @@ func spent() int64 {
 	return used.Utime.Nano() + used.Stime.Nano()
 }
 
+func TestChecksAreToldBeforehand(t *testing.T) {
+	d, err := Open("open seeds=a:1 connect=5000")
+	if err != nil {
+		t.Fatal(err)
+	}
+	defer d.Close()
+	news := "9 ok isWritablePrimary=true helloOk=true maxWireVersion=21 topologyVersion=0102030405060708090a0b0c.7"
+	first, err := d.NextCheck("A:1")
+	if err != nil || first != (Check{Action: 1, Connection: first.Connection, Timeout: 5000, Legacy: true, Asks: true}) {
+		t.Fatal(first, err)
+	}
+	if r, err := d.Beat(1, "a:1", 0); err != nil || r.Kind != Done {
+		t.Fatal(r, err)
+	}
+	if facts, err := d.Facts(); err != nil || len(facts) != 1 || facts[0].ID != first.Connection {
+		t.Fatal(facts, err)
+	}
+	if next, err := d.NextAfter("a:1", 0, news); err != nil || next != Continue {
+		t.Fatal(next, err)
+	}
+	if r, err := d.Beaten(1, "a:1", 0, news); err != nil || r.Kind != Changed {
+		t.Fatal(r, err)
+	}
+	second, err := d.NextCheck("a:1")
+	process := [12]byte{1, 2, 3, 4, 5, 6, 7, 8, 9, 10, 11, 12}
+	if err != nil || second != (Check{Action: 3, Connection: first.Connection, Timeout: 15000, Most: 10000, Process: process, Counter: 7, Awaits: true}) {
+		t.Fatal(second, err)
+	}
+	if next, err := d.NextAfter("a:1", 0, "9 err network msg=x"); err != nil || next != Retry {
+		t.Fatal(next, err)
+	}
+	if _, err := d.NextCheck("b:1"); err != NoEntry {
+		t.Fatal(err)
+	}
+	if _, err := d.NextAfter("a:1", 0, "ok"); err != Malformed {
+		t.Fatal(err)
+	}
+}
+
+func TestRecordsAreJudged(t *testing.T) {
+	name := "cluster.example.com"
+	if hosts, err := AcceptedHosts(name, "b.example.com:1,a.evil.com:1", true); err != nil || hosts != "b.example.com:1" {
+		t.Fatal(hosts, err)
+	}
+	why, err := AcceptedHosts(name, "a.evil.com:1", false)
+	if err != BadRecords || why != "SRV lookup for cluster.example.com returned result a.evil.com, which does not match domain name example.com" {
+		t.Fatal(why, err)
+	}
+	if options, err := TxtOptions(name, []string{"replicaSet=rs&AUTHSOURCE=admin"}); err != nil || options != "&authSource=admin&replicaSet=rs" {
+		t.Fatal(options, err)
+	}
+	if _, err := TxtOptions(name, []string{"replicaSet=rs", "replicaSet=rs"}); err != BadRecords {
+		t.Fatal(err)
+	}
+	if RescanSeconds(1, 5, 10) != 60 || RescanSeconds(1, 300, 10) != 300 || RescanSeconds(0, 300, 90) != 90 {
+		t.Fatal("seconds")
+	}
+	d, err := Open("open seeds=a:1")
+	if err != nil {
+		t.Fatal(err)
+	}
+	defer d.Close()
+	if told, err := d.Topology(); err != nil || !told.Polled {
+		t.Fatal(told, err)
+	}
+}
+
 // Times a round of a request and a return, and reports its processor time as the least of pieces of 500 rounds.
 func timed(b *testing.B, round func(d *Driver, party uint32) error) {
 	d := opened(b)

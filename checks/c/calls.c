@@ -13,7 +13,8 @@ _Static_assert(sizeof(mdb_connection) == 8, "a connection has 8 bytes");
 _Static_assert(sizeof(mdb_established_as) == 24, "what was established has 24 bytes");
 _Static_assert(sizeof(mdb_fact) == 32, "a fact has 32 bytes");
 _Static_assert(sizeof(mdb_types) == 8, "two types have 8 bytes");
-_Static_assert(sizeof(mdb_topology) == 48, "a topology has 48 bytes");
+_Static_assert(sizeof(mdb_topology) == 56, "a topology has 56 bytes");
+_Static_assert(sizeof(mdb_check) == 56, "a check has 56 bytes");
 _Static_assert(sizeof(mdb_server) == 48, "a server has 48 bytes");
 
 #define CHECK(what) do { if (!(what)) { fprintf(stderr, "line %d: %s\n", __LINE__, #what); exit(1); } } while (0)
@@ -128,6 +129,7 @@ static void closed_slots(void) {
     mdb_types types = {77, 77};
     mdb_topology topology = {.kind = 77};
     mdb_server server = {.kind = 77};
+    mdb_check check = {.action = 77};
     uint8_t out[4];
     for (int again = 0; again < 2; again++) {
         CHECK(mdb_request(&none, &at, 1, ADDRESS, &kept) == MDB_CLOSED && mdb_warm(&none, &at, 1, ADDRESS, &kept) == MDB_CLOSED);
@@ -154,6 +156,8 @@ static void closed_slots(void) {
         CHECK(mdb_topology_text(&none, MDB_TEXT_ERROR, out, sizeof out, &needed) == MDB_CLOSED && needed == 0);
         needed = 77;
         CHECK(mdb_server_text(&none, 0, MDB_TEXT_ADDRESS, out, sizeof out, &needed) == MDB_CLOSED && needed == 0);
+        CHECK(mdb_check_get(&none, ADDRESS, &check) == MDB_CLOSED && check.action == 77);
+        CHECK(mdb_check_next(&none, TEXT("a:1 0"), TEXT("7 ok"), &narrow) == MDB_CLOSED && narrow == 77);
         CHECK(mdb_last_moment(&none, &wide) == MDB_CLOSED && mdb_published(&none, &wide) == MDB_CLOSED && wide == 77);
         CHECK(mdb_open_pool(&none, ADDRESS, &narrow) == MDB_CLOSED && narrow == 77);
         CHECK(memcmp(&kept, &before, sizeof kept) == 0);
@@ -167,6 +171,7 @@ static void malformed(void) {
     mdb_at at = {50, 0};
     mdb_established_as made = {0, 1, -1, -1};
     mdb_reply kept = {77, 77, 77, 77, 77}, before = kept;
+    mdb_check check = {.action = 77};
     uint32_t narrow = 77;
     size_t place = 77;
     const char *bad[] = {"", "a:0", "a:65536", "a:", ":1", "a b:1", "a:1 ", "\xff:1", "[::1", "a\n:1"};
@@ -177,7 +182,8 @@ static void malformed(void) {
         CHECK(mdb_maintain(&calls, &at, text, len, &kept) == MDB_MALFORMED && mdb_expire(&calls, &at, text, len, &kept) == MDB_MALFORMED);
         CHECK(mdb_beat(&calls, &at, text, len, 0, &kept) == MDB_MALFORMED && mdb_open_pool(&calls, text, len, &narrow) == MDB_MALFORMED);
         CHECK(mdb_server_at(&calls, text, len, &place) == MDB_MALFORMED && place == 77 && mdb_hosts(&calls, &at, text, len, &kept) == MDB_MALFORMED);
-        CHECK(mdb_rtt(&calls, &at, text, len, 5, &kept) == MDB_MALFORMED);
+        CHECK(mdb_rtt(&calls, &at, text, len, 5, &kept) == MDB_MALFORMED && mdb_check_get(&calls, text, len, &check) == MDB_MALFORMED && check.action == 77);
+        CHECK(mdb_check_next(&calls, text, len, TEXT("7 ok"), &narrow) == MDB_MALFORMED && narrow == 77);
     }
     CHECK(mdb_established(&calls, &at, &made, NO_TEXT, &kept) == MDB_MALFORMED);
     made.wire = 21;
@@ -190,6 +196,7 @@ static void malformed(void) {
         size_t len = strlen(outcomes[i]);
         CHECK(mdb_error(&calls, &at, 1, text, len, &kept) == MDB_MALFORMED && mdb_failed(&calls, &at, &connection, text, len, &kept) == MDB_MALFORMED);
         CHECK(mdb_hello(&calls, &at, TEXT("a:27017 0"), text, len, &kept) == MDB_MALFORMED && mdb_beaten(&calls, &at, TEXT("a:27017 0"), text, len, &kept) == MDB_MALFORMED);
+        CHECK(mdb_check_next(&calls, TEXT("a:27017 0"), text, len, &narrow) == MDB_MALFORMED && mdb_check_next(&calls, text, len, TEXT("7 ok"), &narrow) == MDB_MALFORMED);
         CHECK(mdb_hello(&calls, &at, text, len, TEXT("ok rtt=5"), &kept) == MDB_MALFORMED && mdb_beaten(&calls, &at, text, len, TEXT("7 ok"), &kept) == MDB_MALFORMED);
     }
     CHECK(mdb_return(&calls, &at, 1, 4, &kept) == MDB_MALFORMED && mdb_return(&calls, &at, 1, UINT32_MAX, &kept) == MDB_MALFORMED);
@@ -356,11 +363,138 @@ static void known(void) {
     mdb_close(&lines);
 }
 
+// The next check of a:1 does this; and then it begins, as was told.
+static void begins(uint32_t action, uint64_t timeout, uint32_t awaits, uint32_t legacy, uint32_t asks) {
+    mdb_at at = {3, 7};
+    mdb_check check;
+    mdb_fact fact;
+    memset(&check, 77, sizeof check);
+    CHECK(mdb_check_get(&calls, (const uint8_t *)"A:1", 3, &check) == MDB_OK);
+    CHECK(check.action == action && check.timeout == timeout && check.awaits == awaits && check.legacy == legacy && check.asks == asks);
+    CHECK(check.most == (awaits ? 10000 : 0) && check.counter == (awaits ? 7 : 0));
+    CHECK(memcmp(check.process, awaits ? "\1\2\3\4\5\6\7\10\11\12\13\14" : "\0\0\0\0\0\0\0\0\0\0\0", 12) == 0);
+    agrees(mdb_beat(&calls, &at, TEXT("a:1"), 0, &reply), "beat 3 a:1 0");
+    CHECK(reply.kind == MDB_DONE && mdb_fact_at(&calls, 0, &fact) == MDB_OK && fact.event == MDB_SDAM_HEARTBEAT_STARTED && fact.id == check.connection);
+    // that the server is to answer when something changes holds of replies that are read, too
+    CHECK(action == MDB_CHECK_READ ? fact.why == 1 : fact.why == check.awaits);
+}
+
+// The check of a:1 ends so, and this follows.
+static void ends(const char *outcome, uint32_t wanted) {
+    mdb_at at = {3, 7};
+    uint32_t next = 77;
+    CHECK(mdb_check_next(&calls, TEXT("a:1 0"), (const uint8_t *)outcome, strlen(outcome), &next) == MDB_OK && next == wanted);
+    agrees(mdb_beaten(&calls, &at, TEXT("a:1 0"), (const uint8_t *)outcome, strlen(outcome), &reply), spelled("beaten 3 a:1 0 %s", outcome));
+    CHECK(reply.kind == MDB_CHANGED);
+}
+
+static void checks(void) {
+    const char *streams = "9 ok isWritablePrimary=true helloOk=true maxWireVersion=21 topologyVersion=0102030405060708090a0b0c.7";
+    const char *more = "9 ok isWritablePrimary=true helloOk=true maxWireVersion=21 topologyVersion=0102030405060708090a0b0c.7 more";
+    mdb_check check = {.action = 77};
+    uint32_t next = 77;
+    open_both("open seeds=a:1 heartbeat=10000 connect=5000");
+    begins(MDB_CHECK_CONNECT, 5000, 0, 1, 1);
+    ends(streams, MDB_NEXT_CONTINUE);
+    begins(MDB_CHECK_HELLO, 15000, 1, 0, 0);
+    ends(more, MDB_NEXT_CONTINUE);
+    begins(MDB_CHECK_READ, 15000, 0, 0, 0);
+    ends("9 err network msg=reset", MDB_NEXT_RETRY);
+    begins(MDB_CHECK_CONNECT, 5000, 0, 1, 1);
+    ends("9 err network msg=reset", MDB_NEXT_SLEEP); // its type is not known any more
+    begins(MDB_CHECK_CONNECT, 5000, 0, 1, 1);
+    ends("9 ok isWritablePrimary=true maxWireVersion=21", MDB_NEXT_SLEEP);
+    begins(MDB_CHECK_HELLO, 5000, 0, 1, 1);
+    ends("9 err command.11600 msg=stops", MDB_NEXT_SLEEP); // no error of the network
+    begins(MDB_CHECK_CONNECT, 5000, 0, 1, 1);
+    ends("9 ok isWritablePrimary=true helloOk=false maxWireVersion=21", MDB_NEXT_SLEEP);
+    begins(MDB_CHECK_HELLO, 5000, 0, 1, 0);
+    ends("9 cancelled network msg=x", MDB_NEXT_SLEEP);
+    begins(MDB_CHECK_CONNECT, 5000, 0, 1, 1);
+    CHECK(mdb_check_get(&calls, TEXT("z:9"), &check) == MDB_NO_ENTRY && check.action == 77);
+    CHECK(mdb_check_next(&calls, TEXT("z:9 0"), TEXT("9 ok"), &next) == MDB_NO_ENTRY && next == 77);
+    mdb_close(&calls);
+    mdb_close(&lines);
+    open_both("open seeds=a:1 mode=poll");
+    begins(MDB_CHECK_CONNECT, 10000, 0, 1, 1);
+    ends(streams, MDB_NEXT_SLEEP);
+    CHECK(mdb_check_get(&calls, TEXT("a:1"), &check) == MDB_OK && check.action == MDB_CHECK_HELLO && check.awaits == 0 && check.timeout == 20000);
+    mdb_close(&calls);
+    mdb_close(&lines);
+}
+
+// The hosts that are accepted for a name, or why not.
+static void accepts(const char *name, const char *found, uint32_t strangers, mdb_status wanted, const char *said) {
+    uint8_t out[256];
+    size_t needed = 77, length = strlen(said);
+    memset(out, 77, sizeof out);
+    CHECK(mdb_srv_hosts((const uint8_t *)name, strlen(name), (const uint8_t *)found, strlen(found), strangers, out, sizeof out, &needed) == wanted);
+    CHECK(needed == length && memcmp(out, said, length) == 0 && out[length] == 77);
+    if (length == 0) return;
+    memset(out, 77, sizeof out);
+    CHECK(mdb_srv_hosts((const uint8_t *)name, strlen(name), (const uint8_t *)found, strlen(found), strangers, out, length - 1, &needed) == MDB_NO_ROOM);
+    CHECK(needed == length && out[0] == 77);
+    CHECK(mdb_srv_hosts((const uint8_t *)name, strlen(name), (const uint8_t *)found, strlen(found), strangers, out, length, &needed) == wanted && out[0] == said[0]);
+}
+
+// What so many TXT records set, or why not.
+static void sets(uint32_t count, const char *text, mdb_status wanted, const char *said) {
+    uint8_t out[256];
+    size_t needed = 77, length = strlen(said);
+    memset(out, 77, sizeof out);
+    CHECK(mdb_srv_txt(TEXT("c.example.com"), count, (const uint8_t *)text, strlen(text), out, sizeof out, &needed) == wanted);
+    CHECK(needed == length && memcmp(out, said, length) == 0 && out[length] == 77);
+    if (length == 0) return;
+    CHECK(mdb_srv_txt(TEXT("c.example.com"), count, (const uint8_t *)text, strlen(text), out, length - 1, &needed) == MDB_NO_ROOM && needed == length);
+}
+
+static void seed_lists(void) {
+    const char *name = "cluster.example.com";
+    accepts(name, "b.example.com:1,a.b.example.com:2", MDB_STRANGERS_REFUSE, MDB_OK, "b.example.com:1,a.b.example.com:2");
+    accepts(name, "b.example.com:1,a.evil.com:1,B.Example.COM", MDB_STRANGERS_LEFT_OUT, MDB_OK, "b.example.com:1,b.example.com:27017");
+    accepts(name, "a.evil.com:1", MDB_STRANGERS_REFUSE, MDB_BAD_RECORDS, "SRV lookup for cluster.example.com returned result a.evil.com, which does not match domain name example.com");
+    accepts(name, "b.example.com:1,example.com:1", MDB_STRANGERS_REFUSE, MDB_BAD_RECORDS, "SRV lookup for cluster.example.com returned result example.com, which does not match domain name example.com");
+    accepts(name, "a.evil.com:1", MDB_STRANGERS_LEFT_OUT, MDB_BAD_RECORDS, "SRV lookup for cluster.example.com returned no records");
+    accepts(name, "", MDB_STRANGERS_REFUSE, MDB_BAD_RECORDS, "SRV lookup for cluster.example.com returned no records");
+    accepts("localhost", "a.localhost:1", MDB_STRANGERS_REFUSE, MDB_OK, "a.localhost:1");
+    static const char *bad[] = {",", "a.example.com,", ",a.example.com", "a.example.com:0", "a.example.com:1 ", "a.example.com:1,,b.example.com:1", "\xff"};
+    for (size_t i = 0; i < sizeof bad / sizeof *bad; i++) accepts(name, bad[i], MDB_STRANGERS_LEFT_OUT, MDB_MALFORMED, "");
+    accepts(name, "b.example.com:1", 2, MDB_MALFORMED, "");
+    accepts("\xff", "b.example.com:1", MDB_STRANGERS_REFUSE, MDB_MALFORMED, "");
+    sets(0, "nonsense", MDB_OK, "");
+    sets(1, "replicaSet=rs&authSource=admin", MDB_OK, "&authSource=admin&replicaSet=rs");
+    sets(1, "LOADBALANCED=true", MDB_OK, "&loadBalanced=true");
+    sets(1, "loadBalanced=true&loadBalanced=false", MDB_OK, "&loadBalanced=false");
+    sets(1, "replicaSet=", MDB_OK, "&replicaSet=");
+    sets(1, "", MDB_BAD_RECORDS, "TXT record string '' is not a value `key=value` option pair");
+    sets(1, "replicaSet=a=b", MDB_BAD_RECORDS, "TXT record string 'replicaSet=a=b' is not a value `key=value` option pair");
+    sets(1, "ssl=false", MDB_BAD_RECORDS, "TXT record option 'ssl' was returned, but only 'authSource', 'replicaSet', and 'loadBalanced' are allowed");
+    sets(1, "loadBalanced=yes", MDB_BAD_RECORDS, "TXT record option 'loadbalanced=yes' was returned, only 'true' and 'false' are allowed values.");
+    sets(2, "replicaSet=rs", MDB_BAD_RECORDS, "TXT lookup for c.example.com returned more than one record, but more than one are not allowed with 'mongodb+srv'");
+    sets(UINT32_MAX, "replicaSet=rs", MDB_BAD_RECORDS, "TXT lookup for c.example.com returned more than one record, but more than one are not allowed with 'mongodb+srv'");
+    CHECK(mdb_srv_rescan(1, 5, 10) == 60 && mdb_srv_rescan(2, 61, 10) == 61 && mdb_srv_rescan(0, 300, 10) == 60 && mdb_srv_rescan(0, 300, 90) == 90);
+    CHECK(mdb_srv_rescan(1, UINT32_MAX, 0) == UINT32_MAX && mdb_srv_rescan(0, 0, UINT64_MAX) == UINT64_MAX);
+    mdb_topology topology;
+    static const struct { const char *line; uint32_t polled; } kinds[] = {{"open seeds=a:1", 1}, {"open seeds=a:1 direct", 0}, {"open seeds=a:1 set=rs", 0}, {"open seeds=a:1 lb", 0}};
+    for (size_t i = 0; i < 4; i++) {
+        open_both(kinds[i].line);
+        CHECK(mdb_topology_get(&calls, &topology) == MDB_OK && topology.polled == kinds[i].polled);
+        if (i == 0) {
+            both("hello 1 a:1 0 ok rtt=5 msg=isdbgrid maxWireVersion=21");
+            CHECK(mdb_topology_get(&calls, &topology) == MDB_OK && topology.kind == MDB_TOPOLOGY_SHARDED && topology.polled == 1);
+        }
+        mdb_close(&calls);
+        mdb_close(&lines);
+    }
+}
+
 int main(int argc, char **argv) {
     CHECK(mdb_abi() == MDB_ABI);
     closed_slots();
     normal_pool(argc > 1 ? atoi(argv[1]) : 5000);
     balanced_pool();
     known();
+    checks();
+    seed_lists();
     return 0;
 }

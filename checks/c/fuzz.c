@@ -102,6 +102,67 @@ static void look(void) {
 
 static uint64_t number(const uint8_t **at, const uint8_t *end) { return *at < end ? *(*at)++ : 0; }
 
+// A check that begins does what was told before.
+static mdb_status begins(const mdb_at *when, const uint8_t *address, size_t length, uint32_t pool, mdb_reply *reply) {
+    mdb_check check = {.action = 77};
+    mdb_fact fact;
+    mdb_status ahead = mdb_check_get(&slot, address, length, &check), status = mdb_beat(&slot, when, address, length, pool, reply);
+    CHECK((ahead == MDB_MALFORMED) == (status == MDB_MALFORMED) && (ahead == MDB_OK) == (check.action != 77));
+    if (status != MDB_OK || reply->kind == MDB_REFUSED) return status;
+    CHECK(ahead == MDB_OK && mdb_fact_at(&slot, 0, &fact) == MDB_OK && fact.event == MDB_SDAM_HEARTBEAT_STARTED && fact.id == check.connection);
+    switch (check.action) {
+        case MDB_CHECK_CONNECT: CHECK(!check.awaits && !fact.why && check.legacy && check.asks); seen += 80; break;
+        case MDB_CHECK_READ: CHECK(!check.awaits && !check.legacy && !check.asks); seen += 81; break;
+        case MDB_CHECK_HELLO: CHECK(check.awaits == fact.why && check.asks <= check.legacy); if (check.awaits) seen += 82; else seen += 83; break;
+        default: CHECK(0);
+    }
+    return status;
+}
+
+// What follows a check that ends is told before, and is what its monitor does.
+static mdb_status ends(const mdb_at *when, const uint8_t *outcome, size_t length, mdb_reply *reply) {
+    const uint8_t *monitor = (const uint8_t *)"a:1 0";
+    mdb_check check;
+    uint32_t next = 77;
+    mdb_status ahead = mdb_check_next(&slot, monitor, 5, outcome, length, &next), status = mdb_beaten(&slot, when, monitor, 5, outcome, length, reply);
+    CHECK((ahead == MDB_MALFORMED) == (status == MDB_MALFORMED) && (ahead == MDB_OK) == (next != 77));
+    if (status != MDB_OK || reply->kind == MDB_REFUSED) return status;
+    if (ahead == MDB_NO_ENTRY) { // the end of a check of a server that is gone changes nothing
+        CHECK(reply->number == 0);
+        return status;
+    }
+    CHECK(ahead == MDB_OK);
+    mdb_status open = mdb_check_get(&slot, monitor, 3, &check); // the server may be gone
+    switch (next) {
+        case MDB_NEXT_RETRY: CHECK(open != MDB_OK || check.action == MDB_CHECK_CONNECT); seen += 84; break;
+        case MDB_NEXT_SLEEP: seen += 85; break;
+        case MDB_NEXT_CONTINUE: CHECK(open != MDB_OK || check.action == MDB_CHECK_READ || check.awaits); seen += 86; break;
+        default: CHECK(0);
+    }
+    return status;
+}
+
+// The bytes as hosts of an SRV record, and as a TXT record: an answer fits into as much room as it says, and hosts that are accepted are accepted again.
+static void records(const uint8_t *bytes, size_t length) {
+    static uint8_t out[1 << 20], again[1 << 20];
+    const uint8_t *name = (const uint8_t *)"c.example.com";
+    size_t needed, more;
+    if (length > 1 << 16) return;
+    for (uint32_t strangers = MDB_STRANGERS_REFUSE; strangers <= MDB_STRANGERS_LEFT_OUT; strangers++) {
+        mdb_status status = mdb_srv_hosts(name, 13, bytes, length, strangers, out, sizeof out, &needed);
+        CHECK(status == MDB_OK || status == MDB_BAD_RECORDS || (status == MDB_MALFORMED && needed == 0));
+        if (status == MDB_MALFORMED) continue;
+        CHECK(needed > 0 && mdb_srv_hosts(name, 13, bytes, length, strangers, again, needed - 1, &more) == MDB_NO_ROOM && more == needed);
+        if (status == MDB_OK) CHECK(mdb_srv_hosts(name, 13, out, needed, MDB_STRANGERS_REFUSE, again, needed, &more) == MDB_OK && more == needed && memcmp(out, again, needed) == 0);
+    }
+    for (uint32_t count = 0; count < 3; count++) {
+        mdb_status status = mdb_srv_txt(name, 13, count, bytes, length, out, sizeof out, &needed);
+        CHECK(count == 1 ? status == MDB_OK || status == MDB_BAD_RECORDS : status == (count ? MDB_BAD_RECORDS : MDB_OK));
+        CHECK(mdb_srv_txt(name, 13, count, bytes, length, again, needed, &more) == status && more == needed && memcmp(out, again, needed) == 0);
+        if (status == MDB_OK && needed) CHECK(out[0] == '&' && mdb_srv_txt(name, 13, 1, out + 1, needed - 1, again, sizeof again, &more) == MDB_OK && more == needed && memcmp(out, again, needed) == 0);
+    }
+}
+
 // A call of the bytes of a line.
 static mdb_status called(const uint8_t *at, const uint8_t *end, mdb_reply *reply) {
     static const char *const addresses[] = {"a:1", "a", "b:2", "A:1", "z:9", "", "a:0", "[::1]:9"};
@@ -128,14 +189,14 @@ static mdb_status called(const uint8_t *at, const uint8_t *end, mdb_reply *reply
         case 10: return mdb_unpin(&slot, &when, &connection, reply);
         case 11: return mdb_maintain(&slot, &when, text, n, reply);
         case 12: return mdb_expire(&slot, &when, text, n, reply);
-        case 13: return mdb_beat(&slot, &when, text, n, connection.pool, reply);
+        case 13: return begins(&when, text, n, connection.pool, reply);
         case 14: return mdb_want(&slot, &when, party, reply);
         case 15: return mdb_unwant(&slot, &when, party, reply);
         case 16: return mdb_stop(&slot, &when, reply);
         case 17: return mdb_error(&slot, &when, party, at, (size_t)(end - at), reply);
         case 18: return mdb_failed(&slot, &when, &connection, at, (size_t)(end - at), reply);
         case 19: return mdb_hello(&slot, &when, (const uint8_t *)"a:1 0", 5, at, (size_t)(end - at), reply);
-        case 20: return mdb_beaten(&slot, &when, (const uint8_t *)"a:1 0", 5, at, (size_t)(end - at), reply);
+        case 20: return ends(&when, at, (size_t)(end - at), reply);
         case 21: return mdb_rtt(&slot, &when, (const uint8_t *)"a:1 0", 5, (uint64_t)party << connection.pool % 57, reply);
         case 22: return mdb_hosts(&slot, &when, at, (size_t)(end - at), reply);
         case 23: return mdb_cluster_time(&slot, &when, (uint64_t)party << connection.pool % 57, reply);
@@ -164,6 +225,7 @@ static void run(const uint8_t *input, size_t length) {
         const uint8_t *newline = memchr(at, '\n', (size_t)(end - at)), *stop = newline ? newline : end;
         mdb_reply reply = {77, 77, 77, 77, 77}, kept = reply;
         mdb_status status;
+        records(at, (size_t)(stop - at));
         if (slot.state == 0) {
             status = mdb_line(&slot, 0, at, (size_t)(stop - at), &reply);
             CHECK(status == MDB_CLOSED || status == MDB_MALFORMED);
@@ -211,13 +273,14 @@ static size_t made(uint8_t *out) {
         "hello 0 a:1 0 ok rtt=5 isWritablePrimary=true maxWireVersion=21", "hello 0 a:1 0 ok rtt=5 hosts=a:1,c:3 setName=rs secondary=true maxWireVersion=21", "hello 0 a:1 0 err network msg=x",
         "hello 0 a:1 0 ok rtt=5 isWritablePrimary=true hosts=a:1,b:2 setVersion=1 setName=rs maxWireVersion=21 electionId=000000000000000000000001 topologyVersion=000000000000000000000001.5", "beat 0 a:1 0",
     };
-    static const char *const texts[] = {"network msg=x", "timeout msg=", "pre network msg=x", "post auth msg=y", "ok rtt=7 isWritablePrimary=true maxWireVersion=21", "7 ok msg=isdbgrid maxWireVersion=21", "7 err network msg=z", "err other msg=", "b:2,c:3", "command.91 labels=A msg=", "7 cancelled network msg=z"};
+    static const char *const texts[] = {"network msg=x", "timeout msg=", "pre network msg=x", "post auth msg=y", "ok rtt=7 isWritablePrimary=true maxWireVersion=21", "7 ok msg=isdbgrid maxWireVersion=21", "7 err network msg=z", "err other msg=", "b:2,c:3", "command.91 labels=A msg=", "7 cancelled network msg=z",
+        "7 ok isWritablePrimary=true helloOk=true maxWireVersion=21 topologyVersion=000000000000000000000001.5", "7 ok secondary=true setName=rs hosts=a:1,c:3 maxWireVersion=21 topologyVersion=000000000000000000000001.6 more"};
     size_t n = (size_t)sprintf((char *)out, "%s\n%s\n", openings[below(5)], hellos[below(5)]);
     for (uint32_t calls = 20 + below(180); calls > 0; calls--) {
         uint8_t kind = (uint8_t)(128 + (below(4) ? below(7) : below(25)));
         uint8_t bytes[] = {kind, (uint8_t)(1 + below(9)), 1, (uint8_t)(1 + below(8)), (uint8_t)below(below(4) ? 2 : 8), (uint8_t)below(4), 0, (uint8_t)(1 + below(5)), 22, 0};
         for (size_t i = 0; i < sizeof bytes; i++) out[n++] = bytes[i] == 10 ? 11 : bytes[i];
-        if (kind >= 128 + 17) n += (size_t)sprintf((char *)out + n, "%s", texts[below(11)]);
+        if (kind >= 128 + 17) n += (size_t)sprintf((char *)out + n, "%s", texts[below(13)]);
         out[n++] = 10;
     }
     return n;

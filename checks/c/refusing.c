@@ -42,6 +42,19 @@ static char script[1 << 17], log_with[1 << 22], log_without[1 << 22];
 static size_t length;
 static mdb_slot slot = MDB_SLOT_INIT;
 
+// The calls that concern no driver.
+static void records(void) {
+    const uint8_t *name = (const uint8_t *)"c.example.com", *hosts = (const uint8_t *)"a.example.com:1,b.evil.com:2", *text = (const uint8_t *)"replicaSet=rs&loadBalanced=false";
+    uint8_t out[256];
+    size_t needed = 77;
+    mdb_status status = mdb_srv_hosts(name, 13, hosts, 28, MDB_STRANGERS_LEFT_OUT, out, sizeof out, &needed);
+    CHECK((status == MDB_OK && needed == 15) || (status == MDB_NO_MEMORY && needed == 0));
+    status = mdb_srv_hosts(name, 13, hosts, 28, MDB_STRANGERS_REFUSE, out, sizeof out, &needed);
+    CHECK((status == MDB_BAD_RECORDS && needed > 15) || (status == MDB_NO_MEMORY && needed == 0));
+    status = mdb_srv_txt(name, 13, 1, text, 32, out, sizeof out, &needed);
+    CHECK((status == MDB_OK && needed == 33) || (status == MDB_NO_MEMORY && needed == 0));
+}
+
 // One step, made again once where it had no memory: the reply is not written then, and the last entry still has its text.
 static bool step(const char *line, size_t n, bool opens, mdb_reply *reply, size_t *told, char *log) {
     mdb_reply kept = {77, 77, 77, 77, 77};
@@ -83,6 +96,13 @@ static bool step(const char *line, size_t n, bool opens, mdb_reply *reply, size_
         status = mdb_topology_text(&slot, which, told_text, sizeof told_text, &needed);
         CHECK(status == MDB_OK || status == MDB_NO_ENTRY || (status == MDB_NO_MEMORY && needed == 0));
     }
+    mdb_check check;
+    uint32_t next;
+    status = mdb_check_get(&slot, (const uint8_t *)"a:27017", 7, &check);
+    CHECK(status == MDB_OK || status == MDB_NO_ENTRY || status == MDB_NO_MEMORY);
+    status = mdb_check_next(&slot, (const uint8_t *)"a:27017 0", 9, (const uint8_t *)"7 err network msg=x", 19, &next);
+    CHECK(status == MDB_OK || status == MDB_NO_ENTRY || status == MDB_NO_MEMORY);
+    records();
     return true;
 }
 

@@ -4,9 +4,8 @@
 #include <string.h>
 
 void hello_command(bson_t *command, const struct greeting *greeting, bool as_message) {
-    bool current = greeting->load_balanced || greeting->hello_known;
-    bson_append_int32(command, current ? "hello" : "isMaster", -1, 1);
-    if (!current && greeting->first) bson_append_bool(command, "helloOk", -1, true);
+    bson_append_int32(command, greeting->legacy ? "isMaster" : "hello", -1, 1);
+    if (greeting->asks) bson_append_bool(command, "helloOk", -1, true);
     bson_append_utf8(command, "backpressure", -1, "2", -1);
     if (greeting->awaits) {
         bson_oid_t process;
@@ -143,7 +142,7 @@ static bool put_identity(const bson_iter_t *at, struct text *out, const char *na
     return true;
 }
 
-static bool put_version(const bson_iter_t *at, struct text *out, struct told *told) {
+static bool put_version(const bson_iter_t *at, struct text *out) {
     bson_iter_t inner, process, counter;
     char digits[25];
     if (!BSON_ITER_HOLDS_DOCUMENT(at)) return false;
@@ -151,11 +150,8 @@ static bool put_version(const bson_iter_t *at, struct text *out, struct told *to
     process = inner;
     if (!bson_iter_recurse(at, &counter) || !bson_iter_find(&counter, "counter") || !is_whole(&counter)) return false;
     if (bson_iter_as_int64(&counter) < 0) return false;
-    memcpy(told->process, bson_iter_oid(&process)->bytes, 12);
-    told->counter = bson_iter_as_int64(&counter);
-    told->has_version = true;
     bson_oid_to_string(bson_iter_oid(&process), digits);
-    text_add(out, " topologyVersion=%s.%lld", digits, (long long)told->counter);
+    text_add(out, " topologyVersion=%s.%lld", digits, (long long)bson_iter_as_int64(&counter));
     return true;
 }
 
@@ -178,7 +174,7 @@ static bool put_field(const bson_iter_t *at, const struct field *field, struct t
     case LARGE: return put_number(at, out, field->name, INT64_MAX);
     case TAGS: return put_tags(at, out, field->name);
     case IDENTITY: return put_identity(at, out, field->name);
-    case VERSION: return put_version(at, out, told);
+    case VERSION: return put_version(at, out);
     case SIZE: return is_whole(at);
     case SERVICE: return put_service(at, told);
     }

@@ -10,8 +10,9 @@
 // What a hello is to say.
 struct greeting {
     bool load_balanced;
-    bool hello_known;     // the server said helloOk
-    bool first;           // the first command of a connection: with `client`, and helloOk where the server's answer is not known
+    bool first;           // the first command of a connection: with `client`
+    bool legacy;          // by the older name
+    bool asks;            // with helloOk
     bool awaits;          // with the version below, and the greatest time
     uint64_t most;        // milliseconds
     uint8_t process[12];
@@ -22,9 +23,7 @@ void hello_command(bson_t *command, const struct greeting *greeting, bool as_mes
 
 // What a reply says, beside its fields.
 struct told {
-    bool hello_known, has_version, has_service;
-    uint8_t process[12];
-    int64_t counter;          // of the topology version
+    bool hello_known, has_service;
     int32_t wire;             // maxWireVersion
     int64_t server;           // connectionId, -1 where absent
     char service[25];

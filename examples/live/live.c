@@ -85,7 +85,7 @@ static void take_facts(struct live *live) {
         address[length] = 0;
         count_fact(live, &fact);
         monitors_fact(live, &fact, address);
-        pool_fact(live, &fact, address);
+        pool_fact(live, &fact);
         if (live->options.events && (fact.kind == MDB_FACT_POOL || fact.kind == MDB_FACT_SDAM)) say_event(live, i);
     }
 }
@@ -111,6 +111,11 @@ void live_took(struct live *live, mdb_status status) {
     if (live->log) write_entry(live);
     take_facts(live);
     show(live);
+}
+
+bool live_told(mdb_status status) {
+    if (status == MDB_NO_MEMORY) end_without_memory();
+    return status == MDB_OK;
 }
 
 bool live_open(struct live *live) {

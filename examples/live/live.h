@@ -30,7 +30,6 @@ struct live {
     struct monitor *monitors;
     struct connection *connections;
     struct waiter *waiters;
-    struct pool_name *pools;
     uint32_t pending;     // connections that wait for a worker
     uint32_t last_party;
     uint64_t watchers;    // who want checks at once
@@ -53,6 +52,9 @@ mdb_at live_now(const struct live *live, uint32_t seat);
 // What follows each call that steps, the lock still held: its entry is logged, and its facts go to all whom they concern.
 // The program ends with status 3 where there was no memory.
 void live_took(struct live *live, mdb_status status);
+
+// Whether a call that makes no step told something. The program ends with status 3 where there was no memory.
+bool live_told(mdb_status status);
 
 // Opens the driver, with nothing beside it. Answers whether its options were accepted.
 bool live_open(struct live *live);

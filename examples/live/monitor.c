@@ -7,30 +7,29 @@
 // Makes what a thread does on its link end.
 static void cancel(struct link *link) { eventfd_write(link->cancel, 1); }
 
-// Whether the check was begun: the library refuses it where the server is monitored no longer.
-static bool begin_check(struct monitor *m, struct plan *plan) {
+// Whether the check was begun, and what it does: the library refuses it where the server is monitored no longer.
+static bool begin_check(struct monitor *m, mdb_check *check) {
     eventfd_t nothing;
     mdb_reply reply = { .kind = MDB_REFUSED };
-    mdb_fact started = { .why = 0 };
     live_lock(m->live);
-    if (!m->closed) {
+    if (!m->closed && live_told(mdb_check_get(&m->live->slot, (const uint8_t *)m->address, strlen(m->address), check))) {
         eventfd_read(m->link.cancel, &nothing);
         mdb_at at = live_now(m->live, 0);
         live_took(m->live, mdb_beat(&m->live->slot, &at, (const uint8_t *)m->address, strlen(m->address), m->pool, &reply));
-        m->checking = reply.kind != MDB_REFUSED && mdb_fact_at(&m->live->slot, 0, &started) == MDB_OK;
+        m->checking = reply.kind != MDB_REFUSED;
     }
     live_unlock(m->live);
-    rules_plan(&m->known, &started, &m->live->options, plan);
     return reply.kind != MDB_REFUSED;
 }
 
-static void check(struct monitor *m, const struct plan *plan) {
-    m->link.deadline = clock_now() + plan->timeout * 1000000;
-    switch (plan->action) {
-    case CONNECT: greet_first(&m->greeted, &m->link, &m->talk, &plan->greeting, m->address); break;
-    case READ: greet(&m->greeted, &m->link, &m->talk, 0); break;
-    case HELLO: greet(&m->greeted, &m->link, &m->talk, &plan->greeting); break;
-    }
+static void run_check(struct monitor *m, const mdb_check *check) {
+    struct greeting greeting = {
+        .first = check->action == MDB_CHECK_CONNECT, .legacy = check->legacy, .asks = check->asks, .awaits = check->awaits, .most = check->most, .counter = check->counter
+    };
+    memcpy(greeting.process, check->process, sizeof greeting.process);
+    m->link.deadline = clock_now() + check->timeout * 1000000;
+    if (greeting.first) greet_first(&m->greeted, &m->link, &m->talk, &greeting, m->address);
+    else greet(&m->greeted, &m->link, &m->talk, check->action == MDB_CHECK_READ ? 0 : &greeting);
 }
 
 // The outcome of the check as the library reads it.
@@ -41,28 +40,24 @@ static void outcome_of(const struct greeted *greeted, uint64_t took, struct text
     if (greeted->well && greeted->more) text_add(outcome, " more");
 }
 
-// Tells the library how the check ended, and answers what is next.
-static enum next end_check(struct monitor *m, const struct plan *plan, uint64_t took) {
+// Tells the library how the check ended, and answers what is next, MDB_NEXT_SLEEP or another.
+static uint32_t end_check(struct monitor *m, uint64_t took) {
     char room[REPLY_ROOM + 64];
     struct text outcome = TEXT_IN(room);
     mdb_reply reply;
-    const struct greeted *greeted = &m->greeted;
-    outcome_of(greeted, took, &outcome);
+    uint32_t next = MDB_NEXT_SLEEP;
+    outcome_of(&m->greeted, took, &outcome);
     live_lock(m->live);
-    bool available = shown_available(&m->live->slot, m->address);
     m->checking = false;
     if (!m->closed) {
         mdb_at at = live_now(m->live, 0);
+        live_told(mdb_check_next(&m->live->slot, (const uint8_t *)m->name, strlen(m->name), (const uint8_t *)room, outcome.length, &next));
         live_took(m->live, mdb_beaten(&m->live->slot, &at, (const uint8_t *)m->name, strlen(m->name), (const uint8_t *)room, outcome.length, &reply));
     }
-    bool network = greeted->network && greeted->trouble != CANCELLED;
-    enum next next;
-    if (greeted->well) next = rules_succeeded(&m->known, plan, &greeted->told, greeted->more);
-    else next = rules_failed(&m->known, network, available);
-    m->streams = m->known.has_version;
+    m->streams = next == MDB_NEXT_CONTINUE;
     pthread_cond_broadcast(&m->news);
     live_unlock(m->live);
-    if (!greeted->well) link_close(&m->link);
+    if (!m->greeted.well) link_close(&m->link);
     return next;
 }
 
@@ -79,11 +74,11 @@ static void wait_for_check(struct monitor *m) {
 
 static void *monitor_run(void *given) {
     struct monitor *m = given;
-    struct plan plan;
-    while (begin_check(m, &plan)) {
+    mdb_check check;
+    while (begin_check(m, &check)) {
         uint64_t began = clock_now();
-        check(m, &plan);
-        if (end_check(m, &plan, clock_now() - began) == SLEEP) wait_for_check(m);
+        run_check(m, &check);
+        if (end_check(m, clock_now() - began) == MDB_NEXT_SLEEP) wait_for_check(m);
     }
     link_close(&m->link);
     live_lock(m->live);

@@ -4,7 +4,8 @@
 
 #include "greet.h"
 #include "live.h"
-#include "rules.h"
+
+#define LEAST_WAIT 500 // minHeartbeatFrequencyMS
 
 struct monitor {
     struct live *live;
@@ -19,7 +20,6 @@ struct monitor {
     // The checking thread's own:
     struct link link;
     struct talk talk;
-    struct known known;
     struct greeted greeted;
     // The measuring thread's own:
     struct link rtt_link;

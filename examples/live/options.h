@@ -26,8 +26,8 @@ struct options {
 // Reads a connection string. `wrong` tells why it was refused.
 bool uri_read(struct options *options, const char *uri, struct text *wrong);
 
-// Sets one option by its name in any case, as a connection string or a TXT record has it. Answers whether the value is well; other names are passed over.
-bool option_set(struct options *options, const char *name, const char *value);
+// Sets the options of a text, each as `name=value`, with `&` between them: names in any case; other names are passed over. `wrong` tells which is bad.
+bool options_read(struct options *options, const char *text, struct text *wrong);
 
 // The `open` line of a driver with these options.
 void options_line(const struct options *options, struct text *line);

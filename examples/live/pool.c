@@ -46,8 +46,7 @@ static void pool_event(struct live *live, const mdb_fact *fact) {
     }
 }
 
-void pool_fact(struct live *live, const mdb_fact *fact, const char *address) {
-    if (fact->kind == MDB_FACT_OPENED) pool_named(live, fact->pool, address);
+void pool_fact(struct live *live, const mdb_fact *fact) {
     if (fact->kind == MDB_FACT_GRANTED) grant(live, fact);
     if (fact->kind == MDB_FACT_ENDED) end(live, fact->party);
     if (fact->kind == MDB_FACT_POOL) pool_event(live, fact);

@@ -41,7 +41,7 @@ struct worker {
 };
 
 // What a fact means for the sockets and for who waits. The lock is held.
-void pool_fact(struct live *live, const mdb_fact *fact, const char *address);
+void pool_fact(struct live *live, const mdb_fact *fact);
 
 // Asks for a connection to the server, and sleeps until the request has one or has ended.
 struct checked_out check_out(struct live *live, uint32_t seat, const char *address);

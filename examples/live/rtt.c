@@ -31,7 +31,8 @@ static void tell(struct monitor *m, uint64_t took) {
 }
 
 static void measure(struct monitor *m, bool *hello_known) {
-    struct greeting greeting = { .first = m->rtt_link.fd < 0, .hello_known = m->rtt_link.fd >= 0 && *hello_known };
+    bool first = m->rtt_link.fd < 0;
+    struct greeting greeting = { .first = first, .legacy = first || !*hello_known, .asks = first };
     uint64_t began = clock_now();
     m->rtt_link.deadline = began + m->live->options.connect * 1000000;
     if (greeting.first) {

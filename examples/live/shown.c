@@ -24,13 +24,6 @@ bool shown_address(mdb_slot *slot, size_t place, char address[ADDRESS_ROOM]) {
     return true;
 }
 
-bool shown_available(mdb_slot *slot, const char *address) {
-    size_t place;
-    mdb_server server;
-    if (mdb_server_at(slot, (const uint8_t *)address, strlen(address), &place) != MDB_OK) return false;
-    return mdb_server_get(slot, place, &server) == MDB_OK && server.kind != MDB_SERVER_UNKNOWN;
-}
-
 // Whether a server of this kind takes writes in such a topology (server selection, "Topology type" and operation type).
 static bool takes_writes(uint32_t topology, uint32_t server) {
     if (topology == MDB_TOPOLOGY_SINGLE) return server != MDB_SERVER_UNKNOWN;

@@ -13,9 +13,6 @@ void shown_line(mdb_slot *slot, struct text *line);
 // Writes the address of the server at this place. Answers whether there is one.
 bool shown_address(mdb_slot *slot, size_t place, char address[ADDRESS_ROOM]);
 
-// Whether the type of the server is known.
-bool shown_available(mdb_slot *slot, const char *address);
-
 // Writes the address of a server to which can be written, the turn-th of them. Answers whether there is one.
 bool shown_writable(mdb_slot *slot, unsigned turn, char address[ADDRESS_ROOM]);
 

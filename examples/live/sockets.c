@@ -44,25 +44,6 @@ void interrupt_all(struct live *live) {
     live_unlock(live);
 }
 
-void pool_named(struct live *live, uint32_t pool, const char *address) {
-    struct pool_name *made = live_new(sizeof *made);
-    made->pool = pool;
-    snprintf(made->address, sizeof made->address, "%s", address);
-    made->next = live->pools;
-    live->pools = made;
-}
-
-const char *pool_address(const struct live *live, uint32_t pool) {
-    const struct pool_name *at = live->pools;
-    while (at->pool != pool) at = at->next;
-    return at->address;
-}
-
 void pool_free(struct live *live) {
     while (live->connections) socket_close(live, &(mdb_connection){ live->connections->name.pool, live->connections->name.id });
-    while (live->pools) {
-        struct pool_name *next = live->pools->next;
-        free(live->pools);
-        live->pools = next;
-    }
 }

@@ -4,12 +4,6 @@
 
 #include "pool.h"
 
-struct pool_name {
-    struct pool_name *next;
-    uint32_t pool;
-    char address[ADDRESS_ROOM];
-};
-
 struct connection *socket_find(struct live *live, const mdb_connection *name);
 
 // The place of a connection that a worker will establish.
@@ -20,9 +14,5 @@ void socket_close(struct live *live, const mdb_connection *name);
 
 // Shuts the sockets of the pool that parties hold.
 void sockets_interrupt(struct live *live, uint32_t pool);
-
-// Which server a pool is for.
-void pool_named(struct live *live, uint32_t pool, const char *address);
-const char *pool_address(const struct live *live, uint32_t pool);
 
 #endif

@@ -1,6 +1,5 @@
 #include "srv.h"
 #include "link.h"
-#include "srv_rules.h"
 #include <arpa/inet.h>
 #include <arpa/nameser.h>
 #include <netdb.h>
@@ -71,47 +70,58 @@ static bool look_up(const char *host, struct found *found) {
     return true;
 }
 
-// The found hosts that are in the domain; with `strict` one that is not refuses all.
-static bool accept_hosts(const char *original, struct found *found, bool strict, struct text *wrong) {
-    int kept = 0;
-    for (int i = 0; i < found->count; i++) {
-        char host[ADDRESS_ROOM], port[8];
-        address_cut(found->hosts[i], host, port);
-        bool within = srv_is_within(original, host);
-        if (!within && strict) return text_add(wrong, "SRV lookup for %s returned result %s, which is not in its domain", original, host), false;
-        if (within && kept != i) memcpy(found->hosts[kept], found->hosts[i], ADDRESS_ROOM);
-        kept += within;
-    }
-    found->count = kept;
-    if (kept == 0) text_add(wrong, "SRV lookup for %s returned no records", original);
-    return kept > 0;
+// Leaves the hosts that the library accepts: all of them or none with MDB_STRANGERS_REFUSE, and those of the domain with MDB_STRANGERS_LEFT_OUT.
+static bool accept_hosts(const char *name, struct found *found, uint32_t strangers, struct text *wrong) {
+    char room[SEED_MOST * ADDRESS_ROOM], kept[SEED_MOST * ADDRESS_ROOM], *rest = kept, *host;
+    struct text hosts = TEXT_IN(room);
+    size_t length = 0;
+    room[0] = 0;
+    for (int i = 0; i < found->count; i++) text_add(&hosts, "%s%s", i ? "," : "", found->hosts[i]);
+    mdb_status status = mdb_srv_hosts((const uint8_t *)name, strlen(name), (const uint8_t *)room, hosts.length, strangers, (uint8_t *)kept, sizeof kept - 1, &length);
+    kept[length < sizeof kept ? length : 0] = 0;
+    found->count = 0;
+    if (status != MDB_OK) return text_add(wrong, "%s", status == MDB_BAD_RECORDS ? kept : "the hosts of the SRV records are bad"), false;
+    while ((host = strsep(&rest, ","))) snprintf(found->hosts[found->count++], ADDRESS_ROOM, "%s", host);
+    return true;
 }
 
-// The pieces of the one TXT record, joined.
+// Sets what the records say, of which there are so many; `text` are the strings of the first.
+static bool set_options(struct options *options, uint32_t count, const char *text, size_t length, struct text *wrong) {
+    char said[2048];
+    size_t needed = 0;
+    mdb_status status = mdb_srv_txt((const uint8_t *)options->srv_host, strlen(options->srv_host), count, (const uint8_t *)text, length, (uint8_t *)said, sizeof said - 1, &needed);
+    said[needed < sizeof said ? needed : 0] = 0;
+    if (status == MDB_BAD_RECORDS || status == MDB_OK) return status == MDB_OK ? options_read(options, said, wrong) : (text_add(wrong, "%s", said), false);
+    return text_add(wrong, "the TXT record is too long"), false;
+}
+
 static bool read_txt(struct options *options, struct text *wrong) {
     unsigned char answer[65536];
-    char joined[2048];
-    struct text text = TEXT_IN(joined);
+    char joined[1024];
+    size_t length = 0;
+    uint32_t records = 0;
     ns_msg message;
     ns_rr record;
-    int length = ask(options->srv_host, ns_t_txt, answer, sizeof answer), records = 0;
-    if (length == 0) return true;
-    if (length < 0 || ns_initparse(answer, length, &message) < 0) return text_add(wrong, "the resolver failed"), false;
-    for (int i = 0; i < ns_msg_count(message, ns_s_an); i++) {
+    int told = ask(options->srv_host, ns_t_txt, answer, sizeof answer);
+    if (told < 0 || (told > 0 && ns_initparse(answer, told, &message) < 0)) return text_add(wrong, "the resolver failed"), false;
+    for (int i = 0; told > 0 && i < ns_msg_count(message, ns_s_an); i++) {
         if (ns_parserr(&message, ns_s_an, i, &record) < 0) return text_add(wrong, "the resolver failed"), false;
-        if (ns_rr_type(record) != ns_t_txt) continue;
-        if (++records > 1) return text_add(wrong, "TXT lookup for %s returned more than one record", options->srv_host), false;
+        if (ns_rr_type(record) != ns_t_txt || ++records > 1) continue;
         const unsigned char *at = ns_rr_rdata(record), *end = at + ns_rr_rdlen(record);
-        for (; at < end && at + 1 + *at <= end; at += 1 + *at) text_add_plain(&text, (const char *)at + 1, *at, 255);
+        for (; at < end && at + 1 + *at <= end; at += 1 + *at) {
+            if (length + *at > sizeof joined) return text_add(wrong, "the TXT record is too long"), false;
+            memcpy(joined + length, at + 1, *at);
+            length += *at;
+        }
     }
-    return records == 0 || srv_txt(options, joined, wrong);
+    return set_options(options, records, joined, length, wrong);
 }
 
 bool srv_resolve(struct options *options, uint32_t *ttl, struct text *wrong) {
     struct found found;
     struct options from_txt = *options;
     if (!look_up(options->srv_host, &found)) return text_add(wrong, "the resolver failed"), false;
-    if (!accept_hosts(options->srv_host, &found, true, wrong) || !read_txt(&from_txt, wrong)) return false;
+    if (!accept_hosts(options->srv_host, &found, MDB_STRANGERS_REFUSE, wrong) || !read_txt(&from_txt, wrong)) return false;
     // What the connection string says counts before the TXT record.
     if (!options->set[0]) memcpy(options->set, from_txt.set, sizeof options->set);
     options->load_balanced = options->load_balanced || from_txt.load_balanced;
@@ -138,7 +148,7 @@ static bool sleep_until_poll(struct live *live, uint64_t seconds) {
     live_lock(live);
     while (!live->stopped && clock_now() < until) live_wait_until(live, &live->news, until);
     mdb_topology topology = { .kind = 0 };
-    bool polled = !live->stopped && mdb_topology_get(&live->slot, &topology) == MDB_OK && srv_polled(topology.kind);
+    bool polled = !live->stopped && mdb_topology_get(&live->slot, &topology) == MDB_OK && topology.polled;
     live_unlock(live);
     return polled;
 }
@@ -146,15 +156,15 @@ static bool sleep_until_poll(struct live *live, uint64_t seconds) {
 static void *poll_run(void *given) {
     struct srv_poll *poll = given;
     struct live *live = poll->live;
-    uint64_t interval = srv_rescan(poll->ttl);
+    uint64_t interval = mdb_srv_rescan(1, poll->ttl, live->options.heartbeat / 1000);
     const char *shortened = getenv("MDB_LIVE_RESCAN"); // seconds, for trials
     while (!live->stopped) {
         struct found found;
         char room[512];
         struct text wrong = TEXT_IN(room);
         if (!sleep_until_poll(live, shortened ? (uint64_t)atoi(shortened) : interval)) continue;
-        bool well = look_up(live->options.srv_host, &found) && accept_hosts(live->options.srv_host, &found, false, &wrong);
-        interval = srv_rescan(well ? found.ttl : live->options.heartbeat / 1000);
+        bool well = look_up(live->options.srv_host, &found) && accept_hosts(live->options.srv_host, &found, MDB_STRANGERS_LEFT_OUT, &wrong);
+        interval = mdb_srv_rescan(well ? (uint32_t)found.count : 0, found.ttl, live->options.heartbeat / 1000);
         if (well) tell_hosts(live, &found);
     }
     return 0;

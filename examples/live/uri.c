@@ -29,7 +29,7 @@ static bool set_name(struct options *options, const char *value) {
     return true;
 }
 
-bool option_set(struct options *options, const char *name, const char *value) {
+static bool option_set(struct options *options, const char *name, const char *value) {
     const uint64_t most = 1000000000;
     if (!strcasecmp(name, "replicaSet")) return set_name(options, value);
     if (!strcasecmp(name, "directConnection")) return flag(value, &options->direct);
@@ -43,6 +43,7 @@ bool option_set(struct options *options, const char *name, const char *value) {
     if (!strcasecmp(name, "maxIdleTimeMS")) return number_in(value, 0, most, &options->idle);
     if (!strcasecmp(name, "waitQueueTimeoutMS")) return number_in(value, 1, most, &options->wait);
     if (!strcasecmp(name, "tls") || !strcasecmp(name, "ssl")) return !strcmp(value, "false"); // there is none here
+    if (!strcasecmp(name, "authSource")) return true; // nor authentication
     fprintf(stderr, "mdb_live: the option %s is passed over\n", name);
     return true;
 }
@@ -75,9 +76,9 @@ static bool read_hosts(struct options *options, const char *hosts, size_t length
     }
 }
 
-static bool read_pairs(struct options *options, const char *pairs, struct text *wrong) {
+bool options_read(struct options *options, const char *pairs, struct text *wrong) {
     char copy[4096];
-    if (strlen(pairs) >= sizeof copy) return false;
+    if (strlen(pairs) >= sizeof copy) return text_add(wrong, "the options are too long"), false;
     strcpy(copy, pairs);
     char *rest = copy, *pair;
     while ((pair = strsep(&rest, "&"))) {
@@ -99,7 +100,7 @@ bool uri_read(struct options *options, const char *uri, struct text *wrong) {
     size_t length = strcspn(hosts, "/?");
     if (!read_hosts(options, hosts, length, srv)) return text_add(wrong, "bad hosts (a user and a password are not supported)"), false;
     const char *pairs = strchr(hosts + length, '?');
-    return !pairs || read_pairs(options, pairs + 1, wrong);
+    return !pairs || options_read(options, pairs + 1, wrong);
 }
 
 static void line_add(struct text *line, const char *name, long value) {

@@ -24,7 +24,9 @@ static bool next_job(struct worker *worker, mdb_connection *name, char address[A
         eventfd_read(worker->cancel, &nothing);
         *name = (mdb_connection){ reply.pool, reply.id };
         socket_new(live, name, worker->cancel);
-        snprintf(address, ADDRESS_ROOM, "%s", pool_address(live, reply.pool));
+        size_t length = 0;
+        live_told(mdb_job_address(&live->slot, reply.pool, reply.id, (uint8_t *)address, ADDRESS_ROOM - 1, &length));
+        address[length] = 0;
     }
     live_unlock(live);
     return reply.kind == MDB_JOB;
@@ -68,7 +70,7 @@ static void establish(struct worker *worker, const mdb_connection *name, const c
     const struct options *options = &worker->live->options;
     struct link link = { .fd = -1, .cancel = worker->cancel, .deadline = clock_now() + options->connect * 1000000 };
     struct talk talk = { .asked = 0 };
-    struct greeting greeting = { .load_balanced = options->load_balanced, .first = true };
+    struct greeting greeting = { .load_balanced = options->load_balanced, .first = true, .legacy = !options->load_balanced, .asks = !options->load_balanced };
     struct greeted *greeted = &worker->greeted;
     greet_first(greeted, &link, &talk, &greeting, address);
     if (greeted->well && (!options->load_balanced || greeted->told.has_service)) {

@@ -9,11 +9,15 @@
 """
 
 from .driver import Driver
-from .errors import Closed, Malformed, MdbError, NoEntry, NoMemory, NoRoom, Opened
-from .values import Connection, End, Event, Fact, FactKind, Kind, Reply, Server, ServerKind, Text, Topology, TopologyKind, Use, Why
+from .errors import BadRecords, Closed, Malformed, MdbError, NoEntry, NoMemory, NoRoom, Opened
+from .srv import accepted_hosts, rescan_seconds, txt_options
+from .values import (
+    Action, Awaited, Check, Connection, End, Event, Fact, FactKind, Kind, Next, Reply, Server, ServerKind, Text, Topology, TopologyKind, Use, Why,
+)
 
 __all__ = [
-    "Closed", "Connection", "Driver", "End", "Event", "Fact", "FactKind", "Kind", "Malformed", "MdbError", "NoEntry", "NoMemory", "NoRoom", "Opened", "Reply",
-    "Server", "ServerKind", "Text", "Topology", "TopologyKind", "Use", "Why",
+    "Action", "Awaited", "BadRecords", "Check", "Closed", "Connection", "Driver", "End", "Event", "Fact", "FactKind", "Kind", "Malformed", "MdbError", "Next",
+    "NoEntry", "NoMemory", "NoRoom", "Opened", "Reply", "Server", "ServerKind", "Text", "Topology", "TopologyKind", "Use", "Why", "accepted_hosts",
+    "rescan_seconds", "txt_options",
 ]
-__version__ = "0.2.0"
+__version__ = "0.3.0"

@@ -4,9 +4,9 @@ from __future__ import annotations
 
 import ctypes
 import os
-from ctypes import POINTER, Structure, c_int32, c_int64, c_size_t, c_uint32, c_uint64, c_void_p
+from ctypes import POINTER, Structure, c_int32, c_int64, c_size_t, c_uint8, c_uint32, c_uint64, c_void_p
 
-ABI = 2
+ABI = 3
 
 
 class Slot(Structure):
@@ -41,6 +41,7 @@ class TopologyNumbers(Structure):
     _fields_ = [
         ("servers", c_uint64), ("cluster_time", c_uint64), ("session_minutes", c_uint64), ("kind", c_uint32), ("max_set_version", c_int32),
         ("has_max_set_version", c_uint32), ("has_cluster_time", c_uint32), ("has_session_minutes", c_uint32), ("compatible", c_uint32),
+        ("polled", c_uint32),
     ]
 
 
@@ -53,6 +54,13 @@ class ServerNumbers(Structure):
 
 class TypesNumbers(Structure):
     _fields_ = [("before", c_uint32), ("after", c_uint32)]
+
+
+class CheckNumbers(Structure):
+    _fields_ = [
+        ("timeout", c_uint64), ("most", c_uint64), ("counter", c_int64), ("process", c_uint8 * 12), ("action", c_uint32), ("connection", c_uint32),
+        ("awaits", c_uint32), ("legacy", c_uint32), ("asks", c_uint32),
+    ]
 
 
 _SLOT, _AT, _REPLY, _SIZE = POINTER(Slot), POINTER(At), POINTER(ReplyNumbers), POINTER(c_size_t)
@@ -98,6 +106,10 @@ _CALLS = {
     "mdb_server_get": [_SLOT, c_size_t, POINTER(ServerNumbers)],
     "mdb_server_at": [_SLOT, *_IN, _SIZE],
     "mdb_server_text": [_SLOT, c_size_t, c_uint32, *_OUT],
+    "mdb_check_get": [_SLOT, *_IN, POINTER(CheckNumbers)],
+    "mdb_check_next": [_SLOT, *_IN, *_IN, POINTER(c_uint32)],
+    "mdb_srv_hosts": [*_IN, *_IN, c_uint32, *_OUT],
+    "mdb_srv_txt": [*_IN, c_uint32, *_IN, *_OUT],
     "mdb_last_moment": [_SLOT, POINTER(c_uint64)],
     "mdb_published": [_SLOT, POINTER(c_uint64)],
     "mdb_open_pool": [_SLOT, *_IN, POINTER(c_uint32)],
@@ -122,6 +134,7 @@ def _load() -> ctypes.CDLL:
         function = getattr(library, name)
         function.argtypes, function.restype = types, c_uint32
     library.mdb_close.argtypes, library.mdb_close.restype = [_SLOT], None
+    library.mdb_srv_rescan.argtypes, library.mdb_srv_rescan.restype = [c_uint32, c_uint32, c_uint64], c_uint64
     return library
 
 

@@ -7,10 +7,10 @@ from ctypes import byref, c_size_t, c_uint32, c_uint64, create_string_buffer
 from typing import Iterator
 
 from ._library import (
-    LIBRARY, At, ConnectionNumbers, EstablishedNumbers, FactNumbers, ReplyNumbers, ServerNumbers, Slot, TopologyNumbers, TypesNumbers,
+    LIBRARY, At, CheckNumbers, ConnectionNumbers, EstablishedNumbers, FactNumbers, ReplyNumbers, ServerNumbers, Slot, TopologyNumbers, TypesNumbers,
 )
 from .errors import NoEntry, NoRoom, check
-from .values import Connection, Event, Fact, FactKind, Kind, Reply, Server, ServerKind, Text, Topology, TopologyKind, Use
+from .values import Action, Awaited, Check, Connection, Event, Fact, FactKind, Kind, Next, Reply, Server, ServerKind, Text, Topology, TopologyKind, Use
 
 _ROOM = 4096
 
@@ -200,6 +200,7 @@ class Driver:
         return Topology(
             TopologyKind(told.kind), told.servers, bool(told.compatible), texts[0], told.max_set_version if told.has_max_set_version else None, texts[1],
             told.cluster_time if told.has_cluster_time else None, told.session_minutes if told.has_session_minutes else None, texts[2],
+            bool(told.polled),
         )
 
     def servers(self) -> list[Server]:
@@ -219,6 +220,21 @@ class Driver:
     def job_address(self, connection: Connection) -> str:
         """The address to which a pending connection goes. Raises NoEntry where it is not pending."""
         return self._text(LIBRARY.mdb_job_address, _number(connection.pool, 32), _number(connection.id, 32))
+
+    def next_check(self, address: str) -> Check:
+        """What the check of the server does that begins now, asked before `beat`. Raises NoEntry where no pool is open there."""
+        text, told = _bytes(address), CheckNumbers()
+        with self.lock:
+            check(LIBRARY.mdb_check_get(byref(self._slot), text, len(text), byref(told)), address)
+        awaited = Awaited(bytes(told.process), told.counter, told.most) if told.awaits else None
+        return Check(Action(told.action), told.connection, told.timeout, awaited, bool(told.legacy), bool(told.asks))
+
+    def next_after(self, address: str, pool: int, outcome: str) -> Next:
+        """What follows a check that ends so, asked before `beaten`, with the same words. Raises NoEntry where no pool is open there."""
+        monitor, text, told = _bytes(f"{address} {pool}"), _bytes(outcome), c_uint32()
+        with self.lock:
+            check(LIBRARY.mdb_check_next(byref(self._slot), monitor, len(monitor), text, len(text), byref(told)), outcome)
+        return Next(told.value)
 
     def last_moment(self) -> int:
         """The moment of the last step that was accepted."""

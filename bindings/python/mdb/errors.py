@@ -45,7 +45,13 @@ class NoEntry(MdbError, LookupError):
     status = 6
 
 
-_BY_STATUS = {error.status: error for error in (NoMemory, Malformed, NoRoom, Closed, Opened, NoEntry)}
+class BadRecords(MdbError, ValueError):
+    """SRV or TXT records break a rule, which the text names."""
+
+    status = 7
+
+
+_BY_STATUS = {error.status: error for error in (NoMemory, Malformed, NoRoom, Closed, Opened, NoEntry, BadRecords)}
 
 
 def check(status: int, what: object = "") -> None:

@@ -109,6 +109,28 @@ class Event(IntEnum):
     HEARTBEAT_FAILED = 40
 
 
+class Action(IntEnum):
+    """What a check of a server does."""
+
+    CONNECT = 1
+    """It makes a connection, whose first command is the check."""
+    READ = 2
+    """It sends nothing and reads the next reply."""
+    HELLO = 3
+    """It sends the command over the connection that there is."""
+
+
+class Next(IntEnum):
+    """What a monitor does after a check."""
+
+    RETRY = 1
+    """It checks again at once: a server that was available may have restarted."""
+    SLEEP = 2
+    """It waits until the time between two checks is over, or a check is wanted."""
+    CONTINUE = 3
+    """It checks at once: the server answers when something changes."""
+
+
 class TopologyKind(IntEnum):
     """The type of a topology (SDAM, "TopologyType")."""
 
@@ -220,6 +242,8 @@ class Topology:
     session_minutes: int | None
     """The least session timeout of the servers that hold data."""
     error: str | None
+    polled: bool
+    """Whether its SRV records are looked up again from time to time."""
 
 
 @dataclass(frozen=True)
@@ -246,3 +270,32 @@ class Server:
     """The error of its last check or of an operation, as a line has it."""
     reply: str | None
     """The fields of its last reply, as a line has them."""
+
+
+@dataclass(frozen=True)
+class Check:
+    """What the check of a server does that begins now (SDAM, "Server Monitoring")."""
+
+    action: Action
+    connection: int
+    """The driver's number of the connection that it uses or makes."""
+    timeout: int
+    """After how many milliseconds it counts as a network timeout."""
+    awaited: Awaited | None
+    """Of a hello that is answered when something changes."""
+    legacy: bool
+    """Whether the command is `isMaster`, and not `hello`."""
+    asks: bool
+    """Whether an `isMaster` says `helloOk: true`."""
+
+
+@dataclass(frozen=True)
+class Awaited:
+    """With what a server answers a hello when something changes, and may answer several times."""
+
+    process: bytes
+    """The process of the topology version."""
+    counter: int
+    """Its counter."""
+    most: int
+    """The greatest time for which the server may wait, in milliseconds."""

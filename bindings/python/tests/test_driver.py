@@ -5,7 +5,7 @@ import threading
 import pytest
 
 import mdb
-from mdb import Closed, Connection, Driver, End, Event, FactKind, Kind, Malformed, NoEntry, ServerKind, TopologyKind, Use, Why
+from mdb import Action, Awaited, Closed, Connection, Driver, End, Event, FactKind, Kind, Malformed, Next, NoEntry, ServerKind, TopologyKind, Use, Why
 
 
 def opened() -> Driver:
@@ -183,6 +183,31 @@ def test_errors_and_outcomes():
         assert driver.error(6, 1, "network msg=late").refusal is Why.NOT_HOLDER
 
 
+def test_checks_are_told_beforehand():
+    news = "9 ok isWritablePrimary=true helloOk=true maxWireVersion=21 topologyVersion=0102030405060708090a0b0c.7"
+    with Driver("open seeds=a:1 connect=5000") as driver:
+        check = driver.next_check("A:1")
+        assert (check.action, check.timeout, check.awaited, check.legacy, check.asks) == (Action.CONNECT, 5000, None, True, True)
+        driver.beat(1, "a:1", 0)
+        (started,) = driver.facts()
+        assert (started.event, started.id) == (Event.HEARTBEAT_STARTED, check.connection)
+        assert driver.next_after("a:1", 0, news) is Next.CONTINUE
+        driver.beaten(1, "a:1", 0, news)
+        check = driver.next_check("a:1")
+        assert (check.action, check.timeout, check.legacy, check.asks) == (Action.HELLO, 15000, False, False)
+        assert check.awaited == Awaited(bytes(range(1, 13)), 7, 10000)
+        driver.beat(2, "a:1", 0)
+        assert driver.next_after("a:1", 0, "9 cancelled network msg=x") is Next.SLEEP
+        assert driver.next_after("a:1", 0, "9 err network msg=x") is Next.RETRY
+        driver.beaten(2, "a:1", 0, news + " more")
+        assert driver.next_check("a:1").action is Action.READ
+        for call in (lambda: driver.next_check("b:1"), lambda: driver.next_after("b:1", 0, news)):
+            with pytest.raises(NoEntry):
+                call()
+        with pytest.raises(Malformed):
+            driver.next_after("a:1", 0, "ok")
+
+
 def test_numbers_that_do_not_fit():
     with opened() as driver:
         for call in (lambda: driver.claim(-1), lambda: driver.claim(1 << 64), lambda: driver.collect(2, 1 << 32), lambda: driver.claim(2, seat=-1)):
@@ -231,4 +256,4 @@ def test_threads_share_a_driver():
 
 
 def test_version():
-    assert mdb.__version__ == "0.2.0"
+    assert mdb.__version__ == "0.3.0"

@@ -3,6 +3,8 @@
 #![tactic(auto)]
 
 mod calls;
+mod checks;
 mod facts;
 mod known;
 mod lines;
+mod srv;

@@ -11,7 +11,7 @@ use mdb_session::{CLOSED, MALFORMED, NO_ROOM, OK, OPENED, ReplyNumbers, Slot, St
 use std::alloc::Global;
 
 /// The number of this interface, which changes where a call, a struct or a number of it does.
-pub const ABI: u32 = 2;
+pub const ABI: u32 = 3;
 
 /// Tells the number of the interface that the library was built for.
 #[unsafe(no_mangle)]

@@ -20,3 +20,7 @@ hosts_line at hosts = codes "hosts " ++ (decimal at.moment ++ (codes " " ++ host
 
 abbrev pub rtt_line : At → List ℕ → ℕ → List ℕ
 rtt_line at monitor nanos = codes "rtt " ++ (decimal at.moment ++ (codes " " ++ (monitor ++ (codes " " ++ decimal nanos))))
+
+-- when a line is that is no step
+abbrev pub no_moment : At
+no_moment = record { moment = 0; seat = 0 }

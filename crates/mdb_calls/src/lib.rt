@@ -2,12 +2,14 @@
 #![tactic(auto)]
 
 mod callers;
+mod checks;
 mod connections;
 mod monitors;
 mod outcomes;
 mod timers;
 
 pub use callers::{collect, give_up, request, return_connection, warm};
+pub use checks::check_next;
 pub use connections::{
     ConnectionNumbers, EstablishedNumbers, claim, established, pin, replicate, take, unpin,
 };

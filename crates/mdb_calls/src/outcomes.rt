@@ -1,13 +1,17 @@
 //! The steps that carry an error, a server's reply, a monitor or a list of hosts, which stay texts.
 
-ghost use Rattle.std.specs.Prelude.{◌≡◌, ◌≢◌, ◌↔◌, None, string_bytes};
+ghost use Rattle.std.specs.Prelude.{◌≡◌, ◌≢◌, ◌↔◌, None, IfOk, IfErr, string_bytes};
 ghost use Rattle.mdb_lines.specs.Script.{Spells};
 ghost use Rattle.mdb_log.specs.declared.step.Step.{Step};
+ghost use Rattle.mdb_parts.specs.declared.line_error.LineError.TheVariants.{OutOfMemory as NoMemory};
 ghost use Rattle.mdb_calls.specs.Lines.{error_line, failed_line, hello_line, beaten_line, rtt_line, hosts_line};
 ghost use Rattle.mdb_session.specs.Sessions.{IsStepped};
 
 use crate::connections::ConnectionNumbers;
-use mdb_session::{At, CLOSED, MALFORMED, NO_MEMORY, OK, ReplyNumbers, Slot, Status, text_in};
+use mdb_lines::LineError;
+use mdb_session::{
+    At, CLOSED, MALFORMED, NO_MEMORY, OK, ReplyNumbers, Slot, Status, status_of, text_in,
+};
 use std::alloc::Global;
 
 /// An operation of a party met an error on its connection (SDAM, "Error handling"). `error` is the error as a line has it, as `network msg=reset`.
@@ -92,9 +96,29 @@ pub fn hello(
     }
 }
 
+// The line of a check that ended.
+#[tactic(auto, using(crate::proofs::LineLemmas::beaten_monitor, crate::proofs::LineLemmas::beaten_outcome))]
+pub(crate) fn end_of_check(
+    alloc: Global,
+    at: &At,
+    monitor: &[u8],
+    outcome: &[u8],
+) -> Result<String, LineError>
+    ensures ok { IfOk result (λ line. string_bytes line ≡ beaten_line at.now monitor.now outcome.now) }
+    ensures only { (s : Step) → Spells 2 (beaten_line at.now monitor.now outcome.now) s → IfErr result (λ e. e ≡ NoMemory) }
+{
+    let Some(monitor) = text_in(monitor) else {
+        return Err(LineError::Bad);
+    };
+    let Some(outcome) = text_in(outcome) else {
+        return Err(LineError::Bad);
+    };
+    let moment = at.moment;
+    Ok(format!(in alloc; "beaten {moment} {monitor} {outcome}")?)
+}
+
 /// The check of a monitor ended (SDAM monitoring, "ServerHeartbeatSucceededEvent"). `monitor` is as for a hello, and `outcome` what a line has behind
 /// it: its nanoseconds, and then `ok FIELD=VALUE ..`, `err ERROR` or `cancelled ERROR`.
-#[tactic(auto, using(crate::proofs::LineLemmas::beaten_monitor, crate::proofs::LineLemmas::beaten_outcome))]
 pub fn beaten(
     alloc: Global,
     slot: &mut Slot,
@@ -108,16 +132,9 @@ pub fn beaten(
     ensures malformed { result ≡ MALFORMED → (s : Step) → Spells 2 (beaten_line at.now monitor.now outcome.now) s → ⊥ }
     ensures closed { result ≡ CLOSED → slot.old.word.value ≡ None }
 {
-    let Some(monitor) = text_in(monitor) else {
-        return MALFORMED;
-    };
-    let Some(outcome) = text_in(outcome) else {
-        return MALFORMED;
-    };
-    let moment = at.moment;
-    match format!(in alloc; "beaten {moment} {monitor} {outcome}") {
+    match end_of_check(alloc, at, monitor, outcome) {
         Ok(line) => slot.line(alloc, at.seat, line.as_bytes(), reply),
-        Err(_) => NO_MEMORY,
+        Err(why) => status_of(why),
     }
 }
 

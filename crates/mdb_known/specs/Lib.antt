@@ -3,3 +3,4 @@ pub mod Topologies
 pub mod Servers
 pub mod FactParts
 pub mod Jobs
+pub mod Checks

@@ -4,6 +4,7 @@ use Rattle.mdb_base.specs.Spelling.{object_id}
 use Rattle.mdb_base.specs.declared.times.ClusterTime.{ClusterTime}
 use Rattle.mdb_describe.specs.Topology.{session_timeout}
 use Rattle.mdb_describe.specs.declared.topology.TopologyDescription.{TopologyDescription}
+use Rattle.mdb_srv.specs.Polling.{is_polled}
 use Rattle.mdb_known.specs.Types.{flag_number, topology_type_number}
 use Rattle.mdb_known.specs.declared.topology_numbers.TopologyNumbers.{TopologyNumbers}
 
@@ -23,6 +24,7 @@ topology_numbers t = record {
   has_cluster_time = flag_number (is_some t.cluster_time);
   has_session_minutes = flag_number (is_some (session_timeout t.servers));
   compatible = flag_number (is_none t.compatibility_error);
+  polled = flag_number (is_polled t.topology_type);
 }
 
 -- The text of this number: the name of the set, the greatest election id, or why the driver cannot speak to one of the servers.

@@ -1,6 +1,8 @@
 //! What a caller from C is told of the topology, its servers and the facts that name them: numbers, and texts that are copied.
 #![tactic(auto)]
 
+mod check_numbers;
+mod checks;
 mod fact_parts;
 mod given;
 mod jobs;
@@ -13,6 +15,8 @@ mod topology_texts;
 mod types;
 mod which;
 
+pub use check_numbers::CheckNumbers;
+pub use checks::check;
 pub use fact_parts::TypesNumbers;
 pub use jobs::job_address;
 pub use server_numbers::ServerNumbers;

@@ -6,6 +6,7 @@ ghost use Rattle.mdb_known.specs.Topologies.{ticks, topology_numbers};
 use crate::types::{flag_number, topology_type_number};
 use mdb_base::ClusterTime;
 use mdb_describe::TopologyDescription;
+use mdb_srv::should_poll;
 
 /// What is known of a topology. A number that is not known is 0.
 #[repr(C)]
@@ -29,6 +30,8 @@ pub struct TopologyNumbers {
     pub has_session_minutes: u32,
     /// Whether the driver can speak to each of the servers.
     pub compatible: u32,
+    /// Whether its SRV records are looked up again.
+    pub polled: u32,
 }
 
 // The number of a time, and 0 where there is none.
@@ -58,5 +61,6 @@ pub fn numbers_of_topology(topology: &TopologyDescription) -> TopologyNumbers
         has_cluster_time: flag_number(cluster_time.is_some()),
         has_session_minutes: flag_number(minutes.is_some()),
         compatible: flag_number(topology.compatibility_error().is_none()),
+        polled: flag_number(should_poll(topology.topology_type())),
     }
 }

@@ -4,3 +4,4 @@ pub mod Kept
 pub mod Values
 pub mod Words
 pub mod Slots
+pub mod Beforehand

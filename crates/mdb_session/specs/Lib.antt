@@ -4,3 +4,4 @@ pub mod Sessions
 pub mod Answers
 pub mod Holding
 pub mod Texts
+pub mod Ahead

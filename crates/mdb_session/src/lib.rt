@@ -1,6 +1,7 @@
 //! One driver that keeps the last entry of its log while contracts see the whole log, and the slot in which a program in C keeps it.
 #![tactic(auto)]
 
+mod ahead;
 mod at;
 mod fact_numbers;
 mod loose;

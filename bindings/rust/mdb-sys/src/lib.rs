@@ -4,7 +4,7 @@
 
 use core::ffi::c_void;
 
-pub const MDB_ABI: u32 = 2;
+pub const MDB_ABI: u32 = 3;
 
 pub const MDB_OK: u32 = 0;
 pub const MDB_NO_MEMORY: u32 = 1;
@@ -13,6 +13,7 @@ pub const MDB_NO_ROOM: u32 = 3;
 pub const MDB_CLOSED: u32 = 4;
 pub const MDB_OPENED: u32 = 5;
 pub const MDB_NO_ENTRY: u32 = 6;
+pub const MDB_BAD_RECORDS: u32 = 7;
 
 #[repr(C)]
 pub struct mdb_slot {
@@ -84,6 +85,7 @@ pub struct mdb_topology {
     pub has_cluster_time: u32,
     pub has_session_minutes: u32,
     pub compatible: u32,
+    pub polled: u32,
 }
 
 #[repr(C)]
@@ -99,6 +101,20 @@ pub struct mdb_server {
     pub has_updated: u32,
     pub has_set_version: u32,
     pub has_error: u32,
+}
+
+#[repr(C)]
+#[derive(Clone, Copy, Debug, Default, PartialEq, Eq)]
+pub struct mdb_check {
+    pub timeout: u64,
+    pub most: u64,
+    pub counter: i64,
+    pub process: [u8; 12],
+    pub action: u32,
+    pub connection: u32,
+    pub awaits: u32,
+    pub legacy: u32,
+    pub asks: u32,
 }
 
 extern "C" {
@@ -153,6 +169,15 @@ extern "C" {
     pub fn mdb_server_get(slot: *mut mdb_slot, index: usize, server: *mut mdb_server) -> u32;
     pub fn mdb_server_at(slot: *mut mdb_slot, address: *const u8, address_len: usize, index: *mut usize) -> u32;
     pub fn mdb_server_text(slot: *mut mdb_slot, index: usize, which: u32, out: *mut u8, out_len: usize, needed: *mut usize) -> u32;
+    pub fn mdb_check_get(slot: *mut mdb_slot, address: *const u8, address_len: usize, check: *mut mdb_check) -> u32;
+    pub fn mdb_check_next(slot: *mut mdb_slot, monitor: *const u8, monitor_len: usize, outcome: *const u8, outcome_len: usize, next: *mut u32) -> u32;
+    pub fn mdb_srv_hosts(
+        name: *const u8, name_len: usize, found: *const u8, found_len: usize, strangers: u32, out: *mut u8, out_len: usize, needed: *mut usize,
+    ) -> u32;
+    pub fn mdb_srv_txt(
+        name: *const u8, name_len: usize, count: u32, text: *const u8, text_len: usize, out: *mut u8, out_len: usize, needed: *mut usize,
+    ) -> u32;
+    pub fn mdb_srv_rescan(accepted: u32, ttl: u32, heartbeat: u64) -> u64;
     pub fn mdb_last_moment(slot: *mut mdb_slot, moment: *mut u64) -> u32;
     pub fn mdb_published(slot: *mut mdb_slot, count: *mut u64) -> u32;
     pub fn mdb_open_pool(slot: *mut mdb_slot, address: *const u8, address_len: usize, pool: *mut u32) -> u32;

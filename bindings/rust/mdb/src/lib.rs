@@ -1,9 +1,12 @@
 //! A driver's connection pools, and what it knows of its servers, over the C library of `include/mdb.h`. What the header asks of a caller is kept by the
 //! types: `&mut self` is one call at a time, a slice's pointer is never null, and a driver is closed once.
 
+pub mod srv;
 mod values;
 
-pub use values::{Connection, End, Error, Event, Fact, FactKind, Kind, Reply, Server, ServerKind, Text, Topology, TopologyKind, Use, Why};
+pub use values::{
+    Action, Awaited, Check, Connection, End, Error, Event, Fact, FactKind, Kind, Next, Reply, Server, ServerKind, Text, Topology, TopologyKind, Use, Why,
+};
 
 use mdb_sys as c;
 use std::ptr::null_mut;
@@ -251,6 +254,29 @@ impl Driver {
     pub fn server_text(&mut self, place: usize, which: Text) -> Result<Option<String>, Error> {
         // SAFETY: as in `entry_text`.
         some_text(|out, room, needed| unsafe { c::mdb_server_text(&mut self.0, place, which as u32, out, room, needed) })
+    }
+
+    /// What the check of the server does that begins now, asked before `beat`, if a pool is open there.
+    pub fn next_check(&mut self, address: &str) -> Result<Option<Check>, Error> {
+        let mut told = c::mdb_check::default();
+        // SAFETY: a slot of this driver's, a slice with its length, and numbers of their own.
+        match Error::check(unsafe { c::mdb_check_get(&mut self.0, address.as_ptr(), address.len(), &mut told) }) {
+            Ok(()) => Check::of(told).map(Some),
+            Err(Error::NoEntry) => Ok(None),
+            Err(error) => Err(error),
+        }
+    }
+
+    /// What follows a check that ends so, asked before `beaten`, with the same words, if a pool is open there.
+    pub fn next_after(&mut self, address: &str, pool: u32, outcome: &str) -> Result<Option<Next>, Error> {
+        let monitor = format!("{address} {pool}");
+        let mut next = 0;
+        // SAFETY: a slot of this driver's, slices with their lengths, and a number of its own.
+        match Error::check(unsafe { c::mdb_check_next(&mut self.0, monitor.as_ptr(), monitor.len(), outcome.as_ptr(), outcome.len(), &mut next) }) {
+            Ok(()) => Next::of(next).map(Some),
+            Err(Error::NoEntry) => Ok(None),
+            Err(error) => Err(error),
+        }
     }
 
     /// The moment of the last step that was accepted.

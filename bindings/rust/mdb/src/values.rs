@@ -18,6 +18,8 @@ pub enum Error {
     Opened,
     /// There is no such fact, pool, server or text.
     NoEntry,
+    /// SRV or TXT records break a rule.
+    BadRecords,
     /// A number that this crate does not know.
     Unknown(u32),
 }
@@ -32,6 +34,7 @@ impl Error {
             c::MDB_CLOSED => Err(Error::Closed),
             c::MDB_OPENED => Err(Error::Opened),
             c::MDB_NO_ENTRY => Err(Error::NoEntry),
+            c::MDB_BAD_RECORDS => Err(Error::BadRecords),
             other => Err(Error::Unknown(other)),
         }
     }
@@ -46,6 +49,7 @@ impl fmt::Display for Error {
             Error::Closed => f.write_str("the driver is closed"),
             Error::Opened => f.write_str("the driver is open already"),
             Error::NoEntry => f.write_str("there is no such fact, pool, server or text"),
+            Error::BadRecords => f.write_str("the records break a rule"),
             Error::Unknown(number) => write!(f, "unknown number {number}"),
         }
     }
@@ -394,6 +398,8 @@ pub struct Topology {
     pub session_minutes: Option<u64>,
     /// Whether the driver can speak to each of the servers.
     pub compatible: bool,
+    /// Whether its SRV records are looked up again from time to time.
+    pub polled: bool,
 }
 
 impl Topology {
@@ -405,6 +411,7 @@ impl Topology {
             cluster_time: (told.has_cluster_time == 1).then_some(told.cluster_time),
             session_minutes: (told.has_session_minutes == 1).then_some(told.session_minutes),
             compatible: told.compatible == 1,
+            polled: told.polled == 1,
         })
     }
 }
@@ -435,5 +442,87 @@ impl Server {
             set_version: (told.has_set_version == 1).then_some(told.set_version),
             has_error: told.has_error == 1,
         })
+    }
+}
+
+/// What a check of a server does.
+#[derive(Clone, Copy, Debug, PartialEq, Eq)]
+pub enum Action {
+    /// It makes a connection, whose first command is the check.
+    Connect = 1,
+    /// It sends nothing and reads the next reply.
+    Read = 2,
+    /// It sends the command over the connection that there is.
+    Hello = 3,
+}
+
+impl Action {
+    fn of(number: u32) -> Result<Action, Error> {
+        match number {
+            1 => Ok(Action::Connect),
+            2 => Ok(Action::Read),
+            3 => Ok(Action::Hello),
+            other => Err(Error::Unknown(other)),
+        }
+    }
+}
+
+/// With what a server answers a hello when something changes, and may answer several times.
+#[derive(Clone, Copy, Debug, PartialEq, Eq)]
+pub struct Awaited {
+    /// The process of the topology version, and its counter.
+    pub process: [u8; 12],
+    pub counter: i64,
+    /// The greatest time for which the server may wait, in milliseconds.
+    pub most: u64,
+}
+
+/// What the check of a server does that begins now (SDAM, "Server Monitoring").
+#[derive(Clone, Copy, Debug, PartialEq, Eq)]
+pub struct Check {
+    pub action: Action,
+    /// The driver's number of the connection that it uses or makes.
+    pub connection: u32,
+    /// After how many milliseconds it counts as a network timeout.
+    pub timeout: u64,
+    pub awaited: Option<Awaited>,
+    /// Whether the command is `isMaster`, and not `hello`.
+    pub legacy: bool,
+    /// Whether an `isMaster` says `helloOk: true`.
+    pub asks: bool,
+}
+
+impl Check {
+    pub(crate) fn of(told: c::mdb_check) -> Result<Check, Error> {
+        Ok(Check {
+            action: Action::of(told.action)?,
+            connection: told.connection,
+            timeout: told.timeout,
+            awaited: (told.awaits == 1).then_some(Awaited { process: told.process, counter: told.counter, most: told.most }),
+            legacy: told.legacy == 1,
+            asks: told.asks == 1,
+        })
+    }
+}
+
+/// What a monitor does after a check.
+#[derive(Clone, Copy, Debug, PartialEq, Eq)]
+pub enum Next {
+    /// It checks again at once: a server that was available may have restarted.
+    Retry = 1,
+    /// It waits until the time between two checks is over, or a check is wanted.
+    Sleep = 2,
+    /// It checks at once: the server answers when something changes.
+    Continue = 3,
+}
+
+impl Next {
+    pub(crate) fn of(number: u32) -> Result<Next, Error> {
+        match number {
+            1 => Ok(Next::Retry),
+            2 => Ok(Next::Sleep),
+            3 => Ok(Next::Continue),
+            other => Err(Error::Unknown(other)),
+        }
     }
 }

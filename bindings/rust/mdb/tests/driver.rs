@@ -1,4 +1,5 @@
-use mdb::{Connection, Driver, End, Error, Event, Kind, ServerKind, Text, TopologyKind, Use, Why};
+use mdb::srv::{accepted_hosts, rescan_seconds, txt_options, Refusal, Strangers};
+use mdb::{Action, Awaited, Connection, Driver, End, Error, Event, Kind, Next, ServerKind, Text, TopologyKind, Use, Why};
 
 fn opened() -> Driver {
     let mut driver = Driver::open("open seeds=a:27017 max=2 wait=5").unwrap();
@@ -132,4 +133,38 @@ fn threads_share_a_driver() {
     for one in crew {
         one.join().unwrap();
     }
+}
+
+#[test]
+fn checks_are_told_beforehand() {
+    let news = "9 ok isWritablePrimary=true helloOk=true maxWireVersion=21 topologyVersion=0102030405060708090a0b0c.7";
+    let mut driver = Driver::open("open seeds=a:1 connect=5000").unwrap();
+    let first = driver.next_check("A:1").unwrap().unwrap();
+    assert_eq!((first.action, first.timeout, first.awaited, first.legacy, first.asks), (Action::Connect, 5000, None, true, true));
+    driver.beat(1, "a:1", 0).unwrap();
+    assert_eq!(driver.facts().unwrap()[0].id, first.connection);
+    assert_eq!(driver.next_after("a:1", 0, news), Ok(Some(Next::Continue)));
+    driver.beaten(1, "a:1", 0, news).unwrap();
+    let second = driver.next_check("a:1").unwrap().unwrap();
+    let awaited = Awaited { process: [1, 2, 3, 4, 5, 6, 7, 8, 9, 10, 11, 12], counter: 7, most: 10000 };
+    assert_eq!((second.action, second.timeout, second.awaited, second.legacy, second.asks), (Action::Hello, 15000, Some(awaited), false, false));
+    driver.beat(2, "a:1", 0).unwrap();
+    assert_eq!(driver.next_after("a:1", 0, "9 err network msg=x"), Ok(Some(Next::Retry)));
+    assert_eq!(driver.next_after("a:1", 0, "9 cancelled network msg=x"), Ok(Some(Next::Sleep)));
+    assert_eq!((driver.next_check("b:1"), driver.next_after("b:1", 0, news)), (Ok(None), Ok(None)));
+    assert_eq!(driver.next_after("a:1", 0, "ok"), Err(Error::Malformed));
+}
+
+#[test]
+fn records_are_judged() {
+    let name = "cluster.example.com";
+    assert_eq!(accepted_hosts(name, "b.example.com:1,a.evil.com:1", Strangers::LeftOut).as_deref(), Ok("b.example.com:1"));
+    let refusal = "SRV lookup for cluster.example.com returned result a.evil.com, which does not match domain name example.com";
+    assert_eq!(accepted_hosts(name, "a.evil.com:1", Strangers::Refuse), Err(Refusal::Records(refusal.to_string())));
+    assert_eq!(accepted_hosts(name, "b.example.com:0", Strangers::Refuse), Err(Refusal::Call(Error::Malformed)));
+    assert_eq!(txt_options(name, &[]).as_deref(), Ok(""));
+    assert_eq!(txt_options(name, &[b"replicaSet=rs&AUTHSOURCE=admin"]).as_deref(), Ok("&authSource=admin&replicaSet=rs"));
+    assert!(matches!(txt_options(name, &[b"replicaSet=rs", b"replicaSet=rs"]), Err(Refusal::Records(_))));
+    assert_eq!((rescan_seconds(1, 5, 10), rescan_seconds(1, 300, 10), rescan_seconds(0, 300, 90)), (60, 300, 90));
+    assert!(Driver::open("open seeds=a:1").unwrap().topology().unwrap().polled);
 }
