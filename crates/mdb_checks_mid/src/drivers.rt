@@ -15,8 +15,8 @@ use mdb_log::{
 };
 use mdb_topology::{HandshakePhase, TopologyCore};
 
-// A broken connection.
-fn lost(page: &mut Page) -> Error {
+/// A broken connection.
+pub fn lost(page: &mut Page) -> Error {
     Error {
         kind: ErrorKind::Network,
         labels: Items::new(Vec::new(page.alloc)),
@@ -25,8 +25,8 @@ fn lost(page: &mut Page) -> Error {
     }
 }
 
-// One step; its reply is left.
-fn take(page: &mut Page, core: &mut TopologyCore, log: &mut Log, moment: Moment, act: Act)
+/// One step; its reply is left.
+pub fn take(page: &mut Page, core: &mut TopologyCore, log: &mut Log, moment: Moment, act: Act)
     requires stands { IsDriverOf core.old log.old }
     requires act { IsDriverAct act }
     ensures { IsDriverOf core.new log.new }
