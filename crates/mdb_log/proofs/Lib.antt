@@ -1,9 +1,6 @@
 pub mod Bools
 pub mod Numbers
 pub mod Addresses
-pub mod Ascending
-pub mod Sorted
 pub mod Pins
 pub mod Frame
 pub mod Later
-pub mod Opened
