@@ -75,7 +75,7 @@ pub(super) fn used_as(connection: Connection, used: Use) -> Connection
 
 impl PoolCore {
     ghost use Rattle.std.specs.Prelude.{is_some, if◌then◌else◌, Some, None, List};
-    ghost use Rattle.mdb_pool.specs.Kept.{connection_at, generation_at};
+    ghost use Rattle.mdb_pool.specs.Kept.{connection_at, generation_at, interrupted_at};
     ghost use Rattle.mdb_log.specs.Generations.{carried};
     ghost use Rattle.mdb_pool.specs.Standing.{Fits};
     ghost use Rattle.mdb_log.specs.History.{PoolItem};
@@ -129,10 +129,9 @@ impl PoolCore {
         }
     }
 
-    /// An operation under way on the connection is to stop (CMAP, "Interrupting pending connections"): in a normal pool, a party has it, no pin
-    /// stands, and a clear by a network timeout came after the last of its grant, take and unpin.
-    pub fn is_interrupted(&self, id: u32) -> bool
-        ensures { (xs : List PoolItem) → Fits self.now xs → result ≡ is_interrupted self.now.options xs id }
+    // The connection is interrupted, by what is kept of it.
+    fn interrupts(&self, id: u32) -> bool
+        ensures { result ≡ interrupted_at self.now (connection_at self.now id) }
     {
         match self.draft.body.connections.get(id) {
             Some(connection) => {
@@ -143,5 +142,13 @@ impl PoolCore {
             }
             None => false,
         }
+    }
+
+    /// An operation under way on the connection is to stop (CMAP, "Interrupting pending connections"): in a normal pool, a party has it, no pin
+    /// stands, and a clear by a network timeout came after the last of its grant, take and unpin.
+    pub fn is_interrupted(&self, id: u32) -> bool
+        ensures { (xs : List PoolItem) → Fits self.now xs → result ≡ is_interrupted self.now.options xs id }
+    {
+        self.interrupts(id)
     }
 }

@@ -1,15 +1,15 @@
 -- A pool that a driver hands out is one of the driver's history.
-use Rattle.std.proofs.Common.{ℕ, ◌≡◌, ◌&&◌, true, not, List, Some, is_some, sym, ◌∙◌, ap}
+use Rattle.std.proofs.Common.{ℕ, ◌≡◌, ◌&&◌, true, not, List, Some, sym, ◌∙◌, ap}
 use Rattle.std.specs.Prelude.{option_map, slice_get}
 use Rattle.std.proofs.lemmas.Option.{slice_get-map}
 use Rattle.mdb_base.specs.declared.options.Options.{Options}
 use Rattle.mdb_log.specs.Connections.{has}
 use Rattle.mdb_log.specs.History.{Item, of_pool, has_asked}
-use Rattle.mdb_log.specs.Homes.{homes}
+use Rattle.mdb_log.specs.Homes.{Home, homes}
 use Rattle.mdb_log.specs.Opening.{pool_options}
 use Rattle.mdb_log.specs.Requests.{is_open, is_claimed}
 use Rattle.mdb_pool.specs.Core.{PoolCore}
-use Rattle.mdb_pool.specs.Kept.{request_at, is_asked_at, is_open_now}
+use Rattle.mdb_pool.specs.Kept.{request_at, is_asked_at}
 use Rattle.mdb_pool.specs.Standing.{Fits, StandsIn}
 use Rattle.mdb_pool.proofs.Stands.{asked-known}
 use Rattle.mdb_topology.specs.Standing.{home, PoolsFit}
@@ -33,4 +33,4 @@ module _ (o : Options) (pools : List PoolCore) (h : List Item) (z : PoolsFit (po
   }
 
   pub home-is : slice_get (homes h) p ≡ Some (home s)
-  home-is = ap (λ hs. slice_get hs p) z.homes_are ∙ (slice_get-map home pools p ∙ ap (option_map home) e)
+  home-is = ap (λ (hs : List Home). slice_get hs p) z.homes_are ∙ (slice_get-map home pools p ∙ ap (option_map home) e)
