@@ -9,7 +9,7 @@ ghost use Rattle.mdb_audit.specs.LegalText.{IsVerdict};
 use crate::text::{MAX_LOG, audit};
 use crate::verdict::{Verdict, Why};
 use mdb_base::{OutOfMemory, Sink, Source};
-use mdb_lines::{RunError, Status, status_of, tell_error, tell_usage, write_all};
+use mdb_lines::{RunError, Status, end_with_error, tell_usage, write_all};
 use std::alloc::Global;
 
 const USAGE: &str = "usage: mdb_audit\n";
@@ -111,15 +111,6 @@ fn run<S: Source, K: Sink>(alloc: Global, source: &mut S, sink: &mut K) -> Resul
     }
 }
 
-// Says why a run ended before its end, and answers its status.
-fn ended<E: Sink>(errors: &mut E, e: RunError) -> Status
-    ensures status { result ≡ status e }
-    ensures told { Tells (record { held = E.held errors.old; faults = E.faults errors.old }) (record { held = E.held errors.new; faults = E.faults errors.new }) (message e) }
-{
-    tell_error(errors, e);
-    status_of(e)
-}
-
 // Says how the tool is used, and answers the status of a usage.
 fn refused<E: Sink>(errors: &mut E) -> Status
     ensures status { result ≡ 2 }
@@ -160,6 +151,6 @@ pub fn run_audit<S: Source, K: Sink, E: Sink>(
     }
     match run(alloc, source, sink) {
         Ok(verdict) => status(verdict),
-        Err(e) => ended(errors, e),
+        Err(e) => end_with_error(errors, e),
     }
 }

@@ -1,7 +1,9 @@
 //! Which call a kind of case makes.
 
 use crate::pool::Pool;
-use crate::{drivers, entries, errors, generator, handles, lines, pool, shown, spent};
+use crate::{
+    driver_pools, drivers, entries, errors, generator, handles, lines, pool, shown, spent,
+};
 use mdb_cases::Page;
 
 /// The pool that the last `open` made.
@@ -21,6 +23,7 @@ impl Cases {
             "pool" => pool::follow(page, &mut self.pool, given),
             "handle" => handles::handle(page, given),
             "driver" => drivers::driver(page, given),
+            "driver-pool" => driver_pools::driver_pool(page, given),
             "spent" => spent::spent(page, given),
             "handshake" => drivers::handshake(page, given),
             _ => of_texts(page, kind, given),

@@ -2,6 +2,7 @@
 #![tactic(auto)]
 
 mod cases;
+mod driver_pools;
 mod drivers;
 mod entries;
 mod errors;

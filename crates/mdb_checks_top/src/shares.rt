@@ -1,4 +1,4 @@
-//! Cases of mdb_share: one script that several parts run.
+//! Cases of mdb_shared_runs: one script that several parts run.
 
 use crate::runs::{put_lines, source};
 use mdb_audit::audit;
@@ -7,7 +7,7 @@ use mdb_cases::{Page, decoded, parted, small, value_of};
 use mdb_lines::Status;
 use mdb_log::Log;
 use mdb_runs::run_script;
-use mdb_share::{LineGate, run_gated, run_program, run_shared};
+use mdb_shared_runs::{LineGate, run_gated, run_program, run_shared};
 use std::sync::Wait;
 use std::sync::atomic::{AtomicU64, Ordering};
 use std::thread::{Threads, yield_now};

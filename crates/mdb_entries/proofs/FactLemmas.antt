@@ -8,7 +8,7 @@ use Rattle.mdb_events.specs.FactText.{end_text}
 use Rattle.mdb_events.specs.Words.{service_or_dash}
 use Rattle.mdb_lines.specs.LogText.{connection_text}
 use Rattle.mdb_event_reading.proofs.BarLemmas.{narrow_no_bar, address_no_bar, service_no_bar, error_no_bar, end_no_bar, event_no_bar}
-use Rattle.mdb_sdam_reading.proofs.SdamLemmas.{sdam_no_bar}
+use Rattle.mdb_event_reading.proofs.OfSdam.SdamLemmas.{sdam_no_bar}
 use Rattle.mdb_parts.specs.declared.line_error.LineError.{LineError}
 use Rattle.mdb_parts.specs.Reading.{lacks, Gives}
 use Rattle.mdb_parts.proofs.CommaLemmas.{lacks_append}

@@ -15,9 +15,9 @@ use Rattle.mdb_event_reading.proofs.PrintLemmas.{prints}
 use Rattle.mdb_log.specs.declared.reply.Reply.{Reply}
 use Rattle.mdb_log.specs.declared.reply.Reply.TheVariants as reply
 use Rattle.mdb_parts.specs.ErrorParts.{is_error}
-use Rattle.mdb_sdam_reading.specs.OfEvents.{shown_of_sdam}
-use Rattle.mdb_sdam_reading.specs.SdamTexts.{is_server_id, is_shown}
-use Rattle.mdb_sdam_reading.proofs.EventTexts.{sdam_is_text}
+use Rattle.mdb_event_reading.specs.OfEvents.{shown_of_sdam}
+use Rattle.mdb_event_reading.specs.SdamTexts.{is_server_id, is_shown}
+use Rattle.mdb_event_reading.proofs.OfSdam.EventTexts.{sdam_is_text}
 use Rattle.mdb_entries.specs.Facts.{is_fact, TellsEvent, IsFact}
 use Rattle.mdb_entries.specs.OfLog.{shown_of_fact}
 use Rattle.mdb_entries.specs.Replies.{is_reply}

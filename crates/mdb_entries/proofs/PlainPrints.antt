@@ -26,9 +26,9 @@ use Rattle.mdb_log.specs.declared.reply.Reply.{Reply}
 use Rattle.mdb_log.specs.declared.reply.Reply.TheVariants as reply
 use Rattle.mdb_lines.specs.LogText.{refused_text, connection_text, reply_text}
 use Rattle.mdb_parts.specs.ErrorParts.{IsErrorOfTypes}
-use Rattle.mdb_sdam_reading.specs.OfEvents.{shown_of_sdam}
-use Rattle.mdb_sdam_reading.specs.SdamTexts.{is_server_id, IsShownOfTypes}
-use Rattle.mdb_sdam_reading.proofs.EventTexts.{HasPlainMessage, sdam_same, shown_prints}
+use Rattle.mdb_event_reading.specs.OfEvents.{shown_of_sdam}
+use Rattle.mdb_event_reading.specs.SdamTexts.{is_server_id, IsShownOfTypes}
+use Rattle.mdb_event_reading.proofs.OfSdam.EventTexts.{HasPlainMessage, sdam_same, shown_prints}
 use Rattle.mdb_entries.specs.Facts.{shown_fact, shown_facts}
 use Rattle.mdb_entries.specs.OfLog.{shown_of_fact}
 use Rattle.mdb_entries.specs.Replies.{IsRefusedOfTypes, IsReplyOfTypes}

@@ -17,8 +17,8 @@ use Rattle.mdb_lines.specs.Grammar.{is_printable}
 use Rattle.mdb_lines.specs.LogText.{text_of}
 use Rattle.mdb_lines.specs.Script.{AreAllowed, lines_of}
 use Rattle.mdb_parts.specs.ErrorParts.{is_error}
-use Rattle.mdb_sdam_reading.specs.SdamTexts.{is_server_id, IsShownOfTypes}
-use Rattle.mdb_sdam_reading.specs.OfEvents.{shown_of_sdam}
+use Rattle.mdb_event_reading.specs.SdamTexts.{is_server_id, IsShownOfTypes}
+use Rattle.mdb_event_reading.specs.OfEvents.{shown_of_sdam}
 use Rattle.mdb_entries.specs.Facts.{IsFactOfTypes}
 use Rattle.mdb_entries.specs.OfLog.{shown_of_fact, shown_of}
 use Rattle.mdb_entries.specs.Replies.{IsReplyOfTypes}

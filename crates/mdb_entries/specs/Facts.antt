@@ -12,7 +12,7 @@ use Rattle.mdb_event_reading.specs.EventTypes.{is_event, IsEventOfTypes}
 use Rattle.mdb_lines.specs.LogText.{connection_text}
 use Rattle.mdb_parts.specs.ErrorParts.{is_error, IsErrorOfTypes}
 use Rattle.mdb_parts.specs.Types.{IsIdOfTypes}
-use Rattle.mdb_sdam_reading.specs.SdamTexts.{IsSdamText}
+use Rattle.mdb_event_reading.specs.SdamTexts.{IsSdamText}
 use Rattle.mdb_entries.specs.declared.shown.ShownFact.{ShownFact}
 use Rattle.mdb_entries.specs.declared.shown.ShownFact.TheVariants as fact
 

@@ -5,4 +5,3 @@ pub mod FactForms
 pub mod Shows
 pub mod OfLog
 pub mod Answers
-pub mod Ending

@@ -5,10 +5,9 @@ ghost use Rattle.mdb_entries.specs.Facts.{is_fact, IsFactOfTypes, TellsEvent, Is
 
 use crate::shown::ShownFact;
 use mdb_base::OutOfMemory;
-use mdb_event_reading::{end_types, event_types, is_end, is_event};
+use mdb_event_reading::{end_types, event_types, is_end, is_event, is_sdam};
 use mdb_parts::number_types::optional_id;
 use mdb_parts::{error_types, is_error};
-use mdb_sdam_reading::is_sdam;
 use std::alloc::Global;
 
 fn is_fact(fact: &ShownFact) -> bool

@@ -1,7 +1,6 @@
 //! Reading the entries of printed logs.
 #![tactic(auto)]
 
-mod ending;
 mod entry_reading;
 mod entry_text;
 mod fact_kind;
@@ -17,7 +16,6 @@ mod reply_kind;
 mod reply_rules;
 mod shown;
 
-pub use ending::end_run;
 pub use entry_reading::read_entry;
 pub use entry_text::write_shown;
 pub use laws::{lines_show_one_entry, log_shows_its_entries};

@@ -6,3 +6,4 @@ pub mod SameWords
 pub mod SameEvents
 pub mod PrintLemmas
 pub mod PrintEvents
+pub mod OfSdam

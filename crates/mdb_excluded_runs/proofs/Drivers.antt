@@ -5,9 +5,9 @@ use Rattle.mdb_log.specs.declared.log.Entry.{Entry}
 use Rattle.mdb_log.specs.Opening.{pool_options}
 use Rattle.mdb_topology.specs.declared.topology.TopologyCore.{TopologyCore}
 use Rattle.mdb_topology.specs.Logging.{IsDriverOf}
-use Rattle.mdb_closes.specs.Causes.{EntriesCaused}
-use Rattle.mdb_closes.proofs.Driver.{log-caused}
-use Rattle.mdb_told.proofs.Logs.{driver-answered, driver-tells-once}
+use Rattle.mdb_laws.specs.CloseCauses.{EntriesCaused}
+use Rattle.mdb_laws.proofs.OfCloses.Driver.{log-caused}
+use Rattle.mdb_laws.proofs.OfTelling.Logs.{driver-answered, driver-tells-once}
 use Rattle.mdb_laws.specs.Logs.{TellsAllCauses}
 use Rattle.mdb_laws.proofs.WholeLogs.{options-are, log-tells}
 use Rattle.mdb_excluded.specs.Logs.{TellsOnce, ClosesByCause, IsAnswered}

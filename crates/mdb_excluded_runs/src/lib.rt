@@ -13,7 +13,7 @@ ghost use Rattle.mdb_laws.specs.Logs.{TellsAllCauses};
 ghost use Rattle.mdb_excluded.specs.Excluded.{Excludes};
 ghost use Rattle.mdb_excluded.specs.Logs.{TellsOnce, ClosesByCause, IsAnswered};
 ghost use Rattle.mdb_runs.specs.Runs.{Seen, Ran, Ended};
-ghost use Rattle.mdb_share.specs.Scripts.{Shared};
+ghost use Rattle.mdb_shared_runs.specs.Scripts.{Shared};
 
 /// A fault of the source is told, and no read failed.
 pub fn always_faults()

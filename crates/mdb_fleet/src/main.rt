@@ -2,8 +2,8 @@
 #![tactic(auto)]
 
 use mdb_base::{Reading, Writing};
-use mdb_entries::end_run;
 use mdb_fleet_runs::run_fleet;
+use mdb_lines::end_run;
 use std::process::ExitCode;
 
 fn main(rt: HostRuntime) -> ExitCode {

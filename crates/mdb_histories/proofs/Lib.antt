@@ -22,3 +22,4 @@ pub mod Steps
 pub mod Troubles
 pub mod Turns
 pub mod Unshut
+pub mod OfPlain

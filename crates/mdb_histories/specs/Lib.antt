@@ -1,1 +1,2 @@
 pub mod SoundHistory
+pub mod Opened

@@ -1,4 +1,5 @@
-//! What every history of a driver keeps: each item may come after those before it, in each pool and across pools.
+//! What every history of a driver keeps, in each pool and across pools (`keeping`), and that its logs are legal by the plain sentences (`legality`).
 #![tactic(auto)]
 
 pub mod keeping;
+pub mod legality;

@@ -15,3 +15,7 @@ mod Risen
 mod Causes
 mod Opening
 pub mod WholeLogs
+pub mod OfHistories
+pub mod OfCloses
+pub mod OfNames
+pub mod OfTelling

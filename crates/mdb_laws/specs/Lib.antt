@@ -2,3 +2,8 @@ pub mod Alike
 pub mod Causes
 pub mod Stale
 pub mod Logs
+pub mod HistoryLaws
+pub mod CloseCauses
+pub mod Dues
+pub mod Names
+pub mod Answers

@@ -8,3 +8,4 @@ pub mod Forms
 pub mod OpenReading
 pub mod Loops
 pub mod Status
+pub mod Ending

@@ -3,6 +3,7 @@
 
 mod caller_lines;
 mod connection_lines;
+mod ending;
 mod entry_text;
 mod error_lines;
 mod line_kind;
@@ -25,6 +26,7 @@ mod types;
 mod use_word;
 mod writing_loop;
 
+pub use ending::{end_run, end_with_error};
 pub use entry_text::{ReplyText, write_entry};
 pub use line_reading::read_line;
 pub use line_text::write_line;

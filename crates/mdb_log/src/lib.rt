@@ -17,7 +17,7 @@ pub use driver::Core;
 pub use generation::{ConnectionGeneration, LoadBalancedGeneration, PoolGeneration, PoolStamp};
 pub use job::Job;
 pub use log::{Entry, Log};
-pub use options::PoolOptions;
+pub use options::{DEFAULT_MAX_CONNECTING, DEFAULT_MAX_POOL_SIZE, PoolOptions};
 pub use pooled::{PinnedConnectionHandle, PooledConnection};
 pub use reply::{Refused, Reply, What};
 pub use step::{Act, Established, FailedAt, Step, Use};

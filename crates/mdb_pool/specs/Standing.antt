@@ -1,5 +1,5 @@
 -- When the state of a pool stands for a history.
-use Rattle.std.specs.Prelude.{ℕ, ◌≡◌, Bool, false, if◌then◌else◌, ◌==◌, is_some, List, [], ◌∷◌, ◌++◌, Option, Some, None, not, ◌&&◌, ◌||◌, take}
+use Rattle.std.specs.Prelude.{ℕ, ◌≡◌, Bool, true, false, if◌then◌else◌, ◌==◌, is_some, List, [], ◌∷◌, ◌++◌, Option, Some, None, not, ◌&&◌, ◌||◌, take}
 use Rattle.mdb_base.specs.declared.address.ServerAddress.{ServerAddress}
 use Rattle.mdb_base.specs.declared.object_id.ObjectId.{ObjectId}
 use Rattle.mdb_events.specs.declared.fact.Fact.{Fact}
@@ -10,7 +10,7 @@ use Rattle.mdb_log.specs.declared.reply.Reply.{Reply}
 use Rattle.mdb_pool.specs.Core.{PoolCore}
 use Rattle.mdb_log.specs.History.{Item, PoolItem, open_pool, last_moment, has_party, of_pool, after_facts, with_answer, with_entries, has_asked}
 use Rattle.mdb_log.specs.Connections.{available_list, has}
-use Rattle.mdb_log.specs.Requests.{queued, names_party, some_act, told, was_asked, leaves, is_claimed, requests, settles, is_job}
+use Rattle.mdb_log.specs.Requests.{queued, names_party, some_act, told, was_asked, leaves, is_open, is_claimed, requests, settles, is_job}
 use Rattle.mdb_log.specs.State.{min_size}
 use Rattle.mdb_pool.specs.Serving.{serving, IsServed}
 use Rattle.mdb_pool.specs.Answer.{reply_of, all_facts, answer, entries_for}
@@ -40,6 +40,13 @@ pub record StandsFor (s : PoolCore) (h : List Item) : Type 0 where
   pub asked_once : (r : ℕ) → some_act names_party h r ≡ has_party (of_pool s.pool h) r
   pub requested : (r : ℕ) → some_act was_asked h r ≡ has_asked (of_pool s.pool h) r
   pub opens : (r : ℕ) → (told h r == 0) && not (some_act leaves h r) ≡ not (has r s.settled)
+  pub claims : (c : ℕ) → is_claimed h s.pool c ≡ has c s.claimed
+
+-- The state of a pool stands in a history, which may be a driver's and tell of other pools too: the state is that of the pool's items, and keeps of the pool's own requests which are open, and of its
+-- connections which were claimed.
+pub record StandsIn (s : PoolCore) (h : List Item) : Type 0 where
+  pub fits : Fits s (of_pool s.pool h)
+  pub opens : (r : ℕ) → has_asked (of_pool s.pool h) r ≡ true → is_open h r ≡ not (has r s.settled)
   pub claims : (c : ℕ) → is_claimed h s.pool c ≡ has c s.claimed
 
 -- the number, the address and the options stay

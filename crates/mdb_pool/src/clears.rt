@@ -75,17 +75,17 @@ pub(super) fn used_as(connection: Connection, used: Use) -> Connection
 
 impl PoolCore {
     ghost use Rattle.std.specs.Prelude.{is_some, if◌then◌else◌, Some, None, List};
-    ghost use Rattle.mdb_pool.specs.Kept.{connection_at, stale_for, idle_since, perished_now, reason_now, generation_at, interrupted_at};
+    ghost use Rattle.mdb_pool.specs.Kept.{connection_at, generation_at, interrupted_at};
     ghost use Rattle.mdb_log.specs.Generations.{carried};
-    ghost use Rattle.mdb_pool.specs.Standing.{StandsFor};
-    ghost use Rattle.mdb_log.specs.History.{Item, of_pool};
+    ghost use Rattle.mdb_pool.specs.Standing.{Fits};
+    ghost use Rattle.mdb_log.specs.History.{PoolItem};
     ghost use Rattle.mdb_log.specs.Connections.{is_live, known_service};
     ghost use Rattle.mdb_log.specs.State.{generation_of, generation_before, is_interrupted};
 
     /// How often the pool was cleared: for the service, or as a whole where there is none (CMAP, "Generation").
     pub fn generation(&self, service: Option<ObjectId>) -> u64
         ensures kept { result ≡ clears_for service self.now.clears }
-        ensures history { (h : List Item) → StandsFor self.now h → result ≡ generation_of (of_pool self.now.pool h) service }
+        ensures items { (xs : List PoolItem) → Fits self.now xs → result ≡ generation_of xs service }
     {
         self.draft.body.generation(service)
     }
@@ -93,7 +93,7 @@ impl PoolCore {
     /// How often it was cleared so before the connection was created, `None` where the connection isn't live.
     pub fn generation_before(&self, id: u32, service: Option<ObjectId>) -> Option<u64>
         ensures kept { result ≡ if is_some (connection_at self.now id) then Some (clears_before id service self.now.clears) else None }
-        ensures history { (h : List Item) → StandsFor self.now h → result ≡ if is_live (of_pool self.now.pool h) id then Some (generation_before (of_pool self.now.pool h) id service) else None }
+        ensures items { (xs : List PoolItem) → Fits self.now xs → result ≡ if is_live xs id then Some (generation_before xs id service) else None }
     {
         if self.draft.body.connections.get(id).is_none() {
             return None;
@@ -121,7 +121,7 @@ impl PoolCore {
     /// The generation that the connection carries (CMAP, "Generation"), `None` where it isn't live.
     pub fn connection_generation(&self, id: u32) -> Option<ConnectionGeneration>
         ensures kept { result ≡ generation_at self.now id (connection_at self.now id) }
-        ensures history { (h : List Item) → StandsFor self.now h → result ≡ if is_live (of_pool self.now.pool h) id then Some (carried self.now.options.load_balanced (generation_before (of_pool self.now.pool h) id) (known_service (of_pool self.now.pool h) id)) else None }
+        ensures items { (xs : List PoolItem) → Fits self.now xs → result ≡ if is_live xs id then Some (carried self.now.options.load_balanced (generation_before xs id) (known_service xs id)) else None }
     {
         match self.draft.body.connections.get(id) {
             Some(connection) => Some(self.carried(id, connection.service)),
@@ -129,11 +129,9 @@ impl PoolCore {
         }
     }
 
-    /// An operation under way on the connection is to stop (CMAP, "Interrupting pending connections"): in a normal pool, a party has it, no pin
-    /// stands, and a clear by a network timeout came after the last of its grant, take and unpin.
-    pub fn is_interrupted(&self, id: u32) -> bool
-        ensures kept { result ≡ interrupted_at self.now (connection_at self.now id) }
-        ensures history { (h : List Item) → StandsFor self.now h → result ≡ is_interrupted self.now.options (of_pool self.now.pool h) id }
+    // The connection is interrupted, by what is kept of it.
+    fn interrupts(&self, id: u32) -> bool
+        ensures { result ≡ interrupted_at self.now (connection_at self.now id) }
     {
         match self.draft.body.connections.get(id) {
             Some(connection) => {
@@ -144,5 +142,13 @@ impl PoolCore {
             }
             None => false,
         }
+    }
+
+    /// An operation under way on the connection is to stop (CMAP, "Interrupting pending connections"): in a normal pool, a party has it, no pin
+    /// stands, and a clear by a network timeout came after the last of its grant, take and unpin.
+    pub fn is_interrupted(&self, id: u32) -> bool
+        ensures { (xs : List PoolItem) → Fits self.now xs → result ≡ is_interrupted self.now.options xs id }
+    {
+        self.interrupts(id)
     }
 }

@@ -9,9 +9,7 @@ use super::body::Body;
 use super::connection::Connection;
 use super::request::{Phase, Request};
 use mdb_base::{Moment, OutOfMemory};
-
-/// The most connections that callers make in a pool whose options name no maximum (CMAP, "Connection Pool Options").
-pub const DEFAULT_MAX_POOL_SIZE: u32 = 10;
+use mdb_log::{DEFAULT_MAX_CONNECTING, DEFAULT_MAX_POOL_SIZE};
 
 impl Body {
     ghost use Rattle.mdb_log.specs.State.{max_connecting};
@@ -65,7 +63,11 @@ impl Body {
     pub fn may_connect(&self) -> bool
         ensures { result ≡ nat_lt (pending_count (now_of self.now)) (max_connecting self.now.options) }
     {
-        self.pending_count() < self.options.max_connecting.unwrap_or(2) as usize
+        let most = self
+            .options
+            .max_connecting
+            .unwrap_or(DEFAULT_MAX_CONNECTING);
+        self.pending_count() < most as usize
     }
 
     // A connection may be created for a caller.

@@ -46,7 +46,7 @@ impl PoolCore {
     ghost use Rattle.mdb_pool.specs.Jobs.{count_at, items_before, generations, job_in};
     ghost use Rattle.mdb_log.specs.History.{Item, PoolItem, of_pool};
     ghost use Rattle.mdb_log.specs.Connections.{has, pending_list};
-    ghost use Rattle.mdb_pool.specs.Standing.{Fits, StandsFor};
+    ghost use Rattle.mdb_pool.specs.Standing.{Fits, StandsFor, StandsIn};
 
     // How often the pool was cleared so before the connection was created, 0 where it isn't live.
     fn count_at(&self, id: u32, service: Option<ObjectId>) -> u64
@@ -88,8 +88,7 @@ impl PoolCore {
     /// pending: none was created, or it is established or closed. `OutOfMemory` where there is no memory for the copy of the address or for the
     /// list of services; the pool is as it was.
     pub fn job(&self, alloc: Global, id: u32) -> Result<Option<Job>, OutOfMemory>
-        ensures kept { IfOk result (λ job. (xs : List PoolItem) → Fits self.now xs → job ≡ job_in self.now.pool self.now.address self.now.options xs id) }
-        ensures history { IfOk result (λ job. (h : List Item) → StandsFor self.now h → job ≡ job_in self.now.pool self.now.address self.now.options (of_pool self.now.pool h) id) }
+        ensures { IfOk result (λ job. (xs : List PoolItem) → Fits self.now xs → job ≡ job_in self.now.pool self.now.address self.now.options xs id) }
     {
         if !self.is_pending(id) {
             return Ok(None);
@@ -108,6 +107,7 @@ impl PoolCore {
     /// Some pending connection was told by no claim: the next claim is told a job.
     pub fn has_job(&self) -> bool
         ensures kept { result ≡ is_some (first_unclaimed self.now) }
+        ensures among { (h : List Item) → StandsIn self.now h → result ≡ list_any (λ c. not (is_claimed h self.now.pool c)) (pending_list (of_pool self.now.pool h)) }
         ensures history { (h : List Item) → StandsFor self.now h → result ≡ list_any (λ c. not (is_claimed h self.now.pool c)) (pending_list (of_pool self.now.pool h)) }
     {
         self.draft.body.first_unclaimed().is_some()

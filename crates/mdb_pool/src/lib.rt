@@ -39,11 +39,10 @@ mod unpinning;
 mod waiting;
 mod warming;
 
-pub use finding::DEFAULT_MAX_POOL_SIZE;
 pub use mdb_log::{
-    Act, BeatenResult, ConnectionGeneration, Core, Entry, Established, FailedAt, HelloResult, Job,
-    LoadBalancedGeneration, Log, PinnedConnectionHandle, PoolGeneration, PoolOptions, PoolStamp,
-    PooledConnection, Refused, Reply, Step, Use, What,
+    Act, BeatenResult, ConnectionGeneration, Core, DEFAULT_MAX_POOL_SIZE, Entry, Established,
+    FailedAt, HelloResult, Job, LoadBalancedGeneration, Log, PinnedConnectionHandle,
+    PoolGeneration, PoolOptions, PoolStamp, PooledConnection, Refused, Reply, Step, Use, What,
 };
 pub use pool_core::PoolCore;
 pub use status::PoolState;

@@ -1,6 +1,6 @@
 //! The core of one pool.
 
-ghost use Rattle.std.specs.Prelude.{◌≡◌, IfOk, true, is_some, nat_lt, option_copied, None, List, if◌then◌else◌};
+ghost use Rattle.std.specs.Prelude.{◌≡◌, IfOk, true, is_some, nat_lt, option_copied, None, List, if◌then◌else◌, ◌&&◌};
 
 use super::body::Body;
 use super::draft::Draft;
@@ -31,17 +31,17 @@ impl Model for PoolCore {
 }
 
 impl PoolCore {
-    ghost use Rattle.mdb_pool.specs.Kept.{held_connection, request_at, connection_at, is_pending_at, is_open_now, is_asked_at, is_held_at, pins_at, id_at, wire_at, name_of, cause_of, state_in};
+    ghost use Rattle.mdb_pool.specs.Kept.{held_connection, request_at, connection_at, is_asked_at, id_at, wire_at, name_of, cause_of, state_in};
     ghost use Rattle.mdb_log.specs.Connections.{has, held, pins, is_live, pending_list, holding, wire_of};
     ghost use Rattle.mdb_log.specs.Requests.{is_open};
     ghost use Rattle.mdb_log.specs.State.{state_of};
-    ghost use Rattle.mdb_pool.specs.Standing.{StandsFor};
+    ghost use Rattle.mdb_pool.specs.Standing.{Fits, StandsFor, StandsIn};
     ghost use Rattle.mdb_pool.specs.Available.{available_records};
     ghost use Rattle.mdb_slots.specs.Items.{records_of};
     ghost use Rattle.mdb_slots.specs.Slots.{listing};
     ghost use Rattle.mdb_log.specs.Legal.{NoneLeftWaiting};
     ghost use Rattle.mdb_log.specs.Limits.{WithinLimits};
-    ghost use Rattle.mdb_log.specs.History.{Item, has_asked, has_party, of_pool, opening};
+    ghost use Rattle.mdb_log.specs.History.{Item, PoolItem, has_asked, has_party, of_pool, opening};
 
     /// A pool that was just made: a load-balanced one is ready, a normal one new. Its sizes are at most 65,535.
     pub fn new(alloc: Global, pool: u32, address: ServerAddress, options: PoolOptions) -> PoolCore
@@ -88,7 +88,7 @@ impl PoolCore {
     /// Whether the pool may be used.
     pub fn state(&self) -> PoolState
         ensures kept { result ≡ name_of (state_in self.now.status) }
-        ensures history { (h : List Item) → StandsFor self.now h → result ≡ name_of (state_of self.now.options (of_pool self.now.pool h)) }
+        ensures items { (xs : List PoolItem) → Fits self.now xs → result ≡ name_of (state_of self.now.options xs) }
     {
         match self.draft.body.status.get() {
             Status::New => PoolState::New,
@@ -100,8 +100,7 @@ impl PoolCore {
 
     /// Why the pool is paused, `None` where it is not.
     pub fn cause(&self) -> Option<&Error>
-        ensures kept { option_copied result ≡ cause_of (state_in self.now.status) }
-        ensures history { (h : List Item) → StandsFor self.now h → option_copied result ≡ cause_of (state_of self.now.options (of_pool self.now.pool h)) }
+        ensures { (xs : List PoolItem) → Fits self.now xs → option_copied result ≡ cause_of (state_of self.now.options xs) }
     {
         match self.draft.body.status.get() {
             Status::Paused(cause) => Some(cause),
@@ -112,7 +111,7 @@ impl PoolCore {
     /// The connection that the party holds.
     pub fn held_by(&self, party: u32) -> Option<u32>
         ensures kept { result ≡ id_at (held_connection self.now party) }
-        ensures history { (h : List Item) → StandsFor self.now h → result ≡ holding (of_pool self.now.pool h) party }
+        ensures items { (xs : List PoolItem) → Fits self.now xs → result ≡ holding xs party }
     {
         match self.draft.body.held_connection(party) {
             Some(connection) => Some(connection.id),
@@ -123,7 +122,7 @@ impl PoolCore {
     /// The party asked this pool, or took a pinned connection of it.
     pub fn knows(&self, party: u32) -> bool
         ensures kept { result ≡ is_some (request_at self.now party) }
-        ensures history { (h : List Item) → StandsFor self.now h → result ≡ has_party (of_pool self.now.pool h) party }
+        ensures items { (xs : List PoolItem) → Fits self.now xs → result ≡ has_party xs party }
     {
         self.draft.body.knows(party)
     }
@@ -131,7 +130,7 @@ impl PoolCore {
     /// The party holds a connection of this pool.
     pub fn holds(&self, party: u32) -> bool
         ensures kept { result ≡ is_some (held_connection self.now party) }
-        ensures history { (h : List Item) → StandsFor self.now h → result ≡ is_some (holding (of_pool self.now.pool h) party) }
+        ensures items { (xs : List PoolItem) → Fits self.now xs → result ≡ is_some (holding xs party) }
     {
         self.draft.body.holds(party)
     }
@@ -139,14 +138,14 @@ impl PoolCore {
     /// The party asked this pool for a connection, and did not take a pinned one.
     pub fn has_asked(&self, party: u32) -> bool
         ensures kept { result ≡ is_asked_at (request_at self.now party) }
-        ensures history { (h : List Item) → StandsFor self.now h → result ≡ has_asked (of_pool self.now.pool h) party }
+        ensures items { (xs : List PoolItem) → Fits self.now xs → result ≡ has_asked xs party }
     {
         self.draft.body.has_asked(party)
     }
 
     /// The request was made at this pool, its outcome was not told yet, and its caller neither gave up nor returned the connection.
     pub fn is_open(&self, request: u32) -> bool
-        ensures kept { result ≡ is_open_now self.now request }
+        ensures among { (h : List Item) → StandsIn self.now h → result ≡ has_asked (of_pool self.now.pool h) request && is_open h request }
         ensures history { (h : List Item) → StandsFor self.now h → result ≡ is_open h request }
     {
         self.draft.body.is_open(request)
@@ -154,31 +153,28 @@ impl PoolCore {
 
     /// The connections that nobody has, in the order in which they became available, each with its service and the moment since then. It takes no memory.
     pub fn available(&self) -> &SlotTable
-        ensures { (h : List Item) → StandsFor self.now h → records_of (listing result.now).items ≡ available_records (of_pool self.now.pool h) }
+        ensures { (xs : List PoolItem) → Fits self.now xs → records_of (listing result.now).items ≡ available_records xs }
     {
         self.draft.available()
     }
 
     /// The connection isn't established yet.
     pub fn is_pending(&self, id: u32) -> bool
-        ensures kept { result ≡ is_pending_at (connection_at self.now id) }
-        ensures history { (h : List Item) → StandsFor self.now h → result ≡ has id (pending_list (of_pool self.now.pool h)) }
+        ensures { (xs : List PoolItem) → Fits self.now xs → result ≡ has id (pending_list xs) }
     {
         self.draft.body.is_pending(id)
     }
 
     /// The connection is one of this pool, and a party has it since it was established.
     pub fn is_held(&self, id: u32) -> bool
-        ensures kept { result ≡ is_held_at (connection_at self.now id) }
-        ensures history { (h : List Item) → StandsFor self.now h → result ≡ nat_lt 0 (held (of_pool self.now.pool h) id) }
+        ensures { (xs : List PoolItem) → Fits self.now xs → result ≡ nat_lt 0 (held xs id) }
     {
         self.draft.body.is_held(id)
     }
 
     /// The connection is one of this pool and has a pin.
     pub fn has_pin(&self, id: u32) -> bool
-        ensures kept { result ≡ nat_lt 0 (pins_at (connection_at self.now id)) }
-        ensures history { (h : List Item) → StandsFor self.now h → result ≡ nat_lt 0 (pins (of_pool self.now.pool h) id) }
+        ensures { (xs : List PoolItem) → Fits self.now xs → result ≡ nat_lt 0 (pins xs id) }
     {
         self.draft.body.has_pin(id)
     }
@@ -186,7 +182,7 @@ impl PoolCore {
     /// The wire version that the connection was established with, `None` where it was not, or isn't live.
     pub fn wire_version(&self, id: u32) -> Option<i32>
         ensures kept { result ≡ wire_at (connection_at self.now id) }
-        ensures history { (h : List Item) → StandsFor self.now h → result ≡ if is_live (of_pool self.now.pool h) id then wire_of (of_pool self.now.pool h) id else None }
+        ensures items { (xs : List PoolItem) → Fits self.now xs → result ≡ if is_live xs id then wire_of xs id else None }
     {
         match self.draft.body.connections.get(id) {
             Some(connection) => connection.wire,

@@ -2,7 +2,7 @@
 #![tactic(auto)]
 
 use mdb_base::{Reading, Writing};
-use mdb_entries::end_run;
+use mdb_lines::end_run;
 use mdb_proxy_runs::run_proxy;
 use std::process::ExitCode;
 

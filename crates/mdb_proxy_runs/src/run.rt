@@ -10,7 +10,7 @@ use mdb_base::{Options, OutOfMemory, Sink, Source};
 use mdb_lines::{
     LineError, MAX_INPUT, ReplyText, RunError, cut_line, read_all, read_line, write_all,
 };
-use mdb_log::{Act, Entry, Log, Step};
+use mdb_log::{Act, DEFAULT_MAX_POOL_SIZE, Entry, Log, Step};
 use mdb_proxies::{Proxy, ProxyStep, ShareError};
 use mdb_topology::TopologyCore;
 use std::alloc::Global;
@@ -64,7 +64,7 @@ fn open_proxy(
         Ok(options) => options,
         Err(e) => return Err(e),
     };
-    let max = options.max_pool_size.unwrap_or(10);
+    let max = options.max_pool_size.unwrap_or(DEFAULT_MAX_POOL_SIZE);
     let mut log = Log::new(alloc);
     let core = match TopologyCore::open_seeds(alloc, &mut log, 0, options) {
         Ok(core) => core,

@@ -16,7 +16,7 @@ use Rattle.mdb_monitor.specs.declared.check.CheckResult.TheVariants as check
 use Rattle.mdb_monitor.specs.declared.knowledge.Connection.{Connection}
 use Rattle.mdb_monitor.specs.Items.{MonitorItem, began, ended, measured, since, fresh_of, connection_with, connection_of}
 use Rattle.mdb_monitor.specs.Beginnings.{connection_for}
-use Rattle.mdb_sdam_reading.specs.SdamTexts.{is_server_id}
+use Rattle.mdb_event_reading.specs.SdamTexts.{is_server_id}
 use Rattle.mdb_entries.specs.Answers.{is_plain_event, is_plain_error}
 use Rattle.mdb_topology.specs.Homes.{is_here}
 use Rattle.mdb_topology.specs.Monitors.{check_result, is_of, fresh_for, with_check, monitor_items, recent, begin_event, end_event, heartbeat}

@@ -16,7 +16,7 @@ use Rattle.mdb_log.specs.declared.reply.Reply.{Reply}
 use Rattle.mdb_log.specs.declared.step.Act.{Act}
 use Rattle.mdb_log.specs.declared.step.Act.TheVariants as act
 use Rattle.mdb_log.specs.History.{Item, did, made, PoolItem, ended, raised}
-use Rattle.mdb_sdam_reading.specs.SdamTexts.{is_server_id}
+use Rattle.mdb_event_reading.specs.SdamTexts.{is_server_id}
 use Rattle.mdb_entries.specs.Answers.{is_plain_error, is_plain_end, is_plain_reply, is_plain_fact}
 
 abbrev pub IsPlainAddress : ServerAddress → Type 0

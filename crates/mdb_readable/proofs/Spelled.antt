@@ -24,7 +24,7 @@ use Rattle.mdb_replies.specs.Values.{is_natural}
 use Rattle.mdb_lines.specs.Grammar.{is_printable, are_options, is_hello, is_beaten, is_act}
 use Rattle.mdb_lines.specs.Script.{Spells, AreAllowed}
 use Rattle.mdb_lines.specs.Spelling.{failed_at_text, hello_text, beaten_text, act_text, spelling}
-use Rattle.mdb_sdam_reading.specs.SdamTexts.{is_server_id}
+use Rattle.mdb_event_reading.specs.SdamTexts.{is_server_id}
 use Rattle.mdb_readable.proofs.Plain.{ArePlainAddresses, IsPlainError, IsPlainResponse, IsPlainHello, IsPlainBeaten, IsPlainAct}
 use Rattle.mdb_readable.proofs.Lists.{all-from}
 

@@ -5,7 +5,7 @@ ghost use Rattle.std.specs.List.{list_all};
 ghost use Rattle.mdb_log.specs.declared.log.Entry.{Entry};
 ghost use Rattle.mdb_lines.specs.Script.{AreAllowed};
 ghost use Rattle.mdb_topology.specs.Lines.{steps_of};
-ghost use Rattle.mdb_told.specs.Answers.{AreAnswers};
+ghost use Rattle.mdb_laws.specs.Answers.{AreAnswers};
 ghost use Rattle.mdb_entries.specs.Answers.{has_plain_answer};
 
 /// The answers of a driver to steps that lines spell are plain, whichever seat made them: their addresses and errors keep the rules of the grammar, the messages of the errors are printable, and no number that a server gave is negative.

@@ -3,7 +3,7 @@
 ghost use Rattle.std.specs.Prelude.{[]};
 ghost use Rattle.mdb_lines.specs.Script.{AreAllowed};
 ghost use Rattle.mdb_topology.specs.Lines.{steps_of};
-ghost use Rattle.mdb_told.specs.Answers.{AreAnswers};
+ghost use Rattle.mdb_laws.specs.Answers.{AreAnswers};
 ghost use Rattle.mdb_entries.specs.Answers.{TextShows};
 
 use crate::types::log_types;

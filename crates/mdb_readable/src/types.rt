@@ -3,8 +3,8 @@
 ghost use Rattle.std.specs.Prelude.{◌≡◌, ◌<◌, ◌^◌, IfSome, FitsSigned};
 ghost use Rattle.std.specs.Int.{w64};
 ghost use Rattle.std.specs.List.{AllByRecursion};
-ghost use Rattle.mdb_sdam_reading.specs.SdamTexts.{IsShownOfTypes};
-ghost use Rattle.mdb_sdam_reading.specs.OfEvents.{shown_of_sdam};
+ghost use Rattle.mdb_event_reading.specs.SdamTexts.{IsShownOfTypes};
+ghost use Rattle.mdb_event_reading.specs.OfEvents.{shown_of_sdam};
 ghost use Rattle.mdb_entries.specs.Facts.{IsFactOfTypes};
 ghost use Rattle.mdb_entries.specs.OfLog.{shown_of_fact};
 ghost use Rattle.mdb_entries.specs.Answers.{IsEventOfTypes, IsFactTyped, IsTyped};

@@ -13,19 +13,10 @@ use crate::made::run_made;
 use crate::run::run_script;
 use mdb_base::{Sink, Source};
 use mdb_generator::{ToolCommand, read_words};
-use mdb_lines::{MAX_INPUT, RunError, Status, status_of, tell_error, tell_usage};
+use mdb_lines::{MAX_INPUT, Status, end_with_error, tell_usage};
 use std::alloc::Global;
 
 const USAGE: &str = "usage: mdb_script [make N | share K]\n";
-
-// Says why a run ended before its end, and answers its status.
-fn ended<E: Sink>(errors: &mut E, e: RunError) -> Status
-    ensures status { result ≡ status e }
-    ensures told { Tells (record { held = E.held errors.old; faults = E.faults errors.old }) (record { held = E.held errors.new; faults = E.faults errors.new }) (message e) }
-{
-    tell_error(errors, e);
-    status_of(e)
-}
 
 // Says how the tool is used, and answers the status of a usage.
 fn refused<E: Sink>(errors: &mut E) -> Status
@@ -69,11 +60,11 @@ pub fn run_tool<S: Source, K: Sink, E: Sink>(
     match read_words(words) {
         ToolCommand::Script => match run_script(alloc, source, sink) {
             Ok(_log) => 0,
-            Err(e) => ended(errors, e),
+            Err(e) => end_with_error(errors, e),
         },
         ToolCommand::Make(n) => match run_made(alloc, n, sink) {
             Ok(()) => 0,
-            Err(e) => ended(errors, e),
+            Err(e) => end_with_error(errors, e),
         },
         ToolCommand::Share(_) => refused(errors),
         ToolCommand::Usage => refused(errors),

@@ -3,7 +3,7 @@
 
 use mdb_base::{Reading, Writing};
 use mdb_lines::{RunError, Status, status_of, tell_error};
-use mdb_share::run_program;
+use mdb_shared_runs::run_program;
 use std::alloc::AllocError;
 use std::env;
 use std::io::ErrorKind;

@@ -4,8 +4,8 @@ ghost use Rattle.mdb_histories.specs.SoundHistory.{SoundHistory};
 ghost use Rattle.mdb_log.specs.History.{history_of};
 ghost use Rattle.mdb_log.specs.PlainLegal.{LegalLog};
 
+use mdb_histories::driver_logs_are_legal;
 use mdb_histories::keeping::driver_logs_are_sound;
-use mdb_plain::driver_logs_are_legal;
 use mdb_session::{Session, Slot};
 
 /// The log is legal by the plain sentences: its first entry alone opens the seeds, and after each entry every connection has one place, each grant went to who came first, and nobody waits who could be

@@ -8,7 +8,7 @@ use crate::counts::one_if;
 use crate::party::Party;
 use crate::pools::Pool;
 use mdb_base::OutOfMemory;
-use mdb_log::PoolOptions;
+use mdb_log::{DEFAULT_MAX_CONNECTING, DEFAULT_MAX_POOL_SIZE, PoolOptions};
 
 fn sum(a: u64, b: u64) -> Result<u64, OutOfMemory>
     ensures { IfOk result (λ n. n ≡ a + b) }
@@ -70,8 +70,8 @@ impl Pool {
     fn may_create(&self, options: &PoolOptions) -> Result<bool, OutOfMemory>
         ensures { IfOk result (λ b. b ≡ may_create_now options.now self.now) }
     {
-        let max = u64::from(options.max_pool_size.unwrap_or(10));
-        let connecting = u64::from(options.max_connecting.unwrap_or(2));
+        let max = u64::from(options.max_pool_size.unwrap_or(DEFAULT_MAX_POOL_SIZE));
+        let connecting = u64::from(options.max_connecting.unwrap_or(DEFAULT_MAX_CONNECTING));
         Ok(
             self.created < u64::from(options.limit_id)
                 && self.created < sum(max, self.closed)?

@@ -46,6 +46,7 @@ mod Still
 pub mod Tame
 mod Placed
 mod PoolRows
+pub mod Handed
 mod PoolActs
 mod Rests
 mod Performed

@@ -63,7 +63,7 @@ module _ (o : Options) (pools : List PoolCore) (h : List Item) (z : PoolsFit (po
       on false e = any-nowhere f pools (λ j x g. elsewhere e j x (f x) g refl) ∙ sym e
 
   -- a request is open where it is open in the pool that it asked
-  open-at : (r i : ℕ) (s : PoolCore) → slice_get pools i ≡ Some s → is_some (request_at s r) ≡ true → is_open h r ≡ is_open_now s r
+  pub open-at : (r i : ℕ) (s : PoolCore) → slice_get pools i ≡ Some s → is_some (request_at s r) ≡ true → is_open h r ≡ is_open_now s r
   open-at r i s at_i known =
       let asked : requested pools r ≡ is_asked_at (request_at s r) = known-says (λ u. is_asked_at (request_at u r)) r i s at_i known (λ j x g k. asked-some (request_at x r) k) in
       let told : settled pools r ≡ has r s.settled = known-says (λ u. has r u.settled) r i s at_i known (λ j x g k. z.noted j x r g k) in

@@ -1,6 +1,6 @@
 //! What a driver knows, as its log tells it.
 
-ghost use Rattle.std.specs.Prelude.{◌≡◌, IfOk, List, Some, is_some, length, nat_lt, option_copied, slice_get};
+ghost use Rattle.std.specs.Prelude.{◌≡◌, IfOk, List, [], None, Some, is_some, length, nat_lt, option_copied, slice_get};
 
 use crate::topology::TopologyCore;
 use mdb_base::{Moment, OutOfMemory, ServerAddress};
@@ -11,15 +11,16 @@ use std::alloc::Global;
 
 impl TopologyCore {
     ghost use Rattle.mdb_log.specs.declared.log.Entry.{Entry};
-    ghost use Rattle.mdb_log.specs.History.{Item, last_moment, open_pool};
+    ghost use Rattle.mdb_log.specs.History.{Item, last_moment, of_pool, open_pool};
     ghost use Rattle.mdb_log.specs.Homes.{homes};
     ghost use Rattle.mdb_log.specs.Opening.{pool_options};
     ghost use Rattle.mdb_pool.specs.Core.{PoolCore as Core};
+    ghost use Rattle.mdb_pool.specs.Standing.{StandsIn};
     ghost use Rattle.mdb_topology.specs.Description.{description_of, published};
     ghost use Rattle.mdb_topology.specs.Jobs.{job_after};
     ghost use Rattle.mdb_topology.specs.Logging.{IsDriverOf};
     ghost use Rattle.mdb_topology.specs.Monitors.{check_count};
-    ghost use Rattle.mdb_topology.specs.Standing.{StandsFor, PoolFits};
+    ghost use Rattle.mdb_topology.specs.Standing.{StandsFor, PoolFits, home};
 
     /// What is known of the topology.
     pub fn description(&self) -> &TopologyDescription
@@ -35,10 +36,14 @@ impl TopologyCore {
         self.pools.cores.get(number as usize)
     }
 
-    /// The pool with the number, which fits what the driver's history says of it. `None` where no pool of this number was opened. A pool that was closed keeps its number.
+    /// The pool with the number: what its calls answer that only look at it is what the driver's history says of the pool's items. `None` where no pool of this number was
+    /// opened. A pool that was closed keeps its number.
     pub fn pool(&self, number: u32) -> Option<&PoolCore>
         ensures opened { (h : List Item) → StandsFor self.now h → is_some (option_copied result) ≡ nat_lt number (length (homes h)) }
         ensures fits { (h : List Item) (s : Core) → StandsFor self.now h → option_copied result ≡ Some s → PoolFits (pool_options self.now.options) h number s }
+        ensures stands { (h : List Item) (s : Core) → StandsFor self.now h → option_copied result ≡ Some s → StandsIn s h }
+        ensures place { (h : List Item) (s : Core) → StandsFor self.now h → option_copied result ≡ Some s → slice_get (homes h) number ≡ Some (home s) }
+        ensures missing { (h : List Item) → StandsFor self.now h → option_copied result ≡ None → of_pool number h ≡ [] }
     {
         self.pool_at(number)
     }

@@ -6,12 +6,12 @@ use Rattle.mdb_log.specs.declared.log.Entry.{Entry}
 use Rattle.mdb_log.specs.declared.step.Step.{Step}
 use Rattle.mdb_lines.specs.Script.{Spells, AreAllowed}
 use Rattle.mdb_lines.specs.Spelling.{spelling}
-use Rattle.mdb_told.specs.Answers.{AreAnswers}
+use Rattle.mdb_laws.specs.Answers.{AreAnswers}
 use Rattle.mdb_topology.specs.Lines.{entry_after, steps_of}
 use Rattle.mdb_shared.specs.Turning.{own}
 use Rattle.mdb_shared.specs.Seats.{raised, last_in}
-use Rattle.mdb_share.specs.Shares.{part_from, part_of, raised_along, IsShared}
-use Rattle.mdb_share.specs.Scripts.{SharesSteps, Shared}
+use Rattle.mdb_shared_runs.specs.Shares.{part_from, part_of, raised_along, IsShared}
+use Rattle.mdb_shared_runs.specs.Scripts.{SharesSteps, Shared}
 use Rattle.mdb_verdicts.proofs.Raised.{raised-spells}
 
 -- a line after the first spells the step

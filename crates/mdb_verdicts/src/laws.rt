@@ -6,7 +6,7 @@ ghost use Rattle.mdb_lines.specs.LogText.{text_of};
 ghost use Rattle.mdb_log.specs.declared.step.Step.{Step};
 ghost use Rattle.mdb_lines.specs.Script.{AreAllowed};
 ghost use Rattle.mdb_runs.specs.Runs.{Ran};
-ghost use Rattle.mdb_share.specs.Scripts.{Shared};
+ghost use Rattle.mdb_shared_runs.specs.Scripts.{Shared};
 ghost use Rattle.mdb_audit.specs.LegalText.{IsVerdict};
 ghost use Rattle.mdb_audit.specs.declared.verdict.Verdict.{Verdict as Answer};
 ghost use Rattle.mdb_audit.specs.declared.verdict.Verdict.TheVariants.{Legal};

@@ -3,7 +3,7 @@ use Rattle.std.proofs.lemmas.Grind.{common_steps}
 use Rattle.mdb_runs.proofs.Between.{goes_on, has-driver, done, line_ends, last_ends}
 use Rattle.mdb_topology.proofs.Driven.{legal-log, kept-log}
 use Rattle.mdb_histories.proofs.Logs.{sound-log}
-use Rattle.mdb_plain.proofs.Drivers.{plain-log}
+use Rattle.mdb_histories.proofs.OfPlain.Drivers.{plain-log}
 use Rattle.mdb_runs.proofs.run.run_lines.Goals as goal
 
 pub returns-in-None-clause-ends : goal.returns-in-None-clause-ends

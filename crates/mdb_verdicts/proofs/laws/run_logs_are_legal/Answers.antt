@@ -2,8 +2,8 @@ use Rattle.std.proofs.Common.{[], length, sym, subst}
 use Rattle.mdb_audit.specs.declared.verdict.Verdict.TheVariants.{Legal}
 use Rattle.mdb_lines.specs.LogText.{text_of}
 use Rattle.mdb_topology.specs.Lines.{steps_of}
-use Rattle.mdb_told.specs.Answers.{AreAnswers}
-use Rattle.mdb_told.proofs.Logs.{steps-answered}
+use Rattle.mdb_laws.specs.Answers.{AreAnswers}
+use Rattle.mdb_laws.proofs.OfTelling.Logs.{steps-answered}
 use Rattle.mdb_audit.proofs.LegalTexts.{legal-text}
 use Rattle.mdb_audit.proofs.OneVerdict.{one-verdict}
 use Rattle.mdb_verdicts.proofs.laws.run_logs_are_legal.Goals as goal

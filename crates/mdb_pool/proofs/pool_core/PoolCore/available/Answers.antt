@@ -1,5 +1,4 @@
 use Rattle.std.proofs.Common.{◌∙◌, ap}
-use Rattle.mdb_log.specs.History.{of_pool}
 use Rattle.mdb_slots.specs.Sided.{noted}
 use Rattle.mdb_pool.specs.Core.{PoolCore}
 use Rattle.mdb_pool.specs.Places.{is_available}
@@ -7,6 +6,6 @@ use Rattle.mdb_pool.proofs.Available.{available-told}
 use Rattle.mdb_pool.proofs.pool_core.PoolCore.available.Goals as goal
 
 pub returns : goal.returns
-returns c = λ h z.
+returns c = λ xs z.
     c.available.ensures ∙ (ap (λ (v : PoolCore). noted (λ x. x.id) (λ x. x.service) (λ x. x.since) (λ x. is_available x.place) v.connections) c.self.view_is
-    ∙ available-told c.args.self.now (of_pool c.args.self.now.pool h) z.fits.matches)
+    ∙ available-told c.args.self.now xs z.matches)

@@ -5,5 +5,5 @@ use Rattle.mdb_pool.proofs.pool_core.PoolCore.generation.Goals as goal
 pub returns-clause-kept : goal.returns-clause-kept
 returns-clause-kept c = search rules
 
-pub returns-clause-history : goal.returns-clause-history
-returns-clause-history c = λ h z. returns-clause-kept c ∙ generation-now c.args.self.now h z c.args.service
+pub returns-clause-items : goal.returns-clause-items
+returns-clause-items c = λ xs z. returns-clause-kept c ∙ generation-now c.args.self.now xs z c.args.service

@@ -1,9 +1,9 @@
-use Rattle.std.proofs.Common.{rules, ◌∙◌}
+use Rattle.std.proofs.Common.{rules, ◌≡◌, ◌∙◌}
+use Rattle.mdb_pool.specs.Kept.{connection_at, is_held_at}
 use Rattle.mdb_pool.proofs.Getters.{in-use-now}
 use Rattle.mdb_pool.proofs.pool_core.PoolCore.is_held.Goals as goal
 
-pub returns-clause-kept : goal.returns-clause-kept
-returns-clause-kept c = search rules
-
-pub returns-clause-history : goal.returns-clause-history
-returns-clause-history c = λ h z. returns-clause-kept c ∙ in-use-now c.args.self.now h z c.args.id
+pub returns : goal.returns
+returns c =
+    let kept : c.is_held.result ≡ is_held_at (connection_at c.args.self.now c.args.id) = search rules in
+    λ xs z. kept ∙ in-use-now c.args.self.now xs z c.args.id

@@ -1,15 +1,6 @@
-use Rattle.std.proofs.Common.{rules, ◌∙◌}
+use Rattle.std.proofs.Common.{◌∙◌}
 use Rattle.mdb_pool.proofs.Getters.{interrupted-now}
 use Rattle.mdb_pool.proofs.pool_core.PoolCore.is_interrupted.Goals as goal
 
-pub returns-then-connection-eq0-clause-kept : goal.returns-then-connection-eq0-clause-kept
-returns-then-connection-eq0-clause-kept c = search rules
-
-pub returns-then-connection-eq0-clause-history : goal.returns-then-connection-eq0-clause-history
-returns-then-connection-eq0-clause-history c = λ h z. returns-then-connection-eq0-clause-kept c ∙ interrupted-now c.args.self.now h z c.args.id
-
-pub returns-else-connection-eq0-clause-kept : goal.returns-else-connection-eq0-clause-kept
-returns-else-connection-eq0-clause-kept c = search rules
-
-pub returns-else-connection-eq0-clause-history : goal.returns-else-connection-eq0-clause-history
-returns-else-connection-eq0-clause-history c = λ h z. returns-else-connection-eq0-clause-kept c ∙ interrupted-now c.args.self.now h z c.args.id
+pub returns : goal.returns
+returns c = λ xs z. c.interrupts.ensures ∙ interrupted-now c.args.self.now xs z c.args.id

@@ -1,9 +1,9 @@
-use Rattle.std.proofs.Common.{rules, ◌∙◌}
+use Rattle.std.proofs.Common.{rules, ◌≡◌, ◌∙◌}
+use Rattle.mdb_pool.specs.Kept.{connection_at, is_pending_at}
 use Rattle.mdb_pool.proofs.Getters.{pending-now}
 use Rattle.mdb_pool.proofs.pool_core.PoolCore.is_pending.Goals as goal
 
-pub returns-clause-kept : goal.returns-clause-kept
-returns-clause-kept c = search rules
-
-pub returns-clause-history : goal.returns-clause-history
-returns-clause-history c = λ h z. returns-clause-kept c ∙ pending-now c.args.self.now h z c.args.id
+pub returns : goal.returns
+returns c =
+    let kept : c.is_pending.result ≡ is_pending_at (connection_at c.args.self.now c.args.id) = search rules in
+    λ xs z. kept ∙ pending-now c.args.self.now xs z c.args.id

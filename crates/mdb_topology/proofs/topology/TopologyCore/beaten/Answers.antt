@@ -225,4 +225,3 @@ returns-in_err-next-in-Err-clause-wants c = after-any _ _ (λ h z.
     let spare : check_spends w s.0 a c.args.came.now ≡ false = sym (c.overspends_by_check.ensures s.0 s.1) ∙ c.if-overspends_by_check.false in
     subst (λ v. may_want w.options h (record { moment = m; act = v }) ≡ true) (sym c.requires.act)
     (check-wants w h z m c.requires.in_time a p c.args.duration there running c.if-self-2.false s.0 (subst (λ q. slice_get w.pools.cores.items q ≡ Some s.0) own s.1) c.args.came.now spare))
-

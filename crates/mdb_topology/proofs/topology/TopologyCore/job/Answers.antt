@@ -10,7 +10,7 @@ pub returns-in-Some : goal.returns-in-Some
 returns-in-Some c =
     let w = c.args.self.now in
     let s = c.in-Some.known.now in
-    if-ok c.job.result _ _ c.job.ensures.kept
+    if-ok c.job.result _ _ c.job.ensures
     (λ job knows log z. knows (of_pool s.pool (history_of log)) (fits-at (pool_options w.options) w.pools.cores.items (history_of log) z.stands.pools.fit c.args.pool s (sym c.in-Some.ensures))
     ∙ job-known w log z c.args.pool c.args.id s (sym c.in-Some.ensures))
 

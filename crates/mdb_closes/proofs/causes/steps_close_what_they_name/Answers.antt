@@ -1,5 +1,0 @@
-use Rattle.mdb_closes.proofs.Driver.{driver-due}
-use Rattle.mdb_closes.proofs.causes.steps_close_what_they_name.Goals as goal
-
-pub returns : goal.returns
-returns c = λ w h step z s. driver-due w h z s step

@@ -1,0 +1,50 @@
+-- What a step has to close of its pool is closed by the act's own facts.
+use Rattle.std.proofs.Common.{ℕ, ◌≡◌, ◌==◌, ◌&&◌, ◌||◌, Bool, true, false, if◌then◌else◌, List, [], ◌∷◌, ◌++◌, Some, None, inl, inr, refl, subst, arith}
+use Rattle.mdb_base.specs.declared.address.ServerAddress.{ServerAddress}
+use Rattle.mdb_events.specs.declared.fact.Fact.{Fact}
+use Rattle.mdb_events.specs.declared.reasons.ConnectionClosedReason.{ConnectionClosedReason}
+use Rattle.mdb_events.specs.declared.reasons.ConnectionClosedReason.TheVariants.{PoolClosed as AsPoolClosed}
+use Rattle.mdb_log.specs.declared.options.PoolOptions.{PoolOptions}
+use Rattle.mdb_log.specs.declared.step.Act.TheVariants.{GiveUp}
+use Rattle.mdb_log.specs.declared.step.Use.{Use}
+use Rattle.mdb_log.specs.History.{PoolItem, gave_up, returned, unpinned, if_so}
+use Rattle.mdb_log.specs.Connections.{has, holding, pins, is_pinned}
+use Rattle.mdb_log.specs.Requests.{end_of}
+use Rattle.mdb_log.specs.State.{is_closed, state_of}
+use Rattle.mdb_log.proofs.Numbers.{same-number}
+use Rattle.mdb_pool.specs.Facts.{perished, closes, check_in, come_back, sweep, act_facts}
+use Rattle.mdb_laws.specs.Dues.{Closes}
+
+pub closes-left : (p c : ℕ) (why : ConnectionClosedReason) (fs gs : List Fact) → Closes p c why fs → Closes p c why (fs ++ gs)
+closes-left p c why [] gs w = absurd w
+closes-left p c why (f ∷ fs) gs (inl w) = inl w
+closes-left p c why (f ∷ fs) gs (inr w) = inr (closes-left p c why fs gs w)
+
+pub closes-right : (p c : ℕ) (why : ConnectionClosedReason) (fs gs : List Fact) → Closes p c why gs → Closes p c why (fs ++ gs)
+closes-right p c why [] gs w = w
+closes-right p c why (f ∷ fs) gs w = inr (closes-right p c why fs gs w)
+
+module _ (p : ℕ) (a : ServerAddress) (o : PoolOptions) (m : ℕ) where
+  come-due : (ws : List PoolItem) (c : ℕ) → state_of o ws ≡ is_closed → pins ws c ≡ 0 → Closes p c AsPoolClosed (come_back p a o ws (Some c))
+  come-due ws c e n = rw (n, e) (inl (refl, refl, refl))
+
+  pub returned-due : (xs : List PoolItem) (r c : ℕ) (used : Use) (b : Bool) → holding xs r ≡ Some c → state_of o xs ≡ is_closed → pins xs c ≡ 0 → Closes p c AsPoolClosed (come_back p a o (if_so b (returned r used) xs) (holding xs r))
+  returned-due xs r c used true h e n = rw h (come-due (returned r used ∷ xs) c e n)
+  returned-due xs r c used false h e n = rw h (come-due xs c e n)
+
+  pub given_up-due : (xs : List PoolItem) (r c : ℕ) (b : Bool) → end_of xs r ≡ None → holding xs r ≡ Some c → state_of o xs ≡ is_closed → pins xs c ≡ 0 → Closes p c AsPoolClosed (act_facts p a o m xs (if_so b (gave_up r) xs) (GiveUp r))
+  given_up-due xs r c true g h e n = rw (g, h) (inr (come-due (gave_up r ∷ xs) c e n))
+  given_up-due xs r c false g h e n = rw (g, h) (inr (come-due xs c e n))
+
+  pub unpinned-due : (xs : List PoolItem) (c : ℕ) → is_pinned xs c ≡ true → pins xs c ≡ 1 → state_of o xs ≡ is_closed → Closes p c AsPoolClosed (if is_pinned xs c && (pins (unpinned c ∷ xs) c == 0) then check_in p a o (unpinned c ∷ xs) c else [])
+  unpinned-due xs c f n e = let none : (pins (unpinned c ∷ xs) c == 0) ≡ true = rw (n, same-number c) refl in rw (f, none, e) (inl (refl, refl, refl))
+
+  pub sweep-due : (ws : List PoolItem) (c : ℕ) (why : ConnectionClosedReason) → perished o m ws c ≡ Some why → (cs : List ℕ) → has c cs ≡ true → Closes p c why (sweep p a o m ws cs)
+  sweep-due ws c why e [] h = cc
+  sweep-due ws c why e (d ∷ cs) h = on (d == c) refl (sweep-due ws c why e cs)
+    where
+      on : (b : Bool) → (d == c) ≡ b → (has c cs ≡ true → Closes p c why (sweep p a o m ws cs)) → Closes p c why (closes p a ws d (perished o m ws d) ++ sweep p a o m ws cs)
+      on true f deeper =
+          let same : c ≡ d = grind arith in
+          subst (λ n. Closes p c why (closes p a ws n (perished o m ws n) ++ sweep p a o m ws cs)) same (rw e (inl (refl, refl, refl)))
+      on false f deeper = closes-right p c why (closes p a ws d (perished o m ws d)) (sweep p a o m ws cs) (deeper (subst (λ b. b || has c cs ≡ true) f h))

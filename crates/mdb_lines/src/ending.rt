@@ -1,0 +1,31 @@
+//! How a program ends that ran a script.
+
+ghost use Rattle.std.specs.Prelude.{◌≡◌};
+ghost use Rattle.mdb_lines.specs.Ending.{end_status, TellsEnd};
+ghost use Rattle.mdb_lines.specs.Status.{Tells, message, status};
+
+use crate::run_error::{RunError, Status, status_of};
+use crate::status::tell_error;
+use mdb_base::Sink;
+use mdb_log::Log;
+
+/// The status of a run that ended with an error: 1 for want of memory, 3 and 4 for a fault of the source or the sink, 5 for a
+/// malformed line, 6 for an input that is too long. The error's text goes to `errors`, as far as it takes it. It takes no memory.
+pub fn end_with_error<E: Sink>(errors: &mut E, e: RunError) -> Status
+    ensures status { result ≡ status e }
+    ensures told { Tells (record { held = E.held errors.old; faults = E.faults errors.old }) (record { held = E.held errors.new; faults = E.faults errors.new }) (message e) }
+{
+    tell_error(errors, e);
+    status_of(e)
+}
+
+/// The status of what a run answered: 0 for a log, and that of the error else, whose text goes to `errors`. It takes no memory.
+pub fn end_run<E: Sink>(answer: &Result<Log, RunError>, errors: &mut E) -> Status
+    ensures status { result ≡ end_status answer.now }
+    ensures told { TellsEnd (record { held = E.held errors.old; faults = E.faults errors.old }) (record { held = E.held errors.new; faults = E.faults errors.new }) answer.now }
+{
+    match answer {
+        Ok(_) => 0,
+        Err(e) => end_with_error(errors, *e),
+    }
+}

@@ -1,5 +1,0 @@
-use Rattle.mdb_plain.proofs.Accepted.{opening-accepted}
-use Rattle.mdb_plain.proofs.openings_are_accepted.Goals as goal
-
-pub returns : goal.returns
-returns c = opening-accepted

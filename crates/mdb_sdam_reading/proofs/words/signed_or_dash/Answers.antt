@@ -1,5 +1,0 @@
-use Rattle.mdb_sdam_reading.proofs.WordLemmas.{signed_dash}
-use Rattle.mdb_sdam_reading.proofs.words.signed_or_dash.Goals as goal
-
-pub returns-then-eq : goal.returns-then-eq
-returns-then-eq c = λ o h same. signed_dash o c.args.word.now h same c.if-eq.ensures

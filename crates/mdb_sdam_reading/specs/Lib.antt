@@ -1,3 +1,0 @@
-pub mod SdamTexts
-pub mod SdamForms
-pub mod OfEvents
