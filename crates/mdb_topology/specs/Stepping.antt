@@ -18,7 +18,7 @@ use Rattle.mdb_topology.specs.declared.next.Next.{Next}
 use Rattle.mdb_topology.specs.declared.next.Stepped.{Stepped}
 use Rattle.mdb_topology.specs.declared.next.Stepped.TheVariants.{Refused, Accepted}
 use Rattle.mdb_topology.specs.Answer.{answer}
-use Rattle.mdb_topology.specs.Refusal.{refusal}
+use Rattle.mdb_topology.specs.Refusal.{refusal, may_want}
 use Rattle.mdb_topology.specs.Description.{Rule, applied}
 use Rattle.mdb_topology.specs.Planned.{LeadsAll, opened_by}
 use Rattle.mdb_topology.specs.Checking.{monitors_after, numbers_after, watchers_after, IsPlaced}
@@ -75,6 +75,10 @@ FollowsSome w n step = (h : List Item) × StandsFor w h × Follows w n step h
 abbrev pub BecomesOf : TopologyCore → Step → Stepped → List Item → Type 0
 BecomesOf w step (Refused why) h = refusal w.options h step ≡ Some why
 BecomesOf w step (Accepted n) h = Follows w n step h
+
+-- Want of memory may be the answer to the step after the history.
+abbrev pub MayWant : TopologyCore → Step → List Item → Type 0
+MayWant w step h = may_want w.options h step ≡ true
 
 -- The log has one entry more, of the seat, with the answer to the step, and the driver stands for the longer history.
 pub record Logs (w v : TopologyCore) (before after : List Entry) (seat : ℕ) (step : Step) (h : List Item) : Type 0 where

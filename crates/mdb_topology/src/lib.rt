@@ -38,6 +38,7 @@ mod readying;
 mod removing;
 mod rules;
 mod sdam_facts;
+mod spending;
 mod stepping;
 mod telling_changes;
 mod topology;

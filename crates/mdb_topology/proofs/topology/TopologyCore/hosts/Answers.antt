@@ -1,13 +1,17 @@
-use Rattle.std.proofs.Common.{◌∙◌, [], None, false, sym, subst, refl}
+use Rattle.std.proofs.Common.{◌∙◌, [], None, false, sym, subst, refl, ◌≡◌, true}
 use Rattle.std.proofs.lemmas.Result.{IfOk-weaker}
 use Rattle.mdb_log.specs.declared.reply.Reply.TheVariants.{Changed}
 use Rattle.mdb_describe.specs.Topology.{synced}
 use Rattle.mdb_topology.specs.Changing.{IsChanging, IsUpdating}
 use Rattle.mdb_topology.proofs.Becoming.{as-next}
 use Rattle.mdb_topology.proofs.Same.{IsPlain}
-use Rattle.mdb_topology.proofs.Updating.{hosts-updating, hosts-resting}
+use Rattle.mdb_topology.proofs.Updating.{hosts-updating, hosts-resting, passes-time}
 use Rattle.mdb_topology.proofs.FollowingQuiet.{follows-quiet}
 use Rattle.mdb_topology.proofs.MakesKnown.{changes-become}
+use Rattle.mdb_topology.specs.Refusal.{may_want}
+use Rattle.mdb_topology.proofs.Spent.{after-any}
+use Rattle.mdb_topology.proofs.Wants.{untroubled-wants}
+use Rattle.mdb_log.specs.declared.step.Act.TheVariants as Do
 use Rattle.mdb_topology.proofs.topology.TopologyCore.hosts.Goals as goal
 
 pub returns-then-leaves_hosts-clause-becomes : goal.returns-then-leaves_hosts-clause-becomes
@@ -28,3 +32,17 @@ returns-clause-becomes c =
     IfOk-weaker c.change.result _ _ (λ stepped f h z. changes-become w h z c.args.step.now c.requires.in_time c.in_ok-later.later (subst (λ u. IsUpdating w h c.args.step.now u) (sym c.in_ok-later.ensures)
     (subst (λ a. IsUpdating w h (record { moment = m; act = a }) (synced c.args.hosts.now w.description)) (sym c.requires.act)
     (hosts-updating w h z m c.requires.in_time c.args.hosts.now left))) stepped f) c.change.ensures.changes
+
+pub returns-in_err-later-clause-wants : goal.returns-in_err-later-clause-wants
+returns-in_err-later-clause-wants c = after-any _ _ (λ h z.
+    let w = c.args.self.now in
+    let m = c.args.step.now.moment in
+    subst (λ v. may_want w.options h (record { moment = m; act = v }) ≡ true) (sym c.requires.act)
+    (untroubled-wants w h z (Do.Hosts c.args.hosts.now) m tt refl (passes-time w h z m c.requires.in_time (Do.Hosts c.args.hosts.now) refl) refl))
+
+pub returns-clause-wants : goal.returns-clause-wants
+returns-clause-wants c = after-any _ _ (λ h z.
+    let w = c.args.self.now in
+    let m = c.args.step.now.moment in
+    subst (λ v. may_want w.options h (record { moment = m; act = v }) ≡ true) (sym c.requires.act)
+    (untroubled-wants w h z (Do.Hosts c.args.hosts.now) m tt refl (passes-time w h z m c.requires.in_time (Do.Hosts c.args.hosts.now) refl) refl))
