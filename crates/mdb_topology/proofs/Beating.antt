@@ -123,18 +123,18 @@ module _ (w : TopologyCore) (h : List Item) (z : StandsFor w h) (m : ℕ) (l : w
                 (ap (λ fs. first_past o m (begun h step) (heartbeat o h (Beat a p) ++ fs)) (silent-calm o h step refl ruled (with_facts m (heartbeat o h (Beat a p)) (begun h step)))
                 ∙ (ap (first_past o m (begun h step)) (append-nil (heartbeat o h (Beat a p))) ∙ past-number b e))
 
-            yields : (b : Bool) → is_connected h p ≡ true → may_yield (is_connected h p) (ran_out (if b then Some Monitor else None)) ≡ true
+            yields : (b : Bool) → is_connected h p ≡ true → may_yield (is_connected h p) false (ran_out (if b then Some Monitor else None)) ≡ true
             yields true c = rw c refl
             yields false c = refl
 
             on : (c : Option Connection) → connection_of (recent h p) ≡ c → may_want o h step ≡ true
             on None e =
                 let mine : number ≡ fresh_for h p = ap (λ c. (connection_for c (fresh_for h p)).driver_id) e in
-                ap (may_yield (is_connected h p)) (by_number false (ap (nat_lt (number_limit o)) mine ∙ fresh))
+                ap (may_yield (is_connected h p) false) (by_number false (ap (nat_lt (number_limit o)) mine ∙ fresh))
             on (Some c) e =
                 let known : is_connected h p ≡ true = sym (connected-is h p) ∙ ap is_some e in
                 let b : Bool = nat_lt (number_limit o) number in
-                ap (may_yield (is_connected h p)) (by_number b refl) ∙ yields b known
+                ap (may_yield (is_connected h p) false) (by_number b refl) ∙ yields b known
 
         pub beat-fresh : nat_lt (number_limit o) (fresh_for h p) ≡ true → refusal o h step ≡ Some (Exhausted Monitor)
         beat-fresh past = refused-past (ap (nat_lt (number_limit o)) (fresh-number (connection_of (recent h p)) refl past) ∙ past)

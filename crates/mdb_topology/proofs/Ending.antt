@@ -139,7 +139,7 @@ module _ (w : TopologyCore) (h : List Item) (z : StandsFor w h) (m : ℕ) (l : w
 
       -- a check that did not fail clears nothing
       pub ended-wants : o.load_balanced ≡ false → IsUntroubled came → may_want o h (step-of came) ≡ true
-      ended-wants mode untroubled = untroubled-wants w h z (act-of came) m tt (calm came untroubled) (passes mode) free
+      ended-wants mode untroubled = untroubled-wants w h z (act-of came) m tt (calm came untroubled) (passes mode) free refl
 
       module _ (mode : o.load_balanced ≡ false) (x y : MonitorCore) (f : Finish) (at_p : slice_get w.monitors.items p ≡ Some x) (ends : Ends x y d (check_result a came) f) where
         finish-is : f ≡ finish_row (setting o a) (recent h p) d (check_result a came) false

@@ -123,3 +123,5 @@ mod RowsReplicaSet
 mod RowsRefusals
 mod RowsJobs
 mod Ahead
+mod HostCounts
+mod HostsPast

@@ -1,5 +1,5 @@
 -- A step that tells of no trouble is refused by its rows, or for the servers and the pools that would come.
-use Rattle.std.proofs.Common.{ℕ, ◌≡◌, ◌≤◌, ◌+◌, Bool, true, false, if◌then◌else◌, List, [], ◌∷◌, ◌++◌, length, Option, Some, None, nat_lt, refl, sym, ◌∙◌, ap, subst, append-nil, arith}
+use Rattle.std.proofs.Common.{ℕ, ◌≡◌, ◌≤◌, ◌+◌, Bool, true, false, not, if◌then◌else◌, List, [], ◌∷◌, ◌++◌, length, Option, Some, None, nat_lt, refl, sym, ◌∙◌, ap, subst, append-nil, arith}
 use Rattle.std.specs.Prelude.{⊤}
 use Rattle.std.proofs.lemmas.Bool.Decides.{nat_tests}
 use Rattle.mdb_base.specs.declared.address.ServerAddress.{ServerAddress}
@@ -32,7 +32,7 @@ use Rattle.mdb_topology.specs.Limits.{past_last, pool_limit}
 use Rattle.mdb_topology.specs.Marking.{spoken}
 use Rattle.mdb_topology.specs.Monitors.{heartbeat}
 use Rattle.mdb_topology.specs.Publishing.{publication, telling, told_by, topology_closed}
-use Rattle.mdb_topology.specs.Refusal.{first_past, first_refusal, is_over_connection, may_want, may_yield, ran_out, refusal, sooner}
+use Rattle.mdb_topology.specs.Refusal.{first_past, first_refusal, is_over_connection, may_want, may_yield, names_hosts, ran_out, refusal, sooner}
 use Rattle.mdb_topology.specs.Standing.{StandsFor}
 use Rattle.mdb_topology.specs.Turns.{in_turn}
 use Rattle.mdb_topology.proofs.Free.{take_numbers, first-free}
@@ -49,7 +49,7 @@ IsOfPools None = ⊤
 IsOfPools (Some Pool) = ⊤
 IsOfPools (Some _) = ⊥
 
-pools-yield : (over : Bool) (past : Option What) → IsOfPools past → may_yield over (ran_out past) ≡ true
+pools-yield : (over : Bool) (past : Option What) → IsOfPools past → may_yield over false (ran_out past) ≡ true
 pools-yield over None c = refl
 pools-yield over (Some Pool) c = refl
 pools-yield over (Some Generation) c = absurd c
@@ -58,7 +58,7 @@ pools-yield over (Some Servers) c = absurd c
 
 -- a step that is not refused
 pub none-wants : (o : Options) (h : List Item) (step : Step) → refusal o h step ≡ None → may_want o h step ≡ true
-none-wants o h step e = ap (may_yield (is_over_connection h step.act)) e
+none-wants o h step e = ap (may_yield (is_over_connection h step.act) (names_hosts step.act)) e
 
 -- a rule of a driver that is open
 abbrev IsLater : Option Rule → Type 0
@@ -152,7 +152,7 @@ module _ (w : TopologyCore) (h : List Item) (z : StandsFor w h) (act : Act) (m :
       on true e = rw e tt
       on false e = rw e (of-later o k (description_of o h) m act out)
 
-  module _ (calm : trouble o h step ≡ None) (passes : first_refusal o h step ≡ None) (free : take_numbers (heartbeat o h act) ≡ false) where
+  module _ (calm : trouble o h step ≡ None) (passes : first_refusal o h step ≡ None) (free : take_numbers (heartbeat o h act) ≡ false) (unnamed : names_hosts act ≡ false) where
     abbrev beats : List Fact
     beats = heartbeat o h act
 
@@ -176,9 +176,10 @@ module _ (w : TopologyCore) (h : List Item) (z : StandsFor w h) (act : Act) (m :
     untroubled-wants = on (nat_lt 128 (length (description_of o k).servers)) refl
       where
         on : (b : Bool) → nat_lt 128 (length (description_of o k).servers) ≡ b → may_want o h step ≡ true
-        on true e = ap (may_yield (is_over_connection h act)) (refused-servers o h m act passes e)
+        on true e = ap (may_yield (is_over_connection h act) (names_hosts act)) (refused-servers o h m act passes e) ∙ ap not unnamed
         on false e =
             let few : length (description_of o k).servers ≤ 128 = grind (arith, nat_tests) in
             let past : Option What = first_past o m j (in_turn m told j) in
-            ap (may_yield (is_over_connection h act)) (outside-refusal o h m act out past passes few past-is)
+            ap (may_yield (is_over_connection h act) (names_hosts act)) (outside-refusal o h m act out past passes few past-is)
+            ∙ ap (λ b. may_yield (is_over_connection h act) b (ran_out past)) unnamed
             ∙ pools-yield (is_over_connection h act) past (told-passes o m rule (description_of o h) j rule-later)

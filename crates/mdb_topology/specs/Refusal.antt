@@ -105,14 +105,19 @@ abbrev pub is_over_connection : List Item → Act → Bool
 is_over_connection h (Do.Beat a p) = is_connected h p
 is_over_connection h _ = false
 
--- Which refusals want of memory may come before: none but those of the servers and of the pools that would come, which show only in what would be known then, and that of a connection's number which was drawn before.
-abbrev pub may_yield : Bool → Option Refused → Bool
-may_yield over None = true
-may_yield over (Some (Exhausted Servers)) = true
-may_yield over (Some (Exhausted Pool)) = true
-may_yield over (Some (Exhausted Monitor)) = over
-may_yield over (Some _) = false
+-- the act names hosts
+abbrev pub names_hosts : Act → Bool
+names_hosts (Do.Hosts hosts) = true
+names_hosts _ = false
+
+-- Which refusals want of memory may come before: none but those of the servers and of the pools that would come by a reply, which show only in what would be known then, and that of a connection's number which was drawn before.
+abbrev pub may_yield : Bool → Bool → Option Refused → Bool
+may_yield over named None = true
+may_yield over named (Some (Exhausted Servers)) = not named
+may_yield over named (Some (Exhausted Pool)) = not named
+may_yield over named (Some (Exhausted Monitor)) = over
+may_yield over named (Some _) = false
 
 -- Where the step is not refused, or by one of these, there may be no memory for it.
 abbrev pub may_want : Options → List Item → Step → Bool
-may_want o h step = may_yield (is_over_connection h step.act) (refusal o h step)
+may_want o h step = may_yield (is_over_connection h step.act) (names_hosts step.act) (refusal o h step)

@@ -24,6 +24,7 @@ mod marked;
 mod marking;
 mod monitor_acts;
 mod monitoring;
+mod naming;
 mod next;
 mod opening;
 mod opening_seeds;

@@ -81,6 +81,9 @@ impl TopologyCore {
             let reply = Reply::Changed(false);
             return Ok(Stepped::Accepted(Next::of_reply(alloc, reply)));
         }
+        if let Some(what) = self.exhausted_by(hosts) {
+            return Ok(Stepped::Refused(Refused::Exhausted(what)));
+        }
         let later = self.after_hosts(alloc, hosts)?;
         self.change(alloc, step, later)
     }

@@ -37,4 +37,4 @@ returns-in_err-later-clause-wants c = after-any _ _ (λ h z.
     let w = c.args.self.now in
     let m = c.args.step.now.moment in
     subst (λ v. may_want w.options h (record { moment = m; act = v }) ≡ true) (sym c.requires.act)
-    (untroubled-wants w h z (Do.ClusterTime c.args.time) m tt refl (passes-time w h z m c.requires.in_time (Do.ClusterTime c.args.time) refl) refl))
+    (untroubled-wants w h z (Do.ClusterTime c.args.time) m tt refl (passes-time w h z m c.requires.in_time (Do.ClusterTime c.args.time) refl) refl refl))

@@ -41,11 +41,11 @@ returns-in_err-later-clause-wants c = after-any _ _ (λ h z.
     let w = c.args.self.now in
     let m = c.args.step.now.moment in
     subst (λ v. may_want w.options h (record { moment = m; act = v }) ≡ true) (sym c.requires.act)
-    (untroubled-wants w h z (Do.Hello c.args.address.now c.args.pool (Hello.Ok c.args.rtt c.args.reply.now)) m tt refl (passes-time w h z m c.requires.in_time (Do.Hello c.args.address.now c.args.pool (Hello.Ok c.args.rtt c.args.reply.now)) (rw c.if-self.false refl)) refl))
+    (untroubled-wants w h z (Do.Hello c.args.address.now c.args.pool (Hello.Ok c.args.rtt c.args.reply.now)) m tt refl (passes-time w h z m c.requires.in_time (Do.Hello c.args.address.now c.args.pool (Hello.Ok c.args.rtt c.args.reply.now)) (rw c.if-self.false refl)) refl refl))
 
 pub returns-clause-wants : goal.returns-clause-wants
 returns-clause-wants c = after-any _ _ (λ h z.
     let w = c.args.self.now in
     let m = c.args.step.now.moment in
     subst (λ v. may_want w.options h (record { moment = m; act = v }) ≡ true) (sym c.requires.act)
-    (untroubled-wants w h z (Do.Hello c.args.address.now c.args.pool (Hello.Ok c.args.rtt c.args.reply.now)) m tt refl (passes-time w h z m c.requires.in_time (Do.Hello c.args.address.now c.args.pool (Hello.Ok c.args.rtt c.args.reply.now)) (rw c.if-self.false refl)) refl))
+    (untroubled-wants w h z (Do.Hello c.args.address.now c.args.pool (Hello.Ok c.args.rtt c.args.reply.now)) m tt refl (passes-time w h z m c.requires.in_time (Do.Hello c.args.address.now c.args.pool (Hello.Ok c.args.rtt c.args.reply.now)) (rw c.if-self.false refl)) refl refl))

@@ -7,11 +7,11 @@ use Rattle.mdb_topology.proofs.Becoming.{as-next}
 use Rattle.mdb_topology.proofs.Same.{IsPlain}
 use Rattle.mdb_topology.proofs.Updating.{hosts-updating, hosts-resting, passes-time}
 use Rattle.mdb_topology.proofs.FollowingQuiet.{follows-quiet}
-use Rattle.mdb_topology.proofs.MakesKnown.{changes-become}
-use Rattle.mdb_topology.specs.Refusal.{may_want}
+use Rattle.mdb_topology.proofs.MakesKnown.{changes-become, spared-update}
 use Rattle.mdb_topology.proofs.Spent.{after-any}
-use Rattle.mdb_topology.proofs.Wants.{untroubled-wants}
-use Rattle.mdb_log.specs.declared.step.Act.TheVariants as Do
+use Rattle.mdb_topology.proofs.Wants.{none-wants}
+use Rattle.mdb_topology.specs.declared.next.Stepped.TheVariants.{Refused}
+use Rattle.mdb_log.specs.declared.reply.Refused.TheVariants.{Exhausted}
 use Rattle.mdb_topology.proofs.topology.TopologyCore.hosts.Goals as goal
 
 pub returns-then-leaves_hosts-clause-becomes : goal.returns-then-leaves_hosts-clause-becomes
@@ -33,16 +33,34 @@ returns-clause-becomes c =
     (subst (λ a. IsUpdating w h (record { moment = m; act = a }) (synced c.args.hosts.now w.description)) (sym c.requires.act)
     (hosts-updating w h z m c.requires.in_time c.args.hosts.now left))) stepped f) c.change.ensures.changes
 
+pub returns-in-Some-clause-becomes : goal.returns-in-Some-clause-becomes
+returns-in-Some-clause-becomes c h z =
+    let w = c.args.self.now in
+    let m = c.args.step.now.moment in
+    let left = sym c.leaves_hosts.ensures ∙ c.if-leaves_hosts.false in
+    changes-become w h z c.args.step.now c.requires.in_time (synced c.args.hosts.now w.description)
+    (subst (λ a. IsUpdating w h (record { moment = m; act = a }) (synced c.args.hosts.now w.description)) (sym c.requires.act)
+    (hosts-updating w h z m c.requires.in_time c.args.hosts.now left))
+    (Refused (Exhausted c.in-Some.what)) (c.in-Some.what, refl, sym c.exhausted_by.ensures ∙ sym c.in-Some.ensures)
+
 pub returns-in_err-later-clause-wants : goal.returns-in_err-later-clause-wants
 returns-in_err-later-clause-wants c = after-any _ _ (λ h z.
     let w = c.args.self.now in
     let m = c.args.step.now.moment in
-    subst (λ v. may_want w.options h (record { moment = m; act = v }) ≡ true) (sym c.requires.act)
-    (untroubled-wants w h z (Do.Hosts c.args.hosts.now) m tt refl (passes-time w h z m c.requires.in_time (Do.Hosts c.args.hosts.now) refl) refl))
+    let left = sym c.leaves_hosts.ensures ∙ c.if-leaves_hosts.false in
+    none-wants w.options h c.args.step.now
+    (spared-update w h z c.args.step.now c.requires.in_time (synced c.args.hosts.now w.description)
+    (subst (λ a. IsUpdating w h (record { moment = m; act = a }) (synced c.args.hosts.now w.description)) (sym c.requires.act)
+    (hosts-updating w h z m c.requires.in_time c.args.hosts.now left))
+    (sym c.exhausted_by.ensures ∙ sym c.in-None.ensures)))
 
 pub returns-clause-wants : goal.returns-clause-wants
 returns-clause-wants c = after-any _ _ (λ h z.
     let w = c.args.self.now in
     let m = c.args.step.now.moment in
-    subst (λ v. may_want w.options h (record { moment = m; act = v }) ≡ true) (sym c.requires.act)
-    (untroubled-wants w h z (Do.Hosts c.args.hosts.now) m tt refl (passes-time w h z m c.requires.in_time (Do.Hosts c.args.hosts.now) refl) refl))
+    let left = sym c.leaves_hosts.ensures ∙ c.if-leaves_hosts.false in
+    none-wants w.options h c.args.step.now
+    (spared-update w h z c.args.step.now c.requires.in_time (synced c.args.hosts.now w.description)
+    (subst (λ a. IsUpdating w h (record { moment = m; act = a }) (synced c.args.hosts.now w.description)) (sym c.requires.act)
+    (hosts-updating w h z m c.requires.in_time c.args.hosts.now left))
+    (sym c.exhausted_by.ensures ∙ sym c.in-None.ensures)))

@@ -48,4 +48,4 @@ returns-in_err-monitor-clause-wants c = after-any _ _ (λ h z.
     let w = c.args.self.now in
     let m = c.args.step.now.moment in
     subst (λ v. may_want w.options h (record { moment = m; act = v }) ≡ true) (sym c.requires.act)
-    (untroubled-wants w h z (Do.Rtt c.args.address.now c.args.pool c.args.sample) m tt refl (passes-time w h z m c.requires.in_time (Do.Rtt c.args.address.now c.args.pool c.args.sample) (rw c.if-self.false refl)) refl))
+    (untroubled-wants w h z (Do.Rtt c.args.address.now c.args.pool c.args.sample) m tt refl (passes-time w h z m c.requires.in_time (Do.Rtt c.args.address.now c.args.pool c.args.sample) (rw c.if-self.false refl)) refl refl))

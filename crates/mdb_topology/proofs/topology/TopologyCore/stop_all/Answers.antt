@@ -38,25 +38,25 @@ returns-in_err-later-clause-wants c = after-any _ _ (λ h z.
     let w = c.args.self.now in
     let m = c.args.step.now.moment in
     subst (λ v. may_want w.options h (record { moment = m; act = v }) ≡ true) (sym c.requires.act)
-    (untroubled-wants w h z (Do.Stop) m tt refl (passes-time w h z m c.requires.in_time (Do.Stop) refl) refl))
+    (untroubled-wants w h z (Do.Stop) m tt refl (passes-time w h z m c.requires.in_time (Do.Stop) refl) refl refl))
 
 pub returns-in_err-diff-clause-wants : goal.returns-in_err-diff-clause-wants
 returns-in_err-diff-clause-wants c = after-any _ _ (λ h z.
     let w = c.args.self.now in
     let m = c.args.step.now.moment in
     subst (λ v. may_want w.options h (record { moment = m; act = v }) ≡ true) (sym c.requires.act)
-    (untroubled-wants w h z (Do.Stop) m tt refl (passes-time w h z m c.requires.in_time (Do.Stop) refl) refl))
+    (untroubled-wants w h z (Do.Stop) m tt refl (passes-time w h z m c.requires.in_time (Do.Stop) refl) refl refl))
 
 pub returns-in_err-told-clause-wants : goal.returns-in_err-told-clause-wants
 returns-in_err-told-clause-wants c = after-any _ _ (λ h z.
     let w = c.args.self.now in
     let m = c.args.step.now.moment in
     subst (λ v. may_want w.options h (record { moment = m; act = v }) ≡ true) (sym c.requires.act)
-    (untroubled-wants w h z (Do.Stop) m tt refl (passes-time w h z m c.requires.in_time (Do.Stop) refl) refl))
+    (untroubled-wants w h z (Do.Stop) m tt refl (passes-time w h z m c.requires.in_time (Do.Stop) refl) refl refl))
 
 pub returns-in_err-tell_closed-clause-wants : goal.returns-in_err-tell_closed-clause-wants
 returns-in_err-tell_closed-clause-wants c = after-any _ _ (λ h z.
     let w = c.args.self.now in
     let m = c.args.step.now.moment in
     subst (λ v. may_want w.options h (record { moment = m; act = v }) ≡ true) (sym c.requires.act)
-    (untroubled-wants w h z (Do.Stop) m tt refl (passes-time w h z m c.requires.in_time (Do.Stop) refl) refl))
+    (untroubled-wants w h z (Do.Stop) m tt refl (passes-time w h z m c.requires.in_time (Do.Stop) refl) refl refl))

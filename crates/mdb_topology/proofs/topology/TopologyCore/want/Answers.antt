@@ -29,11 +29,11 @@ returns-in_err-watchers-clause-wants c = after-any _ _ (λ h z.
     let w = c.args.self.now in
     let m = c.args.step.now.moment in
     subst (λ v. may_want w.options h (record { moment = m; act = v }) ≡ true) (sym c.requires.act)
-    (untroubled-wants w h z (Do.Want c.args.watcher) m tt refl (passes-time w h z m c.requires.in_time (Do.Want c.args.watcher) refl) refl))
+    (untroubled-wants w h z (Do.Want c.args.watcher) m tt refl (passes-time w h z m c.requires.in_time (Do.Want c.args.watcher) refl) refl refl))
 
 pub returns-in-Err-clause-wants : goal.returns-in-Err-clause-wants
 returns-in-Err-clause-wants c = after-any _ _ (λ h z.
     let w = c.args.self.now in
     let m = c.args.step.now.moment in
     subst (λ v. may_want w.options h (record { moment = m; act = v }) ≡ true) (sym c.requires.act)
-    (untroubled-wants w h z (Do.Want c.args.watcher) m tt refl (passes-time w h z m c.requires.in_time (Do.Want c.args.watcher) refl) refl))
+    (untroubled-wants w h z (Do.Want c.args.watcher) m tt refl (passes-time w h z m c.requires.in_time (Do.Want c.args.watcher) refl) refl refl))
