@@ -147,7 +147,8 @@ impl MonitorCore {
     pub fn next_after(&self, ended: &CheckResult, available: bool) -> Next
         ensures { (xs : List MonitorItem) (duration : ℕ) → result ≡ (finish_row (setting_of self.now) xs duration ended.now available).next }
     {
-        ended.next(available, self.setting.allow_streaming)
+        let streaming = self.setting.allow_streaming;
+        ended.next(available, streaming)
     }
 
     /// A check succeeded since the last failure or cancellation, so that there is a connection. No memory is taken.
