@@ -1,10 +1,10 @@
-//! Cases of limits: a step that would take a generation past its limit is refused for that, whatever memory there is for what it would have done.
+//! Cases of limits: a step that would take a generation past its limit, or by hosts that are named the servers or the pools, is refused for that, whatever memory there is for what it would have done.
 
 ghost use Rattle.mdb_log.specs.Acts.{IsDriverAct};
 ghost use Rattle.mdb_topology.specs.Logging.{IsDriverOf};
 
 use crate::drivers::{lost, take};
-use mdb_base::{Error, ObjectId, Options};
+use mdb_base::{Error, Items, ObjectId, Options};
 use mdb_cases::{Page, made_options, parted};
 use mdb_events::Held;
 use mdb_log::{Act, BeatenResult, Core, Established, FailedAt, HelloResult, Log, Step};
@@ -91,9 +91,31 @@ fn spend_failure(page: &mut Page, core: &mut TopologyCore, log: &mut Log, error:
     refuse(page, core, log, Act::Failed(0, 1, at, error));
 }
 
+// So many hosts are named, of which `a:1` is not one.
+fn spend_hosts(page: &mut Page, core: &mut TopologyCore, log: &mut Log, count: u16)
+    requires stands { IsDriverOf core.old log.old }
+{
+    let mut hosts = Vec::new(page.alloc);
+    for port in 0..count {
+        let Some(mut host) = page.address("b:1") else {
+            return;
+        };
+        host.port = port;
+        if hosts.push(host).is_err() {
+            return page.fail();
+        }
+    }
+    refuse(page, core, log, Act::Hosts(Items::new(hosts)));
+}
+
 fn spend(page: &mut Page, core: &mut TopologyCore, log: &mut Log, kind: &str)
     requires stands { IsDriverOf core.old log.old }
 {
+    match kind {
+        "servers" => return spend_hosts(page, core, log, 129),
+        "pools" => return spend_hosts(page, core, log, 2),
+        _ => {}
+    }
     let Some(error) = held_error(page) else {
         return;
     };
@@ -109,10 +131,11 @@ fn spent_options(page: &mut Page, kind: &str) -> Options {
     let mut options = made_options(page, "a:1");
     options.load_balanced = matches!(kind, "operation" | "failure");
     options.limit_generation = Some(0);
+    options.limit_pool = Some(1);
     options
 }
 
-/// `hello`, `check`, `operation`, `failure`: what a driver of one seed `a:1` and `limit_generation=0` answers to an error that would clear its pool.
+/// `hello`, `check`, `operation`, `failure`: what a driver of one seed `a:1` and `limit_generation=0` answers to an error that would clear its pool. `servers`, `pools`: what it answers to 129 hosts, and with `limit_pool=1` to two.
 pub fn spent(page: &mut Page, given: &str) {
     let (kind, _) = parted(given);
     let options = spent_options(page, kind);

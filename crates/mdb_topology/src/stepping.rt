@@ -280,8 +280,9 @@ impl TopologyCore {
         self.topology_act(alloc, step)
     }
 
-    /// Why the driver would refuse the step, `None` where it would accept it. Nothing changes. The answer is `OutOfMemory` only where the step would not be refused, or where more than 128 servers would
-    /// be known or a pool would come whose number is past the limit: that shows only in what would be known then. So a refused step is lost for want of memory for its entry in the log alone.
+    /// Why the driver would refuse the step, `None` where it would accept it. Nothing changes. The answer is `OutOfMemory` only where the step would not be refused, where by a reply more than 128 servers
+    /// would be known or a pool would come whose number is past the limit (that shows only in what would be known then), or where a check begins over a connection whose number is. Any other refused step
+    /// is lost for want of memory for its entry in the log alone.
     pub fn refusal(&mut self, alloc: Global, step: &Step) -> Result<Option<Refused>, OutOfMemory>
         requires stands { StandsForSome self.old }
         requires act { IsDriverAct step.now.act }
