@@ -1,5 +1,5 @@
 -- How many servers there are after hosts are named, and how many of them are new.
-use Rattle.std.proofs.Common.{ℕ, suc, ◌≡◌, ◌+◌, ◌≤◌, Bool, true, false, not, ◌&&◌, ◌||◌, List, [], ◌∷◌, filter, map, length, if◌then◌else◌, refl, sym, ◌∙◌, ap, subst, arith, inl, inr}
+use Rattle.std.proofs.Common.{ℕ, suc, ◌≡◌, ◌+◌, Bool, true, false, not, ◌&&◌, ◌||◌, List, [], ◌∷◌, filter, map, length, if◌then◌else◌, refl, sym, ◌∙◌, ap, subst, arith, inl, inr}
 use Rattle.std.proofs.lemmas.Bool.{cases_Bool, and_parts, and_from}
 use Rattle.std.proofs.lemmas.List.{length-map}
 use Rattle.mdb_base.specs.declared.address.ServerAddress.{ServerAddress}
@@ -222,12 +222,3 @@ module _ (hosts : List ServerAddress) (xs : List ServerDescription) (o : in_orde
       length-map (filter (λ s. not (is_known s.address xs)) (keep_listed hosts ys)) (λ s. s.address)
       ∙ (ap length (filter-twice (λ s. is_listed hosts s.address) (λ s. not (is_known s.address xs)) ys)
       ∙ count xs hosts ys (added_in_order hosts xs o) (listed-known hosts xs))
-
--- no more than are named
-one-at-most : (b : Bool) (n m : ℕ) → n ≤ m → one_if b + n ≤ suc m
-one-at-most true n m e = omega (arith, e)
-one-at-most false n m e = omega (arith, e)
-
-pub few-new : (others : List ServerDescription) (hosts : List ServerAddress) → new_hosts others hosts ≤ length hosts
-few-new others [] = omega arith
-few-new others (a ∷ more) = one-at-most (not (is_known a others) && not (is_listed more a)) (new_hosts others more) (length more) (few-new others more)
