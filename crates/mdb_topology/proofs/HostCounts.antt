@@ -105,12 +105,12 @@ one-more p q a [] o k e f g = cc
 one-more p q a (s ∷ xs) o k e f g = elim (cases_Bool (same_address s.address a)) [
   | inl h ↦ rw (g s h, f s h) (ap (λ ys. suc (length ys)) (sym (filter-apart p q a xs (none-behind s xs a o h) e)))
   | inr h ↦
-    let there : is_known a xs ≡ true = rw h at k in
-    let rest : length (filter q xs) ≡ suc (length (filter p xs)) = one-more p q a xs (rest-in-order s xs o) there e f g in
-    elim (cases_Bool (q s)) [
-      | inl i ↦ rw (i, e s h ∙ i) (ap suc rest)
-      | inr i ↦ rw (i, e s h ∙ i) rest
-    ]
+      let there : is_known a xs ≡ true = rw h at k in
+      let rest : length (filter q xs) ≡ suc (length (filter p xs)) = one-more p q a xs (rest-in-order s xs o) there e f g in
+      elim (cases_Bool (q s)) [
+        | inl i ↦ rw (i, e s h ∙ i) (ap suc rest)
+        | inr i ↦ rw (i, e s h ∙ i) rest
+      ]
 ]
 
 -- Which servers there are.
@@ -183,8 +183,8 @@ module _ (others : List ServerDescription) where
       on : (b : Bool) → is_known a others ≡ b → (c : Bool) → is_listed more a ≡ c → length (filter (counted (a ∷ more)) xs) ≡ one_if (not (is_known a others) && not (is_listed more a)) + new_hosts others more
       on true e c f =
           same-where (λ s g.
-              let known : not (is_known s.address others) ≡ false = ap not (subst (λ b. is_known b others ≡ true) (sym (same-address s.address a g)) e) in
-              and-false (is_listed (a ∷ more) s.address) (not (is_known s.address others)) known ∙ sym (and-false (is_listed more s.address) (not (is_known s.address others)) known))
+          let known : not (is_known s.address others) ≡ false = ap not (subst (λ b. is_known b others ≡ true) (sym (same-address s.address a g)) e) in
+          and-false (is_listed (a ∷ more) s.address) (not (is_known s.address others)) known ∙ sym (and-false (is_listed more s.address) (not (is_known s.address others)) known))
           ∙ (zero-plus (new_hosts others more)
           ∙ ap (λ b. one_if (not b && not (is_listed more a)) + new_hosts others more) (sym e))
       on false e true f =
@@ -196,9 +196,9 @@ module _ (others : List ServerDescription) where
           one-more (counted more) (counted (a ∷ more)) a xs o own away
           (λ s g. ap (λ b. b && not (is_known s.address others)) (subst (λ b. is_listed more b ≡ false) (sym (same-address s.address a g)) f))
           (λ s g.
-              let listed : same_address a s.address ≡ true = same_back a s.address ∙ g in
-              let apart : is_known s.address others ≡ false = subst (λ b. is_known b others ≡ false) (sym (same-address s.address a g)) e in
-              rw (listed, apart) refl)
+          let listed : same_address a s.address ≡ true = same_back a s.address ∙ g in
+          let apart : is_known s.address others ≡ false = subst (λ b. is_known b others ≡ false) (sym (same-address s.address a g)) e in
+          rw (listed, apart) refl)
           ∙ (ap suc fewer
           ∙ (one-plus (new_hosts others more)
           ∙ (ap (λ b. one_if (not false && not b) + new_hosts others more) (sym f)

@@ -43,9 +43,9 @@ module _ (w : TopologyCore) where
   differing-past : (d : Diff) → passes_limit w (unless_empty d) ≡ is_past w.options n (length d.added)
   differing-past d = elim (cases_Bool (is_empty d.changed && (is_empty d.removed && is_empty d.added))) [
     | inl e ↦
-      let both = and_parts (is_empty d.changed) (is_empty d.removed && is_empty d.added) e in
-      let none : d.added ≡ [] = nothing-added d.added ((and_parts (is_empty d.removed) (is_empty d.added) both.1).1) in
-      ap (λ b. passes_limit w (if b then None else Some d)) e ∙ ap (λ xs. is_past w.options n (length xs)) (sym none)
+        let both = and_parts (is_empty d.changed) (is_empty d.removed && is_empty d.added) e in
+        let none : d.added ≡ [] = nothing-added d.added ((and_parts (is_empty d.removed) (is_empty d.added) both.1).1) in
+        ap (λ b. passes_limit w (if b then None else Some d)) e ∙ ap (λ xs. is_past w.options n (length xs)) (sym none)
     | inr e ↦ ap (λ b. passes_limit w (if b then None else Some d)) e ∙ last-past w.options n d.added
   ]
 
