@@ -1,9 +1,8 @@
 -- The monitor of the pool that is open at an address, and what follows its check.
-use Rattle.std.proofs.Common.{ℕ, ◌≡◌, ◌<◌, ◌==◌, Bool, true, false, if◌then◌else◌, List, length, Option, Some, None, is_some, nat_lt, refl, sym, ◌∙◌, ap, subst, arith}
+use Rattle.std.proofs.Common.{ℕ, ◌≡◌, ◌==◌, Bool, true, List, Option, Some, is_some, sym, ◌∙◌, ap, subst, arith}
 use Rattle.std.specs.Prelude.{slice_get}
 use Rattle.std.proofs.lemmas.Bool.Decides.{nat_tests}
 use Rattle.mdb_base.specs.declared.address.ServerAddress.{ServerAddress}
-use Rattle.mdb_base.specs.declared.options.Options.{Options}
 use Rattle.mdb_monitor.specs.declared.check.Next.{Next}
 use Rattle.mdb_monitor.specs.declared.monitor.MonitorCore.{MonitorCore}
 use Rattle.mdb_monitor.specs.declared.monitor.Setting.{Setting}
@@ -17,26 +16,14 @@ use Rattle.mdb_topology.specs.Ahead.{is_available, next_after}
 use Rattle.mdb_topology.specs.Homes.{is_here}
 use Rattle.mdb_topology.specs.Monitors.{check_result, monitor_items, setting}
 use Rattle.mdb_topology.specs.Standing.{at_address, StandsFor}
-use Rattle.mdb_topology.proofs.AtMonitor.{monitor-within, monitor-setting}
-use Rattle.mdb_topology.proofs.HomeJobs.{some-place}
+use Rattle.mdb_topology.proofs.AtMonitor.{monitor-setting}
 
 same-self : (p : ℕ) → (p == p) ≡ true
 same-self p = grind (arith, nat_tests)
 
-is-less : (i n : ℕ) → i < n → nat_lt i n ≡ true
-is-less i n e = grind (arith, nat_tests, e)
-
 module _ (w : TopologyCore) (h : List Item) (z : StandsFor w h) (a : ServerAddress) where
   abbrev pools-at : Option ℕ
   pools-at = at_address w.pools.cores.items a
-
-  -- no pool is open there
-  module _ (none : pools-at ≡ None) where
-    unopened : open_pool h a ≡ None
-    unopened = z.pools.fit.open_are a ∙ none
-
-    pub none-opened : false ≡ is_some (open_pool h a)
-    none-opened = sym (ap is_some unopened)
 
   -- the pool that is open there has the number p
   module _ (p : ℕ) (some : pools-at ≡ Some p) where
@@ -45,9 +32,6 @@ module _ (w : TopologyCore) (h : List Item) (z : StandsFor w h) (a : ServerAddre
 
     here : is_here h a p ≡ true
     here = rw opened (same-self p)
-
-    pub some-opened : (r : Option MonitorCore) → r ≡ slice_get w.monitors.items p → is_some r ≡ is_some (open_pool h a)
-    some-opened r e = ap is_some e ∙ some-place w.monitors.items p ∙ is-less p (length w.monitors.items) (monitor-within w h z a p here) ∙ sym (ap is_some opened)
 
     pub opened-stands : (q : ℕ) (m : MonitorCore) → open_pool h a ≡ Some q → slice_get w.monitors.items p ≡ Some m → MonitorStands m (monitor_items h q)
     opened-stands q m e at =
@@ -58,10 +42,7 @@ module _ (w : TopologyCore) (h : List Item) (z : StandsFor w h) (a : ServerAddre
     pub opened-setting : (m : MonitorCore) → slice_get w.monitors.items p ≡ Some m → m.setting ≡ setting w.options a
     opened-setting m at = monitor-setting w h z a p here m at
 
-  -- what follows
-  pub follows-nothing : is_some (open_pool h a) ≡ false → (came : BeatenResult) → next_after w.options h a came ≡ None
-  follows-nothing e came = rw e refl
-
+  -- what follows a check
   pub follows-next : is_some (open_pool h a) ≡ true → (came : BeatenResult) (s : Setting) → s ≡ setting w.options a → (b : Bool) → b ≡ is_available (server_at a w.description.servers)
       → (n : Next) → n ≡ next_of (check_result a came) b s.allow_streaming → Some n ≡ next_after w.options h a came
   follows-next e came s set b available n next = rw e (ap Some (next
