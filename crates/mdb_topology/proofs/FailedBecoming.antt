@@ -13,6 +13,7 @@ use Rattle.mdb_log.specs.declared.step.FailedAt.{FailedAt}
 use Rattle.mdb_log.specs.declared.step.Step.{Step}
 use Rattle.mdb_log.specs.declared.reply.Refused.TheVariants.{Exhausted}
 use Rattle.mdb_log.specs.declared.reply.Reply.TheVariants.{Done}
+use Rattle.mdb_log.specs.declared.reply.What.{What}
 use Rattle.mdb_log.specs.declared.reply.What.TheVariants.{Generation}
 use Rattle.mdb_log.specs.History.{Item, PoolItem, failed, service_in, of_pool, after_facts, with_facts}
 use Rattle.mdb_log.specs.Homes.{homes}

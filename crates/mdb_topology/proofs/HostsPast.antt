@@ -1,5 +1,5 @@
 -- What hosts that are named would run out of is told by how many of them there are, and how many of them are new.
-use Rattle.std.proofs.Common.{ℕ, ◌≡◌, ◌+◌, ◌&&◌, Bool, true, false, if◌then◌else◌, List, [], ◌∷◌, length, nat_lt, Option, Some, None, is_some, refl, sym, ◌∙◌, ap}
+use Rattle.std.proofs.Common.{ℕ, ◌≡◌, ◌+◌, ◌&&◌, Bool, true, false, if◌then◌else◌, List, [], ◌∷◌, length, nat_lt, Option, Some, None, is_some, refl, sym, ◌∙◌, ap, inl, inr}
 use Rattle.std.proofs.lemmas.Bool.{cases_Bool, and_parts}
 use Rattle.mdb_base.specs.declared.address.ServerAddress.{ServerAddress}
 use Rattle.mdb_base.specs.declared.options.Options.{Options}
@@ -73,7 +73,22 @@ module _ (w : TopologyCore) where
         ∙ ap (is_past w.options n) (ap (λ xs. length (missing xs known)) servers-are ∙ new-named hosts known ordered)
 
     -- so it is told by these numbers
-    pub named-past : change_past w later ≡ (if nat_lt 128 (new_hosts [] hosts) then Some Servers else if is_past w.options n (new_hosts known hosts) then Some Pool else None)
+    named-past : change_past w later ≡ (if nat_lt 128 (new_hosts [] hosts) then Some Servers else if is_past w.options n (new_hosts known hosts) then Some Pool else None)
     named-past =
         ap (λ c. if nat_lt 128 c then Some Servers else if passes_limit w (difference known later.servers) then Some Pool else None) count-is
         ∙ ap (λ b. if nat_lt 128 (new_hosts [] hosts) then Some Servers else if b then Some Pool else None) pools-past
+
+    pub past-servers : nat_lt 128 (new_hosts [] hosts) ≡ true → Some Servers ≡ change_past w later
+    past-servers many = sym (named-past ∙ ap (λ b. if b then Some Servers else if is_past w.options n (new_hosts known hosts) then Some Pool else None) many)
+
+    pub past-pools : nat_lt 128 (new_hosts [] hosts) ≡ false → is_past w.options n (new_hosts known hosts) ≡ true → Some Pool ≡ change_past w later
+    past-pools few past =
+        sym (named-past
+        ∙ (ap (λ b. if b then Some Servers else if is_past w.options n (new_hosts known hosts) then Some Pool else None) few
+        ∙ ap (λ b. if b then Some Pool else None) past))
+
+    pub past-none : nat_lt 128 (new_hosts [] hosts) ≡ false → is_past w.options n (new_hosts known hosts) ≡ false → None ≡ change_past w later
+    past-none few past =
+        sym (named-past
+        ∙ (ap (λ b. if b then Some Servers else if is_past w.options n (new_hosts known hosts) then Some Pool else None) few
+        ∙ ap (λ b. if b then Some Pool else None) past))

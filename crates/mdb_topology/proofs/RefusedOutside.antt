@@ -22,7 +22,7 @@ use Rattle.mdb_topology.proofs.Same.{IsOutside}
 use Rattle.mdb_topology.proofs.TellingSteps.{G, no-own, own_then_served, said-first}
 
 -- the serving of the pools takes no number
-serving-none : (o : Options) (m : ℕ) (k : List Item) (xs : List Home) → take_numbers (flat_map (λ (x : Home). serving x.number x.address (pool_options o) m (of_pool x.number k)) xs) ≡ false
+pub serving-none : (o : Options) (m : ℕ) (k : List Item) (xs : List Home) → take_numbers (flat_map (λ (x : Home). serving x.number x.address (pool_options o) m (of_pool x.number k)) xs) ≡ false
 serving-none o m k [] = refl
 serving-none o m k (x ∷ xs) =
     let one : List Fact = serving x.number x.address (pool_options o) m (of_pool x.number k) in

@@ -1,10 +1,10 @@
 -- Where one more clear would take a generation past its limit, the pool refuses it, and else accepts it.
-use Rattle.std.proofs.Common.{ℕ, ◌≡◌, ◌≤◌, ◌<◌, ◌&&◌, Bool, true, false, not, if◌then◌else◌, List, length, Option, Some, None, is_some, nat_lt, refl, sym, ◌∙◌, ap, subst, arith}
+use Rattle.std.proofs.Common.{ℕ, ◌≡◌, ◌≤◌, ◌<◌, ◌&&◌, Bool, true, false, not, if◌then◌else◌, List, length, Option, Some, None, is_some, is_none, nat_lt, refl, sym, ◌∙◌, ap, subst, arith}
 use Rattle.std.specs.Prelude.{slice_get, nat_le, unwrap_or}
 use Rattle.std.specs.Result.{OnErr}
 use Rattle.std.proofs.lemmas.Bool.Decides.{nat_tests}
-use Rattle.core.specs.declared.result.Result.{Result}
-use Rattle.core.specs.declared.result.Result.TheVariants.{Ok, Err}
+use Rattle.std.specs.declared.result.Result.{Result}
+use Rattle.std.specs.declared.result.Result.TheVariants.{Ok, Err}
 use Rattle.mdb_base.specs.declared.address.ServerAddress.{ServerAddress}
 use Rattle.mdb_base.specs.declared.error.Error.{Error}
 use Rattle.mdb_base.specs.declared.object_id.ObjectId.{ObjectId}
@@ -25,6 +25,11 @@ use Rattle.mdb_topology.specs.Standing.{is_open_at, at_address, StandsForSome}
 use Rattle.mdb_topology.proofs.Following.{early-later}
 use Rattle.mdb_topology.proofs.Lists.{at-place, position-at, position-within}
 use Rattle.mdb_topology.proofs.PlannedActs.{all-at}
+
+-- something is there, or nothing
+pub none-some : {T : Type 0} (x : Option T) (b : Bool) → is_none x ≡ b → is_some x ≡ not b
+none-some None b e = ap not e
+none-some (Some v) b e = ap not e
 
 -- what holds whatever a call answers
 pub after-any : {T E : Type 0} (r : Result T E) (P : Type 0) → P → OnErr r P

@@ -25,7 +25,7 @@ use Rattle.mdb_log.specs.History.{Item, with_facts}
 use Rattle.mdb_log.specs.Homes.{homes}
 use Rattle.mdb_topology.specs.declared.topology.TopologyCore.{TopologyCore}
 use Rattle.mdb_topology.specs.Description.{Rule, opens, updates, syncs, tells_time, stops, description_of, is_stopped, marking_rule, replied_rule, rule_after, rule_of, syncing_rule}
-use Rattle.mdb_topology.specs.Errors.{Trouble, marks}
+use Rattle.mdb_topology.specs.Errors.{Trouble, marks, trouble_of}
 use Rattle.mdb_topology.specs.Facts.{asking, clear_by, clear_of, clearing, trouble}
 use Rattle.mdb_topology.specs.Homes.{begun, is_here}
 use Rattle.mdb_topology.specs.Limits.{past_last, pool_limit}
@@ -118,18 +118,18 @@ syncing-later _ hosts = tt
 -- no act but the opening opens
 of-later : (o : Options) (k : List Item) (t : TopologyDescription) (m : ℕ) (act : Act) → IsOutside act → IsLater (rule_of o k t m act)
 of-later o k t m (Do.Hello a p (Hello.Ok rtt r)) c = replied-later k a p _
-of-later o k t m (Do.Hello a p (Hello.Err e)) c = marking-later o _
+of-later o k t m (Do.Hello a p (Hello.Err e)) c = marking-later o (trouble_of o k t (Do.Hello a p (Hello.Err e)))
 of-later o k t m (Do.Beaten a p d (Beaten.Ok r more)) c = replied-later k a p _
-of-later o k t m (Do.Beaten a p d (Beaten.Err e)) c = marking-later o _
-of-later o k t m (Do.Beaten a p d (Beaten.Cancelled e)) c = marking-later o _
+of-later o k t m (Do.Beaten a p d (Beaten.Err e)) c = marking-later o (trouble_of o k t (Do.Beaten a p d (Beaten.Err e)))
+of-later o k t m (Do.Beaten a p d (Beaten.Cancelled e)) c = marking-later o (trouble_of o k t (Do.Beaten a p d (Beaten.Cancelled e)))
 of-later o k t m (Do.Hosts hosts) c = syncing-later t.topology_type hosts
 of-later o k t m (Do.ClusterTime time) c = tt
 of-later o k t m Do.Stop c = tt
-of-later o k t m (Do.Error r e) c = marking-later o _
-of-later o k t m (Do.Beat a p) c = marking-later o _
-of-later o k t m (Do.Rtt a p d) c = marking-later o _
-of-later o k t m (Do.Want w) c = marking-later o _
-of-later o k t m (Do.Unwant w) c = marking-later o _
+of-later o k t m (Do.Error r e) c = marking-later o (trouble_of o k t (Do.Error r e))
+of-later o k t m (Do.Beat a p) c = marking-later o (trouble_of o k t (Do.Beat a p))
+of-later o k t m (Do.Rtt a p d) c = marking-later o (trouble_of o k t (Do.Rtt a p d))
+of-later o k t m (Do.Want w) c = marking-later o (trouble_of o k t (Do.Want w))
+of-later o k t m (Do.Unwant w) c = marking-later o (trouble_of o k t (Do.Unwant w))
 of-later o k t m _ c = elim c [ ]
 
 module _ (w : TopologyCore) (h : List Item) (z : StandsFor w h) (act : Act) (m : ℕ) (out : IsOutside act) where

@@ -11,6 +11,7 @@ use Rattle.mdb_log.specs.History.{Item, did, is_number, with_answer}
 use Rattle.mdb_log.specs.LegalLog.{IsFairAnswer}
 use Rattle.mdb_log.specs.Beside.{AllFreshGrants}
 use Rattle.mdb_log.specs.Connections.{one_if}
+use Rattle.mdb_log.specs.Own.{IsAccepted}
 use Rattle.mdb_log.specs.Opening.{pool_options}
 use Rattle.mdb_pool.specs.Core.{PoolCore}
 use Rattle.mdb_topology.specs.declared.topology.TopologyCore.{TopologyCore}
@@ -55,6 +56,7 @@ is_driver_act act = is_pool_act act || is_topology_act act
 -- An accepted step: its answer, and what each part of the driver then is, where its pools are those to which the changes lead.
 pub record Follows (w : TopologyCore) (n : Next) (step : Step) (h : List Item) : Type 0 where
   pub answer_is : answer w.options h step ≡ record { reply = n.reply; facts = n.facts.items }
+  pub accepted : IsAccepted n.reply
   pub fair : IsFairAnswer h step n.reply n.facts.items
   pub fresh : AllFreshGrants (pool_options w.options) step.moment (did step n.reply ∷ h) n.facts.items
   pub leads : (later : List PoolCore) × LeadsAll n.changes.items w.pools.cores.items later

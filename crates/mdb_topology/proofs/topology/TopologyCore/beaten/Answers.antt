@@ -1,7 +1,8 @@
-use Rattle.std.proofs.Common.{◌≡◌, ◌∙◌, ◌&&◌, not, length, slice_get, true, false, None, Some, sym, refl, ap, subst}
+use Rattle.std.proofs.Common.{List, ◌≡◌, ◌∙◌, ◌&&◌, Bool, not, is_some, length, slice_get, true, false, None, Some, sym, refl, ap, subst}
 use Rattle.std.proofs.lemmas.Option.{slice_get_read}
 use Rattle.std.proofs.lemmas.Result.{IfOk-weaker}
 use Rattle.mdb_describe.specs.Descriptions.{failed}
+use Rattle.mdb_describe.specs.Differences.{difference}
 use Rattle.mdb_describe.specs.Update.{updated}
 use Rattle.mdb_log.specs.declared.checked.BeatenResult.TheVariants.{Err}
 use Rattle.mdb_log.specs.declared.step.Act.TheVariants.{Beaten}
@@ -15,6 +16,7 @@ use Rattle.mdb_topology.specs.Marking.{check_spends, IsOfPool, FailsAs}
 use Rattle.mdb_topology.specs.Checking.{Ends}
 use Rattle.mdb_topology.specs.Monitors.{runs as runs_at, check_result, monitor_items}
 use Rattle.mdb_topology.specs.Refusal.{may_want, refusal}
+use Rattle.mdb_pool.specs.Kept.{exhausted_now}
 use Rattle.mdb_pool.specs.Refusal.{wrong_service}
 use Rattle.mdb_topology.specs.Standing.{is_open_at}
 use Rattle.mdb_topology.specs.Stepping.{is_here_among, BecomesOf, Follows}
@@ -24,6 +26,9 @@ use Rattle.mdb_topology.proofs.SpentChecks.{check-spent, check-wants}
 use Rattle.mdb_topology.proofs.Lists.{position-within}
 use Rattle.mdb_topology.proofs.Spent.{after-any, clear-accepted, not-both, some-place}
 use Rattle.mdb_topology.proofs.Places.{some-same}
+use Rattle.mdb_log.specs.History.{Item}
+use Rattle.mdb_topology.specs.Standing.{StandsFor}
+use Rattle.mdb_topology.specs.Stepping.{MayWant}
 use Rattle.mdb_topology.proofs.topology.TopologyCore.beaten.Goals as goal
 
 pub returns-in_default-clause-becomes : goal.returns-in_default-clause-becomes
@@ -96,7 +101,7 @@ with_end-requires-clause-running c x at_i =
     subst (λ v. runs v ≡ true) (some-same s x (slice_get ms c.in-Some.index) here at_i) (sym c.if-not-running.ensures.machine)
 
 pub returns-in_err-monitor-clause-wants : goal.returns-in_err-monitor-clause-wants
-returns-in_err-monitor-clause-wants c = after-any _ _ (λ h z.
+returns-in_err-monitor-clause-wants c = λ h z.
     let w = c.args.self.now in
     let m = c.args.step.now.moment in
     let a = c.args.address.now in
@@ -111,7 +116,7 @@ returns-in_err-monitor-clause-wants c = after-any _ _ (λ h z.
     let s = some-place w.pools.cores.items a c.in-Some.index here in
     let spare : check_spends w s.0 a c.args.came.now ≡ false = sym (c.overspends_by_check.ensures s.0 s.1) ∙ c.if-overspends_by_check.false in
     subst (λ v. may_want w.options h (record { moment = m; act = v }) ≡ true) (sym c.requires.act)
-    (check-wants w h z m c.requires.in_time a p c.args.duration there running c.if-self-2.false s.0 (subst (λ q. slice_get w.pools.cores.items q ≡ Some s.0) own s.1) c.args.came.now spare))
+    (check-wants w h z m c.requires.in_time a p c.args.duration there running c.if-self-2.false s.0 (subst (λ q. slice_get w.pools.cores.items q ≡ Some s.0) own s.1) c.args.came.now spare)
 
 pub returns-in-Ok-clause-becomes : goal.returns-in-Ok-clause-becomes
 returns-in-Ok-clause-becomes c =
@@ -134,7 +139,8 @@ returns-in-Ok-clause-becomes c =
     (subst (λ q. ConcludesAs w m (Checked q y w.fresh) f.event c.in-Ok.later stepped) own r))) c.conclude.ensures.concludes
 
 pub returns-in-Ok-clause-wants : goal.returns-in-Ok-clause-wants
-returns-in-Ok-clause-wants c = after-any _ _ (λ h z.
+returns-in-Ok-clause-wants c =
+    let wants : (h : List Item) → StandsFor c.args.self.now h → MayWant c.args.self.now c.args.step.now h = (λ h z.
     let w = c.args.self.now in
     let m = c.args.step.now.moment in
     let a = c.args.address.now in
@@ -149,10 +155,12 @@ returns-in-Ok-clause-wants c = after-any _ _ (λ h z.
     let s = some-place w.pools.cores.items a c.in-Some.index here in
     let spare : check_spends w s.0 a c.args.came.now ≡ false = sym (c.overspends_by_check.ensures s.0 s.1) ∙ c.if-overspends_by_check.false in
     subst (λ v. may_want w.options h (record { moment = m; act = v }) ≡ true) (sym c.requires.act)
-    (check-wants w h z m c.requires.in_time a p c.args.duration there running c.if-self-2.false s.0 (subst (λ q. slice_get w.pools.cores.items q ≡ Some s.0) own s.1) c.args.came.now spare))
+    (check-wants w h z m c.requires.in_time a p c.args.duration there running c.if-self-2.false s.0 (subst (λ q. slice_get w.pools.cores.items q ≡ Some s.0) own s.1) c.args.came.now spare)) in
+    after-any c.conclude.result _ wants
 
-pub returns-in-Err-clause-wants : goal.returns-in-Err-clause-wants
-returns-in-Err-clause-wants c = after-any _ _ (λ h z.
+
+pub returns-in-Err-after_check-clause-wants : goal.returns-in-Err-after_check-clause-wants
+returns-in-Err-after_check-clause-wants c = λ h z.
     let w = c.args.self.now in
     let m = c.args.step.now.moment in
     let a = c.args.address.now in
@@ -167,7 +175,7 @@ returns-in-Err-clause-wants c = after-any _ _ (λ h z.
     let s = some-place w.pools.cores.items a c.in-Some.index here in
     let spare : check_spends w s.0 a c.args.came.now ≡ false = sym (c.overspends_by_check.ensures s.0 s.1) ∙ c.if-overspends_by_check.false in
     subst (λ v. may_want w.options h (record { moment = m; act = v }) ≡ true) (sym c.requires.act)
-    (check-wants w h z m c.requires.in_time a p c.args.duration there running c.if-self-2.false s.0 (subst (λ q. slice_get w.pools.cores.items q ≡ Some s.0) own s.1) c.args.came.now spare))
+    (check-wants w h z m c.requires.in_time a p c.args.duration there running c.if-self-2.false s.0 (subst (λ q. slice_get w.pools.cores.items q ≡ Some s.0) own s.1) c.args.came.now spare)
 
 pub fail-requires-clause-here : goal.fail-requires-clause-here
 fail-requires-clause-here c = here-at c.args.self.now c.args.address.now c.args.pool c.in-Some.index c.in-Some.ensures.place (sym c.in-Some.ensures.here)
@@ -178,12 +186,13 @@ fail-requires-clause-accepted c going cleared s at_s =
     let a = c.args.address.now in
     let e = c.get.result.now in
     let came : c.args.came.now ≡ Err e = c.in-Err.is ∙ ap Err (sym c.get.ensures) in
+    let changes : Bool = is_some (difference w.description.servers (updated w.description (failed a e)).servers) && true in
     let spare : check_spends w s a (Err e) ≡ false = ap (check_spends w s a) (sym came) ∙ (sym (c.overspends_by_check.ensures s at_s) ∙ c.if-overspends_by_check.false) in
     clear-accepted w c.requires.stands c.in-Some.index s at_s c.args.step.now.moment c.requires.in_time None e (ap (λ b. wrong_service b None) c.if-self-2.false)
-    (not-both _ _ (sym (ap (λ b. not b && _) going) ∙ spare) cleared)
+    (not-both changes (exhausted_now s None) (sym (ap (λ b. not b && (changes && exhausted_now s None)) going) ∙ spare) cleared)
 
-pub returns-in_ok-next-in-Err-clause-becomes : goal.returns-in_ok-next-in-Err-clause-becomes
-returns-in_ok-next-in-Err-clause-becomes c h z =
+pub returns-in-Err-clause-becomes : goal.returns-in-Err-clause-becomes
+returns-in-Err-clause-becomes c h z =
     let w = c.args.self.now in
     let m = c.args.step.now.moment in
     let a = c.args.address.now in
@@ -205,11 +214,11 @@ returns-in_ok-next-in-Err-clause-becomes c h z =
     subst (λ v. Follows w _ (record { moment = m; act = v }) h) (sym c.requires.act)
     (subst (λ v. Follows w _ (record { moment = m; act = Beaten a p d v }) h) (sym came)
     (failure-told w h z m c.requires.in_time a p d e there running c.if-self-2.false x y f at_p ends _
-    (subst (λ q. FailsAs w m (Checked q y w.fresh) f.event (updated w.description (failed a e)) met c.in_ok-next-in-Err.next) own
-    (c.in_ok-next-in-Err.ensures.fails met (subst (λ q. IsOfPool w.options met q a e true Nothing) (sym own) (failure-of-pool w h z m c.requires.in_time a p d e there running c.if-self-2.false))))))
+    (subst (λ q. FailsAs w m (Checked q y w.fresh) f.event (updated w.description (failed a e)) met c.in_ok-next.next) own
+    (c.in_ok-next.ensures.fails met (subst (λ q. IsOfPool w.options met q a e true Nothing) (sym own) (failure-of-pool w h z m c.requires.in_time a p d e there running c.if-self-2.false))))))
 
-pub returns-in_err-next-in-Err-clause-wants : goal.returns-in_err-next-in-Err-clause-wants
-returns-in_err-next-in-Err-clause-wants c = after-any _ _ (λ h z.
+pub returns-in_err-next-clause-wants : goal.returns-in_err-next-clause-wants
+returns-in_err-next-clause-wants c = λ h z.
     let w = c.args.self.now in
     let m = c.args.step.now.moment in
     let a = c.args.address.now in
@@ -224,4 +233,4 @@ returns-in_err-next-in-Err-clause-wants c = after-any _ _ (λ h z.
     let s = some-place w.pools.cores.items a c.in-Some.index here in
     let spare : check_spends w s.0 a c.args.came.now ≡ false = sym (c.overspends_by_check.ensures s.0 s.1) ∙ c.if-overspends_by_check.false in
     subst (λ v. may_want w.options h (record { moment = m; act = v }) ≡ true) (sym c.requires.act)
-    (check-wants w h z m c.requires.in_time a p c.args.duration there running c.if-self-2.false s.0 (subst (λ q. slice_get w.pools.cores.items q ≡ Some s.0) own s.1) c.args.came.now spare))
+    (check-wants w h z m c.requires.in_time a p c.args.duration there running c.if-self-2.false s.0 (subst (λ q. slice_get w.pools.cores.items q ≡ Some s.0) own s.1) c.args.came.now spare)

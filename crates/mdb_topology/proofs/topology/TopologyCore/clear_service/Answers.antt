@@ -3,7 +3,7 @@ use Rattle.mdb_log.specs.declared.reply.Reply.TheVariants.{Changed}
 use Rattle.mdb_pool.specs.Refusal.{wrong_service}
 use Rattle.mdb_topology.specs.Marking.{Clears}
 use Rattle.mdb_topology.proofs.ServiceClears.{service-refusal, service-follows}
-use Rattle.mdb_topology.proofs.Spent.{after-any, clear-accepted, not-both}
+use Rattle.mdb_topology.proofs.Spent.{clear-accepted, not-both}
 use Rattle.mdb_topology.proofs.Wants.{none-wants}
 use Rattle.mdb_topology.proofs.topology.TopologyCore.clear_service.Goals as goal
 
@@ -21,10 +21,10 @@ plan_clear-requires-clause-accepted c wanted s there =
     (not-both _ _ (sym (c.overspends_service.ensures s there) ∙ c.if-overspends_service.false) some)
 
 pub returns-in_err-plan_clear-clause-wants : goal.returns-in_err-plan_clear-clause-wants
-returns-in_err-plan_clear-clause-wants c = after-any _ _ (λ h s x z there here pool address error_is clearing.
+returns-in_err-plan_clear-clause-wants c = λ h s x z there here pool address error_is clearing.
     none-wants c.args.self.now.options h c.args.step.now
     (service-refusal c.args.self.now h z c.args.step.now c.requires.in_time c.requires.balanced c.args.place s there here x c.args.service c.args.error.now pool address error_is clearing false
-    (sym (c.overspends_service.ensures s there) ∙ c.if-overspends_service.false)))
+    (sym (c.overspends_service.ensures s there) ∙ c.if-overspends_service.false))
 
 pub returns-clause-becomes : goal.returns-clause-becomes
 returns-clause-becomes c h s x z there here pool address error_is clearing =

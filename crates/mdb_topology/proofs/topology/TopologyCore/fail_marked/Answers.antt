@@ -12,7 +12,7 @@ use Rattle.mdb_topology.specs.Failing.{asked_after, FailureTold}
 use Rattle.mdb_topology.specs.Standing.{at_address}
 use Rattle.mdb_topology.proofs.FailedActs.{marked-refusal, marked-follows}
 use Rattle.mdb_topology.proofs.Places.{some-same}
-use Rattle.mdb_topology.proofs.Spent.{after-any, clear-accepted, not-both}
+use Rattle.mdb_topology.proofs.Spent.{clear-accepted, not-both}
 use Rattle.mdb_topology.proofs.Wants.{none-wants}
 use Rattle.mdb_topology.proofs.topology.TopologyCore.fail_marked.Goals as goal
 
@@ -32,7 +32,7 @@ returns-then-overspends-clause-becomes c h s z there f =
     marked-refusal w h z step c.requires.in_time i s there e (c.requires.here s there) _ (asked_after e) f true spent
 
 pub returns-in_err-address-clause-wants : goal.returns-in_err-address-clause-wants
-returns-in_err-address-clause-wants c = after-any _ _ (λ h s z there f.
+returns-in_err-address-clause-wants c = λ h s z there f.
     let w = c.args.self.now in
     let t = w.description in
     let pools = w.pools.cores.items in
@@ -44,10 +44,10 @@ returns-in_err-address-clause-wants c = after-any _ _ (λ h s z there f.
     let at : c.address.result.now ≡ s.address = c.address.ensures ∙ ap (λ (u : PoolCore). u.address) (some-same p s (slice_get pools i) at_p there) in
     let spent : (is_some (difference t.servers (updated t (failed s.address e)).servers) && c.args.clears) && exhausted_now s None ≡ false =
     subst (λ a. (is_some (difference t.servers (updated t (failed a e)).servers) && c.args.clears) && exhausted_now s None ≡ false) at (sym (c.overspends.ensures s there) ∙ c.if-overspends.false) in
-    none-wants w.options h step (marked-refusal w h z step c.requires.in_time i s there e (c.requires.here s there) _ (asked_after e) f false spent))
+    none-wants w.options h step (marked-refusal w h z step c.requires.in_time i s there e (c.requires.here s there) _ (asked_after e) f false spent)
 
 pub returns-in_err-later-clause-wants : goal.returns-in_err-later-clause-wants
-returns-in_err-later-clause-wants c = after-any _ _ (λ h s z there f.
+returns-in_err-later-clause-wants c = λ h s z there f.
     let w = c.args.self.now in
     let t = w.description in
     let pools = w.pools.cores.items in
@@ -59,10 +59,10 @@ returns-in_err-later-clause-wants c = after-any _ _ (λ h s z there f.
     let at : c.address.result.now ≡ s.address = c.address.ensures ∙ ap (λ (u : PoolCore). u.address) (some-same p s (slice_get pools i) at_p there) in
     let spent : (is_some (difference t.servers (updated t (failed s.address e)).servers) && c.args.clears) && exhausted_now s None ≡ false =
     subst (λ a. (is_some (difference t.servers (updated t (failed a e)).servers) && c.args.clears) && exhausted_now s None ≡ false) at (sym (c.overspends.ensures s there) ∙ c.if-overspends.false) in
-    none-wants w.options h step (marked-refusal w h z step c.requires.in_time i s there e (c.requires.here s there) _ (asked_after e) f false spent))
+    none-wants w.options h step (marked-refusal w h z step c.requires.in_time i s there e (c.requires.here s there) _ (asked_after e) f false spent)
 
-pub returns-in-Err-clause-wants : goal.returns-in-Err-clause-wants
-returns-in-Err-clause-wants c = after-any _ _ (λ h s z there f.
+pub returns-clause-wants : goal.returns-clause-wants
+returns-clause-wants c = λ h s z there f.
     let w = c.args.self.now in
     let t = w.description in
     let pools = w.pools.cores.items in
@@ -74,17 +74,17 @@ returns-in-Err-clause-wants c = after-any _ _ (λ h s z there f.
     let at : c.address.result.now ≡ s.address = c.address.ensures ∙ ap (λ (u : PoolCore). u.address) (some-same p s (slice_get pools i) at_p there) in
     let spent : (is_some (difference t.servers (updated t (failed s.address e)).servers) && c.args.clears) && exhausted_now s None ≡ false =
     subst (λ a. (is_some (difference t.servers (updated t (failed a e)).servers) && c.args.clears) && exhausted_now s None ≡ false) at (sym (c.overspends.ensures s there) ∙ c.if-overspends.false) in
-    none-wants w.options h step (marked-refusal w h z step c.requires.in_time i s there e (c.requires.here s there) _ (asked_after e) f false spent))
+    none-wants w.options h step (marked-refusal w h z step c.requires.in_time i s there e (c.requires.here s there) _ (asked_after e) f false spent)
 
-pub tell_failure-requires-clause-here : goal.tell_failure-requires-clause-here
-tell_failure-requires-clause-here c =
+pub tell_failure-told-requires-clause-here : goal.tell_failure-told-requires-clause-here
+tell_failure-told-requires-clause-here c =
     let pools = c.args.self.now.pools.cores.items in
     let q = c.index-2.result.now in
     let at_q : slice_get pools c.args.place ≡ Some q = slice_get_read pools (length pools) c.args.place q refl c.requires.there c.index-2.ensures in
     subst (λ a. at_address pools a ≡ Some c.args.place) (sym (c.in_ok-address.ensures.cases ∙ c.address-2.ensures)) (c.requires.here q at_q)
 
-pub tell_failure-requires-clause-accepted : goal.tell_failure-requires-clause-accepted
-tell_failure-requires-clause-accepted c cleared s there =
+pub tell_failure-told-requires-clause-accepted : goal.tell_failure-told-requires-clause-accepted
+tell_failure-told-requires-clause-accepted c cleared s there =
     let w = c.args.self.now in
     let t = w.description in
     let pools = w.pools.cores.items in

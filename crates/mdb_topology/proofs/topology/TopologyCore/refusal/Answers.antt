@@ -10,4 +10,4 @@ returns-in-Refused-clause-why c h z =
 pub returns-in-Accepted-clause-why : goal.returns-in-Accepted-clause-why
 returns-in-Accepted-clause-why c h z =
     let f = subst (λ x. BecomesOf c.args.self.now c.args.step.now x h) c.in-Accepted.is (c.in_ok-why.ensures.becomes h z) in
-    sym (accepted-answer c.args.self.now.options h c.args.step.now c.in-Accepted.next.reply c.in-Accepted.next.facts.items f.answer_is f.fair)
+    sym (accepted-answer c.args.self.now.options h c.args.step.now c.in-Accepted.next.reply c.in-Accepted.next.facts.items f.answer_is f.accepted)

@@ -6,7 +6,6 @@ use Rattle.mdb_topology.specs.Checking.{Measures}
 use Rattle.mdb_topology.specs.Stepping.{is_here_among, Follows}
 use Rattle.mdb_topology.proofs.Sampling.{follows-away, follows-sample}
 use Rattle.mdb_topology.specs.Refusal.{may_want}
-use Rattle.mdb_topology.proofs.Spent.{after-any}
 use Rattle.mdb_topology.proofs.Updating.{passes-time}
 use Rattle.mdb_topology.proofs.Wants.{untroubled-wants}
 use Rattle.mdb_log.specs.declared.step.Act.TheVariants as Do
@@ -44,8 +43,8 @@ returns-clause-becomes c h z =
     c.in_ok-monitor.average measures (ap (λ q. Checked q y w.fresh) own) e.reply)
 
 pub returns-in_err-monitor-clause-wants : goal.returns-in_err-monitor-clause-wants
-returns-in_err-monitor-clause-wants c = after-any _ _ (λ h z.
+returns-in_err-monitor-clause-wants c = λ h z.
     let w = c.args.self.now in
     let m = c.args.step.now.moment in
     subst (λ v. may_want w.options h (record { moment = m; act = v }) ≡ true) (sym c.requires.act)
-    (untroubled-wants w h z (Do.Rtt c.args.address.now c.args.pool c.args.sample) m tt refl (passes-time w h z m c.requires.in_time (Do.Rtt c.args.address.now c.args.pool c.args.sample) (rw c.if-self.false refl)) refl refl))
+    (untroubled-wants w h z (Do.Rtt c.args.address.now c.args.pool c.args.sample) m tt refl (passes-time w h z m c.requires.in_time (Do.Rtt c.args.address.now c.args.pool c.args.sample) (rw c.if-self.false refl)) refl refl)
