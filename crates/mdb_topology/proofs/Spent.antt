@@ -1,5 +1,5 @@
 -- Where one more clear would take a generation past its limit, the pool refuses it, and else accepts it.
-use Rattle.std.proofs.Common.{ℕ, ◌≡◌, ◌≤◌, ◌<◌, ◌&&◌, Bool, true, false, not, if◌then◌else◌, List, length, Option, Some, None, is_some, is_none, nat_lt, refl, sym, ◌∙◌, ap, subst, arith}
+use Rattle.std.proofs.Common.{ℕ, ◌≡◌, ◌≤◌, ◌<◌, ◌&&◌, Bool, true, false, not, if◌then◌else◌, List, length, Option, Some, None, is_some, nat_lt, refl, sym, ◌∙◌, ap, subst, arith}
 use Rattle.std.specs.Prelude.{slice_get, nat_le, unwrap_or}
 use Rattle.std.specs.Result.{OnErr}
 use Rattle.std.proofs.lemmas.Bool.Decides.{nat_tests}
@@ -12,6 +12,8 @@ use Rattle.mdb_log.specs.declared.checked.BeatenResult.{BeatenResult}
 use Rattle.mdb_log.specs.declared.checked.BeatenResult.TheVariants as Beaten
 use Rattle.mdb_log.specs.declared.reply.Refused.TheVariants.{Exhausted}
 use Rattle.mdb_log.specs.declared.reply.What.TheVariants.{Generation}
+use Rattle.mdb_log.specs.declared.step.Step.{Step}
+use Rattle.mdb_log.specs.History.{Item}
 use Rattle.mdb_log.proofs.Addresses.{same-address}
 use Rattle.mdb_pool.specs.Core.{PoolCore}
 use Rattle.mdb_pool.specs.Kept.{clears_for, exhausted_now, is_shut}
@@ -21,20 +23,21 @@ use Rattle.mdb_topology.specs.declared.topology.TopologyCore.{TopologyCore}
 use Rattle.mdb_topology.specs.Acting.{step_of}
 use Rattle.mdb_topology.specs.Changing.{IsUntroubled}
 use Rattle.mdb_topology.specs.Marking.{check_spends, clear_act}
-use Rattle.mdb_topology.specs.Standing.{is_open_at, at_address, StandsForSome}
+use Rattle.mdb_topology.specs.Standing.{is_open_at, at_address, StandsFor, StandsForSome}
+use Rattle.mdb_topology.specs.Stepping.{MayWant}
 use Rattle.mdb_topology.proofs.Following.{early-later}
 use Rattle.mdb_topology.proofs.Lists.{at-place, position-at, position-within}
 use Rattle.mdb_topology.proofs.PlannedActs.{all-at}
-
--- something is there, or nothing
-pub none-some : {T : Type 0} (x : Option T) (b : Bool) → is_none x ≡ b → is_some x ≡ not b
-none-some None b e = ap not e
-none-some (Some v) b e = ap not e
 
 -- what holds whatever a call answers
 pub after-any : {T E : Type 0} (r : Result T E) (P : Type 0) → P → OnErr r P
 after-any (Ok x) P p = tt
 after-any (Err e) P p = p
+
+-- so it is where there may be no memory for a step
+pub wants-after : {T E : Type 0} (w : TopologyCore) (step : Step) (r : Result T E) → ((h : List Item) → StandsFor w h → MayWant w step h) → OnErr r ((h : List Item) → StandsFor w h → MayWant w step h)
+wants-after w step (Ok x) p = tt
+wants-after w step (Err e) p = p
 
 -- three tests, whichever comes first
 pub three-tests : (b c d : Bool) → b && (c && d) ≡ (d && b) && c

@@ -12,6 +12,7 @@ use Rattle.mdb_topology.specs.Refusal.{may_want, refusal}
 use Rattle.mdb_topology.specs.Stepping.{Follows}
 use Rattle.mdb_topology.proofs.Beating.{beat-fresh, beat-past, beat-wants, follows-beat}
 use Rattle.mdb_topology.proofs.Places.{some-same}
+use Rattle.mdb_topology.proofs.Spent.{wants-after}
 use Rattle.mdb_topology.proofs.topology.TopologyCore.beat.Goals as goal
 
 pub returns-then-is_past_limit-clause-becomes : goal.returns-then-is_past_limit-clause-becomes
@@ -79,7 +80,7 @@ returns-in-Ok-clause-becomes c h z =
     (subst (λ q. c.in_ok-numbers.numbers ≡ w.fresh + one_if (not (is_connected h q))) own (c.in_ok-numbers.ensures h z)))
 
 pub returns-in_err-numbers-clause-wants : goal.returns-in_err-numbers-clause-wants
-returns-in_err-numbers-clause-wants c = λ h z.
+returns-in_err-numbers-clause-wants c = wants-after c.args.self.now c.args.step.now _ (λ h z.
     let w = c.args.self.now in
     let m = c.args.step.now.moment in
     let a = c.args.address.now in
@@ -92,10 +93,10 @@ returns-in_err-numbers-clause-wants c = λ h z.
     let numbered : c.number_for-number.result ≡ fresh_for h p = c.number_for-number.ensures h z ∙ ap (fresh_for h) own in
     let fresh : nat_lt (number_limit w.options) (fresh_for h p) ≡ false = ap (nat_lt (number_limit w.options)) (sym numbered) ∙ sym c.if-is_past_limit.ensures.past in
     subst (λ v. may_want w.options h (record { moment = m; act = v }) ≡ true) (sym c.requires.act)
-    (beat-wants w h z m c.requires.in_time a p (sym c.in-Some.ensures.here) idle c.if-self.false fresh)
+    (beat-wants w h z m c.requires.in_time a p (sym c.in-Some.ensures.here) idle c.if-self.false fresh))
 
 pub returns-in_err-monitor-clause-wants : goal.returns-in_err-monitor-clause-wants
-returns-in_err-monitor-clause-wants c = λ h z.
+returns-in_err-monitor-clause-wants c = wants-after c.args.self.now c.args.step.now _ (λ h z.
     let w = c.args.self.now in
     let m = c.args.step.now.moment in
     let a = c.args.address.now in
@@ -108,7 +109,7 @@ returns-in_err-monitor-clause-wants c = λ h z.
     let numbered : c.number_for-number.result ≡ fresh_for h p = c.number_for-number.ensures h z ∙ ap (fresh_for h) own in
     let fresh : nat_lt (number_limit w.options) (fresh_for h p) ≡ false = ap (nat_lt (number_limit w.options)) (sym numbered) ∙ sym c.if-is_past_limit.ensures.past in
     subst (λ v. may_want w.options h (record { moment = m; act = v }) ≡ true) (sym c.requires.act)
-    (beat-wants w h z m c.requires.in_time a p (sym c.in-Some.ensures.here) idle c.if-self.false fresh)
+    (beat-wants w h z m c.requires.in_time a p (sym c.in-Some.ensures.here) idle c.if-self.false fresh))
 
 pub returns-in-Err-clause-wants : goal.returns-in-Err-clause-wants
 returns-in-Err-clause-wants c = λ h z.

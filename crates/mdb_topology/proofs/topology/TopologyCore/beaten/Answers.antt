@@ -1,4 +1,4 @@
-use Rattle.std.proofs.Common.{List, ◌≡◌, ◌∙◌, ◌&&◌, Bool, not, is_some, length, slice_get, true, false, None, Some, sym, refl, ap, subst}
+use Rattle.std.proofs.Common.{◌≡◌, ◌∙◌, ◌&&◌, Bool, not, is_some, length, slice_get, true, false, None, Some, sym, refl, ap, subst}
 use Rattle.std.proofs.lemmas.Option.{slice_get_read}
 use Rattle.std.proofs.lemmas.Result.{IfOk-weaker}
 use Rattle.mdb_describe.specs.Descriptions.{failed}
@@ -24,11 +24,8 @@ use Rattle.mdb_topology.proofs.Ending.{follows-beaten-away, beaten-idle, beaten-
 use Rattle.mdb_topology.proofs.FailedChecks.{here-at, untroubled-else, its_trouble, failure-of-pool, failure-told}
 use Rattle.mdb_topology.proofs.SpentChecks.{check-spent, check-wants}
 use Rattle.mdb_topology.proofs.Lists.{position-within}
-use Rattle.mdb_topology.proofs.Spent.{after-any, clear-accepted, not-both, some-place}
+use Rattle.mdb_topology.proofs.Spent.{wants-after, clear-accepted, not-both, some-place}
 use Rattle.mdb_topology.proofs.Places.{some-same}
-use Rattle.mdb_log.specs.History.{Item}
-use Rattle.mdb_topology.specs.Standing.{StandsFor}
-use Rattle.mdb_topology.specs.Stepping.{MayWant}
 use Rattle.mdb_topology.proofs.topology.TopologyCore.beaten.Goals as goal
 
 pub returns-in_default-clause-becomes : goal.returns-in_default-clause-becomes
@@ -101,7 +98,7 @@ with_end-requires-clause-running c x at_i =
     subst (λ v. runs v ≡ true) (some-same s x (slice_get ms c.in-Some.index) here at_i) (sym c.if-not-running.ensures.machine)
 
 pub returns-in_err-monitor-clause-wants : goal.returns-in_err-monitor-clause-wants
-returns-in_err-monitor-clause-wants c = λ h z.
+returns-in_err-monitor-clause-wants c = wants-after c.args.self.now c.args.step.now _ (λ h z.
     let w = c.args.self.now in
     let m = c.args.step.now.moment in
     let a = c.args.address.now in
@@ -116,7 +113,7 @@ returns-in_err-monitor-clause-wants c = λ h z.
     let s = some-place w.pools.cores.items a c.in-Some.index here in
     let spare : check_spends w s.0 a c.args.came.now ≡ false = sym (c.overspends_by_check.ensures s.0 s.1) ∙ c.if-overspends_by_check.false in
     subst (λ v. may_want w.options h (record { moment = m; act = v }) ≡ true) (sym c.requires.act)
-    (check-wants w h z m c.requires.in_time a p c.args.duration there running c.if-self-2.false s.0 (subst (λ q. slice_get w.pools.cores.items q ≡ Some s.0) own s.1) c.args.came.now spare)
+    (check-wants w h z m c.requires.in_time a p c.args.duration there running c.if-self-2.false s.0 (subst (λ q. slice_get w.pools.cores.items q ≡ Some s.0) own s.1) c.args.came.now spare))
 
 pub returns-in-Ok-clause-becomes : goal.returns-in-Ok-clause-becomes
 returns-in-Ok-clause-becomes c =
@@ -139,8 +136,7 @@ returns-in-Ok-clause-becomes c =
     (subst (λ q. ConcludesAs w m (Checked q y w.fresh) f.event c.in-Ok.later stepped) own r))) c.conclude.ensures.concludes
 
 pub returns-in-Ok-clause-wants : goal.returns-in-Ok-clause-wants
-returns-in-Ok-clause-wants c =
-    let wants : (h : List Item) → StandsFor c.args.self.now h → MayWant c.args.self.now c.args.step.now h = (λ h z.
+returns-in-Ok-clause-wants c = wants-after c.args.self.now c.args.step.now _ (λ h z.
     let w = c.args.self.now in
     let m = c.args.step.now.moment in
     let a = c.args.address.now in
@@ -155,8 +151,7 @@ returns-in-Ok-clause-wants c =
     let s = some-place w.pools.cores.items a c.in-Some.index here in
     let spare : check_spends w s.0 a c.args.came.now ≡ false = sym (c.overspends_by_check.ensures s.0 s.1) ∙ c.if-overspends_by_check.false in
     subst (λ v. may_want w.options h (record { moment = m; act = v }) ≡ true) (sym c.requires.act)
-    (check-wants w h z m c.requires.in_time a p c.args.duration there running c.if-self-2.false s.0 (subst (λ q. slice_get w.pools.cores.items q ≡ Some s.0) own s.1) c.args.came.now spare)) in
-    after-any c.conclude.result _ wants
+    (check-wants w h z m c.requires.in_time a p c.args.duration there running c.if-self-2.false s.0 (subst (λ q. slice_get w.pools.cores.items q ≡ Some s.0) own s.1) c.args.came.now spare))
 
 
 pub returns-in-Err-after_check-clause-wants : goal.returns-in-Err-after_check-clause-wants
@@ -211,14 +206,14 @@ returns-in-Err-clause-becomes c h z =
     let at_i : slice_get ms c.in-Some.index ≡ Some x = slice_get_read ms (length ms) c.in-Some.index x refl c.in-Some.ensures.within c.index.ensures in
     let ends : Ends x y d (check_result a (Err e)) f = subst (λ v. Ends x y d (check_result a v) f) came (c.in_ok-monitor.ensures x at_i) in
     let met = its_trouble w h z m c.requires.in_time a p d e there running c.if-self-2.false in
-    subst (λ v. Follows w _ (record { moment = m; act = v }) h) (sym c.requires.act)
-    (subst (λ v. Follows w _ (record { moment = m; act = Beaten a p d v }) h) (sym came)
-    (failure-told w h z m c.requires.in_time a p d e there running c.if-self-2.false x y f at_p ends _
+    subst (λ v. Follows w c.in_ok-next.next (record { moment = m; act = v }) h) (sym c.requires.act)
+    (subst (λ v. Follows w c.in_ok-next.next (record { moment = m; act = Beaten a p d v }) h) (sym came)
+    (failure-told w h z m c.requires.in_time a p d e there running c.if-self-2.false x y f at_p ends c.in_ok-next.next
     (subst (λ q. FailsAs w m (Checked q y w.fresh) f.event (updated w.description (failed a e)) met c.in_ok-next.next) own
     (c.in_ok-next.ensures.fails met (subst (λ q. IsOfPool w.options met q a e true Nothing) (sym own) (failure-of-pool w h z m c.requires.in_time a p d e there running c.if-self-2.false))))))
 
 pub returns-in_err-next-clause-wants : goal.returns-in_err-next-clause-wants
-returns-in_err-next-clause-wants c = λ h z.
+returns-in_err-next-clause-wants c = wants-after c.args.self.now c.args.step.now _ (λ h z.
     let w = c.args.self.now in
     let m = c.args.step.now.moment in
     let a = c.args.address.now in
@@ -233,4 +228,4 @@ returns-in_err-next-clause-wants c = λ h z.
     let s = some-place w.pools.cores.items a c.in-Some.index here in
     let spare : check_spends w s.0 a c.args.came.now ≡ false = sym (c.overspends_by_check.ensures s.0 s.1) ∙ c.if-overspends_by_check.false in
     subst (λ v. may_want w.options h (record { moment = m; act = v }) ≡ true) (sym c.requires.act)
-    (check-wants w h z m c.requires.in_time a p c.args.duration there running c.if-self-2.false s.0 (subst (λ q. slice_get w.pools.cores.items q ≡ Some s.0) own s.1) c.args.came.now spare)
+    (check-wants w h z m c.requires.in_time a p c.args.duration there running c.if-self-2.false s.0 (subst (λ q. slice_get w.pools.cores.items q ≡ Some s.0) own s.1) c.args.came.now spare))

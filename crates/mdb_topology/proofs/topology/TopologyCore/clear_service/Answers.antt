@@ -1,10 +1,16 @@
-use Rattle.std.proofs.Common.{◌≡◌, [], true, false, not, Some, None, is_some, sym, ◌∙◌, ap, subst, refl}
+use Rattle.std.proofs.Common.{List, ◌≡◌, [], true, false, not, Some, None, is_some, sym, ◌∙◌, ap, subst, refl}
 use Rattle.mdb_log.specs.declared.reply.Reply.TheVariants.{Changed}
 use Rattle.mdb_pool.specs.Refusal.{wrong_service}
-use Rattle.mdb_topology.specs.Marking.{Clears}
+use Rattle.mdb_topology.specs.Marking.{Clears, IsClearing}
 use Rattle.mdb_topology.proofs.ServiceClears.{service-refusal, service-follows}
-use Rattle.mdb_topology.proofs.Spent.{clear-accepted, not-both}
+use Rattle.mdb_topology.proofs.Spent.{after-any, clear-accepted, not-both}
 use Rattle.mdb_topology.proofs.Wants.{none-wants}
+use Rattle.std.specs.Prelude.{slice_get}
+use Rattle.mdb_log.specs.History.{Item}
+use Rattle.mdb_pool.specs.Core.{PoolCore}
+use Rattle.mdb_topology.specs.Errors.{Trouble, for_service}
+use Rattle.mdb_topology.specs.Standing.{at_address, StandsFor}
+use Rattle.mdb_topology.specs.Stepping.{MayWant}
 use Rattle.mdb_topology.proofs.topology.TopologyCore.clear_service.Goals as goal
 
 pub returns-then-overspends_service-clause-becomes : goal.returns-then-overspends_service-clause-becomes
@@ -21,10 +27,13 @@ plan_clear-requires-clause-accepted c wanted s there =
     (not-both _ _ (sym (c.overspends_service.ensures s there) ∙ c.if-overspends_service.false) some)
 
 pub returns-in_err-plan_clear-clause-wants : goal.returns-in_err-plan_clear-clause-wants
-returns-in_err-plan_clear-clause-wants c = λ h s x z there here pool address error_is clearing.
+returns-in_err-plan_clear-clause-wants c = after-any _
+    ((h : List Item) (s : PoolCore) (x : Trouble) → StandsFor c.args.self.now h → slice_get c.args.self.now.pools.cores.items c.args.place ≡ Some s → at_address c.args.self.now.pools.cores.items s.address ≡ Some c.args.place → x.pool ≡ s.pool → x.address ≡ s.address → x.error ≡ c.args.error.now
+    → IsClearing c.args.self.now h c.args.step.now x (for_service c.args.service) → MayWant c.args.self.now c.args.step.now h)
+    (λ h s x z there here pool address error_is clearing.
     none-wants c.args.self.now.options h c.args.step.now
     (service-refusal c.args.self.now h z c.args.step.now c.requires.in_time c.requires.balanced c.args.place s there here x c.args.service c.args.error.now pool address error_is clearing false
-    (sym (c.overspends_service.ensures s there) ∙ c.if-overspends_service.false))
+    (sym (c.overspends_service.ensures s there) ∙ c.if-overspends_service.false)))
 
 pub returns-clause-becomes : goal.returns-clause-becomes
 returns-clause-becomes c h s x z there here pool address error_is clearing =

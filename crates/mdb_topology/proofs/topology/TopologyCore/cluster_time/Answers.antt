@@ -10,6 +10,7 @@ use Rattle.mdb_topology.proofs.FollowingQuiet.{follows-quiet}
 use Rattle.mdb_topology.specs.Refusal.{may_want}
 use Rattle.mdb_topology.proofs.Wants.{untroubled-wants}
 use Rattle.mdb_log.specs.declared.step.Act.TheVariants as Do
+use Rattle.mdb_topology.proofs.Spent.{wants-after}
 use Rattle.mdb_topology.proofs.topology.TopologyCore.cluster_time.Goals as goal
 
 pub returns-then-self-clause-becomes : goal.returns-then-self-clause-becomes
@@ -32,8 +33,8 @@ returns-clause-becomes c h z =
     follows-quiet w h z c.args.step.now c.requires.in_time n e.changes e.facts e.monitors e.monitoring (subst IsPlain (sym e.reply) tt) (ap (λ u. u.servers) c.in_ok-later.ensures) (as-next changing (ap Some c.in_ok-later.ensures) e.reply e.stops)
 
 pub returns-in_err-later-clause-wants : goal.returns-in_err-later-clause-wants
-returns-in_err-later-clause-wants c = λ h z.
+returns-in_err-later-clause-wants c = wants-after c.args.self.now c.args.step.now _ (λ h z.
     let w = c.args.self.now in
     let m = c.args.step.now.moment in
     subst (λ v. may_want w.options h (record { moment = m; act = v }) ≡ true) (sym c.requires.act)
-    (untroubled-wants w h z (Do.ClusterTime c.args.time) m tt refl (passes-time w h z m c.requires.in_time (Do.ClusterTime c.args.time) refl) refl refl)
+    (untroubled-wants w h z (Do.ClusterTime c.args.time) m tt refl (passes-time w h z m c.requires.in_time (Do.ClusterTime c.args.time) refl) refl refl))

@@ -1,4 +1,4 @@
-use Rattle.std.proofs.Common.{◌≡◌, ◌&&◌, true, false, length, Some, None, is_some, refl, sym, ◌∙◌, ap, subst}
+use Rattle.std.proofs.Common.{List, ◌≡◌, ◌&&◌, true, false, length, Some, None, is_some, refl, sym, ◌∙◌, ap, subst}
 use Rattle.std.specs.Prelude.{slice_get}
 use Rattle.std.proofs.lemmas.Option.{slice_get_read}
 use Rattle.mdb_base.specs.declared.address.ServerAddress.{ServerAddress}
@@ -8,12 +8,15 @@ use Rattle.mdb_describe.specs.Update.{updated}
 use Rattle.mdb_pool.specs.Core.{PoolCore}
 use Rattle.mdb_pool.specs.Kept.{exhausted_now}
 use Rattle.mdb_pool.specs.Refusal.{wrong_service}
-use Rattle.mdb_topology.specs.Failing.{asked_after, FailureTold}
-use Rattle.mdb_topology.specs.Standing.{at_address}
+use Rattle.mdb_topology.specs.Failing.{asked_after, FailureTold, TellsFailure}
+use Rattle.mdb_topology.specs.Standing.{at_address, StandsFor}
 use Rattle.mdb_topology.proofs.FailedActs.{marked-refusal, marked-follows}
 use Rattle.mdb_topology.proofs.Places.{some-same}
-use Rattle.mdb_topology.proofs.Spent.{clear-accepted, not-both}
+use Rattle.mdb_topology.proofs.Spent.{after-any, clear-accepted, not-both}
 use Rattle.mdb_topology.proofs.Wants.{none-wants}
+use Rattle.mdb_log.specs.History.{Item}
+use Rattle.mdb_topology.specs.Description.{updates}
+use Rattle.mdb_topology.specs.Stepping.{MayWant}
 use Rattle.mdb_topology.proofs.topology.TopologyCore.fail_marked.Goals as goal
 
 pub returns-then-overspends-clause-becomes : goal.returns-then-overspends-clause-becomes
@@ -32,7 +35,11 @@ returns-then-overspends-clause-becomes c h s z there f =
     marked-refusal w h z step c.requires.in_time i s there e (c.requires.here s there) _ (asked_after e) f true spent
 
 pub returns-in_err-address-clause-wants : goal.returns-in_err-address-clause-wants
-returns-in_err-address-clause-wants c = λ h s z there f.
+returns-in_err-address-clause-wants c = after-any _
+    ((h : List Item) (s : PoolCore) → StandsFor c.args.self.now h → slice_get c.args.self.now.pools.cores.items c.args.place ≡ Some s
+    → TellsFailure c.args.self.now.options h c.args.step.now s (Some (updates (failed s.address c.args.error.now))) (is_some (difference c.args.self.now.description.servers (updated c.args.self.now.description (failed s.address c.args.error.now)).servers) && c.args.clears) None c.args.error.now (asked_after c.args.error.now)
+    → MayWant c.args.self.now c.args.step.now h)
+    (λ h s z there f.
     let w = c.args.self.now in
     let t = w.description in
     let pools = w.pools.cores.items in
@@ -44,10 +51,14 @@ returns-in_err-address-clause-wants c = λ h s z there f.
     let at : c.address.result.now ≡ s.address = c.address.ensures ∙ ap (λ (u : PoolCore). u.address) (some-same p s (slice_get pools i) at_p there) in
     let spent : (is_some (difference t.servers (updated t (failed s.address e)).servers) && c.args.clears) && exhausted_now s None ≡ false =
     subst (λ a. (is_some (difference t.servers (updated t (failed a e)).servers) && c.args.clears) && exhausted_now s None ≡ false) at (sym (c.overspends.ensures s there) ∙ c.if-overspends.false) in
-    none-wants w.options h step (marked-refusal w h z step c.requires.in_time i s there e (c.requires.here s there) _ (asked_after e) f false spent)
+    none-wants w.options h step (marked-refusal w h z step c.requires.in_time i s there e (c.requires.here s there) _ (asked_after e) f false spent))
 
 pub returns-in_err-later-clause-wants : goal.returns-in_err-later-clause-wants
-returns-in_err-later-clause-wants c = λ h s z there f.
+returns-in_err-later-clause-wants c = after-any _
+    ((h : List Item) (s : PoolCore) → StandsFor c.args.self.now h → slice_get c.args.self.now.pools.cores.items c.args.place ≡ Some s
+    → TellsFailure c.args.self.now.options h c.args.step.now s (Some (updates (failed s.address c.args.error.now))) (is_some (difference c.args.self.now.description.servers (updated c.args.self.now.description (failed s.address c.args.error.now)).servers) && c.args.clears) None c.args.error.now (asked_after c.args.error.now)
+    → MayWant c.args.self.now c.args.step.now h)
+    (λ h s z there f.
     let w = c.args.self.now in
     let t = w.description in
     let pools = w.pools.cores.items in
@@ -59,7 +70,7 @@ returns-in_err-later-clause-wants c = λ h s z there f.
     let at : c.address.result.now ≡ s.address = c.address.ensures ∙ ap (λ (u : PoolCore). u.address) (some-same p s (slice_get pools i) at_p there) in
     let spent : (is_some (difference t.servers (updated t (failed s.address e)).servers) && c.args.clears) && exhausted_now s None ≡ false =
     subst (λ a. (is_some (difference t.servers (updated t (failed a e)).servers) && c.args.clears) && exhausted_now s None ≡ false) at (sym (c.overspends.ensures s there) ∙ c.if-overspends.false) in
-    none-wants w.options h step (marked-refusal w h z step c.requires.in_time i s there e (c.requires.here s there) _ (asked_after e) f false spent)
+    none-wants w.options h step (marked-refusal w h z step c.requires.in_time i s there e (c.requires.here s there) _ (asked_after e) f false spent))
 
 pub returns-clause-wants : goal.returns-clause-wants
 returns-clause-wants c = λ h s z there f.

@@ -1,10 +1,15 @@
-use Rattle.std.proofs.Common.{◌≡◌, [], true, false, not, Some, None, is_some, sym, ◌∙◌, ap, subst}
+use Rattle.std.proofs.Common.{List, ◌≡◌, [], true, false, not, Some, None, is_some, sym, ◌∙◌, ap, subst}
 use Rattle.mdb_pool.specs.Refusal.{wrong_service}
 use Rattle.mdb_topology.specs.declared.marked.Asked.TheVariants.{Nothing}
-use Rattle.mdb_topology.specs.Failing.{Fails}
+use Rattle.mdb_topology.specs.Failing.{Fails, TellsFailure}
 use Rattle.mdb_topology.proofs.FailedActs.{still-at, unmarked-refusal, unmarked-follows}
-use Rattle.mdb_topology.proofs.Spent.{clear-accepted, not-both}
+use Rattle.mdb_topology.proofs.Spent.{after-any, clear-accepted, not-both}
 use Rattle.mdb_topology.proofs.Wants.{none-wants}
+use Rattle.std.specs.Prelude.{slice_get}
+use Rattle.mdb_log.specs.History.{Item}
+use Rattle.mdb_pool.specs.Core.{PoolCore}
+use Rattle.mdb_topology.specs.Standing.{StandsFor}
+use Rattle.mdb_topology.specs.Stepping.{MayWant}
 use Rattle.mdb_topology.proofs.topology.TopologyCore.fail_unmarked.Goals as goal
 
 pub returns-then-overspends_service-clause-becomes : goal.returns-then-overspends_service-clause-becomes
@@ -23,9 +28,12 @@ plan_failure-requires-clause-accepted c wanted s there =
     (not-both _ _ (sym (c.overspends_service.ensures s there) ∙ c.if-overspends_service.false) some)
 
 pub returns-in_err-plan_failure-clause-wants : goal.returns-in_err-plan_failure-clause-wants
-returns-in_err-plan_failure-clause-wants c = λ h s z there f.
+returns-in_err-plan_failure-clause-wants c = after-any _
+    ((h : List Item) (s : PoolCore) → StandsFor c.args.self.now h → slice_get c.args.self.now.pools.cores.items c.args.place ≡ Some s → TellsFailure c.args.self.now.options h c.args.step.now s None (is_some c.args.service) c.args.service c.args.error.now Nothing
+    → MayWant c.args.self.now c.args.step.now h)
+    (λ h s z there f.
     none-wants c.args.self.now.options h c.args.step.now
-    (unmarked-refusal c.args.self.now h z c.args.step.now c.requires.in_time c.args.place s there c.args.error.now _ c.args.service f false (sym (c.overspends_service.ensures s there) ∙ c.if-overspends_service.false))
+    (unmarked-refusal c.args.self.now h z c.args.step.now c.requires.in_time c.args.place s there c.args.error.now _ c.args.service f false (sym (c.overspends_service.ensures s there) ∙ c.if-overspends_service.false)))
 
 pub returns-clause-becomes : goal.returns-clause-becomes
 returns-clause-becomes c h s z there f =

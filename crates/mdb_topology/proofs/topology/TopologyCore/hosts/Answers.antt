@@ -1,4 +1,4 @@
-use Rattle.std.proofs.Common.{List, ◌∙◌, [], None, false, sym, subst, refl, ◌≡◌, true}
+use Rattle.std.proofs.Common.{◌∙◌, [], None, false, sym, subst, refl, ◌≡◌, true}
 use Rattle.std.proofs.lemmas.Result.{IfOk-weaker}
 use Rattle.mdb_log.specs.declared.reply.Reply.TheVariants.{Changed}
 use Rattle.mdb_describe.specs.Topology.{synced}
@@ -8,13 +8,10 @@ use Rattle.mdb_topology.proofs.Same.{IsPlain}
 use Rattle.mdb_topology.proofs.Updating.{hosts-updating, hosts-resting, passes-time}
 use Rattle.mdb_topology.proofs.FollowingQuiet.{follows-quiet}
 use Rattle.mdb_topology.proofs.MakesKnown.{changes-become, spared-update}
-use Rattle.mdb_topology.proofs.Spent.{after-any}
+use Rattle.mdb_topology.proofs.Spent.{wants-after}
 use Rattle.mdb_topology.proofs.Wants.{none-wants}
 use Rattle.mdb_topology.specs.declared.next.Stepped.TheVariants.{Refused}
 use Rattle.mdb_log.specs.declared.reply.Refused.TheVariants.{Exhausted}
-use Rattle.mdb_log.specs.History.{Item}
-use Rattle.mdb_topology.specs.Standing.{StandsFor}
-use Rattle.mdb_topology.specs.Stepping.{MayWant}
 use Rattle.mdb_topology.proofs.topology.TopologyCore.hosts.Goals as goal
 
 pub returns-then-leaves_hosts-clause-becomes : goal.returns-then-leaves_hosts-clause-becomes
@@ -47,7 +44,7 @@ returns-in-Some-clause-becomes c h z =
     (Refused (Exhausted c.in-Some.what)) (c.in-Some.what, refl, sym c.in-Some.ensures)
 
 pub returns-in_err-later-clause-wants : goal.returns-in_err-later-clause-wants
-returns-in_err-later-clause-wants c = λ h z.
+returns-in_err-later-clause-wants c = wants-after c.args.self.now c.args.step.now _ (λ h z.
     let w = c.args.self.now in
     let m = c.args.step.now.moment in
     let left = sym c.leaves_hosts.ensures ∙ c.if-leaves_hosts.false in
@@ -55,11 +52,10 @@ returns-in_err-later-clause-wants c = λ h z.
     (spared-update w h z c.args.step.now c.requires.in_time (synced c.args.hosts.now w.description)
     (subst (λ a. IsUpdating w h (record { moment = m; act = a }) (synced c.args.hosts.now w.description)) (sym c.requires.act)
     (hosts-updating w h z m c.requires.in_time c.args.hosts.now left))
-    (sym c.exhausted_by.ensures ∙ c.in_default.is))
+    (sym c.exhausted_by.ensures ∙ c.in_default.is)))
 
 pub returns-clause-wants : goal.returns-clause-wants
-returns-clause-wants c =
-    let wants : (h : List Item) → StandsFor c.args.self.now h → MayWant c.args.self.now c.args.step.now h = (λ h z.
+returns-clause-wants c = wants-after c.args.self.now c.args.step.now _ (λ h z.
     let w = c.args.self.now in
     let m = c.args.step.now.moment in
     let left = sym c.leaves_hosts.ensures ∙ c.if-leaves_hosts.false in
@@ -67,5 +63,4 @@ returns-clause-wants c =
     (spared-update w h z c.args.step.now c.requires.in_time (synced c.args.hosts.now w.description)
     (subst (λ a. IsUpdating w h (record { moment = m; act = a }) (synced c.args.hosts.now w.description)) (sym c.requires.act)
     (hosts-updating w h z m c.requires.in_time c.args.hosts.now left))
-    (sym c.exhausted_by.ensures ∙ c.in_default.is))) in
-    after-any c.change.result _ wants
+    (sym c.exhausted_by.ensures ∙ c.in_default.is)))

@@ -9,11 +9,11 @@ use Rattle.mdb_pool.specs.Core.{PoolCore}
 use Rattle.mdb_pool.specs.Kept.{exhausted_now}
 use Rattle.mdb_pool.specs.Refusal.{wrong_service}
 use Rattle.mdb_topology.specs.Errors.{Trouble}
-use Rattle.mdb_topology.specs.Marking.{IsMarked, IsOfPool}
+use Rattle.mdb_topology.specs.Marking.{IsMarked, IsOfPool, MarkPasses}
 use Rattle.mdb_topology.specs.Standing.{at_address}
 use Rattle.mdb_topology.proofs.MarkBecoming.{mark-passes}
 use Rattle.mdb_topology.proofs.Places.{some-same}
-use Rattle.mdb_topology.proofs.Spent.{clear-accepted, not-both}
+use Rattle.mdb_topology.proofs.Spent.{after-any, clear-accepted, not-both}
 use Rattle.mdb_topology.proofs.topology.TopologyCore.mark.Goals as goal
 
 pub returns-then-overspends-clause-marks : goal.returns-then-overspends-clause-marks
@@ -30,7 +30,10 @@ returns-then-overspends-clause-marks c s x there of =
     (refl, mark-passes w c.requires.stands c.args.step.now.moment c.requires.in_time s.address e x c.args.place (c.requires.here s there) _ refl c.args.clears c.args.asked of s there true spent)
 
 pub returns-in_err-address-clause-spares : goal.returns-in_err-address-clause-spares
-returns-in_err-address-clause-spares c = λ s x there of.
+returns-in_err-address-clause-spares c = after-any _
+    ((s : PoolCore) (x : Trouble) → slice_get c.args.self.now.pools.cores.items c.args.place ≡ Some s → IsOfPool c.args.self.now.options x c.args.place s.address c.args.error.now c.args.clears c.args.asked
+    → MarkPasses c.args.self.now c.args.step.now.moment (updated c.args.self.now.description (failed s.address c.args.error.now)) x None)
+    (λ s x there of.
     let w = c.args.self.now in
     let t = w.description in
     let e = c.args.error.now in
@@ -40,10 +43,13 @@ returns-in_err-address-clause-spares c = λ s x there of.
     let at : c.address.result.now ≡ s.address = c.address.ensures ∙ ap (λ (u : PoolCore). u.address) (some-same p s (slice_get pools c.args.place) at_p there) in
     let spare : (is_some (difference t.servers (updated t (failed s.address e)).servers) && c.args.clears) && exhausted_now s None ≡ false =
     subst (λ a. (is_some (difference t.servers (updated t (failed a e)).servers) && c.args.clears) && exhausted_now s None ≡ false) at (sym (c.overspends.ensures s there) ∙ c.if-overspends.false) in
-    mark-passes w c.requires.stands c.args.step.now.moment c.requires.in_time s.address e x c.args.place (c.requires.here s there) _ refl c.args.clears c.args.asked of s there false spare
+    mark-passes w c.requires.stands c.args.step.now.moment c.requires.in_time s.address e x c.args.place (c.requires.here s there) _ refl c.args.clears c.args.asked of s there false spare)
 
 pub returns-in_err-next-clause-spares : goal.returns-in_err-next-clause-spares
-returns-in_err-next-clause-spares c = λ s x there of.
+returns-in_err-next-clause-spares c = after-any _
+    ((s : PoolCore) (x : Trouble) → slice_get c.args.self.now.pools.cores.items c.args.place ≡ Some s → IsOfPool c.args.self.now.options x c.args.place s.address c.args.error.now c.args.clears c.args.asked
+    → MarkPasses c.args.self.now c.args.step.now.moment (updated c.args.self.now.description (failed s.address c.args.error.now)) x None)
+    (λ s x there of.
     let w = c.args.self.now in
     let t = w.description in
     let e = c.args.error.now in
@@ -53,7 +59,7 @@ returns-in_err-next-clause-spares c = λ s x there of.
     let at : c.address.result.now ≡ s.address = c.address.ensures ∙ ap (λ (u : PoolCore). u.address) (some-same p s (slice_get pools c.args.place) at_p there) in
     let spare : (is_some (difference t.servers (updated t (failed s.address e)).servers) && c.args.clears) && exhausted_now s None ≡ false =
     subst (λ a. (is_some (difference t.servers (updated t (failed a e)).servers) && c.args.clears) && exhausted_now s None ≡ false) at (sym (c.overspends.ensures s there) ∙ c.if-overspends.false) in
-    mark-passes w c.requires.stands c.args.step.now.moment c.requires.in_time s.address e x c.args.place (c.requires.here s there) _ refl c.args.clears c.args.asked of s there false spare
+    mark-passes w c.requires.stands c.args.step.now.moment c.requires.in_time s.address e x c.args.place (c.requires.here s there) _ refl c.args.clears c.args.asked of s there false spare)
 
 pub mark_at-requires-clause-here : goal.mark_at-requires-clause-here
 mark_at-requires-clause-here c =

@@ -1,7 +1,9 @@
-use Rattle.std.proofs.Common.{◌≡◌, ◌&&◌, not, false, true, sym, ◌∙◌, ap}
-use Rattle.mdb_log.specs.declared.checked.BeatenResult.{BeatenResult}
+use Rattle.std.proofs.Common.{◌≡◌, ◌&&◌, Bool, None, not, is_some, false, true, sym, ◌∙◌, ap}
+use Rattle.mdb_describe.specs.Descriptions.{failed}
+use Rattle.mdb_describe.specs.Differences.{difference}
+use Rattle.mdb_describe.specs.Update.{updated}
 use Rattle.mdb_log.specs.declared.checked.BeatenResult.TheVariants.{Err}
-use Rattle.mdb_pool.specs.Core.{PoolCore}
+use Rattle.mdb_pool.specs.Kept.{exhausted_now}
 use Rattle.mdb_topology.specs.Marking.{check_spends}
 use Rattle.mdb_topology.proofs.FailedChecks.{untroubled-else}
 use Rattle.mdb_topology.proofs.Spent.{untroubled-spends}
@@ -12,10 +14,16 @@ returns-in_default c s there = sym (untroubled-spends c.args.self.now s c.args.a
 
 pub returns-then-self : goal.returns-then-self
 returns-then-self c s there =
-    let came : c.args.came.now ≡ Err c.get.result.now = c.in-Err.is ∙ ap Err (sym c.get.ensures) in
-    sym (ap (check_spends c.args.self.now s c.args.address.now) c.in-Err.is ∙ ap (λ b. not b && _) c.if-self.true)
+    let w = c.args.self.now in
+    let a = c.args.address.now in
+    let spends : Bool = (is_some (difference w.description.servers (updated w.description (failed a c.in-Err.error.now)).servers) && true) && exhausted_now s None in
+    sym (ap (check_spends w s a) c.in-Err.is ∙ ap (λ b. not b && spends) c.if-self.true)
 
 pub returns : goal.returns
 returns c s there =
-    let came : c.args.came.now ≡ Err c.get.result.now = c.in-Err.is ∙ ap Err (sym c.get.ensures) in
-    c.overspends.ensures s there ∙ sym (ap (check_spends c.args.self.now s c.args.address.now) came ∙ ap (λ b. not b && _) c.if-self.false)
+    let w = c.args.self.now in
+    let a = c.args.address.now in
+    let e = c.get.result.now in
+    let came : c.args.came.now ≡ Err e = c.in-Err.is ∙ ap Err (sym c.get.ensures) in
+    let spends : Bool = (is_some (difference w.description.servers (updated w.description (failed a e)).servers) && true) && exhausted_now s None in
+    c.overspends.ensures s there ∙ sym (ap (check_spends w s a) came ∙ ap (λ b. not b && spends) c.if-self.false)

@@ -9,6 +9,7 @@ use Rattle.mdb_topology.specs.Refusal.{may_want}
 use Rattle.mdb_topology.proofs.Updating.{passes-time}
 use Rattle.mdb_topology.proofs.Wants.{untroubled-wants}
 use Rattle.mdb_log.specs.declared.step.Act.TheVariants as Do
+use Rattle.mdb_topology.proofs.Spent.{wants-after}
 use Rattle.mdb_topology.proofs.topology.TopologyCore.rtt.Goals as goal
 
 pub returns-in_default-clause-becomes : goal.returns-in_default-clause-becomes
@@ -43,8 +44,8 @@ returns-clause-becomes c h z =
     c.in_ok-monitor.average measures (ap (λ q. Checked q y w.fresh) own) e.reply)
 
 pub returns-in_err-monitor-clause-wants : goal.returns-in_err-monitor-clause-wants
-returns-in_err-monitor-clause-wants c = λ h z.
+returns-in_err-monitor-clause-wants c = wants-after c.args.self.now c.args.step.now _ (λ h z.
     let w = c.args.self.now in
     let m = c.args.step.now.moment in
     subst (λ v. may_want w.options h (record { moment = m; act = v }) ≡ true) (sym c.requires.act)
-    (untroubled-wants w h z (Do.Rtt c.args.address.now c.args.pool c.args.sample) m tt refl (passes-time w h z m c.requires.in_time (Do.Rtt c.args.address.now c.args.pool c.args.sample) (rw c.if-self.false refl)) refl refl)
+    (untroubled-wants w h z (Do.Rtt c.args.address.now c.args.pool c.args.sample) m tt refl (passes-time w h z m c.requires.in_time (Do.Rtt c.args.address.now c.args.pool c.args.sample) (rw c.if-self.false refl)) refl refl))

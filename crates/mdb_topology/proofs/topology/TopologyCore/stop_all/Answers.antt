@@ -12,6 +12,7 @@ use Rattle.mdb_topology.proofs.FollowingQuiet.{follows-quiet}
 use Rattle.mdb_topology.specs.Refusal.{may_want}
 use Rattle.mdb_topology.proofs.Wants.{untroubled-wants}
 use Rattle.mdb_log.specs.declared.step.Act.TheVariants as Do
+use Rattle.mdb_topology.proofs.Spent.{wants-after}
 use Rattle.mdb_topology.proofs.topology.TopologyCore.stop_all.Goals as goal
 
 pub returns-then-self-clause-becomes : goal.returns-then-self-clause-becomes
@@ -33,29 +34,29 @@ returns-clause-becomes c h z =
     c.into_next.result made.reply made.description made.stops (rw made.changes refl) (ap (λ v. v.items) made.facts ∙ subst (λ (x : TopologyCore). c.tell_closed.new.facts.items ≡ c.in_ok-told.told.facts.items ++ topology_closed_fact x.options ∷ []) told.same c.in_ok-tell_closed.ensures) (subst (λ x. in_order x.servers ≡ true) (sym c.in_ok-later.ensures) refl) (rw (made.monitors, made.changes) told.settings) (rw made.monitors told.stand) made.monitoring
 
 pub returns-in_err-later-clause-wants : goal.returns-in_err-later-clause-wants
-returns-in_err-later-clause-wants c = λ h z.
+returns-in_err-later-clause-wants c = wants-after c.args.self.now c.args.step.now _ (λ h z.
     let w = c.args.self.now in
     let m = c.args.step.now.moment in
     subst (λ v. may_want w.options h (record { moment = m; act = v }) ≡ true) (sym c.requires.act)
-    (untroubled-wants w h z (Do.Stop) m tt refl (passes-time w h z m c.requires.in_time (Do.Stop) refl) refl refl)
+    (untroubled-wants w h z (Do.Stop) m tt refl (passes-time w h z m c.requires.in_time (Do.Stop) refl) refl refl))
 
 pub returns-in_err-diff-clause-wants : goal.returns-in_err-diff-clause-wants
-returns-in_err-diff-clause-wants c = λ h z.
+returns-in_err-diff-clause-wants c = wants-after c.args.self.now c.args.step.now _ (λ h z.
     let w = c.args.self.now in
     let m = c.args.step.now.moment in
     subst (λ v. may_want w.options h (record { moment = m; act = v }) ≡ true) (sym c.requires.act)
-    (untroubled-wants w h z (Do.Stop) m tt refl (passes-time w h z m c.requires.in_time (Do.Stop) refl) refl refl)
+    (untroubled-wants w h z (Do.Stop) m tt refl (passes-time w h z m c.requires.in_time (Do.Stop) refl) refl refl))
 
 pub returns-in_err-told-clause-wants : goal.returns-in_err-told-clause-wants
-returns-in_err-told-clause-wants c = λ h z.
+returns-in_err-told-clause-wants c = wants-after c.args.self.now c.args.step.now _ (λ h z.
     let w = c.args.self.now in
     let m = c.args.step.now.moment in
     subst (λ v. may_want w.options h (record { moment = m; act = v }) ≡ true) (sym c.requires.act)
-    (untroubled-wants w h z (Do.Stop) m tt refl (passes-time w h z m c.requires.in_time (Do.Stop) refl) refl refl)
+    (untroubled-wants w h z (Do.Stop) m tt refl (passes-time w h z m c.requires.in_time (Do.Stop) refl) refl refl))
 
 pub returns-in_err-tell_closed-clause-wants : goal.returns-in_err-tell_closed-clause-wants
-returns-in_err-tell_closed-clause-wants c = λ h z.
+returns-in_err-tell_closed-clause-wants c = wants-after c.args.self.now c.args.step.now _ (λ h z.
     let w = c.args.self.now in
     let m = c.args.step.now.moment in
     subst (λ v. may_want w.options h (record { moment = m; act = v }) ≡ true) (sym c.requires.act)
-    (untroubled-wants w h z (Do.Stop) m tt refl (passes-time w h z m c.requires.in_time (Do.Stop) refl) refl refl)
+    (untroubled-wants w h z (Do.Stop) m tt refl (passes-time w h z m c.requires.in_time (Do.Stop) refl) refl refl))

@@ -9,6 +9,7 @@ use Rattle.mdb_topology.specs.Refusal.{may_want}
 use Rattle.mdb_topology.proofs.Updating.{passes-time}
 use Rattle.mdb_topology.proofs.Wants.{untroubled-wants}
 use Rattle.mdb_log.specs.declared.step.Act.TheVariants as Do
+use Rattle.mdb_topology.proofs.Spent.{wants-after}
 use Rattle.mdb_topology.proofs.topology.TopologyCore.unwant.Goals as goal
 
 pub returns-clause-becomes : goal.returns-clause-becomes
@@ -24,8 +25,8 @@ returns-clause-becomes c h z =
     (follows-unwant w h z m c.requires.in_time x n e.changes e.monitors e.description e.stops e.facts (ap Asked now) (e.reply ∙ (ap Count c.unwant-count.ensures.counted ∙ ap (λ ws. Count (length ws)) now)))
 
 pub returns-in_err-watchers-clause-wants : goal.returns-in_err-watchers-clause-wants
-returns-in_err-watchers-clause-wants c = λ h z.
+returns-in_err-watchers-clause-wants c = wants-after c.args.self.now c.args.step.now _ (λ h z.
     let w = c.args.self.now in
     let m = c.args.step.now.moment in
     subst (λ v. may_want w.options h (record { moment = m; act = v }) ≡ true) (sym c.requires.act)
-    (untroubled-wants w h z (Do.Unwant c.args.watcher) m tt refl (passes-time w h z m c.requires.in_time (Do.Unwant c.args.watcher) refl) refl refl)
+    (untroubled-wants w h z (Do.Unwant c.args.watcher) m tt refl (passes-time w h z m c.requires.in_time (Do.Unwant c.args.watcher) refl) refl refl))
