@@ -153,7 +153,6 @@ returns-in-Ok-clause-wants c = wants-after c.args.self.now c.args.step.now _ (λ
     subst (λ v. may_want w.options h (record { moment = m; act = v }) ≡ true) (sym c.requires.act)
     (check-wants w h z m c.requires.in_time a p c.args.duration there running c.if-self-2.false s.0 (subst (λ q. slice_get w.pools.cores.items q ≡ Some s.0) own s.1) c.args.came.now spare))
 
-
 pub returns-in-Err-after_check-clause-wants : goal.returns-in-Err-after_check-clause-wants
 returns-in-Err-after_check-clause-wants c = λ h z.
     let w = c.args.self.now in
