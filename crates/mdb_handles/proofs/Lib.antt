@@ -1,0 +1,4 @@
+mod Questions
+mod Looking
+mod Numbering
+mod Waiting
