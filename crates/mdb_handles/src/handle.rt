@@ -18,7 +18,8 @@ use mdb_base::{OutOfMemory, ServerAddress};
 use mdb_log::{Core, PooledConnection, Reply, Step, Use};
 use mdb_shared::{Back, Look, Poll, Seat, SharedDriver};
 use mdb_workers::{
-    Access, Fill, Unreturned, abandon, add, ask, fill_pool, give_back, glance, hand_back, let_go, rest,
+    Access, Fill, Unreturned, abandon, add, ask, fill_pool, give_back, glance, hand_back, let_go,
+    rest,
 };
 use std::alloc::Global;
 use std::marker::Model;

@@ -1,6 +1,7 @@
 //! What a thread with a role does by its handle: it establishes connections, keeps time, follows the topology, or stops the driver.
 
-ghost use Rattle.std.specs.Prelude.{◌≡◌, ◌∷◌, true, [], IfOk, OnOk, OnErr};
+ghost use Rattle.std.specs.Prelude.{◌≡◌, ◌∷◌, true, [], IfSome, IfOk, OnOk, OnErr};
+ghost use Rattle.mdb_log.specs.Acts.{IsDriverAct};
 ghost use Rattle.mdb_log.specs.declared.log.Entry.{Entry};
 ghost use Rattle.mdb_log.specs.declared.step.Act.TheVariants.{Stop, Want};
 ghost use Rattle.mdb_log.specs.declared.reply.Reply.TheVariants.{Count};
@@ -10,14 +11,14 @@ ghost use Rattle.mdb_workers.specs.Making.{Made, OneMore};
 ghost use Rattle.mdb_workers.specs.Persisting.{TendedBy};
 ghost use Rattle.mdb_workers.specs.Ticking.{Ticked, TickedInPart};
 ghost use Rattle.mdb_handles.specs.Watching.{Shows, with_mark, wanting, Retracted, WaitedOn};
-ghost use Rattle.mdb_workers.specs.Working.{Worked};
+ghost use Rattle.mdb_workers.specs.Working.{SettledBy, Worked};
 
 use crate::handle::Handle;
 use crate::topology_state::TopologyState;
 use crate::watching::{TopologyWatcher, dismiss};
 use mdb_base::{Moment, OutOfMemory};
-use mdb_log::Core;
-use mdb_workers::{Establisher, Gate, Work, WorkError, keep_time, serve, stop, tick, work};
+use mdb_log::{Core, Step};
+use mdb_workers::{Establisher, Gate, Work, WorkError, keep_time, serve, settle, stop, tick, work};
 use std::rt::Clock;
 use std::sync::Wait;
 use std::time::{Duration, Instant};
@@ -34,6 +35,15 @@ impl<'a, C: Core, R: Wait> Handle<'a, C, R> {
         ensures jobs { Worked C.job_after C.stands budget self.old.seat self.new.seat (E.calls establisher.old) (E.calls establisher.new) result }
     {
         work(&self.access, &mut self.seat, establisher, gate, budget)
+    }
+
+    /// Reports what `work` left at want of memory, as `settle` does.
+    pub fn settle(&mut self, pool: u32, id: u32, step: Option<Step>)
+        requires act { IfSome step (λ s. IsDriverAct s.act) }
+        ensures same { IsSameHandle self.old self.new }
+        ensures entry { (e : Entry) × SettledBy pool id step e × Made C.stands self.old.seat self.new.seat (e ∷ []) }
+    {
+        settle(&self.access, &mut self.seat, pool, id, step)
     }
 
     /// Establishes connections until the driver stops, as `serve` does.

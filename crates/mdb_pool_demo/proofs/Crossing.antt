@@ -17,8 +17,10 @@ use Rattle.mdb_log.specs.declared.driver.Core as Core
 use Rattle.mdb_shared.specs.contracts.driver.SharedDriver as Driver
 use Rattle.mdb_shared.specs.contracts.seat.Seat as Seat
 use Rattle.mdb_shared.proofs.Crossing.{seat_crosses, driver_lends}
+use Rattle.mdb_pool_demo.specs.contracts.hall.Hall as Hall
 use Rattle.mdb_pool_demo.specs.contracts.parts.Part as Part
 use Rattle.mdb_pool_demo.specs.contracts.parts.Played as Played
+use Rattle.mdb_pool_demo.proofs.hall.Hall.TheSendSync.{the_field_sync as hall}
 use Rattle.mdb_pool_demo.proofs.parts.Role.TheSendSync.{the_field_send as role}
 
 module _ (C : RattleType) (g : Core.Ghosts C.Denot) where
@@ -28,12 +30,12 @@ module _ (C : RattleType) (g : Core.Ghosts C.Denot) where
   pub played_crosses : IsSend C → IsSend (Played.the_row C g)
   played_crosses s = recorded_send (Played.the_field C g).row _ _ (Played.the_type C g).to_one (struct_send (shape (Played.the_type C g)) (seat_crosses C g s, (search (memory, crosses, sendable) depth 20, tt)))
 
-  -- the closure that plays a part captured the driver, the runtime, the allocator and the count of clients
+  -- the closure that plays a part captured the driver, the runtime, the allocator and the hall
   pub closure_lends : (ν : Sym) (R : RattleType) (ℓ ℓ' ℓ'' : Lifetime) (κ κ' κ'' : Lft) → IsSend C → IsSync R
-      → IsSync (TupleAt ν (ShrRef ℓ κ (Driver.the_row C g) ∷ ShrRef ℓ' κ' R ∷ Heap.the_row ∷ ShrRef ℓ'' κ'' Counter.the_row ∷ []))
+      → IsSync (TupleAt ν (ShrRef ℓ κ (Driver.the_row C g) ∷ ShrRef ℓ' κ' R ∷ Heap.the_row ∷ ShrRef ℓ'' κ'' Hall.the_field.row ∷ []))
   closure_lends ν R ℓ ℓ' ℓ'' κ κ' κ'' s r =
-      let T = type_at ν (ShrRef ℓ κ (Driver.the_row C g) ∷ ShrRef ℓ' κ' R ∷ Heap.the_row ∷ ShrRef ℓ'' κ'' Counter.the_row ∷ []) in
-      recorded_sync (field T).row _ _ T.to_one (struct_sync (shape T) (shr_sync ℓ κ (Driver.the_row C g) (driver_lends C g s), (shr_sync ℓ' κ' R r, (heap, (shr_sync ℓ'' κ'' Counter.the_row counter, tt)))))
+      let T = type_at ν (ShrRef ℓ κ (Driver.the_row C g) ∷ ShrRef ℓ' κ' R ∷ Heap.the_row ∷ ShrRef ℓ'' κ'' Hall.the_field.row ∷ []) in
+      recorded_sync (field T).row _ _ T.to_one (struct_sync (shape T) (shr_sync ℓ κ (Driver.the_row C g) (driver_lends C g s), (shr_sync ℓ' κ' R r, (heap, (shr_sync ℓ'' κ'' Hall.the_field.row hall, tt)))))
 
   -- one that works from a seat captured the driver, the runtime, the allocator, the seat and a flag
   pub worker_crosses : (ν : Sym) (R : RattleType) (ℓ ℓ' ℓ'' : Lifetime) (κ κ' κ'' : Lft) → IsSend C → IsSync R

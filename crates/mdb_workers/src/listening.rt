@@ -85,11 +85,7 @@ impl<C: Core> Look<C> for AnyNews {
 
 /// Sleeps until an entry from this one on is news to others, and gives the number of all entries then. What is news says `is_news` of mdb_shared. It adds
 /// no entry.
-pub fn next_news<C: Core, R: Wait>(
-    access: &Access<'_, C, R>,
-    seat: &mut Seat<C>,
-    from: u64,
-) -> u64
+pub fn next_news<C: Core, R: Wait>(access: &Access<'_, C, R>, seat: &mut Seat<C>, from: u64) -> u64
     requires own { seat.old.driver ≡ access.now.driver.now.id }
     ensures saw { Made C.stands seat.old seat.new [] }
     ensures count { length seat.new.seen ≡ result }

@@ -108,11 +108,7 @@ pub fn hand_back<C: Core, R: Wait>(
 }
 
 // One more try of a step.
-fn try_once<C: Core, R: Wait>(
-    access: &Access<'_, C, R>,
-    seat: &mut Seat<C>,
-    act: Act,
-) -> bool
+fn try_once<C: Core, R: Wait>(access: &Access<'_, C, R>, seat: &mut Seat<C>, act: Act) -> bool
     requires own { seat.old.driver ≡ access.now.driver.now.id }
     requires act { IsDriverAct act }
     ensures same { (seat.new.driver ≡ seat.old.driver) × (seat.new.number ≡ seat.old.number) }

@@ -49,7 +49,10 @@ pub fn ask<C: Core, R: Wait>(
     ensures names { IfOk result (λ poll. Names request poll) }
     ensures err { OnErr result (Made C.stands seat.old seat.new []) }
 {
-    match access.driver.poll_check_out(access.rt, access.alloc, seat, request) {
+    match access
+        .driver
+        .poll_check_out(access.rt, access.alloc, seat, request)
+    {
         Ok(poll) => Ok(poll),
         Err(OutOfMemory) => Err(OutOfMemory),
     }
@@ -67,7 +70,10 @@ pub fn let_go<C: Core, R: Wait>(
     ensures kind { IfOk result (λ reply. IsTrue (is_reply_to (GiveUp request) reply)) }
     ensures err { OnErr result (Made C.stands seat.old seat.new []) }
 {
-    match access.driver.give_up(access.rt, access.alloc, seat, request) {
+    match access
+        .driver
+        .give_up(access.rt, access.alloc, seat, request)
+    {
         Ok(reply) => Ok(reply),
         Err(OutOfMemory) => Err(OutOfMemory),
     }
@@ -86,7 +92,10 @@ pub fn give_back<C: Core, R: Wait>(
     ensures connection { IfErr result (λ back. back.connection ≡ connection) }
     ensures why { IfErr result (λ back. StaysOut C.stands seat.old seat.new (Return connection.party used) back.why) }
 {
-    match access.driver.check_in(access.rt, access.alloc, seat, connection, used) {
+    match access
+        .driver
+        .check_in(access.rt, access.alloc, seat, connection, used)
+    {
         Ok(()) => Ok(()),
         Err(back) => Err(back),
     }
@@ -107,11 +116,7 @@ pub fn glance<C: Core, R: Wait, L: Look<C>>(
 }
 
 /// Sleeps until an entry is news to others, for no longer than this time. It may also return for no reason.
-pub fn rest<C: Core, R: Wait>(
-    access: &Access<'_, C, R>,
-    seat: &mut Seat<C>,
-    most: Duration,
-)
+pub fn rest<C: Core, R: Wait>(access: &Access<'_, C, R>, seat: &mut Seat<C>, most: Duration)
     requires own { seat.old.driver ≡ access.now.driver.now.id }
     ensures same { (seat.new.driver ≡ seat.old.driver) × (seat.new.number ≡ seat.old.number) }
     ensures saw { Made C.stands seat.old seat.new [] }

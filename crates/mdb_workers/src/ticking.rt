@@ -120,7 +120,13 @@ pub fn tick<C: Core, R: Wait>(
     ensures ok { OnOk result (Ticked C.stands C.described moment seat.old seat.new) }
     ensures err { OnErr result (TickedInPart C.stands moment seat.old seat.new) }
 {
-    let addresses = glance(access, seat, &Addresses { alloc: access.alloc })?;
+    let addresses = glance(
+        access,
+        seat,
+        &Addresses {
+            alloc: access.alloc,
+        },
+    )?;
     match tick_at(access, seat, moment, addresses) {
         Ok(()) => Ok(()),
         Err(OutOfMemory) => Err(OutOfMemory),
