@@ -195,7 +195,7 @@ def is_refilled(subject, ended):
     lines, others = ended.written.splitlines(), subject.wanted.splitlines()
     changed = [(line, other) for line, other in zip(lines, others) if line != other]
     more = [b'%s=%d' % (name, int(number) + 1) for name, number in (other.split(b'=') for _, other in changed)]
-    return len(lines) == len(others) and [line for line, _ in changed] == more and [it.split(b'=')[0] for it in more] == [b'created', b'closed', b'entries']
+    return len(lines) == len(others) and [line for line, _ in changed] == more and [it.split(b'=')[0] for it in more] == [b'created', b'closed', b'entries', b'heard']
 
 
 def judge_change(subject, ended):

@@ -1,5 +1,6 @@
-//! What the threads of one driver share beside it: how many have begun, and how many clients are left.
+//! What the threads of one driver share beside it: how many have begun, how many clients are left, and what was heard and seen.
 
+use crate::listening::CreatedCount;
 use std::rt::Clock;
 use std::sync::atomic::{AtomicU64, Ordering};
 use std::thread::sleep;
@@ -8,13 +9,16 @@ use std::time::Duration;
 // How long the parts wait for each other to begin, in steps of a millisecond.
 const PATIENCE: u32 = 5000;
 
-/// The parts that are to begin, those that have, whether some can't, and the clients that have not left yet.
+/// The parts that are to begin, those that have, whether some can't, and the clients that have not left yet; the connections that the listener heard of, and how
+/// often the watcher saw the topology published.
 #[derive(Drop)]
 pub struct Hall {
     parts: u64,
     begun: AtomicU64,
     missing: AtomicU64,
     clients: AtomicU64,
+    pub heard: CreatedCount,
+    published: AtomicU64,
 }
 
 impl Hall {
@@ -25,6 +29,8 @@ impl Hall {
             begun: AtomicU64::new(0),
             missing: AtomicU64::new(0),
             clients: AtomicU64::new(clients),
+            heard: CreatedCount::new(),
+            published: AtomicU64::new(0),
         }
     }
 
@@ -43,6 +49,16 @@ impl Hall {
         }
         self.missing.store(1, Ordering::SeqCst);
         false
+    }
+
+    /// The watcher saw the topology published so often.
+    pub fn note_published(&self, count: u64) {
+        self.published.store(count, Ordering::SeqCst);
+    }
+
+    /// How often the watcher saw the topology published.
+    pub fn published(&self) -> u64 {
+        self.published.load(Ordering::SeqCst)
     }
 
     /// A client has left.

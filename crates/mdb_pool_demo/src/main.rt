@@ -1,5 +1,5 @@
-//! Drivers that threads share: clients check connections out and in while workers establish them, a clock lets time enter, a watcher follows the topology, and
-//! the last one stops it all. It prints counts that are the same whatever the schedule.
+//! Drivers that threads share: clients check connections out and in while workers establish them, a clock lets time enter, a watcher follows the topology, a
+//! listener is told of events, and the last one stops it all. It prints counts that are the same whatever the schedule.
 #![tactic(auto)]
 
 mod clients;
@@ -9,6 +9,7 @@ mod crowd;
 mod errors;
 mod hall;
 mod limits;
+mod listening;
 mod measuring;
 mod opening;
 mod parts;
@@ -36,6 +37,7 @@ fn show(rt: &HostRuntime, told: &Told) -> io::Result<ExitCode> {
     println!(rt; "established={}", told.load.established)?;
     println!(rt; "entries={}", told.load.entries)?;
     println!(rt; "published={}", told.published)?;
+    println!(rt; "heard={}", told.heard)?;
     println!(rt; "timed_out={}", told.timed_out)?;
     println!(rt; "idle={}", told.idle)?;
     println!(rt; "given_up={}", told.given_up)?;

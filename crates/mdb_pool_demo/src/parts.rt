@@ -7,6 +7,7 @@ use crate::closing::close_up;
 use crate::errors::DemoError;
 use crate::hall::Hall;
 use crate::limits::{cancel, hurry, outlast};
+use crate::listening::listen;
 use mdb_base::{Error, ErrorKind, Items, Text};
 use mdb_handles::{Handle, TopologyWatcher};
 use mdb_log::{Core, Established};
@@ -31,6 +32,8 @@ pub enum Role {
     Clock,
     /// Follows what is published of the topology, with this number.
     Watcher(u32),
+    /// Hands the events of the pools to a handler.
+    Listener,
     /// Fills the pool once all clients have left, and stops the driver.
     Closer,
     /// Waits longer than a caller may.
@@ -48,11 +51,11 @@ pub struct Part<C: Core> {
     pub role: Role,
 }
 
-/// A part that was played: the seat comes back, with what a watcher has seen published, or 0.
+/// A part that was played: the seat comes back.
 #[derive(Drop)]
 pub struct Played<C: Core> {
     pub seat: Seat<C>,
-    pub done: Result<u64, DemoError>,
+    pub done: Result<(), DemoError>,
 }
 
 /// An establisher that always succeeds, and finds this out.
@@ -84,12 +87,17 @@ fn establish<C: Core, R: Wait>(me: &mut Handle<'_, C, R>, alloc: Global)
     me.serve(&mut establisher, &mut OpenGate);
 }
 
-// Follows the topology until the driver stops, and tells how often it was published. At first it asks for a check, and takes that back at the end.
-fn watch<C: Core, R: Wait>(me: &mut Handle<'_, C, R>, rt: &R, number: u32) -> Result<u64, DemoError>
+// Follows the topology until the driver stops. At first it asks for a check, and takes that back at the end.
+fn watch<C: Core, R: Wait>(
+    me: &mut Handle<'_, C, R>,
+    rt: &R,
+    number: u32,
+    hall: &Hall,
+) -> Result<(), DemoError>
     ensures own { me.new.seat.driver ≡ me.old.seat.driver }
 {
     let mut watcher = TopologyWatcher::new(number);
-    let watched = follow(me, rt, &mut watcher);
+    let watched = follow(me, rt, &mut watcher, hall);
     me.dismiss(watcher);
     watched
 }
@@ -98,16 +106,19 @@ fn follow<C: Core, R: Wait>(
     me: &mut Handle<'_, C, R>,
     rt: &R,
     watcher: &mut TopologyWatcher,
-) -> Result<u64, DemoError>
+    hall: &Hall,
+) -> Result<(), DemoError>
     ensures own { me.new.seat.driver ≡ me.old.seat.driver }
 {
+    me.request_immediate_check(watcher)?;
     for _ in rt.forever() {
         if !me.await_update(watcher)? {
             break;
         }
     }
     let state = me.observe_latest(watcher)?;
-    Ok(state.published)
+    hall.note_published(state.published);
+    Ok(())
 }
 
 // Lets time enter until the driver stops. Where the clock can't be read no time would pass, so the driver is stopped.
@@ -122,12 +133,24 @@ fn tell_time<C: Core, R: Wait + Clock>(me: &mut Handle<'_, C, R>, rt: &R) -> Res
     Ok(())
 }
 
-// It has seen nothing published.
-fn nothing(done: Result<(), DemoError>) -> Result<u64, DemoError> {
-    match done {
-        Ok(()) => Ok(0),
-        Err(why) => Err(why),
+// What a thread does that runs until the driver stops.
+fn attend<C: Core, R: Wait + Clock>(
+    me: &mut Handle<'_, C, R>,
+    rt: &R,
+    alloc: Global,
+    role: Role,
+    hall: &Hall,
+) -> Result<(), DemoError>
+    ensures own { me.new.seat.driver ≡ me.old.seat.driver }
+{
+    match role {
+        Role::Worker => establish(me, alloc),
+        Role::Clock => return tell_time(me, rt),
+        Role::Watcher(number) => return watch(me, rt, number, hall),
+        Role::Listener => listen(me, rt, &hall.heard),
+        _ => cancel(me, rt),
     }
+    Ok(())
 }
 
 fn act<C: Core, R: Wait + Clock>(
@@ -136,28 +159,19 @@ fn act<C: Core, R: Wait + Clock>(
     alloc: Global,
     role: Role,
     hall: &Hall,
-) -> Result<u64, DemoError>
+) -> Result<(), DemoError>
     ensures own { me.new.seat.driver ≡ me.old.seat.driver }
 {
     match role {
-        Role::Worker => {
-            establish(me, alloc);
-            Ok(0)
-        }
         Role::Client(rounds) => {
             let asked = ask(me, alloc, rounds);
             hall.leave();
-            nothing(asked)
+            asked
         }
-        Role::Clock => nothing(tell_time(me, rt)),
-        Role::Watcher(number) => watch(me, rt, number),
-        Role::Closer => nothing(close_up(me, rt, alloc, hall)),
-        Role::Patient => nothing(outlast(me, rt, alloc)),
-        Role::Hurried => nothing(hurry(me, alloc)),
-        Role::Canceller => {
-            cancel(me, rt);
-            Ok(0)
-        }
+        Role::Closer => close_up(me, rt, alloc, hall),
+        Role::Patient => outlast(me, rt, alloc),
+        Role::Hurried => hurry(me, alloc),
+        _ => attend(me, rt, alloc, role, hall),
     }
 }
 

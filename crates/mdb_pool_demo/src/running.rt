@@ -17,11 +17,12 @@ use std::thread::{Threads, map_vec};
 // The most seats of a driver.
 const MOST: usize = 64;
 
-/// What a run leaves: the log, and how often its watchers have seen the topology published, added up.
+/// What a run leaves: the log, how often its watcher saw the topology published, and of how many new connections its listener was told.
 #[derive(Drop)]
 pub struct Outcome {
     pub log: Log,
-    pub watched: u64,
+    pub published: u64,
+    pub heard: u64,
 }
 
 // The seats with their roles, as far as there are both.
@@ -51,17 +52,16 @@ fn seats_of<C: Core>(
     driver: &SharedDriver<C>,
     alloc: Global,
     played: Vec<Played<C>>,
-) -> Result<(Vec<Seat<C>>, u64), DemoError>
+) -> Result<Vec<Seat<C>>, DemoError>
     requires own { All (λ p. p.seat.driver ≡ driver.now.id) played.items }
-    ensures own { IfOk result (λ r. All (λ s. s.driver ≡ driver.now.id) r.0.items) }
+    ensures own { IfOk result (λ seats. All (λ s. s.driver ≡ driver.now.id) seats.items) }
 {
     let mut seats = Vec::new(alloc);
-    let mut watched = 0u64;
     for Played { seat, done } in played {
-        watched = watched.saturating_add(done?);
+        done?;
         seats.push(seat)?;
     }
-    Ok((seats, watched))
+    Ok(seats)
 }
 
 // Each part in a thread of its own; the seats come back.
@@ -71,9 +71,9 @@ fn play_all<C: Core, R: Threads + Wait + Clock + Sync>(
     alloc: Global,
     parts: Vec<Part<C>>,
     hall: &Hall,
-) -> Result<(Vec<Seat<C>>, u64), DemoError>
+) -> Result<Vec<Seat<C>>, DemoError>
     requires own { All (λ p. p.seat.driver ≡ driver.now.id) parts.items }
-    ensures own { IfOk result (λ r. All (λ s. s.driver ≡ driver.now.id) r.0.items) }
+    ensures own { IfOk result (λ seats. All (λ s. s.driver ≡ driver.now.id) seats.items) }
 {
     let played = map_vec(
         rt,
@@ -132,10 +132,14 @@ pub fn play_out<C: Core, R: Threads + Wait + Clock + Sync>(
     step(&driver, rt, alloc, &mut seat, hello(alloc)?)?;
     let hall = hall_of(roles);
     let parts = parts(&driver, alloc, seats, roles)?;
-    let (mut seats, watched) = play_all(&driver, rt, alloc, parts, &hall)?;
+    let mut seats = play_all(&driver, rt, alloc, parts, &hall)?;
     seats.push(seat)?;
     match driver.close(seats) {
-        Ok((_, log)) => Ok(Outcome { log, watched }),
+        Ok((_, log)) => Ok(Outcome {
+            log,
+            published: hall.published(),
+            heard: hall.heard.count(),
+        }),
         Err(_) => Err(DemoError::Seat),
     }
 }

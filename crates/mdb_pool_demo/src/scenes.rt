@@ -22,7 +22,7 @@ const LOAD: Limits = Limits {
 // How often each client checks a connection out.
 const ROUNDS: u32 = 1000;
 
-const LOAD_ROLES: [Role; 9] = [
+const LOAD_ROLES: [Role; 10] = [
     Role::Worker,
     Role::Worker,
     Role::Client(ROUNDS),
@@ -31,6 +31,7 @@ const LOAD_ROLES: [Role; 9] = [
     Role::Client(ROUNDS),
     Role::Clock,
     Role::Watcher(1),
+    Role::Listener,
     Role::Closer,
 ];
 
@@ -72,6 +73,8 @@ pub struct Told {
     pub load: Counts,
     /// How often the topology was published, as the watcher saw it.
     pub published: u64,
+    /// Of how many new connections the listener was told.
+    pub heard: u64,
     /// Callers that waited too long, and connections that were idle too long.
     pub timed_out: u64,
     pub idle: u64,
@@ -90,7 +93,8 @@ pub fn run<R: Threads + Wait + Clock + Sync>(rt: &R, alloc: Global) -> Result<To
     let lent = crowd(rt, alloc)?;
     Ok(Told {
         load: count(&load.log),
-        published: load.watched,
+        published: load.published,
+        heard: load.heard,
         timed_out: times.timed_out,
         idle: times.idle,
         given_up: left.given_up,
