@@ -1,3 +1,4 @@
+pub mod Crossing
 mod Questions
 mod Looking
 mod Numbering
