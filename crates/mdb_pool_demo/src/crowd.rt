@@ -76,7 +76,7 @@ fn visit_all<C: Core, R: Threads + Wait + Sync>(
     alloc: Global,
     spare: &SpareSeats<'_, C, R>,
 ) -> Result<(), DemoError> {
-    let visits = map_indices(rt, alloc, GUESTS, &|_guest| visit(rt, alloc, spare))?;
+    let visits = map_indices(rt, alloc, GUESTS, &move |_guest| visit(rt, alloc, spare))?;
     for visited in visits {
         visited?;
     }
