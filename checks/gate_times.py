@@ -1,18 +1,21 @@
 #!/usr/bin/env python3
 """Measures the gate: runs .ci/run, adds up the processor seconds of the prover's processes by crate and purpose, and prints the table of docs/GATE.md.
 
-usage: checks/gate_times.py [--write] [--resume FILE] [--pid PID]
+usage: checks/gate_times.py [--write] [--resume FILE] [--pid PID | --under PREFIX .. | --sum]
 
 A process of the prover counts for the crate that it names, and for what it does there: the crate's proof, its edits, its tests, or the
 builds of a program. What the kit kept of an earlier run is not done again and has no seconds: for the whole table the run begins from
-nothing. --pid follows a run of rt ci that has begun already, in place of starting one. --resume FILE keeps the sums there, and begins
-with what stands in it, so that several runs that each did a part add up. --write puts the table into docs/GATE.md, between the lines
-'<!-- table -->' and '<!-- end of table -->'. Seconds are user and system time together, of all threads.
+nothing. --pid follows a run of rt ci that has begun already, in place of starting one. --under follows each run of rt ci that is
+started in a folder whose path begins with one of the prefixes, also those that begin later, until the script is ended (INT or TERM);
+runs of rt check there do not count. --resume FILE keeps the sums there, and begins with what stands in it, so that several runs that
+each did a part add up. --sum starts and follows nothing: the table of what --resume holds. --write puts the table into docs/GATE.md,
+between the lines '<!-- table -->' and '<!-- end of table -->'. Seconds are user and system time together, of all threads.
 """
 import argparse
 import json
 import os
 import re
+import signal
 import subprocess
 import sys
 import time
@@ -41,7 +44,10 @@ def label_of(pid):
         return None
     if "--crate-name" not in words:
         return None
-    purpose = "edits" if "rt-edit" in folder else "tests" if "--test" in words else "programs" if "--backend" in words else "proof"
+    is_edit = "/rt-edit-" in folder
+    if "--incremental" in words and not is_edit:
+        return None
+    purpose = "edits" if is_edit else "tests" if "--test" in words else "programs" if "--backend" in words else "proof"
     return words[words.index("--crate-name") + 1], purpose
 
 
@@ -58,12 +64,25 @@ def family(stats, top):
     return found
 
 
-def follow(top, is_over, kept):
-    """Adds what the run's processes take to the sums in kept, until the run is over."""
+def started_under(stats, prefixes):
+    """The processes of runs that were started in a folder of these: a run changes its folder, and its processes keep the name of the first one."""
+    found = set()
+    for pid in stats:
+        try:
+            words = open(f"/proc/{pid}/environ", errors="replace").read().split("\0")
+        except OSError:
+            continue
+        folder = next((it[4:] for it in words if it.startswith("PWD=")), "")
+        found |= {pid} if folder.startswith(tuple(prefixes)) else set()
+    return found
+
+
+def follow(those, is_over, kept):
+    """Adds what the processes that those(stats) tells take to the sums in kept, until the run is over."""
     sums, seen = defaultdict(float, kept), {}
     while not is_over():
         stats = {int(it): stat for it in os.listdir("/proc") if it.isdigit() for stat in [stat_of(it)] if stat}
-        for pid in family(stats, top) & set(stats):
+        for pid in those(stats):
             _, start, seconds = stats[pid]
             label, before = seen.get((pid, start), (None, 0))
             label = label or label_of(pid)
@@ -113,19 +132,29 @@ def main():
     words = argparse.ArgumentParser(usage=__doc__.split("\n")[2][7:])
     words.add_argument("--write", action="store_true")
     words.add_argument("--resume")
-    words.add_argument("--pid", type=int)
+    one = words.add_mutually_exclusive_group()
+    one.add_argument("--pid", type=int)
+    one.add_argument("--under", nargs="+")
+    one.add_argument("--sum", action="store_true")
     said = words.parse_args()
     sums = json.load(open(said.resume)) if said.resume and os.path.exists(said.resume) else {}
-    began, status = time.time(), 0
-    run = None if said.pid else subprocess.Popen([f"{ROOT}/.ci/run"], cwd=ROOT, stdin=subprocess.DEVNULL)
-    top = said.pid or run.pid
-    is_over = (lambda: not os.path.exists(f"/proc/{top}")) if said.pid else (lambda: run.poll() is not None)
-    for sums in follow(top, is_over, sums):
+    began, status, ended = time.time(), 0, []
+    for number in (signal.SIGINT, signal.SIGTERM) if said.under else ():
+        signal.signal(number, lambda *_: ended.append(1))
+    run = None if said.pid or said.under or said.sum else subprocess.Popen([f"{ROOT}/.ci/run"], cwd=ROOT, stdin=subprocess.DEVNULL)
+    top = said.pid or run and run.pid
+    those = (lambda stats: started_under(stats, said.under)) if said.under else (lambda stats: family(stats, top) & set(stats))
+    is_over = (lambda: run.poll() is not None) if run else (lambda: not os.path.exists(f"/proc/{top}")) if said.pid else (lambda: said.sum or ended)
+    for sums in follow(those, is_over, sums):
         if said.resume:
-            json.dump(sums, open(said.resume, "w"), indent=0)
+            with open(f"{said.resume}.new", "w") as file:
+                json.dump(sums, file, indent=0)
+            os.replace(f"{said.resume}.new", said.resume)
     if run:
         status = run.returncode
-    text = f"{table(sums)}\nBy the clock {(time.time() - began) / 60:.0f} minutes on {os.cpu_count()} processors."
+    text = table(sums)
+    if run or said.pid:
+        text += f"\nBy the clock {(time.time() - began) / 60:.0f} minutes on {os.cpu_count()} processors."
     print(text)
     if said.write:
         write(text)
