@@ -2,14 +2,17 @@
 #![tactic(auto)]
 
 mod asked;
+mod asking;
 mod books;
 mod collecting;
 mod handing;
+mod notes;
 mod passed;
 mod proxy;
 mod recording;
 mod shares;
 mod step;
+mod told;
 
 pub use asked::Asked;
 pub use passed::is_passed;

@@ -1,6 +1,12 @@
-use Rattle.std.proofs.Common.{arith}
-use Rattle.mdb_proxies.proofs.Sounds.{next-none}
+use Rattle.std.proofs.Common.{take, arith}
+use Rattle.mdb_proxies.proofs.Next.{best-more, best-all, best-within}
 use Rattle.mdb_proxies.proofs.books.next.Goals as goal
 
-pub returns-clause-none : goal.returns-clause-none
-returns-clause-none c = next-none c.args.shares.now c.args.standing.now c.loop-i.i c.loop-i.best (omega (arith, c.loop-i-test.false)) c.loop-i.invariant.none
+pub better-best-requires-clause-best : goal.better-best-requires-clause-best
+better-best-requires-clause-best c = best-within c.args.shares.now c.args.standing.now (take c.loop-at.at c.args.standing.now) c.loop-at.best c.loop-at.invariant
+
+pub loop-at-preserved : goal.loop-at-preserved
+loop-at-preserved c = best-more c.args.shares.now c.args.standing.now c.loop-at.at c.loop-at.best c.better-best.result (omega arith) c.better-best.ensures c.loop-at.invariant
+
+pub returns : goal.returns
+returns c = best-all c.args.shares.now c.args.standing.now c.loop-at.at c.loop-at.best (omega arith) c.loop-at.invariant
