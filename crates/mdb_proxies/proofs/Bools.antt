@@ -33,8 +33,3 @@ other false b i e = absurd (let k : false ≡ true = i in cc)
 
 pub swapped : (m n : ℕ) → (m == n) ≡ (n == m)
 swapped m n = same_from_decides (m == n) (n == m) (Decides-eqb m n) ((λ h. sym ((Decides-eqb n m).0 h)), (λ h. (Decides-eqb n m).1 (sym h)))
-
--- a refused entry lets nothing go on
-pub refused-rests : (f c b : Bool) → f ≡ true → (not f && (c || b)) ≡ false
-refused-rests true c b h = refl
-refused-rests false c b h = absurd (let k : false ≡ true = h in cc)

@@ -9,6 +9,7 @@ pub mod Noted
 pub mod Places
 pub mod Entering
 pub mod Hands
+pub mod Freed
 pub mod Charges
 pub mod TurnLoop
 pub mod Counting

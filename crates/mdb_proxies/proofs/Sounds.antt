@@ -22,7 +22,6 @@ use Rattle.mdb_proxies.specs.Shares.{share_of, are_shares}
 use Rattle.mdb_proxies.specs.Handing.{Entered, IsRequestAt}
 use Rattle.mdb_proxies.specs.Recording.{Recorded, SameAsks}
 use Rattle.mdb_proxies.specs.Tables.{blank, notes_of, charge_in, may_go, some_may_go, is_off_in, fate_of, fated, turned, standing_of, standings, is_fresh, place_of, AreMade, AreSingle, AreWithin, Keeps, Sound}
-use Rattle.mdb_proxies.proofs.Bools.{first}
 use Rattle.mdb_proxies.proofs.Within.{NoneRequested, turned-append, quiet-within}
 use Rattle.mdb_proxies.proofs.Numbers.{free-none, free-standings}
 use Rattle.mdb_proxies.proofs.Kept.{keeps-entered, keeps-recorded, keeps-forgotten, left-single}
@@ -170,9 +169,10 @@ held-behind false now shares os old new o h e k off g =
     let p : (now ≡ false) × (new ≡ old) = h.1 refl in
     p.0 ∙ sym (ap (some_may_go shares) (p.1 ∙ e) ∙ off-stays shares os o k off g)
 
-pub resumes : (refused changed behind : Bool) (shares : List ℕ) (os ps : List Standing) → (not refused && (changed || behind)) ≡ false → (refused ≡ true → ps ≡ os) → (changed ≡ false → ps ≡ os) → behind ≡ some_may_go shares os → behind ≡ some_may_go shares ps
-resumes true changed behind shares os ps g r c h = h ∙ ap (some_may_go shares) (sym (r refl))
-resumes false changed behind shares os ps g r c h = h ∙ ap (some_may_go shares) (sym (c (first changed behind g)))
+-- a refused entry leaves it as it was
+pub rests : (r refused behind : Bool) (shares : List ℕ) (os ps : List Standing) → not r ≡ false → r ≡ refused → (refused ≡ true → ps ≡ os) → behind ≡ some_may_go shares os → behind ≡ some_may_go shares ps
+rests true refused behind shares os ps g e k h = h ∙ ap (some_may_go shares) (sym (k (sym e)))
+rests false refused behind shares os ps g e k h = absurd (let z : true ≡ false = g in cc)
 
 -- ---- shares
 

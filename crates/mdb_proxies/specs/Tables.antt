@@ -14,6 +14,8 @@ use Rattle.mdb_proxies.specs.declared.asked.Note.{Note}
 use Rattle.mdb_proxies.specs.declared.books.Books.{Books}
 use Rattle.mdb_proxies.specs.declared.books.Fate.{Fate}
 use Rattle.mdb_proxies.specs.declared.books.Fate.TheVariants.{Stays, Charged, Gone}
+use Rattle.mdb_proxies.specs.declared.freed.Freed.{Freed}
+use Rattle.mdb_proxies.specs.declared.freed.Freed.TheVariants.{Nowhere, At, Anywhere}
 use Rattle.mdb_proxies.specs.Shares.{share_of}
 use Rattle.mdb_proxies.specs.Charge.{requests, ends, settles, since, is_held, counts}
 use Rattle.mdb_proxies.specs.Telling.{is_finished}
@@ -90,6 +92,26 @@ next_in shares os (o ∷ ps) = if may_go shares os o then Some (sooner_in o (nex
 abbrev pub IsBest : List ℕ → List Standing → List Standing → Option ℕ → Type 0
 IsBest shares os ps None = next_in shares os ps ≡ None
 IsBest shares os ps (Some i) = (i < length os) × HoldsAt (λ o. next_in shares os ps ≡ Some o) os i
+
+-- ---- where charges fell
+
+-- the charge of the tenant at the address may have fallen
+abbrev pub is_freed : Freed → ℕ → ServerAddress → Bool
+is_freed Nowhere t a = false
+is_freed (At o) t a = standing_at t a o
+is_freed Anywhere t a = true
+
+-- elsewhere no charge fell
+abbrev pub KeepsCharge : Freed → List Standing → List Standing → Type 0
+KeepsCharge f os ps = (t : ℕ) (a : ServerAddress) → is_freed f t a ≡ false → charge_in os t a ≤ charge_in ps t a
+
+-- the ask may go, and stands where no charge fell
+abbrev pub goes_elsewhere : List ℕ → List Standing → Freed → Standing → Bool
+goes_elsewhere shares os f o = may_go shares os o && not (is_freed f o.tenant o.address)
+
+-- what may go stands where a charge fell
+abbrev pub IsOnly : List ℕ → List Standing → Freed → Type 0
+IsOnly shares os f = list_any (goes_elsewhere shares os f) os ≡ false
 
 -- ---- the notes
 

@@ -30,8 +30,8 @@ impl<C: Core> Parts<C> {
         ensures err { OnErr result ((self.new.log ≡ self.old.log) × ((xs : List AskedRecord) (x : AskedRecord) → self.old.books.asks.items ≡ xs ++ x ∷ [] → self.new.books.asks.items ≡ xs)) }
     {
         let handed = self.hand_on_newest(alloc, moment);
-        let reply = match handed {
-            Ok(reply) => reply,
+        let (reply, freed) = match handed {
+            Ok(handed) => handed,
             Err(OutOfMemory) => {
                 self.books.take_back();
                 return Err(OutOfMemory);
@@ -39,11 +39,13 @@ impl<C: Core> Parts<C> {
         };
         if is_refused(&reply) {
             self.books.forget();
+            drop(freed);
             return Ok(ProxyReply::Core(reply));
         }
         let told = tells(&reply);
         self.books.tell_newest(told);
-        self.go_on(alloc, moment);
+        let freed = freed.or_anywhere(self.behind);
+        self.go_on(alloc, moment, freed);
         Ok(ProxyReply::Core(reply))
     }
 

@@ -6,9 +6,10 @@ ghost use Rattle.mdb_log.specs.Driver.{is_refusal};
 ghost use Rattle.mdb_proxies.specs.Shares.{share_of};
 ghost use Rattle.mdb_proxies.specs.Charge.{requests, returns, is_end, ends, settles};
 ghost use Rattle.mdb_proxies.specs.declared.asked.Standing.{Standing as StandingRecord};
-ghost use Rattle.mdb_proxies.specs.Tables.{charged_at, held_at, charge_in, may_go, IsBest, fate_of, turned};
+ghost use Rattle.mdb_proxies.specs.Tables.{charged_at, held_at, charge_in, may_go, IsBest, fate_of, turned, KeepsCharge};
 
 use crate::asked::{Asked, Note, Standing};
+use crate::freed::Freed;
 use mdb_base::ServerAddress;
 use mdb_events::Fact;
 use mdb_log::{Act, Entry, Reply};
@@ -39,7 +40,7 @@ fn is_charged_at(standing: &Standing, tenant: u32, address: &ServerAddress) -> b
     standing.tenant == tenant && standing.address.is(address) && !standing.held
 }
 
-fn is_held_at(standing: &Standing, tenant: u32, address: &ServerAddress) -> bool
+pub fn is_held_at(standing: &Standing, tenant: u32, address: &ServerAddress) -> bool
     ensures { result ≡ held_at tenant address.now standing.now }
 {
     standing.tenant == tenant && standing.address.is(address) && standing.held
@@ -100,7 +101,7 @@ fn better(shares: &[u32], standing: &[Standing], best: Option<usize>, at: usize)
 }
 
 // The place of the next standing ask to hand on: the first one of the tenant with the least number.
-pub fn next(shares: &[u32], standing: &[Standing]) -> Option<usize>
+pub fn best_of_all(shares: &[u32], standing: &[Standing]) -> Option<usize>
     ensures { IsBest shares.now standing.now standing.now result }
 {
     let mut best: Option<usize> = None;
@@ -179,12 +180,12 @@ fn fate_by(standing: &Standing, entry: &Entry) -> Fate
     }
 }
 
-// What the newest entry makes of the standing asks, and whether it changes them.
-pub fn turn(standing: &mut Vec<Standing>, entry: &Entry) -> bool
+// What the newest entry makes of the standing asks, and where it frees some of a share.
+pub fn turn(standing: &mut Vec<Standing>, entry: &Entry) -> Freed
     ensures turned { standing.new.items ≡ turned entry.now standing.old.items }
-    ensures same { result ≡ false → standing.new.items ≡ standing.old.items }
+    ensures freed { KeepsCharge result standing.old.items standing.new.items }
 {
-    let mut changed = false;
+    let mut freed = Freed::Nowhere;
     let mut at = 0;
     while at < standing.len() {
         match fate_by(&standing[at], entry) {
@@ -192,13 +193,12 @@ pub fn turn(standing: &mut Vec<Standing>, entry: &Entry) -> bool
             Fate::Charged => {
                 standing[at].held = false;
                 at += 1;
-                changed = true;
             }
             Fate::Gone => {
-                standing.remove(at);
-                changed = true;
+                let gone = standing.remove(at);
+                freed = freed.and_gone(gone);
             }
         }
     }
-    changed
+    freed
 }

@@ -10,9 +10,10 @@ ghost use Rattle.mdb_log.specs.declared.step.Step.{Step};
 ghost use Rattle.mdb_proxies.specs.Handing.{Entered, IsRequestAt};
 ghost use Rattle.mdb_proxies.specs.Charge.{requests};
 ghost use Rattle.mdb_proxies.specs.Entries.{GoesOn, Enters};
-ghost use Rattle.mdb_proxies.specs.Tables.{Sound, KeptBy, NotedBy, some_may_go};
+ghost use Rattle.mdb_proxies.specs.Tables.{Sound, KeptBy, NotedBy, some_may_go, IsOnly, KeepsCharge};
 
-use crate::books::{Books, is_refused, next};
+use crate::books::{Books, is_refused};
+use crate::freed::{Freed, next};
 use mdb_base::{Moment, OutOfMemory};
 use mdb_log::{Act, Core, Entry, Log, Reply, Step};
 use std::alloc::Global;
@@ -44,14 +45,14 @@ fn newest(log: &Log) -> &Entry
     &entries[entries.len() - 1]
 }
 
-// One step of the core, and what it makes of the books. Answers whether it changed what stands, too.
+// One step of the core, and what it makes of the books. Answers where it freed some of a share, too.
 fn enter<C: Core>(
     core: &mut C,
     log: &mut Log,
     books: &mut Books,
     alloc: Global,
     step: &Step,
-) -> Result<(Reply, bool), OutOfMemory>
+) -> Result<(Reply, Freed), OutOfMemory>
     requires act { IsDriverAct step.now.act }
     requires stands { C.stands core.old log.old }
     requires keeps { KeptBy log.old books.old }
@@ -62,13 +63,13 @@ fn enter<C: Core>(
     ensures asks { books.new.asks ≡ books.old.asks }
     ensures known { books.new.known ≡ books.old.known }
     ensures ok { IfOk result (λ r. Entered step.now r.0 log.old log.new books.old.standing.items books.new.standing.items) }
-    ensures same { IfOk result (λ r. r.1 ≡ false → books.new.standing.items ≡ books.old.standing.items) }
+    ensures freed { IfOk result (λ r. KeepsCharge r.1 books.old.standing.items books.new.standing.items) }
     ensures err { OnErr result ((log.new ≡ log.old) × (books.new ≡ books.old)) }
 {
     let at = log.len();
     let reply = core.step(alloc, log, 0, step)?;
-    let changed = books.turn(newest(log), at);
-    Ok((reply, changed))
+    let freed = books.turn(newest(log), at);
+    Ok((reply, freed))
 }
 
 // Hands on the standing ask at this place.
@@ -79,7 +80,7 @@ fn hand_on<C: Core>(
     alloc: Global,
     moment: Moment,
     at: usize,
-) -> Result<Reply, OutOfMemory>
+) -> Result<(Reply, Freed), OutOfMemory>
     requires within { at < length books.old.standing.items }
     requires stands { C.stands core.old log.old }
     requires keeps { KeptBy log.old books.old }
@@ -89,7 +90,8 @@ fn hand_on<C: Core>(
     ensures noted { NotedBy log.new books.new }
     ensures asks { books.new.asks ≡ books.old.asks }
     ensures known { books.new.known ≡ books.old.known }
-    ensures ok { IfOk result (λ reply. (step : Step) × IsRequestAt moment books.old.standing.items at step × Entered step reply log.old log.new books.old.standing.items books.new.standing.items) }
+    ensures ok { IfOk result (λ r. (step : Step) × IsRequestAt moment books.old.standing.items at step × Entered step r.0 log.old log.new books.old.standing.items books.new.standing.items) }
+    ensures freed { IfOk result (λ r. KeepsCharge r.1 books.old.standing.items books.new.standing.items) }
     ensures err { OnErr result ((log.new ≡ log.old) × (books.new ≡ books.old)) }
 {
     let one = &books.standing[at];
@@ -101,24 +103,15 @@ fn hand_on<C: Core>(
     };
     let entered = enter(core, log, books, alloc, &step);
     drop(step);
-    match entered {
-        Ok((reply, _)) => Ok(reply),
-        Err(OutOfMemory) => Err(OutOfMemory),
-    }
-}
-
-// Some ask may go after an entry with this reply, which changed what stands or not.
-fn may_resume(reply: &Reply, changed: bool, behind: bool) -> bool
-    ensures { result ≡ (not (is_refusal reply.now) && (changed || behind)) }
-{
-    !is_refused(reply) && (changed || behind)
+    entered
 }
 
 impl<C: Core> Parts<C> {
-    // Hands on the asks that lag, until none is left or memory runs out.
-    pub fn go_on(&mut self, alloc: Global, moment: Moment) -> Handed
+    // Hands on the asks that lag, until none is left or memory runs out. Only those lag that stand where some of a share was freed.
+    pub fn go_on(&mut self, alloc: Global, moment: Moment, freed: Freed) -> Handed
         requires stands { C.stands self.old.core self.old.log }
         requires sound { Sound self.old.log self.old.shares.items self.old.books }
+        requires only { IsOnly self.old.shares.items self.old.books.standing.items freed }
         ensures stands { C.stands self.new.core self.new.log }
         ensures sound { Sound self.new.log self.new.shares.items self.new.books }
         ensures shares { self.new.shares ≡ self.old.shares }
@@ -129,7 +122,8 @@ impl<C: Core> Parts<C> {
         ensures goes_on { GoesOn moment self.old.shares.items self.old.books.asks.items self.old.log self.new.log }
     {
         let mut some = false;
-        while let Some(at) = next(self.shares.as_slice(), self.books.standing.as_slice()) {
+        let mut freed = freed;
+        while let Some(at) = next(self.shares.as_slice(), self.books.standing.as_slice(), &freed) {
             let handed = hand_on(
                 &mut self.core,
                 &mut self.log,
@@ -139,15 +133,20 @@ impl<C: Core> Parts<C> {
                 at,
             );
             match handed {
-                Ok(reply) => drop(reply),
+                Ok((reply, more)) => {
+                    drop(reply);
+                    freed = freed.or(more);
+                }
                 Err(OutOfMemory) => {
                     self.behind = true;
+                    drop(freed);
                     return Handed { some, short: true };
                 }
             }
             some = true;
         }
         self.behind = false;
+        drop(freed);
         Handed { some, short: false }
     }
 
@@ -166,17 +165,18 @@ impl<C: Core> Parts<C> {
         if !self.behind {
             return Ok(());
         }
-        let handed = self.go_on(alloc, moment);
+        let handed = self.go_on(alloc, moment, Freed::Anywhere);
         if handed.short && !handed.some {
             return Err(OutOfMemory);
         }
         Ok(())
     }
 
-    // Goes on, if so.
-    fn resume(&mut self, alloc: Global, moment: Moment, goes: bool)
+    // Goes on, if so, where some of a share was freed.
+    fn resume(&mut self, alloc: Global, moment: Moment, goes: bool, freed: Freed)
         requires stands { C.stands self.old.core self.old.log }
         requires sound { Sound self.old.log self.old.shares.items self.old.books }
+        requires only { goes ≡ true → IsOnly self.old.shares.items self.old.books.standing.items freed }
         requires behind { goes ≡ false → self.old.behind ≡ some_may_go self.old.shares.items self.old.books.standing.items }
         ensures stands { C.stands self.new.core self.new.log }
         ensures sound { Sound self.new.log self.new.shares.items self.new.books }
@@ -187,7 +187,9 @@ impl<C: Core> Parts<C> {
         ensures rests { goes ≡ false → self.new.log ≡ self.old.log }
     {
         if goes {
-            self.go_on(alloc, moment);
+            self.go_on(alloc, moment, freed);
+        } else {
+            drop(freed);
         }
     }
 
@@ -209,17 +211,22 @@ impl<C: Core> Parts<C> {
         let step = Step { moment, act };
         let entered = enter(&mut self.core, &mut self.log, &mut self.books, alloc, &step);
         drop(step);
-        let (reply, changed) = match entered {
+        let (reply, freed) = match entered {
             Ok(entered) => entered,
             Err(OutOfMemory) => return Err(OutOfMemory),
         };
-        let goes = may_resume(&reply, changed, self.behind);
-        self.resume(alloc, moment, goes);
+        let goes = !is_refused(&reply);
+        let freed = freed.or_anywhere(self.behind);
+        self.resume(alloc, moment, goes, freed);
         Ok(reply)
     }
 
     // The newest ask, which stands last, is handed on.
-    pub fn hand_on_newest(&mut self, alloc: Global, moment: Moment) -> Result<Reply, OutOfMemory>
+    pub fn hand_on_newest(
+        &mut self,
+        alloc: Global,
+        moment: Moment,
+    ) -> Result<(Reply, Freed), OutOfMemory>
         requires some { 0 < length self.old.books.standing.items }
         requires stands { C.stands self.old.core self.old.log }
         requires keeps { KeptBy self.old.log self.old.books }
@@ -231,7 +238,8 @@ impl<C: Core> Parts<C> {
         ensures asks { self.new.books.asks ≡ self.old.books.asks }
         ensures known { self.new.books.known ≡ self.old.books.known }
         ensures behind { self.new.behind ≡ self.old.behind }
-        ensures ok { IfOk result (λ reply. (step : Step) × IsRequestAt moment self.old.books.standing.items (length self.old.books.standing.items - 1) step × Entered step reply self.old.log self.new.log self.old.books.standing.items self.new.books.standing.items) }
+        ensures ok { IfOk result (λ r. (step : Step) × IsRequestAt moment self.old.books.standing.items (length self.old.books.standing.items - 1) step × Entered step r.0 self.old.log self.new.log self.old.books.standing.items self.new.books.standing.items) }
+        ensures freed { IfOk result (λ r. KeepsCharge r.1 self.old.books.standing.items self.new.books.standing.items) }
         ensures err { OnErr result ((self.new.log ≡ self.old.log) × (self.new.books ≡ self.old.books)) }
     {
         let at = self.books.standing.len() - 1;

@@ -5,6 +5,7 @@ mod asked;
 mod asking;
 mod books;
 mod collecting;
+mod freed;
 mod handing;
 mod notes;
 mod passed;

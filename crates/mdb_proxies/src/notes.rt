@@ -1,11 +1,12 @@
 //! What the entries of the log make of asks, noted by the place of each ask in the list of all.
 
-ghost use Rattle.std.specs.Prelude.{◌≡◌, ℕ, ◌+◌, ◌∷◌, [], ◌++◌, length, nat_eq, false};
+ghost use Rattle.std.specs.Prelude.{◌≡◌, ℕ, ◌+◌, ◌∷◌, [], ◌++◌, length, nat_eq};
 ghost use Rattle.std.specs.HashMap.{get};
-ghost use Rattle.mdb_proxies.specs.Tables.{handed_at, taken_back, noted_at, noted, turned};
+ghost use Rattle.mdb_proxies.specs.Tables.{handed_at, taken_back, noted_at, noted, turned, KeepsCharge};
 
 use crate::asked::Note;
 use crate::books::{Books, is_refused, turn};
+use crate::freed::Freed;
 use mdb_log::{Act, Entry};
 
 fn handed_at(at: usize, note: Note) -> Note
@@ -87,13 +88,13 @@ impl Books {
         }
     }
 
-    // What the newest entry, at this place of the log, makes of the books, and whether it changes what stands.
-    pub fn turn(&mut self, entry: &Entry, at: usize) -> bool
+    // What the newest entry, at this place of the log, makes of the books, and where it frees some of a share.
+    pub fn turn(&mut self, entry: &Entry, at: usize) -> Freed
         ensures notes { self.new.notes.items ≡ noted entry.now at (λ r. get nat_eq self.old.known r) self.old.notes.items }
         ensures asks { self.new.asks ≡ self.old.asks }
         ensures standing { self.new.standing.items ≡ turned entry.now self.old.standing.items }
         ensures known { self.new.known ≡ self.old.known }
-        ensures same { result ≡ false → self.new.standing.items ≡ self.old.standing.items }
+        ensures freed { KeepsCharge result self.old.standing.items self.new.standing.items }
     {
         self.note(entry, at);
         turn(&mut self.standing, entry)

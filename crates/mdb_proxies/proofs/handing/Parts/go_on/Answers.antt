@@ -5,6 +5,7 @@ use Rattle.mdb_proxies.specs.declared.books.Books.{Books}
 use Rattle.mdb_proxies.specs.Entries.{GoesOn}
 use Rattle.mdb_proxies.specs.Tables.{held_in, IsBest}
 use Rattle.mdb_proxies.proofs.Hands.{hands-on}
+use Rattle.mdb_proxies.proofs.Freed.{only-after}
 use Rattle.mdb_proxies.proofs.Next.{best-goes, best-some, next-none}
 use Rattle.mdb_proxies.proofs.Going.{goes-none, goes-step}
 use Rattle.mdb_proxies.proofs.handing.Parts.go_on.Goals as goal
@@ -16,6 +17,7 @@ loop-at-init g c = record {
   shares = refl;
   asks = refl;
   none = λ e. (refl, refl);
+  only = c.requires.only;
   goes_on = goes-none c.args.moment c.args.self.now.shares.items c.args.self.now.books.asks.items c.args.self.now.log c.args.self.now.log refl;
 }
 
@@ -25,7 +27,7 @@ loop-at-smaller g c =
     let s = rw (c.as_slice.ensures.value, c.as_slice-in-loop-at.ensures.value) at c.in-Some.ensures in
     let ok = c.in-Ok.ensures.ok in
     (hands-on l.self.shares.items l.self.log c.hand_on-handed.new.log l.self.books.standing.items c.hand_on-handed.new.books.standing.items l.self.books.asks.items (λ r. get nat_eq l.self.books.known r)
-    c.args.moment c.in-Some.at ok.0 c.in-Ok.reply s.0 (best-goes l.self.shares.items l.self.books.standing.items c.in-Some.at s) ok.1 ok.2 l.invariant.sound.keeps l.invariant.sound.within).fewer
+    c.args.moment c.in-Some.at ok.0 c.in-Ok.handed.0 s.0 (best-goes l.self.shares.items l.self.books.standing.items c.in-Some.at s) ok.1 ok.2 l.invariant.sound.keeps l.invariant.sound.within).fewer
 
 pub loop-at-preserved : goal.loop-at-preserved
 loop-at-preserved g c =
@@ -33,15 +35,16 @@ loop-at-preserved g c =
     let s = rw (c.as_slice.ensures.value, c.as_slice-in-loop-at.ensures.value) at c.in-Some.ensures in
     let ok = c.in-Ok.ensures.ok in
     let h = hands-on l.self.shares.items l.self.log c.hand_on-handed.new.log l.self.books.standing.items c.hand_on-handed.new.books.standing.items l.self.books.asks.items (λ r. get nat_eq l.self.books.known r)
-    c.args.moment c.in-Some.at ok.0 c.in-Ok.reply s.0 (best-goes l.self.shares.items l.self.books.standing.items c.in-Some.at s) ok.1 ok.2 l.invariant.sound.keeps l.invariant.sound.within in
+    c.args.moment c.in-Some.at ok.0 c.in-Ok.handed.0 s.0 (best-goes l.self.shares.items l.self.books.standing.items c.in-Some.at s) ok.1 ok.2 l.invariant.sound.keeps l.invariant.sound.within in
     record {
       stands = c.in-Ok.ensures.stands;
       sound = record { keeps = c.in-Ok.ensures.keeps; noted = c.in-Ok.ensures.noted; within = h.within };
       shares = l.invariant.shares;
       asks = c.in-Ok.ensures.asks ∙ l.invariant.asks;
       none = λ e. absurd (let z : true ≡ false = e in cc);
+      only = only-after l.self.shares.items ok.2.entry l.self.books.standing.items c.hand_on-handed.new.books.standing.items l.freed c.in-Ok.more c.or-freed.result ok.2.after c.in-Ok.ensures.freed c.or-freed.ensures l.invariant.only;
       goes_on = goes-step c.args.moment c.args.self.now.shares.items l.self.shares.items c.args.self.now.books.asks.items l.self.books.asks.items c.args.self.now.log l.self.log c.hand_on-handed.new.log
-          l.self.books.standing.items c.hand_on-handed.new.books.standing.items c.in-Some.at ok.0 c.in-Ok.reply (rw l.invariant.shares refl) (rw l.invariant.asks refl) l.invariant.goes_on l.invariant.sound.keeps.standing s ok.1 ok.2;
+          l.self.books.standing.items c.hand_on-handed.new.books.standing.items c.in-Some.at ok.0 c.in-Ok.handed.0 (rw l.invariant.shares refl) (rw l.invariant.asks refl) l.invariant.goes_on l.invariant.sound.keeps.standing s ok.1 ok.2;
     }
 
 pub returns-in-Err-clause-behind : goal.returns-in-Err-clause-behind

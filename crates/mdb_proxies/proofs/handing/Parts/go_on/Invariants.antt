@@ -1,6 +1,6 @@
 use Rattle.std.proofs.Common.{◌≡◌, false}
 use Rattle.mdb_proxies.specs.Entries.{GoesOn}
-use Rattle.mdb_proxies.specs.Tables.{Sound, held_in}
+use Rattle.mdb_proxies.specs.Tables.{Sound, held_in, IsOnly}
 use Rattle.mdb_proxies.proofs.handing.Parts.go_on.Given as goal
 
 abbrev pub invariant-loop-at : goal.invariant-loop-at
@@ -10,6 +10,7 @@ invariant-loop-at g l = record {
   shares : l.self.shares ≡ l.initial.self.shares;
   asks : l.self.books.asks ≡ l.initial.self.books.asks;
   none : l.some ≡ false → (l.self.log ≡ l.initial.self.log) × (l.self.books ≡ l.initial.self.books);
+  only : IsOnly l.self.shares.items l.self.books.standing.items l.freed;
   goes_on : GoesOn l.moment l.initial.self.shares.items l.initial.self.books.asks.items l.initial.self.log l.self.log;
 }
 

@@ -1,6 +1,6 @@
 use Rattle.std.proofs.Common.{take, arith}
 use Rattle.mdb_proxies.proofs.Next.{best-more, best-all, best-within}
-use Rattle.mdb_proxies.proofs.books.next.Goals as goal
+use Rattle.mdb_proxies.proofs.books.best_of_all.Goals as goal
 
 pub better-best-requires-clause-best : goal.better-best-requires-clause-best
 better-best-requires-clause-best c = best-within c.args.shares.now c.args.standing.now (take c.loop-at.at c.args.standing.now) c.loop-at.best c.loop-at.invariant
