@@ -16,5 +16,6 @@ pub mod Counting
 pub mod Next
 pub mod Going
 pub mod Begins
+pub mod Order
 pub mod Collects
 pub mod Sounds

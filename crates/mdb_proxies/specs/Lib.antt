@@ -3,6 +3,7 @@ pub mod Charge
 pub mod Telling
 pub mod Entries
 pub mod Tables
+pub mod Order
 pub mod Handing
 pub mod Recording
 pub mod Passing
