@@ -9,7 +9,7 @@ pub mod Noted
 pub mod Places
 pub mod Entering
 pub mod Hands
-pub mod Freed
+pub mod Freeing
 pub mod Charges
 pub mod TurnLoop
 pub mod Counting

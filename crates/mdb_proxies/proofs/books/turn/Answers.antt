@@ -1,7 +1,7 @@
 use Rattle.std.proofs.Common.{◌≡◌, ◌<◌, true, false, length, ap, arith, ◌∙◌}
 use Rattle.mdb_proxies.specs.Tables.{fate_of}
 use Rattle.mdb_proxies.proofs.TurnLoop.{turn-stays, turn-charged, turn-gone, same-at, set-within, remove-within}
-use Rattle.mdb_proxies.proofs.Freed.{charge-set, charge-remove}
+use Rattle.mdb_proxies.proofs.Freeing.{charge-set, charge-remove}
 use Rattle.mdb_proxies.proofs.books.turn.Goals as goal
 
 pub loop-at-preserved-in-Stays : goal.loop-at-preserved-in-Stays

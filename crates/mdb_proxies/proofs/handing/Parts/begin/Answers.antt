@@ -6,7 +6,7 @@ use Rattle.mdb_proxies.specs.Charge.{requests}
 use Rattle.mdb_proxies.specs.Tables.{some_may_go, standing_of, standings, note_of, notes_of}
 use Rattle.mdb_proxies.proofs.Noted.{notes-append}
 use Rattle.mdb_proxies.proofs.Sounds.{sound-back, sound-refused, sound-begun}
-use Rattle.mdb_proxies.proofs.Freed.{only-begun}
+use Rattle.mdb_proxies.proofs.Freeing.{only-begun}
 use Rattle.mdb_proxies.proofs.Begins.{last-same, last-entry, begun-refused, begun-taken, last-told}
 use Rattle.mdb_proxies.proofs.handing.Parts.begin.Goals as goal
 

@@ -5,7 +5,7 @@ use Rattle.mdb_proxies.specs.declared.books.Books.{Books}
 use Rattle.mdb_proxies.specs.Entries.{GoesOn}
 use Rattle.mdb_proxies.specs.Tables.{held_in, IsBest}
 use Rattle.mdb_proxies.proofs.Hands.{hands-on}
-use Rattle.mdb_proxies.proofs.Freed.{only-after}
+use Rattle.mdb_proxies.proofs.Freeing.{only-after}
 use Rattle.mdb_proxies.proofs.Next.{best-goes, best-some, next-none}
 use Rattle.mdb_proxies.proofs.Going.{goes-none, goes-step}
 use Rattle.mdb_proxies.proofs.handing.Parts.go_on.Goals as goal

@@ -6,7 +6,7 @@ use Rattle.mdb_proxies.specs.Charge.{requests}
 use Rattle.mdb_proxies.specs.Entries.{GoesOn}
 use Rattle.mdb_proxies.proofs.Within.{quiet-within}
 use Rattle.mdb_proxies.proofs.Hands.{none-requested}
-use Rattle.mdb_proxies.proofs.Freed.{only-passed}
+use Rattle.mdb_proxies.proofs.Freeing.{only-passed}
 use Rattle.mdb_proxies.proofs.Sounds.{refused-same, rests}
 use Rattle.mdb_proxies.proofs.handing.Parts.pass.Goals as goal
 
