@@ -1,7 +1,8 @@
 -- What is answered to the callers of asks, and to new asks, by what the books say.
-use Rattle.std.proofs.Common.{◌≡◌, ℕ, ◌+◌, ◌≤◌, ◌<◌, Bool, true, false, not, ◌&&◌, ◌||◌, if◌then◌else◌, nat_le, nat_eq, List, [], ◌∷◌, ◌++◌, length, get_or, Option, Some, None, is_some, option_map, unwrap_or, refl, sym, ap, ◌∙◌, subst, arith}
+use Rattle.std.proofs.Common.{◌≡◌, ℕ, ◌+◌, ◌≤◌, ◌<◌, Bool, true, false, not, ◌&&◌, ◌||◌, if◌then◌else◌, nat_le, nat_eq, List, [], ◌∷◌, ◌++◌, length, get_or, Option, Some, None, is_some, option_map, unwrap_or, Result, Ok, Err, suc, zero, refl, sym, ap, ◌∙◌, subst, arith}
 use Rattle.std.specs.HashMap.{get}
-use Rattle.std.specs.List.{list_any}
+use Rattle.std.specs.List.{list_any, HoldsAt}
+use Rattle.std.specs.Result.{IfOk}
 use Rattle.mdb_base.specs.declared.address.ServerAddress.{ServerAddress}
 use Rattle.mdb_log.specs.declared.log.Entry.{Entry}
 use Rattle.mdb_log.specs.declared.reply.Reply.{Reply}
@@ -17,12 +18,16 @@ use Rattle.mdb_proxies.specs.declared.step.ProxyAct.TheVariants.{Ask, Collect, F
 use Rattle.mdb_proxies.specs.Shares.{share_of}
 use Rattle.mdb_proxies.specs.Charge.{is_held, is_held_at, is_at, charge, counts, is_requested, since}
 use Rattle.mdb_proxies.specs.Entries.{GoesOn, Enters}
-use Rattle.mdb_proxies.specs.Telling.{tells, ask_of, kept_reply, tell}
-use Rattle.mdb_proxies.specs.Recording.{Begun}
+use Rattle.mdb_proxies.specs.Telling.{tells, ask_of, kept_reply, tell, worth_keeping}
+use Rattle.mdb_proxies.specs.Recording.{Begun, SameAsks, told_at, tell_at}
 use Rattle.mdb_proxies.specs.Replies.{Replies, Performs, is_collectable, is_held_off, found, kept_for, core_step, tell_if, new_ask}
-use Rattle.mdb_proxies.specs.Tables.{KeptBy, NotedBy, held_at, charge_in, is_off_in, standing_of, standing_if, standings}
+use Rattle.mdb_proxies.specs.Tables.{KeptBy, NotedBy, AreMade, blank, note_of, place_of, held_at, charge_in, is_off_in, standing_of, standing_if, standings}
 use Rattle.mdb_proxies.proofs.Turned.{charge-is}
-use Rattle.mdb_proxies.proofs.Entering.{FoundAt, found-at, not-found}
+use Rattle.mdb_proxies.specs.declared.asked.Note.{Note}
+use Rattle.mdb_proxies.proofs.Telling.{same_asks}
+use Rattle.mdb_proxies.proofs.Places.{told-is, told-same}
+use Rattle.mdb_proxies.proofs.Going.{goes-same, enters-same}
+use Rattle.mdb_proxies.proofs.Entering.{FoundAt, found-at, not-found, HandedBy, handed-by, held-at}
 
 pub collect-held : (m : ℕ) (shares : List ℕ) (xs : List Asked) (log more : List Entry) (r : ℕ) (x : Asked) → ask_of r xs ≡ Some x → is_held log x ≡ true → GoesOn m shares xs log more → Performs m shares xs xs log more (Collect r) Held
 collect-held m shares xs log more r x o h g =
@@ -84,3 +89,67 @@ ask-done m shares xs ys log more t r a reply off h b = record {
   asks = b.asks;
   replied = subst (λ (c : Bool). Replies m shares ys (core_step m (Ask t r a)) log more reply (if c then Some Held else None)) h b.replied;
 }
+
+-- ---- the ask of a number, by what the books say of it
+
+-- the ask that may be collected stands at the place that the books name
+pub spot : (log : List Entry) (b : Books) (r place : ℕ) (o : Option ℕ) → o ≡ get nat_eq b.known r → place ≡ unwrap_or o 0 → KeptBy log b → NotedBy log b → is_collectable log (ask_of r b.asks.items) ≡ true → FoundAt log b r place
+spot log b r place o h e keeps notes c =
+    let f = collectable-found log b r o h keeps notes c in
+    let i : place ≡ f.0 = e ∙ ap (λ (p : Option ℕ). unwrap_or p 0) f.1 in
+    subst (λ (k : ℕ). FoundAt log b r k) (sym i) f.2
+
+-- the entry that handed it on, as the notes name it
+pub spot-handed : (log : List Entry) (b : Books) (r place : ℕ) (o : Option ℕ) → (f : FoundAt log b r place) → (place < length b.notes.items → HoldsAt (λ n. o ≡ n.handed) b.notes.items place) → o ≡ (note_of log f.ask).handed
+spot-handed log b r place o f h = h (omega (arith, f.among, f.placed.within)) blank ∙ ap (λ (n : Note). n.handed) (f.noted blank)
+
+pub made-at : (n : ℕ) (xs : List Asked) (i : ℕ) (x : Asked) → AreMade n xs → i < length xs → ((d : Asked) → get_or xs i d ≡ x) → x.entries ≤ n
+made-at n [] i x m h a = absurd (omega (arith, h))
+made-at n (y ∷ ys) zero x m h a = subst (λ (z : Asked). z.entries ≤ n) (a y) m.0
+made-at n (y ∷ ys) (suc i) x m h a = made-at n ys i x m.1 (omega (arith, h)) a
+
+-- where it was handed on, it is not held back, and the entry is there
+pub spot-entry : (log : List Entry) (b : Books) (r place at : ℕ) (o : Option ℕ) → (f : FoundAt log b r place) → KeptBy log b → o ≡ Some at → o ≡ (note_of log f.ask).handed → HandedBy log f.ask at × (is_held log f.ask ≡ false)
+spot-entry log b r place at o f keeps e h =
+    (handed-by log f.ask at (made-at (length log) b.asks.items place f.ask keeps.made f.placed.within f.placed.at) (sym h ∙ e), held-at log f.ask o h ∙ ap (λ (p : Option ℕ). not (is_some p)) e)
+
+-- the reply that is kept, as the proxy finds it
+pub kept-is : (log : List Entry) (b : Books) (r place at : ℕ) (o : Option Reply) → (f : FoundAt log b r place) → HandedBy log f.ask at
+    → HoldsAt (λ x. HoldsAt (λ e. o ≡ (if x.told then None else worth_keeping (Some e.reply))) log at) b.asks.items place → o ≡ kept_reply log f.ask
+kept-is log b r place at o f w h = go log refl
+  where
+    go : (es : List Entry) → log ≡ es → o ≡ kept_reply log f.ask
+    go [] e = absurd (omega (arith, w.within, ap length e))
+    go (d ∷ ds) e =
+        h f.ask d ∙ ap (λ (x : Asked). if x.told then None else worth_keeping (Some (get_or log at d).reply)) (f.placed.at f.ask)
+        ∙ ap (λ (p : Option Reply). if f.ask.told then None else worth_keeping p) (sym (w.replied d))
+
+tell-at-is : (b : Bool) (r i : ℕ) (xs : List Asked) → place_of r xs ≡ Some i → tell_at b i xs ≡ tell_if b r xs
+tell-at-is true r i xs h = told-is r i xs h
+tell-at-is false r i xs h = refl
+
+tell-at-same : (b : Bool) (i : ℕ) (xs : List Asked) → SameAsks xs (tell_at b i xs)
+tell-at-same true i xs = told-same i xs
+tell-at-same false i xs = same_asks xs
+
+pub if-ok : {A E : Type 0} {P Q : A → Type 0} (r : Result A E) → ((x : A) → P x → Q x) → IfOk r P → IfOk r Q
+if-ok (Ok x) f h = f x h
+if-ok (Err e) f h = tt
+
+-- the kept reply was told
+pub released : (m : ℕ) (shares : List ℕ) (log more : List Entry) (b : Books) (r place : ℕ) (kept : Reply) (ys : List Asked) (f : FoundAt log b r place) → is_held log f.ask ≡ false → kept_reply log f.ask ≡ Some kept
+    → (reply : ProxyReply) → (reply ≡ Core kept) × (ys ≡ told_at place b.asks.items) × GoesOn m shares b.asks.items log more → Performs m shares b.asks.items ys log more (Collect r) reply
+released m shares log more b r place kept ys f h k reply p =
+    let xs : List Asked = b.asks.items in
+    let g : GoesOn m shares ys log more = subst (λ (l : List Asked). GoesOn m shares l log more) (sym p.1) (goes-same m shares xs (told_at place xs) log more (told-same place xs) p.2) in
+    subst (λ (q : ProxyReply). Performs m shares xs ys log more (Collect r) q) (sym p.0) (collect-kept m shares xs ys log more r f.ask kept f.placed.of h k (p.1 ∙ told-is r place xs f.named) g)
+
+-- the core was asked
+pub asked-core : (m : ℕ) (shares : List ℕ) (log more : List Entry) (b : Books) (r place : ℕ) (ys : List Asked) (f : FoundAt log b r place) → is_held log f.ask ≡ false → kept_reply log f.ask ≡ None
+    → (reply : ProxyReply) → (told : Reply) × (reply ≡ Core told) × (ys ≡ tell_at (tells told) place b.asks.items) × Enters m shares b.asks.items (core_step m (Collect r)) told log more → Performs m shares b.asks.items ys log more (Collect r) reply
+asked-core m shares log more b r place ys f h k reply p =
+    let xs : List Asked = b.asks.items in
+    let t : Reply = p.0 in
+    let e : Enters m shares ys (core_step m (Collect r)) t log more
+    = subst (λ (l : List Asked). Enters m shares l (core_step m (Collect r)) t log more) (sym p.2) (enters-same m shares xs (tell_at (tells t) place xs) (core_step m (Collect r)) t log more (tell-at-same (tells t) place xs) p.3) in
+    subst (λ (q : ProxyReply). Performs m shares xs ys log more (Collect r) q) (sym p.1) (collect-asked m shares xs ys log more r f.ask t f.placed.of h k (p.2 ∙ tell-at-is (tells t) r place xs f.named) e)

@@ -1,5 +1,5 @@
 -- One more entry leaves the books those of the log.
-use Rattle.std.proofs.Common.{◌≡◌, ℕ, ◌+◌, Bool, true, false, not, List, [], ◌∷◌, ◌++◌, length, nat_eq, get_or, Option, Some, None, is_some, refl, sym, ap, ◌∙◌, subst, arith, length-drop, ◌≤◌, ◌<◌, if◌then◌else◌}
+use Rattle.std.proofs.Common.{◌≡◌, ℕ, ◌+◌, Bool, true, false, not, ◌&&◌, List, [], ◌∷◌, ◌++◌, length, nat_eq, get_or, Option, Some, None, is_some, refl, sym, ap, ◌∙◌, subst, arith, length-drop, ◌≤◌, ◌<◌, if◌then◌else◌}
 use Rattle.std.specs.HashMap.{get}
 use Rattle.std.proofs.lemmas.List.{get_or-drop}
 use Rattle.mdb_log.specs.declared.log.Entry.{Entry}
@@ -37,6 +37,7 @@ pub record FoundAt (log : List Entry) (b : Books) (r i : ℕ) : Type 0 where
   pub placed : Placed r b.asks.items i ask
   pub noted : (n : Note) → get_or b.notes.items i n ≡ note_of log ask
   pub among : length b.notes.items ≡ length b.asks.items
+  pub named : place_of r b.asks.items ≡ Some i
 
 pub found-at : (log : List Entry) (b : Books) (r i : ℕ) → KeptBy log b → NotedBy log b → get nat_eq b.known r ≡ Some i → FoundAt log b r i
 found-at log b r i keeps notes h =
@@ -46,14 +47,19 @@ found-at log b r i keeps notes h =
       placed = p.1;
       noted = λ n. ap (λ (ns : List Note). get_or ns i n) notes ∙ note-at log b.asks.items i p.0 p.1.within p.1.at n;
       among = ap length notes ∙ length-notes log b.asks.items;
+      named = sym (keeps.placed r) ∙ h;
     }
 
 pub not-found : (log : List Entry) (b : Books) (r : ℕ) → KeptBy log b → get nat_eq b.known r ≡ None → ask_of r b.asks.items ≡ None
 not-found log b r keeps h = unplaced r b.asks.items (sym (keeps.placed r) ∙ h)
 
+and-if : (a b : Bool) → (if a then b else false) ≡ (a && b)
+and-if true b = refl
+and-if false b = refl
+
 -- an ask may be collected that is there, untold and not returned
 pub collectable-at : (log : List Entry) (b : Books) (r i : ℕ) (untold returned : Bool) → (f : FoundAt log b r i) → untold ≡ not f.ask.told → returned ≡ is_finished log f.ask → (if untold then not returned else false) ≡ is_collectable log (ask_of r b.asks.items)
-collectable-at log b r i untold returned f u t = rw (u, t, f.placed.of) refl
+collectable-at log b r i untold returned f u t = rw (u, t, f.placed.of) (and-if (not f.ask.told) (not (is_finished log f.ask)))
 
 -- an ask is held back where the notes name no entry that handed it on
 pub held-at : (log : List Entry) (x : Asked) (o : Option ℕ) → o ≡ (note_of log x).handed → is_held log x ≡ not (is_some o)

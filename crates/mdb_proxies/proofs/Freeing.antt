@@ -92,15 +92,14 @@ unheld shares os f o h = rw h refl
 pub only-turned : (shares : List ℕ) (e : Entry) (os ps : List Standing) (f m w : Freed) (ls : List Standing) → KeepsCharge m os ps → ((t : ℕ) (a : ServerAddress) → is_freed w t a ≡ false → (is_freed f t a ≡ false) × (is_freed m t a ≡ false))
     → list_any (goes_elsewhere shares os f) ls ≡ false → list_any (goes_elsewhere shares ps w) (turned e ls) ≡ false
 only-turned shares e os ps f m w [] k s g = refl
-only-turned shares e os ps f m w (o ∷ ls) k s g = go (fate_of e o)
+only-turned shares e os ps f m w (o ∷ ls) k s g =
+    go (fate_of e o) (elsewhere-fewer shares os ps f m w o k s (first (goes_elsewhere shares os f o) (list_any (goes_elsewhere shares os f) ls) g))
+    (only-turned shares e os ps f m w ls k s (rest (goes_elsewhere shares os f o) (list_any (goes_elsewhere shares os f) ls) g))
   where
-    ih : list_any (goes_elsewhere shares ps w) (turned e ls) ≡ false
-    ih = only-turned shares e os ps f m w ls k s (rest (goes_elsewhere shares os f o) (list_any (goes_elsewhere shares os f) ls) g)
-
-    go : (x : Fate) → list_any (goes_elsewhere shares ps w) (fated x o (turned e ls)) ≡ false
-    go Stays = rw (elsewhere-fewer shares os ps f m w o k s (first (goes_elsewhere shares os f o) (list_any (goes_elsewhere shares os f) ls) g)) ih
-    go Charged = ih
-    go Gone = ih
+    go : (x : Fate) → goes_elsewhere shares ps w o ≡ false → list_any (goes_elsewhere shares ps w) (turned e ls) ≡ false → list_any (goes_elsewhere shares ps w) (fated x o (turned e ls)) ≡ false
+    go Stays h ih = ap (λ (b : Bool). b || list_any (goes_elsewhere shares ps w) (turned e ls)) h ∙ ih
+    go Charged h ih = ih
+    go Gone h ih = ih
 
 -- After an entry what may go stands where a charge fell.
 pub only-after : (shares : List ℕ) (e : Entry) (os ps : List Standing) (f m w : Freed) → ps ≡ turned e os → KeepsCharge m os ps → ((t : ℕ) (a : ServerAddress) → is_freed w t a ≡ false → (is_freed f t a ≡ false) × (is_freed m t a ≡ false))
@@ -119,11 +118,11 @@ only-nowhere shares os h = none-elsewhere shares os os h
 
 pub only-anywhere : (shares : List ℕ) (os ls : List Standing) → list_any (goes_elsewhere shares os Anywhere) ls ≡ false
 only-anywhere shares os [] = refl
-only-anywhere shares os (o ∷ ls) = go (may_go shares os o)
+only-anywhere shares os (o ∷ ls) = go (may_go shares os o) (only-anywhere shares os ls)
   where
-    go : (b : Bool) → ((b && false) || list_any (goes_elsewhere shares os Anywhere) ls) ≡ false
-    go true = only-anywhere shares os ls
-    go false = only-anywhere shares os ls
+    go : (b : Bool) → list_any (goes_elsewhere shares os Anywhere) ls ≡ false → ((b && false) || list_any (goes_elsewhere shares os Anywhere) ls) ≡ false
+    go true ih = ih
+    go false ih = ih
 
 -- where none could go before an entry, or all is looked at
 pub only-passed : (shares : List ℕ) (e : Entry) (os ps : List Standing) (m : Freed) (behind : Bool) → ps ≡ turned e os → KeepsCharge m os ps → behind ≡ some_may_go shares os → IsOnly shares ps (if behind then Anywhere else m)
@@ -181,14 +180,11 @@ there shares os p o g m =
 -- the charge is not below the share
 pub next-full : (shares : List ℕ) (os : List Standing) (p : Standing) (ls : List Standing) → nat_lt (charge_in os p.tenant p.address) (share_of shares p.tenant) ≡ false → list_any (goes_elsewhere shares os (At p)) ls ≡ false → next_in shares os ls ≡ None
 next-full shares os p [] f h = refl
-next-full shares os p (o ∷ ls) f h = go (may_go shares os o) refl
+next-full shares os p (o ∷ ls) f h = go (may_go shares os o) refl (next-full shares os p ls f (rest (goes_elsewhere shares os (At p) o) (list_any (goes_elsewhere shares os (At p)) ls) h))
   where
-    ih : next_in shares os ls ≡ None
-    ih = next-full shares os p ls f (rest (goes_elsewhere shares os (At p) o) (list_any (goes_elsewhere shares os (At p)) ls) h)
-
-    go : (b : Bool) → may_go shares os o ≡ b → next_in shares os (o ∷ ls) ≡ None
-    go true i = let t = there shares os p o (first (goes_elsewhere shares os (At p) o) (list_any (goes_elsewhere shares os (At p)) ls) h) i in absurd (let z : true ≡ false = sym t.below ∙ f in cc)
-    go false i = rw i ih
+    go : (b : Bool) → may_go shares os o ≡ b → next_in shares os ls ≡ None → next_in shares os (o ∷ ls) ≡ None
+    go true i ih = let t = there shares os p o (first (goes_elsewhere shares os (At p) o) (list_any (goes_elsewhere shares os (At p)) ls) h) i in absurd (let z : true ≡ false = sym t.below ∙ f in cc)
+    go false i ih = rw i ih
 
 -- one that is held back there may go
 held-goes : (shares : List ℕ) (os : List Standing) (p o : Standing) → nat_lt (charge_in os p.tenant p.address) (share_of shares p.tenant) ≡ true → held_at p.tenant p.address o ≡ true → may_go shares os o ≡ true
@@ -200,14 +196,14 @@ held-goes shares os p o b h =
 
 found-held : (p : Standing) (ls : List Standing) (q : Standing) → find (held_at p.tenant p.address) ls ≡ Some q → q.tenant ≡ p.tenant
 found-held p [] q h = absurd (let z : None ≡ Some q = h in cc)
-found-held p (o ∷ ls) q h = go (held_at p.tenant p.address o) refl
+found-held p (o ∷ ls) q h = go (held_at p.tenant p.address o) refl (λ e. found-held p ls q e)
   where
-    go : (b : Bool) → held_at p.tenant p.address o ≡ b → q.tenant ≡ p.tenant
-    go true i =
+    go : (b : Bool) → held_at p.tenant p.address o ≡ b → (find (held_at p.tenant p.address) ls ≡ Some q → q.tenant ≡ p.tenant) → q.tenant ≡ p.tenant
+    go true i ih =
         let z : Some o ≡ Some q = subst (λ (b : Bool). (if b then Some o else find (held_at p.tenant p.address) ls) ≡ Some q) i h in
         let e : o ≡ q = cc in
         ap (λ (x : Standing). x.tenant) (sym e) ∙ (standing-is p.tenant p.address o (left (standing_at p.tenant p.address o) o.held i)).0
-    go false i = found-held p ls q (subst (λ (b : Bool). (if b then Some o else find (held_at p.tenant p.address) ls) ≡ Some q) i h)
+    go false i ih = ih (subst (λ (b : Bool). (if b then Some o else find (held_at p.tenant p.address) ls) ≡ Some q) i h)
 
 lt-self : (n : ℕ) → nat_lt n n ≡ false
 lt-self n = grind (arith, nat_tests)
@@ -216,11 +212,9 @@ lt-self n = grind (arith, nat_tests)
 pub next-first-held : (shares : List ℕ) (os : List Standing) (p : Standing) (ls : List Standing) → nat_lt (charge_in os p.tenant p.address) (share_of shares p.tenant) ≡ true → list_any (goes_elsewhere shares os (At p)) ls ≡ false
     → next_in shares os ls ≡ find (held_at p.tenant p.address) ls
 next-first-held shares os p [] b h = refl
-next-first-held shares os p (o ∷ ls) b h = go (may_go shares os o) refl (held_at p.tenant p.address o) refl
+next-first-held shares os p (o ∷ ls) b h =
+    go (may_go shares os o) refl (held_at p.tenant p.address o) refl (next-first-held shares os p ls b (rest (goes_elsewhere shares os (At p) o) (list_any (goes_elsewhere shares os (At p)) ls) h))
   where
-    ih : next_in shares os ls ≡ find (held_at p.tenant p.address) ls
-    ih = next-first-held shares os p ls b (rest (goes_elsewhere shares os (At p) o) (list_any (goes_elsewhere shares os (At p)) ls) h)
-
     of : may_go shares os o ≡ true → There shares os p o
     of i = there shares os p o (first (goes_elsewhere shares os (At p) o) (list_any (goes_elsewhere shares os (At p)) ls) h) i
 
@@ -228,11 +222,11 @@ next-first-held shares os p (o ∷ ls) b h = go (may_go shares os o) refl (held_
     sooner t None j = refl
     sooner t (Some q) j = rw (found-held p ls q j, t, lt-self p.tenant) refl
 
-    go : (m : Bool) → may_go shares os o ≡ m → (d : Bool) → held_at p.tenant p.address o ≡ d → next_in shares os (o ∷ ls) ≡ find (held_at p.tenant p.address) (o ∷ ls)
-    go true i true j = rw (i, j) (ap (λ (n : Option Standing). Some (sooner_in o n)) ih ∙ ap Some (sooner (of i).tenant (find (held_at p.tenant p.address) ls) refl))
-    go true i false j = absurd (let z : true ≡ false = sym (of i).held ∙ j in cc)
-    go false i true j = absurd (let z : true ≡ false = sym (held-goes shares os p o b j) ∙ i in cc)
-    go false i false j = rw (i, j) ih
+    go : (m : Bool) → may_go shares os o ≡ m → (d : Bool) → held_at p.tenant p.address o ≡ d → next_in shares os ls ≡ find (held_at p.tenant p.address) ls → next_in shares os (o ∷ ls) ≡ find (held_at p.tenant p.address) (o ∷ ls)
+    go true i true j ih = rw (i, j) (ap (λ (n : Option Standing). Some (sooner_in o n)) ih ∙ ap Some (sooner (of i).tenant (find (held_at p.tenant p.address) ls) refl))
+    go true i false j ih = absurd (let z : true ≡ false = sym (of i).held ∙ j in cc)
+    go false i true j ih = absurd (let z : true ≡ false = sym (held-goes shares os p o b j) ∙ i in cc)
+    go false i false j ih = rw (i, j) ih
 
 got : (os : List Standing) (i : ℕ) → i < length os → (d : Standing) → slice_get os i ≡ Some (get_or os i d)
 got [] i h d = absurd (omega (arith, h))
@@ -260,3 +254,9 @@ best-held shares os p best b h e = subst (λ (o : Option ℕ). IsBest shares os 
       where
         over : nat_lt k (length os) ≡ false → length os ≤ k
         over j = grind (arith, nat_tests)
+
+pub not-lt : (m n : ℕ) → n ≤ m → nat_lt m n ≡ false
+not-lt m n h = grind (arith, nat_tests)
+
+pub is-lt : (m n : ℕ) → m < n → nat_lt m n ≡ true
+is-lt m n h = (Decides-ltb m n).1 h

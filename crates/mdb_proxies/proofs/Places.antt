@@ -110,7 +110,7 @@ hander r n i (x ∷ xs) h = go (requests r x.step.act) refl (λ e. hander r (n +
         record { behind = 0; is = omega (arith, k); within = omega arith; replied = λ d. rw f refl }
     go false f ih =
         let p = ih (subst (λ (b : Bool). (if b then Some n else place_from r (n + 1) xs) ≡ Some i) f h) in
-        record { behind = p.behind + 1; is = omega (arith, p.is); within = omega (arith, p.within); replied = λ d. rw f (p.replied d ∙ ap (λ (k : ℕ). Some (get_or (x ∷ xs) k d).reply) (sym (add-one p.behind))) }
+        record { behind = p.behind + 1; is = omega (arith, p.is); within = omega (arith, p.within); replied = λ d. ap (λ (b : Bool). if b then Some x.reply else reply_to r xs) f ∙ p.replied d ∙ ap (λ (k : ℕ). Some (get_or (x ∷ xs) k d).reply) (sym (add-one p.behind)) }
 
 pub requested-by : (r n : ℕ) (es : List Entry) → is_some (place_from r n es) ≡ is_requested r es
 requested-by r n [] = refl

@@ -87,7 +87,7 @@ go_on-requires-clause-sound g c κs within =
     let asks : n.books.asks.items ≡ r.before ++ r.newest ∷ [] = rw i.asks r.asks in
     rw i.shares
     (sound-begun s.log n.log s.shares.items s.books c.tell_newest.new.self r.before r.newest n.books.standing.items c.args.moment (length s.books.standing.items - 1) i.ok.0 c.in-Ok.handed.0 r.standing r.sound r.is_off at i.ok.1 i.ok.2
-    (rw (r.asks, t.asks r.before r.newest asks) (last-told r.before r.newest c.tells-told.result)) (rw t.standing refl) ((rw t.notes i.noted) ∙ (rw i.asks refl)) (t.known ∙ i.known))
+    (rw (r.asks, t.asks r.before r.newest asks) (last-told r.before r.newest c.tells-told.result)) (rw t.standing refl) (rw (t.notes, ← i.asks) i.noted) (t.known ∙ i.known))
 
 pub go_on-requires-clause-only : goal.go_on-requires-clause-only
 go_on-requires-clause-only g c κs within =
@@ -111,4 +111,4 @@ returns-clause-ok g c = λ xs x h.
     let at : length s.books.standing.items - 1 + 1 ≡ length s.books.standing.items = omega (arith, ap length r.standing, length-append (standings s.log r.before) (standing_of r.newest true ∷ [])) in
     let is = last-entry c.args.moment (length s.books.standing.items - 1) i.ok.0 c.in-Ok.handed.0 s.log n.log (standings s.log r.before) s.books.standing.items n.books.standing.items r.newest r.standing at i.ok.1 i.ok.2 in
     begun-taken c.args.moment s.shares.items xs c.go_on.new.self.books.asks.items x s.log n.log c.go_on.new.self.log c.in-Ok.handed.0 c.tells-told.result i.ok.2.entry (rw l.1 at is) i.ok.2.grown (sym c.is_refused.ensures ∙ c.if-is_refused.false) c.tells-told.ensures
-    ((rw c.go_on.ensures.asks refl) ∙ c.tell_newest.ensures.asks xs x ((rw i.asks refl) ∙ h)) (rw (i.shares, c.go_on.ensures.asks) at c.go_on.ensures.goes_on)
+    ((rw c.go_on.ensures.asks refl) ∙ c.tell_newest.ensures.asks xs x ((rw i.asks refl) ∙ h)) (rw (i.shares, ← c.go_on.ensures.asks) at c.go_on.ensures.goes_on)

@@ -22,7 +22,7 @@ resume-requires-clause-behind g c κs within = λ off.
     let s = c.args.self.now in
     let n = c.in-Ok.ensures.ok in
     let none = none-requested n.entry s.books.standing.items (λ r. ap (λ (t : Step). requests r t.act) n.is.1 ∙ c.requires.own r) in
-    rests c.is_refused.result (is_refusal c.in-Ok.entered.0) s.behind s.shares.items s.books.standing.items c.enter-entered.new.books.standing.items off c.is_refused.ensures
+    rests c.is_refused-goes.result (is_refusal c.in-Ok.entered.0) s.behind s.shares.items s.books.standing.items c.enter-entered.new.books.standing.items off c.is_refused-goes.ensures
     (λ f. n.after ∙ refused-same n.entry s.books.standing.items (ap is_refusal n.is.2 ∙ f) none) c.requires.behind
 
 pub resume-requires-clause-only : goal.resume-requires-clause-only
@@ -37,6 +37,6 @@ returns-clause-ok g c =
     record {
       entry = n.entry;
       is = n.is;
-      refused = λ f. c.resume.ensures.rests (ap not (c.is_refused.ensures ∙ f)) ∙ n.grown;
+      refused = λ f. c.resume.ensures.rests (ap not (c.is_refused-goes.ensures ∙ f)) ∙ n.grown;
       goes_on = rw c.in-Ok.ensures.asks at (rw n.grown at c.resume.ensures.goes_on);
     }
