@@ -23,4 +23,4 @@ returns-else-is_untold c = λ log keeps notes.
     let b = c.args.self.now in
     let f = found-at log b c.args.request c.in-Some.place keeps notes (sym c.in-Some.ensures) in
     let u = c.is_untold.ensures f.placed.within f.ask ∙ ap (λ (x : Asked). not x.told) (f.placed.at f.ask) in
-    ap (λ (x : Bool). if x then not (is_finished log f.ask) else false) (sym c.if-is_untold.false) ∙ collectable-at log b c.args.request c.in-Some.place c.is_untold.result (is_finished log f.ask) f u refl
+    c.if-is_untold.false ∙ ap (λ (x : Bool). if x then not (is_finished log f.ask) else false) (sym c.if-is_untold.false) ∙ collectable-at log b c.args.request c.in-Some.place c.is_untold.result (is_finished log f.ask) f u refl

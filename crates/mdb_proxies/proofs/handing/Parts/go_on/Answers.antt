@@ -56,4 +56,4 @@ returns-in-Err-clause-behind g c =
 pub returns-clause-behind : goal.returns-clause-behind
 returns-clause-behind g c =
     let l = c.loop-at in
-    sym (next-none l.self.shares.items l.self.books.standing.items l.self.books.standing.items (rw (c.as_slice.ensures.value, c.as_slice-in-loop-at.ensures.value) at (c.in_default.ensures tt)))
+    sym (next-none l.self.shares.items l.self.books.standing.items l.self.books.standing.items (rw (c.as_slice.ensures.value, c.as_slice-in-loop-at.ensures.value) at c.in_default.ensures))

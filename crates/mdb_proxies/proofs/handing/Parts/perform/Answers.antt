@@ -12,4 +12,5 @@ returns-in-Ask-clause-ok g c =
     let a = c.in-Ask.address in
     let off : is_off_in s.shares.items s.books.standing.items t a ≡ is_held_off s.shares.items s.books.asks.items s.log t a
     = ap (λ (os : List Standing). is_off_in s.shares.items os t a) c.requires.sound.keeps.standing ∙ off-is s.shares.items s.log s.books.asks.items t a in
-    if-ok c.ask.result (λ reply. ask-done c.args.moment s.shares.items s.books.asks.items c.ask.new.self.books.asks.items s.log c.ask.new.self.log t c.in-Ask.request a reply (is_off_in s.shares.items s.books.standing.items t a) off) c.ask.ensures.ok
+    rw c.in-Ask.is
+    (if-ok c.ask.result (λ reply. ask-done c.args.moment s.shares.items s.books.asks.items c.ask.new.self.books.asks.items s.log c.ask.new.self.log t c.in-Ask.request a reply (is_off_in s.shares.items s.books.standing.items t a) off) (rw c.len-entries.ensures at c.ask.ensures.ok))

@@ -29,4 +29,4 @@ returns-clause-behind g c =
     c.perform.ensures.behind ∙ ap (some_may_go p.shares.items) c.perform.ensures.sound.keeps.standing ∙ behind-is p.shares.items p.log p.books.asks.items
 
 pub returns-clause-performs : goal.returns-clause-performs
-returns-clause-performs g c = λ none. c.in_ok-reply.ensures.ok
+returns-clause-performs g c = rw (← c.self.view_is) (λ none. c.in_ok-reply.ensures.ok)
