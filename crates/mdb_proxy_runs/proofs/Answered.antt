@@ -6,7 +6,7 @@ use Rattle.mdb_base.specs.declared.options.Options.{Options}
 use Rattle.mdb_log.specs.declared.log.Entry.{Entry}
 use Rattle.mdb_log.specs.declared.step.Step.{Step}
 use Rattle.mdb_log.specs.LegalLog.{IsLegalLog}
-use Rattle.mdb_lines.specs.Script.{lines_of}
+use Rattle.mdb_lines.specs.Script.{lines_of, max_input}
 use Rattle.mdb_lines.proofs.Loops.{took_nothing, took_more, took_no_more}
 use Rattle.mdb_proxies.specs.declared.asked.Asked.{Asked}
 use Rattle.mdb_proxies.specs.declared.step.ProxyStep.{ProxyStep}
@@ -75,12 +75,12 @@ pub record Between (input rest : List ℕ) (number : ℕ) (old now : ProxyView) 
   pub text : List ℕ
   pub cut : lines_of input ≡ map whole lines ++ lines_of rest
   pub answers : AnswersAll old now lines text
-  pub room : number + length rest ≤ 3 + length input
+  pub room : number + length rest ≤ 3 + max_input
   pub taken : Took held new_held text
   pub same : new_faults ≡ faults
 
-pub starts : (input : List ℕ) (old : ProxyView) (held : Option Held) (faults : ℕ) → Between input input 3 old old held held faults faults
-starts input old held faults = record { lines = []; text = []; cut = refl; answers = (refl, refl); room = omega arith; taken = took_nothing held; same = refl }
+pub starts : (input : List ℕ) (old : ProxyView) (held : Option Held) (faults : ℕ) → length input ≤ max_input → Between input input 3 old old held held faults faults
+starts input old held faults fits = record { lines = []; text = []; cut = refl; answers = (refl, refl); room = omega (arith, fits); taken = took_nothing held; same = refl }
 
 pub goes-on : (input rest line behind : List ℕ) (number : ℕ) (old now new : ProxyView) (held mid new_held : Option Held) (faults old_faults new_faults : ℕ) → lines_of rest ≡ whole line ∷ lines_of behind → length behind < length rest
     → Between input rest number old now held mid faults old_faults → LineRuns line now new mid new_held old_faults new_faults → Between input behind (number + 1) old new held new_held faults new_faults
