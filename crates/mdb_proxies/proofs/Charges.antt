@@ -36,7 +36,7 @@ lags-are shares log xs (y ∷ ys) =
 pub behind-is : (shares : List ℕ) (log : List Entry) (xs : List Asked) → some_may_go shares (standings log xs) ≡ is_behind shares xs log
 behind-is shares log xs = lags-are shares log xs xs
 
-at-is : (t : ℕ) (a : ServerAddress) (x : Asked) → is_at t a x ≡ true → (x.tenant ≡ t) × (x.address ≡ a)
+pub at-is : (t : ℕ) (a : ServerAddress) (x : Asked) → is_at t a x ≡ true → (x.tenant ≡ t) × (x.address ≡ a)
 at-is t a x h = ((Decides-eqb x.tenant t).0 (left (x.tenant == t) (same_address x.address a) h), same-address x.address a (right (x.tenant == t) (same_address x.address a) h))
 
 full-at : (shares : List ℕ) (log : List Entry) (xs ys : List Asked) (t : ℕ) (a : ServerAddress) → held_back ys log t a ≢ [] → any_lags shares xs log ys ≡ false → nat_lt (charge xs log t a) (share_of shares t) ≡ false

@@ -57,7 +57,7 @@ none-requested e (o ∷ os) n = (n o.request, none-requested e os n)
 
 -- ---- an ask that the rules hold back
 
-any-same : (p q : Standing → Bool) (xs : List Standing) → ((x : Standing) → p x ≡ q x) → list_any p xs ≡ list_any q xs
+pub any-same : (p q : Standing → Bool) (xs : List Standing) → ((x : Standing) → p x ≡ q x) → list_any p xs ≡ list_any q xs
 any-same p q [] h = refl
 any-same p q (x ∷ xs) h = ap (λ b. b || list_any p xs) (h x) ∙ ap (λ b. q x || b) (any-same p q xs h)
 

@@ -47,7 +47,7 @@ drop-all log = drop-length log
 pub just-made : (log : List Entry) (x : Asked) → x.entries ≡ length log → standings log (x ∷ []) ≡ standing_of x true ∷ []
 just-made log x h = ap (λ es. standing_if (not (is_requested x.request es)) (is_charged x.request es) x []) (ap (λ k. drop k log) h ∙ drop-all log)
 
-made-append : (n : ℕ) (xs : List Asked) (x : Asked) → AreMade n xs → x.entries ≤ n → AreMade n (xs ++ x ∷ [])
+pub made-append : (n : ℕ) (xs : List Asked) (x : Asked) → AreMade n xs → x.entries ≤ n → AreMade n (xs ++ x ∷ [])
 made-append n [] x m h = (h, tt)
 made-append n (y ∷ ys) x m h = (m.0, made-append n ys x m.1 h)
 
@@ -55,7 +55,7 @@ fresh-append : (r : ℕ) (xs : List Asked) (x : Asked) → is_fresh r xs ≡ tru
 fresh-append r [] x h k = both (not (r == x.request)) true k refl
 fresh-append r (y ∷ ys) x h k = both (not (r == y.request)) (is_fresh r (ys ++ x ∷ [])) (left (not (r == y.request)) (is_fresh r ys) h) (fresh-append r ys x (right (not (r == y.request)) (is_fresh r ys) h) k)
 
-single-append : (xs : List Asked) (x : Asked) → AreSingle xs → is_fresh x.request xs ≡ true → AreSingle (xs ++ x ∷ [])
+pub single-append : (xs : List Asked) (x : Asked) → AreSingle xs → is_fresh x.request xs ≡ true → AreSingle (xs ++ x ∷ [])
 single-append [] x s h = (refl, tt)
 single-append (y ∷ ys) x s h = (fresh-append y.request ys x s.0 (ap not (swapped y.request x.request) ∙ left (not (x.request == y.request)) (is_fresh x.request ys) h), single-append ys x s.1 (right (not (x.request == y.request)) (is_fresh x.request ys) h))
 

@@ -17,11 +17,11 @@ use Rattle.mdb_proxies.specs.Tables.{charged_at, charge_in, fate_of, fated, turn
 pub since-more : (log : List Entry) (e : Entry) (x : Asked) → x.entries ≤ length log → since (log ++ e ∷ []) x ≡ since log x ++ e ∷ []
 since-more log e x h = drop-append-le x.entries log (e ∷ []) h
 
-or-assoc : (a b c : Bool) → (a || b) || c ≡ a || (b || c)
+pub or-assoc : (a b c : Bool) → (a || b) || c ≡ a || (b || c)
 or-assoc true b c = refl
 or-assoc false b c = refl
 
-or-none : (a : Bool) → a || false ≡ a
+pub or-none : (a : Bool) → a || false ≡ a
 or-none true = refl
 or-none false = refl
 

@@ -14,7 +14,7 @@ standing-same true c x y os t r a = cc
 standing-same false true x y os t r a = cc
 standing-same false false x y os t r a = refl
 
-standings-same : (log : List Entry) (xs ys : List Asked) → SameAsks xs ys → standings log xs ≡ standings log ys
+pub standings-same : (log : List Entry) (xs ys : List Asked) → SameAsks xs ys → standings log xs ≡ standings log ys
 standings-same log [] [] s = refl
 standings-same log [] (y ∷ ys) s = absurd s
 standings-same log (x ∷ xs) [] s = absurd s

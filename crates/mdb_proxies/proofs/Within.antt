@@ -53,7 +53,7 @@ quiet-within shares e os n w = λ t a. omega (arith, quiet-charge e os t a n, w 
 
 -- ---- the entry of an ask that is handed on
 
-handed-fate : (e : Entry) (o : Standing) → o.held ≡ true → requests o.request e.step.act ≡ true → (fate_of e o ≡ Charged) ⊎ (fate_of e o ≡ Gone)
+pub handed-fate : (e : Entry) (o : Standing) → o.held ≡ true → requests o.request e.step.act ≡ true → (fate_of e o ≡ Charged) ⊎ (fate_of e o ≡ Gone)
 handed-fate e o h q = rw (h, q) (go (is_refusal e.reply || ends o.request e.facts))
   where
     go : (b : Bool) → ((if b then Gone else Charged) ≡ Charged) ⊎ ((if b then Gone else Charged) ≡ Gone)

@@ -1,10 +1,13 @@
 //! The proxy.
 
-ghost use Rattle.std.specs.Prelude.{◌≡◌, [], ℕ, true, false, IfOk, IfErr, OnOk, OnErr, IfNone};
+ghost use Rattle.std.specs.Prelude.{◌≡◌, [], true, false, Some, None, IfOk, IfErr, OnErr};
 ghost use Rattle.mdb_proxies.specs.Shares.{are_shares};
 ghost use Rattle.mdb_proxies.specs.Charge.{is_behind};
 ghost use Rattle.mdb_proxies.specs.Tables.{Sound, some_may_go};
-ghost use Rattle.mdb_proxies.specs.View.{KeepsShares, MayCome};
+ghost use Rattle.mdb_proxies.specs.declared.step.ProxyReply.TheVariants.{Refused as IsRefused};
+ghost use Rattle.mdb_proxies.specs.declared.step.ProxyRefused.{ProxyRefused as Why};
+ghost use Rattle.mdb_proxies.specs.Replies.{refusal_by, refusal_at, refusal_of, Performs};
+ghost use Rattle.mdb_proxies.specs.View.{KeepsShares};
 
 use crate::asked::Asked;
 use crate::books::Books;
@@ -41,14 +44,11 @@ impl<C: Core> Model for Proxy<C> {
 }
 
 impl<C: Core> Parts<C> {
-    fn refusal(&self, moment: Moment, act: &ProxyAct) -> Option<ProxyRefused>
+    // Why the act is refused, whatever its moment.
+    fn refusal_by(&self, act: &ProxyAct) -> Option<ProxyRefused>
         requires sound { Sound self.now.log self.now.shares.items self.now.books }
-        ensures { IfNone result (MayCome self.now.books.asks.items act.now) }
+        ensures { result ≡ refusal_by self.now.shares.items self.now.books.asks.items self.now.log act.now }
     {
-        let last = self.core.last_moment();
-        if moment < last {
-            return Some(ProxyRefused::TimeBack(last));
-        }
         match act {
             ProxyAct::Ask(tenant, request, _) => {
                 if *tenant as usize >= self.shares.len() {
@@ -77,13 +77,26 @@ impl<C: Core> Parts<C> {
         }
     }
 
+    // Why a step at the moment is refused.
+    fn refusal(&self, moment: Moment, act: &ProxyAct) -> Option<ProxyRefused>
+        requires stands { C.stands self.now.core self.now.log }
+        requires sound { Sound self.now.log self.now.shares.items self.now.books }
+        ensures { result ≡ refusal_at moment self.now.shares.items self.now.books.asks.items self.now.log act.now }
+    {
+        let last = self.core.last_moment();
+        if moment < last {
+            return Some(ProxyRefused::TimeBack(last));
+        }
+        self.refusal_by(act)
+    }
+
     fn perform(
         &mut self,
         alloc: Global,
         moment: Moment,
         act: ProxyAct,
     ) -> Result<ProxyReply, OutOfMemory>
-        requires may { MayCome self.old.books.asks.items act }
+        requires may { refusal_by self.old.shares.items self.old.books.asks.items self.old.log act ≡ None }
         requires stands { C.stands self.old.core self.old.log }
         requires sound { Sound self.old.log self.old.shares.items self.old.books }
         requires behind { self.old.behind ≡ some_may_go self.old.shares.items self.old.books.standing.items }
@@ -91,6 +104,8 @@ impl<C: Core> Parts<C> {
         ensures sound { Sound self.new.log self.new.shares.items self.new.books }
         ensures shares { self.new.shares ≡ self.old.shares }
         ensures behind { self.new.behind ≡ some_may_go self.new.shares.items self.new.books.standing.items }
+        ensures ok { IfOk result (λ reply. Performs moment self.old.shares.items self.old.books.asks.items self.new.books.asks.items self.old.log self.new.log act reply) }
+        ensures err { OnErr result ((self.new.log ≡ self.old.log) × (self.new.books.asks.items ≡ self.old.books.asks.items)) }
     {
         match act {
             ProxyAct::Ask(tenant, request, address) => {
@@ -184,6 +199,15 @@ impl<C: Core> Proxy<C> {
     /// One step. `OutOfMemory` where memory ran out before or in the step's first step of the core; nothing has changed then.
     pub fn step(&mut self, alloc: Global, step: ProxyStep) -> Result<Answer, OutOfMemory>
         ensures shares { self.new.shares ≡ self.old.shares }
+
+        // Refused exactly by the first reason that holds, and nothing changed.
+        ensures refused { IfOk result (λ answer. (why : Why) → refusal_of self.old step ≡ Some why → (answer.reply ≡ IsRefused why) × (self.new ≡ self.old)) }
+
+        // What is not refused is answered by the proxy where the request is held back or its reply was kept, and else by the core.
+        ensures performs { IfOk result (λ answer. refusal_of self.old step ≡ None → Performs step.moment self.old.shares self.old.asks self.new.asks self.old.log self.new.log step.act answer.reply) }
+
+        // A want of memory that is told changed nothing.
+        ensures err { OnErr result ((refusal_of self.old step ≡ None) × (self.new ≡ self.old)) }
         ensures keeps { KeepsShares self.new }
         ensures behind { IfOk result (λ answer. answer.behind ≡ is_behind self.new.shares self.new.asks self.new.log) }
     {
