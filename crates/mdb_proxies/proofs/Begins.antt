@@ -1,5 +1,5 @@
 -- What is answered to a new ask.
-use Rattle.std.proofs.Common.{◌≡◌, ℕ, ◌+◌, ◌-◌, Bool, true, false, if◌then◌else◌, List, [], ◌∷◌, ◌++◌, length, get_or, Option, Some, None, refl, sym, ap, ◌∙◌, subst, arith, length-append}
+use Rattle.std.proofs.Common.{◌≡◌, ℕ, ◌+◌, Bool, true, false, List, [], ◌∷◌, ◌++◌, length, get_or, None, refl, sym, ap, ◌∙◌, subst, arith, length-append}
 use Rattle.std.proofs.Math.Seq.{get_or-append_seam}
 use Rattle.mdb_log.specs.declared.log.Entry.{Entry}
 use Rattle.mdb_log.specs.declared.reply.Reply.{Reply}
@@ -8,15 +8,12 @@ use Rattle.mdb_log.specs.declared.step.Act.TheVariants.{Request}
 use Rattle.mdb_log.specs.Driver.{IsEntry, is_refusal}
 use Rattle.mdb_proxies.specs.declared.asked.Asked.{Asked}
 use Rattle.mdb_proxies.specs.declared.asked.Standing.{Standing}
-use Rattle.mdb_proxies.specs.declared.step.ProxyReply.{ProxyReply}
-use Rattle.mdb_proxies.specs.declared.step.ProxyReply.TheVariants.{Core, Held}
+use Rattle.mdb_proxies.specs.declared.step.ProxyReply.TheVariants.{Core}
 use Rattle.mdb_proxies.specs.Handing.{Entered, IsRequestAt}
-use Rattle.mdb_proxies.specs.Entries.{request_at, GoesOn, Enters}
+use Rattle.mdb_proxies.specs.Entries.{request_at, GoesOn}
 use Rattle.mdb_proxies.specs.Telling.{tells, told_if}
 use Rattle.mdb_proxies.specs.Recording.{SameAsks, Begun}
-use Rattle.mdb_proxies.specs.Replies.{with_ask}
 use Rattle.mdb_proxies.specs.Tables.{standing_of}
-use Rattle.mdb_proxies.proofs.Telling.{same_asks}
 use Rattle.mdb_proxies.proofs.Going.{goes-none}
 
 -- lists with one more at their ends are the same where the lists and the ends are

@@ -1,27 +1,25 @@
 -- What is answered to the callers of asks, and to new asks, by what the books say.
-use Rattle.std.proofs.Common.{◌≡◌, ℕ, ◌+◌, ◌≤◌, ◌<◌, Bool, true, false, not, ◌&&◌, ◌||◌, if◌then◌else◌, nat_le, nat_eq, List, [], ◌∷◌, ◌++◌, length, get_or, Option, Some, None, is_some, option_map, unwrap_or, Result, Ok, Err, suc, zero, refl, sym, ap, ◌∙◌, subst, arith}
+use Rattle.std.proofs.Common.{◌≡◌, ℕ, ◌≤◌, ◌<◌, Bool, true, false, not, ◌&&◌, ◌||◌, if◌then◌else◌, nat_le, nat_eq, List, [], ◌∷◌, length, get_or, Option, Some, None, is_some, unwrap_or, Result, Ok, Err, suc, zero, refl, sym, ap, ◌∙◌, subst, arith}
 use Rattle.std.specs.HashMap.{get}
 use Rattle.std.specs.List.{list_any, HoldsAt}
 use Rattle.std.specs.Result.{IfOk}
 use Rattle.mdb_base.specs.declared.address.ServerAddress.{ServerAddress}
 use Rattle.mdb_log.specs.declared.log.Entry.{Entry}
 use Rattle.mdb_log.specs.declared.reply.Reply.{Reply}
-use Rattle.mdb_log.specs.declared.step.Step.{Step}
 use Rattle.mdb_log.specs.declared.step.Use.{Use}
-use Rattle.mdb_log.specs.Driver.{is_refusal}
 use Rattle.mdb_proxies.specs.declared.asked.Asked.{Asked}
 use Rattle.mdb_proxies.specs.declared.asked.Standing.{Standing}
 use Rattle.mdb_proxies.specs.declared.books.Books.{Books}
 use Rattle.mdb_proxies.specs.declared.step.ProxyReply.{ProxyReply}
 use Rattle.mdb_proxies.specs.declared.step.ProxyReply.TheVariants.{Core, Held}
-use Rattle.mdb_proxies.specs.declared.step.ProxyAct.TheVariants.{Ask, Collect, Finish, Pass}
+use Rattle.mdb_proxies.specs.declared.step.ProxyAct.TheVariants.{Ask, Collect, Finish}
 use Rattle.mdb_proxies.specs.Shares.{share_of}
 use Rattle.mdb_proxies.specs.Charge.{is_held, is_held_at, is_at, charge, counts, is_requested, since}
 use Rattle.mdb_proxies.specs.Entries.{GoesOn, Enters}
 use Rattle.mdb_proxies.specs.Telling.{tells, ask_of, kept_reply, tell, worth_keeping}
 use Rattle.mdb_proxies.specs.Recording.{Begun, SameAsks, told_at, tell_at}
 use Rattle.mdb_proxies.specs.Replies.{Replies, Performs, is_collectable, is_held_off, found, kept_for, core_step, tell_if, new_ask}
-use Rattle.mdb_proxies.specs.Tables.{KeptBy, NotedBy, AreMade, blank, note_of, place_of, held_at, charge_in, is_off_in, standing_of, standing_if, standings}
+use Rattle.mdb_proxies.specs.Tables.{KeptBy, NotedBy, AreMade, blank, note_of, place_of, held_at, is_off_in, standing_if, standings}
 use Rattle.mdb_proxies.proofs.Turned.{charge-is}
 use Rattle.mdb_proxies.specs.declared.asked.Note.{Note}
 use Rattle.mdb_proxies.proofs.Telling.{same_asks}

@@ -1,19 +1,18 @@
 -- One more entry leaves the books those of the log.
-use Rattle.std.proofs.Common.{◌≡◌, ℕ, ◌+◌, Bool, true, false, not, ◌&&◌, List, [], ◌∷◌, ◌++◌, length, nat_eq, get_or, Option, Some, None, is_some, refl, sym, ap, ◌∙◌, subst, arith, length-drop, ◌≤◌, ◌<◌, if◌then◌else◌}
+use Rattle.std.proofs.Common.{◌≡◌, ℕ, Bool, true, false, not, ◌&&◌, List, [], ◌∷◌, ◌++◌, length, nat_eq, get_or, Option, Some, None, is_some, refl, sym, ap, ◌∙◌, arith, length-drop, ◌≤◌, ◌<◌, if◌then◌else◌}
 use Rattle.std.specs.HashMap.{get}
 use Rattle.std.proofs.lemmas.List.{get_or-drop}
 use Rattle.mdb_log.specs.declared.log.Entry.{Entry}
-use Rattle.mdb_log.specs.declared.reply.Reply.{Reply}
 use Rattle.mdb_proxies.specs.declared.asked.Asked.{Asked}
 use Rattle.mdb_proxies.specs.declared.asked.Note.{Note}
 use Rattle.mdb_proxies.specs.declared.books.Books.{Books}
-use Rattle.mdb_proxies.specs.Charge.{since, is_requested, is_held}
+use Rattle.mdb_proxies.specs.Charge.{since, is_held}
 use Rattle.mdb_proxies.specs.Telling.{ask_of, is_finished, reply_to}
 use Rattle.mdb_proxies.specs.Replies.{is_collectable}
-use Rattle.mdb_proxies.specs.Tables.{KeptBy, NotedBy, noted, note_of, notes_of, turned, place_of, place_from}
+use Rattle.mdb_proxies.specs.Tables.{KeptBy, NotedBy, noted, note_of, turned, place_of}
 use Rattle.mdb_proxies.proofs.Kept.{keeps-entered}
 use Rattle.mdb_proxies.proofs.Noted.{noted-is, length-notes}
-use Rattle.mdb_proxies.proofs.Places.{Placed, placed, unplaced, note-at, Hander, hander, requested-by}
+use Rattle.mdb_proxies.proofs.Places.{Placed, placed, unplaced, note-at, hander, requested-by}
 
 pub record Entering (more : List Entry) (b : Books) : Type 0 where
   pub keeps : KeptBy more b

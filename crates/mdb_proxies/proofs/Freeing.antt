@@ -1,5 +1,5 @@
 -- Which asks may go, where only some charges fell.
-use Rattle.std.proofs.Common.{◌≡◌, ℕ, ◌+◌, ◌≤◌, ◌<◌, Bool, true, false, not, ◌&&◌, ◌||◌, if◌then◌else◌, ◌==◌, nat_lt, List, [], ◌∷◌, ◌++◌, length, get_or, take, drop, Option, Some, None, ◌⊎◌, inl, inr, refl, sym, ap, ◌∙◌, subst, arith, add-one, suc, zero}
+use Rattle.std.proofs.Common.{◌≡◌, ℕ, ◌+◌, ◌≤◌, ◌<◌, Bool, true, false, not, ◌&&◌, ◌||◌, if◌then◌else◌, ◌==◌, nat_lt, List, [], ◌∷◌, ◌++◌, length, get_or, take, drop, Option, Some, None, inl, inr, refl, sym, ap, ◌∙◌, subst, arith, add-one, suc, zero}
 use Rattle.std.specs.Prelude.{find, slice_get, position}
 use Rattle.std.specs.List.{list_any, remove, position_or_len}
 use Rattle.std.proofs.Math.ListN.{set}
@@ -18,7 +18,7 @@ use Rattle.mdb_proxies.specs.Shares.{share_of}
 use Rattle.mdb_proxies.specs.Tables.{standing_at, charged_at, held_at, charge_in, may_go, some_may_go, sooner_in, next_in, IsBest, fate_of, fated, turned, is_freed, KeepsCharge, goes_elsewhere, IsOnly}
 use Rattle.mdb_proxies.proofs.Bools.{left, right, first, rest, other, both}
 use Rattle.mdb_proxies.proofs.Within.{standing-is, charge-append, turned-append, handed-fate}
-use Rattle.mdb_proxies.proofs.Numbers.{around, dropped}
+use Rattle.mdb_proxies.proofs.Numbers.{around}
 use Rattle.mdb_proxies.proofs.Hands.{any-same, push-charge}
 
 -- ---- what the loop over the standing asks does to charges

@@ -1,20 +1,14 @@
 -- The books of a proxy stay those of its log.
-use Rattle.std.proofs.Common.{◌≡◌, ℕ, ◌+◌, ◌-◌, ◌≤◌, ◌<◌, Bool, true, false, not, ◌&&◌, ◌||◌, if◌then◌else◌, ◌==◌, nat_lt, List, [], ◌∷◌, ◌++◌, length, get_or, take, drop, Option, Some, None, option_map, refl, sym, ap, ◌∙◌, subst, arith, length-append, add-one}
-use Rattle.std.specs.List.{list_any}
+use Rattle.std.proofs.Common.{◌≡◌, ℕ, ◌+◌, ◌≤◌, Bool, true, false, not, if◌then◌else◌, ◌==◌, List, [], ◌∷◌, ◌++◌, length, drop, Option, Some, None, option_map, refl, sym, ap, ◌∙◌, subst, arith, length-append, add-one}
 use Rattle.std.proofs.Math.Seq.{drop-length}
-use Rattle.std.proofs.lemmas.Bool.Decides.{Decides-eqb, Decides-ltb, same_from_decides}
-use Rattle.mdb_base.specs.declared.address.ServerAddress.{ServerAddress}
+use Rattle.std.proofs.lemmas.Bool.Decides.{Decides-eqb}
 use Rattle.mdb_log.specs.declared.log.Entry.{Entry}
-use Rattle.mdb_log.specs.declared.step.Act.TheVariants.{Request}
-use Rattle.mdb_log.specs.Driver.{is_refusal}
 use Rattle.mdb_proxies.specs.declared.asked.Asked.{Asked}
 use Rattle.mdb_proxies.specs.declared.asked.Standing.{Standing}
-use Rattle.mdb_proxies.specs.Charge.{requests, since, is_held, counts, is_requested, is_charged}
-use Rattle.mdb_proxies.specs.Shares.{share_of}
-use Rattle.mdb_proxies.specs.Tables.{standing_at, held_at, charge_in, may_go, some_may_go, turned, standing_of, standing_if, standings, is_fresh, place_of, AreSingle, AreMade, AreWithin, Keeps}
+use Rattle.mdb_proxies.specs.Charge.{is_held, counts, is_requested, is_charged}
+use Rattle.mdb_proxies.specs.Tables.{turned, standing_of, standing_if, standings, is_fresh, place_of, AreSingle, AreMade, Keeps}
 use Rattle.mdb_proxies.proofs.Bools.{not-true, left, right, both, swapped}
 use Rattle.mdb_proxies.proofs.Turned.{turned-is}
-use Rattle.mdb_proxies.proofs.Within.{standing-is, charge-append, held-uncharged}
 
 pub made-later : (m n : ℕ) (xs : List Asked) → m ≤ n → AreMade m xs → AreMade n xs
 made-later m n [] h k = tt

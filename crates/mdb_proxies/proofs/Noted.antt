@@ -1,5 +1,5 @@
 -- The notes of asks are those of the log, after one more entry too.
-use Rattle.std.proofs.Common.{◌≡◌, ℕ, ◌+◌, ◌-◌, ◌≤◌, ◌<◌, Bool, true, false, not, ◌&&◌, ◌||◌, if◌then◌else◌, ◌==◌, nat_eq, List, [], ◌∷◌, ◌++◌, length, get_or, drop, Option, Some, None, is_some, option_map, refl, sym, ap, ◌∙◌, subst, arith, add-one, length-drop, suc, zero}
+use Rattle.std.proofs.Common.{◌≡◌, ℕ, ◌+◌, ◌≤◌, ◌<◌, Bool, true, false, not, ◌&&◌, ◌||◌, if◌then◌else◌, ◌==◌, List, [], ◌∷◌, ◌++◌, length, get_or, drop, Option, Some, None, is_some, option_map, refl, sym, ap, ◌∙◌, subst, arith, add-one, length-drop, suc, zero}
 use Rattle.std.proofs.Math.ListN.{set}
 use Rattle.std.proofs.Math.Seq.{drop-length}
 use Rattle.std.proofs.lemmas.Bool.Decides.{Decides-eqb}
@@ -11,7 +11,7 @@ use Rattle.mdb_proxies.specs.declared.asked.Asked.{Asked}
 use Rattle.mdb_proxies.specs.declared.asked.Note.{Note}
 use Rattle.mdb_proxies.specs.Charge.{requests, returns, since}
 use Rattle.mdb_proxies.specs.Recording.{SameAsks}
-use Rattle.mdb_proxies.specs.Telling.{takes_back, is_returned, is_finished}
+use Rattle.mdb_proxies.specs.Telling.{takes_back, is_returned}
 use Rattle.mdb_proxies.specs.Tables.{blank, place_from, note_of, notes_of, handed_at, taken_back, map_at, noted_at, noted_by, noted, is_fresh, place_of, AreSingle, AreMade}
 use Rattle.mdb_proxies.proofs.Bools.{left, right, not-true}
 use Rattle.mdb_proxies.proofs.Logged.{since-more, or-assoc, or-none}

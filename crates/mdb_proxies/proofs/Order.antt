@@ -1,6 +1,6 @@
 -- Asks of one tenant at one address are handed on in their order.
-use Rattle.std.proofs.Common.{◌≡◌, ℕ, ◌+◌, ◌-◌, ◌≤◌, ◌<◌, Bool, true, false, not, ◌&&◌, ◌||◌, if◌then◌else◌, ◌==◌, nat_lt, nat_le, List, [], ◌∷◌, ◌++◌, length, Option, Some, None, is_some, option_map, refl, sym, ap, ◌∙◌, subst, arith, length-append, append-nil, append_assoc, drop}
-use Rattle.std.proofs.lemmas.Bool.Decides.{Decides-eqb, Decides-ltb, nat_tests}
+use Rattle.std.proofs.Common.{◌≡◌, ℕ, ◌≤◌, ◌<◌, Bool, true, false, not, ◌&&◌, if◌then◌else◌, ◌==◌, nat_lt, nat_le, List, [], ◌∷◌, ◌++◌, length, Option, Some, None, is_some, option_map, refl, sym, ap, ◌∙◌, subst, arith, length-append, append-nil, append_assoc, drop}
+use Rattle.std.proofs.lemmas.Bool.Decides.{Decides-eqb, Decides-ltb}
 use Rattle.mdb_base.specs.Equality.{same_address}
 use Rattle.mdb_base.specs.declared.address.ServerAddress.{ServerAddress}
 use Rattle.mdb_log.specs.declared.log.Entry.{Entry}
@@ -11,7 +11,7 @@ use Rattle.mdb_log.specs.declared.reply.Reply.{Reply}
 use Rattle.mdb_log.specs.Driver.{is_refusal}
 use Rattle.mdb_proxies.specs.declared.asked.Asked.{Asked}
 use Rattle.mdb_proxies.specs.declared.asked.Note.{Note}
-use Rattle.mdb_proxies.specs.Charge.{requests, since, is_held, is_at, is_held_at, charge, lags, sooner, first_of, next_ask, is_requested}
+use Rattle.mdb_proxies.specs.Charge.{requests, since, is_held, is_at, is_held_at, charge, lags, sooner, first_of, is_requested}
 use Rattle.mdb_proxies.specs.Shares.{share_of}
 use Rattle.mdb_proxies.specs.Recording.{SameAsks}
 use Rattle.mdb_proxies.specs.declared.step.ProxyAct.{ProxyAct}
@@ -26,7 +26,7 @@ use Rattle.mdb_proxies.proofs.Telling.{same_asks}
 use Rattle.std.proofs.Math.Seq.{drop-length}
 use Rattle.mdb_proxies.specs.Entries.{request_at, next_request, AreHandedOn, GoesOn, Enters}
 use Rattle.mdb_proxies.specs.Order.{handed_place, IsSooner, IsSoonerThan, IsFirstCome}
-use Rattle.mdb_proxies.specs.Tables.{place_from, note_of, is_fresh, AreSingle, AreMade}
+use Rattle.mdb_proxies.specs.Tables.{place_from, is_fresh, AreSingle, AreMade}
 use Rattle.mdb_proxies.proofs.Bools.{left, right, first, rest, other, not-true, both, swapped}
 use Rattle.mdb_proxies.proofs.Charges.{at-is, passed-own}
 use Rattle.mdb_proxies.proofs.Kept.{made-later, made-append, single-append}
@@ -87,9 +87,10 @@ AreQuiet e (x ∷ xs) = (requests x.request e.step.act ≡ false) × AreQuiet e 
 
 quiet-sooner : (log : List Entry) (e : Entry) (x : Asked) (ys : List Asked) → x.entries ≤ length log → requests x.request e.step.act ≡ false → AreMade (length log) ys → AreQuiet e ys → IsSoonerThan log x ys → IsSoonerThan (log ++ e ∷ []) x ys
 quiet-sooner log e x [] m q ms qs s = tt
-quiet-sooner log e x (y ∷ ys) m q ms qs s =
-    ((λ a. sooner-at (handed_place log x) (handed_place (log ++ e ∷ []) x) (handed_place log y) (handed_place (log ++ e ∷ []) y) (sym (place-kept log e x m q)) (sym (place-kept log e y ms.0 qs.0)) (s.0 a)),
-     quiet-sooner log e x ys m q ms.1 qs.1 s.1)
+quiet-sooner log e x (y ∷ ys) m q ms qs s = (
+  (λ a. sooner-at (handed_place log x) (handed_place (log ++ e ∷ []) x) (handed_place log y) (handed_place (log ++ e ∷ []) y) (sym (place-kept log e x m q)) (sym (place-kept log e y ms.0 qs.0)) (s.0 a)),
+  quiet-sooner log e x ys m q ms.1 qs.1 s.1,
+)
 
 pub quiet-order : (log : List Entry) (e : Entry) (xs : List Asked) → AreMade (length log) xs → AreQuiet e xs → IsFirstCome log xs → IsFirstCome (log ++ e ∷ []) xs
 quiet-order log e [] m q f = tt
@@ -112,20 +113,23 @@ made-left n (x ∷ xs) ys m = (m.0, made-left n xs ys m.1)
 
 handed-sooner : (log : List Entry) (e : Entry) (f x : Asked) (fs back : List Asked) → f.entries ≤ length log → requests f.request e.step.act ≡ false → (is_at f.tenant f.address x ≡ true → is_held log f ≡ false)
     → AreMade (length log) (fs ++ x ∷ back) → AreQuiet e fs → AreQuiet e back → requests x.request e.step.act ≡ true → is_held log x ≡ true → IsSoonerThan log f (fs ++ x ∷ back) → IsSoonerThan (log ++ e ∷ []) f (fs ++ x ∷ back)
-handed-sooner log e f x [] back m q g ms qf qb r h s =
-    ((λ a. let i = handed-some log f m (g a) in
-        sooner-at (Some i.0) (handed_place (log ++ e ∷ []) f) (Some (length log)) (handed_place (log ++ e ∷ []) x) (sym (place-kept log e f m q ∙ i.1)) (sym (place-new log e x ms.0 r (held-none log x h))) i.2),
-     quiet-sooner log e f back m q ms.1 qb s.1)
-handed-sooner log e f x (y ∷ ys) back m q g ms qf qb r h s =
-    ((λ a. sooner-at (handed_place log f) (handed_place (log ++ e ∷ []) f) (handed_place log y) (handed_place (log ++ e ∷ []) y) (sym (place-kept log e f m q)) (sym (place-kept log e y ms.0 qf.0)) (s.0 a)),
-     handed-sooner log e f x ys back m q g ms.1 qf.1 qb r h s.1)
+handed-sooner log e f x [] back m q g ms qf qb r h s = (
+  (λ a. let i = handed-some log f m (g a) in
+      sooner-at (Some i.0) (handed_place (log ++ e ∷ []) f) (Some (length log)) (handed_place (log ++ e ∷ []) x) (sym (place-kept log e f m q ∙ i.1)) (sym (place-new log e x ms.0 r (held-none log x h))) i.2),
+  quiet-sooner log e f back m q ms.1 qb s.1,
+)
+handed-sooner log e f x (y ∷ ys) back m q g ms qf qb r h s = (
+  (λ a. sooner-at (handed_place log f) (handed_place (log ++ e ∷ []) f) (handed_place log y) (handed_place (log ++ e ∷ []) y) (sym (place-kept log e f m q)) (sym (place-kept log e y ms.0 qf.0)) (s.0 a)),
+  handed-sooner log e f x ys back m q g ms.1 qf.1 qb r h s.1,
+)
 
 newer : (log : List Entry) (e : Entry) (x : Asked) (ys : List Asked) → handed_place log x ≡ None → handed_place (log ++ e ∷ []) x ≡ Some (length log) → AreMade (length log) ys → AreQuiet e ys → IsSoonerThan log x ys → IsSoonerThan (log ++ e ∷ []) x ys
 newer log e x [] n k ms qs s = tt
-newer log e x (y ∷ ys) n k ms qs s =
-    ((λ a. sooner-at (Some (length log)) (handed_place (log ++ e ∷ []) x) (handed_place log y) (handed_place (log ++ e ∷ []) y) (sym k) (sym (place-kept log e y ms.0 qs.0))
-        (sooner-none (length log) (handed_place log y) (subst (λ (u : Option ℕ). IsSooner u (handed_place log y)) n (s.0 a)))),
-     newer log e x ys n k ms.1 qs.1 s.1)
+newer log e x (y ∷ ys) n k ms qs s = (
+  (λ a. sooner-at (Some (length log)) (handed_place (log ++ e ∷ []) x) (handed_place log y) (handed_place (log ++ e ∷ []) y) (sym k) (sym (place-kept log e y ms.0 qs.0))
+      (sooner-none (length log) (handed_place log y) (subst (λ (u : Option ℕ). IsSooner u (handed_place log y)) n (s.0 a)))),
+  newer log e x ys n k ms.1 qs.1 s.1,
+)
 
 -- An ask that is handed on before none of its tenant and address that is older keeps the order.
 pub handed-order : (log : List Entry) (e : Entry) (x : Asked) (front back : List Asked) → AreMade (length log) (front ++ x ∷ back) → AreQuiet e front → AreQuiet e back → requests x.request e.step.act ≡ true → is_held log x ≡ true
@@ -250,11 +254,12 @@ same-sooner : (log : List Entry) (x y : Asked) (xs ys : List Asked) → x.tenant
 same-sooner log x y [] [] t r a n s f = tt
 same-sooner log x y [] (w ∷ ws) t r a n s f = absurd s
 same-sooner log x y (v ∷ vs) [] t r a n s f = absurd s
-same-sooner log x y (v ∷ vs) (w ∷ ws) t r a n s f =
-    ((λ h. sooner-at (handed_place log x) (handed_place log y) (handed_place log v) (handed_place log w) (same-place log x y r n) (same-place log v w s.1 s.3)
-        (f.0 (ap (λ (z : ServerAddress). (v.tenant == x.tenant) && same_address v.address z) a ∙ ap (λ (k : ℕ). (v.tenant == k) && same_address v.address y.address) t
-            ∙ ap (λ (k : ℕ). (k == y.tenant) && same_address v.address y.address) s.0 ∙ ap (λ (z : ServerAddress). (w.tenant == y.tenant) && same_address z y.address) s.2 ∙ h))),
-     same-sooner log x y vs ws t r a n s.4 f.1)
+same-sooner log x y (v ∷ vs) (w ∷ ws) t r a n s f = (
+  (λ h. sooner-at (handed_place log x) (handed_place log y) (handed_place log v) (handed_place log w) (same-place log x y r n) (same-place log v w s.1 s.3)
+      (f.0 (ap (λ (z : ServerAddress). (v.tenant == x.tenant) && same_address v.address z) a ∙ ap (λ (k : ℕ). (v.tenant == k) && same_address v.address y.address) t
+      ∙ ap (λ (k : ℕ). (k == y.tenant) && same_address v.address y.address) s.0 ∙ ap (λ (z : ServerAddress). (w.tenant == y.tenant) && same_address z y.address) s.2 ∙ h))),
+  same-sooner log x y vs ws t r a n s.4 f.1,
+)
   where
     same-place : (log : List Entry) (x y : Asked) → x.request ≡ y.request → x.entries ≡ y.entries → handed_place log x ≡ handed_place log y
     same-place log x y r n = ap (λ (k : ℕ). place_from k x.entries (since log x)) r ∙ ap (λ (k : ℕ). place_from y.request k (drop k log)) n
@@ -281,9 +286,10 @@ same-tell-if false r xs = same_asks xs
 -- no older ask is held back where a new one is not held off
 not-held-at : (log : List Entry) (x : Asked) (xs : List Asked) → is_held_at xs log x.tenant x.address ≡ false → AreGone log x xs
 not-held-at log x [] h = tt
-not-held-at log x (y ∷ ys) h =
-    ((λ a. other (is_at x.tenant x.address y) (is_held log y) (turned-about a) (first (is_at x.tenant x.address y && is_held log y) (is_held_at ys log x.tenant x.address) h)),
-     not-held-at log x ys (rest (is_at x.tenant x.address y && is_held log y) (is_held_at ys log x.tenant x.address) h))
+not-held-at log x (y ∷ ys) h = (
+  (λ a. other (is_at x.tenant x.address y) (is_held log y) (turned-about a) (first (is_at x.tenant x.address y && is_held log y) (is_held_at ys log x.tenant x.address) h)),
+  not-held-at log x ys (rest (is_at x.tenant x.address y && is_held log y) (is_held_at ys log x.tenant x.address) h),
+)
   where
     turned-about : is_at y.tenant y.address x ≡ true → is_at x.tenant x.address y ≡ true
     turned-about a =

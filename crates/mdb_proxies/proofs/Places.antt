@@ -1,14 +1,13 @@
 -- Asks by their numbers and by their places.
-use Rattle.std.proofs.Common.{◌≡◌, ℕ, ◌+◌, ◌-◌, ◌≤◌, ◌<◌, Bool, true, false, not, ◌&&◌, ◌||◌, if◌then◌else◌, ◌==◌, List, [], ◌∷◌, ◌++◌, length, get_or, drop, Option, Some, None, is_some, option_map, refl, sym, ap, ◌∙◌, subst, arith, add-one, suc, zero}
+use Rattle.std.proofs.Common.{◌≡◌, ℕ, ◌+◌, ◌<◌, Bool, true, false, if◌then◌else◌, ◌==◌, List, [], ◌∷◌, ◌++◌, length, get_or, Option, Some, None, is_some, option_map, refl, sym, ap, ◌∙◌, subst, arith, add-one, suc, zero}
 use Rattle.std.proofs.Math.ListN.{set}
 use Rattle.mdb_log.specs.declared.log.Entry.{Entry}
-use Rattle.mdb_log.specs.declared.reply.Reply.{Reply}
 use Rattle.mdb_proxies.specs.declared.asked.Asked.{Asked}
 use Rattle.mdb_proxies.specs.declared.asked.Note.{Note}
-use Rattle.mdb_proxies.specs.Charge.{requests, is_requested, since}
+use Rattle.mdb_proxies.specs.Charge.{requests, is_requested}
 use Rattle.mdb_proxies.specs.Recording.{SameAsks, told_at}
 use Rattle.mdb_proxies.specs.Telling.{reply_to, ask_of, told_if, tell}
-use Rattle.mdb_proxies.specs.Tables.{place_from, note_of, notes_of, map_at, place_of}
+use Rattle.mdb_proxies.specs.Tables.{place_from, note_of, notes_of, place_of}
 use Rattle.mdb_proxies.proofs.Telling.{same_asks}
 
 -- the ask of the number stands at the place

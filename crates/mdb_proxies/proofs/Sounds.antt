@@ -1,11 +1,9 @@
 -- What the steps of a proxy leave sound.
-use Rattle.std.proofs.Common.{◌≡◌, ℕ, ◌+◌, ◌≤◌, ◌<◌, Bool, true, false, not, ◌&&◌, ◌||◌, if◌then◌else◌, ◌==◌, nat_eq, nat_lt, nat_le, List, [], ◌∷◌, ◌++◌, length, sum, get_or, Option, Some, None, IfNone, refl, sym, ap, ◌∙◌, subst, arith, append-nil, length-append}
-use Rattle.std.specs.List.{list_any, list_all, HoldsAt}
+use Rattle.std.proofs.Common.{◌≡◌, ℕ, ◌+◌, ◌≤◌, Bool, true, false, not, ◌&&◌, if◌then◌else◌, ◌==◌, nat_eq, nat_lt, nat_le, List, [], ◌∷◌, ◌++◌, length, sum, get_or, Option, Some, None, refl, sym, ap, ◌∙◌, subst, arith, append-nil, length-append}
+use Rattle.std.specs.List.{list_all, HoldsAt}
 use Rattle.std.specs.HashMap.{get}
 use Rattle.std.proofs.Math.Seq.{get_or-append_seam}
 use Rattle.std.proofs.lemmas.Bool.Decides.{Decides-eqb}
-use Rattle.std.proofs.lemmas.List.Recursion.{or_from_places}
-use Rattle.mdb_base.specs.declared.address.ServerAddress.{ServerAddress}
 use Rattle.mdb_log.specs.declared.log.Entry.{Entry}
 use Rattle.mdb_log.specs.declared.reply.Reply.{Reply}
 use Rattle.mdb_log.specs.declared.step.Step.{Step}
@@ -15,14 +13,13 @@ use Rattle.mdb_proxies.specs.declared.asked.Asked.{Asked}
 use Rattle.mdb_proxies.specs.declared.asked.Standing.{Standing}
 use Rattle.mdb_proxies.specs.declared.asked.Note.{Note}
 use Rattle.mdb_proxies.specs.declared.books.Books.{Books}
-use Rattle.mdb_proxies.specs.declared.books.Fate.{Fate}
-use Rattle.mdb_proxies.specs.declared.books.Fate.TheVariants.{Stays, Charged, Gone}
-use Rattle.mdb_proxies.specs.Charge.{requests, ends, settles}
+use Rattle.mdb_proxies.specs.declared.books.Fate.TheVariants.{Stays}
+use Rattle.mdb_proxies.specs.Charge.{requests}
 use Rattle.mdb_proxies.specs.Shares.{share_of, are_shares}
 use Rattle.mdb_proxies.specs.Handing.{Entered, IsRequestAt}
 use Rattle.mdb_proxies.specs.Recording.{Recorded, SameAsks}
-use Rattle.mdb_proxies.specs.Tables.{blank, notes_of, charge_in, may_go, some_may_go, is_off_in, fate_of, fated, turned, standing_of, standings, is_fresh, place_of, AreMade, AreSingle, AreWithin, Keeps, Sound}
-use Rattle.mdb_proxies.proofs.Within.{NoneRequested, turned-append, quiet-within}
+use Rattle.mdb_proxies.specs.Tables.{blank, notes_of, may_go, some_may_go, is_off_in, fate_of, turned, standing_of, standings, is_fresh, place_of, AreMade, AreSingle, AreWithin, Keeps, Sound}
+use Rattle.mdb_proxies.proofs.Within.{NoneRequested, turned-append}
 use Rattle.mdb_proxies.proofs.Numbers.{free-none, free-standings}
 use Rattle.mdb_proxies.proofs.Kept.{keeps-entered, keeps-recorded, keeps-forgotten, left-single}
 use Rattle.mdb_proxies.proofs.Hands.{HandsOn, hands-on, push-charge, push-within, off-stays, on-goes}

@@ -1,5 +1,5 @@
 -- What a log says of asks: which are held back, and which count against the share of their tenant.
-use Rattle.std.specs.Prelude.{ℕ, ◌+◌, Bool, true, false, not, ◌&&◌, ◌||◌, if◌then◌else◌, ◌==◌, nat_lt, List, [], ◌∷◌, drop, Option, Some, None}
+use Rattle.std.specs.Prelude.{ℕ, ◌+◌, Bool, false, not, ◌&&◌, ◌||◌, if◌then◌else◌, ◌==◌, nat_lt, List, [], ◌∷◌, drop, Option, Some, None}
 use Rattle.std.specs.List.{list_any}
 use Rattle.mdb_base.specs.Equality.{same_address}
 use Rattle.mdb_base.specs.declared.address.ServerAddress.{ServerAddress}

@@ -123,7 +123,11 @@ impl<C: Core> Parts<C> {
     {
         let mut some = false;
         let mut freed = freed;
-        while let Some(at) = next(self.shares.as_slice(), self.books.standing.as_slice(), &freed) {
+        while let Some(at) = next(
+            self.shares.as_slice(),
+            self.books.standing.as_slice(),
+            &freed,
+        ) {
             let handed = hand_on(
                 &mut self.core,
                 &mut self.log,

@@ -1,4 +1,4 @@
-use Rattle.std.proofs.Common.{◌≡◌, ◌<◌, true, false, length, ap, arith, ◌∙◌}
+use Rattle.std.proofs.Common.{◌<◌, false, length, ap, arith, ◌∙◌}
 use Rattle.mdb_proxies.specs.Tables.{fate_of}
 use Rattle.mdb_proxies.proofs.TurnLoop.{turn-stays, turn-charged, turn-gone, same-at, set-within, remove-within}
 use Rattle.mdb_proxies.proofs.Freeing.{charge-set, charge-remove}

@@ -1,4 +1,3 @@
-use Rattle.std.proofs.Common.{◌≡◌, sym, ap, ◌∙◌}
 use Rattle.mdb_proxies.proofs.Hands.{newest-is}
 use Rattle.mdb_proxies.proofs.Entering.{entering}
 use Rattle.mdb_proxies.proofs.handing.enter.Goals as goal

@@ -1,5 +1,4 @@
 use Rattle.std.proofs.Common.{◌≡◌, ℕ, Bool, ◌-◌, [], ◌∷◌, ◌++◌, length, length-append, arith, sym, ap, ◌∙◌}
-use Rattle.mdb_proxies.specs.declared.asked.Asked.{Asked}
 use Rattle.mdb_proxies.specs.Telling.{told_if}
 use Rattle.mdb_proxies.specs.Recording.{told_at}
 use Rattle.mdb_proxies.proofs.Places.{told-last}

@@ -1,5 +1,4 @@
-use Rattle.std.proofs.Common.{◌≡◌, ◌+◌, ◌-◌, ℕ, true, false, [], ◌∷◌, ◌++◌, length-append, arith, length, nat_eq, sym, ap, ◌∙◌, refl}
-use Rattle.std.specs.HashMap.{get}
+use Rattle.std.proofs.Common.{◌≡◌, ◌+◌, ◌-◌, true, [], ◌∷◌, ◌++◌, length-append, arith, length, sym, ap, ◌∙◌, refl}
 use Rattle.std.proofs.lemmas.Bool.Decides.{Decides-eqb}
 use Rattle.mdb_log.specs.declared.step.Step.{Step}
 use Rattle.mdb_proxies.specs.Charge.{requests}

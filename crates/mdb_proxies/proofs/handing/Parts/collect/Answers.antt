@@ -1,4 +1,4 @@
-use Rattle.std.proofs.Common.{◌≡◌, ℕ, ◌<◌, true, false, not, Option, is_some, sym, ap, ◌∙◌}
+use Rattle.std.proofs.Common.{◌≡◌, ℕ, true, not, Option, is_some, sym, ap, ◌∙◌}
 use Rattle.mdb_proxies.specs.Charge.{is_held}
 use Rattle.mdb_proxies.proofs.Entering.{held-at}
 use Rattle.mdb_proxies.proofs.Collects.{spot, spot-handed, spot-entry, collect-held, kept-is, if-ok, released, asked-core}

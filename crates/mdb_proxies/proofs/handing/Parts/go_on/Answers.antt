@@ -1,9 +1,5 @@
-use Rattle.std.proofs.Common.{◌≡◌, ℕ, ◌<◌, Some, true, false, nat_eq, refl, sym, ap, ◌∙◌, subst}
+use Rattle.std.proofs.Common.{◌≡◌, true, false, nat_eq, refl, sym, ◌∙◌}
 use Rattle.std.specs.HashMap.{get}
-use Rattle.mdb_proxies.specs.declared.asked.Asked.{Asked}
-use Rattle.mdb_proxies.specs.declared.books.Books.{Books}
-use Rattle.mdb_proxies.specs.Entries.{GoesOn}
-use Rattle.mdb_proxies.specs.Tables.{held_in, IsBest}
 use Rattle.mdb_proxies.proofs.Hands.{hands-on}
 use Rattle.mdb_proxies.proofs.Freeing.{only-after}
 use Rattle.mdb_proxies.proofs.Next.{best-goes, best-some, next-none}

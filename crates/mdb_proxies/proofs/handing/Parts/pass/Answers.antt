@@ -1,9 +1,7 @@
-use Rattle.std.proofs.Common.{◌≡◌, ℕ, [], ◌∷◌, ◌++◌, true, false, not, sym, ap, ◌∙◌, refl, subst}
+use Rattle.std.proofs.Common.{not, ap, ◌∙◌}
 use Rattle.mdb_log.specs.declared.step.Step.{Step}
-use Rattle.mdb_log.specs.declared.log.Entry.{Entry}
 use Rattle.mdb_log.specs.Driver.{is_refusal}
 use Rattle.mdb_proxies.specs.Charge.{requests}
-use Rattle.mdb_proxies.specs.Entries.{GoesOn}
 use Rattle.mdb_proxies.proofs.Within.{quiet-within}
 use Rattle.mdb_proxies.proofs.Hands.{none-requested}
 use Rattle.mdb_proxies.proofs.Freeing.{only-passed}

@@ -1,4 +1,4 @@
-use Rattle.std.proofs.Common.{◌≡◌, ap, ◌∙◌}
+use Rattle.std.proofs.Common.{ap, ◌∙◌}
 use Rattle.mdb_proxies.specs.Tables.{some_may_go}
 use Rattle.mdb_proxies.proofs.Charges.{keeps-shares, behind-is}
 use Rattle.mdb_proxies.proofs.proxy.Proxy.step.Goals as goal
