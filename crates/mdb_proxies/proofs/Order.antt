@@ -1,5 +1,6 @@
 -- Asks of one tenant at one address are handed on in their order.
-use Rattle.std.proofs.Common.{◌≡◌, ℕ, ◌≤◌, ◌<◌, Bool, true, false, not, ◌&&◌, if◌then◌else◌, ◌==◌, nat_lt, nat_le, List, [], ◌∷◌, ◌++◌, length, Option, Some, None, is_some, option_map, refl, sym, ap, ◌∙◌, subst, arith, length-append, append-nil, append_assoc, drop}
+use Rattle.std.proofs.Common.{◌≡◌, ℕ, ◌≤◌, ◌<◌, Bool, true, false, not, ◌&&◌, if◌then◌else◌, ◌==◌, nat_lt, nat_le, List, [], ◌∷◌, ◌++◌, length, Option, Some, None, is_some, option_map, Result, Ok, Err, refl, sym, ap, ◌∙◌, subst, arith, length-append, append-nil, append_assoc, drop}
+use Rattle.std.specs.Result.{IfOk, OnErr}
 use Rattle.std.proofs.lemmas.Bool.Decides.{Decides-eqb, Decides-ltb}
 use Rattle.mdb_base.specs.Equality.{same_address}
 use Rattle.mdb_base.specs.declared.address.ServerAddress.{ServerAddress}
@@ -385,3 +386,9 @@ performs-order m shares old new log more (Collect r) reply k s h p f =
 performs-order m shares old new log more (Finish r used) reply k s h p f = told-order m shares old new log more (core_step m (Finish r used)) reply None (subst (λ (l : List Asked). SameAsks old l) (sym p.asks) (same_asks old)) k s (λ q. refl) p.replied f
 performs-order m shares old new log more (Pass act) reply k s h p f =
     told-order m shares old new log more (core_step m (Pass act)) reply None (subst (λ (l : List Asked). SameAsks old l) (sym p.asks) (same_asks old)) k s (passed-own act (passed-of (is_passed act) h)) p.replied f
+
+-- So does a step that wants for memory, which changes nothing.
+pub acts-order : {E : Type 0} (m : ℕ) (shares : List ℕ) (old new : List Asked) (log more : List Entry) (act : ProxyAct) (r : Result ProxyReply E) → AreMade (length log) old → AreSingle old → refusal_by shares old log act ≡ None → IsFirstCome log old
+    → IfOk r (λ reply. Performs m shares old new log more act reply) → OnErr r ((more ≡ log) × (new ≡ old)) → IsFirstCome more new
+acts-order m shares old new log more act (Ok reply) k s h f p e = performs-order m shares old new log more act reply k s h p f
+acts-order m shares old new log more act (Err x) k s h f p e = rw (e.0, e.1) f

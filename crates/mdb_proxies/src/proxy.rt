@@ -3,6 +3,7 @@
 ghost use Rattle.std.specs.Prelude.{◌≡◌, [], true, false, Some, None, IfOk, IfErr, OnErr};
 ghost use Rattle.mdb_proxies.specs.Shares.{are_shares};
 ghost use Rattle.mdb_proxies.specs.Charge.{is_behind};
+ghost use Rattle.mdb_proxies.specs.Order.{IsFirstCome};
 ghost use Rattle.mdb_proxies.specs.Tables.{Sound, some_may_go};
 ghost use Rattle.mdb_proxies.specs.declared.step.ProxyReply.TheVariants.{Refused as IsRefused};
 ghost use Rattle.mdb_proxies.specs.declared.step.ProxyRefused.{ProxyRefused as Why};
@@ -32,6 +33,7 @@ impl<C: Core> Model for Proxy<C> {
     ghost use Rattle.std.specs.Coded.{codes};
     ghost use Rattle.mdb_base.specs.DocumentCode.{fields_coded};
     ghost use Rattle.mdb_proxies.specs.View.{ProxyView};
+    ghost use Rattle.mdb_proxies.specs.Order.{IsFirstCome};
     ghost use Rattle.mdb_proxies.specs.Tables.{Sound, some_may_go};
 
     ghost Value = { ProxyView };
@@ -40,7 +42,7 @@ impl<C: Core> Model for Proxy<C> {
 
     ghost view = { λ p. record { shares = p.parts.shares.items; asks = p.parts.books.asks.items; log = p.parts.log } };
 
-    ghost invariant = { λ p. C.stands p.parts.core p.parts.log × Sound p.parts.log p.parts.shares.items p.parts.books × (p.parts.behind ≡ some_may_go p.parts.shares.items p.parts.books.standing.items) };
+    ghost invariant = { λ p. C.stands p.parts.core p.parts.log × Sound p.parts.log p.parts.shares.items p.parts.books × (p.parts.behind ≡ some_may_go p.parts.shares.items p.parts.books.standing.items) × IsFirstCome p.parts.log p.parts.books.asks.items };
 }
 
 impl<C: Core> Parts<C> {
@@ -90,7 +92,7 @@ impl<C: Core> Parts<C> {
         self.refusal_by(act)
     }
 
-    fn perform(
+    fn perform_act(
         &mut self,
         alloc: Global,
         moment: Moment,
@@ -126,6 +128,29 @@ impl<C: Core> Parts<C> {
                 Ok(ProxyReply::Core(reply))
             }
         }
+    }
+
+    // As `perform_act` says, and the asks were handed on in their order.
+    fn perform(
+        &mut self,
+        alloc: Global,
+        moment: Moment,
+        act: ProxyAct,
+    ) -> Result<ProxyReply, OutOfMemory>
+        requires may { refusal_by self.old.shares.items self.old.books.asks.items self.old.log act ≡ None }
+        requires stands { C.stands self.old.core self.old.log }
+        requires sound { Sound self.old.log self.old.shares.items self.old.books }
+        requires behind { self.old.behind ≡ some_may_go self.old.shares.items self.old.books.standing.items }
+        requires order { IsFirstCome self.old.log self.old.books.asks.items }
+        ensures stands { C.stands self.new.core self.new.log }
+        ensures sound { Sound self.new.log self.new.shares.items self.new.books }
+        ensures shares { self.new.shares ≡ self.old.shares }
+        ensures behind { self.new.behind ≡ some_may_go self.new.shares.items self.new.books.standing.items }
+        ensures order { IsFirstCome self.new.log self.new.books.asks.items }
+        ensures ok { IfOk result (λ reply. Performs moment self.old.shares.items self.old.books.asks.items self.new.books.asks.items self.old.log self.new.log act reply) }
+        ensures err { OnErr result ((self.new.log ≡ self.old.log) × (self.new.books.asks.items ≡ self.old.books.asks.items)) }
+    {
+        self.perform_act(alloc, moment, act)
     }
 }
 
@@ -209,6 +234,9 @@ impl<C: Core> Proxy<C> {
         // A want of memory that is told changed nothing.
         ensures err { OnErr result ((refusal_of self.old step ≡ None) × (self.new ≡ self.old)) }
         ensures keeps { KeepsShares self.new }
+
+        // Of the asks of each tenant at an address the first ones were handed on, in their order.
+        ensures order { IsFirstCome self.new.log self.new.asks }
         ensures behind { IfOk result (λ answer. answer.behind ≡ is_behind self.new.shares self.new.asks self.new.log) }
     {
         let ProxyStep { moment, act } = step;
