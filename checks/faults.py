@@ -1,11 +1,11 @@
 #!/usr/bin/env python3
 """Runs built programs with one call of the C library failing: each allocation, each read and each write in turn.
 
-usage: checks/faults.py [--script PROGRAM] [--fleet PROGRAM] [--proxy PROGRAM] [--low PROGRAM] [--mid PROGRAM] [--top PROGRAM] [--demo PROGRAM] [--tests PROGRAM] [--jobs N] [--seconds N] [--every]
+usage: checks/faults.py [--script PROGRAM] [--fleet PROGRAM] [--proxy PROGRAM] [--recorded PROGRAM] [--low PROGRAM] [--mid PROGRAM] [--top PROGRAM] [--demo PROGRAM] [--tests PROGRAM] [--jobs N] [--seconds N] [--every]
 
-PROGRAM is crates/CRATE/out/CRATE, of mdb_script, mdb_fleet, mdb_proxy, the three programs of cases (mdb_checks_low, mdb_checks_mid and mdb_checks_top) and mdb_pool_demo, and
+PROGRAM is crates/CRATE/out/CRATE, of mdb_script, mdb_fleet, mdb_proxy, mdb_recorded, the three programs of cases (mdb_checks_low, mdb_checks_mid and mdb_checks_top) and mdb_pool_demo, and
 crates/mdb_trials/out/mdb_trials_tests, where it is left out; nothing is built. mdb_script runs its stored script, also with `share 1` and `share 2`, `make 10`, and
-the scripts of mdb_checks_top that SWEPT names (with --every all of them); mdb_fleet and mdb_proxy run their stored runs, the programs of cases their stored cases, and mdb_pool_demo its threads: of its
+the scripts of mdb_checks_top that SWEPT names (with --every all of them); mdb_fleet, mdb_proxy and mdb_recorded run their stored runs, the programs of cases their stored cases, and mdb_pool_demo its threads: of its
 allocations the first DEMO_FIRST fail in turn, and then each DEMO_STEP-th. Each runs once as it is, and then, up to N runs side by side (as many as there are
 processors) and for at most N seconds (900), once for each call and each of these faults:
 
@@ -59,7 +59,8 @@ LONG = 2000  # allocations of one case; one that takes more is left out
 SWEPT = ('A primary that lists one server less', 'An error of a connection of a pool that was closed', 'The connection stands at its pin',
          'Pins are refused')
 
-Subject = namedtuple('Subject', 'name program words input wanted ends')
+# The status is that of a run to its end.
+Subject = namedtuple('Subject', 'name program words input wanted ends status', defaults=(0,))
 Run = namedtuple('Run', 'status written told counts')
 
 # How a run ends at a fault: its status, and what it tells.
@@ -67,6 +68,7 @@ SCRIPT_ENDS = {'allocation': (1, b'out of memory\n'), 'read': (3, b'read fault\n
 FAULT = b'Error: Os { code: 5, kind: Uncategorized, message: "Input/output error" }\n'
 CHECKS_ENDS = {'allocation': (1, b'Error: Kind(OutOfMemory)\n'), 'read': (1, FAULT), 'write': (1, FAULT)}
 SHARE_ENDS = dict(SCRIPT_ENDS)
+FOUND = 7  # the status of mdb_recorded where it finds something
 DEMO_ENDS = dict(CHECKS_ENDS)
 DEMO_LIMIT = 30  # seconds for one run of the demo
 DEMO_FIRST, DEMO_STEP = 200, 4999  # which allocations of the demo fail; how many it makes is up to the schedule
@@ -107,9 +109,9 @@ def swept(program, folder, is_every):
     return found
 
 
-def subjects(script, fleet, proxy, checks, demo, folder, is_every):
+def subjects(script, fleet, proxy, recorded, checks, demo, folder, is_every):
     """The runs that are disturbed, of the programs that are there; and the programs that are missing."""
-    found, missing = [], [program for program in (script, fleet, proxy, *checks, demo) if not os.path.isfile(program)]
+    found, missing = [], [program for program in (script, fleet, proxy, recorded, *checks, demo) if not os.path.isfile(program)]
     if script not in missing:
         found.append(Subject('mdb_script', script, [], *stored('mdb_script'), SCRIPT_ENDS))
         for parts in ('1', '2'):
@@ -120,6 +122,8 @@ def subjects(script, fleet, proxy, checks, demo, folder, is_every):
         found.append(Subject('mdb_fleet', fleet, [], *stored('mdb_fleet'), SCRIPT_ENDS))
     if proxy not in missing:
         found.append(Subject('mdb_proxy', proxy, [], *stored('mdb_proxy'), SCRIPT_ENDS))
+    if recorded not in missing:
+        found.append(Subject('mdb_recorded', recorded, [], *stored('mdb_recorded'), SCRIPT_ENDS, FOUND))
     for crate, program in zip(CHECKS, checks):
         if program not in missing:
             found.append(Subject(crate, program, [], *stored(crate), CHECKS_ENDS))
@@ -203,12 +207,12 @@ def judge(subject, kind, at, ended):
     """What a run with a fault counts as, 'ended', 'unharmed', 'answered', 'known' or 'found', and the cases that changed."""
     if subject.ends is DEMO_ENDS and kind == 'allocation' and ended.status == 'none':
         return 'known', []
-    is_unharmed = (ended.status, ended.told) == (0, b'') and is_whole(subject, ended.written)
+    is_unharmed = (ended.status, ended.told) == (subject.status, b'') and is_whole(subject, ended.written)
     if not ended.counts or ended.counts[-1][SORTS[kind]] < max(at, 1):
         return ('unharmed' if ended.counts and is_unharmed and is_by_schedule(subject) else 'found'), []
     if kind in ('short_read', 'short_write'):
         return ('unharmed' if is_unharmed else 'found'), []
-    if kind == 'allocation' and ended.status == 0:
+    if kind == 'allocation' and ended.status == subject.status:
         return ('unharmed', []) if is_unharmed else judge_change(subject, ended)
     return judge_end(subject, kind, ended)
 
@@ -263,7 +267,7 @@ def shortened(subject, plain, folder):
 def plain_run(subject, library, folder):
     """A run with no fault, or None where it is not as stored, which is told."""
     plain = run(subject, library, folder, FAULT_EACH='yes')
-    if (plain.status, plain.told) != (0, b'') or not is_whole(subject, plain.written):
+    if (plain.status, plain.told) != (subject.status, b'') or not is_whole(subject, plain.written):
         print('found: %s: with no fault: status %s, told %r, not the stored output' % (subject.name, plain.status, plain.told))
         return None
     if not plain.counts or not plain.counts[-1][0]:
@@ -364,6 +368,7 @@ def options():
     reader = argparse.ArgumentParser(usage=__doc__.split('usage: ')[1])
     reader.add_argument('--script', default=os.path.join(CRATES, 'mdb_script/out/mdb_script'))
     reader.add_argument('--proxy', default=os.path.join(CRATES, 'mdb_proxy/out/mdb_proxy'))
+    reader.add_argument('--recorded', default=os.path.join(CRATES, 'mdb_recorded/out/mdb_recorded'))
     reader.add_argument('--fleet', default=os.path.join(CRATES, 'mdb_fleet/out/mdb_fleet'))
     for crate in CHECKS:
         reader.add_argument('--' + crate.rsplit('_', 1)[1], default=os.path.join(CRATES, crate, 'out', crate))
@@ -381,8 +386,8 @@ def main():
     until = time.monotonic() + given.seconds
     with tempfile.TemporaryDirectory() as folder:
         checks = [os.path.abspath(it) for it in (given.low, given.mid, given.top)]
-        script, fleet, proxy, demo = (os.path.abspath(it) for it in (given.script, given.fleet, given.proxy, given.demo))
-        found, missing = subjects(script, fleet, proxy, checks, demo, folder, given.every)
+        script, fleet, proxy, recorded, demo = (os.path.abspath(it) for it in (given.script, given.fleet, given.proxy, given.recorded, given.demo))
+        found, missing = subjects(script, fleet, proxy, recorded, checks, demo, folder, given.every)
         library = build(folder) if found else None
         for subject in found:
             tally.update(sweep(subject, library, folder, given.jobs, until))

@@ -1,13 +1,13 @@
 //! The monitor of one server, and its steps.
 
-ghost use Rattle.std.specs.Prelude.{◌≡◌, true, false, IfOk, OnOk, OnErr, List, [], ◌∷◌, Some, is_some};
+ghost use Rattle.std.specs.Prelude.{ℕ, ◌≡◌, true, false, IfOk, OnOk, OnErr, List, [], ◌∷◌, Some, is_some};
 ghost use Rattle.mdb_monitor.specs.Average.{mean};
 ghost use Rattle.mdb_monitor.specs.Items.{MonitorItem, began, ended, measured, since, is_running, connection_of, samples};
 ghost use Rattle.mdb_monitor.specs.Beginnings.{begin_row};
 ghost use Rattle.mdb_monitor.specs.Endings.{finish_row};
 ghost use Rattle.mdb_monitor.specs.Standing.{runs, setting_of, StandsFor};
 
-use crate::check::{Begin, CheckResult, Finish};
+use crate::check::{Begin, CheckResult, Finish, Next};
 use crate::knowledge::Knowledge;
 use mdb_base::{Moment, Nanos, OutOfMemory, ServerAddress};
 use std::alloc::{AllocError, Global};
@@ -133,6 +133,22 @@ impl MonitorCore {
         ensures average { (h : List MonitorItem) → StandsFor self.old h → result ≡ mean (samples (setting_of self.old).allow_streaming (measured sample ∷ since h)) }
     {
         self.knowledge.add_sample(sample)
+    }
+
+    /// What the next check does, were it to begin now with the fresh number; nothing changes. A check that runs does what was answered before it began, which is also the answer to the number that
+    /// it was given.
+    pub fn next_check(&self, alloc: Global, fresh: u32) -> Result<Begin, OutOfMemory>
+        ensures { IfOk result (λ b. (h : List MonitorItem) → StandsFor self.now h → b ≡ begin_row (setting_of self.now) (since h) fresh) }
+    {
+        self.beginning(alloc, fresh)
+    }
+
+    /// What follows a check that ended so; nothing changes. `available` says that the type of the server was known before the end. No memory is taken.
+    pub fn next_after(&self, ended: &CheckResult, available: bool) -> Next
+        ensures { (xs : List MonitorItem) (duration : ℕ) → result ≡ (finish_row (setting_of self.now) xs duration ended.now available).next }
+    {
+        let streaming = self.setting.allow_streaming;
+        ended.next(available, streaming)
     }
 
     /// A check succeeded since the last failure or cancellation, so that there is a connection. No memory is taken.

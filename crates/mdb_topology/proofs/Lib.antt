@@ -117,3 +117,4 @@ mod RowsWaiting
 mod RowsReplicaSet
 mod RowsRefusals
 mod RowsJobs
+mod Ahead

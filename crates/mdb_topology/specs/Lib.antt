@@ -33,3 +33,4 @@ pub mod Driving
 pub mod Jobs
 pub mod Handshake
 pub mod Growing
+pub mod Ahead

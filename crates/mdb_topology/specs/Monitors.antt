@@ -51,11 +51,12 @@ is_connected [] p = false
 is_connected (did step reply ∷ h) p = connected_after (is_of h p) step.act (is_connected h p)
 is_connected (made m fact ∷ h) p = is_connected h p
 
--- How many checks began so far that connected: the fresh number of the next connection.
+-- The act begins a check that connects.
 abbrev pub connects : List Item → Act → Bool
 connects h (Beat a q) = not (is_connected h q)
 connects h _ = false
 
+-- How many checks began so far that connected: the fresh number of the next connection.
 abbrev pub fresh : List Item → ℕ
 fresh [] = 0
 fresh (did step reply ∷ h) = fresh h + one_if (connects h step.act)
@@ -65,13 +66,14 @@ fresh (made m fact ∷ h) = fresh h
 abbrev pub fresh_for : List Item → ℕ → ℕ
 fresh_for h p = if is_connected h p then 0 else fresh h
 
--- what was done at the monitor of a pool
+-- with what the act does there
 abbrev pub with_check : (ServerAddress → ℕ → Bool) → ℕ → Act → List MonitorItem → List MonitorItem
 with_check own n (Beat a q) xs = if own a q then began n ∷ xs else xs
 with_check own n (Beaten a q duration came) xs = if own a q then ended duration (check_result a came) ∷ xs else xs
 with_check own n (Rtt a q sample) xs = if own a q then measured sample ∷ xs else xs
 with_check own n _ xs = xs
 
+-- what was done at the monitor of a pool
 abbrev pub monitor_items : List Item → ℕ → List MonitorItem
 monitor_items [] p = []
 monitor_items (did step reply ∷ h) p = with_check (is_of h p) (fresh_for h p) step.act (monitor_items h p)
@@ -89,6 +91,7 @@ recent h p = since (monitor_items h p)
 abbrev pub streams : Options → Bool
 streams o = unwrap_or o.streaming true
 
+-- how a server is monitored: where the options name no time, every 10 seconds, over a connection that is made within 10 seconds
 abbrev pub setting : Options → ServerAddress → Setting
 setting o a = record { address = a; allow_streaming = streams o; heartbeat = unwrap_or o.heartbeat 10000; connect = unwrap_or o.connect 10000 }
 

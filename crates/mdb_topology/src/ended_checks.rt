@@ -16,7 +16,7 @@ use mdb_monitor::{CheckResult, Finish, MonitorCore, Report};
 use std::alloc::{AllocError, Global};
 
 // What the check came to, for its monitor.
-fn check_result(
+pub(crate) fn check_result(
     alloc: Global,
     address: &ServerAddress,
     came: &BeatenResult,

@@ -7,6 +7,7 @@ mod asking;
 mod change;
 mod changing;
 mod check_acts;
+mod checks_ahead;
 mod clearing;
 mod complaining;
 mod driver;

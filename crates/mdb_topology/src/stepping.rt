@@ -17,18 +17,19 @@ use mdb_log::{Act, Entry, HelloResult, Log, Refused, Reply, Step};
 use mdb_monitor::MonitorCore;
 use std::alloc::{AllocError, Global};
 
-// The log gets one entry more, of a copy of the step. The answer is a copy of the reply.
+// The log gets one entry more, of a copy of the step. The answer is a copy of the reply. The facts keep no memory beyond their own.
 fn enter(
     log: &mut Log,
     seat: u32,
     step: &Step,
     reply: Reply,
-    facts: Vec<Fact>,
+    mut facts: Vec<Fact>,
 ) -> Result<Reply, AllocError>
     ensures ok { OnOk result (log.new ≡ log.old ++ record { seat = seat; step = step.now; reply = reply; facts = facts.items } ∷ []) }
     ensures reply { IfOk result (λ told. told ≡ reply) }
     ensures err { OnErr result (log.new ≡ log.old) }
 {
+    facts.shrink_to_fit();
     let copies = copies(step, &reply);
     match copies {
         Ok((step, told)) => {

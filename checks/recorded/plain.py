@@ -1,0 +1,276 @@
+#!/usr/bin/env python3
+"""What mdb_recorded has to say of a recording, by plain definitions over the list of events: slow, and with no state from event to event.
+
+usage: checks/recorded/plain.py [--cmap 2020|2021] < recording.jsonl
+"""
+import json
+import sys
+
+NEEDS_ID = ('ConnectionCreated', 'ConnectionReady', 'ConnectionClosed', 'ConnectionCheckedOut', 'ConnectionCheckedIn')
+OTHERS = ('ConnectionPoolCreated', 'ConnectionPoolReady', 'ConnectionPoolCleared', 'ConnectionPoolClosed', 'ConnectionCheckOutStarted', 'ConnectionCheckOutFailed')
+KINDS = ('Unknown', 'Standalone', 'Mongos', 'PossiblePrimary', 'RSPrimary', 'RSSecondary', 'RSArbiter', 'RSOther', 'RSGhost', 'LoadBalancer')
+SERVERS, TOPOLOGIES = ('ServerOpening', 'ServerClosed', 'ServerDescriptionChanged'), ('TopologyOpening', 'TopologyClosed', 'TopologyDescriptionChanged')
+BEATS = ('ServerHeartbeatStarted', 'ServerHeartbeatSucceeded', 'ServerHeartbeatFailed')
+POOL_LIFE = ('ConnectionPoolReady', 'ConnectionPoolCleared', 'ConnectionPoolClosed', 'ConnectionCreated', 'ConnectionReady', 'ConnectionCheckedOut')
+
+
+class Malformed(Exception):
+    pass
+
+
+def plain_number(text):
+    """A whole number: digits alone, of 64 bits. JSON's numbers are kept as their text."""
+    if not text.isascii() or not text.isdigit() or int(text) >= 2 ** 64:
+        raise Malformed
+    return int(text)
+
+
+class Number(str):
+    pass
+
+
+def loads(line):
+    try:
+        return json.loads(line.decode('utf-8'), parse_int=Number, parse_float=Number, parse_constant=lambda word: int('no'))
+    except (ValueError, RecursionError):
+        raise Malformed
+
+
+def number(value):
+    if not isinstance(value, Number):
+        raise Malformed
+    return plain_number(value)
+
+
+def text(thing, key):
+    value = thing.get(key)
+    if not isinstance(value, str) or isinstance(value, Number):
+        raise Malformed
+    return value
+
+
+def micros(value):
+    """Seconds as microseconds: digits, and a point with digits of which six count."""
+    if not isinstance(value, Number):
+        raise Malformed
+    whole, point, rest = value.partition('.')
+    at = plain_number(whole) * 10 ** 6
+    if point:
+        plain_number(rest[6:] or '0')
+        at += plain_number(rest[:6]) * 10 ** (6 - len(rest[:6]))
+    if at >= 2 ** 64:
+        raise Malformed
+    return at
+
+
+def event_of(line):
+    """The event that a line tells; None where it is passed over."""
+    thing = loads(line)
+    if not isinstance(thing, dict):
+        raise Malformed
+    kind = text(thing, 'kind')
+    if kind not in ('pool', 'sdam', 'beat'):
+        return None
+    name = text(thing, 'event')
+    if kind != 'pool':
+        return server_event_of(thing, kind, name)
+    if name not in NEEDS_ID and name not in OTHERS:
+        return None
+    event = {'kind': 'pool', 'event': name, 'address': text(thing, 'address'), 'id': None, 'at': micros(thing['t']) if 't' in thing else None}
+    event['caller'] = number(thing['caller']) if 'caller' in thing else None
+    if name in NEEDS_ID:
+        if 'connectionId' not in thing:
+            raise Malformed
+        event['id'] = number(thing['connectionId'])
+    if name == 'ConnectionPoolCreated':
+        for key, other in (('maxPoolSize', 100), ('maxConnecting', 2), ('maxIdleTimeMS', 0)):
+            event[key] = number(thing[key]) if key in thing else other
+    if name == 'ConnectionPoolCleared':
+        service = thing.get('serviceId')
+        event['all'] = not isinstance(service, str) or isinstance(service, Number)
+    reason = thing.get('reason')
+    event['reason'] = reason if isinstance(reason, str) and not isinstance(reason, Number) else ''
+    return event
+
+
+def server_event_of(thing, kind, name):
+    if name not in (BEATS if kind == 'beat' else SERVERS + TOPOLOGIES):
+        return None
+    event = {'kind': kind, 'event': name, 'address': None if name in TOPOLOGIES else text(thing, 'address')}
+    for key in ('from', 'to'):
+        word = thing.get(key)
+        event[key] = word if isinstance(word, str) and not isinstance(word, Number) and word in KINDS else None
+    return event
+
+
+def life(events, address):
+    """The events of the pool at an address since it was created there last."""
+    mine = [e for e in events if e['address'] == address]
+    starts = [n for n, e in enumerate(mine) if e['event'] == 'ConnectionPoolCreated']
+    return mine[starts[-1]:] if starts else mine
+
+
+def named(events, name, connection=None):
+    return [e for e in events if e['event'] == name and (connection is None or e['id'] == connection)]
+
+
+def newest(events, kinds):
+    """The newest event that is of one of these kinds."""
+    found = [e for e in events if kinds(e)]
+    return found[-1] if found else None
+
+
+def clears(events):
+    return sum(1 for e in events if e['event'] == 'ConnectionPoolCleared' and e['all'])
+
+
+def is_ready(pool):
+    last = newest(pool, lambda e: e['event'] in ('ConnectionPoolReady', 'ConnectionPoolClosed') or e['event'] == 'ConnectionPoolCleared' and e['all'])
+    return last is not None and last['event'] == 'ConnectionPoolReady'
+
+
+ENDS_WAIT = ('ConnectionCheckedOut', 'ConnectionCreated', 'ConnectionCheckOutFailed')
+
+
+def start(pool, at):
+    """Where the check-out was started whose wait the event at this place of a pool's events ends; None where it ends none."""
+    e = pool[at]
+    if e['caller'] is None or e['event'] not in ENDS_WAIT:
+        return None
+    for n in range(at - 1, -1, -1):
+        if pool[n]['caller'] == e['caller']:
+            if pool[n]['event'] == 'ConnectionCheckOutStarted':
+                return n
+            if pool[n]['event'] in ENDS_WAIT:
+                return None
+    return None
+
+
+def is_passed(pool, e):
+    """It ends a wait, and a check-out that was started later was served before."""
+    mine = start(pool + [e], len(pool))
+    served = (start(pool, n) for n, x in enumerate(pool) if x['event'] in ENDS_WAIT[:2])
+    return mine is not None and any(n is not None and mine < n for n in served)
+
+
+def server_rules(events, e):
+    """The rules that an event of a server or of the topology breaks after all these."""
+    name, mine = e['event'], [x for x in events if x['address'] == e['address'] and e['address'] is not None]
+    state = newest(mine, lambda x: x['event'] in ('ServerOpening', 'ServerClosed'))
+    is_open = state is not None and state['event'] == 'ServerOpening'
+    if name == 'ServerOpening' and is_open:
+        yield 'server-opened-twice'
+    told = any(x['kind'] == 'sdam' for x in events)
+    if (name in ('ServerClosed', 'ServerDescriptionChanged') or name in BEATS and told) and not is_open:
+        yield 'server-not-open'
+    if name == 'ServerDescriptionChanged':
+        last = newest(mine, lambda x: x['event'] in SERVERS)
+        was = None if last is None else {'ServerOpening': 'Unknown', 'ServerClosed': None}.get(last['event'], last['to'])
+        if was is not None and e['from'] is not None and was != e['from']:
+            yield 'from-differs'
+    beat = newest(mine, lambda x: x['event'] in BEATS)
+    if name in BEATS[1:] and (beat is None or beat['event'] != BEATS[0]):
+        yield 'no-check'
+    if name == 'TopologyDescriptionChanged':
+        last = newest(events, lambda x: x['event'] in SERVERS + ('TopologyOpening', 'TopologyDescriptionChanged'))
+        if last is None or last['event'] == 'TopologyDescriptionChanged':
+            yield 'no-cause'
+
+
+def rules(pool, e, year):
+    """The rules that an event breaks after these events of its pool, in the order in which they are told."""
+    name, me = e['event'], e['id']
+    created_pool, closed_pool = bool(named(pool, 'ConnectionPoolCreated')), bool(named(pool, 'ConnectionPoolClosed'))
+    options = named(pool, 'ConnectionPoolCreated')[-1] if created_pool else {'maxPoolSize': 0, 'maxConnecting': 2, 'maxIdleTimeMS': 0}
+    created, readied, closed = (bool(named(pool, kind, me)) for kind in ('ConnectionCreated', 'ConnectionReady', 'ConnectionClosed'))
+    last = newest(pool, lambda x: x['id'] == me and x['event'] in ('ConnectionCheckedOut', 'ConnectionCheckedIn'))
+    out = last is not None and last['event'] == 'ConnectionCheckedOut'
+    goes_out = name == 'ConnectionCheckedOut'
+    if name == 'ConnectionPoolCreated' and created_pool and not closed_pool:
+        yield 'pool-created-twice'
+    if name != 'ConnectionPoolCreated' and not created_pool:
+        yield 'pool-not-created'
+    if name in POOL_LIFE and closed_pool:
+        yield 'pool-is-closed'
+    if goes_out and not is_ready(pool) and year != 2020:
+        yield 'pool-not-ready'
+    if name == 'ConnectionCreated' and created:
+        yield 'created-twice'
+    if name in NEEDS_ID[1:] and not created:
+        yield 'not-created'
+    if name == 'ConnectionReady' and readied:
+        yield 'ready-twice'
+    if goes_out and not readied:
+        yield 'not-ready'
+    if goes_out and out:
+        yield 'checked-out-twice'
+    if name == 'ConnectionCheckedIn' and not out:
+        yield 'not-checked-out'
+    if name == 'ConnectionClosed' and closed:
+        yield 'closed-twice'
+    if name in ('ConnectionReady', 'ConnectionCheckedOut', 'ConnectionCheckedIn') and closed:
+        yield 'is-closed'
+    if name == 'ConnectionClosed' and out and year in (2020, 2021):
+        yield 'closed-while-out'
+    if goes_out:
+        ready = [n for n, x in enumerate(pool) if x['event'] == 'ConnectionReady' and x['id'] == me]
+        if (clears(pool[:ready[-1]]) if ready else 0) < clears(pool):
+            yield 'stale'
+        rest = newest(pool, lambda x: x['id'] == me and x['event'] in ('ConnectionReady', 'ConnectionCheckedIn'))
+        if rest and rest['at'] is not None and e['at'] is not None and 0 < options['maxIdleTimeMS'] and options['maxIdleTimeMS'] * 1000 < e['at'] - rest['at']:
+            yield 'idle'
+    if name == 'ConnectionCreated':
+        if 0 < options['maxPoolSize'] <= max(0, len(named(pool, 'ConnectionCreated')) - len(named(pool, 'ConnectionClosed'))):
+            yield 'too-many'
+        dropped = sum(1 for n, x in enumerate(pool) if x['event'] == 'ConnectionClosed' and not named(pool[:n], 'ConnectionReady', x['id']))
+        if options['maxConnecting'] <= max(0, max(0, len(named(pool, 'ConnectionCreated')) - len(named(pool, 'ConnectionReady'))) - dropped) and year != 2020:
+            yield 'too-many-pending'
+    if name == 'ConnectionCheckOutFailed':
+        broken = any(x['reason'] in ('error', 'connectionError') for x in named(pool, 'ConnectionClosed'))
+        fair = {'timeout': True, 'poolClosed': closed_pool, 'connectionError': not is_ready(pool) or broken or 0 < clears(pool)}
+        if not fair.get(e['reason'], False):
+            yield 'no-reason'
+    if is_passed(pool, e):
+        yield 'out-of-turn'
+
+
+def report(data, year):
+    """The text that mdb_recorded writes, and its status."""
+    lines, events, servers, found, bad = [], [], [], 0, 0
+    for n, line in enumerate(data.split(b'\n')[:-1] if data.endswith(b'\n') else data.split(b'\n') if data else [], 1):
+        try:
+            event = event_of(line)
+        except Malformed:
+            lines.append('line %d: malformed' % n)
+            bad += 1
+            continue
+        if event is None:
+            continue
+        if event['kind'] != 'pool':
+            for rule in server_rules(servers, event):
+                found += 1
+                lines.append('event %d: %s%s' % (n, rule, '' if event['address'] is None else ' server=' + event['address']))
+            servers.append(event)
+            continue
+        for rule in rules(life(events, event['address']), event, year):
+            found += 1
+            lines.append('event %d: %s pool=%s%s' % (n, rule, event['address'], '' if event['id'] is None else ' connection=%d' % event['id']))
+        events.append(event)
+    for address in dict.fromkeys(e['address'] for e in events):
+        pool = life(events, address)
+        counts = [len(named(pool, kind)) for kind in NEEDS_ID[:3] + ('ConnectionCheckOutStarted',) + NEEDS_ID[3:] + ('ConnectionCheckOutFailed',)] + [clears(pool)]
+        lines.append('pool %s created=%d ready=%d closed=%d started=%d out=%d in=%d failed=%d cleared=%d' % ((address,) + tuple(counts)))
+    judged = len(events) + len(servers)
+    lines.append('clean events=%d' % judged if not found and not bad else 'findings=%d malformed=%d events=%d' % (found, bad, judged))
+    return ''.join(line + '\n' for line in lines).encode(), 0 if not found and not bad else 7
+
+
+def main():
+    year = int(sys.argv[2]) if len(sys.argv) == 3 else 0
+    text, status = report(sys.stdin.buffer.read(), year)
+    sys.stdout.buffer.write(text)
+    sys.exit(status)
+
+
+if __name__ == '__main__':
+    main()

@@ -1,0 +1,5 @@
+pub mod EventNames
+pub mod LineForms
+pub mod Known
+pub mod Numbers
+pub mod ServerNames

@@ -1,0 +1,191 @@
+-- What is told of a recording.
+use Rattle.std.specs.Prelude.{ℕ, ◌+◌, ◌==◌, ◌&&◌, Bool, List, [], ◌∷◌, ◌++◌, codes, decimal, Option, Some, None, unwrap_or, if◌then◌else◌}
+use Rattle.mdb_lines.specs.Script.{lines_of}
+use Rattle.mdb_recordings.specs.Events.{id_of}
+use Rattle.mdb_recordings.specs.Lives.{life, facts_of}
+use Rattle.mdb_recordings.specs.Rules.{breaks}
+use Rattle.mdb_recordings.specs.declared.event.Event.{Event}
+use Rattle.mdb_recordings.specs.declared.event.Recorded.{Recorded}
+use Rattle.mdb_recordings.specs.declared.facts.Facts.{Facts}
+use Rattle.mdb_recordings.specs.declared.rule.Rule.{Rule}
+use Rattle.mdb_recordings.specs.declared.standard.Standard.{Standard}
+use Rattle.mdb_recording_lines.specs.Known.{place, with_named}
+use Rattle.mdb_recording_lines.specs.LineForms.{Said, malformed, passed, tells, tells_server, tells_topology, said}
+use Rattle.mdb_recording_servers.specs.ServerRules as servers
+use Rattle.mdb_recording_servers.specs.declared.event.ServerEvent.{ServerEvent}
+use Rattle.mdb_recording_servers.specs.declared.event.ServerEvent.TheVariants.{Server}
+use Rattle.mdb_recording_servers.specs.declared.event.ServerTold.{ServerTold}
+use Rattle.mdb_recording_servers.specs.declared.rule.ServerRule.{ServerRule}
+use Rattle.mdb_recording_runs.specs.Cutting.{without_newline}
+use Rattle.mdb_recording_runs.specs.RuleWords.{all_rules, rule_word, all_server_rules, server_rule_word}
+
+-- What was read so far: the addresses of pools in the order in which they were first named, and their events, the last of them newest;
+-- the same of servers, with the events of the topology; and how many events, findings and malformed lines there were.
+pub record Read : Type 0 where
+  pub known : List (List ℕ)
+  pub history : List Recorded
+  pub servers : List (List ℕ)
+  pub server_history : List ServerEvent
+  pub events : ℕ
+  pub findings : ℕ
+  pub malformed : ℕ
+
+abbrev pub nothing : Read
+nothing = record { known = []; history = []; servers = []; server_history = []; events = 0; findings = 0; malformed = 0 }
+
+-- findings
+
+-- the connection that is named, if one is
+abbrev pub id_text : Option ℕ → List ℕ
+id_text None = []
+id_text (Some i) = codes " connection=" ++ decimal i
+
+-- the line of a finding, by the number of the event's line and the address of its pool
+abbrev pub finding_line : ℕ → List ℕ → Recorded → Rule → List ℕ
+finding_line n a r rule = codes "event " ++ (decimal n ++ (codes ": " ++ (rule_word rule ++ (codes " pool=" ++ (a ++ (id_text (id_of r.event.told) ++ codes "\n"))))))
+
+-- the findings of an event: a line for each of these rules that it breaks
+abbrev pub told_of : {R : Type 0} → (R → Bool) → (R → List ℕ) → List R → List ℕ
+told_of broken line [] = []
+told_of broken line (rule ∷ rules) = (if broken rule then line rule else []) ++ told_of broken line rules
+
+-- how many of these rules it breaks
+abbrev pub how_many : {R : Type 0} → (R → Bool) → List R → ℕ
+how_many broken [] = 0
+how_many broken (rule ∷ rules) = (if broken rule then 1 else 0) + how_many broken rules
+
+-- the findings of an event of a pool after these
+abbrev pub findings_text : Standard → List Recorded → ℕ → List ℕ → Recorded → List ℕ
+findings_text standard h n a r = told_of (λ rule. breaks standard rule h r) (λ rule. finding_line n a r rule) all_rules
+
+abbrev pub findings_count : Standard → List Recorded → Recorded → ℕ
+findings_count standard h r = how_many (λ rule. breaks standard rule h r) all_rules
+
+-- the server that is named, if one is
+abbrev pub server_text : Option (List ℕ) → List ℕ
+server_text None = []
+server_text (Some a) = codes " server=" ++ a
+
+-- the line of a finding of a server, by its address, or of the topology
+abbrev pub server_finding_line : ℕ → Option (List ℕ) → ServerRule → List ℕ
+server_finding_line n o rule = codes "event " ++ (decimal n ++ (codes ": " ++ (server_rule_word rule ++ (server_text o ++ codes "\n"))))
+
+-- the findings of an event of a server or of the topology after these
+abbrev pub server_findings_text : List ServerEvent → ℕ → Option (List ℕ) → ServerEvent → List ℕ
+server_findings_text h n o e = told_of (λ rule. servers.breaks rule h e) (λ rule. server_finding_line n o rule) all_server_rules
+
+abbrev pub server_findings_count : List ServerEvent → ServerEvent → ℕ
+server_findings_count h e = how_many (λ rule. servers.breaks rule h e) all_server_rules
+
+-- lines
+
+-- an event of the pool at the address, which has its number
+abbrev pub recorded_at : Read → List ℕ → Event → Recorded
+recorded_at s a e = record { pool = unwrap_or (place a (with_named a s.known)) 0; event = e }
+
+abbrev pub after_event : Standard → Read → List ℕ → Event → Read
+after_event standard s a e = record s {
+  known = with_named a s.known;
+  history = recorded_at s a e ∷ s.history;
+  events = s.events + 1;
+  findings = s.findings + findings_count standard s.history (recorded_at s a e);
+}
+
+-- the address of a server is named
+abbrev pub naming : List ℕ → Read → Read
+naming a s = record s { servers = with_named a s.servers }
+
+-- an event of the server at the address, which has its number
+abbrev pub server_event_at : Read → List ℕ → ServerTold → ServerEvent
+server_event_at s a t = Server (unwrap_or (place a (with_named a s.servers)) 0) t
+
+-- an event of a server, or of the topology
+abbrev pub after_seen : Read → ServerEvent → Read
+after_seen s e = record s {
+  server_history = e ∷ s.server_history;
+  events = s.events + 1;
+  findings = s.findings + server_findings_count s.server_history e;
+}
+
+-- what was read with a line that tells this
+abbrev pub after_said : Standard → Read → Said → Read
+after_said standard s malformed = record s { malformed = s.malformed + 1 }
+after_said standard s passed = s
+after_said standard s (tells a e) = after_event standard s a e
+after_said standard s (tells_server a t) = after_seen (naming a s) (server_event_at s a t)
+after_said standard s (tells_topology e) = after_seen s e
+
+abbrev pub event_text : Standard → ℕ → Read → List ℕ → Event → List ℕ
+event_text standard n s a e = findings_text standard s.history n a (recorded_at s a e)
+
+-- what is told of the line of this number
+abbrev pub said_text : Standard → ℕ → Read → Said → List ℕ
+said_text standard n s malformed = codes "line " ++ (decimal n ++ codes ": malformed\n")
+said_text standard n s passed = []
+said_text standard n s (tells a e) = event_text standard n s a e
+said_text standard n s (tells_server a t) = server_findings_text s.server_history n (Some a) (server_event_at s a t)
+said_text standard n s (tells_topology e) = server_findings_text s.server_history n None e
+
+-- what was read with these lines
+abbrev pub after_lines : Standard → Read → List (List ℕ) → Read
+after_lines standard s [] = s
+after_lines standard s (line ∷ lines) = after_lines standard (after_said standard s (said (without_newline line))) lines
+
+-- what is told of these lines, counted from this number
+abbrev pub lines_text : Standard → ℕ → Read → List (List ℕ) → List ℕ
+lines_text standard n s [] = []
+lines_text standard n s (line ∷ lines) = said_text standard n s (said (without_newline line)) ++ lines_text standard (n + 1) (after_said standard s (said (without_newline line))) lines
+
+-- the end
+
+-- the counts of a pool's connections, of its check-outs, and of what failed and was cleared
+
+abbrev pub connections_text : Facts → List ℕ
+connections_text f = codes " created=" ++ (decimal f.created ++ (codes " ready=" ++ (decimal f.readied ++ (codes " closed=" ++ decimal f.closed))))
+
+abbrev pub check_outs_text : Facts → List ℕ
+check_outs_text f = codes " started=" ++ (decimal f.started ++ (codes " out=" ++ (decimal f.outs ++ (codes " in=" ++ decimal f.ins))))
+
+abbrev pub ends_text : Facts → List ℕ
+ends_text f = codes " failed=" ++ (decimal f.failed ++ (codes " cleared=" ++ decimal f.clears))
+
+-- what the last pool at an address did
+abbrev pub pool_line : List ℕ → Facts → List ℕ
+pool_line a f = codes "pool " ++ (a ++ (connections_text f ++ (check_outs_text f ++ (ends_text f ++ codes "\n"))))
+
+-- the pools at these addresses, numbered from this
+abbrev pub pools_text : List Recorded → ℕ → List (List ℕ) → List ℕ
+pools_text h p [] = []
+pools_text h p (a ∷ known) = pool_line a (facts_of (life p h)) ++ pools_text h (p + 1) known
+
+-- there is no finding and no malformed line
+abbrev pub nothing_found : ℕ → ℕ → Bool
+nothing_found found bad = (found == 0) && (bad == 0)
+
+abbrev pub clean_line : ℕ → List ℕ
+clean_line events = codes "clean events=" ++ (decimal events ++ codes "\n")
+
+abbrev pub found_line : ℕ → ℕ → ℕ → List ℕ
+found_line found bad events = codes "findings=" ++ (decimal found ++ (codes " malformed=" ++ (decimal bad ++ (codes " events=" ++ (decimal events ++ codes "\n")))))
+
+-- the last line, by these counts
+abbrev pub counts_line : ℕ → ℕ → ℕ → List ℕ
+counts_line found bad events = if nothing_found found bad then clean_line events else found_line found bad events
+
+-- nothing was found
+abbrev pub is_clean : Read → Bool
+is_clean s = nothing_found s.findings s.malformed
+
+abbrev pub end_line : Read → List ℕ
+end_line s = counts_line s.findings s.malformed s.events
+
+-- all that is told of a recording that was read
+abbrev pub end_text : Read → List ℕ
+end_text s = pools_text s.history 0 s.known ++ end_line s
+
+-- what a recording comes to
+abbrev pub read_of : Standard → List ℕ → Read
+read_of standard text = after_lines standard nothing (lines_of text)
+
+abbrev pub report : Standard → List ℕ → List ℕ
+report standard text = lines_text standard 1 nothing (lines_of text) ++ end_text (read_of standard text)

@@ -1,0 +1,91 @@
+//! The rules, in the order in which they are told, and their words.
+
+ghost use Rattle.std.specs.Prelude.{◌≡◌};
+ghost use Rattle.mdb_recording_runs.specs.RuleWords.{all_rules, all_server_rules, rule_word, server_rule_word};
+
+use mdb_recording_servers::ServerRule;
+use mdb_recordings::Rule;
+
+const RULES: [Rule; 19] = [
+    Rule::PoolCreatedTwice,
+    Rule::PoolNotCreated,
+    Rule::PoolIsClosed,
+    Rule::PoolNotReady,
+    Rule::CreatedTwice,
+    Rule::NotCreated,
+    Rule::ReadiedTwice,
+    Rule::NotReadied,
+    Rule::OutTwice,
+    Rule::NotOut,
+    Rule::ClosedTwice,
+    Rule::IsClosed,
+    Rule::ClosedWhileOut,
+    Rule::IsStale,
+    Rule::IsIdle,
+    Rule::TooMany,
+    Rule::TooManyPending,
+    Rule::HasNoReason,
+    Rule::OutOfTurn,
+];
+
+const SERVER_RULES: [ServerRule; 5] = [
+    ServerRule::OpenedTwice,
+    ServerRule::NotOpen,
+    ServerRule::FromDiffers,
+    ServerRule::NotChecked,
+    ServerRule::HasNoCause,
+];
+
+/// All rules of pools.
+pub fn all_rules() -> &'static [Rule]
+    ensures { result.now ≡ all_rules }
+{
+    &RULES
+}
+
+/// The word of a rule of pools: how it is broken.
+pub fn rule_word(rule: Rule) -> &'static str
+    ensures { result.now ≡ rule_word rule }
+{
+    match rule {
+        Rule::PoolCreatedTwice => "pool-created-twice",
+        Rule::PoolNotCreated => "pool-not-created",
+        Rule::PoolIsClosed => "pool-is-closed",
+        Rule::PoolNotReady => "pool-not-ready",
+        Rule::CreatedTwice => "created-twice",
+        Rule::NotCreated => "not-created",
+        Rule::ReadiedTwice => "ready-twice",
+        Rule::NotReadied => "not-ready",
+        Rule::OutTwice => "checked-out-twice",
+        Rule::NotOut => "not-checked-out",
+        Rule::ClosedTwice => "closed-twice",
+        Rule::IsClosed => "is-closed",
+        Rule::ClosedWhileOut => "closed-while-out",
+        Rule::IsStale => "stale",
+        Rule::IsIdle => "idle",
+        Rule::TooMany => "too-many",
+        Rule::TooManyPending => "too-many-pending",
+        Rule::HasNoReason => "no-reason",
+        Rule::OutOfTurn => "out-of-turn",
+    }
+}
+
+/// All rules of servers and of the topology.
+pub fn all_server_rules() -> &'static [ServerRule]
+    ensures { result.now ≡ all_server_rules }
+{
+    &SERVER_RULES
+}
+
+/// The word of a rule of servers or of the topology: how it is broken.
+pub fn server_rule_word(rule: ServerRule) -> &'static str
+    ensures { result.now ≡ server_rule_word rule }
+{
+    match rule {
+        ServerRule::OpenedTwice => "server-opened-twice",
+        ServerRule::NotOpen => "server-not-open",
+        ServerRule::FromDiffers => "from-differs",
+        ServerRule::NotChecked => "no-check",
+        ServerRule::HasNoCause => "no-cause",
+    }
+}

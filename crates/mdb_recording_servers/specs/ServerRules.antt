@@ -1,0 +1,35 @@
+-- The rules: when an event breaks one, by what the events before it tell of its server and of the topology.
+use Rattle.std.specs.Prelude.{Bool, false, not, ◌&&◌, ◌||◌, ◌==◌, List, Option, Some}
+use Rattle.mdb_recording_servers.specs.ServerEvents.{kind_number, server_of_event, opens_one, uses_one, checks_one, ends_check_one, from_told, changes_topology}
+use Rattle.mdb_recording_servers.specs.ServerLives.{server_named, topology_of}
+use Rattle.mdb_recording_servers.specs.declared.event.ServerEvent.{ServerEvent}
+use Rattle.mdb_recording_servers.specs.declared.event.ServerKind.{ServerKind}
+use Rattle.mdb_recording_servers.specs.declared.known.Known.{Known}
+use Rattle.mdb_recording_servers.specs.declared.rule.ServerRule.{ServerRule}
+use Rattle.mdb_recording_servers.specs.declared.rule.ServerRule.TheVariants.{OpenedTwice, NotOpen, FromDiffers, NotChecked, HasNoCause}
+
+-- the two kinds differ, as far as both were told
+abbrev pub differs : Option ServerKind → Option ServerKind → Bool
+differs (Some a) (Some b) = not (kind_number a == kind_number b)
+differs _ _ = false
+
+-- An event breaks a rule, where so much is known of its server and of the topology.
+abbrev pub is_broken : ServerRule → Known → ServerEvent → Bool
+-- a server is opened, and not while it is open
+is_broken OpenedTwice k e = opens_one e && k.server.is_open
+-- a server is opened before other events name it, those of its checks only where the recording tells of servers
+is_broken NotOpen k e = (uses_one e || (checks_one e && k.topology.is_told)) && not k.server.is_open
+-- a server changes from what it was
+is_broken FromDiffers k e = differs (from_told e) k.server.kind
+-- a check ends that began
+is_broken NotChecked k e = ends_check_one e && not k.server.is_checked
+-- the topology changes for a cause that came after its last change
+is_broken HasNoCause k e = changes_topology e && not k.topology.has_cause
+
+-- all that is known when an event comes after these
+abbrev pub known_of : List ServerEvent → ServerEvent → Known
+known_of h e = record { server = server_named (server_of_event e) h; topology = topology_of h }
+
+-- The event breaks the rule, after these events, the last of them newest.
+abbrev pub breaks : ServerRule → List ServerEvent → ServerEvent → Bool
+breaks rule h e = is_broken rule (known_of h e) e

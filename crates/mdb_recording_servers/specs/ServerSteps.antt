@@ -1,0 +1,25 @@
+-- What one event more changes in what is known of its server and of the topology.
+use Rattle.std.specs.Prelude.{true, false, Some, None}
+use Rattle.mdb_recording_servers.specs.declared.event.ServerKind.TheVariants as kinds
+use Rattle.mdb_recording_servers.specs.declared.event.ServerTold.{ServerTold}
+use Rattle.mdb_recording_servers.specs.declared.event.ServerTold.TheVariants as told
+use Rattle.mdb_recording_servers.specs.declared.event.ServerEvent.{ServerEvent}
+use Rattle.mdb_recording_servers.specs.declared.event.ServerEvent.TheVariants as events
+use Rattle.mdb_recording_servers.specs.declared.server.Server.{Server}
+use Rattle.mdb_recording_servers.specs.declared.topology.Topology.{Topology}
+
+-- a server after an event of it
+abbrev pub server_after : ServerTold → Server → Server
+server_after told.Opened x = record x { is_open = true; kind = Some kinds.Unknown }
+server_after told.Closed x = record x { is_open = false; kind = None }
+server_after (told.Changed from to) x = record x { kind = to }
+server_after told.CheckStarted x = record x { is_checked = true }
+server_after told.CheckEnded x = record x { is_checked = false }
+
+-- the topology after an event
+abbrev pub topology_after : ServerEvent → Topology → Topology
+topology_after (events.Server s told.CheckStarted) x = x
+topology_after (events.Server s told.CheckEnded) x = x
+topology_after events.TopologyChanged x = record { is_told = true; has_cause = false }
+topology_after events.TopologyClosed x = record x { is_told = true }
+topology_after _ x = record { is_told = true; has_cause = true }

@@ -1,0 +1,44 @@
+//! What is known of the topology.
+
+ghost use Rattle.std.specs.Prelude.{◌≡◌};
+ghost use Rattle.mdb_recording_servers.specs.ServerSteps.{topology_after};
+
+use crate::event::{ServerEvent, ServerTold};
+
+/// What the events tell of the topology.
+#[derive(Clone, Copy, Debug)]
+pub struct Topology {
+    /// The recording tells of servers, and not of their checks alone.
+    pub is_told: bool,
+    /// It was opened, or a server was opened, closed or changed, and it was not changed since.
+    pub has_cause: bool,
+}
+
+impl Topology {
+    /// Nothing was told.
+    pub const UNTOLD: Topology = Topology {
+        is_told: false,
+        has_cause: false,
+    };
+
+    /// After an event.
+    pub(crate) fn after(self, event: &ServerEvent) -> Topology
+        ensures { result ≡ topology_after event.now self }
+    {
+        match event {
+            ServerEvent::Server(_, ServerTold::CheckStarted | ServerTold::CheckEnded) => self,
+            ServerEvent::TopologyChanged => Topology {
+                is_told: true,
+                has_cause: false,
+            },
+            ServerEvent::TopologyClosed => Topology {
+                is_told: true,
+                ..self
+            },
+            _ => Topology {
+                is_told: true,
+                has_cause: true,
+            },
+        }
+    }
+}

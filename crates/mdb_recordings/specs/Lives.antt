@@ -1,0 +1,154 @@
+-- What the events of one pool tell, newest first, since it was created.
+use Rattle.std.specs.Prelude.{ℕ, ◌+◌, Bool, true, false, not, ◌&&◌, ◌||◌, ◌==◌, nat_lt, is_some, if◌then◌else◌, List, [], ◌∷◌, Option, Some, None}
+use Rattle.mdb_recordings.specs.Events.{begins, turns_ready, clears, pauses, closes_pool, creates_one, creates, readies_one, readies, closes_one, closes, checks_out_one, checks_out, checks_in_one, checks_in, fails_one, breaks_one, rests, starts_one, ends_wait, serves}
+use Rattle.mdb_recordings.specs.declared.event.Event.{Event}
+use Rattle.mdb_recordings.specs.declared.event.Recorded.{Recorded}
+use Rattle.mdb_recordings.specs.declared.event.Limits.{Limits}
+use Rattle.mdb_recordings.specs.declared.event.Told.{Told}
+use Rattle.mdb_recordings.specs.declared.event.Told.TheVariants.{PoolCreated, ConnectionClosed}
+use Rattle.mdb_recordings.specs.declared.connection.Connection.{Connection}
+use Rattle.mdb_recordings.specs.declared.facts.Facts.{Facts}
+use Rattle.mdb_recordings.specs.declared.caller.Caller.{Caller}
+use Rattle.mdb_recordings.specs.declared.turns.Turns.{Turns}
+
+-- the events of a pool, this one newest: a creation begins anew
+abbrev pub onto : Event → List Event → List Event
+onto e l = if begins e.told then e ∷ [] else e ∷ l
+
+-- the events of the pool at an address since it was created there last, of all that was recorded
+abbrev pub life : ℕ → List Recorded → List Event
+life p [] = []
+life p (r ∷ h) = if r.pool == p then onto r.event (life p h) else life p h
+
+-- how often a pool was created at an address
+abbrev pub lives : ℕ → List Recorded → ℕ
+lives p [] = 0
+lives p (r ∷ h) = if (r.pool == p) && begins r.event.told then 1 + lives p h else lives p h
+
+-- some event is of that kind
+abbrev pub was : (Told → Bool) → List Event → Bool
+was kind [] = false
+was kind (e ∷ l) = kind e.told || was kind l
+
+-- how many events are of that kind
+abbrev pub count : (Told → Bool) → List Event → ℕ
+count kind [] = 0
+count kind (e ∷ l) = if kind e.told then 1 + count kind l else count kind l
+
+-- the newest event of either kind is of the first
+abbrev pub is_on : (Told → Bool) → (Told → Bool) → List Event → Bool
+is_on on off [] = false
+is_on on off (e ∷ l) = if on e.told then true else (if off e.told then false else is_on on off l)
+
+-- of a connection
+
+-- how often the pool had been cleared when the connection became ready
+abbrev pub generation : ℕ → List Event → ℕ
+generation i [] = 0
+generation i (e ∷ l) = if readies i e.told then count clears l else generation i l
+
+-- when the connection was put into the pool last, as far as that was told
+abbrev pub rested_at : ℕ → List Event → Option ℕ
+rested_at i [] = None
+rested_at i (e ∷ l) = if rests i e.told then e.at else rested_at i l
+
+-- what the events tell of a connection
+abbrev pub connection_of : ℕ → List Event → Connection
+connection_of i l = record {
+  is_created = was (creates i) l;
+  is_readied = was (readies i) l;
+  is_closed = was (closes i) l;
+  is_out = is_on (checks_out i) (checks_in i) l;
+  generation = generation i l;
+  rested_at = rested_at i l;
+}
+
+-- what they tell of the connection that is named, if one is
+abbrev pub connection_named : Option ℕ → List Event → Connection
+connection_named None l = connection_of 0 []
+connection_named (Some i) l = connection_of i l
+
+-- of the pool
+
+-- the options that it tells, or else these
+abbrev pub limits_told : Told → Limits → Limits
+limits_told (PoolCreated limits) old = limits
+limits_told _ old = old
+
+-- the options with which the pool was created; none but the standard's where that was not told
+abbrev pub limits_of : List Event → Limits
+limits_of [] = record { max_size = 0; max_connecting = 2; max_idle = 0 }
+limits_of (e ∷ l) = limits_told e.told (limits_of l)
+
+-- it tells of the end of a connection that was not ready yet
+abbrev pub drops : Told → List Event → Bool
+drops (ConnectionClosed i reason) l = not (was (readies i) l)
+drops _ l = false
+
+-- how many connections ended before they were ready
+abbrev pub dropped : List Event → ℕ
+dropped [] = 0
+dropped (e ∷ l) = if drops e.told l then 1 + dropped l else dropped l
+
+-- what the events tell of their pool
+abbrev pub facts_of : List Event → Facts
+facts_of l = record {
+  limits = limits_of l;
+  is_created = was begins l;
+  is_ready = is_on turns_ready pauses l;
+  is_closed = was closes_pool l;
+  has_error = was breaks_one l;
+  clears = count clears l;
+  created = count creates_one l;
+  readied = count readies_one l;
+  closed = count closes_one l;
+  dropped = dropped l;
+  started = count starts_one l;
+  outs = count checks_out_one l;
+  ins = count checks_in_one l;
+  failed = count fails_one l;
+}
+
+-- of numbered check-outs
+
+-- it has this number
+abbrev pub is_numbered : ℕ → Option ℕ → Bool
+is_numbered i None = false
+is_numbered i (Some j) = j == i
+
+-- how many numbered check-outs were started
+abbrev pub numbered : List Event → ℕ
+numbered [] = 0
+numbered (e ∷ l) = if starts_one e.told && is_some e.caller then 1 + numbered l else numbered l
+
+-- the place of a check-out in the order of their starts, since it was started last
+abbrev pub place : ℕ → List Event → ℕ
+place i [] = 0
+place i (e ∷ l) = if is_numbered i e.caller && starts_one e.told then 1 + numbered l else place i l
+
+-- a check-out was started, and neither served nor failed since
+abbrev pub waits : ℕ → List Event → Bool
+waits i [] = false
+waits i (e ∷ l) = if is_numbered i e.caller && starts_one e.told then true else (if is_numbered i e.caller && ends_wait e.told then false else waits i l)
+
+-- what the events tell of the check-out with this number
+abbrev pub caller_of : ℕ → List Event → Caller
+caller_of i l = record { is_waiting = waits i l; place = place i l }
+
+-- what they tell of the one that is numbered, if one is
+abbrev pub caller_numbered : Option ℕ → List Event → Caller
+caller_numbered None l = caller_of 0 []
+caller_numbered (Some i) l = caller_of i l
+
+-- the greater place, where one that waits is served
+abbrev pub latest_after : Told → Caller → ℕ → ℕ
+latest_after t c n = if serves t && (c.is_waiting && nat_lt n c.place) then c.place else n
+
+-- the greatest place of a check-out that waited and was served
+abbrev pub latest : List Event → ℕ
+latest [] = 0
+latest (e ∷ l) = latest_after e.told (caller_numbered e.caller l) (latest l)
+
+-- what the events tell of the order of their pool's numbered check-outs
+abbrev pub turns_of : List Event → Turns
+turns_of l = record { started = numbered l; latest = latest l }

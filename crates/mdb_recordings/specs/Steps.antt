@@ -1,0 +1,55 @@
+-- What one event more changes in what is known of a connection and of its pool.
+use Rattle.std.specs.Prelude.{ℕ, ◌+◌, true, false, not, ◌&&◌, ◌||◌, is_some, if◌then◌else◌, Option}
+use Rattle.mdb_recordings.specs.Events.{is_error, starts_one, ends_wait}
+use Rattle.mdb_recordings.specs.Lives.{latest_after}
+use Rattle.mdb_recordings.specs.declared.event.CloseReason.{CloseReason}
+use Rattle.mdb_recordings.specs.declared.event.Told.{Told}
+use Rattle.mdb_recordings.specs.declared.event.Told.TheVariants.{PoolCreated, PoolReady, PoolCleared, PoolClosed, ConnectionCreated, ConnectionReady, ConnectionClosed, CheckOutStarted, CheckOutFailed, CheckedOut, CheckedIn}
+use Rattle.mdb_recordings.specs.declared.connection.Connection.{Connection}
+use Rattle.mdb_recordings.specs.declared.facts.Facts.{Facts}
+use Rattle.mdb_recordings.specs.declared.caller.Caller.{Caller}
+use Rattle.mdb_recordings.specs.declared.turns.Turns.{Turns}
+
+-- a connection after an event of that time that names it, where the pool was cleared so often before
+abbrev pub connection_after : Told → Option ℕ → ℕ → Connection → Connection
+connection_after (ConnectionCreated i) at clears c = record c { is_created = true }
+connection_after (ConnectionReady i) at clears c = record c { is_readied = true; generation = clears; rested_at = at }
+connection_after (ConnectionClosed i reason) at clears c = record c { is_closed = true }
+connection_after (CheckedOut i) at clears c = record c { is_out = true }
+connection_after (CheckedIn i) at clears c = record c { is_out = false; rested_at = at }
+connection_after _ at clears c = c
+
+-- a pool after the end of the connection
+abbrev pub facts_once_closed : CloseReason → Connection → Facts → Facts
+facts_once_closed reason c f = record f {
+  has_error = is_error reason || f.has_error;
+  closed = 1 + f.closed;
+  dropped = if not c.is_readied then 1 + f.dropped else f.dropped;
+}
+
+-- a pool after an event of the connection
+abbrev pub facts_after_connection : Told → Connection → Facts → Facts
+facts_after_connection (ConnectionCreated i) c f = record f { created = 1 + f.created }
+facts_after_connection (ConnectionReady i) c f = record f { readied = 1 + f.readied }
+facts_after_connection (ConnectionClosed i reason) c f = facts_once_closed reason c f
+facts_after_connection CheckOutStarted c f = record f { started = 1 + f.started }
+facts_after_connection (CheckOutFailed reason) c f = record f { failed = 1 + f.failed }
+facts_after_connection (CheckedOut i) c f = record f { outs = 1 + f.outs }
+facts_after_connection (CheckedIn i) c f = record f { ins = 1 + f.ins }
+facts_after_connection _ c f = f
+
+-- a pool after an event that may name the connection
+abbrev pub facts_after : Told → Connection → Facts → Facts
+facts_after (PoolCreated limits) c f = record f { limits = limits; is_created = true }
+facts_after PoolReady c f = record f { is_ready = true }
+facts_after (PoolCleared all) c f = if all then record f { is_ready = false; clears = 1 + f.clears } else f
+facts_after PoolClosed c f = record f { is_ready = false; is_closed = true }
+facts_after told c f = facts_after_connection told c f
+
+-- a check-out after an event that has its number; one that starts has the place n
+abbrev pub caller_after : Told → ℕ → Caller → Caller
+caller_after t n c = if starts_one t then record { is_waiting = true; place = n } else (if ends_wait t then record c { is_waiting = false } else c)
+
+-- the order of check-outs after an event that may have the number of the caller
+abbrev pub turns_after : Told → Option ℕ → Caller → Turns → Turns
+turns_after t o c x = record { started = if starts_one t && is_some o then 1 + x.started else x.started; latest = latest_after t c x.latest }

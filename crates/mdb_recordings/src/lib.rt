@@ -1,0 +1,25 @@
+//! What the events of a driver's pools show: the rules that they break, judged in one pass.
+#![tactic(auto)]
+
+mod caller;
+mod callers;
+mod connection;
+mod connections;
+mod event;
+mod facts;
+mod glance;
+mod judge;
+mod pools;
+mod rule;
+mod standard;
+mod turns;
+
+pub use caller::Caller;
+pub use connection::Connection;
+pub use event::{CloseReason, Event, FailReason, Limits, Recorded, Told};
+pub use facts::Facts;
+pub use glance::Glance;
+pub use judge::Judge;
+pub use rule::{Rule, breaks, has_rule};
+pub use standard::Standard;
+pub use turns::Turns;

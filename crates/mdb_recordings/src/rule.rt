@@ -1,0 +1,147 @@
+//! The rules that a driver's pools keep, and when an event breaks one.
+
+ghost use Rattle.std.specs.Prelude.{◌≡◌, ◌-◌, List};
+ghost use Rattle.mdb_recordings.specs.Rules.{breaks, fails_unfounded, glance_of, has_rule, is_broken, is_passed, is_past, is_seen, is_unfounded, live, pending};
+ghost use Rattle.mdb_recordings.specs.declared.event.Recorded.{Recorded as Event_};
+
+use crate::caller::Caller;
+use crate::connection::Connection;
+use crate::event::{Event, FailReason, Recorded, Told};
+use crate::facts::Facts;
+use crate::glance::Glance;
+use crate::standard::Standard;
+use crate::turns::Turns;
+
+/// A rule of a driver's pools, named by how it is broken.
+#[derive(Clone, Copy, Debug)]
+pub enum Rule {
+    PoolCreatedTwice,
+    PoolNotCreated,
+    PoolIsClosed,
+    PoolNotReady,
+    CreatedTwice,
+    NotCreated,
+    ReadiedTwice,
+    NotReadied,
+    OutTwice,
+    NotOut,
+    ClosedTwice,
+    IsClosed,
+    ClosedWhileOut,
+    IsStale,
+    IsIdle,
+    TooMany,
+    TooManyPending,
+    HasNoReason,
+    OutOfTurn,
+}
+
+fn live(facts: &Facts) -> u64
+    ensures { result ≡ live facts.now }
+{
+    facts.created.saturating_sub(facts.closed)
+}
+
+fn pending(facts: &Facts) -> u64
+    ensures { result ≡ pending facts.now }
+{
+    facts
+        .created
+        .saturating_sub(facts.readied)
+        .saturating_sub(facts.dropped)
+}
+
+fn is_past(most: u64, since: Option<u64>, now: Option<u64>) -> bool
+    ensures { result ≡ is_past most since now }
+{
+    match (since, now) {
+        (Some(since), Some(now)) => {
+            0 < most && u128::from(most) * 1000 < u128::from(now.saturating_sub(since))
+        }
+        _ => false,
+    }
+}
+
+fn is_unfounded(reason: FailReason, facts: &Facts) -> bool
+    ensures { result ≡ is_unfounded reason facts.now }
+{
+    match reason {
+        FailReason::Timeout => false,
+        FailReason::PoolClosed => !facts.is_closed,
+        FailReason::ConnectionError => facts.is_ready && (!facts.has_error && !(0 < facts.clears)),
+        FailReason::Other => true,
+    }
+}
+
+fn fails_unfounded(told: &Told, facts: &Facts) -> bool
+    ensures { result ≡ fails_unfounded told.now facts.now }
+{
+    match told {
+        Told::CheckOutFailed(reason) => is_unfounded(*reason, facts),
+        _ => false,
+    }
+}
+
+/// The standard at that time has the rule.
+pub fn has_rule(standard: Standard, rule: Rule) -> bool
+    ensures { result ≡ has_rule standard rule }
+{
+    match (standard, rule) {
+        (Standard::Current, Rule::ClosedWhileOut) => false,
+        (Standard::Of2020, Rule::PoolNotReady) => false,
+        (Standard::Of2020, Rule::TooManyPending) => false,
+        _ => true,
+    }
+}
+
+fn is_broken(rule: Rule, f: &Facts, c: &Connection, e: &Event) -> bool
+    ensures { result ≡ is_broken rule f.now c.now e.now }
+{
+    let told = &e.told;
+    match rule {
+        Rule::PoolCreatedTwice => told.begins() && (f.is_created && !f.is_closed),
+        Rule::PoolNotCreated => !told.begins() && !f.is_created,
+        Rule::PoolIsClosed => told.needs_pool() && f.is_closed,
+        Rule::PoolNotReady => told.checks_out() && !f.is_ready,
+        Rule::CreatedTwice => told.creates() && c.is_created,
+        Rule::NotCreated => told.uses() && !c.is_created,
+        Rule::ReadiedTwice => told.readies() && c.is_readied,
+        Rule::NotReadied => told.checks_out() && !c.is_readied,
+        Rule::OutTwice => told.checks_out() && c.is_out,
+        Rule::NotOut => told.checks_in() && !c.is_out,
+        Rule::ClosedTwice => told.closes() && c.is_closed,
+        Rule::IsClosed => told.goes_on() && c.is_closed,
+        Rule::ClosedWhileOut => told.closes() && c.is_out,
+        Rule::IsStale => told.checks_out() && c.generation < f.clears,
+        Rule::IsIdle => told.checks_out() && is_past(f.limits.max_idle, c.rested_at, e.at),
+        Rule::TooMany => {
+            told.creates() && (0 < f.limits.max_size && f.limits.max_size <= live(f))
+        }
+        Rule::TooManyPending => told.creates() && f.limits.max_connecting <= pending(f),
+        Rule::HasNoReason => fails_unfounded(told, f),
+        Rule::OutOfTurn => false,
+    }
+}
+
+// The event ends the wait of the caller, and one that was started after it was served before.
+fn is_passed(told: &Told, turns: &Turns, caller: &Caller) -> bool
+    ensures { result ≡ is_passed told.now turns.now caller.now }
+{
+    told.ends_wait() && (caller.is_waiting && caller.place < turns.latest)
+}
+
+fn is_seen(rule: Rule, known: &Glance, event: &Event) -> bool
+    ensures { result ≡ is_seen rule known.now event.now }
+{
+    match rule {
+        Rule::OutOfTurn => is_passed(&event.told, &known.turns, &known.caller),
+        _ => is_broken(rule, &known.facts, &known.connection, event),
+    }
+}
+
+/// By the standard of that time the event breaks the rule, where so much is known before it.
+pub fn breaks(standard: Standard, rule: Rule, known: &Glance, recorded: &Recorded) -> bool
+    ensures { (h : List Event_) → known.now ≡ glance_of h recorded.now → result ≡ breaks standard rule h recorded.now }
+{
+    has_rule(standard, rule) && is_seen(rule, known, &recorded.event)
+}

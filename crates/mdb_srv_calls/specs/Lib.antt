@@ -1,0 +1,4 @@
+pub mod Giving
+pub mod Hosts
+pub mod Txt
+pub mod Rescan
