@@ -1,5 +1,5 @@
 -- Lines that were answered, one after another.
-use Rattle.std.proofs.Common.{◌≡◌, ℕ, ◌+◌, ◌<◌, ◌≤◌, true, false, List, [], ◌∷◌, ◌++◌, length, drop, map, codes, Option, Some, None, refl, sym, ap, ◌∙◌, subst, arith, append-nil, append_assoc, inl, inr}
+use Rattle.std.proofs.Common.{◌≡◌, ℕ, ◌+◌, ◌<◌, ◌≤◌, true, false, List, [], ◌∷◌, ◌++◌, length, drop, map, codes, Option, Some, None, refl, sym, ap, ◌∙◌, subst, arith, append-nil, append_assoc, length-append, inl, inr}
 use Rattle.std.proofs.Math.Seq.{drop-append_seam, drop-length}
 use Rattle.mdb_base.specs.Outside.{Held, Took}
 use Rattle.mdb_base.specs.declared.options.Options.{Options}
@@ -15,9 +15,10 @@ use Rattle.mdb_proxies.specs.declared.step.ProxyRefused.{ProxyRefused}
 use Rattle.mdb_proxies.specs.Entries.{GoesOn, Enters}
 use Rattle.mdb_proxies.specs.Replies.{Replies, Performs, refusal_of}
 use Rattle.mdb_proxies.specs.View.{ProxyView}
-use Rattle.mdb_proxy_runs.specs.ProxyLines.{SpellsStep, shares_text}
-use Rattle.mdb_proxy_runs.specs.ProxyText.{answer_text, line_text}
-use Rattle.mdb_proxy_runs.specs.ProxyRuns.{Steps, Answers, AnswersAll, Begins, LineRuns, LinesRun, Nothing, Played, RunsFrom, Ran, begun, opening_text, whole}
+use Rattle.mdb_proxy_lines.specs.ProxyLines.{SpellsStep}
+use Rattle.mdb_proxy_lines.specs.ProxyText.{answer_text, line_text}
+use Rattle.mdb_proxy_runs.specs.ProxyScripts.{whole, IsLater, AreLater}
+use Rattle.mdb_proxy_runs.specs.ProxyRuns.{Steps, Answers, AnswersAll, Begins, LineRuns, LinesRun, Nothing, Played, RunsFrom, Ran, begun, opening_text}
 
 -- ---- one step
 
@@ -76,11 +77,17 @@ pub record Between (input rest : List ℕ) (number : ℕ) (old now : ProxyView) 
   pub cut : lines_of input ≡ map whole lines ++ lines_of rest
   pub answers : AnswersAll old now lines text
   pub room : number + length rest ≤ 3 + max_input
+  pub at : number ≡ 3 + length lines
+  pub later : AreLater (map whole lines)
   pub taken : Took held new_held text
   pub same : new_faults ≡ faults
 
 pub starts : (input : List ℕ) (old : ProxyView) (held : Option Held) (faults : ℕ) → length input ≤ max_input → Between input input 3 old old held held faults faults
-starts input old held faults fits = record { lines = []; text = []; cut = refl; answers = (refl, refl); room = omega (arith, fits); taken = took_nothing held; same = refl }
+starts input old held faults fits = record { lines = []; text = []; cut = refl; answers = (refl, refl); room = omega (arith, fits); at = refl; later = tt; taken = took_nothing held; same = refl }
+
+later-push : (ls : List (List ℕ)) (l : List ℕ) → AreLater (map whole ls) → IsLater (whole l) → AreLater (map whole (ls ++ l ∷ []))
+later-push [] l all one = (one, tt)
+later-push (x ∷ ls) l all one = (all.0, later-push ls l all.1 one)
 
 pub goes-on : (input rest line behind : List ℕ) (number : ℕ) (old now new : ProxyView) (held mid new_held : Option Held) (faults old_faults new_faults : ℕ) → lines_of rest ≡ whole line ∷ lines_of behind → length behind < length rest
     → Between input rest number old now held mid faults old_faults → LineRuns line now new mid new_held old_faults new_faults → Between input behind (number + 1) old new held new_held faults new_faults
@@ -90,6 +97,8 @@ goes-on input rest line behind number old now new held mid new_held faults old_f
   cut = b.cut ∙ ap (λ (ls : List (List ℕ)). map whole b.lines ++ ls) cut ∙ lines-push b.lines line (lines_of behind);
   answers = answers-push old now new b.lines line b.text own b.answers a;
   room = omega (arith, b.room, shorter);
+  at = omega (arith, b.at, length-append b.lines (line ∷ []));
+  later = later-push b.lines line b.later (line, a.step, refl, a.spelled);
   taken = took_more held mid new_held b.text own b.taken taken;
   same = same ∙ b.same;
 }
@@ -107,7 +116,7 @@ nothing (x ∷ input) held faults none = absurd (omega arith)
 
 pub played : (shares input line behind : List ℕ) (first last : ProxyView) (log : List Entry) (held mid new_held : Option Held) (faults old_faults new_faults : ℕ) → lines_of input ≡ whole line ∷ lines_of behind
     → Begins shares line held mid faults old_faults first → LinesRun behind first last mid new_held old_faults new_faults → log ≡ last.log → IsLegalLog log → Played shares input log held new_held faults new_faults
-played shares input line behind first last log held mid new_held faults old_faults new_faults cut (o, opens, fits, is, taken, same) (lines, text, more, answers, took, again) e legal = record {
+played shares input line behind first last log held mid new_held faults old_faults new_faults cut (o, opens, is, taken, same) (lines, text, more, answers, took, again) e legal = record {
   options = o;
   line = line;
   lines = lines;
@@ -115,7 +124,6 @@ played shares input line behind first last log held mid new_held faults old_faul
   text = text;
   cut = cut ∙ ap (λ (ls : List (List ℕ)). whole line ∷ ls) more;
   opens = opens;
-  fits = fits;
   answers = subst (λ (v : ProxyView). AnswersAll v last lines text) is answers;
   is = e;
   legal = legal;

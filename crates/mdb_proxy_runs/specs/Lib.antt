@@ -1,3 +1,3 @@
-pub mod ProxyLines
-pub mod ProxyText
+pub mod ProxyScripts
 pub mod ProxyRuns
+pub mod ProxyEnds

@@ -1,15 +1,12 @@
 -- What a run of a proxy script reads, answers and writes.
-use Rattle.std.specs.Prelude.{◌≡◌, ℕ, true, false, List, [], ◌∷◌, ◌++◌, map, codes, Option, Some, None, ◌⊎◌}
+use Rattle.std.specs.Prelude.{◌≡◌, ℕ, true, false, List, [], ◌∷◌, ◌++◌, map, Option, Some, None, ◌⊎◌}
 use Rattle.mdb_base.specs.Outside.{Held, Took, IsFlushed}
 use Rattle.mdb_base.specs.declared.options.Options.{Options}
 use Rattle.mdb_log.specs.declared.log.Entry.{Entry}
 use Rattle.mdb_log.specs.LegalLog.{IsLegalLog}
-use Rattle.mdb_log.specs.State.{max_size}
-use Rattle.mdb_log.specs.Opening.{pool_options}
-use Rattle.mdb_lines.specs.Script.{Spells, lines_of}
+use Rattle.mdb_lines.specs.Script.{lines_of}
 use Rattle.mdb_lines.specs.Loops.{ReadsAll}
 use Rattle.mdb_lines.specs.LogText.{reply_text}
-use Rattle.mdb_proxies.specs.Shares.{are_shares}
 use Rattle.mdb_proxies.specs.Charge.{is_behind}
 use Rattle.mdb_proxies.specs.Replies.{refusal_of, Performs}
 use Rattle.mdb_proxies.specs.View.{ProxyView, KeepsShares}
@@ -19,8 +16,9 @@ use Rattle.mdb_proxies.specs.declared.step.ProxyReply.TheVariants.{Refused as Is
 use Rattle.mdb_proxies.specs.declared.step.ProxyRefused.{ProxyRefused}
 use Rattle.mdb_topology.specs.Lines.{entry_after}
 use Rattle.mdb_topology.specs.Logging.{opening_step}
-use Rattle.mdb_proxy_runs.specs.ProxyLines.{SpellsStep, shares_text}
-use Rattle.mdb_proxy_runs.specs.ProxyText.{answer_text, line_text}
+use Rattle.mdb_proxy_lines.specs.ProxyLines.{SpellsShares, SpellsStep}
+use Rattle.mdb_proxy_lines.specs.ProxyText.{answer_text, line_text}
+use Rattle.mdb_proxy_runs.specs.ProxyScripts.{whole, OpensFor}
 
 -- A step of a proxy that was answered so, with nothing left behind: refused by the first reason that holds, and then nothing changed, or performed.
 pub record Steps (old new : ProxyView) (step : ProxyStep) (reply : ProxyReply) : Type 0 where
@@ -57,18 +55,14 @@ begun shares o = record { shares = shares; asks = []; log = opened o ∷ [] }
 abbrev pub opening_text : List ℕ → Options → List ℕ
 opening_text line o = line_text line (reply_text (opened o).reply) (opened o ∷ [])
 
--- a line with its newline
-abbrev pub whole : List ℕ → List ℕ
-whole line = line ++ codes "\n"
-
 -- What the second line opens for tenants with these shares.
 abbrev pub Opens : List ℕ → List ℕ → ProxyView → Type 0
-Opens shares line v = (o : Options) × Spells 1 line (opening_step o) × (are_shares shares (max_size (pool_options o)) ≡ true) × (v ≡ begun shares o)
+Opens shares line v = (o : Options) × OpensFor shares line o × (v ≡ begun shares o)
 
 -- The second line opened this proxy, and the sink took what is written for it.
 abbrev pub Begins : List ℕ → List ℕ → Option Held → Option Held → ℕ → ℕ → ProxyView → Type 0
 Begins shares line held new_held faults new_faults v =
-    (o : Options) × Spells 1 line (opening_step o) × (are_shares shares (max_size (pool_options o)) ≡ true) × (v ≡ begun shares o) × Took held new_held (opening_text line o) × (new_faults ≡ faults)
+    (o : Options) × OpensFor shares line o × (v ≡ begun shares o) × Took held new_held (opening_text line o) × (new_faults ≡ faults)
 
 -- One line was answered, and the sink took what is written for it.
 abbrev pub LineRuns : List ℕ → ProxyView → ProxyView → Option Held → Option Held → ℕ → ℕ → Type 0
@@ -87,8 +81,7 @@ pub record Played (shares input : List ℕ) (log : List Entry) (held new_held : 
   pub last : ProxyView
   pub text : List ℕ
   pub cut : lines_of input ≡ whole line ∷ map whole lines
-  pub opens : Spells 1 line (opening_step options)
-  pub fits : are_shares shares (max_size (pool_options options)) ≡ true
+  pub opens : OpensFor shares line options
   pub answers : AnswersAll (begun shares options) last lines text
   pub is : log ≡ last.log
   pub legal : IsLegalLog log
@@ -110,7 +103,7 @@ RunsFrom shares input log held new_held faults new_faults = Nothing input log he
 abbrev pub Ran : List ℕ → List Entry → Option Held → Option Held → ℕ → ℕ → Type 0
 Ran input log held new_held faults new_faults =
     Nothing input log held new_held faults new_faults
-    ⊎ ((shares rest : List ℕ) × (lines_of input ≡ whole (shares_text shares) ∷ lines_of rest) × RunsFrom shares rest log held new_held faults new_faults)
+    ⊎ ((line shares rest : List ℕ) × (lines_of input ≡ whole line ∷ lines_of rest) × SpellsShares line shares × RunsFrom shares rest log held new_held faults new_faults)
 
 -- What a run saw of its source and did to its sink: bytes left, reads that failed, bytes taken, and writes that failed.
 pub record Seen : Type 0 where

@@ -1,30 +1,35 @@
 //! Runs of a proxy script.
 
-ghost use Rattle.std.specs.Prelude.{◌≡◌, ◌≤◌, [], ◌∷◌, None, IfOk, OnOk, IsTrue, length, drop, string_bytes};
-ghost use Rattle.mdb_base.specs.Outside.{Took};
+ghost use Rattle.std.specs.Prelude.{◌≡◌, ◌≤◌, ◌<◌, [], ◌∷◌, ℕ, List, Some, None, IfOk, IfErr, OnOk, IsTrue, length, drop, string_bytes, true, MatchResult, ⊤};
+ghost use Rattle.mdb_base.specs.declared.options.Options.{Options as OptionsRecord};
+ghost use Rattle.mdb_base.specs.Outside.{Rose, Took};
 ghost use Rattle.mdb_base.specs.OptionRules.{broken_rule};
 ghost use Rattle.mdb_lines.specs.Grammar.{is_printable};
 ghost use Rattle.mdb_lines.specs.LogText.{reply_text};
-ghost use Rattle.mdb_lines.specs.Script.{Spells};
+ghost use Rattle.mdb_lines.specs.Loops.{ReadsFew};
+ghost use Rattle.mdb_lines.specs.Script.{Spells, lines_of};
+ghost use Rattle.mdb_lines.specs.declared.run_error.RunError.TheVariants.{OutOfMemory as NoMemory, Malformed, TooLong, WriteFault as IsWriteFault};
 ghost use Rattle.mdb_log.specs.declared.log.Entry.{Entry as EntryRecord};
 ghost use Rattle.mdb_topology.specs.Logging.{opening_step};
-ghost use Rattle.mdb_proxy_runs.specs.ProxyLines.{SpellsStep};
-ghost use Rattle.mdb_proxy_runs.specs.ProxyText.{line_text};
+ghost use Rattle.mdb_proxy_lines.specs.ProxyLines.{SpellsStep};
+ghost use Rattle.mdb_proxy_lines.specs.ProxyText.{line_text};
+ghost use Rattle.mdb_proxy_runs.specs.ProxyScripts.{AreLines, IsBadAt};
 ghost use Rattle.mdb_proxy_runs.specs.ProxyRuns.{Opens, Answers, Begins, LineRuns, LinesRun, RunsFrom, Ran, Finished};
+ghost use Rattle.mdb_proxy_runs.specs.ProxyEnds.{cause_of, LineEnds, LinesEnd, OptionsEnd, OpeningEnds, SecondEnds, SharesEnd, RunEnds, Ended, EndsWith};
 
-use crate::line_reading::read_proxy_line;
-use crate::line_writing::{answer_line, opening_line};
-use crate::shares_line::read_shares;
 use mdb_base::{Options, OutOfMemory, Sink, Source};
 use mdb_lines::{
     LineError, MAX_INPUT, RunError, cut_line, is_printable, read_all, read_line, write_all,
 };
 use mdb_log::{Act, DEFAULT_MAX_POOL_SIZE, Entry, Log, Step};
 use mdb_proxies::{Proxy, ProxyStep, ShareError};
+use mdb_proxy_lines::{answer_line, opening_line, read_proxy_line, read_shares};
 use mdb_topology::TopologyCore;
 use std::alloc::Global;
 
-fn malformed(e: LineError, number: u32) -> RunError {
+fn malformed(e: LineError, number: u32) -> RunError
+    ensures { result ≡ cause_of e number }
+{
     match e {
         LineError::Bad => RunError::Malformed(number),
         LineError::OutOfMemory => RunError::OutOfMemory,
@@ -32,7 +37,8 @@ fn malformed(e: LineError, number: u32) -> RunError {
 }
 
 fn send<K: Sink>(sink: &mut K, text: &[u8]) -> Result<(), RunError>
-    ensures { OnOk result (Took (K.held sink.old) (K.held sink.new) text.now × (K.faults sink.new ≡ K.faults sink.old)) }
+    ensures took { OnOk result (Took (K.held sink.old) (K.held sink.new) text.now × (K.faults sink.new ≡ K.faults sink.old)) }
+    ensures fails { IfErr result (λ e. (e ≡ IsWriteFault) × Rose (K.faults sink.old) (K.faults sink.new)) }
 {
     match write_all(sink, text) {
         Ok(()) => Ok(()),
@@ -42,7 +48,8 @@ fn send<K: Sink>(sink: &mut K, text: &[u8]) -> Result<(), RunError>
 
 // A line of printable bytes, as text.
 fn text_of(line: &[u8], number: u32) -> Result<&str, RunError>
-    ensures { IfOk result (λ text. (text.now ≡ line.now) × IsTrue (is_printable text.now)) }
+    ensures text { IfOk result (λ text. (text.now ≡ line.now) × IsTrue (is_printable text.now)) }
+    ensures none { IfErr result (λ e. (e ≡ Malformed number) × (is_printable line.now ≡ true → ⊥)) }
 {
     if !is_printable(line) {
         return Err(RunError::Malformed(number));
@@ -57,6 +64,8 @@ fn text_of(line: &[u8], number: u32) -> Result<&str, RunError>
 fn read_options(alloc: Global, line: &str) -> Result<Options, RunError>
     ensures fits { IfOk result (λ options. broken_rule options ≡ None) }
     ensures opens { IfOk result (λ options. Spells 1 line.now (opening_step options)) }
+    ensures alone { IfOk result (λ options. (o : OptionsRecord) → Spells 1 line.now (opening_step o) → options ≡ o) }
+    ensures ends { IfErr result (OptionsEnd line.now) }
 {
     let step = match read_line(alloc, line.as_bytes(), 1) {
         Ok(step) => step,
@@ -85,7 +94,8 @@ fn open_proxy(
     line: &str,
     shares: Vec<u32>,
 ) -> Result<Proxy<TopologyCore>, RunError>
-    ensures { IfOk result (Opens shares.items line.now) }
+    ensures opens { IfOk result (Opens shares.items line.now) }
+    ensures ends { IfErr result (OpeningEnds shares.items line.now) }
 {
     let options = match read_options(alloc, line) {
         Ok(options) => options,
@@ -150,7 +160,8 @@ fn one_line<K: Sink>(
     proxy: &mut Proxy<TopologyCore>,
     sink: &mut K,
 ) -> Result<(), RunError>
-    ensures { OnOk result (LineRuns line.now proxy.old proxy.new (K.held sink.old) (K.held sink.new) (K.faults sink.old) (K.faults sink.new)) }
+    ensures runs { OnOk result (LineRuns line.now proxy.old proxy.new (K.held sink.old) (K.held sink.new) (K.faults sink.old) (K.faults sink.new)) }
+    ensures ends { IfErr result (LineEnds number line.now (K.faults sink.old) (K.faults sink.new)) }
 {
     let line = match text_of(line, number) {
         Ok(line) => line,
@@ -174,7 +185,8 @@ fn more_lines<K: Sink>(
     sink: &mut K,
 ) -> Result<(), RunError>
     requires { length input.now ≤ MAX_INPUT }
-    ensures { OnOk result (LinesRun input.now proxy.old proxy.new (K.held sink.old) (K.held sink.new) (K.faults sink.old) (K.faults sink.new)) }
+    ensures run { OnOk result (LinesRun input.now proxy.old proxy.new (K.held sink.old) (K.held sink.new) (K.faults sink.old) (K.faults sink.new)) }
+    ensures ends { IfErr result (LinesEnd input.now (K.faults sink.old) (K.faults sink.new)) }
 {
     let mut rest = input;
     let mut number = 3u32;
@@ -201,7 +213,8 @@ fn begin<K: Sink>(
     shares: Vec<u32>,
     sink: &mut K,
 ) -> Result<Proxy<TopologyCore>, RunError>
-    ensures { IfOk result (Begins shares.items line.now (K.held sink.old) (K.held sink.new) (K.faults sink.old) (K.faults sink.new)) }
+    ensures begins { IfOk result (Begins shares.items line.now (K.held sink.old) (K.held sink.new) (K.faults sink.old) (K.faults sink.new)) }
+    ensures ends { IfErr result (SecondEnds shares.items line.now (K.faults sink.old) (K.faults sink.new)) }
 {
     let line = match text_of(line, 2) {
         Ok(line) => line,
@@ -229,7 +242,8 @@ fn with_shares<K: Sink>(
     sink: &mut K,
 ) -> Result<Log, RunError>
     requires { length input.now ≤ MAX_INPUT }
-    ensures { IfOk result (λ log. RunsFrom shares.items input.now log (K.held sink.old) (K.held sink.new) (K.faults sink.old) (K.faults sink.new)) }
+    ensures ran { IfOk result (λ log. RunsFrom shares.items input.now log (K.held sink.old) (K.held sink.new) (K.faults sink.old) (K.faults sink.new)) }
+    ensures ends { IfErr result (SharesEnd shares.items input.now (K.faults sink.old) (K.faults sink.new)) }
 {
     if input.is_empty() {
         return Ok(Log::new(alloc));
@@ -253,7 +267,8 @@ fn with_shares<K: Sink>(
 
 fn run_lines<K: Sink>(alloc: Global, input: &[u8], sink: &mut K) -> Result<Log, RunError>
     requires { length input.now ≤ MAX_INPUT }
-    ensures { IfOk result (λ log. Ran input.now log (K.held sink.old) (K.held sink.new) (K.faults sink.old) (K.faults sink.new)) }
+    ensures ran { IfOk result (λ log. Ran input.now log (K.held sink.old) (K.held sink.new) (K.faults sink.old) (K.faults sink.new)) }
+    ensures ends { IfErr result (RunEnds input.now (K.faults sink.old) (K.faults sink.new)) }
 {
     if input.is_empty() {
         return Ok(Log::new(alloc));
@@ -271,22 +286,14 @@ fn run_lines<K: Sink>(alloc: Global, input: &[u8], sink: &mut K) -> Result<Log, 
     }
 }
 
-/// Runs a script of a proxy: its first line names the shares of the tenants, its second opens a driver, and each later one is a step of the
-/// proxy over it. For each line from the second on it writes the line, the reply to it, and the facts of the entries that the line made. It
-/// flushes at the end.
-///
-/// `Ok` carries the log of the driver, which is empty where there is no second line. `ReadFault` and `WriteFault` come only where the source or
-/// the sink failed in this call, `Malformed(n)` at line n, counted from 1, and `TooLong` past 131,072 bytes. `OutOfMemory` comes also where
-/// memory ran out before all asks were handed on that could be.
-pub fn run_proxy<S: Source, K: Sink>(
-    alloc: Global,
-    source: &mut S,
-    sink: &mut K,
-) -> Result<Log, RunError>
-    // The input was read to its end, and the sink took, flushed, what the one proxy of the first two lines answered to each line.
-    ensures { IfOk result (Finished
+fn run<S: Source, K: Sink>(alloc: Global, source: &mut S, sink: &mut K) -> Result<Log, RunError>
+    ensures finished { IfOk result (Finished
         (record { left = S.left source.old; reads = S.faults source.old; held = K.held sink.old; writes = K.faults sink.old })
         (record { left = S.left source.new; reads = S.faults source.new; held = K.held sink.new; writes = K.faults sink.new })) }
+    ensures ended { IfErr result (Ended
+        (record { left = S.left source.old; reads = S.faults source.old; held = K.held sink.old; writes = K.faults sink.old })
+        (record { left = S.left source.new; reads = S.faults source.new; held = K.held sink.new; writes = K.faults sink.new })) }
+    ensures few { ReadsFew (S.left source.old) (S.left source.new) (S.calls source.old) (S.calls source.new) }
 {
     let input = match read_all(alloc, source) {
         Ok(input) => input,
@@ -300,4 +307,42 @@ pub fn run_proxy<S: Source, K: Sink>(
         Ok(()) => Ok(log),
         Err(_) => Err(RunError::WriteFault),
     }
+}
+
+/// Runs a script of a proxy: its first line names the shares of the tenants, its second opens a driver, and each later one is a step of the
+/// proxy over it. For each line from the second on it writes the line, the reply to it, and the facts of the entries that the line made. It
+/// flushes at the end.
+///
+/// `Ok` carries the log of the driver, which is empty where there is no second line. `ReadFault` and `WriteFault` come only where the source or
+/// the sink failed in this call, `Malformed(n)` at line n, counted from 1, and `TooLong` past 131,072 bytes. `OutOfMemory` comes also where
+/// memory ran out before all asks were handed on that could be.
+pub fn run_proxy<S: Source, K: Sink>(
+    alloc: Global,
+    source: &mut S,
+    sink: &mut K,
+) -> Result<Log, RunError>
+    // The input was read to its end, and the sink took, flushed, what the one proxy of the first two lines answered to each line.
+    ensures finished { IfOk result (Finished
+        (record { left = S.left source.old; reads = S.faults source.old; held = K.held sink.old; writes = K.faults sink.old })
+        (record { left = S.left source.new; reads = S.faults source.new; held = K.held sink.new; writes = K.faults sink.new })) }
+    ensures ended { IfErr result (Ended
+        (record { left = S.left source.old; reads = S.faults source.old; held = K.held sink.old; writes = K.faults sink.old })
+        (record { left = S.left source.new; reads = S.faults source.new; held = K.held sink.new; writes = K.faults sink.new })) }
+
+    // The source is read at most once more than there are bytes, and at most 131,073 times.
+    ensures few { ReadsFew (S.left source.old) (S.left source.new) (S.calls source.old) (S.calls source.new) }
+
+    // A script is run to its end where nothing fails, unless memory runs out.
+    ensures complete { (input : List ℕ) → S.left source.old ≡ Some input → length input ≤ MAX_INPUT → AreLines (lines_of input)
+        → ¬ (Rose (S.faults source.old) (S.faults source.new)) → ¬ (Rose (K.faults sink.old) (K.faults sink.new)) → MatchResult result (λ log. ⊤) (λ e. e ≡ NoMemory) }
+
+    // The first line that has no place in a script is named where nothing fails, unless memory runs out.
+    ensures malformed { (input : List ℕ) (number : ℕ) → S.left source.old ≡ Some input → length input ≤ MAX_INPUT → IsBadAt input number
+        → ¬ (Rose (S.faults source.old) (S.faults source.new)) → ¬ (Rose (K.faults sink.old) (K.faults sink.new)) → EndsWith (Malformed number) result }
+
+    // An input of more bytes is too long where the source does not fail, unless memory runs out.
+    ensures too_long { (input : List ℕ) → S.left source.old ≡ Some input → MAX_INPUT < length input
+        → ¬ (Rose (S.faults source.old) (S.faults source.new)) → EndsWith TooLong result }
+{
+    run(alloc, source, sink)
 }

@@ -1,7 +1,7 @@
 use Rattle.std.proofs.Common.{take}
 use Rattle.std.specs.Fmt.{HasWritten, IsPlainFormatter}
-use Rattle.mdb_proxy_runs.specs.ProxyText.{added_text}
-use Rattle.mdb_proxy_runs.proofs.line_writing.AddedTextDisplay.fmt.Given as goal
+use Rattle.mdb_proxy_lines.specs.ProxyText.{added_text}
+use Rattle.mdb_proxy_lines.proofs.line_writing.AddedTextDisplay.fmt.Given as goal
 
 abbrev pub invariant-loop-entry : goal.invariant-loop-entry
 invariant-loop-entry g l =

@@ -1,7 +1,7 @@
 use Rattle.std.proofs.Common.{take}
 use Rattle.std.specs.Fmt.{HasWritten, IsPlainFormatter}
 use Rattle.mdb_lines.specs.LogText.{facts_text}
-use Rattle.mdb_proxy_runs.proofs.line_writing.FactsTextDisplay.fmt.Given as goal
+use Rattle.mdb_proxy_lines.proofs.line_writing.FactsTextDisplay.fmt.Given as goal
 
 abbrev pub invariant-loop-fact : goal.invariant-loop-fact
 invariant-loop-fact g l =

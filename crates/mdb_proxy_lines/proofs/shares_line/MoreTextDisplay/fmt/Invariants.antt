@@ -2,7 +2,7 @@ use Rattle.std.proofs.Common.{◌++◌, take, codes}
 use Rattle.std.specs.Prelude.{decimal}
 use Rattle.std.specs.List.{flat_map}
 use Rattle.std.specs.Fmt.{HasWritten, IsPlainFormatter}
-use Rattle.mdb_proxy_runs.proofs.shares_line.MoreTextDisplay.fmt.Given as goal
+use Rattle.mdb_proxy_lines.proofs.shares_line.MoreTextDisplay.fmt.Given as goal
 
 abbrev pub invariant-loop-number : goal.invariant-loop-number
 invariant-loop-number g l =

@@ -2,7 +2,7 @@
 
 ghost use Rattle.std.specs.Prelude.{◌≡◌, IfOk, string_bytes};
 ghost use Rattle.mdb_lines.specs.LogText.{reply_text};
-ghost use Rattle.mdb_proxy_runs.specs.ProxyText.{answer_text, line_text};
+ghost use Rattle.mdb_proxy_lines.specs.ProxyText.{answer_text, line_text};
 
 use mdb_base::OutOfMemory;
 use mdb_events::Fact;
@@ -18,7 +18,7 @@ struct WhyText(ProxyRefused);
 
 impl fmt::Display for WhyText {
     ghost use Rattle.std.specs.Prelude.{Some};
-    ghost use Rattle.mdb_proxy_runs.specs.ProxyText.{why_text};
+    ghost use Rattle.mdb_proxy_lines.specs.ProxyText.{why_text};
 
     ghost output = { λ x. Some (why_text x.0) };
 
@@ -39,7 +39,7 @@ struct AnswerText<'a>(&'a ProxyReply);
 
 impl fmt::Display for AnswerText<'_> {
     ghost use Rattle.std.specs.Prelude.{Some};
-    ghost use Rattle.mdb_proxy_runs.specs.ProxyText.{answer_text};
+    ghost use Rattle.mdb_proxy_lines.specs.ProxyText.{answer_text};
 
     ghost output = { λ x. Some (answer_text x.0.now) };
 
@@ -82,7 +82,7 @@ struct AddedText<'a>(&'a [Entry]);
 
 impl fmt::Display for AddedText<'_> {
     ghost use Rattle.std.specs.Prelude.{Some};
-    ghost use Rattle.mdb_proxy_runs.specs.ProxyText.{added_text};
+    ghost use Rattle.mdb_proxy_lines.specs.ProxyText.{added_text};
 
     ghost output = { λ x. Some (added_text x.0.now) };
 

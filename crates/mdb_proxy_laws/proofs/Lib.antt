@@ -1,0 +1,4 @@
+pub mod Asked
+pub mod Once
+pub mod Counting
+pub mod Settled
