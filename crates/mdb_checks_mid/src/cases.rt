@@ -1,7 +1,9 @@
 //! Which call a kind of case makes.
 
 use crate::pool::Pool;
-use crate::{driver_pools, drivers, entries, errors, generator, handles, lines, pool, shown};
+use crate::{
+    driver_pools, drivers, entries, errors, generator, handles, lines, pool, shown, spent,
+};
 use mdb_cases::Page;
 
 /// The pool that the last `open` made.
@@ -22,6 +24,7 @@ impl Cases {
             "handle" => handles::handle(page, given),
             "driver" => drivers::driver(page, given),
             "driver-pool" => driver_pools::driver_pool(page, given),
+            "spent" => spent::spent(page, given),
             "handshake" => drivers::handshake(page, given),
             _ => of_texts(page, kind, given),
         }

@@ -15,8 +15,8 @@ use mdb_log::{
 };
 use mdb_topology::{HandshakePhase, TopologyCore};
 
-// A broken connection.
-fn lost(page: &mut Page) -> Error {
+/// A broken connection.
+pub fn lost(page: &mut Page) -> Error {
     Error {
         kind: ErrorKind::Network,
         labels: Items::new(Vec::new(page.alloc)),

@@ -14,6 +14,7 @@ mod pool_parts;
 mod pool_steps;
 mod pool_told;
 mod shown;
+mod spent;
 
 use cases::Cases;
 use mdb_cases::{Names, Page, case_of, tell};

@@ -3,6 +3,7 @@
 
 mod again;
 mod cases;
+mod meeting;
 mod runs;
 mod scripts;
 mod shares;

@@ -1,5 +1,5 @@
 -- A check that begins.
-use Rattle.std.proofs.Common.{ℕ, ◌≡◌, ◌≤◌, ◌+◌, Bool, true, false, not, if◌then◌else◌, List, [], ◌∷◌, length, Option, Some, None, is_some, nat_lt, refl, sym, ◌∙◌, ap, subst, arith, append-nil}
+use Rattle.std.proofs.Common.{ℕ, ◌≡◌, ◌≤◌, ◌+◌, Bool, true, false, not, if◌then◌else◌, List, [], ◌∷◌, ◌++◌, length, Option, Some, None, is_some, nat_lt, refl, sym, ◌∙◌, ap, subst, arith, append-nil}
 use Rattle.std.specs.Prelude.{slice_get}
 use Rattle.std.proofs.lemmas.Bool.Decides.{nat_tests}
 use Rattle.mdb_base.specs.declared.address.ServerAddress.{ServerAddress}
@@ -26,7 +26,7 @@ use Rattle.mdb_topology.specs.Homes.{is_here, begun}
 use Rattle.mdb_topology.specs.Monitors.{setting, recent, runs, heartbeat, fresh_for, is_connected, monitor_items}
 use Rattle.mdb_topology.specs.Description.{rule_after, applied, description_of}
 use Rattle.mdb_topology.specs.Publishing.{told_by}
-use Rattle.mdb_topology.specs.Refusal.{first_refusal, first_past, refusal}
+use Rattle.mdb_topology.specs.Refusal.{first_refusal, first_past, refusal, may_want, may_yield, ran_out}
 use Rattle.mdb_topology.specs.Answer.{pool_reply}
 use Rattle.mdb_topology.specs.Turns.{in_turn}
 use Rattle.mdb_topology.specs.Checking.{Begins, number_limit}
@@ -35,6 +35,7 @@ use Rattle.mdb_topology.specs.Stepping.{is_here_among, Follows}
 use Rattle.mdb_topology.proofs.AtMonitor.{checked-watches, monitor-within, monitor-setting}
 use Rattle.mdb_topology.proofs.Beats.{beat-items, beat-others}
 use Rattle.mdb_topology.proofs.Connected.{connected-is}
+use Rattle.mdb_topology.proofs.RefusedOutside.{outside-refusal}
 use Rattle.mdb_topology.proofs.Same.{IsPlain}
 use Rattle.mdb_topology.proofs.TellingSteps.{refused-told}
 use Rattle.mdb_topology.proofs.Updating.{in-time, passes-time, unruled, find-never}
@@ -110,6 +111,30 @@ module _ (w : TopologyCore) (h : List Item) (z : StandsFor w h) (m : ℕ) (l : w
             let none : nat_lt (number_limit o) (fresh_for h p) ≡ false = (let zero : fresh_for h p ≡ 0 = rw known refl in ap (nat_lt (number_limit o)) zero ∙ lt-zero (number_limit o)) in
             let no : true ≡ false = sym past ∙ none in
             cc
+
+        -- a check whose fresh number is within the limit is refused for none but a number that was drawn before
+        pub beat-wants : nat_lt (number_limit o) (fresh_for h p) ≡ false → may_want o h step ≡ true
+        beat-wants fresh = on (connection_of (recent h p)) refl
+          where
+            by_number : (b : Bool) → nat_lt (number_limit o) number ≡ b → refusal o h step ≡ ran_out (if b then Some Monitor else None)
+            by_number b e =
+                outside-refusal o h m (Beat a p) tt (if b then Some Monitor else None) passes
+                (subst (λ t. length t.servers ≤ 128) (sym (ap (λ r. applied r (description_of o h)) ruled ∙ z.described.known)) z.described.few)
+                (ap (λ fs. first_past o m (begun h step) (heartbeat o h (Beat a p) ++ fs)) (silent-calm o h step refl ruled (with_facts m (heartbeat o h (Beat a p)) (begun h step)))
+                ∙ (ap (first_past o m (begun h step)) (append-nil (heartbeat o h (Beat a p))) ∙ past-number b e))
+
+            yields : (b : Bool) → is_connected h p ≡ true → may_yield (is_connected h p) false (ran_out (if b then Some Monitor else None)) ≡ true
+            yields true c = rw c refl
+            yields false c = refl
+
+            on : (c : Option Connection) → connection_of (recent h p) ≡ c → may_want o h step ≡ true
+            on None e =
+                let mine : number ≡ fresh_for h p = ap (λ c. (connection_for c (fresh_for h p)).driver_id) e in
+                ap (may_yield (is_connected h p) false) (by_number false (ap (nat_lt (number_limit o)) mine ∙ fresh))
+            on (Some c) e =
+                let known : is_connected h p ≡ true = sym (connected-is h p) ∙ ap is_some e in
+                let b : Bool = nat_lt (number_limit o) number in
+                ap (may_yield (is_connected h p) false) (by_number b refl) ∙ yields b known
 
         pub beat-fresh : nat_lt (number_limit o) (fresh_for h p) ≡ true → refusal o h step ≡ Some (Exhausted Monitor)
         beat-fresh past = refused-past (ap (nat_lt (number_limit o)) (fresh-number (connection_of (recent h p)) refl past) ∙ past)

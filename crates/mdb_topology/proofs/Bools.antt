@@ -24,6 +24,10 @@ pub or-second : (p q : Bool) → q ≡ true → p || q ≡ true
 or-second true q e = refl
 or-second false q e = e
 
+pub and-true : (b : Bool) → b && true ≡ b
+and-true true = refl
+and-true false = refl
+
 pub and-false : (b : Bool) → b && false ≡ false
 and-false true = refl
 and-false false = refl

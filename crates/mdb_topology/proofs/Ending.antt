@@ -40,7 +40,7 @@ use Rattle.mdb_topology.specs.Monitors.{hello_reply, check_result, setting, stre
 use Rattle.mdb_topology.specs.Description.{updates, replied_rule, rule_after, description_of, change_by, changed}
 use Rattle.mdb_topology.specs.Facts.{trouble, clear_of, is_clear}
 use Rattle.mdb_topology.specs.Publishing.{told_by, publication}
-use Rattle.mdb_topology.specs.Refusal.{first_refusal, refusal}
+use Rattle.mdb_topology.specs.Refusal.{first_refusal, refusal, may_want}
 use Rattle.mdb_topology.specs.Checking.{Ends}
 use Rattle.mdb_topology.specs.Changing.{IsChanged, change_past, reply_known, ChangesIf, ConcludesAs, IsWithCheck, IsUntroubled}
 use Rattle.mdb_topology.specs.Standing.{StandsFor}
@@ -51,6 +51,7 @@ use Rattle.mdb_topology.proofs.Free.{take_numbers, first-free}
 use Rattle.mdb_topology.proofs.MakesKnown.{MakesKnown, refused-change, follows-change}
 use Rattle.mdb_topology.proofs.Same.{IsPlain}
 use Rattle.mdb_topology.proofs.Updating.{in-time, passes-time, unruled, unchanged, rule-stopped, rule-unstopped}
+use Rattle.mdb_topology.proofs.Wants.{untroubled-wants}
 use Rattle.mdb_topology.proofs.Watching.{Watches, silent-calm, follows-watch}
 
 some-none : {T : Type 0} {C : Type 0} {x : T} → Some x ≡ None → C
@@ -121,23 +122,31 @@ module _ (w : TopologyCore) (h : List Item) (z : StandsFor w h) (m : ℕ) (l : w
       pub beaten-mode : o.load_balanced ≡ true → refusal o h (step-of came) ≡ Some WrongMode
       beaten-mode e = rw (in-time w h z m l, here, running, e) refl
 
-      module _ (mode : o.load_balanced ≡ false) (x y : MonitorCore) (f : Finish) (at_p : slice_get w.monitors.items p ≡ Some x) (ends : Ends x y d (check_result a came) f) where
-        pub passes : first_refusal o h (step-of came) ≡ None
-        passes = passes-time w h z m l (act-of came) (rw (here, running, mode) refl)
+      pub passes : o.load_balanced ≡ false → first_refusal o h (step-of came) ≡ None
+      passes mode = passes-time w h z m l (act-of came) (rw (here, running, mode) refl)
 
+      -- its event takes no number
+      ends-free : (r : BeatenResult) → take_numbers (heartbeat o h (act-of r)) ≡ false
+      ends-free r = rw here (on r)
+        where
+          on : (r : BeatenResult) → take_numbers (Sdam (end_event o (recent h p) a d r) ∷ []) ≡ false
+          on (Ok r more) = refl
+          on (Err error) = refl
+          on (Cancelled error) = refl
+
+      pub free : take_numbers (heartbeat o h (act-of came)) ≡ false
+      free = ends-free came
+
+      -- a check that did not fail clears nothing
+      pub ended-wants : o.load_balanced ≡ false → IsUntroubled came → may_want o h (step-of came) ≡ true
+      ended-wants mode untroubled = untroubled-wants w h z (act-of came) m tt (calm came untroubled) (passes mode) free refl
+
+      module _ (mode : o.load_balanced ≡ false) (x y : MonitorCore) (f : Finish) (at_p : slice_get w.monitors.items p ≡ Some x) (ends : Ends x y d (check_result a came) f) where
         finish-is : f ≡ finish_row (setting o a) (recent h p) d (check_result a came) false
         finish-is = ends.finish (monitor_items h p) (z.monitors.each p x at_p) ∙ ap (λ s. finish_row s (recent h p) d (check_result a came) false) (monitor-setting w h z a p here x at_p)
 
         pub beats-are : heartbeat o h (act-of came) ≡ Sdam f.event ∷ []
         beats-are = rw here (ap (λ v. Sdam v.event ∷ []) (sym finish-is))
-
-        pub free : take_numbers (heartbeat o h (act-of came)) ≡ false
-        free = rw here (on came)
-          where
-            on : (came : BeatenResult) → take_numbers (Sdam (end_event o (recent h p) a d came) ∷ []) ≡ false
-            on (Ok r more) = refl
-            on (Err error) = refl
-            on (Cancelled error) = refl
 
         pub watches : (n : Next) → n.monitoring ≡ Checked p y w.fresh → Watches w h (step-of came) n
         watches n e =
@@ -148,7 +157,7 @@ module _ (w : TopologyCore) (h : List Item) (z : StandsFor w h) (m : ℕ) (l : w
         pub follows-ended : IsUntroubled came → rule_after o h (step-of came) ≡ None → (n : Next) → n.changes.items ≡ [] → n.monitors.items ≡ [] → n.description ≡ None → n.stops ≡ false → n.facts.items ≡ Sdam f.event ∷ []
             → n.monitoring ≡ Checked p y w.fresh → n.reply ≡ Changed false → Follows w n (step-of came) h
         follows-ended untroubled ruled n changes none known goes_on facts e r =
-            follows-watch w h z (step-of came) l n (subst IsPlain (sym r) tt) changes none known goes_on (facts ∙ sym beats-are) tt (silent-calm o h (step-of came) (calm came untroubled) ruled) passes ruled
+            follows-watch w h z (step-of came) l n (subst IsPlain (sym r) tt) changes none known goes_on (facts ∙ sym beats-are) tt (silent-calm o h (step-of came) (calm came untroubled) ruled) (passes mode) ruled
             (λ fs. unchanged w h z m l (act-of came) (calm came untroubled) ruled ∙ sym r) (first-free o m (begun h (step-of came)) (heartbeat o h (act-of came)) free) (watches n e)
 
         -- the reply makes u known
@@ -181,14 +190,6 @@ module _ (w : TopologyCore) (h : List Item) (z : StandsFor w h) (m : ℕ) (l : w
         ruled-none (Err error) c e = absurd c
         ruled-none (Cancelled error) c e = unruled w h z m l (act-of (Cancelled error)) refl
 
-        rules-free : (r : BeatenResult) → take_numbers (heartbeat o h (act-of r)) ≡ false
-        rules-free r = rw here (on r)
-          where
-            on : (r : BeatenResult) → take_numbers (Sdam (end_event o (recent h p) a d r) ∷ []) ≡ false
-            on (Ok r more) = refl
-            on (Err error) = refl
-            on (Cancelled error) = refl
-
         ruled-some : (r : BeatenResult) → IsUntroubled r → first_refusal o h (step-of r) ≡ None → (u : TopologyDescription) → reply_known w a m r (reported r) ≡ Some u → MakesKnown w h (step-of r) u
         ruled-some (Ok r more) c pass u e = on w.stopped refl
           where
@@ -212,7 +213,7 @@ module _ (w : TopologyCore) (h : List Item) (z : StandsFor w h) (m : ℕ) (l : w
                   tells = ap (λ v. told_by o m v (description_of o h)) ruled ∙ (ap (told_by o m (Some (updates (server-of r more)))) z.described.known ∙ ap (publication o m w.description) is_u);
                   replies = λ fs. ap (λ b. Changed (changed o h (step-of (Ok r more)) || b)) unclear ∙ (ap Changed (or-none (changed o h (step-of (Ok r more)))) ∙ ap Changed differs);
                   goes_on = refl;
-                  free = rules-free (Ok r more);
+                  free = ends-free (Ok r more);
                 }
         ruled-some (Err error) c pass u e = absurd c
         ruled-some (Cancelled error) c pass u e = some-none (sym e)
@@ -227,8 +228,8 @@ module _ (w : TopologyCore) (h : List Item) (z : StandsFor w h) (m : ℕ) (l : w
             (r.2.facts ∙ ap (λ fs. Sdam f.event ∷ fs) r.1.facts) (ap (λ x. x.monitoring) v) (ap (λ x. x.reply) v ∙ r.1.reply)
         concluded untroubled (Some u) e (Refused why) r =
             let some : reply_known w a m came (reported came) ≡ Some u = ap (reply_known w a m came) (sym report-is) ∙ sym e in
-            refused-replied u (ruled-some came untroubled passes u some) r.0 r.2 ∙ ap (λ x. Some x) (sym r.1)
+            refused-replied u (ruled-some came untroubled (passes mode) u some) r.0 r.2 ∙ ap (λ x. Some x) (sym r.1)
         concluded untroubled (Some u) e (Accepted n) r =
             let some : reply_known w a m came (reported came) ≡ Some u = ap (reply_known w a m came) (sym report-is) ∙ sym e in
             let v = r.2.others in
-            follows-replied u (ruled-some came untroubled passes u some) r.0 n r.1 (ap (λ x. x.reply) v) (ap (λ x. x.changes) v) (ap (λ x. x.description) v) (ap (λ x. x.monitors) v) (ap (λ x. x.stops) v) r.2.facts (ap (λ x. x.monitoring) v)
+            follows-replied u (ruled-some came untroubled (passes mode) u some) r.0 n r.1 (ap (λ x. x.reply) v) (ap (λ x. x.changes) v) (ap (λ x. x.description) v) (ap (λ x. x.monitors) v) (ap (λ x. x.stops) v) r.2.facts (ap (λ x. x.monitoring) v)

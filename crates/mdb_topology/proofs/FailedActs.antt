@@ -1,5 +1,5 @@
 -- What becomes of a failure that marks a server, and of one that marks none, by what was planned.
-use Rattle.std.proofs.Common.{ℕ, ◌≡◌, ◌≤◌, ◌&&◌, Bool, true, false, List, [], length, Option, Some, None, is_some, refl, sym, ◌∙◌, ap, subst}
+use Rattle.std.proofs.Common.{ℕ, ◌≡◌, ◌≤◌, ◌&&◌, Bool, true, false, if◌then◌else◌, List, [], length, Option, Some, None, is_some, refl, sym, ◌∙◌, ap, subst}
 use Rattle.std.specs.Prelude.{slice_get, unwrap_or}
 use Rattle.mdb_base.specs.declared.address.ServerAddress.{ServerAddress}
 use Rattle.mdb_base.specs.declared.error.Error.{Error}
@@ -12,8 +12,8 @@ use Rattle.mdb_describe.specs.Differences.{difference}
 use Rattle.mdb_describe.specs.Servers.{in_order, is_known}
 use Rattle.mdb_describe.specs.Update.{updated}
 use Rattle.mdb_events.specs.declared.fact.Fact.{Fact}
-use Rattle.mdb_log.specs.declared.reply.Refused.{Refused as Cause}
 use Rattle.mdb_log.specs.declared.reply.Reply.TheVariants.{Done}
+use Rattle.mdb_log.specs.declared.reply.What.TheVariants.{Generation}
 use Rattle.mdb_log.specs.declared.step.Act.TheVariants.{Failed}
 use Rattle.mdb_log.specs.declared.step.FailedAt.{FailedAt}
 use Rattle.mdb_log.specs.declared.step.Step.{Step}
@@ -21,7 +21,7 @@ use Rattle.mdb_log.specs.History.{Item, of_pool}
 use Rattle.mdb_log.specs.Opening.{pool_options}
 use Rattle.mdb_pool.specs.declared.connection.Connection.{Connection}
 use Rattle.mdb_pool.specs.Core.{PoolCore}
-use Rattle.mdb_pool.specs.Kept.{connection_at, is_pending_at}
+use Rattle.mdb_pool.specs.Kept.{connection_at, exhausted_now, is_pending_at}
 use Rattle.mdb_pool.specs.Refusing.{refusal_now}
 use Rattle.mdb_pool.specs.Serving.{IsServed}
 use Rattle.mdb_topology.specs.declared.change.Change.{Change}
@@ -30,22 +30,20 @@ use Rattle.mdb_topology.specs.declared.marked.Asked.TheVariants.{Nothing}
 use Rattle.mdb_topology.specs.declared.monitoring.Monitoring.TheVariants.{Same}
 use Rattle.mdb_topology.specs.declared.next.Next.{Next}
 use Rattle.mdb_topology.specs.declared.topology.TopologyCore.{TopologyCore}
-use Rattle.mdb_topology.specs.Acting.{step_of}
 use Rattle.mdb_topology.specs.Current.{establishing}
 use Rattle.mdb_topology.specs.Description.{Rule, updates}
 use Rattle.mdb_topology.specs.Errors.{case_of}
 use Rattle.mdb_topology.specs.Failing.{regards_now, clears_after, service_after, asked_after, IsFailing, StillFails, Fails, TellsFailure, IsToldOf}
-use Rattle.mdb_topology.specs.Marking.{clear_act}
 use Rattle.mdb_topology.specs.Planned.{CanTake, LeadsAll, PlansMore}
 use Rattle.mdb_topology.specs.Publishing.{telling, told_by}
-use Rattle.mdb_topology.specs.Refusal.{refusal}
+use Rattle.mdb_topology.specs.Refusal.{ran_out, refusal}
 use Rattle.mdb_topology.specs.Standing.{at_address, StandsFor, StandsForSome}
 use Rattle.mdb_topology.specs.Stepping.{Follows}
 use Rattle.mdb_topology.specs.Telling.{Comes}
 use Rattle.mdb_topology.specs.Turns.{in_turn}
 use Rattle.mdb_topology.proofs.Differing.{open-known}
 use Rattle.mdb_topology.proofs.FailedAgain.{pending-now, still-fails}
-use Rattle.mdb_topology.proofs.FailedBecoming.{failure-refused, failure-follows}
+use Rattle.mdb_topology.proofs.FailedBecoming.{failure-refusal, failure-follows}
 use Rattle.mdb_topology.proofs.FailedMarks.{Constant, mark-constant}
 use Rattle.mdb_topology.proofs.FailedMeans.{means-nothing, means-service, means-mark}
 use Rattle.mdb_topology.proofs.FailedPools.{failing}
@@ -53,24 +51,10 @@ use Rattle.mdb_topology.proofs.FailedTroubles.{failed-place}
 use Rattle.mdb_topology.proofs.Following.{early-later}
 use Rattle.mdb_topology.proofs.MarkedServers.{marked-known, marked-length, marked-ordered}
 use Rattle.mdb_topology.proofs.Placed.{fits-at, number-at}
-use Rattle.mdb_topology.proofs.Places.{some-same}
 
 -- the step is one of the failure
 abbrev step-is : (s : PoolCore) (step : Step) (error : Error) (d : IsFailing s step error) → step ≡ failing step.moment s.pool d.connection d.at error
 step-is s step error d = ap (λ a. record { moment = step.moment; act = a }) d.act_is
-
--- a refused clear was wanted
-record WasRefused (b : Bool) (s : PoolCore) (step : Step) (service : Option ObjectId) (error : Error) (why : Cause) : Type 0 where
-  pub wanted : b ≡ true
-  pub refuses : refusal_now s (step_of step.moment (clear_act service error) s.pool) ≡ Some why
-
-was-refused : (pools : List PoolCore) (i : ℕ) (s : PoolCore) (there : slice_get pools i ≡ Some s) (b : Bool) (step : Step) (service : Option ObjectId) (error : Error) (asked : Asked) (changes : List Change) (before after : List Fact) (why : Cause)
-    → Fails b pools i step service error asked [] changes before after (Some why) → WasRefused b s step service error why
-was-refused pools i s there true step service error asked changes before after why f = record {
-  wanted = refl;
-  refuses = subst (λ (u : PoolCore). refusal_now u (step_of step.moment (clear_act service error) u.pool) ≡ Some why) (some-same f.0 s (slice_get pools i) f.1 there) f.2;
-}
-was-refused pools i s there false step service error asked changes before after why f = absurd f
 
 module _ (w : TopologyCore) (st : StandsForSome w) (i : ℕ) (s : PoolCore) (there : slice_get w.pools.cores.items i ≡ Some s) (step : Step) (error : Error) (d : IsFailing s step error) where
   served : IsServed s.options (of_pool s.pool st.0)
@@ -138,18 +122,18 @@ module _ (w : TopologyCore) (h : List Item) (z : StandsFor w h) (step : Step) (l
     moved : TellsFailure o h (failing m s.pool c at error) s None b service error Nothing
     moved = subst (λ x. TellsFailure o h x s None b service error Nothing) is f
 
-    pub unmarked-refused : (changes : List Change) (before after : List Fact) (why : Cause) → Fails b pools i step service error Nothing [] changes before after (Some why) → refusal o h step ≡ Some why
-    unmarked-refused changes before after why r =
-        let g : WasRefused b s step service error why = was-refused pools i s there b step service error Nothing changes before after why r in
-        subst (λ x. refusal o h x ≡ Some why) (sym is)
-        (failure-refused w h z m l i s there c at error None b service Nothing moved silent z.described.few why g.wanted g.refuses)
+    -- it is refused where the generation that it clears is at its limit, and for nothing else
+    pub unmarked-refusal : (q : Bool) → b && exhausted_now s service ≡ q → refusal o h step ≡ ran_out (if q then Some Generation else None)
+    unmarked-refusal q e =
+        subst (λ x. refusal o h x ≡ ran_out (if q then Some Generation else None)) (sym is)
+        (failure-refusal w h z m l i s there c at error None b service Nothing moved silent z.described.few q e)
 
-    pub unmarked-follows : (n : Next) → Fails b pools i step service error Nothing [] n.changes.items [] n.facts.items None → n.reply ≡ Done → n.description ≡ None → n.monitors.items ≡ [] → n.monitoring ≡ Same → n.stops ≡ false → Follows w n step h
+    pub unmarked-follows : (n : Next) → Fails b pools i step service error Nothing [] n.changes.items [] n.facts.items → n.reply ≡ Done → n.description ≡ None → n.monitors.items ≡ [] → n.monitoring ≡ Same → n.stops ≡ false → Follows w n step h
     unmarked-follows n r reply known none nothing goes_on =
         let v : unwrap_or n.description t ≡ t = ap (λ y. unwrap_or y t) known in
         subst (λ x. Follows w n x h) (sym is)
         (failure-follows w h z m l i s there c at error None b service Nothing moved silent z.described.few n
-        (subst (λ x. Fails b pools i x service error Nothing [] n.changes.items [] n.facts.items None) is r) reply known none nothing goes_on
+        (subst (λ x. Fails b pools i x service error Nothing [] n.changes.items [] n.facts.items) is r) reply known none nothing goes_on
         (subst (λ y. in_order y.servers ≡ true) (sym v) z.described.ordered) (subst (λ y. length y.servers ≤ 128) (sym v) z.described.few)
         (λ a. ap (λ y. is_known a y.servers) v))
 
@@ -176,20 +160,19 @@ module _ (w : TopologyCore) (h : List Item) (z : StandsFor w h) (step : Step) (l
     mark-moved : TellsFailure o h (failing m s.pool f.failing.connection f.failing.at error) s rule b None error asked
     mark-moved = subst (λ x. TellsFailure o h x s rule b None error asked) mark-is f
 
-    pub marked-refused : (changes : List Change) (before after : List Fact) (why : Cause) → Fails b pools i step None error asked [] changes before after (Some why) → refusal o h step ≡ Some why
-    marked-refused changes before after why r =
-        let g : WasRefused b s step None error why = was-refused pools i s there b step None error asked changes before after why r in
-        subst (λ x. refusal o h x ≡ Some why) (sym mark-is)
-        (failure-refused w h z m l i s there f.failing.connection f.failing.at error rule b None asked mark-moved told few why g.wanted g.refuses)
+    pub marked-refusal : (q : Bool) → b && exhausted_now s None ≡ q → refusal o h step ≡ ran_out (if q then Some Generation else None)
+    marked-refusal q e =
+        subst (λ x. refusal o h x ≡ ran_out (if q then Some Generation else None)) (sym mark-is)
+        (failure-refusal w h z m l i s there f.failing.connection f.failing.at error rule b None asked mark-moved told few q e)
 
-    pub marked-follows : (before : List Fact) (n : Next) → IsToldOf w m u before → Fails b pools i step None error asked [] n.changes.items before n.facts.items None → n.reply ≡ Done → n.description ≡ Some u → n.monitors.items ≡ [] → n.monitoring ≡ Same → n.stops ≡ false → Follows w n step h
+    pub marked-follows : (before : List Fact) (n : Next) → IsToldOf w m u before → Fails b pools i step None error asked [] n.changes.items before n.facts.items → n.reply ≡ Done → n.description ≡ Some u → n.monitors.items ≡ [] → n.monitoring ≡ Same → n.stops ≡ false → Follows w n step h
     marked-follows before n first r reply described none nothing goes_on =
         let v : unwrap_or n.description t ≡ u = ap (λ y. unwrap_or y t) described in
         let same : before ≡ told.facts = sym (first h z.pools) ∙ told.same h in
         subst (λ x. Follows w n x h) (sym mark-is)
         (failure-follows w h z m l i s there f.failing.connection f.failing.at error rule b None asked mark-moved told few n
-        (subst (λ fs. Fails b pools i (failing m s.pool f.failing.connection f.failing.at error) None error asked [] n.changes.items fs n.facts.items None) same
-        (subst (λ x. Fails b pools i x None error asked [] n.changes.items before n.facts.items None) mark-is r)) reply described none nothing goes_on
+        (subst (λ fs. Fails b pools i (failing m s.pool f.failing.connection f.failing.at error) None error asked [] n.changes.items fs n.facts.items) same
+        (subst (λ x. Fails b pools i x None error asked [] n.changes.items before n.facts.items) mark-is r)) reply described none nothing goes_on
         (subst (λ y. in_order y.servers ≡ true) (sym v) (marked-ordered s.address error t ∙ z.described.ordered)) (subst (λ y. length y.servers ≤ 128) (sym v) few)
         (λ a. ap (λ y. is_known a y.servers) v ∙ marked-known s.address error t a))
 

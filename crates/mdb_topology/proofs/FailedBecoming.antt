@@ -11,13 +11,15 @@ use Rattle.mdb_log.specs.declared.step.Act.{Act}
 use Rattle.mdb_log.specs.declared.step.Act.TheVariants.{Failed}
 use Rattle.mdb_log.specs.declared.step.FailedAt.{FailedAt}
 use Rattle.mdb_log.specs.declared.step.Step.{Step}
-use Rattle.mdb_log.specs.declared.reply.Refused.{Refused as Cause}
 use Rattle.mdb_log.specs.declared.reply.Refused.TheVariants.{Exhausted}
 use Rattle.mdb_log.specs.declared.reply.Reply.TheVariants.{Done}
+use Rattle.mdb_log.specs.declared.reply.What.{What}
 use Rattle.mdb_log.specs.declared.reply.What.TheVariants.{Generation}
 use Rattle.mdb_log.specs.History.{Item, PoolItem, failed, service_in, of_pool, after_facts, with_facts}
+use Rattle.mdb_log.specs.Homes.{homes}
 use Rattle.mdb_log.specs.Opening.{pool_options}
 use Rattle.mdb_pool.specs.Core.{PoolCore}
+use Rattle.mdb_pool.specs.Facts.{act_facts}
 use Rattle.mdb_pool.specs.Kept.{exhausted_now}
 use Rattle.mdb_pool.specs.Quiet.{IsQuiet}
 use Rattle.mdb_pool.specs.Refusal.{is_exhausted, wrong_service}
@@ -38,25 +40,26 @@ use Rattle.mdb_topology.specs.Failing.{Fails as FailsBy, TellsFailure, cleared_f
 use Rattle.mdb_topology.specs.Homes.{home_of, begun}
 use Rattle.mdb_topology.specs.Marking.{asked_of, clear_act}
 use Rattle.mdb_topology.specs.Publishing.{told_by}
-use Rattle.mdb_topology.specs.Refusal.{first_past, first_refusal, refusal, sooner}
+use Rattle.mdb_topology.specs.Refusal.{first_past, first_refusal, ran_out, refusal, sooner}
 use Rattle.mdb_topology.specs.Standing.{home, PoolFits, StandsFor}
 use Rattle.mdb_topology.specs.Stepping.{known_after, Follows}
 use Rattle.mdb_topology.specs.Turns.{in_turn}
 use Rattle.mdb_topology.proofs.ClearedPools.{past-clear}
 use Rattle.mdb_topology.proofs.FailedFacts.{known-1, failed-step}
 use Rattle.mdb_topology.proofs.FailedMarks.{Constant}
-use Rattle.mdb_topology.proofs.FailedPast.{fails-free, failed-past, refused-past}
+use Rattle.mdb_topology.proofs.FailedPast.{fails-free, failed-past, refused-past, sooner-none}
 use Rattle.mdb_topology.proofs.FailedPlans.{clears, fails, Doing, planned-done}
 use Rattle.mdb_topology.proofs.FailedPools.{failing}
 use Rattle.mdb_topology.proofs.FailedRows.{home-failed, not-late, failed-rows}
 use Rattle.mdb_topology.proofs.FollowingFailed.{follows-failed}
-use Rattle.mdb_topology.proofs.Free.{take_numbers, first-free}
+use Rattle.mdb_topology.proofs.Free.{take_numbers, act-free, first-free, free-append, out-free}
 use Rattle.mdb_topology.proofs.Heartbeats.{AreCalm}
 use Rattle.mdb_topology.proofs.Laws.{turn-append}
 use Rattle.mdb_topology.proofs.Limits.{past-append}
-use Rattle.mdb_topology.proofs.MarkBecoming.{not-exhausted, cause-is}
+use Rattle.mdb_topology.proofs.MarkBecoming.{not-exhausted}
 use Rattle.mdb_topology.proofs.Placed.{fits-at}
 use Rattle.mdb_topology.proofs.Places.{some-same}
+use Rattle.mdb_topology.proofs.RefusedOutside.{serving-none}
 
 -- what a monitor is asked is of no pool, and takes no number
 asked-calm : (asked : Asked) (b : Bool) (a : ServerAddress) → AreCalm (asked_of asked b a)
@@ -177,21 +180,36 @@ module _ (w : TopologyCore) (h : List Item) (z : StandsFor w h) (m : ℕ) (l : w
       ∙ (ap (λ fs. fs ++ in_turn m rest (with_facts m fs k0)) (told-now.same k0)
       ∙ ap (λ fs. told.facts ++ (fs ++ in_turn m more (with_facts m fs k1))) (clears-now k1 here))
 
-  past-begun : first_past o m k1 C ≡ Some Generation → first_past o m k0 (step_facts o h step) ≡ Some Generation
-  past-begun e =
+  own-free : (j : List Item) → take_numbers (own_facts o h step (home_of h act) j) ≡ false
+  own-free j =
+      ap (λ x. take_numbers (own_facts o h step x j)) place
+      ∙ out-free (act_facts s.pool s.address (pool_options o) m xs (of_pool s.pool j) act) (act-free s.pool s.address (pool_options o) m xs (of_pool s.pool j) act tt)
+
+  -- those after them take no number
+  more-free : (j : List Item) → take_numbers (in_turn m more j) ≡ false
+  more-free j =
+      let asks : List Fact = asking o (trouble o h step) (clear_of o h step) j in
+      let j1 : List Item = with_facts m asks j in
+      let own : List Fact = own_facts o h step (home_of h act) j1 in
+      let j2 : List Item = with_facts m own j1 in
+      let served : List Fact = serve_all o m j2 in
+      free-append asks (own ++ (served ++ []))
+      ∙ rw (ap take_numbers (f.asks_are j) ∙ asked-none asked cleared s.address) (free-append own (served ++ []) ∙ rw (own-free j1) (free-append served [] ∙ rw (serving-none o m j2 (homes j2)) refl))
+
+  past-begun : (past : Option What) → first_past o m k1 C ≡ past → first_past o m k0 (step_facts o h step) ≡ past
+  past-begun past e =
       let others : List Fact = in_turn m more (with_facts m C k1) in
       ap (first_past o m k0) begins-with
       ∙ (past-append o m k0 told.facts (C ++ others)
       ∙ (ap (λ y. sooner y (first_past o m k1 (C ++ others))) (first-free o m k0 told.facts told.free)
-      ∙ (past-append o m k1 C others ∙ ap (λ y. sooner y (first_past o m (with_facts m C k1) others)) e)))
+      ∙ (past-append o m k1 C others
+      ∙ (ap (sooner (first_past o m k1 C)) (first-free o m (with_facts m C k1) others (more-free (with_facts m C k1))) ∙ (sooner-none (first_past o m k1 C) ∙ e)))))
 
-  pub failure-refused : (why : Cause) → cleared ≡ true → refusal_now s (step_of m (clear_act service error) s.pool) ≡ Some why → refusal o h step ≡ Some why
-  failure-refused why e g =
-      let cause : (exhausted_now s service ≡ true) × (Exhausted Generation ≡ why) = cause-is (exhausted_now s service) why (sym (refuses e) ∙ g) in
-      let past : first_past o m k1 C ≡ Some Generation = past-for cleared ∙ rw (e, cause.0) refl in
-      refused-past o h step (Some Generation) first few-then (past-begun past) ∙ ap Some cause.1
+  -- the failure is refused where the generation that it clears is at its limit, and for nothing else
+  pub failure-refusal : (b : Bool) → cleared && exhausted_now s service ≡ b → refusal o h step ≡ ran_out (if b then Some Generation else None)
+  failure-refusal b e = refused-past o h step (if b then Some Generation else None) first few-then (past-begun (if b then Some Generation else None) (past-for cleared ∙ ap (λ c. if c then Some Generation else None) e))
 
-  module _ (n : Next) (fails_by : FailsBy cleared pools i step service error asked [] n.changes.items told.facts n.facts.items None) where
+  module _ (n : Next) (fails_by : FailsBy cleared pools i step service error asked [] n.changes.items told.facts n.facts.items) where
     does : Doing o h s fits served quiet within d.options m c at error service cleared i asked n.changes.items told.facts n.facts.items
     does = planned-done o h s fits served quiet within d.options m c at error service pools i there asked n.changes.items told.facts n.facts.items cleared fails_by
 
@@ -205,9 +223,9 @@ module _ (w : TopologyCore) (h : List Item) (z : StandsFor w h) (m : ℕ) (l : w
         let no : exhausted_now s service ≡ false = not-exhausted (exhausted_now s service) (sym (refuses e) ∙ accepted) in
         past-for cleared ∙ rw (e, no) refl
       where
-        accepts : (b : Bool) → cleared ≡ b → FailsBy cleared pools i step service error asked [] n.changes.items told.facts n.facts.items None → refusal_now s (step_of m (clear_act service error) s.pool) ≡ None
+        accepts : (b : Bool) → cleared ≡ b → FailsBy cleared pools i step service error asked [] n.changes.items told.facts n.facts.items → refusal_now s (step_of m (clear_act service error) s.pool) ≡ None
         accepts b e2 by =
-            let v = subst (λ q. FailsBy q pools i step service error asked [] n.changes.items told.facts n.facts.items None) e by in
+            let v = subst (λ q. FailsBy q pools i step service error asked [] n.changes.items told.facts n.facts.items) e by in
             subst (λ (u : PoolCore). refusal_now u (step_of m (clear_act service error) u.pool) ≡ None) (some-same v.0.pool s (slice_get pools i) v.0.there there) v.1
 
     past-none : first_past o m k0 (step_facts o h step) ≡ None

@@ -1,5 +1,5 @@
 -- A check that failed.
-use Rattle.std.proofs.Common.{ℕ, ◌≡◌, ◌≤◌, ◌||◌, Bool, true, false, List, [], ◌∷◌, ◌++◌, Some, None, is_some, refl, sym, ◌∙◌, ap, subst}
+use Rattle.std.proofs.Common.{ℕ, ◌≡◌, ◌≤◌, ◌||◌, Bool, true, false, List, [], ◌∷◌, ◌++◌, length, Some, None, is_some, refl, sym, ◌∙◌, ap, subst, append-nil}
 use Rattle.std.specs.Prelude.{slice_get}
 use Rattle.mdb_base.specs.declared.address.ServerAddress.{ServerAddress}
 use Rattle.mdb_base.specs.declared.error.Error.{Error}
@@ -7,13 +7,16 @@ use Rattle.mdb_base.specs.declared.options.Options.{Options}
 use Rattle.mdb_describe.specs.declared.topology.TopologyDescription.{TopologyDescription}
 use Rattle.mdb_describe.specs.Descriptions.{failed}
 use Rattle.mdb_describe.specs.Update.{updated}
+use Rattle.mdb_events.specs.declared.fact.Fact.{Fact}
 use Rattle.mdb_events.specs.declared.fact.Fact.TheVariants.{Sdam}
 use Rattle.mdb_events.specs.declared.sdam.SdamEvent.{SdamEvent}
 use Rattle.mdb_monitor.specs.declared.check.Finish.{Finish}
 use Rattle.mdb_monitor.specs.declared.monitor.MonitorCore.{MonitorCore}
 use Rattle.mdb_log.specs.declared.checked.BeatenResult.{BeatenResult}
 use Rattle.mdb_log.specs.declared.checked.BeatenResult.TheVariants.{Ok, Err, Cancelled}
+use Rattle.mdb_log.specs.declared.reply.Refused.TheVariants.{Exhausted}
 use Rattle.mdb_log.specs.declared.reply.Reply.TheVariants.{Changed}
+use Rattle.mdb_log.specs.declared.reply.What.TheVariants.{Generation}
 use Rattle.mdb_log.specs.declared.step.Act.{Act}
 use Rattle.mdb_log.specs.declared.step.Act.TheVariants.{Beaten}
 use Rattle.mdb_log.specs.declared.step.Step.{Step}
@@ -22,27 +25,26 @@ use Rattle.mdb_topology.specs.declared.marked.Asked.TheVariants.{Nothing}
 use Rattle.mdb_topology.specs.declared.monitoring.Monitoring.{Monitoring}
 use Rattle.mdb_topology.specs.declared.monitoring.Monitoring.TheVariants.{Checked}
 use Rattle.mdb_topology.specs.declared.next.Next.{Next}
-use Rattle.mdb_topology.specs.declared.next.Stepped.{Stepped}
-use Rattle.mdb_topology.specs.declared.next.Stepped.TheVariants.{Refused, Accepted}
 use Rattle.mdb_topology.specs.declared.topology.TopologyCore.{TopologyCore}
 use Rattle.mdb_topology.specs.Answer.{reply_to}
 use Rattle.mdb_topology.specs.Changing.{IsUnchanged, IsWithCheck, IsUntroubled}
 use Rattle.mdb_topology.specs.Checking.{Ends}
-use Rattle.mdb_topology.specs.Description.{rule_after, description_of, change_by}
+use Rattle.mdb_topology.specs.Description.{applied, rule_after, description_of, change_by}
 use Rattle.mdb_topology.specs.Errors.{Trouble}
 use Rattle.mdb_topology.specs.Facts.{trouble, clear_by, is_clear}
 use Rattle.mdb_topology.specs.Homes.{is_here, begun}
-use Rattle.mdb_topology.specs.Marking.{spoken, IsOfPool, IsMarking, FailsTo, FailsAs}
+use Rattle.mdb_topology.specs.Marking.{spoken, IsOfPool, IsMarking, MarkPasses, FailsTo, FailsAs}
 use Rattle.mdb_topology.specs.Monitors.{check_result, runs, heartbeat}
-use Rattle.mdb_topology.specs.Refusal.{first_refusal}
+use Rattle.mdb_topology.specs.Refusal.{first_past, first_refusal, refusal}
 use Rattle.mdb_topology.specs.Standing.{at_address, StandsFor}
-use Rattle.mdb_topology.specs.Stepping.{is_here_among, BecomesOf, Follows}
+use Rattle.mdb_topology.specs.Stepping.{is_here_among, Follows}
 use Rattle.mdb_topology.specs.Turns.{in_turn}
 use Rattle.mdb_topology.proofs.AtMonitor.{number-is}
 use Rattle.mdb_topology.proofs.Ending.{passes, beats-are, free, watches}
 use Rattle.mdb_topology.proofs.ErringSteps.{all_parts, met, met-of-pool, marking-by}
 use Rattle.mdb_topology.proofs.Free.{take_numbers, first-free}
-use Rattle.mdb_topology.proofs.MarkedSteps.{mark-exhausts, mark-follows}
+use Rattle.mdb_topology.proofs.MarkedSteps.{mark-exhausts, mark-follows, mark-spares}
+use Rattle.mdb_topology.proofs.RefusedOutside.{outside-refusal}
 use Rattle.mdb_topology.proofs.Same.{IsPlain}
 use Rattle.mdb_topology.proofs.Updating.{rule-stopped, rule-unstopped}
 use Rattle.mdb_topology.proofs.Watching.{Watches, follows-watch}
@@ -58,7 +60,7 @@ untroubled-else (Err e) differs = differs e refl
 untroubled-else (Cancelled e) differs = tt
 
 module _ (w : TopologyCore) (h : List Item) (z : StandsFor w h) (m : ℕ) (l : w.pools.last ≤ m) (a : ServerAddress) (p d : ℕ) (error : Error) (there : is_here_among w.pools.cores.items a p ≡ true) (running : runs h p ≡ true)
-    (mode : w.options.load_balanced ≡ false) (x y : MonitorCore) (f : Finish) (at_p : slice_get w.monitors.items p ≡ Some x) (ends : Ends x y d (check_result a (Err error)) f) where
+    (mode : w.options.load_balanced ≡ false) where
   abbrev o : Options
   o = w.options
 
@@ -74,26 +76,26 @@ module _ (w : TopologyCore) (h : List Item) (z : StandsFor w h) (m : ℕ) (l : w
   abbrev step : Step
   step = record { moment = m; act = act }
 
+  abbrev k : List Item
+  k = begun h step
+
+  abbrev beats : List Fact
+  beats = heartbeat o h act
+
   abbrev pub its_trouble : Trouble
   its_trouble = met w h z m l a p error
 
-  begun-here : is_here (begun h step) a p ≡ true
+  begun-here : is_here k a p ≡ true
   begun-here = ap (λ v. is_number v p) (z.pools.fit.open_are a) ∙ there
 
   troubled : trouble o h step ≡ Some its_trouble
   troubled = rw begun-here refl
 
   passes-here : first_refusal o h step ≡ None
-  passes-here = passes w h z m l a p d there (Err error) running mode x y f at_p ends
+  passes-here = passes w h z m l a p d there (Err error) running mode
 
-  free-here : take_numbers (heartbeat o h act) ≡ false
-  free-here = free w h z m l a p d there (Err error) running mode x y f at_p ends
-
-  beats-here : heartbeat o h act ≡ Sdam f.event ∷ []
-  beats-here = beats-are w h z m l a p d there (Err error) running mode x y f at_p ends
-
-  watches-here : (n : Next) → n.monitoring ≡ Checked p y w.fresh → Watches w h step n
-  watches-here = watches w h z m l a p d there (Err error) running mode x y f at_p ends
+  free-here : take_numbers beats ≡ false
+  free-here = free w h z m l a p d there (Err error) running
 
   pub failure-of-pool : IsOfPool o its_trouble p a error true Nothing
   failure-of-pool = met-of-pool w h z m l a p error mode
@@ -117,30 +119,45 @@ module _ (w : TopologyCore) (h : List Item) (z : StandsFor w h) (m : ℕ) (l : w
         ap (λ r. Changed (is_some (change_by r (description_of o h)) || is_clear (clear_by o (is_some (change_by r (description_of o h))) (trouble o h step)))) ruled
         ∙ (ap (λ v. Changed (is_clear (clear_by o false v))) troubled ∙ rw mode refl)
 
-    follows-late : (y0 n : Next) → IsUnchanged y0 → IsWithCheck y0 n (Checked p y w.fresh) f.event → Follows w n step h
-    follows-late y0 n r c =
+    spared-late : refusal o h step ≡ None
+    spared-late =
+        let known : description_of o k ≡ t = ap (λ r. applied r (description_of o h)) ruled ∙ z.described.known in
+        outside-refusal o h m act tt None passes-here (subst (λ v. length v.servers ≤ 128) (sym known) z.described.few)
+        (ap (λ fs. first_past o m k (beats ++ fs)) (silent (with_facts m beats k)) ∙ (ap (first_past o m k) (append-nil beats) ∙ first-free o m k beats free-here))
+
+  -- its mark would pass the limit of the generation
+  pub failure-spent : w.stopped ≡ false → MarkPasses w m u its_trouble (Some Generation) → refusal o h step ≡ Some (Exhausted Generation)
+  failure-spent g past = mark-exhausts w h z step l a error its_trouble (failure-marking g) tt free-here (Exhausted Generation) refl past
+
+  -- or passes none
+  pub failure-spared : (w.stopped ≡ false → MarkPasses w m u its_trouble None) → refusal o h step ≡ None
+  failure-spared past = on w.stopped refl
+    where
+      on : (b : Bool) → w.stopped ≡ b → refusal o h step ≡ None
+      on true g = spared-late g
+      on false g = mark-spares w h z step l a error its_trouble (failure-marking g) tt free-here (past g)
+
+  module _ (x y : MonitorCore) (f : Finish) (at_p : slice_get w.monitors.items p ≡ Some x) (ends : Ends x y d (check_result a (Err error)) f) where
+    beats-here : beats ≡ Sdam f.event ∷ []
+    beats-here = beats-are w h z m l a p d there (Err error) running mode x y f at_p ends
+
+    watches-here : (n : Next) → n.monitoring ≡ Checked p y w.fresh → Watches w h step n
+    watches-here = watches w h z m l a p d there (Err error) running mode x y f at_p ends
+
+    follows-late : w.stopped ≡ true → (y0 n : Next) → IsUnchanged y0 → IsWithCheck y0 n (Checked p y w.fresh) f.event → Follows w n step h
+    follows-late stop y0 n r c =
         let v = c.others in
         let replied : n.reply ≡ Changed false = ap (λ e. e.reply) v ∙ r.reply in
         follows-watch w h z step l n (subst IsPlain (sym replied) tt) (ap (λ e. e.changes.items) v ∙ r.changes) (ap (λ e. e.monitors.items) v ∙ r.monitors) (ap (λ e. e.description) v ∙ r.known) (ap (λ e. e.stops) v ∙ r.goes_on)
-        (c.facts ∙ (ap (λ fs. Sdam f.event ∷ fs) r.facts ∙ sym beats-here)) tt silent passes-here ruled (λ fs. replies (with_facts m fs (begun h step)) ∙ sym replied) (first-free o m (begun h step) (heartbeat o h act) free-here) (watches-here n (ap (λ e. e.monitoring) v))
+        (c.facts ∙ (ap (λ fs. Sdam f.event ∷ fs) r.facts ∙ sym beats-here)) tt (silent stop) passes-here (ruled stop) (λ fs. replies stop (with_facts m fs k) ∙ sym replied) (first-free o m k beats free-here) (watches-here n (ap (λ e. e.monitoring) v))
 
-  -- what becomes of it
-  pub fails-become : (stepped : Stepped) → FailsAs w m (Checked p y w.fresh) f.event u its_trouble stepped → BecomesOf w step stepped h
-  fails-become (Refused why) r = on w.stopped refl r
-    where
-      on : (b : Bool) → w.stopped ≡ b → FailsTo w m u its_trouble b (Refused why) → BecomesOf w step (Refused why) h
-      on true g r = absurd r
-      on false g r = mark-exhausts w h z step l a error its_trouble (failure-marking g) tt free-here why r.0 r.1
-  fails-become (Accepted n) r = on w.stopped refl r.1
-    where
-      on : (b : Bool) → w.stopped ≡ b → FailsTo w m u its_trouble b (Accepted r.0) → BecomesOf w step (Accepted n) h
-      on true g s = follows-late g r.0 n s r.2
-      on false g s =
-          let v = r.2.others in
-          mark-follows w h z step l a error its_trouble (failure-marking g) tt free-here r.0 n s (ap (λ e. e.reply) v) (ap (λ e. e.changes) v) (ap (λ e. e.description) v) (ap (λ e. e.monitors) v) (ap (λ e. e.stops) v)
-          (r.2.facts ∙ ap (λ fs. fs ++ r.0.facts.items) (sym beats-here)) (watches-here n (ap (λ e. e.monitoring) v))
-
--- the failed check with what is done at the monitors
-pub with-check-fails : (w : TopologyCore) (m : ℕ) (monitoring : Monitoring) (event : SdamEvent) (u : TopologyDescription) (x : Trouble) (y n : Next) → FailsTo w m u x w.stopped (Accepted y) → IsWithCheck y n monitoring event
-    → FailsAs w m monitoring event u x (Accepted n)
-with-check-fails w m monitoring event u x y n r e = (y, r, e)
+    -- it is told
+    pub failure-told : (n : Next) → FailsAs w m (Checked p y w.fresh) f.event u its_trouble n → Follows w n step h
+    failure-told n r = on w.stopped refl r.1
+      where
+        on : (b : Bool) → w.stopped ≡ b → FailsTo w m u its_trouble b r.0 → Follows w n step h
+        on true g s = follows-late g r.0 n s r.2
+        on false g s =
+            let v = r.2.others in
+            mark-follows w h z step l a error its_trouble (failure-marking g) tt free-here r.0 n s (ap (λ e. e.reply) v) (ap (λ e. e.changes) v) (ap (λ e. e.description) v) (ap (λ e. e.monitors) v) (ap (λ e. e.stops) v)
+            (r.2.facts ∙ ap (λ fs. fs ++ r.0.facts.items) (sym beats-here)) (watches-here n (ap (λ e. e.monitoring) v))

@@ -77,7 +77,7 @@ module _ (o : Options) (m : ℕ) (t u : TopologyDescription) where
       constant-more m (server_changed o m t u b) (map (server_changed o m t u) list ++ more) one.facts one.calm one.free one.same (constant-changed list a.1 more c)
 
 -- lists without elements
-no-element : (xs : List ServerDescription) → map (λ (x : ServerDescription). x.address) xs ≡ [] → xs ≡ []
+pub no-element : (xs : List ServerDescription) → map (λ (x : ServerDescription). x.address) xs ≡ [] → xs ≡ []
 no-element [] e = refl
 no-element (x ∷ xs) e = cc
 

@@ -26,7 +26,7 @@ use Rattle.mdb_topology.proofs.ClearedPools.{past-clear}
 use Rattle.mdb_topology.proofs.Free.{take_numbers, first-free, free-append, out-append, out-free, serving-free, act-free}
 use Rattle.mdb_topology.proofs.Limits.{past-append}
 
-sooner-none : (x : Option What) → sooner x None ≡ x
+pub sooner-none : (x : Option What) → sooner x None ≡ x
 sooner-none None = refl
 sooner-none (Some what) = refl
 

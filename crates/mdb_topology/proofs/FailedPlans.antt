@@ -134,7 +134,7 @@ module _ (o : Options) (h : List Item) (s : PoolCore) (fits : Fits s (of_pool s.
             let v = both made.0 made.1 in
             fails-are s h fits served quiet within m c at error service error v.0 made.0 d.clear d.failure v.1 v.2 ∙ ap failed_after options
 
-    pub planned-done : (b : Bool) → FailsBy b pools i step service error asked [] changes before after None → Doing b i asked changes before after
+    pub planned-done : (b : Bool) → FailsBy b pools i step service error asked [] changes before after → Doing b i asked changes before after
     planned-done false d =
         let same : d.pool ≡ s = some-same d.pool s (slice_get pools i) d.there there in
         alone-done (subst (λ (v : PoolCore). PlansOne pools i m (λ p. act) [] changes (before ++ asked_of asked false v.address) after) same d.one) (some-same _ s (slice_get pools i) (subst (λ (v : PoolCore). PlansOne pools i m (λ p. act) [] changes (before ++ asked_of asked false v.address) after) same d.one).there there)

@@ -158,6 +158,7 @@ module _ (w : TopologyCore) (h : List Item) (z : StandsFor w h) (step : Step) (l
       follows-by : Follows w n step h
       follows-by = record {
         answer_is = answer-told o h m step.act pools later n.facts.items z.pools out (tells later leads) n.reply plain passes (subst (λ t. length t.servers ≤ 128) (sym known-begun) few) spare (replies (G o h m step.act));
+        accepted = accepted-plain n.reply plain;
         fair = fair-told o h m step.act pools later n.facts.items z.pools out (tells later leads) n.reply plain;
         fresh = fresh-told o h m step.act pools later n.facts.items z.pools out (tells later leads) n.reply plain;
         leads = (later, leads);

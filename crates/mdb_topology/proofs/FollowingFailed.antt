@@ -20,6 +20,7 @@ use Rattle.mdb_log.specs.Homes.{homes}
 use Rattle.mdb_log.specs.Opening.{pool_options}
 use Rattle.mdb_log.specs.Beside.{AllFreshGrants}
 use Rattle.mdb_log.specs.LegalLog.{IsFairAnswer}
+use Rattle.mdb_log.specs.Own.{IsAccepted}
 use Rattle.mdb_pool.specs.Core.{PoolCore}
 use Rattle.mdb_pool.specs.Body.{PoolSteps as Plan}
 use Rattle.mdb_pool.specs.Kept.{is_shut}
@@ -134,6 +135,7 @@ module _ (w : TopologyCore) (h : List Item) (z : StandsFor w h) (i : ℕ) (s : P
       follows-one : Follows w n step h
       follows-one = record {
         answer_is = answered-so ∙ (ap (λ fs. record { reply = Done; facts = fs }) (sym facts) ∙ ap (λ r. record { reply = r; facts = n.facts.items }) (sym reply));
+        accepted = subst IsAccepted (sym reply) tt;
         fair = subst (λ r. IsFairAnswer h step r n.facts.items) (sym reply) (subst (IsFairAnswer h step Done) (sym facts) (failed-fair o pools h z.pools i s u at_i m c at error told clears asks fails calm_told calm_asks (does u plans)));
         fresh = subst (λ r. AllFreshGrants (pool_options o) m (did step r ∷ h) n.facts.items) (sym reply) (subst (AllFreshGrants (pool_options o) m (did step Done ∷ h)) (sym facts) (failed-fresh o pools h z.pools i s u at_i m c at error told clears asks fails calm_told calm_asks (does u plans)));
         leads = subst (λ cs. (later : List PoolCore) × LeadsAll cs pools later) (sym changes) (set pools i u, (set pools i u, (s, u, at_i, plans, refl), refl));

@@ -40,6 +40,7 @@ use Rattle.mdb_topology.specs.Description.{description_of, is_stop}
 use Rattle.mdb_topology.specs.Stepping.{known_after}
 use Rattle.mdb_log.specs.LegalLog.{IsFairAnswer}
 use Rattle.mdb_log.specs.Beside.{AllFreshGrants}
+use Rattle.mdb_log.specs.Own.{IsAccepted}
 use Rattle.mdb_topology.proofs.Tame.{no-rule, facts-out, pool-still, pool-goes-on}
 
 module _ (w : TopologyCore) (h : List Item) (z : StandsFor w h) (step : Step) (l : w.pools.last ≤ step.moment) (act : is_pool_act step.act ≡ true)
@@ -161,6 +162,7 @@ module _ (w : TopologyCore) (h : List Item) (z : StandsFor w h) (step : Step) (l
     follows-one : Follows w n step h
     follows-one = record {
       answer_is = (T t plans).answer_is ∙ (ap (λ fs. record { reply = told.reply; facts = fs }) (own-facts t plans) ∙ ap (λ r. record { reply = r; facts = n.facts.items }) (sym reply));
+      accepted = subst IsAccepted (sym reply) (T t plans).accepted;
       fair = subst (λ r. IsFairAnswer h step r n.facts.items) (sym reply) (subst (IsFairAnswer h step told.reply) (own-facts t plans) (T t plans).fair);
       fresh = subst (λ r. AllFreshGrants (pool_options o) step.moment (did step r ∷ h) n.facts.items) (sym reply) (subst (AllFreshGrants (pool_options o) step.moment (did step told.reply ∷ h)) (own-facts t plans) (T t plans).fresh);
       leads = subst (λ cs. (later : List PoolCore) × LeadsAll cs pools later) (sym changes) (set pools i t, (set pools i t, (s, t, at_i, plans, refl), refl));

@@ -13,6 +13,7 @@ use Rattle.mdb_log.specs.Connections.{one_if}
 use Rattle.mdb_log.specs.History.{Item, did, with_answer}
 use Rattle.mdb_log.specs.Homes.{homes}
 use Rattle.mdb_log.specs.Opening.{pool_options}
+use Rattle.mdb_log.specs.Own.{IsAccepted}
 use Rattle.mdb_pool.specs.Core.{PoolCore}
 use Rattle.mdb_topology.specs.declared.topology.TopologyCore.{TopologyCore}
 use Rattle.mdb_topology.specs.declared.next.Next.{Next}
@@ -99,6 +100,7 @@ module _ (w : TopologyCore) (h : List Item) (z : StandsFor w h) (step : Step) (l
     pub follows-idle : Follows w n step h
     follows-idle = record {
       answer_is = rw (reply, facts) r.answer_is;
+      accepted = subst IsAccepted (sym reply) tt;
       fair = rw (reply, facts) r.fair;
       fresh = rw facts tt;
       leads = rw changes (pools, refl);

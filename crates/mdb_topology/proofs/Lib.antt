@@ -65,23 +65,28 @@ mod Sampling
 mod Connected
 mod Beating
 mod MakesKnown
+mod FailedPast
+mod RefusedOutside
+mod Wants
 mod Ending
 mod Becoming
 pub mod SameSelf
 pub mod MarkedServers
 pub mod FailedMarks
+mod MarkDiffers
 mod FailedFacts
 mod FailedStands
 mod FollowingFailed
-mod FailedPast
 mod FailedStays
 mod ClearedPools
 mod MarkTelling
+mod Spent
 mod MarkPast
 mod MarkBecoming
 mod MarkedSteps
 mod ErringSteps
 mod FailedChecks
+mod SpentChecks
 mod ComplaintSteps
 mod ComplaintMarks
 mod ServiceClears
@@ -118,3 +123,5 @@ mod RowsReplicaSet
 mod RowsRefusals
 mod RowsJobs
 mod Ahead
+mod HostCounts
+mod HostsPast

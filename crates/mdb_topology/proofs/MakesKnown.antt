@@ -1,5 +1,5 @@
 -- A step that makes a change of the topology known: it is refused by a limit, or its answer is that of the change, after the fact of its check.
-use Rattle.std.proofs.Common.{ℕ, ◌≡◌, ◌≤◌, ◌+◌, Bool, true, false, if◌then◌else◌, List, [], ◌∷◌, ◌++◌, map, length, Option, Some, None, is_some, nat_lt, refl, sym, ◌∙◌, ap, subst, arith}
+use Rattle.std.proofs.Common.{ℕ, ◌≡◌, ◌≤◌, ◌+◌, Bool, true, false, if◌then◌else◌, List, [], ◌∷◌, ◌++◌, map, length, Option, Some, None, is_some, nat_lt, append-nil, refl, sym, ◌∙◌, ap, subst, arith}
 use Rattle.std.specs.Prelude.{unwrap_or, All}
 use Rattle.mdb_base.specs.declared.address.ServerAddress.{ServerAddress}
 use Rattle.mdb_base.specs.declared.options.Options.{Options}
@@ -32,10 +32,12 @@ use Rattle.mdb_topology.specs.Standing.{home, StandsFor}
 use Rattle.mdb_topology.specs.Stepping.{known_after, Follows}
 use Rattle.mdb_topology.specs.Changing.{IsUpdating, IsTold, passes_limit}
 use Rattle.mdb_topology.proofs.Following.{telling-quiet, known-applied}
+use Rattle.mdb_topology.proofs.Laws.{turn-append}
 use Rattle.mdb_topology.proofs.Limits.{past-append}
 use Rattle.mdb_topology.proofs.Past.{telling-past}
+use Rattle.mdb_topology.proofs.RefusedOutside.{outside-refusal}
 use Rattle.mdb_topology.proofs.Same.{IsPlain}
-use Rattle.mdb_topology.proofs.TellingSteps.{refused-told, refused-servers}
+use Rattle.mdb_topology.proofs.TellingSteps.{refused-told, refused-servers, said}
 use Rattle.std.proofs.lemmas.List.{length-map}
 use Rattle.std.proofs.lemmas.Bool.Decides.{nat_tests}
 use Rattle.mdb_log.specs.History.{with_facts}
@@ -175,6 +177,20 @@ module _ (w : TopologyCore) (h : List Item) (z : StandsFor w h) (step : Step) (u
           let few : length u.servers ≤ 128 = grind (arith, nat_tests) in
           (few, on-pool (passes_limit w d) refl (sym (ap (λ b. if b then Some Servers else pool-past) f) ∙ e))
 
+  -- what it says, where it has no trouble, is what its rule tells
+  said-parts : in_turn m (said o h m step.act) (begun h step) ≡ in_turn m parts (begun h step)
+  said-parts =
+      let told : List (List Item → List Fact) = told_by o m (rule_after o h step) (description_of o h) in
+      let j : List Item = with_facts m beats (begun h step) in
+      ap (λ fs. beats ++ fs) (turn-append m told _ j ∙ (rw c.calm (append-nil (in_turn m told j)) ∙ ap (λ ps. in_turn m ps j) c.tells))
+
+  -- a change within the limits is not refused
+  pub spared-change : change_past w u ≡ None → refusal o h step ≡ None
+  spared-change e =
+      let within : (length u.servers ≤ 128) × (passes_limit w d ≡ false) = within-limits e in
+      outside-refusal o h m step.act c.out None c.passes (subst (λ t. length t.servers ≤ 128) (sym known-begun) within.0)
+      (ap (first_past o m (begun h step)) said-parts ∙ (past-parts ∙ past-false d within.1))
+
   -- else its answer is that of the change, after the fact of its check
   pub follows-change : w.pools.last ≤ m → (y n : Next) → IsChanged w m u y → n.reply ≡ y.reply → n.changes ≡ y.changes → n.description ≡ y.description → n.monitors ≡ y.monitors → n.stops ≡ y.stops
       → n.facts.items ≡ beats ++ y.facts.items → Watches w h step n → Follows w n step h
@@ -216,6 +232,9 @@ module _ (w : TopologyCore) (h : List Item) (z : StandsFor w h) (step : Step) (l
     goes_on = c.stop;
     free = ap take_numbers (telling-quiet w.options h step.act c.act);
   }
+
+  pub spared-update : change_past w u ≡ None → refusal w.options h step ≡ None
+  spared-update e = spared-change w h z step u makes-known e
 
   pub changes-become : (stepped : Stepped) → ChangesTo w step.moment u stepped → BecomesOf w step stepped h
   changes-become (Refused why) e = refused-change w h z step u makes-known e.0 e.2 ∙ ap (λ x. Some x) (sym e.1)

@@ -18,24 +18,21 @@ use Rattle.mdb_log.specs.declared.step.Step.{Step}
 use Rattle.mdb_log.specs.History.{Item}
 use Rattle.mdb_pool.specs.Core.{PoolCore}
 use Rattle.mdb_pool.specs.Kept.{exhausted_now}
-use Rattle.mdb_pool.specs.Refusing.{refusal_now}
+use Rattle.mdb_pool.specs.Refusal.{wrong_service}
 use Rattle.mdb_topology.specs.declared.change.Change.{Change}
 use Rattle.mdb_topology.specs.declared.marked.Asked.{Asked}
 use Rattle.mdb_topology.specs.declared.topology.TopologyCore.{TopologyCore}
-use Rattle.mdb_topology.specs.Acting.{step_of}
 use Rattle.mdb_topology.specs.Errors.{Trouble}
-use Rattle.mdb_topology.specs.Marking.{Clears, asked_of, clear_act, IsOfPool, HasParts, mark_parts, MarkPasses, MarkTold}
+use Rattle.mdb_topology.specs.Marking.{Clears, asked_of, IsOfPool, HasParts, MarkPasses, MarkTold}
 use Rattle.mdb_topology.specs.Planned.{PlansMore}
 use Rattle.mdb_topology.specs.Publishing.{telling}
 use Rattle.mdb_topology.specs.Refusal.{first_past}
-use Rattle.mdb_topology.specs.Standing.{is_open_at, at_address, StandsForSome}
+use Rattle.mdb_topology.specs.Standing.{at_address, StandsForSome}
 use Rattle.mdb_topology.specs.Touching.{touched_by}
 use Rattle.mdb_topology.specs.Turns.{in_turn}
-use Rattle.mdb_topology.proofs.Following.{early-later}
-use Rattle.mdb_topology.proofs.Lists.{position-within, at-place}
-use Rattle.mdb_topology.proofs.MarkPast.{clear-refused, past-mark}
+use Rattle.mdb_topology.proofs.MarkPast.{past-mark}
 use Rattle.mdb_topology.proofs.MarkTelling.{parts-are, opens-none, mark-told}
-use Rattle.mdb_topology.proofs.PlannedActs.{all-at}
+use Rattle.mdb_topology.proofs.Spent.{clear-refused, some-place}
 
 -- the same parts with an equal next
 pub as-parts : {o : Options} {h : List Item} {t : TopologyDescription} {next later : Option TopologyDescription} {step : Step} {reply told : Reply} {stops ends : Bool} {parts : List (List Item → List Fact)}
@@ -64,47 +61,30 @@ module _ (w : TopologyCore) (st : StandsForSome w) (m : ℕ) (l : w.pools.last �
   abbrev pools : List PoolCore
   pools = w.pools.cores.items
 
-  module _ (normal : o.load_balanced ≡ false) (i : ℕ) (here : at_address pools a ≡ Some i) (d : Option Diff) (differs : difference t.servers u.servers ≡ d) (clears : Bool) (asked : Asked) (of : IsOfPool o x i a error clears asked)
-      (changes later : List Change) (facts between : List Fact) (p : PlansMore o m pools (length pools) (touched_by u d) (telling o m t u d) [] [] [] changes [] facts) where
-    refuses : (s : PoolCore) → slice_get pools i ≡ Some s → refusal_now s (step_of m (clear_act None error) s.pool) ≡ (if exhausted_now s None then Some (Exhausted Generation) else None)
-    refuses s there = clear-refused o s m error (st.1.pools.fit.each i s there).options normal (all-at (λ (s : PoolCore). s.last ≤ m) pools i s (early-later pools w.pools.last m l st.1.early) there)
-
-    past-parts : (s : PoolCore) → slice_get pools i ≡ Some s → MarkPasses w m u x (if (is_some d && clears) && exhausted_now s None then Some Generation else None)
-    past-parts s there k begins =
+  module _ (i : ℕ) (here : at_address pools a ≡ Some i) (d : Option Diff) (differs : difference t.servers u.servers ≡ d) (clears : Bool) (asked : Asked) (of : IsOfPool o x i a error clears asked) where
+    -- the limit that the mark passes, or none
+    pub mark-passes : (s : PoolCore) → slice_get pools i ≡ Some s → (b : Bool) → (is_some d && clears) && exhausted_now s None ≡ b → MarkPasses w m u x (if b then Some Generation else None)
+    mark-passes s there b e k begins =
         ap (λ ps. first_past o m k (in_turn m ps k)) (parts-are w st m a error i here d differs x clears asked of)
-        ∙ past-mark w st m l a error k begins i here d differs changes facts p s there x clears asked of (is_some d && clears)
+        ∙ (past-mark w st m a error k begins i here d differs s there x clears asked of (is_some d && clears) ∙ ap (λ c. if c then Some Generation else None) e)
 
-    -- the pool refuses to be cleared
-    pub mark-refused : (why : Cause) → Clears (is_some d && clears) pools i m None error changes later facts between (Some why) → (why ≡ Exhausted Generation) × MarkPasses w m u x (Some Generation)
-    mark-refused why cleared = on (is_some d && clears) refl cleared
-      where
-        on : (b : Bool) → is_some d && clears ≡ b → Clears b pools i m None error changes later facts between (Some why) → (why ≡ Exhausted Generation) × MarkPasses w m u x (Some Generation)
-        on false e f = absurd f
-        on true e f =
-            let s : PoolCore = f.0 in
-            let cause : (exhausted_now s None ≡ true) × (Exhausted Generation ≡ why) = cause-is (exhausted_now s None) why (sym (refuses s f.1) ∙ f.2) in
-            (sym cause.1, λ k begins. past-parts s f.1 k begins ∙ rw (e, cause.0) refl)
+    module _ (normal : o.load_balanced ≡ false) (changes later : List Change) (facts between : List Fact) (p : PlansMore o m pools (length pools) (touched_by u d) (telling o m t u d) [] [] [] changes [] facts) where
+      spare : Clears (is_some d && clears) pools i m None error changes later facts between → MarkPasses w m u x None
+      spare cleared = on (is_some d && clears) refl cleared
+        where
+          on : (b : Bool) → is_some d && clears ≡ b → Clears b pools i m None error changes later facts between → MarkPasses w m u x None
+          on false e f = let s = some-place pools a i here in mark-passes s.0 s.1 false (ap (λ b. b && exhausted_now s.0 None) e)
+          on true e f =
+              let s : PoolCore = f.0.pool in
+              let no : exhausted_now s None ≡ false = not-exhausted (exhausted_now s None) (sym (clear-refused w st i s f.0.there m l None error (ap (λ b. wrong_service b None) normal)) ∙ f.1) in
+              mark-passes s f.0.there false (ap (λ b. b && exhausted_now s None) e ∙ no)
 
-    spare : Clears (is_some d && clears) pools i m None error changes later facts between None → MarkPasses w m u x None
-    spare cleared k begins = on (is_some d && clears) refl cleared
-      where
-        at_place : (y : Option PoolCore) → slice_get pools i ≡ y → is_some d && clears ≡ false → first_past o m k (in_turn m (mark_parts w m u x) k) ≡ None
-        at_place None f e = absurd (at-place pools i (position-within (is_open_at a) pools i here) f)
-        at_place (Some s) f e = past-parts s f k begins ∙ rw e refl
-
-        on : (b : Bool) → is_some d && clears ≡ b → Clears b pools i m None error changes later facts between None → first_past o m k (in_turn m (mark_parts w m u x) k) ≡ None
-        on false e f = at_place (slice_get pools i) refl e
-        on true e f =
-            let s : PoolCore = f.0.pool in
-            let no : exhausted_now s None ≡ false = not-exhausted (exhausted_now s None) (sym (refuses s f.0.there) ∙ f.1) in
-            past-parts s f.0.there k begins ∙ rw (e, no) refl
-
-    -- the mark is told
-    pub mark-comes : (after : List Fact) (changed : Bool) → Clears (is_some d && clears) pools i m None error changes later facts between None → after ≡ between ++ asked_of asked (is_some d && clears) a → changed ≡ is_some d
-        → MarkTold w m u x after later changed
-    mark-comes after changed cleared told e = record {
-      told = mark-told w st m a error i here d differs x clears asked of changes later facts between after p cleared told;
-      opens = opens-none w st m a error i here d differs x clears asked of changes later facts between after p cleared told;
-      changed_is = e ∙ ap is_some (sym differs);
-      spare = spare cleared;
-    }
+      -- the mark is told
+      pub mark-comes : (after : List Fact) (changed : Bool) → Clears (is_some d && clears) pools i m None error changes later facts between → after ≡ between ++ asked_of asked (is_some d && clears) a → changed ≡ is_some d
+          → MarkTold w m u x after later changed
+      mark-comes after changed cleared told e = record {
+        told = mark-told w st m a error i here d differs x clears asked of changes later facts between after p cleared told;
+        opens = opens-none w st m a error i here d differs x clears asked of changes later facts between after p cleared told;
+        changed_is = e ∙ ap is_some (sym differs);
+        spare = spare cleared;
+      }

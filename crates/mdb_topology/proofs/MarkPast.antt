@@ -1,7 +1,6 @@
 -- What a mark takes past a limit: the generation of the pool that it clears, and nothing else.
-use Rattle.std.proofs.Common.{ℕ, ◌≡◌, ◌≤◌, ◌&&◌, Bool, true, false, if◌then◌else◌, List, [], ◌∷◌, ◌++◌, length, Option, Some, None, nat_lt, refl, sym, ◌∙◌, ap, subst, arith}
+use Rattle.std.proofs.Common.{ℕ, ◌≡◌, ◌&&◌, Bool, true, false, if◌then◌else◌, List, [], ◌∷◌, ◌++◌, Option, Some, None, is_some, refl, sym, ◌∙◌, ap, subst}
 use Rattle.std.specs.Prelude.{slice_get}
-use Rattle.std.proofs.lemmas.Bool.Decides.{nat_tests}
 use Rattle.mdb_base.specs.declared.address.ServerAddress.{ServerAddress}
 use Rattle.mdb_base.specs.declared.error.Error.{Error}
 use Rattle.mdb_base.specs.declared.options.Options.{Options}
@@ -11,43 +10,33 @@ use Rattle.mdb_describe.specs.Descriptions.{failed}
 use Rattle.mdb_describe.specs.Differences.{difference}
 use Rattle.mdb_describe.specs.Update.{updated}
 use Rattle.mdb_events.specs.declared.fact.Fact.{Fact}
-use Rattle.mdb_log.specs.declared.reply.Refused.TheVariants.{Exhausted}
 use Rattle.mdb_log.specs.declared.reply.What.{What}
 use Rattle.mdb_log.specs.declared.reply.What.TheVariants.{Generation}
 use Rattle.mdb_log.specs.History.{Item, of_pool, with_facts}
-use Rattle.mdb_log.specs.Homes.{homes}
 use Rattle.mdb_log.specs.Opening.{pool_options}
 use Rattle.mdb_pool.specs.Core.{PoolCore}
 use Rattle.mdb_pool.specs.Facts.{clear_facts}
 use Rattle.mdb_pool.specs.Kept.{exhausted_now}
 use Rattle.mdb_pool.specs.Refusal.{is_exhausted}
-use Rattle.mdb_pool.specs.Refusing.{refusal_now}
 use Rattle.mdb_pool.specs.Standing.{Fits}
 use Rattle.mdb_pool.proofs.ClearedActs.{exhausted-is}
-use Rattle.mdb_topology.specs.declared.change.Change.{Change}
 use Rattle.mdb_topology.specs.declared.marked.Asked.{Asked}
 use Rattle.mdb_topology.specs.declared.marked.Asked.TheVariants.{Nothing, CheckNow, CancelIfCleared}
 use Rattle.mdb_topology.specs.declared.topology.TopologyCore.{TopologyCore}
-use Rattle.mdb_topology.specs.Acting.{step_of}
 use Rattle.mdb_topology.specs.Errors.{Trouble, whole, where_so}
 use Rattle.mdb_topology.specs.Facts.{clearing, asking}
-use Rattle.mdb_topology.specs.Limits.{past_last}
-use Rattle.mdb_topology.specs.Marking.{asked_of, clear_act, IsOfPool}
-use Rattle.mdb_topology.specs.Planned.{CanTake, LeadsAll, PlansMore}
+use Rattle.mdb_topology.specs.Marking.{asked_of, IsOfPool}
 use Rattle.mdb_topology.specs.Publishing.{telling}
 use Rattle.mdb_topology.specs.Refusal.{first_past, sooner}
 use Rattle.mdb_topology.specs.Standing.{at_address, PoolFits, PoolsStand, StandsForSome}
-use Rattle.mdb_topology.specs.Telling.{Comes}
-use Rattle.mdb_topology.specs.Touching.{touched_by}
 use Rattle.mdb_topology.specs.Turns.{in_turn}
 use Rattle.mdb_topology.proofs.ClearedPools.{past-clear}
-use Rattle.mdb_topology.proofs.Following.{early-later}
+use Rattle.mdb_topology.proofs.Differing.{open-known}
+use Rattle.mdb_topology.proofs.FailedFacts.{calm-same}
+use Rattle.mdb_topology.proofs.FailedMarks.{Constant, mark-constant}
 use Rattle.mdb_topology.proofs.Free.{take_numbers, first-free}
 use Rattle.mdb_topology.proofs.Laws.{turn-append}
 use Rattle.mdb_topology.proofs.Limits.{past-append}
-use Rattle.mdb_topology.proofs.MarkedServers.{none-come}
-use Rattle.mdb_topology.proofs.MarkTelling.{away}
-use Rattle.mdb_topology.proofs.Past.{telling-past}
 
 -- what a monitor is asked takes no number
 asked-free : (asked : Asked) (b : Bool) (a : ServerAddress) → take_numbers (asked_of asked b a ++ []) ≡ false
@@ -56,19 +45,11 @@ asked-free CheckNow b a = refl
 asked-free CancelIfCleared true a = refl
 asked-free CancelIfCleared false a = refl
 
--- how a pool refuses to be cleared
-pub clear-refused : (o : Options) (s : PoolCore) (m : ℕ) (error : Error) → s.options ≡ pool_options o → o.load_balanced ≡ false → s.last ≤ m
-    → refusal_now s (step_of m (clear_act None error) s.pool) ≡ (if exhausted_now s None then Some (Exhausted Generation) else None)
-clear-refused o s m error options normal early =
-    let late : nat_lt m s.last ≡ false = grind (arith, nat_tests) in
-    let mode : s.options.load_balanced ≡ false = ap (λ p. p.load_balanced) options ∙ normal in
-    rw (late, mode) refl
-
 sooner-none : (x : Option What) → sooner x None ≡ x
 sooner-none None = refl
 sooner-none (Some what) = refl
 
-module _ (w : TopologyCore) (st : StandsForSome w) (m : ℕ) (l : w.pools.last ≤ m) (a : ServerAddress) (error : Error) (k : List Item) (begins : PoolsStand (pool_options w.options) w.pools.cores.items k) where
+module _ (w : TopologyCore) (st : StandsForSome w) (m : ℕ) (a : ServerAddress) (error : Error) (k : List Item) (begins : PoolsStand (pool_options w.options) w.pools.cores.items k) where
   abbrev o : Options
   o = w.options
 
@@ -81,37 +62,26 @@ module _ (w : TopologyCore) (st : StandsForSome w) (m : ℕ) (l : w.pools.last �
   abbrev pools : List PoolCore
   pools = w.pools.cores.items
 
-  abbrev n : ℕ
-  n = length pools
-
-  -- the publication passes none
-  telling-none : (d : Option Diff) → difference t.servers u.servers ≡ d → first_past o m k (in_turn m (telling o m t u d) k) ≡ None
-  telling-none None e = refl
-  telling-none (Some d) e = telling-past o m t u d k ∙ ap (past_last o (length (homes k))) (none-come a error t d e)
-
-  module _ (i : ℕ) (here : at_address pools a ≡ Some i) (d : Option Diff) (differs : difference t.servers u.servers ≡ d) (changes : List Change) (facts : List Fact)
-      (p : PlansMore o m pools n (touched_by u d) (telling o m t u d) [] [] [] changes [] facts) (s : PoolCore) (there : slice_get pools i ≡ Some s) where
-    abbrev told : List Fact
-    told = in_turn m (telling o m t u d) k
+  module _ (i : ℕ) (here : at_address pools a ≡ Some i) (d : Option Diff) (differs : difference t.servers u.servers ≡ d) (s : PoolCore) (there : slice_get pools i ≡ Some s) where
+    -- the publication is of no pool, and takes no number
+    told : Constant m (telling o m t u d)
+    told = mark-constant a error t (sym (open-known w st a) ∙ ap is_some here) st.1.described.ordered o m d differs
 
     abbrev j : List Item
-    j = with_facts m told k
+    j = with_facts m told.facts k
 
-    can-take : CanTake m pools pools n (touched_by u d)
-    can-take = record { agrees = λ b e. (refl, λ i f. refl); count = refl; early = early-later pools w.pools.last m l st.1.early }
+    -- so the pool of the server is as it was
+    known-then : of_pool s.pool j ≡ of_pool s.pool k
+    known-then = (calm-same m told.facts k k told.calm (record { items = λ p. refl; homes_are = refl; open_are = λ b. refl; names = λ r. refl; asks = λ r. refl; leaving = λ r. refl; tells = λ r. refl; claims = λ p q. refl })).items s.pool
 
-    -- the pool of the server is as it was
-    fits-then : PoolFits (pool_options o) j i s
-    fits-then =
-        let led : (later : List PoolCore) × LeadsAll p.added pools later = p.planned_are.leads pools can-take in
-        let comes : Comes o m told led.0 [] facts k = p.planned_are.tells pools led.0 can-take led.1 k begins in
-        let kept : slice_get led.0 i ≡ slice_get pools i = (p.planned_are.keeps pools led.0 a can-take led.1 (away w st m a error i here d differs)).1 i here in
-        comes.stand.fit.each i s (kept ∙ there)
+    fits-then : PoolFits (pool_options o) k i s
+    fits-then = begins.fit.each i s there
 
     exhausted-then : is_exhausted (pool_options o) (of_pool s.pool j) None ≡ exhausted_now s None
     exhausted-then =
-        let fits : Fits s (of_pool s.pool j) = subst (λ q. Fits s (of_pool q j)) (sym fits-then.number) fits-then.fits in
-        ap (λ c. is_exhausted c (of_pool s.pool j) None) (sym fits-then.options) ∙ exhausted-is s (of_pool s.pool j) fits None
+        let fits : Fits s (of_pool s.pool k) = subst (λ q. Fits s (of_pool q k)) (sym fits-then.number) fits-then.fits in
+        ap (λ xs. is_exhausted (pool_options o) xs None) known-then
+        ∙ (ap (λ c. is_exhausted c (of_pool s.pool k) None) (sym fits-then.options) ∙ exhausted-is s (of_pool s.pool k) fits None)
 
     module _ (x : Trouble) (clears : Bool) (asked : Asked) (of : IsOfPool o x i a error clears asked) where
       abbrev parts_for : Bool → List (List Item → List Fact)
@@ -134,7 +104,7 @@ module _ (w : TopologyCore) (st : StandsForSome w) (m : ℕ) (l : w.pools.last �
       -- a mark passes the limit of the generation, where it clears and the generation is at it
       pub past-mark : (b : Bool) → first_past o m k (in_turn m (telling o m t u d ++ parts_for b) k) ≡ (if b && exhausted_now s None then Some Generation else None)
       past-mark b =
-          ap (first_past o m k) (turn-append m (telling o m t u d) (parts_for b) k)
-          ∙ (past-append o m k told (in_turn m (parts_for b) j)
-          ∙ (ap (λ y. sooner y (first_past o m j (in_turn m (parts_for b) j))) (telling-none d differs)
+          ap (first_past o m k) (turn-append m (telling o m t u d) (parts_for b) k ∙ ap (λ fs. fs ++ in_turn m (parts_for b) (with_facts m fs k)) (told.same k))
+          ∙ (past-append o m k told.facts (in_turn m (parts_for b) j)
+          ∙ (ap (λ y. sooner y (first_past o m j (in_turn m (parts_for b) j))) (first-free o m k told.facts told.free)
           ∙ (past-then b ∙ past-clearing b)))

@@ -125,13 +125,13 @@ module _ (w : TopologyCore) (st : StandsForSome w) (m : ℕ) (a : ServerAddress)
       parts-are = ap (λ y. parts_of y (clear_by o (is_some y) (Some x))) differs ∙ ap (parts_of d) (of.clear (is_some d))
 
       module _ (changes later : List Change) (facts between after : List Fact)
-          (p : PlansMore o m pools n (touched_by u d) (telling o m t u d) [] [] [] changes [] facts) (cleared : Clears (is_some d && clears) pools i m None error changes later facts between None)
+          (p : PlansMore o m pools n (touched_by u d) (telling o m t u d) [] [] [] changes [] facts) (cleared : Clears (is_some d && clears) pools i m None error changes later facts between)
           (told : after ≡ between ++ asked_of asked (is_some d && clears) a) where
         -- the clear
         clear-planned : PlansMore o m pools n (same_address a) (clearing o m (Some x) c ∷ []) [] [] changes later facts between
         clear-planned = on (is_some d && clears) cleared
           where
-            on : (b : Bool) → Clears b pools i m None error changes later facts between None → PlansMore o m pools n (same_address a) (clearing o m (Some x) (where_so b whole) ∷ []) [] [] changes later facts between
+            on : (b : Bool) → Clears b pools i m None error changes later facts between → PlansMore o m pools n (same_address a) (clearing o m (Some x) (where_so b whole) ∷ []) [] [] changes later facts between
             on true e =
                 let number : e.0.pool.pool ≡ i = (st.1.pools.fit.each i e.0.pool e.0.there).number in
                 plans-clear o m pools n changes later a i None error facts between here e.0 x (of.pool ∙ sym number) of.address of.error_is

@@ -122,7 +122,7 @@ module _ (a : ServerAddress) (e : Error) where
         on false f = ap (λ (v : TopologyDescription). in_order v.servers) (same-topology f)
 
     -- none goes or comes
-    none-missing : (xs ys : List ServerDescription) → ((b : ServerAddress) → is_known b xs ≡ true → is_known b ys ≡ true) → missing xs ys ≡ []
+    pub none-missing : (xs ys : List ServerDescription) → ((b : ServerAddress) → is_known b xs ≡ true → is_known b ys ≡ true) → missing xs ys ≡ []
     none-missing xs ys within =
         ap (map (λ (y : ServerDescription). y.address))
         (filter-never (λ (y : ServerDescription). not (is_known y.address ys)) xs

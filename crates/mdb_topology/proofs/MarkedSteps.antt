@@ -41,6 +41,7 @@ use Rattle.mdb_topology.proofs.Heartbeats.{heartbeat-calm, beats-stand, told-fro
 use Rattle.mdb_topology.proofs.Limits.{past-append}
 use Rattle.mdb_topology.proofs.MakesKnown.{telling-watches}
 use Rattle.mdb_topology.proofs.MarkedServers.{marked-length, marked-ordered}
+use Rattle.mdb_topology.proofs.RefusedOutside.{outside-refusal}
 use Rattle.mdb_topology.proofs.Same.{IsOutside, IsPlain, outside}
 use Rattle.mdb_topology.proofs.Telling.{same-stand}
 use Rattle.mdb_topology.proofs.TellingSteps.{said, refused-said}
@@ -97,6 +98,10 @@ module _ (w : TopologyCore) (h : List Item) (z : StandsFor w h) (step : Step) (l
     mark-exhausts why e past =
         refused-said o h m step.act Generation c.passes (subst (λ v. length v.servers ≤ 128) (sym known-begun) few) (past-said (Some Generation) past) ∙ ap Some (sym e)
 
+    -- and where the mark passes no limit, nothing does
+    pub mark-spares : MarkPasses w m u x None → refusal o h step ≡ None
+    mark-spares past = outside-refusal o h m step.act out None c.passes (subst (λ v. length v.servers ≤ 128) (sym known-begun) few) (past-said None past)
+
     -- else its answer is that of the mark, after the fact of its check
     pub mark-follows : (y n : Next) → IsMarked w m u x y → n.reply ≡ y.reply → n.changes ≡ y.changes → n.description ≡ y.description → n.monitors ≡ y.monitors → n.stops ≡ y.stops → n.facts.items ≡ beats ++ y.facts.items
         → Watches w h step n → Follows w n step h
@@ -120,6 +125,9 @@ module _ (w : TopologyCore) (h : List Item) (z : StandsFor w h) (step : Step) (l
         (past-said None r.told.spare)
 
   -- a step that does nothing at the monitors
+  pub marks-spare : IsMarking w h step u x → IsTelling step.act → MarkPasses w m u x None → refusal o h step ≡ None
+  marks-spare c telling past = mark-spares c (telling-outside step.act telling) (ap take_numbers (telling-quiet o h step.act telling)) past
+
   pub marks-become : IsMarking w h step u x → IsTelling step.act → (stepped : Stepped) → MarksTo w m u x stepped → BecomesOf w step stepped h
   marks-become c telling (Refused why) r = mark-exhausts c (telling-outside step.act telling) (ap take_numbers (telling-quiet o h step.act telling)) why r.0 r.1
   marks-become c telling (Accepted n) r =

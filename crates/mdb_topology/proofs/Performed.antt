@@ -1,23 +1,29 @@
 -- What becomes of an act of one pool.
-use Rattle.std.proofs.Common.{ℕ, ◌≡◌, ◌≤◌, Bool, true, false, List, [], ◌∷◌, length, Some, None, nat_lt, refl, sym, ◌∙◌, ap, subst, arith}
+use Rattle.std.proofs.Common.{ℕ, ◌≡◌, ◌≤◌, Bool, true, false, List, [], ◌∷◌, length, Option, Some, None, nat_lt, refl, sym, ◌∙◌, ap, subst, arith}
 use Rattle.std.specs.Prelude.{slice_get, All}
 use Rattle.std.proofs.lemmas.Option.{get_or_from_slice_get, slice_get_within}
 use Rattle.mdb_base.specs.declared.options.Options.{Options}
+use Rattle.mdb_events.specs.declared.fact.Fact.{Fact}
+use Rattle.mdb_log.specs.declared.reply.Reply.{Reply}
 use Rattle.mdb_log.specs.declared.step.Step.{Step}
 use Rattle.mdb_log.specs.declared.step.Act.{Act}
 use Rattle.mdb_log.specs.declared.step.Act.TheVariants as Do
 use Rattle.mdb_log.specs.declared.reply.Refused.{Refused as Why}
 use Rattle.mdb_log.specs.declared.reply.Refused.TheVariants.{TimeBack, RequestKnown}
+use Rattle.mdb_log.specs.declared.reply.Reply.TheVariants.{Refused as RefusedBy}
 use Rattle.mdb_log.specs.History.{Item, of_pool, last_moment}
+use Rattle.mdb_log.specs.Own.{IsAccepted}
 use Rattle.mdb_log.specs.Opening.{pool_options}
 use Rattle.mdb_pool.specs.Core.{PoolCore}
 use Rattle.mdb_pool.specs.declared.parts.Answered.{Answered}
+use Rattle.mdb_pool.specs.Body.{PoolSteps as Plan}
 use Rattle.mdb_pool.specs.Parts.{with_item, IsDone, Plans}
 use Rattle.mdb_pool.specs.Refusal.{first_row}
 use Rattle.mdb_pool.specs.Refusing.{rows_now, refusal_now}
 use Rattle.mdb_pool.proofs.Acts.{not-back}
 use Rattle.mdb_topology.specs.declared.outcome.Outcome.{Outcome}
 use Rattle.mdb_topology.specs.declared.outcome.Outcome.TheVariants.{Refused, Idle, Planned}
+use Rattle.mdb_topology.specs.Answer.{answer, answered}
 use Rattle.mdb_topology.specs.Asking.{Lacks, Asked, IsAsked}
 use Rattle.mdb_topology.specs.Description.{description_of}
 use Rattle.mdb_topology.specs.Finding.{is_pool_act, place_of, names_known, missing_pool}
@@ -108,5 +114,25 @@ module _ (o : Options) (pools : List PoolCore) (h : List Item) (z : PoolsStand (
           let P : ℕ → Type 0 = λ n. ((u t : PoolCore) → slice_get pools n ≡ Some u → Plans plan u t → Takes o pools n t [] told.facts step told.reply h) in
           subst P (sym a.0) (λ u t at_u p. taken t told a.1 (a.3 t (subst (λ v. Plans plan v t) (some-same u s (slice_get pools i) at_u at_i) p)))
 
+    -- what the pool does not refuse is not refused
+    pub asked-spared : names_known pools step.act ≡ false → (s : PoolCore) → slice_get pools i ≡ Some s → refusal_now s step ≡ None → refusal o h step ≡ None
+    asked-spared new s at_i e = pool-refusal o h step k few ∙ (by-pool new s at_i ∙ e)
+
     pub performs-asked : names_known pools step.act ≡ false → (outcome : Outcome) → IsAsked pools i step outcome → Performs o pools step outcome h
     performs-asked new outcome a = performs-there new a.0 a.1 outcome a.2
+
+-- a step that has an accepted answer is not refused
+pub accepted-answer : (o : Options) (h : List Item) (step : Step) (reply : Reply) (facts : List Fact) → answer o h step ≡ record { reply = reply; facts = facts } → IsAccepted reply → refusal o h step ≡ None
+accepted-answer o h step reply facts e accepted = on (refusal o h step) refl
+  where
+    on : (x : Option Why) → refusal o h step ≡ x → refusal o h step ≡ None
+    on None f = f
+    on (Some why) f =
+        let replied : reply ≡ RefusedBy why = ap (λ a. a.reply) (sym e) ∙ ap (λ x. (answered o h step x (step_facts o h step)).reply) f in
+        absurd (subst IsAccepted replied accepted)
+
+-- a step that was answered by a plan was not refused
+pub planned-accepted : (o : Options) (pools : List PoolCore) (step : Step) (i : ℕ) (plan : Plan) (told : Answered) (h : List Item) → IsReady pools step (Planned i plan told) → Performs o pools step (Planned i plan told) h → refusal o h step ≡ None
+planned-accepted o pools step i plan told h ready performs =
+    let T : Takes o pools i ready.2.0 [] told.facts step told.reply h = performs ready.0 ready.2.0 ready.1 ready.2.1 in
+    accepted-answer o h step told.reply T.facts T.answer_is T.accepted

@@ -1,7 +1,6 @@
 -- Under load balancing an error clears the service of its connection, and marks no server.
-use Rattle.std.proofs.Common.{ℕ, ◌≡◌, ◌≤◌, ◌^◌, true, false, if◌then◌else◌, List, [], ◌∷◌, length, Option, Some, None, is_some, nat_lt, refl, sym, ◌∙◌, ap, subst, append-nil, arith}
+use Rattle.std.proofs.Common.{ℕ, ◌≡◌, ◌≤◌, ◌^◌, ◌&&◌, Bool, true, false, if◌then◌else◌, List, [], ◌∷◌, length, Option, Some, None, is_some, refl, sym, ◌∙◌, ap, subst, append-nil, arith}
 use Rattle.std.specs.Prelude.{slice_get, unwrap_or, All}
-use Rattle.std.proofs.lemmas.Bool.Decides.{nat_tests}
 use Rattle.std.proofs.lemmas.List.Elements.{All-nil}
 use Rattle.mdb_base.specs.Equality.{same_address}
 use Rattle.mdb_base.specs.declared.error.Error.{Error}
@@ -10,8 +9,6 @@ use Rattle.mdb_base.specs.declared.options.Options.{Options}
 use Rattle.mdb_describe.specs.Servers.{in_order}
 use Rattle.mdb_events.specs.declared.fact.Fact.{Fact}
 use Rattle.mdb_monitor.specs.Standing.{StandsFor as MonitorStands}
-use Rattle.mdb_log.specs.declared.reply.Refused.{Refused as Cause}
-use Rattle.mdb_log.specs.declared.reply.Refused.TheVariants.{Exhausted}
 use Rattle.mdb_log.specs.declared.reply.Reply.TheVariants.{Changed, Done}
 use Rattle.mdb_log.specs.declared.reply.What.TheVariants.{Generation}
 use Rattle.mdb_log.specs.declared.step.Step.{Step}
@@ -20,7 +17,7 @@ use Rattle.mdb_log.specs.Opening.{pool_options}
 use Rattle.mdb_pool.specs.Core.{PoolCore}
 use Rattle.mdb_pool.specs.Facts.{clear_facts}
 use Rattle.mdb_pool.specs.Kept.{exhausted_now}
-use Rattle.mdb_pool.specs.Refusal.{is_exhausted}
+use Rattle.mdb_pool.specs.Refusal.{is_exhausted, wrong_service}
 use Rattle.mdb_pool.specs.Refusing.{refusal_now}
 use Rattle.mdb_pool.specs.Standing.{Fits}
 use Rattle.mdb_pool.proofs.ClearedActs.{exhausted-is}
@@ -34,9 +31,9 @@ use Rattle.mdb_topology.specs.Description.{description_of, applied, rule_after}
 use Rattle.mdb_topology.specs.Errors.{Trouble, for_service}
 use Rattle.mdb_topology.specs.Facts.{is_clear, clearing}
 use Rattle.mdb_topology.specs.Homes.{begun}
-use Rattle.mdb_topology.specs.Marking.{Clears, clear_act, HasParts, IsClearing}
+use Rattle.mdb_topology.specs.Marking.{Clears, clear_act, spoken, HasParts, IsClearing}
 use Rattle.mdb_topology.specs.Planned.{IsPlanned, LeadsAll, PlansMore, opened_by}
-use Rattle.mdb_topology.specs.Refusal.{first_past, refusal}
+use Rattle.mdb_topology.specs.Refusal.{first_past, ran_out, refusal}
 use Rattle.mdb_topology.specs.Standing.{at_address, PoolFits, PoolsStand, StandsFor}
 use Rattle.mdb_topology.specs.Stepping.{Follows}
 use Rattle.mdb_topology.specs.Telling.{Comes}
@@ -44,16 +41,16 @@ use Rattle.mdb_topology.specs.Turns.{in_turn}
 use Rattle.mdb_topology.proofs.Bools.{and-or-same}
 use Rattle.mdb_topology.proofs.ClearedPools.{plans-clear, past-clear}
 use Rattle.mdb_topology.proofs.Differing.{open-known}
-use Rattle.mdb_topology.proofs.Following.{early-later, known-applied, telling-outside, telling-quiet, follows-parts}
-use Rattle.mdb_topology.proofs.MarkBecoming.{as-parts, not-exhausted, cause-is}
+use Rattle.mdb_topology.proofs.Following.{known-applied, telling-outside, telling-quiet, follows-parts}
+use Rattle.mdb_topology.proofs.MarkBecoming.{as-parts, not-exhausted}
 use Rattle.mdb_topology.proofs.MarkTelling.{no-address}
 use Rattle.mdb_topology.proofs.Places.{some-same}
-use Rattle.mdb_topology.proofs.PlannedActs.{all-at}
 use Rattle.mdb_topology.proofs.PlannedOne.{leaves-still}
 use Rattle.mdb_topology.proofs.PlannedParts.{plans-still}
+use Rattle.mdb_topology.proofs.RefusedOutside.{outside-refusal}
 use Rattle.mdb_topology.proofs.Same.{IsPlain, outside}
 use Rattle.mdb_topology.proofs.Telling.{comes-none, same-stand}
-use Rattle.mdb_topology.proofs.TellingSteps.{refused-spoken}
+use Rattle.mdb_topology.proofs.Spent.{clear-refused}
 
 module _ (w : TopologyCore) (h : List Item) (z : StandsFor w h) (step : Step) (l : w.pools.last ≤ step.moment) (balanced : w.options.load_balanced ≡ true) (i : ℕ) (s : PoolCore) (there : slice_get w.pools.cores.items i ≡ Some s)
     (here : at_address w.pools.cores.items s.address ≡ Some i) (x : Trouble) (service : Option ObjectId) (error : Error) (pool : x.pool ≡ s.pool) (address : x.address ≡ s.address) (error_is : x.error ≡ error)
@@ -82,13 +79,6 @@ module _ (w : TopologyCore) (h : List Item) (z : StandsFor w h) (step : Step) (l
   begins : PoolsStand (pool_options o) pools k
   begins = same-stand (pool_options o) pools h k (outside m step.act Done h (telling-outside step.act is_clearing.0) tt) z.pools
 
-  refuses : (t : ObjectId) → refusal_now s (step_of m (clear_act (Some t) error) s.pool) ≡ (if exhausted_now s (Some t) then Some (Exhausted Generation) else None)
-  refuses t =
-      let early : s.last ≤ m = all-at (λ (s : PoolCore). s.last ≤ m) pools i s (early-later pools w.pools.last m l z.early) there in
-      let late : nat_lt m s.last ≡ false = grind (arith, nat_tests) in
-      let mode : s.options.load_balanced ≡ true = ap (λ p. p.load_balanced) (z.pools.fit.each i s there).options ∙ balanced in
-      rw (late, mode) refl
-
   past-service : (t : ObjectId) → service ≡ Some t → first_past o m k (in_turn m parts k) ≡ (if exhausted_now s (Some t) then Some Generation else None)
   past-service t e =
       let d : PoolFits (pool_options o) k i s = begins.fit.each i s there in
@@ -105,26 +95,26 @@ module _ (w : TopologyCore) (h : List Item) (z : StandsFor w h) (step : Step) (l
   known-begun : description_of o k ≡ w.description
   known-begun = ap (applied (rule_after o h step)) z.described.known ∙ (known-applied (rule_after o h step) w.description ∙ ap (λ y. unwrap_or y w.description) c.known)
 
-  module _ (later : List Change) (between : List Fact) where
-    -- the pool refuses to be cleared
-    pub service-refused : (why : Cause) → Clears (is_some service) pools i m service error [] later [] between (Some why) → refusal o h step ≡ Some why
-    service-refused why cleared = on service refl cleared
-      where
-        on : (y : Option ObjectId) → service ≡ y → Clears (is_some y) pools i m y error [] later [] between (Some why) → refusal o h step ≡ Some why
-        on None e f = absurd f
-        on (Some t) e f =
-            let same : f.0 ≡ s = some-same f.0 s (slice_get pools i) f.1 there in
-            let why_is : refusal_now s (step_of m (clear_act (Some t) error) s.pool) ≡ Some why = subst (λ (u : PoolCore). refusal_now u (step_of m (clear_act (Some t) error) u.pool) ≡ Some why) same f.2 in
-            let cause : (exhausted_now s (Some t) ≡ true) × (Exhausted Generation ≡ why) = cause-is (exhausted_now s (Some t)) why (sym (refuses t) ∙ why_is) in
-            let past : first_past o m k (in_turn m parts k) ≡ Some Generation = past-service t e ∙ rw cause.0 refl in
-            refused-spoken o h m step.act (telling-quiet o h step.act is_clearing.0) Generation c.passes (subst (λ v. length v.servers ≤ 128) (sym known-begun) z.described.few) (ap (first_past o m k) (c.tells k) ∙ past)
-            ∙ ap Some cause.1
+  -- what the clear passes, whether it comes or not
+  past-parts : (b : Bool) → is_some service && exhausted_now s service ≡ b → first_past o m k (in_turn m parts k) ≡ (if b then Some Generation else None)
+  past-parts b e = on service refl
+    where
+      on : (y : Option ObjectId) → service ≡ y → first_past o m k (in_turn m parts k) ≡ (if b then Some Generation else None)
+      on None f = past-nothing f ∙ ap (λ c. if c then Some Generation else None) (sym (ap (λ y. is_some y && exhausted_now s y) f) ∙ e)
+      on (Some t) f = past-service t f ∙ ap (λ c. if c then Some Generation else None) (sym (ap (λ y. is_some y && exhausted_now s y) f) ∙ e)
 
-    module _ (cleared : Clears (is_some service) pools i m service error [] later [] between None) where
+  -- the step is refused where the generation is at its limit, and for nothing else
+  pub service-refusal : (b : Bool) → is_some service && exhausted_now s service ≡ b → refusal o h step ≡ ran_out (if b then Some Generation else None)
+  service-refusal b e =
+      outside-refusal o h m step.act (telling-outside step.act is_clearing.0) (if b then Some Generation else None) c.passes (subst (λ v. length v.servers ≤ 128) (sym known-begun) z.described.few)
+      (ap (λ fs. first_past o m k (in_turn m ((λ k. fs) ∷ spoken o h step) k)) (telling-quiet o h step.act is_clearing.0) ∙ (ap (first_past o m k) (c.tells k) ∙ past-parts b e))
+
+  module _ (later : List Change) (between : List Fact) where
+    module _ (cleared : Clears (is_some service) pools i m service error [] later [] between) where
       planned : PlansMore o m pools n (same_address s.address) parts [] [] [] later [] between
       planned = on service cleared
         where
-          on : (y : Option ObjectId) → Clears (is_some y) pools i m y error [] later [] between None → PlansMore o m pools n (same_address s.address) (clearing o m (Some x) (for_service y) ∷ []) [] [] [] later [] between
+          on : (y : Option ObjectId) → Clears (is_some y) pools i m y error [] later [] between → PlansMore o m pools n (same_address s.address) (clearing o m (Some x) (for_service y) ∷ []) [] [] [] later [] between
           on None e =
               plans-still o m pools n [] later (same_address s.address) (clearing o m (Some x) (for_service None)) [] [] between e.0 (leaves-still o m pools n (same_address s.address))
               (λ now z k y. subst (λ fs. Comes o m [] now [] fs k) (sym e.1) (comes-none o m now [] k y))
@@ -148,12 +138,13 @@ module _ (w : TopologyCore) (h : List Item) (z : StandsFor w h) (step : Step) (l
       spare : first_past o m k (in_turn m parts k) ≡ None
       spare = on service refl cleared
         where
-          on : (y : Option ObjectId) → service ≡ y → Clears (is_some y) pools i m y error [] later [] between None → first_past o m k (in_turn m parts k) ≡ None
+          on : (y : Option ObjectId) → service ≡ y → Clears (is_some y) pools i m y error [] later [] between → first_past o m k (in_turn m parts k) ≡ None
           on None e f = past-nothing e
           on (Some t) e f =
               let same : f.0.pool ≡ s = some-same f.0.pool s (slice_get pools i) f.0.there there in
               let accepted : refusal_now s (step_of m (clear_act (Some t) error) s.pool) ≡ None = subst (λ (u : PoolCore). refusal_now u (step_of m (clear_act (Some t) error) u.pool) ≡ None) same f.1 in
-              past-service t e ∙ rw (not-exhausted (exhausted_now s (Some t)) (sym (refuses t) ∙ accepted)) refl
+              let fit : wrong_service o.load_balanced (Some t) ≡ false = ap (λ b. wrong_service b (Some t)) balanced in
+              past-service t e ∙ rw (not-exhausted (exhausted_now s (Some t)) (sym (clear-refused w (h, z) i s there m l (Some t) error fit) ∙ accepted)) refl
 
       pub service-follows : (next : Next) → next.reply ≡ Changed (is_some service) → next.facts.items ≡ between → next.changes.items ≡ later → next.description ≡ None → next.stops ≡ false → next.monitors.items ≡ [] → next.monitoring ≡ Same → Follows w next step h
       service-follows next reply facts changes described goes_on none nothing =

@@ -63,7 +63,7 @@ same-fresh o m (f ∷ fs) h k e a = (one f a.0, same-fresh o m fs (made m f ∷ 
     one _ b = tt
 
 -- an act of no pool has no facts of its own
-no-own : (o : Options) (h : List Item) (m : ℕ) (act : Act) → IsOutside act → (x : Option Home) (k : List Item) → own_facts o h (record { moment = m; act = act }) x k ≡ []
+pub no-own : (o : Options) (h : List Item) (m : ℕ) (act : Act) → IsOutside act → (x : Option Home) (k : List Item) → own_facts o h (record { moment = m; act = act }) x k ≡ []
 no-own o h m act c None k = refl
 no-own o h m (Do.Error r e) c (Some x) k = refl
 no-own o h m (Do.Hello a p came) c (Some x) k = refl
@@ -147,10 +147,10 @@ module _ (o : Options) (h : List Item) (m : ℕ) (act : Act) where
   G = in_turn m said k
 
   -- the parts after those
-  abbrev own_then_served : List (List Item → List Fact)
+  abbrev pub own_then_served : List (List Item → List Fact)
   own_then_served = own_facts o h step (home_of h act) ∷ serve_all o m ∷ []
 
-  said-first : step_facts o h step ≡ G ++ in_turn m own_then_served (with_facts m G k)
+  pub said-first : step_facts o h step ≡ G ++ in_turn m own_then_served (with_facts m G k)
   said-first =
       ap (λ ps. in_turn m ps k) (sym (append_assoc told (clearing o m (trouble o h step) (clear_of o h step) ∷ asking o (trouble o h step) (clear_of o h step) ∷ []) own_then_served))
       ∙ turn-append m said own_then_served k

@@ -13,7 +13,6 @@ use Rattle.mdb_log.specs.declared.step.FailedAt.{FailedAt}
 use Rattle.mdb_log.specs.declared.step.FailedAt.TheVariants.{Pre, Post}
 use Rattle.mdb_log.specs.declared.step.Act.{Act}
 use Rattle.mdb_log.specs.declared.step.Act.TheVariants.{Failed}
-use Rattle.mdb_log.specs.declared.reply.Refused.{Refused as Cause}
 use Rattle.mdb_log.specs.History.{Item, PoolItem, of_pool, service_in}
 use Rattle.mdb_log.specs.Opening.{pool_options}
 use Rattle.mdb_pool.specs.declared.connection.Connection.{Connection}
@@ -29,8 +28,6 @@ use Rattle.mdb_topology.specs.declared.change.Change.{Change}
 use Rattle.mdb_topology.specs.declared.change.Change.TheVariants.{Alter}
 use Rattle.mdb_topology.specs.declared.marked.Asked.{Asked}
 use Rattle.mdb_topology.specs.declared.marked.Asked.TheVariants.{Nothing, CheckNow, CancelIfCleared}
-use Rattle.mdb_topology.specs.declared.marked.Marked.{Marked}
-use Rattle.mdb_topology.specs.declared.marked.Marked.TheVariants.{Refused, Told}
 use Rattle.mdb_topology.specs.declared.topology.TopologyCore.{TopologyCore}
 use Rattle.mdb_topology.specs.Acting.{step_of, PlansOne}
 use Rattle.mdb_topology.specs.Complaining.{is_hard_now}
@@ -115,14 +112,11 @@ pub record PlansAlone (pools : List PoolCore) (i : ℕ) (step : Step) (asked : A
   pub there : slice_get pools i ≡ Some pool
   pub one : PlansOne pools i step.moment (λ p. step.act) earlier changes (before ++ asked_of asked false pool.address) after
 
--- The failure in its pool, after a clear where that is wanted, or the cause by which the pool refuses the clear.
-abbrev pub Fails : Bool → List PoolCore → ℕ → Step → Option ObjectId → Error → Asked → List Change → List Change → List Fact → List Fact → Option Cause → Type 0
-Fails false pools i step service error asked earlier changes before after None = PlansAlone pools i step asked earlier changes before after
-Fails false pools i step service error asked earlier changes before after (Some why) = ⊥
-Fails true pools i step service error asked earlier changes before after None =
+-- The failure in its pool, after a clear where that is wanted.
+abbrev pub Fails : Bool → List PoolCore → ℕ → Step → Option ObjectId → Error → Asked → List Change → List Change → List Fact → List Fact → Type 0
+Fails false pools i step service error asked earlier changes before after = PlansAlone pools i step asked earlier changes before after
+Fails true pools i step service error asked earlier changes before after =
     (d : PlansTwo pools i (clear_act service error) step asked earlier changes before after) × (refusal_now d.pool (step_of step.moment (clear_act service error) d.pool.pool) ≡ None)
-Fails true pools i step service error asked earlier changes before after (Some why) =
-    (s : PoolCore) × (slice_get pools i ≡ Some s) × (refusal_now s (step_of step.moment (clear_act service error) s.pool) ≡ Some why)
 
 -- what is cleared of the pool, by what it knows
 abbrev pub cleared_facts : Bool → Options → ℕ → PoolCore → List PoolItem → Option ObjectId → Error → List Fact
@@ -141,9 +135,7 @@ pub record TellsFailure (o : Options) (h : List Item) (step : Step) (s : PoolCor
 abbrev pub IsToldOf : TopologyCore → ℕ → TopologyDescription → List Fact → Type 0
 IsToldOf w m u facts = (k : List Item) → PoolsStand (pool_options w.options) w.pools.cores.items k → in_turn m (publication w.options m w.description u) k ≡ facts
 
--- What a mark and the failure come to: the pool refuses its clear, or both are told.
-abbrev pub FailureComes : TopologyCore → Step → ℕ → TopologyDescription → Error → Bool → Asked → Marked → Type 0
-FailureComes w step i u error clears asked (Refused why) =
-    (between : List Fact) × (facts : List Fact) × (changes : List Change) × Fails (is_some (difference w.description.servers u.servers) && clears) w.pools.cores.items i step None error asked [] changes between facts (Some why)
-FailureComes w step i u error clears asked (Told facts changes changed) =
-    (before : List Fact) × IsToldOf w step.moment u before × Fails (is_some (difference w.description.servers u.servers) && clears) w.pools.cores.items i step None error asked [] changes.items before facts.items None
+-- A mark and the failure are told.
+abbrev pub FailureTold : TopologyCore → Step → ℕ → TopologyDescription → Error → Bool → Asked → List Change → List Fact → Type 0
+FailureTold w step i u error clears asked changes facts =
+    (before : List Fact) × IsToldOf w step.moment u before × Fails (is_some (difference w.description.servers u.servers) && clears) w.pools.cores.items i step None error asked [] changes before facts

@@ -22,6 +22,7 @@ pub mod Taking
 pub mod Finding
 pub mod Asking
 pub mod Limits
+pub mod Naming
 pub mod Checking
 pub mod Stepping
 pub mod Changing

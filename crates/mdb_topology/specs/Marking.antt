@@ -1,17 +1,20 @@
 -- Steps that tell of an error: what its rule tells, what is cleared, and what the monitor is asked.
-use Rattle.std.specs.Prelude.{ℕ, ◌≡◌, ◌&&◌, Bool, true, false, List, [], ◌∷◌, ◌++◌, length, slice_get, Option, Some, None, is_some}
+use Rattle.std.specs.Prelude.{ℕ, ◌≡◌, ◌&&◌, Bool, true, false, not, List, [], ◌∷◌, ◌++◌, length, slice_get, Option, Some, None, is_some}
 use Rattle.mdb_base.specs.declared.address.ServerAddress.{ServerAddress}
 use Rattle.mdb_base.specs.declared.options.Options.{Options}
 use Rattle.mdb_base.specs.declared.error.Error.{Error}
 use Rattle.mdb_base.specs.declared.object_id.ObjectId.{ObjectId}
 use Rattle.mdb_describe.specs.declared.topology.TopologyDescription.{TopologyDescription}
+use Rattle.mdb_describe.specs.Descriptions.{failed}
 use Rattle.mdb_describe.specs.Differences.{difference}
+use Rattle.mdb_describe.specs.Update.{updated}
 use Rattle.mdb_events.specs.declared.fact.Fact.{Fact}
 use Rattle.mdb_events.specs.declared.fact.Fact.TheVariants.{CheckNow as CheckNowFact, Cancel}
 use Rattle.mdb_log.specs.declared.step.Step.{Step}
 use Rattle.mdb_log.specs.declared.step.Act.{Act}
 use Rattle.mdb_log.specs.declared.step.Act.TheVariants.{Clear as ClearAct}
-use Rattle.mdb_log.specs.declared.reply.Refused.{Refused as Cause}
+use Rattle.mdb_log.specs.declared.checked.BeatenResult.{BeatenResult}
+use Rattle.mdb_log.specs.declared.checked.BeatenResult.TheVariants as Beaten
 use Rattle.mdb_log.specs.declared.reply.Refused.TheVariants.{Exhausted}
 use Rattle.mdb_log.specs.declared.reply.What.{What}
 use Rattle.mdb_log.specs.declared.reply.What.TheVariants.{Generation}
@@ -19,12 +22,11 @@ use Rattle.mdb_log.specs.declared.reply.Reply.{Reply}
 use Rattle.mdb_log.specs.declared.reply.Reply.TheVariants.{Changed}
 use Rattle.mdb_log.specs.History.{Item}
 use Rattle.mdb_pool.specs.Core.{PoolCore}
+use Rattle.mdb_pool.specs.Kept.{exhausted_now}
 use Rattle.mdb_pool.specs.Refusing.{refusal_now}
 use Rattle.mdb_topology.specs.declared.change.Change.{Change}
 use Rattle.mdb_topology.specs.declared.marked.Asked.{Asked}
 use Rattle.mdb_topology.specs.declared.marked.Asked.TheVariants.{Nothing, CheckNow, CancelIfCleared}
-use Rattle.mdb_topology.specs.declared.marked.Marked.{Marked}
-use Rattle.mdb_topology.specs.declared.marked.Marked.TheVariants.{Refused, Told}
 use Rattle.mdb_topology.specs.declared.monitoring.Monitoring.{Monitoring}
 use Rattle.mdb_topology.specs.declared.monitoring.Monitoring.TheVariants.{Same}
 use Rattle.mdb_topology.specs.declared.next.Next.{Next}
@@ -71,14 +73,15 @@ clear_with (Some s) = only s
 abbrev pub clear_act : Option ObjectId → Error → ℕ → Act
 clear_act service error p = ClearAct p service error
 
--- The pool at the place is cleared, where that is wanted, or refuses it by its cause.
-abbrev pub Clears : Bool → List PoolCore → ℕ → ℕ → Option ObjectId → Error → List Change → List Change → List Fact → List Fact → Option Cause → Type 0
-Clears false pools i m service error earlier changes before after None = (changes ≡ earlier) × (after ≡ before)
-Clears false pools i m service error earlier changes before after (Some why) = ⊥
-Clears true pools i m service error earlier changes before after None =
+-- the pool at the place accepts the clear
+abbrev pub AcceptsClear : List PoolCore → ℕ → ℕ → Option ObjectId → Error → Type 0
+AcceptsClear pools i m service error = (s : PoolCore) → slice_get pools i ≡ Some s → refusal_now s (step_of m (clear_act service error) s.pool) ≡ None
+
+-- The pool at the place is cleared, where that is wanted.
+abbrev pub Clears : Bool → List PoolCore → ℕ → ℕ → Option ObjectId → Error → List Change → List Change → List Fact → List Fact → Type 0
+Clears false pools i m service error earlier changes before after = (changes ≡ earlier) × (after ≡ before)
+Clears true pools i m service error earlier changes before after =
     (d : PlansOne pools i m (clear_act service error) earlier changes before after) × (refusal_now d.pool (step_of m (clear_act service error) d.pool.pool) ≡ None)
-Clears true pools i m service error earlier changes before after (Some why) =
-    (s : PoolCore) × (slice_get pools i ≡ Some s) × (refusal_now s (step_of m (clear_act service error) s.pool) ≡ Some why)
 
 -- what the monitor of the address is asked, by whether the pool was cleared
 abbrev pub asked_of : Asked → Bool → ServerAddress → List Fact
@@ -126,11 +129,6 @@ pub record MarkTold (w : TopologyCore) (m : ℕ) (u : TopologyDescription) (x : 
   pub changed_is : changed ≡ is_some (difference w.description.servers u.servers)
   pub spare : MarkPasses w m u x None
 
--- what the mark comes to: a generation is at its limit, or it is told
-abbrev pub MarkComes : TopologyCore → ℕ → TopologyDescription → Trouble → Marked → Type 0
-MarkComes w m u x (Refused why) = (why ≡ Exhausted Generation) × MarkPasses w m u x (Some Generation)
-MarkComes w m u x (Told facts changes changed) = MarkTold w m u x facts.items changes.items changed
-
 -- What a step makes of a driver by a mark that is told, but for what it does at the monitors.
 pub record IsMarked (w : TopologyCore) (m : ℕ) (u : TopologyDescription) (x : Trouble) (n : Next) : Type 0 where
   pub changed : Bool
@@ -147,12 +145,15 @@ MarksTo w m u x (Then.Refused why) = (why ≡ Exhausted Generation) × MarkPasse
 MarksTo w m u x (Then.Accepted n) = IsMarked w m u x n
 
 -- A failed check marks its server, and makes nothing known once the driver was stopped.
-abbrev pub FailsTo : TopologyCore → ℕ → TopologyDescription → Trouble → Bool → Stepped → Type 0
-FailsTo w m u x false stepped = MarksTo w m u x stepped
-FailsTo w m u x true (Then.Refused why) = ⊥
-FailsTo w m u x true (Then.Accepted n) = IsUnchanged n
+abbrev pub FailsTo : TopologyCore → ℕ → TopologyDescription → Trouble → Bool → Next → Type 0
+FailsTo w m u x false n = IsMarked w m u x n
+FailsTo w m u x true n = IsUnchanged n
 
 -- the same with what the check does at the monitors, and its event first
-abbrev pub FailsAs : TopologyCore → ℕ → Monitoring → SdamEvent → TopologyDescription → Trouble → Stepped → Type 0
-FailsAs w m monitoring event u x (Then.Refused why) = FailsTo w m u x w.stopped (Then.Refused why)
-FailsAs w m monitoring event u x (Then.Accepted n) = (y : Next) × FailsTo w m u x w.stopped (Then.Accepted y) × IsWithCheck y n monitoring event
+abbrev pub FailsAs : TopologyCore → ℕ → Monitoring → SdamEvent → TopologyDescription → Trouble → Next → Type 0
+FailsAs w m monitoring event u x n = (y : Next) × FailsTo w m u x w.stopped y × IsWithCheck y n monitoring event
+
+-- The check that ended so failed, and the mark of the server at the address would clear its pool s past the limit of the generation.
+abbrev pub check_spends : TopologyCore → PoolCore → ServerAddress → BeatenResult → Bool
+check_spends w s a (Beaten.Err error) = not w.stopped && ((is_some (difference w.description.servers (updated w.description (failed a error)).servers) && true) && exhausted_now s None)
+check_spends w s a _ = false

@@ -1,5 +1,5 @@
 -- Why a step is refused: the first row whose condition holds, and at last a number that its facts would take past a limit.
-use Rattle.std.specs.Prelude.{ℕ, ◌+◌, Bool, false, not, ◌&&◌, if◌then◌else◌, nat_lt, is_some, List, [], ◌∷◌, length, Option, Some, None, unwrap_or}
+use Rattle.std.specs.Prelude.{ℕ, ◌+◌, Bool, true, false, not, ◌&&◌, if◌then◌else◌, nat_lt, is_some, List, [], ◌∷◌, length, Option, Some, None, unwrap_or}
 use Rattle.mdb_base.specs.declared.options.Options.{Options}
 use Rattle.mdb_events.specs.declared.fact.Fact.{Fact}
 use Rattle.mdb_events.specs.declared.fact.Fact.TheVariants.{Opened, Raised, Sdam}
@@ -19,7 +19,7 @@ use Rattle.mdb_log.specs.State.{generation_of}
 use Rattle.mdb_pool.specs.Refusal.{wrong_service, first_row}
 use Rattle.mdb_log.specs.Homes.{Home}
 use Rattle.mdb_topology.specs.Homes.{home_of, is_here, begun}
-use Rattle.mdb_topology.specs.Monitors.{runs}
+use Rattle.mdb_topology.specs.Monitors.{runs, is_connected}
 use Rattle.mdb_topology.specs.Description.{description_of}
 use Rattle.mdb_topology.specs.Facts.{step_facts}
 
@@ -99,3 +99,25 @@ refused_by None later = later
 -- The refusal of a step after a history, None where it is accepted.
 abbrev pub refusal : Options → List Item → Step → Option Refused
 refusal o h step = refused_by (first_refusal o h step) (ran_out (exhausted o h step (step_facts o h step)))
+
+-- the act begins a check over a connection that its monitor has
+abbrev pub is_over_connection : List Item → Act → Bool
+is_over_connection h (Do.Beat a p) = is_connected h p
+is_over_connection h _ = false
+
+-- the act names hosts
+abbrev pub names_hosts : Act → Bool
+names_hosts (Do.Hosts hosts) = true
+names_hosts _ = false
+
+-- Which refusals want of memory may come before: none but those of the servers and of the pools that would come by a reply, which show only in what would be known then, and that of a connection's number which was drawn before.
+abbrev pub may_yield : Bool → Bool → Option Refused → Bool
+may_yield over named None = true
+may_yield over named (Some (Exhausted Servers)) = not named
+may_yield over named (Some (Exhausted Pool)) = not named
+may_yield over named (Some (Exhausted Monitor)) = over
+may_yield over named (Some _) = false
+
+-- Where the step is not refused, or by one of these, there may be no memory for it.
+abbrev pub may_want : Options → List Item → Step → Bool
+may_want o h step = may_yield (is_over_connection h step.act) (names_hosts step.act) (refusal o h step)

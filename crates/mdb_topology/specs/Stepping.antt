@@ -11,6 +11,7 @@ use Rattle.mdb_log.specs.History.{Item, did, is_number, with_answer}
 use Rattle.mdb_log.specs.LegalLog.{IsFairAnswer}
 use Rattle.mdb_log.specs.Beside.{AllFreshGrants}
 use Rattle.mdb_log.specs.Connections.{one_if}
+use Rattle.mdb_log.specs.Own.{IsAccepted}
 use Rattle.mdb_log.specs.Opening.{pool_options}
 use Rattle.mdb_pool.specs.Core.{PoolCore}
 use Rattle.mdb_topology.specs.declared.topology.TopologyCore.{TopologyCore}
@@ -18,7 +19,7 @@ use Rattle.mdb_topology.specs.declared.next.Next.{Next}
 use Rattle.mdb_topology.specs.declared.next.Stepped.{Stepped}
 use Rattle.mdb_topology.specs.declared.next.Stepped.TheVariants.{Refused, Accepted}
 use Rattle.mdb_topology.specs.Answer.{answer}
-use Rattle.mdb_topology.specs.Refusal.{refusal}
+use Rattle.mdb_topology.specs.Refusal.{refusal, may_want}
 use Rattle.mdb_topology.specs.Description.{Rule, applied}
 use Rattle.mdb_topology.specs.Planned.{LeadsAll, opened_by}
 use Rattle.mdb_topology.specs.Checking.{monitors_after, numbers_after, watchers_after, IsPlaced}
@@ -55,6 +56,7 @@ is_driver_act act = is_pool_act act || is_topology_act act
 -- An accepted step: its answer, and what each part of the driver then is, where its pools are those to which the changes lead.
 pub record Follows (w : TopologyCore) (n : Next) (step : Step) (h : List Item) : Type 0 where
   pub answer_is : answer w.options h step ≡ record { reply = n.reply; facts = n.facts.items }
+  pub accepted : IsAccepted n.reply
   pub fair : IsFairAnswer h step n.reply n.facts.items
   pub fresh : AllFreshGrants (pool_options w.options) step.moment (did step n.reply ∷ h) n.facts.items
   pub leads : (later : List PoolCore) × LeadsAll n.changes.items w.pools.cores.items later
@@ -75,6 +77,10 @@ FollowsSome w n step = (h : List Item) × StandsFor w h × Follows w n step h
 abbrev pub BecomesOf : TopologyCore → Step → Stepped → List Item → Type 0
 BecomesOf w step (Refused why) h = refusal w.options h step ≡ Some why
 BecomesOf w step (Accepted n) h = Follows w n step h
+
+-- Want of memory may be the answer to the step after the history.
+abbrev pub MayWant : TopologyCore → Step → List Item → Type 0
+MayWant w step h = may_want w.options h step ≡ true
 
 -- The log has one entry more, of the seat, with the answer to the step, and the driver stands for the longer history.
 pub record Logs (w v : TopologyCore) (before after : List Entry) (seat : ℕ) (step : Step) (h : List Item) : Type 0 where

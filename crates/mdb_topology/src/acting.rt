@@ -1,6 +1,6 @@
 //! What becomes of an act of one pool.
 
-ghost use Rattle.std.specs.Prelude.{◌≡◌, ◌≤◌, IfOk, List, All, length, true};
+ghost use Rattle.std.specs.Prelude.{◌≡◌, ◌≤◌, IfOk, OnErr, List, None, All, length, true};
 ghost use Rattle.mdb_topology.specs.Finding.{is_pool_act};
 
 use crate::outcome::Outcome;
@@ -29,6 +29,7 @@ impl Pools {
     ghost use Rattle.mdb_topology.specs.Asking.{Lacks};
     ghost use Rattle.mdb_topology.specs.Description.{description_of};
     ghost use Rattle.mdb_topology.specs.Finding.{is_pool_act, names_known};
+    ghost use Rattle.mdb_topology.specs.Refusal.{refusal};
     ghost use Rattle.mdb_topology.specs.Standing.{PoolsStand};
     ghost use Rattle.mdb_topology.specs.Taking.{IsReady, Performs};
 
@@ -67,6 +68,7 @@ impl Pools {
         ensures same { self.new ≡ self.old }
         ensures ready { IfOk result (λ outcome. IsReady self.old.cores.items step.now outcome) }
         ensures performs { IfOk result (λ outcome. (o : Options) (h : List Item) → PoolsStand (pool_options o) self.old.cores.items h → last_moment h ≡ self.old.last → length (description_of o h).servers ≤ 128 → Performs o self.old.cores.items step.now outcome h) }
+        ensures wants { OnErr result ((o : Options) (h : List Item) → PoolsStand (pool_options o) self.old.cores.items h → last_moment h ≡ self.old.last → length (description_of o h).servers ≤ 128 → refusal o h step.now ≡ None) }
     {
         let Some(index) = self.place_of(&step.act) else {
             return Ok(self.without_pool(&step.act));

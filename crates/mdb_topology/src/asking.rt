@@ -1,6 +1,8 @@
 //! One of the pools is asked a step.
 
-ghost use Rattle.std.specs.Prelude.{◌≡◌, ◌<◌, IfOk, length, true};
+ghost use Rattle.std.specs.Prelude.{◌≡◌, ◌<◌, IfOk, OnErr, None, Some, length, slice_get, true};
+ghost use Rattle.mdb_pool.specs.Core.{PoolCore as Core};
+ghost use Rattle.mdb_pool.specs.Refusing.{refusal_now};
 ghost use Rattle.mdb_topology.specs.Asking.{Asked};
 ghost use Rattle.mdb_topology.specs.Finding.{is_pool_act};
 
@@ -23,6 +25,7 @@ fn ask_at(
     requires { is_pool_act step.now.act ≡ true }
     ensures same { pool.new ≡ pool.old }
     ensures asked { IfOk result (λ outcome. Asked pool.old index step.now outcome) }
+    ensures wants { OnErr result (refusal_now pool.old step.now ≡ None) }
 {
     if let Some(why) = pool.refusal_now(step) {
         return Ok(Outcome::Refused(why));
@@ -48,6 +51,7 @@ impl Pools {
         requires act { is_pool_act step.now.act ≡ true }
         ensures same { self.new ≡ self.old }
         ensures asked { IfOk result (λ outcome. IsAsked self.old.cores.items index step.now outcome) }
+        ensures wants { OnErr result ((s : Core) → slice_get self.old.cores.items index ≡ Some s → refusal_now s step.now ≡ None) }
     {
         ask_at(alloc, &mut self.cores[index], index, step)
     }

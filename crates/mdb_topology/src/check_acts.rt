@@ -1,6 +1,6 @@
 //! A check of a monitor begins.
 
-ghost use Rattle.std.specs.Prelude.{◌≡◌, ◌≤◌, ◌<◌, ◌^◌, ◌+◌, ◌∷◌, [], not, IfOk, List, nat_lt, length, false};
+ghost use Rattle.std.specs.Prelude.{◌≡◌, ◌≤◌, ◌<◌, ◌^◌, ◌+◌, ◌∷◌, [], not, IfOk, OnErr, List, nat_lt, length, false};
 ghost use Rattle.mdb_log.specs.declared.step.Act.TheVariants.{Beat as BeatAct};
 ghost use Rattle.mdb_events.specs.declared.fact.Fact.TheVariants.{Sdam};
 ghost use Rattle.mdb_log.specs.Connections.{one_if};
@@ -33,7 +33,7 @@ impl TopologyCore {
     ghost use Rattle.mdb_monitor.specs.Standing.{runs};
     ghost use Rattle.mdb_topology.specs.Monitors.{fresh_for, is_connected};
     ghost use Rattle.mdb_topology.specs.Standing.{StandsFor, StandsForSome};
-    ghost use Rattle.mdb_topology.specs.Stepping.{BecomesOf};
+    ghost use Rattle.mdb_topology.specs.Stepping.{BecomesOf, MayWant};
     ghost use Rattle.mdb_topology.specs.Checking.{Begins};
 
     // The number of the connection that the next check of the monitor makes; one over a connection needs none.
@@ -97,6 +97,7 @@ impl TopologyCore {
         requires in_time { self.now.pools.last ≤ step.now.moment }
         requires act { step.now.act ≡ BeatAct address.now pool }
         ensures becomes { IfOk result (λ stepped. (h : List Item) → StandsFor self.now h → BecomesOf self.now step.now stepped h) }
+        ensures wants { OnErr result ((h : List Item) → StandsFor self.now h → MayWant self.now step.now h) }
     {
         let Some(index) = self.monitored(address, pool) else {
             return Ok(Stepped::Refused(Refused::UnknownServer));

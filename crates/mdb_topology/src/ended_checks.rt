@@ -1,6 +1,6 @@
 //! A check of a monitor ends.
 
-ghost use Rattle.std.specs.Prelude.{◌≡◌, ◌≤◌, ◌<◌, ◌∷◌, ◌++◌, IfOk, List, length, slice_get, Some, true};
+ghost use Rattle.std.specs.Prelude.{◌≡◌, ◌≤◌, ◌<◌, ◌∷◌, ◌++◌, IfOk, OnErr, List, length, slice_get, Some, true};
 ghost use Rattle.mdb_log.specs.declared.step.Act.TheVariants.{Beaten as BeatenAct};
 ghost use Rattle.mdb_topology.specs.Monitors.{check_result};
 
@@ -11,7 +11,7 @@ use crate::topology::TopologyCore;
 use mdb_base::{Moment, Nanos, OutOfMemory, ServerAddress};
 use mdb_describe::TopologyDescription;
 use mdb_events::SdamEvent;
-use mdb_log::{BeatenResult, Refused, Reply, Step};
+use mdb_log::{BeatenResult, Refused, Reply, Step, What};
 use mdb_monitor::{CheckResult, Finish, MonitorCore, Report};
 use std::alloc::{AllocError, Global};
 
@@ -36,7 +36,7 @@ impl TopologyCore {
     ghost use Rattle.mdb_monitor.specs.Standing.{runs};
     ghost use Rattle.mdb_log.specs.History.{Item};
     ghost use Rattle.mdb_topology.specs.Standing.{StandsFor, StandsForSome};
-    ghost use Rattle.mdb_topology.specs.Stepping.{BecomesOf};
+    ghost use Rattle.mdb_topology.specs.Stepping.{BecomesOf, MayWant};
     ghost use Rattle.mdb_topology.specs.Checking.{Ends};
     ghost use Rattle.mdb_topology.specs.Changing.{reply_known, ChangesIf, ConcludesAs};
     ghost use Rattle.mdb_monitor.specs.declared.monitor.MonitorCore.{MonitorCore};
@@ -160,6 +160,7 @@ impl TopologyCore {
         requires act { step.now.act ≡ BeatenAct address.now pool duration came.now }
         ensures same { self.new ≡ self.old }
         ensures becomes { IfOk result (λ stepped. (h : List Item) → StandsFor self.old h → BecomesOf self.old step.now stepped h) }
+        ensures wants { OnErr result ((h : List Item) → StandsFor self.old h → MayWant self.old step.now h) }
     {
         let Some(index) = self.monitored(address, pool) else {
             if self.options.load_balanced {
@@ -174,10 +175,13 @@ impl TopologyCore {
         if self.options.load_balanced {
             return Ok(Stepped::Refused(Refused::WrongMode));
         }
+        if self.overspends_by_check(index, address, came) {
+            return Ok(Stepped::Refused(Refused::Exhausted(What::Generation)));
+        }
         let (monitor, finish) = self.with_end(alloc, index, address, duration, came)?;
         let monitoring = Monitoring::Checked(index, monitor, self.fresh);
         if let BeatenResult::Err(error) = came {
-            return self.fail(
+            let next = self.fail(
                 alloc,
                 step,
                 index,
@@ -185,7 +189,8 @@ impl TopologyCore {
                 error.get(),
                 monitoring,
                 finish.event,
-            );
+            )?;
+            return Ok(Stepped::Accepted(next));
         }
         match self.after_check(alloc, address, came, &finish.report, step.moment) {
             Ok(later) => self.conclude(alloc, step, monitoring, finish.event, later),

@@ -1,6 +1,6 @@
 //! Steps that tell of an error.
 
-ghost use Rattle.std.specs.Prelude.{◌≡◌, ◌≤◌, ◌<◌, ◌&&◌, IfOk, List, Some, is_some, length, not, slice_get, true, false};
+ghost use Rattle.std.specs.Prelude.{◌≡◌, ◌≤◌, ◌<◌, ◌&&◌, IfOk, OnErr, List, Some, is_some, length, not, slice_get, true, false};
 ghost use Rattle.mdb_log.specs.declared.step.Act.TheVariants.{Hello as HelloAct, Error as ErrorAct};
 ghost use Rattle.mdb_log.specs.declared.checked.HelloResult.TheVariants.{Err as Erred};
 ghost use Rattle.mdb_pool.specs.declared.connection.Connection.{Connection};
@@ -14,7 +14,7 @@ use crate::marked::Asked;
 use crate::next::{Next, Stepped};
 use crate::topology::TopologyCore;
 use mdb_base::{Error, ObjectId, OutOfMemory, ServerAddress};
-use mdb_log::{Refused, Reply, Step};
+use mdb_log::{Refused, Reply, Step, What};
 use mdb_pool::PoolCore;
 use std::alloc::Global;
 
@@ -24,7 +24,7 @@ impl TopologyCore {
     ghost use Rattle.mdb_topology.specs.Errors.{Trouble};
     ghost use Rattle.mdb_topology.specs.Marking.{IsClearing};
     ghost use Rattle.mdb_topology.specs.Standing.{at_address, StandsFor, StandsForSome};
-    ghost use Rattle.mdb_topology.specs.Stepping.{BecomesOf};
+    ghost use Rattle.mdb_topology.specs.Stepping.{BecomesOf, MayWant};
 
     // The hello of a server failed (SDAM, "Network error during server check").
     pub(crate) fn hello_error(
@@ -40,6 +40,7 @@ impl TopologyCore {
         requires act { step.now.act ≡ HelloAct address.now pool (Erred error.now) }
         ensures same { self.new ≡ self.old }
         ensures becomes { IfOk result (λ stepped. (h : List Item) → StandsFor self.old h → BecomesOf self.old step.now stepped h) }
+        ensures wants { OnErr result ((h : List Item) → StandsFor self.old h → MayWant self.old step.now h) }
     {
         if self.options.load_balanced {
             return Ok(Stepped::Refused(Refused::WrongMode));
@@ -49,7 +50,7 @@ impl TopologyCore {
             return Ok(Stepped::Accepted(Next::of_reply(alloc, reply)));
         }
         let place = pool as usize;
-        self.mark(alloc, step, place, address, error, true, Asked::Nothing)
+        self.mark(alloc, step, place, error, true, Asked::Nothing)
     }
 
     // Under load balancing no server is marked: the service of the pool at the place is cleared, where there is one.
@@ -61,16 +62,21 @@ impl TopologyCore {
         service: Option<ObjectId>,
         error: &Error,
     ) -> Result<Stepped, OutOfMemory>
+        requires stands { StandsForSome self.old }
         requires in_time { self.old.pools.last ≤ step.now.moment }
         requires balanced { self.old.options.load_balanced ≡ true }
         requires there { place < length self.old.pools.cores.items }
         ensures same { self.new ≡ self.old }
         ensures becomes { IfOk result (λ stepped. (h : List Item) (s : Core) (x : Trouble) → StandsFor self.old h → slice_get self.old.pools.cores.items place ≡ Some s → at_address self.old.pools.cores.items s.address ≡ Some place → x.pool ≡ s.pool → x.address ≡ s.address → x.error ≡ error.now → IsClearing self.old h step.now x (for_service service) → BecomesOf self.old step.now stepped h) }
+        ensures wants { OnErr result ((h : List Item) (s : Core) (x : Trouble) → StandsFor self.old h → slice_get self.old.pools.cores.items place ≡ Some s → at_address self.old.pools.cores.items s.address ≡ Some place → x.pool ≡ s.pool → x.address ≡ s.address → x.error ≡ error.now → IsClearing self.old h step.now x (for_service service) → MayWant self.old step.now h) }
     {
+        if self.overspends_service(place, service) {
+            return Ok(Stepped::Refused(Refused::Exhausted(What::Generation)));
+        }
+        let cleared = service.is_some();
         let mut facts = Vec::new(alloc);
         let mut changes = Vec::new(alloc);
-        let cleared = service.is_some();
-        let refused = self.pools.plan_clear(
+        self.pools.plan_clear(
             alloc,
             step.moment,
             cleared,
@@ -80,18 +86,11 @@ impl TopologyCore {
             &mut facts,
             &mut changes,
         )?;
-        match refused {
-            Some(why) => {
-                drop(facts);
-                drop(changes);
-                Ok(Stepped::Refused(why))
-            }
-            None => Ok(Stepped::Accepted(Next {
-                facts,
-                changes,
-                ..Next::of_reply(alloc, Reply::Changed(cleared))
-            })),
-        }
+        Ok(Stepped::Accepted(Next {
+            facts,
+            changes,
+            ..Next::of_reply(alloc, Reply::Changed(cleared))
+        }))
     }
 
     // The server is marked Unknown by the current error of the party, about the connection that it holds of the pool at the place.
@@ -112,22 +111,13 @@ impl TopologyCore {
         requires complains { Complains self.old party place id error.now }
         ensures same { self.new ≡ self.old }
         ensures becomes { IfOk result (λ stepped. (h : List Item) → StandsFor self.old h → BecomesOf self.old step.now stepped h) }
+        ensures wants { OnErr result ((h : List Item) → StandsFor self.old h → MayWant self.old step.now h) }
     {
-        let pool = &self.pools.cores[place];
-        let address = pool.address().clone()?;
-        let hard = is_hard(pool, id, error);
+        let hard = is_hard(&self.pools.cores[place], id, error);
         if error.is_state_change_error() {
-            return self.mark(alloc, step, place, &address, error, hard, Asked::CheckNow);
+            return self.mark(alloc, step, place, error, hard, Asked::CheckNow);
         }
-        self.mark(
-            alloc,
-            step,
-            place,
-            &address,
-            error,
-            true,
-            Asked::CancelIfCleared,
-        )
+        self.mark(alloc, step, place, error, true, Asked::CancelIfCleared)
     }
 
     // An error about the connection of the pool tells nothing: it is not current, or it has no row.
@@ -150,6 +140,7 @@ impl TopologyCore {
         requires act { step.now.act ≡ ErrorAct party error.now }
         ensures same { self.new ≡ self.old }
         ensures becomes { IfOk result (λ stepped. (h : List Item) → StandsFor self.old h → BecomesOf self.old step.now stepped h) }
+        ensures wants { OnErr result ((h : List Item) → StandsFor self.old h → MayWant self.old step.now h) }
     {
         let Some(place) = self.pools.holder(party) else {
             return Ok(Stepped::Refused(Refused::NotHolder));

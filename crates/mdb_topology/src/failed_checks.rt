@@ -1,13 +1,14 @@
 //! A check of a monitor failed.
 
-ghost use Rattle.std.specs.Prelude.{◌≡◌, ◌≤◌, IfOk, List, Some, true, false};
+ghost use Rattle.std.specs.Prelude.{◌≡◌, ◌≤◌, ◌&&◌, IfOk, None, Some, is_some, true, false};
 ghost use Rattle.mdb_describe.specs.Descriptions.{failed};
+ghost use Rattle.mdb_describe.specs.Differences.{difference};
 ghost use Rattle.mdb_describe.specs.Update.{updated};
 ghost use Rattle.mdb_topology.specs.declared.marked.Asked.TheVariants.{Nothing};
 
 use crate::marked::Asked;
 use crate::monitoring::Monitoring;
-use crate::next::{Next, Stepped};
+use crate::next::Next;
 use crate::topology::TopologyCore;
 use mdb_base::{Error, OutOfMemory, ServerAddress};
 use mdb_events::SdamEvent;
@@ -16,7 +17,7 @@ use std::alloc::Global;
 
 impl TopologyCore {
     ghost use Rattle.mdb_topology.specs.Errors.{Trouble};
-    ghost use Rattle.mdb_topology.specs.Marking.{IsOfPool, FailsTo, FailsAs};
+    ghost use Rattle.mdb_topology.specs.Marking.{AcceptsClear, IsOfPool, FailsTo, FailsAs};
     ghost use Rattle.mdb_topology.specs.Standing.{at_address, StandsForSome};
 
     // The server whose check failed is marked Unknown, unless the driver was stopped.
@@ -27,19 +28,19 @@ impl TopologyCore {
         place: usize,
         address: &ServerAddress,
         error: &Error,
-    ) -> Result<Stepped, OutOfMemory>
+    ) -> Result<Next, OutOfMemory>
         requires stands { StandsForSome self.old }
         requires in_time { self.old.pools.last ≤ step.now.moment }
         requires normal { self.old.options.load_balanced ≡ false }
         requires here { at_address self.old.pools.cores.items address.now ≡ Some place }
+        requires accepted { self.old.stopped ≡ false → is_some (difference self.old.description.servers (updated self.old.description (failed address.now error.now)).servers) && true ≡ true → AcceptsClear self.old.pools.cores.items place step.now.moment None error.now }
         ensures same { self.new ≡ self.old }
-        ensures fails { IfOk result (λ stepped. (x : Trouble) → IsOfPool self.old.options x place address.now error.now true Nothing → FailsTo self.old step.now.moment (updated self.old.description (failed address.now error.now)) x self.old.stopped stepped) }
+        ensures fails { IfOk result (λ next. (x : Trouble) → IsOfPool self.old.options x place address.now error.now true Nothing → FailsTo self.old step.now.moment (updated self.old.description (failed address.now error.now)) x self.old.stopped next) }
     {
         if self.stopped {
-            let reply = Reply::Changed(false);
-            return Ok(Stepped::Accepted(Next::of_reply(alloc, reply)));
+            return Ok(Next::of_reply(alloc, Reply::Changed(false)));
         }
-        self.mark(alloc, step, place, address, error, true, Asked::Nothing)
+        self.mark_at(alloc, step, place, address, error, true, Asked::Nothing)
     }
 
     /// The mark with what the check does at the monitors, and its event first.
@@ -52,23 +53,17 @@ impl TopologyCore {
         error: &Error,
         monitoring: Monitoring,
         event: SdamEvent,
-    ) -> Result<Stepped, OutOfMemory>
+    ) -> Result<Next, OutOfMemory>
         requires stands { StandsForSome self.old }
         requires in_time { self.old.pools.last ≤ step.now.moment }
         requires normal { self.old.options.load_balanced ≡ false }
         requires here { at_address self.old.pools.cores.items address.now ≡ Some place }
+        requires accepted { self.old.stopped ≡ false → is_some (difference self.old.description.servers (updated self.old.description (failed address.now error.now)).servers) && true ≡ true → AcceptsClear self.old.pools.cores.items place step.now.moment None error.now }
         ensures same { self.new ≡ self.old }
-        ensures fails { IfOk result (λ stepped. (x : Trouble) → IsOfPool self.old.options x place address.now error.now true Nothing → FailsAs self.old step.now.moment monitoring event (updated self.old.description (failed address.now error.now)) x stepped) }
+        ensures fails { IfOk result (λ next. (x : Trouble) → IsOfPool self.old.options x place address.now error.now true Nothing → FailsAs self.old step.now.moment monitoring event (updated self.old.description (failed address.now error.now)) x next) }
     {
         match self.mark_failed(alloc, step, place, address, error) {
-            Ok(Stepped::Accepted(next)) => {
-                Ok(Stepped::Accepted(next.with_check(alloc, monitoring, event)?))
-            }
-            Ok(Stepped::Refused(why)) => {
-                drop(monitoring);
-                drop(event);
-                Ok(Stepped::Refused(why))
-            }
+            Ok(next) => Ok(next.with_check(alloc, monitoring, event)?),
             Err(e) => {
                 drop(monitoring);
                 drop(event);

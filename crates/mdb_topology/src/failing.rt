@@ -1,6 +1,6 @@
 //! Steps by which a pending connection failed to be established.
 
-ghost use Rattle.std.specs.Prelude.{◌≡◌, ◌≤◌, ◌<◌, ◌&&◌, nat_le, IfOk, List, Some, None, is_some, length, not, slice_get, true, false};
+ghost use Rattle.std.specs.Prelude.{◌≡◌, ◌≤◌, ◌<◌, ◌&&◌, nat_le, IfOk, OnErr, List, Some, None, is_some, length, not, slice_get, true, false};
 ghost use Rattle.mdb_describe.specs.Descriptions.{failed};
 ghost use Rattle.mdb_describe.specs.Differences.{difference};
 ghost use Rattle.mdb_describe.specs.Update.{updated};
@@ -14,13 +14,15 @@ ghost use Rattle.mdb_topology.specs.Current.{establishing};
 ghost use Rattle.mdb_topology.specs.Errors.{case_of};
 ghost use Rattle.mdb_topology.specs.Failing.{is_timely, is_uncleared, clears_after, service_after, asked_after};
 
+use crate::change::Change;
 use crate::complaining::is_hard;
-use crate::marked::{Asked, Marked};
+use crate::marked::Asked;
 use crate::next::{Next, Stepped};
 use crate::topology::TopologyCore;
 use mdb_base::{Error, ObjectId, OutOfMemory, ServerAddress};
 use mdb_describe::TopologyDescription;
-use mdb_log::{FailedAt, Refused, Reply, Step};
+use mdb_events::Fact;
+use mdb_log::{FailedAt, Refused, Reply, Step, What};
 use mdb_pool::PoolCore;
 use std::alloc::Global;
 
@@ -95,11 +97,11 @@ fn is_not_below(pool: &PoolCore, id: u32) -> bool
 impl TopologyCore {
     ghost use Rattle.mdb_log.specs.History.{Item};
     ghost use Rattle.mdb_topology.specs.Description.{updates};
-    ghost use Rattle.mdb_topology.specs.Failing.{is_timely, regards_now, TellsFailure, FailureComes, IsFailing};
-    ghost use Rattle.mdb_topology.specs.Marking.{asked_of};
+    ghost use Rattle.mdb_topology.specs.Failing.{is_timely, regards_now, TellsFailure, FailureTold, IsFailing};
+    ghost use Rattle.mdb_topology.specs.Marking.{asked_of, AcceptsClear};
     ghost use Rattle.mdb_topology.specs.declared.marked.Asked.TheVariants.{Nothing};
     ghost use Rattle.mdb_topology.specs.Standing.{at_address, StandsFor, StandsForSome};
-    ghost use Rattle.mdb_topology.specs.Stepping.{BecomesOf};
+    ghost use Rattle.mdb_topology.specs.Stepping.{BecomesOf, MayWant};
 
     // The connection is of the generation that its pool has.
     fn is_timely(&self, pool: &PoolCore, id: u32, at: FailedAt) -> bool
@@ -148,13 +150,18 @@ impl TopologyCore {
         requires in_time { self.old.pools.last ≤ step.now.moment }
         requires there { place < length self.old.pools.cores.items }
         requires failing { (s : Core) → slice_get self.old.pools.cores.items place ≡ Some s → IsFailing s step.now error.now }
+        requires balanced { is_some service ≡ true → self.old.options.load_balanced ≡ true }
         ensures same { self.new ≡ self.old }
         ensures becomes { IfOk result (λ stepped. (h : List Item) (s : Core) → StandsFor self.old h → slice_get self.old.pools.cores.items place ≡ Some s → TellsFailure self.old.options h step.now s None (is_some service) service error.now Nothing → BecomesOf self.old step.now stepped h) }
+        ensures wants { OnErr result ((h : List Item) (s : Core) → StandsFor self.old h → slice_get self.old.pools.cores.items place ≡ Some s → TellsFailure self.old.options h step.now s None (is_some service) service error.now Nothing → MayWant self.old step.now h) }
     {
+        if self.overspends_service(place, service) {
+            return Ok(Stepped::Refused(Refused::Exhausted(What::Generation)));
+        }
+        let cleared = service.is_some();
         let mut facts = Vec::new(alloc);
         let mut changes = Vec::new(alloc);
-        let cleared = service.is_some();
-        let refused = self.pools.plan_failure(
+        self.pools.plan_failure(
             alloc,
             place,
             step,
@@ -165,18 +172,11 @@ impl TopologyCore {
             &mut facts,
             &mut changes,
         )?;
-        match refused {
-            Some(why) => {
-                drop(facts);
-                drop(changes);
-                Ok(Stepped::Refused(why))
-            }
-            None => Ok(Stepped::Accepted(Next {
-                facts,
-                changes,
-                ..Next::of_reply(alloc, Reply::Done)
-            })),
-        }
+        Ok(Stepped::Accepted(Next {
+            facts,
+            changes,
+            ..Next::of_reply(alloc, Reply::Done)
+        }))
     }
 
     // The mark is told, and the connection fails, after a clear of its pool where something changed and the error clears.
@@ -189,15 +189,16 @@ impl TopologyCore {
         error: &Error,
         clears: bool,
         later: &TopologyDescription,
-    ) -> Result<Marked, OutOfMemory>
+    ) -> Result<(Vec<Fact>, Vec<Change>), OutOfMemory>
         requires stands { StandsForSome self.old }
         requires in_time { self.old.pools.last ≤ step.now.moment }
         requires there { place < length self.old.pools.cores.items }
         requires failing { (s : Core) → slice_get self.old.pools.cores.items place ≡ Some s → IsFailing s step.now error.now }
         requires here { at_address self.old.pools.cores.items address.now ≡ Some place }
         requires marked { later.now ≡ updated self.old.description (failed address.now error.now) }
+        requires accepted { is_some (difference self.old.description.servers later.now.servers) && clears ≡ true → AcceptsClear self.old.pools.cores.items place step.now.moment None error.now }
         ensures same { self.new ≡ self.old }
-        ensures comes { IfOk result (λ marked. FailureComes self.old step.now place later.now error.now clears (asked_after error.now) marked) }
+        ensures told { IfOk result (λ (facts, changes). FailureTold self.old step.now place later.now error.now clears (asked_after error.now) changes.items facts.items) }
     {
         let diff = self.description.diff(alloc, later)?;
         let mut facts = Vec::new(alloc);
@@ -209,7 +210,7 @@ impl TopologyCore {
         let mut changes = Vec::new(alloc);
         let cleared = changed && clears;
         let asked = asked_after(error);
-        let refused = self.pools.plan_failure(
+        self.pools.plan_failure(
             alloc,
             place,
             step,
@@ -220,12 +221,7 @@ impl TopologyCore {
             &mut facts,
             &mut changes,
         )?;
-        if let Some(why) = refused {
-            drop(facts);
-            drop(changes);
-            return Ok(Marked::Refused(why));
-        }
-        Ok(Marked::Told(facts, changes, changed))
+        Ok((facts, changes))
     }
 
     // The server is marked Unknown by the error, and the connection fails.
@@ -239,26 +235,27 @@ impl TopologyCore {
     ) -> Result<Stepped, OutOfMemory>
         requires stands { StandsForSome self.old }
         requires in_time { self.old.pools.last ≤ step.now.moment }
+        requires normal { self.old.options.load_balanced ≡ false }
         requires there { place < length self.old.pools.cores.items }
         requires failing { (s : Core) → slice_get self.old.pools.cores.items place ≡ Some s → IsFailing s step.now error.now }
         requires here { (s : Core) → slice_get self.old.pools.cores.items place ≡ Some s → at_address self.old.pools.cores.items s.address ≡ Some place }
         ensures same { self.new ≡ self.old }
         ensures becomes { IfOk result (λ stepped. (h : List Item) (s : Core) → StandsFor self.old h → slice_get self.old.pools.cores.items place ≡ Some s → TellsFailure self.old.options h step.now s (Some (updates (failed s.address error.now))) (is_some (difference self.old.description.servers (updated self.old.description (failed s.address error.now)).servers) && clears) None error.now (asked_after error.now) → BecomesOf self.old step.now stepped h) }
+        ensures wants { OnErr result ((h : List Item) (s : Core) → StandsFor self.old h → slice_get self.old.pools.cores.items place ≡ Some s → TellsFailure self.old.options h step.now s (Some (updates (failed s.address error.now))) (is_some (difference self.old.description.servers (updated self.old.description (failed s.address error.now)).servers) && clears) None error.now (asked_after error.now) → MayWant self.old step.now h) }
     {
+        if self.overspends(place, self.pools.cores[place].address(), error, clears) {
+            return Ok(Stepped::Refused(Refused::Exhausted(What::Generation)));
+        }
         let address = self.pools.cores[place].address().clone()?;
         let later = self.after_error(alloc, &address, error)?;
-        let marked = self.tell_failure(alloc, step, place, &address, error, clears, &later);
-        match marked {
-            Ok(Marked::Told(facts, changes, _)) => Ok(Stepped::Accepted(Next {
+        let told = self.tell_failure(alloc, step, place, &address, error, clears, &later);
+        match told {
+            Ok((facts, changes)) => Ok(Stepped::Accepted(Next {
                 facts,
                 changes,
                 description: Some(later),
                 ..Next::of_reply(alloc, Reply::Done)
             })),
-            Ok(Marked::Refused(why)) => {
-                drop(later);
-                Ok(Stepped::Refused(why))
-            }
             Err(e) => {
                 drop(later);
                 Err(e)
@@ -283,6 +280,7 @@ impl TopologyCore {
         requires failing { (s : Core) → slice_get self.old.pools.cores.items place ≡ Some s → IsFailing s step.now error.now }
         ensures same { self.new ≡ self.old }
         ensures becomes { IfOk result (λ stepped. (h : List Item) → StandsFor self.old h → BecomesOf self.old step.now stepped h) }
+        ensures wants { OnErr result ((h : List Item) → StandsFor self.old h → MayWant self.old step.now h) }
     {
         if self.leaves_failure(&self.pools.cores[place], id, at, error) {
             return self.fail_unmarked(alloc, step, place, None, error);
@@ -310,6 +308,7 @@ impl TopologyCore {
         requires act { step.now.act ≡ FailedAct number id at error.now }
         ensures same { self.new ≡ self.old }
         ensures becomes { IfOk result (λ stepped. (h : List Item) → StandsFor self.old h → BecomesOf self.old step.now stepped h) }
+        ensures wants { OnErr result ((h : List Item) → StandsFor self.old h → MayWant self.old step.now h) }
     {
         let Some(place) = self.pools.numbered(number) else {
             return Ok(Stepped::Refused(Refused::NotPending));

@@ -15,7 +15,7 @@ use crate::marking::ask;
 use crate::pools::Pools;
 use mdb_base::{Error, ObjectId, OutOfMemory, ServerAddress};
 use mdb_events::{Fact, Held};
-use mdb_log::{Act, Refused, Step};
+use mdb_log::{Act, Step};
 use mdb_pool::PoolCore;
 use mdb_pool::parts::{Answered, prepare};
 use std::alloc::{AllocError, Global};
@@ -77,7 +77,7 @@ fn tell_both(
 impl Pools {
     ghost use Rattle.mdb_topology.specs.Acting.{step_of};
     ghost use Rattle.mdb_topology.specs.Failing.{Fails, IsFailing, PlansAlone, PlansTwo, StillFails};
-    ghost use Rattle.mdb_topology.specs.Marking.{clear_act};
+    ghost use Rattle.mdb_topology.specs.Marking.{AcceptsClear, clear_act};
 
     // The failure alone, after what is asked.
     fn plan_failed(
@@ -131,7 +131,7 @@ impl Pools {
         Ok(())
     }
 
-    /// A pending connection of the pool at the place fails by the step, after a clear by the error where that is wanted. `Some` tells why it cannot be cleared.
+    /// A pending connection of the pool at the place fails by the step, after a clear by the error where that is wanted.
     pub(crate) fn plan_failure(
         &mut self,
         alloc: Global,
@@ -143,26 +143,21 @@ impl Pools {
         asked: Asked,
         facts: &mut Vec<Fact>,
         changes: &mut Vec<Change>,
-    ) -> Result<Option<Refused>, OutOfMemory>
+    ) -> Result<(), OutOfMemory>
         requires there { place < length self.old.cores.items }
         requires failing { (s : Core) → slice_get self.old.cores.items place ≡ Some s → IsFailing s step.now error.now }
         requires still { (s : Core) → slice_get self.old.cores.items place ≡ Some s → StillFails s step.now service error.now }
+        requires accepted { wanted ≡ true → AcceptsClear self.old.cores.items place step.now.moment service error.now }
         ensures same { self.new ≡ self.old }
-        ensures fails { IfOk result (λ why. Fails wanted self.old.cores.items place step.now service error.now asked changes.old.items changes.new.items facts.old.items facts.new.items why) }
+        ensures fails { OnOk result (Fails wanted self.old.cores.items place step.now service error.now asked changes.old.items changes.new.items facts.old.items facts.new.items) }
     {
         if !wanted {
-            self.plan_failed(alloc, place, step, error, asked, facts, changes)?;
-            return Ok(None);
+            return self.plan_failed(alloc, place, step, error, asked, facts, changes);
         }
         let error = Held::copy_of(alloc, error)?;
         let act = Act::Clear(self.cores[place].number(), service, error);
         let moment = step.moment;
         let clear = Step { moment, act };
-        if let Some(why) = self.cores[place].refusal_now(&clear) {
-            drop(clear);
-            return Ok(Some(why));
-        }
-        self.plan_both(alloc, place, clear, step, asked, facts, changes)?;
-        Ok(None)
+        self.plan_both(alloc, place, clear, step, asked, facts, changes)
     }
 }

@@ -2,7 +2,6 @@
 
 use crate::change::Change;
 use mdb_events::Fact;
-use mdb_log::Refused;
 
 /// What the monitor of a server is asked after an error.
 #[derive(Drop)]
@@ -16,9 +15,9 @@ pub enum Asked {
 
 /// What an error about a server comes to that is marked Unknown.
 #[derive(Drop)]
-pub enum Marked {
-    /// A generation is at its limit.
-    Refused(Refused),
-    /// The facts, the changes of pools, and whether something known changed.
-    Told(Vec<Fact>, Vec<Change>, bool),
+pub struct Marked {
+    pub facts: Vec<Fact>,
+    pub changes: Vec<Change>,
+    /// Something known changed.
+    pub changed: bool,
 }

@@ -1,9 +1,10 @@
 //! An error marks a server Unknown, clears its pool, and asks something of its monitor.
 
-ghost use Rattle.std.specs.Prelude.{◌≡◌, ◌≤◌, ◌++◌, [], IfOk, IfSome, OnOk, List, Some, length, true, false};
+ghost use Rattle.std.specs.Prelude.{◌≡◌, ◌≤◌, ◌<◌, ◌++◌, ◌&&◌, [], IfOk, IfSome, OnOk, OnErr, List, None, Some, is_some, length, slice_get, true, false};
 ghost use Rattle.mdb_describe.specs.Descriptions.{failed};
 ghost use Rattle.mdb_describe.specs.Differences.{difference, AreInOrder, are_in_both};
 ghost use Rattle.mdb_describe.specs.Update.{updated};
+ghost use Rattle.mdb_pool.specs.Core.{PoolCore as Core};
 ghost use Rattle.mdb_topology.specs.Marking.{asked_of};
 ghost use Rattle.mdb_topology.specs.Publishing.{telling};
 ghost use Rattle.mdb_topology.specs.Touching.{touched_by};
@@ -15,7 +16,7 @@ use crate::topology::TopologyCore;
 use mdb_base::{Error, Moment, OutOfMemory, ServerAddress};
 use mdb_describe::{Diff, TopologyDescription};
 use mdb_events::Fact;
-use mdb_log::{Reply, Step};
+use mdb_log::{Refused, Reply, Step, What};
 use std::alloc::{AllocError, Global};
 
 /// The monitor of the address is asked.
@@ -37,7 +38,7 @@ pub(crate) fn ask(
 
 impl TopologyCore {
     ghost use Rattle.mdb_topology.specs.Errors.{Trouble};
-    ghost use Rattle.mdb_topology.specs.Marking.{IsOfPool, MarkComes, MarksTo};
+    ghost use Rattle.mdb_topology.specs.Marking.{AcceptsClear, IsMarked, IsOfPool, MarkPasses, MarkTold, MarksTo};
     ghost use Rattle.mdb_topology.specs.Planned.{PlansMore};
     ghost use Rattle.mdb_topology.specs.Standing.{at_address, StandsForSome};
 
@@ -75,7 +76,7 @@ impl TopologyCore {
         }
     }
 
-    // What the mark comes to, with the clear and what is asked.
+    // What the mark tells, with the clear and what is asked.
     fn tell_mark(
         &mut self,
         alloc: Global,
@@ -92,8 +93,9 @@ impl TopologyCore {
         requires normal { self.old.options.load_balanced ≡ false }
         requires here { at_address self.old.pools.cores.items address.now ≡ Some place }
         requires marked { later.now ≡ updated self.old.description (failed address.now error.now) }
+        requires accepted { is_some (difference self.old.description.servers later.now.servers) && clears ≡ true → AcceptsClear self.old.pools.cores.items place step.now.moment None error.now }
         ensures same { self.new ≡ self.old }
-        ensures comes { IfOk result (λ marked. (x : Trouble) → IsOfPool self.old.options x place address.now error.now clears asked → MarkComes self.old step.now.moment later.now x marked) }
+        ensures told { IfOk result (λ marked. (x : Trouble) → IsOfPool self.old.options x place address.now error.now clears asked → MarkTold self.old step.now.moment later.now x marked.facts.items marked.changes.items marked.changed) }
     {
         let diff = self.description.diff(alloc, later)?;
         let mut facts = Vec::new(alloc);
@@ -104,7 +106,7 @@ impl TopologyCore {
         let changed = diff.is_some();
         drop(diff);
         let cleared = changed && clears;
-        let refused = self.pools.plan_clear(
+        self.pools.plan_clear(
             alloc,
             moment,
             cleared,
@@ -114,17 +116,16 @@ impl TopologyCore {
             &mut facts,
             &mut changes,
         )?;
-        if let Some(why) = refused {
-            drop(facts);
-            drop(changes);
-            return Ok(Marked::Refused(why));
-        }
         ask(&mut facts, asked, cleared, address)?;
-        Ok(Marked::Told(facts, changes, changed))
+        Ok(Marked {
+            facts,
+            changes,
+            changed,
+        })
     }
 
-    /// The server of the address, whose pool stands at the place, is marked Unknown by the error. Where that changes something, and the error clears, its pool is cleared.
-    pub(crate) fn mark(
+    /// The server of the address, whose pool stands at the place, is marked Unknown by the error.
+    pub(crate) fn mark_at(
         &mut self,
         alloc: Global,
         step: &Step,
@@ -133,31 +134,56 @@ impl TopologyCore {
         error: &Error,
         clears: bool,
         asked: Asked,
-    ) -> Result<Stepped, OutOfMemory>
+    ) -> Result<Next, OutOfMemory>
         requires stands { StandsForSome self.old }
         requires in_time { self.old.pools.last ≤ step.now.moment }
         requires normal { self.old.options.load_balanced ≡ false }
         requires here { at_address self.old.pools.cores.items address.now ≡ Some place }
+        requires accepted { is_some (difference self.old.description.servers (updated self.old.description (failed address.now error.now)).servers) && clears ≡ true → AcceptsClear self.old.pools.cores.items place step.now.moment None error.now }
         ensures same { self.new ≡ self.old }
-        ensures marks { IfOk result (λ stepped. (x : Trouble) → IsOfPool self.old.options x place address.now error.now clears asked → MarksTo self.old step.now.moment (updated self.old.description (failed address.now error.now)) x stepped) }
+        ensures marked { IfOk result (λ next. (x : Trouble) → IsOfPool self.old.options x place address.now error.now clears asked → IsMarked self.old step.now.moment (updated self.old.description (failed address.now error.now)) x next) }
     {
         let later = self.after_error(alloc, address, error)?;
         let marked = self.tell_mark(alloc, step, place, address, error, clears, asked, &later);
         match marked {
-            Ok(Marked::Told(facts, changes, changed)) => Ok(Stepped::Accepted(Next {
-                facts,
-                changes,
+            Ok(marked) => Ok(Next {
+                facts: marked.facts,
+                changes: marked.changes,
                 description: Some(later),
-                ..Next::of_reply(alloc, Reply::Changed(changed))
-            })),
-            Ok(Marked::Refused(why)) => {
-                drop(later);
-                Ok(Stepped::Refused(why))
-            }
+                ..Next::of_reply(alloc, Reply::Changed(marked.changed))
+            }),
             Err(e) => {
                 drop(later);
                 Err(e)
             }
         }
+    }
+
+    /// The server whose pool stands at the place is marked Unknown by the error. Where that changes something, and the error clears, its pool is cleared. That the generation of the pool is at its
+    /// limit is found before anything is made.
+    pub(crate) fn mark(
+        &mut self,
+        alloc: Global,
+        step: &Step,
+        place: usize,
+        error: &Error,
+        clears: bool,
+        asked: Asked,
+    ) -> Result<Stepped, OutOfMemory>
+        requires stands { StandsForSome self.old }
+        requires in_time { self.old.pools.last ≤ step.now.moment }
+        requires normal { self.old.options.load_balanced ≡ false }
+        requires there { place < length self.old.pools.cores.items }
+        requires here { (s : Core) → slice_get self.old.pools.cores.items place ≡ Some s → at_address self.old.pools.cores.items s.address ≡ Some place }
+        ensures same { self.new ≡ self.old }
+        ensures marks { IfOk result (λ stepped. (s : Core) (x : Trouble) → slice_get self.old.pools.cores.items place ≡ Some s → IsOfPool self.old.options x place s.address error.now clears asked → MarksTo self.old step.now.moment (updated self.old.description (failed s.address error.now)) x stepped) }
+        ensures spares { OnErr result ((s : Core) (x : Trouble) → slice_get self.old.pools.cores.items place ≡ Some s → IsOfPool self.old.options x place s.address error.now clears asked → MarkPasses self.old step.now.moment (updated self.old.description (failed s.address error.now)) x None) }
+    {
+        if self.overspends(place, self.pools.cores[place].address(), error, clears) {
+            return Ok(Stepped::Refused(Refused::Exhausted(What::Generation)));
+        }
+        let address = self.pools.cores[place].address().clone()?;
+        let next = self.mark_at(alloc, step, place, &address, error, clears, asked)?;
+        Ok(Stepped::Accepted(next))
     }
 }

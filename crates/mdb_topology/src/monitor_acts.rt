@@ -1,6 +1,6 @@
 //! The acts of monitors, and of watchers who ask for a check.
 
-ghost use Rattle.std.specs.Prelude.{◌≡◌, ◌≤◌, ◌<◌, IfOk, IfSome, is_some, length, List};
+ghost use Rattle.std.specs.Prelude.{◌≡◌, ◌≤◌, ◌<◌, IfOk, IfSome, OnErr, is_some, length, List};
 ghost use Rattle.mdb_log.specs.declared.step.Act.TheVariants.{Rtt as RttAct, Want as WantAct, Unwant as UnwantAct};
 
 use crate::monitoring::Monitoring;
@@ -16,7 +16,7 @@ impl TopologyCore {
     ghost use Rattle.mdb_log.specs.History.{Item};
     ghost use Rattle.mdb_monitor.specs.declared.monitor.MonitorCore.{MonitorCore};
     ghost use Rattle.mdb_topology.specs.Standing.{StandsFor, StandsForSome};
-    ghost use Rattle.mdb_topology.specs.Stepping.{is_here_among, BecomesOf};
+    ghost use Rattle.mdb_topology.specs.Stepping.{is_here_among, BecomesOf, MayWant};
     ghost use Rattle.mdb_topology.specs.Checking.{Measures};
 
     // The place of the monitor of the pool, where that is the open one of the address.
@@ -55,6 +55,7 @@ impl TopologyCore {
         requires in_time { self.now.pools.last ≤ step.now.moment }
         requires act { step.now.act ≡ RttAct address.now pool sample }
         ensures becomes { IfOk result (λ stepped. (h : List Item) → StandsFor self.now h → BecomesOf self.now step.now stepped h) }
+        ensures wants { OnErr result ((h : List Item) → StandsFor self.now h → MayWant self.now step.now h) }
     {
         if self.options.load_balanced {
             return Ok(Stepped::Refused(Refused::WrongMode));
@@ -80,6 +81,7 @@ impl TopologyCore {
         requires in_time { self.now.pools.last ≤ step.now.moment }
         requires act { step.now.act ≡ WantAct watcher }
         ensures becomes { IfOk result (λ stepped. (h : List Item) → StandsFor self.now h → BecomesOf self.now step.now stepped h) }
+        ensures wants { OnErr result ((h : List Item) → StandsFor self.now h → MayWant self.now step.now h) }
     {
         let mut watchers = self.watchers.clone()?;
         match watchers.want(alloc, watcher) {
@@ -104,6 +106,7 @@ impl TopologyCore {
         requires in_time { self.now.pools.last ≤ step.now.moment }
         requires act { step.now.act ≡ UnwantAct watcher }
         ensures becomes { IfOk result (λ stepped. (h : List Item) → StandsFor self.now h → BecomesOf self.now step.now stepped h) }
+        ensures wants { OnErr result ((h : List Item) → StandsFor self.now h → MayWant self.now step.now h) }
     {
         let mut watchers = self.watchers.clone()?;
         let count = watchers.unwant(watcher);

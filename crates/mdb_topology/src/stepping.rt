@@ -90,7 +90,8 @@ impl TopologyCore {
     ghost use Rattle.mdb_topology.specs.Checking.{monitors_after, numbers_after, watchers_after, IsPlaced};
     ghost use Rattle.mdb_topology.specs.Finding.{is_pool_act};
     ghost use Rattle.mdb_topology.specs.Logging.{IsDriverOf};
-    ghost use Rattle.mdb_topology.specs.Stepping.{is_topology_act, BecomesOf, Follows, FollowsSome, Logs};
+    ghost use Rattle.mdb_topology.specs.Refusal.{may_want, refusal};
+    ghost use Rattle.mdb_topology.specs.Stepping.{is_topology_act, BecomesOf, Follows, FollowsSome, Logs, MayWant};
 
     // Room for the pools and monitors that come, and the number of publications afterwards.
     fn make_room(&mut self, next: &Next) -> Result<u64, OutOfMemory>
@@ -217,6 +218,7 @@ impl TopologyCore {
         requires act { is_topology_act step.now.act ≡ true }
         ensures same { self.new ≡ self.old }
         ensures becomes { IfOk result (λ stepped. (h : List Item) → StandsFor self.old h → BecomesOf self.old step.now stepped h) }
+        ensures wants { OnErr result ((h : List Item) → StandsFor self.old h → MayWant self.old step.now h) }
     {
         match &step.act {
             Act::Hello(address, pool, HelloResult::Ok(rtt, reply)) => {
@@ -250,6 +252,7 @@ impl TopologyCore {
         requires act { is_pool_act step.now.act ≡ true }
         ensures same { self.new ≡ self.old }
         ensures becomes { IfOk result (λ stepped. (h : List Item) → StandsFor self.old h → BecomesOf self.old step.now stepped h) }
+        ensures wants { OnErr result ((h : List Item) → StandsFor self.old h → MayWant self.old step.now h) }
     {
         match self.pools.act(alloc, step)? {
             Outcome::Refused(why) => Ok(Stepped::Refused(why)),
@@ -266,6 +269,7 @@ impl TopologyCore {
         requires act { IsDriverAct step.now.act }
         ensures same { self.new ≡ self.old }
         ensures becomes { IfOk result (λ stepped. (h : List Item) → StandsFor self.old h → BecomesOf self.old step.now stepped h) }
+        ensures wants { OnErr result ((h : List Item) → StandsFor self.old h → MayWant self.old step.now h) }
     {
         if step.moment < self.pools.last {
             return Ok(Stepped::Refused(Refused::TimeBack(self.pools.last)));
@@ -274,6 +278,25 @@ impl TopologyCore {
             return self.pool_act(alloc, step);
         }
         self.topology_act(alloc, step)
+    }
+
+    /// Why the driver would refuse the step, `None` where it would accept it. Nothing changes. The answer is `OutOfMemory` only where the step would not be refused, where by a reply more than 128 servers
+    /// would be known or a pool would come whose number is past the limit (that shows only in what would be known then), or where a check begins over a connection whose number is. Any other refused step
+    /// is lost for want of memory for its entry in the log alone.
+    pub fn refusal(&mut self, alloc: Global, step: &Step) -> Result<Option<Refused>, OutOfMemory>
+        requires stands { StandsForSome self.old }
+        requires act { IsDriverAct step.now.act }
+        ensures same { self.new ≡ self.old }
+        ensures why { IfOk result (λ why. (h : List Item) → StandsFor self.old h → why ≡ refusal self.old.options h step.now) }
+        ensures wants { OnErr result ((h : List Item) → StandsFor self.old h → may_want self.old.options h step.now ≡ true) }
+    {
+        match self.becomes(alloc, step)? {
+            Stepped::Refused(why) => Ok(Some(why)),
+            Stepped::Accepted(next) => {
+                drop(next);
+                Ok(None)
+            }
+        }
     }
 
     // One step: the log gets its entry, or driver and log are as before.

@@ -1,6 +1,6 @@
 //! The acts that concern the topology as a whole.
 
-ghost use Rattle.std.specs.Prelude.{◌≡◌, ◌≤◌, ◌++◌, ◌∷◌, ◌||◌, not, [], IfOk, OnOk, List};
+ghost use Rattle.std.specs.Prelude.{◌≡◌, ◌≤◌, ◌++◌, ◌∷◌, ◌||◌, not, [], IfOk, OnOk, OnErr, List};
 ghost use Rattle.mdb_topology.specs.Publishing.{topology_closed_fact};
 ghost use Rattle.mdb_log.specs.declared.step.Act.TheVariants.{Hello as HelloAct, Hosts as HostsAct, ClusterTime as TimeAct, Stop as StopAct};
 ghost use Rattle.mdb_log.specs.declared.checked.HelloResult.TheVariants.{Ok as Replied};
@@ -19,7 +19,7 @@ impl TopologyCore {
     ghost use Rattle.mdb_log.specs.History.{Item};
     ghost use Rattle.mdb_topology.specs.Standing.{StandsFor, StandsForSome};
     ghost use Rattle.mdb_srv.specs.Polling.{is_polled};
-    ghost use Rattle.mdb_topology.specs.Stepping.{is_here_among, BecomesOf};
+    ghost use Rattle.mdb_topology.specs.Stepping.{is_here_among, BecomesOf, MayWant};
 
     // A reply for the pool makes nothing known: the driver was stopped, or the pool is not the open one of the address.
     pub(crate) fn leaves_reply(&self, address: &ServerAddress, pool: u32) -> bool
@@ -50,6 +50,7 @@ impl TopologyCore {
         requires act { step.now.act ≡ HelloAct address.now pool (Replied rtt reply.now) }
         ensures same { self.new ≡ self.old }
         ensures becomes { IfOk result (λ stepped. (h : List Item) → StandsFor self.old h → BecomesOf self.old step.now stepped h) }
+        ensures wants { OnErr result ((h : List Item) → StandsFor self.old h → MayWant self.old step.now h) }
     {
         if self.options.load_balanced {
             return Ok(Stepped::Refused(Refused::WrongMode));
@@ -74,10 +75,14 @@ impl TopologyCore {
         requires act { step.now.act ≡ HostsAct hosts.now }
         ensures same { self.new ≡ self.old }
         ensures becomes { IfOk result (λ stepped. (h : List Item) → StandsFor self.old h → BecomesOf self.old step.now stepped h) }
+        ensures wants { OnErr result ((h : List Item) → StandsFor self.old h → MayWant self.old step.now h) }
     {
         if self.leaves_hosts() {
             let reply = Reply::Changed(false);
             return Ok(Stepped::Accepted(Next::of_reply(alloc, reply)));
+        }
+        if let Some(what) = self.exhausted_by(hosts) {
+            return Ok(Stepped::Refused(Refused::Exhausted(what)));
         }
         let later = self.after_hosts(alloc, hosts)?;
         self.change(alloc, step, later)
@@ -93,6 +98,7 @@ impl TopologyCore {
         requires in_time { self.now.pools.last ≤ step.now.moment }
         requires act { step.now.act ≡ TimeAct time }
         ensures becomes { IfOk result (λ stepped. (h : List Item) → StandsFor self.now h → BecomesOf self.now step.now stepped h) }
+        ensures wants { OnErr result ((h : List Item) → StandsFor self.now h → MayWant self.now step.now h) }
     {
         if self.stopped {
             return Ok(Stepped::Accepted(Next::of_reply(alloc, Reply::Done)));
@@ -121,6 +127,7 @@ impl TopologyCore {
         requires act { step.now.act ≡ StopAct }
         ensures same { self.new ≡ self.old }
         ensures becomes { IfOk result (λ stepped. (h : List Item) → StandsFor self.old h → BecomesOf self.old step.now stepped h) }
+        ensures wants { OnErr result ((h : List Item) → StandsFor self.old h → MayWant self.old step.now h) }
     {
         if self.stopped {
             return Ok(Stepped::Accepted(Next {

@@ -5,6 +5,7 @@ use Rattle.mdb_log.specs.declared.step.Step.{Step}
 use Rattle.mdb_pool.specs.Core.{PoolCore}
 use Rattle.mdb_pool.specs.Parts.{Plans, IsPlanOf, LeadsTo}
 use Rattle.mdb_pool.specs.Refusing.{refusal_now}
+use Rattle.mdb_topology.proofs.Spent.{after-any}
 use Rattle.mdb_topology.proofs.Told.{takes-act, one-takes, some-told, done-told}
 use Rattle.mdb_topology.proofs.asking.ask_at.Goals as goal
 
@@ -30,3 +31,6 @@ returns-clause-asked c =
       λ t p. done-told s t c.args.step.now c.pop.new.self.items c.in_ok-answers.answers.items c.in-Some-pop.told n c.in-Some-pop.ensures.items
           (subst (λ steps. LeadsTo s t steps c.in_ok-answers.answers.items) c.from_ref.ensures.value (c.in_ok-answers.ensures.does t (subst (λ (v : PoolCore). Plans c.in_ok-answers.plan v t) (sym c.in_ok-answers.ensures.same) p))),
     )
+
+pub returns-in_err-answers-clause-wants : goal.returns-in_err-answers-clause-wants
+returns-in_err-answers-clause-wants c = after-any _ _ (sym c.refusal_now.ensures.kept ∙ c.in_default.is)

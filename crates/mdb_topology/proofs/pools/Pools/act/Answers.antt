@@ -1,7 +1,8 @@
 use Rattle.std.proofs.Common.{sym, ◌∙◌}
-use Rattle.std.proofs.lemmas.Result.{IfOk-weaker}
+use Rattle.std.proofs.lemmas.Result.{IfOk-weaker, on_err_weaker}
 use Rattle.mdb_topology.proofs.Placed.{place-within}
-use Rattle.mdb_topology.proofs.Performed.{ready-lacking, ready-asked, performs-lacking, performs-known, performs-asked}
+use Rattle.mdb_topology.proofs.Performed.{ready-lacking, ready-asked, performs-lacking, performs-known, performs-asked, asked-spared}
+use Rattle.mdb_topology.proofs.Spent.{some-of}
 use Rattle.mdb_topology.proofs.pools.Pools.act.Goals as goal
 
 pub returns-in_default-clause-ready : goal.returns-in_default-clause-ready
@@ -22,3 +23,12 @@ returns-clause-ready c = IfOk-weaker c.ask.result _ _ (λ outcome a. ready-asked
 pub returns-clause-performs : goal.returns-clause-performs
 returns-clause-performs c = IfOk-weaker c.ask.result _ _ (λ outcome a o h z last few. performs-asked o c.args.self.now.cores.items h z c.args.self.now.last last few c.args.step.now c.requires.act c.requires.in_time c.in-Some.index (sym c.place_of.ensures ∙ c.in-Some.is) c.requires.early
     (sym c.names_known.ensures ∙ c.if-names_known.false) outcome a) c.ask.ensures.asked
+
+pub returns-clause-wants : goal.returns-clause-wants
+returns-clause-wants c =
+    let pools = c.args.self.now.cores.items in
+    let i = c.in-Some.index in
+    let at = sym c.place_of.ensures ∙ c.in-Some.is in
+    let own = some-of pools i (place-within pools c.args.step.now.act i at) in
+    on_err_weaker c.ask.result (λ e o h z last few. asked-spared o pools h z c.args.self.now.last last few c.args.step.now c.requires.act c.requires.in_time i at c.requires.early
+    (sym c.names_known.ensures ∙ c.if-names_known.false) own.0 own.1 (e own.0 own.1)) c.ask.ensures.wants

@@ -1,13 +1,13 @@
 use Rattle.std.proofs.Common.{◌≡◌, length, Some, None, refl, sym, ◌∙◌, ap, subst}
 use Rattle.std.specs.Prelude.{slice_get}
 use Rattle.std.proofs.lemmas.Option.{slice_get_read}
+use Rattle.std.proofs.lemmas.Result.{on_ok_weaker}
 use Rattle.mdb_log.specs.Acts.{IsPoolAct}
 use Rattle.mdb_log.specs.declared.step.Act.{Act}
 use Rattle.mdb_log.specs.declared.step.Act.TheVariants.{Clear as ClearAct}
 use Rattle.mdb_pool.specs.Core.{PoolCore}
 use Rattle.mdb_pool.specs.Parts.{IsDone}
 use Rattle.mdb_pool.specs.Refusing.{refusal_now}
-use Rattle.mdb_topology.specs.Acting.{step_of}
 use Rattle.mdb_topology.specs.Failing.{Fails, PlansTwo}
 use Rattle.mdb_topology.specs.Marking.{clear_act}
 use Rattle.mdb_topology.proofs.Places.{some-same}
@@ -26,10 +26,11 @@ pub plan_both-requires-clause-accepted : goal.plan_both-requires-clause-accepted
 plan_both-requires-clause-accepted c = λ s at.
     let pools = c.args.self.now.cores.items in
     let i = c.args.place in
-    let p = c.index-2.result.now in
-    let at_i : slice_get pools i ≡ Some p = slice_get_read pools (length pools) i p refl c.requires.there c.index-2.ensures in
-    subst (λ (u : PoolCore). refusal_now u (record { moment = c.args.step.now.moment; act = ClearAct c.number.result c.args.service c.in_ok-error.error }) ≡ None) (some-same p s (slice_get pools i) at_i at)
-    (sym c.refusal_now.ensures.kept ∙ c.in_default.is)
+    let p = c.index.result.now in
+    let at_i : slice_get pools i ≡ Some p = slice_get_read pools (length pools) i p refl c.requires.there c.index.ensures in
+    let same : ClearAct c.number.result c.args.service c.in_ok-error.error ≡ clear_act c.args.service c.args.error.now s.pool =
+    ap (λ n. ClearAct n c.args.service c.in_ok-error.error) (c.number.ensures ∙ ap (λ (x : PoolCore). x.pool) (some-same p s (slice_get pools i) at_i at)) ∙ ap (λ e. ClearAct s.pool c.args.service e) c.in_ok-error.ensures in
+    subst (λ (x : Act). refusal_now s (record { moment = c.args.step.now.moment; act = x }) ≡ None) (sym same) (c.requires.accepted c.if-not-wanted.false s at)
 
 pub plan_both-requires-clause-still : goal.plan_both-requires-clause-still
 plan_both-requires-clause-still c = λ s at t a d.
@@ -41,10 +42,15 @@ plan_both-requires-clause-still c = λ s at t a d.
     ap (λ n. ClearAct n c.args.service c.in_ok-error.error) (c.number.ensures ∙ ap (λ (x : PoolCore). x.pool) (some-same p s (slice_get pools i) at_i at)) ∙ ap (λ e. ClearAct s.pool c.args.service e) c.in_ok-error.ensures in
     c.requires.still s at t a (subst (λ (x : Act). IsDone s t (record { moment = c.args.step.now.moment; act = x }) a) same d)
 
+pub returns-then-not-wanted-clause-fails : goal.returns-then-not-wanted-clause-fails
+returns-then-not-wanted-clause-fails c =
+    let pools = c.args.self.now.cores.items in
+    on_ok_weaker c.plan_failed.result (λ planned.
+    subst (λ b. Fails b pools c.args.place c.args.step.now c.args.service c.args.error.now c.args.asked c.args.changes.now.items c.plan_failed.new.changes.items c.args.facts.now.items c.plan_failed.new.facts.items) (sym c.if-not-wanted.true) planned) c.plan_failed.ensures.planned
+
 pub returns-clause-fails : goal.returns-clause-fails
 returns-clause-fails c =
     let pools = c.args.self.now.cores.items in
-    let m = c.args.step.now.moment in
     let i = c.args.place in
     let p = c.index.result.now in
     let before = c.args.facts.now.items in
@@ -54,15 +60,9 @@ returns-clause-fails c =
     let at_i : slice_get pools i ≡ Some p = slice_get_read pools (length pools) i p refl c.requires.there c.index.ensures in
     let one : Act = ClearAct c.number.result c.args.service c.in_ok-error.error in
     let same : one ≡ clear_act c.args.service c.args.error.now p.pool = ap (λ n. ClearAct n c.args.service c.in_ok-error.error) c.number.ensures ∙ ap (λ e. ClearAct p.pool c.args.service e) c.in_ok-error.ensures in
+    on_ok_weaker c.plan_both.result (λ planned.
     let d : PlansTwo pools i (clear_act c.args.service c.args.error.now) c.args.step.now c.args.asked earlier changes before after =
     two-as pools i one (clear_act c.args.service c.args.error.now) c.args.step.now c.args.asked earlier changes before after
-    (λ x get. same ∙ ap (λ (y : PoolCore). clear_act c.args.service c.args.error.now y.pool) (some-same p x (slice_get pools i) at_i get)) c.in_ok-plan_both.ensures.planned in
-    let accepted : refusal_now p (step_of m (clear_act c.args.service c.args.error.now) p.pool) ≡ None =
-    let t = c.index-2.result.now in
-    let at_t : slice_get pools i ≡ Some t = slice_get_read pools (length pools) i t refl c.requires.there c.index-2.ensures in
-    let raw : refusal_now t (record { moment = m; act = one }) ≡ None = sym c.refusal_now.ensures.kept ∙ c.in_default.is in
-    subst (λ (u : PoolCore). refusal_now u (step_of m (clear_act c.args.service c.args.error.now) p.pool) ≡ None) (some-same t p (slice_get pools i) at_t at_i)
-    (subst (λ a. refusal_now t (record { moment = m; act = a }) ≡ None) same raw)
-    in
-    subst (λ b. Fails b pools i c.args.step.now c.args.service c.args.error.now c.args.asked earlier changes before after None) (sym c.if-not-wanted.false)
-    (d, subst (λ (x : PoolCore). refusal_now x (step_of m (clear_act c.args.service c.args.error.now) x.pool) ≡ None) (some-same p d.pool (slice_get pools i) at_i d.there) accepted)
+    (λ x get. same ∙ ap (λ (y : PoolCore). clear_act c.args.service c.args.error.now y.pool) (some-same p x (slice_get pools i) at_i get)) planned in
+    subst (λ b. Fails b pools i c.args.step.now c.args.service c.args.error.now c.args.asked earlier changes before after) (sym c.if-not-wanted.false)
+    (d, c.requires.accepted c.if-not-wanted.false d.pool d.there)) c.plan_both.ensures.planned

@@ -1,7 +1,7 @@
 use Rattle.std.proofs.Common.{◌≡◌, ◌&&◌, length, Some, None, is_some, refl, sym, ◌∙◌, subst}
 use Rattle.std.specs.Prelude.{slice_get}
 use Rattle.std.proofs.lemmas.Option.{slice_get_read}
-use Rattle.std.proofs.lemmas.Result.{IfOk-weaker}
+use Rattle.std.proofs.lemmas.Result.{IfOk-weaker, on_err_weaker}
 use Rattle.mdb_pool.specs.Core.{PoolCore}
 use Rattle.mdb_pool.specs.Kept.{connection_at}
 use Rattle.mdb_pool.proofs.Items.{both-true}
@@ -85,3 +85,57 @@ returns-clause-becomes c =
     IfOk-weaker c.fail_marked.result _ _ (λ stepped g h z. g h s z there
     (subst (λ b. TellsFailure w.options h step s (Some (updates (failed s.address e))) (is_some (difference w.description.servers (updated w.description (failed s.address e)).servers) && b) None e (asked_after e)) (sym clears)
     (at-mark w h z step c.requires.in_time i s there e c.args.id c.args.at c.requires.act live.0 live.1 d both.0 c.if-self.false both.1))) c.fail_marked.ensures.becomes
+
+pub returns-then-leaves_failure-clause-wants : goal.returns-then-leaves_failure-clause-wants
+returns-then-leaves_failure-clause-wants c =
+    let w = c.args.self.now in
+    let pools = w.pools.cores.items in
+    let i = c.args.place in
+    let step = c.args.step.now in
+    let e = c.args.error.now in
+    let s = c.index.result.now in
+    let there : slice_get pools i ≡ Some s = slice_get_read pools (length pools) i s refl c.requires.there c.index.ensures in
+    let d = c.requires.failing s there in
+    let live = live-at w c.requires.stands i s there step e d c.args.id c.args.at c.requires.act in
+    let left = not-back _ (sym (c.leaves_failure.ensures live.0 live.1) ∙ c.if-leaves_failure.true) in
+    on_err_weaker c.fail_unmarked.result (λ g h z. g h s z there (at-nothing w h z step c.requires.in_time i s there e c.args.id c.args.at c.requires.act live.0 live.1 d left)) c.fail_unmarked.ensures.wants
+
+pub returns-then-self-clause-wants : goal.returns-then-self-clause-wants
+returns-then-self-clause-wants c =
+    let w = c.args.self.now in
+    let pools = w.pools.cores.items in
+    let i = c.args.place in
+    let step = c.args.step.now in
+    let e = c.args.error.now in
+    let s = c.index.result.now in
+    let there : slice_get pools i ≡ Some s = slice_get_read pools (length pools) i s refl c.requires.there c.index.ensures in
+    let d = c.requires.failing s there in
+    let live = live-at w c.requires.stands i s there step e d c.args.id c.args.at c.requires.act in
+    let both = both-true _ _ (not-front _ (sym (c.leaves_failure.ensures live.0 live.1) ∙ c.if-leaves_failure.false)) in
+    let p = c.index-then-self.result.now in
+    let at_p : slice_get pools i ≡ Some p = slice_get_read pools (length pools) i p refl c.requires.there c.index-then-self.ensures in
+    let service : c.service_after-service.result ≡ service_after live.0 c.args.at e =
+    c.service_after-service.ensures live.0 (subst (λ (u : PoolCore). connection_at u c.args.id ≡ Some live.0) (some-same s p (slice_get pools i) there at_p) live.1) in
+    on_err_weaker c.fail_unmarked-then-self.result (λ g h z. g h s z there
+    (subst (λ y. TellsFailure w.options h step s None (is_some y) y e Nothing) (sym service)
+    (at-service w h z step c.requires.in_time i s there e c.args.id c.args.at c.requires.act live.0 live.1 d both.0 c.if-self.true both.1))) c.fail_unmarked-then-self.ensures.wants
+
+pub returns-clause-wants : goal.returns-clause-wants
+returns-clause-wants c =
+    let w = c.args.self.now in
+    let pools = w.pools.cores.items in
+    let i = c.args.place in
+    let step = c.args.step.now in
+    let e = c.args.error.now in
+    let s = c.index.result.now in
+    let there : slice_get pools i ≡ Some s = slice_get_read pools (length pools) i s refl c.requires.there c.index.ensures in
+    let d = c.requires.failing s there in
+    let live = live-at w c.requires.stands i s there step e d c.args.id c.args.at c.requires.act in
+    let both = both-true _ _ (not-front _ (sym (c.leaves_failure.ensures live.0 live.1) ∙ c.if-leaves_failure.false)) in
+    let p = c.index-2.result.now in
+    let at_p : slice_get pools i ≡ Some p = slice_get_read pools (length pools) i p refl c.requires.there c.index-2.ensures in
+    let clears : c.clears_after-clears.result ≡ clears_after live.0 e =
+    c.clears_after-clears.ensures live.0 (subst (λ (u : PoolCore). connection_at u c.args.id ≡ Some live.0) (some-same s p (slice_get pools i) there at_p) live.1) in
+    on_err_weaker c.fail_marked.result (λ g h z. g h s z there
+    (subst (λ b. TellsFailure w.options h step s (Some (updates (failed s.address e))) (is_some (difference w.description.servers (updated w.description (failed s.address e)).servers) && b) None e (asked_after e)) (sym clears)
+    (at-mark w h z step c.requires.in_time i s there e c.args.id c.args.at c.requires.act live.0 live.1 d both.0 c.if-self.false both.1))) c.fail_marked.ensures.wants

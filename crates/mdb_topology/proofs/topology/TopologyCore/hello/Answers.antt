@@ -1,4 +1,4 @@
-use Rattle.std.proofs.Common.{◌∙◌, [], None, false, sym, subst, refl}
+use Rattle.std.proofs.Common.{◌∙◌, [], None, false, sym, subst, refl, ◌≡◌, true}
 use Rattle.std.proofs.lemmas.Result.{IfOk-weaker}
 use Rattle.mdb_log.specs.declared.reply.Reply.TheVariants.{Changed}
 use Rattle.mdb_describe.specs.Descriptions.{from_reply}
@@ -7,9 +7,14 @@ use Rattle.mdb_topology.specs.Monitors.{hello_reply}
 use Rattle.mdb_topology.specs.Changing.{IsChanging, IsUpdating}
 use Rattle.mdb_topology.proofs.Becoming.{as-next}
 use Rattle.mdb_topology.proofs.Same.{IsPlain}
-use Rattle.mdb_topology.proofs.Updating.{hello-updating, hello-resting}
+use Rattle.mdb_topology.proofs.Updating.{hello-updating, hello-resting, passes-time}
 use Rattle.mdb_topology.proofs.FollowingQuiet.{follows-quiet}
 use Rattle.mdb_topology.proofs.MakesKnown.{changes-become}
+use Rattle.mdb_topology.specs.Refusal.{may_want}
+use Rattle.mdb_topology.proofs.Spent.{wants-after}
+use Rattle.mdb_topology.proofs.Wants.{untroubled-wants}
+use Rattle.mdb_log.specs.declared.checked.HelloResult.TheVariants as Hello
+use Rattle.mdb_log.specs.declared.step.Act.TheVariants as Do
 use Rattle.mdb_topology.proofs.topology.TopologyCore.hello.Goals as goal
 
 pub returns-then-leaves_reply-clause-becomes : goal.returns-then-leaves_reply-clause-becomes
@@ -30,3 +35,17 @@ returns-clause-becomes c =
     IfOk-weaker c.change.result _ _ (λ stepped f h z. changes-become w h z c.args.step.now c.requires.in_time c.in_ok-later.later (subst (λ u. IsUpdating w h c.args.step.now u) (sym c.in_ok-later.ensures)
     (subst (λ a. IsUpdating w h (record { moment = m; act = a }) (updated w.description (from_reply c.args.address.now (hello_reply c.args.address.now c.args.reply.now) c.args.rtt m))) (sym c.requires.act)
     (hello-updating w h z m c.requires.in_time c.args.address.now c.args.pool c.args.rtt c.args.reply.now c.if-self.false left))) stepped f) c.change.ensures.changes
+
+pub returns-in_err-later-clause-wants : goal.returns-in_err-later-clause-wants
+returns-in_err-later-clause-wants c = wants-after c.args.self.now c.args.step.now _ (λ h z.
+    let w = c.args.self.now in
+    let m = c.args.step.now.moment in
+    subst (λ v. may_want w.options h (record { moment = m; act = v }) ≡ true) (sym c.requires.act)
+    (untroubled-wants w h z (Do.Hello c.args.address.now c.args.pool (Hello.Ok c.args.rtt c.args.reply.now)) m tt refl (passes-time w h z m c.requires.in_time (Do.Hello c.args.address.now c.args.pool (Hello.Ok c.args.rtt c.args.reply.now)) (rw c.if-self.false refl)) refl refl))
+
+pub returns-clause-wants : goal.returns-clause-wants
+returns-clause-wants c = wants-after c.args.self.now c.args.step.now _ (λ h z.
+    let w = c.args.self.now in
+    let m = c.args.step.now.moment in
+    subst (λ v. may_want w.options h (record { moment = m; act = v }) ≡ true) (sym c.requires.act)
+    (untroubled-wants w h z (Do.Hello c.args.address.now c.args.pool (Hello.Ok c.args.rtt c.args.reply.now)) m tt refl (passes-time w h z m c.requires.in_time (Do.Hello c.args.address.now c.args.pool (Hello.Ok c.args.rtt c.args.reply.now)) (rw c.if-self.false refl)) refl refl))

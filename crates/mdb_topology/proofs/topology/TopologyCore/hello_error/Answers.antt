@@ -1,15 +1,22 @@
-use Rattle.std.proofs.Common.{◌∙◌, [], None, false, sym, subst, refl}
-use Rattle.std.proofs.lemmas.Result.{IfOk-weaker}
+use Rattle.std.proofs.Common.{◌≡◌, ◌∙◌, [], None, true, false, sym, subst, refl}
+use Rattle.std.proofs.lemmas.Result.{IfOk-weaker, on_err_weaker}
 use Rattle.mdb_log.specs.declared.reply.Reply.TheVariants.{Changed}
 use Rattle.mdb_describe.specs.Descriptions.{failed}
 use Rattle.mdb_describe.specs.Update.{updated}
 use Rattle.mdb_topology.specs.Changing.{IsTelling}
-use Rattle.mdb_topology.specs.Marking.{HasParts, IsMarking}
+use Rattle.mdb_topology.specs.Marking.{HasParts, IsMarking, IsOfPool, MarkPasses, MarksTo}
 use Rattle.mdb_topology.proofs.MarkBecoming.{as-parts}
 use Rattle.mdb_topology.proofs.Same.{IsPlain}
+use Rattle.mdb_topology.specs.declared.marked.Asked.TheVariants.{Nothing}
+use Rattle.mdb_topology.specs.Standing.{is_open_at}
+use Rattle.mdb_topology.proofs.FailedChecks.{here-at}
+use Rattle.mdb_topology.proofs.Lists.{position-within}
+use Rattle.mdb_topology.proofs.Spent.{own-place, place-own, some-place}
+use Rattle.mdb_topology.proofs.Updating.{or-not}
+use Rattle.mdb_topology.proofs.Wants.{none-wants}
 use Rattle.mdb_topology.proofs.ErringSteps.{met, met-of-pool, met-marking, met-resting}
 use Rattle.mdb_topology.proofs.FollowingQuiet.{follows-silent}
-use Rattle.mdb_topology.proofs.MarkedSteps.{marks-become}
+use Rattle.mdb_topology.proofs.MarkedSteps.{marks-become, marks-spare}
 use Rattle.mdb_topology.proofs.topology.TopologyCore.hello_error.Goals as goal
 
 pub returns-then-leaves_reply-clause-becomes : goal.returns-then-leaves_reply-clause-becomes
@@ -22,14 +29,53 @@ returns-then-leaves_reply-clause-becomes c h z =
     (met-resting w h z m c.requires.in_time c.args.address.now c.args.pool c.args.error.now c.if-self.false left) in
     follows-silent w h z c.args.step.now c.requires.in_time c.of_reply.result e.changes e.facts e.monitors e.monitoring (subst IsPlain (sym e.reply) tt) (rw e.description refl) (subst IsTelling (sym c.requires.act) tt) (as-parts rests e.description e.reply e.stops)
 
+pub mark-requires-clause-there : goal.mark-requires-clause-there
+mark-requires-clause-there c =
+    let w = c.args.self.now in
+    let left = or-not w.stopped _ (sym c.leaves_reply.ensures ∙ c.if-leaves_reply.false) in
+    position-within (is_open_at c.args.address.now) w.pools.cores.items c.args.pool (here-at w c.args.address.now c.args.pool c.args.pool refl left.1)
+
+pub mark-requires-clause-here : goal.mark-requires-clause-here
+mark-requires-clause-here c =
+    let w = c.args.self.now in
+    let left = or-not w.stopped _ (sym c.leaves_reply.ensures ∙ c.if-leaves_reply.false) in
+    place-own w.pools.cores.items c.args.address.now c.args.pool (here-at w c.args.address.now c.args.pool c.args.pool refl left.1)
+
 pub returns-clause-becomes : goal.returns-clause-becomes
 returns-clause-becomes c =
     let w = c.args.self.now in
     let m = c.args.step.now.moment in
+    let a = c.args.address.now in
+    let e = c.args.error.now in
     let left = sym c.leaves_reply.ensures ∙ c.if-leaves_reply.false in
+    let here = here-at w a c.args.pool c.args.pool refl (or-not w.stopped _ left).1 in
+    let own = some-place w.pools.cores.items a c.args.pool here in
+    let at : own.0.address ≡ a = own-place w.pools.cores.items a c.args.pool here own.0 own.1 in
     IfOk-weaker c.mark.result _ _ (λ stepped f h z.
-    let x = met w h z m c.requires.in_time c.args.address.now c.args.pool c.args.error.now in
-    marks-become w h z c.args.step.now c.requires.in_time c.args.address.now c.args.error.now x
-    (subst (λ a. IsMarking w h (record { moment = m; act = a }) (updated w.description (failed c.args.address.now c.args.error.now)) (met w h z m c.requires.in_time c.args.address.now c.args.pool c.args.error.now)) (sym c.requires.act)
-    (met-marking w h z m c.requires.in_time c.args.address.now c.args.pool c.args.error.now c.if-self.false left))
-    (subst IsTelling (sym c.requires.act) tt) stepped (f x (met-of-pool w h z m c.requires.in_time c.args.address.now c.args.pool c.args.error.now c.if-self.false))) c.mark.ensures.marks
+    let x = met w h z m c.requires.in_time a c.args.pool e in
+    marks-become w h z c.args.step.now c.requires.in_time a e x
+    (subst (λ b. IsMarking w h (record { moment = m; act = b }) (updated w.description (failed a e)) (met w h z m c.requires.in_time a c.args.pool e)) (sym c.requires.act)
+    (met-marking w h z m c.requires.in_time a c.args.pool e c.if-self.false left))
+    (subst IsTelling (sym c.requires.act) tt) stepped
+    (subst (λ b. MarksTo w m (updated w.description (failed b e)) (met w h z m c.requires.in_time a c.args.pool e) stepped) at
+    (f own.0 x own.1 (subst (λ b. IsOfPool w.options (met w h z m c.requires.in_time a c.args.pool e) c.args.pool b e true Nothing) (sym at) (met-of-pool w h z m c.requires.in_time a c.args.pool e c.if-self.false))))) c.mark.ensures.marks
+
+pub returns-clause-wants : goal.returns-clause-wants
+returns-clause-wants c =
+    let w = c.args.self.now in
+    let m = c.args.step.now.moment in
+    let a = c.args.address.now in
+    let e = c.args.error.now in
+    let left = sym c.leaves_reply.ensures ∙ c.if-leaves_reply.false in
+    let here = here-at w a c.args.pool c.args.pool refl (or-not w.stopped _ left).1 in
+    let own = some-place w.pools.cores.items a c.args.pool here in
+    let at : own.0.address ≡ a = own-place w.pools.cores.items a c.args.pool here own.0 own.1 in
+    on_err_weaker c.mark.result (λ f h z.
+    let x = met w h z m c.requires.in_time a c.args.pool e in
+    none-wants w.options h c.args.step.now
+    (marks-spare w h z c.args.step.now c.requires.in_time a e x
+    (subst (λ b. IsMarking w h (record { moment = m; act = b }) (updated w.description (failed a e)) (met w h z m c.requires.in_time a c.args.pool e)) (sym c.requires.act)
+    (met-marking w h z m c.requires.in_time a c.args.pool e c.if-self.false left))
+    (subst IsTelling (sym c.requires.act) tt)
+    (subst (λ b. MarkPasses w m (updated w.description (failed b e)) (met w h z m c.requires.in_time a c.args.pool e) None) at
+    (f own.0 x own.1 (subst (λ b. IsOfPool w.options (met w h z m c.requires.in_time a c.args.pool e) c.args.pool b e true Nothing) (sym at) (met-of-pool w h z m c.requires.in_time a c.args.pool e c.if-self.false)))))) c.mark.ensures.spares

@@ -1,13 +1,17 @@
-use Rattle.std.proofs.Common.{◌∙◌, [], None, false, sym, subst, refl}
+use Rattle.std.proofs.Common.{◌∙◌, [], None, false, sym, subst, refl, ◌≡◌, true}
 use Rattle.std.proofs.lemmas.Result.{IfOk-weaker}
 use Rattle.mdb_log.specs.declared.reply.Reply.TheVariants.{Changed}
 use Rattle.mdb_describe.specs.Topology.{synced}
 use Rattle.mdb_topology.specs.Changing.{IsChanging, IsUpdating}
 use Rattle.mdb_topology.proofs.Becoming.{as-next}
 use Rattle.mdb_topology.proofs.Same.{IsPlain}
-use Rattle.mdb_topology.proofs.Updating.{hosts-updating, hosts-resting}
+use Rattle.mdb_topology.proofs.Updating.{hosts-updating, hosts-resting, passes-time}
 use Rattle.mdb_topology.proofs.FollowingQuiet.{follows-quiet}
-use Rattle.mdb_topology.proofs.MakesKnown.{changes-become}
+use Rattle.mdb_topology.proofs.MakesKnown.{changes-become, spared-update}
+use Rattle.mdb_topology.proofs.Spent.{wants-after}
+use Rattle.mdb_topology.proofs.Wants.{none-wants}
+use Rattle.mdb_topology.specs.declared.next.Stepped.TheVariants.{Refused}
+use Rattle.mdb_log.specs.declared.reply.Refused.TheVariants.{Exhausted}
 use Rattle.mdb_topology.proofs.topology.TopologyCore.hosts.Goals as goal
 
 pub returns-then-leaves_hosts-clause-becomes : goal.returns-then-leaves_hosts-clause-becomes
@@ -28,3 +32,35 @@ returns-clause-becomes c =
     IfOk-weaker c.change.result _ _ (λ stepped f h z. changes-become w h z c.args.step.now c.requires.in_time c.in_ok-later.later (subst (λ u. IsUpdating w h c.args.step.now u) (sym c.in_ok-later.ensures)
     (subst (λ a. IsUpdating w h (record { moment = m; act = a }) (synced c.args.hosts.now w.description)) (sym c.requires.act)
     (hosts-updating w h z m c.requires.in_time c.args.hosts.now left))) stepped f) c.change.ensures.changes
+
+pub returns-in-Some-clause-becomes : goal.returns-in-Some-clause-becomes
+returns-in-Some-clause-becomes c h z =
+    let w = c.args.self.now in
+    let m = c.args.step.now.moment in
+    let left = sym c.leaves_hosts.ensures ∙ c.if-leaves_hosts.false in
+    changes-become w h z c.args.step.now c.requires.in_time (synced c.args.hosts.now w.description)
+    (subst (λ a. IsUpdating w h (record { moment = m; act = a }) (synced c.args.hosts.now w.description)) (sym c.requires.act)
+    (hosts-updating w h z m c.requires.in_time c.args.hosts.now left))
+    (Refused (Exhausted c.in-Some.what)) (c.in-Some.what, refl, sym c.in-Some.ensures)
+
+pub returns-in_err-later-clause-wants : goal.returns-in_err-later-clause-wants
+returns-in_err-later-clause-wants c = wants-after c.args.self.now c.args.step.now _ (λ h z.
+    let w = c.args.self.now in
+    let m = c.args.step.now.moment in
+    let left = sym c.leaves_hosts.ensures ∙ c.if-leaves_hosts.false in
+    none-wants w.options h c.args.step.now
+    (spared-update w h z c.args.step.now c.requires.in_time (synced c.args.hosts.now w.description)
+    (subst (λ a. IsUpdating w h (record { moment = m; act = a }) (synced c.args.hosts.now w.description)) (sym c.requires.act)
+    (hosts-updating w h z m c.requires.in_time c.args.hosts.now left))
+    (sym c.exhausted_by.ensures ∙ c.in_default.is)))
+
+pub returns-clause-wants : goal.returns-clause-wants
+returns-clause-wants c = wants-after c.args.self.now c.args.step.now _ (λ h z.
+    let w = c.args.self.now in
+    let m = c.args.step.now.moment in
+    let left = sym c.leaves_hosts.ensures ∙ c.if-leaves_hosts.false in
+    none-wants w.options h c.args.step.now
+    (spared-update w h z c.args.step.now c.requires.in_time (synced c.args.hosts.now w.description)
+    (subst (λ a. IsUpdating w h (record { moment = m; act = a }) (synced c.args.hosts.now w.description)) (sym c.requires.act)
+    (hosts-updating w h z m c.requires.in_time c.args.hosts.now left))
+    (sym c.exhausted_by.ensures ∙ c.in_default.is)))

@@ -1,28 +1,95 @@
-use Rattle.std.proofs.Common.{◌≡◌, Some, ap, subst}
-use Rattle.mdb_log.specs.declared.reply.Refused.TheVariants.{Exhausted}
-use Rattle.mdb_log.specs.declared.reply.What.TheVariants.{Generation}
-use Rattle.mdb_topology.specs.Marking.{MarkPasses, MarkTold, MarkComes}
+use Rattle.std.proofs.Common.{◌≡◌, ◌&&◌, true, false, length, Some, None, is_some, refl, sym, ◌∙◌, ap, subst}
+use Rattle.std.specs.Prelude.{slice_get}
+use Rattle.std.proofs.lemmas.Option.{slice_get_read}
+use Rattle.mdb_base.specs.declared.address.ServerAddress.{ServerAddress}
+use Rattle.mdb_describe.specs.Descriptions.{failed}
+use Rattle.mdb_describe.specs.Differences.{difference}
+use Rattle.mdb_describe.specs.Update.{updated}
+use Rattle.mdb_pool.specs.Core.{PoolCore}
+use Rattle.mdb_pool.specs.Kept.{exhausted_now}
+use Rattle.mdb_pool.specs.Refusal.{wrong_service}
+use Rattle.mdb_topology.specs.Errors.{Trouble}
+use Rattle.mdb_topology.specs.Marking.{IsMarked, IsOfPool, MarkPasses}
+use Rattle.mdb_topology.specs.Standing.{at_address}
+use Rattle.mdb_topology.proofs.MarkBecoming.{mark-passes}
+use Rattle.mdb_topology.proofs.Places.{some-same}
+use Rattle.mdb_topology.proofs.Spent.{after-any, clear-accepted, not-both}
 use Rattle.mdb_topology.proofs.topology.TopologyCore.mark.Goals as goal
 
-pub returns-in-Ok-Told-clause-marks : goal.returns-in-Ok-Told-clause-marks
-returns-in-Ok-Told-clause-marks c x of =
+pub returns-then-overspends-clause-marks : goal.returns-then-overspends-clause-marks
+returns-then-overspends-clause-marks c s x there of =
     let w = c.args.self.now in
-    let m = c.args.step.now.moment in
-    let e = c.in_ok-later.ensures in
-    let told = subst (MarkComes w m c.in_ok-later.later x) c.in-Ok-Told.field-0-is (c.in-Ok-Told.ensures.comes x of) in
-    record {
-      changed = c.in-Ok-Told.changed;
-      told = subst (λ v. MarkTold w m v x c.in-Ok-Told.facts.items c.in-Ok-Told.changes.items c.in-Ok-Told.changed) e told;
-      reply = c.of_reply.ensures.reply;
-      known = ap Some e;
-      goes_on = c.of_reply.ensures.stops;
-      monitors = c.of_reply.ensures.monitors;
-      nothing = c.of_reply.ensures.monitoring;
-    }
+    let t = w.description in
+    let e = c.args.error.now in
+    let p = c.index.result.now in
+    let pools = w.pools.cores.items in
+    let at_p : slice_get pools c.args.place ≡ Some p = slice_get_read pools (length pools) c.args.place p refl c.requires.there c.index.ensures in
+    let at : c.address.result.now ≡ s.address = c.address.ensures ∙ ap (λ (u : PoolCore). u.address) (some-same p s (slice_get pools c.args.place) at_p there) in
+    let spent : (is_some (difference t.servers (updated t (failed s.address e)).servers) && c.args.clears) && exhausted_now s None ≡ true =
+    subst (λ a. (is_some (difference t.servers (updated t (failed a e)).servers) && c.args.clears) && exhausted_now s None ≡ true) at (sym (c.overspends.ensures s there) ∙ c.if-overspends.true) in
+    (refl, mark-passes w c.requires.stands c.args.step.now.moment c.requires.in_time s.address e x c.args.place (c.requires.here s there) _ refl c.args.clears c.args.asked of s there true spent)
 
-pub returns-in-Ok-Refused-clause-marks : goal.returns-in-Ok-Refused-clause-marks
-returns-in-Ok-Refused-clause-marks c x of =
+pub returns-in_err-address-clause-spares : goal.returns-in_err-address-clause-spares
+returns-in_err-address-clause-spares c = after-any _
+    ((s : PoolCore) (x : Trouble) → slice_get c.args.self.now.pools.cores.items c.args.place ≡ Some s → IsOfPool c.args.self.now.options x c.args.place s.address c.args.error.now c.args.clears c.args.asked
+    → MarkPasses c.args.self.now c.args.step.now.moment (updated c.args.self.now.description (failed s.address c.args.error.now)) x None)
+    (λ s x there of.
     let w = c.args.self.now in
-    let m = c.args.step.now.moment in
-    let refused = subst (MarkComes w m c.in_ok-later.later x) c.in-Ok-Refused.field-0-is (c.in-Ok-Refused.ensures.comes x of) in
-    subst (λ v. (c.in-Ok-Refused.why ≡ Exhausted Generation) × MarkPasses w m v x (Some Generation)) c.in_ok-later.ensures refused
+    let t = w.description in
+    let e = c.args.error.now in
+    let p = c.index.result.now in
+    let pools = w.pools.cores.items in
+    let at_p : slice_get pools c.args.place ≡ Some p = slice_get_read pools (length pools) c.args.place p refl c.requires.there c.index.ensures in
+    let at : c.address.result.now ≡ s.address = c.address.ensures ∙ ap (λ (u : PoolCore). u.address) (some-same p s (slice_get pools c.args.place) at_p there) in
+    let spare : (is_some (difference t.servers (updated t (failed s.address e)).servers) && c.args.clears) && exhausted_now s None ≡ false =
+    subst (λ a. (is_some (difference t.servers (updated t (failed a e)).servers) && c.args.clears) && exhausted_now s None ≡ false) at (sym (c.overspends.ensures s there) ∙ c.if-overspends.false) in
+    mark-passes w c.requires.stands c.args.step.now.moment c.requires.in_time s.address e x c.args.place (c.requires.here s there) _ refl c.args.clears c.args.asked of s there false spare)
+
+pub returns-in_err-next-clause-spares : goal.returns-in_err-next-clause-spares
+returns-in_err-next-clause-spares c = after-any _
+    ((s : PoolCore) (x : Trouble) → slice_get c.args.self.now.pools.cores.items c.args.place ≡ Some s → IsOfPool c.args.self.now.options x c.args.place s.address c.args.error.now c.args.clears c.args.asked
+    → MarkPasses c.args.self.now c.args.step.now.moment (updated c.args.self.now.description (failed s.address c.args.error.now)) x None)
+    (λ s x there of.
+    let w = c.args.self.now in
+    let t = w.description in
+    let e = c.args.error.now in
+    let p = c.index.result.now in
+    let pools = w.pools.cores.items in
+    let at_p : slice_get pools c.args.place ≡ Some p = slice_get_read pools (length pools) c.args.place p refl c.requires.there c.index.ensures in
+    let at : c.address.result.now ≡ s.address = c.address.ensures ∙ ap (λ (u : PoolCore). u.address) (some-same p s (slice_get pools c.args.place) at_p there) in
+    let spare : (is_some (difference t.servers (updated t (failed s.address e)).servers) && c.args.clears) && exhausted_now s None ≡ false =
+    subst (λ a. (is_some (difference t.servers (updated t (failed a e)).servers) && c.args.clears) && exhausted_now s None ≡ false) at (sym (c.overspends.ensures s there) ∙ c.if-overspends.false) in
+    mark-passes w c.requires.stands c.args.step.now.moment c.requires.in_time s.address e x c.args.place (c.requires.here s there) _ refl c.args.clears c.args.asked of s there false spare)
+
+pub mark_at-requires-clause-here : goal.mark_at-requires-clause-here
+mark_at-requires-clause-here c =
+    let pools = c.args.self.now.pools.cores.items in
+    let p = c.index-2.result.now in
+    let at_p : slice_get pools c.args.place ≡ Some p = slice_get_read pools (length pools) c.args.place p refl c.requires.there c.index-2.ensures in
+    subst (λ a. at_address pools a ≡ Some c.args.place) (sym (c.in_ok-address.ensures.cases ∙ c.address-2.ensures)) (c.requires.here p at_p)
+
+pub mark_at-requires-clause-accepted : goal.mark_at-requires-clause-accepted
+mark_at-requires-clause-accepted c cleared s there =
+    let w = c.args.self.now in
+    let t = w.description in
+    let e = c.args.error.now in
+    let p = c.index.result.now in
+    let q = c.index-2.result.now in
+    let pools = w.pools.cores.items in
+    let at_p : slice_get pools c.args.place ≡ Some p = slice_get_read pools (length pools) c.args.place p refl c.requires.there c.index.ensures in
+    let at_q : slice_get pools c.args.place ≡ Some q = slice_get_read pools (length pools) c.args.place q refl c.requires.there c.index-2.ensures in
+    let at : c.address.result.now ≡ c.in_ok-address.address = c.address.ensures ∙ (ap (λ (u : PoolCore). u.address) (some-same p q (slice_get pools c.args.place) at_p at_q) ∙ sym (c.in_ok-address.ensures.cases ∙ c.address-2.ensures)) in
+    let spare : (is_some (difference t.servers (updated t (failed c.in_ok-address.address e)).servers) && c.args.clears) && exhausted_now s None ≡ false =
+    subst (λ a. (is_some (difference t.servers (updated t (failed a e)).servers) && c.args.clears) && exhausted_now s None ≡ false) at (sym (c.overspends.ensures s there) ∙ c.if-overspends.false) in
+    clear-accepted w c.requires.stands c.args.place s there c.args.step.now.moment c.requires.in_time None e (ap (λ b. wrong_service b None) c.requires.normal) (not-both _ _ spare cleared)
+
+pub returns-clause-marks : goal.returns-clause-marks
+returns-clause-marks c s x there of =
+    let w = c.args.self.now in
+    let e = c.args.error.now in
+    let pools = w.pools.cores.items in
+    let q = c.index-2.result.now in
+    let at_q : slice_get pools c.args.place ≡ Some q = slice_get_read pools (length pools) c.args.place q refl c.requires.there c.index-2.ensures in
+    let at : c.in_ok-address.address ≡ s.address = c.in_ok-address.ensures.cases ∙ (c.address-2.ensures ∙ ap (λ (u : PoolCore). u.address) (some-same q s (slice_get pools c.args.place) at_q there)) in
+    let all = subst (λ (a : ServerAddress). (y : Trouble) → IsOfPool w.options y c.args.place a e c.args.clears c.args.asked → IsMarked w c.args.step.now.moment (updated w.description (failed a e)) y c.in_ok-next.next) at c.in_ok-next.ensures.marked in
+    all x of

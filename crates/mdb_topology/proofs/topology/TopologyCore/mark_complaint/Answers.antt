@@ -1,7 +1,7 @@
 use Rattle.std.proofs.Common.{◌≡◌, true, length, Some, refl, sym, ◌∙◌, ap, subst}
 use Rattle.std.specs.Prelude.{slice_get}
 use Rattle.std.proofs.lemmas.Option.{slice_get_read}
-use Rattle.std.proofs.lemmas.Result.{IfOk-weaker}
+use Rattle.std.proofs.lemmas.Result.{IfOk-weaker, on_err_weaker}
 use Rattle.mdb_describe.specs.Descriptions.{failed}
 use Rattle.mdb_describe.specs.Update.{updated}
 use Rattle.mdb_pool.specs.Core.{PoolCore}
@@ -14,19 +14,22 @@ use Rattle.mdb_topology.specs.Errors.{state_change, lost}
 use Rattle.mdb_topology.specs.Marking.{IsOfPool, IsMarking}
 use Rattle.mdb_topology.specs.Standing.{at_address}
 use Rattle.mdb_topology.proofs.ComplaintMarks.{complaint-here, row_trouble, changed-of-pool, changed-marking, lost-of-pool, lost-marking, changed-case, lost-case}
-use Rattle.mdb_topology.proofs.MarkedSteps.{marks-become}
+use Rattle.mdb_topology.proofs.MarkedSteps.{marks-become, marks-spare}
 use Rattle.mdb_topology.proofs.Places.{some-same}
+use Rattle.mdb_topology.proofs.Wants.{none-wants}
 use Rattle.mdb_topology.proofs.topology.TopologyCore.mark_complaint.Goals as goal
 
 pub mark-requires-clause-here : goal.mark-requires-clause-here
-mark-requires-clause-here c =
+mark-requires-clause-here c s there =
     let w = c.args.self.now in
+    let m = c.args.step.now.moment in
+    let r = c.args.party in
+    let e = c.args.error.now in
+    let i = c.args.place in
+    let l = c.requires.in_time in
     let q = c.requires.complains in
-    let p = c.index-pool.result.now in
-    let same : q.pool ≡ p = some-same q.pool p (slice_get w.pools.cores.items c.args.place) q.there (slice_get_read w.pools.cores.items (length w.pools.cores.items) c.args.place p refl c.requires.there c.index-pool.ensures) in
-    let at : c.in_ok-address.address ≡ q.pool.address = c.in_ok-address.ensures.cases ∙ (c.address.ensures ∙ ap (λ (u : PoolCore). u.address) (sym same)) in
-    subst (λ a. at_address w.pools.cores.items a ≡ Some c.args.place) (sym at)
-    (complaint-here w c.requires.stands.0 c.requires.stands.1 c.args.step.now.moment c.requires.in_time c.args.party c.args.error.now c.args.place q.pool q.connection q.held q.there q.has q.current)
+    subst (λ (u : PoolCore). at_address w.pools.cores.items u.address ≡ Some i) (some-same q.pool s (slice_get w.pools.cores.items i) q.there there)
+    (complaint-here w c.requires.stands.0 c.requires.stands.1 m l r e i q.pool q.connection q.held q.there q.has q.current)
 
 pub returns-then-is_state_change_error-clause-becomes : goal.returns-then-is_state_change_error-clause-becomes
 returns-then-is_state_change_error-clause-becomes c =
@@ -37,32 +40,54 @@ returns-then-is_state_change_error-clause-becomes c =
     let i = c.args.place in
     let l = c.requires.in_time in
     let q = c.requires.complains in
-    let p = c.index-pool.result.now in
-    let same : q.pool ≡ p = some-same q.pool p (slice_get w.pools.cores.items i) q.there (slice_get_read w.pools.cores.items (length w.pools.cores.items) i p refl c.requires.there c.index-pool.ensures) in
-    let at : c.in_ok-address.address ≡ q.pool.address = c.in_ok-address.ensures.cases ∙ (c.address.ensures ∙ ap (λ (u : PoolCore). u.address) (sym same)) in
+    let p = c.index.result.now in
+    let same : q.pool ≡ p = some-same q.pool p (slice_get w.pools.cores.items i) q.there (slice_get_read w.pools.cores.items (length w.pools.cores.items) i p refl c.requires.there c.index.ensures) in
     let live : connection_at p c.args.id ≡ Some q.connection = subst (λ u. connection_at u c.args.id ≡ Some q.connection) same (subst (λ n. connection_at q.pool n ≡ Some q.connection) q.id_is (held-at q.pool r q.connection q.has).1) in
     let hard : is_hard_now q.connection e ≡ c.is_hard-hard.result = sym (c.is_hard-hard.ensures q.connection live) in
     let case = changed-case e (sym c.is_state_change_error.ensures ∙ c.if-is_state_change_error.true) in
     IfOk-weaker c.mark.result _ _ (λ stepped f h z.
     let x = row_trouble w h z m l r e i q.pool q.connection q.held q.there q.has q.current state_change in
     let of =
-    (subst (λ a. IsOfPool w.options (row_trouble w h z m l r e i q.pool q.connection q.held q.there q.has q.current state_change) i a e c.is_hard-hard.result CheckNow) (sym at)
     (subst (λ b. IsOfPool w.options (row_trouble w h z m l r e i q.pool q.connection q.held q.there q.has q.current state_change) i q.pool.address e b CheckNow) hard
-    (changed-of-pool w h z m l r e i q.pool q.connection q.held q.there q.has q.current c.requires.normal))) in
-    marks-become w h z c.args.step.now l c.in_ok-address.address e x
-    (subst (λ a. IsMarking w h c.args.step.now (updated w.description (failed a e)) (row_trouble w h z m l r e i q.pool q.connection q.held q.there q.has q.current state_change)) (sym at)
+    (changed-of-pool w h z m l r e i q.pool q.connection q.held q.there q.has q.current c.requires.normal)) in
+    marks-become w h z c.args.step.now l q.pool.address e x
     (subst (λ b. IsMarking w h (record { moment = m; act = b }) (updated w.description (failed q.pool.address e)) (row_trouble w h z m l r e i q.pool q.connection q.held q.there q.has q.current state_change)) (sym c.requires.act)
-    (changed-marking w h z m l r e i q.pool q.connection q.held q.there q.has q.current c.requires.normal case))) (subst IsTelling (sym c.requires.act) tt) stepped (f x of)) c.mark.ensures.marks
+    (changed-marking w h z m l r e i q.pool q.connection q.held q.there q.has q.current c.requires.normal case)) (subst IsTelling (sym c.requires.act) tt) stepped (f q.pool x q.there of)) c.mark.ensures.marks
+
+pub returns-then-is_state_change_error-clause-wants : goal.returns-then-is_state_change_error-clause-wants
+returns-then-is_state_change_error-clause-wants c =
+    let w = c.args.self.now in
+    let m = c.args.step.now.moment in
+    let r = c.args.party in
+    let e = c.args.error.now in
+    let i = c.args.place in
+    let l = c.requires.in_time in
+    let q = c.requires.complains in
+    let p = c.index.result.now in
+    let same : q.pool ≡ p = some-same q.pool p (slice_get w.pools.cores.items i) q.there (slice_get_read w.pools.cores.items (length w.pools.cores.items) i p refl c.requires.there c.index.ensures) in
+    let live : connection_at p c.args.id ≡ Some q.connection = subst (λ u. connection_at u c.args.id ≡ Some q.connection) same (subst (λ n. connection_at q.pool n ≡ Some q.connection) q.id_is (held-at q.pool r q.connection q.has).1) in
+    let hard : is_hard_now q.connection e ≡ c.is_hard-hard.result = sym (c.is_hard-hard.ensures q.connection live) in
+    let case = changed-case e (sym c.is_state_change_error.ensures ∙ c.if-is_state_change_error.true) in
+    on_err_weaker c.mark.result (λ f h z.
+    let x = row_trouble w h z m l r e i q.pool q.connection q.held q.there q.has q.current state_change in
+    let of =
+    (subst (λ b. IsOfPool w.options (row_trouble w h z m l r e i q.pool q.connection q.held q.there q.has q.current state_change) i q.pool.address e b CheckNow) hard
+    (changed-of-pool w h z m l r e i q.pool q.connection q.held q.there q.has q.current c.requires.normal)) in
+    none-wants w.options h c.args.step.now (marks-spare w h z c.args.step.now l q.pool.address e x
+    (subst (λ b. IsMarking w h (record { moment = m; act = b }) (updated w.description (failed q.pool.address e)) (row_trouble w h z m l r e i q.pool q.connection q.held q.there q.has q.current state_change)) (sym c.requires.act)
+    (changed-marking w h z m l r e i q.pool q.connection q.held q.there q.has q.current c.requires.normal case)) (subst IsTelling (sym c.requires.act) tt) (f q.pool x q.there of))) c.mark.ensures.spares
 
 pub mark-requires-2-clause-here : goal.mark-requires-2-clause-here
-mark-requires-2-clause-here c =
+mark-requires-2-clause-here c s there =
     let w = c.args.self.now in
+    let m = c.args.step.now.moment in
+    let r = c.args.party in
+    let e = c.args.error.now in
+    let i = c.args.place in
+    let l = c.requires.in_time in
     let q = c.requires.complains in
-    let p = c.index-pool.result.now in
-    let same : q.pool ≡ p = some-same q.pool p (slice_get w.pools.cores.items c.args.place) q.there (slice_get_read w.pools.cores.items (length w.pools.cores.items) c.args.place p refl c.requires.there c.index-pool.ensures) in
-    let at : c.in_ok-address.address ≡ q.pool.address = c.in_ok-address.ensures.cases ∙ (c.address.ensures ∙ ap (λ (u : PoolCore). u.address) (sym same)) in
-    subst (λ a. at_address w.pools.cores.items a ≡ Some c.args.place) (sym at)
-    (complaint-here w c.requires.stands.0 c.requires.stands.1 c.args.step.now.moment c.requires.in_time c.args.party c.args.error.now c.args.place q.pool q.connection q.held q.there q.has q.current)
+    subst (λ (u : PoolCore). at_address w.pools.cores.items u.address ≡ Some i) (some-same q.pool s (slice_get w.pools.cores.items i) q.there there)
+    (complaint-here w c.requires.stands.0 c.requires.stands.1 m l r e i q.pool q.connection q.held q.there q.has q.current)
 
 pub returns-clause-becomes : goal.returns-clause-becomes
 returns-clause-becomes c =
@@ -73,16 +98,27 @@ returns-clause-becomes c =
     let i = c.args.place in
     let l = c.requires.in_time in
     let q = c.requires.complains in
-    let p = c.index-pool.result.now in
-    let same : q.pool ≡ p = some-same q.pool p (slice_get w.pools.cores.items i) q.there (slice_get_read w.pools.cores.items (length w.pools.cores.items) i p refl c.requires.there c.index-pool.ensures) in
-    let at : c.in_ok-address.address ≡ q.pool.address = c.in_ok-address.ensures.cases ∙ (c.address.ensures ∙ ap (λ (u : PoolCore). u.address) (sym same)) in
     let case = lost-case e (sym c.is_state_change_error.ensures ∙ c.if-is_state_change_error.false) q.row in
     IfOk-weaker c.mark-2.result _ _ (λ stepped f h z.
     let x = row_trouble w h z m l r e i q.pool q.connection q.held q.there q.has q.current lost in
-    let of =
-    (subst (λ a. IsOfPool w.options (row_trouble w h z m l r e i q.pool q.connection q.held q.there q.has q.current lost) i a e true CancelIfCleared) (sym at)
-    (lost-of-pool w h z m l r e i q.pool q.connection q.held q.there q.has q.current c.requires.normal case)) in
-    marks-become w h z c.args.step.now l c.in_ok-address.address e x
-    (subst (λ a. IsMarking w h c.args.step.now (updated w.description (failed a e)) (row_trouble w h z m l r e i q.pool q.connection q.held q.there q.has q.current lost)) (sym at)
+    let of = lost-of-pool w h z m l r e i q.pool q.connection q.held q.there q.has q.current c.requires.normal case in
+    marks-become w h z c.args.step.now l q.pool.address e x
     (subst (λ b. IsMarking w h (record { moment = m; act = b }) (updated w.description (failed q.pool.address e)) (row_trouble w h z m l r e i q.pool q.connection q.held q.there q.has q.current lost)) (sym c.requires.act)
-    (lost-marking w h z m l r e i q.pool q.connection q.held q.there q.has q.current c.requires.normal case))) (subst IsTelling (sym c.requires.act) tt) stepped (f x of)) c.mark-2.ensures.marks
+    (lost-marking w h z m l r e i q.pool q.connection q.held q.there q.has q.current c.requires.normal case)) (subst IsTelling (sym c.requires.act) tt) stepped (f q.pool x q.there of)) c.mark-2.ensures.marks
+
+pub returns-clause-wants : goal.returns-clause-wants
+returns-clause-wants c =
+    let w = c.args.self.now in
+    let m = c.args.step.now.moment in
+    let r = c.args.party in
+    let e = c.args.error.now in
+    let i = c.args.place in
+    let l = c.requires.in_time in
+    let q = c.requires.complains in
+    let case = lost-case e (sym c.is_state_change_error.ensures ∙ c.if-is_state_change_error.false) q.row in
+    on_err_weaker c.mark-2.result (λ f h z.
+    let x = row_trouble w h z m l r e i q.pool q.connection q.held q.there q.has q.current lost in
+    let of = lost-of-pool w h z m l r e i q.pool q.connection q.held q.there q.has q.current c.requires.normal case in
+    none-wants w.options h c.args.step.now (marks-spare w h z c.args.step.now l q.pool.address e x
+    (subst (λ b. IsMarking w h (record { moment = m; act = b }) (updated w.description (failed q.pool.address e)) (row_trouble w h z m l r e i q.pool q.connection q.held q.there q.has q.current lost)) (sym c.requires.act)
+    (lost-marking w h z m l r e i q.pool q.connection q.held q.there q.has q.current c.requires.normal case)) (subst IsTelling (sym c.requires.act) tt) (f q.pool x q.there of))) c.mark-2.ensures.spares

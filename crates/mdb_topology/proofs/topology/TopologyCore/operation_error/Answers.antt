@@ -1,6 +1,6 @@
 use Rattle.std.proofs.Common.{ℕ, ◌≡◌, ◌&&◌, Bool, true, false, not, List, [], Option, Some, None, is_some, get_or, refl, sym, ◌∙◌, ap, subst}
 use Rattle.std.specs.Prelude.{slice_get, unwrap_or}
-use Rattle.std.proofs.lemmas.Result.{IfOk-weaker}
+use Rattle.std.proofs.lemmas.Result.{IfOk-weaker, on_err_weaker}
 use Rattle.mdb_log.specs.declared.reply.Refused.TheVariants.{NotHolder}
 use Rattle.mdb_log.specs.declared.reply.Reply.TheVariants.{Changed}
 use Rattle.mdb_pool.specs.Core.{PoolCore}
@@ -112,3 +112,27 @@ returns-then-self-clause-becomes c =
     f h there.pool t z there.there (complaint-here w h z m l r x i there.pool there.connection held there.there there.has both.0) refl refl refl
     (subst (λ y. IsClearing w h c.args.step.now t (for_service y)) (sym service)
     (subst (λ a. IsClearing w h (record { moment = m; act = a }) t (for_service (service_cleared there.connection x))) (sym c.requires.act) b.clears_it))) c.clear_service.ensures.becomes
+
+pub returns-then-self-clause-wants : goal.returns-then-self-clause-wants
+returns-then-self-clause-wants c =
+    let w = c.args.self.now in
+    let m = c.args.step.now.moment in
+    let r = c.args.party in
+    let x = c.args.error.now in
+    let i = c.in-Some.place in
+    let l = c.requires.in_time in
+    let pools = w.pools.cores.items in
+    let held = sym c.holder.ensures ∙ c.in-Some.is in
+    let there = held-there pools r i held in
+    let id = ap (λ y. unwrap_or y 0) (id-is pools r i held c.index.result.now c.index.ensures c.held_by.result c.held_by.ensures.kept ∙ c.in-Some-held_by.is) in
+    let left = not-front _ (sym (c.leaves_complaint.ensures there.connection (live pools r i held c.index-2.result.now c.index-2.ensures c.in-Some-held_by.id id) id) ∙ c.if-leaves_complaint.false) in
+    let both = both-true _ _ (subst (λ u. concerns_now w u there.connection x && is_some (case_of operating x) ≡ true) (sym (same pools r i held c.index-2.result.now c.index-2.ensures)) left) in
+    let balanced = c.if-self.true in
+    let mode = ap (λ (u : PoolCore). u.options.load_balanced) (sym (same pools r i held c.index-then-self.result.now c.index-then-self.ensures)) ∙ (ap (λ p. p.load_balanced) (c.requires.stands.1.pools.fit.each i there.pool there.there).options ∙ balanced) in
+    let service = c.service_cleared-service.ensures there.connection mode (live pools r i held c.index-then-self.result.now c.index-then-self.ensures c.in-Some-held_by.id id) in
+    on_err_weaker c.clear_service.result (λ f h z.
+    let b = balanced-clearing w h z m l r x i there.pool there.connection held there.there there.has both.0 balanced both.1 in
+    let t = row_trouble w h z m l r x i there.pool there.connection held there.there there.has both.0 b.row in
+    f h there.pool t z there.there (complaint-here w h z m l r x i there.pool there.connection held there.there there.has both.0) refl refl refl
+    (subst (λ y. IsClearing w h c.args.step.now t (for_service y)) (sym service)
+    (subst (λ a. IsClearing w h (record { moment = m; act = a }) t (for_service (service_cleared there.connection x))) (sym c.requires.act) b.clears_it))) c.clear_service.ensures.wants

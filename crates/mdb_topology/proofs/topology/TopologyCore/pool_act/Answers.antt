@@ -3,6 +3,9 @@ use Rattle.mdb_topology.specs.Description.{description_of}
 use Rattle.mdb_topology.specs.Taking.{Performs, IsReady}
 use Rattle.mdb_topology.proofs.FollowingOne.{follows-pool}
 use Rattle.mdb_topology.proofs.FollowingQuiet.{follows-idle}
+use Rattle.mdb_topology.proofs.Performed.{planned-accepted}
+use Rattle.mdb_topology.proofs.Wants.{none-wants}
+use Rattle.mdb_topology.proofs.Spent.{wants-after}
 use Rattle.mdb_topology.proofs.topology.TopologyCore.pool_act.Goals as goal
 
 pub returns-in-Idle-clause-becomes : goal.returns-in-Idle-clause-becomes
@@ -23,3 +26,17 @@ returns-in_ok-of_pool-in-Planned-clause-becomes c h z =
     follows-pool w h z c.args.step.now c.requires.in_time c.requires.act c.in-Planned.index c.in-Planned.plan c.in-Planned.told
     (subst (IsReady w.pools.cores.items c.args.step.now) c.in-Planned.is c.in_ok-why.ensures.ready) (subst (λ x. Performs w.options w.pools.cores.items c.args.step.now x h) c.in-Planned.is performs)
     c.in_ok-of_pool-in-Planned.field-0 e.reply e.facts e.changes e.description e.monitors e.monitoring e.stops
+
+pub returns-in_err-why-clause-wants : goal.returns-in_err-why-clause-wants
+returns-in_err-why-clause-wants c = wants-after c.args.self.now c.args.step.now _ (λ h z.
+    let w = c.args.self.now in
+    let few : length (description_of w.options h).servers ≤ 128 = subst (λ t. length t.servers ≤ 128) (sym z.described.known) z.described.few in
+    none-wants w.options h c.args.step.now (c.in_err-why.ensures.wants w.options h z.pools z.counts.last_is few))
+
+pub returns-in_err-of_pool-in-Planned-clause-wants : goal.returns-in_err-of_pool-in-Planned-clause-wants
+returns-in_err-of_pool-in-Planned-clause-wants c = wants-after c.args.self.now c.args.step.now _ (λ h z.
+    let w = c.args.self.now in
+    let few : length (description_of w.options h).servers ≤ 128 = subst (λ t. length t.servers ≤ 128) (sym z.described.known) z.described.few in
+    let performs = subst (λ x. Performs w.options w.pools.cores.items c.args.step.now x h) c.in-Planned.is (c.in_ok-why.ensures.performs w.options h z.pools z.counts.last_is few) in
+    let ready = subst (IsReady w.pools.cores.items c.args.step.now) c.in-Planned.is c.in_ok-why.ensures.ready in
+    none-wants w.options h c.args.step.now (planned-accepted w.options w.pools.cores.items c.args.step.now c.in-Planned.index c.in-Planned.plan c.in-Planned.told h ready performs))

@@ -2,6 +2,7 @@ use Rattle.std.proofs.Common.{◌≡◌, ◌&&◌, [], length, Some, None, is_so
 use Rattle.std.specs.Prelude.{slice_get}
 use Rattle.mdb_describe.specs.Differences.{difference}
 use Rattle.mdb_topology.specs.Failing.{asked_after, Fails, IsToldOf}
+use Rattle.mdb_topology.specs.Marking.{AcceptsClear}
 use Rattle.mdb_topology.specs.Planned.{PlansMore}
 use Rattle.mdb_topology.specs.Publishing.{telling}
 use Rattle.mdb_topology.specs.Touching.{touched_by}
@@ -14,8 +15,8 @@ plan_failure-requires-clause-still c = λ s at.
     let there : slice_get c.args.self.now.pools.cores.items c.args.place ≡ Some s = subst (λ v. slice_get v.pools.cores.items c.args.place ≡ Some s) c.in_ok-planned.ensures.same at in
     still-at c.args.self.now c.requires.stands c.args.place s there c.args.step.now c.args.error.now (c.requires.failing s there) None
 
-pub returns-clause-comes : goal.returns-clause-comes
-returns-clause-comes c =
+pub returns-clause-told : goal.returns-clause-told
+returns-clause-told c =
     let w = c.args.self.now in
     let o = w.options in
     let t = w.description in
@@ -38,10 +39,22 @@ returns-clause-comes c =
       | then-changed w ↦ w.cleared-is ∙ ap (λ b. b && c.args.clears) (sym (ap is_some differs ∙ (sym c.is_some-changed.ensures ∙ w.if-changed.true)))
       | else-changed w ↦ w.cleared-is ∙ (w.if-changed.false ∙ ap (λ b. b && c.args.clears) (sym (ap is_some differs ∙ (sym c.is_some-changed.ensures ∙ w.if-changed.false))))
     ] in
-    let fails : Fails (is_some (difference t.servers u.servers) && c.args.clears) pools i step None e (asked_after e) [] changes before after None =
-    subst (λ b. Fails b pools i step None e (asked_after e) [] changes before after None) cleared
-    (subst (λ a. Fails c.if-changed.cleared pools i step None e a [] changes before after None) c.asked_after-asked.ensures
-    (subst (λ cs. Fails c.if-changed.cleared pools i step None e c.asked_after-asked.result cs changes before after None) c.new-changes.ensures.items
-    (subst (λ r. Fails c.if-changed.cleared pools i step None e c.asked_after-asked.result c.new-changes.result.items changes before after r) c.in_default.is
-    (subst (λ v. Fails c.if-changed.cleared v.pools.cores.items i step None e c.asked_after-asked.result c.new-changes.result.items changes before after c.in_ok-refused.refused) c.in_ok-planned.ensures.same c.in_ok-refused.ensures.fails)))) in
+    let fails : Fails (is_some (difference t.servers u.servers) && c.args.clears) pools i step None e (asked_after e) [] changes before after =
+    subst (λ b. Fails b pools i step None e (asked_after e) [] changes before after) cleared
+    (subst (λ a. Fails c.if-changed.cleared pools i step None e a [] changes before after) c.asked_after-asked.ensures
+    (subst (λ cs. Fails c.if-changed.cleared pools i step None e c.asked_after-asked.result cs changes before after) c.new-changes.ensures.items
+    (subst (λ v. Fails c.if-changed.cleared v.pools.cores.items i step None e c.asked_after-asked.result c.new-changes.result.items changes before after) c.in_ok-planned.ensures.same c.in_ok-plan_failure.ensures.fails))) in
     (before, told, fails)
+
+pub plan_failure-requires-clause-accepted : goal.plan_failure-requires-clause-accepted
+plan_failure-requires-clause-accepted c wanted =
+    let t = c.args.self.now.description in
+    let u = c.args.later.now in
+    let d = c.in_ok-diff.diff in
+    let differs : difference t.servers u.servers ≡ d = sym c.in_ok-diff.ensures.difference in
+    let cleared : c.if-changed.cleared ≡ is_some (difference t.servers u.servers) && c.args.clears = elim c.if-changed.branch [
+      | then-changed w ↦ w.cleared-is ∙ ap (λ b. b && c.args.clears) (sym (ap is_some differs ∙ (sym c.is_some-changed.ensures ∙ w.if-changed.true)))
+      | else-changed w ↦ w.cleared-is ∙ (w.if-changed.false ∙ ap (λ b. b && c.args.clears) (sym (ap is_some differs ∙ (sym c.is_some-changed.ensures ∙ w.if-changed.false))))
+    ] in
+    subst (λ v. AcceptsClear v.pools.cores.items c.args.place c.args.step.now.moment None c.args.error.now) (sym c.in_ok-planned.ensures.same)
+    (c.requires.accepted (sym cleared ∙ wanted))

@@ -1,22 +1,32 @@
-use Rattle.std.proofs.Common.{◌≡◌, ◌∙◌, length, sym, subst, ap}
+use Rattle.std.proofs.Common.{◌≡◌, ◌∙◌, length, sym, subst, ap, true, refl, false}
 use Rattle.mdb_log.specs.declared.reply.Reply.TheVariants.{Count}
 use Rattle.mdb_monitor.specs.Asking.{unwanted}
 use Rattle.mdb_topology.specs.declared.next.Next.{Next}
 use Rattle.mdb_topology.specs.declared.monitoring.Monitoring.TheVariants.{Asked}
 use Rattle.mdb_topology.specs.Stepping.{Follows}
 use Rattle.mdb_topology.proofs.Wanting.{follows-unwant}
+use Rattle.mdb_topology.specs.Refusal.{may_want}
+use Rattle.mdb_topology.proofs.Updating.{passes-time}
+use Rattle.mdb_topology.proofs.Wants.{untroubled-wants}
+use Rattle.mdb_log.specs.declared.step.Act.TheVariants as Do
+use Rattle.mdb_topology.proofs.Spent.{wants-after}
 use Rattle.mdb_topology.proofs.topology.TopologyCore.unwant.Goals as goal
 
-pub returns : goal.returns
-returns c = record {
-  becomes = λ h z.
-      let w = c.args.self.now in
-      let m = c.args.step.now.moment in
-      let x = c.args.watcher in
-      let r = c.of_reply.result in
-      let e = c.of_reply.ensures in
-      let n : Next = record { reply = r.reply; facts = r.facts; changes = r.changes; description = r.description; monitors = r.monitors; monitoring = Asked c.unwant-count.new.self; stops = r.stops } in
-      let now : c.unwant-count.new.self ≡ unwanted x w.watchers = c.unwant-count.ensures.unwanted ∙ ap (unwanted x) c.in_ok-watchers.ensures.cases in
-      subst (λ a. Follows w n (record { moment = m; act = a }) h) (sym c.requires.act)
-      (follows-unwant w h z m c.requires.in_time x n e.changes e.monitors e.description e.stops e.facts (ap Asked now) (e.reply ∙ (ap Count c.unwant-count.ensures.counted ∙ ap (λ ws. Count (length ws)) now)));
-}
+pub returns-clause-becomes : goal.returns-clause-becomes
+returns-clause-becomes c h z =
+    let w = c.args.self.now in
+    let m = c.args.step.now.moment in
+    let x = c.args.watcher in
+    let r = c.of_reply.result in
+    let e = c.of_reply.ensures in
+    let n : Next = record { reply = r.reply; facts = r.facts; changes = r.changes; description = r.description; monitors = r.monitors; monitoring = Asked c.unwant-count.new.self; stops = r.stops } in
+    let now : c.unwant-count.new.self ≡ unwanted x w.watchers = c.unwant-count.ensures.unwanted ∙ ap (unwanted x) c.in_ok-watchers.ensures.cases in
+    subst (λ a. Follows w n (record { moment = m; act = a }) h) (sym c.requires.act)
+    (follows-unwant w h z m c.requires.in_time x n e.changes e.monitors e.description e.stops e.facts (ap Asked now) (e.reply ∙ (ap Count c.unwant-count.ensures.counted ∙ ap (λ ws. Count (length ws)) now)))
+
+pub returns-in_err-watchers-clause-wants : goal.returns-in_err-watchers-clause-wants
+returns-in_err-watchers-clause-wants c = wants-after c.args.self.now c.args.step.now _ (λ h z.
+    let w = c.args.self.now in
+    let m = c.args.step.now.moment in
+    subst (λ v. may_want w.options h (record { moment = m; act = v }) ≡ true) (sym c.requires.act)
+    (untroubled-wants w h z (Do.Unwant c.args.watcher) m tt refl (passes-time w h z m c.requires.in_time (Do.Unwant c.args.watcher) refl) refl refl))
