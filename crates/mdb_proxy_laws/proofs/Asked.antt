@@ -1,6 +1,5 @@
 -- The entries of a proxy's log are of acts that it makes, and each accepted request is of an ask.
-use Rattle.std.proofs.Common.{◌≡◌, ℕ, ◌≤◌, ◌<◌, ◌+◌, Bool, true, false, not, ◌&&◌, ◌||◌, if◌then◌else◌, ◌==◌, nat_lt, nat_le, ◌⊎◌, inl, inr, List, [], ◌∷◌, ◌++◌, length, Option, Some, None, option_map, refl, sym, ap, ◌∙◌, subst, arith, length-append, append-nil, append_assoc, drop}
-use Rattle.std.specs.Prelude.{⊤}
+use Rattle.std.proofs.Common.{◌≡◌, ℕ, ◌≤◌, Bool, true, false, not, ◌&&◌, ◌||◌, if◌then◌else◌, ◌==◌, nat_lt, ◌⊎◌, inl, inr, List, [], ◌∷◌, ◌++◌, length, Option, Some, None, option_map, refl, sym, ap, ◌∙◌, subst, arith, length-append, append-nil, append_assoc, drop}
 use Rattle.std.specs.List.{list_any}
 use Rattle.std.proofs.Math.Seq.{drop-length}
 use Rattle.std.proofs.lemmas.List.{drop-append-le}
@@ -19,14 +18,14 @@ use Rattle.mdb_proxies.specs.declared.asked.Asked.{Asked}
 use Rattle.mdb_proxies.specs.declared.step.ProxyAct.{ProxyAct}
 use Rattle.mdb_proxies.specs.declared.step.ProxyAct.TheVariants.{Ask, Collect, Finish, Pass}
 use Rattle.mdb_proxies.specs.declared.step.ProxyReply.{ProxyReply}
-use Rattle.mdb_proxies.specs.declared.step.ProxyReply.TheVariants.{Core, Held, Refused as IsRefused}
+use Rattle.mdb_proxies.specs.declared.step.ProxyReply.TheVariants.{Held}
 use Rattle.mdb_proxies.specs.declared.step.ProxyStep.{ProxyStep}
 use Rattle.mdb_proxies.specs.declared.step.ProxyRefused.{ProxyRefused}
 use Rattle.mdb_proxies.specs.declared.step.ProxyRefused.TheVariants.{TimeBack, NotPassed}
 use Rattle.mdb_proxies.specs.Charge.{requests, since, is_held, is_requested, next_ask}
 use Rattle.mdb_proxies.specs.Entries.{request_at, next_request, AreHandedOn, GoesOn, Enters}
 use Rattle.mdb_proxies.specs.Passing.{is_passed}
-use Rattle.mdb_proxies.specs.Replies.{Replies, Performs, refusal_of, refusal_at, refusal_by, with_ask, new_ask, asks_after, tell_if, tells_caller, kept_for, core_step, found, is_held_off}
+use Rattle.mdb_proxies.specs.Replies.{Replies, Performs, refusal_of, refusal_by, with_ask, new_ask, tell_if, tells_caller, kept_for, core_step, found, is_held_off}
 use Rattle.mdb_proxies.specs.Tables.{AreMade}
 use Rattle.mdb_proxies.specs.Telling.{tells, told_if, tell, ask_of}
 use Rattle.mdb_proxies.specs.View.{ProxyView}

@@ -1,11 +1,9 @@
 -- Each ask is handed on by at most one entry.
-use Rattle.std.proofs.Common.{◌≡◌, ℕ, ◌≤◌, ◌<◌, ◌+◌, ◌⊎◌, inl, inr, Bool, true, false, not, ◌&&◌, ◌||◌, if◌then◌else◌, ◌==◌, nat_lt, nat_le, List, [], ◌∷◌, ◌++◌, length, Option, Some, None, option_map, refl, sym, ap, ◌∙◌, subst, arith, length-append, append-nil, append_assoc, drop}
+use Rattle.std.proofs.Common.{◌≡◌, ℕ, ◌≤◌, ◌+◌, Bool, true, false, not, ◌&&◌, ◌||◌, if◌then◌else◌, ◌==◌, nat_lt, nat_le, List, [], ◌∷◌, ◌++◌, length, Option, Some, None, option_map, refl, sym, ap, ◌∙◌, subst, arith, length-append, append-nil, append_assoc, drop}
 use Rattle.std.specs.Prelude.{⊤}
 use Rattle.std.proofs.Math.Seq.{drop-length}
-use Rattle.std.proofs.lemmas.Bool.Decides.{Decides-eqb}
 use Rattle.mdb_log.specs.declared.log.Entry.{Entry}
 use Rattle.mdb_log.specs.declared.step.Step.{Step}
-use Rattle.mdb_log.specs.declared.step.Act.{Act}
 use Rattle.mdb_log.specs.declared.step.Act.TheVariants.{Request}
 use Rattle.mdb_log.specs.declared.reply.Reply.{Reply}
 use Rattle.mdb_log.specs.Driver.{is_refusal}
@@ -22,16 +20,14 @@ use Rattle.mdb_proxies.specs.declared.step.ProxyRefused.TheVariants.{TimeBack, N
 use Rattle.mdb_proxies.specs.Charge.{requests, since, is_held, is_requested, next_ask}
 use Rattle.mdb_proxies.specs.Entries.{request_at, next_request, AreHandedOn, GoesOn, Enters}
 use Rattle.mdb_proxies.specs.Passing.{is_passed}
-use Rattle.mdb_proxies.specs.Recording.{SameAsks}
 use Rattle.mdb_proxies.specs.Replies.{Replies, Performs, refusal_of, refusal_by, with_ask, new_ask, tell_if, tells_caller, kept_for, core_step, found, is_held_off}
 use Rattle.mdb_proxies.specs.Tables.{AreMade, AreSingle, is_fresh}
 use Rattle.mdb_proxies.specs.Telling.{tells, told_if, tell, ask_of}
 use Rattle.mdb_proxies.specs.View.{ProxyView}
-use Rattle.mdb_proxies.proofs.Bools.{left, right, both, not-true, swapped}
+use Rattle.mdb_proxies.proofs.Bools.{left, right, not-true, swapped}
 use Rattle.mdb_proxies.proofs.Charges.{passed-own}
 use Rattle.mdb_proxies.proofs.Kept.{made-later, made-append, single-append}
 use Rattle.mdb_proxies.proofs.Order.{Next, next-first}
-use Rattle.mdb_proxies.proofs.Telling.{same_asks}
 use Rattle.mdb_proxy_laws.specs.Once.{times_requested, AreOnce}
 use Rattle.mdb_proxy_laws.specs.Reaching.{Steps, Reaches, begun}
 use Rattle.mdb_proxy_laws.proofs.Asked.{since-more, made-tell-if}

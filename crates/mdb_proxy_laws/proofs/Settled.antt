@@ -1,5 +1,5 @@
 -- What the entries of a log settle, its history tells; and an ask whose request was accepted and not settled is charged.
-use Rattle.std.proofs.Common.{ℕ, ◌≡◌, ◌==◌, ◌⊎◌, inl, inr, Bool, true, false, not, ◌&&◌, ◌||◌, if◌then◌else◌, List, [], ◌∷◌, ◌++◌, drop, zero, suc, refl, sym, ◌∙◌, ap, subst, arith}
+use Rattle.std.proofs.Common.{ℕ, ◌≡◌, ◌==◌, Bool, true, false, not, ◌&&◌, ◌||◌, if◌then◌else◌, List, [], ◌∷◌, drop, zero, suc, refl, sym, ◌∙◌, subst}
 use Rattle.std.specs.List.{list_any}
 use Rattle.std.proofs.lemmas.Bool.Decides.{Decides-eqb}
 use Rattle.mdb_base.specs.Equality.{same_address}
@@ -18,7 +18,7 @@ use Rattle.mdb_log.specs.PlainRequests.{is_ended}
 use Rattle.mdb_log.specs.PlainHolders.{has_returned}
 use Rattle.mdb_proxies.specs.declared.asked.Asked.{Asked}
 use Rattle.mdb_proxies.specs.Charge.{requests, returns, is_end, ends, settles, is_settled, is_charged, since, counts}
-use Rattle.mdb_proxies.proofs.Bools.{left, right, both, first, rest}
+use Rattle.mdb_proxies.proofs.Bools.{left, right, both, rest}
 use Rattle.mdb_proxy_laws.specs.Asks.{is_taken, is_ask_of}
 use Rattle.mdb_proxy_laws.proofs.Counting.{is_charged_number}
 
