@@ -1,6 +1,7 @@
 -- A line that spells a step is read as that step.
-use Rattle.std.proofs.Common.{◌≡◌, ℕ, ◌+◌, ◌<◌, ◌≤◌, ◌^◌, Bool, true, false, ◌&&◌, ◌||◌, List, [], ◌∷◌, ◌++◌, codes, Option, Some, None, Result, Ok, Err, IsErrAnd, refl, sym, ap, ◌∙◌, arith, subst}
-use Rattle.std.specs.Prelude.{◌==◌, decimal, IsTrue, if◌then◌else◌, MatchResult}
+use Rattle.std.proofs.Common.{◌≡◌, ℕ, ◌+◌, ◌<◌, ◌≤◌, ◌^◌, Bool, true, false, ◌&&◌, ◌||◌, List, [], ◌∷◌, ◌++◌, codes, Option, Some, None, Result, Ok, Err, IsErrAnd, IfOk, refl, sym, ap, ◌∙◌, arith, subst}
+use Rattle.std.specs.Bool.{MatchBool}
+use Rattle.std.specs.Prelude.{◌==◌, nat_le, decimal, IsTrue, if◌then◌else◌, MatchResult}
 use Rattle.std.proofs.lemmas.Bool.{and_parts, and_from}
 use Rattle.mdb_base.specs.AddressReading.{until, beyond}
 use Rattle.mdb_base.specs.Spelling.{address}
@@ -111,11 +112,11 @@ read-other line r e only s h = go s.moment s.act h (line-word line s h)
 pub rest-printable : (line : List ℕ) → is_printable line ≡ true → is_printable (beyond 32 line) ≡ true
 unfolding beyond
 rest-printable [] e = refl
-rest-printable (b ∷ bs) e = on (b == 32) refl
+rest-printable (b ∷ bs) e = on (b == 32) (rest-printable bs (and_parts (nat_le 32 b && nat_le b 126) (is_printable bs) e).1)
   where
-    on : (t : Bool) → (b == 32) ≡ t → is_printable (if t then b ∷ bs else beyond 32 bs) ≡ true
+    on : (t : Bool) → is_printable (beyond 32 bs) ≡ true → is_printable (if t then b ∷ bs else beyond 32 bs) ≡ true
     on true f = e
-    on false f = rest-printable bs (and_parts _ (is_printable bs) e).1
+    on false f = f
 
 -- the rest of a finish is that of a return
 pub return-spells : (text : List ℕ) (m n : ℕ) (used : Use) → is_printable text ≡ true → m < 2 ^ 64 → n < 2 ^ 32 → text ≡ codes " " ++ (decimal m ++ (codes " " ++ (decimal n ++ (codes " " ++ use_text used))))
@@ -142,14 +143,65 @@ pass-spells line m a h =
 pub pass-spelled : (line : List ℕ) (m : ℕ) (a : Act) → is_passed a ≡ true → Spells 2 line (record { moment = m; act = a }) → SpellsStep line (record { moment = m; act = Pass a })
 pass-spelled line m a e h = record { moment = h.types.0; types = h.types.1; rules = and_from (is_passed a) (is_act m a) e h.rules; printable = h.printable; text = h.text }
 
--- what is made of the act of a line of the driver
-pub other-found : (line : List ℕ) (m : ℕ) (a : Act) (s : ProxyStep) → Spells 2 line (record { moment = m; act = a }) → IsOther m a (Ok s) → SpellsStep line s
-other-found line m (act.Collect n) s h e = let same : record { moment = m; act = Collect n } ≡ s = grind e in subst (SpellsStep line) same (collect-spelled line m n h)
-other-found line m a s h e = on (is_passed a) refl e
-  where
-    on : (b : Bool) → is_passed a ≡ b → (if b then (Ok s ≡ Ok (record { moment = m; act = Pass a })) else (Ok s ≡ Err Bad)) → SpellsStep line s
-    on true p f = let same : record { moment = m; act = Pass a } ≡ s = grind f in subst (SpellsStep line) same (pass-spelled line m a p h)
-    on false p f = absurd (cc)
+-- ---- what is made of the act of a line of the driver
+
+pub other-refused : (m : ℕ) (a : Act) → ((n : ℕ) → a ≡ act.Collect n → ⊥) → is_passed a ≡ false → IsOther m a (Err Bad)
+other-refused m (act.Collect n) ne e = absurd (ne n refl)
+other-refused m a ne e = subst (λ (b : Bool). MatchBool b (◌≡◌ {A = Result ProxyStep LineError} (Err Bad) (Ok (record { moment = m; act = Pass a }))) (◌≡◌ {A = Result ProxyStep LineError} (Err Bad) (Err Bad))) (sym e) refl
+
+pub other-passed : (m : ℕ) (a : Act) → ((n : ℕ) → a ≡ act.Collect n → ⊥) → is_passed a ≡ true → IsOther m a (Ok (record { moment = m; act = Pass a }))
+other-passed m (act.Collect n) ne e = absurd (ne n refl)
+other-passed m a ne e =
+    subst (λ (b : Bool). MatchBool b (◌≡◌ {A = Result ProxyStep LineError} (Ok (record { moment = m; act = Pass a })) (Ok (record { moment = m; act = Pass a }))) (◌≡◌ {A = Result ProxyStep LineError} (Ok (record { moment = m; act = Pass a })) (Err Bad))) (sym e) refl
+
+same-step : (s t : ProxyStep) → ◌≡◌ {A = Result ProxyStep LineError} (Ok s) (Ok t) → t ≡ s
+same-step s t e = cc
+
+no-step : (s : ProxyStep) → ◌≡◌ {A = Result ProxyStep LineError} (Ok s) (Err Bad) → ⊥
+no-step s e = cc
+
+passed-found : (line : List ℕ) (m : ℕ) (a : Act) (s : ProxyStep) (b : Bool) → is_passed a ≡ b → Spells 2 line (record { moment = m; act = a })
+    → MatchBool b (◌≡◌ {A = Result ProxyStep LineError} (Ok s) (Ok (record { moment = m; act = Pass a }))) (◌≡◌ {A = Result ProxyStep LineError} (Ok s) (Err Bad)) → SpellsStep line s
+passed-found line m a s true p h e = subst (SpellsStep line) (same-step s (record { moment = m; act = Pass a }) e) (pass-spelled line m a p h)
+passed-found line m a s false p h e = absurd (no-step s e)
+
+step-found : (line : List ℕ) (m : ℕ) (a : Act) (s : ProxyStep) → Spells 2 line (record { moment = m; act = a }) → IsOther m a (Ok s) → SpellsStep line s
+step-found line m (act.Collect n) s h e = subst (SpellsStep line) (same-step s (record { moment = m; act = Collect n }) e) (collect-spelled line m n h)
+step-found line m a s h e = passed-found line m a s (is_passed a) refl h e
+
+-- what is made of it is spelled by the line
+pub other-found : (line : List ℕ) (s : Step) (r : Result ProxyStep LineError) → Spells 2 line s → IsOther s.moment s.act r → IfOk r (SpellsStep line)
+other-found line s (Ok t) h e = step-found line s.moment s.act t h e
+other-found line s (Err x) h e = tt
+
+given : (s : ProxyStep) (r : Result ProxyStep LineError) → r ≡ Ok s → Gives s r
+given s r e = subst (Gives s) (sym e) refl
+
+passed-is : (m : ℕ) (a : Act) (r : Result ProxyStep LineError) → is_passed a ≡ true → IsOther m a r → r ≡ Ok (record { moment = m; act = Pass a })
+passed-is m (act.Collect n) r p e = absurd (let k : false ≡ true = p in cc)
+passed-is m a r p e = subst (λ (b : Bool). MatchBool b (r ≡ Ok (record { moment = m; act = Pass a })) (r ≡ Err Bad)) p e
+
+-- and what the line spells is what is made of it
+pub other-reads : (line : List ℕ) (s : Step) (r : Result ProxyStep LineError) → ((t : Step) → Spells 2 line t → s ≡ t) → IsOther s.moment s.act r → ReadsOther line r
+other-reads line s r only e = record {
+  collects = λ m n h. (
+      let same : s ≡ record { moment = m; act = act.Collect n } = only (record { moment = m; act = act.Collect n }) (collect-spells line m n h) in
+      given (record { moment = m; act = Collect n }) r (subst (λ (t : Step). IsOther t.moment t.act r) same e));
+  passes = λ m a h. (
+      let same : s ≡ record { moment = m; act = a } = only (record { moment = m; act = a }) (pass-spells line m a h) in
+      given (record { moment = m; act = Pass a }) r (passed-is m a r (and_parts (is_passed a) (is_act m a) h.rules).0 (subst (λ (t : Step). IsOther t.moment t.act r) same e)));
+}
+
+-- the parts of a return
+pub return-is : (s : Step) (m n r : ℕ) (used u : Use) → s ≡ record { moment = m; act = act.Return n used } → s.act ≡ act.Return r u → ◌≡◌ {A = ℕ × ℕ × Use} (s.moment, r, u) (m, n, used)
+return-is s m n r used u e f =
+    let acts : act.Return r u ≡ act.Return n used = sym f ∙ ap (λ (t : Step). t.act) e in
+    let i : r ≡ n = cc in
+    let j : u ≡ used = cc in
+    let one : ℕ → ℕ × ℕ × Use = λ x. (x, r, u) in
+    let two : ℕ → ℕ × ℕ × Use = λ x. (m, x, u) in
+    let three : Use → ℕ × ℕ × Use = λ x. (m, n, x) in
+    ap one (ap (λ (t : Step). t.moment) e) ∙ (ap two i ∙ ap three j)
 
 -- ---- shares
 

@@ -1,5 +1,6 @@
 -- What reading gives for a line from the third on, by its first word.
 use Rattle.std.specs.Prelude.{◌≡◌, ℕ, true, List, codes, bytes_eq, if◌then◌else◌, Result, Ok, Err}
+use Rattle.std.specs.Bool.{MatchBool}
 use Rattle.mdb_log.specs.declared.step.Act.{Act}
 use Rattle.mdb_log.specs.declared.step.Act.TheVariants.{Collect as Collects}
 use Rattle.mdb_parts.specs.declared.line_error.LineError.{LineError}
@@ -19,7 +20,7 @@ word_of name = if bytes_eq name (codes "ask") then word.Ask else if bytes_eq nam
 -- the act of the core is a collect, or one that is passed
 abbrev pub IsOther : ℕ → Act → Result ProxyStep LineError → Type 0
 IsOther m (Collects n) r = r ≡ Ok (record { moment = m; act = Collect n })
-IsOther m act r = if is_passed act then (r ≡ Ok (record { moment = m; act = Pass act })) else (r ≡ Err Bad)
+IsOther m act r = MatchBool (is_passed act) (r ≡ Ok (record { moment = m; act = Pass act })) (r ≡ Err Bad)
 
 -- a collect, or an act that is passed, is read
 pub record ReadsOther (line : List ℕ) (r : Result ProxyStep LineError) : Type 0 where

@@ -82,11 +82,23 @@ fn is_share(number: u32) -> bool
     number > 0
 }
 
+fn is_few(numbers: &[u32]) -> bool
+    ensures { result ≡ (nat_lt 0 (length numbers.now) && nat_le (length numbers.now) 64) }
+{
+    !numbers.is_empty() && numbers.len() <= 64
+}
+
+fn is_share_each(numbers: &[u32]) -> bool
+    ensures { result ≡ list_all is_share numbers.now }
+{
+    numbers.iter().all(|number| is_share(*number))
+}
+
 // Shares of 1 to 64 tenants.
 fn are_shares(numbers: &[u32]) -> bool
     ensures { result ≡ ((nat_lt 0 (length numbers.now) && nat_le (length numbers.now) 64) && list_all is_share numbers.now) }
 {
-    !numbers.is_empty() && numbers.len() <= 64 && numbers.iter().all(|number| is_share(*number))
+    is_few(numbers) && is_share_each(numbers)
 }
 
 // The line names these shares.

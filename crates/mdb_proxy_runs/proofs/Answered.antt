@@ -111,7 +111,7 @@ done input (x ∷ rest) number old now held new_held faults new_faults none b = 
 -- ---- whole runs
 
 pub nothing : (input : List ℕ) (held : Option Held) (faults : ℕ) → length input ≡ 0 → Nothing input [] held held faults faults
-nothing [] held faults none = record { input = refl; log = refl; taken = took_nothing held; same = refl }
+nothing [] held faults none = record { empty = refl; none = refl; taken = took_nothing held; same = refl }
 nothing (x ∷ input) held faults none = absurd (omega arith)
 
 pub played : (shares input line behind : List ℕ) (first last : ProxyView) (log : List Entry) (held mid new_held : Option Held) (faults old_faults new_faults : ℕ) → lines_of input ≡ whole line ∷ lines_of behind
@@ -130,3 +130,32 @@ played shares input line behind first last log held mid new_held faults old_faul
   taken = took_more held mid new_held (opening_text line o) text taken took;
   same = again ∙ same;
 }
+
+-- ---- what was taken is flushed
+
+pub ran-more : (input : List ℕ) (log : List Entry) (held mid new_held : Option Held) (faults old_faults new_faults : ℕ) → Ran input log held mid faults old_faults → Took mid new_held [] → new_faults ≡ old_faults → Ran input log held new_held faults new_faults
+ran-more input log held mid new_held faults old_faults new_faults ran took e = go ran
+  where
+    nothing-more : (rest : List ℕ) → Nothing rest log held mid faults old_faults → Nothing rest log held new_held faults new_faults
+    nothing-more rest n = record { empty = n.empty; none = n.none; taken = took_no_more held mid new_held [] n.taken took; same = e ∙ n.same }
+
+    played-more : (shares rest : List ℕ) → Played shares rest log held mid faults old_faults → Played shares rest log held new_held faults new_faults
+    played-more shares rest p = record {
+      options = p.options;
+      line = p.line;
+      lines = p.lines;
+      last = p.last;
+      text = p.text;
+      cut = p.cut;
+      opens = p.opens;
+      answers = p.answers;
+      is = p.is;
+      legal = p.legal;
+      taken = took_no_more held mid new_held (opening_text p.line p.options ++ p.text) p.taken took;
+      same = e ∙ p.same;
+    }
+
+    go : Ran input log held mid faults old_faults → Ran input log held new_held faults new_faults
+    go (inl n) = inl (nothing-more input n)
+    go (inr (line, shares, rest, cut, names, inl n)) = inr (line, shares, rest, cut, names, inl (nothing-more rest n))
+    go (inr (line, shares, rest, cut, names, inr p)) = inr (line, shares, rest, cut, names, inr (played-more shares rest p))

@@ -25,9 +25,9 @@ unfolding lines_of
 no-input input e = ap lines_of e
 
 ran-lines : (input : List ℕ) (log : List Entry) (held new_held : Option Held) (faults new_faults : ℕ) → Ran input log held new_held faults new_faults → AreLines (lines_of input)
-ran-lines input log held new_held faults new_faults (inl n) = subst AreLines (sym (no-input input n.input)) tt
+ran-lines input log held new_held faults new_faults (inl n) = subst AreLines (sym (no-input input n.empty)) tt
 ran-lines input log held new_held faults new_faults (inr (line, shares, rest, cut, names, inl n)) =
-    subst AreLines (sym (cut ∙ ap (λ (ls : List (List ℕ)). whole line ∷ ls) (no-input rest n.input))) (line, shares, refl, names)
+    subst AreLines (sym (cut ∙ ap (λ (ls : List (List ℕ)). whole line ∷ ls) (no-input rest n.empty))) (line, shares, refl, names)
 ran-lines input log held new_held faults new_faults (inr (line, shares, rest, cut, names, inr p)) =
     let first : IsFirst (whole line) = (line, shares, refl, names) in
     let second : IsSecond (whole line) (whole p.line) = (line, p.line, shares, p.options, refl, names, refl, p.opens) in
@@ -72,9 +72,9 @@ one-place input n m a b = on (cases_order (length a.before) (length b.before))
     both : a.before ++ a.line ∷ a.more ≡ b.before ++ b.line ∷ b.more
     both = sym a.cut ∙ b.cut
 
-    on : (length a.before < length b.before) ⊎ ((length a.before ≡ length b.before) ⊎ (length b.before < length a.before)) → n ≡ m
-    on (inl l) = absurd (no-longer-front a.before b.before a.line a.more (b.line ∷ b.more) both b.lines a.bad l)
-    on (inr (inl e)) = omega (arith, a.at, b.at, e)
+    on : (length a.before ≡ length b.before) ⊎ ((length a.before < length b.before) ⊎ (length b.before < length a.before)) → n ≡ m
+    on (inr (inl l)) = absurd (no-longer-front a.before b.before a.line a.more (b.line ∷ b.more) both b.lines a.bad l)
+    on (inl e) = omega (arith, a.at, b.at, e)
     on (inr (inr l)) = absurd (no-longer-front b.before a.before b.line b.more (a.line ∷ a.more) (sym both) a.lines b.bad l)
 
 not-bad : (input : List ℕ) (n : ℕ) → AreLines (lines_of input) → IsBadAt input n → ⊥

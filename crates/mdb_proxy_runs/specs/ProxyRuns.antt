@@ -90,8 +90,8 @@ pub record Played (shares input : List ℕ) (log : List Entry) (held new_held : 
 
 -- Nothing was there to run, and nothing was written.
 pub record Nothing (input : List ℕ) (log : List Entry) (held new_held : Option Held) (faults new_faults : ℕ) : Type 0 where
-  pub input : input ≡ []
-  pub log : log ≡ []
+  pub empty : input ≡ []
+  pub none : log ≡ []
   pub taken : Took held new_held []
   pub same : new_faults ≡ faults
 

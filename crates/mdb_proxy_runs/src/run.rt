@@ -89,11 +89,7 @@ fn read_options(alloc: Global, line: &str) -> Result<Options, RunError>
 }
 
 // The proxy that the second line opens, over the shares of the first.
-fn open_proxy(
-    alloc: Global,
-    line: &str,
-    shares: Vec<u32>,
-) -> Result<Proxy<TopologyCore>, RunError>
+fn open_proxy(alloc: Global, line: &str, shares: Vec<u32>) -> Result<Proxy<TopologyCore>, RunError>
     ensures opens { IfOk result (Opens shares.items line.now) }
     ensures ends { IfErr result (OpeningEnds shares.items line.now) }
 {
@@ -149,7 +145,12 @@ fn answer_to(
     if answer.behind {
         return Err(OutOfMemory);
     }
-    answer_line(alloc, line, &answer.reply, behind(proxy.log().entries(), before))
+    answer_line(
+        alloc,
+        line,
+        &answer.reply,
+        behind(proxy.log().entries(), before),
+    )
 }
 
 // One line from the third on.
