@@ -5,13 +5,13 @@ usage: bench/proxy.py [--proxy PROGRAM] [--script PROGRAM] [--runs N]
 
 Each tenant holds a connection. A round is three lines: the tenant asks and is held back, returns its connection, by which the ask is handed on and
 served, and collects. mdb_script runs the same rounds with a request in the place of the ask. Each script runs N times (9), the two programs and both
-lengths in turn, and the least time counts. Told are microseconds a round, from the difference of two lengths, so that the start of the program, the
+lengths in turn, and the least processor time counts. Told are microseconds a round, from the difference of two lengths, so that the start of the program, the
 opening and the first asks are left out; and, to see whether a round costs more the more asks were made, a round of the first half and of the second.
 An input has at most 131,072 bytes, which are some 2,400 rounds."""
 import argparse
 import os
+import resource
 import subprocess
-import time
 
 CRATES = os.path.join(os.path.dirname(os.path.dirname(os.path.abspath(__file__))), 'crates')
 TENANTS = (1, 8, 64)
@@ -36,11 +36,17 @@ def script(tenants, rounds, is_proxy):
     return ''.join(line + '\n' for line in lines).encode()
 
 
+def processor_time():
+    """Seconds of the processor that ended children took."""
+    used = resource.getrusage(resource.RUSAGE_CHILDREN)
+    return used.ru_utime + used.ru_stime
+
+
 def run(program, data):
-    """Seconds of one run."""
-    begun = time.perf_counter()
+    """Seconds of the processor that one run takes, so that other work on the machine counts little."""
+    before = processor_time()
     ended = subprocess.run([program], input=data, capture_output=True, check=False)
-    took = time.perf_counter() - begun
+    took = processor_time() - before
     if ended.returncode or ended.stderr:
         raise SystemExit('%s: status %d, %s' % (program, ended.returncode, ended.stderr.decode()))
     return took

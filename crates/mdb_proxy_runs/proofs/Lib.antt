@@ -1,1 +1,4 @@
 pub mod DriverCrossing
+pub mod Answered
+pub mod Ending
+pub mod Complete

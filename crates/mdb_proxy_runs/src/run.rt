@@ -1,39 +1,73 @@
 //! Runs of a proxy script.
 
-ghost use Rattle.std.specs.Prelude.{◌≡◌, ◌≤◌, None, IfOk, length};
+ghost use Rattle.std.specs.Prelude.{◌≡◌, ◌≤◌, ◌<◌, [], ◌∷◌, ℕ, List, Some, None, IfOk, IfErr, OnOk, IsTrue, length, drop, string_bytes, true, MatchResult, ⊤};
+ghost use Rattle.mdb_base.specs.declared.options.Options.{Options as OptionsRecord};
+ghost use Rattle.mdb_base.specs.Outside.{Rose, Took};
 ghost use Rattle.mdb_base.specs.OptionRules.{broken_rule};
+ghost use Rattle.mdb_lines.specs.Grammar.{is_printable};
+ghost use Rattle.mdb_lines.specs.LogText.{reply_text};
+ghost use Rattle.mdb_lines.specs.Loops.{ReadsFew};
+ghost use Rattle.mdb_lines.specs.Script.{Spells, lines_of};
+ghost use Rattle.mdb_lines.specs.declared.run_error.RunError.TheVariants.{OutOfMemory as NoMemory, Malformed, TooLong, WriteFault as IsWriteFault};
+ghost use Rattle.mdb_log.specs.declared.log.Entry.{Entry as EntryRecord};
+ghost use Rattle.mdb_topology.specs.Logging.{opening_step};
+ghost use Rattle.mdb_proxy_lines.specs.ProxyLines.{SpellsStep};
+ghost use Rattle.mdb_proxy_lines.specs.ProxyText.{line_text};
+ghost use Rattle.mdb_proxy_runs.specs.ProxyScripts.{AreLines, IsBadAt};
+ghost use Rattle.mdb_proxy_runs.specs.ProxyRuns.{Opens, Answers, Begins, LineRuns, LinesRun, RunsFrom, Ran, Finished};
+ghost use Rattle.mdb_proxy_runs.specs.ProxyEnds.{cause_of, LineEnds, LinesEnd, OptionsEnd, OpeningEnds, SecondEnds, SharesEnd, RunEnds, Ended, EndsWith};
 
-use crate::line_reading::read_proxy_line;
-use crate::line_writing::{reply_text, write_answer};
-use crate::shares_line::read_shares;
 use mdb_base::{Options, OutOfMemory, Sink, Source};
 use mdb_lines::{
-    LineError, MAX_INPUT, ReplyText, RunError, cut_line, read_all, read_line, write_all,
+    LineError, MAX_INPUT, RunError, cut_line, is_printable, read_all, read_line, write_all,
 };
 use mdb_log::{Act, DEFAULT_MAX_POOL_SIZE, Entry, Log, Step};
 use mdb_proxies::{Proxy, ProxyStep, ShareError};
+use mdb_proxy_lines::{answer_line, opening_line, read_proxy_line, read_shares};
 use mdb_topology::TopologyCore;
 use std::alloc::Global;
 
-fn malformed(e: LineError, number: u32) -> RunError {
+fn malformed(e: LineError, number: u32) -> RunError
+    ensures { result ≡ cause_of e number }
+{
     match e {
         LineError::Bad => RunError::Malformed(number),
         LineError::OutOfMemory => RunError::OutOfMemory,
     }
 }
 
-fn send<K: Sink>(sink: &mut K, text: &[u8]) -> Result<(), RunError> {
+fn send<K: Sink>(sink: &mut K, text: &[u8]) -> Result<(), RunError>
+    ensures took { OnOk result (Took (K.held sink.old) (K.held sink.new) text.now × (K.faults sink.new ≡ K.faults sink.old)) }
+    ensures fails { IfErr result (λ e. (e ≡ IsWriteFault) × Rose (K.faults sink.old) (K.faults sink.new)) }
+{
     match write_all(sink, text) {
         Ok(()) => Ok(()),
         Err(_) => Err(RunError::WriteFault),
     }
 }
 
-// The options of the line that opens a driver.
-fn read_options(alloc: Global, line: &[u8]) -> Result<Options, RunError>
-    ensures { IfOk result (λ options. broken_rule options ≡ None) }
+// A line of printable bytes, as text.
+fn text_of(line: &[u8], number: u32) -> Result<&str, RunError>
+    ensures text { IfOk result (λ text. (text.now ≡ line.now) × IsTrue (is_printable text.now)) }
+    ensures none { IfErr result (λ e. (e ≡ Malformed number) × (is_printable line.now ≡ true → ⊥)) }
 {
-    let step = match read_line(alloc, line, 1) {
+    if !is_printable(line) {
+        return Err(RunError::Malformed(number));
+    }
+    match str::from_utf8(line) {
+        Ok(text) => Ok(text),
+        Err(_) => Err(RunError::Malformed(number)),
+    }
+}
+
+// The options of the line that opens a driver.
+fn read_options(alloc: Global, line: &str) -> Result<Options, RunError>
+    ensures fits { IfOk result (λ options. broken_rule options ≡ None) }
+    ensures opens { IfOk result (λ options. Spells 1 line.now (opening_step options)) }
+    ensures alone { IfOk result (λ options. (o : OptionsRecord) → Spells 1 line.now (opening_step o) → options ≡ o) }
+    ensures ends { IfErr result (OptionsEnd line.now) }
+{
+    let step = match read_line(alloc, line.as_bytes(), 1) {
         Ok(step) => step,
         Err(e) => return Err(malformed(e, 2)),
     };
@@ -55,11 +89,10 @@ fn read_options(alloc: Global, line: &[u8]) -> Result<Options, RunError>
 }
 
 // The proxy that the second line opens, over the shares of the first.
-fn open_proxy(
-    alloc: Global,
-    line: &[u8],
-    shares: Vec<u32>,
-) -> Result<Proxy<TopologyCore>, RunError> {
+fn open_proxy(alloc: Global, line: &str, shares: Vec<u32>) -> Result<Proxy<TopologyCore>, RunError>
+    ensures opens { IfOk result (Opens shares.items line.now) }
+    ensures ends { IfErr result (OpeningEnds shares.items line.now) }
+{
     let options = match read_options(alloc, line) {
         Ok(options) => options,
         Err(e) => return Err(e),
@@ -78,33 +111,46 @@ fn open_proxy(
 }
 
 // What is written for the second line: the line itself, and the answer to it.
-fn opening_text(alloc: Global, line: &[u8], entries: &[Entry]) -> Result<Vec<u8>, OutOfMemory> {
-    let mut text = Vec::new(alloc);
-    for entry in entries {
-        let reply = ReplyText(&entry.reply).to_string(alloc)?;
-        write_answer(alloc, line, reply.as_str(), entries, &mut text)?;
+fn opening_text(alloc: Global, line: &str, entries: &[Entry]) -> Result<String, OutOfMemory>
+    ensures { IfOk result (λ text. (e : EntryRecord) → entries.now ≡ e ∷ [] → string_bytes text ≡ line_text line.now (reply_text e.reply) (e ∷ [])) }
+{
+    match entries.first() {
+        Some(entry) => opening_line(alloc, line, &entry.reply, entries),
+        None => Ok(String::new(alloc)),
     }
-    Ok(text)
+}
+
+// The entries behind the first ones.
+fn behind(entries: &[Entry], first: usize) -> &[Entry]
+    ensures { result.now ≡ drop first entries.now }
+{
+    match entries.get(first..) {
+        Some(more) => more,
+        None => &[],
+    }
 }
 
 // The answer to one line from the third on.
-fn answer_text(
+fn answer_to(
     alloc: Global,
-    line: &[u8],
+    line: &str,
     step: ProxyStep,
     proxy: &mut Proxy<TopologyCore>,
-) -> Result<Vec<u8>, OutOfMemory> {
+) -> Result<String, OutOfMemory>
+    requires { SpellsStep line.now step }
+    ensures { IfOk result (λ text. Answers proxy.old proxy.new line.now (string_bytes text)) }
+{
     let before = proxy.log().len();
     let answer = proxy.step(alloc, step)?;
     if answer.behind {
         return Err(OutOfMemory);
     }
-    let reply = reply_text(alloc, &answer.reply)?;
-    let mut text = Vec::new(alloc);
-    if let Some(added) = proxy.log().entries().get(before..) {
-        write_answer(alloc, line, reply.as_str(), added, &mut text)?;
-    }
-    Ok(text)
+    answer_line(
+        alloc,
+        line,
+        &answer.reply,
+        behind(proxy.log().entries(), before),
+    )
 }
 
 // One line from the third on.
@@ -114,13 +160,20 @@ fn one_line<K: Sink>(
     number: u32,
     proxy: &mut Proxy<TopologyCore>,
     sink: &mut K,
-) -> Result<(), RunError> {
+) -> Result<(), RunError>
+    ensures runs { OnOk result (LineRuns line.now proxy.old proxy.new (K.held sink.old) (K.held sink.new) (K.faults sink.old) (K.faults sink.new)) }
+    ensures ends { IfErr result (LineEnds number line.now (K.faults sink.old) (K.faults sink.new)) }
+{
+    let line = match text_of(line, number) {
+        Ok(line) => line,
+        Err(e) => return Err(e),
+    };
     let step = match read_proxy_line(alloc, line) {
         Ok(step) => step,
         Err(e) => return Err(malformed(e, number)),
     };
-    match answer_text(alloc, line, step, proxy) {
-        Ok(text) => send(sink, text.as_slice()),
+    match answer_to(alloc, line, step, proxy) {
+        Ok(text) => send(sink, text.as_bytes()),
         Err(OutOfMemory) => Err(RunError::OutOfMemory),
     }
 }
@@ -133,6 +186,8 @@ fn more_lines<K: Sink>(
     sink: &mut K,
 ) -> Result<(), RunError>
     requires { length input.now ≤ MAX_INPUT }
+    ensures run { OnOk result (LinesRun input.now proxy.old proxy.new (K.held sink.old) (K.held sink.new) (K.faults sink.old) (K.faults sink.new)) }
+    ensures ends { IfErr result (LinesEnd input.now (K.faults sink.old) (K.faults sink.new)) }
 {
     let mut rest = input;
     let mut number = 3u32;
@@ -152,6 +207,34 @@ fn more_lines<K: Sink>(
     Ok(())
 }
 
+// The proxy that the second line opens, and what is written for that line.
+fn begin<K: Sink>(
+    alloc: Global,
+    line: &[u8],
+    shares: Vec<u32>,
+    sink: &mut K,
+) -> Result<Proxy<TopologyCore>, RunError>
+    ensures begins { IfOk result (Begins shares.items line.now (K.held sink.old) (K.held sink.new) (K.faults sink.old) (K.faults sink.new)) }
+    ensures ends { IfErr result (SecondEnds shares.items line.now (K.faults sink.old) (K.faults sink.new)) }
+{
+    let line = match text_of(line, 2) {
+        Ok(line) => line,
+        Err(e) => return Err(e),
+    };
+    let proxy = match open_proxy(alloc, line, shares) {
+        Ok(proxy) => proxy,
+        Err(e) => return Err(e),
+    };
+    let text = match opening_text(alloc, line, proxy.log().entries()) {
+        Ok(text) => text,
+        Err(OutOfMemory) => return Err(RunError::OutOfMemory),
+    };
+    match send(sink, text.as_bytes()) {
+        Ok(()) => Ok(proxy),
+        Err(e) => Err(e),
+    }
+}
+
 // The lines from the second on, for tenants with these shares.
 fn with_shares<K: Sink>(
     alloc: Global,
@@ -160,6 +243,8 @@ fn with_shares<K: Sink>(
     sink: &mut K,
 ) -> Result<Log, RunError>
     requires { length input.now ≤ MAX_INPUT }
+    ensures ran { IfOk result (λ log. RunsFrom shares.items input.now log (K.held sink.old) (K.held sink.new) (K.faults sink.old) (K.faults sink.new)) }
+    ensures ends { IfErr result (SharesEnd shares.items input.now (K.faults sink.old) (K.faults sink.new)) }
 {
     if input.is_empty() {
         return Ok(Log::new(alloc));
@@ -167,18 +252,10 @@ fn with_shares<K: Sink>(
     let Some((line, behind)) = cut_line(input) else {
         return Err(RunError::Malformed(2));
     };
-    let mut proxy = match open_proxy(alloc, line, shares) {
+    let mut proxy = match begin(alloc, line, shares, sink) {
         Ok(proxy) => proxy,
         Err(e) => return Err(e),
     };
-    let text = match opening_text(alloc, line, proxy.log().entries()) {
-        Ok(text) => text,
-        Err(OutOfMemory) => return Err(RunError::OutOfMemory),
-    };
-    match send(sink, text.as_slice()) {
-        Ok(()) => {}
-        Err(e) => return Err(e),
-    }
     match more_lines(alloc, behind, &mut proxy, sink) {
         Ok(()) => {
             let (core, log) = proxy.close();
@@ -191,6 +268,8 @@ fn with_shares<K: Sink>(
 
 fn run_lines<K: Sink>(alloc: Global, input: &[u8], sink: &mut K) -> Result<Log, RunError>
     requires { length input.now ≤ MAX_INPUT }
+    ensures ran { IfOk result (λ log. Ran input.now log (K.held sink.old) (K.held sink.new) (K.faults sink.old) (K.faults sink.new)) }
+    ensures ends { IfErr result (RunEnds input.now (K.faults sink.old) (K.faults sink.new)) }
 {
     if input.is_empty() {
         return Ok(Log::new(alloc));
@@ -198,9 +277,36 @@ fn run_lines<K: Sink>(alloc: Global, input: &[u8], sink: &mut K) -> Result<Log, 
     let Some((line, behind)) = cut_line(input) else {
         return Err(RunError::Malformed(1));
     };
+    let line = match text_of(line, 1) {
+        Ok(line) => line,
+        Err(e) => return Err(e),
+    };
     match read_shares(alloc, line) {
         Ok(shares) => with_shares(alloc, behind, shares, sink),
         Err(e) => Err(malformed(e, 1)),
+    }
+}
+
+fn run<S: Source, K: Sink>(alloc: Global, source: &mut S, sink: &mut K) -> Result<Log, RunError>
+    ensures finished { IfOk result (Finished
+        (record { left = S.left source.old; reads = S.faults source.old; held = K.held sink.old; writes = K.faults sink.old })
+        (record { left = S.left source.new; reads = S.faults source.new; held = K.held sink.new; writes = K.faults sink.new })) }
+    ensures ended { IfErr result (Ended
+        (record { left = S.left source.old; reads = S.faults source.old; held = K.held sink.old; writes = K.faults sink.old })
+        (record { left = S.left source.new; reads = S.faults source.new; held = K.held sink.new; writes = K.faults sink.new })) }
+    ensures few { ReadsFew (S.left source.old) (S.left source.new) (S.calls source.old) (S.calls source.new) }
+{
+    let input = match read_all(alloc, source) {
+        Ok(input) => input,
+        Err(e) => return Err(e),
+    };
+    let log = match run_lines(alloc, input.as_slice(), sink) {
+        Ok(log) => log,
+        Err(e) => return Err(e),
+    };
+    match sink.flush() {
+        Ok(()) => Ok(log),
+        Err(_) => Err(RunError::WriteFault),
     }
 }
 
@@ -215,17 +321,29 @@ pub fn run_proxy<S: Source, K: Sink>(
     alloc: Global,
     source: &mut S,
     sink: &mut K,
-) -> Result<Log, RunError> {
-    let input = match read_all(alloc, source) {
-        Ok(input) => input,
-        Err(e) => return Err(e),
-    };
-    let log = match run_lines(alloc, input.as_slice(), sink) {
-        Ok(log) => log,
-        Err(e) => return Err(e),
-    };
-    match sink.flush() {
-        Ok(()) => Ok(log),
-        Err(_) => Err(RunError::WriteFault),
-    }
+) -> Result<Log, RunError>
+    // The input was read to its end, and the sink took, flushed, what the one proxy of the first two lines answered to each line.
+    ensures finished { IfOk result (Finished
+        (record { left = S.left source.old; reads = S.faults source.old; held = K.held sink.old; writes = K.faults sink.old })
+        (record { left = S.left source.new; reads = S.faults source.new; held = K.held sink.new; writes = K.faults sink.new })) }
+    ensures ended { IfErr result (Ended
+        (record { left = S.left source.old; reads = S.faults source.old; held = K.held sink.old; writes = K.faults sink.old })
+        (record { left = S.left source.new; reads = S.faults source.new; held = K.held sink.new; writes = K.faults sink.new })) }
+
+    // The source is read at most once more than there are bytes, and at most 131,073 times.
+    ensures few { ReadsFew (S.left source.old) (S.left source.new) (S.calls source.old) (S.calls source.new) }
+
+    // A script is run to its end where nothing fails, unless memory runs out.
+    ensures complete { (input : List ℕ) → S.left source.old ≡ Some input → length input ≤ MAX_INPUT → AreLines (lines_of input)
+        → ¬ (Rose (S.faults source.old) (S.faults source.new)) → ¬ (Rose (K.faults sink.old) (K.faults sink.new)) → MatchResult result (λ log. ⊤) (λ e. e ≡ NoMemory) }
+
+    // The first line that has no place in a script is named where nothing fails, unless memory runs out.
+    ensures malformed { (input : List ℕ) (number : ℕ) → S.left source.old ≡ Some input → length input ≤ MAX_INPUT → IsBadAt input number
+        → ¬ (Rose (S.faults source.old) (S.faults source.new)) → ¬ (Rose (K.faults sink.old) (K.faults sink.new)) → EndsWith (Malformed number) result }
+
+    // An input of more bytes is too long where the source does not fail, unless memory runs out.
+    ensures too_long { (input : List ℕ) → S.left source.old ≡ Some input → MAX_INPUT < length input
+        → ¬ (Rose (S.faults source.old) (S.faults source.new)) → EndsWith TooLong result }
+{
+    run(alloc, source, sink)
 }

@@ -1,0 +1,12 @@
+pub mod Asked
+pub mod Once
+pub mod Counting
+pub mod Settled
+pub mod Uncreating
+pub mod Published
+pub mod Paired
+pub mod Owned
+pub mod Holders
+pub mod Steps
+pub mod Homed
+pub mod NoneWaits

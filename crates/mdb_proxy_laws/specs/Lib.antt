@@ -1,0 +1,4 @@
+pub mod Reaching
+pub mod Asks
+pub mod Once
+pub mod Waiting

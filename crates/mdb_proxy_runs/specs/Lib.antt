@@ -1,0 +1,3 @@
+pub mod ProxyScripts
+pub mod ProxyRuns
+pub mod ProxyEnds
