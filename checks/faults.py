@@ -17,7 +17,7 @@ processors) and for at most N seconds (900), once for each call and each of thes
   short_read, short_write   moves one byte, and so does each of them in a further run. Nothing changes.
 
 The tests of mdb_trials over a running total share a driver among threads and seats. Each runs once for each of its first allocations, which is refused: it
-ends well, or stops where it has no memory, or in the test of two threads where one of them made a step less; it never hangs.
+ends well, or stops and tells want of memory; it never hangs.
 
 Each run of mdb_pool_demo ends, whichever allocation is refused in whichever thread. It recovers, with one connection more where one failed for which no client
 waited, or tells want of memory, or what came of it: that a thread was not started, which it waits for some seconds, or that a request ended since its connection
@@ -52,7 +52,6 @@ KNOWN = (b'base writing',)
 WANT = b'"out of memory\\n"'
 FIRST = 1000  # allocations of a test that are refused in turn
 TESTS = 'totals::'  # the tests that are run so
-THREADS = 'two_threads_make_one_log'
 REST = 30  # seconds between two lines of progress
 LIMIT = 120  # seconds for one run
 LONG = 2000  # allocations of one case; one that takes more is left out
@@ -351,8 +350,7 @@ def one_test(program, library, name, at):
         return 'found', ['found: %s: allocation %d: no end' % (name, at)]
     if ended.returncode == 0 and ended.stdout.endswith(b'test result: ok\n'):
         return 'unharmed', []
-    is_told = b'memory' in ended.stderr or (name.endswith(THREADS) and ended.stderr.startswith(b'assertion failed: one =='))
-    if ended.returncode == -signal.SIGABRT and is_told:
+    if ended.returncode == -signal.SIGABRT and b'memory' in ended.stderr:
         return 'ended', []
     return 'found', ['found: %s: allocation %d: status %s, told %r' % (name, at, ended.returncode, ended.stderr)]
 

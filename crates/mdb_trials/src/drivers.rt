@@ -1,7 +1,6 @@
-//! Rows of a driver on threads, over a driver behind a load balancer. The scenes are written for any core.
+//! Rows of a driver on threads. The scenes are written for any core, and one function plays them over a driver of one server.
 
-ghost use Rattle.std.specs.Prelude.{◌≡◌, IfSome};
-ghost use Rattle.mdb_log.specs.Acts.{IsDriverAct};
+ghost use Rattle.std.specs.Prelude.{◌≡◌, Some, IfSome};
 ghost use Rattle.mdb_topology.specs.Logging.{IsDriverOf};
 
 mod gate;
@@ -10,48 +9,30 @@ mod many;
 mod seats;
 mod watched;
 
-use mdb_base::{Items, ObjectId, Options, ServerAddress};
-use mdb_log::{Core, Established, Log, PooledConnection, Reply, Step};
-use mdb_shared::{Back, Seat, SharedDriver};
+use crate::lines::server;
+use mdb_base::{Items, ObjectId, Options};
+use mdb_log::{Core, Log};
 use mdb_topology::TopologyCore;
 use std::alloc::Global;
 use std::sync::Wait;
+use std::thread::Threads;
 
-// The address of the server.
-fn server(alloc: Global) -> Option<ServerAddress> {
-    ServerAddress::parse(alloc, "a:1").ok()
+#[derive(Clone, Copy, PartialEq, Eq)]
+enum Scene {
+    AllSeats,
+    Gate,
+    LentSeat,
+    Requests,
+    OutAndIn,
+    FirstState,
+    News,
 }
 
-// What a worker finds out behind the load balancer.
-fn found() -> Established {
-    Established {
-        wire: 21,
-        service_id: Some(ObjectId([1, 2, 3, 4, 5, 6, 7, 8, 9, 10, 11, 12])),
-        server_id: None,
-    }
-}
-
-// A driver behind a load balancer, with its log.
-fn balanced(alloc: Global) -> Option<(TopologyCore, Log)>
-    ensures { IfSome result (λ r. IsDriverOf r.0 r.1) }
-{
-    opened(alloc, true)
-}
-
-// A driver of one server, with its log.
-fn normal(alloc: Global) -> Option<(TopologyCore, Log)>
-    ensures { IfSome result (λ r. IsDriverOf r.0 r.1) }
-{
-    opened(alloc, false)
-}
-
-// A driver of one server, behind a load balancer or not.
-fn opened(alloc: Global, load_balanced: bool) -> Option<(TopologyCore, Log)>
-    ensures { IfSome result (λ r. IsDriverOf r.0 r.1) }
-{
+// The options of a driver of one server, behind a load balancer or not.
+fn options(alloc: Global, load_balanced: bool) -> Option<Options> {
     let mut seeds = Vec::new(alloc);
     seeds.push(server(alloc)?).ok()?;
-    let options = Options {
+    Some(Options {
         seeds: Items::new(seeds),
         set_name: None,
         direct: false,
@@ -69,67 +50,67 @@ fn opened(alloc: Global, load_balanced: bool) -> Option<(TopologyCore, Log)>
         limit_pool: None,
         limit_monitor: None,
         topology_id: ObjectId([0; 12]),
-    };
+    })
+}
+
+// The core with its log, where there is one.
+fn with_log<C: Drop>(core: Option<C>, log: Log) -> Option<(C, Log)>
+    ensures { IfSome result (λ r. (core ≡ Some r.0) × (r.1 ≡ log)) }
+{
+    match core {
+        Some(core) => Some((core, log)),
+        None => {
+            drop(log);
+            None
+        }
+    }
+}
+
+// A driver of these options, with its log.
+fn open(alloc: Global, options: Options) -> Option<(TopologyCore, Log)>
+    ensures { IfSome result (λ r. IsDriverOf r.0 r.1) }
+{
     if options.check().is_some() {
+        drop(options);
         return None;
     }
     let mut log = Log::new(alloc);
-    let core = TopologyCore::open_seeds(alloc, &mut log, 0, options).ok()?;
-    Some((core, log))
+    let core = TopologyCore::open_seeds(alloc, &mut log, 0, options).ok();
+    with_log(core, log)
 }
 
-// A shared driver with two seats.
-fn pair<C: Core>(alloc: Global, core: C, log: Log) -> Option<(SharedDriver<C>, Seat<C>, Seat<C>)>
-    requires { C.stands core log }
-    ensures { IfSome result (λ r. (r.1.driver ≡ r.0.id) × (r.2.driver ≡ r.0.id)) }
+// A driver of one server, behind a load balancer or not, with its log.
+fn opened(alloc: Global, load_balanced: bool) -> Option<(TopologyCore, Log)>
+    ensures { IfSome result (λ r. IsDriverOf r.0 r.1) }
 {
-    let Ok((driver, mut seats)) = SharedDriver::new(alloc, core, log, 2) else {
-        return None;
-    };
-    let Some(second) = seats.pop() else {
-        return None;
-    };
-    let Some(first) = seats.pop() else {
-        return None;
-    };
-    Some((driver, first, second))
+    open(alloc, options(alloc, load_balanced)?)
 }
 
-// Whether the step has this reply.
-fn asks<C: Core, R: Wait>(
-    driver: &SharedDriver<C>,
+// Whether the scene goes as it should over this driver.
+fn play<C: Core, R: Threads + Wait + Sync>(
     rt: &R,
     alloc: Global,
-    seat: &mut Seat<C>,
-    step: Option<Step>,
-    wanted: Reply,
+    opened: Option<(C, Log)>,
+    scene: Scene,
 ) -> bool
-    requires own { seat.old.driver ≡ driver.now.id }
-    requires act { IfSome step (λ s. IsDriverAct s.act) }
-    ensures own { seat.new.driver ≡ seat.old.driver }
+    requires { IfSome opened (λ r. C.stands r.0 r.1) }
 {
-    let Some(step) = step else {
+    let Some((core, log)) = opened else {
         return false;
     };
-    match driver.step(rt, alloc, seat, step) {
-        Ok(reply) => reply == wanted,
-        Err(_) => false,
+    match scene {
+        Scene::AllSeats => many::takes_turns(rt, alloc, core, log),
+        Scene::Gate => gate::has_no_turn(rt, alloc, core, log),
+        Scene::LentSeat => handles::goes_on(rt, alloc, core, log),
+        Scene::Requests => seats::tells_once(rt, alloc, core, log),
+        Scene::OutAndIn => watched::goes_out_and_in(rt, alloc, core, log),
+        Scene::FirstState => watched::tells_the_state(rt, alloc, core, log),
+        Scene::News => watched::waits_for_news(rt, alloc, core, log),
     }
 }
 
-// Whether the connection was checked in.
-fn came_back(answer: Result<(), Back>) -> bool {
-    match answer {
-        Ok(()) => true,
-        Err(back) => {
-            let Back { connection, why } = back;
-            let PooledConnection {
-                pool: _,
-                id: _,
-                party: _,
-            } = connection;
-            drop(why);
-            false
-        }
-    }
+// Whether the scene goes as it should over a new driver.
+fn goes_well<R: Threads + Wait + Sync>(rt: &R, alloc: Global, scene: Scene) -> bool {
+    let is_balanced = scene != Scene::LentSeat;
+    play(rt, alloc, opened(alloc, is_balanced), scene)
 }

@@ -4,4 +4,8 @@
 #[cfg(test)]
 mod drivers;
 #[cfg(test)]
+mod lines;
+#[cfg(test)]
+mod opening;
+#[cfg(test)]
 mod totals;

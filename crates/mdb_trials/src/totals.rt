@@ -1,68 +1,47 @@
-//! A shared driver over a running total. The scenes are written for any core, and each test runs one over a total.
+//! A shared driver over a running total. The scenes are written for any core, and one function plays them over a total.
 
-ghost use Rattle.std.specs.Prelude.{◌≡◌, ◌≤◌, [], All, IfSome, length};
-ghost use Rattle.mdb_log.specs.Acts.{IsDriverAct};
+ghost use Rattle.std.specs.Prelude.{◌≡◌, [], IfSome};
 
 mod calls;
 mod sharing;
 
-use mdb_log::{Act, Core, Log, Step};
-use mdb_shared::{Seat, SharedDriver};
+use mdb_log::Core;
 use mdb_total::Total;
 use std::alloc::Global;
-use std::test::Fail;
+use std::sync::Wait;
+use std::thread::Threads;
 
-fn want(moment: u64, number: u32) -> Step
-    ensures { IsDriverAct result.act }
+#[derive(Clone, Copy, PartialEq, Eq)]
+enum Scene {
+    NoPool,
+    Polls,
+    ComeBack,
+    Closing,
+    TwoThreads,
+    AllSeats,
+}
+
+// Whether the scene goes as it should over this core. None where there was no memory for it.
+fn play<C: Core, R: Threads + Wait + Sync>(
+    rt: &R,
+    alloc: Global,
+    core: Option<C>,
+    scene: Scene,
+) -> Option<bool>
+    requires { IfSome core (λ c. C.stands c []) }
 {
-    Step {
-        moment,
-        act: Act::Want(number),
+    let core = core?;
+    match scene {
+        Scene::NoPool => calls::has_no_pool(alloc, core),
+        Scene::Polls => calls::tells_how_requests_stand(rt, alloc, core),
+        Scene::ComeBack => calls::gives_back(rt, alloc, core),
+        Scene::Closing => calls::closes_late(rt, alloc, core),
+        Scene::TwoThreads => sharing::adds_by_two(rt, alloc, core),
+        Scene::AllSeats => sharing::goes_round_twice(alloc, core),
     }
 }
 
-// A driver of this core with an empty log, and its seats.
-fn opened<C: Core>(alloc: Global, core: C, seats: u32) -> Option<(SharedDriver<C>, Vec<Seat<C>>)>
-    requires stands { C.stands core [] }
-    requires seats { (1 ≤ seats) × (seats ≤ 64) }
-    ensures count { IfSome result (λ r. length r.1.items ≡ seats) }
-    ensures own { IfSome result (λ r. All (λ s. s.driver ≡ r.0.id) r.1.items) }
-{
-    SharedDriver::new(alloc, core, Log::new(alloc), seats).ok()
-}
-
-// A driver of this core with an empty log, and its two seats.
-fn pair<C: Core>(alloc: Global, core: C) -> Option<(SharedDriver<C>, Seat<C>, Seat<C>)>
-    requires { C.stands core [] }
-    ensures { IfSome result (λ r. (r.1.driver ≡ r.0.id) × (r.2.driver ≡ r.0.id)) }
-{
-    let (driver, mut seats) = opened(alloc, core, 2)?;
-    let second = seats.pop().unwrap();
-    let first = seats.pop().unwrap();
-    Some((driver, first, second))
-}
-
-// Whether the seat made a step at this moment.
-fn has_stepped<C: Core>(
-    alloc: Global,
-    driver: &SharedDriver<C>,
-    seat: &mut Seat<C>,
-    moment: u64,
-) -> bool
-    requires { seat.old.driver ≡ driver.now.id }
-    ensures { seat.new.driver ≡ seat.old.driver }
-{
-    driver.try_step(alloc, seat, want(moment, 1)).is_ok()
-}
-
-#[test]
-fn a_total_has_no_pool(rt: HostRuntime) -> Result<(), Fail> {
-    let alloc = rt.alloc();
-    let Ok(core) = Total::new(alloc) else {
-        panic!(rt; "memory")
-    };
-    let servers = core.description().servers().len();
-    let job = core.job(alloc, 0, 1);
-    assert!(rt; servers == 0 && core.published() == 0 && matches!(&job, Ok(None)));
-    Ok(())
+// Whether the scene goes as it should over a new total.
+fn goes_well<R: Threads + Wait + Sync>(rt: &R, alloc: Global, scene: Scene) -> Option<bool> {
+    play(rt, alloc, Total::new(alloc).ok(), scene)
 }

@@ -1,12 +1,14 @@
 //! Two threads: a worker has no turn while it establishes.
 
-ghost use Rattle.std.specs.Prelude.{◌≡◌, IfSome};
-ghost use Rattle.mdb_log.specs.Acts.{IsDriverAct};
+ghost use Rattle.std.specs.Prelude.{◌≡◌};
 
-use super::{asks, balanced, found, pair, server};
+use super::watched::checked_out;
+use super::{Scene, goes_well};
+use crate::lines::{Ask, Call, Line, Told, follows, found, server};
+use crate::opening::pair;
 use mdb_base::{Error, ErrorKind, Items, Text};
 use mdb_handles::check_out;
-use mdb_log::{Act, Core, Job, Log, PooledConnection, Reply, Step, Use};
+use mdb_log::{Core, Job, Log, PooledConnection};
 use mdb_shared::{Seat, SharedDriver};
 use mdb_workers::{Access, Gate, MemEstablisher, Work, work};
 use std::alloc::Global;
@@ -47,55 +49,13 @@ impl<'a> Gate for Held<'a> {
     }
 }
 
-// The step of this request.
-fn request(alloc: Global, number: u32) -> Option<Step>
-    ensures { IfSome result (λ step. IsDriverAct step.act) }
-{
-    let address = server(alloc)?;
-    Some(Step {
-        moment: 0,
-        act: Act::Request(number, address),
-    })
-}
-
-// A step of no moment.
-fn now(act: Act) -> Option<Step>
-    ensures { IfSome result (λ step. step.act ≡ act) }
-{
-    Some(Step { moment: 0, act })
-}
-
 // Connection 0.1 is to be established, and 0.2 is available: requests 1 and 3 made them.
-fn prepare<C: Core, R: Wait>(
-    driver: &SharedDriver<C>,
-    rt: &R,
-    alloc: Global,
-    seat: &mut Seat<C>,
-) -> bool
-    requires own { seat.old.driver ≡ driver.now.id }
-    ensures own { seat.new.driver ≡ seat.old.driver }
-{
-    let (first, third) = (request(alloc, 1), request(alloc, 3));
-    let is_first = asks(driver, rt, alloc, seat, first, Reply::Establishing(0, 1));
-    let is_second = asks(driver, rt, alloc, seat, third, Reply::Establishing(0, 2));
-    let is_third = asks(
-        driver,
-        rt,
-        alloc,
-        seat,
-        now(Act::Established(0, 2, found())),
-        Reply::Done,
-    );
-    let is_fourth = asks(
-        driver,
-        rt,
-        alloc,
-        seat,
-        now(Act::Return(3, Use::Ok)),
-        Reply::Done,
-    );
-    is_first && is_second && is_third && is_fourth
-}
+const PREPARED: [Line; 4] = [
+    Line(0, 0, Call::Step(Ask::Request(1)), Told::Establishing(0, 1)),
+    Line(0, 0, Call::Step(Ask::Request(3)), Told::Establishing(0, 2)),
+    Line(0, 0, Call::Step(Ask::Established(2)), Told::Done),
+    Line(0, 0, Call::Step(Ask::Return(3)), Told::Done),
+];
 
 // An establisher that always succeeds.
 fn establisher(alloc: Global) -> MemEstablisher {
@@ -132,6 +92,9 @@ fn works<C: Core, R: Wait>(
     let again = work(&access, &mut seat, &mut establisher, &mut gate, 1);
     let idle = matches!(&again, Ok(Work::Idle));
     drop(again);
+    drop(access);
+    drop(seat);
+    drop(establisher);
     let Held {
         flag: _,
         before,
@@ -151,52 +114,79 @@ fn is_served<C: Core, R: Wait>(
 ) -> bool
     requires own { seat.driver ≡ driver.now.id }
 {
-    let Some(address) = server(alloc) else {
-        return false;
-    };
-    let Ok(connection) = check_out(&Access { driver, rt, alloc }, &mut seat, 2, address) else {
-        return false;
-    };
+    let is_served = has_second(&Access { driver, rt, alloc }, &mut seat);
+    drop(seat);
     flag.store(1, Ordering::SeqCst);
+    is_served
+}
+
+fn has_second<C: Core, R: Wait>(access: &Access<'_, C, R>, seat: &mut Seat<C>) -> bool
+    requires own { seat.old.driver ≡ access.now.driver.now.id }
+{
+    let Some(address) = server(access.alloc) else {
+        return false;
+    };
+    let Some(connection) = checked_out(check_out(access, seat, 2, address)) else {
+        return false;
+    };
     let PooledConnection { pool, id, party } = connection;
     pool == 0 && id == 2 && party == 2
 }
 
+// Whether one thread works while the other is served.
 fn both<C: Core, R: Threads + Wait + Sync>(
+    rt: &R,
+    alloc: Global,
+    driver: SharedDriver<C>,
+    first: Seat<C>,
+    second: Seat<C>,
+) -> bool
+    requires own { (first.driver ≡ driver.id) × (second.driver ≡ driver.id) }
+{
+    let flag = AtomicU64::new(0);
+    let (shared, flag) = (&driver, &flag);
+    let (worked, served) = join(
+        rt,
+        move || -> bool
+            requires { first.driver ≡ shared.now.id }
+        { works(shared, rt, alloc, first, flag) },
+        move || -> bool
+            requires { second.driver ≡ shared.now.id }
+        { is_served(shared, rt, alloc, second, flag) },
+    );
+    drop(driver);
+    worked && served
+}
+
+pub(super) fn has_no_turn<C: Core, R: Threads + Wait + Sync>(
     rt: &R,
     alloc: Global,
     core: C,
     log: Log,
-) -> Option<(bool, bool)>
+) -> bool
     requires { C.stands core log }
 {
-    let (driver, mut first, second) = pair(alloc, core, log)?;
-    if !prepare(&driver, rt, alloc, &mut first) {
-        return None;
-    }
-    let flag = AtomicU64::new(0);
-    let (driver, flag) = (&driver, &flag);
-    let (worked, served) = join(
+    let Some((driver, mut first, mut second)) = pair(alloc, core, log) else {
+        return false;
+    };
+    let access = Access {
+        driver: &driver,
         rt,
-        move || -> bool
-            requires { first.driver ≡ driver.now.id }
-        { works(driver, rt, alloc, first, flag) },
-        move || -> bool
-            requires { second.driver ≡ driver.now.id }
-        { is_served(driver, rt, alloc, second, flag) },
-    );
-    Some((worked, served))
+        alloc,
+    };
+    let is_prepared = follows(&access, &mut first, &mut second, &PREPARED) == Some(true);
+    drop(access);
+    if is_prepared {
+        return both(rt, alloc, driver, first, second);
+    }
+    drop(first);
+    drop(second);
+    drop(driver);
+    false
 }
 
 #[test]
 fn a_worker_has_no_turn_while_it_establishes(rt: HostRuntime) -> Result<(), Fail> {
-    let alloc = rt.alloc();
-    let Some((core, log)) = balanced(alloc) else {
-        panic!(rt; "memory")
-    };
-    let Some((worked, served)) = both(&rt, alloc, core, log) else {
-        panic!(rt; "memory, or no connection")
-    };
-    assert!(rt; worked && served);
+    assert!(rt; goes_well(&rt, rt.alloc(), Scene::Gate));
     Ok(())
 }

@@ -3,56 +3,81 @@
 ghost use Rattle.std.specs.Prelude.{◌≡◌, IfSome};
 ghost use Rattle.mdb_log.specs.Acts.{IsDriverAct};
 
-use super::{asks, normal, pair, server};
+use super::{Scene, goes_well};
+use crate::lines::{Ask, Told, server, step_of, summary};
+use crate::opening::pair;
 use mdb_events::Held;
 use mdb_handles::{Handle, SpareSeats};
 use mdb_hello::HelloCommandResponse;
-use mdb_log::{Act, Core, HelloResult, Log, Reply, Step};
-use mdb_shared::{Seat, SharedDriver};
+use mdb_log::{Act, Core, HelloResult, Log, Step};
+use mdb_shared::Seat;
+use mdb_workers::Access;
 use std::alloc::Global;
 use std::sync::Wait;
 use std::test::Fail;
 
-// The step of this request.
-fn request(alloc: Global, number: u32) -> Option<Step>
-    ensures { IfSome result (λ step. IsDriverAct step.act) }
-{
-    let address = server(alloc)?;
-    Some(Step {
-        moment: 5,
-        act: Act::Request(number, address),
-    })
+// The reply of a server alone.
+fn greeting(alloc: Global) -> Option<Held<HelloCommandResponse>> {
+    let mut reply = HelloCommandResponse::default();
+    reply.min_wire_version = Some(0);
+    reply.max_wire_version = Some(21);
+    Held::new(alloc, reply).ok()
 }
 
 // A server alone greets.
 fn hello(alloc: Global) -> Option<Step>
     ensures { IfSome result (λ step. IsDriverAct step.act) }
 {
-    let mut reply = HelloCommandResponse::default();
-    reply.min_wire_version = Some(0);
-    reply.max_wire_version = Some(21);
-    let reply = Held::new(alloc, reply).ok()?;
     let address = server(alloc)?;
-    Some(Step {
-        moment: 1,
-        act: Act::Hello(address, 0, HelloResult::Ok(5, reply)),
-    })
-}
-
-// Whether the step has this reply.
-fn is_told<C: Core, R: Wait>(me: &mut Handle<'_, C, R>, step: Option<Step>, wanted: Reply) -> bool
-    requires act { IfSome step (λ s. IsDriverAct s.act) }
-{
-    let Some(step) = step else {
-        return false;
-    };
-    match me.step(step) {
-        Ok(reply) => reply == wanted,
-        Err(_) => false,
+    match greeting(alloc) {
+        Some(reply) => Some(Step {
+            moment: 1,
+            act: Act::Hello(address, 0, HelloResult::Ok(5, reply)),
+        }),
+        None => {
+            drop(address);
+            None
+        }
     }
 }
 
-// Borrows the seat. Its next number requests a connection, for which there is no memory then. The number, where the connection was the one of this id.
+fn is_known<C: Core, R: Wait>(access: &Access<'_, C, R>, seat: &mut Seat<C>) -> bool
+    requires own { seat.old.driver ≡ access.now.driver.now.id }
+    ensures own { seat.new.driver ≡ seat.old.driver }
+{
+    match hello(access.alloc) {
+        Some(step) => {
+            summary(access.driver.step(access.rt, access.alloc, seat, step)) == Told::Changed(true)
+        }
+        None => false,
+    }
+}
+
+// What a request tells.
+fn requests<C: Core, R: Wait>(me: &mut Handle<'_, C, R>, alloc: Global, number: u32) -> Told {
+    match step_of(alloc, 5, Ask::Request(number)) {
+        Some(step) => summary(me.step(step)),
+        None => Told::Other,
+    }
+}
+
+// The handle's next number requests a connection, for which there is no memory then. The number, where the connection was the one of this id.
+fn asks_in_vain<C: Core, R: Wait>(
+    me: &mut Handle<'_, C, R>,
+    alloc: Global,
+    id: u32,
+) -> Option<u32> {
+    let number = me.take_numbers(1)?;
+    let told = requests(me, alloc, number);
+    me.settle(0, id, None);
+    if told == Told::Establishing(0, id) {
+        Some(number)
+    } else {
+        None
+    }
+}
+
+// Borrows the seat. The number that its handle used, where the connection was the one of this id.
 fn visit<C: Core, R: Wait>(
     spare: &SpareSeats<'_, C, R>,
     rt: &R,
@@ -60,58 +85,58 @@ fn visit<C: Core, R: Wait>(
     id: u32,
 ) -> Option<u32> {
     let mut me = spare.lend(rt);
-    let number = me.take_numbers(1)?;
-    let is_told = is_told(&mut me, request(alloc, number), Reply::Establishing(0, id));
-    me.settle(0, id, None);
-    spare.take_back(rt, me).ok()?;
-    if is_told { Some(number) } else { None }
+    let number = asks_in_vain(&mut me, alloc, id);
+    match spare.take_back(rt, me) {
+        Ok(()) => number,
+        Err(me) => {
+            drop(me);
+            None
+        }
+    }
+}
+
+// Whether the seat's numbers go on when it is lent again.
+fn is_lent_twice<C: Core, R: Wait>(access: &Access<'_, C, R>, seat: Seat<C>) -> bool
+    requires own { seat.driver ≡ access.now.driver.now.id }
+{
+    let mut seats = Vec::new(access.alloc);
+    if seats.push(seat).is_err() {
+        drop(seats);
+        return false;
+    }
+    match SpareSeats::new(access.driver, access.rt, access.alloc, seats) {
+        Ok(spare) => {
+            let first = visit(&spare, access.rt, access.alloc, 1);
+            let second = visit(&spare, access.rt, access.alloc, 2);
+            drop(spare);
+            first == Some(0) && second == Some(1)
+        }
+        Err(_) => false,
+    }
 }
 
 // Whether the seat's numbers go on, and the pool is still ready after there was no memory to establish its first connection.
-fn is_spared<C: Core, R: Wait>(
-    driver: &SharedDriver<C>,
-    rt: &R,
-    alloc: Global,
-    mut seat: Seat<C>,
-) -> bool
-    requires own { seat.driver ≡ driver.now.id }
-{
-    if !asks(
-        driver,
-        rt,
-        alloc,
-        &mut seat,
-        hello(alloc),
-        Reply::Changed(true),
-    ) {
-        return false;
-    }
-    let mut seats = Vec::new(alloc);
-    if seats.push(seat).is_err() {
-        return false;
-    }
-    let Ok(spare) = SpareSeats::new(driver, rt, alloc, seats) else {
-        return false;
-    };
-    visit(&spare, rt, alloc, 1) == Some(0) && visit(&spare, rt, alloc, 2) == Some(1)
-}
-
-// The same over a new driver.
-fn goes_on<C: Core, R: Wait>(rt: &R, alloc: Global, core: C, log: Log) -> bool
+pub(super) fn goes_on<C: Core, R: Wait>(rt: &R, alloc: Global, core: C, log: Log) -> bool
     requires { C.stands core log }
 {
-    let Some((driver, seat, _other)) = pair(alloc, core, log) else {
+    let Some((driver, mut first, second)) = pair(alloc, core, log) else {
         return false;
     };
-    is_spared(&driver, rt, alloc, seat)
+    let access = Access {
+        driver: &driver,
+        rt,
+        alloc,
+    };
+    let is_known = is_known(&access, &mut first);
+    let is_lent_twice = is_lent_twice(&access, first);
+    drop(access);
+    drop(second);
+    drop(driver);
+    is_known && is_lent_twice
 }
 
 #[test]
 fn a_lent_seat_goes_on_after_want_of_memory(rt: HostRuntime) -> Result<(), Fail> {
-    let alloc = rt.alloc();
-    let Some((core, log)) = normal(alloc) else {
-        panic!(rt; "memory")
-    };
-    assert!(rt; goes_on(&rt, alloc, core, log));
+    assert!(rt; goes_well(&rt, rt.alloc(), Scene::LentSeat));
     Ok(())
 }

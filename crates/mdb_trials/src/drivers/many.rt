@@ -1,100 +1,65 @@
 //! Sixty-four seats on one thread take turns, and the log names them.
 
 ghost use Rattle.std.specs.Prelude.{◌≡◌, All, IfSome};
-ghost use Rattle.mdb_log.specs.Acts.{IsDriverAct};
 
-use super::{balanced, found, server};
-use mdb_log::{Act, Core, Log, Reply, Step, Use};
+use super::{Scene, goes_well};
+use crate::lines::{Ask, Told, steps};
+use crate::opening::{keep, opened};
+use mdb_log::{Core, Log};
 use mdb_shared::{Seat, SharedDriver};
+use mdb_workers::Access;
 use std::alloc::Global;
 use std::sync::Wait;
 use std::test::Fail;
 
 const SEATS: u32 = 64;
 
-// The step of a turn: connection 0.1 is requested and established, and then each party returns it and the next one requests it.
-fn step_of(alloc: Global, turn: u32) -> Option<Step>
-    ensures { IfSome result (λ step. IsDriverAct step.act) }
-{
-    if turn == 1 {
-        return Some(Step {
-            moment: 0,
-            act: Act::Established(0, 1, found()),
-        });
-    }
-    if turn != 0 && turn % 2 == 0 {
-        return Some(Step {
-            moment: 0,
-            act: Act::Return(turn / 2, Use::Ok),
-        });
-    }
-    let address = server(alloc)?;
-    Some(Step {
-        moment: 0,
-        act: Act::Request(turn / 2 + 1, address),
-    })
-}
-
-fn reply_to(turn: u32) -> Reply {
+// What is asked in a turn, and what is told: connection 0.1 is requested and established, and then each party returns it and the next one
+// requests it.
+fn turn_of(turn: u32) -> (Ask, Told) {
     if turn == 0 {
-        return Reply::Establishing(0, 1);
+        return (Ask::Request(1), Told::Establishing(0, 1));
     }
-    if turn == 1 || turn % 2 == 0 {
-        return Reply::Done;
+    if turn == 1 {
+        return (Ask::Established(1), Told::Done);
     }
-    Reply::Pooled(0, 1)
+    if turn % 2 == 0 {
+        return (Ask::Return(turn / 2), Told::Done);
+    }
+    (Ask::Request(turn / 2 + 1), Told::Pooled(0, 1))
 }
 
-// Whether the seat's turn was answered as it should be.
-fn take_turn<C: Core, R: Wait>(
-    driver: &SharedDriver<C>,
-    rt: &R,
-    alloc: Global,
-    seat: &mut Seat<C>,
-    turn: u32,
-) -> bool
-    requires own { seat.old.driver ≡ driver.now.id }
+// Whether the seat's turn is told what it has to be.
+fn takes_turn<C: Core, R: Wait>(access: &Access<'_, C, R>, seat: &mut Seat<C>, turn: u32) -> bool
+    requires own { seat.old.driver ≡ access.now.driver.now.id }
     ensures own { seat.new.driver ≡ seat.old.driver }
 {
-    let Some(step) = step_of(alloc, turn) else {
-        return false;
-    };
-    match driver.step(rt, alloc, seat, step) {
-        Ok(reply) => reply == reply_to(turn),
-        Err(_) => false,
-    }
+    let (ask, told) = turn_of(turn);
+    steps(access, seat, 0, ask) == told
 }
 
-// Each seat takes one turn, the seats come back in their order.
+// Each seat takes one turn, and the seats come back in their order.
 fn take_turns<C: Core, R: Wait>(
-    driver: &SharedDriver<C>,
-    rt: &R,
-    alloc: Global,
+    access: &Access<'_, C, R>,
     seats: Vec<Seat<C>>,
 ) -> Option<Vec<Seat<C>>>
-    requires own { All (λ s. s.driver ≡ driver.now.id) seats.items }
-    ensures own { IfSome result (λ done. All (λ s. s.driver ≡ driver.now.id) done.items) }
+    requires own { All (λ s. s.driver ≡ access.now.driver.now.id) seats.items }
+    ensures own { IfSome result (λ done. All (λ s. s.driver ≡ access.now.driver.now.id) done.items) }
 {
-    let mut done = Vec::new(alloc);
+    let mut done = Vec::new(access.alloc);
     let mut turn = 0u32;
+    let mut is_well = true;
     for mut seat in seats {
-        if !take_turn(driver, rt, alloc, &mut seat, turn) {
-            return None;
-        }
-        done.push(seat).ok()?;
+        let is_told = takes_turn(access, &mut seat, turn);
+        let is_kept = keep(access.driver, &mut done, seat);
+        is_well = is_well && is_told && is_kept;
         turn = turn.wrapping_add(1);
     }
-    Some(done)
-}
-
-// The log of a driver whose seats each took one turn.
-fn log_of_turns<C: Core, R: Wait>(rt: &R, alloc: Global, core: C, log: Log) -> Option<Log>
-    requires { C.stands core log }
-{
-    let (driver, seats) = SharedDriver::new(alloc, core, log, SEATS).ok()?;
-    let done = take_turns(&driver, rt, alloc, seats)?;
-    let (_, log) = driver.close(done).ok()?;
-    Some(log)
+    if is_well {
+        return Some(done);
+    }
+    drop(done);
+    None
 }
 
 // After the opening, each entry has the number of its seat.
@@ -111,15 +76,48 @@ fn names_seats(log: &Log) -> bool {
     true
 }
 
+// Whether the log of the seats of this driver names them.
+fn closes<C: Core>(driver: SharedDriver<C>, seats: Vec<Seat<C>>) -> bool
+    requires own { All (λ s. s.driver ≡ driver.id) seats.items }
+{
+    match driver.close(seats) {
+        Ok((core, log)) => {
+            let is_named = names_seats(&log);
+            drop(core);
+            drop(log);
+            is_named
+        }
+        Err(unclosed) => {
+            drop(unclosed);
+            false
+        }
+    }
+}
+
+pub(super) fn takes_turns<C: Core, R: Wait>(rt: &R, alloc: Global, core: C, log: Log) -> bool
+    requires { C.stands core log }
+{
+    let Some((driver, seats)) = opened(alloc, core, log, SEATS) else {
+        return false;
+    };
+    let access = Access {
+        driver: &driver,
+        rt,
+        alloc,
+    };
+    let done = take_turns(&access, seats);
+    drop(access);
+    match done {
+        Some(seats) => closes(driver, seats),
+        None => {
+            drop(driver);
+            false
+        }
+    }
+}
+
 #[test]
 fn all_seats_stand_in_one_log(rt: HostRuntime) -> Result<(), Fail> {
-    let alloc = rt.alloc();
-    let Some((core, log)) = balanced(alloc) else {
-        panic!(rt; "memory")
-    };
-    let Some(log) = log_of_turns(&rt, alloc, core, log) else {
-        panic!(rt; "memory, or another reply")
-    };
-    assert!(rt; names_seats(&log));
+    assert!(rt; goes_well(&rt, rt.alloc(), Scene::AllSeats));
     Ok(())
 }

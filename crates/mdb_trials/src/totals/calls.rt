@@ -1,197 +1,169 @@
 //! Each call of a shared driver, once or more.
 
-ghost use Rattle.std.specs.Prelude.{◌≡◌, [], IfSome};
+ghost use Rattle.std.specs.Prelude.{◌≡◌, []};
 
-use super::{has_stepped, opened, pair, want};
-use mdb_base::OutOfMemory;
-use mdb_events::End;
-use mdb_log::{Core, Log, PooledConnection, Refused, Reply, Use};
-use mdb_shared::{Back, Poll, Seat, SharedDriver, TryError};
-use mdb_total::Total;
+use super::{Scene, goes_well};
+use crate::lines::{Ask, Call, Line, Told, follows, step_of};
+use crate::opening::{close_late, pair};
+use mdb_log::{Core, Log};
+use mdb_shared::TryError;
+use mdb_workers::Access;
 use std::alloc::Global;
 use std::sync::Wait;
 use std::test::Fail;
 
-// The reply that a poll tells; a connection is taken apart.
-fn told(polled: Result<Poll, OutOfMemory>) -> Option<Reply> {
-    match polled {
-        Ok(Poll::Ready(connection)) => {
-            let PooledConnection { pool, id, party: _ } = connection;
-            Some(Reply::Pooled(pool, id))
-        }
-        Ok(Poll::NotYet(reply)) => Some(reply),
-        Ok(Poll::Ended(end)) => Some(Reply::Ended(end)),
-        Ok(Poll::Refused(why)) => Some(Reply::Refused(why)),
+pub(super) fn has_no_pool<C: Core>(alloc: Global, core: C) -> Option<bool> {
+    let servers = core.description().servers().len();
+    let published = core.published();
+    let job = core.job(alloc, 0, 1);
+    drop(core);
+    let has_none = match &job {
+        Ok(job) => Some(job.is_none()),
         Err(_) => None,
-    }
+    };
+    drop(job);
+    Some(servers == 0 && published == 0 && has_none?)
 }
 
-// A driver with one seat.
-fn alone<C: Core>(alloc: Global, core: C) -> Option<(SharedDriver<C>, Seat<C>)>
-    requires { C.stands core [] }
-    ensures { IfSome result (λ r. r.1.driver ≡ r.0.id) }
-{
-    let (driver, mut seats) = opened(alloc, core, 1)?;
-    let seat = seats.pop().unwrap();
-    Some((driver, seat))
+#[test]
+fn a_total_has_no_pool(rt: HostRuntime) -> Result<(), Fail> {
+    assert!(rt; goes_well(&rt, rt.alloc(), Scene::NoPool).expect(&rt, "memory"));
+    Ok(())
 }
 
 // Request 1 before the total is 2, and requests 1, 2 and 3 after.
-fn polled<C: Core, R: Wait>(rt: &R, alloc: Global, core: C) -> Option<(Reply, Reply, Reply, Reply)>
+const POLLS: [Line; 5] = [
+    Line(0, 0, Call::Poll(1), Told::UnknownRequest),
+    Line(0, 0, Call::Step(Ask::Want(2)), Told::Count(2)),
+    Line(0, 0, Call::Poll(1), Told::Pooled(0, 1)),
+    Line(0, 0, Call::Poll(2), Told::Closed),
+    Line(0, 0, Call::Poll(3), Told::Waiting),
+];
+
+// With the total at 2: the connections of parties 1 and 7 are checked in, and requests 1 and 2 given up.
+const COME_BACK: [Line; 5] = [
+    Line(0, 0, Call::Try(Ask::Want(2)), Told::Count(2)),
+    Line(0, 0, Call::CheckIn(1), Told::Done),
+    Line(0, 0, Call::CheckIn(7), Told::CameBack(7)),
+    Line(0, 0, Call::GiveUp(1), Told::Done),
+    Line(0, 0, Call::GiveUp(2), Told::UnknownRequest),
+];
+
+// Whether each line is told, and how many entries the log has then.
+fn follow<C: Core, R: Wait>(rt: &R, alloc: Global, core: C, lines: &[Line]) -> Option<(bool, u64)>
     requires { C.stands core [] }
 {
-    let (driver, mut seat) = alone(alloc, core)?;
-    let nothing = told(driver.poll_check_out(rt, alloc, &mut seat, 1))?;
-    driver.step(rt, alloc, &mut seat, want(0, 2)).ok()?;
-    let ready = told(driver.poll_check_out(rt, alloc, &mut seat, 1))?;
-    let ended = told(driver.poll_check_out(rt, alloc, &mut seat, 2))?;
-    let waits = told(driver.poll_check_out(rt, alloc, &mut seat, 3))?;
-    Some((nothing, ready, ended, waits))
+    let (driver, mut first, mut second) = pair(alloc, core, Log::new(alloc))?;
+    let access = Access {
+        driver: &driver,
+        rt,
+        alloc,
+    };
+    let is_well = follows(&access, &mut first, &mut second, lines);
+    drop(access);
+    let count = driver.seen_count(&mut second);
+    drop(first);
+    drop(second);
+    drop(driver);
+    Some((is_well?, count))
+}
+
+pub(super) fn tells_how_requests_stand<C: Core, R: Wait>(
+    rt: &R,
+    alloc: Global,
+    core: C,
+) -> Option<bool>
+    requires { C.stands core [] }
+{
+    Some(follow(rt, alloc, core, &POLLS)? == (true, 6))
 }
 
 #[test]
 fn polls_tell_how_requests_stand(rt: HostRuntime) -> Result<(), Fail> {
-    let alloc = rt.alloc();
-    let Ok(core) = Total::new(alloc) else {
-        panic!(rt; "memory")
-    };
-    let Some((nothing, ready, ended, waits)) = polled(&rt, alloc, core) else {
-        panic!(rt; "memory")
-    };
-    assert!(rt; nothing == Reply::Refused(Refused::UnknownRequest));
-    assert!(rt; ready == Reply::Pooled(0, 1));
-    assert!(rt; ended == Reply::Ended(End::Closed) && waits == Reply::Waiting);
+    assert!(rt; goes_well(&rt, rt.alloc(), Scene::Polls).expect(&rt, "memory"));
     Ok(())
 }
 
-// Checks a connection of this party in; the number of one that came back.
-fn returned<C: Core, R: Wait>(
-    rt: &R,
-    alloc: Global,
-    driver: &SharedDriver<C>,
-    seat: &mut Seat<C>,
-    party: u32,
-) -> Option<u32>
-    requires { seat.old.driver ≡ driver.now.id }
-    ensures { seat.new.driver ≡ seat.old.driver }
-{
-    let held = PooledConnection {
-        pool: 0,
-        id: party,
-        party,
-    };
-    match driver.check_in(rt, alloc, seat, held, Use::Ok) {
-        Ok(()) => None,
-        Err(Back { connection, why: _ }) => {
-            let PooledConnection {
-                pool: _,
-                id,
-                party: _,
-            } = connection;
-            Some(id)
-        }
-    }
-}
-
-// With the total at 2: the connections of parties 1 and 7 are checked in, and requests 1 and 2 given up.
-fn given_back<C: Core, R: Wait>(
-    rt: &R,
-    alloc: Global,
-    core: C,
-) -> Option<(Option<u32>, Option<u32>, Reply, Reply, u64)>
+pub(super) fn gives_back<C: Core, R: Wait>(rt: &R, alloc: Global, core: C) -> Option<bool>
     requires { C.stands core [] }
 {
-    let (driver, mut seat) = alone(alloc, core)?;
-    driver.try_step(alloc, &mut seat, want(0, 2)).ok()?;
-    let kept = returned(rt, alloc, &driver, &mut seat, 1);
-    let refused = returned(rt, alloc, &driver, &mut seat, 7);
-    let done = driver.give_up(rt, alloc, &mut seat, 1).ok()?;
-    let unknown = driver.give_up(rt, alloc, &mut seat, 2).ok()?;
-    let seen = driver.seen_count(&mut seat);
-    Some((kept, refused, done, unknown, seen))
+    Some(follow(rt, alloc, core, &COME_BACK)? == (true, 5))
 }
 
 #[test]
 fn connections_come_back_and_requests_are_given_up(rt: HostRuntime) -> Result<(), Fail> {
-    let alloc = rt.alloc();
-    let Ok(core) = Total::new(alloc) else {
-        panic!(rt; "memory")
-    };
-    let Some((kept, refused, done, unknown, seen)) = given_back(&rt, alloc, core) else {
-        panic!(rt; "memory")
-    };
-    assert!(rt; kept == None && refused == Some(7) && done == Reply::Done && seen == 5);
-    assert!(rt; unknown == Reply::Refused(Refused::UnknownRequest));
+    assert!(rt; goes_well(&rt, rt.alloc(), Scene::ComeBack).expect(&rt, "memory"));
     Ok(())
 }
 
-// One seat closes alone, and then both. How many were missing, the core and its log.
-fn closed_late<C: Core>(
-    alloc: Global,
-    driver: SharedDriver<C>,
-    first: Seat<C>,
-    second: Seat<C>,
-) -> Option<(u32, C, Log)>
-    requires { (first.driver ≡ driver.id) × (second.driver ≡ driver.id) }
-{
-    let mut seats = Vec::new(alloc);
-    seats.push(second).ok()?;
-    let Err(unclosed) = driver.close(seats) else {
-        return None;
-    };
-    let missing = unclosed.missing;
-    let mut seats = unclosed.seats;
-    seats.push(first).ok()?;
-    let (core, log) = unclosed.driver.close(seats).ok()?;
-    Some((missing, core, log))
-}
+// Two seats make a step each.
+const ONE_EACH: [Line; 2] = [
+    Line(0, 9, Call::Try(Ask::Want(1)), Told::Count(1)),
+    Line(1, 4, Call::Try(Ask::Want(1)), Told::Count(2)),
+];
 
-// Two seats make a step each at the moments 9 and 4, meet, and close. What they had seen, how many were missing first, the core and its log.
-fn met_and_closed<C: Core>(alloc: Global, core: C) -> Option<(u64, u32, C, Log)>
+// Two seats make a step each at the moments 9 and 4, meet, and close. Whether each step was told, what the first seat had seen, the core and its log.
+fn met_and_closed<C: Core, R: Wait>(
+    rt: &R,
+    alloc: Global,
+    core: C,
+) -> Option<((Option<bool>, u64), C, Log)>
     requires { C.stands core [] }
 {
-    let (driver, mut first, mut second) = pair(alloc, core)?;
-    if !has_stepped(alloc, &driver, &mut first, 9) || !has_stepped(alloc, &driver, &mut second, 4) {
-        return None;
-    }
+    let (driver, mut first, mut second) = pair(alloc, core, Log::new(alloc))?;
+    let access = Access {
+        driver: &driver,
+        rt,
+        alloc,
+    };
+    let is_well = follows(&access, &mut first, &mut second, &ONE_EACH);
+    drop(access);
     driver.meet(&mut first, &mut second);
     let seen = driver.seen_count(&mut first);
-    let (missing, core, log) = closed_late(alloc, driver, first, second)?;
-    Some((seen, missing, core, log))
+    let (core, log) = close_late(alloc, driver, first, second)?;
+    Some(((is_well, seen), core, log))
+}
+
+fn last_moment(log: &Log) -> Option<u64> {
+    Some(log.entries().last()?.step.moment)
+}
+
+// Whether two seats that close with one missing first close with both, after steps whose moments only grew.
+pub(super) fn closes_late<C: Core, R: Wait>(rt: &R, alloc: Global, core: C) -> Option<bool>
+    requires { C.stands core [] }
+{
+    let ((is_well, seen), core, log) = met_and_closed(rt, alloc, core)?;
+    let moments = (core.last_moment(), last_moment(&log));
+    drop(core);
+    drop(log);
+    Some(is_well? && seen == 2 && moments == (9, Some(9)))
 }
 
 #[test]
 fn seats_meet_and_close_together(rt: HostRuntime) -> Result<(), Fail> {
-    let alloc = rt.alloc();
-    let Ok(core) = Total::new(alloc) else {
-        panic!(rt; "memory")
-    };
-    let Some((seen, missing, core, log)) = met_and_closed(alloc, core) else {
-        panic!(rt; "memory, or it closed with a seat missing")
-    };
-    assert!(rt; seen == 2 && missing == 1);
-    let last = log.entries().last().map(|entry| entry.step.moment);
-    assert!(rt; core.last_moment() == 9 && last == Some(9));
+    assert!(rt; goes_well(&rt, rt.alloc(), Scene::Closing).expect(&rt, "memory"));
     Ok(())
 }
 
-fn text_of(alloc: Global, error: &TryError) -> Option<String> {
-    error.to_string(alloc).ok()
+// Whether this is the text of the error.
+fn is_text_of(alloc: Global, error: TryError, text: &str) -> Option<bool> {
+    let is_text = match error.to_string(alloc) {
+        Ok(told) => Some(told.as_str() == text),
+        Err(_) => None,
+    };
+    drop(error);
+    is_text
+}
+
+fn tell_why(alloc: Global) -> Option<bool> {
+    let busy = TryError::Busy(1, step_of(alloc, 0, Ask::Want(1))?);
+    let is_busy = is_text_of(alloc, busy, "another seat has the turn")?;
+    let is_lack = is_text_of(alloc, TryError::OutOfMemory, "out of memory")?;
+    Some(is_busy && is_lack)
 }
 
 #[test]
 fn tries_that_failed_tell_why(rt: HostRuntime) -> Result<(), Fail> {
-    let alloc = rt.alloc();
-    let busy = TryError::Busy(1, want(0, 1));
-    let Some(taken) = text_of(alloc, &busy) else {
-        panic!(rt; "memory")
-    };
-    drop(busy);
-    let Some(memory) = text_of(alloc, &TryError::OutOfMemory) else {
-        panic!(rt; "memory")
-    };
-    assert!(rt;
-        taken.as_str() == "another seat has the turn" && memory.as_str() == "out of memory"
-    );
+    assert!(rt; tell_why(rt.alloc()).expect(&rt, "memory"));
     Ok(())
 }
