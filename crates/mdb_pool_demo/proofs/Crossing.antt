@@ -19,7 +19,7 @@ use Rattle.mdb_pool_demo.specs.contracts.hall.Hall as Hall
 use Rattle.mdb_pool_demo.specs.contracts.parts.Part as Part
 use Rattle.mdb_pool_demo.specs.contracts.parts.Played as Played
 use Rattle.mdb_pool_demo.proofs.errors.DemoError.TheSendSync.{the_field_send as error}
-use Rattle.mdb_pool_demo.proofs.hall.Hall.TheSendSync.{the_field_sync as hall}
+use Rattle.mdb_pool_demo.proofs.hall.Hall.TheSendSync.{the_sync as hall}
 use Rattle.mdb_pool_demo.proofs.parts.Role.TheSendSync.{the_field_send as role}
 
 module _ (C : RattleType) (g : Core.Ghosts C.Denot) where
@@ -31,10 +31,10 @@ module _ (C : RattleType) (g : Core.Ghosts C.Denot) where
 
   -- the closure that plays a part captured the driver, the runtime, the allocator and the hall
   pub closure_lends : (ν : Sym) (R : RattleType) (ℓ ℓ' ℓ'' : Lifetime) (κ κ' κ'' : Lft) → IsSend C → IsSync R
-      → IsSync (TupleAt ν (ShrRef ℓ κ (Driver.the_row C g) ∷ ShrRef ℓ' κ' R ∷ Heap.the_row ∷ ShrRef ℓ'' κ'' Hall.the_field.row ∷ []))
+      → IsSync (TupleAt ν (ShrRef ℓ κ (Driver.the_row C g) ∷ ShrRef ℓ' κ' R ∷ Heap.the_row ∷ ShrRef ℓ'' κ'' Hall.the_row ∷ []))
   closure_lends ν R ℓ ℓ' ℓ'' κ κ' κ'' s r =
-      let T = type_at ν (ShrRef ℓ κ (Driver.the_row C g) ∷ ShrRef ℓ' κ' R ∷ Heap.the_row ∷ ShrRef ℓ'' κ'' Hall.the_field.row ∷ []) in
-      recorded_sync (field T).row _ _ T.to_one (struct_sync (shape T) (shr_sync ℓ κ (Driver.the_row C g) (driver_lends C g s), (shr_sync ℓ' κ' R r, (heap, (shr_sync ℓ'' κ'' Hall.the_field.row hall, tt)))))
+      let T = type_at ν (ShrRef ℓ κ (Driver.the_row C g) ∷ ShrRef ℓ' κ' R ∷ Heap.the_row ∷ ShrRef ℓ'' κ'' Hall.the_row ∷ []) in
+      recorded_sync (field T).row _ _ T.to_one (struct_sync (shape T) (shr_sync ℓ κ (Driver.the_row C g) (driver_lends C g s), (shr_sync ℓ' κ' R r, (heap, (shr_sync ℓ'' κ'' Hall.the_row hall, tt)))))
 
   -- the closure that plays a guest captured the runtime, the allocator and the seats that are lent
   pub guests_lend : (ν : Sym) (R : RattleType) (a : NamedLft) (ℓ ℓ' : Lifetime) (κ κ' : Lft) → IsSend C → IsSync R

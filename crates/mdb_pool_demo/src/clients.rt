@@ -64,7 +64,8 @@ pub fn bring_back<C: Core, R: Wait>(
 {
     match me.hand_back(connection, used) {
         Ok(()) => Ok(()),
-        Err(Unreturned { connection, why: _ }) => {
+        Err(unreturned) => {
+            let Unreturned { connection, why: _ } = unreturned;
             let PooledConnection {
                 pool: _,
                 id: _,

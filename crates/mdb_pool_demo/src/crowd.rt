@@ -1,5 +1,7 @@
 //! More threads than seats: each borrows a seat for a round.
 
+ghost use Rattle.std.specs.Prelude.{◌≡◌, All};
+
 use crate::clients::round;
 use crate::closing::fill;
 use crate::counting::{Counts, count};
@@ -8,8 +10,8 @@ use crate::opening::{Limits, hello, open};
 use crate::parts::establisher;
 use mdb_handles::{Handle, SpareSeats};
 use mdb_log::{Core, Log, Use};
-use mdb_shared::{Look, SharedDriver};
-use mdb_workers::{OpenGate, WorkError};
+use mdb_shared::{Look, Seat, SharedDriver};
+use mdb_workers::OpenGate;
 use std::alloc::Global;
 use std::sync::Wait;
 use std::thread::{Threads, map_indices};
@@ -45,14 +47,25 @@ impl<C: Core> Look<C> for Counting {
     }
 }
 
+// Establishes the connections of the pool.
+fn establish<C: Core, R: Wait>(me: &mut Handle<'_, C, R>, alloc: Global) -> Result<(), DemoError> {
+    let mut establisher = establisher(alloc);
+    let worked = me.work(&mut establisher, &mut OpenGate, SEATS);
+    drop(establisher);
+    let is_done = worked.is_ok();
+    drop(worked);
+    if is_done {
+        return Ok(());
+    }
+    Err(DemoError::OutOfMemory)
+}
+
 // Makes the connections of the pool, before any guest comes.
 fn prepare<C: Core, R: Wait>(me: &mut Handle<'_, C, R>, alloc: Global) -> Result<(), DemoError> {
-    drop(me.step(hello(alloc)?)?);
+    let step = hello(alloc)?;
+    drop(me.step(step)?);
     fill(me, alloc, SEATS)?;
-    match me.work(&mut establisher(alloc), &mut OpenGate, SEATS) {
-        Ok(_) => Ok(()),
-        Err(WorkError::OutOfMemory(_, _)) => Err(DemoError::OutOfMemory),
-    }
+    establish(me, alloc)
 }
 
 // Borrows a seat for each round.
@@ -83,16 +96,42 @@ fn visit_all<C: Core, R: Threads + Wait + Sync>(
     Ok(())
 }
 
-/// More guests than seats check connections out and in, each at a seat that is lent for a round.
-pub fn crowd<R: Threads + Wait + Sync>(rt: &R, alloc: Global) -> Result<Counts, DemoError> {
-    let (core, log) = open(alloc, CROWD)?;
-    let (driver, mut seats) = SharedDriver::new(alloc, core, log, SEATS + 1)?;
+// The seats are lent to all guests.
+fn lend_all<C: Core, R: Threads + Wait + Sync>(
+    driver: &SharedDriver<C>,
+    rt: &R,
+    alloc: Global,
+    seats: Vec<Seat<C>>,
+) -> Result<(), DemoError>
+    requires own { All (λ s. s.driver ≡ driver.now.id) seats.items }
+{
+    let spare = SpareSeats::new(driver, rt, alloc, seats)?;
+    let visited = visit_all(rt, alloc, &spare);
+    drop(spare);
+    visited
+}
+
+// One seat makes the connections, and counts in the end; the others are lent.
+fn count_visits<C: Core, R: Threads + Wait + Sync>(
+    driver: &SharedDriver<C>,
+    rt: &R,
+    alloc: Global,
+    mut seats: Vec<Seat<C>>,
+) -> Result<Counts, DemoError>
+    requires own { All (λ s. s.driver ≡ driver.now.id) seats.items }
+{
     let Some(seat) = seats.pop() else {
         return Err(DemoError::Seat);
     };
-    let mut me = Handle::new(&driver, rt, alloc, seat);
+    let mut me = Handle::new(driver, rt, alloc, seat);
     prepare(&mut me, alloc)?;
-    let spare = SpareSeats::new(&driver, rt, alloc, seats)?;
-    visit_all(rt, alloc, &spare)?;
+    lend_all(driver, rt, alloc, seats)?;
     Ok(me.look(&Counting))
+}
+
+/// More guests than seats check connections out and in, each at a seat that is lent for a round.
+pub fn crowd<R: Threads + Wait + Sync>(rt: &R, alloc: Global) -> Result<Counts, DemoError> {
+    let (core, log) = open(alloc, CROWD)?;
+    let (driver, seats) = SharedDriver::new(alloc, core, log, SEATS + 1)?;
+    count_visits(&driver, rt, alloc, seats)
 }

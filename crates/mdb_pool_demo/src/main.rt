@@ -8,13 +8,13 @@ mod counting;
 mod crowd;
 mod errors;
 mod hall;
-mod limits;
 mod listening;
 mod measuring;
 mod opening;
 mod parts;
 mod running;
 mod scenes;
+mod waits;
 
 use crate::errors::DemoError;
 use crate::measuring::{Measured, Plan, USAGE, measure};

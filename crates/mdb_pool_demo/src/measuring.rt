@@ -4,6 +4,7 @@ use crate::counting::{Counts, count};
 use crate::errors::DemoError;
 use crate::opening::Limits;
 use crate::parts::Role;
+use crate::running::Outcome;
 use crate::scenes::scene;
 use mdb_log::{Act, Entry, Log, Reply};
 use std::alloc::Global;
@@ -114,13 +115,20 @@ fn roles(alloc: Global, plan: Plan) -> Result<Vec<Role>, DemoError> {
     Ok(roles)
 }
 
-/// Does the rounds.
-pub fn measure<R: Threads + Wait + Clock + Sync>(
+// The log is counted, and let go.
+fn counted(outcome: Outcome) -> (Counts, Kinds) {
+    let told = (count(&outcome.log), kinds_of(&outcome.log));
+    drop(outcome);
+    told
+}
+
+// The rounds that the roles do.
+fn rounds<R: Threads + Wait + Clock + Sync>(
     rt: &R,
     alloc: Global,
     plan: Plan,
+    roles: &[Role],
 ) -> Result<Measured, DemoError> {
-    let roles = roles(alloc, plan)?;
     let limits = Limits {
         size: plan.connections,
         least: 0,
@@ -130,13 +138,25 @@ pub fn measure<R: Threads + Wait + Clock + Sync>(
     let Ok(start) = Instant::now(rt) else {
         return Err(DemoError::Clock);
     };
-    let outcome = scene(rt, alloc, limits, roles.as_slice())?;
-    let Ok(time) = start.elapsed(rt) else {
-        return Err(DemoError::Clock);
-    };
-    Ok(Measured {
-        counts: count(&outcome.log),
-        kinds: kinds_of(&outcome.log),
-        time,
-    })
+    let outcome = scene(rt, alloc, limits, roles)?;
+    let elapsed = start.elapsed(rt);
+    let (counts, kinds) = counted(outcome);
+    match elapsed {
+        Ok(time) => Ok(Measured {
+            counts,
+            kinds,
+            time,
+        }),
+        Err(_) => Err(DemoError::Clock),
+    }
+}
+
+/// Does the rounds.
+pub fn measure<R: Threads + Wait + Clock + Sync>(
+    rt: &R,
+    alloc: Global,
+    plan: Plan,
+) -> Result<Measured, DemoError> {
+    let roles = roles(alloc, plan)?;
+    rounds(rt, alloc, plan, roles.as_slice())
 }

@@ -32,10 +32,14 @@ pub fn address(alloc: Global) -> Result<ServerAddress, DemoError> {
     }
 }
 
-fn options(alloc: Global, limits: Limits) -> Result<Options, DemoError> {
+fn seeds(alloc: Global) -> Result<Vec<ServerAddress>, DemoError> {
     let mut seeds = Vec::new(alloc);
     seeds.push(address(alloc)?)?;
-    Ok(Options {
+    Ok(seeds)
+}
+
+fn options(seeds: Vec<ServerAddress>, limits: Limits) -> Options {
+    Options {
         seeds: Items::new(seeds),
         set_name: None,
         direct: false,
@@ -53,6 +57,25 @@ fn options(alloc: Global, limits: Limits) -> Result<Options, DemoError> {
         limit_pool: None,
         limit_monitor: None,
         topology_id: ObjectId([0; 12]),
+    }
+}
+
+// The reply of a server alone.
+fn greeting() -> HelloCommandResponse {
+    let mut reply = HelloCommandResponse::default();
+    reply.min_wire_version = Some(0);
+    reply.max_wire_version = Some(21);
+    reply
+}
+
+// The server of this address greets.
+fn hello_from(alloc: Global, address: ServerAddress) -> Result<Step, DemoError>
+    ensures { IfOk result (λ step. IsDriverAct step.act) }
+{
+    let reply = Held::new(alloc, greeting())?;
+    Ok(Step {
+        moment: 1,
+        act: Act::Hello(address, 0, HelloResult::Ok(5, reply)),
     })
 }
 
@@ -60,23 +83,17 @@ fn options(alloc: Global, limits: Limits) -> Result<Options, DemoError> {
 pub fn hello(alloc: Global) -> Result<Step, DemoError>
     ensures { IfOk result (λ step. IsDriverAct step.act) }
 {
-    let mut reply = HelloCommandResponse::default();
-    reply.min_wire_version = Some(0);
-    reply.max_wire_version = Some(21);
-    let reply = Held::new(alloc, reply)?;
-    let address = address(alloc)?;
-    Ok(Step {
-        moment: 1,
-        act: Act::Hello(address, 0, HelloResult::Ok(5, reply)),
-    })
+    hello_from(alloc, address(alloc)?)
 }
 
 /// A driver of the one server, with its log.
 pub fn open(alloc: Global, limits: Limits) -> Result<(TopologyCore, Log), DemoError>
     ensures { IfOk result (λ opened. IsDriverOf opened.0 opened.1) }
 {
-    let options = options(alloc, limits)?;
-    if options.check().is_some() {
+    let options = options(seeds(alloc)?, limits);
+    let is_broken = options.check().is_some();
+    if is_broken {
+        drop(options);
         return Err(DemoError::Options);
     }
     let mut log = Log::new(alloc);

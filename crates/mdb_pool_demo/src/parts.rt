@@ -6,8 +6,8 @@ use crate::clients::ask;
 use crate::closing::close_up;
 use crate::errors::DemoError;
 use crate::hall::Hall;
-use crate::limits::{cancel, hurry, outlast};
 use crate::listening::listen;
+use crate::waits::{cancel, hurry, outlast};
 use mdb_base::{Error, ErrorKind, Items, Text};
 use mdb_handles::{Handle, TopologyWatcher};
 use mdb_log::{Core, Established};
@@ -85,6 +85,7 @@ fn establish<C: Core, R: Wait>(me: &mut Handle<'_, C, R>, alloc: Global)
 {
     let mut establisher = establisher(alloc);
     me.serve(&mut establisher, &mut OpenGate);
+    drop(establisher);
 }
 
 // Follows the topology until the driver stops. At first it asks for a check, and takes that back at the end.
@@ -118,6 +119,7 @@ fn follow<C: Core, R: Wait>(
     }
     let state = me.observe_latest(watcher)?;
     hall.note_published(state.published);
+    drop(state);
     Ok(())
 }
 

@@ -1,13 +1,12 @@
 //! A run of one driver: it is opened, its threads play their parts, and it is closed.
 
 ghost use Rattle.std.specs.Prelude.{◌≡◌, All, IfOk};
-ghost use Rattle.mdb_log.specs.Acts.{IsDriverAct};
 
 use crate::errors::DemoError;
 use crate::hall::Hall;
 use crate::opening::hello;
 use crate::parts::{Part, Played, Role, play};
-use mdb_log::{Core, Log, Step};
+use mdb_log::{Core, Log};
 use mdb_shared::{Seat, SharedDriver};
 use std::alloc::Global;
 use std::rt::Clock;
@@ -86,21 +85,42 @@ fn play_all<C: Core, R: Threads + Wait + Clock + Sync>(
     seats_of(driver, alloc, played)
 }
 
-// One step, whatever its reply.
-fn step<C: Core, R: Wait>(
+// The server greets, so that its pool becomes ready.
+fn greet<C: Core, R: Wait>(
     driver: &SharedDriver<C>,
     rt: &R,
     alloc: Global,
     seat: &mut Seat<C>,
-    step: Step,
 ) -> Result<(), DemoError>
     requires own { seat.old.driver ≡ driver.now.id }
-    requires act { IsDriverAct step.act }
-    ensures own { seat.new.driver ≡ seat.old.driver }
+    ensures own { seat.new.driver ≡ driver.now.id }
 {
+    let step = hello(alloc)?;
     let reply = driver.step(rt, alloc, seat, step)?;
     drop(reply);
     Ok(())
+}
+
+// The pool becomes ready, and each role is played in a thread of its own; all seats come back.
+fn use_seats<C: Core, R: Threads + Wait + Clock + Sync>(
+    driver: &SharedDriver<C>,
+    rt: &R,
+    alloc: Global,
+    mut seats: Vec<Seat<C>>,
+    roles: &[Role],
+    hall: &Hall,
+) -> Result<Vec<Seat<C>>, DemoError>
+    requires own { All (λ s. s.driver ≡ driver.now.id) seats.items }
+    ensures own { IfOk result (λ seats. All (λ s. s.driver ≡ driver.now.id) seats.items) }
+{
+    let Some(mut seat) = seats.pop() else {
+        return Err(DemoError::Seat);
+    };
+    greet(driver, rt, alloc, &mut seat)?;
+    let parts = parts(driver, alloc, seats, roles)?;
+    let mut seats = play_all(driver, rt, alloc, parts, hall)?;
+    seats.push(seat)?;
+    Ok(seats)
 }
 
 // The hall of these roles.
@@ -125,21 +145,21 @@ pub fn play_out<C: Core, R: Threads + Wait + Clock + Sync>(
     if roles.len() >= MOST {
         return Err(DemoError::Seat);
     }
-    let (driver, mut seats) = SharedDriver::new(alloc, core, log, roles.len() as u32 + 1)?;
-    let Some(mut seat) = seats.pop() else {
-        return Err(DemoError::Seat);
-    };
-    step(&driver, rt, alloc, &mut seat, hello(alloc)?)?;
+    let (driver, seats) = SharedDriver::new(alloc, core, log, roles.len() as u32 + 1)?;
     let hall = hall_of(roles);
-    let parts = parts(&driver, alloc, seats, roles)?;
-    let mut seats = play_all(&driver, rt, alloc, parts, &hall)?;
-    seats.push(seat)?;
+    let seats = use_seats(&driver, rt, alloc, seats, roles, &hall)?;
     match driver.close(seats) {
-        Ok((_, log)) => Ok(Outcome {
-            log,
-            published: hall.published(),
-            heard: hall.heard.count(),
-        }),
-        Err(_) => Err(DemoError::Seat),
+        Ok((core, log)) => {
+            drop(core);
+            Ok(Outcome {
+                log,
+                published: hall.published(),
+                heard: hall.heard.count(),
+            })
+        }
+        Err(unclosed) => {
+            drop(unclosed);
+            Err(DemoError::Seat)
+        }
     }
 }

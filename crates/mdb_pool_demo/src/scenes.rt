@@ -66,6 +66,35 @@ pub fn scene<R: Threads + Wait + Clock + Sync>(
     play_out(rt, alloc, core, log, roles)
 }
 
+// What one scene tells: its log is counted, and let go.
+#[derive(Clone, Copy)]
+struct Tally {
+    counts: Counts,
+    published: u64,
+    heard: u64,
+}
+
+fn tally_of(outcome: Outcome) -> Tally {
+    let told = Tally {
+        counts: count(&outcome.log),
+        published: outcome.published,
+        heard: outcome.heard,
+    };
+    drop(outcome);
+    told
+}
+
+// One scene, counted.
+fn shown<R: Threads + Wait + Clock + Sync>(
+    rt: &R,
+    alloc: Global,
+    limits: Limits,
+    roles: &[Role],
+) -> Result<Tally, DemoError> {
+    let outcome = scene(rt, alloc, limits, roles)?;
+    Ok(tally_of(outcome))
+}
+
 /// What the scenes tell.
 #[derive(Clone, Copy, Debug, PartialEq, Eq)]
 pub struct Told {
@@ -86,18 +115,17 @@ pub struct Told {
 
 /// All scenes, one after the other.
 pub fn run<R: Threads + Wait + Clock + Sync>(rt: &R, alloc: Global) -> Result<Told, DemoError> {
-    let load = scene(rt, alloc, LOAD, &LOAD_ROLES)?;
-    let times = scene(rt, alloc, TIMES, &TIMES_ROLES)?;
-    let leaving = scene(rt, alloc, LEAVING, &LEAVING_ROLES)?;
-    let (times, left) = (count(&times.log), count(&leaving.log));
+    let load = shown(rt, alloc, LOAD, &LOAD_ROLES)?;
+    let times = shown(rt, alloc, TIMES, &TIMES_ROLES)?;
+    let leaving = shown(rt, alloc, LEAVING, &LEAVING_ROLES)?;
     let lent = crowd(rt, alloc)?;
     Ok(Told {
-        load: count(&load.log),
+        load: load.counts,
         published: load.published,
         heard: load.heard,
-        timed_out: times.timed_out,
-        idle: times.idle,
-        given_up: left.given_up,
+        timed_out: times.counts.timed_out,
+        idle: times.counts.idle,
+        given_up: leaving.counts.given_up,
         lent: lent.returned,
     })
 }

@@ -76,6 +76,23 @@ fn shows(found: DemoError, wanted: DemoError) -> Result<(), DemoError> {
     Err(found)
 }
 
+// Asks for a connection, and tells why it got none.
+fn ask_in_vain<C: Core, R: Wait>(
+    me: &mut Handle<'_, C, R>,
+    alloc: Global,
+    request: u32,
+) -> DemoError
+    ensures own { me.new.seat.driver ≡ me.old.seat.driver }
+{
+    match address(alloc) {
+        Ok(address) => {
+            let answer = me.check_out(request, address);
+            outcome(me, request, answer)
+        }
+        Err(why) => why,
+    }
+}
+
 // Holds the only connection, and asks for another one until the pool's time is over.
 fn wait_too_long<C: Core, R: Wait>(
     me: &mut Handle<'_, C, R>,
@@ -84,10 +101,8 @@ fn wait_too_long<C: Core, R: Wait>(
     ensures own { me.new.seat.driver ≡ me.old.seat.driver }
 {
     let (first, second) = (number(me)?, number(me)?);
-    let address = address(alloc)?;
     let connection = take_out(me, alloc, first)?;
-    let answer = me.check_out(second, address);
-    let why = outcome(me, second, answer);
+    let why = ask_in_vain(me, alloc, second);
     bring_back(me, connection, Use::Ok)?;
     shows(why, DemoError::TimedOut)
 }
@@ -121,20 +136,35 @@ pub fn outlast<C: Core, R: Wait>(
     waited
 }
 
+// Asks for a connection with a limit of its own, and tells why it got none.
+fn ask_in_a_hurry<C: Core, R: Wait + Clock>(
+    me: &mut Handle<'_, C, R>,
+    alloc: Global,
+    request: u32,
+) -> DemoError
+    ensures own { me.new.seat.driver ≡ me.old.seat.driver }
+{
+    match address(alloc) {
+        Ok(address) => {
+            let limit = Duration::from_millis(HURRY);
+            let answer = me.check_out_within(request, address, limit);
+            outcome(me, request, answer)
+        }
+        Err(why) => why,
+    }
+}
+
 // Holds the only connection, and asks twice for another one: with a limit of its own, and until another seat gives the request up.
-fn ask_in_vain<C: Core, R: Wait + Clock>(
+fn ask_twice<C: Core, R: Wait + Clock>(
     me: &mut Handle<'_, C, R>,
     alloc: Global,
 ) -> Result<(), DemoError>
     ensures own { me.new.seat.driver ≡ me.old.seat.driver }
 {
     let (first, second, third) = (number(me)?, number(me)?, number(me)?);
-    let (address, other) = (address(alloc)?, address(alloc)?);
     let connection = take_out(me, alloc, first)?;
-    let answer = me.check_out_within(second, address, Duration::from_millis(HURRY));
-    let late = outcome(me, second, answer);
-    let answer = me.check_out(third, other);
-    let left = outcome(me, third, answer);
+    let late = ask_in_a_hurry(me, alloc, second);
+    let left = ask_in_vain(me, alloc, third);
     bring_back(me, connection, Use::Ok)?;
     shows(late, DemoError::OutOfTime)?;
     shows(left, DemoError::GaveUp)
@@ -147,7 +177,7 @@ pub fn hurry<C: Core, R: Wait + Clock>(
 ) -> Result<(), DemoError>
     ensures own { me.new.seat.driver ≡ me.old.seat.driver }
 {
-    let asked = ask_in_vain(me, alloc);
+    let asked = ask_twice(me, alloc);
     me.stop();
     asked
 }
