@@ -1,13 +1,13 @@
 #!/usr/bin/env python3
 """What an ask costs that is held back, handed on and finished, with 1, 8 and 64 tenants of share 1, over the built program.
 
-usage: bench/proxy.py [--proxy PROGRAM] [--script PROGRAM] [--runs N]
+usage: bench/proxy.py [--proxy PROGRAM] [--script PROGRAM] [--bench PROGRAM] [--runs N]
 
 Each tenant holds a connection. A round is three lines: the tenant asks and is held back, returns its connection, by which the ask is handed on and
 served, and collects. mdb_script runs the same rounds with a request in the place of the ask. Each script runs N times (9), the two programs and both
 lengths in turn, and the least processor time counts. Told are microseconds a round, from the difference of two lengths, so that the start of the program, the
 opening and the first asks are left out; and, to see whether a round costs more the more asks were made, a round of the first half and of the second.
-An input has at most 131,072 bytes, which are some 2,400 rounds."""
+An input has at most 131,072 bytes, which are some 2,400 rounds; mdb_proxy_bench does the same rounds without lines, up to 10,000 asks."""
 import argparse
 import os
 import resource
@@ -17,6 +17,7 @@ CRATES = os.path.join(os.path.dirname(os.path.dirname(os.path.abspath(__file__))
 TENANTS = (1, 8, 64)
 SID = '000000000000000000000001'
 ROUNDS = 2000
+ASKS = 10000
 
 
 def script(tenants, rounds, is_proxy):
@@ -42,21 +43,40 @@ def processor_time():
     return used.ru_utime + used.ru_stime
 
 
-def run(program, data):
+def run(program, data, words=()):
     """Seconds of the processor that one run takes, so that other work on the machine counts little."""
     before = processor_time()
-    ended = subprocess.run([program], input=data, capture_output=True, check=False)
+    ended = subprocess.run([program, *words], input=data, capture_output=True, check=False)
     took = processor_time() - before
     if ended.returncode or ended.stderr:
         raise SystemExit('%s: status %d, %s' % (program, ended.returncode, ended.stderr.decode()))
     return took
 
 
+def tell(name, tenants, least, whole):
+    """Prints microseconds a round, from the least seconds of no, half and all rounds."""
+    half = whole // 2
+    pairs = ((least[whole] - least[0], whole), (least[half] - least[0], half), (least[whole] - least[half], whole - half))
+    micros = [1e6 * seconds / rounds for seconds, rounds in pairs]
+    print('%-15s %2d tenants, %5d rounds: %6.2f us a round; first half %6.2f, second half %6.2f' % (name, tenants, whole, *micros))
+
+
+def without_lines(program, tenants, runs):
+    """The rounds of mdb_proxy_bench, as many as make 10,000 asks."""
+    rounds = ASKS - tenants
+    least = {}
+    for _ in range(runs):
+        for n in (0, rounds // 2, rounds):
+            least[n] = min(least.get(n, 9e9), run(program, b'', (str(tenants), str(n))))
+    tell('mdb_proxy_bench', tenants, least, rounds)
+
+
 def main():
-    """Prints a line for each number of tenants."""
+    """Prints the lines for each number of tenants."""
     reader = argparse.ArgumentParser(usage=__doc__.split('usage: ')[1])
     reader.add_argument('--proxy', default=os.path.join(CRATES, 'mdb_proxy/out/mdb_proxy'))
     reader.add_argument('--script', default=os.path.join(CRATES, 'mdb_script/out/mdb_script'))
+    reader.add_argument('--bench', default=os.path.join(CRATES, 'mdb_proxy_bench/out/mdb_proxy_bench'))
     reader.add_argument('--runs', type=int, default=9)
     given = reader.parse_args()
     programs = [(given.proxy, True)] + ([(given.script, False)] if os.path.isfile(given.script) else [])
@@ -67,9 +87,9 @@ def main():
             for key, data in inputs.items():
                 least[key] = min(least.get(key, 9e9), run(key[0], data))
         for program, is_proxy in programs:
-            none, half, whole = (least[program, rounds] for rounds in (0, ROUNDS // 2, ROUNDS))
-            micros = [1e6 * seconds / rounds for seconds, rounds in ((whole - none, ROUNDS), (half - none, ROUNDS // 2), (whole - half, ROUNDS // 2))]
-            print('%-10s %2d tenants: %6.2f us a round; first half %6.2f, second half %6.2f' % ('mdb_proxy' if is_proxy else 'mdb_script', tenants, *micros))
+            tell('mdb_proxy' if is_proxy else 'mdb_script', tenants, {n: least[program, n] for n in (0, ROUNDS // 2, ROUNDS)}, ROUNDS)
+        if os.path.isfile(given.bench):
+            without_lines(given.bench, tenants, given.runs)
 
 
 if __name__ == '__main__':

@@ -1,0 +1,86 @@
+//! Measures rounds of a proxy with shares: tenants ask, are held back, return what they hold and are served, round after round.
+//! It has no clock: `bench/proxy.py` times it.
+#![tactic(auto)]
+
+ghost use Rattle.std.specs.Prelude.{IfOk, IfSome};
+ghost use Rattle.mdb_proxy_bench.specs.Plans.{IsWithin};
+
+mod opening;
+mod plan;
+mod rounds;
+
+use opening::Unopened;
+use plan::{Plan, USAGE};
+use rounds::Bench;
+use std::alloc::{AllocError, Global};
+use std::io::ErrorKind;
+use std::process::ExitCode;
+use std::{env, io};
+
+const FAILED: u8 = 1;
+
+const WRONG_WORDS: u8 = 2;
+
+// The words of the command line; none where one of them is no text.
+fn words(rt: &HostRuntime) -> Result<Vec<String>, AllocError> {
+    let mut words = Vec::new(rt.alloc());
+    match env::args(rt) {
+        Ok(args) => {
+            for word in args.skip(1) {
+                words.push(word)?;
+            }
+        }
+        Err(e) => {
+            if e.kind() == ErrorKind::OutOfMemory {
+                return Err(AllocError);
+            }
+        }
+    }
+    Ok(words)
+}
+
+fn read_plan(rt: &HostRuntime) -> Result<Option<Plan>, AllocError>
+    ensures { IfOk result (λ plan. IfSome plan IsWithin) }
+{
+    let words = words(rt)?;
+    let plan = Plan::read(words.as_slice());
+    drop(words);
+    Ok(plan)
+}
+
+// Does the rounds, and tells what they came to.
+fn tell_rounds(rt: &HostRuntime, bench: &mut Bench, plan: Plan) -> io::Result<ExitCode>
+    requires { IsWithin plan }
+{
+    if bench.run(plan).is_err() {
+        return Err(AllocError.into());
+    }
+    let outcome = bench.outcome();
+    println!(rt; "{plan} {outcome}")?;
+    Ok(ExitCode::SUCCESS)
+}
+
+// Opens a proxy for the rounds.
+fn tell(rt: &HostRuntime, plan: Plan) -> io::Result<ExitCode>
+    requires { IsWithin plan }
+{
+    match Bench::open(rt.alloc(), plan) {
+        Ok(mut bench) => {
+            let told = tell_rounds(rt, &mut bench, plan);
+            drop(bench);
+            told
+        }
+        Err(Unopened::OutOfMemory) => Err(AllocError.into()),
+        Err(Unopened::Wrong) => Ok(ExitCode::from(FAILED)),
+    }
+}
+
+fn main(rt: HostRuntime) -> io::Result<ExitCode> {
+    match read_plan(&rt)? {
+        Some(plan) => tell(&rt, plan),
+        None => {
+            eprintln!(rt; "{USAGE}")?;
+            Ok(ExitCode::from(WRONG_WORDS))
+        }
+    }
+}
