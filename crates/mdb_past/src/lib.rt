@@ -1,8 +1,6 @@
-//! Lists that only clauses see, and a list whose oldest values are handed out and take no memory, while clauses see all that ever came.
+//! Lists that only clauses see: what was let go from memory, and what they still speak of.
 #![tactic(auto)]
 
-mod ledger;
 mod past;
 
-pub use ledger::Ledger;
 pub use past::{Past, Tells};
