@@ -21,10 +21,10 @@ abbrev pub ended : ℕ → List Span → ℕ
 ended n [] = 0
 ended n (s ∷ ss) = if nat_lt s.to n then suc (ended n ss) else 0
 
--- a set of numbers, and how many more spans it has room for
+-- a set of numbers as spans, and how many spans there may be without memory
 pub record SpanSet : Type 0 where
   pub spans : List Span
-  pub room : ℕ
+  pub capacity : ℕ
 
 -- the first of the spans begins right after the number
 abbrev pub begins_after : ℕ → List Span → Bool

@@ -1,6 +1,6 @@
 //! Spans of numbers, in their order.
 
-ghost use Rattle.std.specs.Prelude.{◌≡◌, ◌<◌, ◌≤◌, ◌-◌, ℕ, length, vec_len, vec_capacity};
+ghost use Rattle.std.specs.Prelude.{◌≡◌, ◌<◌, ◌≤◌, ◌-◌, ℕ, [], length, vec_len, vec_capacity};
 ghost use Rattle.std.specs.List.{insert};
 ghost use Rattle.mdb_intervals.specs.Spans.{AreApart, begins_after, ended, put};
 
@@ -9,6 +9,20 @@ ghost use Rattle.mdb_intervals.specs.Spans.{AreApart, begins_after, ended, put};
 pub struct Span {
     pub from: u32,
     pub to: u32,
+}
+
+/// All spans go to where there is none, and room for them. It takes no memory.
+pub(crate) fn move_all(from: &mut Vec<Span>, to: &mut Vec<Span>)
+    requires none { to.old.items ≡ [] }
+    requires room { length from.old.items ≤ vec_capacity to.old }
+    ensures to { to.new.items ≡ from.old.items }
+    ensures from { from.new.items ≡ [] }
+    ensures capacity { (vec_capacity to.new ≡ vec_capacity to.old) × (vec_capacity from.new ≡ vec_capacity from.old) }
+{
+    for at in 0..from.len() {
+        to.push_reserved(from[at]);
+    }
+    from.clear();
 }
 
 /// How many of the spans end before the number.
