@@ -1,8 +1,9 @@
 -- The log of a driver of which the oldest entries were handed out.
-use Rattle.std.specs.Prelude.{ℕ, suc, zero, Bool, true, false, ◌&&◌, if◌then◌else◌, List, [], ◌∷◌, drop}
+use Rattle.std.specs.Prelude.{◌≡◌, ◌≤◌, ℕ, suc, zero, Bool, true, false, IsTrue, ◌&&◌, if◌then◌else◌, List, [], ◌∷◌, drop, Some, slice_get}
 use Rattle.mdb_log.specs.declared.log.Entry.{Entry}
 use Rattle.mdb_log.specs.declared.step.Act.{Act}
 use Rattle.mdb_log.specs.declared.step.Act.TheVariants.{Stop}
+use Rattle.mdb_log.specs.declared.reply.Reply.TheVariants.{Done}
 use Rattle.mdb_log.specs.Driver.{is_done}
 use Rattle.mdb_journal.specs.News.{is_news}
 
@@ -32,3 +33,11 @@ news_with is (suc n) = suc (suc n)
 abbrev pub news_end : List Entry → ℕ
 news_end [] = 0
 news_end (e ∷ es) = news_with (is_news e) (news_end es)
+
+-- An entry of the log, no earlier than this one, is news.
+abbrev pub HasNews : ℕ → List Entry → Type 0
+HasNews from log = (k : ℕ) × (e : Entry) × (from ≤ k) × (slice_get log k ≡ Some e) × IsTrue (is_news e)
+
+-- An entry of the log stops the driver.
+abbrev pub HasStopped : List Entry → Type 0
+HasStopped log = (k : ℕ) × (e : Entry) × (slice_get log k ≡ Some e) × (e.step.act ≡ Stop) × (e.reply ≡ Done)

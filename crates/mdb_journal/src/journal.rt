@@ -1,12 +1,12 @@
 //! The log of a driver that runs for long.
 
-ghost use Rattle.std.specs.Prelude.{◌≡◌, ◌≤◌, ◌++◌, ◌∷◌, [], length, drop, IfOk, OnErr, IsTrue};
+ghost use Rattle.std.specs.Prelude.{◌≡◌, ◌≤◌, ◌<◌, ◌^◌, ◌++◌, ◌∷◌, [], length, IfOk, OnErr, IsTrue, nat_lt};
 ghost use Rattle.std.specs.List.{list_any};
 ghost use Rattle.mdb_log.specs.declared.log.Entry.{Entry};
 ghost use Rattle.mdb_log.specs.Driver.{IsEntry, is_reply_to, is_in_time, IsThere};
 ghost use Rattle.mdb_log.specs.Acts.{IsDriverAct};
 ghost use Rattle.mdb_log.specs.History.{history_of, last_moment};
-ghost use Rattle.mdb_journal.specs.Entries.{kept, stops, news_end};
+ghost use Rattle.mdb_journal.specs.Entries.{kept, stops, news_end, HasNews, HasStopped};
 
 use crate::news::is_news;
 use crate::newest::{any_stops, newest, news_end, stops};
@@ -106,9 +106,18 @@ impl Journal {
         self.news
     }
 
-    /// One of the entries stopped the driver.
+    /// One of the entries from this one on is news to others, also where it was handed out.
+    pub fn has_news(&self, from: u64) -> bool
+        ensures value { result ≡ nat_lt from (news_end self.now.all) }
+        ensures found { IsTrue result → HasNews from self.now.all }
+    {
+        from < self.news
+    }
+
+    /// One of the entries stopped the driver, also where it was handed out.
     pub fn is_stopped(&self) -> bool
-        ensures { result ≡ list_any stops self.now.all }
+        ensures value { result ≡ list_any stops self.now.all }
+        ensures found { IsTrue result → HasStopped self.now.all }
     {
         self.stopped
     }
@@ -162,6 +171,7 @@ impl Journal {
         ensures gone { self.new.gone ≡ length self.old.all }
         ensures from { result.from ≡ self.old.gone }
         ensures entries { result.entries ≡ kept self.old }
+        ensures within { (result.from ≤ length self.old.all) × (length self.old.all < 2 ^ 64) }
     {
         let from = self.gone;
         let gone = self.len();

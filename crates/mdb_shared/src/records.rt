@@ -1,6 +1,6 @@
 //! The log of a driver as the rule sees it: all entries.
 
-ghost use Rattle.std.specs.Prelude.{◌≡◌, ◌≤◌, ◌∷◌, ◌++◌, [], length, drop, IsTrue, IfOk, OnErr};
+ghost use Rattle.std.specs.Prelude.{◌≡◌, ◌≤◌, ◌<◌, ◌^◌, ◌∷◌, ◌++◌, [], length, drop, IsTrue, IfOk, OnErr};
 ghost use Rattle.mdb_log.specs.declared.log.Entry.{Entry};
 ghost use Rattle.mdb_log.specs.Acts.{IsDriverAct};
 ghost use Rattle.mdb_log.specs.Driver.{IsEntry, IsThere, is_in_time, is_reply_to};
@@ -90,7 +90,7 @@ impl Records {
     /// The entries that were not handed out yet are handed out: all from one on.
     pub fn take(&mut self, alloc: Global) -> Taken
         ensures same { self.new ≡ self.old }
-        ensures within { result.from ≤ length self.old }
+        ensures within { (result.from ≤ length self.old) × (length self.old < 2 ^ 64) }
         ensures entries { result.entries ≡ drop result.from self.old }
     {
         self.journal.take(alloc)

@@ -1,6 +1,6 @@
 //! Entries that are handed out: each comes out once, in the turn, and takes no memory of the driver from then on.
 
-ghost use Rattle.std.specs.Prelude.{◌≡◌, ◌≢◌, ◌≤◌, ◌+◌, ◌∷◌, ◌++◌, [], IfOk, IfErr, length, drop};
+ghost use Rattle.std.specs.Prelude.{◌≡◌, ◌≢◌, ◌≤◌, ◌<◌, ◌+◌, ◌^◌, ◌∷◌, ◌++◌, [], IfOk, IfErr, length, drop};
 ghost use Rattle.mdb_shared.specs.Seats.{IsReady, seat_view, OnlySaw, FoundBusy};
 ghost use Rattle.mdb_shared.specs.Turning.{found_busy};
 
@@ -23,7 +23,7 @@ fn one_take<C: Core>(
     requires table { (table.now.shared.table_id.words ≡ 2) × (table.now.shared.table_id.slots ≡ 1) × (place.old.table_id ≡ table.now.shared.table_id) }
     requires ready { IsReady number place.old.me }
     ensures same { (place.new.table_id ≡ place.old.table_id) × (place.new.id ≡ place.old.id) × IsReady number place.new.me }
-    ensures ok { IfOk result (λ taken. OnlySaw (seat_view place.old.table_id number place.old.me.0) (seat_view place.new.table_id number place.new.me.0) × (place.new.me.0.busy ≡ place.old.me.0.busy) × (taken.from ≤ length place.new.me.0.seen) × (taken.entries ≡ drop taken.from place.new.me.0.seen)) }
+    ensures ok { IfOk result (λ taken. OnlySaw (seat_view place.old.table_id number place.old.me.0) (seat_view place.new.table_id number place.new.me.0) × (place.new.me.0.busy ≡ place.old.me.0.busy) × ((taken.from ≤ length place.new.me.0.seen) × (length place.new.me.0.seen < 2 ^ 64)) × (taken.entries ≡ drop taken.from place.new.me.0.seen)) }
     ensures err { IfErr result (λ word. (place.new.me ≡ (found_busy place.old.me.0 word, [])) × (word ≢ 0) × (word ≢ number + 1)) }
 {
     let (core, mut records) = match take(table, place, number) {
@@ -41,7 +41,7 @@ impl<C: Core> SharedDriver<C> {
     pub fn try_take(&self, alloc: Global, seat: &mut Seat<C>) -> Result<Taken, u64>
         requires own { seat.old.driver ≡ self.now.id }
         ensures same { (seat.new.driver ≡ seat.old.driver) × (seat.new.number ≡ seat.old.number) }
-        ensures ok { IfOk result (λ taken. OnlySaw seat.old seat.new × (seat.new.busy ≡ seat.old.busy) × (taken.from ≤ length seat.new.seen) × (taken.entries ≡ drop taken.from seat.new.seen)) }
+        ensures ok { IfOk result (λ taken. OnlySaw seat.old seat.new × (seat.new.busy ≡ seat.old.busy) × ((taken.from ≤ length seat.new.seen) × (length seat.new.seen < 2 ^ 64)) × (taken.entries ≡ drop taken.from seat.new.seen)) }
         ensures err { IfErr result (λ word. (word ≢ 0) × (word ≢ seat.old.number + 1) × (seat.new.seen ≡ seat.old.seen) × (seat.new.mine ≡ seat.old.mine) × (seat.new.busy ≡ seat.old.busy ++ word ∷ [])) }
     {
         let taken = one_take(&self.table, &mut seat.place, seat.number, alloc);
@@ -58,7 +58,7 @@ impl<C: Core> SharedDriver<C> {
         ensures same { (seat.new.driver ≡ seat.old.driver) × (seat.new.number ≡ seat.old.number) }
         ensures busy { FoundBusy seat.old seat.new }
         ensures saw { OnlySaw seat.old seat.new }
-        ensures within { result.from ≤ length seat.new.seen }
+        ensures within { (result.from ≤ length seat.new.seen) × (length seat.new.seen < 2 ^ 64) }
         ensures entries { result.entries ≡ drop result.from seat.new.seen }
     {
         for _ in rt.forever() {
