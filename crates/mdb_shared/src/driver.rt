@@ -72,7 +72,7 @@ impl<C: Core> SharedDriver<C> {
         let Ok(mut slots) = Vec::with_capacity(alloc, 1) else {
             return Err(OutOfMemory);
         };
-        slots.push_reserved(Some((core, Records::of(log))));
+        slots.push_reserved(Some((core, Records::begin(log))));
         let (table, keeper) = match Table::new(alloc, &words, slots, &about) {
             Ok(made) => made,
             Err(Refused { slots: _ }) => return Err(OutOfMemory),

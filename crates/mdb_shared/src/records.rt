@@ -33,7 +33,7 @@ impl Model for Records {
 
 impl Records {
     /// The entries of a log, of which none was handed out.
-    pub fn of(log: Log) -> Records
+    pub fn begin(log: Log) -> Records
         ensures { result ≡ log }
     {
         Records {
