@@ -160,7 +160,10 @@ pub fn log_of<C: Core, R: Threads + Wait + Sync>(
     finish(&driver, rt, alloc, &mut seat)?;
     seats.push(seat)?;
     match driver.close(seats) {
-        Ok((_, log)) => Ok(log),
+        Ok((_, journal)) => match journal.whole() {
+            Ok(log) => Ok(log),
+            Err(_) => Err(OutOfMemory),
+        },
         Err(_) => Err(OutOfMemory),
     }
 }

@@ -16,7 +16,7 @@ use crate::asked::{Asked, Standing};
 use crate::books::{Books, charge, holds_back, is_refused, next, share_of, turn};
 use crate::step::ProxyReply;
 use mdb_base::{Moment, OutOfMemory, ServerAddress};
-use mdb_log::{Act, Core, Entry, Log, Reply, Step};
+use mdb_log::{Act, Core, Entry, Log, Reply, Step, step_whole};
 use std::alloc::Global;
 
 // The parts of a proxy.
@@ -61,7 +61,7 @@ fn enter<C: Core>(
     ensures same { IfOk result (λ r. r.1 ≡ false → standing.new.items ≡ standing.old.items) }
     ensures err { OnErr result ((log.new ≡ log.old) × (standing.new.items ≡ standing.old.items)) }
 {
-    let reply = core.step(alloc, log, 0, step)?;
+    let reply = step_whole(core, alloc, log, 0, step)?;
     let changed = turn(standing, newest(log));
     Ok((reply, changed))
 }

@@ -93,7 +93,10 @@ pub(super) fn share<C: Core, R: Threads + Wait + Sync, G: LineGate>(
     let (driver, seats) = SharedDriver::new(alloc, core, log, count)?;
     let seats = play_all(rt, alloc, count, gate, &driver, steps, seats)?;
     match driver.close(seats) {
-        Ok((_core, log)) => Ok(log),
+        Ok((_core, journal)) => match journal.whole() {
+            Ok(log) => Ok(log),
+            Err(_) => Err(OutOfMemory),
+        },
         Err(_) => Err(OutOfMemory),
     }
 }

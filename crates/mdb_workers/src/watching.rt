@@ -6,11 +6,11 @@ ghost use Rattle.mdb_log.specs.declared.reply.Reply.TheVariants.{Count};
 ghost use Rattle.mdb_workers.specs.Making.{Made, OneMore};
 ghost use Rattle.mdb_workers.specs.Watching.{Shows, new_watcher, with_mark, wanting, IsWish, Retracted, Waited, WaitedOn};
 
-use crate::listening::has_stopped;
 use crate::steps::{add, glance};
 use mdb_base::{ClusterTime, OutOfMemory};
 use mdb_describe::{TopologyDescription, TopologyType};
-use mdb_log::{Act, Core, Log, Reply, Step};
+use mdb_journal::Journal;
+use mdb_log::{Act, Core, Reply, Step};
 use mdb_shared::{Look, Seat, SharedDriver};
 use std::alloc::Global;
 use std::sync::Wait;
@@ -41,7 +41,7 @@ impl<C: Core> Look<C> for State {
 
     ghost tells = { λ s log found. IfOk found (Shows (C.described log) (C.publications log)) };
 
-    fn look(&self, core: &C, _log: &Log) -> Result<TopologyState, OutOfMemory> {
+    fn look(&self, core: &C, _log: &Journal) -> Result<TopologyState, OutOfMemory> {
         let description = core.description().clone()?;
         Ok(TopologyState {
             description,
@@ -59,32 +59,25 @@ impl<C: Core> Look<C> for Publications {
 
     ghost tells = { λ s log found. found ≡ C.publications log };
 
-    fn look(&self, core: &C, _log: &Log) -> u64 {
+    fn look(&self, core: &C, _log: &Journal) -> u64 {
         core.published()
     }
 }
 
-// How many entries the log has, how often the topology was published, and whether one of the entries from this one on stopped the driver.
+// How many entries the log has, how often the topology was published, and whether the driver was stopped.
 #[derive(Clone, Copy)]
-struct Updates {
-    from: u64,
-}
+struct Updates;
 
 impl<C: Core> Look<C> for Updates {
     type Found = (u64, u64, bool);
 
     ghost use Rattle.std.specs.Prelude.{◌≡◌, IsTrue};
-    ghost use Rattle.mdb_workers.specs.Hearing.{HasStopped};
+    ghost use Rattle.mdb_journal.specs.Entries.{HasStopped};
 
     ghost tells = { λ s log found. (found.1 ≡ C.publications log) × (IsTrue found.2 → HasStopped log) };
 
-    fn look(&self, core: &C, log: &Log) -> (u64, u64, bool) {
-        let entries = log.entries();
-        (
-            entries.len() as u64,
-            core.published(),
-            has_stopped(entries, self.from as usize),
-        )
+    fn look(&self, core: &C, log: &Journal) -> (u64, u64, bool) {
+        (log.len(), core.published(), log.is_stopped())
     }
 }
 
@@ -97,7 +90,7 @@ impl<C: Core> Look<C> for Kind {
 
     ghost tells = { λ s log found. found ≡ (C.described log).topology_type };
 
-    fn look(&self, core: &C, _log: &Log) -> TopologyType {
+    fn look(&self, core: &C, _log: &Journal) -> TopologyType {
         core.description().topology_type()
     }
 }
@@ -111,7 +104,7 @@ impl<C: Core> Look<C> for Time {
 
     ghost tells = { λ s log found. found ≡ (C.described log).cluster_time };
 
-    fn look(&self, core: &C, _log: &Log) -> Option<ClusterTime> {
+    fn look(&self, core: &C, _log: &Journal) -> Option<ClusterTime> {
         core.description().cluster_time()
     }
 }
@@ -285,9 +278,8 @@ impl TopologyWatcher {
         ensures found { IfOk result (WaitedOn C.stands C.publications seat.old seat.new self.old self.new) }
         ensures err { OnErr result (Made C.stands seat.old seat.new [] × (self.new ≡ self.old)) }
     {
-        let mut from = 0;
         for _ in rt.forever() {
-            let (count, published, is_over) = glance(driver, rt, seat, &Updates { from });
+            let (count, published, is_over) = glance(driver, rt, seat, &Updates);
             if published > self.seen {
                 self.mark(rt, alloc, driver, seat, published)?;
                 return Ok(true);
@@ -295,7 +287,6 @@ impl TopologyWatcher {
             if is_over {
                 return Ok(false);
             }
-            from = count;
             driver.sleep(rt, count);
         }
         unreachable!()

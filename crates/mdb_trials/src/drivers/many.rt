@@ -93,8 +93,8 @@ fn log_of_turns<C: Core, R: Wait>(rt: &R, alloc: Global, core: C, log: Log) -> O
 {
     let (driver, seats) = SharedDriver::new(alloc, core, log, SEATS).ok()?;
     let done = take_turns(&driver, rt, alloc, seats)?;
-    let (_, log) = driver.close(done).ok()?;
-    Some(log)
+    let (_, journal) = driver.close(done).ok()?;
+    journal.whole().ok()
 }
 
 // After the opening, each entry has the number of its seat.

@@ -5,7 +5,7 @@ ghost use Rattle.mdb_log.specs.Acts.{IsDriverAct};
 ghost use Rattle.mdb_shared.specs.Seats.{AllOf};
 
 use super::{asks, balanced, found, pair, server};
-use mdb_log::{Act, Core, Entry, Log, Refused, Reply, Step, Use};
+use mdb_log::{Act, Core, Entry, Log, Refused, Reply, Step, Use, step_whole};
 use mdb_shared::{Poll, Seat, SharedDriver, Unclosed};
 use std::alloc::Global;
 use std::sync::Wait;
@@ -243,7 +243,7 @@ fn close_with<C: Core>(unclosed: Unclosed<C>, other: Seat<C>) -> Option<Log>
     }
     seats.push(other).ok()?;
     match driver.close(seats) {
-        Ok((_, log)) => Some(log),
+        Ok((_, journal)) => journal.whole().ok(),
         Err(_) => None,
     }
 }
@@ -285,7 +285,7 @@ fn answers<C: Core>(alloc: Global, core: &mut C, log: &mut Log, step: &Step, ent
     requires stands { C.stands core.old log.old }
     ensures stands { C.stands core.new log.new }
 {
-    let Ok(reply) = core.step(alloc, log, 0, step) else {
+    let Ok(reply) = step_whole(core, alloc, log, 0, step) else {
         return false;
     };
     match log.entries().last() {

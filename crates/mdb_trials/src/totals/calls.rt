@@ -142,8 +142,8 @@ fn closed_late<C: Core>(
     let missing = unclosed.missing;
     let mut seats = unclosed.seats;
     seats.push(first).ok()?;
-    let (core, log) = unclosed.driver.close(seats).ok()?;
-    Some((missing, core, log))
+    let (core, journal) = unclosed.driver.close(seats).ok()?;
+    Some((missing, core, journal.whole().ok()?))
 }
 
 // Two seats make a step each at the moments 9 and 4, meet, and close. What they had seen, how many were missing first, the core and its log.

@@ -56,8 +56,8 @@ fn added_by_two<C: Core, R: Threads + Wait + Sync>(
     let mut seats = Vec::new(alloc);
     seats.push(a.0).ok()?;
     seats.push(b.0).ok()?;
-    let (_, log) = driver.close(seats).ok()?;
-    Some((a.1, b.1, log))
+    let (_, journal) = driver.close(seats).ok()?;
+    Some((a.1, b.1, journal.whole().ok()?))
 }
 
 // Each entry counts one more; how many the first seat made, and how many there are.
@@ -116,8 +116,8 @@ fn two_rounds<C: Core>(alloc: Global, core: C) -> Option<Log>
     let (driver, seats) = opened(alloc, core, 64)?;
     let seats = round(alloc, &driver, seats)?;
     let seats = round(alloc, &driver, seats)?;
-    let (_, log) = driver.close(seats).ok()?;
-    Some(log)
+    let (_, journal) = driver.close(seats).ok()?;
+    journal.whole().ok()
 }
 
 // The seats of the entries are 0 to 63, again and again.
