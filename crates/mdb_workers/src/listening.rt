@@ -1,16 +1,16 @@
 //! Waiting until the log tells what one waits for. Who waits looks at the new entries only, in its turn, and adds none; between two looks it sleeps.
 
 ghost use Rattle.std.specs.Prelude.{◌≡◌, IsTrue, length, []};
-ghost use Rattle.mdb_log.specs.declared.reply.Reply.TheVariants.{Done};
 ghost use Rattle.mdb_workers.specs.Making.{Made};
 ghost use Rattle.mdb_journal.specs.Entries.{HasNews};
 ghost use Rattle.mdb_workers.specs.Hearing.{IsHeard};
 
+use crate::access::Access;
 use crate::steps::glance;
 use mdb_events::{CmapEvent, Fact};
 use mdb_journal::{Journal, Kept};
 use mdb_log::{Act, Core, Entry, Reply};
-use mdb_shared::{Look, Seat, SharedDriver};
+use mdb_shared::{Look, Seat};
 use std::sync::Wait;
 
 /// What ended a wait.
@@ -20,15 +20,6 @@ pub enum Woken {
     News(u64),
     /// The driver has stopped.
     Stopped,
-}
-
-pub(crate) fn is_done(reply: &Reply) -> bool
-    ensures { IsTrue result → reply.now ≡ Done }
-{
-    match reply {
-        Reply::Done => true,
-        _ => false,
-    }
 }
 
 // How many entries the log has, and whether one of them is news, from this one on.
@@ -52,25 +43,20 @@ impl<C: Core> Look<C> for AnyNews {
 
 /// Sleeps until an entry from this one on is news to others, and gives the number of all entries then. What is news says `is_news` of mdb_journal. It adds
 /// no entry.
-pub fn next_news<C: Core, R: Wait>(
-    driver: &SharedDriver<C>,
-    rt: &R,
-    seat: &mut Seat<C>,
-    from: u64,
-) -> u64
-    requires own { seat.old.driver ≡ driver.now.id }
+pub fn next_news<C: Core, R: Wait>(access: &Access<'_, C, R>, seat: &mut Seat<C>, from: u64) -> u64
+    requires own { seat.old.driver ≡ access.now.driver.now.id }
     ensures saw { Made C.stands seat.old seat.new [] }
     ensures count { length seat.new.seen ≡ result }
     ensures news { HasNews from seat.new.seen }
 {
     let mut seen = from;
-    for _ in rt.forever() {
-        let (count, news) = glance(driver, rt, seat, &AnyNews { from: seen });
+    for _ in access.rt.forever() {
+        let (count, news) = glance(access, seat, &AnyNews { from: seen });
         if news {
             return count;
         }
         seen = seen.max(count);
-        driver.sleep(rt, count);
+        access.driver.sleep(access.rt, count);
     }
     unreachable!()
 }
@@ -145,17 +131,16 @@ impl<C: Core> Look<C> for Jobs {
 
 /// Sleeps until a connection is to be established, or the driver has stopped. It adds no entry.
 pub fn next_job<C: Core, R: Wait>(
-    driver: &SharedDriver<C>,
-    rt: &R,
+    access: &Access<'_, C, R>,
     seat: &mut Seat<C>,
     jobs: &mut Jobs,
 ) -> Woken
-    requires own { seat.old.driver ≡ driver.now.id }
+    requires own { seat.old.driver ≡ access.now.driver.now.id }
     ensures saw { Made C.stands seat.old seat.new [] }
     ensures heard { IsHeard seat.new.seen result }
 {
-    for _ in rt.forever() {
-        let (count, unclaimed, is_over) = glance(driver, rt, seat, &*jobs);
+    for _ in access.rt.forever() {
+        let (count, unclaimed, is_over) = glance(access, seat, &*jobs);
         if is_over {
             return Woken::Stopped;
         }
@@ -166,7 +151,7 @@ pub fn next_job<C: Core, R: Wait>(
         if unclaimed > 0 {
             return Woken::News(count);
         }
-        driver.sleep(rt, count);
+        access.driver.sleep(access.rt, count);
     }
     unreachable!()
 }
