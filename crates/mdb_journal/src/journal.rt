@@ -8,8 +8,8 @@ ghost use Rattle.mdb_log.specs.Acts.{IsDriverAct};
 ghost use Rattle.mdb_log.specs.History.{history_of, last_moment};
 ghost use Rattle.mdb_journal.specs.Entries.{kept, stops, news_end, HasNews, HasStopped};
 
-use crate::news::is_news;
 use crate::newest::{any_stops, newest, news_end, stops};
+use crate::news::is_news;
 use mdb_base::OutOfMemory;
 use mdb_log::{Core, Entry, Log, Reply, Step};
 use mdb_past::{Past, Tells};

@@ -2,8 +2,8 @@
 #![tactic(auto)]
 
 mod journal;
-mod news;
 mod newest;
+mod news;
 
 pub use journal::{Journal, Kept, Taken};
 pub use news::is_news;

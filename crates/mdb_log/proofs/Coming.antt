@@ -11,6 +11,7 @@ module _ {R E : Type 0} (r : Result R E) (Q : R → Entry → Type 0) (front old
     where
       with : (more : List Entry) → new ≡ old ++ more → P (front ++ new)
       with more is = subst P (append_assoc front old more ∙ ap (λ es. front ++ es) (sym is)) (f more is)
+
       on : (r : Result R E) → IfOk r (λ x. (e : Entry) × Q x e × (new ≡ old ++ e ∷ [])) → OnErr r (new ≡ old) → P (front ++ new)
       on (Ok x) h s = with (h.0 ∷ []) h.2
       on (Err y) h s = with [] (s ∙ sym (append-nil old))

@@ -99,8 +99,7 @@ impl NumberSet {
         ensures now { self.new.now ≡ numbers_kept self.new.base }
         ensures capacity { self.new.capacity ≡ capacity_after redo self.old.capacity }
     {
-        let order =
-            Past::of::<(&NumberSet, &NumberSetRedo), Redone>(&(&*self, &redo));
+        let order = Past::of::<(&NumberSet, &NumberSetRedo), Redone>(&(&*self, &redo));
         settle_all(&mut self.settled, &mut redo);
         self.fresh = redo;
         self.order = order;
