@@ -5,7 +5,7 @@ ghost use Rattle.mdb_log.specs.Acts.{IsDriverAct};
 ghost use Rattle.mdb_log.specs.declared.log.Entry.{Entry};
 ghost use Rattle.mdb_log.specs.declared.step.Act.TheVariants.{Stop, Want};
 ghost use Rattle.mdb_log.specs.declared.reply.Reply.TheVariants.{Count};
-ghost use Rattle.mdb_workers.specs.Hearing.{HasStopped};
+ghost use Rattle.mdb_journal.specs.Entries.{HasStopped};
 ghost use Rattle.mdb_handles.specs.Handles.{IsSameHandle};
 ghost use Rattle.mdb_workers.specs.Making.{Made, OneMore};
 ghost use Rattle.mdb_workers.specs.Persisting.{TendedBy};

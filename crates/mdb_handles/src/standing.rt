@@ -8,7 +8,8 @@ ghost use Rattle.mdb_handles.specs.Standing.{MayBe, HasEnded};
 
 use crate::limits::Limit;
 use mdb_events::{CmapEvent, Fact};
-use mdb_log::{Act, Core, Entry, Log, Reply};
+use mdb_journal::{Journal, Kept};
+use mdb_log::{Act, Core, Entry, Reply};
 use mdb_shared::{Look, Seat};
 use mdb_workers::{Access, glance};
 use std::sync::Wait;
@@ -98,11 +99,15 @@ fn settles(entry: &Entry, request: u32, at: &mut Option<(u32, u32)>) -> bool {
     reports(entry, *at)
 }
 
-fn state_by(entries: &[Entry], from: usize, request: u32, at: &mut Option<(u32, u32)>) -> State
-    ensures { MayBe request entries.now result }
+// By the entries from this one on. Where some of them were taken, a question is to tell.
+fn state_by(kept: Kept<'_>, from: u64, request: u32, at: &mut Option<(u32, u32)>) -> State
+    ensures { MayBe request kept.entries.now result }
 {
-    for number in from..entries.len() {
-        let entry = &entries[number];
+    if from < kept.from {
+        return State::Settled;
+    }
+    for number in (from - kept.from) as usize..kept.entries.len() {
+        let entry = &kept.entries[number];
         if gives_up(entry, request) {
             return State::GivenUp;
         }
@@ -120,15 +125,14 @@ impl<C: Core> Look<C> for Standing {
 
     ghost tells = { IsOutlook };
 
-    fn look(&self, _core: &C, log: &Log) -> Outlook {
-        let entries = log.entries();
+    fn look(&self, _core: &C, log: &Journal) -> Outlook {
         let mut at = self.at;
-        let state = state_by(entries, self.from as usize, self.request, &mut at);
+        let state = state_by(log.kept(), self.from, self.request, &mut at);
         Outlook {
             state,
             known: Standing {
                 request: self.request,
-                from: entries.len() as u64,
+                from: log.len(),
                 at,
             },
         }

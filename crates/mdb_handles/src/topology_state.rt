@@ -5,9 +5,9 @@ ghost use Rattle.mdb_handles.specs.Watching.{Shows};
 
 use mdb_base::{ClusterTime, OutOfMemory};
 use mdb_describe::{TopologyDescription, TopologyType};
-use mdb_log::{Core, Log};
+use mdb_journal::Journal;
+use mdb_log::Core;
 use mdb_shared::Look;
-use mdb_workers::has_stopped;
 
 /// What was known of a topology at one moment.
 #[derive(Debug, Drop)]
@@ -26,7 +26,7 @@ impl<C: Core> Look<C> for State {
 
     ghost tells = { λ s log found. IfOk found (Shows (C.described log) (C.publications log)) };
 
-    fn look(&self, core: &C, _log: &Log) -> Result<TopologyState, OutOfMemory> {
+    fn look(&self, core: &C, _log: &Journal) -> Result<TopologyState, OutOfMemory> {
         let description = core.description().clone()?;
         Ok(TopologyState {
             description,
@@ -44,32 +44,25 @@ impl<C: Core> Look<C> for Publications {
 
     ghost tells = { λ s log found. found ≡ C.publications log };
 
-    fn look(&self, core: &C, _log: &Log) -> u64 {
+    fn look(&self, core: &C, _log: &Journal) -> u64 {
         core.published()
     }
 }
 
-// How many entries the log has, how often the topology was published, and whether one of the entries from this one on stopped the driver.
+// How many entries the log has, how often the topology was published, and whether the driver was stopped.
 #[derive(Clone, Copy)]
-pub(crate) struct Updates {
-    pub from: u64,
-}
+pub(crate) struct Updates;
 
 impl<C: Core> Look<C> for Updates {
     type Found = (u64, u64, bool);
 
     ghost use Rattle.std.specs.Prelude.{◌≡◌, IsTrue};
-    ghost use Rattle.mdb_workers.specs.Hearing.{HasStopped};
+    ghost use Rattle.mdb_journal.specs.Entries.{HasStopped};
 
     ghost tells = { λ s log found. (found.1 ≡ C.publications log) × (IsTrue found.2 → HasStopped log) };
 
-    fn look(&self, core: &C, log: &Log) -> (u64, u64, bool) {
-        let entries = log.entries();
-        (
-            entries.len() as u64,
-            core.published(),
-            has_stopped(entries, self.from as usize),
-        )
+    fn look(&self, core: &C, log: &Journal) -> (u64, u64, bool) {
+        (log.len(), core.published(), log.is_stopped())
     }
 }
 
@@ -82,7 +75,7 @@ impl<C: Core> Look<C> for Kind {
 
     ghost tells = { λ s log found. found ≡ (C.described log).topology_type };
 
-    fn look(&self, core: &C, _log: &Log) -> TopologyType {
+    fn look(&self, core: &C, _log: &Journal) -> TopologyType {
         core.description().topology_type()
     }
 }
@@ -96,7 +89,7 @@ impl<C: Core> Look<C> for Time {
 
     ghost tells = { λ s log found. found ≡ (C.described log).cluster_time };
 
-    fn look(&self, core: &C, _log: &Log) -> Option<ClusterTime> {
+    fn look(&self, core: &C, _log: &Journal) -> Option<ClusterTime> {
         core.description().cluster_time()
     }
 }

@@ -176,9 +176,8 @@ impl TopologyWatcher {
         ensures found { IfOk result (WaitedOn C.stands C.publications seat.old seat.new self.old self.new) }
         ensures err { OnErr result (Made C.stands seat.old seat.new [] × (self.new ≡ self.old)) }
     {
-        let mut from = 0;
         for _ in access.rt.forever() {
-            let (count, published, is_over) = glance(access, seat, &Updates { from });
+            let (count, published, is_over) = glance(access, seat, &Updates);
             if published > self.seen {
                 self.mark(access, seat, published)?;
                 return Ok(true);
@@ -186,7 +185,6 @@ impl TopologyWatcher {
             if is_over {
                 return Ok(false);
             }
-            from = count;
             access.driver.sleep(access.rt, count);
         }
         unreachable!()

@@ -4,3 +4,4 @@ pub mod Addresses
 pub mod Pins
 pub mod Frame
 pub mod Later
+pub mod Coming

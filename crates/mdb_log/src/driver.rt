@@ -27,8 +27,9 @@ pub trait Core: Send + Drop {
     /// The job of the connection, by the numbers of its pool and its own, where it is pending after a log.
     ghost job_after: { List Entry → ℕ → ℕ → Option Job };
 
-    /// Adds one entry to the log, of the seat, with a copy of the step. Every act but the opening and those of a single pool may come. After
-    /// `OutOfMemory` the log is as it was, and the core stands for it.
+    /// Adds one entry to the log, of the seat, with a copy of the step. Every act but the opening and those of a single pool may come. The core stands for
+    /// a whole log, of which the one given may be an end, or have none of its entries: what comes to the one comes to the other. After `OutOfMemory` the log
+    /// is as it was, and the core stands for what it stood for.
     fn step(
         &mut self,
         alloc: Global,
@@ -37,12 +38,12 @@ pub trait Core: Send + Drop {
         step: &Step,
     ) -> Result<Reply, OutOfMemory>
         requires act { IsDriverAct step.now.act }
-        requires stands { stands self.old log.old }
+        requires stands { (whole : List Entry) × stands self.old whole }
         ensures entry { IfOk result (λ reply. (e : Entry) × IsEntry seat step.now reply e × (log.new ≡ log.old ++ e ∷ [])) }
-        ensures stands { stands self.new log.new }
+        ensures stands { (whole more : List Entry) → stands self.old whole → log.new ≡ log.old ++ more → stands self.new (whole ++ more) }
         ensures kind { IfOk result (λ reply. IsTrue (is_reply_to step.now.act reply)) }
-        ensures in_time { IfOk result (λ reply. last_moment (history_of log.old) ≤ step.now.moment → IsTrue (is_in_time step.now.act reply)) }
-        ensures job { IfOk result (λ reply. IsThere (job_after log.new) reply) }
+        ensures in_time { IfOk result (λ reply. (whole : List Entry) → stands self.old whole → last_moment (history_of whole) ≤ step.now.moment → IsTrue (is_in_time step.now.act reply)) }
+        ensures job { IfOk result (λ reply. (whole more : List Entry) → stands self.old whole → log.new ≡ log.old ++ more → IsThere (job_after (whole ++ more)) reply) }
         ensures err_log { OnErr result (log.new ≡ log.old) };
 
     /// The moment of the last accepted step, 0 after the opening.

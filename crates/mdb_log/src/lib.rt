@@ -11,6 +11,7 @@ mod options;
 mod pooled;
 mod reply;
 mod step;
+mod whole;
 
 pub use checked::{BeatenResult, HelloResult};
 pub use driver::Core;
@@ -21,3 +22,4 @@ pub use options::{DEFAULT_MAX_CONNECTING, DEFAULT_MAX_POOL_SIZE, PoolOptions};
 pub use pooled::{PinnedConnectionHandle, PooledConnection};
 pub use reply::{Refused, Reply, What};
 pub use step::{Act, Established, FailedAt, Step, Use};
+pub use whole::step_whole;

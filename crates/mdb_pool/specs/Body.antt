@@ -3,8 +3,7 @@ use Rattle.std.specs.Prelude.{◌&&◌, ℕ, Option, None}
 use Rattle.mdb_base.specs.declared.object_id.ObjectId.{ObjectId}
 use Rattle.mdb_slots.specs.Open.{ListSteps, or_else, list_after, ListFits, room_after as length_after}
 use Rattle.mdb_slots.specs.Table.{items}
-use Rattle.mdb_slots.specs.SlotIndex.{IndexSteps, indexing_after, index_room_after, IndexFits}
-use Rattle.mdb_slots.specs.NumberSet.{numbers_kept}
+use Rattle.mdb_slots.specs.NumberSet.{NumberSteps, numbers_kept, spanned_after, capacity_after, NumbersFit}
 use Rattle.mdb_slots.specs.Sided.{SidedSteps, SidedFits, sided_after, sided_capacity_after}
 use Rattle.mdb_pool.specs.Places.{is_available, is_pending, is_queued}
 use Rattle.mdb_pool.specs.declared.connection.Connection.{Connection}
@@ -23,8 +22,8 @@ pub record PoolSteps : Type 0 where
   pub requests : SidedSteps Request
   pub status : Option Status
   pub clears : ListSteps Clear
-  pub settled : IndexSteps
-  pub claimed : IndexSteps
+  pub settled : NumberSteps
+  pub claimed : NumberSteps
 
 -- the pool that is read from it
 abbrev pub pool_of : Inner → PoolCore
@@ -55,8 +54,8 @@ pool_after p s = record {
   requests = sided_after p.requests s.requests;
   status = or_else p.status s.status;
   clears = list_after p.clears s.clears;
-  settled = indexing_after p.settled s.settled;
-  claimed = indexing_after p.claimed s.claimed;
+  settled = spanned_after p.settled s.settled;
+  claimed = spanned_after p.claimed s.claimed;
 }
 
 -- how long each part becomes without memory once the changes are made
@@ -65,8 +64,8 @@ room_after p r = record {
   connections = sided_capacity_after p.connections r.connections;
   requests = sided_capacity_after p.requests r.requests;
   clears = length_after p.clears r.clears;
-  settled = index_room_after p.settled r.settled;
-  claimed = index_room_after p.claimed r.claimed;
+  settled = capacity_after p.settled r.settled;
+  claimed = capacity_after p.claimed r.claimed;
 }
 
 abbrev pub inner_after : PoolSteps → Inner → Inner
@@ -85,8 +84,8 @@ PoolFits p i =
     SidedFits (λ x. x.id) (λ x. x.service) (λ x. x.since) (λ x. is_available x.place) (λ x. is_pending x.place) p.connections i.base.connections i.room.connections
     × SidedFits (λ q. q.number) no_service (λ q. q.asked_at) (λ q. is_queued q.phase && q.warm) (λ q. is_queued q.phase) p.requests i.base.requests i.room.requests
     × ListFits p.clears i.base.clears i.room.clears
-    × IndexFits p.settled i.base.settled i.room.settled
-    × IndexFits p.claimed i.base.claimed i.room.claimed
+    × NumbersFit p.settled i.base.settled i.room.settled
+    × NumbersFit p.claimed i.base.claimed i.room.claimed
 
 -- the same of the parts of a pool
 abbrev pub base_of : Body → PoolShelf

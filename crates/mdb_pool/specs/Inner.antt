@@ -2,7 +2,7 @@
 use Rattle.std.specs.Prelude.{ℕ, List}
 use Rattle.mdb_base.specs.declared.address.ServerAddress.{ServerAddress}
 use Rattle.mdb_log.specs.declared.options.PoolOptions.{PoolOptions}
-use Rattle.mdb_slots.specs.SlotIndex.{Indexing, Both}
+use Rattle.mdb_slots.specs.NumberSet.{Spanned}
 use Rattle.mdb_slots.specs.Sided.{SidedShelf, SidedCapacities}
 use Rattle.mdb_pool.specs.declared.connection.Connection.{Connection}
 use Rattle.mdb_pool.specs.declared.request.Request.{Request}
@@ -20,16 +20,16 @@ pub record PoolShelf : Type 0 where
   pub requests : SidedShelf Request
   pub status : Status
   pub clears : List Clear
-  pub settled : Indexing
-  pub claimed : Indexing
+  pub settled : Spanned
+  pub claimed : Spanned
 
 -- how long each part becomes without memory
 pub record PoolRoom : Type 0 where
   pub connections : SidedCapacities
   pub requests : SidedCapacities
   pub clears : ℕ
-  pub settled : Both
-  pub claimed : Both
+  pub settled : ℕ
+  pub claimed : ℕ
 
 pub record Inner : Type 0 where
   pub base : PoolShelf

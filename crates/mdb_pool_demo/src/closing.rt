@@ -7,7 +7,8 @@ use crate::hall::Hall;
 use crate::opening::address;
 use mdb_events::{CmapEvent, Fact};
 use mdb_handles::Handle;
-use mdb_log::{Act, Core, Entry, Log};
+use mdb_journal::Journal;
+use mdb_log::{Act, Core, Entry};
 use mdb_shared::Look;
 use std::alloc::Global;
 use std::sync::Wait;
@@ -53,9 +54,9 @@ impl<C: Core> Look<C> for Reported {
 
     ghost tells = { λ s log found. ⊤ };
 
-    fn look(&self, _core: &C, log: &Log) -> bool {
+    fn look(&self, _core: &C, log: &Journal) -> bool {
         let mut open = 0usize;
-        for entry in log.entries() {
+        for entry in log.kept().entries {
             open = open.saturating_add(created(entry));
             if is_report(entry) {
                 open = open.saturating_sub(1);

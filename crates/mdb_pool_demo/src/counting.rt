@@ -1,7 +1,7 @@
 //! What a log tells of its connections.
 
 use mdb_events::{CmapEvent, ConnectionClosedReason, End, Fact};
-use mdb_log::{Act, Entry, Log, Reply};
+use mdb_log::{Act, Entry, Reply};
 
 /// Counts that don't depend on the schedule.
 #[derive(Clone, Copy, Debug, PartialEq, Eq)]
@@ -72,8 +72,8 @@ fn count_entry(counts: &mut Counts, entry: &Entry) {
     }
 }
 
-/// The counts of the log.
-pub fn count(log: &Log) -> Counts {
+/// The counts of the entries.
+pub fn count(entries: &[Entry]) -> Counts {
     let mut counts = Counts {
         requested: 0,
         granted: 0,
@@ -86,7 +86,7 @@ pub fn count(log: &Log) -> Counts {
         given_up: 0,
         entries: 0,
     };
-    for entry in log.entries() {
+    for entry in entries {
         count_entry(&mut counts, entry);
     }
     counts

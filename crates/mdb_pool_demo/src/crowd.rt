@@ -9,7 +9,8 @@ use crate::errors::DemoError;
 use crate::opening::{Limits, hello, open};
 use crate::parts::establisher;
 use mdb_handles::{Handle, SpareSeats};
-use mdb_log::{Core, Log, Use};
+use mdb_journal::Journal;
+use mdb_log::{Core, Use};
 use mdb_shared::{Look, Seat, SharedDriver};
 use mdb_workers::OpenGate;
 use std::alloc::Global;
@@ -42,8 +43,8 @@ impl<C: Core> Look<C> for Counting {
 
     ghost tells = { λ s log found. ⊤ };
 
-    fn look(&self, _core: &C, log: &Log) -> Counts {
-        count(log)
+    fn look(&self, _core: &C, log: &Journal) -> Counts {
+        count(log.kept().entries)
     }
 }
 

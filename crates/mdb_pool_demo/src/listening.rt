@@ -5,9 +5,9 @@ ghost use Rattle.std.specs.Prelude.{◌≡◌};
 use crate::closing::pause;
 use mdb_events::{CmapEventHandler, ConnectionCreatedEvent, Fact, deliver_cmap};
 use mdb_handles::Handle;
-use mdb_log::{Core, Entry, Log};
+use mdb_journal::Journal;
+use mdb_log::{Core, Entry};
 use mdb_shared::Look;
-use mdb_workers::has_stopped;
 use std::sync::Wait;
 use std::sync::atomic::{AtomicU64, Ordering};
 
@@ -59,13 +59,13 @@ impl<'a, C: Core> Look<C> for Deliveries<'a> {
 
     ghost tells = { λ s log found. ⊤ };
 
-    fn look(&self, _core: &C, log: &Log) -> (u64, bool) {
-        let entries = log.entries();
-        let from = self.from as usize;
-        for at in from..entries.len() {
-            deliver(self.handler, &entries[at]);
+    fn look(&self, _core: &C, log: &Journal) -> (u64, bool) {
+        let kept = log.kept();
+        let from = self.from.saturating_sub(kept.from) as usize;
+        for at in from..kept.entries.len() {
+            deliver(self.handler, &kept.entries[at]);
         }
-        (entries.len() as u64, has_stopped(entries, from))
+        (log.len(), log.is_stopped())
     }
 }
 

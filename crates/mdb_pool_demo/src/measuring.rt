@@ -117,7 +117,7 @@ fn roles(alloc: Global, plan: Plan) -> Result<Vec<Role>, DemoError> {
 
 // The log is counted, and let go.
 fn counted(outcome: Outcome) -> (Counts, Kinds) {
-    let told = (count(&outcome.log), kinds_of(&outcome.log));
+    let told = (count(outcome.log.entries()), kinds_of(&outcome.log));
     drop(outcome);
     told
 }

@@ -6,6 +6,7 @@ use crate::errors::DemoError;
 use crate::hall::Hall;
 use crate::opening::hello;
 use crate::parts::{Part, Played, Role, play};
+use mdb_journal::Journal;
 use mdb_log::{Core, Log};
 use mdb_shared::{Seat, SharedDriver};
 use std::alloc::Global;
@@ -132,6 +133,21 @@ fn hall_of(roles: &[Role]) -> Hall {
     Hall::new(roles.len() as u64, clients as u64)
 }
 
+// What is left of a run, of which nobody took an entry.
+fn left_of(journal: Journal, hall: &Hall) -> Result<Outcome, DemoError> {
+    match journal.whole() {
+        Ok(log) => Ok(Outcome {
+            log,
+            published: hall.published(),
+            heard: hall.heard.count(),
+        }),
+        Err(journal) => {
+            drop(journal);
+            Err(DemoError::Seat)
+        }
+    }
+}
+
 /// A run of a driver of this core: its pool becomes ready, each role is played in a thread of its own, and the driver is closed.
 pub fn play_out<C: Core, R: Threads + Wait + Clock + Sync>(
     rt: &R,
@@ -149,13 +165,9 @@ pub fn play_out<C: Core, R: Threads + Wait + Clock + Sync>(
     let hall = hall_of(roles);
     let seats = use_seats(&driver, rt, alloc, seats, roles, &hall)?;
     match driver.close(seats) {
-        Ok((core, log)) => {
+        Ok((core, journal)) => {
             drop(core);
-            Ok(Outcome {
-                log,
-                published: hall.published(),
-                heard: hall.heard.count(),
-            })
+            left_of(journal, &hall)
         }
         Err(unclosed) => {
             drop(unclosed);

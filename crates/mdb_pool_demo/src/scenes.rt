@@ -76,7 +76,7 @@ struct Tally {
 
 fn tally_of(outcome: Outcome) -> Tally {
     let told = Tally {
-        counts: count(&outcome.log),
+        counts: count(outcome.log.entries()),
         published: outcome.published,
         heard: outcome.heard,
     };

@@ -8,7 +8,8 @@ use crate::errors::DemoError;
 use crate::opening::address;
 use mdb_events::{CmapEvent, ConnectionClosedReason, Fact};
 use mdb_handles::{CheckOutError, Handle};
-use mdb_log::{Act, Core, Entry, Log, PooledConnection, Reply, Use};
+use mdb_journal::Journal;
+use mdb_log::{Act, Core, Entry, PooledConnection, Reply, Use};
 use mdb_shared::Look;
 use std::alloc::Global;
 use std::rt::Clock;
@@ -46,8 +47,8 @@ impl<C: Core> Look<C> for IdleClosed {
 
     ghost tells = { λ s log found. ⊤ };
 
-    fn look(&self, _core: &C, log: &Log) -> bool {
-        log.entries().iter().any(|entry| closes_idle(entry))
+    fn look(&self, _core: &C, log: &Journal) -> bool {
+        log.kept().entries.iter().any(|entry| closes_idle(entry))
     }
 }
 
@@ -193,11 +194,11 @@ impl<C: Core> Look<C> for Third {
 
     ghost tells = { λ s log found. ⊤ };
 
-    fn look(&self, _core: &C, log: &Log) -> (Option<u32>, bool) {
+    fn look(&self, _core: &C, log: &Journal) -> (Option<u32>, bool) {
         let mut asked = 0u32;
         let mut third = None;
         let mut is_over = false;
-        for entry in log.entries() {
+        for entry in log.kept().entries {
             if let Act::Request(party, _) = &entry.step.act {
                 asked = asked.saturating_add(1);
                 if asked == 3 && matches!(&entry.reply, Reply::Waiting) {

@@ -15,7 +15,7 @@ ghost use Rattle.mdb_proxies.specs.Tables.{Sound, KeptBy, NotedBy, some_may_go, 
 use crate::books::{Books, is_refused};
 use crate::freed::{Freed, next};
 use mdb_base::{Moment, OutOfMemory};
-use mdb_log::{Act, Core, Entry, Log, Reply, Step};
+use mdb_log::{Act, Core, Entry, Log, Reply, Step, step_whole};
 use std::alloc::Global;
 
 // The parts of a proxy.
@@ -67,7 +67,7 @@ fn enter<C: Core>(
     ensures err { OnErr result ((log.new ≡ log.old) × (books.new ≡ books.old)) }
 {
     let at = log.len();
-    let reply = core.step(alloc, log, 0, step)?;
+    let reply = step_whole(core, alloc, log, 0, step)?;
     let freed = books.turn(newest(log), at);
     Ok((reply, freed))
 }

@@ -52,6 +52,11 @@ use Rattle.mdb_log.specs.contracts.checked.HelloResult as HelloResult
 use Rattle.mdb_log.specs.contracts.log.Entry as Entry
 use Rattle.mdb_log.specs.contracts.log.Log as Log
 use Rattle.mdb_log.specs.contracts.step.Act as Act
+use Rattle.mdb_past.proofs.past.Past.TheSendSync.{the_send as past}
+use Rattle.mdb_journal.specs.contracts.journal.Journal as Journal
+use Rattle.mdb_journal.specs.contracts.journal.Journal.TheInside as JournalInside
+use Rattle.mdb_shared.specs.contracts.records.Records as Records
+use Rattle.mdb_shared.specs.contracts.records.Records.TheInside as RecordsInside
 
 number : IsSend u32
 number = search sendable
@@ -111,12 +116,18 @@ entry = search (act, answer, fact, rules) depth 20
 pub log : IsSend Log.the_row
 log = search (entry, rules) depth 20
 
+pub journal : IsSend Journal.the_row
+journal = view_send JournalInside.the_row _ _ _ _ (recorded_send JournalInside.the_field.row _ _ JournalInside.the_type.to_one (struct_send (shape JournalInside.the_type) (search (past, entry, rules) depth 20, (duration, (log, (duration, (search rules, tt)))))))
+
+records : IsSend Records.the_row
+records = view_send RecordsInside.the_row _ _ _ _ (recorded_send RecordsInside.the_field.row _ _ RecordsInside.the_type.to_one (struct_send (shape RecordsInside.the_type) (journal, tt)))
+
 module _ (C : RattleType) (g : Core.Ghosts C.Denot) where
   pub seat_crosses : IsSend C → IsSend (Seat.the_row C g)
-  seat_crosses s = view_send (SeatInside.the_row C g) _ _ _ _ (recorded_send (SeatInside.the_field C g).row _ _ (SeatInside.the_type C g).to_one (struct_send (shape (SeatInside.the_type C g)) (search (place.the_send, log, crosses, sendable) depth 20, (number, tt))))
+  seat_crosses s = view_send (SeatInside.the_row C g) _ _ _ _ (recorded_send (SeatInside.the_field C g).row _ _ (SeatInside.the_type C g).to_one (struct_send (shape (SeatInside.the_type C g)) (search (place.the_send, records, log, crosses, sendable) depth 20, (number, tt))))
 
   pub driver_lends : IsSend C → IsSync (Driver.the_row C g)
-  driver_lends s = view_sync (DriverInside.the_row C g) _ _ _ _ (recorded_sync (DriverInside.the_field C g).row _ _ (DriverInside.the_type C g).to_one (struct_sync (shape (DriverInside.the_type C g)) (search (table.the_field_sync, log, crosses, sendable) depth 20, (search sendable, (counter, (counter, tt))))))
+  driver_lends s = view_sync (DriverInside.the_row C g) _ _ _ _ (recorded_sync (DriverInside.the_field C g).row _ _ (DriverInside.the_type C g).to_one (struct_sync (shape (DriverInside.the_type C g)) (search (table.the_field_sync, records, log, crosses, sendable) depth 20, (search sendable, (counter, (counter, tt))))))
 
 -- for `search`: what has a seat or lends a driver crosses where its core may
 pub ruleset seats = (seat_crosses, driver_lends, crosses, sendable)

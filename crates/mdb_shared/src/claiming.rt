@@ -6,11 +6,12 @@ ghost use Rattle.mdb_shared.specs.Seats.{IsReady, seat_view, Stepped, OnlySaw, F
 ghost use Rattle.mdb_shared.specs.Claims.{claiming, claimed_by, Holds, Missed};
 
 use crate::driver::SharedDriver;
+use crate::records::Records;
 use crate::rule::{Lock, Place};
 use crate::seat::Seat;
 use crate::turn::{finish, give_back, raise, take};
 use mdb_base::OutOfMemory;
-use mdb_log::{Act, Core, Job, Log, Reply, Step};
+use mdb_log::{Act, Core, Job, Reply, Step};
 use std::alloc::Global;
 use std::sync::Wait;
 
@@ -33,7 +34,7 @@ enum NoClaim {
 }
 
 // The reply to a claim, with the job that it names.
-fn with_job<C: Core>(core: &C, alloc: Global, log: &Log, reply: Reply) -> Claimed
+fn with_job<C: Core>(core: &C, alloc: Global, log: &Records, reply: Reply) -> Claimed
     requires stands { C.stands core.now log.now }
     requires kind { IsTrue (tells_job reply) }
     requires there { IsThere (C.job_after log.now) reply }
@@ -74,7 +75,7 @@ fn one_claim<C: Core>(
         act: Act::Claim,
     };
     let raised = raise(step, core.last_moment());
-    let stepped = core.step(alloc, &mut log, number, &raised);
+    let stepped = log.step(&mut core, alloc, number, &raised);
     drop(raised);
     match stepped {
         Ok(reply) => {

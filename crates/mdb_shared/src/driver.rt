@@ -9,11 +9,13 @@ use crate::answers::{TryError, Unclosed};
 use crate::ending::{end, gather};
 use crate::making::make_seats;
 use crate::meeting::{look, meet_at};
+use crate::records::Records;
 use crate::rule::{Lock, Opening};
 use crate::seat::Seat;
 use crate::turn::one_step;
 use atomic_table::{Refused, Table};
 use mdb_base::OutOfMemory;
+use mdb_journal::Journal;
 use mdb_log::{Core, Log, Reply, Step};
 use std::alloc::Global;
 use std::marker::Model;
@@ -70,7 +72,7 @@ impl<C: Core> SharedDriver<C> {
         let Ok(mut slots) = Vec::with_capacity(alloc, 1) else {
             return Err(OutOfMemory);
         };
-        slots.push_reserved(Some((core, log)));
+        slots.push_reserved(Some((core, Records::begin(log))));
         let (table, keeper) = match Table::new(alloc, &words, slots, &about) {
             Ok(made) => made,
             Err(Refused { slots: _ }) => return Err(OutOfMemory),
@@ -171,11 +173,12 @@ impl<C: Core> SharedDriver<C> {
         meet_at(&self.table, &mut one.place, &mut other.place);
     }
 
-    /// The core and the log, where all seats of the driver are given. It waits for nobody and takes no memory.
-    pub fn close(self, seats: Vec<Seat<C>>) -> Result<(C, Log), Unclosed<C>>
+    /// The core and the log, where all seats of the driver are given: all entries, of which those that were taken are gone from memory. It waits for nobody
+    /// and takes no memory.
+    pub fn close(self, seats: Vec<Seat<C>>) -> Result<(C, Journal), Unclosed<C>>
         requires own { AllOf self.id seats.items }
-        ensures stands { IfOk result (λ r. C.stands r.0 r.1) }
-        ensures accounts { IfOk result (λ r. Accounts self.base seats.items r.1) }
+        ensures stands { IfOk result (λ r. C.stands r.0 r.1.all) }
+        ensures accounts { IfOk result (λ r. Accounts self.base seats.items r.1.all) }
         ensures all { OnOk result (length seats.items ≡ self.seats) }
         ensures back { IfErr result (λ u. (u.driver ≡ self) × (u.seats.items ≡ seats.items)) }
         ensures missing { IfErr result (λ u. (length seats.items + u.missing ≡ self.seats) × (0 < u.missing)) }
@@ -195,6 +198,7 @@ impl<C: Core> SharedDriver<C> {
             at_bell: _,
         } = self;
         let all = gather(&table, seats);
-        Ok(end(table, all))
+        let (core, records) = end(table, all);
+        Ok((core, records.into_journal()))
     }
 }

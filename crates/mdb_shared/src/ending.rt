@@ -6,9 +6,10 @@ ghost use Rattle.mdb_shared.specs.Turning.{Settles};
 ghost use Rattle.mdb_shared.specs.Seats.{Each, behind, AllOf};
 
 use crate::meeting::look;
+use crate::records::Records;
 use crate::rule::{Absorb, Lock, Place};
 use crate::seat::Seat;
-use mdb_log::{Core, Log};
+use mdb_log::Core;
 
 // One takes in the other, and looks.
 pub(super) fn take_in<C: Core>(table: &Lock<C>, all: &mut Place<C>, place: Place<C>)
@@ -48,7 +49,7 @@ pub(super) fn gather<C: Core>(table: &Lock<C>, mut seats: Vec<Seat<C>>) -> Place
 }
 
 // The state, once all seats are one.
-pub(super) fn end<C: Core>(table: Lock<C>, all: Place<C>) -> (C, Log)
+pub(super) fn end<C: Core>(table: Lock<C>, all: Place<C>) -> (C, Records)
     requires table { (table.shared.table_id.words ≡ 2) × (table.shared.table_id.slots ≡ 1) × (all.table_id ≡ table.shared.table_id) }
     requires off { all.me.0.turn ≡ false }
     requires all { table.shared.key.seats ≤ length all.me.0.parts }

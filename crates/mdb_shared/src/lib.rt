@@ -2,7 +2,6 @@
 #![tactic(auto)]
 
 mod answers;
-mod bell;
 mod checkout;
 mod claiming;
 mod driver;
@@ -10,13 +9,14 @@ mod ending;
 mod looking;
 mod making;
 mod meeting;
+mod records;
 mod rule;
 mod seat;
+mod taking;
 mod turn;
 mod waiting;
 
 pub use answers::{TryError, Unclosed};
-pub use bell::is_news;
 pub use checkout::{Back, BackWhy, Poll};
 pub use claiming::Claimed;
 pub use driver::SharedDriver;

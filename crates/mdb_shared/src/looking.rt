@@ -8,7 +8,8 @@ use crate::driver::SharedDriver;
 use crate::rule::{Lock, Place};
 use crate::seat::Seat;
 use crate::turn::{give_back, take};
-use mdb_log::{Core, Log};
+use mdb_journal::Journal;
+use mdb_log::Core;
 use std::sync::Wait;
 
 /// What one looks for in a driver.
@@ -22,10 +23,10 @@ pub trait Look<C: Core> {
     /// What it says of the log.
     ghost tells: { Self → List Entry → Self.Found → Type 0 };
 
-    /// Looks at the core and the log that it stands for.
-    fn look(&self, core: &C, log: &Log) -> Self::Found
-        requires { C.stands core.now log.now }
-        ensures { tells self.now log.now result };
+    /// Looks at the core and the log that it stands for, of which the oldest entries may have been handed out.
+    fn look(&self, core: &C, log: &Journal) -> Self::Found
+        requires { C.stands core.now log.now.all }
+        ensures { tells self.now log.now.all result };
 }
 
 // A look by the seat of this number, unless the turn is taken.
@@ -41,12 +42,12 @@ fn one_look<C: Core, L: Look<C>>(
     ensures ok { IfOk result (λ found. OnlySaw (seat_view place.old.table_id number place.old.me.0) (seat_view place.new.table_id number place.new.me.0) × (place.new.me.0.busy ≡ place.old.me.0.busy) × L.tells look.now place.new.me.0.seen found) }
     ensures err { IfErr result (λ word. (place.new.me ≡ (found_busy place.old.me.0 word, [])) × (word ≢ 0) × (word ≢ number + 1)) }
 {
-    let (core, log) = match take(table, place, number) {
+    let (core, records) = match take(table, place, number) {
         Ok(state) => state,
         Err(word) => return Err(word),
     };
-    let found = look.look(&core, &log);
-    give_back(table, place, core, log);
+    let found = look.look(&core, records.journal());
+    give_back(table, place, core, records);
     Ok(found)
 }
 

@@ -3,6 +3,7 @@
 ghost use Rattle.std.specs.Prelude.{List};
 ghost use Rattle.mdb_log.specs.declared.log.Entry.{Entry};
 
+use crate::records::Records;
 use atomic_table::{Join, Play, Split, Table, TableRule};
 use mdb_log::{Core, Entry, Log};
 use std::alloc::Global;
@@ -40,7 +41,7 @@ pub struct Opening {
 }
 
 /// What lies in the slot.
-pub type Held<C> = Option<(C, Log)>;
+pub type Held<C> = Option<(C, Records)>;
 
 /// The turn word, the count word and the slot, which keep the rule.
 pub type Lock<C> = Table<Held<C>, View, Opening, Turns<C>, Global>;

@@ -8,10 +8,10 @@ ghost use Rattle.mdb_shared.specs.Turning.{part, with_turn, without_turn, with_e
 ghost use Rattle.mdb_shared.specs.Seats.{IsReady, mine_of, seat_view, Stepped, Failed, raised};
 
 use crate::answers::TryError;
-use crate::bell::rings;
+use crate::records::Records;
 use crate::rule::{Add, Claim, Lock, Place, Release};
 use mdb_base::{Moment, OutOfMemory};
-use mdb_log::{Core, Log, Reply, Step};
+use mdb_log::{Core, Reply, Step};
 use std::alloc::Global;
 
 // Takes the turn and the state, unless the turn is taken.
@@ -19,7 +19,7 @@ pub(super) fn take<C: Core>(
     table: &Lock<C>,
     place: &mut Place<C>,
     number: u32,
-) -> Result<(C, Log), u64>
+) -> Result<(C, Records), u64>
     requires table { (table.now.shared.table_id.words ≡ 2) × (table.now.shared.table_id.slots ≡ 1) × (place.old.table_id ≡ table.now.shared.table_id) }
     requires ready { IsReady number place.old.me }
     ensures same { (place.new.table_id ≡ place.old.table_id) × (place.new.id ≡ place.old.id) }
@@ -35,7 +35,13 @@ pub(super) fn take<C: Core>(
 }
 
 // Puts the state back, with one more entry, and lets the turn go.
-pub(super) fn finish<C: Core>(table: &Lock<C>, place: &mut Place<C>, core: C, log: Log, number: u32)
+pub(super) fn finish<C: Core>(
+    table: &Lock<C>,
+    place: &mut Place<C>,
+    core: C,
+    log: Records,
+    number: u32,
+)
     requires table { (table.now.shared.table_id.words ≡ 2) × (table.now.shared.table_id.slots ≡ 1) × (place.old.table_id ≡ table.now.shared.table_id) }
     requires turn { (place.old.me.0.turn ≡ true) × (place.old.me.1 ≡ (0, None) ∷ []) × (place.old.me.0.parts ≡ part number (mine_of place.old.me.0.parts) ∷ []) }
     requires log { (e : Entry) × (e.seat ≡ number) × (log ≡ place.old.me.0.seen ++ e ∷ []) }
@@ -51,7 +57,7 @@ pub(super) fn finish<C: Core>(table: &Lock<C>, place: &mut Place<C>, core: C, lo
 }
 
 // Puts the state back as it was, and lets the turn go.
-pub(super) fn give_back<C: Core>(table: &Lock<C>, place: &mut Place<C>, core: C, log: Log)
+pub(super) fn give_back<C: Core>(table: &Lock<C>, place: &mut Place<C>, core: C, log: Records)
     requires table { (table.now.shared.table_id.words ≡ 2) × (table.now.shared.table_id.slots ≡ 1) × (place.old.table_id ≡ table.now.shared.table_id) }
     requires turn { (place.old.me.0.turn ≡ true) × (place.old.me.1 ≡ (0, None) ∷ []) }
     requires log { (log ≡ place.old.me.0.seen) × C.stands core log }
@@ -95,11 +101,11 @@ pub(super) fn one_step<C: Core>(
         Err(word) => return Err(TryError::Busy(word, step)),
     };
     let raised = raise(step, core.last_moment());
-    let stepped = core.step(alloc, &mut log, number, &raised);
+    let stepped = log.step(&mut core, alloc, number, &raised);
     drop(raised);
     match stepped {
         Ok(reply) => {
-            *is_news = rings(&log);
+            *is_news = log.ring();
             finish(table, place, core, log, number);
             Ok(reply)
         }

@@ -29,4 +29,3 @@ pub mod Rests
 pub mod Sweeps
 pub mod TableWalks
 pub mod Lent
-pub mod NumbersIn

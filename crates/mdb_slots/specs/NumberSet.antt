@@ -1,19 +1,44 @@
--- Numbers that were put, each once, as an index leads to them.
-use Rattle.std.specs.Prelude.{ℕ, Option, Some, None, List, [], ◌∷◌}
-use Rattle.mdb_slots.specs.SlotIndex.{Indexing, Both, numbers_of}
+-- Numbers that were put, each once: those that stay as spans, and those that came since.
+use Rattle.std.specs.Prelude.{ℕ, ◌+◌, ◌≤◌, Option, List, [], ◌∷◌, ◌++◌, length}
+use Rattle.mdb_intervals.specs.declared.span.Span.{Span}
+use Rattle.mdb_intervals.specs.Spans.{put}
+use Rattle.mdb_slots.specs.Open.{or_else}
 
--- the numbers that there are, in the order of their slots
-abbrev pub numbers_in : List (Option ℕ) → List ℕ
-numbers_in [] = []
-numbers_in (None ∷ ns) = numbers_in ns
-numbers_in (Some k ∷ ns) = k ∷ numbers_in ns
+-- what a set is read from: the numbers in the order in which they came, and the spans in memory
+pub record Spanned : Type 0 where
+  pub numbers : List ℕ
+  pub spans : List Span
 
--- the numbers of what an index is read from
-abbrev pub numbers_kept : Indexing → List ℕ
-numbers_kept i = numbers_in (numbers_of i.entries)
+abbrev pub nothing_spanned : Spanned
+nothing_spanned = record { numbers = []; spans = [] }
 
--- the numbers as they are, what they were read from when they were last settled, and the capacities that there were then
+abbrev pub numbers_kept : Spanned → List ℕ
+numbers_kept s = s.numbers
+
+-- the numbers come to the spans
+abbrev pub put_all : List ℕ → List Span → List Span
+put_all [] ss = ss
+put_all (n ∷ ns) ss = put_all ns (put n ss)
+
+-- numbers that come, and how many spans there are places for if the spans move
+pub record NumberSteps : Type 0 where
+  pub numbers : List ℕ
+  pub capacity : Option ℕ
+
+-- what the set is read from once the numbers have come
+abbrev pub spanned_after : NumberSteps → Spanned → Spanned
+spanned_after p s = record { numbers = s.numbers ++ p.numbers; spans = put_all p.numbers s.spans }
+
+-- how many spans there are places for then
+abbrev pub capacity_after : NumberSteps → ℕ → ℕ
+capacity_after p capacity = or_else p.capacity capacity
+
+-- the numbers can come without memory
+abbrev pub NumbersFit : NumberSteps → Spanned → ℕ → Type 0
+NumbersFit p s capacity = length s.spans + length p.numbers ≤ capacity_after p capacity
+
+-- the numbers as they are, what they were read from when they were last settled, and how many spans there were places for then
 pub record OpenNumbers : Type 0 where
   pub now : List ℕ
-  pub base : Indexing
-  pub capacity : Both
+  pub base : Spanned
+  pub capacity : ℕ

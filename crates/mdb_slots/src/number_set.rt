@@ -1,46 +1,65 @@
-//! Numbers that only come, whose changes can be taken back and made again.
+//! Numbers that only come, whose changes can be taken back and made again. Those that stay take memory by the gaps between them.
 
-ghost use Rattle.std.specs.Prelude.{◌≡◌, ◌++◌, ◌∷◌, [], false, OnOk, OnErr};
+ghost use Rattle.std.specs.Prelude.{◌≡◌, ◌≤◌, ◌+◌, ◌||◌, ◌++◌, ◌∷◌, [], ℕ, None, false, length, OnOk, OnErr};
+ghost use Rattle.mdb_intervals.specs.Spans.{has as is_within};
 ghost use Rattle.mdb_slots.specs.Lists.{has};
-ghost use Rattle.mdb_slots.specs.NumberSet.{numbers_kept};
-ghost use Rattle.mdb_slots.specs.SlotIndex.{IndexFits, nothing_indexed, indexing_after, index_room_after};
+ghost use Rattle.mdb_slots.specs.Open.{or_else};
+ghost use Rattle.mdb_slots.specs.NumberSet.{nothing_spanned, numbers_kept, put_all, spanned_after, capacity_after, NumbersFit};
 
-use crate::slot_index::{IndexRedo, SlotIndex};
+use crate::number_steps::{NumberSetRedo, settle_all};
 use mdb_base::OutOfMemory;
+use mdb_intervals::Spans;
+use mdb_past::{Past, Tells};
 use std::alloc::Global;
 use std::marker::Model;
+use std::mem;
 
 /// Numbers that were put, each once: as they are, and as they were when they were last settled. They never go.
 #[derive(Drop)]
 pub struct NumberSet {
-    index: SlotIndex,
-    // There may be changes since.
-    changed: bool,
+    settled: Spans,
+    // The settled numbers in the order in which they came.
+    order: Past<u32>,
+    fresh: NumberSetRedo,
 }
 
 impl Model for NumberSet {
-    ghost use Rattle.std.specs.Prelude.{◌≡◌, false};
-    ghost use Rattle.mdb_slots.specs.NumberSet.{OpenNumbers, numbers_in, numbers_kept};
+    ghost use Rattle.std.specs.Prelude.{◌≡◌, ◌≤◌, ◌++◌, ℕ, length};
+    ghost use Rattle.mdb_intervals.specs.Spans.{has as is_within};
+    ghost use Rattle.mdb_slots.specs.Lists.{has};
+    ghost use Rattle.mdb_slots.specs.NumberSet.{OpenNumbers, NumbersFit};
 
     ghost Value = { OpenNumbers };
 
-    ghost view = { λ t. record { now = numbers_in t.index.now; base = t.index.base; capacity = t.index.capacity } };
+    ghost view = { λ s. record { now = s.order.value ++ s.fresh.numbers; base = record { numbers = s.order.value; spans = s.settled.spans }; capacity = s.settled.capacity } };
 
-    ghost invariant = { λ t. t.changed ≡ false → numbers_kept t.index.base ≡ numbers_in t.index.now };
+    ghost invariant = { λ s. NumbersFit s.fresh (record { numbers = s.order.value; spans = s.settled.spans }) s.settled.capacity × (length s.settled.spans ≤ s.settled.capacity) × ((n : ℕ) → is_within n s.settled.spans ≡ has n s.order.value) };
 }
 
-/// Changes of a set that were taken back, to be made again.
-pub type NumberSetRedo = IndexRedo;
+// The numbers as they are.
+struct Now;
+
+impl Tells<NumberSet, u32> for Now {
+    ghost told = { λ s. s.now };
+}
+
+// The numbers once the changes are made.
+struct Redone;
+
+impl<'a> Tells<(&'a NumberSet, &'a NumberSetRedo), u32> for Redone {
+    ghost told = { λ x. numbers_kept (spanned_after x.1.now x.0.now.base) };
+}
 
 impl NumberSet {
     /// No numbers. It takes no memory.
     pub fn new(alloc: Global) -> NumberSet
         ensures now { result.now ≡ [] }
-        ensures base { result.base ≡ nothing_indexed }
+        ensures base { result.base ≡ nothing_spanned }
     {
         NumberSet {
-            index: SlotIndex::new(alloc),
-            changed: false,
+            settled: Spans::new(alloc),
+            order: Past::none(),
+            fresh: NumberSetRedo::none(alloc),
         }
     }
 
@@ -48,7 +67,7 @@ impl NumberSet {
     pub fn contains(&self, number: u32) -> bool
         ensures { result ≡ has number self.now.now }
     {
-        self.index.get(number).is_some()
+        self.settled.contains(number) || self.fresh.contains(number)
     }
 
     /// The number comes last.
@@ -59,15 +78,7 @@ impl NumberSet {
         ensures base { self.new.base ≡ self.old.base }
         ensures capacity { self.new.capacity ≡ self.old.capacity }
     {
-        let slot = self.index.len();
-        if slot >= u32::MAX as usize {
-            return Err(OutOfMemory);
-        }
-        self.changed = true;
-        self.index.grow()?;
-        self.index.ready_to_insert()?;
-        self.index.insert(number, slot as u32);
-        Ok(())
+        self.fresh.push(&self.settled, number)
     }
 
     /// The changes go, and what comes back makes them again. It takes no memory.
@@ -75,22 +86,23 @@ impl NumberSet {
         ensures now { self.new.now ≡ numbers_kept self.old.base }
         ensures base { self.new.base ≡ self.old.base }
         ensures capacity { self.new.capacity ≡ self.old.capacity }
-        ensures fits { IndexFits result self.new.base self.new.capacity }
-        ensures onto { numbers_kept (indexing_after result self.new.base) ≡ self.old.now }
+        ensures fits { NumbersFit result self.new.base self.new.capacity }
+        ensures onto { numbers_kept (spanned_after result self.new.base) ≡ self.old.now }
     {
-        self.changed = false;
-        self.index.turn(alloc)
+        mem::replace(&mut self.fresh, NumberSetRedo::none(alloc))
     }
 
     /// Whatever was changed goes, and the changes are made again and stay. It takes no memory.
-    pub fn redo(&mut self, redo: NumberSetRedo)
-        requires { IndexFits redo self.old.base self.old.capacity }
-        ensures base { self.new.base ≡ indexing_after redo self.old.base }
+    pub fn redo(&mut self, mut redo: NumberSetRedo)
+        requires { NumbersFit redo self.old.base self.old.capacity }
+        ensures base { self.new.base ≡ spanned_after redo self.old.base }
         ensures now { self.new.now ≡ numbers_kept self.new.base }
-        ensures capacity { self.new.capacity ≡ index_room_after redo self.old.capacity }
+        ensures capacity { self.new.capacity ≡ capacity_after redo self.old.capacity }
     {
-        self.index.redo(redo);
-        self.changed = false;
+        let order = Past::of::<(&NumberSet, &NumberSetRedo), Redone>(&(&*self, &redo));
+        settle_all(&mut self.settled, &mut redo);
+        self.fresh = redo;
+        self.order = order;
     }
 
     /// The changes stay. It takes no memory.
@@ -98,9 +110,8 @@ impl NumberSet {
         ensures now { self.new.now ≡ self.old.now }
         ensures base { numbers_kept self.new.base ≡ self.old.now }
     {
-        if self.changed {
-            self.index.settle();
-            self.changed = false;
-        }
+        let order = Past::of::<NumberSet, Now>(self);
+        settle_all(&mut self.settled, &mut self.fresh);
+        self.order = order;
     }
 }

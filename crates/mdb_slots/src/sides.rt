@@ -1,6 +1,6 @@
 //! A table with lists of the values on its left and on its right: records on the left, numbers on the right. Changes are made in place, and can be taken back.
 
-ghost use Rattle.std.specs.Prelude.{◌≡◌, [], true, not, length, map, filter, find, OnOk, option_copied};
+ghost use Rattle.std.specs.Prelude.{◌≡◌, [], true, not, length, map, filter, find, OnOk, OnErr, option_copied};
 ghost use Rattle.mdb_slots.specs.Keyed.{entry_at, entry_after, entry_before, after_key, rest_of, first_of, last_of, others, put, swap};
 ghost use Rattle.mdb_slots.specs.Lists.{apart};
 ghost use Rattle.mdb_slots.specs.Items.{records_of};
@@ -192,6 +192,7 @@ impl<T: Sided> Sides<T> {
     /// The item comes last, in place of the one that had its number. Where there is no memory all changes go.
     pub fn put(&mut self, alloc: Global, item: T) -> Result<(), OutOfMemory>
         ensures now { OnOk result (self.new.now ≡ put T.key item self.old.now) }
+        ensures gone { OnErr result (self.new.now ≡ items self.old.base.table) }
         ensures base { self.new.base ≡ self.old.base }
         ensures capacity { self.new.capacity ≡ self.old.capacity }
     {
@@ -209,6 +210,7 @@ impl<T: Sided> Sides<T> {
         requires left { stays T.on_left item (entry_at T.key (T.key item) self.old.now) ≡ true }
         requires right { stays T.on_right item (entry_at T.key (T.key item) self.old.now) ≡ true }
         ensures now { OnOk result (self.new.now ≡ swap T.key item self.old.now) }
+        ensures gone { OnErr result (self.new.now ≡ items self.old.base.table) }
         ensures base { self.new.base ≡ self.old.base }
         ensures capacity { self.new.capacity ≡ self.old.capacity }
     {
@@ -224,6 +226,7 @@ impl<T: Sided> Sides<T> {
     /// The value that has the number goes. Where there is no memory all changes go.
     pub fn remove(&mut self, alloc: Global, key: u32) -> Result<(), OutOfMemory>
         ensures now { OnOk result (self.new.now ≡ others T.key key self.old.now) }
+        ensures gone { OnErr result (self.new.now ≡ items self.old.base.table) }
         ensures base { self.new.base ≡ self.old.base }
         ensures capacity { self.new.capacity ≡ self.old.capacity }
     {
@@ -239,6 +242,7 @@ impl<T: Sided> Sides<T> {
     /// The values on the left go. Where there is no memory all changes go.
     pub fn clear_left(&mut self, alloc: Global) -> Result<(), OutOfMemory>
         ensures now { OnOk result (self.new.now ≡ filter (λ x. not (T.on_left x)) self.old.now) }
+        ensures gone { OnErr result (self.new.now ≡ items self.old.base.table) }
         ensures base { self.new.base ≡ self.old.base }
         ensures capacity { self.new.capacity ≡ self.old.capacity }
     {
@@ -252,6 +256,7 @@ impl<T: Sided> Sides<T> {
     /// The values on the right go. Where there is no memory all changes go.
     pub fn clear_right(&mut self, alloc: Global) -> Result<(), OutOfMemory>
         ensures now { OnOk result (self.new.now ≡ filter (λ x. not (T.on_right x)) self.old.now) }
+        ensures gone { OnErr result (self.new.now ≡ items self.old.base.table) }
         ensures base { self.new.base ≡ self.old.base }
         ensures capacity { self.new.capacity ≡ self.old.capacity }
     {

@@ -1,6 +1,7 @@
 -- A driver is a core of many pools: each step adds its entry to the log, and tells of it what every core tells.
 use Rattle.std.proofs.Common.{ℕ, ◌≡◌, ◌≤◌, true, false, List, [], ◌∷◌, ◌++◌, refl, sym, ◌∙◌, ap, subst}
 use Rattle.std.specs.Prelude.{Result, Ok, Err, IfOk, OnOk, OnErr}
+use Rattle.std.proofs.lemmas.List.{append-nil, append_cancel_left}
 use Rattle.mdb_base.specs.declared.options.Options.{Options}
 use Rattle.mdb_describe.specs.declared.topology.TopologyDescription.{TopologyDescription}
 use Rattle.mdb_log.specs.declared.log.Entry.{Entry}
@@ -44,6 +45,17 @@ described-is w log z = sym z.stands.described.known ∙ ap (λ q. description_of
 
 pub published-is : (w : TopologyCore) (log : List Entry) → IsDriverOf w log → w.published ≡ publications log
 published-is w log z = sym z.stands.counts.publications_are ∙ ap (λ q. published q (history_of log)) (sym (options-are w log z))
+
+-- what came to one log comes to another
+pub moved : (w v : TopologyCore) (before after whole more : List Entry) (seat : ℕ) (step : Step) → after ≡ before ++ more → IsLogged w v before after seat step → IsLogged w v whole (whole ++ more) seat step
+moved w v before after whole more seat step grown logs h z =
+    let l : Logs w v before after seat step h = logs h z in
+    record { entry = ap (λ es. whole ++ es) (append_cancel_left before more _ (sym grown ∙ l.entry)); stands = l.stands; fair = l.fair; fresh = l.fresh }
+
+-- where nothing came to one, nothing comes to another
+pub nothing-came : (before after whole more : List Entry) → after ≡ before → after ≡ before ++ more → whole ≡ whole ++ more
+nothing-came before after whole more same grown =
+    sym (append-nil whole) ∙ ap (λ es. whole ++ es) (append_cancel_left before [] more (append-nil before ∙ (sym same ∙ grown)))
 
 module _ (w v : TopologyCore) (log later : List Entry) (seat : ℕ) (step : Step) (z : IsDriverOf w log) (same : v.options ≡ w.options) (logs : IsLogged w v log later seat step) (d : IsDriverAct step.act) where
   abbrev h : List Item

@@ -65,7 +65,31 @@ fn close_with<C: Core>(unclosed: Unclosed<C>, seat: Seat<C>) -> Option<(C, Log)>
         drop(seats);
         return None;
     }
-    driver.close(seats).ok()
+    let (core, journal) = driver.close(seats).ok()?;
+    match journal.whole() {
+        Ok(log) => Some((core, log)),
+        Err(journal) => {
+            drop(core);
+            drop(journal);
+            None
+        }
+    }
+}
+
+/// The log of a driver and all its seats, of which nobody took an entry.
+pub fn log_of<C: Core>(driver: SharedDriver<C>, seats: Vec<Seat<C>>) -> Option<Log>
+    requires { AllOf driver.id seats.items }
+{
+    match driver.close(seats) {
+        Ok((core, journal)) => {
+            drop(core);
+            journal.whole().ok()
+        }
+        Err(unclosed) => {
+            drop(unclosed);
+            None
+        }
+    }
 }
 
 fn close_by<C: Core>(

@@ -18,7 +18,7 @@ pub use access::Access;
 pub use ends::{Work, WorkError};
 pub use establishing::{Call, EstablishError, Establisher, Gate, OpenGate};
 pub use filling::{Fill, fill_pool};
-pub use listening::{Jobs, Woken, has_stopped, next_job, next_news};
+pub use listening::{Jobs, Woken, next_job, next_news};
 pub use memory_establisher::MemEstablisher;
 pub use persisting::{Unreturned, abandon, hand_back, settle, stop, tend};
 pub use serving::serve;

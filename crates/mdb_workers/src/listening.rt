@@ -1,16 +1,16 @@
 //! Waiting until the log tells what one waits for. Who waits looks at the new entries only, in its turn, and adds none; between two looks it sleeps.
 
 ghost use Rattle.std.specs.Prelude.{◌≡◌, IsTrue, length, []};
-ghost use Rattle.mdb_log.specs.declared.step.Act.TheVariants.{Stop};
-ghost use Rattle.mdb_log.specs.declared.reply.Reply.TheVariants.{Done};
 ghost use Rattle.mdb_workers.specs.Making.{Made};
-ghost use Rattle.mdb_workers.specs.Hearing.{HasNews, HasStopped, IsHeard};
+ghost use Rattle.mdb_journal.specs.Entries.{HasNews};
+ghost use Rattle.mdb_workers.specs.Hearing.{IsHeard};
 
 use crate::access::Access;
 use crate::steps::glance;
 use mdb_events::{CmapEvent, Fact};
-use mdb_log::{Act, Core, Entry, Log, Reply};
-use mdb_shared::{Look, Seat, is_news};
+use mdb_journal::{Journal, Kept};
+use mdb_log::{Act, Core, Entry, Reply};
+use mdb_shared::{Look, Seat};
 use std::sync::Wait;
 
 /// What ended a wait.
@@ -20,47 +20,6 @@ pub enum Woken {
     News(u64),
     /// The driver has stopped.
     Stopped,
-}
-
-fn has_news(entries: &[Entry], from: usize) -> bool
-    ensures { IsTrue result → HasNews from entries.now }
-{
-    for at in from..entries.len() {
-        if is_news(&entries[at]) {
-            return true;
-        }
-    }
-    false
-}
-
-fn is_done(reply: &Reply) -> bool
-    ensures { IsTrue result → reply.now ≡ Done }
-{
-    match reply {
-        Reply::Done => true,
-        _ => false,
-    }
-}
-
-fn stops(entry: &Entry) -> bool
-    ensures { IsTrue result → (entry.now.step.act ≡ Stop) × (entry.now.reply ≡ Done) }
-{
-    match &entry.step.act {
-        Act::Stop => is_done(&entry.reply),
-        _ => false,
-    }
-}
-
-/// The driver was stopped by one of the entries from this one on.
-pub fn has_stopped(entries: &[Entry], from: usize) -> bool
-    ensures { IsTrue result → HasStopped entries.now }
-{
-    for at in from..entries.len() {
-        if stops(&entries[at]) {
-            return true;
-        }
-    }
-    false
 }
 
 // How many entries the log has, and whether one of them is news, from this one on.
@@ -73,17 +32,16 @@ impl<C: Core> Look<C> for AnyNews {
     type Found = (u64, bool);
 
     ghost use Rattle.std.specs.Prelude.{◌≡◌, IsTrue, length};
-    ghost use Rattle.mdb_workers.specs.Hearing.{HasNews};
+    ghost use Rattle.mdb_journal.specs.Entries.{HasNews};
 
     ghost tells = { λ s log found. (found.0 ≡ length log) × (IsTrue found.1 → HasNews s.from log) };
 
-    fn look(&self, _core: &C, log: &Log) -> (u64, bool) {
-        let entries = log.entries();
-        (entries.len() as u64, has_news(entries, self.from as usize))
+    fn look(&self, _core: &C, log: &Journal) -> (u64, bool) {
+        (log.len(), log.has_news(self.from))
     }
 }
 
-/// Sleeps until an entry from this one on is news to others, and gives the number of all entries then. What is news says `is_news` of mdb_shared. It adds
+/// Sleeps until an entry from this one on is news to others, and gives the number of all entries then. What is news says `is_news` of mdb_journal. It adds
 /// no entry.
 pub fn next_news<C: Core, R: Wait>(access: &Access<'_, C, R>, seat: &mut Seat<C>, from: u64) -> u64
     requires own { seat.old.driver ≡ access.now.driver.now.id }
@@ -124,16 +82,20 @@ fn unclaimed_after(entry: &Entry, before: u64) -> u64 {
     before.saturating_add(created(entry))
 }
 
-fn unclaimed_then(entries: &[Entry], from: usize, before: u64) -> u64 {
+// How many connections nobody has claimed after the entries from this one on. Where some of them were taken, it may be any number.
+fn unclaimed_then(kept: Kept<'_>, from: u64, before: u64) -> u64 {
+    if from < kept.from {
+        return u64::MAX;
+    }
     let mut unclaimed = before;
-    for at in from..entries.len() {
-        unclaimed = unclaimed_after(&entries[at], unclaimed);
+    for at in (from - kept.from) as usize..kept.entries.len() {
+        unclaimed = unclaimed_after(&kept.entries[at], unclaimed);
     }
     unclaimed
 }
 
 /// How far a worker has followed the log, and how many connections nobody had claimed then. It is counted from the log, so a connection that was closed before it
-/// was claimed counts until the next claim that finds none.
+/// was claimed counts until the next claim that finds none. So do all, where entries were taken before it looked at them.
 #[derive(Clone, Copy, Debug)]
 pub struct Jobs {
     from: u64,
@@ -154,17 +116,15 @@ impl<C: Core> Look<C> for Jobs {
     type Found = (u64, u64, bool);
 
     ghost use Rattle.std.specs.Prelude.{◌≡◌, IsTrue, length};
-    ghost use Rattle.mdb_workers.specs.Hearing.{HasStopped};
+    ghost use Rattle.mdb_journal.specs.Entries.{HasStopped};
 
     ghost tells = { λ s log found. (found.0 ≡ length log) × (IsTrue found.2 → HasStopped log) };
 
-    fn look(&self, _core: &C, log: &Log) -> (u64, u64, bool) {
-        let entries = log.entries();
-        let from = self.from as usize;
+    fn look(&self, _core: &C, log: &Journal) -> (u64, u64, bool) {
         (
-            entries.len() as u64,
-            unclaimed_then(entries, from, self.unclaimed),
-            has_stopped(entries, from),
+            log.len(),
+            unclaimed_then(log.kept(), self.from, self.unclaimed),
+            log.is_stopped(),
         )
     }
 }

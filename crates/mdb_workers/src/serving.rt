@@ -1,7 +1,7 @@
 //! A worker's whole life.
 
 ghost use Rattle.std.specs.Prelude.{◌≡◌};
-ghost use Rattle.mdb_workers.specs.Hearing.{HasStopped};
+ghost use Rattle.mdb_journal.specs.Entries.{HasStopped};
 ghost use Rattle.mdb_workers.specs.Persisting.{TendedBy};
 
 use crate::access::Access;

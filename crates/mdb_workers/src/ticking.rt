@@ -1,17 +1,17 @@
 //! The clock of a driver: time enters by its steps alone, and all other calls have the grain of its ticks.
 
 ghost use Rattle.std.specs.Prelude.{◌≡◌, ◌∷◌, [], map, IfOk, OnOk, OnErr};
-ghost use Rattle.mdb_workers.specs.Hearing.{HasStopped};
+ghost use Rattle.mdb_journal.specs.Entries.{HasStopped};
 ghost use Rattle.mdb_log.specs.declared.log.Entry.{Entry};
 ghost use Rattle.mdb_workers.specs.Making.{Made, MadeAt};
 ghost use Rattle.mdb_workers.specs.Ticking.{BothDue, IsDueAct, Ticked, TickedInPart, TickedBy};
 
 use crate::access::Access;
-use crate::listening::has_stopped;
 use crate::steps::{add, glance};
 use mdb_base::{Moment, OutOfMemory, ServerAddress};
 use mdb_describe::ServerDescription;
-use mdb_log::{Act, Core, Log, Step};
+use mdb_journal::Journal;
+use mdb_log::{Act, Core, Step};
 use mdb_shared::{Look, Seat};
 use std::alloc::Global;
 use std::rt::Clock;
@@ -47,7 +47,7 @@ impl<C: Core> Look<C> for Addresses {
 
     ghost tells = { λ s log found. IfOk found (λ v. v.items ≡ addresses_of (C.described log)) };
 
-    fn look(&self, core: &C, _log: &Log) -> Result<Vec<ServerAddress>, OutOfMemory> {
+    fn look(&self, core: &C, _log: &Journal) -> Result<Vec<ServerAddress>, OutOfMemory> {
         addresses_in(self.alloc, core.description().servers())
     }
 }
@@ -133,26 +133,20 @@ pub fn tick<C: Core, R: Wait>(
     }
 }
 
-// The driver was stopped by one of the entries from this one on.
+// Whether the driver was stopped.
 #[derive(Clone, Copy)]
-struct Ending {
-    from: u64,
-}
+struct Ending;
 
 impl<C: Core> Look<C> for Ending {
-    type Found = (u64, bool);
+    type Found = bool;
 
-    ghost use Rattle.std.specs.Prelude.{◌≡◌, IsTrue, length};
-    ghost use Rattle.mdb_workers.specs.Hearing.{HasStopped};
+    ghost use Rattle.std.specs.Prelude.{IsTrue};
+    ghost use Rattle.mdb_journal.specs.Entries.{HasStopped};
 
-    ghost tells = { λ s log found. (found.0 ≡ length log) × (IsTrue found.1 → HasStopped log) };
+    ghost tells = { λ s log found. IsTrue found → HasStopped log };
 
-    fn look(&self, _core: &C, log: &Log) -> (u64, bool) {
-        let entries = log.entries();
-        (
-            entries.len() as u64,
-            has_stopped(entries, self.from as usize),
-        )
+    fn look(&self, _core: &C, log: &Journal) -> bool {
+        log.is_stopped()
     }
 }
 
@@ -182,13 +176,10 @@ pub fn keep_time<C: Core, R: Wait + Clock>(
     ensures same { (seat.new.driver ≡ seat.old.driver) × (seat.new.number ≡ seat.old.number) }
     ensures stopped { HasStopped seat.new.seen }
 {
-    let mut from = 0;
     for _ in access.rt.forever() {
-        let (count, is_over) = glance(access, seat, &Ending { from });
-        if is_over {
+        if glance(access, seat, &Ending) {
             return;
         }
-        from = count;
         let moment = moment_since(access.rt, &start);
         drop(tick(access, seat, moment));
         sleep(access.rt, every);

@@ -4,7 +4,7 @@ ghost use Rattle.std.specs.Prelude.{◌≡◌, All, IfSome};
 
 use super::{Scene, goes_well};
 use crate::lines::{Ask, Told, steps};
-use crate::opening::{keep, opened};
+use crate::opening::{keep, log_of, opened};
 use mdb_log::{Core, Log};
 use mdb_shared::{Seat, SharedDriver};
 use mdb_workers::Access;
@@ -80,18 +80,12 @@ fn names_seats(log: &Log) -> bool {
 fn closes<C: Core>(driver: SharedDriver<C>, seats: Vec<Seat<C>>) -> bool
     requires own { All (λ s. s.driver ≡ driver.id) seats.items }
 {
-    match driver.close(seats) {
-        Ok((core, log)) => {
-            let is_named = names_seats(&log);
-            drop(core);
-            drop(log);
-            is_named
-        }
-        Err(unclosed) => {
-            drop(unclosed);
-            false
-        }
-    }
+    let Some(log) = log_of(driver, seats) else {
+        return false;
+    };
+    let is_named = names_seats(&log);
+    drop(log);
+    is_named
 }
 
 pub(super) fn takes_turns<C: Core, R: Wait>(rt: &R, alloc: Global, core: C, log: Log) -> bool

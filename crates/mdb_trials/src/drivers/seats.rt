@@ -5,7 +5,7 @@ ghost use Rattle.std.specs.Prelude.{IfSome};
 use super::{Scene, goes_well, opened};
 use crate::lines::{Ask, Call, Line, Told, follows, step_of, summary};
 use crate::opening::{close_late, pair};
-use mdb_log::{Core, Entry, Log};
+use mdb_log::{Core, Entry, Log, step_whole};
 use mdb_workers::Access;
 use std::alloc::Global;
 use std::sync::Wait;
@@ -101,7 +101,7 @@ fn is_taken<C: Core>(alloc: Global, core: &mut C, log: &mut Log, line: &Line) ->
     let Some(step) = step_of(alloc, line.1, ask) else {
         return false;
     };
-    let answer = core.step(alloc, log, 0, &step);
+    let answer = step_whole(core, alloc, log, 0, &step);
     drop(step);
     summary(answer) == line.3
 }

@@ -4,7 +4,7 @@ ghost use Rattle.std.specs.Prelude.{◌≡◌, [], All, IfSome};
 
 use super::{Scene, goes_well};
 use crate::lines::{Ask, Told, step_of, steps};
-use crate::opening::{keep, opened, pair};
+use crate::opening::{keep, log_of, opened, pair};
 use mdb_log::{Core, Log, Reply};
 use mdb_shared::{Seat, SharedDriver};
 use mdb_workers::Access;
@@ -61,22 +61,6 @@ fn closed<C: Core>(
     drop(seats);
     drop(driver);
     None
-}
-
-// The log of a driver and all its seats.
-fn log_of<C: Core>(driver: SharedDriver<C>, seats: Vec<Seat<C>>) -> Option<Log>
-    requires { All (λ s. s.driver ≡ driver.id) seats.items }
-{
-    match driver.close(seats) {
-        Ok((core, log)) => {
-            drop(core);
-            Some(log)
-        }
-        Err(unclosed) => {
-            drop(unclosed);
-            None
-        }
-    }
 }
 
 // What two threads made, and their log.

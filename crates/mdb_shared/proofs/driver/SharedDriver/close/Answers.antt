@@ -1,4 +1,4 @@
-use Rattle.std.proofs.Common.{rules, arith, ◌≡◌, ◌≤◌, length, List, ap, subst, ◌∙◌}
+use Rattle.std.proofs.Common.{rules, arith, ◌≡◌, ◌≤◌, length, List, ap, sym, subst, ◌∙◌}
 use Rattle.mdb_shared.specs.declared.rule.Part.{Part}
 use Rattle.mdb_shared.specs.Seats.{DriverView, Accounts}
 use Rattle.mdb_shared.proofs.Closing.{length_behind, accounts}
@@ -11,8 +11,12 @@ end-requires-clause-all g c κs within = let i = c.self.invariant in
     omega arith
 
 pub returns-clause-accounts : goal.returns-clause-accounts
-returns-clause-accounts g c = subst (λ (d : DriverView). Accounts d.base c.args.seats.items c.end.result.1) c.self.view_is
-    (accounts c.self.inside.table.shared.key.base.value c.end.result.1 c.gather-all.result.me.0 c.args.seats.items c.gather-all.ensures.parts c.gather-all.ensures.seen c.end.ensures.log)
+returns-clause-accounts g c = subst (λ (d : DriverView). Accounts d.base c.args.seats.items c.into_journal.result.all) c.self.view_is
+    (subst (Accounts c.self.inside.table.shared.key.base.value c.args.seats.items) (sym c.into_journal.ensures)
+    (accounts c.self.inside.table.shared.key.base.value c.end.result.1 c.gather-all.result.me.0 c.args.seats.items c.gather-all.ensures.parts c.gather-all.ensures.seen c.end.ensures.log))
+
+pub returns-clause-stands : goal.returns-clause-stands
+returns-clause-stands g c = subst (g.C.Core.stands c.end.result.0) (sym c.into_journal.ensures) c.end.ensures.stands
 
 pub returns-clause-all : goal.returns-clause-all
 returns-clause-all g c = subst (λ (d : DriverView). length c.args.seats.items ≡ d.seats) c.self.view_is (let i = c.self.invariant in let most = c.end.ensures.all in

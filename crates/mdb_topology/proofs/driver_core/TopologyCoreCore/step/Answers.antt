@@ -1,33 +1,44 @@
-use Rattle.std.proofs.Common.{sym, subst}
+use Rattle.std.proofs.Common.{◌++◌, subst}
 use Rattle.mdb_log.specs.History.{history_of}
 use Rattle.mdb_topology.specs.Logging.{IsDriverOf}
-use Rattle.mdb_topology.proofs.CoreLog.{when-ok, in-either, still-driver, core-kind, core-in-time, core-job}
+use Rattle.mdb_topology.proofs.CoreLog.{when-ok, in-either, moved, nothing-came, still-driver, core-kind, core-in-time, core-job}
 use Rattle.mdb_topology.proofs.Driven.{still-opened}
 use Rattle.mdb_topology.proofs.driver_core.TopologyCoreCore.step.Goals as goal
 
 pub returns-clause-stands : goal.returns-clause-stands
-returns-clause-stands c =
+returns-clause-stands c = λ whole more z grown.
     let w = c.args.self.now in
     let v = c.step.new.self in
     let before = c.args.log.now in
     let after = c.step.new.log in
-    in-either c.step.result _ _ (IsDriverOf v after) c.step.ensures.logs c.step.ensures.err_log
-    (λ logs. still-driver w v before after c.args.seat c.args.step.now c.requires.stands c.step.ensures.options logs c.requires.act)
-    (λ same. in-either c.step.result _ _ (IsDriverOf v after) c.step.ensures.logs c.step.ensures.err_core
-    (λ logs. still-driver w v before after c.args.seat c.args.step.now c.requires.stands c.step.ensures.options logs c.requires.act)
-    (λ kept. subst (IsDriverOf v) (sym same) (still-opened w v before c.requires.stands kept)))
+    in-either c.step.result _ _ (IsDriverOf v (whole ++ more)) c.step.ensures.logs c.step.ensures.err_log
+    (λ logs. still-driver w v whole (whole ++ more) c.args.seat c.args.step.now z c.step.ensures.options (moved w v before after whole more c.args.seat c.args.step.now grown logs) c.requires.act)
+    (λ same. in-either c.step.result _ _ (IsDriverOf v (whole ++ more)) c.step.ensures.logs c.step.ensures.err_core
+    (λ logs. still-driver w v whole (whole ++ more) c.args.seat c.args.step.now z c.step.ensures.options (moved w v before after whole more c.args.seat c.args.step.now grown logs) c.requires.act)
+    (λ kept. subst (IsDriverOf v) (nothing-came before after whole more same grown) (still-opened w v whole z kept)))
 
 pub returns-clause-kind : goal.returns-clause-kind
 returns-clause-kind c =
+    let w = c.args.self.now in
+    let v = c.step.new.self in
+    let whole = c.requires.stands.0 in
+    let z = c.requires.stands.1 in
     when-ok c.step.result _ _ _ c.step.ensures.logs c.step.ensures.reply
-    (λ logs reply told. core-kind c.args.self.now c.step.new.self c.args.log.now c.step.new.log c.args.seat c.args.step.now c.requires.stands c.step.ensures.options logs c.requires.act reply (told (history_of c.args.log.now) c.requires.stands.stands))
+    (λ logs reply told. core-kind w v whole _ c.args.seat c.args.step.now z c.step.ensures.options
+    (moved w v c.args.log.now c.step.new.log whole _ c.args.seat c.args.step.now (logs (history_of whole) z.stands).entry logs) c.requires.act reply (told (history_of whole) z.stands))
 
 pub returns-clause-in_time : goal.returns-clause-in_time
 returns-clause-in_time c =
+    let w = c.args.self.now in
+    let v = c.step.new.self in
     when-ok c.step.result _ _ _ c.step.ensures.logs c.step.ensures.reply
-    (λ logs reply told. core-in-time c.args.self.now c.step.new.self c.args.log.now c.step.new.log c.args.seat c.args.step.now c.requires.stands c.step.ensures.options logs c.requires.act reply (told (history_of c.args.log.now) c.requires.stands.stands))
+    (λ logs reply told. λ whole z later. core-in-time w v whole _ c.args.seat c.args.step.now z c.step.ensures.options
+    (moved w v c.args.log.now c.step.new.log whole _ c.args.seat c.args.step.now (logs (history_of whole) z.stands).entry logs) c.requires.act reply (told (history_of whole) z.stands) later)
 
 pub returns-clause-job : goal.returns-clause-job
 returns-clause-job c =
+    let w = c.args.self.now in
+    let v = c.step.new.self in
     when-ok c.step.result _ _ _ c.step.ensures.logs c.step.ensures.reply
-    (λ logs reply told. core-job c.args.self.now c.step.new.self c.args.log.now c.step.new.log c.args.seat c.args.step.now c.requires.stands c.step.ensures.options logs c.requires.act reply (told (history_of c.args.log.now) c.requires.stands.stands))
+    (λ logs reply told. λ whole more z grown. core-job w v whole (whole ++ more) c.args.seat c.args.step.now z c.step.ensures.options
+    (moved w v c.args.log.now c.step.new.log whole more c.args.seat c.args.step.now grown logs) c.requires.act reply (told (history_of whole) z.stands))

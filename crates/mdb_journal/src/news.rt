@@ -1,11 +1,11 @@
-//! What others may wait for: which entries wake those who sleep until the log tells news.
+//! Which entries wake those who sleep until the log tells news.
 
 ghost use Rattle.std.specs.Prelude.{◌≡◌};
 ghost use Rattle.std.specs.List.{list_any};
-ghost use Rattle.mdb_shared.specs.News.{is_other, concerns, is_news};
+ghost use Rattle.mdb_journal.specs.News.{is_other, concerns, is_news};
 
 use mdb_events::{CmapEvent, Fact};
-use mdb_log::{Act, Entry, Log};
+use mdb_log::{Act, Entry};
 
 // The party is another than this one.
 fn is_other(own: Option<u32>, party: u32) -> bool
@@ -53,13 +53,5 @@ pub fn is_news(entry: &Entry) -> bool
         Act::Maintain(_) => tells(None, entry),
         Act::Expire(_) => tells(None, entry),
         _ => true,
-    }
-}
-
-// The last entry of the log is news.
-pub(super) fn rings(log: &Log) -> bool {
-    match log.entries().last() {
-        Some(entry) => is_news(entry),
-        None => false,
     }
 }

@@ -1,0 +1,6 @@
+use Rattle.mdb_shared.specs.Seats.{FoundBusy}
+use Rattle.mdb_shared.proofs.Keeping.{Waited}
+use Rattle.mdb_shared.proofs.driver.SharedDriver.take.Given as goal
+
+abbrev pub invariant-loop : goal.invariant-loop
+invariant-loop g l = record { seat : Waited l.initial.seat l.seat; busy : FoundBusy l.initial.seat l.seat }
