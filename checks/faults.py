@@ -6,7 +6,7 @@ usage: checks/faults.py [--script PROGRAM] [--fleet PROGRAM] [--proxy PROGRAM] [
 PROGRAM is crates/CRATE/out/CRATE, of mdb_script, mdb_fleet, mdb_proxy, mdb_recorded, the three programs of cases (mdb_checks_low, mdb_checks_mid and mdb_checks_top) and mdb_pool_demo, and
 crates/mdb_trials/out/mdb_trials_tests, where it is left out; nothing is built. mdb_script runs its stored script, also with `share 1` and `share 2`, `make 10`, and
 the scripts of mdb_checks_top that SWEPT names (with --every all of them); mdb_fleet, mdb_proxy and mdb_recorded run their stored runs, the programs of cases their stored cases, and mdb_pool_demo its threads: of its
-allocations the first DEMO_FIRST fail in turn, and then each DEMO_STEP-th. Each runs once as it is, and then, up to N runs side by side (as many as there are
+allocations the first DEMO_FIRST fail in turn, and then each DEMO_STEP-th; of a run of the demo with few ROUNDS each fails. Each runs once as it is, and then, up to N runs side by side (as many as there are
 processors) and for at most N seconds (900), once for each call and each of these faults:
 
   allocation   is refused. The program tells want of memory, with status 1, after whole entries or lines, the first of the
@@ -19,8 +19,9 @@ processors) and for at most N seconds (900), once for each call and each of thes
 The tests of mdb_trials over a running total share a driver among threads and seats. Each runs once for each of its first allocations, which is refused: it
 ends well, or stops where it has no memory, or in the test of two threads where one of them made a step less; it never hangs.
 
-A run of mdb_pool_demo that does not end within DEMO_LIMIT seconds is known: where a thread can't be started its part is played by the caller, which
-then waits for parts that were not begun.
+Each run of mdb_pool_demo ends, whichever allocation is refused in whichever thread. It recovers, with one connection more where one failed for which no client
+waited, or tells want of memory, or what came of it: that a thread was not started, which it waits for some seconds, or that a request ended since its connection
+could not be established.
 
 A case may answer want of memory where it runs the tool (counted as answered). One that is answered otherwise
 for want of memory is known where its kind is in KNOWN, and else a finding. Cases of more than LONG allocations are left out.
@@ -30,6 +31,7 @@ where nothing was found, 1 where something was, and 2 where a program is missing
 import argparse
 import concurrent.futures
 import os
+import re
 import signal
 import subprocess
 import sys
@@ -70,8 +72,12 @@ CHECKS_ENDS = {'allocation': (1, b'Error: Kind(OutOfMemory)\n'), 'read': (1, FAU
 SHARE_ENDS = dict(SCRIPT_ENDS)
 FOUND = 7  # the status of mdb_recorded where it finds something
 DEMO_ENDS = dict(CHECKS_ENDS)
+# What the demo may tell at a refused allocation, beside want of memory.
+DEMO_TOLD = ((1, b'a thread was not started\n'), (1, b'the request has ended\n'))
 DEMO_LIMIT = 30  # seconds for one run of the demo
 DEMO_FIRST, DEMO_STEP = 200, 4999  # which allocations of the demo fail; how many it makes is up to the schedule
+ROUNDS = ['2', '1', '20']  # the rounds of the demo of which each allocation fails: threads, connections, rounds a thread
+TOLD_ROUNDS = re.compile(br'threads=2 connections=1 rounds=20\ncheck_outs=40 entries=\d+ micros=\d+\nrequests=40 collects=\d+ claims=\d+ idle_claims=\d+ others=\d+\n')
 
 
 def stored(crate):
@@ -129,6 +135,7 @@ def subjects(script, fleet, proxy, recorded, checks, demo, folder, is_every):
             found.append(Subject(crate, program, [], *stored(crate), CHECKS_ENDS))
     if demo not in missing:
         found.append(Subject('mdb_pool_demo', demo, [], os.devnull, stored('mdb_pool_demo')[1], DEMO_ENDS))
+        found.append(Subject('mdb_pool_demo ' + ' '.join(ROUNDS), demo, ROUNDS, os.devnull, b'\n' * 3, DEMO_ENDS))
     return found, missing
 
 
@@ -147,12 +154,14 @@ def run(subject, library, folder, **fault):
 
 
 def is_by_schedule(subject):
-    """Whether the output is the schedule's: that of several parts."""
-    return subject.ends is SHARE_ENDS and subject.words[1] != '1'
+    """Whether the output is the schedule's: that of several parts, and of rounds of the demo."""
+    return subject.words == ROUNDS or subject.ends is SHARE_ENDS and subject.words[1] != '1'
 
 
 def is_whole(subject, written):
     """Whether this is what the subject is to write."""
+    if subject.words == ROUNDS:
+        return TOLD_ROUNDS.fullmatch(written) is not None
     if is_by_schedule(subject):
         return written.endswith(b'\n') and written.count(b'\n') == subject.wanted.count(b'\n')
     if written == subject.wanted:
@@ -183,6 +192,16 @@ def changed_cases(written, wanted):
     return changed
 
 
+def is_refilled(subject, ended):
+    """Whether the demo recovered by one connection more: there was no memory to establish one for which no client waited, so it failed, and another was made."""
+    if subject.ends is not DEMO_ENDS or subject.words or ended.told:
+        return False
+    lines, others = ended.written.splitlines(), subject.wanted.splitlines()
+    changed = [(line, other) for line, other in zip(lines, others) if line != other]
+    more = [b'%s=%d' % (name, int(number) + 1) for name, number in (other.split(b'=') for _, other in changed)]
+    return len(lines) == len(others) and [line for line, _ in changed] == more and [it.split(b'=')[0] for it in more] == [b'created', b'closed', b'entries', b'heard']
+
+
 def judge_change(subject, ended):
     """Of an allocation refused in a run that came to its end with another output: what it counts as, and the cases."""
     changed = changed_cases(ended.written, subject.wanted)
@@ -197,6 +216,8 @@ def judge_change(subject, ended):
 def judge_end(subject, kind, ended):
     """What a run counts as that did not come to its end."""
     is_told = (ended.status, ended.told) == subject.ends[kind]
+    if subject.ends is DEMO_ENDS and kind == 'allocation':
+        is_told = is_told or (ended.status, ended.told) in DEMO_TOLD
     owes_silence = {id(SCRIPT_ENDS): ('read',), id(SHARE_ENDS): ('read', 'allocation')}.get(id(subject.ends), ())
     is_silent = kind not in owes_silence or not ended.written
     is_good = is_told and is_silent and is_front(subject, ended.written, kind == 'allocation')
@@ -205,15 +226,13 @@ def judge_end(subject, kind, ended):
 
 def judge(subject, kind, at, ended):
     """What a run with a fault counts as, 'ended', 'unharmed', 'answered', 'known' or 'found', and the cases that changed."""
-    if subject.ends is DEMO_ENDS and kind == 'allocation' and ended.status == 'none':
-        return 'known', []
     is_unharmed = (ended.status, ended.told) == (subject.status, b'') and is_whole(subject, ended.written)
     if not ended.counts or ended.counts[-1][SORTS[kind]] < max(at, 1):
         return ('unharmed' if ended.counts and is_unharmed and is_by_schedule(subject) else 'found'), []
     if kind in ('short_read', 'short_write'):
         return ('unharmed' if is_unharmed else 'found'), []
     if kind == 'allocation' and ended.status == subject.status:
-        return ('unharmed', []) if is_unharmed else judge_change(subject, ended)
+        return ('unharmed', []) if is_unharmed or is_refilled(subject, ended) else judge_change(subject, ended)
     return judge_end(subject, kind, ended)
 
 
@@ -242,7 +261,7 @@ def chosen(subject, counts):
     """The faults that a subject is run with: of the demo the first allocations, and later ones far apart."""
     for kind, at in faults(counts):
         is_far = at > DEMO_FIRST and (at % DEMO_STEP or at > 0.9 * counts[0])
-        if subject.ends is not DEMO_ENDS or not (kind == 'allocation' and is_far):
+        if subject.ends is not DEMO_ENDS or subject.words or not (kind == 'allocation' and is_far):
             yield kind, at
 
 

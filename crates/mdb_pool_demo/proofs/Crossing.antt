@@ -2,23 +2,24 @@
 use base.Fml.{Lft}
 use mir.Syntax.{Sym, Lifetime}
 use denote.RattleType.{RattleType}
-use denote.Ref.{ShrRef}
-use denote.Param.Send.{IsSend, IsSync, struct_send, struct_sync, recorded_send, recorded_sync, shr_send, shr_sync, sendable}
+use denote.Ref.{NamedLft, ShrRef}
+use denote.Param.Send.{IsSend, IsSync, struct_send, struct_sync, recorded_send, recorded_sync, shr_sync, sendable}
 use denote.Struct.Declared.{shape, field}
 use denote.Struct.Tuple.{TupleAt, type_at}
 use Rattle.std.proofs.Common.{[], ◌∷◌}
 use Rattle.std.proofs.Crossing.{crosses}
-use Rattle.std.proofs.alloc.Global.TheSendSync.{the_send as heap_crosses, the_sync as heap}
-use Rattle.std.proofs.sync.atomic.AtomicU64.TheSendSync.{the_sync as counter}
+use Rattle.std.proofs.alloc.Global.TheSendSync.{the_sync as heap}
 use Rattle.std.specs.contracts.alloc.Global as Heap
-use Rattle.std.specs.contracts.sync.atomic.AtomicU64 as Counter
-use Rattle.mdb_base.proofs.out_of_memory.OutOfMemory.TheSendSync.{the_field_send as memory}
 use Rattle.mdb_log.specs.declared.driver.Core as Core
 use Rattle.mdb_shared.specs.contracts.driver.SharedDriver as Driver
-use Rattle.mdb_shared.specs.contracts.seat.Seat as Seat
 use Rattle.mdb_shared.proofs.Crossing.{seat_crosses, driver_lends}
+use Rattle.mdb_handles.specs.contracts.spare_seats.SpareSeats as Spare
+use Rattle.mdb_handles.proofs.Crossing.{spare_lends}
+use Rattle.mdb_pool_demo.specs.contracts.hall.Hall as Hall
 use Rattle.mdb_pool_demo.specs.contracts.parts.Part as Part
 use Rattle.mdb_pool_demo.specs.contracts.parts.Played as Played
+use Rattle.mdb_pool_demo.proofs.errors.DemoError.TheSendSync.{the_field_send as error}
+use Rattle.mdb_pool_demo.proofs.hall.Hall.TheSendSync.{the_field_sync as hall}
 use Rattle.mdb_pool_demo.proofs.parts.Role.TheSendSync.{the_field_send as role}
 
 module _ (C : RattleType) (g : Core.Ghosts C.Denot) where
@@ -26,18 +27,18 @@ module _ (C : RattleType) (g : Core.Ghosts C.Denot) where
   part_crosses s = recorded_send (Part.the_field C g).row _ _ (Part.the_type C g).to_one (struct_send (shape (Part.the_type C g)) (seat_crosses C g s, (role, tt)))
 
   pub played_crosses : IsSend C → IsSend (Played.the_row C g)
-  played_crosses s = recorded_send (Played.the_field C g).row _ _ (Played.the_type C g).to_one (struct_send (shape (Played.the_type C g)) (seat_crosses C g s, (search (memory, crosses, sendable) depth 20, tt)))
+  played_crosses s = recorded_send (Played.the_field C g).row _ _ (Played.the_type C g).to_one (struct_send (shape (Played.the_type C g)) (seat_crosses C g s, (search (error, crosses, sendable) depth 20, tt)))
 
-  -- the closure that plays a part captured the driver, the runtime, the allocator and the count of clients
+  -- the closure that plays a part captured the driver, the runtime, the allocator and the hall
   pub closure_lends : (ν : Sym) (R : RattleType) (ℓ ℓ' ℓ'' : Lifetime) (κ κ' κ'' : Lft) → IsSend C → IsSync R
-      → IsSync (TupleAt ν (ShrRef ℓ κ (Driver.the_row C g) ∷ ShrRef ℓ' κ' R ∷ Heap.the_row ∷ ShrRef ℓ'' κ'' Counter.the_row ∷ []))
+      → IsSync (TupleAt ν (ShrRef ℓ κ (Driver.the_row C g) ∷ ShrRef ℓ' κ' R ∷ Heap.the_row ∷ ShrRef ℓ'' κ'' Hall.the_field.row ∷ []))
   closure_lends ν R ℓ ℓ' ℓ'' κ κ' κ'' s r =
-      let T = type_at ν (ShrRef ℓ κ (Driver.the_row C g) ∷ ShrRef ℓ' κ' R ∷ Heap.the_row ∷ ShrRef ℓ'' κ'' Counter.the_row ∷ []) in
-      recorded_sync (field T).row _ _ T.to_one (struct_sync (shape T) (shr_sync ℓ κ (Driver.the_row C g) (driver_lends C g s), (shr_sync ℓ' κ' R r, (heap, (shr_sync ℓ'' κ'' Counter.the_row counter, tt)))))
+      let T = type_at ν (ShrRef ℓ κ (Driver.the_row C g) ∷ ShrRef ℓ' κ' R ∷ Heap.the_row ∷ ShrRef ℓ'' κ'' Hall.the_field.row ∷ []) in
+      recorded_sync (field T).row _ _ T.to_one (struct_sync (shape T) (shr_sync ℓ κ (Driver.the_row C g) (driver_lends C g s), (shr_sync ℓ' κ' R r, (heap, (shr_sync ℓ'' κ'' Hall.the_field.row hall, tt)))))
 
-  -- one that works from a seat captured the driver, the runtime, the allocator, the seat and a flag
-  pub worker_crosses : (ν : Sym) (R : RattleType) (ℓ ℓ' ℓ'' : Lifetime) (κ κ' κ'' : Lft) → IsSend C → IsSync R
-      → IsSend (TupleAt ν (ShrRef ℓ κ (Driver.the_row C g) ∷ ShrRef ℓ' κ' R ∷ Heap.the_row ∷ Seat.the_row C g ∷ ShrRef ℓ'' κ'' Counter.the_row ∷ []))
-  worker_crosses ν R ℓ ℓ' ℓ'' κ κ' κ'' s r =
-      let T = type_at ν (ShrRef ℓ κ (Driver.the_row C g) ∷ ShrRef ℓ' κ' R ∷ Heap.the_row ∷ Seat.the_row C g ∷ ShrRef ℓ'' κ'' Counter.the_row ∷ []) in
-      recorded_send (field T).row _ _ T.to_one (struct_send (shape T) (shr_send ℓ κ (Driver.the_row C g) (driver_lends C g s), (shr_send ℓ' κ' R r, (heap_crosses, (seat_crosses C g s, (shr_send ℓ'' κ'' Counter.the_row counter, tt))))))
+  -- the closure that plays a guest captured the runtime, the allocator and the seats that are lent
+  pub guests_lend : (ν : Sym) (R : RattleType) (a : NamedLft) (ℓ ℓ' : Lifetime) (κ κ' : Lft) → IsSend C → IsSync R
+      → IsSync (TupleAt ν (ShrRef ℓ κ R ∷ Heap.the_row ∷ ShrRef ℓ' κ' (Spare.the_row a C R g) ∷ []))
+  guests_lend ν R a ℓ ℓ' κ κ' s r =
+      let T = type_at ν (ShrRef ℓ κ R ∷ Heap.the_row ∷ ShrRef ℓ' κ' (Spare.the_row a C R g) ∷ []) in
+      recorded_sync (field T).row _ _ T.to_one (struct_sync (shape T) (shr_sync ℓ κ R r, (heap, (shr_sync ℓ' κ' (Spare.the_row a C R g) (spare_lends a C R g s r), tt))))

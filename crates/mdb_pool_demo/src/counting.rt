@@ -1,6 +1,6 @@
 //! What a log tells of its connections.
 
-use mdb_events::{CmapEvent, Fact};
+use mdb_events::{CmapEvent, ConnectionClosedReason, End, Fact};
 use mdb_log::{Act, Entry, Log, Reply};
 
 /// Counts that don't depend on the schedule.
@@ -16,7 +16,11 @@ pub struct Counts {
     pub closed: u64,
     /// Reports of workers.
     pub established: u64,
-    /// All entries but those of collects, claims and warm requests: the schedule decides how many of these there are.
+    /// Callers that waited too long, connections that were idle too long, and requests that were given up.
+    pub timed_out: u64,
+    pub idle: u64,
+    pub given_up: u64,
+    /// All entries but those of collects, claims, warm requests and the clock: the schedule decides how many of these there are.
     pub entries: u64,
 }
 
@@ -26,7 +30,10 @@ fn one_if(is: bool) -> u64 {
 
 // Whether the schedule decides how many of these acts there are.
 fn is_by_schedule(act: &Act) -> bool {
-    matches!(act, Act::Collect(_) | Act::Claim | Act::Warm(_, _))
+    matches!(
+        act,
+        Act::Collect(_) | Act::Claim | Act::Warm(_, _) | Act::Expire(_) | Act::Maintain(_)
+    )
 }
 
 fn count_fact(counts: &mut Counts, fact: &Fact) {
@@ -34,8 +41,16 @@ fn count_fact(counts: &mut Counts, fact: &Fact) {
         Fact::Pool(_, CmapEvent::ConnectionCreated(_)) => {
             counts.created = counts.created.wrapping_add(1);
         }
-        Fact::Pool(_, CmapEvent::ConnectionClosed(_)) => {
+        Fact::Pool(_, CmapEvent::ConnectionClosed(event)) => {
+            let is_idle = event.reason == ConnectionClosedReason::Idle;
             counts.closed = counts.closed.wrapping_add(1);
+            counts.idle = counts.idle.wrapping_add(one_if(is_idle));
+        }
+        Fact::Ended(_, End::TimedOut) => {
+            counts.timed_out = counts.timed_out.wrapping_add(1);
+        }
+        Fact::Ended(_, End::GaveUp) => {
+            counts.given_up = counts.given_up.wrapping_add(1);
         }
         _ => {}
     }
@@ -66,6 +81,9 @@ pub fn count(log: &Log) -> Counts {
         created: 0,
         closed: 0,
         established: 0,
+        timed_out: 0,
+        idle: 0,
+        given_up: 0,
         entries: 0,
     };
     for entry in log.entries() {

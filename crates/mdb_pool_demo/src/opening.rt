@@ -1,28 +1,38 @@
-//! Opening the driver: one server, whose hello makes its pool ready.
+//! Opening a driver: one server, whose hello makes its pool ready.
 
 ghost use Rattle.std.specs.Prelude.{IfOk};
 ghost use Rattle.mdb_log.specs.Acts.{IsDriverAct};
 ghost use Rattle.mdb_topology.specs.Logging.{IsDriverOf};
 
-use mdb_base::{Items, ObjectId, Options, OutOfMemory, ServerAddress};
+use crate::errors::DemoError;
+use mdb_base::{AddressError, Items, Moment, ObjectId, Options, ServerAddress};
 use mdb_events::Held;
 use mdb_hello::HelloCommandResponse;
 use mdb_log::{Act, HelloResult, Log, Step};
 use mdb_topology::TopologyCore;
 use std::alloc::Global;
 
-/// How many connections the pool has.
-pub const SIZE: u32 = 2;
+/// What a pool is limited to.
+#[derive(Clone, Copy)]
+pub struct Limits {
+    /// How many connections it has at most, and at least.
+    pub size: u32,
+    pub least: u32,
+    /// How long a caller may wait, and how long a connection may be idle, in milliseconds.
+    pub wait: Option<Moment>,
+    pub idle: Option<Moment>,
+}
 
 /// The address of the server.
-pub fn address(alloc: Global) -> Result<ServerAddress, OutOfMemory> {
+pub fn address(alloc: Global) -> Result<ServerAddress, DemoError> {
     match ServerAddress::parse(alloc, "a:1") {
         Ok(address) => Ok(address),
-        Err(_) => Err(OutOfMemory),
+        Err(AddressError::BadAddress) => Err(DemoError::Address),
+        Err(AddressError::OutOfMemory) => Err(DemoError::OutOfMemory),
     }
 }
 
-fn options(alloc: Global) -> Result<Options, OutOfMemory> {
+fn options(alloc: Global, limits: Limits) -> Result<Options, DemoError> {
     let mut seeds = Vec::new(alloc);
     seeds.push(address(alloc)?)?;
     Ok(Options {
@@ -30,11 +40,11 @@ fn options(alloc: Global) -> Result<Options, OutOfMemory> {
         set_name: None,
         direct: false,
         load_balanced: false,
-        max_pool_size: Some(SIZE),
-        min_pool_size: Some(SIZE),
+        max_pool_size: Some(limits.size),
+        min_pool_size: Some(limits.least),
         max_connecting: None,
-        max_idle_time: None,
-        max_wait: None,
+        max_idle_time: limits.idle,
+        max_wait: limits.wait,
         heartbeat: None,
         connect: None,
         streaming: None,
@@ -47,7 +57,7 @@ fn options(alloc: Global) -> Result<Options, OutOfMemory> {
 }
 
 /// A server alone greets.
-pub fn hello(alloc: Global) -> Result<Step, OutOfMemory>
+pub fn hello(alloc: Global) -> Result<Step, DemoError>
     ensures { IfOk result (λ step. IsDriverAct step.act) }
 {
     let mut reply = HelloCommandResponse::default();
@@ -62,12 +72,12 @@ pub fn hello(alloc: Global) -> Result<Step, OutOfMemory>
 }
 
 /// A driver of the one server, with its log.
-pub fn open(alloc: Global) -> Result<(TopologyCore, Log), OutOfMemory>
+pub fn open(alloc: Global, limits: Limits) -> Result<(TopologyCore, Log), DemoError>
     ensures { IfOk result (λ opened. IsDriverOf opened.0 opened.1) }
 {
-    let options = options(alloc)?;
+    let options = options(alloc, limits)?;
     if options.check().is_some() {
-        return Err(OutOfMemory);
+        return Err(DemoError::Options);
     }
     let mut log = Log::new(alloc);
     let core = TopologyCore::open_seeds(alloc, &mut log, 0, options)?;

@@ -1,27 +1,47 @@
-//! What each thread does: a worker establishes connections, and a client checks them out and in.
+//! What each thread does at its seat.
 
 ghost use Rattle.std.specs.Prelude.{◌≡◌};
 
-use crate::opening::address;
-use mdb_base::{Error, ErrorKind, Items, OutOfMemory, Text};
-use mdb_log::{Act, Core, Established, PooledConnection, Step, Use};
-use mdb_shared::{Back, Seat, SharedDriver};
-use mdb_workers::{MemEstablisher, OpenGate, Work, check_out, next_news, work};
+use crate::clients::ask;
+use crate::closing::close_up;
+use crate::errors::DemoError;
+use crate::hall::Hall;
+use crate::limits::{cancel, hurry, outlast};
+use crate::listening::listen;
+use mdb_base::{Error, ErrorKind, Items, Text};
+use mdb_handles::{Handle, TopologyWatcher};
+use mdb_log::{Core, Established};
+use mdb_shared::{Seat, SharedDriver};
+use mdb_workers::{MemEstablisher, OpenGate};
 use std::alloc::Global;
+use std::rt::Clock;
 use std::sync::Wait;
-use std::sync::atomic::{AtomicU64, Ordering};
+use std::time::{Duration, Instant};
 
-/// How often each client checks a connection out.
-pub const ROUNDS: u32 = 1000;
+// How long the clock sleeps between two ticks, in milliseconds.
+const TICK: u64 = 10;
 
-/// Each so many rounds a client drops its connection in the middle of an operation.
-pub const DROPS: u32 = 10;
-
-/// What a thread does: with this number, where it is a client.
-#[derive(Drop)]
+/// What a thread does.
+#[derive(Clone, Copy, Debug, PartialEq, Eq)]
 pub enum Role {
+    /// Establishes connections.
     Worker,
+    /// Checks a connection out and in, so many times.
     Client(u32),
+    /// Lets time enter.
+    Clock,
+    /// Follows what is published of the topology, with this number.
+    Watcher(u32),
+    /// Hands the events of the pools to a handler.
+    Listener,
+    /// Fills the pool once all clients have left, and stops the driver.
+    Closer,
+    /// Waits longer than a caller may.
+    Patient,
+    /// Waits no longer than it says itself, and is given up.
+    Hurried,
+    /// Gives another's request up.
+    Canceller,
 }
 
 /// A thread's seat and role.
@@ -31,11 +51,11 @@ pub struct Part<C: Core> {
     pub role: Role,
 }
 
-/// A part that was played: the seat comes back, and `done` says whether there was memory for all of it.
+/// A part that was played: the seat comes back.
 #[derive(Drop)]
 pub struct Played<C: Core> {
     pub seat: Seat<C>,
-    pub done: Result<(), OutOfMemory>,
+    pub done: Result<(), DemoError>,
 }
 
 /// An establisher that always succeeds, and finds this out.
@@ -59,135 +79,124 @@ pub fn establisher(alloc: Global) -> MemEstablisher {
     establisher_of(alloc, made)
 }
 
-// Works until no client is left.
-fn serve<C: Core, R: Wait>(
-    driver: &SharedDriver<C>,
-    rt: &R,
-    alloc: Global,
-    seat: &mut Seat<C>,
-    left: &AtomicU64,
-) -> Result<(), OutOfMemory>
-    requires own { seat.old.driver ≡ driver.now.id }
-    ensures own { seat.new.driver ≡ seat.old.driver }
+// Establishes connections until the driver stops.
+fn establish<C: Core, R: Wait>(me: &mut Handle<'_, C, R>, alloc: Global)
+    ensures own { me.new.seat.driver ≡ me.old.seat.driver }
 {
     let mut establisher = establisher(alloc);
-    let mut seen = driver.seen_count(seat);
-    for _ in rt.forever() {
-        match work(driver, rt, alloc, seat, &mut establisher, &mut OpenGate, 1) {
-            Ok(Work::Spent) => {}
-            Ok(Work::Idle) => {
-                if left.load(Ordering::SeqCst) == 0 {
-                    return Ok(());
-                }
-                seen = next_news(driver, rt, seat, seen);
-            }
-            Err(_) => return Err(OutOfMemory),
-        }
-    }
-    unreachable!()
+    me.serve(&mut establisher, &mut OpenGate);
 }
 
-// How the connection was used in this round.
-fn used(round: u32) -> Use {
-    if round % DROPS == 0 {
-        return Use::Dropped;
-    }
-    Use::Ok
-}
-
-// One connection, out and in.
-fn round<C: Core, R: Wait>(
-    driver: &SharedDriver<C>,
+// Follows the topology until the driver stops. At first it asks for a check, and takes that back at the end.
+fn watch<C: Core, R: Wait>(
+    me: &mut Handle<'_, C, R>,
     rt: &R,
-    alloc: Global,
-    seat: &mut Seat<C>,
-    request: u32,
-) -> Result<(), OutOfMemory>
-    requires own { seat.old.driver ≡ driver.now.id }
-    ensures own { seat.new.driver ≡ seat.old.driver }
-{
-    let address = address(alloc)?;
-    let Ok(connection) = check_out(driver, rt, alloc, seat, request, address) else {
-        return Err(OutOfMemory);
-    };
-    match driver.check_in(rt, alloc, seat, connection, used(request)) {
-        Ok(()) => Ok(()),
-        Err(back) => {
-            let Back { connection, why } = back;
-            let PooledConnection {
-                pool: _,
-                id: _,
-                party: _,
-            } = connection;
-            drop(why);
-            Err(OutOfMemory)
-        }
-    }
-}
-
-// All rounds of a client.
-fn ask<C: Core, R: Wait>(
-    driver: &SharedDriver<C>,
-    rt: &R,
-    alloc: Global,
-    seat: &mut Seat<C>,
     number: u32,
-) -> Result<(), OutOfMemory>
-    requires own { seat.old.driver ≡ driver.now.id }
-    ensures own { seat.new.driver ≡ seat.old.driver }
+    hall: &Hall,
+) -> Result<(), DemoError>
+    ensures own { me.new.seat.driver ≡ me.old.seat.driver }
 {
-    for at in 0..ROUNDS {
-        let request = number.wrapping_mul(ROUNDS).wrapping_add(at);
-        round(driver, rt, alloc, seat, request)?;
+    let mut watcher = TopologyWatcher::new(number);
+    let watched = follow(me, rt, &mut watcher, hall);
+    me.dismiss(watcher);
+    watched
+}
+
+fn follow<C: Core, R: Wait>(
+    me: &mut Handle<'_, C, R>,
+    rt: &R,
+    watcher: &mut TopologyWatcher,
+    hall: &Hall,
+) -> Result<(), DemoError>
+    ensures own { me.new.seat.driver ≡ me.old.seat.driver }
+{
+    me.request_immediate_check(watcher)?;
+    for _ in rt.forever() {
+        if !me.await_update(watcher)? {
+            break;
+        }
+    }
+    let state = me.observe_latest(watcher)?;
+    hall.note_published(state.published);
+    Ok(())
+}
+
+// Lets time enter until the driver stops. Where the clock can't be read no time would pass, so the driver is stopped.
+fn tell_time<C: Core, R: Wait + Clock>(me: &mut Handle<'_, C, R>, rt: &R) -> Result<(), DemoError>
+    ensures own { me.new.seat.driver ≡ me.old.seat.driver }
+{
+    let Ok(start) = Instant::now(rt) else {
+        me.stop();
+        return Err(DemoError::Clock);
+    };
+    me.keep_time(start, Duration::from_millis(TICK));
+    Ok(())
+}
+
+// What a thread does that runs until the driver stops.
+fn attend<C: Core, R: Wait + Clock>(
+    me: &mut Handle<'_, C, R>,
+    rt: &R,
+    alloc: Global,
+    role: Role,
+    hall: &Hall,
+) -> Result<(), DemoError>
+    ensures own { me.new.seat.driver ≡ me.old.seat.driver }
+{
+    match role {
+        Role::Worker => establish(me, alloc),
+        Role::Clock => return tell_time(me, rt),
+        Role::Watcher(number) => return watch(me, rt, number, hall),
+        Role::Listener => listen(me, rt, &hall.heard),
+        _ => cancel(me, rt),
     }
     Ok(())
 }
 
-// The client has gone: a step that is news to all tells it to those who wait.
-fn leave<C: Core, R: Wait>(
-    driver: &SharedDriver<C>,
+fn act<C: Core, R: Wait + Clock>(
+    me: &mut Handle<'_, C, R>,
     rt: &R,
     alloc: Global,
-    seat: &mut Seat<C>,
-    left: &AtomicU64,
-) -> Result<(), OutOfMemory>
-    requires own { seat.old.driver ≡ driver.now.id }
-    ensures own { seat.new.driver ≡ seat.old.driver }
+    role: Role,
+    hall: &Hall,
+) -> Result<(), DemoError>
+    ensures own { me.new.seat.driver ≡ me.old.seat.driver }
 {
-    left.fetch_sub(1, Ordering::SeqCst);
-    let step = Step {
-        moment: 0,
-        act: Act::Unwant(0),
-    };
-    let reply = driver.step(rt, alloc, seat, step)?;
-    drop(reply);
-    Ok(())
+    match role {
+        Role::Client(rounds) => {
+            let asked = ask(me, alloc, rounds);
+            hall.leave();
+            asked
+        }
+        Role::Closer => close_up(me, rt, alloc, hall),
+        Role::Patient => outlast(me, rt, alloc),
+        Role::Hurried => hurry(me, alloc),
+        _ => attend(me, rt, alloc, role, hall),
+    }
 }
 
-/// What a thread does.
-pub fn play<C: Core, R: Wait>(
+/// What a thread does, once all have begun.
+pub fn play<C: Core, R: Wait + Clock>(
     driver: &SharedDriver<C>,
     rt: &R,
     alloc: Global,
     part: Part<C>,
-    left: &AtomicU64,
+    hall: &Hall,
 ) -> Played<C>
     requires own { part.seat.driver ≡ driver.now.id }
     ensures own { result.seat.driver ≡ part.seat.driver }
 {
-    let Part { mut seat, role } = part;
-    match role {
-        Role::Worker => {
-            let done = serve(driver, rt, alloc, &mut seat, left);
-            Played { seat, done }
-        }
-        Role::Client(number) => {
-            let done = ask(driver, rt, alloc, &mut seat, number);
-            let told = leave(driver, rt, alloc, &mut seat, left);
-            Played {
-                seat,
-                done: told.and(done),
-            }
-        }
+    let Part { seat, role } = part;
+    if !hall.begin(rt) {
+        return Played {
+            seat,
+            done: Err(DemoError::Thread),
+        };
+    }
+    let mut me = Handle::new(driver, rt, alloc, seat);
+    let done = act(&mut me, rt, alloc, role, hall);
+    Played {
+        seat: me.into_seat(),
+        done,
     }
 }

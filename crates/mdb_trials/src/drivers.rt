@@ -5,6 +5,7 @@ ghost use Rattle.mdb_log.specs.Acts.{IsDriverAct};
 ghost use Rattle.mdb_topology.specs.Logging.{IsDriverOf};
 
 mod gate;
+mod handles;
 mod many;
 mod seats;
 mod watched;
@@ -34,13 +35,27 @@ fn found() -> Established {
 fn balanced(alloc: Global) -> Option<(TopologyCore, Log)>
     ensures { IfSome result (λ r. IsDriverOf r.0 r.1) }
 {
+    opened(alloc, true)
+}
+
+// A driver of one server, with its log.
+fn normal(alloc: Global) -> Option<(TopologyCore, Log)>
+    ensures { IfSome result (λ r. IsDriverOf r.0 r.1) }
+{
+    opened(alloc, false)
+}
+
+// A driver of one server, behind a load balancer or not.
+fn opened(alloc: Global, load_balanced: bool) -> Option<(TopologyCore, Log)>
+    ensures { IfSome result (λ r. IsDriverOf r.0 r.1) }
+{
     let mut seeds = Vec::new(alloc);
     seeds.push(server(alloc)?).ok()?;
     let options = Options {
         seeds: Items::new(seeds),
         set_name: None,
         direct: false,
-        load_balanced: true,
+        load_balanced,
         max_pool_size: None,
         min_pool_size: None,
         max_connecting: None,

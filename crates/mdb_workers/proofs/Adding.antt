@@ -10,7 +10,7 @@ use Rattle.mdb_log.specs.declared.reply.Reply.{Reply}
 use Rattle.mdb_log.specs.declared.reply.Reply.TheVariants.{Pooled, Establishing, Waiting, Ended, Job, NoJob, Changed, Count, Done, Refused}
 use Rattle.mdb_log.specs.declared.step.Step.{Step}
 use Rattle.mdb_log.specs.Driver.{StartsWith, is_in_time}
-use Rattle.mdb_shared.specs.Seats.{SeatView, Each, FoundBusy, Stepped, OnlySaw}
+use Rattle.mdb_shared.specs.Seats.{SeatView, Each, FoundBusy, Stepped, OnlySaw, IsSameSeat}
 use Rattle.mdb_shared.specs.Checkout.{is_back_in_time, ComesBack}
 use Rattle.mdb_shared.specs.declared.checkout.BackWhy.{BackWhy}
 use Rattle.mdb_shared.specs.declared.checkout.BackWhy.TheVariants.{Refused as BackRefused, OutOfMemory}
@@ -174,6 +174,10 @@ not_made (Changed changed) other = refl
 not_made (Count count) other = refl
 not_made Done other = refl
 not_made (Refused why) other = refl
+
+-- a seat that has only seen more
+pub made_same : {T : Type 0} (stands : T → List Entry → Type 0) (s s' : SeatView) → IsSameSeat s s' → StartsWith s'.seen s.seen → Made stands s s' []
+made_same stands s s' same more = (same.0, same.1, more, same.2 ∙ sym (append-nil s.mine), ([], same.3 ∙ sym (append-nil s.busy), tt))
 
 -- a look, after nothing was added
 pub made_saw : {T : Type 0} (stands : T → List Entry → Type 0) (s t u : SeatView) → Made stands s t [] → Made stands t u [] → Made stands s u []

@@ -1,8 +1,4 @@
-mod Adding
-mod Questions
+pub mod Adding
 mod Laboring
-mod Looking
-mod Numbering
 mod Tending
 mod Clocking
-mod Waiting

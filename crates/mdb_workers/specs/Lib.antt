@@ -1,14 +1,8 @@
-pub mod Counting
-pub mod Numbers
 pub mod Making
 pub mod Hearing
 pub mod Ticking
 pub mod Filling
-pub mod CheckingOut
-pub mod Standing
 pub mod Establishing
 pub mod Working
 pub mod Persisting
-pub mod Watching
-pub mod Handles
 pub mod Memory

@@ -5,11 +5,11 @@ ghost use Rattle.mdb_log.specs.declared.step.Act.TheVariants.{Warm};
 ghost use Rattle.mdb_workers.specs.Making.{Made, OneMore};
 ghost use Rattle.mdb_workers.specs.Filling.{Filled, FilledInPart, told_reply};
 
+use crate::access::Access;
 use crate::steps::add;
 use mdb_base::{OutOfMemory, ServerAddress};
 use mdb_log::{Act, Core, Reply, Step};
-use mdb_shared::{Seat, SharedDriver};
-use std::alloc::Global;
+use mdb_shared::Seat;
 use std::sync::Wait;
 
 /// What filling a pool came to.
@@ -23,14 +23,12 @@ pub struct Fill {
 
 // One warm request.
 fn warm<C: Core, R: Wait>(
-    driver: &SharedDriver<C>,
-    rt: &R,
-    alloc: Global,
+    access: &Access<'_, C, R>,
     seat: &mut Seat<C>,
     address: &ServerAddress,
     request: u32,
 ) -> Result<Reply, OutOfMemory>
-    requires own { seat.old.driver ≡ driver.now.id }
+    requires own { seat.old.driver ≡ access.now.driver.now.id }
     ensures same { (seat.new.driver ≡ seat.old.driver) × (seat.new.number ≡ seat.old.number) }
     ensures ok { IfOk result (λ reply. OneMore C.stands seat.old seat.new (Warm request address.now) reply) }
     ensures err { OnErr result (Made C.stands seat.old seat.new []) }
@@ -40,7 +38,7 @@ fn warm<C: Core, R: Wait>(
         moment: 0,
         act: Act::Warm(request, address),
     };
-    add(driver, rt, alloc, seat, step)
+    add(access, seat, step)
 }
 
 // The reply that names the connection, where there is one.
@@ -53,15 +51,13 @@ fn made_reply(last: Option<(u32, u32)>) -> Option<Reply>
 
 // Makes warm requests until one isn't answered `Establishing`, or the budget is spent.
 fn fill_at<C: Core, R: Wait>(
-    driver: &SharedDriver<C>,
-    rt: &R,
-    alloc: Global,
+    access: &Access<'_, C, R>,
     seat: &mut Seat<C>,
     address: &ServerAddress,
     first: u32,
     budget: u32,
 ) -> Result<Fill, OutOfMemory>
-    requires own { seat.old.driver ≡ driver.now.id }
+    requires own { seat.old.driver ≡ access.now.driver.now.id }
     requires numbers { first + budget < 2 ^ 32 }
     ensures same { (seat.new.driver ≡ seat.old.driver) × (seat.new.number ≡ seat.old.number) }
     ensures ok { IfOk result (Filled C.stands address.now first budget seat.old seat.new) }
@@ -69,7 +65,7 @@ fn fill_at<C: Core, R: Wait>(
 {
     let mut last = None;
     for made in 0..budget {
-        match warm(driver, rt, alloc, seat, address, first + made)? {
+        match warm(access, seat, address, first + made)? {
             Reply::Establishing(pool, id) => last = Some((pool, id)),
             reply => {
                 return Ok(Fill {
@@ -88,19 +84,17 @@ fn fill_at<C: Core, R: Wait>(
 /// Makes warm requests at the address, numbered from `first`, until one isn't answered `Establishing` or `budget` were made. After
 /// `OutOfMemory` those that were made stand in the log. It may wait for the turn.
 pub fn fill_pool<C: Core, R: Wait>(
-    driver: &SharedDriver<C>,
-    rt: &R,
-    alloc: Global,
+    access: &Access<'_, C, R>,
     seat: &mut Seat<C>,
     address: ServerAddress,
     first: u32,
     budget: u32,
 ) -> Result<Fill, OutOfMemory>
-    requires own { seat.old.driver ≡ driver.now.id }
+    requires own { seat.old.driver ≡ access.now.driver.now.id }
     requires numbers { first + budget < 2 ^ 32 }
     ensures same { (seat.new.driver ≡ seat.old.driver) × (seat.new.number ≡ seat.old.number) }
     ensures ok { IfOk result (Filled C.stands address first budget seat.old seat.new) }
     ensures err { OnErr result (FilledInPart C.stands address first budget seat.old seat.new) }
 {
-    fill_at(driver, rt, alloc, seat, &address, first, budget)
+    fill_at(access, seat, &address, first, budget)
 }

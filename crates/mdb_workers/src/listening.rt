@@ -6,10 +6,11 @@ ghost use Rattle.mdb_log.specs.declared.reply.Reply.TheVariants.{Done};
 ghost use Rattle.mdb_workers.specs.Making.{Made};
 ghost use Rattle.mdb_workers.specs.Hearing.{HasNews, HasStopped, IsHeard};
 
+use crate::access::Access;
 use crate::steps::glance;
 use mdb_events::{CmapEvent, Fact};
 use mdb_log::{Act, Core, Entry, Log, Reply};
-use mdb_shared::{Look, Seat, SharedDriver, is_news};
+use mdb_shared::{Look, Seat, is_news};
 use std::sync::Wait;
 
 /// What ended a wait.
@@ -32,7 +33,7 @@ fn has_news(entries: &[Entry], from: usize) -> bool
     false
 }
 
-pub(crate) fn is_done(reply: &Reply) -> bool
+fn is_done(reply: &Reply) -> bool
     ensures { IsTrue result → reply.now ≡ Done }
 {
     match reply {
@@ -50,8 +51,8 @@ fn stops(entry: &Entry) -> bool
     }
 }
 
-// The driver was stopped by one of the entries from this one on.
-pub(crate) fn has_stopped(entries: &[Entry], from: usize) -> bool
+/// The driver was stopped by one of the entries from this one on.
+pub fn has_stopped(entries: &[Entry], from: usize) -> bool
     ensures { IsTrue result → HasStopped entries.now }
 {
     for at in from..entries.len() {
@@ -84,25 +85,20 @@ impl<C: Core> Look<C> for AnyNews {
 
 /// Sleeps until an entry from this one on is news to others, and gives the number of all entries then. What is news says `is_news` of mdb_shared. It adds
 /// no entry.
-pub fn next_news<C: Core, R: Wait>(
-    driver: &SharedDriver<C>,
-    rt: &R,
-    seat: &mut Seat<C>,
-    from: u64,
-) -> u64
-    requires own { seat.old.driver ≡ driver.now.id }
+pub fn next_news<C: Core, R: Wait>(access: &Access<'_, C, R>, seat: &mut Seat<C>, from: u64) -> u64
+    requires own { seat.old.driver ≡ access.now.driver.now.id }
     ensures saw { Made C.stands seat.old seat.new [] }
     ensures count { length seat.new.seen ≡ result }
     ensures news { HasNews from seat.new.seen }
 {
     let mut seen = from;
-    for _ in rt.forever() {
-        let (count, news) = glance(driver, rt, seat, &AnyNews { from: seen });
+    for _ in access.rt.forever() {
+        let (count, news) = glance(access, seat, &AnyNews { from: seen });
         if news {
             return count;
         }
         seen = seen.max(count);
-        driver.sleep(rt, count);
+        access.driver.sleep(access.rt, count);
     }
     unreachable!()
 }
@@ -175,17 +171,16 @@ impl<C: Core> Look<C> for Jobs {
 
 /// Sleeps until a connection is to be established, or the driver has stopped. It adds no entry.
 pub fn next_job<C: Core, R: Wait>(
-    driver: &SharedDriver<C>,
-    rt: &R,
+    access: &Access<'_, C, R>,
     seat: &mut Seat<C>,
     jobs: &mut Jobs,
 ) -> Woken
-    requires own { seat.old.driver ≡ driver.now.id }
+    requires own { seat.old.driver ≡ access.now.driver.now.id }
     ensures saw { Made C.stands seat.old seat.new [] }
     ensures heard { IsHeard seat.new.seen result }
 {
-    for _ in rt.forever() {
-        let (count, unclaimed, is_over) = glance(driver, rt, seat, &*jobs);
+    for _ in access.rt.forever() {
+        let (count, unclaimed, is_over) = glance(access, seat, &*jobs);
         if is_over {
             return Woken::Stopped;
         }
@@ -196,7 +191,7 @@ pub fn next_job<C: Core, R: Wait>(
         if unclaimed > 0 {
             return Woken::News(count);
         }
-        driver.sleep(rt, count);
+        access.driver.sleep(access.rt, count);
     }
     unreachable!()
 }

@@ -8,18 +8,17 @@ ghost use Rattle.mdb_log.specs.declared.step.Act.TheVariants.{GiveUp, Return, St
 ghost use Rattle.mdb_log.specs.declared.reply.Reply.TheVariants.{Done, Refused as IsRefused};
 ghost use Rattle.mdb_workers.specs.Making.{Made, OneMore};
 ghost use Rattle.mdb_workers.specs.Persisting.{IsTry, LeftAct, SettledIf, TendedBy, TriedBack, tried_by};
-ghost use Rattle.mdb_workers.specs.Watching.{Retracted};
 ghost use Rattle.mdb_workers.specs.Working.{IsWant, SettledBy};
 
+use crate::access::Access;
 use crate::ends::Work;
 use crate::establishing::{Establisher, Gate};
 use crate::steps::{add, give_back, let_go, pause};
-use crate::watching::TopologyWatcher;
 use crate::working::establish;
 use mdb_base::{Error, ErrorKind, Items, OutOfMemory, Text};
 use mdb_events::Held;
 use mdb_log::{Act, Core, FailedAt, PooledConnection, Refused, Reply, Step, Use};
-use mdb_shared::{Back, BackWhy, Claimed, Seat, SharedDriver};
+use mdb_shared::{Back, BackWhy, Claimed, Seat};
 use std::alloc::Global;
 use std::sync::Wait;
 
@@ -31,20 +30,18 @@ pub struct Unreturned {
 
 /// Gives the request up. It tries again while there is no memory.
 pub fn abandon<C: Core, R: Wait>(
-    driver: &SharedDriver<C>,
-    rt: &R,
-    alloc: Global,
+    access: &Access<'_, C, R>,
     seat: &mut Seat<C>,
     request: u32,
 ) -> Reply
-    requires own { seat.old.driver ≡ driver.now.id }
+    requires own { seat.old.driver ≡ access.now.driver.now.id }
     ensures same { (seat.new.driver ≡ seat.old.driver) × (seat.new.number ≡ seat.old.number) }
     ensures entry { OneMore C.stands seat.old seat.new (GiveUp request) result }
 {
-    for _ in rt.forever() {
-        match let_go(driver, rt, alloc, seat, request) {
+    for _ in access.rt.forever() {
+        match let_go(access, seat, request) {
             Ok(reply) => return reply,
-            Err(OutOfMemory) => pause(driver, rt, seat),
+            Err(OutOfMemory) => pause(access, seat),
         }
     }
     unreachable!()
@@ -70,18 +67,16 @@ fn tried_of(back: Back) -> Tried
 
 // One try to check a connection in.
 fn try_back<C: Core, R: Wait>(
-    driver: &SharedDriver<C>,
-    rt: &R,
-    alloc: Global,
+    access: &Access<'_, C, R>,
     seat: &mut Seat<C>,
     connection: PooledConnection,
     used: Use,
 ) -> Tried
-    requires own { seat.old.driver ≡ driver.now.id }
+    requires own { seat.old.driver ≡ access.now.driver.now.id }
     ensures same { (seat.new.driver ≡ seat.old.driver) × (seat.new.number ≡ seat.old.number) }
     ensures tried { TriedBack C.stands seat.old seat.new connection used result }
 {
-    match give_back(driver, rt, alloc, seat, connection, used) {
+    match give_back(access, seat, connection, used) {
         Ok(()) => Tried::Back,
         Err(back) => tried_of(back),
     }
@@ -89,25 +84,23 @@ fn try_back<C: Core, R: Wait>(
 
 /// Checks the connection in. It tries again while there is no memory.
 pub fn hand_back<C: Core, R: Wait>(
-    driver: &SharedDriver<C>,
-    rt: &R,
-    alloc: Global,
+    access: &Access<'_, C, R>,
     seat: &mut Seat<C>,
     mut connection: PooledConnection,
     used: Use,
 ) -> Result<(), Unreturned>
-    requires own { seat.old.driver ≡ driver.now.id }
+    requires own { seat.old.driver ≡ access.now.driver.now.id }
     ensures same { (seat.new.driver ≡ seat.old.driver) × (seat.new.number ≡ seat.old.number) }
     ensures ok { OnOk result (OneMore C.stands seat.old seat.new (Return connection.party used) Done) }
     ensures err { IfErr result (λ back. (back.connection ≡ connection) × OneMore C.stands seat.old seat.new (Return connection.party used) (IsRefused back.why)) }
 {
-    for _ in rt.forever() {
-        match try_back(driver, rt, alloc, seat, connection, used) {
+    for _ in access.rt.forever() {
+        match try_back(access, seat, connection, used) {
             Tried::Back => return Ok(()),
             Tried::Refused(unreturned) => return Err(unreturned),
             Tried::Again(held) => {
                 connection = held;
-                pause(driver, rt, seat);
+                pause(access, seat);
             }
         }
     }
@@ -115,19 +108,13 @@ pub fn hand_back<C: Core, R: Wait>(
 }
 
 // One more try of a step.
-fn try_once<C: Core, R: Wait>(
-    driver: &SharedDriver<C>,
-    rt: &R,
-    alloc: Global,
-    seat: &mut Seat<C>,
-    act: Act,
-) -> bool
-    requires own { seat.old.driver ≡ driver.now.id }
+fn try_once<C: Core, R: Wait>(access: &Access<'_, C, R>, seat: &mut Seat<C>, act: Act) -> bool
+    requires own { seat.old.driver ≡ access.now.driver.now.id }
     requires act { IsDriverAct act }
     ensures same { (seat.new.driver ≡ seat.old.driver) × (seat.new.number ≡ seat.old.number) }
     ensures entry { IsTry C.stands seat.old seat.new act result }
 {
-    match add(driver, rt, alloc, seat, Step { moment: 0, act }) {
+    match add(access, seat, Step { moment: 0, act }) {
         Ok(reply) => {
             drop(reply);
             true
@@ -137,16 +124,16 @@ fn try_once<C: Core, R: Wait>(
 }
 
 /// Stops the driver: its pools close, those who wait end, and those who sleep are woken. It tries again while there is no memory.
-pub fn stop<C: Core, R: Wait>(driver: &SharedDriver<C>, rt: &R, alloc: Global, seat: &mut Seat<C>)
-    requires own { seat.old.driver ≡ driver.now.id }
+pub fn stop<C: Core, R: Wait>(access: &Access<'_, C, R>, seat: &mut Seat<C>)
+    requires own { seat.old.driver ≡ access.now.driver.now.id }
     ensures same { (seat.new.driver ≡ seat.old.driver) × (seat.new.number ≡ seat.old.number) }
     ensures entry { (e : Entry) × (e.step.act ≡ Stop) × Made C.stands seat.old seat.new (e ∷ []) }
 {
-    for _ in rt.forever() {
-        if try_once(driver, rt, alloc, seat, Act::Stop) {
+    for _ in access.rt.forever() {
+        if try_once(access, seat, Act::Stop) {
             return;
         }
-        pause(driver, rt, seat);
+        pause(access, seat);
     }
     unreachable!()
 }
@@ -189,44 +176,40 @@ fn left_act(alloc: Global, pool: u32, id: u32, step: &Option<Step>) -> Result<Ac
 
 // One try to report what was left.
 fn try_left<C: Core, R: Wait>(
-    driver: &SharedDriver<C>,
-    rt: &R,
-    alloc: Global,
+    access: &Access<'_, C, R>,
     seat: &mut Seat<C>,
     pool: u32,
     id: u32,
     step: &Option<Step>,
 ) -> bool
-    requires own { seat.old.driver ≡ driver.now.id }
+    requires own { seat.old.driver ≡ access.now.driver.now.id }
     requires act { IfSome step.now (λ s. IsDriverAct s.act) }
     ensures same { (seat.new.driver ≡ seat.old.driver) × (seat.new.number ≡ seat.old.number) }
     ensures entry { SettledIf C.stands pool id step.now seat.old seat.new result }
 {
-    match left_act(alloc, pool, id, step) {
-        Ok(act) => try_once(driver, rt, alloc, seat, act),
+    match left_act(access.alloc, pool, id, step) {
+        Ok(act) => try_once(access, seat, act),
         Err(OutOfMemory) => false,
     }
 }
 
 fn settle_left<C: Core, R: Wait>(
-    driver: &SharedDriver<C>,
-    rt: &R,
-    alloc: Global,
+    access: &Access<'_, C, R>,
     seat: &mut Seat<C>,
     pool: u32,
     id: u32,
     step: &Option<Step>,
 )
-    requires own { seat.old.driver ≡ driver.now.id }
+    requires own { seat.old.driver ≡ access.now.driver.now.id }
     requires act { IfSome step.now (λ s. IsDriverAct s.act) }
     ensures same { (seat.new.driver ≡ seat.old.driver) × (seat.new.number ≡ seat.old.number) }
     ensures entry { (e : Entry) × SettledBy pool id step.now e × Made C.stands seat.old seat.new (e ∷ []) }
 {
-    for _ in rt.forever() {
-        if try_left(driver, rt, alloc, seat, pool, id, step) {
+    for _ in access.rt.forever() {
+        if try_left(access, seat, pool, id, step) {
             return;
         }
-        pause(driver, rt, seat);
+        pause(access, seat);
     }
     unreachable!()
 }
@@ -235,69 +218,44 @@ fn settle_left<C: Core, R: Wait>(
 /// is none, the connection has failed before the hello, with an error of the label `SystemOverloadedError`: so its server stays as it is, and its pool isn't
 /// cleared (SDAM, "Error handling pseudocode"). It tries again while there is no memory.
 pub fn settle<C: Core, R: Wait>(
-    driver: &SharedDriver<C>,
-    rt: &R,
-    alloc: Global,
+    access: &Access<'_, C, R>,
     seat: &mut Seat<C>,
     pool: u32,
     id: u32,
     step: Option<Step>,
 )
-    requires own { seat.old.driver ≡ driver.now.id }
+    requires own { seat.old.driver ≡ access.now.driver.now.id }
     requires act { IfSome step (λ s. IsDriverAct s.act) }
     ensures same { (seat.new.driver ≡ seat.old.driver) × (seat.new.number ≡ seat.old.number) }
     ensures entry { (e : Entry) × SettledBy pool id step e × Made C.stands seat.old seat.new (e ∷ []) }
 {
-    settle_left(driver, rt, alloc, seat, pool, id, &step);
-}
-
-/// Takes the watcher's request for checks back, where one stands, and lets the watcher go. It tries again while there is no memory.
-pub fn dismiss<C: Core, R: Wait>(
-    driver: &SharedDriver<C>,
-    rt: &R,
-    alloc: Global,
-    seat: &mut Seat<C>,
-    mut watcher: TopologyWatcher,
-)
-    requires own { seat.old.driver ≡ driver.now.id }
-    ensures same { (seat.new.driver ≡ seat.old.driver) × (seat.new.number ≡ seat.old.number) }
-    ensures retracted { Retracted C.stands seat.old seat.new watcher }
-{
-    for _ in rt.forever() {
-        match watcher.retract(rt, alloc, driver, seat) {
-            Ok(()) => return,
-            Err(OutOfMemory) => pause(driver, rt, seat),
-        }
-    }
-    unreachable!()
+    settle_left(access, seat, pool, id, &step);
 }
 
 /// Establishes one connection, where there is one to establish: it is claimed, established and reported. Where there is no memory for that it is reported as
 /// failed, and where there is none for the report it tries again. `Idle` comes exactly where the claim found none.
 pub fn tend<C: Core, R: Wait, E: Establisher, G: Gate>(
-    driver: &SharedDriver<C>,
-    rt: &R,
-    alloc: Global,
+    access: &Access<'_, C, R>,
     seat: &mut Seat<C>,
     establisher: &mut E,
     gate: &mut G,
 ) -> Work
-    requires own { seat.old.driver ≡ driver.now.id }
+    requires own { seat.old.driver ≡ access.now.driver.now.id }
     ensures tended { TendedBy C.stands seat.old seat.new }
 {
-    match driver.claim(rt, alloc, seat) {
+    match access.driver.claim(access.rt, access.alloc, seat) {
         Ok(Claimed::Job(pool, id, job)) => {
-            let step = establish(alloc, establisher, gate, pool, id, &job);
-            settle(driver, rt, alloc, seat, pool, id, step);
+            let step = establish(access.alloc, establisher, gate, pool, id, &job);
+            settle(access, seat, pool, id, step);
             Work::Spent
         }
         Ok(Claimed::NoJob) => Work::Idle,
         Ok(Claimed::Unread(pool, id)) => {
-            settle(driver, rt, alloc, seat, pool, id, None);
+            settle(access, seat, pool, id, None);
             Work::Spent
         }
         Err(OutOfMemory) => {
-            pause(driver, rt, seat);
+            pause(access, seat);
             Work::Spent
         }
     }

@@ -6,12 +6,13 @@ ghost use Rattle.mdb_log.specs.declared.log.Entry.{Entry};
 ghost use Rattle.mdb_workers.specs.Making.{Made, MadeAt};
 ghost use Rattle.mdb_workers.specs.Ticking.{BothDue, IsDueAct, Ticked, TickedInPart, TickedBy};
 
+use crate::access::Access;
 use crate::listening::has_stopped;
 use crate::steps::{add, glance};
 use mdb_base::{Moment, OutOfMemory, ServerAddress};
 use mdb_describe::ServerDescription;
 use mdb_log::{Act, Core, Log, Step};
-use mdb_shared::{Look, Seat, SharedDriver};
+use mdb_shared::{Look, Seat};
 use std::alloc::Global;
 use std::rt::Clock;
 use std::sync::Wait;
@@ -53,19 +54,17 @@ impl<C: Core> Look<C> for Addresses {
 
 // One step of the clock.
 fn due<C: Core, R: Wait>(
-    driver: &SharedDriver<C>,
-    rt: &R,
-    alloc: Global,
+    access: &Access<'_, C, R>,
     seat: &mut Seat<C>,
     moment: Moment,
     act: Act,
 ) -> Result<(), OutOfMemory>
-    requires own { seat.old.driver ≡ driver.now.id }
+    requires own { seat.old.driver ≡ access.now.driver.now.id }
     requires act { IsDueAct act }
     ensures ok { OnOk result ((e : Entry) × (e.step.act ≡ act) × MadeAt C.stands moment seat.old seat.new (e ∷ [])) }
     ensures err { OnErr result (Made C.stands seat.old seat.new []) }
 {
-    match add(driver, rt, alloc, seat, Step { moment, act }) {
+    match add(access, seat, Step { moment, act }) {
         Ok(reply) => {
             drop(reply);
             Ok(())
@@ -76,20 +75,18 @@ fn due<C: Core, R: Wait>(
 
 // What is due at the address.
 fn due_at<C: Core, R: Wait>(
-    driver: &SharedDriver<C>,
-    rt: &R,
-    alloc: Global,
+    access: &Access<'_, C, R>,
     seat: &mut Seat<C>,
     moment: Moment,
     address: ServerAddress,
 ) -> Result<(), OutOfMemory>
-    requires own { seat.old.driver ≡ driver.now.id }
+    requires own { seat.old.driver ≡ access.now.driver.now.id }
     ensures ok { OnOk result (BothDue C.stands moment address seat.old seat.new) }
     ensures err { OnErr result (TickedInPart C.stands moment seat.old seat.new) }
 {
     let copy = address.clone()?;
-    due(driver, rt, alloc, seat, moment, Act::Expire(copy))?;
-    match due(driver, rt, alloc, seat, moment, Act::Maintain(address)) {
+    due(access, seat, moment, Act::Expire(copy))?;
+    match due(access, seat, moment, Act::Maintain(address)) {
         Ok(()) => Ok(()),
         Err(OutOfMemory) => Err(OutOfMemory),
     }
@@ -97,19 +94,17 @@ fn due_at<C: Core, R: Wait>(
 
 // What is due at the addresses.
 fn tick_at<C: Core, R: Wait>(
-    driver: &SharedDriver<C>,
-    rt: &R,
-    alloc: Global,
+    access: &Access<'_, C, R>,
     seat: &mut Seat<C>,
     moment: Moment,
     addresses: Vec<ServerAddress>,
 ) -> Result<(), OutOfMemory>
-    requires own { seat.old.driver ≡ driver.now.id }
+    requires own { seat.old.driver ≡ access.now.driver.now.id }
     ensures ok { OnOk result (TickedBy C.stands moment addresses.items seat.old seat.new) }
     ensures err { OnErr result (TickedInPart C.stands moment seat.old seat.new) }
 {
     for address in addresses {
-        due_at(driver, rt, alloc, seat, moment, address)?;
+        due_at(access, seat, moment, address)?;
     }
     Ok(())
 }
@@ -117,18 +112,22 @@ fn tick_at<C: Core, R: Wait>(
 /// One tick: at this moment, at each server that the driver knows, the callers that waited too long end (`max_wait`), and the pool is maintained: what is
 /// stale or idle closes (`max_idle_time`), and the pool is filled up to its minimum. After `OutOfMemory` a part of it was done.
 pub fn tick<C: Core, R: Wait>(
-    driver: &SharedDriver<C>,
-    rt: &R,
-    alloc: Global,
+    access: &Access<'_, C, R>,
     seat: &mut Seat<C>,
     moment: Moment,
 ) -> Result<(), OutOfMemory>
-    requires own { seat.old.driver ≡ driver.now.id }
+    requires own { seat.old.driver ≡ access.now.driver.now.id }
     ensures ok { OnOk result (Ticked C.stands C.described moment seat.old seat.new) }
     ensures err { OnErr result (TickedInPart C.stands moment seat.old seat.new) }
 {
-    let addresses = glance(driver, rt, seat, &Addresses { alloc })?;
-    match tick_at(driver, rt, alloc, seat, moment, addresses) {
+    let addresses = glance(
+        access,
+        seat,
+        &Addresses {
+            alloc: access.alloc,
+        },
+    )?;
+    match tick_at(access, seat, moment, addresses) {
         Ok(()) => Ok(()),
         Err(OutOfMemory) => Err(OutOfMemory),
     }
@@ -174,27 +173,25 @@ fn moment_since<R: Clock>(rt: &R, start: &Instant) -> Moment {
 /// Ticks each so long until the driver stops; the moments are the milliseconds since the start. A tick for which there is no memory is left to the next
 /// one. Nothing is claimed of the time that passes.
 pub fn keep_time<C: Core, R: Wait + Clock>(
-    driver: &SharedDriver<C>,
-    rt: &R,
-    alloc: Global,
+    access: &Access<'_, C, R>,
     seat: &mut Seat<C>,
     start: Instant,
     every: Duration,
 )
-    requires own { seat.old.driver ≡ driver.now.id }
+    requires own { seat.old.driver ≡ access.now.driver.now.id }
     ensures same { (seat.new.driver ≡ seat.old.driver) × (seat.new.number ≡ seat.old.number) }
     ensures stopped { HasStopped seat.new.seen }
 {
     let mut from = 0;
-    for _ in rt.forever() {
-        let (count, is_over) = glance(driver, rt, seat, &Ending { from });
+    for _ in access.rt.forever() {
+        let (count, is_over) = glance(access, seat, &Ending { from });
         if is_over {
             return;
         }
         from = count;
-        let moment = moment_since(rt, &start);
-        drop(tick(driver, rt, alloc, seat, moment));
-        sleep(rt, every);
+        let moment = moment_since(access.rt, &start);
+        drop(tick(access, seat, moment));
+        sleep(access.rt, every);
     }
     unreachable!()
 }

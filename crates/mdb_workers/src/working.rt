@@ -8,12 +8,13 @@ ghost use Rattle.mdb_workers.specs.Establishing.{failed_at, Reports};
 ghost use Rattle.mdb_workers.specs.Making.{Made};
 ghost use Rattle.mdb_workers.specs.Working.{CalledOnce, Reported, LeftOver, Worked};
 
+use crate::access::Access;
 use crate::ends::{Work, WorkError};
 use crate::establishing::{EstablishError, Establisher, Gate};
 use crate::steps::add;
 use mdb_base::{ObjectId, OutOfMemory};
 use mdb_log::{Act, Core, Established, FailedAt, Job, Step};
-use mdb_shared::{Claimed, Seat, SharedDriver};
+use mdb_shared::{Claimed, Seat};
 use std::alloc::Global;
 use std::sync::Wait;
 
@@ -66,13 +67,11 @@ pub(crate) fn establish<E: Establisher, G: Gate>(
 
 // Reports a job. The step comes back where there is no memory for it.
 fn report<C: Core, R: Wait>(
-    driver: &SharedDriver<C>,
-    rt: &R,
-    alloc: Global,
+    access: &Access<'_, C, R>,
     seat: &mut Seat<C>,
     step: Step,
 ) -> Result<(), Step>
-    requires own { seat.old.driver ≡ driver.now.id }
+    requires own { seat.old.driver ≡ access.now.driver.now.id }
     requires act { (step.moment ≡ 0) × IsDriverAct step.act }
     ensures same { (seat.new.driver ≡ seat.old.driver) × (seat.new.number ≡ seat.old.number) }
     ensures ok { OnOk result ((e : Entry) × (e.step.act ≡ step.act) × Made C.stands seat.old seat.new (e ∷ [])) }
@@ -81,7 +80,7 @@ fn report<C: Core, R: Wait>(
     let Ok(copy) = step.clone() else {
         return Err(step);
     };
-    match add(driver, rt, alloc, seat, copy) {
+    match add(access, seat, copy) {
         Ok(reply) => {
             drop(reply);
             drop(step);
@@ -91,28 +90,26 @@ fn report<C: Core, R: Wait>(
     }
 }
 
-// One job that was claimed: it is established and reported.
+// One job that was claimed, of the connection of this pool and number: it is established and reported.
 fn one_job<C: Core, R: Wait, E: Establisher, G: Gate>(
-    driver: &SharedDriver<C>,
-    rt: &R,
-    alloc: Global,
+    access: &Access<'_, C, R>,
     seat: &mut Seat<C>,
     establisher: &mut E,
     gate: &mut G,
-    pool: u32,
-    id: u32,
+    connection: (u32, u32),
     job: Job,
 ) -> Result<(), WorkError>
-    requires own { seat.old.driver ≡ driver.now.id }
+    requires own { seat.old.driver ≡ access.now.driver.now.id }
     ensures same { (seat.new.driver ≡ seat.old.driver) × (seat.new.number ≡ seat.old.number) }
-    ensures ok { OnOk result (Reported C.stands pool id job seat.old seat.new (E.calls establisher.old) (E.calls establisher.new)) }
-    ensures err { IfErr result (LeftOver C.stands pool id job seat.old seat.new (E.calls establisher.old) (E.calls establisher.new)) }
+    ensures ok { OnOk result (Reported C.stands connection.0 connection.1 job seat.old seat.new (E.calls establisher.old) (E.calls establisher.new)) }
+    ensures err { IfErr result (LeftOver C.stands connection.0 connection.1 job seat.old seat.new (E.calls establisher.old) (E.calls establisher.new)) }
 {
+    let (pool, id) = connection;
     let named = Some((pool, id));
-    let Some(step) = establish(alloc, establisher, gate, pool, id, &job) else {
+    let Some(step) = establish(access.alloc, establisher, gate, pool, id, &job) else {
         return Err(WorkError::OutOfMemory(named, None));
     };
-    match report(driver, rt, alloc, seat, step) {
+    match report(access, seat, step) {
         Ok(()) => Ok(()),
         Err(step) => Err(WorkError::OutOfMemory(named, Some(step))),
     }
@@ -121,22 +118,20 @@ fn one_job<C: Core, R: Wait, E: Establisher, G: Gate>(
 /// Claims connections, establishes them by the establisher, and reports its answers, until none is left to claim or `budget` jobs were done. The
 /// gate is told before and after the establisher is called. It may wait for the turn, and has no turn while it establishes.
 pub fn work<C: Core, R: Wait, E: Establisher, G: Gate>(
-    driver: &SharedDriver<C>,
-    rt: &R,
-    alloc: Global,
+    access: &Access<'_, C, R>,
     seat: &mut Seat<C>,
     establisher: &mut E,
     gate: &mut G,
     budget: u32,
 ) -> Result<Work, WorkError>
-    requires own { seat.old.driver ≡ driver.now.id }
+    requires own { seat.old.driver ≡ access.now.driver.now.id }
     ensures same { (seat.new.driver ≡ seat.old.driver) × (seat.new.number ≡ seat.old.number) }
     ensures jobs { Worked C.job_after C.stands budget seat.old seat.new (E.calls establisher.old) (E.calls establisher.new) result }
 {
     for _ in 0..budget {
-        match driver.claim(rt, alloc, seat) {
+        match access.driver.claim(access.rt, access.alloc, seat) {
             Ok(Claimed::Job(pool, id, job)) => {
-                one_job(driver, rt, alloc, seat, establisher, gate, pool, id, job)?;
+                one_job(access, seat, establisher, gate, (pool, id), job)?;
             }
             Ok(Claimed::NoJob) => return Ok(Work::Idle),
             Ok(Claimed::Unread(pool, id)) => {

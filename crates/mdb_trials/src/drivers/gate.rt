@@ -5,9 +5,10 @@ ghost use Rattle.mdb_log.specs.Acts.{IsDriverAct};
 
 use super::{asks, balanced, found, pair, server};
 use mdb_base::{Error, ErrorKind, Items, Text};
+use mdb_handles::check_out;
 use mdb_log::{Act, Core, Job, Log, PooledConnection, Reply, Step, Use};
 use mdb_shared::{Seat, SharedDriver};
-use mdb_workers::{Gate, MemEstablisher, Work, check_out, work};
+use mdb_workers::{Access, Gate, MemEstablisher, Work, work};
 use std::alloc::Global;
 use std::sync::Wait;
 use std::sync::atomic::{AtomicU64, Ordering};
@@ -124,10 +125,11 @@ fn works<C: Core, R: Wait>(
         after: 0,
         ran_out: false,
     };
-    let worked = work(driver, rt, alloc, &mut seat, &mut establisher, &mut gate, 1);
+    let access = Access { driver, rt, alloc };
+    let worked = work(&access, &mut seat, &mut establisher, &mut gate, 1);
     let spent = matches!(&worked, Ok(Work::Spent));
     drop(worked);
-    let again = work(driver, rt, alloc, &mut seat, &mut establisher, &mut gate, 1);
+    let again = work(&access, &mut seat, &mut establisher, &mut gate, 1);
     let idle = matches!(&again, Ok(Work::Idle));
     drop(again);
     let Held {
@@ -152,7 +154,7 @@ fn is_served<C: Core, R: Wait>(
     let Some(address) = server(alloc) else {
         return false;
     };
-    let Ok(connection) = check_out(driver, rt, alloc, &mut seat, 2, address) else {
+    let Ok(connection) = check_out(&Access { driver, rt, alloc }, &mut seat, 2, address) else {
         return false;
     };
     flag.store(1, Ordering::SeqCst);

@@ -7,9 +7,10 @@ use super::{asks, balanced, came_back, found, pair, server};
 use mdb_base::{ClusterTime, OutOfMemory};
 use mdb_describe::TopologyType;
 use mdb_events::End;
+use mdb_handles::{OpToken, Server, TopologyState, TopologyWatcher, check_out};
 use mdb_log::{Act, Core, Log, Reply, Step, Use};
 use mdb_shared::{Seat, SharedDriver};
-use mdb_workers::{OpToken, Server, TopologyState, TopologyWatcher, check_out, fill_pool};
+use mdb_workers::{Access, fill_pool};
 use std::alloc::Global;
 use std::sync::Wait;
 use std::test::Fail;
@@ -56,18 +57,19 @@ fn hears<C: Core, R: Wait>(
 ) -> Result<bool, OutOfMemory>
     requires own { (one.old.driver ≡ driver.now.id) × (other.old.driver ≡ driver.now.id) }
 {
+    let access = Access { driver, rt, alloc };
     let mut watcher = TopologyWatcher::new(7);
-    drop(watcher.observe_latest(rt, alloc, driver, one)?);
-    let early = watcher.wait_for_update(rt, alloc, driver, one, 3)?;
-    let wanted = watcher.request_immediate_check(rt, alloc, driver, one)?;
+    drop(watcher.observe_latest(&access, one)?);
+    let early = watcher.wait_for_update(&access, one, 3)?;
+    let wanted = watcher.request_immediate_check(&access, one)?;
     let time = Step {
         moment: 0,
         act: Act::ClusterTime(ClusterTime(5)),
     };
     drop(driver.step(rt, alloc, other, time)?);
-    let news = watcher.wait_for_update(rt, alloc, driver, one, 3)?;
+    let news = watcher.wait_for_update(&access, one, 3)?;
     let mut next = TopologyWatcher::new(8);
-    let count = next.request_immediate_check(rt, alloc, driver, other)?;
+    let count = next.request_immediate_check(&access, other)?;
     Ok(!early && wanted == 1 && news && count == 1)
 }
 
@@ -143,7 +145,7 @@ fn goes_out<C: Core, R: Wait>(
     let Some(address) = server(alloc) else {
         return false;
     };
-    let Ok(connection) = check_out(driver, rt, alloc, seat, 2, address) else {
+    let Ok(connection) = check_out(&Access { driver, rt, alloc }, seat, 2, address) else {
         return false;
     };
     let numbers = (connection.pool, connection.id(), connection.party);
@@ -162,7 +164,7 @@ fn fills<C: Core, R: Wait>(
     let Some(address) = server(alloc) else {
         return false;
     };
-    match fill_pool(driver, rt, alloc, seat, address, 10, 2) {
+    match fill_pool(&Access { driver, rt, alloc }, seat, address, 10, 2) {
         Ok(fill) => fill.made == 1 && matches!(&fill.last, Some(Reply::Ended(End::Warmed))),
         Err(_) => false,
     }
@@ -207,13 +209,14 @@ fn is_told<C: Core, R: Wait>(
 ) -> Result<bool, OutOfMemory>
     requires own { seat.old.driver ≡ driver.now.id }
 {
+    let access = Access { driver, rt, alloc };
     let mut watcher = TopologyWatcher::new(1);
-    let count = watcher.request_immediate_check(rt, alloc, driver, seat)?;
-    let peeked = watcher.peek_latest(rt, alloc, driver, seat)?;
-    let kind = watcher.topology_type(rt, driver, seat);
+    let count = watcher.request_immediate_check(&access, seat)?;
+    let peeked = watcher.peek_latest(&access, seat)?;
+    let kind = watcher.topology_type(&access, seat);
     let first = is_first_state(&peeked, kind);
     drop(peeked);
-    let observed = watcher.observe_latest(rt, alloc, driver, seat)?;
+    let observed = watcher.observe_latest(&access, seat)?;
     Ok(count == 1 && first && is_first_state(&observed, kind))
 }
 

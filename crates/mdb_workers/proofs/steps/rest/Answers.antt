@@ -1,4 +1,4 @@
-use Rattle.mdb_workers.proofs.Questions.{made_same}
+use Rattle.mdb_workers.proofs.Adding.{made_same}
 use Rattle.mdb_workers.proofs.steps.rest.Goals as goal
 
 pub returns-clause-saw : goal.returns-clause-saw

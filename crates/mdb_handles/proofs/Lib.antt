@@ -1,0 +1,5 @@
+pub mod Crossing
+mod Questions
+mod Looking
+mod Numbering
+mod Waiting

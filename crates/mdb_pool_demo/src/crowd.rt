@@ -1,0 +1,98 @@
+//! More threads than seats: each borrows a seat for a round.
+
+use crate::clients::round;
+use crate::closing::fill;
+use crate::counting::{Counts, count};
+use crate::errors::DemoError;
+use crate::opening::{Limits, hello, open};
+use crate::parts::establisher;
+use mdb_handles::{Handle, SpareSeats};
+use mdb_log::{Core, Log, Use};
+use mdb_shared::{Look, SharedDriver};
+use mdb_workers::{OpenGate, WorkError};
+use std::alloc::Global;
+use std::sync::Wait;
+use std::thread::{Threads, map_indices};
+
+// How many seats are lent, to how many threads, and how often to each.
+const SEATS: u32 = 3;
+
+const GUESTS: usize = 12;
+
+const VISITS: u32 = 20;
+
+// A pool of as many connections as seats are lent, so that no guest waits for a connection.
+const CROWD: Limits = Limits {
+    size: SEATS,
+    least: SEATS,
+    wait: None,
+    idle: None,
+};
+
+// The counts of the log.
+#[derive(Clone, Copy)]
+struct Counting;
+
+impl<C: Core> Look<C> for Counting {
+    type Found = Counts;
+
+    ghost use Rattle.std.specs.Prelude.{⊤};
+
+    ghost tells = { λ s log found. ⊤ };
+
+    fn look(&self, _core: &C, log: &Log) -> Counts {
+        count(log)
+    }
+}
+
+// Makes the connections of the pool, before any guest comes.
+fn prepare<C: Core, R: Wait>(me: &mut Handle<'_, C, R>, alloc: Global) -> Result<(), DemoError> {
+    drop(me.step(hello(alloc)?)?);
+    fill(me, alloc, SEATS)?;
+    match me.work(&mut establisher(alloc), &mut OpenGate, SEATS) {
+        Ok(_) => Ok(()),
+        Err(WorkError::OutOfMemory(_, _)) => Err(DemoError::OutOfMemory),
+    }
+}
+
+// Borrows a seat for each round.
+fn visit<C: Core, R: Wait>(
+    rt: &R,
+    alloc: Global,
+    spare: &SpareSeats<'_, C, R>,
+) -> Result<(), DemoError> {
+    for _ in 0..VISITS {
+        let mut me = spare.lend(rt);
+        let done = round(&mut me, alloc, Use::Ok);
+        drop(spare.take_back(rt, me));
+        done?;
+    }
+    Ok(())
+}
+
+// All guests, each in a thread of its own.
+fn visit_all<C: Core, R: Threads + Wait + Sync>(
+    rt: &R,
+    alloc: Global,
+    spare: &SpareSeats<'_, C, R>,
+) -> Result<(), DemoError> {
+    let visits = map_indices(rt, alloc, GUESTS, &move |_guest| visit(rt, alloc, spare))?;
+    for visited in visits {
+        visited?;
+    }
+    Ok(())
+}
+
+/// More guests than seats check connections out and in, each at a seat that is lent for a round.
+pub fn crowd<R: Threads + Wait + Sync>(rt: &R, alloc: Global) -> Result<Counts, DemoError> {
+    let (core, log) = open(alloc, CROWD)?;
+    let (driver, mut seats) = SharedDriver::new(alloc, core, log, SEATS + 1)?;
+    let Some(seat) = seats.pop() else {
+        return Err(DemoError::Seat);
+    };
+    let mut me = Handle::new(&driver, rt, alloc, seat);
+    prepare(&mut me, alloc)?;
+    let spare = SpareSeats::new(&driver, rt, alloc, seats)?;
+    visit_all(rt, alloc, &spare)?;
+    Ok(me.look(&Counting))
+}

@@ -1,5 +1,0 @@
-use Rattle.mdb_workers.proofs.Numbering.{one_seat}
-use Rattle.mdb_workers.proofs.numbers.seats_share_no_number.Goals as goal
-
-pub returns : goal.returns
-returns c = one_seat
