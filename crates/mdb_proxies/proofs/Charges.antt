@@ -1,5 +1,5 @@
 -- What the books say of charges is what the log says of the asks.
-use Rattle.std.proofs.Common.{◌≡◌, ◌≢◌, ℕ, ◌+◌, ◌≤◌, ◌<◌, Bool, true, false, not, ◌&&◌, ◌||◌, if◌then◌else◌, ◌==◌, nat_lt, List, [], ◌∷◌, length, Option, Some, None, IsSome, is_some, option_map, refl, sym, ap, ◌∙◌, subst, arith}
+use Rattle.std.proofs.Common.{◌≡◌, ◌≢◌, ℕ, ◌+◌, ◌≤◌, ◌<◌, Bool, true, false, not, ◌&&◌, ◌||◌, ◌==◌, nat_lt, List, [], ◌∷◌, Option, Some, None, is_some, option_map, refl, sym, ap, ◌∙◌, subst, arith}
 use Rattle.std.specs.List.{list_any}
 use Rattle.std.proofs.lemmas.Bool.Decides.{Decides-eqb, Decides-ltb, nat_tests}
 use Rattle.mdb_base.specs.Equality.{same_address}
@@ -11,11 +11,11 @@ use Rattle.mdb_log.specs.Acts.{IsDriverAct}
 use Rattle.mdb_proxies.specs.declared.asked.Asked.{Asked}
 use Rattle.mdb_proxies.specs.declared.asked.Standing.{Standing}
 use Rattle.mdb_proxies.specs.declared.books.Books.{Books}
-use Rattle.mdb_proxies.specs.Charge.{requests, is_requested, is_charged, since, is_at, is_held, counts, charge, held_back, lags, any_lags, is_behind}
+use Rattle.mdb_proxies.specs.Charge.{requests, is_requested, since, is_at, is_held, counts, charge, held_back, lags, any_lags, is_behind}
 use Rattle.mdb_proxies.specs.Shares.{share_of}
 use Rattle.mdb_proxies.specs.Passing.{is_passed}
-use Rattle.mdb_proxies.specs.View.{ProxyView, KeepsShares}
-use Rattle.mdb_proxies.specs.Tables.{charge_in, may_go, some_may_go, standing_of, standing_if, standings, is_fresh, place_of, AreWithin, Sound}
+use Rattle.mdb_proxies.specs.View.{KeepsShares}
+use Rattle.mdb_proxies.specs.Tables.{charge_in, may_go, some_may_go, standing_if, standings, is_fresh, place_of, Sound}
 use Rattle.mdb_proxies.proofs.Turned.{charge-is}
 use Rattle.mdb_proxies.proofs.Bools.{left, right, first, rest, other, not-true}
 use Rattle.mdb_proxies.proofs.Within.{same-address}
@@ -36,7 +36,7 @@ lags-are shares log xs (y ∷ ys) =
 pub behind-is : (shares : List ℕ) (log : List Entry) (xs : List Asked) → some_may_go shares (standings log xs) ≡ is_behind shares xs log
 behind-is shares log xs = lags-are shares log xs xs
 
-at-is : (t : ℕ) (a : ServerAddress) (x : Asked) → is_at t a x ≡ true → (x.tenant ≡ t) × (x.address ≡ a)
+pub at-is : (t : ℕ) (a : ServerAddress) (x : Asked) → is_at t a x ≡ true → (x.tenant ≡ t) × (x.address ≡ a)
 at-is t a x h = ((Decides-eqb x.tenant t).0 (left (x.tenant == t) (same_address x.address a) h), same-address x.address a (right (x.tenant == t) (same_address x.address a) h))
 
 full-at : (shares : List ℕ) (log : List Entry) (xs ys : List Asked) (t : ℕ) (a : ServerAddress) → held_back ys log t a ≢ [] → any_lags shares xs log ys ≡ false → nat_lt (charge xs log t a) (share_of shares t) ≡ false

@@ -1,5 +1,5 @@
 -- The charge as a count.
-use Rattle.std.proofs.Common.{◌≡◌, ℕ, ◌+◌, List, [], ◌∷◌, count_by, refl}
+use Rattle.std.proofs.Common.{◌≡◌, ℕ, List, count_by, refl}
 use Rattle.std.proofs.lemmas.List.Recursion.{is_count_by}
 use Rattle.mdb_base.specs.declared.address.ServerAddress.{ServerAddress}
 use Rattle.mdb_proxies.specs.declared.asked.Standing.{Standing}

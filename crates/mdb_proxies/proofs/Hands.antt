@@ -1,5 +1,5 @@
 -- An ask that is handed on leaves the books sound.
-use Rattle.std.proofs.Common.{◌≡◌, ℕ, ◌+◌, ◌≤◌, ◌<◌, Bool, true, false, not, ◌&&◌, ◌||◌, if◌then◌else◌, ◌==◌, nat_lt, nat_le, List, [], ◌∷◌, ◌++◌, length, get_or, take, drop, ◌-◌, length-append, Option, refl, sym, ap, ◌∙◌, subst, arith}
+use Rattle.std.proofs.Common.{◌≡◌, ℕ, ◌+◌, ◌<◌, Bool, true, false, ◌&&◌, ◌||◌, nat_lt, nat_le, List, [], ◌∷◌, ◌++◌, length, get_or, take, drop, ◌-◌, length-append, Option, refl, sym, ap, ◌∙◌, subst, arith}
 use Rattle.std.specs.List.{list_any, HoldsAt}
 use Rattle.std.proofs.lemmas.Bool.Decides.{Decides-eqb, nat_tests}
 use Rattle.std.proofs.lemmas.List.Recursion.{or_push}
@@ -14,9 +14,9 @@ use Rattle.mdb_proxies.specs.declared.asked.Standing.{Standing}
 use Rattle.mdb_proxies.specs.Charge.{requests}
 use Rattle.mdb_proxies.specs.Shares.{share_of}
 use Rattle.mdb_proxies.specs.Handing.{Entered, IsRequestAt}
-use Rattle.mdb_proxies.specs.Tables.{standing_at, held_at, charge_in, held_in, may_go, some_may_go, turned, standings, AreWithin, Keeps, is_off_in}
+use Rattle.mdb_proxies.specs.Tables.{standing_at, held_at, charge_in, held_in, may_go, some_may_go, turned, AreWithin, Keeps, is_off_in}
 use Rattle.mdb_proxies.proofs.Bools.{left, right, first, rest, other}
-use Rattle.mdb_proxies.proofs.Within.{NoneRequested, SingleStandings, handed-within, handed-fewer, quiet-within, standing-is, charge-append, held-uncharged}
+use Rattle.mdb_proxies.proofs.Within.{NoneRequested, SingleStandings, handed-within, handed-fewer, standing-is, charge-append, held-uncharged}
 use Rattle.mdb_proxies.proofs.Numbers.{free-none, split-free, single-standings, around}
 use Rattle.mdb_proxies.proofs.Kept.{keeps-entered}
 
@@ -57,7 +57,7 @@ none-requested e (o ∷ os) n = (n o.request, none-requested e os n)
 
 -- ---- an ask that the rules hold back
 
-any-same : (p q : Standing → Bool) (xs : List Standing) → ((x : Standing) → p x ≡ q x) → list_any p xs ≡ list_any q xs
+pub any-same : (p q : Standing → Bool) (xs : List Standing) → ((x : Standing) → p x ≡ q x) → list_any p xs ≡ list_any q xs
 any-same p q [] h = refl
 any-same p q (x ∷ xs) h = ap (λ b. b || list_any p xs) (h x) ∙ ap (λ b. q x || b) (any-same p q xs h)
 

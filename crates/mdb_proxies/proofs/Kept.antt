@@ -1,20 +1,14 @@
 -- The books of a proxy stay those of its log.
-use Rattle.std.proofs.Common.{◌≡◌, ℕ, ◌+◌, ◌-◌, ◌≤◌, ◌<◌, Bool, true, false, not, ◌&&◌, ◌||◌, if◌then◌else◌, ◌==◌, nat_lt, List, [], ◌∷◌, ◌++◌, length, get_or, take, drop, Option, Some, None, option_map, refl, sym, ap, ◌∙◌, subst, arith, length-append, add-one}
-use Rattle.std.specs.List.{list_any}
+use Rattle.std.proofs.Common.{◌≡◌, ℕ, ◌+◌, ◌≤◌, Bool, true, false, not, if◌then◌else◌, ◌==◌, List, [], ◌∷◌, ◌++◌, length, drop, Option, Some, None, option_map, refl, sym, ap, ◌∙◌, subst, arith, length-append, add-one}
 use Rattle.std.proofs.Math.Seq.{drop-length}
-use Rattle.std.proofs.lemmas.Bool.Decides.{Decides-eqb, Decides-ltb, same_from_decides}
-use Rattle.mdb_base.specs.declared.address.ServerAddress.{ServerAddress}
+use Rattle.std.proofs.lemmas.Bool.Decides.{Decides-eqb}
 use Rattle.mdb_log.specs.declared.log.Entry.{Entry}
-use Rattle.mdb_log.specs.declared.step.Act.TheVariants.{Request}
-use Rattle.mdb_log.specs.Driver.{is_refusal}
 use Rattle.mdb_proxies.specs.declared.asked.Asked.{Asked}
 use Rattle.mdb_proxies.specs.declared.asked.Standing.{Standing}
-use Rattle.mdb_proxies.specs.Charge.{requests, since, is_held, counts, is_requested, is_charged}
-use Rattle.mdb_proxies.specs.Shares.{share_of}
-use Rattle.mdb_proxies.specs.Tables.{standing_at, held_at, charge_in, may_go, some_may_go, turned, standing_of, standing_if, standings, is_fresh, place_of, AreSingle, AreMade, AreWithin, Keeps}
+use Rattle.mdb_proxies.specs.Charge.{is_held, counts, is_requested, is_charged}
+use Rattle.mdb_proxies.specs.Tables.{turned, standing_of, standing_if, standings, is_fresh, place_of, AreSingle, AreMade, Keeps}
 use Rattle.mdb_proxies.proofs.Bools.{not-true, left, right, both, swapped}
 use Rattle.mdb_proxies.proofs.Turned.{turned-is}
-use Rattle.mdb_proxies.proofs.Within.{standing-is, charge-append, held-uncharged}
 
 pub made-later : (m n : ℕ) (xs : List Asked) → m ≤ n → AreMade m xs → AreMade n xs
 made-later m n [] h k = tt
@@ -47,7 +41,7 @@ drop-all log = drop-length log
 pub just-made : (log : List Entry) (x : Asked) → x.entries ≡ length log → standings log (x ∷ []) ≡ standing_of x true ∷ []
 just-made log x h = ap (λ es. standing_if (not (is_requested x.request es)) (is_charged x.request es) x []) (ap (λ k. drop k log) h ∙ drop-all log)
 
-made-append : (n : ℕ) (xs : List Asked) (x : Asked) → AreMade n xs → x.entries ≤ n → AreMade n (xs ++ x ∷ [])
+pub made-append : (n : ℕ) (xs : List Asked) (x : Asked) → AreMade n xs → x.entries ≤ n → AreMade n (xs ++ x ∷ [])
 made-append n [] x m h = (h, tt)
 made-append n (y ∷ ys) x m h = (m.0, made-append n ys x m.1 h)
 
@@ -55,7 +49,7 @@ fresh-append : (r : ℕ) (xs : List Asked) (x : Asked) → is_fresh r xs ≡ tru
 fresh-append r [] x h k = both (not (r == x.request)) true k refl
 fresh-append r (y ∷ ys) x h k = both (not (r == y.request)) (is_fresh r (ys ++ x ∷ [])) (left (not (r == y.request)) (is_fresh r ys) h) (fresh-append r ys x (right (not (r == y.request)) (is_fresh r ys) h) k)
 
-single-append : (xs : List Asked) (x : Asked) → AreSingle xs → is_fresh x.request xs ≡ true → AreSingle (xs ++ x ∷ [])
+pub single-append : (xs : List Asked) (x : Asked) → AreSingle xs → is_fresh x.request xs ≡ true → AreSingle (xs ++ x ∷ [])
 single-append [] x s h = (refl, tt)
 single-append (y ∷ ys) x s h = (fresh-append y.request ys x s.0 (ap not (swapped y.request x.request) ∙ left (not (x.request == y.request)) (is_fresh x.request ys) h), single-append ys x s.1 (right (not (x.request == y.request)) (is_fresh x.request ys) h))
 

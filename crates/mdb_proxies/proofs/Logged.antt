@@ -1,27 +1,22 @@
 -- What one more entry makes of asks and of the standing ones.
-use Rattle.std.proofs.Common.{◌≡◌, ℕ, ◌+◌, ◌≤◌, Bool, true, false, not, ◌&&◌, ◌||◌, if◌then◌else◌, ◌==◌, List, [], ◌∷◌, ◌++◌, length, refl, sym, ap, ◌∙◌, arith}
+use Rattle.std.proofs.Common.{◌≡◌, ℕ, ◌≤◌, Bool, true, false, not, ◌&&◌, ◌||◌, if◌then◌else◌, List, [], ◌∷◌, ◌++◌, length, refl, sym, ap, ◌∙◌}
 use Rattle.std.proofs.lemmas.List.{drop-append-le}
-use Rattle.mdb_base.specs.Equality.{same_address}
-use Rattle.mdb_base.specs.declared.address.ServerAddress.{ServerAddress}
 use Rattle.mdb_log.specs.declared.step.Act.{Act}
 use Rattle.mdb_log.specs.declared.step.Act.TheVariants.{Return}
 use Rattle.mdb_log.specs.declared.log.Entry.{Entry}
 use Rattle.mdb_log.specs.Driver.{is_refusal}
 use Rattle.mdb_proxies.specs.declared.asked.Asked.{Asked}
-use Rattle.mdb_proxies.specs.declared.asked.Standing.{Standing}
-use Rattle.mdb_proxies.specs.declared.books.Fate.TheVariants.{Stays, Charged, Gone}
-use Rattle.mdb_proxies.specs.Charge.{requests, returns, ends, settles, is_settled, is_requested, is_charged, since, is_at, counts, is_held, charge}
-use Rattle.mdb_proxies.specs.Tables.{charged_at, charge_in, fate_of, fated, turned, standing_of, standing_if, standings, AreMade}
+use Rattle.mdb_proxies.specs.Charge.{requests, returns, settles, is_settled, is_requested, is_charged, since}
 
 -- the entries since an ask have one more
 pub since-more : (log : List Entry) (e : Entry) (x : Asked) → x.entries ≤ length log → since (log ++ e ∷ []) x ≡ since log x ++ e ∷ []
 since-more log e x h = drop-append-le x.entries log (e ∷ []) h
 
-or-assoc : (a b c : Bool) → (a || b) || c ≡ a || (b || c)
+pub or-assoc : (a b c : Bool) → (a || b) || c ≡ a || (b || c)
 or-assoc true b c = refl
 or-assoc false b c = refl
 
-or-none : (a : Bool) → a || false ≡ a
+pub or-none : (a : Bool) → a || false ≡ a
 or-none true = refl
 or-none false = refl
 

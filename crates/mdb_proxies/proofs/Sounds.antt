@@ -1,11 +1,9 @@
 -- What the steps of a proxy leave sound.
-use Rattle.std.proofs.Common.{◌≡◌, ℕ, ◌+◌, ◌≤◌, ◌<◌, Bool, true, false, not, ◌&&◌, ◌||◌, if◌then◌else◌, ◌==◌, nat_eq, nat_lt, nat_le, List, [], ◌∷◌, ◌++◌, length, sum, get_or, Option, Some, None, IfNone, refl, sym, ap, ◌∙◌, subst, arith, append-nil, length-append}
-use Rattle.std.specs.List.{list_any, list_all, HoldsAt}
+use Rattle.std.proofs.Common.{◌≡◌, ℕ, ◌+◌, ◌≤◌, Bool, true, false, not, ◌&&◌, if◌then◌else◌, ◌==◌, nat_eq, nat_lt, nat_le, List, [], ◌∷◌, ◌++◌, length, sum, get_or, Option, Some, None, refl, sym, ap, ◌∙◌, subst, arith, append-nil, length-append}
+use Rattle.std.specs.List.{list_all, HoldsAt}
 use Rattle.std.specs.HashMap.{get}
 use Rattle.std.proofs.Math.Seq.{get_or-append_seam}
 use Rattle.std.proofs.lemmas.Bool.Decides.{Decides-eqb}
-use Rattle.std.proofs.lemmas.List.Recursion.{or_from_places}
-use Rattle.mdb_base.specs.declared.address.ServerAddress.{ServerAddress}
 use Rattle.mdb_log.specs.declared.log.Entry.{Entry}
 use Rattle.mdb_log.specs.declared.reply.Reply.{Reply}
 use Rattle.mdb_log.specs.declared.step.Step.{Step}
@@ -13,45 +11,47 @@ use Rattle.mdb_log.specs.declared.step.Act.TheVariants.{Request}
 use Rattle.mdb_log.specs.Driver.{is_refusal}
 use Rattle.mdb_proxies.specs.declared.asked.Asked.{Asked}
 use Rattle.mdb_proxies.specs.declared.asked.Standing.{Standing}
+use Rattle.mdb_proxies.specs.declared.asked.Note.{Note}
 use Rattle.mdb_proxies.specs.declared.books.Books.{Books}
-use Rattle.mdb_proxies.specs.declared.books.Fate.{Fate}
-use Rattle.mdb_proxies.specs.declared.books.Fate.TheVariants.{Stays, Charged, Gone}
-use Rattle.mdb_proxies.specs.Charge.{requests, ends, settles}
+use Rattle.mdb_proxies.specs.declared.books.Fate.TheVariants.{Stays}
+use Rattle.mdb_proxies.specs.Charge.{requests}
 use Rattle.mdb_proxies.specs.Shares.{share_of, are_shares}
 use Rattle.mdb_proxies.specs.Handing.{Entered, IsRequestAt}
 use Rattle.mdb_proxies.specs.Recording.{Recorded, SameAsks}
-use Rattle.mdb_proxies.specs.Tables.{charge_in, may_go, some_may_go, is_off_in, fate_of, fated, turned, standing_of, standings, is_fresh, place_of, AreMade, AreSingle, AreWithin, Keeps, Sound}
-use Rattle.mdb_proxies.proofs.Bools.{first}
-use Rattle.mdb_proxies.proofs.Within.{NoneRequested, turned-append, quiet-within}
+use Rattle.mdb_proxies.specs.Tables.{blank, notes_of, may_go, some_may_go, is_off_in, fate_of, turned, standing_of, standings, is_fresh, place_of, AreMade, AreSingle, AreWithin, Keeps, Sound}
+use Rattle.mdb_proxies.proofs.Within.{NoneRequested, turned-append}
 use Rattle.mdb_proxies.proofs.Numbers.{free-none, free-standings}
 use Rattle.mdb_proxies.proofs.Kept.{keeps-entered, keeps-recorded, keeps-forgotten, left-single}
 use Rattle.mdb_proxies.proofs.Hands.{HandsOn, hands-on, push-charge, push-within, off-stays, on-goes}
 use Rattle.mdb_proxies.proofs.Telling.{keeps-same}
+use Rattle.mdb_proxies.proofs.Noted.{notes-append, just-noted, notes-same}
 
 -- books with these lists
 pub sound-of : (log : List Entry) (shares : List ℕ) (os : List Standing) (xs : List Asked) (known : ℕ → Option ℕ) (b : Books) → b.standing.items ≡ os → b.asks.items ≡ xs → ((r : ℕ) → get nat_eq b.known r ≡ known r)
-    → Keeps log os xs known → AreWithin shares os → Sound log shares b
-sound-of log shares os xs known b i j l k w = record {
+    → b.notes.items ≡ notes_of log xs → Keeps log os xs known → AreWithin shares os → Sound log shares b
+sound-of log shares os xs known b i j l n k w = record {
   keeps = record {
     standing = i ∙ k.standing ∙ ap (standings log) (sym j);
     made = subst (λ (ys : List Asked). AreMade (length log) ys) (sym j) k.made;
     single = subst (λ (ys : List Asked). AreSingle ys) (sym j) k.single;
     placed = λ r. l r ∙ k.placed r ∙ ap (place_of r) (sym j);
   };
+  noted = n ∙ ap (notes_of log) (sym j);
   within = subst (λ (ps : List Standing). AreWithin shares ps) (sym i) w;
 }
 
 -- what was told changes nothing
-pub sound-told : (log : List Entry) (shares : List ℕ) (b c : Books) → SameAsks b.asks.items c.asks.items → c.standing ≡ b.standing → c.known ≡ b.known → Sound log shares b → Sound log shares c
-sound-told log shares b c s i l k =
-    sound-of log shares b.standing.items c.asks.items (λ r. get nat_eq b.known r) c (rw i refl) refl (λ r. rw l refl) (keeps-same log b.standing.items b.asks.items c.asks.items (λ r. get nat_eq b.known r) s k.keeps) k.within
+pub sound-told : (log : List Entry) (shares : List ℕ) (b c : Books) → SameAsks b.asks.items c.asks.items → c.standing ≡ b.standing → c.notes ≡ b.notes → c.known ≡ b.known → Sound log shares b → Sound log shares c
+sound-told log shares b c s i n l k =
+    sound-of log shares b.standing.items c.asks.items (λ r. get nat_eq b.known r) c (rw i refl) refl (λ r. rw l refl) ((rw n k.noted) ∙ notes-same log b.asks.items c.asks.items s)
+    (keeps-same log b.standing.items b.asks.items c.asks.items (λ r. get nat_eq b.known r) s k.keeps) k.within
 
 -- ---- an ask was recorded
 
 pub recorded : (log : List Entry) (shares : List ℕ) (b c : Books) (x : Asked) (off behind : Bool) → Sound log shares b → is_fresh x.request b.asks.items ≡ true → x.entries ≡ length log → c.asks.items ≡ b.asks.items ++ x ∷ []
-    → c.standing.items ≡ b.standing.items ++ standing_of x true ∷ [] → ((r : ℕ) → get nat_eq c.known r ≡ (if r == x.request then Some (length b.asks.items) else get nat_eq b.known r))
+    → c.standing.items ≡ b.standing.items ++ standing_of x true ∷ [] → c.notes.items ≡ b.notes.items ++ blank ∷ [] → ((r : ℕ) → get nat_eq c.known r ≡ (if r == x.request then Some (length b.asks.items) else get nat_eq b.known r))
     → is_off_in shares b.standing.items x.tenant x.address ≡ off → behind ≡ some_may_go shares b.standing.items → Recorded log shares c off behind
-recorded log shares b c x off behind s f m i j l o h =
+recorded log shares b c x off behind s f m i j n l o h =
     let os : List Standing = b.standing.items in
     let xs : List Asked = b.asks.items in
     let knows : ℕ → Option ℕ = λ r. if r == x.request then Some (length xs) else get nat_eq b.known r in
@@ -61,7 +61,8 @@ recorded log shares b c x off behind s f m i j l o h =
       newest = x;
       asks = i;
       standing = j ∙ ap (λ (l : List Standing). l ++ standing_of x true ∷ []) s.keeps.standing;
-      sound = sound-of log shares (os ++ standing_of x true ∷ []) (xs ++ x ∷ []) knows c j i l kept (push-within shares os (standing_of x true) refl s.within);
+      sound = sound-of log shares (os ++ standing_of x true ∷ []) (xs ++ x ∷ []) knows c j i l
+          (n ∙ ap (λ (ns : List Note). ns ++ blank ∷ []) s.noted ∙ ap (λ (y : Note). notes_of log xs ++ y ∷ []) (sym (just-noted log x m)) ∙ sym (notes-append log xs x)) kept (push-within shares os (standing_of x true) refl s.within);
       is_off = ap (λ (l : List Standing). is_off_in shares l x.tenant x.address) (sym s.keeps.standing) ∙ o;
       is_behind = ap (some_may_go shares) (sym s.keeps.standing) ∙ sym h;
     }
@@ -71,12 +72,12 @@ pop-within shares os o h w = λ t a. subst (λ (n : ℕ). n ≤ share_of shares 
 
 -- the newest ask was taken back
 pub sound-back : (log : List Entry) (shares : List ℕ) (b c : Books) (xs : List Asked) (x : Asked) → b.asks.items ≡ xs ++ x ∷ [] → b.standing.items ≡ standings log xs ++ standing_of x true ∷ [] → Sound log shares b
-    → c.asks.items ≡ xs → c.standing.items ≡ standings log xs → ((r : ℕ) → get nat_eq c.known r ≡ (if r == x.request then None else get nat_eq b.known r)) → Sound log shares c
-sound-back log shares b c xs x i j s k l m =
+    → c.asks.items ≡ xs → c.standing.items ≡ standings log xs → c.notes.items ≡ notes_of log xs → ((r : ℕ) → get nat_eq c.known r ≡ (if r == x.request then None else get nat_eq b.known r)) → Sound log shares c
+sound-back log shares b c xs x i j s k l n m =
     let knows : ℕ → Option ℕ = λ r. if r == x.request then None else get nat_eq b.known r in
     let kept : Keeps log b.standing.items (xs ++ x ∷ []) (λ r. get nat_eq b.known r) = subst (λ (ys : List Asked). Keeps log b.standing.items ys (λ r. get nat_eq b.known r)) i s.keeps in
     let within : AreWithin shares (standings log xs) = pop-within shares (standings log xs) (standing_of x true) refl (subst (λ (os : List Standing). AreWithin shares os) j s.within) in
-    sound-of log shares (standings log xs) xs knows c l k m (keeps-forgotten log b.standing.items (standings log xs) xs x (λ r. get nat_eq b.known r) knows refl (λ r. refl) kept) within
+    sound-of log shares (standings log xs) xs knows c l k m n (keeps-forgotten log b.standing.items (standings log xs) xs x (λ r. get nat_eq b.known r) knows refl (λ r. refl) kept) within
 
 -- ---- a refused entry
 
@@ -122,8 +123,8 @@ pub record Unasked (log more : List Entry) (shares : List ℕ) (xs : List Asked)
 
 pub sound-refused : (log more : List Entry) (shares : List ℕ) (b c : Books) (xs : List Asked) (x : Asked) (ps : List Standing) (moment i : ℕ) (step : Step) (reply : Reply) → b.asks.items ≡ xs ++ x ∷ []
     → b.standing.items ≡ standings log xs ++ standing_of x true ∷ [] → Sound log shares b → i + 1 ≡ length b.standing.items → IsRequestAt moment b.standing.items i step → Entered step reply log more b.standing.items ps
-    → is_refusal reply ≡ true → c.asks.items ≡ xs → c.standing.items ≡ ps → ((r : ℕ) → get nat_eq c.known r ≡ (if r == x.request then None else get nat_eq b.known r)) → Unasked log more shares xs c
-sound-refused log more shares b c xs x ps moment i step reply a j s l r n f ca cs cm =
+    → is_refusal reply ≡ true → c.asks.items ≡ xs → c.standing.items ≡ ps → c.notes.items ≡ notes_of more xs → ((r : ℕ) → get nat_eq c.known r ≡ (if r == x.request then None else get nat_eq b.known r)) → Unasked log more shares xs c
+sound-refused log more shares b c xs x ps moment i step reply a j s l r n f ca cs cn cm =
     let os : List Standing = standings log xs in
     let o : Standing = standing_of x true in
     let kept : Keeps log b.standing.items (xs ++ x ∷ []) (λ r. get nat_eq b.known r) = subst (λ (ys : List Asked). Keeps log b.standing.items ys (λ r. get nat_eq b.known r)) a s.keeps in
@@ -138,15 +139,15 @@ sound-refused log more shares b c xs x ps moment i step reply a j s l r n f ca c
     let after : Keeps more ps xs knows = keeps-entered log more e os ps xs knows n.grown (left ∙ sym unchanged) before in
     let within : AreWithin shares os = pop-within shares os o refl (subst (λ (l : List Standing). AreWithin shares l) j s.within) in
     record {
-      sound = sound-of more shares ps xs knows c cs ca cm after (subst (λ (l : List Standing). AreWithin shares l) (sym left) within);
+      sound = sound-of more shares ps xs knows c cs ca cm cn after (subst (λ (l : List Standing). AreWithin shares l) (sym left) within);
       same = cs ∙ left;
     }
 
 -- the core took the newest ask
 pub sound-begun : (log more : List Entry) (shares : List ℕ) (b c : Books) (xs : List Asked) (x : Asked) (ps : List Standing) (moment i : ℕ) (step : Step) (reply : Reply)
     → b.standing.items ≡ standings log xs ++ standing_of x true ∷ [] → Sound log shares b → is_off_in shares (standings log xs) x.tenant x.address ≡ false → i + 1 ≡ length b.standing.items → IsRequestAt moment b.standing.items i step
-    → Entered step reply log more b.standing.items ps → SameAsks b.asks.items c.asks.items → c.standing.items ≡ ps → c.known ≡ b.known → Sound more shares c
-sound-begun log more shares b c xs x ps moment i step reply j s off l r n same cs ck =
+    → Entered step reply log more b.standing.items ps → SameAsks b.asks.items c.asks.items → c.standing.items ≡ ps → c.notes.items ≡ notes_of more b.asks.items → c.known ≡ b.known → Sound more shares c
+sound-begun log more shares b c xs x ps moment i step reply j s off l r n same cs cn ck =
     let os : List Standing = standings log xs in
     let o : Standing = standing_of x true in
     let at : i ≡ length os = omega (arith, l, ap length j, length-append os (o ∷ [])) in
@@ -154,7 +155,7 @@ sound-begun log more shares b c xs x ps moment i step reply j s off l r n same c
     let here : (d : Standing) → get_or b.standing.items i d ≡ o = λ d. ap (λ (l : List Standing). get_or l i d) j ∙ ap (λ (k : ℕ). get_or (os ++ o ∷ []) k d) at ∙ get_or-append_seam os o [] d in
     let may : HoldsAt (λ y. may_go shares b.standing.items y ≡ true) b.standing.items i = λ d. subst (λ (y : Standing). may_go shares b.standing.items y ≡ true) (sym (here d)) (subst (λ (l : List Standing). may_go shares l o ≡ true) (sym j) goes) in
     let handed : HandsOn shares more b.standing.items ps b.asks.items (λ r. get nat_eq b.known r) = hands-on shares log more b.standing.items ps b.asks.items (λ r. get nat_eq b.known r) moment i step reply (omega (arith, l)) may r n s.keeps s.within in
-    sound-of more shares ps c.asks.items (λ r. get nat_eq b.known r) c cs refl (λ r. rw ck refl) (keeps-same more ps b.asks.items c.asks.items (λ r. get nat_eq b.known r) same handed.keeps) handed.within
+    sound-of more shares ps c.asks.items (λ r. get nat_eq b.known r) c cs refl (λ r. rw ck refl) (cn ∙ notes-same more b.asks.items c.asks.items same) (keeps-same more ps b.asks.items c.asks.items (λ r. get nat_eq b.known r) same handed.keeps) handed.within
 
 -- ---- where nothing may go on
 
@@ -165,17 +166,10 @@ held-behind false now shares os old new o h e k off g =
     let p : (now ≡ false) × (new ≡ old) = h.1 refl in
     p.0 ∙ sym (ap (some_may_go shares) (p.1 ∙ e) ∙ off-stays shares os o k off g)
 
-pub resumes : (refused changed behind : Bool) (shares : List ℕ) (os ps : List Standing) → (not refused && (changed || behind)) ≡ false → (refused ≡ true → ps ≡ os) → (changed ≡ false → ps ≡ os) → behind ≡ some_may_go shares os → behind ≡ some_may_go shares ps
-resumes true changed behind shares os ps g r c h = h ∙ ap (some_may_go shares) (sym (r refl))
-resumes false changed behind shares os ps g r c h = h ∙ ap (some_may_go shares) (sym (c (first changed behind g)))
-
-any-none : (p : Standing → Bool) (ys : List Standing) → ((k : ℕ) → k < length ys → HoldsAt (λ o. p o ≡ false) ys k) → list_any p ys ≡ false
-any-none p [] h = refl
-any-none p (y ∷ ys) h = or_from_places (list_any p) p refl (λ _ _. refl) (y ∷ ys) y (λ i l. h i l y)
-
-pub next-none : (shares : List ℕ) (os : List Standing) (i : ℕ) (best : Option ℕ) → length os ≤ i → IfNone best ((k : ℕ) → k < i → HoldsAt (λ o. may_go shares os o ≡ false) os k) → IfNone best (some_may_go shares os ≡ false)
-next-none shares os i (Some b) l h = h
-next-none shares os i None l h = any-none (may_go shares os) os (λ k m. h k (omega (arith, l, m)))
+-- a refused entry leaves it as it was
+pub rests : (r refused behind : Bool) (shares : List ℕ) (os ps : List Standing) → not r ≡ false → r ≡ refused → (refused ≡ true → ps ≡ os) → behind ≡ some_may_go shares os → behind ≡ some_may_go shares ps
+rests true refused behind shares os ps g e k h = h ∙ ap (some_may_go shares) (sym (k (sym e)))
+rests false refused behind shares os ps g e k h = absurd (let z : true ≡ false = g in cc)
 
 -- ---- shares
 

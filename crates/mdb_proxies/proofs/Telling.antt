@@ -1,12 +1,11 @@
 -- What was told of asks changes nothing that stands.
-use Rattle.std.proofs.Common.{◌≡◌, ℕ, ◌+◌, ◌≤◌, ◌<◌, Bool, true, false, not, ◌&&◌, if◌then◌else◌, ◌==◌, List, [], ◌∷◌, ◌++◌, length, get_or, drop, Option, Some, option_map, refl, sym, ap, ◌∙◌, subst, arith, suc, zero}
+use Rattle.std.proofs.Common.{◌≡◌, ℕ, ◌+◌, ◌≤◌, ◌<◌, Bool, true, false, not, ◌&&◌, if◌then◌else◌, ◌==◌, List, [], ◌∷◌, length, get_or, drop, Option, Some, option_map, refl, sym, ap, ◌∙◌, subst, arith, suc, zero}
 use Rattle.std.proofs.Math.ListN.{set}
-use Rattle.mdb_base.specs.declared.address.ServerAddress.{ServerAddress}
 use Rattle.mdb_log.specs.declared.log.Entry.{Entry}
 use Rattle.mdb_proxies.specs.declared.asked.Asked.{Asked}
 use Rattle.mdb_proxies.specs.declared.asked.Standing.{Standing}
 use Rattle.mdb_proxies.specs.Charge.{since, is_held, counts, is_requested, is_charged}
-use Rattle.mdb_proxies.specs.Tables.{standing_of, standing_if, standings, is_fresh, place_of, AreSingle, AreMade, Keeps}
+use Rattle.mdb_proxies.specs.Tables.{standing_if, standings, is_fresh, place_of, AreSingle, AreMade, Keeps}
 use Rattle.mdb_proxies.specs.Recording.{SameAsks}
 
 standing-same : (h c : Bool) (x y : Asked) (os : List Standing) → x.tenant ≡ y.tenant → x.request ≡ y.request → x.address ≡ y.address → standing_if h c x os ≡ standing_if h c y os
@@ -14,7 +13,7 @@ standing-same true c x y os t r a = cc
 standing-same false true x y os t r a = cc
 standing-same false false x y os t r a = refl
 
-standings-same : (log : List Entry) (xs ys : List Asked) → SameAsks xs ys → standings log xs ≡ standings log ys
+pub standings-same : (log : List Entry) (xs ys : List Asked) → SameAsks xs ys → standings log xs ≡ standings log ys
 standings-same log [] [] s = refl
 standings-same log [] (y ∷ ys) s = absurd s
 standings-same log (x ∷ xs) [] s = absurd s

@@ -1,15 +1,13 @@
 -- The standing asks after one more entry are those that the entry left.
-use Rattle.std.proofs.Common.{◌≡◌, ℕ, ◌+◌, ◌≤◌, ◌<◌, Bool, true, false, not, ◌&&◌, ◌||◌, if◌then◌else◌, ◌==◌, List, [], ◌∷◌, ◌++◌, length, refl, sym, ap, ◌∙◌, arith}
-use Rattle.mdb_base.specs.Equality.{same_address}
+use Rattle.std.proofs.Common.{◌≡◌, ℕ, ◌+◌, Bool, true, false, not, ◌&&◌, ◌||◌, if◌then◌else◌, List, [], ◌∷◌, ◌++◌, length, refl, sym, ap, ◌∙◌, arith}
 use Rattle.mdb_base.specs.declared.address.ServerAddress.{ServerAddress}
 use Rattle.mdb_log.specs.declared.log.Entry.{Entry}
 use Rattle.mdb_log.specs.Driver.{is_refusal}
 use Rattle.mdb_proxies.specs.declared.asked.Asked.{Asked}
 use Rattle.mdb_proxies.specs.declared.asked.Standing.{Standing}
-use Rattle.mdb_proxies.specs.declared.books.Fate.{Fate}
 use Rattle.mdb_proxies.specs.declared.books.Fate.TheVariants.{Stays, Charged, Gone}
-use Rattle.mdb_proxies.specs.Charge.{requests, returns, ends, settles, is_requested, is_charged, since, is_at, counts, is_held, charge}
-use Rattle.mdb_proxies.specs.Tables.{standing_at, charged_at, charge_in, fate_of, fated, turned, standing_of, standing_if, standings, AreMade}
+use Rattle.mdb_proxies.specs.Charge.{requests, ends, settles, is_requested, is_charged, since, is_at, charge}
+use Rattle.mdb_proxies.specs.Tables.{charge_in, fated, turned, standing_of, standing_if, standings, AreMade}
 use Rattle.mdb_proxies.proofs.Logged.{since-more, requested-more, charged-more, unrequested, request-no-return}
 
 -- what an entry makes of an ask that was requested (h) and charged (c), by what it is: the request (q), refused (f), an end (n), settling (s)

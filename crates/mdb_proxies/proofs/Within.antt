@@ -1,20 +1,18 @@
 -- No tenant gets past its share.
-use Rattle.std.proofs.Common.{◌≡◌, ℕ, ◌+◌, ◌≤◌, ◌<◌, Bool, true, false, not, ◌&&◌, ◌||◌, if◌then◌else◌, ◌==◌, nat_lt, nat_eq, ◌⊎◌, inl, inr, List, [], ◌∷◌, ◌++◌, length, slice_index_or, take, drop, refl, sym, ap, ◌∙◌, subst, arith}
-use Rattle.std.specs.List.{list_any}
+use Rattle.std.proofs.Common.{◌≡◌, ℕ, ◌+◌, ◌≤◌, ◌<◌, Bool, true, false, not, ◌&&◌, ◌||◌, if◌then◌else◌, ◌==◌, nat_lt, nat_eq, ◌⊎◌, inl, inr, List, [], ◌∷◌, ◌++◌, refl, ap, ◌∙◌, subst, arith}
 use Rattle.std.specs.Cmp.Lexicographic.{pointwise, bytes_decides}
 use Rattle.std.proofs.lemmas.Bool.Decides.{Decides-eqb, Decides-ltb}
 use Rattle.mdb_base.specs.Equality.{same_address}
 use Rattle.mdb_base.specs.declared.address.ServerAddress.{ServerAddress}
 use Rattle.mdb_log.specs.declared.log.Entry.{Entry}
 use Rattle.mdb_log.specs.Driver.{is_refusal}
-use Rattle.mdb_proxies.specs.declared.asked.Asked.{Asked}
 use Rattle.mdb_proxies.specs.declared.asked.Standing.{Standing}
 use Rattle.mdb_proxies.specs.declared.books.Fate.{Fate}
 use Rattle.mdb_proxies.specs.declared.books.Fate.TheVariants.{Stays, Charged, Gone}
 use Rattle.mdb_proxies.specs.Shares.{share_of}
-use Rattle.mdb_proxies.specs.Charge.{requests, ends, settles, is_requested, is_charged, since, is_held, counts}
+use Rattle.mdb_proxies.specs.Charge.{requests, ends, settles}
 use Rattle.mdb_proxies.proofs.Bools.{left, right}
-use Rattle.mdb_proxies.specs.Tables.{standing_at, charged_at, charge_in, held_in, may_go, some_may_go, fate_of, fated, turned, standing_of, standing_if, standings, is_fresh, AreSingle, AreWithin}
+use Rattle.mdb_proxies.specs.Tables.{standing_at, charged_at, charge_in, held_in, may_go, fate_of, fated, turned, AreWithin}
 
 -- ---- entries that are none of the requests of the standing asks
 
@@ -53,7 +51,7 @@ quiet-within shares e os n w = λ t a. omega (arith, quiet-charge e os t a n, w 
 
 -- ---- the entry of an ask that is handed on
 
-handed-fate : (e : Entry) (o : Standing) → o.held ≡ true → requests o.request e.step.act ≡ true → (fate_of e o ≡ Charged) ⊎ (fate_of e o ≡ Gone)
+pub handed-fate : (e : Entry) (o : Standing) → o.held ≡ true → requests o.request e.step.act ≡ true → (fate_of e o ≡ Charged) ⊎ (fate_of e o ≡ Gone)
 handed-fate e o h q = rw (h, q) (go (is_refusal e.reply || ends o.request e.facts))
   where
     go : (b : Bool) → ((if b then Gone else Charged) ≡ Charged) ⊎ ((if b then Gone else Charged) ≡ Gone)

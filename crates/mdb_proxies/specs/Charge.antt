@@ -1,5 +1,5 @@
 -- What a log says of asks: which are held back, and which count against the share of their tenant.
-use Rattle.std.specs.Prelude.{ℕ, ◌+◌, Bool, true, false, not, ◌&&◌, ◌||◌, if◌then◌else◌, ◌==◌, nat_lt, List, [], ◌∷◌, drop}
+use Rattle.std.specs.Prelude.{ℕ, ◌+◌, Bool, false, not, ◌&&◌, ◌||◌, if◌then◌else◌, ◌==◌, nat_lt, List, [], ◌∷◌, drop, Option, Some, None}
 use Rattle.std.specs.List.{list_any}
 use Rattle.mdb_base.specs.Equality.{same_address}
 use Rattle.mdb_base.specs.declared.address.ServerAddress.{ServerAddress}
@@ -76,6 +76,11 @@ abbrev pub held_back : List Asked → List Entry → ℕ → ServerAddress → L
 held_back [] log t a = []
 held_back (x ∷ xs) log t a = if is_at t a x && is_held log x then x ∷ held_back xs log t a else held_back xs log t a
 
+-- an ask of the tenant at the address is held back
+abbrev pub is_held_at : List Asked → List Entry → ℕ → ServerAddress → Bool
+is_held_at [] log t a = false
+is_held_at (x ∷ xs) log t a = (is_at t a x && is_held log x) || is_held_at xs log t a
+
 -- the ask is held back, though the charge of its tenant there is below the share
 abbrev pub lags : List ℕ → List Asked → List Entry → Asked → Bool
 lags shares asks log x = is_held log x && nat_lt (charge asks log x.tenant x.address) (share_of shares x.tenant)
@@ -88,3 +93,17 @@ any_lags shares asks log (x ∷ xs) = lags shares asks log x || any_lags shares 
 -- Behind: some tenant has an ask held back at an address where its charge is below its share.
 abbrev pub is_behind : List ℕ → List Asked → List Entry → Bool
 is_behind shares asks log = any_lags shares asks log asks
+
+-- of two asks the one that goes first: that of the tenant with the lesser number, and the older one of one tenant
+abbrev pub sooner : Asked → Option Asked → Asked
+sooner x None = x
+sooner x (Some y) = if nat_lt y.tenant x.tenant then y else x
+
+-- the one of these asks that goes first, of those that lag
+abbrev pub first_of : List ℕ → List Asked → List Entry → List Asked → Option Asked
+first_of shares asks log [] = None
+first_of shares asks log (x ∷ xs) = if lags shares asks log x then Some (sooner x (first_of shares asks log xs)) else first_of shares asks log xs
+
+-- Next: the ask that is handed on before all others. It lags, and is the oldest such ask of the least tenant that has one.
+abbrev pub next_ask : List ℕ → List Asked → List Entry → Option Asked
+next_ask shares asks log = first_of shares asks log asks

@@ -1,7 +1,11 @@
 pub mod Shares
 pub mod Charge
+pub mod Telling
+pub mod Entries
 pub mod Tables
+pub mod Order
 pub mod Handing
 pub mod Recording
 pub mod Passing
 pub mod View
+pub mod Replies

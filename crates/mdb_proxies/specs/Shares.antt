@@ -1,5 +1,5 @@
 -- Which shares a proxy takes.
-use Rattle.std.specs.Prelude.{ℕ, Bool, true, ◌&&◌, nat_lt, nat_le, List, length, sum, slice_index}
+use Rattle.std.specs.Prelude.{ℕ, Bool, ◌&&◌, nat_lt, nat_le, List, length, sum, slice_index}
 use Rattle.std.specs.List.{list_all}
 
 -- The shares are kept: of 1 to 64 tenants, each with some of it, and no more in all than the pool has.

@@ -1,9 +1,11 @@
 -- What the tables of a proxy hold.
-use Rattle.std.specs.Prelude.{◌≡◌, ℕ, ◌+◌, ◌≤◌, ◌<◌, Bool, true, false, not, ◌&&◌, ◌||◌, if◌then◌else◌, ◌==◌, nat_eq, nat_lt, nat_le, List, [], ◌∷◌, length, Option, Some, None, option_map, ⊤}
-use Rattle.std.specs.List.{list_any}
+use Rattle.std.specs.Prelude.{◌≡◌, ℕ, ◌+◌, ◌≤◌, ◌<◌, Bool, true, false, not, ◌&&◌, ◌||◌, if◌then◌else◌, ◌==◌, nat_eq, nat_lt, nat_le, List, [], ◌∷◌, length, Option, Some, None, is_some, option_map, ⊤, zero, suc}
+use Rattle.std.specs.List.{list_any, HoldsAt}
 use Rattle.std.specs.HashMap.{get}
 use Rattle.mdb_base.specs.Equality.{same_address}
 use Rattle.mdb_base.specs.declared.address.ServerAddress.{ServerAddress}
+use Rattle.mdb_log.specs.declared.step.Act.{Act}
+use Rattle.mdb_log.specs.declared.step.Act.TheVariants.{Request, Return}
 use Rattle.mdb_log.specs.declared.log.Entry.{Entry}
 use Rattle.mdb_log.specs.Driver.{is_refusal}
 use Rattle.mdb_proxies.specs.declared.asked.Asked.{Asked}
@@ -12,8 +14,11 @@ use Rattle.mdb_proxies.specs.declared.asked.Note.{Note}
 use Rattle.mdb_proxies.specs.declared.books.Books.{Books}
 use Rattle.mdb_proxies.specs.declared.books.Fate.{Fate}
 use Rattle.mdb_proxies.specs.declared.books.Fate.TheVariants.{Stays, Charged, Gone}
+use Rattle.mdb_proxies.specs.declared.freed.Freed.{Freed}
+use Rattle.mdb_proxies.specs.declared.freed.Freed.TheVariants.{Nowhere, At, Anywhere}
 use Rattle.mdb_proxies.specs.Shares.{share_of}
 use Rattle.mdb_proxies.specs.Charge.{requests, ends, settles, since, is_held, counts}
+use Rattle.mdb_proxies.specs.Telling.{is_finished}
 
 -- ---- the standing asks
 
@@ -73,10 +78,83 @@ abbrev pub standings : List Entry → List Asked → List Standing
 standings log [] = []
 standings log (x ∷ xs) = standing_if (is_held log x) (counts log x) x (standings log xs)
 
+-- of two standing asks the one that goes first
+abbrev pub sooner_in : Standing → Option Standing → Standing
+sooner_in o None = o
+sooner_in o (Some p) = if nat_lt p.tenant o.tenant then p else o
+
+-- the one of these standing asks that goes first, of those that may go
+abbrev pub next_in : List ℕ → List Standing → List Standing → Option Standing
+next_in shares os [] = None
+next_in shares os (o ∷ ps) = if may_go shares os o then Some (sooner_in o (next_in shares os ps)) else next_in shares os ps
+
+-- the best so far is at this place
+abbrev pub IsBest : List ℕ → List Standing → List Standing → Option ℕ → Type 0
+IsBest shares os ps None = next_in shares os ps ≡ None
+IsBest shares os ps (Some i) = (i < length os) × HoldsAt (λ o. next_in shares os ps ≡ Some o) os i
+
+-- ---- where charges fell
+
+-- the charge of the tenant at the address may have fallen
+abbrev pub is_freed : Freed → ℕ → ServerAddress → Bool
+is_freed Nowhere t a = false
+is_freed (At o) t a = standing_at t a o
+is_freed Anywhere t a = true
+
+-- elsewhere no charge fell
+abbrev pub KeepsCharge : Freed → List Standing → List Standing → Type 0
+KeepsCharge f os ps = (t : ℕ) (a : ServerAddress) → is_freed f t a ≡ false → charge_in os t a ≤ charge_in ps t a
+
+-- the ask may go, and stands where no charge fell
+abbrev pub goes_elsewhere : List ℕ → List Standing → Freed → Standing → Bool
+goes_elsewhere shares os f o = may_go shares os o && not (is_freed f o.tenant o.address)
+
+-- what may go stands where a charge fell
+abbrev pub IsOnly : List ℕ → List Standing → Freed → Type 0
+IsOnly shares os f = list_any (goes_elsewhere shares os f) os ≡ false
+
 -- ---- the notes
 
 abbrev pub blank : Note
-blank = record { kept = None; returned = false }
+blank = record { handed = None; returned = false }
+
+-- the place in the log of the first of these entries that is the request, where they begin at place n
+abbrev pub place_from : ℕ → ℕ → List Entry → Option ℕ
+place_from r n [] = None
+place_from r n (e ∷ es) = if requests r e.step.act then Some n else place_from r (n + 1) es
+
+abbrev pub note_of : List Entry → Asked → Note
+note_of log x = record { handed = place_from x.request x.entries (since log x); returned = is_finished log x }
+
+abbrev pub notes_of : List Entry → List Asked → List Note
+notes_of log [] = []
+notes_of log (x ∷ xs) = note_of log x ∷ notes_of log xs
+
+-- the ask was handed on by the entry at this place, unless an earlier one did
+abbrev pub handed_at : ℕ → Note → Note
+handed_at i n = if is_some n.handed then n else record n { handed = Some i }
+
+-- the caller returned the connection
+abbrev pub taken_back : Note → Note
+taken_back n = record n { returned = true }
+
+abbrev pub map_at : ℕ → (Note → Note) → List Note → List Note
+map_at i f [] = []
+map_at zero f (n ∷ ns) = f n ∷ ns
+map_at (suc i) f (n ∷ ns) = n ∷ map_at i f ns
+
+abbrev pub noted_at : Option ℕ → (Note → Note) → List Note → List Note
+noted_at None f ns = ns
+noted_at (Some i) f ns = map_at i f ns
+
+-- what an entry at place i of the log makes of the notes, by its act and whether it was refused
+abbrev pub noted_by : Act → Bool → ℕ → (ℕ → Option ℕ) → List Note → List Note
+noted_by (Request r a) refused i known ns = noted_at (known r) (handed_at i) ns
+noted_by (Return r used) refused i known ns = if refused then ns else noted_at (known r) taken_back ns
+noted_by _ refused i known ns = ns
+
+abbrev pub noted : Entry → ℕ → (ℕ → Option ℕ) → List Note → List Note
+noted e i known ns = noted_by e.step.act (is_refusal e.reply) i known ns
 
 -- ---- the numbers
 
@@ -115,9 +193,14 @@ KeptBy log b = Keeps log b.standing.items b.asks.items (λ r. get nat_eq b.known
 abbrev pub AreWithin : List ℕ → List Standing → Type 0
 AreWithin shares os = (t : ℕ) (a : ServerAddress) → charge_in os t a ≤ share_of shares t
 
+-- the notes are those of the log
+abbrev pub NotedBy : List Entry → Books → Type 0
+NotedBy log b = b.notes.items ≡ notes_of log b.asks.items
+
 -- The books are those of the log, and no tenant is past its share.
 pub record Sound (log : List Entry) (shares : List ℕ) (b : Books) : Type 0 where
   pub keeps : KeptBy log b
+  pub noted : NotedBy log b
   pub within : AreWithin shares b.standing.items
 
 -- a new ask of the tenant is held back: its charge is not below its share, or an earlier ask is held back there

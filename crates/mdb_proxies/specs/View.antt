@@ -1,14 +1,10 @@
 -- What contracts see of a proxy.
-use Rattle.std.specs.Prelude.{◌≡◌, ◌≢◌, ℕ, ◌≤◌, Bool, true, false, List, [], ⊤}
+use Rattle.std.specs.Prelude.{◌≡◌, ◌≢◌, ℕ, ◌≤◌, false, List, []}
 use Rattle.mdb_base.specs.declared.address.ServerAddress.{ServerAddress}
 use Rattle.mdb_log.specs.declared.log.Entry.{Entry}
 use Rattle.mdb_proxies.specs.declared.asked.Asked.{Asked}
-use Rattle.mdb_proxies.specs.declared.step.ProxyAct.{ProxyAct}
-use Rattle.mdb_proxies.specs.declared.step.ProxyAct.TheVariants.{Ask, Collect, Finish, Pass}
 use Rattle.mdb_proxies.specs.Shares.{share_of}
 use Rattle.mdb_proxies.specs.Charge.{charge, held_back, is_behind}
-use Rattle.mdb_proxies.specs.Tables.{is_fresh}
-use Rattle.mdb_proxies.specs.Passing.{is_passed}
 
 -- the shares of the tenants by their numbers, the asks in their order, and the log of the core
 pub record ProxyView : Type 0 where
@@ -20,10 +16,3 @@ pub record ProxyView : Type 0 where
 pub record KeepsShares (v : ProxyView) : Type 0 where
   pub within : (t : ℕ) (a : ServerAddress) → charge v.asks v.log t a ≤ share_of v.shares t
   pub full : is_behind v.shares v.asks v.log ≡ false → (t : ℕ) (a : ServerAddress) → held_back v.asks v.log t a ≢ [] → charge v.asks v.log t a ≡ share_of v.shares t
-
--- the act is not refused for its number or its kind
-abbrev pub MayCome : List Asked → ProxyAct → Type 0
-MayCome asks (Ask t r a) = is_fresh r asks ≡ true
-MayCome asks (Collect r) = is_fresh r asks ≡ false
-MayCome asks (Finish r used) = ⊤
-MayCome asks (Pass act) = is_passed act ≡ true

@@ -1,7 +1,6 @@
 //! What tenants asked for.
 
 use mdb_base::ServerAddress;
-use mdb_log::Reply;
 
 /// One ask that wasn't refused when it was made.
 #[derive(Debug, Drop)]
@@ -26,11 +25,11 @@ pub struct Standing {
     pub held: bool,
 }
 
-// What became of an ask, beside what the list of asks says.
-#[derive(Drop)]
+// What the log says of an ask.
+#[derive(Clone, Copy)]
 pub struct Note {
-    // The reply of the entry that handed it on after it was held back, until its caller is told.
-    pub kept: Option<Reply>,
+    // The place in the log of the entry that handed it on.
+    pub handed: Option<usize>,
     // Its caller returned the connection.
     pub returned: bool,
 }

@@ -1,14 +1,15 @@
 //! The books of a proxy: all asks in their order, those that are standing, and where each stands by its number.
 
-ghost use Rattle.std.specs.Prelude.{◌≡◌, ℕ, ◌<◌, ◌++◌, ◌∷◌, [], true, false, not, ◌||◌, length, nat_eq, slice_index, IsSome, IfNone, IfSome, IfOk, OnOk, OnErr, MatchOption};
+ghost use Rattle.std.specs.Prelude.{◌≡◌, ◌<◌, ◌++◌, ◌∷◌, [], List, false, not, ◌||◌, length, IfSome};
 ghost use Rattle.std.specs.List.{list_any, HoldsAt};
-ghost use Rattle.std.specs.HashMap.{get};
 ghost use Rattle.mdb_log.specs.Driver.{is_refusal};
 ghost use Rattle.mdb_proxies.specs.Shares.{share_of};
 ghost use Rattle.mdb_proxies.specs.Charge.{requests, returns, is_end, ends, settles};
-ghost use Rattle.mdb_proxies.specs.Tables.{standing_at, charged_at, held_at, charge_in, may_go, some_may_go, fate_of, turned};
+ghost use Rattle.mdb_proxies.specs.declared.asked.Standing.{Standing as StandingRecord};
+ghost use Rattle.mdb_proxies.specs.Tables.{charged_at, held_at, charge_in, may_go, IsBest, fate_of, turned, KeepsCharge};
 
 use crate::asked::{Asked, Note, Standing};
+use crate::freed::Freed;
 use mdb_base::ServerAddress;
 use mdb_events::Fact;
 use mdb_log::{Act, Entry, Reply};
@@ -39,7 +40,7 @@ fn is_charged_at(standing: &Standing, tenant: u32, address: &ServerAddress) -> b
     standing.tenant == tenant && standing.address.is(address) && !standing.held
 }
 
-fn is_held_at(standing: &Standing, tenant: u32, address: &ServerAddress) -> bool
+pub fn is_held_at(standing: &Standing, tenant: u32, address: &ServerAddress) -> bool
     ensures { result ≡ held_at tenant address.now standing.now }
 {
     standing.tenant == tenant && standing.address.is(address) && standing.held
@@ -77,28 +78,35 @@ fn may_go(shares: &[u32], standing: &[Standing], one: &Standing) -> bool
     one.held && charge(standing, one.tenant, &one.address) < share_of(shares, one.tenant)
 }
 
-// A tenant of this number comes before the best one so far.
-fn comes_first(best: Option<usize>, least: u32, tenant: u32) -> bool
-    ensures { result ≡ false → IsSome best }
+// The better of the best place so far and of one more: where the ask there may go, and its tenant has a lesser number.
+fn better(shares: &[u32], standing: &[Standing], best: Option<usize>, at: usize) -> Option<usize>
+    requires at { at < length standing.now }
+    requires best { IfSome best (λ b. b < length standing.now) }
+    ensures { HoldsAt (λ o. (ps : List StandingRecord) → IsBest shares.now standing.now ps best → IsBest shares.now standing.now (ps ++ o ∷ []) result) standing.now at }
 {
+    let one = &standing[at];
     match best {
-        Some(_) => tenant < least,
-        None => true,
+        Some(best) => {
+            if standing[best].tenant <= one.tenant {
+                return Some(best);
+            }
+        }
+        None => {}
+    }
+    if may_go(shares, standing, one) {
+        Some(at)
+    } else {
+        best
     }
 }
 
 // The place of the next standing ask to hand on: the first one of the tenant with the least number.
-pub fn next(shares: &[u32], standing: &[Standing]) -> Option<usize>
-    ensures none { IfNone result (some_may_go shares.now standing.now ≡ false) }
-    ensures some { IfSome result (λ i. (i < length standing.now) × HoldsAt (λ o. may_go shares.now standing.now o ≡ true) standing.now i) }
+pub fn best_of_all(shares: &[u32], standing: &[Standing]) -> Option<usize>
+    ensures { IsBest shares.now standing.now standing.now result }
 {
     let mut best: Option<usize> = None;
-    let mut least = u32::MAX;
-    for (i, one) in standing.iter().enumerate() {
-        if comes_first(best, least, one.tenant) && may_go(shares, standing, one) {
-            best = Some(i);
-            least = one.tenant;
-        }
+    for at in 0..standing.len() {
+        best = better(shares, standing, best, at);
     }
     best
 }
@@ -172,12 +180,12 @@ fn fate_by(standing: &Standing, entry: &Entry) -> Fate
     }
 }
 
-// What the newest entry makes of the standing asks, and whether it changes them.
-pub fn turn(standing: &mut Vec<Standing>, entry: &Entry) -> bool
+// What the newest entry makes of the standing asks, and where it frees some of a share.
+pub fn turn(standing: &mut Vec<Standing>, entry: &Entry) -> Freed
     ensures turned { standing.new.items ≡ turned entry.now standing.old.items }
-    ensures same { result ≡ false → standing.new.items ≡ standing.old.items }
+    ensures freed { KeepsCharge result standing.old.items standing.new.items }
 {
-    let mut changed = false;
+    let mut freed = Freed::Nowhere;
     let mut at = 0;
     while at < standing.len() {
         match fate_by(&standing[at], entry) {
@@ -185,13 +193,12 @@ pub fn turn(standing: &mut Vec<Standing>, entry: &Entry) -> bool
             Fate::Charged => {
                 standing[at].held = false;
                 at += 1;
-                changed = true;
             }
             Fate::Gone => {
-                standing.remove(at);
-                changed = true;
+                let gone = standing.remove(at);
+                freed = freed.and_gone(gone);
             }
         }
     }
-    changed
+    freed
 }

@@ -1,90 +1,27 @@
-//! What callers of requests ask of a proxy.
+//! What the callers of requests ask of a proxy.
 
-ghost use Rattle.std.specs.Prelude.{◌≡◌, ℕ, ◌==◌, ◌&&◌, true, false, IfSome, length, nat_eq, Some, OnOk, OnErr, IsTrue};
-ghost use Rattle.std.specs.HashMap.{get};
-ghost use Rattle.mdb_proxies.specs.Recording.{SameAsks};
-ghost use Rattle.mdb_proxies.specs.Tables.{Sound, some_may_go, is_fresh};
+ghost use Rattle.std.specs.Prelude.{◌≡◌, ◌<◌, true, length, IfOk, OnErr};
+ghost use Rattle.mdb_log.specs.declared.reply.Reply.{Reply as ReplyRecord};
+ghost use Rattle.mdb_log.specs.declared.step.Act.TheVariants.{Collect as CoreCollect};
+ghost use Rattle.mdb_proxies.specs.declared.step.ProxyAct.TheVariants.{Collect, Finish};
+ghost use Rattle.mdb_proxies.specs.declared.step.ProxyReply.TheVariants.{Core as Tells};
+ghost use Rattle.mdb_proxies.specs.Telling.{ask_of, tells};
+ghost use Rattle.mdb_proxies.specs.Entries.{GoesOn, Enters};
+ghost use Rattle.mdb_proxies.specs.Replies.{Performs, is_collectable};
+ghost use Rattle.mdb_proxies.specs.Recording.{told_at, tell_at};
+ghost use Rattle.mdb_proxies.specs.Tables.{Sound, some_may_go};
 
-use crate::books::{Books, is_refused};
-use crate::handing::{Parts, tells};
+use crate::handing::Parts;
 use crate::step::ProxyReply;
+use crate::told::tells;
 use mdb_base::{Moment, OutOfMemory};
 use mdb_log::{Act, Core, Reply, Use};
 use std::alloc::Global;
 
-impl Books {
-    fn place(&self, request: u32) -> Option<usize>
-        ensures { result ≡ get nat_eq self.now.known request }
-    {
-        self.known.get(&request).copied()
-    }
-
-    // The request was asked, and its caller was neither told its outcome nor returned its connection.
-    pub fn is_collectable(&self, request: u32) -> bool
-        ensures { result ≡ true → (i : ℕ) × (get nat_eq self.now.known request ≡ Some i) }
-    {
-        match self.place(request) {
-            None => false,
-            Some(place) => self.is_untold(place) && !self.is_returned(place),
-        }
-    }
-
-    fn is_untold(&self, place: usize) -> bool {
-        match self.asks.get(place) {
-            Some(ask) => !ask.told,
-            None => false,
-        }
-    }
-
-    fn is_returned(&self, place: usize) -> bool {
-        match self.notes.get(place) {
-            Some(note) => note.returned,
-            None => false,
-        }
-    }
-
-    fn is_held(&self, request: u32) -> bool {
-        self.standing
-            .iter()
-            .any(|one| one.request == request && one.held)
-    }
-
-    fn has_kept(&self, place: usize) -> bool {
-        match self.notes.get(place) {
-            Some(note) => note.kept.is_some(),
-            None => false,
-        }
-    }
-
-    // The reply that was kept for the caller of the ask at this place.
-    fn take_kept(&mut self, place: usize) -> Option<Reply>
-        ensures asks { self.new.asks ≡ self.old.asks }
-        ensures standing { self.new.standing ≡ self.old.standing }
-        ensures known { self.new.known ≡ self.old.known }
-    {
-        if place < self.notes.len() {
-            return self.notes[place].kept.take();
-        }
-        None
-    }
-
-    // The connection of the request came back.
-    fn finish(&mut self, request: u32)
-        ensures asks { self.new.asks ≡ self.old.asks }
-        ensures standing { self.new.standing ≡ self.old.standing }
-        ensures known { self.new.known ≡ self.old.known }
-    {
-        if let Some(place) = self.place(request) {
-            if place < self.notes.len() {
-                self.notes[place].returned = true;
-            }
-        }
-    }
-}
-
 impl<C: Core> Parts<C> {
-    // The outcome of the ask at this place was told, if it was.
+    // The caller of the ask at this place was told what it came to, if so.
     fn tell(&mut self, place: usize, told: bool)
+        requires place { place < length self.old.books.asks.items }
         requires stands { C.stands self.old.core self.old.log }
         requires sound { Sound self.old.log self.old.shares.items self.old.books }
         requires behind { self.old.behind ≡ some_may_go self.old.shares.items self.old.books.standing.items }
@@ -92,18 +29,24 @@ impl<C: Core> Parts<C> {
         ensures sound { Sound self.new.log self.new.shares.items self.new.books }
         ensures shares { self.new.shares ≡ self.old.shares }
         ensures behind { self.new.behind ≡ some_may_go self.new.shares.items self.new.books.standing.items }
+        ensures log { self.new.log ≡ self.old.log }
+        ensures asks { self.new.books.asks.items ≡ tell_at told place self.old.books.asks.items }
     {
         if !told {
-            return;
-        }
-        if place >= self.books.asks.len() {
             return;
         }
         self.books.tell(place);
     }
 
-    // The reply that was kept for the caller of the ask at this place, who is told now.
-    fn release(&mut self, place: usize) -> ProxyReply
+    // The kept reply is told to the caller of the ask at this place.
+    fn release(
+        &mut self,
+        alloc: Global,
+        moment: Moment,
+        place: usize,
+        kept: Reply,
+    ) -> Result<ProxyReply, OutOfMemory>
+        requires place { place < length self.old.books.asks.items }
         requires stands { C.stands self.old.core self.old.log }
         requires sound { Sound self.old.log self.old.shares.items self.old.books }
         requires behind { self.old.behind ≡ some_may_go self.old.shares.items self.old.books.standing.items }
@@ -111,11 +54,44 @@ impl<C: Core> Parts<C> {
         ensures sound { Sound self.new.log self.new.shares.items self.new.books }
         ensures shares { self.new.shares ≡ self.old.shares }
         ensures behind { self.new.behind ≡ some_may_go self.new.shares.items self.new.books.standing.items }
+        ensures ok { IfOk result (λ reply. (reply ≡ Tells kept) × (self.new.books.asks.items ≡ told_at place self.old.books.asks.items) × GoesOn moment self.old.shares.items self.old.books.asks.items self.old.log self.new.log) }
+        ensures err { OnErr result ((self.new.log ≡ self.old.log) × (self.new.books.asks ≡ self.old.books.asks)) }
     {
-        match self.books.take_kept(place) {
-            Some(reply) => ProxyReply::Core(reply),
-            None => ProxyReply::Held,
+        match self.catch_up(alloc, moment) {
+            Ok(()) => {
+                self.tell(place, true);
+                Ok(ProxyReply::Core(kept))
+            }
+            Err(OutOfMemory) => Err(OutOfMemory),
         }
+    }
+
+    // The caller of the ask at this place asks the core.
+    fn ask_core(
+        &mut self,
+        alloc: Global,
+        moment: Moment,
+        request: u32,
+        place: usize,
+    ) -> Result<ProxyReply, OutOfMemory>
+        requires place { place < length self.old.books.asks.items }
+        requires stands { C.stands self.old.core self.old.log }
+        requires sound { Sound self.old.log self.old.shares.items self.old.books }
+        requires behind { self.old.behind ≡ some_may_go self.old.shares.items self.old.books.standing.items }
+        ensures stands { C.stands self.new.core self.new.log }
+        ensures sound { Sound self.new.log self.new.shares.items self.new.books }
+        ensures shares { self.new.shares ≡ self.old.shares }
+        ensures behind { self.new.behind ≡ some_may_go self.new.shares.items self.new.books.standing.items }
+        ensures ok { IfOk result (λ reply. (told : ReplyRecord) × (reply ≡ Tells told) × (self.new.books.asks.items ≡ tell_at (tells told) place self.old.books.asks.items) × Enters moment self.old.shares.items self.old.books.asks.items (record { moment = moment; act = CoreCollect request }) told self.old.log self.new.log) }
+        ensures err { OnErr result ((self.new.log ≡ self.old.log) × (self.new.books.asks ≡ self.old.books.asks)) }
+    {
+        let reply = match self.pass(alloc, moment, Act::Collect(request)) {
+            Ok(reply) => reply,
+            Err(OutOfMemory) => return Err(OutOfMemory),
+        };
+        let told = tells(&reply);
+        self.tell(place, told);
+        Ok(ProxyReply::Core(reply))
     }
 
     // How the request stands.
@@ -125,6 +101,7 @@ impl<C: Core> Parts<C> {
         moment: Moment,
         request: u32,
     ) -> Result<ProxyReply, OutOfMemory>
+        requires collectable { is_collectable self.old.log (ask_of request self.old.books.asks.items) ≡ true }
         requires stands { C.stands self.old.core self.old.log }
         requires sound { Sound self.old.log self.old.shares.items self.old.books }
         requires behind { self.old.behind ≡ some_may_go self.old.shares.items self.old.books.standing.items }
@@ -132,21 +109,18 @@ impl<C: Core> Parts<C> {
         ensures sound { Sound self.new.log self.new.shares.items self.new.books }
         ensures shares { self.new.shares ≡ self.old.shares }
         ensures behind { self.new.behind ≡ some_may_go self.new.shares.items self.new.books.standing.items }
+        ensures ok { IfOk result (λ reply. Performs moment self.old.shares.items self.old.books.asks.items self.new.books.asks.items self.old.log self.new.log (Collect request) reply) }
+        ensures err { OnErr result ((self.new.log ≡ self.old.log) × (self.new.books.asks ≡ self.old.books.asks)) }
     {
-        if self.books.is_held(request) {
+        let place = self.books.place(request).unwrap_or(0);
+        let Some(at) = self.books.handed(place) else {
             self.catch_up(alloc, moment)?;
             return Ok(ProxyReply::Held);
+        };
+        match self.kept(place, at)? {
+            Some(kept) => self.release(alloc, moment, place, kept),
+            None => self.ask_core(alloc, moment, request, place),
         }
-        let place = self.books.place(request).unwrap_or(0);
-        if self.books.has_kept(place) {
-            self.catch_up(alloc, moment)?;
-            self.tell(place, true);
-            return Ok(self.release(place));
-        }
-        let reply = self.pass(alloc, moment, Act::Collect(request))?;
-        let told = tells(&reply);
-        self.tell(place, told);
-        Ok(ProxyReply::Core(reply))
     }
 
     // The caller of the request returns its connection.
@@ -164,11 +138,10 @@ impl<C: Core> Parts<C> {
         ensures sound { Sound self.new.log self.new.shares.items self.new.books }
         ensures shares { self.new.shares ≡ self.old.shares }
         ensures behind { self.new.behind ≡ some_may_go self.new.shares.items self.new.books.standing.items }
+        ensures ok { IfOk result (λ reply. Performs moment self.old.shares.items self.old.books.asks.items self.new.books.asks.items self.old.log self.new.log (Finish request used) reply) }
+        ensures err { OnErr result ((self.new.log ≡ self.old.log) × (self.new.books.asks ≡ self.old.books.asks)) }
     {
         let reply = self.pass(alloc, moment, Act::Return(request, used))?;
-        if !is_refused(&reply) {
-            self.books.finish(request);
-        }
         Ok(ProxyReply::Core(reply))
     }
 }

@@ -1,6 +1,6 @@
 //! What a proxy hands to its core.
 
-ghost use Rattle.std.specs.Prelude.{◌≡◌, ℕ, ◌<◌, ◌≤◌, ◌+◌, ◌-◌, List, [], ◌∷◌, ◌++◌, true, false, not, ◌&&◌, ◌||◌, length, slice_index_or, Some, IfOk, OnOk, OnErr, IsTrue, if◌then◌else◌};
+ghost use Rattle.std.specs.Prelude.{◌≡◌, ℕ, ◌<◌, ◌≤◌, ◌+◌, ◌-◌, List, [], ◌∷◌, ◌++◌, true, false, not, ◌&&◌, ◌||◌, length, slice_index_or, IfOk, OnOk, OnErr};
 ghost use Rattle.std.specs.List.{HoldsAt};
 ghost use Rattle.mdb_log.specs.declared.log.Entry.{Entry};
 ghost use Rattle.mdb_log.specs.declared.step.Act.TheVariants.{Request};
@@ -9,13 +9,12 @@ ghost use Rattle.mdb_log.specs.Driver.{IsEntry, is_refusal};
 ghost use Rattle.mdb_log.specs.declared.step.Step.{Step};
 ghost use Rattle.mdb_proxies.specs.Handing.{Entered, IsRequestAt};
 ghost use Rattle.mdb_proxies.specs.Charge.{requests};
-ghost use Rattle.mdb_proxies.specs.Recording.{Recorded};
-ghost use Rattle.mdb_proxies.specs.Tables.{Sound, some_may_go, is_off_in, is_fresh};
+ghost use Rattle.mdb_proxies.specs.Entries.{GoesOn, Enters};
+ghost use Rattle.mdb_proxies.specs.Tables.{Sound, KeptBy, NotedBy, some_may_go, IsOnly, KeepsCharge};
 
-use crate::asked::{Asked, Standing};
-use crate::books::{Books, charge, holds_back, is_refused, next, share_of, turn};
-use crate::step::ProxyReply;
-use mdb_base::{Moment, OutOfMemory, ServerAddress};
+use crate::books::{Books, is_refused};
+use crate::freed::{Freed, next};
+use mdb_base::{Moment, OutOfMemory};
 use mdb_log::{Act, Core, Entry, Log, Reply, Step};
 use std::alloc::Global;
 
@@ -46,133 +45,112 @@ fn newest(log: &Log) -> &Entry
     &entries[entries.len() - 1]
 }
 
-// One step of the core, and what it makes of the standing asks. Answers whether it changed them, too.
+// One step of the core, and what it makes of the books. Answers where it freed some of a share, too.
 fn enter<C: Core>(
     core: &mut C,
     log: &mut Log,
-    standing: &mut Vec<Standing>,
+    books: &mut Books,
     alloc: Global,
     step: &Step,
-) -> Result<(Reply, bool), OutOfMemory>
+) -> Result<(Reply, Freed), OutOfMemory>
     requires act { IsDriverAct step.now.act }
     requires stands { C.stands core.old log.old }
+    requires keeps { KeptBy log.old books.old }
+    requires noted { NotedBy log.old books.old }
     ensures stands { C.stands core.new log.new }
-    ensures ok { IfOk result (λ r. Entered step.now r.0 log.old log.new standing.old.items standing.new.items) }
-    ensures same { IfOk result (λ r. r.1 ≡ false → standing.new.items ≡ standing.old.items) }
-    ensures err { OnErr result ((log.new ≡ log.old) × (standing.new.items ≡ standing.old.items)) }
+    ensures keeps { KeptBy log.new books.new }
+    ensures noted { NotedBy log.new books.new }
+    ensures asks { books.new.asks ≡ books.old.asks }
+    ensures known { books.new.known ≡ books.old.known }
+    ensures ok { IfOk result (λ r. Entered step.now r.0 log.old log.new books.old.standing.items books.new.standing.items) }
+    ensures freed { IfOk result (λ r. KeepsCharge r.1 books.old.standing.items books.new.standing.items) }
+    ensures err { OnErr result ((log.new ≡ log.old) × (books.new ≡ books.old)) }
 {
+    let at = log.len();
     let reply = core.step(alloc, log, 0, step)?;
-    let changed = turn(standing, newest(log));
-    Ok((reply, changed))
+    let freed = books.turn(newest(log), at);
+    Ok((reply, freed))
 }
 
 // Hands on the standing ask at this place.
 fn hand_on<C: Core>(
     core: &mut C,
     log: &mut Log,
-    standing: &mut Vec<Standing>,
+    books: &mut Books,
     alloc: Global,
     moment: Moment,
     at: usize,
-) -> Result<Reply, OutOfMemory>
-    requires within { at < length standing.old.items }
+) -> Result<(Reply, Freed), OutOfMemory>
+    requires within { at < length books.old.standing.items }
     requires stands { C.stands core.old log.old }
+    requires keeps { KeptBy log.old books.old }
+    requires noted { NotedBy log.old books.old }
     ensures stands { C.stands core.new log.new }
-    ensures ok { IfOk result (λ reply. (step : Step) × IsRequestAt moment standing.old.items at step × Entered step reply log.old log.new standing.old.items standing.new.items) }
-    ensures err { OnErr result ((log.new ≡ log.old) × (standing.new.items ≡ standing.old.items)) }
+    ensures keeps { KeptBy log.new books.new }
+    ensures noted { NotedBy log.new books.new }
+    ensures asks { books.new.asks ≡ books.old.asks }
+    ensures known { books.new.known ≡ books.old.known }
+    ensures ok { IfOk result (λ r. (step : Step) × IsRequestAt moment books.old.standing.items at step × Entered step r.0 log.old log.new books.old.standing.items books.new.standing.items) }
+    ensures freed { IfOk result (λ r. KeepsCharge r.1 books.old.standing.items books.new.standing.items) }
+    ensures err { OnErr result ((log.new ≡ log.old) × (books.new ≡ books.old)) }
 {
-    let one = &standing[at];
+    let one = &books.standing[at];
     let request = one.request;
     let address = one.address.clone()?;
     let step = Step {
         moment,
         act: Act::Request(request, address),
     };
-    let entered = enter(core, log, standing, alloc, &step);
+    let entered = enter(core, log, books, alloc, &step);
     drop(step);
-    match entered {
-        Ok((reply, _)) => Ok(reply),
-        Err(OutOfMemory) => Err(OutOfMemory),
-    }
-}
-
-pub fn tells(reply: &Reply) -> bool {
-    match reply {
-        Reply::Pooled(_, _) => true,
-        Reply::Ended(_) => true,
-        _ => false,
-    }
-}
-
-// The reply, where it is one that is kept.
-fn to_keep(reply: Reply) -> Option<Reply> {
-    match reply {
-        Reply::Pooled(pool, id) => Some(Reply::Pooled(pool, id)),
-        Reply::Ended(end) => Some(Reply::Ended(end)),
-        Reply::Refused(why) => Some(Reply::Refused(why)),
-        _ => None,
-    }
-}
-
-// Some ask may go after an entry with this reply, which changed what stands or not.
-fn may_resume(reply: &Reply, changed: bool, behind: bool) -> bool
-    ensures { result ≡ (not (is_refusal reply.now) && (changed || behind)) }
-{
-    !is_refused(reply) && (changed || behind)
+    entered
 }
 
 impl<C: Core> Parts<C> {
-    // Keeps the reply that handed an ask on which was held back.
-    fn keep(&mut self, request: u32, reply: Reply)
-        ensures core { self.new.core ≡ self.old.core }
-        ensures log { self.new.log ≡ self.old.log }
-        ensures shares { self.new.shares ≡ self.old.shares }
-        ensures standing { self.new.books.standing ≡ self.old.books.standing }
-        ensures asks { self.new.books.asks ≡ self.old.books.asks }
-        ensures known { self.new.books.known ≡ self.old.books.known }
-        ensures behind { self.new.behind ≡ self.old.behind }
-    {
-        if let Some(place) = self.books.known.get(&request) {
-            let place = *place;
-            if place < self.books.notes.len() {
-                self.books.notes[place].kept = to_keep(reply);
-            }
-        }
-    }
-
-    // Hands on the asks that lag, until none is left or memory runs out.
-    fn go_on(&mut self, alloc: Global, moment: Moment) -> Handed
+    // Hands on the asks that lag, until none is left or memory runs out. Only those lag that stand where some of a share was freed.
+    pub fn go_on(&mut self, alloc: Global, moment: Moment, freed: Freed) -> Handed
         requires stands { C.stands self.old.core self.old.log }
         requires sound { Sound self.old.log self.old.shares.items self.old.books }
+        requires only { IsOnly self.old.shares.items self.old.books.standing.items freed }
         ensures stands { C.stands self.new.core self.new.log }
         ensures sound { Sound self.new.log self.new.shares.items self.new.books }
         ensures shares { self.new.shares ≡ self.old.shares }
         ensures asks { self.new.books.asks ≡ self.old.books.asks }
         ensures behind { self.new.behind ≡ some_may_go self.new.shares.items self.new.books.standing.items }
         ensures short { result.short ≡ true → self.new.behind ≡ true }
-        ensures none { result.some ≡ false → (self.new.log ≡ self.old.log) × (self.new.books.standing.items ≡ self.old.books.standing.items) }
+        ensures none { result.some ≡ false → (self.new.log ≡ self.old.log) × (self.new.books ≡ self.old.books) }
+        ensures goes_on { GoesOn moment self.old.shares.items self.old.books.asks.items self.old.log self.new.log }
     {
         let mut some = false;
-        while let Some(at) = next(self.shares.as_slice(), self.books.standing.as_slice()) {
-            let request = self.books.standing[at].request;
+        let mut freed = freed;
+        while let Some(at) = next(
+            self.shares.as_slice(),
+            self.books.standing.as_slice(),
+            &freed,
+        ) {
             let handed = hand_on(
                 &mut self.core,
                 &mut self.log,
-                &mut self.books.standing,
+                &mut self.books,
                 alloc,
                 moment,
                 at,
             );
             match handed {
-                Ok(reply) => self.keep(request, reply),
+                Ok((reply, more)) => {
+                    drop(reply);
+                    freed = freed.or(more);
+                }
                 Err(OutOfMemory) => {
                     self.behind = true;
+                    drop(freed);
                     return Handed { some, short: true };
                 }
             }
             some = true;
         }
         self.behind = false;
+        drop(freed);
         Handed { some, short: false }
     }
 
@@ -184,32 +162,38 @@ impl<C: Core> Parts<C> {
         ensures sound { Sound self.new.log self.new.shares.items self.new.books }
         ensures shares { self.new.shares ≡ self.old.shares }
         ensures asks { self.new.books.asks ≡ self.old.books.asks }
-        ensures behind { (self.old.behind ≡ true → self.new.behind ≡ some_may_go self.new.shares.items self.new.books.standing.items) × (self.old.behind ≡ false → (self.new.behind ≡ false) × (self.new.books.standing.items ≡ self.old.books.standing.items)) }
-        ensures err { OnErr result ((self.new.log ≡ self.old.log) × (self.new.books.standing.items ≡ self.old.books.standing.items) × (self.old.behind ≡ true) × (self.new.behind ≡ true)) }
+        ensures behind { (self.old.behind ≡ true → self.new.behind ≡ some_may_go self.new.shares.items self.new.books.standing.items) × (self.old.behind ≡ false → (self.new.behind ≡ false) × (self.new.log ≡ self.old.log) × (self.new.books ≡ self.old.books)) }
+        ensures goes_on { GoesOn moment self.old.shares.items self.old.books.asks.items self.old.log self.new.log }
+        ensures err { OnErr result ((self.new.log ≡ self.old.log) × (self.new.books ≡ self.old.books) × (self.old.behind ≡ true) × (self.new.behind ≡ true)) }
     {
         if !self.behind {
             return Ok(());
         }
-        let handed = self.go_on(alloc, moment);
+        let handed = self.go_on(alloc, moment, Freed::Anywhere);
         if handed.short && !handed.some {
             return Err(OutOfMemory);
         }
         Ok(())
     }
 
-    // Goes on, if so.
-    fn resume(&mut self, alloc: Global, moment: Moment, goes: bool)
+    // Goes on, if so, where some of a share was freed.
+    fn resume(&mut self, alloc: Global, moment: Moment, goes: bool, freed: Freed)
         requires stands { C.stands self.old.core self.old.log }
         requires sound { Sound self.old.log self.old.shares.items self.old.books }
+        requires only { goes ≡ true → IsOnly self.old.shares.items self.old.books.standing.items freed }
         requires behind { goes ≡ false → self.old.behind ≡ some_may_go self.old.shares.items self.old.books.standing.items }
         ensures stands { C.stands self.new.core self.new.log }
         ensures sound { Sound self.new.log self.new.shares.items self.new.books }
         ensures shares { self.new.shares ≡ self.old.shares }
         ensures asks { self.new.books.asks ≡ self.old.books.asks }
         ensures behind { self.new.behind ≡ some_may_go self.new.shares.items self.new.books.standing.items }
+        ensures goes_on { GoesOn moment self.old.shares.items self.old.books.asks.items self.old.log self.new.log }
+        ensures rests { goes ≡ false → self.new.log ≡ self.old.log }
     {
         if goes {
-            self.go_on(alloc, moment);
+            self.go_on(alloc, moment, freed);
+        } else {
+            drop(freed);
         }
     }
 
@@ -225,110 +209,51 @@ impl<C: Core> Parts<C> {
         ensures shares { self.new.shares ≡ self.old.shares }
         ensures asks { self.new.books.asks ≡ self.old.books.asks }
         ensures behind { self.new.behind ≡ some_may_go self.new.shares.items self.new.books.standing.items }
+        ensures ok { IfOk result (λ reply. Enters moment self.old.shares.items self.old.books.asks.items (record { moment = moment; act = act }) reply self.old.log self.new.log) }
         ensures err { OnErr result (self.new.log ≡ self.old.log) }
     {
         let step = Step { moment, act };
-        let entered = enter(
-            &mut self.core,
-            &mut self.log,
-            &mut self.books.standing,
-            alloc,
-            &step,
-        );
+        let entered = enter(&mut self.core, &mut self.log, &mut self.books, alloc, &step);
         drop(step);
-        let (reply, changed) = match entered {
+        let (reply, freed) = match entered {
             Ok(entered) => entered,
             Err(OutOfMemory) => return Err(OutOfMemory),
         };
-        let goes = may_resume(&reply, changed, self.behind);
-        self.resume(alloc, moment, goes);
+        let goes = !is_refused(&reply);
+        let freed = freed.or_anywhere(self.behind);
+        self.resume(alloc, moment, goes, freed);
         Ok(reply)
     }
 
-    // The ask that was just recorded is handed on at once.
-    fn begin(&mut self, alloc: Global, moment: Moment) -> Result<ProxyReply, OutOfMemory>
-        requires stands { C.stands self.old.core self.old.log }
-        requires recorded { Recorded self.old.log self.old.shares.items self.old.books false self.old.behind }
-        ensures stands { C.stands self.new.core self.new.log }
-        ensures sound { Sound self.new.log self.new.shares.items self.new.books }
-        ensures shares { self.new.shares ≡ self.old.shares }
-        ensures behind { self.new.behind ≡ some_may_go self.new.shares.items self.new.books.standing.items }
-    {
-        let at = self.books.standing.len() - 1;
-        let handed = hand_on(
-            &mut self.core,
-            &mut self.log,
-            &mut self.books.standing,
-            alloc,
-            moment,
-            at,
-        );
-        let reply = match handed {
-            Ok(reply) => reply,
-            Err(OutOfMemory) => {
-                self.books.take_back();
-                return Err(OutOfMemory);
-            }
-        };
-        if is_refused(&reply) {
-            self.books.forget();
-            return Ok(ProxyReply::Core(reply));
-        }
-        let told = tells(&reply);
-        self.books.tell_newest(told);
-        self.go_on(alloc, moment);
-        Ok(ProxyReply::Core(reply))
-    }
-
-    // The ask that was just recorded is held back.
-    fn hold(&mut self, alloc: Global, moment: Moment) -> Result<ProxyReply, OutOfMemory>
-        requires stands { C.stands self.old.core self.old.log }
-        requires recorded { Recorded self.old.log self.old.shares.items self.old.books true self.old.behind }
-        ensures stands { C.stands self.new.core self.new.log }
-        ensures sound { Sound self.new.log self.new.shares.items self.new.books }
-        ensures shares { self.new.shares ≡ self.old.shares }
-        ensures behind { self.new.behind ≡ some_may_go self.new.shares.items self.new.books.standing.items }
-    {
-        match self.catch_up(alloc, moment) {
-            Ok(()) => Ok(ProxyReply::Held),
-            Err(OutOfMemory) => {
-                self.books.take_back();
-                Err(OutOfMemory)
-            }
-        }
-    }
-
-    // The rules hold a new ask of the tenant back.
-    fn is_off(&self, tenant: u32, address: &ServerAddress) -> bool
-        ensures { result ≡ is_off_in self.now.shares.items self.now.books.standing.items tenant address.now }
-    {
-        let standing = self.books.standing.as_slice();
-        charge(standing, tenant, address) >= share_of(self.shares.as_slice(), tenant)
-            || holds_back(standing, tenant, address)
-    }
-
-    pub fn ask(
+    // The newest ask, which stands last, is handed on.
+    pub fn hand_on_newest(
         &mut self,
         alloc: Global,
         moment: Moment,
-        ask: Asked,
-    ) -> Result<ProxyReply, OutOfMemory>
-        requires fresh { is_fresh ask.request self.old.books.asks.items ≡ true }
-        requires made { ask.entries ≡ length self.old.log }
+    ) -> Result<(Reply, Freed), OutOfMemory>
+        requires some { 0 < length self.old.books.standing.items }
         requires stands { C.stands self.old.core self.old.log }
-        requires sound { Sound self.old.log self.old.shares.items self.old.books }
-        requires behind { self.old.behind ≡ some_may_go self.old.shares.items self.old.books.standing.items }
+        requires keeps { KeptBy self.old.log self.old.books }
+        requires noted { NotedBy self.old.log self.old.books }
         ensures stands { C.stands self.new.core self.new.log }
-        ensures sound { Sound self.new.log self.new.shares.items self.new.books }
+        ensures keeps { KeptBy self.new.log self.new.books }
+        ensures noted { NotedBy self.new.log self.new.books }
         ensures shares { self.new.shares ≡ self.old.shares }
-        ensures behind { self.new.behind ≡ some_may_go self.new.shares.items self.new.books.standing.items }
+        ensures asks { self.new.books.asks ≡ self.old.books.asks }
+        ensures known { self.new.books.known ≡ self.old.books.known }
+        ensures behind { self.new.behind ≡ self.old.behind }
+        ensures ok { IfOk result (λ r. (step : Step) × IsRequestAt moment self.old.books.standing.items (length self.old.books.standing.items - 1) step × Entered step r.0 self.old.log self.new.log self.old.books.standing.items self.new.books.standing.items) }
+        ensures freed { IfOk result (λ r. KeepsCharge r.1 self.old.books.standing.items self.new.books.standing.items) }
+        ensures err { OnErr result ((self.new.log ≡ self.old.log) × (self.new.books ≡ self.old.books)) }
     {
-        let off = self.is_off(ask.tenant, &ask.address);
-        self.books.record(ask)?;
-        if off {
-            self.hold(alloc, moment)
-        } else {
-            self.begin(alloc, moment)
-        }
+        let at = self.books.standing.len() - 1;
+        hand_on(
+            &mut self.core,
+            &mut self.log,
+            &mut self.books,
+            alloc,
+            moment,
+            at,
+        )
     }
 }

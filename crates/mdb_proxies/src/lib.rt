@@ -2,14 +2,18 @@
 #![tactic(auto)]
 
 mod asked;
+mod asking;
 mod books;
 mod collecting;
+mod freed;
 mod handing;
+mod notes;
 mod passed;
 mod proxy;
 mod recording;
 mod shares;
 mod step;
+mod told;
 
 pub use asked::Asked;
 pub use passed::is_passed;

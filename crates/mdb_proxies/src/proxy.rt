@@ -1,10 +1,14 @@
 //! The proxy.
 
-ghost use Rattle.std.specs.Prelude.{◌≡◌, [], ℕ, true, false, IfOk, IfErr, OnOk, OnErr, IfNone};
+ghost use Rattle.std.specs.Prelude.{◌≡◌, [], true, false, Some, None, IfOk, IfErr, OnErr};
 ghost use Rattle.mdb_proxies.specs.Shares.{are_shares};
 ghost use Rattle.mdb_proxies.specs.Charge.{is_behind};
+ghost use Rattle.mdb_proxies.specs.Order.{IsFirstCome};
 ghost use Rattle.mdb_proxies.specs.Tables.{Sound, some_may_go};
-ghost use Rattle.mdb_proxies.specs.View.{KeepsShares, MayCome};
+ghost use Rattle.mdb_proxies.specs.declared.step.ProxyReply.TheVariants.{Refused as IsRefused};
+ghost use Rattle.mdb_proxies.specs.declared.step.ProxyRefused.{ProxyRefused as Why};
+ghost use Rattle.mdb_proxies.specs.Replies.{refusal_by, refusal_at, refusal_of, Performs};
+ghost use Rattle.mdb_proxies.specs.View.{KeepsShares};
 
 use crate::asked::Asked;
 use crate::books::Books;
@@ -29,6 +33,7 @@ impl<C: Core> Model for Proxy<C> {
     ghost use Rattle.std.specs.Coded.{codes};
     ghost use Rattle.mdb_base.specs.DocumentCode.{fields_coded};
     ghost use Rattle.mdb_proxies.specs.View.{ProxyView};
+    ghost use Rattle.mdb_proxies.specs.Order.{IsFirstCome};
     ghost use Rattle.mdb_proxies.specs.Tables.{Sound, some_may_go};
 
     ghost Value = { ProxyView };
@@ -37,18 +42,15 @@ impl<C: Core> Model for Proxy<C> {
 
     ghost view = { λ p. record { shares = p.parts.shares.items; asks = p.parts.books.asks.items; log = p.parts.log } };
 
-    ghost invariant = { λ p. C.stands p.parts.core p.parts.log × Sound p.parts.log p.parts.shares.items p.parts.books × (p.parts.behind ≡ some_may_go p.parts.shares.items p.parts.books.standing.items) };
+    ghost invariant = { λ p. C.stands p.parts.core p.parts.log × Sound p.parts.log p.parts.shares.items p.parts.books × (p.parts.behind ≡ some_may_go p.parts.shares.items p.parts.books.standing.items) × IsFirstCome p.parts.log p.parts.books.asks.items };
 }
 
 impl<C: Core> Parts<C> {
-    fn refusal(&self, moment: Moment, act: &ProxyAct) -> Option<ProxyRefused>
+    // Why the act is refused, whatever its moment.
+    fn refusal_by(&self, act: &ProxyAct) -> Option<ProxyRefused>
         requires sound { Sound self.now.log self.now.shares.items self.now.books }
-        ensures { IfNone result (MayCome self.now.books.asks.items act.now) }
+        ensures { result ≡ refusal_by self.now.shares.items self.now.books.asks.items self.now.log act.now }
     {
-        let last = self.core.last_moment();
-        if moment < last {
-            return Some(ProxyRefused::TimeBack(last));
-        }
         match act {
             ProxyAct::Ask(tenant, request, _) => {
                 if *tenant as usize >= self.shares.len() {
@@ -77,13 +79,26 @@ impl<C: Core> Parts<C> {
         }
     }
 
-    fn perform(
+    // Why a step at the moment is refused.
+    fn refusal(&self, moment: Moment, act: &ProxyAct) -> Option<ProxyRefused>
+        requires stands { C.stands self.now.core self.now.log }
+        requires sound { Sound self.now.log self.now.shares.items self.now.books }
+        ensures { result ≡ refusal_at moment self.now.shares.items self.now.books.asks.items self.now.log act.now }
+    {
+        let last = self.core.last_moment();
+        if moment < last {
+            return Some(ProxyRefused::TimeBack(last));
+        }
+        self.refusal_by(act)
+    }
+
+    fn perform_act(
         &mut self,
         alloc: Global,
         moment: Moment,
         act: ProxyAct,
     ) -> Result<ProxyReply, OutOfMemory>
-        requires may { MayCome self.old.books.asks.items act }
+        requires may { refusal_by self.old.shares.items self.old.books.asks.items self.old.log act ≡ None }
         requires stands { C.stands self.old.core self.old.log }
         requires sound { Sound self.old.log self.old.shares.items self.old.books }
         requires behind { self.old.behind ≡ some_may_go self.old.shares.items self.old.books.standing.items }
@@ -91,6 +106,8 @@ impl<C: Core> Parts<C> {
         ensures sound { Sound self.new.log self.new.shares.items self.new.books }
         ensures shares { self.new.shares ≡ self.old.shares }
         ensures behind { self.new.behind ≡ some_may_go self.new.shares.items self.new.books.standing.items }
+        ensures ok { IfOk result (λ reply. Performs moment self.old.shares.items self.old.books.asks.items self.new.books.asks.items self.old.log self.new.log act reply) }
+        ensures err { OnErr result ((self.new.log ≡ self.old.log) × (self.new.books.asks.items ≡ self.old.books.asks.items)) }
     {
         match act {
             ProxyAct::Ask(tenant, request, address) => {
@@ -111,6 +128,29 @@ impl<C: Core> Parts<C> {
                 Ok(ProxyReply::Core(reply))
             }
         }
+    }
+
+    // As `perform_act` says, and the asks were handed on in their order.
+    fn perform(
+        &mut self,
+        alloc: Global,
+        moment: Moment,
+        act: ProxyAct,
+    ) -> Result<ProxyReply, OutOfMemory>
+        requires may { refusal_by self.old.shares.items self.old.books.asks.items self.old.log act ≡ None }
+        requires stands { C.stands self.old.core self.old.log }
+        requires sound { Sound self.old.log self.old.shares.items self.old.books }
+        requires behind { self.old.behind ≡ some_may_go self.old.shares.items self.old.books.standing.items }
+        requires order { IsFirstCome self.old.log self.old.books.asks.items }
+        ensures stands { C.stands self.new.core self.new.log }
+        ensures sound { Sound self.new.log self.new.shares.items self.new.books }
+        ensures shares { self.new.shares ≡ self.old.shares }
+        ensures behind { self.new.behind ≡ some_may_go self.new.shares.items self.new.books.standing.items }
+        ensures order { IsFirstCome self.new.log self.new.books.asks.items }
+        ensures ok { IfOk result (λ reply. Performs moment self.old.shares.items self.old.books.asks.items self.new.books.asks.items self.old.log self.new.log act reply) }
+        ensures err { OnErr result ((self.new.log ≡ self.old.log) × (self.new.books.asks.items ≡ self.old.books.asks.items)) }
+    {
+        self.perform_act(alloc, moment, act)
     }
 }
 
@@ -184,7 +224,19 @@ impl<C: Core> Proxy<C> {
     /// One step. `OutOfMemory` where memory ran out before or in the step's first step of the core; nothing has changed then.
     pub fn step(&mut self, alloc: Global, step: ProxyStep) -> Result<Answer, OutOfMemory>
         ensures shares { self.new.shares ≡ self.old.shares }
+
+        // Refused exactly by the first reason that holds, and nothing changed.
+        ensures refused { IfOk result (λ answer. (why : Why) → refusal_of self.old step ≡ Some why → (answer.reply ≡ IsRefused why) × (self.new ≡ self.old)) }
+
+        // What is not refused is answered by the proxy where the request is held back or its reply was kept, and else by the core.
+        ensures performs { IfOk result (λ answer. refusal_of self.old step ≡ None → Performs step.moment self.old.shares self.old.asks self.new.asks self.old.log self.new.log step.act answer.reply) }
+
+        // A want of memory that is told changed nothing.
+        ensures err { OnErr result ((refusal_of self.old step ≡ None) × (self.new ≡ self.old)) }
         ensures keeps { KeepsShares self.new }
+
+        // Of the asks of each tenant at an address the first ones were handed on, in their order.
+        ensures order { IsFirstCome self.new.log self.new.asks }
         ensures behind { IfOk result (λ answer. answer.behind ≡ is_behind self.new.shares self.new.asks self.new.log) }
     {
         let ProxyStep { moment, act } = step;

@@ -4,7 +4,9 @@ ghost use Rattle.std.specs.Prelude.{◌≡◌, ℕ, ◌==◌, ◌++◌, ◌∷�
 ghost use Rattle.std.specs.HashMap.{get};
 ghost use Rattle.mdb_proxies.specs.declared.asked.Asked.{Asked};
 ghost use Rattle.mdb_proxies.specs.declared.asked.Standing.{Standing};
-ghost use Rattle.mdb_proxies.specs.Recording.{SameAsks};
+ghost use Rattle.mdb_proxies.specs.declared.asked.Note.{Note};
+ghost use Rattle.mdb_proxies.specs.Recording.{told_at};
+ghost use Rattle.mdb_proxies.specs.Telling.{told_if};
 ghost use Rattle.mdb_proxies.specs.Tables.{standing_of, blank};
 
 use crate::asked::{Asked, Note, Standing};
@@ -49,7 +51,7 @@ impl Books {
         self.standing.push_reserved(one);
         self.asks.push_reserved(ask);
         self.notes.push_reserved(Note {
-            kept: None,
+            handed: None,
             returned: false,
         });
         Ok(())
@@ -59,6 +61,7 @@ impl Books {
     pub fn forget(&mut self)
         ensures asks { (xs : List Asked) (x : Asked) → self.old.asks.items ≡ xs ++ x ∷ [] → self.new.asks.items ≡ xs }
         ensures known { (xs : List Asked) (x : Asked) → self.old.asks.items ≡ xs ++ x ∷ [] → (r : ℕ) → get nat_eq self.new.known r ≡ if r == x.request then None else get nat_eq self.old.known r }
+        ensures notes { (ns : List Note) (n : Note) → self.old.notes.items ≡ ns ++ n ∷ [] → self.new.notes.items ≡ ns }
         ensures standing { self.new.standing ≡ self.old.standing }
     {
         if let Some(ask) = self.asks.pop() {
@@ -71,16 +74,17 @@ impl Books {
     pub fn take_back(&mut self)
         ensures asks { (xs : List Asked) (x : Asked) → self.old.asks.items ≡ xs ++ x ∷ [] → self.new.asks.items ≡ xs }
         ensures known { (xs : List Asked) (x : Asked) → self.old.asks.items ≡ xs ++ x ∷ [] → (r : ℕ) → get nat_eq self.new.known r ≡ if r == x.request then None else get nat_eq self.old.known r }
+        ensures notes { (ns : List Note) (n : Note) → self.old.notes.items ≡ ns ++ n ∷ [] → self.new.notes.items ≡ ns }
         ensures standing { (os : List Standing) (o : Standing) → self.old.standing.items ≡ os ++ o ∷ [] → self.new.standing.items ≡ os }
     {
         self.standing.pop();
         self.forget();
     }
 
-    // The outcome of the ask at this place was told.
+    // The caller of the ask at this place was told what it came to.
     pub fn tell(&mut self, place: usize)
         requires { place < length self.old.asks.items }
-        ensures asks { SameAsks self.old.asks.items self.new.asks.items }
+        ensures asks { self.new.asks.items ≡ told_at place self.old.asks.items }
         ensures standing { self.new.standing ≡ self.old.standing }
         ensures notes { self.new.notes ≡ self.old.notes }
         ensures known { self.new.known ≡ self.old.known }
@@ -88,10 +92,9 @@ impl Books {
         self.asks[place].told = true;
     }
 
-    // The outcome of the newest ask was told, if it was.
-    #[tactic(auto, using(crate::proofs::Telling::same_asks))]
+    // The caller of the newest ask was told what it came to, if so.
     pub fn tell_newest(&mut self, told: bool)
-        ensures asks { SameAsks self.old.asks.items self.new.asks.items }
+        ensures asks { (xs : List Asked) (x : Asked) → self.old.asks.items ≡ xs ++ x ∷ [] → self.new.asks.items ≡ xs ++ told_if told x ∷ [] }
         ensures standing { self.new.standing ≡ self.old.standing }
         ensures notes { self.new.notes ≡ self.old.notes }
         ensures known { self.new.known ≡ self.old.known }

@@ -1,1 +1,2 @@
 pub mod DriverCrossing
+pub mod Answered

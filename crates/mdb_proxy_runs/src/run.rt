@@ -1,14 +1,23 @@
 //! Runs of a proxy script.
 
-ghost use Rattle.std.specs.Prelude.{◌≡◌, ◌≤◌, None, IfOk, length};
+ghost use Rattle.std.specs.Prelude.{◌≡◌, ◌≤◌, [], ◌∷◌, None, IfOk, OnOk, IsTrue, length, drop, string_bytes};
+ghost use Rattle.mdb_base.specs.Outside.{Took};
 ghost use Rattle.mdb_base.specs.OptionRules.{broken_rule};
+ghost use Rattle.mdb_lines.specs.Grammar.{is_printable};
+ghost use Rattle.mdb_lines.specs.LogText.{reply_text};
+ghost use Rattle.mdb_lines.specs.Script.{Spells};
+ghost use Rattle.mdb_log.specs.declared.log.Entry.{Entry as EntryRecord};
+ghost use Rattle.mdb_topology.specs.Logging.{opening_step};
+ghost use Rattle.mdb_proxy_runs.specs.ProxyLines.{SpellsStep};
+ghost use Rattle.mdb_proxy_runs.specs.ProxyText.{line_text};
+ghost use Rattle.mdb_proxy_runs.specs.ProxyRuns.{Opens, Answers, Begins, LineRuns, LinesRun, RunsFrom, Ran, Finished};
 
 use crate::line_reading::read_proxy_line;
-use crate::line_writing::{reply_text, write_answer};
+use crate::line_writing::{answer_line, opening_line};
 use crate::shares_line::read_shares;
 use mdb_base::{Options, OutOfMemory, Sink, Source};
 use mdb_lines::{
-    LineError, MAX_INPUT, ReplyText, RunError, cut_line, read_all, read_line, write_all,
+    LineError, MAX_INPUT, RunError, cut_line, is_printable, read_all, read_line, write_all,
 };
 use mdb_log::{Act, DEFAULT_MAX_POOL_SIZE, Entry, Log, Step};
 use mdb_proxies::{Proxy, ProxyStep, ShareError};
@@ -22,18 +31,34 @@ fn malformed(e: LineError, number: u32) -> RunError {
     }
 }
 
-fn send<K: Sink>(sink: &mut K, text: &[u8]) -> Result<(), RunError> {
+fn send<K: Sink>(sink: &mut K, text: &[u8]) -> Result<(), RunError>
+    ensures { OnOk result (Took (K.held sink.old) (K.held sink.new) text.now × (K.faults sink.new ≡ K.faults sink.old)) }
+{
     match write_all(sink, text) {
         Ok(()) => Ok(()),
         Err(_) => Err(RunError::WriteFault),
     }
 }
 
-// The options of the line that opens a driver.
-fn read_options(alloc: Global, line: &[u8]) -> Result<Options, RunError>
-    ensures { IfOk result (λ options. broken_rule options ≡ None) }
+// A line of printable bytes, as text.
+fn text_of(line: &[u8], number: u32) -> Result<&str, RunError>
+    ensures { IfOk result (λ text. (text.now ≡ line.now) × IsTrue (is_printable text.now)) }
 {
-    let step = match read_line(alloc, line, 1) {
+    if !is_printable(line) {
+        return Err(RunError::Malformed(number));
+    }
+    match str::from_utf8(line) {
+        Ok(text) => Ok(text),
+        Err(_) => Err(RunError::Malformed(number)),
+    }
+}
+
+// The options of the line that opens a driver.
+fn read_options(alloc: Global, line: &str) -> Result<Options, RunError>
+    ensures fits { IfOk result (λ options. broken_rule options ≡ None) }
+    ensures opens { IfOk result (λ options. Spells 1 line.now (opening_step options)) }
+{
+    let step = match read_line(alloc, line.as_bytes(), 1) {
         Ok(step) => step,
         Err(e) => return Err(malformed(e, 2)),
     };
@@ -57,9 +82,11 @@ fn read_options(alloc: Global, line: &[u8]) -> Result<Options, RunError>
 // The proxy that the second line opens, over the shares of the first.
 fn open_proxy(
     alloc: Global,
-    line: &[u8],
+    line: &str,
     shares: Vec<u32>,
-) -> Result<Proxy<TopologyCore>, RunError> {
+) -> Result<Proxy<TopologyCore>, RunError>
+    ensures { IfOk result (Opens shares.items line.now) }
+{
     let options = match read_options(alloc, line) {
         Ok(options) => options,
         Err(e) => return Err(e),
@@ -78,33 +105,41 @@ fn open_proxy(
 }
 
 // What is written for the second line: the line itself, and the answer to it.
-fn opening_text(alloc: Global, line: &[u8], entries: &[Entry]) -> Result<Vec<u8>, OutOfMemory> {
-    let mut text = Vec::new(alloc);
-    for entry in entries {
-        let reply = ReplyText(&entry.reply).to_string(alloc)?;
-        write_answer(alloc, line, reply.as_str(), entries, &mut text)?;
+fn opening_text(alloc: Global, line: &str, entries: &[Entry]) -> Result<String, OutOfMemory>
+    ensures { IfOk result (λ text. (e : EntryRecord) → entries.now ≡ e ∷ [] → string_bytes text ≡ line_text line.now (reply_text e.reply) (e ∷ [])) }
+{
+    match entries.first() {
+        Some(entry) => opening_line(alloc, line, &entry.reply, entries),
+        None => Ok(String::new(alloc)),
     }
-    Ok(text)
+}
+
+// The entries behind the first ones.
+fn behind(entries: &[Entry], first: usize) -> &[Entry]
+    ensures { result.now ≡ drop first entries.now }
+{
+    match entries.get(first..) {
+        Some(more) => more,
+        None => &[],
+    }
 }
 
 // The answer to one line from the third on.
-fn answer_text(
+fn answer_to(
     alloc: Global,
-    line: &[u8],
+    line: &str,
     step: ProxyStep,
     proxy: &mut Proxy<TopologyCore>,
-) -> Result<Vec<u8>, OutOfMemory> {
+) -> Result<String, OutOfMemory>
+    requires { SpellsStep line.now step }
+    ensures { IfOk result (λ text. Answers proxy.old proxy.new line.now (string_bytes text)) }
+{
     let before = proxy.log().len();
     let answer = proxy.step(alloc, step)?;
     if answer.behind {
         return Err(OutOfMemory);
     }
-    let reply = reply_text(alloc, &answer.reply)?;
-    let mut text = Vec::new(alloc);
-    if let Some(added) = proxy.log().entries().get(before..) {
-        write_answer(alloc, line, reply.as_str(), added, &mut text)?;
-    }
-    Ok(text)
+    answer_line(alloc, line, &answer.reply, behind(proxy.log().entries(), before))
 }
 
 // One line from the third on.
@@ -114,13 +149,19 @@ fn one_line<K: Sink>(
     number: u32,
     proxy: &mut Proxy<TopologyCore>,
     sink: &mut K,
-) -> Result<(), RunError> {
+) -> Result<(), RunError>
+    ensures { OnOk result (LineRuns line.now proxy.old proxy.new (K.held sink.old) (K.held sink.new) (K.faults sink.old) (K.faults sink.new)) }
+{
+    let line = match text_of(line, number) {
+        Ok(line) => line,
+        Err(e) => return Err(e),
+    };
     let step = match read_proxy_line(alloc, line) {
         Ok(step) => step,
         Err(e) => return Err(malformed(e, number)),
     };
-    match answer_text(alloc, line, step, proxy) {
-        Ok(text) => send(sink, text.as_slice()),
+    match answer_to(alloc, line, step, proxy) {
+        Ok(text) => send(sink, text.as_bytes()),
         Err(OutOfMemory) => Err(RunError::OutOfMemory),
     }
 }
@@ -133,6 +174,7 @@ fn more_lines<K: Sink>(
     sink: &mut K,
 ) -> Result<(), RunError>
     requires { length input.now ≤ MAX_INPUT }
+    ensures { OnOk result (LinesRun input.now proxy.old proxy.new (K.held sink.old) (K.held sink.new) (K.faults sink.old) (K.faults sink.new)) }
 {
     let mut rest = input;
     let mut number = 3u32;
@@ -152,6 +194,33 @@ fn more_lines<K: Sink>(
     Ok(())
 }
 
+// The proxy that the second line opens, and what is written for that line.
+fn begin<K: Sink>(
+    alloc: Global,
+    line: &[u8],
+    shares: Vec<u32>,
+    sink: &mut K,
+) -> Result<Proxy<TopologyCore>, RunError>
+    ensures { IfOk result (Begins shares.items line.now (K.held sink.old) (K.held sink.new) (K.faults sink.old) (K.faults sink.new)) }
+{
+    let line = match text_of(line, 2) {
+        Ok(line) => line,
+        Err(e) => return Err(e),
+    };
+    let proxy = match open_proxy(alloc, line, shares) {
+        Ok(proxy) => proxy,
+        Err(e) => return Err(e),
+    };
+    let text = match opening_text(alloc, line, proxy.log().entries()) {
+        Ok(text) => text,
+        Err(OutOfMemory) => return Err(RunError::OutOfMemory),
+    };
+    match send(sink, text.as_bytes()) {
+        Ok(()) => Ok(proxy),
+        Err(e) => Err(e),
+    }
+}
+
 // The lines from the second on, for tenants with these shares.
 fn with_shares<K: Sink>(
     alloc: Global,
@@ -160,6 +229,7 @@ fn with_shares<K: Sink>(
     sink: &mut K,
 ) -> Result<Log, RunError>
     requires { length input.now ≤ MAX_INPUT }
+    ensures { IfOk result (λ log. RunsFrom shares.items input.now log (K.held sink.old) (K.held sink.new) (K.faults sink.old) (K.faults sink.new)) }
 {
     if input.is_empty() {
         return Ok(Log::new(alloc));
@@ -167,18 +237,10 @@ fn with_shares<K: Sink>(
     let Some((line, behind)) = cut_line(input) else {
         return Err(RunError::Malformed(2));
     };
-    let mut proxy = match open_proxy(alloc, line, shares) {
+    let mut proxy = match begin(alloc, line, shares, sink) {
         Ok(proxy) => proxy,
         Err(e) => return Err(e),
     };
-    let text = match opening_text(alloc, line, proxy.log().entries()) {
-        Ok(text) => text,
-        Err(OutOfMemory) => return Err(RunError::OutOfMemory),
-    };
-    match send(sink, text.as_slice()) {
-        Ok(()) => {}
-        Err(e) => return Err(e),
-    }
     match more_lines(alloc, behind, &mut proxy, sink) {
         Ok(()) => {
             let (core, log) = proxy.close();
@@ -191,12 +253,17 @@ fn with_shares<K: Sink>(
 
 fn run_lines<K: Sink>(alloc: Global, input: &[u8], sink: &mut K) -> Result<Log, RunError>
     requires { length input.now ≤ MAX_INPUT }
+    ensures { IfOk result (λ log. Ran input.now log (K.held sink.old) (K.held sink.new) (K.faults sink.old) (K.faults sink.new)) }
 {
     if input.is_empty() {
         return Ok(Log::new(alloc));
     }
     let Some((line, behind)) = cut_line(input) else {
         return Err(RunError::Malformed(1));
+    };
+    let line = match text_of(line, 1) {
+        Ok(line) => line,
+        Err(e) => return Err(e),
     };
     match read_shares(alloc, line) {
         Ok(shares) => with_shares(alloc, behind, shares, sink),
@@ -215,7 +282,12 @@ pub fn run_proxy<S: Source, K: Sink>(
     alloc: Global,
     source: &mut S,
     sink: &mut K,
-) -> Result<Log, RunError> {
+) -> Result<Log, RunError>
+    // The input was read to its end, and the sink took, flushed, what the one proxy of the first two lines answered to each line.
+    ensures { IfOk result (Finished
+        (record { left = S.left source.old; reads = S.faults source.old; held = K.held sink.old; writes = K.faults sink.old })
+        (record { left = S.left source.new; reads = S.faults source.new; held = K.held sink.new; writes = K.faults sink.new })) }
+{
     let input = match read_all(alloc, source) {
         Ok(input) => input,
         Err(e) => return Err(e),

@@ -1,6 +1,7 @@
-use Rattle.std.proofs.Common.{◌≡◌, ◌<◌, true, false, length, ap, arith, ◌∙◌}
+use Rattle.std.proofs.Common.{◌<◌, false, length, ap, arith, ◌∙◌}
 use Rattle.mdb_proxies.specs.Tables.{fate_of}
 use Rattle.mdb_proxies.proofs.TurnLoop.{turn-stays, turn-charged, turn-gone, same-at, set-within, remove-within}
+use Rattle.mdb_proxies.proofs.Freeing.{charge-set, charge-remove}
 use Rattle.mdb_proxies.proofs.books.turn.Goals as goal
 
 pub loop-at-preserved-in-Stays : goal.loop-at-preserved-in-Stays
@@ -11,7 +12,7 @@ loop-at-preserved-in-Stays c =
     record {
       within = omega (arith, here);
       turned = turn-stays c.args.entry.now os c.args.standing.now.items l.at c.index.result.now here c.index.ensures c.in-Stays.ensures l.invariant.turned;
-      same = l.invariant.same;
+      kept = l.invariant.kept;
     }
 
 pub loop-at-preserved-in-Charged : goal.loop-at-preserved-in-Charged
@@ -24,7 +25,7 @@ loop-at-preserved-in-Charged c =
     record {
       within = set-within os l.at (record o { held = false }) here;
       turned = turn-charged c.args.entry.now os c.args.standing.now.items l.at o here c.index_mut.ensures.value (c.in-Charged.ensures ∙ ap (fate_of c.args.entry.now) same) l.invariant.turned;
-      same = λ e. absurd (let z : true ≡ false = e in cc);
+      kept = λ t a f. omega (arith, l.invariant.kept t a f, charge-set os l.at o t a here c.index_mut.ensures.value);
     }
 
 pub loop-at-preserved : goal.loop-at-preserved
@@ -32,8 +33,9 @@ loop-at-preserved c =
     let l = c.loop-at in
     let os = l.standing.items in
     let here : l.at < length os = omega (arith, c.loop-at-test.true, c.len.ensures, l.standing.ok.0) in
+    let gone = c.remove-gone.result in
     record {
-      within = remove-within os c.remove.new.self.items l.at here c.remove.ensures.items;
-      turned = rw c.remove.ensures.items (turn-gone c.args.entry.now os c.args.standing.now.items l.at c.index.result.now here c.index.ensures c.in-Gone.ensures l.invariant.turned);
-      same = λ e. absurd (let z : true ≡ false = e in cc);
+      within = remove-within os c.remove-gone.new.self.items l.at here c.remove-gone.ensures.items;
+      turned = rw c.remove-gone.ensures.items (turn-gone c.args.entry.now os c.args.standing.now.items l.at c.index.result.now here c.index.ensures c.in-Gone.ensures l.invariant.turned);
+      kept = λ t a f. let g = c.and_gone-freed.ensures t a f in rw c.remove-gone.ensures.items (omega (arith, l.invariant.kept t a g.0, charge-remove os l.at gone t a here c.remove-gone.ensures.value g.1));
     }

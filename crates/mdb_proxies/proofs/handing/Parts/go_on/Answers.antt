@@ -1,33 +1,55 @@
-use Rattle.std.proofs.Common.{◌≡◌, ℕ, ◌<◌, true, false, nat_eq, refl, ◌∙◌}
+use Rattle.std.proofs.Common.{◌≡◌, true, false, nat_eq, refl, sym, ◌∙◌}
 use Rattle.std.specs.HashMap.{get}
-use Rattle.mdb_proxies.specs.Tables.{held_in}
 use Rattle.mdb_proxies.proofs.Hands.{hands-on}
-use Rattle.mdb_proxies.proofs.Sounds.{sound-of}
+use Rattle.mdb_proxies.proofs.Freeing.{only-after}
+use Rattle.mdb_proxies.proofs.Next.{best-goes, best-some, next-none}
+use Rattle.mdb_proxies.proofs.Going.{goes-none, goes-step}
 use Rattle.mdb_proxies.proofs.handing.Parts.go_on.Goals as goal
+
+pub loop-at-init : goal.loop-at-init
+loop-at-init g c = record {
+  stands = c.requires.stands;
+  sound = c.requires.sound;
+  shares = refl;
+  asks = refl;
+  none = λ e. (refl, refl);
+  only = c.requires.only;
+  goes_on = goes-none c.args.moment c.args.self.now.shares.items c.args.self.now.books.asks.items c.args.self.now.log c.args.self.now.log refl;
+}
 
 pub loop-at-smaller : goal.loop-at-smaller
 loop-at-smaller g c =
     let l = c.loop-at in
-    let s = rw (c.as_slice.ensures.value, c.as_slice-in-loop-at.ensures.value) at c.in-Some.ensures.some in
+    let s = rw (c.as_slice.ensures.value, c.as_slice-in-loop-at.ensures.value) at c.in-Some.ensures in
     let ok = c.in-Ok.ensures.ok in
-    let h = hands-on l.self.shares.items l.self.log c.hand_on-handed.new.log l.self.books.standing.items c.hand_on-handed.new.standing.items l.self.books.asks.items (λ r. get nat_eq l.self.books.known r)
-    c.args.moment c.in-Some.at ok.0 c.in-Ok.reply s.0 s.1 ok.1 ok.2 l.invariant.sound.keeps l.invariant.sound.within in
-    let fewer : held_in c.keep.new.self.books.standing.items < held_in l.self.books.standing.items = rw c.keep.ensures.standing h.fewer in
-    fewer
+    (hands-on l.self.shares.items l.self.log c.hand_on-handed.new.log l.self.books.standing.items c.hand_on-handed.new.books.standing.items l.self.books.asks.items (λ r. get nat_eq l.self.books.known r)
+    c.args.moment c.in-Some.at ok.0 c.in-Ok.reply s.0 (best-goes l.self.shares.items l.self.books.standing.items c.in-Some.at s) ok.1 ok.2 l.invariant.sound.keeps l.invariant.sound.within).fewer
 
 pub loop-at-preserved : goal.loop-at-preserved
 loop-at-preserved g c =
     let l = c.loop-at in
-    let s = rw (c.as_slice.ensures.value, c.as_slice-in-loop-at.ensures.value) at c.in-Some.ensures.some in
+    let s = rw (c.as_slice.ensures.value, c.as_slice-in-loop-at.ensures.value) at c.in-Some.ensures in
     let ok = c.in-Ok.ensures.ok in
-    let h = hands-on l.self.shares.items l.self.log c.hand_on-handed.new.log l.self.books.standing.items c.hand_on-handed.new.standing.items l.self.books.asks.items (λ r. get nat_eq l.self.books.known r)
-    c.args.moment c.in-Some.at ok.0 c.in-Ok.reply s.0 s.1 ok.1 ok.2 l.invariant.sound.keeps l.invariant.sound.within in
+    let h = hands-on l.self.shares.items l.self.log c.hand_on-handed.new.log l.self.books.standing.items c.hand_on-handed.new.books.standing.items l.self.books.asks.items (λ r. get nat_eq l.self.books.known r)
+    c.args.moment c.in-Some.at ok.0 c.in-Ok.reply s.0 (best-goes l.self.shares.items l.self.books.standing.items c.in-Some.at s) ok.1 ok.2 l.invariant.sound.keeps l.invariant.sound.within in
     record {
-      stands = rw (c.keep.ensures.core, c.keep.ensures.log) c.in-Ok.ensures.stands;
-      sound = rw (c.keep.ensures.log, c.keep.ensures.shares)
-          (sound-of c.hand_on-handed.new.log l.self.shares.items c.hand_on-handed.new.standing.items l.self.books.asks.items (λ r. get nat_eq l.self.books.known r) c.keep.new.self.books
-          (rw c.keep.ensures.standing refl) (rw c.keep.ensures.asks refl) (λ r. rw c.keep.ensures.known refl) h.keeps h.within);
-      shares = c.keep.ensures.shares ∙ l.invariant.shares;
-      asks = c.keep.ensures.asks ∙ l.invariant.asks;
+      stands = c.in-Ok.ensures.stands;
+      sound = record { keeps = c.in-Ok.ensures.keeps; noted = c.in-Ok.ensures.noted; within = h.within };
+      shares = l.invariant.shares;
+      asks = c.in-Ok.ensures.asks ∙ l.invariant.asks;
       none = λ e. absurd (let z : true ≡ false = e in cc);
+      only = only-after l.self.shares.items ok.2.entry l.self.books.standing.items c.hand_on-handed.new.books.standing.items l.freed c.in-Ok.more c.or-freed.result ok.2.after c.in-Ok.ensures.freed c.or-freed.ensures l.invariant.only;
+      goes_on = goes-step c.args.moment c.args.self.now.shares.items l.self.shares.items c.args.self.now.books.asks.items l.self.books.asks.items c.args.self.now.log l.self.log c.hand_on-handed.new.log
+          l.self.books.standing.items c.hand_on-handed.new.books.standing.items c.in-Some.at ok.0 c.in-Ok.reply (rw l.invariant.shares refl) (rw l.invariant.asks refl) l.invariant.goes_on l.invariant.sound.keeps.standing s ok.1 ok.2;
     }
+
+pub returns-in-Err-clause-behind : goal.returns-in-Err-clause-behind
+returns-in-Err-clause-behind g c =
+    let l = c.loop-at in
+    let s = rw (c.as_slice.ensures.value, c.as_slice-in-loop-at.ensures.value) at c.in-Some.ensures in
+    rw c.in-Err.ensures.err.1 (sym (best-some l.self.shares.items l.self.books.standing.items c.in-Some.at s))
+
+pub returns-clause-behind : goal.returns-clause-behind
+returns-clause-behind g c =
+    let l = c.loop-at in
+    sym (next-none l.self.shares.items l.self.books.standing.items l.self.books.standing.items (rw (c.as_slice.ensures.value, c.as_slice-in-loop-at.ensures.value) at c.in_default.ensures))

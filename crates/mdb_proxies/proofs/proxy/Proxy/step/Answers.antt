@@ -1,4 +1,4 @@
-use Rattle.std.proofs.Common.{◌≡◌, ap, ◌∙◌}
+use Rattle.std.proofs.Common.{ap, ◌∙◌}
 use Rattle.mdb_proxies.specs.Tables.{some_may_go}
 use Rattle.mdb_proxies.proofs.Charges.{keeps-shares, behind-is}
 use Rattle.mdb_proxies.proofs.proxy.Proxy.step.Goals as goal
@@ -27,3 +27,6 @@ pub returns-clause-behind : goal.returns-clause-behind
 returns-clause-behind g c =
     let p = c.perform.new.self in
     c.perform.ensures.behind ∙ ap (some_may_go p.shares.items) c.perform.ensures.sound.keeps.standing ∙ behind-is p.shares.items p.log p.books.asks.items
+
+pub returns-clause-performs : goal.returns-clause-performs
+returns-clause-performs g c = rw (← c.self.view_is) (λ none. c.in_ok-reply.ensures.ok)

@@ -1,0 +1,3 @@
+pub mod ProxyLines
+pub mod ProxyText
+pub mod ProxyRuns
