@@ -19,7 +19,7 @@ use std::sync::Wait;
 pub enum Claimed {
     /// The connection of this pool and number is to be established: its job.
     Job(u32, u32, Job),
-    /// The same, and there was no memory for the job.
+    /// The connection of this pool and number is to be established, and there was no memory for its job.
     Unread(u32, u32),
     /// There is none to establish.
     NoJob,
@@ -65,6 +65,7 @@ fn one_claim<C: Core>(
     ensures job { IfOk result (Holds (C.job_after place.new.me.0.seen)) }
     ensures err { IfErr result (λ why. Missed (seat_view place.old.table_id number place.old.me.0) (seat_view place.new.table_id number place.new.me.0) why) }
 {
+    // The turn is held from here to `finish` or `give_back`.
     let (mut core, mut log) = match take(table, place, number) {
         Ok(state) => state,
         Err(word) => return Err(NoClaim::Busy(word)),

@@ -90,6 +90,7 @@ pub(super) fn one_step<C: Core>(
     ensures in_time { IfOk result (λ reply. IsTrue (is_in_time step.act reply)) }
     ensures err { IfErr result (λ why. Failed (seat_view place.old.table_id number place.old.me.0) (seat_view place.new.table_id number place.new.me.0) step why) }
 {
+    // The turn is held from here to `finish` or `give_back`.
     let (mut core, mut log) = match take(table, place, number) {
         Ok(state) => state,
         Err(word) => return Err(TryError::Busy(word, step)),

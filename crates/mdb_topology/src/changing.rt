@@ -71,7 +71,7 @@ impl TopologyCore {
         })
     }
 
-    // The same, where there is a difference.
+    // What a change of the topology comes to, where there is a difference.
     pub(crate) fn tell(
         &mut self,
         alloc: Global,
