@@ -62,16 +62,18 @@ def read_all():
 
 
 def public_words(text):
-    """The words of what a file of code says of its public calls and types, without the bodies."""
-    words, public = set(), False
+    """The words of what a file of code says of its public calls and types, without comments and bodies. A function without `pub` is public where it is of a trait."""
+    words, public, is_of_trait = set(), False, False
     for line in text.split("\n"):
-        if re.match(r"\s*(pub (fn|struct|enum|trait|type)|impl\b|trait\b|fn \w+.*;?$)", line) or line.lstrip().startswith("ghost "):
-            public = not re.match(r"(\s{4})?fn ", line) or line.startswith("    fn ")
-        if re.match(r"\s*(pub\((crate|super)\) fn|fn )", line) and not line.startswith("    fn "):
+        if re.match(r"(pub(\(\w+\))? )?(unsafe )?(impl|trait)\b", line):
+            is_of_trait = " for " in line or "trait " in line
+        if re.match(r"\s*(pub (fn|struct|enum|trait|type)|impl\b|trait\b)", line) or line.lstrip().startswith("ghost ") or is_of_trait and line.startswith("    fn "):
+            public = True
+        elif re.match(r"\s*(pub\(\w+\) )?fn ", line):
             public = False
-        if public and not line.lstrip().startswith("ghost use"):
+        if public and not line.lstrip().startswith(("ghost use", "//")):
             words.update(WORD.findall(line))
-        if line.strip() == "{":
+        if line.strip() == "{" or re.match(r"\s*(pub )?fn .*\{$", line):
             public = False
     return words
 

@@ -16,7 +16,7 @@ pub returns-then-self : goal.returns-then-self
 returns-then-self c s there =
     let w = c.args.self.now in
     let a = c.args.address.now in
-    let spends : Bool = (is_some (difference w.description.servers (updated w.description (failed a c.in-Err.error.now)).servers) && true) && exhausted_now s None in
+    let spends : Bool = (is_some (difference w.description.servers (updated w.description (failed a c.in-Err.error)).servers) && true) && exhausted_now s None in
     sym (ap (check_spends w s a) c.in-Err.is ∙ ap (λ b. not b && spends) c.if-self.true)
 
 pub returns : goal.returns
