@@ -122,6 +122,7 @@ impl TopologyCore {
 
     // An error about the connection of the pool tells nothing: it is not current, or it has no row.
     fn leaves_complaint(&self, pool: &PoolCore, id: u32, error: &Error) -> bool
+        requires stands { StandsForSome self.now }
         ensures { (x : Connection) → connection_at pool.now id ≡ Some x → x.id ≡ id → result ≡ not (concerns_now self.now pool.now x error.now && is_some (case_of operating error.now)) }
     {
         !(self.is_current(pool, id, error) && has_row(error))

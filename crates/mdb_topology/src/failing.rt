@@ -116,6 +116,7 @@ impl TopologyCore {
 
     // The error about the pending connection of the pool is current.
     fn regards(&self, pool: &PoolCore, id: u32, at: FailedAt, error: &Error) -> bool
+        requires stands { StandsForSome self.now }
         ensures { (x : Connection) → connection_at pool.now id ≡ Some x → result ≡ regards_now self.now pool.now id at error.now }
     {
         if error.is_incompatible_server() {
@@ -132,6 +133,7 @@ impl TopologyCore {
 
     // The error tells nothing: it is not current, or it has no row.
     fn leaves_failure(&self, pool: &PoolCore, id: u32, at: FailedAt, error: &Error) -> bool
+        requires stands { StandsForSome self.now }
         ensures { (x : Connection) → connection_at pool.now id ≡ Some x → result ≡ not (regards_now self.now pool.now id at error.now && is_some (case_of (establishing at) error.now)) }
     {
         !(self.regards(pool, id, at, error) && has_row(error))
