@@ -23,17 +23,17 @@ pub open-here : (pools : List PoolCore) (a : ServerAddress) (p : ℕ) (s : PoolC
 open-here pools a p s single at = on (at_address pools a) refl
   where
     apart : (i : ℕ) (t : PoolCore) (c : Bool) → slice_get pools i ≡ Some t → is_open_at a t ≡ true → is_open_at a s ≡ false → (i == p) ≡ c → (i == p) ≡ false
-    apart i t false f open shut k = k
-    apart i t true f open shut k =
+    apart i t false f opens shut k = k
+    apart i t true f opens shut k =
         let n : i ≡ p = grind arith in
         let two : Some t ≡ Some s = sym f ∙ (ap (slice_get pools) n ∙ at) in
         let same : t ≡ s = cc in
-        let w : true ≡ false = sym open ∙ (ap (is_open_at a) same ∙ shut) in
+        let w : true ≡ false = sym opens ∙ (ap (is_open_at a) same ∙ shut) in
         cc
 
     by : (i : ℕ) (t : PoolCore) (b : Bool) → slice_get pools i ≡ Some t → is_open_at a t ≡ true → is_open_at a s ≡ b → is_open_at a s ≡ (i == p)
-    by i t true f open g = let n : i ≡ p = single a i p t s f at open g in let w : (i == p) ≡ true = grind arith in g ∙ sym w
-    by i t false f open g = g ∙ sym (apart i t (i == p) f open g refl)
+    by i t true f opens g = let n : i ≡ p = single a i p t s f at opens g in let w : (i == p) ≡ true = grind arith in g ∙ sym w
+    by i t false f opens g = g ∙ sym (apart i t (i == p) f opens g refl)
 
     first : (i : ℕ) (y : Option PoolCore) → at_address pools a ≡ Some i → slice_get pools i ≡ y → is_open_at a s ≡ (i == p)
     first i None e f = absurd (at-place pools i (position-within (is_open_at a) pools i e) f)
