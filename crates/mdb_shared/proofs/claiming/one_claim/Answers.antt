@@ -8,22 +8,22 @@ use Rattle.mdb_shared.proofs.Jobs.{tells, as_claimed}
 use Rattle.mdb_shared.proofs.claiming.one_claim.Goals as goal
 
 pub with_job-claimed-requires-clause-stands : goal.with_job-claimed-requires-clause-stands
-with_job-claimed-requires-clause-stands g c = c.in-Ok.ensures.ok.fits
+with_job-claimed-requires-clause-stands g c κs within = c.in-Ok.ensures.ok.fits
 
 pub with_job-claimed-requires-clause-kind : goal.with_job-claimed-requires-clause-kind
-with_job-claimed-requires-clause-kind g c = tells _ c.in-Ok.ensures.kind c.in-Ok.ensures.in_time
+with_job-claimed-requires-clause-kind g c κs within = tells _ c.in-Ok.ensures.kind c.in-Ok.ensures.in_time
 
 pub finish-requires-clause-turn : goal.finish-requires-clause-turn
-finish-requires-clause-turn g c = has_turn c.args.place.now.me.0 _ _ _ c.in-Ok.ensures.ok.turn c.requires.ready.2
+finish-requires-clause-turn g c κs within = has_turn c.args.place.now.me.0 _ _ _ c.in-Ok.ensures.ok.turn c.requires.ready.2
 
 pub finish-requires-clause-log : goal.finish-requires-clause-log
-finish-requires-clause-log g c = let b = c.in-Ok.ensures.ok in (b.entry, b.is.0, one_more c.args.place.now.me.0 _ _ _ b.entry b.turn b.more)
+finish-requires-clause-log g c κs within = let b = c.in-Ok.ensures.ok in (b.entry, b.is.0, one_more c.args.place.now.me.0 _ _ _ b.entry b.turn b.more)
 
 pub finish-requires-clause-stands : goal.finish-requires-clause-stands
-finish-requires-clause-stands g c = c.in-Ok.ensures.ok.fits
+finish-requires-clause-stands g c κs within = c.in-Ok.ensures.ok.fits
 
-pub returns-in-Ok-clause-ok : goal.returns-in-Ok-clause-ok
-returns-in-Ok-clause-ok g c =
+pub returns-clause-ok : goal.returns-clause-ok
+returns-clause-ok g c =
     let b = c.in-Ok.ensures.ok in
     let v = c.args.place.now.me.0 in
     let done = c.finish.ensures.me b.entry (one_more v _ _ _ b.entry b.turn b.more) in
@@ -35,8 +35,8 @@ returns-in-Ok-clause-ok g c =
       ap (λ (w : View). w.busy) view,
     )
 
-pub returns-in-Ok-clause-job : goal.returns-in-Ok-clause-job
-returns-in-Ok-clause-job g c =
+pub returns-clause-job : goal.returns-clause-job
+returns-clause-job g c =
     let b = c.in-Ok.ensures.ok in
     let v = c.args.place.now.me.0 in
     let done = c.finish.ensures.me b.entry (one_more v _ _ _ b.entry b.turn b.more) in

@@ -4,16 +4,16 @@ use Rattle.mdb_shared.proofs.Keeping.{has_turn, one_more, stepped_well, view_aft
 use Rattle.mdb_shared.proofs.turn.one_step.Goals as goal
 
 pub finish-requires-clause-turn : goal.finish-requires-clause-turn
-finish-requires-clause-turn g c = has_turn c.args.place.now.me.0 _ _ _ c.in-Ok.ensures.ok.turn c.requires.ready.2
+finish-requires-clause-turn g c κs within = has_turn c.args.place.now.me.0 _ _ _ c.in-Ok.ensures.ok.turn c.requires.ready.2
 
 pub finish-requires-clause-log : goal.finish-requires-clause-log
-finish-requires-clause-log g c = let b = c.in-Ok.ensures.ok in (b.entry, b.is.0, one_more c.args.place.now.me.0 _ _ _ b.entry b.turn b.more)
+finish-requires-clause-log g c κs within = let b = c.in-Ok.ensures.ok in (b.entry, b.is.0, one_more c.args.place.now.me.0 _ _ _ b.entry b.turn b.more)
 
 pub finish-requires-clause-stands : goal.finish-requires-clause-stands
-finish-requires-clause-stands g c = c.in-Ok.ensures.ok.fits
+finish-requires-clause-stands g c κs within = c.in-Ok.ensures.ok.fits
 
-pub returns-in-Ok-clause-ok : goal.returns-in-Ok-clause-ok
-returns-in-Ok-clause-ok g c =
+pub returns-clause-ok : goal.returns-clause-ok
+returns-clause-ok g c =
     let b = c.in-Ok.ensures.ok in
     let v = c.args.place.now.me.0 in
     let done = c.finish.ensures.me b.entry (one_more v _ _ _ b.entry b.turn b.more) in
