@@ -7,12 +7,12 @@ use Rattle.mdb_base.specs.Outside.{Rose, Held, Took, IsFlushed}
 use Rattle.mdb_lines.specs.declared.run_error.RunError.{RunError}
 use Rattle.mdb_lines.specs.declared.run_error.RunError.TheVariants as errors
 use Rattle.mdb_lines.specs.Status.{Told, Tells, status, message}
-use Rattle.mdb_lines.specs.Loops.{TookFront}
+use Rattle.mdb_lines.specs.Loops.{TookFront, ReadsAll}
 use Rattle.mdb_lines.proofs.Loops.{took_no_more}
 use Rattle.mdb_audit.specs.LegalText.{IsVerdict}
 use Rattle.mdb_audit.specs.declared.verdict.Verdict.{Verdict}
 use Rattle.mdb_audit.specs.declared.verdict.Verdict.TheVariants.{Legal, Bad}
-use Rattle.mdb_audit.specs.AuditRuns.{max_log, ReadsLog, LineWritten, Seen, Audited, NotWritten, AuditFails, RunsAudit, AuditEnds, EndsAudit, TellsTooLong, verdict_line, verdict_status}
+use Rattle.mdb_audit.specs.AuditRuns.{max_log, LineWritten, Seen, Audited, NotWritten, AuditFails, RunsAudit, AuditEnds, EndsAudit, TellsTooLong, verdict_line, verdict_status}
 
 -- the sink took the line, and what was flushed is no more
 pub line-flushed : (a b c : Option Held) (line : List ℕ) (before now later : ℕ) → Took a b line → Took b c [] → IsFlushed c → now ≡ before → later ≡ now → LineWritten line a c before later (Ok tt)
@@ -26,7 +26,7 @@ abbrev pub WrittenRun : Seen → Seen → Verdict → Result (Unit {0}) RunError
 WrittenRun old new verdict (Ok u) = RunsAudit old new (Ok verdict)
 WrittenRun old new verdict (Err e) = RunsAudit old new (Err e)
 
-pub run-written : (old new : Seen) (verdict : Verdict) (text line : List ℕ) (r : Result (Unit {0}) RunError) → ReadsLog old.left new.left old.reads new.reads text → IsVerdict text verdict → line ≡ verdict_line verdict
+pub run-written : (old new : Seen) (verdict : Verdict) (text line : List ℕ) (r : Result (Unit {0}) RunError) → ReadsAll max_log old.left new.left old.reads new.reads text → IsVerdict text verdict → line ≡ verdict_line verdict
     → LineWritten line old.held new.held old.writes new.writes r → WrittenRun old new verdict r
 run-written old new verdict text line (Ok u) read right same w = record { text = text; read = read; right = right; taken = subst (Took old.held new.held) same w.0; flushed = w.1; same = w.2 }
 run-written old new verdict text line (Err errors.WriteFault) read right same w = record { text = text; verdict = verdict; read = read; right = right; taken = subst (TookFront old.held new.held) same w.0; rose = w.1 }

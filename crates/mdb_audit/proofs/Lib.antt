@@ -1,7 +1,6 @@
 pub mod Alike
 pub mod AuditEnding
 pub mod Callers
-pub mod FewReads
 pub mod FirstCome
 pub mod Firsts
 pub mod HomesOn

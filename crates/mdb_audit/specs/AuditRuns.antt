@@ -1,11 +1,11 @@
 -- What the tool reads, writes and answers.
-use Rattle.std.specs.Prelude.{◌≡◌, ℕ, ◌+◌, ◌≤◌, ◌<◌, List, [], ◌∷◌, ◌++◌, length, codes, decimal, Option, Result, Ok, Err, ◌⊎◌}
-use Rattle.std.specs.Io.KnownBytes.{Consumes, IsAtEnd}
+use Rattle.std.specs.Prelude.{◌≡◌, ℕ, ◌<◌, List, [], ◌∷◌, ◌++◌, length, codes, decimal, Option, Result, Ok, Err, ◌⊎◌}
+use Rattle.std.specs.Io.KnownBytes.{Consumes}
 use Rattle.mdb_base.specs.Outside.{Rose, Held, Took, IsFlushed}
 use Rattle.mdb_lines.specs.declared.run_error.RunError.{RunError}
 use Rattle.mdb_lines.specs.declared.run_error.RunError.TheVariants as errors
 use Rattle.mdb_lines.specs.Status.{Told, Tells, status, message}
-use Rattle.mdb_lines.specs.Loops.{TookFront, CalledWithin}
+use Rattle.mdb_lines.specs.Loops.{TookFront, ReadsAll}
 use Rattle.mdb_audit.specs.LegalText.{IsVerdict}
 use Rattle.mdb_audit.specs.declared.verdict.Why.{Why}
 use Rattle.mdb_audit.specs.declared.verdict.Why.TheVariants.{Spelling, Opening, Grant, Place, Waiting}
@@ -35,28 +35,6 @@ abbrev pub verdict_status : Verdict → ℕ
 verdict_status (Legal n) = 0
 verdict_status (Bad n why) = 7
 
--- All was read, and it isn't too long.
-pub record ReadsLog (left new_left : Option (List ℕ)) (faults new_faults : ℕ) (text : List ℕ) : Type 0 where
-  pub consumed : Consumes left new_left text
-  pub ended : IsAtEnd new_left
-  pub short : length text ≤ max_log
-  pub same : new_faults ≡ faults
-
--- Reading ended so: for want of memory, at a fault, or past the greatest length.
-abbrev pub LogReadEnds : Option (List ℕ) → Option (List ℕ) → ℕ → ℕ → RunError → Type 0
-LogReadEnds left new_left faults new_faults errors.OutOfMemory = new_faults ≡ faults
-LogReadEnds left new_left faults new_faults errors.ReadFault = Rose faults new_faults
-LogReadEnds left new_left faults new_faults errors.WriteFault = ⊥
-LogReadEnds left new_left faults new_faults (errors.Malformed n) = ⊥
-LogReadEnds left new_left faults new_faults errors.TooLong = (bytes : List ℕ) × Consumes left new_left bytes × (max_log < length bytes) × (new_faults ≡ faults)
-
--- These bytes were read by at most one call more than they are, and by at most one more than a log may have bytes.
-pub record ReadsLogFew (left new_left : Option (List ℕ)) (calls new_calls : Option ℕ) : Type 0 where
-  pub bytes : List ℕ
-  pub consumed : Consumes left new_left bytes
-  pub each : CalledWithin calls new_calls (1 + length bytes)
-  pub few : CalledWithin calls new_calls (1 + max_log)
-
 -- The sink took the line, flushed; or it failed.
 abbrev pub LineWritten : List ℕ → Option Held → Option Held → ℕ → ℕ → Result (Unit {0}) RunError → Type 0
 LineWritten line held new_held faults new_faults (Ok u) = Took held new_held line × IsFlushed new_held × (new_faults ≡ faults)
@@ -73,7 +51,7 @@ pub record Seen : Type 0 where
 -- A log was audited, with this verdict: the source was read to its end, no call failed, and the sink took exactly the verdict's line, flushed.
 pub record Audited (old new : Seen) (verdict : Verdict) : Type 0 where
   pub text : List ℕ
-  pub read : ReadsLog old.left new.left old.reads new.reads text
+  pub read : ReadsAll max_log old.left new.left old.reads new.reads text
   pub right : IsVerdict text verdict
   pub taken : Took old.held new.held (verdict_line verdict)
   pub flushed : IsFlushed new.held
@@ -83,7 +61,7 @@ pub record Audited (old new : Seen) (verdict : Verdict) : Type 0 where
 pub record NotWritten (old new : Seen) : Type 0 where
   pub text : List ℕ
   pub verdict : Verdict
-  pub read : ReadsLog old.left new.left old.reads new.reads text
+  pub read : ReadsAll max_log old.left new.left old.reads new.reads text
   pub right : IsVerdict text verdict
   pub taken : TookFront old.held new.held (verdict_line verdict)
   pub rose : Rose old.writes new.writes

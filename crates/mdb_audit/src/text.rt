@@ -16,7 +16,7 @@ use mdb_lines::cut_line;
 use std::alloc::Global;
 
 /// The most bytes that a log may have.
-pub const MAX_LOG: usize = 8_388_608;
+pub const MAX_LOG: u32 = 8_388_608;
 
 fn entry(alloc: Global, line: &[u8], number: u32) -> Result<Option<Shown>, OutOfMemory>
     ensures { IfOk result (ShowsThis number line.now) }

@@ -1,42 +1,19 @@
 //! The tool: it reads a log to its end and writes the verdict.
 
-ghost use Rattle.std.specs.Prelude.{◌≡◌, ◌≤◌, ◌<◌, ℕ, List, [], length, map, Some, IfOk, IfErr, string_bytes};
+ghost use Rattle.std.specs.Prelude.{◌≡◌, ◌≤◌, ◌<◌, ℕ, List, [], length, map, Some, IfOk, string_bytes};
 ghost use Rattle.mdb_base.specs.Outside.{Rose};
+ghost use Rattle.mdb_lines.specs.Loops.{ReadsFew};
 ghost use Rattle.mdb_lines.specs.Status.{Tells, message, status};
-ghost use Rattle.mdb_audit.specs.AuditRuns.{ReadsLog, LogReadEnds, ReadsLogFew, LineWritten, RunsAudit, AuditEnds, EndsAudit, TellsTooLong, why_word, verdict_line, verdict_status, usage};
+ghost use Rattle.mdb_audit.specs.AuditRuns.{LineWritten, RunsAudit, AuditEnds, EndsAudit, TellsTooLong, why_word, verdict_line, verdict_status, usage};
 ghost use Rattle.mdb_audit.specs.LegalText.{IsVerdict};
 
 use crate::text::{MAX_LOG, audit};
 use crate::verdict::{Verdict, Why};
 use mdb_base::{OutOfMemory, Sink, Source};
-use mdb_lines::{RunError, Status, end_with_error, tell_usage, write_all};
+use mdb_lines::{RunError, Status, end_with_error, read_all, tell_usage, write_all};
 use std::alloc::Global;
 
 const USAGE: &str = "usage: mdb_audit\n";
-
-// Reads to the end, in at most one turn more than there may be bytes; each turn takes a byte or finds the end.
-fn read_log<S: Source>(alloc: Global, source: &mut S) -> Result<Vec<u8>, RunError>
-    ensures all { IfOk result (λ v. ReadsLog (S.left source.old) (S.left source.new) (S.faults source.old) (S.faults source.new) v.items) }
-    ensures ends { IfErr result (LogReadEnds (S.left source.old) (S.left source.new) (S.faults source.old) (S.faults source.new)) }
-    ensures few { ReadsLogFew (S.left source.old) (S.left source.new) (S.calls source.old) (S.calls source.new) }
-{
-    let mut input = Vec::new(alloc);
-    let mut buffer = [0u8; 1024];
-    for _turn in 0..8_388_609u32 {
-        match source.read(&mut buffer) {
-            Err(_) => return Err(RunError::ReadFault),
-            Ok(0) => return Ok(input),
-            Ok(count) => {
-                let (piece, _rest) = buffer.split_at(count);
-                input.extend_from_slice(piece)?;
-                if input.len() > MAX_LOG {
-                    return Err(RunError::TooLong);
-                }
-            }
-        }
-    }
-    Err(RunError::TooLong)
-}
 
 fn word(why: Why) -> &'static str
     ensures { result.now ≡ why_word why }
@@ -98,9 +75,9 @@ fn run<S: Source, K: Sink>(alloc: Global, source: &mut S, sink: &mut K) -> Resul
     ensures runs { RunsAudit
         (record { left = S.left source.old; reads = S.faults source.old; held = K.held sink.old; writes = K.faults sink.old })
         (record { left = S.left source.new; reads = S.faults source.new; held = K.held sink.new; writes = K.faults sink.new }) result }
-    ensures few { ReadsLogFew (S.left source.old) (S.left source.new) (S.calls source.old) (S.calls source.new) }
+    ensures few { ReadsFew MAX_LOG (S.left source.old) (S.left source.new) (S.calls source.old) (S.calls source.new) }
 {
-    let text = match read_log(alloc, source) {
+    let text = match read_all(alloc, source, MAX_LOG) {
         Ok(text) => text,
         Err(e) => return Err(e),
     };
@@ -136,7 +113,7 @@ pub fn run_audit<S: Source, K: Sink, E: Sink>(
         (record { held = E.held errors.old; faults = E.faults errors.old }) (record { held = E.held errors.new; faults = E.faults errors.new }) result }
 
     // The source is read at most once more than there are bytes, and at most 8,388,609 times.
-    ensures few { ReadsLogFew (S.left source.old) (S.left source.new) (S.calls source.old) (S.calls source.new) }
+    ensures few { ReadsFew MAX_LOG (S.left source.old) (S.left source.new) (S.calls source.old) (S.calls source.new) }
 
     // A log on the source gets its verdict where nothing fails, unless memory runs out.
     ensures complete { (text : List ℕ) → words.now ≡ [] → S.left source.old ≡ Some text → length text ≤ MAX_LOG

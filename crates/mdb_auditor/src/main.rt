@@ -3,31 +3,9 @@
 
 use mdb_audit::run_audit;
 use mdb_base::{Reading, Writing};
-use mdb_lines::{RunError, Status, status_of, tell_error};
+use mdb_lines::{RunError, Status, command_words, status_of, tell_error};
 use std::alloc::AllocError;
-use std::env;
-use std::io::ErrorKind;
 use std::process::ExitCode;
-use std::rt::Env;
-
-// The words of the command line; where one of them is no text, a word that is none.
-fn words<R: Env + AllocGlobal>(rt: &R) -> Result<Vec<String>, AllocError> {
-    let mut words = Vec::new(rt.alloc());
-    match env::args(rt) {
-        Ok(args) => {
-            for word in args.skip(1) {
-                words.push(word)?;
-            }
-        }
-        Err(e) => {
-            if e.kind() == ErrorKind::OutOfMemory {
-                return Err(AllocError);
-            }
-            words.push(String::from_str(rt.alloc(), "?")?)?;
-        }
-    }
-    Ok(words)
-}
 
 fn status<R: AllocGlobal>(
     rt: &R,
@@ -51,7 +29,7 @@ fn status<R: AllocGlobal>(
 }
 
 fn answer(rt: &HostRuntime) -> Result<Status, AllocError> {
-    let words = words(rt)?;
+    let words = command_words(rt)?;
     status(rt, words.as_slice(), rt)
 }
 

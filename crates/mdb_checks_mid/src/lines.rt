@@ -3,8 +3,8 @@
 use mdb_base::{MemSink, MemSource, OutOfMemory};
 use mdb_cases::{Page, decoded, parted, small, value_of};
 use mdb_lines::{
-    LineError, RunError, cut_line, read_all, read_line, status_of, tell_error, tell_usage,
-    write_all, write_line,
+    LineError, MAX_INPUT, RunError, cut_line, read_all, read_line, status_of, tell_error,
+    tell_usage, write_all, write_line,
 };
 
 fn compare(page: &mut Page, spelling: Result<String, OutOfMemory>, line: &str) {
@@ -48,7 +48,7 @@ fn input(page: &mut Page, given: &str) {
     let fails = page.numbers(value_of(given, "fails"));
     let held = decoded(page, value_of(given, "held"));
     let mut source = MemSource::new(page.bytes(held.as_str()), piece, fails);
-    let input = read_all(page.alloc, &mut source);
+    let input = read_all(page.alloc, &mut source, MAX_INPUT);
     show_input(page, input);
 }
 
@@ -59,7 +59,7 @@ fn long(page: &mut Page, given: &str) {
         page.fail();
     }
     let mut source = MemSource::new(held, 1000, Vec::new(page.alloc));
-    match read_all(page.alloc, &mut source) {
+    match read_all(page.alloc, &mut source, MAX_INPUT) {
         Ok(input) => page.show(&input.len()),
         Err(RunError::OutOfMemory) => page.fail(),
         Err(error) => page.show(&error),

@@ -165,7 +165,7 @@ pub fn join(
     Ok(())
 }
 
-/// The same where the list has room, so that no memory is taken.
+/// One more server where none has its address, in a list that has room for it, so that no memory is taken.
 pub fn join_within(servers: &mut Vec<ServerDescription>, server: ServerDescription)
     requires { vec_len servers.old < vec_capacity servers.old }
     ensures joined { servers.new.items ≡ join server servers.old.items }

@@ -202,7 +202,7 @@ pub nothing-ran : (input : List ℕ) (held : Option Held) (faults : ℕ) → len
 nothing-ran [] held faults none = inl (refl, refl, took_nothing held, refl)
 nothing-ran (x ∷ input) held faults none = absurd (omega arith)
 
-pub flush-fails : (old new : Seen) (input : List ℕ) (log : List Entry) (mid : Option Held) (count : ℕ) → ReadsAll old.left new.left old.reads new.reads input → Ran input log old.held mid old.writes count → Took mid new.held [] → Rose count new.writes
+pub flush-fails : (old new : Seen) (input : List ℕ) (log : List Entry) (mid : Option Held) (count : ℕ) → ReadsAll max_input old.left new.left old.reads new.reads input → Ran input log old.held mid old.writes count → Took mid new.held [] → Rose count new.writes
     → Ended old new errors.WriteFault
 flush-fails old new input log mid count read (inl (none, empty, taken, same)) took rose =
     (input, read, inr (none, took_no_more old.held mid new.held [] taken took, subst (λ (f : ℕ). Rose f new.writes) same rose))
@@ -211,7 +211,7 @@ flush-fails old new input log mid count read (inr (n, events, ran)) took rose =
     let all : Took old.held new.held (take (length text) text) = rw (take-length text) (took_no_more old.held mid new.held text ran.taken took) in
     (input, read, inl (inr (n, events, [], (ran.begins, (length text, all), subst (λ (f : ℕ). Rose f new.writes) ran.same rose))))
 
-pub read-ends : (old new : Seen) (c : RunError) → new.held ≡ old.held → new.writes ≡ old.writes → ReadEnds old.left new.left old.reads new.reads c → Ended old new c
+pub read-ends : (old new : Seen) (c : RunError) → new.held ≡ old.held → new.writes ≡ old.writes → ReadEnds max_input old.left new.left old.reads new.reads c → Ended old new c
 read-ends old new errors.OutOfMemory held writes h = (h, writes, inl (rw held (took_nothing old.held)))
 read-ends old new errors.ReadFault held writes h = (h, writes, rw held (took_nothing old.held))
 read-ends old new errors.WriteFault held writes h = absurd h
@@ -222,7 +222,7 @@ no-writes : (input : List ℕ) (held new_held : Option Held) (faults new_faults 
 no-writes input held new_held faults new_faults (inl h) = h.1
 no-writes input held new_held faults new_faults (inr (n, events, more, h)) = h.2
 
-pub lines-end : (old new : Seen) (input : List ℕ) (c : RunError) → ReadsAll old.left new.left old.reads new.reads input → RunEnds input old.held new.held old.writes new.writes c → Ended old new c
+pub lines-end : (old new : Seen) (input : List ℕ) (c : RunError) → ReadsAll max_input old.left new.left old.reads new.reads input → RunEnds input old.held new.held old.writes new.writes c → Ended old new c
 lines-end old new input errors.OutOfMemory read h = (read.same, no-writes input old.held new.held old.writes new.writes h, inr (input, read, h))
 lines-end old new input errors.ReadFault read (inl h) = absurd h
 lines-end old new input errors.ReadFault read (inr h) = absurd h.3

@@ -119,7 +119,7 @@ pub record Seen : Type 0 where
 -- A run ended with this log: the source was read to its end, and the sink took the text and flushed it.
 pub record Finished (old new : Seen) (log : List Entry) : Type 0 where
   pub input : List ℕ
-  pub read : ReadsAll old.left new.left old.reads new.reads input
+  pub read : ReadsAll max_input old.left new.left old.reads new.reads input
   pub ran : Ran input log old.held new.held old.writes new.writes
   pub flushed : IsFlushed new.held
 
@@ -127,12 +127,12 @@ pub record Finished (old new : Seen) (log : List Entry) : Type 0 where
 abbrev pub Ended : Seen → Seen → RunError → Type 0
 Ended old new errors.OutOfMemory =
     (new.reads ≡ old.reads) × (new.writes ≡ old.writes)
-    × (Took old.held new.held [] ⊎ ((input : List ℕ) × ReadsAll old.left new.left old.reads new.reads input × RunEnds input old.held new.held old.writes new.writes errors.OutOfMemory))
+    × (Took old.held new.held [] ⊎ ((input : List ℕ) × ReadsAll max_input old.left new.left old.reads new.reads input × RunEnds input old.held new.held old.writes new.writes errors.OutOfMemory))
 Ended old new errors.ReadFault = Rose old.reads new.reads × (new.writes ≡ old.writes) × Took old.held new.held []
 Ended old new errors.WriteFault =
-    (input : List ℕ) × ReadsAll old.left new.left old.reads new.reads input
+    (input : List ℕ) × ReadsAll max_input old.left new.left old.reads new.reads input
     × (RunEnds input old.held new.held old.writes new.writes errors.WriteFault ⊎ ((input ≡ []) × Took old.held new.held [] × Rose old.writes new.writes))
-Ended old new (errors.Malformed n) = (input : List ℕ) × ReadsAll old.left new.left old.reads new.reads input × RunEnds input old.held new.held old.writes new.writes (errors.Malformed n)
+Ended old new (errors.Malformed n) = (input : List ℕ) × ReadsAll max_input old.left new.left old.reads new.reads input × RunEnds input old.held new.held old.writes new.writes (errors.Malformed n)
 Ended old new errors.TooLong =
     (new.reads ≡ old.reads) × (new.writes ≡ old.writes) × Took old.held new.held []
     × ((bytes : List ℕ) × Consumes old.left new.left bytes × (max_input < length bytes))

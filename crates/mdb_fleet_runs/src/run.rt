@@ -129,7 +129,7 @@ fn run<S: Source, K: Sink>(alloc: Global, source: &mut S, sink: &mut K) -> Resul
         (record { left = S.left source.old; reads = S.faults source.old; held = K.held sink.old; writes = K.faults sink.old })
         (record { left = S.left source.new; reads = S.faults source.new; held = K.held sink.new; writes = K.faults sink.new })) }
 {
-    let input = match read_all(alloc, source) {
+    let input = match read_all(alloc, source, MAX_INPUT) {
         Ok(input) => input,
         Err(e) => return Err(e),
     };

@@ -76,7 +76,7 @@ impl TopologyWatcher {
         glance(access, seat, &State)
     }
 
-    /// The same, and the watcher has seen it then.
+    /// What is published last, which the watcher has seen then.
     pub fn observe_latest<C: Core, R: Wait>(
         &mut self,
         access: &Access<'_, C, R>,

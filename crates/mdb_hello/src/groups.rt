@@ -1,6 +1,7 @@
 //! Reading a reply from a document.
 //!
-//! The fields are read in the order of their table, five at a time.
+//! The fields are read in the order of their table, five at a time: the proof of a function grows with the ways out of it times the values that live there, so one
+//! that read all thirty would be dear. The groups mean nothing else.
 
 ghost use Rattle.std.specs.Prelude.{◌≡◌, take, drop};
 ghost use Rattle.mdb_base.specs.Document.{doc_content};

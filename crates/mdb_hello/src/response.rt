@@ -17,7 +17,7 @@ pub struct LastWrite {
 pub struct HelloCommandResponse {
     /// Whether the server takes writes: a primary, a router or a server alone.
     pub is_writable_primary: Option<bool>,
-    /// The same, as servers say it that answer the older command.
+    /// Whether the server can be written to, as servers say it that answer the older command.
     pub is_master: Option<bool>,
     /// Whether the server knows the command `hello`.
     pub hello_ok: Option<bool>,

@@ -10,7 +10,7 @@ use Rattle.std.specs.Io.KnownBytes.{Consumes, Keeps}
 use Rattle.mdb_base.specs.AddressReading.{until, beyond}
 use Rattle.mdb_base.proofs.Words.{until_found, until_missing}
 use Rattle.mdb_base.specs.Outside.{Rose, Counts, Held, Took, WriteCause}
-use Rattle.mdb_lines.specs.Script.{lines_of, max_input}
+use Rattle.mdb_lines.specs.Script.{lines_of}
 use Rattle.mdb_lines.specs.Loops.{CalledWithin, ReadsFew}
 
 pub took_nothing : (a : Option Held) → Took a a []
@@ -74,21 +74,21 @@ called_more (Some x) (Some y) None k p q = absurd q
 called_more (Some x) (Some y) (Some z) k p q = omega (arith, p, q)
 
 -- reads that took a byte each
-pub reads_so_far : (a b : Option (List ℕ)) (p q : Option ℕ) (turn : ℕ) (x : List ℕ) → Consumes a b x → CalledWithin p q turn → turn ≤ length x → length x ≤ max_input → ReadsFew a b p q
-reads_so_far a b p q turn x h n each short = record {
+pub reads_so_far : (limit : ℕ) (a b : Option (List ℕ)) (p q : Option ℕ) (turn : ℕ) (x : List ℕ) → Consumes a b x → CalledWithin p q turn → turn ≤ length x → length x ≤ limit → ReadsFew limit a b p q
+reads_so_far limit a b p q turn x h n each short = record {
   bytes = x;
   consumed = h;
   each = called_wider p q turn (1 + length x) n (omega (arith, each));
-  few = called_wider p q turn (1 + max_input) n (omega (arith, each, short));
+  few = called_wider p q turn (1 + limit) n (omega (arith, each, short));
 }
 
 -- reads that took a byte each, and one more
-pub reads_few : (a b c : Option (List ℕ)) (p q r : Option ℕ) (turn : ℕ) (x y : List ℕ) → Consumes a b x → Consumes b c y → CalledWithin p q turn → Counts q r → turn ≤ length x → length x ≤ max_input → ReadsFew a c p r
-reads_few a b c p q r turn x y h k n m each short = record {
+pub reads_few : (limit : ℕ) (a b c : Option (List ℕ)) (p q r : Option ℕ) (turn : ℕ) (x y : List ℕ) → Consumes a b x → Consumes b c y → CalledWithin p q turn → Counts q r → turn ≤ length x → length x ≤ limit → ReadsFew limit a c p r
+reads_few limit a b c p q r turn x y h k n m each short = record {
   bytes = x ++ y;
   consumed = consumes_more a b c x y h k;
   each = called_wider p r (turn + 1) (1 + length (x ++ y)) (called_more p q r turn n m) (omega (arith, each, length-append x y));
-  few = called_wider p r (turn + 1) (1 + max_input) (called_more p q r turn n m) (omega (arith, each, short));
+  few = called_wider p r (turn + 1) (1 + limit) (called_more p q r turn n m) (omega (arith, each, short));
 }
 
 -- lines

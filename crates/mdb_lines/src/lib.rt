@@ -2,6 +2,7 @@
 #![tactic(auto)]
 
 mod caller_lines;
+mod command_words;
 mod connection_lines;
 mod ending;
 mod entry_text;
@@ -26,6 +27,7 @@ mod types;
 mod use_word;
 mod writing_loop;
 
+pub use command_words::command_words;
 pub use ending::{end_run, end_with_error};
 pub use entry_text::{ReplyText, write_entry};
 pub use line_reading::read_line;

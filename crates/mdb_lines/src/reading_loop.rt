@@ -8,25 +8,25 @@ use mdb_base::Source;
 use std::alloc::Global;
 
 /// The most bytes that a script may have.
-pub const MAX_INPUT: usize = 131_072;
+pub const MAX_INPUT: u32 = 131_072;
 
-/// Reads to the end, in at most 131,073 reads, one more than there may be bytes; each takes a byte, finds the end or fails.
-/// `ReadFault` only where the source failed, `TooLong` only past `MAX_INPUT` bytes.
-pub fn read_all<S: Source>(alloc: Global, source: &mut S) -> Result<Vec<u8>, RunError>
-    ensures all { IfOk result (λ v. ReadsAll (S.left source.old) (S.left source.new) (S.faults source.old) (S.faults source.new) v.items) }
-    ensures ends { IfErr result (ReadEnds (S.left source.old) (S.left source.new) (S.faults source.old) (S.faults source.new)) }
-    ensures few { ReadsFew (S.left source.old) (S.left source.new) (S.calls source.old) (S.calls source.new) }
+/// Reads to the end, in at most one read more than there may be bytes; each takes a byte, finds the end or fails.
+/// `ReadFault` only where the source failed, `TooLong` only past `limit` bytes.
+pub fn read_all<S: Source>(alloc: Global, source: &mut S, limit: u32) -> Result<Vec<u8>, RunError>
+    ensures all { IfOk result (λ v. ReadsAll limit (S.left source.old) (S.left source.new) (S.faults source.old) (S.faults source.new) v.items) }
+    ensures ends { IfErr result (ReadEnds limit (S.left source.old) (S.left source.new) (S.faults source.old) (S.faults source.new)) }
+    ensures few { ReadsFew limit (S.left source.old) (S.left source.new) (S.calls source.old) (S.calls source.new) }
 {
     let mut input = Vec::new(alloc);
-    let mut buffer = [0u8; 1024];
-    for _turn in 0..131_073u32 {
+    let mut buffer = [0u8; 16384];
+    for _turn in 0..u64::from(limit) + 1 {
         match source.read(&mut buffer) {
             Err(_) => return Err(RunError::ReadFault),
             Ok(0) => return Ok(input),
             Ok(count) => {
                 let (piece, _rest) = buffer.split_at(count);
                 input.extend_from_slice(piece)?;
-                if input.len() > MAX_INPUT {
+                if input.len() > limit as usize {
                     return Err(RunError::TooLong);
                 }
             }

@@ -70,4 +70,31 @@ impl Log {
         self.entries.push(entry)?;
         Ok(())
     }
+
+    /// One entry more, of a copy of the step. Its facts keep no memory beyond their own.
+    pub fn enter(
+        &mut self,
+        seat: u32,
+        step: &Step,
+        reply: Reply,
+        mut facts: Vec<Fact>,
+    ) -> Result<(), AllocError>
+        ensures entry { OnOk result (self.new ≡ self.old ++ record { seat = seat; step = step.now; reply = reply; facts = facts.items } ∷ []) }
+        ensures err { OnErr result (self.new ≡ self.old) }
+    {
+        facts.shrink_to_fit();
+        match step.clone() {
+            Ok(step) => self.push(Entry {
+                seat,
+                step,
+                reply,
+                facts: Items::new(facts),
+            }),
+            Err(e) => {
+                drop(reply);
+                drop(facts);
+                Err(e)
+            }
+        }
+    }
 }

@@ -3,16 +3,10 @@
 ghost use Rattle.std.specs.Prelude.{◌≡◌, ◌<◌, ◌^◌, ◌++◌, ℕ, ℤ, List, decimal, true, FitsSigned};
 ghost use Rattle.std.specs.Int.{w32};
 ghost use Rattle.std.specs.Fmt.{signed_decimal};
-ghost use Rattle.mdb_base.specs.AddressRule.{is_address};
-ghost use Rattle.mdb_base.specs.Spelling.{address};
-ghost use Rattle.mdb_base.specs.declared.address.ServerAddress.{ServerAddress};
 ghost use Rattle.mdb_parts.specs.Reading.{Follows, GivesFirst};
 
 use crate::line_error::LineError;
-use crate::values::address_word;
 use crate::words::{field, number32, number64, signed32};
-use mdb_base::ServerAddress;
-use std::alloc::Global;
 
 /// A number of 64 bits.
 #[tactic(auto, using(crate::proofs::TextLemmas::decimal_lacks))]
@@ -42,18 +36,4 @@ pub fn i32_field<'a>(text: &'a str, name: &str) -> Result<(i32, &'a str), LineEr
     let (word, rest) = field(text, name)?;
     let number = signed32(word).ok_or(LineError::Bad)?;
     Ok((number, rest))
-}
-
-/// An address.
-#[tactic(auto, using(crate::proofs::AddressLemmas::address_lacks))]
-pub fn address_field<'a>(
-    alloc: Global,
-    text: &'a str,
-    name: &str,
-) -> Result<(ServerAddress, &'a str), LineError>
-    ensures { (a : ServerAddress) (rest : List ℕ) → is_address a ≡ true → Follows rest → text.now ≡ name.now ++ (address a ++ rest) → GivesFirst a rest result }
-{
-    let (word, rest) = field(text, name)?;
-    let address = address_word(alloc, word)?;
-    Ok((address, rest))
 }

@@ -49,7 +49,7 @@ impl Pins {
         Ok(self.is_pinned || (self.heard < keeper.give_ups && was_above))
     }
 
-    /// The same, with all that its keeper did heard.
+    /// These pins, with all that their keeper did heard.
     pub fn settled(self, keeper: &Doings) -> Result<Pins, OutOfMemory>
         ensures { IfOk result (λ x. x ≡ settled keeper.now self) }
     {

@@ -16,16 +16,27 @@ use std::marker::Model;
 /// The parts of a pool.
 #[derive(Drop)]
 pub struct Body {
+    /// The pool's number.
     pub pool: u32,
+    /// The address of its server.
     pub address: ServerAddress,
+    /// Its limits.
     pub options: PoolOptions,
+    /// The moment of its last accepted step.
     pub last: TurnedOne<Moment>,
+    /// How many connections were created so far.
     pub created: TurnedOne<u32>,
+    /// Its live connections by id: on the left those that are available, on the right those that are pending.
     pub connections: Sides<Connection>,
+    /// Its requests by number: on the left the warm ones that are queued, on the right all that are queued.
     pub requests: Sides<Request>,
+    /// Whether it may be used.
     pub status: TurnedOne<Status>,
+    /// Its clears, oldest first.
     pub clears: Turned<Clear>,
+    /// The requests whose outcome was told, or that gave up or came back.
     pub settled: NumberSet,
+    /// The pending connections that a claim was told to establish.
     pub claimed: NumberSet,
 }
 

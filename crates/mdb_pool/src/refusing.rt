@@ -183,7 +183,7 @@ impl Body {
         }
     }
 
-    // The same before any other test: no step is earlier than the last.
+    // The refusal by the row, after the test that comes before any other: no step is earlier than the last.
     pub(super) fn refusal_at(&self, moment: Moment, row: Option<Refused>) -> Option<Refused>
         ensures { result ≡ if nat_lt moment self.now.last.now then Some (TimeBack self.now.last.now) else row }
     {

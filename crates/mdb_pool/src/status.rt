@@ -18,17 +18,24 @@ pub enum PoolState {
 /// What a pool is, with the cause of a pause.
 #[derive(Drop)]
 pub enum Status {
+    /// It was never marked ready.
     New,
+    /// Connections can be checked out.
     Ready,
+    /// It was cleared as a whole by this error, and not marked ready since.
     Paused(Error),
+    /// It was closed for good.
     Closed,
 }
 
-/// A clear of the pool, or of one service of it, and how many connections were created before it. `timeout` tells that its cause is a network timeout.
+/// A clear of the pool, or of one service of it.
 #[derive(Clone, Copy)]
 pub struct Clear {
+    /// The service that was cleared, or none for the whole pool.
     pub service: Option<ObjectId>,
+    /// How many connections were created before it.
     pub after: u32,
+    /// Its cause is a network timeout.
     pub timeout: bool,
 }
 

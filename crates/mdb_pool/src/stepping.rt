@@ -5,7 +5,7 @@ ghost use Rattle.std.specs.Prelude.{◌≡◌, ◌++◌, ◌∷◌, [], OnOk, On
 use super::draft::Draft;
 use super::parts::Answered;
 use super::pool_core::PoolCore;
-use super::{Act, Entry, Log, Refused, Reply, Step};
+use super::{Act, Log, Refused, Reply, Step};
 use mdb_base::{Items, OutOfMemory};
 use mdb_events::Fact;
 use std::alloc::{AllocError, Global};
@@ -17,33 +17,6 @@ fn usual_facts(act: &Act) -> usize {
         Act::Established(_, _, _) => 2,
         Act::Collect(_) | Act::Claim => 0,
         _ => 1,
-    }
-}
-
-// One more entry, of a copy of the step. Its facts keep no memory beyond their own.
-fn log_step(
-    log: &mut Log,
-    seat: u32,
-    step: &Step,
-    reply: Reply,
-    mut facts: Vec<Fact>,
-) -> Result<(), AllocError>
-    ensures entry { OnOk result (log.new ≡ log.old ++ record { seat = seat; step = step.now; reply = reply; facts = facts.items } ∷ []) }
-    ensures err { OnErr result (log.new ≡ log.old) }
-{
-    facts.shrink_to_fit();
-    match step.clone() {
-        Ok(step) => log.push(Entry {
-            seat,
-            step,
-            reply,
-            facts: Items::new(facts),
-        }),
-        Err(e) => {
-            drop(reply);
-            drop(facts);
-            Err(e)
-        }
     }
 }
 
@@ -105,7 +78,7 @@ impl Draft {
         }
     }
 
-    // The same, told by the pool's history.
+    // Does the act of a step that is not refused: what it answers is told by the pool's history.
     pub(super) fn perform(
         &mut self,
         alloc: Global,
@@ -122,7 +95,7 @@ impl Draft {
         Ok(reply)
     }
 
-    // The same, with its facts after those before it.
+    // Does the act of a step that is not refused, and appends its facts to those before it; where there is no memory these are as before.
     fn tell_step(
         &mut self,
         alloc: Global,
@@ -147,7 +120,7 @@ impl Draft {
         }
     }
 
-    // The same, logged.
+    // Does the act of a step that is not refused, and logs it.
     fn log_step(
         &mut self,
         alloc: Global,
@@ -164,7 +137,7 @@ impl Draft {
     {
         let mut facts = Vec::with_capacity(alloc, usual_facts(&step.act))?;
         let reply = self.perform(alloc, &mut facts, step)?;
-        log_step(log, seat, step, reply, facts)?;
+        log.enter(seat, step, reply, facts)?;
         Ok(())
     }
 
@@ -190,7 +163,7 @@ impl Draft {
         })
     }
 
-    // The same for steps one after another.
+    // Answers steps one after another, and does each that isn't refused.
     pub(super) fn answer_all(
         &mut self,
         alloc: Global,
@@ -308,7 +281,7 @@ impl PoolCore {
         ensures logs { OnOk result ((h : List Item) → StandsFor self.now h → Logs self.now self.now log.old log.new seat step.now h) }
         ensures err { OnErr result (log.new ≡ log.old) }
     {
-        log_step(log, seat, step, Reply::Refused(why), Vec::new(alloc))?;
+        log.enter(seat, step, Reply::Refused(why), Vec::new(alloc))?;
         Ok(())
     }
 

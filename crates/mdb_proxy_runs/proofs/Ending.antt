@@ -207,14 +207,14 @@ first-unread input line behind faults line_error.OutOfMemory cut f = refl
 
 -- ---- whole runs
 
-pub read-ends : (old new : Seen) (c : RunError) → new.writes ≡ old.writes → ReadEnds old.left new.left old.reads new.reads c → Ended old new c
+pub read-ends : (old new : Seen) (c : RunError) → new.writes ≡ old.writes → ReadEnds max_input old.left new.left old.reads new.reads c → Ended old new c
 read-ends old new errors.OutOfMemory writes h = (h, writes)
 read-ends old new errors.ReadFault writes h = (h, writes)
 read-ends old new errors.WriteFault writes h = absurd h
 read-ends old new (errors.Malformed n) writes h = absurd h
 read-ends old new errors.TooLong writes (bytes, consumed, long, same) = (same, writes, (bytes, consumed, long))
 
-pub lines-end : (old new : Seen) (input : List ℕ) (c : RunError) → ReadsAll old.left new.left old.reads new.reads input → RunEnds input old.writes new.writes c → Ended old new c
+pub lines-end : (old new : Seen) (input : List ℕ) (c : RunError) → ReadsAll max_input old.left new.left old.reads new.reads input → RunEnds input old.writes new.writes c → Ended old new c
 lines-end old new input errors.OutOfMemory read h = (read.same, h)
 lines-end old new input errors.ReadFault read h = absurd h
 lines-end old new input errors.WriteFault read h = (input, read, h)

@@ -99,8 +99,8 @@ RunEnds input faults new_faults _ = ⊥
 abbrev pub Ended : Seen → Seen → RunError → Type 0
 Ended old new errors.OutOfMemory = (new.reads ≡ old.reads) × (new.writes ≡ old.writes)
 Ended old new errors.ReadFault = Rose old.reads new.reads × (new.writes ≡ old.writes)
-Ended old new errors.WriteFault = (input : List ℕ) × ReadsAll old.left new.left old.reads new.reads input × Rose old.writes new.writes
-Ended old new (errors.Malformed n) = (input : List ℕ) × ReadsAll old.left new.left old.reads new.reads input × IsBadAt input n × (new.writes ≡ old.writes)
+Ended old new errors.WriteFault = (input : List ℕ) × ReadsAll max_input old.left new.left old.reads new.reads input × Rose old.writes new.writes
+Ended old new (errors.Malformed n) = (input : List ℕ) × ReadsAll max_input old.left new.left old.reads new.reads input × IsBadAt input n × (new.writes ≡ old.writes)
 Ended old new errors.TooLong = (new.reads ≡ old.reads) × (new.writes ≡ old.writes) × ((bytes : List ℕ) × Consumes old.left new.left bytes × (max_input < length bytes))
 
 -- The answer is this error, unless memory ran out.

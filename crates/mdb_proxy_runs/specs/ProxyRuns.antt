@@ -4,7 +4,7 @@ use Rattle.mdb_base.specs.Outside.{Held, Took, IsFlushed}
 use Rattle.mdb_base.specs.declared.options.Options.{Options}
 use Rattle.mdb_log.specs.declared.log.Entry.{Entry}
 use Rattle.mdb_log.specs.LegalLog.{IsLegalLog}
-use Rattle.mdb_lines.specs.Script.{lines_of}
+use Rattle.mdb_lines.specs.Script.{lines_of, max_input}
 use Rattle.mdb_lines.specs.Loops.{ReadsAll}
 use Rattle.mdb_lines.specs.LogText.{reply_text}
 use Rattle.mdb_proxies.specs.Charge.{is_behind}
@@ -115,6 +115,6 @@ pub record Seen : Type 0 where
 -- A run ended with this log: the source was read to its end, the run is as above, and what the sink took is flushed.
 pub record Finished (old new : Seen) (log : List Entry) : Type 0 where
   pub input : List ℕ
-  pub read : ReadsAll old.left new.left old.reads new.reads input
+  pub read : ReadsAll max_input old.left new.left old.reads new.reads input
   pub ran : Ran input log old.held new.held old.writes new.writes
   pub flushed : IsFlushed new.held

@@ -7,11 +7,11 @@ use Rattle.mdb_base.specs.Outside.{Rose, Held, Took, IsFlushed}
 use Rattle.mdb_lines.specs.declared.run_error.RunError.{RunError}
 use Rattle.mdb_lines.specs.declared.run_error.RunError.TheVariants as errors
 use Rattle.mdb_lines.specs.Status.{Told, status}
-use Rattle.mdb_lines.specs.Loops.{TookFront}
+use Rattle.mdb_lines.specs.Loops.{TookFront, ReadsAll}
 use Rattle.mdb_lines.proofs.Loops.{took_no_more}
 use Rattle.mdb_recordings.specs.declared.standard.Standard.{Standard}
 use Rattle.mdb_recording_runs.specs.Report.{is_clean, read_of, report}
-use Rattle.mdb_recording_runs.specs.Runs.{max_recording, ReadsRecording, TextWritten, Seen, Judged, NotWritten, RunFails, Runs, JudgeEnds, ToolEnds, EndsWell, report_status}
+use Rattle.mdb_recording_runs.specs.Runs.{max_recording, TextWritten, Seen, Judged, NotWritten, RunFails, Runs, JudgeEnds, ToolEnds, EndsWell, report_status}
 
 -- the sink took the text, and what was flushed is no more
 pub text-flushed : (a b c : Option Held) (text : List ℕ) (before now later : ℕ) → Took a b text → Took b c [] → IsFlushed c → now ≡ before → later ≡ now → TextWritten text a c before later (Ok tt)
@@ -25,7 +25,7 @@ abbrev pub WrittenRun : Standard → Seen → Seen → ℕ → Result (Unit {0})
 WrittenRun standard old new answer (Ok u) = Runs standard old new (Ok answer)
 WrittenRun standard old new answer (Err e) = Runs standard old new (Err e)
 
-pub run-written : (standard : Standard) (old new : Seen) (text told : List ℕ) (answer : ℕ) (r : Result (Unit {0}) RunError) → ReadsRecording old.left new.left old.reads new.reads text → told ≡ report standard text → answer ≡ report_status standard text
+pub run-written : (standard : Standard) (old new : Seen) (text told : List ℕ) (answer : ℕ) (r : Result (Unit {0}) RunError) → ReadsAll max_recording old.left new.left old.reads new.reads text → told ≡ report standard text → answer ≡ report_status standard text
     → TextWritten told old.held new.held old.writes new.writes r → WrittenRun standard old new answer r
 run-written standard old new text told answer (Ok u) read same right w = record { text = text; read = read; taken = subst (Took old.held new.held) same w.0; flushed = w.1; same = w.2; right = right }
 run-written standard old new text told answer (Err errors.WriteFault) read same right w = record { text = text; read = read; taken = subst (TookFront old.held new.held) same w.0; rose = w.1 }

@@ -1,12 +1,12 @@
 -- What the tool reads, writes and answers.
-use Rattle.std.specs.Prelude.{◌≡◌, ℕ, ◌+◌, ◌≤◌, ◌<◌, List, [], ◌∷◌, length, codes, Option, Some, None, Result, Ok, Err, ◌⊎◌, if◌then◌else◌}
-use Rattle.std.specs.Io.KnownBytes.{Consumes, IsAtEnd}
+use Rattle.std.specs.Prelude.{◌≡◌, ℕ, ◌<◌, List, [], ◌∷◌, length, codes, Option, Some, None, Result, Ok, Err, ◌⊎◌, if◌then◌else◌}
+use Rattle.std.specs.Io.KnownBytes.{Consumes}
 use Rattle.std.specs.Str.{bytes_eq}
 use Rattle.mdb_base.specs.Outside.{Rose, Held, Took, IsFlushed}
 use Rattle.mdb_lines.specs.declared.run_error.RunError.{RunError}
 use Rattle.mdb_lines.specs.declared.run_error.RunError.TheVariants as errors
 use Rattle.mdb_lines.specs.Status.{Told, Tells, status, message}
-use Rattle.mdb_lines.specs.Loops.{TookFront}
+use Rattle.mdb_lines.specs.Loops.{TookFront, ReadsAll}
 use Rattle.mdb_recordings.specs.declared.standard.Standard.{Standard}
 use Rattle.mdb_recordings.specs.declared.standard.Standard.TheVariants.{Current, Of2021, Of2020}
 use Rattle.mdb_recording_runs.specs.Report.{is_clean, read_of, report}
@@ -33,21 +33,6 @@ standard_of (flag ∷ (year ∷ (word ∷ words))) = None
 abbrev pub report_status : Standard → List ℕ → ℕ
 report_status standard text = if is_clean (read_of standard text) then 0 else 7
 
--- All was read, and it isn't too long.
-pub record ReadsRecording (left new_left : Option (List ℕ)) (faults new_faults : ℕ) (text : List ℕ) : Type 0 where
-  pub consumed : Consumes left new_left text
-  pub ended : IsAtEnd new_left
-  pub short : length text ≤ max_recording
-  pub same : new_faults ≡ faults
-
--- Reading ended so: for want of memory, at a fault, or past the greatest length.
-abbrev pub ReadingEnds : Option (List ℕ) → Option (List ℕ) → ℕ → ℕ → RunError → Type 0
-ReadingEnds left new_left faults new_faults errors.OutOfMemory = new_faults ≡ faults
-ReadingEnds left new_left faults new_faults errors.ReadFault = Rose faults new_faults
-ReadingEnds left new_left faults new_faults errors.WriteFault = ⊥
-ReadingEnds left new_left faults new_faults (errors.Malformed n) = ⊥
-ReadingEnds left new_left faults new_faults errors.TooLong = (bytes : List ℕ) × Consumes left new_left bytes × (max_recording < length bytes) × (new_faults ≡ faults)
-
 -- The sink took the text, flushed; or it failed.
 abbrev pub TextWritten : List ℕ → Option Held → Option Held → ℕ → ℕ → Result (Unit {0}) RunError → Type 0
 TextWritten text held new_held faults new_faults (Ok u) = Took held new_held text × IsFlushed new_held × (new_faults ≡ faults)
@@ -64,7 +49,7 @@ pub record Seen : Type 0 where
 -- A recording was judged: the source was read to its end, no call failed, and the sink took exactly the report, flushed.
 pub record Judged (standard : Standard) (old new : Seen) (answer : ℕ) : Type 0 where
   pub text : List ℕ
-  pub read : ReadsRecording old.left new.left old.reads new.reads text
+  pub read : ReadsAll max_recording old.left new.left old.reads new.reads text
   pub taken : Took old.held new.held (report standard text)
   pub flushed : IsFlushed new.held
   pub same : new.writes ≡ old.writes
@@ -73,7 +58,7 @@ pub record Judged (standard : Standard) (old new : Seen) (answer : ℕ) : Type 0
 -- A report was not written to its end.
 pub record NotWritten (standard : Standard) (old new : Seen) : Type 0 where
   pub text : List ℕ
-  pub read : ReadsRecording old.left new.left old.reads new.reads text
+  pub read : ReadsAll max_recording old.left new.left old.reads new.reads text
   pub taken : TookFront old.held new.held (report standard text)
   pub rose : Rose old.writes new.writes
 

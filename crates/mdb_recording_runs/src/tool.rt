@@ -1,45 +1,22 @@
 //! The tool: it reads a recording to its end and writes what it finds.
 
-ghost use Rattle.std.specs.Prelude.{◌≡◌, ◌≤◌, ◌<◌, if◌then◌else◌, ℕ, List, length, map, Some, IfOk, IfErr, string_bytes};
+ghost use Rattle.std.specs.Prelude.{◌≡◌, ◌≤◌, ◌<◌, if◌then◌else◌, ℕ, List, length, map, Some};
 ghost use Rattle.mdb_base.specs.Outside.{Rose};
 ghost use Rattle.mdb_lines.specs.Status.{Tells};
 ghost use Rattle.mdb_recordings.specs.declared.standard.Standard.{Standard as Standard_};
 ghost use Rattle.mdb_recording_runs.specs.Report.{report};
-ghost use Rattle.mdb_recording_runs.specs.Runs.{EndsWell, JudgeEnds, ReadingEnds, ReadsRecording, Runs, TextWritten, ToolEnds, report_status, standard_of, standard_of_year, usage};
+ghost use Rattle.mdb_recording_runs.specs.Runs.{EndsWell, JudgeEnds, Runs, TextWritten, ToolEnds, report_status, standard_of, standard_of_year, usage};
 
 use crate::text::judge;
 use mdb_base::{Sink, Source};
-use mdb_lines::{RunError, Status, end_with_error, tell_usage, write_all};
+use mdb_lines::{RunError, Status, end_with_error, read_all, tell_usage, write_all};
 use mdb_recordings::Standard;
 use std::alloc::Global;
 
 /// The most bytes that a recording may have.
-pub const MAX_RECORDING: usize = 1_073_741_824;
+pub const MAX_RECORDING: u32 = 1_073_741_824;
 
 const USAGE: &str = "usage: mdb_recorded [--cmap 2020|2021]\n";
-
-// Reads to the end, in at most one turn more than there may be bytes; each turn takes a byte or finds the end.
-fn read_recording<S: Source>(alloc: Global, source: &mut S) -> Result<Vec<u8>, RunError>
-    ensures all { IfOk result (λ v. ReadsRecording (S.left source.old) (S.left source.new) (S.faults source.old) (S.faults source.new) v.items) }
-    ensures ends { IfErr result (ReadingEnds (S.left source.old) (S.left source.new) (S.faults source.old) (S.faults source.new)) }
-{
-    let mut input = Vec::new(alloc);
-    let mut buffer = [0u8; 16384];
-    for _turn in 0..1_073_741_825u32 {
-        match source.read(&mut buffer) {
-            Err(_) => return Err(RunError::ReadFault),
-            Ok(0) => return Ok(input),
-            Ok(count) => {
-                let (piece, _rest) = buffer.split_at(count);
-                input.extend_from_slice(piece)?;
-                if input.len() > MAX_RECORDING {
-                    return Err(RunError::TooLong);
-                }
-            }
-        }
-    }
-    Err(RunError::TooLong)
-}
 
 // Writes a text, and flushes it.
 fn put<K: Sink>(sink: &mut K, text: &[u8]) -> Result<(), RunError>
@@ -70,7 +47,7 @@ fn run<S: Source, K: Sink>(
         (record { left = S.left source.old; reads = S.faults source.old; held = K.held sink.old; writes = K.faults sink.old })
         (record { left = S.left source.new; reads = S.faults source.new; held = K.held sink.new; writes = K.faults sink.new }) result }
 {
-    let text = match read_recording(alloc, source) {
+    let text = match read_all(alloc, source, MAX_RECORDING) {
         Ok(text) => text,
         Err(e) => return Err(e),
     };

@@ -1,4 +1,4 @@
-//! Reading the fields of a reply, group by group.
+//! Reading the fields of a reply, group by group: the proof of a function grows with the ways out of it times the values that live there, so no function reads them all.
 
 ghost use Rattle.std.specs.Prelude.{◌≡◌, Bool, drop, true};
 ghost use Rattle.mdb_hello.specs.declared.response.HelloCommandResponse.{HelloCommandResponse};

@@ -146,21 +146,21 @@ last_ends input rest n log held new_held faults new_faults cut s legal =
 
 -- whole runs
 
-pub flush_fails : (old new : Seen) (input : List ℕ) (log : List Entry) (mid : Option Held) (count : ℕ) → ReadsAll old.left new.left old.reads new.reads input
+pub flush_fails : (old new : Seen) (input : List ℕ) (log : List Entry) (mid : Option Held) (count : ℕ) → ReadsAll max_input old.left new.left old.reads new.reads input
     → Ran input log old.held mid old.writes count → Took mid new.held [] → Rose count new.writes → Ended old new errors.WriteFault
 flush_fails old new input log mid count read ran took rose =
     let text = text_of log in
     let all : Took old.held new.held (take (length text) text) = rw (take-length text) (took_no_more old.held mid new.held text ran.taken took) in
     (input, read, (steps_of log, [], ran.begins, subst IsLegalLog ran.answers ran.legal, (length text, rw (← ran.answers) all), subst (λ (f : ℕ). Rose f new.writes) ran.same rose))
 
-pub read_ends : (old new : Seen) (e : RunError) → new.held ≡ old.held → new.writes ≡ old.writes → ReadEnds old.left new.left old.reads new.reads e → Ended old new e
+pub read_ends : (old new : Seen) (e : RunError) → new.held ≡ old.held → new.writes ≡ old.writes → ReadEnds max_input old.left new.left old.reads new.reads e → Ended old new e
 read_ends old new errors.OutOfMemory held writes h = (h, writes, inl (rw held (took_nothing old.held)))
 read_ends old new errors.ReadFault held writes h = (h, writes, rw held (took_nothing old.held))
 read_ends old new errors.WriteFault held writes h = absurd h
 read_ends old new (errors.Malformed n) held writes h = absurd h
 read_ends old new errors.TooLong held writes (bytes, consumed, long, same) = (same, writes, rw held (took_nothing old.held), (bytes, consumed, long))
 
-pub lines_end : (old new : Seen) (input : List ℕ) (e : RunError) → ReadsAll old.left new.left old.reads new.reads input → RunEnds input old.held new.held old.writes new.writes e → Ended old new e
+pub lines_end : (old new : Seen) (input : List ℕ) (e : RunError) → ReadsAll max_input old.left new.left old.reads new.reads input → RunEnds input old.held new.held old.writes new.writes e → Ended old new e
 lines_end old new input errors.OutOfMemory read h = (read.same, h.5, inr (input, read, h))
 lines_end old new input errors.ReadFault read h = absurd h
 lines_end old new input errors.WriteFault read h = (input, read, h)

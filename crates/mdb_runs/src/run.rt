@@ -103,9 +103,9 @@ fn run<S: Source, K: Sink>(alloc: Global, source: &mut S, sink: &mut K) -> Resul
     ensures ended { IfErr result (Ended
         (record { left = S.left source.old; reads = S.faults source.old; calls = S.calls source.old; held = K.held sink.old; writes = K.faults sink.old })
         (record { left = S.left source.new; reads = S.faults source.new; calls = S.calls source.new; held = K.held sink.new; writes = K.faults sink.new })) }
-    ensures few { ReadsFew (S.left source.old) (S.left source.new) (S.calls source.old) (S.calls source.new) }
+    ensures few { ReadsFew MAX_INPUT (S.left source.old) (S.left source.new) (S.calls source.old) (S.calls source.new) }
 {
-    let input = match read_all(alloc, source) {
+    let input = match read_all(alloc, source, MAX_INPUT) {
         Ok(input) => input,
         Err(e) => return Err(e),
     };
@@ -136,7 +136,7 @@ pub fn run_script<S: Source, K: Sink>(
         (record { left = S.left source.new; reads = S.faults source.new; calls = S.calls source.new; held = K.held sink.new; writes = K.faults sink.new })) }
 
     // The source is read at most once more than there are bytes, and at most 131,073 times.
-    ensures few { ReadsFew (S.left source.old) (S.left source.new) (S.calls source.old) (S.calls source.new) }
+    ensures few { ReadsFew MAX_INPUT (S.left source.old) (S.left source.new) (S.calls source.old) (S.calls source.new) }
 
     // A script is run to its end where nothing fails, unless memory runs out.
     ensures complete { (input : List ℕ) (steps : List Step) → S.left source.old ≡ Some input → length input ≤ MAX_INPUT → IsScript input steps

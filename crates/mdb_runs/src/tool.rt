@@ -44,7 +44,7 @@ pub fn run_tool<S: Source, K: Sink, E: Sink>(
         (record { held = E.held errors.old; faults = E.faults errors.old }) (record { held = E.held errors.new; faults = E.faults errors.new }) result }
 
     // The source is read at most once more than there are bytes, and at most 131,073 times.
-    ensures few { ReadsFew (S.left source.old) (S.left source.new) (S.calls source.old) (S.calls source.new) }
+    ensures few { ReadsFew MAX_INPUT (S.left source.old) (S.left source.new) (S.calls source.old) (S.calls source.new) }
 
     // A script on the source is run to its end where nothing fails, unless memory runs out.
     ensures complete { (input : List ℕ) (steps : List Step) → words.now ≡ [] → S.left source.old ≡ Some input → length input ≤ MAX_INPUT → IsScript input steps

@@ -2,34 +2,13 @@
 #![tactic(auto)]
 
 use mdb_base::{Reading, Writing};
-use mdb_lines::{RunError, Status, status_of, tell_error};
+use mdb_lines::{RunError, Status, command_words, status_of, tell_error};
 use mdb_shared_runs::run_program;
 use std::alloc::AllocError;
-use std::env;
-use std::io::ErrorKind;
 use std::process::ExitCode;
 use std::rt::Env;
 use std::sync::Wait;
 use std::thread::Threads;
-
-// The words of the command line; where one of them is no text, a word that is no command.
-fn words<R: Env + AllocGlobal>(rt: &R) -> Result<Vec<String>, AllocError> {
-    let mut words = Vec::new(rt.alloc());
-    match env::args(rt) {
-        Ok(args) => {
-            for word in args.skip(1) {
-                words.push(word)?;
-            }
-        }
-        Err(e) => {
-            if e.kind() == ErrorKind::OutOfMemory {
-                return Err(AllocError);
-            }
-            words.push(String::from_str(rt.alloc(), "?")?)?;
-        }
-    }
-    Ok(words)
-}
 
 fn status<R: AllocGlobal + Threads + Wait + Sync>(
     rt: &R,
@@ -57,7 +36,7 @@ fn answer<R: Env + AllocGlobal + Threads + Wait + Sync>(
     rt: &R,
     host: &HostRuntime,
 ) -> Result<Status, AllocError> {
-    let words = words(rt)?;
+    let words = command_words(rt)?;
     status(rt, words.as_slice(), host)
 }
 

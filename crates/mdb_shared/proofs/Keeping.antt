@@ -16,7 +16,7 @@ use Rattle.mdb_log.specs.declared.reply.Reply.{Reply}
 use Rattle.mdb_log.specs.declared.step.Step.{Step}
 use Rattle.atomic_table.specs.Seated.{TableId}
 use Rattle.mdb_log.specs.Driver.{StartsWith, IsEntry, is_in_time}
-use Rattle.mdb_shared.specs.Seats.{SeatView, mine_of, seat_view, Stepped, OnlySaw, raised, Each, FoundBusy, last_in}
+use Rattle.mdb_shared.specs.Seats.{SeatView, mine_of, seat_view, Begun, Stepped, OnlySaw, raised, Each, FoundBusy, last_in}
 use Rattle.mdb_shared.specs.Turning.{own, part, first_view, Fits, Keeps, HasNumber, Held, with_turn, found_busy, without_turn, grown_parts, with_entry, having_seen, claimed, added, let_go, looked}
 use Rattle.mdb_shared.proofs.Places.{here, stays}
 
@@ -367,14 +367,24 @@ module _ {T : Type 0} where
   pub let_go_me : (me me' : Me (Held T) View) (v : View) (x : ℕ × Held T) → me ≡ (v, x ∷ []) → me' ≡ (without_turn me.0, rest me.1) → me' ≡ (without_turn v, [])
   let_go_me me me' v x is told = told ∙ ap (λ (m : Me (Held T) View). (without_turn m.0, rest m.1)) is
 
+  -- the turn is held, with one entry more than was found
+  pub has_turn : (v : View) (before : List Entry) (me : Me (Held T) View) (n : ℕ) → me ≡ (with_turn v before, (0, None) ∷ []) → v.parts ≡ part n (mine_of v.parts) ∷ []
+      → (me.0.turn ≡ true) × (me.1 ≡ (0, None) ∷ []) × (me.0.parts ≡ part n (mine_of me.0.parts) ∷ [])
+  has_turn v before me n took one = subst (λ (m : Me (Held T) View). (m.0.turn ≡ true) × (m.1 ≡ (0, None) ∷ []) × (m.0.parts ≡ part n (mine_of m.0.parts) ∷ [])) (sym took) (refl, refl, one)
+
+  pub one_more : (v : View) (before log : List Entry) (me : Me (Held T) View) (e : Entry) → me ≡ (with_turn v before, (0, None) ∷ []) → log ≡ before ++ e ∷ [] → log ≡ me.0.seen ++ e ∷ []
+  one_more v before log me e took more = more ∙ ap (λ (m : Me (Held T) View). m.0.seen ++ e ∷ []) (sym took)
+
+  -- what is seen after the turn
+  pub view_after : (v : View) (before : List Entry) (me me' : Me (Held T) View) (e : Entry) → me ≡ (with_turn v before, (0, None) ∷ []) → me' ≡ (without_turn (with_entry me.0 e), []) → me'.0 ≡ without_turn (with_entry (with_turn v before) e)
+  view_after v before me me' e took done = ap (λ (m : Me (Held T) View). m.0) done ∙ ap (λ (m : Me (Held T) View). without_turn (with_entry m.0 e)) took
+
   -- a step that went well
-  pub stepped_well : (stands : T → List Entry → Type 0) (y z : TableId) (n : ℕ) (step now : Step) (reply : Reply) (v : View) (me me' : Me (Held T) View) (log log' : List Entry) (core : T) (e : Entry)
-      → me ≡ (with_turn v log, (0, None) ∷ []) → me' ≡ (without_turn (with_entry me.0 e), []) → now ≡ raised (last_in log) step → IsEntry n now reply e → log' ≡ log ++ e ∷ [] → stands core log' → StartsWith log v.seen → v.parts ≡ part n (mine_of v.parts) ∷ []
-      → Stepped stands (seat_view y n v) (seat_view z n me'.0) step reply
-  stepped_well stands y z n step now reply v me me' log log' core e took done is says more fits front one =
-      let view : me'.0 ≡ without_turn (with_entry (with_turn v log) e) = ap (λ (m : Me (Held T) View). m.0) done ∙ ap (λ (m : Me (Held T) View). without_turn (with_entry m.0 e)) took in
-      subst (λ (w : View). Stepped stands (seat_view y n v) (seat_view z n w) step reply) (sym view)
-      (log, e, front, (says.0, says.1 ∙ is, says.2), refl, ap (λ (ps : List Part). mine_of (grown_parts ps e)) one, (core, subst (stands core) more fits))
+  pub stepped_well : (stands : T → List Entry → Type 0) (y z : TableId) (n : ℕ) (step : Step) (core : T) (log : List Entry) (reply : Reply) (v : View) (me me' : Me (Held T) View)
+      → (b : Begun stands n v me step core log reply) → me' ≡ (without_turn (with_entry me.0 b.entry), []) → v.parts ≡ part n (mine_of v.parts) ∷ [] → Stepped stands (seat_view y n v) (seat_view z n me'.0) step reply
+  stepped_well stands y z n step core log reply v me me' b done one =
+      subst (λ (w : View). Stepped stands (seat_view y n v) (seat_view z n w) step reply) (sym (view_after v b.before me me' b.entry b.turn done))
+      (b.before, b.entry, b.front, b.is, refl, ap (λ (ps : List Part). mine_of (grown_parts ps b.entry)) one, (core, subst (stands core) b.more b.fits))
 
   pub stepped_after : (stands : T → List Entry → Type 0) (s t u : SeatView) (step now : Step) (reply : Reply) → Waited s t → now ≡ step → Stepped stands t u now reply → Stepped stands s u step reply
   stepped_after stands s t u step now reply w is done =

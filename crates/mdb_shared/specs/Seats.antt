@@ -1,5 +1,5 @@
 -- What clauses see of a driver and of a seat, and what the calls do to them.
-use Rattle.std.specs.Prelude.{◌≡◌, ◌≢◌, ℕ, ◌+◌, false, List, [], ◌∷◌, ◌++◌, All, Some, slice_get, max}
+use Rattle.std.specs.Prelude.{◌≡◌, ◌≢◌, ℕ, ◌+◌, false, List, [], ◌∷◌, ◌++◌, All, Some, None, slice_get, max}
 use Rattle.atomic_table.specs.Table.{Me}
 use Rattle.atomic_table.specs.Seated.{TableId}
 use Rattle.mdb_log.specs.declared.log.Entry.{Entry}
@@ -11,7 +11,7 @@ use Rattle.mdb_shared.specs.declared.answers.TryError.{TryError}
 use Rattle.mdb_shared.specs.declared.answers.TryError.TheVariants.{Busy, OutOfMemory}
 use Rattle.mdb_log.specs.Driver.{StartsWith, IsEntry}
 use Rattle.mdb_log.specs.History.{history_of, last_moment}
-use Rattle.mdb_shared.specs.Turning.{Held, part, own}
+use Rattle.mdb_shared.specs.Turning.{Held, part, own, with_turn}
 
 -- the step, with its moment raised where it was smaller
 abbrev pub raised : ℕ → Step → Step
@@ -57,6 +57,16 @@ module _ {T : Type 0} (stands : T → List Entry → Type 0) where
       × (s'.seen ≡ before ++ e ∷ [])
       × (s'.mine ≡ s.mine ++ e ∷ [])
       × ((core : T) × stands core s'.seen)
+
+-- The seat has the turn, and its step stands at the end of the log that it found there, behind all that the seat had seen. Core and log are in its hands, and nothing lies in the slot.
+pub record Begun {T : Type 0} (stands : T → List Entry → Type 0) (number : ℕ) (v : View) (me : Me (Held T) View) (step : Step) (core : T) (log : List Entry) (reply : Reply) : Type 0 where
+  pub before : List Entry
+  pub entry : Entry
+  pub front : StartsWith before v.seen
+  pub is : IsEntry number (raised (last_in before) step) reply entry
+  pub more : log ≡ before ++ entry ∷ []
+  pub turn : me ≡ (with_turn v before, (0, None) ∷ [])
+  pub fits : stands core log
 
 -- the seat has seen no less, and has no more entries of its own
 abbrev pub OnlySaw : SeatView → SeatView → Type 0

@@ -5,11 +5,12 @@ ghost use Rattle.mdb_log.specs.Driver.{tells_job, IsThere};
 ghost use Rattle.mdb_shared.specs.Seats.{IsReady, seat_view, Stepped, OnlySaw, FoundBusy};
 ghost use Rattle.mdb_shared.specs.Claims.{claiming, claimed_by, Holds, Missed};
 
+use crate::answers::TryError;
 use crate::driver::SharedDriver;
 use crate::records::Records;
 use crate::rule::{Lock, Place};
 use crate::seat::Seat;
-use crate::turn::{finish, give_back, raise, take};
+use crate::turn::{begin_step, finish};
 use mdb_base::OutOfMemory;
 use mdb_log::{Act, Core, Job, Reply, Step};
 use std::alloc::Global;
@@ -20,7 +21,7 @@ use std::sync::Wait;
 pub enum Claimed {
     /// The connection of this pool and number is to be established: its job.
     Job(u32, u32, Job),
-    /// The same, and there was no memory for the job.
+    /// The connection of this pool and number is to be established, and there was no memory for its job.
     Unread(u32, u32),
     /// There is none to establish.
     NoJob,
@@ -66,28 +67,18 @@ fn one_claim<C: Core>(
     ensures job { IfOk result (Holds (C.job_after place.new.me.0.seen)) }
     ensures err { IfErr result (λ why. Missed (seat_view place.old.table_id number place.old.me.0) (seat_view place.new.table_id number place.new.me.0) why) }
 {
-    let (mut core, mut log) = match take(table, place, number) {
-        Ok(state) => state,
-        Err(word) => return Err(NoClaim::Busy(word)),
-    };
     let step = Step {
         moment: 0,
         act: Act::Claim,
     };
-    let raised = raise(step, core.last_moment());
-    let stepped = log.step(&mut core, alloc, number, &raised);
-    drop(raised);
-    match stepped {
-        Ok(reply) => {
-            let claimed = with_job(&core, alloc, &log, reply);
-            finish(table, place, core, log, number);
-            Ok(claimed)
-        }
-        Err(OutOfMemory) => {
-            give_back(table, place, core, log);
-            Err(NoClaim::OutOfMemory)
-        }
-    }
+    let (core, log, reply) = match begin_step(table, place, alloc, number, step) {
+        Ok(begun) => begun,
+        Err(TryError::Busy(word, _)) => return Err(NoClaim::Busy(word)),
+        Err(TryError::OutOfMemory) => return Err(NoClaim::OutOfMemory),
+    };
+    let claimed = with_job(&core, alloc, &log, reply);
+    finish(table, place, core, log, number);
+    Ok(claimed)
 }
 
 impl<C: Core> SharedDriver<C> {

@@ -42,6 +42,7 @@ fn one_look<C: Core, L: Look<C>>(
     ensures ok { IfOk result (λ found. OnlySaw (seat_view place.old.table_id number place.old.me.0) (seat_view place.new.table_id number place.new.me.0) × (place.new.me.0.busy ≡ place.old.me.0.busy) × L.tells look.now place.new.me.0.seen found) }
     ensures err { IfErr result (λ word. (place.new.me ≡ (found_busy place.old.me.0 word, [])) × (word ≢ 0) × (word ≢ number + 1)) }
 {
+    // The turn is held from here to `give_back`.
     let (core, records) = match take(table, place, number) {
         Ok(state) => state,
         Err(word) => return Err(word),

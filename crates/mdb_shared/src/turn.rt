@@ -1,11 +1,11 @@
 //! What a seat does while it has the turn.
 
-ghost use Rattle.std.specs.Prelude.{◌≡◌, ◌≢◌, ◌+◌, true, List, [], ◌∷◌, ◌++◌, IsTrue, IfOk, IfErr, None};
+ghost use Rattle.std.specs.Prelude.{◌≡◌, ◌≢◌, ◌+◌, true, List, [], ◌∷◌, ◌++◌, IsTrue, IfOk, IfErr, OnErr, None};
 ghost use Rattle.mdb_log.specs.declared.log.Entry.{Entry};
-ghost use Rattle.mdb_log.specs.Driver.{StartsWith, is_reply_to, is_in_time};
+ghost use Rattle.mdb_log.specs.Driver.{StartsWith, IsThere, is_reply_to, is_in_time};
 ghost use Rattle.mdb_log.specs.Acts.{IsDriverAct};
 ghost use Rattle.mdb_shared.specs.Turning.{part, with_turn, without_turn, with_entry, found_busy};
-ghost use Rattle.mdb_shared.specs.Seats.{IsReady, mine_of, seat_view, Stepped, Failed, raised};
+ghost use Rattle.mdb_shared.specs.Seats.{IsReady, mine_of, seat_view, Begun, Stepped, Failed, raised};
 
 use crate::answers::TryError;
 use crate::records::Records;
@@ -78,6 +78,41 @@ pub(super) fn raise(step: Step, last: Moment) -> Step
     step
 }
 
+// Takes the turn and does one step, unless another seat has the turn. Where it succeeds the turn is held from here on, until `finish`.
+pub(super) fn begin_step<C: Core>(
+    table: &Lock<C>,
+    place: &mut Place<C>,
+    alloc: Global,
+    number: u32,
+    step: Step,
+) -> Result<(C, Records, Reply), TryError>
+    requires table { (table.now.shared.table_id.words ≡ 2) × (table.now.shared.table_id.slots ≡ 1) × (place.old.table_id ≡ table.now.shared.table_id) }
+    requires ready { IsReady number place.old.me }
+    requires act { IsDriverAct step.act }
+    ensures same { (place.new.table_id ≡ place.old.table_id) × (place.new.id ≡ place.old.id) }
+    ensures ok { IfOk result (λ begun. Begun C.stands number place.old.me.0 place.new.me step begun.0 begun.1 begun.2) }
+    ensures kind { IfOk result (λ begun. IsTrue (is_reply_to step.act begun.2)) }
+    ensures in_time { IfOk result (λ begun. IsTrue (is_in_time step.act begun.2)) }
+    ensures there { IfOk result (λ begun. IsThere (C.job_after begun.1) begun.2) }
+    ensures ready { OnErr result (IsReady number place.new.me) }
+    ensures err { IfErr result (λ why. Failed (seat_view place.old.table_id number place.old.me.0) (seat_view place.new.table_id number place.new.me.0) step why) }
+{
+    let (mut core, mut log) = match take(table, place, number) {
+        Ok(state) => state,
+        Err(word) => return Err(TryError::Busy(word, step)),
+    };
+    let raised = raise(step, core.last_moment());
+    let stepped = log.step(&mut core, alloc, number, &raised);
+    drop(raised);
+    match stepped {
+        Ok(reply) => Ok((core, log, reply)),
+        Err(OutOfMemory) => {
+            give_back(table, place, core, log);
+            Err(TryError::OutOfMemory)
+        }
+    }
+}
+
 // One step by the seat of this number, if the turn isn't taken. It says whether its entry is news to others.
 pub(super) fn one_step<C: Core>(
     table: &Lock<C>,
@@ -96,22 +131,11 @@ pub(super) fn one_step<C: Core>(
     ensures in_time { IfOk result (λ reply. IsTrue (is_in_time step.act reply)) }
     ensures err { IfErr result (λ why. Failed (seat_view place.old.table_id number place.old.me.0) (seat_view place.new.table_id number place.new.me.0) step why) }
 {
-    let (mut core, mut log) = match take(table, place, number) {
-        Ok(state) => state,
-        Err(word) => return Err(TryError::Busy(word, step)),
+    let (core, log, reply) = match begin_step(table, place, alloc, number, step) {
+        Ok(begun) => begun,
+        Err(why) => return Err(why),
     };
-    let raised = raise(step, core.last_moment());
-    let stepped = log.step(&mut core, alloc, number, &raised);
-    drop(raised);
-    match stepped {
-        Ok(reply) => {
-            *is_news = log.ring();
-            finish(table, place, core, log, number);
-            Ok(reply)
-        }
-        Err(OutOfMemory) => {
-            give_back(table, place, core, log);
-            Err(TryError::OutOfMemory)
-        }
-    }
+    *is_news = log.ring();
+    finish(table, place, core, log, number);
+    Ok(reply)
 }

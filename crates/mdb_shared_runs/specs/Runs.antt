@@ -26,7 +26,7 @@ Writes text held new_held faults new_faults (Err e) = ⊥
 pub record SharedFinished (k : ℕ) (old new : Seen) (log : List Entry) : Type 0 where
   pub input : List ℕ
   pub steps : List Step
-  pub read : ReadsAll old.left new.left old.reads new.reads input
+  pub read : ReadsAll max_input old.left new.left old.reads new.reads input
   pub script : IsScript input steps
   pub shared : Shared k steps log
   pub taken : Took old.held new.held (text_of log)
@@ -38,7 +38,7 @@ pub record WriteFails (k : ℕ) (old new : Seen) : Type 0 where
   pub input : List ℕ
   pub steps : List Step
   pub log : List Entry
-  pub read : ReadsAll old.left new.left old.reads new.reads input
+  pub read : ReadsAll max_input old.left new.left old.reads new.reads input
   pub script : IsScript input steps
   pub shared : Shared k steps log
   pub taken : TookFront old.held new.held (text_of log)
@@ -50,7 +50,7 @@ SharedEnded k old new errors.OutOfMemory = (new.reads ≡ old.reads) × (new.wri
 SharedEnded k old new errors.ReadFault = Rose old.reads new.reads × (new.writes ≡ old.writes) × Took old.held new.held []
 SharedEnded k old new errors.WriteFault = WriteFails k old new
 SharedEnded k old new (errors.Malformed n) =
-    (input : List ℕ) × ReadsAll old.left new.left old.reads new.reads input × IsBadAt input n × (new.writes ≡ old.writes) × Took old.held new.held []
+    (input : List ℕ) × ReadsAll max_input old.left new.left old.reads new.reads input × IsBadAt input n × (new.writes ≡ old.writes) × Took old.held new.held []
 SharedEnded k old new errors.TooLong =
     (new.reads ≡ old.reads) × (new.writes ≡ old.writes) × Took old.held new.held []
     × ((bytes : List ℕ) × Consumes old.left new.left bytes × (max_input < length bytes))

@@ -105,6 +105,6 @@ pub(super) fn share<C: Core, R: Threads + Wait + Sync, G: LineGate>(
     let seats = play_all(rt, alloc, count, gate, &driver, steps, seats)?;
     match driver.close(seats) {
         Ok((_core, journal)) => whole(journal),
-        Err(_) => Err(OutOfMemory),
+        Err(_) => unreachable!(),
     }
 }

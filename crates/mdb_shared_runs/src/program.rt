@@ -46,7 +46,7 @@ fn share<R: Threads + Wait + Sync, S: Source, K: Sink, E: Sink>(
         (record { left = S.left source.old; reads = S.faults source.old; calls = S.calls source.old; held = K.held sink.old; writes = K.faults sink.old })
         (record { left = S.left source.new; reads = S.faults source.new; calls = S.calls source.new; held = K.held sink.new; writes = K.faults sink.new })
         (record { held = E.held errors.old; faults = E.faults errors.old }) (record { held = E.held errors.new; faults = E.faults errors.new }) result }
-    ensures few { ReadsFew (S.left source.old) (S.left source.new) (S.calls source.old) (S.calls source.new) }
+    ensures few { ReadsFew MAX_INPUT (S.left source.old) (S.left source.new) (S.calls source.old) (S.calls source.new) }
     ensures complete { (input : List ℕ) (steps : List Step) → S.left source.old ≡ Some input → length input ≤ MAX_INPUT → IsScript input steps
         → ¬ (Rose (S.faults source.old) (S.faults source.new)) → ¬ (Rose (K.faults sink.old) (K.faults sink.new)) → EndsWell result }
     ensures malformed { (input : List ℕ) (number : ℕ) → S.left source.old ≡ Some input → length input ≤ MAX_INPUT → IsBadAt input number
@@ -78,7 +78,7 @@ pub fn run_program<R: Threads + Wait + Sync, S: Source, K: Sink, E: Sink>(
         (record { held = E.held errors.old; faults = E.faults errors.old }) (record { held = E.held errors.new; faults = E.faults errors.new }) result }
 
     // The source is read at most once more than there are bytes, and at most 131,073 times.
-    ensures few { ReadsFew (S.left source.old) (S.left source.new) (S.calls source.old) (S.calls source.new) }
+    ensures few { ReadsFew MAX_INPUT (S.left source.old) (S.left source.new) (S.calls source.old) (S.calls source.new) }
 
     // A script on the source is run to its end where nothing fails, unless memory runs out.
     ensures complete { (input : List ℕ) (steps : List Step) → AsksScript (map (λ w. w.now) words.now) → S.left source.old ≡ Some input → length input ≤ MAX_INPUT → IsScript input steps

@@ -175,7 +175,7 @@ impl<T: Sided> Sides<T> {
         &self.parts.left
     }
 
-    /// The same records in their slots.
+    /// The records of the values on the left in their slots.
     pub fn left_slots(&self) -> &SlotTable
         ensures { records_of (listing result.now).items ≡ noted T.key T.service T.since T.on_left self.now.now }
     {

@@ -15,8 +15,45 @@ use Rattle.mdb_pool.specs.Standing.{Fits}
 use Rattle.mdb_log.specs.Own.{AllOwn, shuts}
 use Rattle.mdb_log.proofs.Addresses.{same-address, own-address}
 use Rattle.mdb_log.proofs.Frame.{open-facts}
-use Rattle.mdb_topology.specs.Standing.{is_open_at, PoolFits, PoolsFit}
-use Rattle.mdb_topology.proofs.Lists.{position-at, position-within, at-place}
+use Rattle.mdb_topology.specs.Standing.{at_address, is_open_at, IsSingle, PoolFits, PoolsFit}
+use Rattle.mdb_topology.proofs.Lists.{position-at, position-none, position-within, at-place}
+
+-- where at most one pool is open at an address, the one with the number is open there exactly where it is that one
+pub open-here : (pools : List PoolCore) (a : ServerAddress) (p : ℕ) (s : PoolCore) → IsSingle pools → slice_get pools p ≡ Some s → is_open_at a s ≡ is_number (at_address pools a) p
+open-here pools a p s single at = on (at_address pools a) refl
+  where
+    apart : (i : ℕ) (t : PoolCore) (c : Bool) → slice_get pools i ≡ Some t → is_open_at a t ≡ true → is_open_at a s ≡ false → (i == p) ≡ c → (i == p) ≡ false
+    apart i t false f opens shut k = k
+    apart i t true f opens shut k =
+        let n : i ≡ p = grind arith in
+        let two : Some t ≡ Some s = sym f ∙ (ap (slice_get pools) n ∙ at) in
+        let same : t ≡ s = cc in
+        let w : true ≡ false = sym opens ∙ (ap (is_open_at a) same ∙ shut) in
+        cc
+
+    by : (i : ℕ) (t : PoolCore) (b : Bool) → slice_get pools i ≡ Some t → is_open_at a t ≡ true → is_open_at a s ≡ b → is_open_at a s ≡ (i == p)
+    by i t true f opens g = let n : i ≡ p = single a i p t s f at opens g in let w : (i == p) ≡ true = grind arith in g ∙ sym w
+    by i t false f opens g = g ∙ sym (apart i t (i == p) f opens g refl)
+
+    first : (i : ℕ) (y : Option PoolCore) → at_address pools a ≡ Some i → slice_get pools i ≡ y → is_open_at a s ≡ (i == p)
+    first i None e f = absurd (at-place pools i (position-within (is_open_at a) pools i e) f)
+    first i (Some t) e f = by i t (is_open_at a s) f (position-at (is_open_at a) pools i t e f).0 refl
+
+    on : (x : Option ℕ) → at_address pools a ≡ x → is_open_at a s ≡ is_number x p
+    on None e = position-none (is_open_at a) pools e p s at
+    on (Some i) e = first i (slice_get pools i) e refl
+
+-- where no pool has the number, none with it is open
+pub none-here : (pools : List PoolCore) (a : ServerAddress) (p : ℕ) → slice_get pools p ≡ None → is_number (at_address pools a) p ≡ false
+none-here pools a p gone = on (at_address pools a) refl
+  where
+    apart : (i : ℕ) (c : Bool) → at_address pools a ≡ Some i → (i == p) ≡ c → (i == p) ≡ false
+    apart i false e k = k
+    apart i true e k = let n : i ≡ p = grind arith in absurd (at-place pools i (position-within (is_open_at a) pools i e) (ap (slice_get pools) n ∙ gone))
+
+    on : (x : Option ℕ) → at_address pools a ≡ x → is_number x p ≡ false
+    on None e = refl
+    on (Some i) e = apart i (i == p) e refl
 
 -- the address of a pool that is open there
 pub at-address : (a : ServerAddress) (s : PoolCore) → is_open_at a s ≡ true → s.address ≡ a

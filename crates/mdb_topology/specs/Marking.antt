@@ -64,6 +64,10 @@ pub record HasParts (o : Options) (h : List Item) (t : TopologyDescription) (nex
   pub replies : (z : List Item) → reply_to o h step z step.act ≡ reply
   pub stop : is_stop step.act ≡ stops
 
+-- what is known after some server was marked Unknown by an error
+abbrev pub IsMarkOf : TopologyDescription → TopologyDescription → Type 0
+IsMarkOf t u = (a : ServerAddress) × (e : Error) × (u ≡ updated t (failed a e))
+
 -- the clear of a whole pool, or for a service of it
 abbrev pub clear_with : Option ObjectId → Clear
 clear_with None = whole

@@ -8,6 +8,7 @@ ghost use Rattle.mdb_topology.specs.Publishing.{telling};
 use crate::next::{Next, Stepped};
 use crate::telling_changes::{Told, new_monitors};
 use crate::topology::TopologyCore;
+use crate::topology_change::TopologyChange;
 use mdb_base::{Moment, OutOfMemory};
 use mdb_describe::{Diff, TopologyDescription};
 use mdb_log::{Refused, Reply, Step, What};
@@ -54,15 +55,15 @@ impl TopologyCore {
         ensures stand { IfOk result (λ told. All (λ m. MonitorStands m []) told.monitors.items) }
     {
         let mut facts = Vec::new(alloc);
-        let changes = self.pools.plan_publication(
-            alloc,
-            &self.options,
+        let change = TopologyChange {
+            options: &self.options,
             moment,
-            &self.description,
+            earlier: &self.description,
             later,
-            diff,
-            &mut facts,
-        )?;
+        };
+        let changes = self
+            .pools
+            .plan_publication(alloc, &change, diff, &mut facts)?;
         let monitors = new_monitors(alloc, &self.options, changes.as_slice())?;
         Ok(Told {
             facts,
@@ -71,7 +72,7 @@ impl TopologyCore {
         })
     }
 
-    // The same, where there is a difference.
+    // What a change of the topology comes to, where there is a difference.
     pub(crate) fn tell(
         &mut self,
         alloc: Global,

@@ -3,8 +3,9 @@
 ghost use Rattle.std.specs.Prelude.{◌≡◌, ◌<◌, OnOk, length, true};
 
 use crate::change::Change;
+use crate::marked::PoolTrouble;
 use crate::pools::Pools;
-use mdb_base::{Error, Moment, ObjectId, OutOfMemory};
+use mdb_base::{Moment, OutOfMemory};
 use mdb_events::{Fact, Held};
 use mdb_log::{Act, Step};
 use std::alloc::Global;
@@ -17,23 +18,21 @@ impl Pools {
         &mut self,
         alloc: Global,
         moment: Moment,
-        wanted: bool,
-        place: usize,
-        service: Option<ObjectId>,
-        error: &Error,
+        trouble: &PoolTrouble<'_>,
         facts: &mut Vec<Fact>,
         changes: &mut Vec<Change>,
     ) -> Result<(), OutOfMemory>
-        requires there { place < length self.old.cores.items }
-        requires accepted { wanted ≡ true → AcceptsClear self.old.cores.items place moment service error.now }
+        requires there { trouble.now.index < length self.old.cores.items }
+        requires accepted { trouble.now.clears ≡ true → AcceptsClear self.old.cores.items trouble.now.index moment trouble.now.service trouble.now.error.now }
         ensures same { self.new ≡ self.old }
-        ensures clears { OnOk result (Clears wanted self.old.cores.items place moment service error.now changes.old.items changes.new.items facts.old.items facts.new.items) }
+        ensures clears { OnOk result (Clears trouble.now.clears self.old.cores.items trouble.now.index moment trouble.now.service trouble.now.error.now changes.old.items changes.new.items facts.old.items facts.new.items) }
     {
+        let wanted = trouble.clears;
         if !wanted {
             return Ok(());
         }
-        let error = Held::copy_of(alloc, error)?;
-        let act = Act::Clear(self.cores[place].number(), service, error);
-        self.plan_act(alloc, place, Step { moment, act }, facts, changes)
+        let error = Held::copy_of(alloc, trouble.error)?;
+        let act = Act::Clear(self.cores[trouble.index].number(), trouble.service, error);
+        self.plan_act(alloc, trouble.index, Step { moment, act }, facts, changes)
     }
 }

@@ -75,6 +75,7 @@ impl TopologyCore {
     ghost use Rattle.mdb_describe.specs.Topology.{server_at};
     ghost use Rattle.mdb_topology.specs.Complaining.{concerns_now};
     ghost use Rattle.mdb_topology.specs.Current.{known_version, may_tell};
+    ghost use Rattle.mdb_topology.specs.Standing.{StandsForSome};
 
     /// What the error tells of the server is more recent than what is known, or one of them has no version.
     pub(crate) fn may_tell(&self, address: &ServerAddress, error: &Error) -> bool
@@ -94,6 +95,7 @@ impl TopologyCore {
 
     /// The error of an operation on the connection of the pool is current.
     pub(crate) fn is_current(&self, pool: &PoolCore, id: u32, error: &Error) -> bool
+        requires stands { StandsForSome self.now }
         ensures { (x : Connection) → connection_at pool.now id ≡ Some x → x.id ≡ id → result ≡ concerns_now self.now pool.now x error.now }
     {
         if error.is_incompatible_server() {

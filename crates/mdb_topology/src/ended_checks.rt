@@ -4,6 +4,7 @@ ghost use Rattle.std.specs.Prelude.{◌≡◌, ◌≤◌, ◌<◌, ◌∷◌, �
 ghost use Rattle.mdb_log.specs.declared.step.Act.TheVariants.{Beaten as BeatenAct};
 ghost use Rattle.mdb_topology.specs.Monitors.{check_result};
 
+use crate::marked::{Asked, PoolTrouble};
 use crate::monitoring::Monitoring;
 use crate::next::{Next, Stepped};
 use crate::rules::hello_reply;
@@ -181,15 +182,14 @@ impl TopologyCore {
         let (monitor, finish) = self.with_end(alloc, index, address, duration, came)?;
         let monitoring = Monitoring::Checked(index, monitor, self.fresh);
         if let BeatenResult::Err(error) = came {
-            let next = self.fail(
-                alloc,
-                step,
+            let trouble = PoolTrouble {
                 index,
-                address,
-                error.get(),
-                monitoring,
-                finish.event,
-            )?;
+                service: None,
+                error: error.get(),
+                clears: true,
+                asked: Asked::Nothing,
+            };
+            let next = self.fail(alloc, step, &trouble, address, monitoring, finish.event)?;
             return Ok(Stepped::Accepted(next));
         }
         match self.after_check(alloc, address, came, &finish.report, step.moment) {

@@ -10,7 +10,7 @@ ghost use Rattle.mdb_topology.specs.Current.{operating};
 ghost use Rattle.mdb_topology.specs.Errors.{case_of, for_service};
 
 use crate::complaining::{has_row, is_hard, service_cleared};
-use crate::marked::Asked;
+use crate::marked::{Asked, PoolTrouble};
 use crate::next::{Next, Stepped};
 use crate::topology::TopologyCore;
 use mdb_base::{Error, ObjectId, OutOfMemory, ServerAddress};
@@ -76,16 +76,15 @@ impl TopologyCore {
         let cleared = service.is_some();
         let mut facts = Vec::new(alloc);
         let mut changes = Vec::new(alloc);
-        self.pools.plan_clear(
-            alloc,
-            step.moment,
-            cleared,
-            place,
+        let trouble = PoolTrouble {
+            index: place,
             service,
             error,
-            &mut facts,
-            &mut changes,
-        )?;
+            clears: cleared,
+            asked: Asked::Nothing,
+        };
+        self.pools
+            .plan_clear(alloc, step.moment, &trouble, &mut facts, &mut changes)?;
         Ok(Stepped::Accepted(Next {
             facts,
             changes,
@@ -122,6 +121,7 @@ impl TopologyCore {
 
     // An error about the connection of the pool tells nothing: it is not current, or it has no row.
     fn leaves_complaint(&self, pool: &PoolCore, id: u32, error: &Error) -> bool
+        requires stands { StandsForSome self.now }
         ensures { (x : Connection) → connection_at pool.now id ≡ Some x → x.id ≡ id → result ≡ not (concerns_now self.now pool.now x error.now && is_some (case_of operating error.now)) }
     {
         !(self.is_current(pool, id, error) && has_row(error))

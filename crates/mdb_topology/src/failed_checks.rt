@@ -4,13 +4,12 @@ ghost use Rattle.std.specs.Prelude.{◌≡◌, ◌≤◌, ◌&&◌, IfOk, None, 
 ghost use Rattle.mdb_describe.specs.Descriptions.{failed};
 ghost use Rattle.mdb_describe.specs.Differences.{difference};
 ghost use Rattle.mdb_describe.specs.Update.{updated};
-ghost use Rattle.mdb_topology.specs.declared.marked.Asked.TheVariants.{Nothing};
 
-use crate::marked::Asked;
+use crate::marked::PoolTrouble;
 use crate::monitoring::Monitoring;
 use crate::next::Next;
 use crate::topology::TopologyCore;
-use mdb_base::{Error, OutOfMemory, ServerAddress};
+use mdb_base::{OutOfMemory, ServerAddress};
 use mdb_events::SdamEvent;
 use mdb_log::{Reply, Step};
 use std::alloc::Global;
@@ -25,22 +24,21 @@ impl TopologyCore {
         &mut self,
         alloc: Global,
         step: &Step,
-        place: usize,
+        trouble: &PoolTrouble<'_>,
         address: &ServerAddress,
-        error: &Error,
     ) -> Result<Next, OutOfMemory>
         requires stands { StandsForSome self.old }
         requires in_time { self.old.pools.last ≤ step.now.moment }
         requires normal { self.old.options.load_balanced ≡ false }
-        requires here { at_address self.old.pools.cores.items address.now ≡ Some place }
-        requires accepted { self.old.stopped ≡ false → is_some (difference self.old.description.servers (updated self.old.description (failed address.now error.now)).servers) && true ≡ true → AcceptsClear self.old.pools.cores.items place step.now.moment None error.now }
+        requires here { at_address self.old.pools.cores.items address.now ≡ Some trouble.now.index }
+        requires accepted { self.old.stopped ≡ false → is_some (difference self.old.description.servers (updated self.old.description (failed address.now trouble.now.error.now)).servers) && trouble.now.clears ≡ true → AcceptsClear self.old.pools.cores.items trouble.now.index step.now.moment None trouble.now.error.now }
         ensures same { self.new ≡ self.old }
-        ensures fails { IfOk result (λ next. (x : Trouble) → IsOfPool self.old.options x place address.now error.now true Nothing → FailsTo self.old step.now.moment (updated self.old.description (failed address.now error.now)) x self.old.stopped next) }
+        ensures fails { IfOk result (λ next. (x : Trouble) → IsOfPool self.old.options x trouble.now.index address.now trouble.now.error.now trouble.now.clears trouble.now.asked → FailsTo self.old step.now.moment (updated self.old.description (failed address.now trouble.now.error.now)) x self.old.stopped next) }
     {
         if self.stopped {
             return Ok(Next::of_reply(alloc, Reply::Changed(false)));
         }
-        self.mark_at(alloc, step, place, address, error, true, Asked::Nothing)
+        self.mark_at(alloc, step, trouble, address)
     }
 
     /// The mark with what the check does at the monitors, and its event first.
@@ -48,21 +46,20 @@ impl TopologyCore {
         &mut self,
         alloc: Global,
         step: &Step,
-        place: usize,
+        trouble: &PoolTrouble<'_>,
         address: &ServerAddress,
-        error: &Error,
         monitoring: Monitoring,
         event: SdamEvent,
     ) -> Result<Next, OutOfMemory>
         requires stands { StandsForSome self.old }
         requires in_time { self.old.pools.last ≤ step.now.moment }
         requires normal { self.old.options.load_balanced ≡ false }
-        requires here { at_address self.old.pools.cores.items address.now ≡ Some place }
-        requires accepted { self.old.stopped ≡ false → is_some (difference self.old.description.servers (updated self.old.description (failed address.now error.now)).servers) && true ≡ true → AcceptsClear self.old.pools.cores.items place step.now.moment None error.now }
+        requires here { at_address self.old.pools.cores.items address.now ≡ Some trouble.now.index }
+        requires accepted { self.old.stopped ≡ false → is_some (difference self.old.description.servers (updated self.old.description (failed address.now trouble.now.error.now)).servers) && trouble.now.clears ≡ true → AcceptsClear self.old.pools.cores.items trouble.now.index step.now.moment None trouble.now.error.now }
         ensures same { self.new ≡ self.old }
-        ensures fails { IfOk result (λ next. (x : Trouble) → IsOfPool self.old.options x place address.now error.now true Nothing → FailsAs self.old step.now.moment monitoring event (updated self.old.description (failed address.now error.now)) x next) }
+        ensures fails { IfOk result (λ next. (x : Trouble) → IsOfPool self.old.options x trouble.now.index address.now trouble.now.error.now trouble.now.clears trouble.now.asked → FailsAs self.old step.now.moment monitoring event (updated self.old.description (failed address.now trouble.now.error.now)) x next) }
     {
-        match self.mark_failed(alloc, step, place, address, error) {
+        match self.mark_failed(alloc, step, trouble, address) {
             Ok(next) => Ok(next.with_check(alloc, monitoring, event)?),
             Err(e) => {
                 drop(monitoring);

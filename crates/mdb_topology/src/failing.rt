@@ -16,7 +16,7 @@ ghost use Rattle.mdb_topology.specs.Failing.{is_timely, is_uncleared, clears_aft
 
 use crate::change::Change;
 use crate::complaining::is_hard;
-use crate::marked::Asked;
+use crate::marked::{Asked, PoolTrouble};
 use crate::next::{Next, Stepped};
 use crate::topology::TopologyCore;
 use mdb_base::{Error, ObjectId, OutOfMemory, ServerAddress};
@@ -116,6 +116,7 @@ impl TopologyCore {
 
     // The error about the pending connection of the pool is current.
     fn regards(&self, pool: &PoolCore, id: u32, at: FailedAt, error: &Error) -> bool
+        requires stands { StandsForSome self.now }
         ensures { (x : Connection) → connection_at pool.now id ≡ Some x → result ≡ regards_now self.now pool.now id at error.now }
     {
         if error.is_incompatible_server() {
@@ -132,6 +133,7 @@ impl TopologyCore {
 
     // The error tells nothing: it is not current, or it has no row.
     fn leaves_failure(&self, pool: &PoolCore, id: u32, at: FailedAt, error: &Error) -> bool
+        requires stands { StandsForSome self.now }
         ensures { (x : Connection) → connection_at pool.now id ≡ Some x → result ≡ not (regards_now self.now pool.now id at error.now && is_some (case_of (establishing at) error.now)) }
     {
         !(self.regards(pool, id, at, error) && has_row(error))
@@ -161,17 +163,15 @@ impl TopologyCore {
         let cleared = service.is_some();
         let mut facts = Vec::new(alloc);
         let mut changes = Vec::new(alloc);
-        self.pools.plan_failure(
-            alloc,
-            place,
-            step,
-            cleared,
+        let trouble = PoolTrouble {
+            index: place,
             service,
             error,
-            Asked::Nothing,
-            &mut facts,
-            &mut changes,
-        )?;
+            clears: cleared,
+            asked: Asked::Nothing,
+        };
+        self.pools
+            .plan_failure(alloc, step, &trouble, &mut facts, &mut changes)?;
         Ok(Stepped::Accepted(Next {
             facts,
             changes,
@@ -184,43 +184,38 @@ impl TopologyCore {
         &mut self,
         alloc: Global,
         step: &Step,
-        place: usize,
+        trouble: &PoolTrouble<'_>,
         address: &ServerAddress,
-        error: &Error,
-        clears: bool,
         later: &TopologyDescription,
     ) -> Result<(Vec<Fact>, Vec<Change>), OutOfMemory>
         requires stands { StandsForSome self.old }
         requires in_time { self.old.pools.last ≤ step.now.moment }
-        requires there { place < length self.old.pools.cores.items }
-        requires failing { (s : Core) → slice_get self.old.pools.cores.items place ≡ Some s → IsFailing s step.now error.now }
-        requires here { at_address self.old.pools.cores.items address.now ≡ Some place }
-        requires marked { later.now ≡ updated self.old.description (failed address.now error.now) }
-        requires accepted { is_some (difference self.old.description.servers later.now.servers) && clears ≡ true → AcceptsClear self.old.pools.cores.items place step.now.moment None error.now }
+        requires there { trouble.now.index < length self.old.pools.cores.items }
+        requires failing { (s : Core) → slice_get self.old.pools.cores.items trouble.now.index ≡ Some s → IsFailing s step.now trouble.now.error.now }
+        requires here { at_address self.old.pools.cores.items address.now ≡ Some trouble.now.index }
+        requires marked { later.now ≡ updated self.old.description (failed address.now trouble.now.error.now) }
+        requires accepted { is_some (difference self.old.description.servers later.now.servers) && trouble.now.clears ≡ true → AcceptsClear self.old.pools.cores.items trouble.now.index step.now.moment None trouble.now.error.now }
         ensures same { self.new ≡ self.old }
-        ensures told { IfOk result (λ (facts, changes). FailureTold self.old step.now place later.now error.now clears (asked_after error.now) changes.items facts.items) }
+        ensures told { IfOk result (λ (facts, changes). FailureTold self.old step.now trouble.now.index later.now trouble.now.error.now trouble.now.clears trouble.now.asked changes.items facts.items) }
     {
         let diff = self.description.diff(alloc, later)?;
         let mut facts = Vec::new(alloc);
         let moment = step.moment;
-        let planned = self.publish_mark(alloc, moment, address, error, later, &diff, &mut facts)?;
+        let planned = self.publish_mark(alloc, moment, later, &diff, &mut facts)?;
         drop(planned);
         let changed = diff.is_some();
         drop(diff);
         let mut changes = Vec::new(alloc);
-        let cleared = changed && clears;
-        let asked = asked_after(error);
-        self.pools.plan_failure(
-            alloc,
-            place,
-            step,
-            cleared,
-            None,
-            error,
-            asked,
-            &mut facts,
-            &mut changes,
-        )?;
+        let cleared = changed && trouble.clears;
+        let failure = PoolTrouble {
+            index: trouble.index,
+            service: None,
+            error: trouble.error,
+            clears: cleared,
+            asked: trouble.asked,
+        };
+        self.pools
+            .plan_failure(alloc, step, &failure, &mut facts, &mut changes)?;
         Ok((facts, changes))
     }
 
@@ -248,7 +243,15 @@ impl TopologyCore {
         }
         let address = self.pools.cores[place].address().clone()?;
         let later = self.after_error(alloc, &address, error)?;
-        let told = self.tell_failure(alloc, step, place, &address, error, clears, &later);
+        let asked = asked_after(error);
+        let trouble = PoolTrouble {
+            index: place,
+            service: None,
+            error,
+            clears,
+            asked,
+        };
+        let told = self.tell_failure(alloc, step, &trouble, &address, &later);
         match told {
             Ok((facts, changes)) => Ok(Stepped::Accepted(Next {
                 facts,

@@ -10,10 +10,10 @@ ghost use Rattle.mdb_topology.specs.Failing.{PlansBoth};
 ghost use Rattle.mdb_topology.specs.Marking.{asked_of};
 
 use crate::change::Change;
-use crate::marked::Asked;
+use crate::marked::{Asked, PoolTrouble};
 use crate::marking::ask;
 use crate::pools::Pools;
-use mdb_base::{Error, ObjectId, OutOfMemory, ServerAddress};
+use mdb_base::{OutOfMemory, ServerAddress};
 use mdb_events::{Fact, Held};
 use mdb_log::{Act, Step};
 use mdb_pool::PoolCore;
@@ -83,51 +83,59 @@ impl Pools {
     fn plan_failed(
         &mut self,
         alloc: Global,
-        place: usize,
         step: &Step,
-        error: &Error,
-        asked: Asked,
+        trouble: &PoolTrouble<'_>,
         facts: &mut Vec<Fact>,
         changes: &mut Vec<Change>,
     ) -> Result<(), OutOfMemory>
-        requires there { place < length self.old.cores.items }
-        requires failing { (s : Core) → slice_get self.old.cores.items place ≡ Some s → IsFailing s step.now error.now }
+        requires there { trouble.now.index < length self.old.cores.items }
+        requires failing { (s : Core) → slice_get self.old.cores.items trouble.now.index ≡ Some s → IsFailing s step.now trouble.now.error.now }
         ensures same { self.new ≡ self.old }
-        ensures planned { OnOk result (PlansAlone self.old.cores.items place step.now asked changes.old.items changes.new.items facts.old.items facts.new.items) }
+        ensures planned { OnOk result (PlansAlone self.old.cores.items trouble.now.index step.now trouble.now.asked changes.old.items changes.new.items facts.old.items facts.new.items) }
     {
-        ask(facts, asked, false, self.cores[place].address())?;
+        ask(
+            facts,
+            trouble.asked,
+            false,
+            self.cores[trouble.index].address(),
+        )?;
         let step = step.clone()?;
-        self.plan_act(alloc, place, step, facts, changes)
+        self.plan_act(alloc, trouble.index, step, facts, changes)
     }
 
     // The clear, what is asked, and the failure.
     fn plan_both(
         &mut self,
         alloc: Global,
-        place: usize,
         clear: Step,
         step: &Step,
-        asked: Asked,
+        trouble: &PoolTrouble<'_>,
         facts: &mut Vec<Fact>,
         changes: &mut Vec<Change>,
     ) -> Result<(), OutOfMemory>
-        requires there { place < length self.old.cores.items }
+        requires there { trouble.now.index < length self.old.cores.items }
         requires moment { clear.moment ≡ step.now.moment }
-        requires acts { (s : Core) → slice_get self.old.cores.items place ≡ Some s → IsPoolAct s.pool clear.act × IsPoolAct s.pool step.now.act }
-        requires accepted { (s : Core) → slice_get self.old.cores.items place ≡ Some s → refusal_now s clear ≡ None }
-        requires still { (s : Core) → slice_get self.old.cores.items place ≡ Some s → (t : Core) (a : Answer) → IsDone s t clear a → refusal_now t step.now ≡ None }
+        requires acts { (s : Core) → slice_get self.old.cores.items trouble.now.index ≡ Some s → IsPoolAct s.pool clear.act × IsPoolAct s.pool step.now.act }
+        requires accepted { (s : Core) → slice_get self.old.cores.items trouble.now.index ≡ Some s → refusal_now s clear ≡ None }
+        requires still { (s : Core) → slice_get self.old.cores.items trouble.now.index ≡ Some s → (t : Core) (a : Answer) → IsDone s t clear a → refusal_now t step.now ≡ None }
         ensures same { self.new ≡ self.old }
-        ensures planned { OnOk result (PlansTwo self.old.cores.items place (λ p. clear.act) step.now asked changes.old.items changes.new.items facts.old.items facts.new.items) }
+        ensures planned { OnOk result (PlansTwo self.old.cores.items trouble.now.index (λ p. clear.act) step.now trouble.now.asked changes.old.items changes.new.items facts.old.items facts.new.items) }
     {
         let (cleared, failed) = plan_two(
             alloc,
-            &mut self.cores[place],
-            place,
+            &mut self.cores[trouble.index],
+            trouble.index,
             clear,
             step,
             changes,
         )?;
-        tell_both(facts, self.cores[place].address(), asked, cleared, failed)?;
+        tell_both(
+            facts,
+            self.cores[trouble.index].address(),
+            trouble.asked,
+            cleared,
+            failed,
+        )?;
         Ok(())
     }
 
@@ -135,29 +143,26 @@ impl Pools {
     pub(crate) fn plan_failure(
         &mut self,
         alloc: Global,
-        place: usize,
         step: &Step,
-        wanted: bool,
-        service: Option<ObjectId>,
-        error: &Error,
-        asked: Asked,
+        trouble: &PoolTrouble<'_>,
         facts: &mut Vec<Fact>,
         changes: &mut Vec<Change>,
     ) -> Result<(), OutOfMemory>
-        requires there { place < length self.old.cores.items }
-        requires failing { (s : Core) → slice_get self.old.cores.items place ≡ Some s → IsFailing s step.now error.now }
-        requires still { (s : Core) → slice_get self.old.cores.items place ≡ Some s → StillFails s step.now service error.now }
-        requires accepted { wanted ≡ true → AcceptsClear self.old.cores.items place step.now.moment service error.now }
+        requires there { trouble.now.index < length self.old.cores.items }
+        requires failing { (s : Core) → slice_get self.old.cores.items trouble.now.index ≡ Some s → IsFailing s step.now trouble.now.error.now }
+        requires still { (s : Core) → slice_get self.old.cores.items trouble.now.index ≡ Some s → StillFails s step.now trouble.now.service trouble.now.error.now }
+        requires accepted { trouble.now.clears ≡ true → AcceptsClear self.old.cores.items trouble.now.index step.now.moment trouble.now.service trouble.now.error.now }
         ensures same { self.new ≡ self.old }
-        ensures fails { OnOk result (Fails wanted self.old.cores.items place step.now service error.now asked changes.old.items changes.new.items facts.old.items facts.new.items) }
+        ensures fails { OnOk result (Fails trouble.now.clears self.old.cores.items trouble.now.index step.now trouble.now.service trouble.now.error.now trouble.now.asked changes.old.items changes.new.items facts.old.items facts.new.items) }
     {
+        let wanted = trouble.clears;
         if !wanted {
-            return self.plan_failed(alloc, place, step, error, asked, facts, changes);
+            return self.plan_failed(alloc, step, trouble, facts, changes);
         }
-        let error = Held::copy_of(alloc, error)?;
-        let act = Act::Clear(self.cores[place].number(), service, error);
+        let error = Held::copy_of(alloc, trouble.error)?;
+        let act = Act::Clear(self.cores[trouble.index].number(), trouble.service, error);
         let moment = step.moment;
         let clear = Step { moment, act };
-        self.plan_both(alloc, place, clear, step, asked, facts, changes)
+        self.plan_both(alloc, clear, step, trouble, facts, changes)
     }
 }

@@ -1,6 +1,6 @@
 //! Which of the pools an act concerns.
 
-ghost use Rattle.std.specs.Prelude.{◌≡◌};
+ghost use Rattle.std.specs.Prelude.{◌≡◌, option_copied, slice_get};
 ghost use Rattle.mdb_topology.specs.Standing.{is_open_at};
 
 use crate::pools::Pools;
@@ -16,7 +16,7 @@ fn is_open_at(pool: &PoolCore, address: &ServerAddress) -> bool
 }
 
 impl Pools {
-    ghost use Rattle.mdb_topology.specs.Standing.{at_address, knows};
+    ghost use Rattle.mdb_topology.specs.Standing.{at_address, knows, IsSingle};
     ghost use Rattle.mdb_topology.specs.Stepping.{is_here_among};
     ghost use Rattle.mdb_topology.specs.Finding.{asked_by, holder, first_job, numbered, place_of};
 
@@ -27,12 +27,20 @@ impl Pools {
         self.cores.iter().position(|pool| is_open_at(pool, address))
     }
 
-    /// The pool with the number is the one that is open at the address.
+    /// The pool with the number: pools stand by number.
+    pub(crate) fn pool(&self, number: u32) -> Option<&PoolCore>
+        ensures { option_copied result ≡ slice_get self.now.cores.items number }
+    {
+        self.cores.get(number as usize)
+    }
+
+    /// The pool with the number is the one that is open at the address. That pool alone is looked at, since at most one is open there.
     pub(crate) fn is_here(&self, address: &ServerAddress, number: u32) -> bool
+        requires single { IsSingle self.now.cores.items }
         ensures { result ≡ is_here_among self.now.cores.items address.now number }
     {
-        match self.at_address(address) {
-            Some(index) => index == number as usize,
+        match self.pool(number) {
+            Some(pool) => is_open_at(pool, address),
             None => false,
         }
     }

@@ -33,7 +33,7 @@ impl TopologyCore {
     fn pool_at(&self, number: u32) -> Option<&PoolCore>
         ensures { option_copied result ≡ slice_get self.now.pools.cores.items number }
     {
-        self.pools.cores.get(number as usize)
+        self.pools.pool(number)
     }
 
     /// The pool with the number: what its calls answer that only look at it is what the driver's history says of the pool's items. `None` where no pool of this number was

@@ -44,6 +44,7 @@ mod stepping;
 mod telling_changes;
 mod topology;
 mod topology_acts;
+mod topology_change;
 mod updater;
 
 pub use changing::MAX_SERVERS;

@@ -10,9 +10,10 @@ ghost use Rattle.mdb_topology.specs.Publishing.{telling};
 ghost use Rattle.mdb_topology.specs.Touching.{touched_by};
 
 use crate::change::Change;
-use crate::marked::{Asked, Marked};
+use crate::marked::{Asked, Marked, PoolTrouble};
 use crate::next::{Next, Stepped};
 use crate::topology::TopologyCore;
+use crate::topology_change::TopologyChange;
 use mdb_base::{Error, Moment, OutOfMemory, ServerAddress};
 use mdb_describe::{Diff, TopologyDescription};
 use mdb_events::Fact;
@@ -38,7 +39,7 @@ pub(crate) fn ask(
 
 impl TopologyCore {
     ghost use Rattle.mdb_topology.specs.Errors.{Trouble};
-    ghost use Rattle.mdb_topology.specs.Marking.{AcceptsClear, IsMarked, IsOfPool, MarkPasses, MarkTold, MarksTo};
+    ghost use Rattle.mdb_topology.specs.Marking.{AcceptsClear, IsMarked, IsMarkOf, IsOfPool, MarkPasses, MarkTold, MarksTo};
     ghost use Rattle.mdb_topology.specs.Planned.{PlansMore};
     ghost use Rattle.mdb_topology.specs.Standing.{at_address, StandsForSome};
 
@@ -47,15 +48,13 @@ impl TopologyCore {
         &mut self,
         alloc: Global,
         moment: Moment,
-        address: &ServerAddress,
-        error: &Error,
         later: &TopologyDescription,
         diff: &Option<Diff>,
         facts: &mut Vec<Fact>,
     ) -> Result<Vec<Change>, OutOfMemory>
         requires stands { StandsForSome self.old }
         requires in_time { self.old.pools.last ≤ moment }
-        requires marked { later.now ≡ updated self.old.description (failed address.now error.now) }
+        requires marked { IsMarkOf self.old.description later.now }
         requires diff { difference self.old.description.servers later.now.servers ≡ diff.now }
         requires ordered { IfSome diff.now (λ d. AreInOrder d) }
         requires in_both { IfSome diff.now (λ d. are_in_both self.old.description.servers later.now.servers d.changed ≡ true) }
@@ -63,15 +62,15 @@ impl TopologyCore {
         ensures planned { IfOk result (λ changes. PlansMore self.old.options moment self.old.pools.cores.items (length self.old.pools.cores.items) (touched_by later.now diff.now) (telling self.old.options moment self.old.description later.now diff.now) [] [] [] changes.items facts.old.items facts.new.items) }
     {
         match diff {
-            Some(diff) => self.pools.plan_publication(
-                alloc,
-                &self.options,
-                moment,
-                &self.description,
-                later,
-                diff,
-                facts,
-            ),
+            Some(diff) => {
+                let change = TopologyChange {
+                    options: &self.options,
+                    moment,
+                    earlier: &self.description,
+                    later,
+                };
+                self.pools.plan_publication(alloc, &change, diff, facts)
+            }
             None => Ok(Vec::new(alloc)),
         }
     }
@@ -81,42 +80,36 @@ impl TopologyCore {
         &mut self,
         alloc: Global,
         step: &Step,
-        place: usize,
+        trouble: &PoolTrouble<'_>,
         address: &ServerAddress,
-        error: &Error,
-        clears: bool,
-        asked: Asked,
         later: &TopologyDescription,
     ) -> Result<Marked, OutOfMemory>
         requires stands { StandsForSome self.old }
         requires in_time { self.old.pools.last ≤ step.now.moment }
         requires normal { self.old.options.load_balanced ≡ false }
-        requires here { at_address self.old.pools.cores.items address.now ≡ Some place }
-        requires marked { later.now ≡ updated self.old.description (failed address.now error.now) }
-        requires accepted { is_some (difference self.old.description.servers later.now.servers) && clears ≡ true → AcceptsClear self.old.pools.cores.items place step.now.moment None error.now }
+        requires here { at_address self.old.pools.cores.items address.now ≡ Some trouble.now.index }
+        requires marked { later.now ≡ updated self.old.description (failed address.now trouble.now.error.now) }
+        requires accepted { is_some (difference self.old.description.servers later.now.servers) && trouble.now.clears ≡ true → AcceptsClear self.old.pools.cores.items trouble.now.index step.now.moment None trouble.now.error.now }
         ensures same { self.new ≡ self.old }
-        ensures told { IfOk result (λ marked. (x : Trouble) → IsOfPool self.old.options x place address.now error.now clears asked → MarkTold self.old step.now.moment later.now x marked.facts.items marked.changes.items marked.changed) }
+        ensures told { IfOk result (λ marked. (x : Trouble) → IsOfPool self.old.options x trouble.now.index address.now trouble.now.error.now trouble.now.clears trouble.now.asked → MarkTold self.old step.now.moment later.now x marked.facts.items marked.changes.items marked.changed) }
     {
         let diff = self.description.diff(alloc, later)?;
         let mut facts = Vec::new(alloc);
         let moment = step.moment;
-        let mut changes = self.publish_mark(
-            alloc, moment, address, error, later, &diff, &mut facts,
-        )?;
+        let mut changes = self.publish_mark(alloc, moment, later, &diff, &mut facts)?;
         let changed = diff.is_some();
         drop(diff);
-        let cleared = changed && clears;
-        self.pools.plan_clear(
-            alloc,
-            moment,
-            cleared,
-            place,
-            None,
-            error,
-            &mut facts,
-            &mut changes,
-        )?;
-        ask(&mut facts, asked, cleared, address)?;
+        let cleared = changed && trouble.clears;
+        let clear = PoolTrouble {
+            index: trouble.index,
+            service: None,
+            error: trouble.error,
+            clears: cleared,
+            asked: trouble.asked,
+        };
+        self.pools
+            .plan_clear(alloc, moment, &clear, &mut facts, &mut changes)?;
+        ask(&mut facts, trouble.asked, cleared, address)?;
         Ok(Marked {
             facts,
             changes,
@@ -129,22 +122,19 @@ impl TopologyCore {
         &mut self,
         alloc: Global,
         step: &Step,
-        place: usize,
+        trouble: &PoolTrouble<'_>,
         address: &ServerAddress,
-        error: &Error,
-        clears: bool,
-        asked: Asked,
     ) -> Result<Next, OutOfMemory>
         requires stands { StandsForSome self.old }
         requires in_time { self.old.pools.last ≤ step.now.moment }
         requires normal { self.old.options.load_balanced ≡ false }
-        requires here { at_address self.old.pools.cores.items address.now ≡ Some place }
-        requires accepted { is_some (difference self.old.description.servers (updated self.old.description (failed address.now error.now)).servers) && clears ≡ true → AcceptsClear self.old.pools.cores.items place step.now.moment None error.now }
+        requires here { at_address self.old.pools.cores.items address.now ≡ Some trouble.now.index }
+        requires accepted { is_some (difference self.old.description.servers (updated self.old.description (failed address.now trouble.now.error.now)).servers) && trouble.now.clears ≡ true → AcceptsClear self.old.pools.cores.items trouble.now.index step.now.moment None trouble.now.error.now }
         ensures same { self.new ≡ self.old }
-        ensures marked { IfOk result (λ next. (x : Trouble) → IsOfPool self.old.options x place address.now error.now clears asked → IsMarked self.old step.now.moment (updated self.old.description (failed address.now error.now)) x next) }
+        ensures marked { IfOk result (λ next. (x : Trouble) → IsOfPool self.old.options x trouble.now.index address.now trouble.now.error.now trouble.now.clears trouble.now.asked → IsMarked self.old step.now.moment (updated self.old.description (failed address.now trouble.now.error.now)) x next) }
     {
-        let later = self.after_error(alloc, address, error)?;
-        let marked = self.tell_mark(alloc, step, place, address, error, clears, asked, &later);
+        let later = self.after_error(alloc, address, trouble.error)?;
+        let marked = self.tell_mark(alloc, step, trouble, address, &later);
         match marked {
             Ok(marked) => Ok(Next {
                 facts: marked.facts,
@@ -183,7 +173,14 @@ impl TopologyCore {
             return Ok(Stepped::Refused(Refused::Exhausted(What::Generation)));
         }
         let address = self.pools.cores[place].address().clone()?;
-        let next = self.mark_at(alloc, step, place, &address, error, clears, asked)?;
+        let trouble = PoolTrouble {
+            index: place,
+            service: None,
+            error,
+            clears,
+            asked,
+        };
+        let next = self.mark_at(alloc, step, &trouble, &address)?;
         Ok(Stepped::Accepted(next))
     }
 }

@@ -88,7 +88,7 @@ impl Next {
 impl Next {
     ghost use Rattle.mdb_topology.specs.Changing.{IsWithCheck};
 
-    /// The same with what is done at the monitors, and the event of a check before its facts.
+    /// What an accepted step makes, with what is done at the monitors, and the event of a check before its facts.
     pub(crate) fn with_check(
         self,
         alloc: Global,

@@ -11,6 +11,7 @@ ghost use Rattle.mdb_topology.specs.Opening.{IsOpened, Publishes};
 
 use crate::pools::Pools;
 use crate::sdam_facts::tell_event;
+use crate::topology_change::TopologyChange;
 use mdb_base::{Moment, Options, OutOfMemory, ServerAddress};
 use mdb_describe::{Diff, ServerDescription, TopologyDescription};
 use mdb_events::{Fact, SdamEvent, TopologyOpeningEvent};
@@ -82,23 +83,20 @@ impl Pools {
     fn publish_difference(
         &mut self,
         alloc: Global,
-        options: &Options,
-        moment: Moment,
-        earlier: &TopologyDescription,
-        later: &TopologyDescription,
+        change: &TopologyChange<'_>,
         diff: &Diff,
         facts: &mut Vec<Fact>,
     ) -> Result<(), OutOfMemory>
-        requires early { All (λ s. s.last ≤ moment) self.old.cores.items }
-        requires open_for { (a : ServerAddress) → is_some (at_address self.old.cores.items a) ≡ is_known a earlier.now.servers }
-        requires few { length self.old.cores.items + length later.now.servers ≤ 2 ^ 32 }
-        requires difference { difference earlier.now.servers later.now.servers ≡ Some diff.now }
+        requires early { All (λ s. s.last ≤ change.now.moment) self.old.cores.items }
+        requires open_for { (a : ServerAddress) → is_some (at_address self.old.cores.items a) ≡ is_known a change.now.earlier.now.servers }
+        requires few { length self.old.cores.items + length change.now.later.now.servers ≤ 2 ^ 32 }
+        requires difference { difference change.now.earlier.now.servers change.now.later.now.servers ≡ Some diff.now }
         requires ordered { AreInOrder diff.now }
-        requires in_both { are_in_both earlier.now.servers later.now.servers diff.now.changed ≡ true }
+        requires in_both { are_in_both change.now.earlier.now.servers change.now.later.now.servers diff.now.changed ≡ true }
         ensures last { self.new.last ≡ self.old.last }
-        ensures published { OnOk result (Publishes options.now moment earlier.now later.now self.old.cores.items self.new.cores.items facts.old.items facts.new.items) }
+        ensures published { OnOk result (Publishes change.now.options.now change.now.moment change.now.earlier.now change.now.later.now self.old.cores.items self.new.cores.items facts.old.items facts.new.items) }
     {
-        let changes = self.plan_publication(alloc, options, moment, earlier, later, diff, facts)?;
+        let changes = self.plan_publication(alloc, change, diff, facts)?;
         match self.reserve(diff.added.as_slice().len()) {
             Ok(()) => {
                 self.apply_all(changes);
@@ -115,22 +113,17 @@ impl Pools {
     fn publish(
         &mut self,
         alloc: Global,
-        options: &Options,
-        moment: Moment,
-        earlier: &TopologyDescription,
-        later: &TopologyDescription,
+        change: &TopologyChange<'_>,
         facts: &mut Vec<Fact>,
     ) -> Result<(), OutOfMemory>
-        requires early { All (λ s. s.last ≤ moment) self.old.cores.items }
-        requires open_for { (a : ServerAddress) → is_some (at_address self.old.cores.items a) ≡ is_known a earlier.now.servers }
-        requires few { length self.old.cores.items + length later.now.servers ≤ 2 ^ 32 }
+        requires early { All (λ s. s.last ≤ change.now.moment) self.old.cores.items }
+        requires open_for { (a : ServerAddress) → is_some (at_address self.old.cores.items a) ≡ is_known a change.now.earlier.now.servers }
+        requires few { length self.old.cores.items + length change.now.later.now.servers ≤ 2 ^ 32 }
         ensures last { self.new.last ≡ self.old.last }
-        ensures published { OnOk result (Publishes options.now moment earlier.now later.now self.old.cores.items self.new.cores.items facts.old.items facts.new.items) }
+        ensures published { OnOk result (Publishes change.now.options.now change.now.moment change.now.earlier.now change.now.later.now self.old.cores.items self.new.cores.items facts.old.items facts.new.items) }
     {
-        match earlier.diff(alloc, later)? {
-            Some(diff) => {
-                self.publish_difference(alloc, options, moment, earlier, later, &diff, facts)
-            }
+        match change.earlier.diff(alloc, change.later)? {
+            Some(diff) => self.publish_difference(alloc, change, &diff, facts),
             None => Ok(()),
         }
     }
@@ -152,7 +145,13 @@ fn publish_opened(
     ensures published { OnOk result (Publishes options.now moment (unopened options.now) seeded.now [] pools.new.cores.items facts.old.items facts.new.items) }
 {
     let before = unopened(seeded)?;
-    pools.publish(alloc, options, moment, &before, seeded, facts)
+    let change = TopologyChange {
+        options,
+        moment,
+        earlier: &before,
+        later: seeded,
+    };
+    pools.publish(alloc, &change, facts)
 }
 
 /// A driver is opened at the moment, with options that keep the rules.
@@ -170,7 +169,13 @@ pub fn open(alloc: Global, options: &Options, moment: Moment) -> Result<Opening,
     };
     publish_opened(alloc, options, moment, &seeded, &mut pools, &mut facts)?;
     let description = begins_with(alloc, options, &seeded)?;
-    pools.publish(alloc, options, moment, &seeded, &description, &mut facts)?;
+    let change = TopologyChange {
+        options,
+        moment,
+        earlier: &seeded,
+        later: &description,
+    };
+    pools.publish(alloc, &change, &mut facts)?;
     Ok(Opening {
         pools,
         description,

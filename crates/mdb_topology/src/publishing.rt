@@ -9,7 +9,8 @@ use crate::change::Change;
 use crate::opening_server::plan_all_opened;
 use crate::pools::Pools;
 use crate::sdam_facts::tell_event;
-use mdb_base::{Moment, Options, OutOfMemory};
+use crate::topology_change::TopologyChange;
+use mdb_base::{Options, OutOfMemory};
 use mdb_describe::{Diff, TopologyDescription};
 use mdb_events::{Fact, SdamEvent, TopologyDescriptionChangedEvent};
 use std::alloc::{AllocError, Global};
@@ -43,40 +44,35 @@ impl Pools {
     pub(crate) fn plan_publication(
         &mut self,
         alloc: Global,
-        options: &Options,
-        moment: Moment,
-        earlier: &TopologyDescription,
-        later: &TopologyDescription,
+        change: &TopologyChange<'_>,
         diff: &Diff,
         facts: &mut Vec<Fact>,
     ) -> Result<Vec<Change>, OutOfMemory>
-        requires early { All (λ s. s.last ≤ moment) self.old.cores.items }
-        requires open_for { (a : ServerAddress) → is_some (at_address self.old.cores.items a) ≡ is_known a earlier.now.servers }
+        requires early { All (λ s. s.last ≤ change.now.moment) self.old.cores.items }
+        requires open_for { (a : ServerAddress) → is_some (at_address self.old.cores.items a) ≡ is_known a change.now.earlier.now.servers }
         requires few { length self.old.cores.items + length diff.now.added ≤ 2 ^ 32 }
-        requires difference { difference earlier.now.servers later.now.servers ≡ Some diff.now }
+        requires difference { difference change.now.earlier.now.servers change.now.later.now.servers ≡ Some diff.now }
         requires ordered { AreInOrder diff.now }
-        requires in_both { are_in_both earlier.now.servers later.now.servers diff.now.changed ≡ true }
+        requires in_both { are_in_both change.now.earlier.now.servers change.now.later.now.servers diff.now.changed ≡ true }
         ensures same { self.new ≡ self.old }
-        ensures planned { IfOk result (λ changes. PlansMore options.now moment self.old.cores.items (length self.old.cores.items) (touches later.now diff.now) (publication options.now moment earlier.now later.now) diff.now.removed diff.now.added [] changes.items facts.old.items facts.new.items) }
+        ensures planned { IfOk result (λ changes. PlansMore change.now.options.now change.now.moment self.old.cores.items (length self.old.cores.items) (touches change.now.later.now diff.now) (publication change.now.options.now change.now.moment change.now.earlier.now change.now.later.now) diff.now.removed diff.now.added [] changes.items facts.old.items facts.new.items) }
     {
         let mut changes = Vec::new(alloc);
         let changed = diff.changed.as_slice();
-        self.plan_all_changed(
+        self.plan_all_changed(alloc, change, changed, facts, &mut changes)?;
+        let removed = diff.removed.as_slice();
+        self.plan_all_closed(
             alloc,
-            options,
-            moment,
-            earlier,
-            later,
-            changed,
+            change.options,
+            change.moment,
+            removed,
             facts,
             &mut changes,
         )?;
-        let removed = diff.removed.as_slice();
-        self.plan_all_closed(alloc, options, moment, removed, facts, &mut changes)?;
-        tell_topology(alloc, facts, options, earlier, later)?;
+        tell_topology(alloc, facts, change.options, change.earlier, change.later)?;
         let count = self.cores.len();
         let added = diff.added.as_slice();
-        plan_all_opened(alloc, options, added, count, facts, &mut changes)?;
+        plan_all_opened(alloc, change.options, added, count, facts, &mut changes)?;
         Ok(changes)
     }
 }

@@ -9,8 +9,9 @@ use crate::change::Change;
 use crate::pools::Pools;
 use crate::readiness::is_ready_type;
 use crate::sdam_facts::tell_event;
+use crate::topology_change::TopologyChange;
 use mdb_base::{Moment, Options, OutOfMemory, ServerAddress};
-use mdb_describe::{ServerDescription, TopologyDescription};
+use mdb_describe::ServerDescription;
 use mdb_events::{Fact, SdamEvent, ServerDescriptionChangedEvent};
 use mdb_log::{Act, Step};
 use std::alloc::{AllocError, Global};
@@ -70,27 +71,24 @@ impl Pools {
     fn plan_changed(
         &mut self,
         alloc: Global,
-        options: &Options,
-        moment: Moment,
-        earlier: &TopologyDescription,
-        later: &TopologyDescription,
+        change: &TopologyChange<'_>,
         address: &ServerAddress,
         facts: &mut Vec<Fact>,
         changes: &mut Vec<Change>,
     ) -> Result<(), OutOfMemory>
-        requires early { All (λ s. s.last ≤ moment) self.old.cores.items }
+        requires early { All (λ s. s.last ≤ change.now.moment) self.old.cores.items }
         ensures same { self.new ≡ self.old }
-        ensures planned { OnOk result (PlansMore options.now moment self.old.cores.items (length self.old.cores.items) (readies_one later.now address.now) (server_changed options.now moment earlier.now later.now address.now ∷ []) [] [] changes.old.items changes.new.items facts.old.items facts.new.items) }
+        ensures planned { OnOk result (PlansMore change.now.options.now change.now.moment self.old.cores.items (length self.old.cores.items) (readies_one change.now.later.now address.now) (server_changed change.now.options.now change.now.moment change.now.earlier.now change.now.later.now address.now ∷ []) [] [] changes.old.items changes.new.items facts.old.items facts.new.items) }
     {
-        let Some(old) = earlier.server(address) else {
+        let Some(old) = change.earlier.server(address) else {
             return Ok(());
         };
-        let Some(new) = later.server(address) else {
+        let Some(new) = change.later.server(address) else {
             return Ok(());
         };
-        let wanted = is_ready_type(later.topology_type(), new);
-        self.plan_ready(alloc, moment, wanted, address, facts, changes)?;
-        tell_changed(alloc, facts, options, address, old, new)?;
+        let wanted = is_ready_type(change.later.topology_type(), new);
+        self.plan_ready(alloc, change.moment, wanted, address, facts, changes)?;
+        tell_changed(alloc, facts, change.options, address, old, new)?;
         Ok(())
     }
 
@@ -98,23 +96,18 @@ impl Pools {
     pub(crate) fn plan_all_changed(
         &mut self,
         alloc: Global,
-        options: &Options,
-        moment: Moment,
-        earlier: &TopologyDescription,
-        later: &TopologyDescription,
+        change: &TopologyChange<'_>,
         addresses: &[ServerAddress],
         facts: &mut Vec<Fact>,
         changes: &mut Vec<Change>,
     ) -> Result<(), OutOfMemory>
-        requires early { All (λ s. s.last ≤ moment) self.old.cores.items }
+        requires early { All (λ s. s.last ≤ change.now.moment) self.old.cores.items }
         requires different { all_different addresses.now ≡ true }
         ensures same { self.new ≡ self.old }
-        ensures planned { OnOk result (PlansMore options.now moment self.old.cores.items (length self.old.cores.items) (readies later.now addresses.now) (map (server_changed options.now moment earlier.now later.now) addresses.now) [] [] changes.old.items changes.new.items facts.old.items facts.new.items) }
+        ensures planned { OnOk result (PlansMore change.now.options.now change.now.moment self.old.cores.items (length self.old.cores.items) (readies change.now.later.now addresses.now) (map (server_changed change.now.options.now change.now.moment change.now.earlier.now change.now.later.now) addresses.now) [] [] changes.old.items changes.new.items facts.old.items facts.new.items) }
     {
         for address in addresses {
-            self.plan_changed(
-                alloc, options, moment, earlier, later, address, facts, changes,
-            )?;
+            self.plan_changed(alloc, change, address, facts, changes)?;
         }
         Ok(())
     }

@@ -10,35 +10,28 @@ use crate::monitoring::Monitoring;
 use crate::next::{Next, Stepped};
 use crate::outcome::Outcome;
 use crate::topology::TopologyCore;
-use mdb_base::{Items, Moment, OutOfMemory};
+use mdb_base::{Moment, OutOfMemory};
 use mdb_describe::TopologyDescription;
 use mdb_events::Fact;
-use mdb_log::{Act, Entry, HelloResult, Log, Refused, Reply, Step};
+use mdb_log::{Act, HelloResult, Log, Refused, Reply, Step};
 use mdb_monitor::MonitorCore;
 use std::alloc::{AllocError, Global};
 
-// The log gets one entry more, of a copy of the step. The answer is a copy of the reply. The facts keep no memory beyond their own.
+// The log gets one entry more, of a copy of the step. The answer is a copy of the reply.
 fn enter(
     log: &mut Log,
     seat: u32,
     step: &Step,
     reply: Reply,
-    mut facts: Vec<Fact>,
+    facts: Vec<Fact>,
 ) -> Result<Reply, AllocError>
     ensures ok { OnOk result (log.new ≡ log.old ++ record { seat = seat; step = step.now; reply = reply; facts = facts.items } ∷ []) }
     ensures reply { IfOk result (λ told. told ≡ reply) }
     ensures err { OnErr result (log.new ≡ log.old) }
 {
-    facts.shrink_to_fit();
-    let copies = copies(step, &reply);
-    match copies {
-        Ok((step, told)) => {
-            log.push(Entry {
-                seat,
-                step,
-                reply,
-                facts: Items::new(facts),
-            })?;
+    match reply.clone() {
+        Ok(told) => {
+            log.enter(seat, step, reply, facts)?;
             Ok(told)
         }
         Err(e) => {
@@ -47,14 +40,6 @@ fn enter(
             Err(e)
         }
     }
-}
-
-fn copies(step: &Step, reply: &Reply) -> Result<(Step, Reply), AllocError>
-    ensures { IfOk result (λ made. made ≡ (step.now, reply.now)) }
-{
-    let step = step.clone()?;
-    let reply = reply.clone()?;
-    Ok((step, reply))
 }
 
 // More monitors, for which there is room.

@@ -41,7 +41,7 @@ impl Told {
         }
     }
 
-    /// The same with the reply and with what is known then.
+    /// What an accepted step makes that comes to this, with its reply and with what is known then.
     pub(crate) fn into_next(self, reply: Reply, known: TopologyDescription, stops: bool) -> Next
         ensures reply { result.reply ≡ reply }
         ensures facts { result.facts ≡ self.facts }

@@ -23,6 +23,7 @@ impl TopologyCore {
 
     // A reply for the pool makes nothing known: the driver was stopped, or the pool is not the open one of the address.
     pub(crate) fn leaves_reply(&self, address: &ServerAddress, pool: u32) -> bool
+        requires stands { StandsForSome self.now }
         ensures { result ≡ self.now.stopped || not (is_here_among self.now.pools.cores.items address.now pool) }
     {
         self.stopped || !self.pools.is_here(address, pool)

@@ -1,4 +1,4 @@
-use Rattle.std.proofs.Common.{◌≡◌, List, sym, subst}
+use Rattle.std.proofs.Common.{◌≡◌, List, sym, subst, arith}
 use Rattle.mdb_log.specs.declared.log.Entry.{Entry}
 use Rattle.mdb_log.proofs.Coming.{when-ok}
 use Rattle.mdb_shared_runs.specs.Parts.{IsSharedOn}
@@ -16,3 +16,9 @@ returns-in-Ok g c =
             shared_on g.C.Core.stands c.in_ok-driver.driver.id c.in_ok-driver.driver.base c.args.log c.args.count c.args.steps.now c.in_ok-seats.seats.items
             c.in-Ok.journal.all _ c.in_ok-driver.ensures.base c.requires.parts.0 c.in-Ok.ensures.accounts c.in_ok-seats.ensures c.in-Ok.ensures.stands in
     when-ok c.whole.result (λ log. log ≡ c.in-Ok.journal.all) Shared c.whole.ensures (λ log is. subst Shared (sym is) shared)
+
+pub unreachable-requires : goal.unreachable-requires
+unreachable-requires g c =
+    let lent = c.in_ok-driver.ensures.count.0 in
+    let back = c.in_ok-seats.ensures.0 in
+    omega (arith, lent, back)

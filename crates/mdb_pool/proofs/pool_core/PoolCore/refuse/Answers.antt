@@ -4,5 +4,5 @@ use Rattle.mdb_pool.proofs.Answering.{refuses-logs}
 use Rattle.mdb_pool.proofs.pool_core.PoolCore.refuse.Goals as goal
 
 pub returns-clause-logs : goal.returns-clause-logs
-returns-clause-logs c = refuses-logs c.args.self.now c.args.log.now c.log_step.new.log c.args.seat c.args.step.now c.args.why c.requires
-    (c.in_ok-log_step.ensures.entry ∙ ap (λ facts. c.args.log.now ++ record { seat = c.args.seat; step = c.args.step.now; reply = Refused c.args.why; facts = facts } ∷ []) c.new.ensures.items)
+returns-clause-logs c = refuses-logs c.args.self.now c.args.log.now c.enter.new.self c.args.seat c.args.step.now c.args.why c.requires
+    (c.in_ok-enter.ensures.entry ∙ ap (λ facts. c.args.log.now ++ record { seat = c.args.seat; step = c.args.step.now; reply = Refused c.args.why; facts = facts } ∷ []) c.new.ensures.items)

@@ -16,13 +16,13 @@ use Rattle.mdb_topology.proofs.pools.Pools.plan_all_changed.Goals as goal
 pub loop-address-init : goal.loop-address-init
 loop-address-init c =
     let pools = c.args.self.now.cores.items in
-    record { same = refl; planned = plans-none c.args.options.now c.args.moment pools (length pools) (readies c.args.later.now []) c.args.changes.now.items c.args.facts.now.items }
+    record { same = refl; planned = plans-none c.args.change.now.options.now c.args.change.now.moment pools (length pools) (readies c.args.change.now.later.now []) c.args.changes.now.items c.args.facts.now.items }
 
 pub loop-address-preserved : goal.loop-address-preserved
 loop-address-preserved c =
     let l = c.loop-address in
-    let o = c.args.options.now in
-    let m = c.args.moment in
+    let o = c.args.change.now.options.now in
+    let m = c.args.change.now.moment in
     let pools = c.args.self.now.cores.items in
     let xs = c.args.addresses.now in
     let x = c.address-item.result in
@@ -31,12 +31,12 @@ loop-address-preserved c =
     let at : slice_get xs l.address-index ≡ Some x = at-index xs l.address-index x x c.loop-address-test.true c.address-item.is refl in
     let more : take (l.address-index + 1) xs ≡ done ++ x ∷ [] = grind (arith, common_steps) in
     let new : is_listed done x ≡ false = different-take xs l.address-index x c.requires.different at in
-    let one : PlansMore o m pools (length pools) (readies_one c.args.later.now x) (server_changed o m c.args.earlier.now c.args.later.now x ∷ []) [] [] l.changes.items call.changes.items l.facts.items call.facts.items =
-    subst (λ (w : List PoolCore). PlansMore o m w (length w) (readies_one c.args.later.now x) (server_changed o m c.args.earlier.now c.args.later.now x ∷ []) [] [] l.changes.items call.changes.items l.facts.items call.facts.items)
+    let one : PlansMore o m pools (length pools) (readies_one c.args.change.now.later.now x) (server_changed o m c.args.change.now.earlier.now c.args.change.now.later.now x ∷ []) [] [] l.changes.items call.changes.items l.facts.items call.facts.items =
+    subst (λ (w : List PoolCore). PlansMore o m w (length w) (readies_one c.args.change.now.later.now x) (server_changed o m c.args.change.now.earlier.now c.args.change.now.later.now x ∷ []) [] [] l.changes.items call.changes.items l.facts.items call.facts.items)
     (ap (λ (p : Pools). p.cores.items) l.invariant.same) c.in_ok-plan_changed.ensures.planned in
     record {
       same = c.in_ok-plan_changed.ensures.same ∙ l.invariant.same;
       planned =
-          subst (λ (list : List ServerAddress). PlansMore o m pools (length pools) (readies c.args.later.now list) (map (server_changed o m c.args.earlier.now c.args.later.now) list) [] [] c.args.changes.now.items call.changes.items c.args.facts.now.items call.facts.items) (sym more)
-          (changed-more o m pools (length pools) done x new c.args.changes.now.items l.changes.items call.changes.items c.args.facts.now.items l.facts.items call.facts.items c.args.earlier.now c.args.later.now l.invariant.planned one);
+          subst (λ (list : List ServerAddress). PlansMore o m pools (length pools) (readies c.args.change.now.later.now list) (map (server_changed o m c.args.change.now.earlier.now c.args.change.now.later.now) list) [] [] c.args.changes.now.items call.changes.items c.args.facts.now.items call.facts.items) (sym more)
+          (changed-more o m pools (length pools) done x new c.args.changes.now.items l.changes.items call.changes.items c.args.facts.now.items l.facts.items call.facts.items c.args.change.now.earlier.now c.args.change.now.later.now l.invariant.planned one);
     }

@@ -13,34 +13,34 @@ pub plan_two-requires-clause-second_accepted : goal.plan_two-requires-clause-sec
 plan_two-requires-clause-second_accepted c =
     let pools = c.args.self.now.cores.items in
     let s = c.index_mut.result.now in
-    let at_i : slice_get pools c.args.place ≡ Some s = slice_get_read pools (length pools) c.args.place s refl c.requires.there c.index_mut.ensures.value in
+    let at_i : slice_get pools c.args.trouble.now.index ≡ Some s = slice_get_read pools (length pools) c.args.trouble.now.index s refl c.requires.there c.index_mut.ensures.value in
     λ t a d. c.requires.still s at_i t a d
 
 pub returns-in_err-cleared-clause-same : goal.returns-in_err-cleared-clause-same
 returns-in_err-cleared-clause-same c =
     let pools = c.args.self.now.cores.items in
     let s = c.index_mut.result.now in
-    let at_i : slice_get pools c.args.place ≡ Some s = slice_get_read pools (length pools) c.args.place s refl c.requires.there c.index_mut.ensures.value in
-    ap (λ v. record { cores = v; last = c.args.self.now.last }) (ap (with_item c.args.self.now.cores c.args.place) c.in_err-cleared.ensures.same ∙ put-back c.args.self.now.cores c.args.place s at_i)
+    let at_i : slice_get pools c.args.trouble.now.index ≡ Some s = slice_get_read pools (length pools) c.args.trouble.now.index s refl c.requires.there c.index_mut.ensures.value in
+    ap (λ v. record { cores = v; last = c.args.self.now.last }) (ap (with_item c.args.self.now.cores c.args.trouble.now.index) c.in_err-cleared.ensures.same ∙ put-back c.args.self.now.cores c.args.trouble.now.index s at_i)
 
 pub returns-in_err-tell_both-clause-same : goal.returns-in_err-tell_both-clause-same
 returns-in_err-tell_both-clause-same c =
     let pools = c.args.self.now.cores.items in
     let s = c.index_mut.result.now in
-    let at_i : slice_get pools c.args.place ≡ Some s = slice_get_read pools (length pools) c.args.place s refl c.requires.there c.index_mut.ensures.value in
-    ap (λ v. record { cores = v; last = c.args.self.now.last }) (ap (with_item c.args.self.now.cores c.args.place) c.in_ok-cleared.ensures.same ∙ put-back c.args.self.now.cores c.args.place s at_i)
+    let at_i : slice_get pools c.args.trouble.now.index ≡ Some s = slice_get_read pools (length pools) c.args.trouble.now.index s refl c.requires.there c.index_mut.ensures.value in
+    ap (λ v. record { cores = v; last = c.args.self.now.last }) (ap (with_item c.args.self.now.cores c.args.trouble.now.index) c.in_ok-cleared.ensures.same ∙ put-back c.args.self.now.cores c.args.trouble.now.index s at_i)
 
 pub returns-clause-same : goal.returns-clause-same
 returns-clause-same c =
     let pools = c.args.self.now.cores.items in
     let s = c.index_mut.result.now in
-    let at_i : slice_get pools c.args.place ≡ Some s = slice_get_read pools (length pools) c.args.place s refl c.requires.there c.index_mut.ensures.value in
-    ap (λ v. record { cores = v; last = c.args.self.now.last }) (ap (with_item c.args.self.now.cores c.args.place) c.in_ok-cleared.ensures.same ∙ put-back c.args.self.now.cores c.args.place s at_i)
+    let at_i : slice_get pools c.args.trouble.now.index ≡ Some s = slice_get_read pools (length pools) c.args.trouble.now.index s refl c.requires.there c.index_mut.ensures.value in
+    ap (λ v. record { cores = v; last = c.args.self.now.last }) (ap (with_item c.args.self.now.cores c.args.trouble.now.index) c.in_ok-cleared.ensures.same ∙ put-back c.args.self.now.cores c.args.trouble.now.index s at_i)
 
 pub returns-clause-planned : goal.returns-clause-planned
 returns-clause-planned c =
     let pools = c.args.self.now.cores.items in
-    let i = c.args.place in
+    let i = c.args.trouble.now.index in
     let s = c.index_mut.result.now in
     let m = c.args.step.now.moment in
     let cleared = c.in_ok-cleared.cleared in
@@ -61,5 +61,5 @@ returns-clause-planned c =
       failure = failed;
       does = λ u q. subst (λ k. DoesBoth s u (record { moment = k; act = c.args.clear.act }) c.args.step.now cleared failed) c.requires.moment (planned.does u q);
       behind = planned.behind;
-      told = c.in_ok-tell_both.ensures ∙ ap (λ a. ((before ++ cleared.facts) ++ asked_of c.args.asked true a) ++ failed.facts) address;
+      told = c.in_ok-tell_both.ensures ∙ ap (λ a. ((before ++ cleared.facts) ++ asked_of c.args.trouble.now.asked true a) ++ failed.facts) address;
     }

@@ -24,12 +24,12 @@ plan_all_opened-requires-clause-different c = subst (λ xs. all_different xs ≡
 
 pub returns-clause-planned : goal.returns-clause-planned
 returns-clause-planned c =
-    let o = c.args.options.now in
-    let m = c.args.moment in
+    let o = c.args.change.now.options.now in
+    let m = c.args.change.now.moment in
     let pools = c.args.self.now.cores.items in
     let n = length pools in
-    let t = c.args.earlier.now in
-    let u = c.args.later.now in
+    let t = c.args.change.now.earlier.now in
+    let u = c.args.change.now.later.now in
     let d = c.args.diff.now in
     let c0 = c.new-changes.result.items in
     let c1 = c.plan_all_changed.new.changes.items in

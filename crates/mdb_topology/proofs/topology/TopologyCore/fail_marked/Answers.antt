@@ -125,6 +125,7 @@ returns-in-Ok-clause-becomes c h s z there f =
     let at_q : slice_get pools i ≡ Some q = slice_get_read pools (length pools) i q refl c.requires.there c.index-2.ensures in
     let at : c.in_ok-address.address ≡ s.address = c.in_ok-address.ensures.cases ∙ (c.address-2.ensures ∙ ap (λ (u : PoolCore). u.address) (some-same q s (slice_get pools i) at_q there)) in
     let later : c.in_ok-later.later ≡ updated w.description (failed s.address e) = c.in_ok-later.ensures ∙ ap (λ a. updated w.description (failed a e)) at in
-    let told = subst (λ v. FailureTold w step i v e c.args.clears (asked_after e) c.in-Ok.changes.items c.in-Ok.facts.items) later c.in-Ok.ensures.told in
+    let told = subst (λ v. FailureTold w step i v e c.args.clears (asked_after e) c.in-Ok.changes.items c.in-Ok.facts.items) later
+    (subst (λ a. FailureTold w step i c.in_ok-later.later e c.args.clears a c.in-Ok.changes.items c.in-Ok.facts.items) c.asked_after-asked.ensures c.in-Ok.ensures.told) in
     marked-follows w h z step c.requires.in_time i s there e (c.requires.here s there) _ (asked_after e) f told.0 _ told.1 told.2
     c.of_reply.ensures.reply (ap Some later) c.of_reply.ensures.monitors c.of_reply.ensures.monitoring c.of_reply.ensures.stops

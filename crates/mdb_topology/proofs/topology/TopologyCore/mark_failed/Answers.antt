@@ -10,7 +10,7 @@ returns-then-self-clause-fails c x of =
     let w = c.args.self.now in
     let m = c.args.step.now.moment in
     let e = c.of_reply.ensures in
-    subst (λ b. FailsTo w m (updated w.description (failed c.args.address.now c.args.error.now)) x b c.of_reply.result) (sym c.if-self.true)
+    subst (λ b. FailsTo w m (updated w.description (failed c.args.address.now c.args.trouble.now.error.now)) x b c.of_reply.result) (sym c.if-self.true)
     (record { reply = e.reply; facts = e.facts; changes = e.changes; known = e.description; monitors = e.monitors; goes_on = e.stops })
 
 pub mark_at-requires-clause-accepted : goal.mark_at-requires-clause-accepted
@@ -20,4 +20,4 @@ pub returns-clause-fails : goal.returns-clause-fails
 returns-clause-fails c =
     let w = c.args.self.now in
     let m = c.args.step.now.moment in
-    IfOk-weaker c.mark_at.result _ _ (λ next f x of. subst (λ b. FailsTo w m (updated w.description (failed c.args.address.now c.args.error.now)) x b next) (sym c.if-self.false) (f x of)) c.mark_at.ensures.marked
+    IfOk-weaker c.mark_at.result _ _ (λ next f x of. subst (λ b. FailsTo w m (updated w.description (failed c.args.address.now c.args.trouble.now.error.now)) x b next) (sym c.if-self.false) (f x of)) c.mark_at.ensures.marked
