@@ -1,5 +1,5 @@
 -- Runs of generated scripts, and what the sink then took.
-use Rattle.std.proofs.Common.{◌≡◌, ℕ, List, length, Option, sym, ap, ◌∙◌, arith, subst}
+use Rattle.std.proofs.Common.{◌≡◌, ℕ, List, [], length, Option, sym, ap, ◌∙◌, arith, subst}
 use Rattle.std.proofs.Math.Seq.{take-length}
 use Rattle.mdb_base.specs.Outside.{Rose, Held, Took}
 use Rattle.mdb_log.specs.declared.step.Step.{Step}
