@@ -1,19 +1,20 @@
 //! The events of connection pools, servers and topologies, and the facts that a step makes, with their exact texts.
 #![tactic(auto)]
 
+mod boxed;
 mod cmap;
 mod cmap_from;
 mod cmap_text;
 mod end;
 mod fact;
 mod handlers;
-mod held;
 mod reasons;
 mod sdam;
 mod sdam_from;
 mod sdam_text;
 mod words;
 
+pub use boxed::Boxed;
 pub use cmap::{
     CmapEvent, ConnectionCheckedInEvent, ConnectionCheckedOutEvent, ConnectionCheckoutFailedEvent,
     ConnectionCheckoutStartedEvent, ConnectionClosedEvent, ConnectionCreatedEvent, ConnectionInfo,
@@ -24,7 +25,6 @@ pub use cmap_text::write_cmap;
 pub use end::End;
 pub use fact::Fact;
 pub use handlers::{CmapEventHandler, SdamEventHandler, deliver_cmap, deliver_sdam};
-pub use held::Held;
 pub use reasons::{
     ConnectionCheckoutFailedReason, ConnectionClosedReason, closed_reason_text, failed_reason_text,
 };

@@ -7,13 +7,13 @@ use Rattle.mdb_slots.specs.SlotIndex.{IndexSteps, indexing_after, index_room_aft
 use Rattle.mdb_slots.specs.NumberSet.{numbers_kept}
 use Rattle.mdb_slots.specs.Sided.{SidedSteps, SidedFits, sided_after, sided_capacity_after}
 use Rattle.mdb_pool.specs.Places.{is_available, is_pending, is_queued}
-use Rattle.mdb_pool.specs.declared.connection.Connection.{Connection}
-use Rattle.mdb_pool.specs.declared.request.Request.{Request}
-use Rattle.mdb_pool.specs.declared.status.Status.{Status}
-use Rattle.mdb_pool.specs.declared.status.Clear.{Clear}
+use Rattle.mdb_pool.specs.declared.kept.connection.Connection.{Connection}
+use Rattle.mdb_pool.specs.declared.kept.request.Request.{Request}
+use Rattle.mdb_pool.specs.declared.kept.status.Status.{Status}
+use Rattle.mdb_pool.specs.declared.kept.status.Clear.{Clear}
 use Rattle.mdb_pool.specs.Inner.{PoolShelf, PoolRoom, Inner}
 use Rattle.mdb_pool.specs.Core.{PoolCore}
-use Rattle.mdb_pool.specs.declared.body.Body.{Body}
+use Rattle.mdb_pool.specs.declared.kept.body.Body.{Body}
 
 -- the changes of a pool
 pub record PoolSteps : Type 0 where
@@ -88,7 +88,7 @@ PoolFits p i =
     × IndexFits p.settled i.base.settled i.room.settled
     × IndexFits p.claimed i.base.claimed i.room.claimed
 
--- the same of the parts of a pool
+-- what the parts of a pool are read from
 abbrev pub base_of : Body → PoolShelf
 base_of b = record {
   pool = b.pool;

@@ -4,10 +4,10 @@ use Rattle.mdb_base.specs.declared.address.ServerAddress.{ServerAddress}
 use Rattle.mdb_log.specs.declared.options.PoolOptions.{PoolOptions}
 use Rattle.mdb_slots.specs.SlotIndex.{Indexing, Both}
 use Rattle.mdb_slots.specs.Sided.{SidedShelf, SidedCapacities}
-use Rattle.mdb_pool.specs.declared.connection.Connection.{Connection}
-use Rattle.mdb_pool.specs.declared.request.Request.{Request}
-use Rattle.mdb_pool.specs.declared.status.Status.{Status}
-use Rattle.mdb_pool.specs.declared.status.Clear.{Clear}
+use Rattle.mdb_pool.specs.declared.kept.connection.Connection.{Connection}
+use Rattle.mdb_pool.specs.declared.kept.request.Request.{Request}
+use Rattle.mdb_pool.specs.declared.kept.status.Status.{Status}
+use Rattle.mdb_pool.specs.declared.kept.status.Clear.{Clear}
 
 -- what a pool is read from
 pub record PoolShelf : Type 0 where

@@ -6,9 +6,9 @@ ghost use Rattle.mdb_base.specs.declared.object_id.ObjectId.{ObjectId};
 ghost use Rattle.mdb_pool.specs.Kept.{clears_before};
 ghost use Rattle.mdb_pool.specs.Jobs.{has_id, id_order};
 
-use super::pool_core::PoolCore;
-use super::status::Clear;
-use super::{Job, PoolGeneration, PoolStamp};
+use crate::pool_core::PoolCore;
+use crate::kept::status::Clear;
+use crate::{Job, PoolGeneration, PoolStamp};
 use mdb_base::{Items, ObjectId, OutOfMemory};
 use std::alloc::{AllocError, Global};
 

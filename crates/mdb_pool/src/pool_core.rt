@@ -2,12 +2,12 @@
 
 ghost use Rattle.std.specs.Prelude.{◌≡◌, IfOk, true, is_some, nat_lt, option_copied, None, List, if◌then◌else◌, ◌&&◌};
 
-use super::body::Body;
-use super::draft::Draft;
-use super::status::Status;
-use super::{PoolOptions, PoolState};
+use crate::kept::body::Body;
+use crate::kept::draft::Draft;
+use crate::kept::status::Status;
+use crate::{PoolOptions, PoolState};
 use mdb_base::{Error, ServerAddress};
-use mdb_slots::{NumberSet, Sides, SlotTable, Turned, TurnedOne};
+use mdb_slots::{NumberSet, Sides, SlotTable, UndoList, UndoCell};
 use std::alloc::Global;
 use std::marker::Model;
 
@@ -15,7 +15,7 @@ use std::marker::Model;
 /// the pool as it was where there is no memory. In clauses `inner` is what it is read from, which tells the plans that it can follow.
 #[derive(Drop)]
 pub struct PoolCore {
-    pub(super) draft: Draft,
+    pub(crate) draft: Draft,
 }
 
 impl Model for PoolCore {
@@ -58,12 +58,12 @@ impl PoolCore {
                     pool,
                     address,
                     options,
-                    last: TurnedOne::new(0),
-                    created: TurnedOne::new(0),
+                    last: UndoCell::new(0),
+                    created: UndoCell::new(0),
                     connections: Sides::new(alloc),
                     requests: Sides::new(alloc),
-                    status: TurnedOne::new(Status::at_first(options.load_balanced)),
-                    clears: Turned::new(alloc),
+                    status: UndoCell::new(Status::at_first(options.load_balanced)),
+                    clears: UndoList::new(alloc),
                     settled: NumberSet::new(alloc),
                     claimed: NumberSet::new(alloc),
                 },

@@ -3,30 +3,30 @@
 ghost use Rattle.std.specs.Prelude.{◌≡◌, is_some, nat_lt};
 ghost use Rattle.mdb_pool.specs.Body.{now_of};
 
-use super::body::Body;
-use super::clears::count_clears;
-use super::request::Phase;
+use crate::kept::body::Body;
+use crate::kept::clears::count_clears;
+use crate::kept::request::Phase;
 use mdb_base::ObjectId;
 
 impl Body {
     ghost use Rattle.mdb_pool.specs.Kept.{held_connection, request_at, connection_at, is_pending_at, is_held_at, is_open_now, is_asked_at, is_ended_at, pins_at, clears_for, exhausted_now};
 
     // The party asked this pool, or took a pinned connection of it.
-    pub fn knows(&self, party: u32) -> bool
+    pub(crate) fn knows(&self, party: u32) -> bool
         ensures { result ≡ is_some (request_at (now_of self.now) party) }
     {
         self.requests.get(party).is_some()
     }
 
     // The party holds a connection of this pool.
-    pub fn holds(&self, party: u32) -> bool
+    pub(crate) fn holds(&self, party: u32) -> bool
         ensures { result ≡ is_some (held_connection (now_of self.now) party) }
     {
         self.held_connection(party).is_some()
     }
 
     // The party asked this pool for a connection, and did not take a pinned one.
-    pub fn has_asked(&self, party: u32) -> bool
+    pub(crate) fn has_asked(&self, party: u32) -> bool
         ensures { result ≡ is_asked_at (request_at (now_of self.now) party) }
     {
         match self.requests.get(party) {
@@ -36,14 +36,14 @@ impl Body {
     }
 
     // The request was made at this pool, its outcome was not told yet, and its caller neither gave up nor returned the connection.
-    pub fn is_open(&self, request: u32) -> bool
+    pub(crate) fn is_open(&self, request: u32) -> bool
         ensures { result ≡ is_open_now (now_of self.now) request }
     {
         self.has_asked(request) && !self.is_settled(request)
     }
 
     // The request ended in another way.
-    pub fn is_ended(&self, request: u32) -> bool
+    pub(crate) fn is_ended(&self, request: u32) -> bool
         ensures { result ≡ is_ended_at (request_at (now_of self.now) request) }
     {
         match self.requests.get(request) {
@@ -53,7 +53,7 @@ impl Body {
     }
 
     // The connection isn't established yet.
-    pub fn is_pending(&self, id: u32) -> bool
+    pub(crate) fn is_pending(&self, id: u32) -> bool
         ensures { result ≡ is_pending_at (connection_at (now_of self.now) id) }
     {
         match self.connections.get(id) {
@@ -63,7 +63,7 @@ impl Body {
     }
 
     // The connection is one of this pool, and a party has it since it was established.
-    pub fn is_held(&self, id: u32) -> bool
+    pub(crate) fn is_held(&self, id: u32) -> bool
         ensures { result ≡ is_held_at (connection_at (now_of self.now) id) }
     {
         match self.connections.get(id) {
@@ -73,7 +73,7 @@ impl Body {
     }
 
     // The connection is one of this pool and has a pin.
-    pub fn has_pin(&self, id: u32) -> bool
+    pub(crate) fn has_pin(&self, id: u32) -> bool
         ensures { result ≡ nat_lt 0 (pins_at (connection_at (now_of self.now) id)) }
     {
         match self.connections.get(id) {
@@ -83,14 +83,14 @@ impl Body {
     }
 
     // How often the pool was cleared: for the service, or as a whole where there is none.
-    pub fn generation(&self, service: Option<ObjectId>) -> u64
+    pub(crate) fn generation(&self, service: Option<ObjectId>) -> u64
         ensures { result ≡ clears_for service self.now.clears.now }
     {
         count_clears(self.clears.as_slice(), service) as u64
     }
 
     // One more clear would pass the limit of the generation.
-    pub fn is_exhausted(&self, service: Option<ObjectId>) -> bool
+    pub(crate) fn is_exhausted(&self, service: Option<ObjectId>) -> bool
         ensures { result ≡ exhausted_now (now_of self.now) service }
     {
         !self.status.get().is_closed() && self.options.limit_generation <= self.generation(service)

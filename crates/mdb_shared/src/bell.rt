@@ -57,7 +57,7 @@ pub fn is_news(entry: &Entry) -> bool
 }
 
 // The last entry of the log is news.
-pub(super) fn rings(log: &Log) -> bool {
+pub(crate) fn rings(log: &Log) -> bool {
     match log.entries().last() {
         Some(entry) => is_news(entry),
         None => false,

@@ -12,7 +12,7 @@ numbers_in (Some k ∷ ns) = k ∷ numbers_in ns
 abbrev pub numbers_kept : Indexing → List ℕ
 numbers_kept i = numbers_in (numbers_of i.entries)
 
--- the numbers as they are, what they were read from when they were last settled, and the capacities that there were then
+-- the numbers as they are, what they were read from when they were last committed, and the capacities that there were then
 pub record OpenNumbers : Type 0 where
   pub now : List ℕ
   pub base : Indexing

@@ -3,15 +3,15 @@
 #![tactic(auto)]
 
 mod bucket;
-mod change;
+mod edit;
 mod ends;
-mod entry;
+mod index_entry;
+mod indexed_slots;
 mod keyed;
 mod maybe_slot;
 mod naming;
 mod node;
 mod number_set;
-mod parts;
 mod records;
 mod side_parts;
 mod sided;
@@ -23,11 +23,11 @@ mod slots;
 mod storage;
 mod table;
 mod touches;
-mod turned;
-mod turned_one;
+mod undo_cell;
+mod undo_list;
 mod visits;
 
-pub use change::Change;
+pub use edit::Edit;
 pub use keyed::Keyed;
 pub use number_set::{NumberSet, NumberSetRedo};
 pub use records::{Record, SlotRef};
@@ -37,5 +37,5 @@ pub use slot_index::IndexRedo;
 pub use slot_table::SlotTable;
 pub use table::{Table, TableRedo};
 pub use touches::Touches;
-pub use turned::{Redo, Turned};
-pub use turned_one::TurnedOne;
+pub use undo_cell::UndoCell;
+pub use undo_list::{Redo, UndoList};

@@ -10,7 +10,7 @@ use mdb_base::OutOfMemory;
 use std::alloc::Global;
 use std::marker::Model;
 
-/// Numbers that were put, each once: as they are, and as they were when they were last settled. They never go.
+/// Numbers that were put, each once: as they are, and as they were when they were last committed. They never go.
 #[derive(Drop)]
 pub struct NumberSet {
     index: SlotIndex,
@@ -71,7 +71,7 @@ impl NumberSet {
     }
 
     /// The changes go, and what comes back makes them again. It takes no memory.
-    pub fn turn(&mut self, alloc: Global) -> NumberSetRedo
+    pub fn undo(&mut self, alloc: Global) -> NumberSetRedo
         ensures now { self.new.now ≡ numbers_kept self.old.base }
         ensures base { self.new.base ≡ self.old.base }
         ensures capacity { self.new.capacity ≡ self.old.capacity }
@@ -79,7 +79,7 @@ impl NumberSet {
         ensures onto { numbers_kept (indexing_after result self.new.base) ≡ self.old.now }
     {
         self.changed = false;
-        self.index.turn(alloc)
+        self.index.undo(alloc)
     }
 
     /// Whatever was changed goes, and the changes are made again and stay. It takes no memory.
@@ -94,12 +94,12 @@ impl NumberSet {
     }
 
     /// The changes stay. It takes no memory.
-    pub fn settle(&mut self)
+    pub fn commit(&mut self)
         ensures now { self.new.now ≡ self.old.now }
         ensures base { numbers_kept self.new.base ≡ self.old.now }
     {
         if self.changed {
-            self.index.settle();
+            self.index.commit();
             self.changed = false;
         }
     }

@@ -2,27 +2,27 @@
 #![tactic(auto)]
 
 mod apply;
-mod change;
 mod connection;
 mod counts;
+mod default_map;
 mod doings;
 mod giving;
 mod judged;
 mod lists;
 mod notes;
+mod occurrence;
 mod party;
 mod places;
 mod pools;
-mod table;
 mod tables;
 
 pub use apply::of_event;
-pub use change::{Change, How};
 pub use connection::{Connection, Place};
 pub use counts::{is_done, is_kept, is_lent, one_if, one_more};
+pub use default_map::DefaultMap;
 pub use giving::push_if;
 pub use lists::Lists;
+pub use occurrence::{How, Occurrence};
 pub use party::{Gift, Party};
 pub use pools::Pool;
-pub use table::Table;
 pub use tables::Tables;

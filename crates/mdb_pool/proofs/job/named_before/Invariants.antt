@@ -1,5 +1,5 @@
 use Rattle.std.proofs.Common.{take}
-use Rattle.mdb_pool.proofs.Named.{AreNamed}
+use Rattle.mdb_pool.proofs.Told.ServicesOfClears.{AreNamed}
 use Rattle.mdb_pool.proofs.job.named_before.Given as goal
 
 abbrev pub invariant-loop-clear : goal.invariant-loop-clear

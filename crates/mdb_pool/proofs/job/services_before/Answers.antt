@@ -1,4 +1,4 @@
-use Rattle.mdb_pool.proofs.Named.{once-ascends, once-named}
+use Rattle.mdb_pool.proofs.Told.ServicesOfClears.{once-ascends, once-named}
 use Rattle.mdb_pool.proofs.job.services_before.Goals as goal
 
 pub returns-clause-ascend : goal.returns-clause-ascend

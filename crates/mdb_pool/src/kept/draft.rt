@@ -1,0 +1,222 @@
+//! A pool with changes that can be taken back.
+
+ghost use Rattle.std.specs.Prelude.{◌≡◌, ◌++◌, ◌∷◌, [], true, false, is_some, length, map, OnOk, option_copied};
+ghost use Rattle.mdb_log.specs.Connections.{has};
+ghost use Rattle.mdb_slots.specs.Keyed.{others, put, swap};
+ghost use Rattle.mdb_slots.specs.Lists.{apart};
+ghost use Rattle.mdb_slots.specs.Sided.{stays};
+ghost use Rattle.mdb_pool.specs.Keyed.{marked};
+ghost use Rattle.mdb_pool.specs.Kept.{connection_at, connection_in, request_at, request_in};
+ghost use Rattle.mdb_pool.specs.Places.{is_available, is_pending, is_queued};
+
+use crate::PoolOptions;
+use crate::kept::body::Body;
+use crate::kept::connection::Connection;
+use crate::kept::request::Request;
+use crate::kept::status::{Clear, Status};
+use mdb_base::{Moment, OutOfMemory, ServerAddress};
+use std::alloc::Global;
+use std::marker::Model;
+
+/// A pool with changes that can be taken back: each call keeps what it is read from, which is the pool as it was when it was last committed.
+#[derive(Drop)]
+pub struct Draft {
+    pub(crate) body: Body,
+}
+
+impl Model for Draft {
+    ghost use Rattle.mdb_pool.specs.Core.{PoolCore};
+    ghost use Rattle.mdb_pool.specs.Body.{now_of};
+
+    ghost Value = { PoolCore };
+
+    ghost view = { λ d. now_of d.body };
+}
+
+impl Draft {
+    pub(crate) fn number(&self) -> u32
+        ensures { result ≡ self.now.pool }
+    {
+        self.body.pool
+    }
+
+    pub(crate) fn address(&self) -> &ServerAddress
+        ensures { result.now ≡ self.now.address }
+    {
+        &self.body.address
+    }
+
+    pub(crate) fn options(&self) -> PoolOptions
+        ensures { result ≡ self.now.options }
+    {
+        self.body.options
+    }
+
+    pub(crate) fn last(&self) -> Moment
+        ensures { result ≡ self.now.last }
+    {
+        *self.body.last.get()
+    }
+
+    pub(crate) fn created(&self) -> u32
+        ensures { result ≡ self.now.created }
+    {
+        *self.body.created.get()
+    }
+
+    pub(crate) fn status(&self) -> &Status
+        ensures { result.now ≡ self.now.status }
+    {
+        self.body.status.get()
+    }
+
+    pub(crate) fn clears(&self) -> &[Clear]
+        ensures { result.now ≡ self.now.clears }
+    {
+        self.body.clears.as_slice()
+    }
+
+    // How many connections live.
+    pub(crate) fn live(&self) -> usize
+        ensures { result ≡ length self.now.connections }
+    {
+        self.body.connections.len()
+    }
+
+    // How many requests there are.
+    pub(crate) fn asked(&self) -> usize
+        ensures value { result ≡ length self.now.requests }
+        ensures apart { apart (map (λ q. q.number) self.now.requests) ≡ true }
+    {
+        self.body.requests.len()
+    }
+
+    pub(crate) fn connection(&self, id: u32) -> Option<&Connection>
+        ensures { option_copied result ≡ connection_at self.now id }
+    {
+        self.body.connections.get(id)
+    }
+
+    pub(crate) fn request(&self, number: u32) -> Option<&Request>
+        ensures { option_copied result ≡ request_at self.now number }
+    {
+        self.body.requests.get(number)
+    }
+
+    // The outcome of the request was told, or it gave up or came back.
+    pub(crate) fn is_settled(&self, number: u32) -> bool
+        ensures { result ≡ has number self.now.settled }
+    {
+        self.body.is_settled(number)
+    }
+
+    // A claim was told to establish the connection.
+    pub(crate) fn is_claimed(&self, id: u32) -> bool
+        ensures { result ≡ has id self.now.claimed }
+    {
+        self.body.is_claimed(id)
+    }
+
+    pub(crate) fn set_last(&mut self, moment: Moment)
+        ensures core { self.new ≡ record self.old { last = moment } }
+        ensures inner { self.new.inner ≡ self.old.inner }
+    {
+        self.body.last.set(moment);
+    }
+
+    pub(crate) fn set_created(&mut self, created: u32)
+        ensures core { self.new ≡ record self.old { created = created } }
+        ensures inner { self.new.inner ≡ self.old.inner }
+    {
+        self.body.created.set(created);
+    }
+
+    pub(crate) fn set_status(&mut self, status: Status)
+        ensures core { self.new ≡ record self.old { status = status } }
+        ensures inner { self.new.inner ≡ self.old.inner }
+    {
+        self.body.status.set(status);
+    }
+
+    pub(crate) fn push_clear(&mut self, clear: Clear) -> Result<(), OutOfMemory>
+        ensures core { OnOk result (self.new ≡ record self.old { clears = self.old.clears ++ clear ∷ [] }) }
+        ensures inner { self.new.inner ≡ self.old.inner }
+    {
+        self.body.clears.push(clear)
+    }
+
+    pub(crate) fn settle(&mut self, number: u32) -> Result<(), OutOfMemory>
+        ensures core { OnOk result (self.new ≡ record self.old { settled = marked number self.old.settled }) }
+        ensures inner { self.new.inner ≡ self.old.inner }
+    {
+        if self.is_settled(number) {
+            return Ok(());
+        }
+        self.body.settled.insert(number)
+    }
+
+    pub(crate) fn claim(&mut self, id: u32) -> Result<(), OutOfMemory>
+        ensures core { OnOk result (self.new ≡ record self.old { claimed = marked id self.old.claimed }) }
+        ensures inner { self.new.inner ≡ self.old.inner }
+    {
+        if self.is_claimed(id) {
+            return Ok(());
+        }
+        self.body.claimed.insert(id)
+    }
+
+    // The connection comes last.
+    pub(crate) fn put_connection(
+        &mut self,
+        alloc: Global,
+        connection: Connection,
+    ) -> Result<(), OutOfMemory>
+        ensures core { OnOk result (self.new ≡ record self.old { connections = put (λ x. x.id) connection self.old.connections }) }
+        ensures inner { self.new.inner ≡ self.old.inner }
+    {
+        self.body.connections.put(alloc, connection)
+    }
+
+    // The connection takes the place of the one that had its number.
+    pub(crate) fn replace_connection(
+        &mut self,
+        alloc: Global,
+        connection: Connection,
+    ) -> Result<(), OutOfMemory>
+        requires available { stays (λ x. is_available x.place) connection (connection_at self.old connection.id) ≡ true }
+        requires pending { stays (λ x. is_pending x.place) connection (connection_at self.old connection.id) ≡ true }
+        ensures core { OnOk result (self.new ≡ record self.old { connections = swap (λ x. x.id) connection self.old.connections }) }
+        ensures inner { self.new.inner ≡ self.old.inner }
+    {
+        self.body.connections.replace(alloc, connection)
+    }
+
+    pub(crate) fn remove_connection(&mut self, alloc: Global, id: u32) -> Result<(), OutOfMemory>
+        ensures core { OnOk result (self.new ≡ record self.old { connections = others (λ x. x.id) id self.old.connections }) }
+        ensures inner { self.new.inner ≡ self.old.inner }
+    {
+        self.body.connections.remove(alloc, id)
+    }
+
+    // The request comes last.
+    pub(crate) fn put_request(&mut self, alloc: Global, request: Request) -> Result<(), OutOfMemory>
+        ensures core { OnOk result (self.new ≡ record self.old { requests = put (λ q. q.number) request self.old.requests }) }
+        ensures inner { self.new.inner ≡ self.old.inner }
+    {
+        self.body.requests.put(alloc, request)
+    }
+
+    // The request, which is not queued, takes the place of the one that had its number.
+    #[tactic(auto, using(crate::proofs::Listed::Beside::stays_out))]
+    pub(crate) fn replace_request(
+        &mut self,
+        alloc: Global,
+        request: Request,
+    ) -> Result<(), OutOfMemory>
+        requires { is_queued request.phase ≡ false }
+        ensures core { OnOk result (self.new ≡ record self.old { requests = swap (λ q. q.number) request self.old.requests }) }
+        ensures inner { self.new.inner ≡ self.old.inner }
+    {
+        self.body.requests.replace(alloc, request)
+    }
+}

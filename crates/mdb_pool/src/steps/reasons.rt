@@ -1,0 +1,92 @@
+//! Why the connections among the parts of a pool are closed.
+
+ghost use Rattle.std.specs.Prelude.{◌≡◌};
+ghost use Rattle.mdb_pool.specs.Body.{now_of};
+
+use crate::kept::body::Body;
+use crate::kept::clears::{cleared_since, count_timeouts, is_dropped};
+use crate::kept::connection::Connection;
+use mdb_base::{Moment, ObjectId};
+use mdb_events::ConnectionClosedReason;
+
+impl Body {
+    ghost use Rattle.mdb_pool.specs.Kept.{stale_for, idle_since, perished_now, reason_now, timeouts_in, first_perished};
+
+    // A connection of the service would be stale.
+    pub(crate) fn stale_for(&self, id: u32, service: Option<ObjectId>) -> bool
+        ensures { result ≡ stale_for (now_of self.now) id service }
+    {
+        let named = if self.options.load_balanced {
+            service
+        } else {
+            None
+        };
+        if self.options.load_balanced && named.is_none() {
+            return false;
+        }
+        cleared_since(self.clears.as_slice(), id, named)
+    }
+
+    // It would have been available for too long.
+    fn is_idle(&self, moment: Moment, since: Moment) -> bool
+        ensures { result ≡ idle_since self.now.options.max_idle_time moment since }
+    {
+        match self.options.max_idle_time {
+            None => false,
+            Some(limit) => 0 < limit && limit <= moment.saturating_sub(since),
+        }
+    }
+
+    // Why an available connection that is met now is closed.
+    pub(crate) fn perished(&self, moment: Moment, connection: Connection) -> Option<ConnectionClosedReason>
+        ensures { result ≡ perished_now (now_of self.now) moment connection }
+    {
+        if self.stale_for(connection.id, connection.service) {
+            return Some(ConnectionClosedReason::Stale);
+        }
+        if self.is_idle(moment, connection.since) {
+            return Some(ConnectionClosedReason::Idle);
+        }
+        None
+    }
+
+    // How many clears by a network timeout the pool had.
+    pub(crate) fn timeouts(&self) -> usize
+        ensures { result ≡ timeouts_in self.now.clears.now }
+    {
+        count_timeouts(self.clears.as_slice())
+    }
+
+    // Why a connection is closed when it comes back.
+    pub(crate) fn reason_now(&self, connection: Connection) -> Option<ConnectionClosedReason>
+        ensures { result ≡ reason_now (now_of self.now) connection }
+    {
+        if self.status.get().is_closed() {
+            return Some(ConnectionClosedReason::PoolClosed);
+        }
+        if connection.errored {
+            return Some(ConnectionClosedReason::Error);
+        }
+        if self.stale_for(connection.id, connection.service) {
+            return Some(ConnectionClosedReason::Stale);
+        }
+        if is_dropped(connection.used) {
+            return Some(ConnectionClosedReason::Dropped);
+        }
+        None
+    }
+
+    // The available connection that came back first among those that have perished.
+    pub(crate) fn first_perished(&self, moment: Moment) -> Option<Connection>
+        ensures { result ≡ first_perished (now_of self.now) moment }
+    {
+        let mut next = self.connections.first_left();
+        while let Some(x) = next {
+            if self.perished(moment, *x).is_some() {
+                return Some(*x);
+            }
+            next = self.connections.next_left(x.id);
+        }
+        None
+    }
+}
