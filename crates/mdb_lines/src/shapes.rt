@@ -34,7 +34,10 @@ pub(crate) fn moment_and_party(text: &str) -> Result<(Moment, u32), LineError>
 
 /// A moment and an address.
 #[tactic(auto, using(mdb_parts::proofs::TextLemmas::follows))]
-pub(crate) fn moment_and_address(alloc: Global, text: &str) -> Result<(Moment, ServerAddress), LineError>
+pub(crate) fn moment_and_address(
+    alloc: Global,
+    text: &str,
+) -> Result<(Moment, ServerAddress), LineError>
     ensures { (m : ℕ) (a : ServerAddress) → m < 2 ^ 64 → is_address a ≡ true → text.now ≡ codes " " ++ (decimal m ++ (codes " " ++ address a)) → Gives (m, a) result }
 {
     let (moment, rest) = u64_field(text, " ")?;

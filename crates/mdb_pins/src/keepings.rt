@@ -12,7 +12,7 @@ ghost use Rattle.mdb_pins.specs.Keeping.{is_alone, WritesOnce, Writes, Forgets, 
 
 use crate::story::PinStory;
 use mdb_base::OutOfMemory;
-use mdb_tallies::{Occurrence, Connection, Lists, Place, DefaultMap, Tables};
+use mdb_tallies::{Connection, DefaultMap, Lists, Occurrence, Place, Tables};
 use std::alloc::Global;
 
 /// Created connections that one party keeps.
@@ -125,8 +125,9 @@ impl Keepings {
     {
         match change {
             Occurrence::GivenUp(party) => self.forget(*party),
-            Occurrence::Replicated(pool, id) | Occurrence::Taken(_, pool, id) | Occurrence::Created(pool, id) =>
-                { self.follow(tables, pins, *pool, *id) }
+            Occurrence::Replicated(pool, id)
+            | Occurrence::Taken(_, pool, id)
+            | Occurrence::Created(pool, id) => { self.follow(tables, pins, *pool, *id) }
             _ => Ok(()),
         }
     }

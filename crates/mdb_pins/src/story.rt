@@ -14,7 +14,7 @@ use crate::numbered::Numbered;
 use crate::pins::Pins;
 use crate::walk::{How, is_new, keeper, taken_by, walk};
 use mdb_base::OutOfMemory;
-use mdb_tallies::{Occurrence, Lists, Place, DefaultMap, Tables, one_more, push_if};
+use mdb_tallies::{DefaultMap, Lists, Occurrence, Place, Tables, one_more, push_if};
 use std::alloc::Global;
 
 /// The pins of each connection, and what each party did.

@@ -10,7 +10,7 @@ use crate::doings::Doings;
 use crate::numbered::Numbered;
 use crate::pins::{Pins, sum};
 use mdb_base::OutOfMemory;
-use mdb_tallies::{Lists, Place, DefaultMap, Tables, is_kept, is_lent, one_if};
+use mdb_tallies::{DefaultMap, Lists, Place, Tables, is_kept, is_lent, one_if};
 
 /// What a party did that concerns the pins of what it was given.
 #[derive(Clone, Copy, Debug)]

@@ -6,8 +6,8 @@ ghost use Rattle.mdb_base.specs.declared.object_id.ObjectId.{ObjectId};
 ghost use Rattle.mdb_pool.specs.Kept.{clears_before};
 ghost use Rattle.mdb_pool.specs.Jobs.{has_id, id_order};
 
-use crate::pool_core::PoolCore;
 use crate::kept::status::Clear;
+use crate::pool_core::PoolCore;
 use crate::{Job, PoolGeneration, PoolStamp};
 use mdb_base::{Items, ObjectId, OutOfMemory};
 use std::alloc::{AllocError, Global};

@@ -7,7 +7,7 @@ use crate::kept::draft::Draft;
 use crate::kept::status::Status;
 use crate::{PoolOptions, PoolState};
 use mdb_base::{Error, ServerAddress};
-use mdb_slots::{NumberSet, Sides, SlotTable, UndoList, UndoCell};
+use mdb_slots::{NumberSet, Sides, SlotTable, UndoCell, UndoList};
 use std::alloc::Global;
 use std::marker::Model;
 

@@ -74,7 +74,11 @@ pub fn sum(count: u64, more: u64) -> Result<u64, OutOfMemory>
 }
 
 /// Tells of each rule that the event breaks, and answers how many these are.
-pub fn tell_findings(alloc: Global, out: &mut String, place: &EventContext<'_>) -> Result<u64, OutOfMemory>
+pub fn tell_findings(
+    alloc: Global,
+    out: &mut String,
+    place: &EventContext<'_>,
+) -> Result<u64, OutOfMemory>
     ensures { IfOk result (λ n. (h : List Event_) → place.now.known.now ≡ glance_of h place.now.recorded.now
         → TellsRules (λ r. breaks place.now.standard r h place.now.recorded.now) (λ r. finding_line place.now.number place.now.address.now place.now.recorded.now r) all_rules (string_bytes out.old) (string_bytes out.new) n) }
 {

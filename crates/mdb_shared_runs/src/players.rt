@@ -6,7 +6,7 @@ ghost use Rattle.mdb_shared_runs.specs.Shares.{lines_of_player};
 ghost use Rattle.mdb_shared_runs.specs.Plays.{HasPlayed, numbered_from, AreFresh, DidAll, IsSharedOn};
 
 use crate::gate::LineGate;
-use crate::player::{Player, Played, play};
+use crate::player::{Played, Player, play};
 use mdb_base::OutOfMemory;
 use mdb_journal::Journal;
 use mdb_log::{Core, Log, Step};

@@ -16,8 +16,8 @@ mod topology;
 mod transition;
 mod updater;
 
-pub use known::changing::MAX_SERVERS;
 pub use driver::Driver;
 pub use handshake::HandshakePhase;
+pub use known::changing::MAX_SERVERS;
 pub use known::readiness::is_ready_type;
 pub use topology::TopologyCore;

@@ -9,9 +9,9 @@ ghost use Rattle.mdb_topology.specs.Description.{with_balancers, begins_with, un
 ghost use Rattle.mdb_topology.specs.Events.{opening_fact};
 ghost use Rattle.mdb_topology.specs.Opening.{IsOpened, Publishes};
 
-use crate::pools::Pools;
 use crate::known::sdam_facts::tell_event;
 use crate::known::topology_change::TopologyChange;
+use crate::pools::Pools;
 use mdb_base::{Moment, Options, OutOfMemory, ServerAddress};
 use mdb_describe::{Diff, ServerDescription, TopologyDescription};
 use mdb_events::{Fact, SdamEvent, TopologyOpeningEvent};

@@ -9,13 +9,13 @@ ghost use Rattle.mdb_topology.specs.Logging.{opening_step};
 ghost use Rattle.mdb_topology.specs.Opening.{IsOpened};
 ghost use Rattle.mdb_topology.specs.Monitors.{setting};
 
+use crate::known::telling_changes::push_monitor;
 use crate::opening::{Opening, open};
 use crate::pools::Pools;
-use crate::known::telling_changes::push_monitor;
 use crate::topology::TopologyCore;
 use mdb_base::{Items, Options, OutOfMemory};
 use mdb_describe::TopologyDescription;
-use mdb_events::{Fact, Boxed};
+use mdb_events::{Boxed, Fact};
 use mdb_log::{Act, Entry, Log, Reply, Step};
 use mdb_monitor::{CheckCount, MonitorCore};
 use mdb_pool::PoolCore;

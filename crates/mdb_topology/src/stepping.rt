@@ -4,12 +4,12 @@ ghost use Rattle.std.specs.Prelude.{◌≡◌, ◌≤◌, ◌+◌, ◌++◌, ◌
 ghost use Rattle.mdb_log.specs.Connections.{one_if};
 ghost use Rattle.mdb_topology.specs.Stepping.{is_driver_act};
 
+use crate::monitors::monitoring::Monitoring;
 use crate::pools::acting::is_pool_act;
 use crate::pools::pool_change::PoolChange;
-use crate::monitors::monitoring::Monitoring;
-use crate::transition::{Transition, Decision};
 use crate::pools::pool_decision::PoolDecision;
 use crate::topology::TopologyCore;
+use crate::transition::{Decision, Transition};
 use mdb_base::{Moment, OutOfMemory};
 use mdb_describe::TopologyDescription;
 use mdb_events::Fact;

@@ -4,9 +4,9 @@ ghost use Rattle.std.specs.Prelude.{◌≡◌, ◌∷◌, [], IfOk, false, None}
 ghost use Rattle.mdb_topology.specs.declared.pools.pool_change.PoolChange.TheVariants.{Alter};
 ghost use Rattle.mdb_topology.specs.declared.monitors.monitoring.Monitoring.TheVariants.{Same};
 
-use crate::pools::pool_change::PoolChange;
-use crate::monitors::monitoring::Monitoring;
 use crate::known::sdam_facts::sdam_fact;
+use crate::monitors::monitoring::Monitoring;
+use crate::pools::pool_change::PoolChange;
 use mdb_describe::TopologyDescription;
 use mdb_events::{Fact, SdamEvent};
 use mdb_log::{Refused, Reply};

@@ -10,8 +10,8 @@ use crate::kept::status::Status;
 use crate::{Established, Reply};
 use mdb_base::{Error, ErrorKind, Items, Moment, OutOfMemory, Text};
 use mdb_events::{
-    CmapEvent, ConnectionCheckedOutEvent, ConnectionCheckoutStartedEvent, ConnectionClosedReason,
-    ConnectionCreatedEvent, ConnectionReadyEvent, End, Fact, Boxed,
+    Boxed, CmapEvent, ConnectionCheckedOutEvent, ConnectionCheckoutStartedEvent,
+    ConnectionClosedReason, ConnectionCreatedEvent, ConnectionReadyEvent, End, Fact,
 };
 use std::alloc::{AllocError, Global};
 

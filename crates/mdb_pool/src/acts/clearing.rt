@@ -3,12 +3,12 @@
 ghost use Rattle.std.specs.Prelude.{◌≡◌, ◌++◌, ◌∷◌, ◌-◌, [], OnOk, OnErr, IfOk, List, false};
 
 use crate::kept::draft::Draft;
-use crate::pool_core::PoolCore;
 use crate::kept::request::{Phase, Request};
 use crate::kept::status::{Clear, Status};
+use crate::pool_core::PoolCore;
 use crate::{Act, Reply, Step, What};
 use mdb_base::{Error, Moment, ObjectId, OutOfMemory};
-use mdb_events::{CmapEvent, End, Fact, Boxed, PoolClearedEvent};
+use mdb_events::{Boxed, CmapEvent, End, Fact, PoolClearedEvent};
 use std::alloc::Global;
 
 impl Draft {

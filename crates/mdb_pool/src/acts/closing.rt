@@ -5,9 +5,9 @@ ghost use Rattle.std.specs.List.{filter_map};
 ghost use Rattle.mdb_pool.specs.Places.{is_available, is_pending};
 
 use crate::kept::draft::Draft;
-use crate::pool_core::PoolCore;
 use crate::kept::request::{Phase, Request};
 use crate::kept::status::Status;
+use crate::pool_core::PoolCore;
 use crate::{Act, Reply, Step};
 use mdb_base::{Moment, OutOfMemory};
 use mdb_events::{CmapEvent, ConnectionClosedReason, End, Fact, PoolClosedEvent};

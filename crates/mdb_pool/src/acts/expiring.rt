@@ -3,8 +3,8 @@
 ghost use Rattle.std.specs.Prelude.{◌≡◌, ◌++◌, ◌-◌, OnOk, OnErr, IfOk, List, option_copied};
 
 use crate::kept::draft::Draft;
-use crate::pool_core::PoolCore;
 use crate::kept::request::{Phase, Request};
+use crate::pool_core::PoolCore;
 use crate::{Act, Reply, Step};
 use mdb_base::{Moment, OutOfMemory, ServerAddress};
 use mdb_events::{End, Fact};

@@ -5,13 +5,13 @@ ghost use Rattle.mdb_pool.specs.Facts.{failure_of};
 
 use crate::kept::connection::Connection;
 use crate::kept::draft::Draft;
-use crate::pool_core::PoolCore;
 use crate::kept::request::{Phase, Request};
+use crate::pool_core::PoolCore;
 use crate::{Act, FailedAt, Reply, Step};
 use mdb_base::{Error, Moment, OutOfMemory};
 use mdb_events::{
-    CmapEvent, ConnectionCheckoutFailedEvent, ConnectionCheckoutFailedReason,
-    ConnectionClosedReason, End, Fact, Boxed,
+    Boxed, CmapEvent, ConnectionCheckoutFailedEvent, ConnectionCheckoutFailedReason,
+    ConnectionClosedReason, End, Fact,
 };
 use std::alloc::Global;
 

@@ -5,8 +5,8 @@ ghost use Rattle.std.specs.Prelude.{◌≡◌, ◌∷◌, OnOk, OnErr, IfOk, Lis
 use crate::kept::clears::used_as;
 use crate::kept::connection::Connection;
 use crate::kept::draft::Draft;
-use crate::pool_core::PoolCore;
 use crate::kept::request::Request;
+use crate::pool_core::PoolCore;
 use crate::{Act, Reply, Step, Use};
 use mdb_base::{Moment, OutOfMemory};
 use mdb_events::Fact;

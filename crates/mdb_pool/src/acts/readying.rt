@@ -3,8 +3,8 @@
 ghost use Rattle.std.specs.Prelude.{◌≡◌, ◌++◌, ◌∷◌, [], OnOk, OnErr, IfOk, List};
 
 use crate::kept::draft::Draft;
-use crate::pool_core::PoolCore;
 use crate::kept::status::Status;
+use crate::pool_core::PoolCore;
 use crate::{Act, Reply, Step};
 use mdb_base::{Moment, OutOfMemory};
 use mdb_events::{CmapEvent, Fact, PoolReadyEvent};

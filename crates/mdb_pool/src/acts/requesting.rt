@@ -4,8 +4,8 @@ ghost use Rattle.std.specs.Prelude.{◌≡◌, ◌∷◌, ◌++◌, [], OnOk, On
 
 use crate::kept::connection::Connection;
 use crate::kept::draft::Draft;
-use crate::pool_core::PoolCore;
 use crate::kept::request::{Phase, Request};
+use crate::pool_core::PoolCore;
 use crate::{Act, Reply, Step};
 use mdb_base::{Moment, OutOfMemory, ServerAddress};
 use mdb_events::Fact;

@@ -4,8 +4,8 @@ ghost use Rattle.std.specs.Prelude.{◌≡◌, ◌∷◌, OnOk, OnErr, IfOk, Lis
 
 use crate::kept::clears::used_as;
 use crate::kept::draft::Draft;
-use crate::pool_core::PoolCore;
 use crate::kept::request::Phase;
+use crate::pool_core::PoolCore;
 use crate::{Act, Reply, Step, Use};
 use mdb_base::{Moment, OutOfMemory};
 use mdb_events::Fact;

@@ -4,8 +4,8 @@ ghost use Rattle.std.specs.Prelude.{◌≡◌, ◌∷◌, OnOk, OnErr, IfOk, Lis
 
 use crate::kept::connection::{Connection, Place};
 use crate::kept::draft::Draft;
-use crate::pool_core::PoolCore;
 use crate::kept::request::{Phase, Request};
+use crate::pool_core::PoolCore;
 use crate::{Act, Reply, Step};
 use mdb_base::{Moment, OutOfMemory};
 use mdb_events::Fact;

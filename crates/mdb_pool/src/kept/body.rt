@@ -9,7 +9,7 @@ use crate::kept::connection::Connection;
 use crate::kept::request::Request;
 use crate::kept::status::{Clear, Status};
 use mdb_base::{Moment, ServerAddress};
-use mdb_slots::{NumberSet, NumberSetRedo, Redo, Sides, SidesRedo, UndoList, UndoCell};
+use mdb_slots::{NumberSet, NumberSetRedo, Redo, Sides, SidesRedo, UndoCell, UndoList};
 use std::alloc::Global;
 use std::marker::Model;
 

@@ -6,8 +6,8 @@ ghost use Rattle.mdb_pool.specs.Kept.{clears_for, clears_before, cleared_since, 
 ghost use Rattle.mdb_log.specs.Connections.{is_dropped};
 
 use crate::kept::connection::Connection;
-use crate::pool_core::PoolCore;
 use crate::kept::status::Clear;
+use crate::pool_core::PoolCore;
 use crate::{ConnectionGeneration, LoadBalancedGeneration, Use};
 use mdb_base::ObjectId;
 

@@ -54,7 +54,12 @@ impl Connection {
     ghost use Rattle.mdb_pool.specs.Changes.{pending_for};
 
     /// A new connection, for a party or in the background.
-    pub(crate) fn pending(id: u32, moment: Moment, party: Option<u32>, timeouts: usize) -> Connection
+    pub(crate) fn pending(
+        id: u32,
+        moment: Moment,
+        party: Option<u32>,
+        timeouts: usize,
+    ) -> Connection
         ensures { result ≡ pending_for id moment party timeouts }
     {
         Connection {

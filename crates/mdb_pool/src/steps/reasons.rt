@@ -38,7 +38,11 @@ impl Body {
     }
 
     // Why an available connection that is met now is closed.
-    pub(crate) fn perished(&self, moment: Moment, connection: Connection) -> Option<ConnectionClosedReason>
+    pub(crate) fn perished(
+        &self,
+        moment: Moment,
+        connection: Connection,
+    ) -> Option<ConnectionClosedReason>
         ensures { result ≡ perished_now (now_of self.now) moment connection }
     {
         if self.stale_for(connection.id, connection.service) {

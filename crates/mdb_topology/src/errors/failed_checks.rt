@@ -7,8 +7,8 @@ ghost use Rattle.mdb_describe.specs.Update.{updated};
 
 use crate::errors::marked::PoolTrouble;
 use crate::monitors::monitoring::Monitoring;
-use crate::transition::Transition;
 use crate::topology::TopologyCore;
+use crate::transition::Transition;
 use mdb_base::{OutOfMemory, ServerAddress};
 use mdb_events::SdamEvent;
 use mdb_log::{Reply, Step};

@@ -14,11 +14,11 @@ ghost use Rattle.mdb_topology.specs.Current.{establishing};
 ghost use Rattle.mdb_topology.specs.Errors.{case_of};
 ghost use Rattle.mdb_topology.specs.Failing.{is_timely, is_uncleared, clears_after, service_after, asked_after};
 
-use crate::pools::pool_change::PoolChange;
 use crate::errors::complaining::is_hard;
 use crate::errors::marked::{Asked, PoolTrouble};
-use crate::transition::{Transition, Decision};
+use crate::pools::pool_change::PoolChange;
 use crate::topology::TopologyCore;
+use crate::transition::{Decision, Transition};
 use mdb_base::{Error, ObjectId, OutOfMemory, ServerAddress};
 use mdb_describe::TopologyDescription;
 use mdb_events::Fact;

@@ -9,11 +9,11 @@ ghost use Rattle.mdb_topology.specs.Marking.{asked_of};
 ghost use Rattle.mdb_topology.specs.Publishing.{telling};
 ghost use Rattle.mdb_topology.specs.Touching.{touched_by};
 
-use crate::pools::pool_change::PoolChange;
 use crate::errors::marked::{Asked, Marked, PoolTrouble};
-use crate::transition::{Transition, Decision};
-use crate::topology::TopologyCore;
 use crate::known::topology_change::TopologyChange;
+use crate::pools::pool_change::PoolChange;
+use crate::topology::TopologyCore;
+use crate::transition::{Decision, Transition};
 use mdb_base::{Error, Moment, OutOfMemory, ServerAddress};
 use mdb_describe::{Diff, TopologyDescription};
 use mdb_events::Fact;

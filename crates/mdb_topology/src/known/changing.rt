@@ -5,10 +5,10 @@ ghost use Rattle.mdb_describe.specs.Differences.{difference, AreInOrder, are_in_
 ghost use Rattle.mdb_describe.specs.Servers.{in_order};
 ghost use Rattle.mdb_topology.specs.Publishing.{telling};
 
-use crate::transition::{Transition, Decision};
 use crate::known::telling_changes::{Publication, new_monitors};
-use crate::topology::TopologyCore;
 use crate::known::topology_change::TopologyChange;
+use crate::topology::TopologyCore;
+use crate::transition::{Decision, Transition};
 use mdb_base::{Moment, OutOfMemory};
 use mdb_describe::{Diff, TopologyDescription};
 use mdb_log::{Refused, Reply, Step, What};

@@ -10,12 +10,12 @@ ghost use Rattle.mdb_topology.specs.Planned.{PlansMore};
 ghost use Rattle.mdb_topology.specs.Publishing.{opened_at, server_opened};
 ghost use Rattle.mdb_topology.specs.Standing.{at_address, are_absent};
 
+use crate::known::sdam_facts::tell_event;
 use crate::pools::pool_change::PoolChange;
 use crate::pools::pool_options::pool_options;
-use crate::known::sdam_facts::tell_event;
 use mdb_base::{Options, OutOfMemory, ServerAddress};
 use mdb_events::{
-    CmapEvent, ConnectionPoolOptions, Fact, Boxed, PoolCreatedEvent, SdamEvent, ServerOpeningEvent,
+    Boxed, CmapEvent, ConnectionPoolOptions, Fact, PoolCreatedEvent, SdamEvent, ServerOpeningEvent,
 };
 use mdb_pool::PoolCore;
 use std::alloc::{AllocError, Global};

@@ -5,11 +5,11 @@ ghost use Rattle.mdb_describe.specs.Differences.{difference, AreInOrder, are_in_
 ghost use Rattle.mdb_describe.specs.Servers.{is_known};
 ghost use Rattle.mdb_topology.specs.Events.{topology_fact};
 
-use crate::pools::pool_change::PoolChange;
 use crate::known::opening_server::plan_all_opened;
-use crate::pools::Pools;
 use crate::known::sdam_facts::tell_event;
 use crate::known::topology_change::TopologyChange;
+use crate::pools::Pools;
+use crate::pools::pool_change::PoolChange;
 use mdb_base::{Options, OutOfMemory};
 use mdb_describe::{Diff, TopologyDescription};
 use mdb_events::{Fact, SdamEvent, TopologyDescriptionChangedEvent};

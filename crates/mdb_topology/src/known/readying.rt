@@ -5,11 +5,11 @@ ghost use Rattle.mdb_base.specs.OptionRules.{all_different};
 ghost use Rattle.mdb_topology.specs.Acting.{readying};
 ghost use Rattle.mdb_topology.specs.Events.{changed_fact};
 
-use crate::pools::pool_change::PoolChange;
-use crate::pools::Pools;
 use crate::known::readiness::is_ready_type;
 use crate::known::sdam_facts::tell_event;
 use crate::known::topology_change::TopologyChange;
+use crate::pools::Pools;
+use crate::pools::pool_change::PoolChange;
 use mdb_base::{Moment, Options, OutOfMemory, ServerAddress};
 use mdb_describe::ServerDescription;
 use mdb_events::{Fact, SdamEvent, ServerDescriptionChangedEvent};

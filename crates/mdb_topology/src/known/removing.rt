@@ -7,9 +7,9 @@ ghost use Rattle.mdb_describe.specs.Servers.{is_listed};
 ghost use Rattle.mdb_topology.specs.Acting.{closing};
 ghost use Rattle.mdb_topology.specs.Events.{gone_fact};
 
-use crate::pools::pool_change::PoolChange;
-use crate::pools::Pools;
 use crate::known::sdam_facts::tell_event;
+use crate::pools::Pools;
+use crate::pools::pool_change::PoolChange;
 use mdb_base::{Moment, Options, OutOfMemory, ServerAddress};
 use mdb_events::{Fact, SdamEvent, ServerClosedEvent};
 use mdb_log::{Act, Step};

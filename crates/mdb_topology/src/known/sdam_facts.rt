@@ -3,7 +3,7 @@
 ghost use Rattle.std.specs.Prelude.{◌≡◌, ◌++◌, ◌∷◌, [], IfOk, OnOk};
 ghost use Rattle.mdb_events.specs.declared.fact.Fact.TheVariants.{Sdam};
 
-use mdb_events::{Fact, Boxed, SdamEvent};
+use mdb_events::{Boxed, Fact, SdamEvent};
 use std::alloc::{AllocError, Global};
 
 /// The fact that the event was made.
@@ -15,7 +15,11 @@ pub(crate) fn sdam_fact(alloc: Global, event: SdamEvent) -> Result<Fact, AllocEr
 }
 
 /// One more fact: the event was made.
-pub(crate) fn tell_event(alloc: Global, facts: &mut Vec<Fact>, event: SdamEvent) -> Result<(), AllocError>
+pub(crate) fn tell_event(
+    alloc: Global,
+    facts: &mut Vec<Fact>,
+    event: SdamEvent,
+) -> Result<(), AllocError>
     ensures { OnOk result (facts.new.items ≡ facts.old.items ++ Sdam event ∷ []) }
 {
     let fact = sdam_fact(alloc, event)?;

@@ -7,10 +7,10 @@ ghost use Rattle.mdb_topology.specs.Monitors.{setting};
 ghost use Rattle.mdb_topology.specs.Planned.{opened_by};
 ghost use Rattle.mdb_topology.specs.declared.monitors.monitoring.Monitoring.TheVariants.{Same};
 
-use crate::pools::pool_change::PoolChange;
 use crate::monitors::monitoring::Monitoring;
-use crate::transition::Transition;
+use crate::pools::pool_change::PoolChange;
 use crate::topology::TopologyCore;
+use crate::transition::Transition;
 use mdb_base::{Options, ServerAddress};
 use mdb_describe::TopologyDescription;
 use mdb_events::Fact;
@@ -42,7 +42,12 @@ impl Publication {
     }
 
     /// What an accepted step makes that comes to this, with its reply and with what is known then.
-    pub(crate) fn into_next(self, reply: Reply, known: TopologyDescription, stops: bool) -> Transition
+    pub(crate) fn into_next(
+        self,
+        reply: Reply,
+        known: TopologyDescription,
+        stops: bool,
+    ) -> Transition
         ensures reply { result.reply ≡ reply }
         ensures facts { result.facts ≡ self.facts }
         ensures changes { result.changes ≡ self.changes }

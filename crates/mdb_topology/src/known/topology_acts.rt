@@ -5,9 +5,9 @@ ghost use Rattle.mdb_topology.specs.Publishing.{topology_closed_fact};
 ghost use Rattle.mdb_log.specs.declared.step.Act.TheVariants.{Hello as HelloAct, Hosts as HostsAct, ClusterTime as TimeAct, Stop as StopAct};
 ghost use Rattle.mdb_log.specs.declared.checked.HelloResult.TheVariants.{Ok as Replied};
 
-use crate::transition::{Transition, Decision};
 use crate::known::sdam_facts::tell_event;
 use crate::topology::TopologyCore;
+use crate::transition::{Decision, Transition};
 use mdb_base::{ClusterTime, Nanos, OutOfMemory, ServerAddress};
 use mdb_events::{Fact, SdamEvent, TopologyClosedEvent};
 use mdb_hello::HelloCommandResponse;

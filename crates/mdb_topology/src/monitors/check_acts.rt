@@ -6,10 +6,10 @@ ghost use Rattle.mdb_events.specs.declared.fact.Fact.TheVariants.{Sdam};
 ghost use Rattle.mdb_log.specs.Connections.{one_if};
 ghost use Rattle.mdb_topology.specs.Checking.{number_limit};
 
-use crate::monitors::monitoring::Monitoring;
-use crate::transition::{Transition, Decision};
 use crate::known::sdam_facts::sdam_fact;
+use crate::monitors::monitoring::Monitoring;
 use crate::topology::TopologyCore;
+use crate::transition::{Decision, Transition};
 use mdb_base::{OutOfMemory, ServerAddress};
 use mdb_events::{Fact, SdamEvent};
 use mdb_log::{Refused, Reply, Step, What};

@@ -5,10 +5,10 @@ ghost use Rattle.mdb_log.specs.declared.step.Act.TheVariants.{Beaten as BeatenAc
 ghost use Rattle.mdb_topology.specs.Monitors.{check_result};
 
 use crate::errors::marked::{Asked, PoolTrouble};
-use crate::monitors::monitoring::Monitoring;
-use crate::transition::{Transition, Decision};
 use crate::known::rules::hello_reply;
+use crate::monitors::monitoring::Monitoring;
 use crate::topology::TopologyCore;
+use crate::transition::{Decision, Transition};
 use mdb_base::{Moment, Nanos, OutOfMemory, ServerAddress};
 use mdb_describe::TopologyDescription;
 use mdb_events::SdamEvent;

@@ -3,8 +3,8 @@
 ghost use Rattle.std.specs.Prelude.{◌≡◌, ◌≤◌, IfOk, OnErr, List, None, All, length, true};
 ghost use Rattle.mdb_topology.specs.Finding.{is_pool_act};
 
-use crate::pools::pool_decision::PoolDecision;
 use crate::pools::Pools;
+use crate::pools::pool_decision::PoolDecision;
 use mdb_base::OutOfMemory;
 use mdb_log::{Act, Refused, Step};
 use std::alloc::Global;

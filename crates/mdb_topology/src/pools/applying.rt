@@ -2,8 +2,8 @@
 
 ghost use Rattle.std.specs.Prelude.{◌≡◌, ◌≤◌, ◌+◌, List, length, vec_len, vec_capacity, OnOk};
 
-use crate::pools::pool_change::PoolChange;
 use crate::pools::Pools;
+use crate::pools::pool_change::PoolChange;
 use mdb_base::OutOfMemory;
 use mdb_pool::planning::apply;
 

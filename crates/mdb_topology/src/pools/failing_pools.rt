@@ -9,12 +9,12 @@ ghost use Rattle.mdb_pool.specs.declared.planning.Answered.{Answered as Answer};
 ghost use Rattle.mdb_topology.specs.Failing.{PlansBoth};
 ghost use Rattle.mdb_topology.specs.Marking.{asked_of};
 
-use crate::pools::pool_change::PoolChange;
 use crate::errors::marked::{Asked, PoolTrouble};
 use crate::errors::marking::ask;
 use crate::pools::Pools;
+use crate::pools::pool_change::PoolChange;
 use mdb_base::{OutOfMemory, ServerAddress};
-use mdb_events::{Fact, Boxed};
+use mdb_events::{Boxed, Fact};
 use mdb_log::{Act, Step};
 use mdb_pool::PoolCore;
 use mdb_pool::planning::{Answered, prepare};

@@ -6,8 +6,8 @@ ghost use Rattle.mdb_pool.specs.Planning.{Plans, IsPlanOf, IsDone};
 ghost use Rattle.mdb_pool.specs.Refusing.{refusal_now};
 ghost use Rattle.mdb_pool.specs.Core.{PoolCore as Core};
 
-use crate::pools::pool_change::PoolChange;
 use crate::pools::Pools;
+use crate::pools::pool_change::PoolChange;
 use mdb_base::OutOfMemory;
 use mdb_events::Fact;
 use mdb_log::Step;
