@@ -12,8 +12,8 @@ use Rattle.mdb_log.specs.declared.step.FailedAt.TheVariants as at
 use Rattle.mdb_log.specs.History.{Item, did, made, PoolItem, asked, warmed, gave_up, returned, pinned_by, established, failed, replicated, taken, unpinned, created, closed, checked_in, granted, ended, raised, pool_created, pool_ready, pool_closed, if_so, is_number, has_asked, given, open_pool, after_act, after_fact, after_facts, of_pool, with_facts}
 use Rattle.mdb_log.specs.Requests.{end_of}
 use Rattle.mdb_log.specs.State.{State, is_new, is_ready, is_paused, state_of}
-use Rattle.mdb_readable.proofs.Plain.{IsPlainError, IsPlainEnd, IsPlainFact, ArePlainFacts, IsPlainHistory, IsPlainPart, ArePlainParts}
-use Rattle.mdb_readable.proofs.Lists.{IfAny}
+use Rattle.mdb_verdicts.proofs.Plain.{IsPlainError, IsPlainEnd, IsPlainFact, ArePlainFacts, IsPlainHistory, IsPlainPart, ArePlainParts}
+use Rattle.mdb_verdicts.proofs.Lists.{IfAny}
 
 if-plain : (b : Bool) (x : PoolItem) (xs : List PoolItem) → IsPlainPart x → ArePlainParts xs → ArePlainParts (if_so b x xs)
 if-plain true x xs i h = (i, h)

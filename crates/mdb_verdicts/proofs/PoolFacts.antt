@@ -21,9 +21,9 @@ use Rattle.mdb_log.specs.State.{State, is_new, is_ready, is_paused, is_closed, s
 use Rattle.mdb_pool.specs.Facts.{new_pool_error, created_fact, closed_fact, pool_closed_fact, closes, check_in, come_back, hand_over, fail_requester, sweep, fill, turned_away, readied, end_facts, all_ends, close_reason, perished, clear_facts, close_facts, overdue, act_facts}
 use Rattle.mdb_pool.specs.Serving.{next_move, serve, serving}
 use Rattle.mdb_pool.proofs.Turns.Fair.{Move, nothing, closing, granting, creating, warming, move-of}
-use Rattle.mdb_readable.proofs.Plain.{IsPlainAddress, IsPlainError, IsPlainEnd, IsPlainFact, ArePlainFacts, IsPlainAct, ArePlainParts}
-use Rattle.mdb_readable.proofs.Lists.{all-both}
-use Rattle.mdb_readable.proofs.PoolParts.{IsPlainState, state-plain}
+use Rattle.mdb_verdicts.proofs.Plain.{IsPlainAddress, IsPlainError, IsPlainEnd, IsPlainFact, ArePlainFacts, IsPlainAct, ArePlainParts}
+use Rattle.mdb_verdicts.proofs.Lists.{all-both}
+use Rattle.mdb_verdicts.proofs.PoolParts.{IsPlainState, state-plain}
 
 pub facts-both : (fs gs : List Fact) → ArePlainFacts fs → ArePlainFacts gs → ArePlainFacts (fs ++ gs)
 facts-both fs gs i j = all-both IsPlainFact fs gs i j

@@ -31,13 +31,13 @@ use Rattle.mdb_topology.specs.Homes.{begun, home_of, is_here}
 use Rattle.mdb_topology.specs.Monitors.{average}
 use Rattle.mdb_topology.specs.Publishing.{told_by}
 use Rattle.mdb_topology.specs.Refusal.{refusal}
-use Rattle.mdb_readable.proofs.Plain.{IsPlainAddress, IsPlainEnd, IsPlainReply, ArePlainFacts, IsPlainAct, IsPlainHistory, ArePlainParts}
-use Rattle.mdb_readable.proofs.Lists.{IfAny}
-use Rattle.mdb_readable.proofs.PoolParts.{parts-of, with-plain, end-plain}
-use Rattle.mdb_readable.proofs.PoolFacts.{facts-both, facts-if, clear-plain, serving-plain, act-plain}
-use Rattle.mdb_readable.proofs.Known.{IsPlainHome, homes-plain, home-plain, IsPlainTrouble, trouble-plain, description-plain, rule-after-plain}
-use Rattle.mdb_readable.proofs.Checks.{heartbeat-plain}
-use Rattle.mdb_readable.proofs.Told.{ArePlainMakers, makers-both, turns-plain, told-plain}
+use Rattle.mdb_verdicts.proofs.Plain.{IsPlainAddress, IsPlainEnd, IsPlainReply, ArePlainFacts, IsPlainAct, IsPlainHistory, ArePlainParts}
+use Rattle.mdb_verdicts.proofs.Lists.{IfAny}
+use Rattle.mdb_verdicts.proofs.PoolParts.{parts-of, with-plain, end-plain}
+use Rattle.mdb_verdicts.proofs.PoolFacts.{facts-both, facts-if, clear-plain, serving-plain, act-plain}
+use Rattle.mdb_verdicts.proofs.Known.{IsPlainHome, homes-plain, home-plain, IsPlainTrouble, trouble-plain, description-plain, rule-after-plain}
+use Rattle.mdb_verdicts.proofs.Checks.{heartbeat-plain}
+use Rattle.mdb_verdicts.proofs.Told.{ArePlainMakers, makers-both, turns-plain, told-plain}
 
 -- facts
 

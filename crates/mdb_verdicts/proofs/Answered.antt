@@ -13,11 +13,11 @@ use Rattle.mdb_topology.specs.Lines.{options_in, answer_after, steps_of}
 use Rattle.mdb_laws.specs.Answers.{IsAnswer, AreAnswers}
 use Rattle.mdb_entries.specs.Answers.{is_plain_reply, is_plain_fact, has_plain_answer, IsTyped, TextShows}
 use Rattle.mdb_entries.proofs.AnswerLemmas.{log_shows}
-use Rattle.mdb_readable.proofs.Plain.{IsPlainReply, ArePlainFacts, IsPlainHistory}
-use Rattle.mdb_readable.proofs.Lists.{all-both, all-told}
-use Rattle.mdb_readable.proofs.PoolParts.{with-plain}
-use Rattle.mdb_readable.proofs.Spelled.{IsPlainStep, allowed-plain}
-use Rattle.mdb_readable.proofs.Steps.{IsPlainAnswer, answer-plain}
+use Rattle.mdb_verdicts.proofs.Plain.{IsPlainReply, ArePlainFacts, IsPlainHistory}
+use Rattle.mdb_verdicts.proofs.Lists.{all-both, all-told}
+use Rattle.mdb_verdicts.proofs.PoolParts.{with-plain}
+use Rattle.mdb_verdicts.proofs.Spelled.{IsPlainStep, allowed-plain}
+use Rattle.mdb_verdicts.proofs.Steps.{IsPlainAnswer, answer-plain}
 
 record IsPlainEntry (e : Entry) : Type 0 where
   step : IsPlainStep e.step

@@ -25,8 +25,8 @@ use Rattle.mdb_lines.specs.Grammar.{is_printable, are_options, is_hello, is_beat
 use Rattle.mdb_lines.specs.Script.{Spells, AreAllowed}
 use Rattle.mdb_lines.specs.Spelling.{failed_at_text, hello_text, beaten_text, act_text, spelling}
 use Rattle.mdb_event_reading.specs.SdamTexts.{is_server_id}
-use Rattle.mdb_readable.proofs.Plain.{ArePlainAddresses, IsPlainError, IsPlainResponse, IsPlainHello, IsPlainBeaten, IsPlainAct}
-use Rattle.mdb_readable.proofs.Lists.{all-from}
+use Rattle.mdb_verdicts.proofs.Plain.{ArePlainAddresses, IsPlainError, IsPlainResponse, IsPlainHello, IsPlainBeaten, IsPlainAct}
+use Rattle.mdb_verdicts.proofs.Lists.{all-from}
 
 abbrev Prints : List ℕ → Type 0
 Prints text = is_printable text ≡ true

@@ -19,12 +19,12 @@ use Rattle.mdb_topology.specs.Description.{Rule, opens, updates, syncs, tells_ti
 use Rattle.mdb_topology.specs.Publishing.{ready_pool, close_pool, description_changed, server_changed, server_closed, topology_changed, server_opened, telling, publication, topology_closed, told_by}
 use Rattle.mdb_topology.specs.Ready.{is_ready_type}
 use Rattle.mdb_topology.specs.Turns.{in_turn}
-use Rattle.mdb_readable.proofs.Plain.{IsPlainAddress, ArePlainAddresses, ArePlainFacts, IsPlainHistory, IsPlainServer, ArePlainServers}
-use Rattle.mdb_readable.proofs.Lists.{all-both, all-filter, all-map, IfAny}
-use Rattle.mdb_readable.proofs.PoolParts.{with-plain}
-use Rattle.mdb_readable.proofs.PoolFacts.{facts-both, facts-if, readied-plain, close-plain}
-use Rattle.mdb_readable.proofs.Servers.{IsPlainTopology, updated-plain, opened-plain, synced-plain}
-use Rattle.mdb_readable.proofs.Known.{IsPlainRule, begins-plain}
+use Rattle.mdb_verdicts.proofs.Plain.{IsPlainAddress, ArePlainAddresses, ArePlainFacts, IsPlainHistory, IsPlainServer, ArePlainServers}
+use Rattle.mdb_verdicts.proofs.Lists.{all-both, all-filter, all-map, IfAny}
+use Rattle.mdb_verdicts.proofs.PoolParts.{with-plain}
+use Rattle.mdb_verdicts.proofs.PoolFacts.{facts-both, facts-if, readied-plain, close-plain}
+use Rattle.mdb_verdicts.proofs.Servers.{IsPlainTopology, updated-plain, opened-plain, synced-plain}
+use Rattle.mdb_verdicts.proofs.Known.{IsPlainRule, begins-plain}
 
 -- parts that make plain facts after a plain history
 

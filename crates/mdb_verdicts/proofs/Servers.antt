@@ -21,8 +21,8 @@ use Rattle.mdb_describe.specs.Listed.{lower, spells, kept_if_spelled, parsed, wi
 use Rattle.mdb_describe.specs.Servers.{is_known, is_listed, store, remove, forget_where, forget_other_primaries, put, add, add_all, keep_listed}
 use Rattle.mdb_describe.specs.Topology.{opened, synced_by_type, synced}
 use Rattle.mdb_describe.specs.Update.{listed_in, listed, stored, removed, forgotten, check, learn, names_other, add_listed, removed_if_invalid, member_rule_a, member_rule_b, is_outdated, with_maxima, leads, ranked, primary_rule, table, decided, is_new, is_misnamed, taken, updated, of_type}
-use Rattle.mdb_readable.proofs.Plain.{IsPlainAddress, ArePlainAddresses, IsPlainServer, ArePlainServers}
-use Rattle.mdb_readable.proofs.Lists.{all-filter, IfAny}
+use Rattle.mdb_verdicts.proofs.Plain.{IsPlainAddress, ArePlainAddresses, IsPlainServer, ArePlainServers}
+use Rattle.mdb_verdicts.proofs.Lists.{all-filter, IfAny}
 
 -- lists of servers
 
