@@ -10,7 +10,7 @@ ghost use Rattle.mdb_tallies.specs.Kept.{Stands};
 ghost use Rattle.mdb_judging.specs.Queueing.{QueuesStand, QueuesFollow, JoinsIf};
 
 use mdb_base::OutOfMemory;
-use mdb_tallies::{Occurrence, Lists, DefaultMap, Tables};
+use mdb_tallies::{DefaultMap, Lists, Occurrence, Tables};
 use std::alloc::Global;
 
 /// The callers of each pool, and how many of the first of them wait no more.

@@ -7,7 +7,7 @@ ghost use Rattle.mdb_pins.specs.Keeping.{has_pinned, recalls};
 
 use mdb_base::OutOfMemory;
 use mdb_pins::{Doings, Keepings, PinStory};
-use mdb_tallies::{Occurrence, How, Lists, Place, Tables, is_done};
+use mdb_tallies::{How, Lists, Occurrence, Place, Tables, is_done};
 use std::alloc::Global;
 
 /// What an entry touched.
