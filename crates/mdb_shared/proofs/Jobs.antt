@@ -7,7 +7,7 @@ use Rattle.mdb_log.specs.declared.reply.Reply.{Reply}
 use Rattle.mdb_log.specs.declared.reply.Reply.TheVariants.{Pooled, Establishing, Waiting, Ended, Job, NoJob, Changed, Count, Done, Refused}
 use Rattle.mdb_shared.specs.Claims.{claiming, claimed_by}
 use Rattle.mdb_shared.specs.declared.claiming.Claimed.{Claimed}
-use Rattle.mdb_shared.specs.Seats.{SeatView, Stepped}
+use Rattle.mdb_turns.specs.Stepping.{SeatView, Stepped}
 
 never : (b : Bool) → IsTrue (b && false) → IsTrue false
 never true h = h

@@ -9,7 +9,7 @@ use Rattle.mdb_shared.specs.declared.claiming.Claimed.{Claimed}
 use Rattle.mdb_shared.specs.declared.claiming.Claimed.TheVariants.{Job as ClaimedJob, Unread, NoJob as NoneClaimed}
 use Rattle.mdb_shared.specs.declared.claiming.NoClaim.{NoClaim}
 use Rattle.mdb_shared.specs.declared.claiming.NoClaim.TheVariants.{Busy, OutOfMemory}
-use Rattle.mdb_shared.specs.Seats.{SeatView, OnlySaw}
+use Rattle.mdb_turns.specs.Stepping.{SeatView, OnlySaw}
 
 abbrev pub claiming : Step
 claiming = record { moment = 0; act = Claim }

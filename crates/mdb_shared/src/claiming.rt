@@ -2,16 +2,15 @@
 
 ghost use Rattle.std.specs.Prelude.{◌≡◌, IsTrue, IfOk, IfErr, OnErr};
 ghost use Rattle.mdb_log.specs.Driver.{tells_job, IsThere};
-ghost use Rattle.mdb_shared.specs.Seats.{IsReady, seat_view, Stepped, OnlySaw, FoundBusy};
+ghost use Rattle.mdb_turns.specs.Stepping.{IsReady, seat_view, Stepped, OnlySaw};
+ghost use Rattle.mdb_shared.specs.Seats.{FoundBusy};
 ghost use Rattle.mdb_shared.specs.Claims.{claiming, claimed_by, Holds, Missed};
 
-use crate::answers::TryError;
 use crate::driver::SharedDriver;
-use crate::rule::{Lock, TableSeat};
 use crate::seat::Seat;
-use crate::turn::{begin_step, finish};
 use mdb_base::OutOfMemory;
 use mdb_log::{Act, Core, Job, Log, Reply, Step};
+use mdb_turns::{Lock, TableSeat, TryError, begin_step, finish};
 use std::alloc::Global;
 use std::sync::Wait;
 
