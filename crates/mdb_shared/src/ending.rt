@@ -2,13 +2,13 @@
 
 ghost use Rattle.std.specs.Prelude.{◌≡◌, ◌≤◌, ◌<◌, false, [], ◌++◌, length};
 ghost use Rattle.mdb_log.specs.Driver.{StartsWith};
-ghost use Rattle.mdb_shared.specs.Turning.{Settles};
+ghost use Rattle.mdb_turns.specs.Turning.{Settles};
 ghost use Rattle.mdb_shared.specs.Seats.{Each, behind, AllOf};
 
 use crate::meeting::load_count;
-use crate::rule::{Absorb, Lock, TableSeat};
 use crate::seat::Seat;
 use mdb_log::{Core, Log};
+use mdb_turns::{Absorb, Lock, TableSeat};
 
 // One takes in the other, and looks.
 pub(crate) fn take_in<C: Core>(table: &Lock<C>, all: &mut TableSeat<C>, table_seat: TableSeat<C>)

@@ -2,7 +2,6 @@
 #![tactic(auto)]
 
 mod answers;
-mod bell;
 mod checkout;
 mod claiming;
 mod driver;
@@ -10,17 +9,15 @@ mod ending;
 mod looking;
 mod making;
 mod meeting;
-mod rule;
 mod seat;
-mod turn;
 mod wait_queue;
 mod waiting;
 
-pub use answers::{TryError, Unclosed};
-pub use bell::is_news;
+pub use answers::Unclosed;
 pub use checkout::{Back, BackWhy, Poll};
 pub use claiming::Claimed;
 pub use driver::SharedDriver;
 pub use looking::Look;
+pub use mdb_turns::{TryError, is_news};
 pub use seat::Seat;
 pub use wait_queue::WaitQueue;

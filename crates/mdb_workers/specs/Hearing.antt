@@ -3,7 +3,7 @@ use Rattle.std.specs.Prelude.{◌≡◌, ℕ, ◌≤◌, IsTrue, List, length, S
 use Rattle.mdb_log.specs.declared.log.Entry.{Entry}
 use Rattle.mdb_log.specs.declared.step.Act.TheVariants.{Stop}
 use Rattle.mdb_log.specs.declared.reply.Reply.TheVariants.{Done}
-use Rattle.mdb_shared.specs.News.{is_news}
+use Rattle.mdb_turns.specs.News.{is_news}
 use Rattle.mdb_workers.specs.declared.listening.Woken.{Woken}
 use Rattle.mdb_workers.specs.declared.listening.Woken.TheVariants.{News, Stopped}
 

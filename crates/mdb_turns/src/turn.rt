@@ -4,18 +4,18 @@ ghost use Rattle.std.specs.Prelude.{◌≡◌, ◌≢◌, ◌+◌, true, List, [
 ghost use Rattle.mdb_log.specs.declared.log.Entry.{Entry};
 ghost use Rattle.mdb_log.specs.Driver.{StartsWith, IsThere, is_reply_to, is_in_time};
 ghost use Rattle.mdb_log.specs.Acts.{IsDriverAct};
-ghost use Rattle.mdb_shared.specs.Turning.{seat_entries, with_turn, without_turn, with_entry, found_busy};
-ghost use Rattle.mdb_shared.specs.Seats.{IsReady, mine_of, seat_view, Begun, Stepped, Failed, raised};
+ghost use Rattle.mdb_turns.specs.Turning.{seat_entries, with_turn, without_turn, with_entry, found_busy};
+ghost use Rattle.mdb_turns.specs.Stepping.{IsReady, mine_of, seat_view, Begun, Stepped, Failed, raised};
 
-use crate::answers::TryError;
 use crate::bell::rings;
 use crate::rule::{Add, Lock, Release, TableSeat, TakeTurn};
+use crate::try_error::TryError;
 use mdb_base::{Moment, OutOfMemory};
 use mdb_log::{Core, Log, Reply, Step};
 use std::alloc::Global;
 
-// Takes the turn and the state, unless the turn is taken.
-pub(crate) fn take<C: Core>(
+/// Takes the turn and the state, unless the turn is taken: then it answers the turn word that was found.
+pub fn take<C: Core>(
     table: &Lock<C>,
     table_seat: &mut TableSeat<C>,
     number: u32,
@@ -36,8 +36,8 @@ pub(crate) fn take<C: Core>(
     Ok(table.shared.exchange(table_seat, 0, None).unwrap())
 }
 
-// Puts the state back, with one more entry, and releases the turn.
-pub(crate) fn finish<C: Core>(
+/// Puts the state back, with one more entry, and releases the turn.
+pub fn finish<C: Core>(
     table: &Lock<C>,
     table_seat: &mut TableSeat<C>,
     core: C,
@@ -58,8 +58,8 @@ pub(crate) fn finish<C: Core>(
     table.shared.store::<Release>(table_seat, 0, 0);
 }
 
-// Puts the state back as it was, and releases the turn.
-pub(crate) fn give_back<C: Core>(table: &Lock<C>, table_seat: &mut TableSeat<C>, core: C, log: Log)
+/// Puts the state back as it was, and releases the turn.
+pub fn give_back<C: Core>(table: &Lock<C>, table_seat: &mut TableSeat<C>, core: C, log: Log)
     requires table { (table.now.shared.table_id.words ≡ 2) × (table.now.shared.table_id.slots ≡ 1) × (table_seat.old.table_id ≡ table.now.shared.table_id) }
     requires turn { (table_seat.old.me.0.turn ≡ true) × (table_seat.old.me.1 ≡ (0, None) ∷ []) }
     requires log { (log ≡ table_seat.old.me.0.seen) × C.stands core log }
@@ -70,7 +70,7 @@ pub(crate) fn give_back<C: Core>(table: &Lock<C>, table_seat: &mut TableSeat<C>,
 }
 
 // The step, no earlier than `last`.
-pub(crate) fn raise(step: Step, last: Moment) -> Step
+fn raise(step: Step, last: Moment) -> Step
     ensures { result ≡ raised last step }
 {
     if step.moment < last {
@@ -80,8 +80,8 @@ pub(crate) fn raise(step: Step, last: Moment) -> Step
     step
 }
 
-// Takes the turn and does one step, unless another seat has the turn. Where it succeeds the turn is held from here on, until `finish`.
-pub(crate) fn begin_step<C: Core>(
+/// Takes the turn and does one step, unless another seat has the turn. Where it succeeds the turn is held from here on, until `finish`.
+pub fn begin_step<C: Core>(
     table: &Lock<C>,
     table_seat: &mut TableSeat<C>,
     alloc: Global,
@@ -115,8 +115,8 @@ pub(crate) fn begin_step<C: Core>(
     }
 }
 
-// One step by the seat of this number, if the turn isn't taken. It says whether its entry is news to others.
-pub(crate) fn one_step<C: Core>(
+/// One step by the seat of this number, if the turn isn't taken. It says whether its entry is news to others.
+pub fn one_step<C: Core>(
     table: &Lock<C>,
     table_seat: &mut TableSeat<C>,
     alloc: Global,

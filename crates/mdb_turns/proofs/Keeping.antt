@@ -10,15 +10,15 @@ use prog.Atomic.{either}
 use Rattle.atomic_table.specs.Table.{State, Me, step, keeps, takes, gives, stepped, put_back, homes_after, Allows, opening, rest}
 use Rattle.atomic_table.proofs.Lists.{at_set, set_here, set_else}
 use Rattle.mdb_log.specs.declared.log.Entry.{Entry}
-use Rattle.mdb_shared.specs.declared.rule.SeatEntries.{SeatEntries}
-use Rattle.mdb_shared.specs.declared.rule.View.{View}
+use Rattle.mdb_turns.specs.declared.rule.SeatEntries.{SeatEntries}
+use Rattle.mdb_turns.specs.declared.rule.View.{View}
 use Rattle.mdb_log.specs.declared.reply.Reply.{Reply}
 use Rattle.mdb_log.specs.declared.step.Step.{Step}
 use Rattle.atomic_table.specs.Seated.{TableId}
 use Rattle.mdb_log.specs.Driver.{StartsWith, IsEntry, is_in_time}
-use Rattle.mdb_shared.specs.Seats.{SeatView, mine_of, seat_view, Begun, Stepped, OnlySaw, raised, Each, FoundBusy, last_in}
-use Rattle.mdb_shared.specs.Turning.{own, seat_entries, first_view, Fits, Keeps, HasNumber, Slot, with_turn, found_busy, without_turn, grown_numbers, with_entry, having_seen, turn_taken, added, turn_released, count_loaded}
-use Rattle.mdb_shared.proofs.Places.{here, stays}
+use Rattle.mdb_turns.specs.Stepping.{mine_of, seat_view, Begun, Stepped, raised, last_in}
+use Rattle.mdb_turns.specs.Turning.{own, seat_entries, first_view, Fits, Keeps, HasNumber, Slot, with_turn, found_busy, without_turn, grown_numbers, with_entry, having_seen, turn_taken, added, turn_released, count_loaded}
+use Rattle.mdb_turns.proofs.Places.{here, stays}
 
 -- ---- lists
 
@@ -351,10 +351,6 @@ module _ {T : Type 0} (stands : T → List Entry → Type 0) (base : List Entry)
 
 -- ---- what a seat knows and holds after a call
 
--- nothing but `busy` has changed
-abbrev pub Waited : SeatView → SeatView → Type 0
-Waited s s' = (s'.driver ≡ s.driver) × (s'.number ≡ s.number) × (s'.seen ≡ s.seen) × (s'.mine ≡ s.mine)
-
 module _ {T : Type 0} where
   -- the slot that was empty holds the state
   pub filled : (me old : Me (Slot T) View) (c : T) (l m : List Entry) → me ≡ (old.0, (0, Some (c, l)) ∷ rest old.1) → old.1 ≡ (0, None) ∷ [] → l ≡ m → me ≡ (old.0, (0, Some (c, m)) ∷ [])
@@ -386,35 +382,8 @@ module _ {T : Type 0} where
       subst (λ (w : View). Stepped stands (seat_view y n v) (seat_view z n w) step reply) (sym (view_after v b.before me me' b.entry b.turn done))
       (b.before, b.entry, b.front, b.is, refl, ap (λ (ps : List SeatEntries). mine_of (grown_numbers ps b.entry)) one, (core, subst (stands core) b.more b.fits))
 
-  pub stepped_after : (stands : T → List Entry → Type 0) (s t u : SeatView) (step now : Step) (reply : Reply) → Waited s t → now ≡ step → Stepped stands t u now reply → Stepped stands s u step reply
-  stepped_after stands s t u step now reply w is done =
-      subst (λ (x : ℕ × List Entry × List Entry × Step). (before : List Entry) × (e : Entry) × StartsWith before x.1 × IsEntry x.0 (raised (last_in before) x.3) reply e × (u.seen ≡ before ++ e ∷ []) × (u.mine ≡ x.2 ++ e ∷ []) × ((core : T) × stands core u.seen))
-      (λ i. (w.1 i, w.2 i, w.3 i, is i)) done
-
-pub saw_after : (s t u : SeatView) → Waited s t → OnlySaw t u → OnlySaw s u
-saw_after s t u w saw = (subst (λ (l : List Entry). StartsWith u.seen l) w.2 saw.0, saw.1 ∙ w.3)
-
 -- a raised step is no earlier than the last one
 pub raised_enough : (log : List Entry) (m : ℕ) (asked now : Step) (reply : Reply) → now ≡ raised m asked → m ≡ last_in log → (last_in log ≤ now.moment → IsTrue (is_in_time now.act reply)) → IsTrue (is_in_time asked.act reply)
 raised_enough log m asked now reply is at says =
     let more : (k : ℕ) → k ≡ last_in log → last_in log ≤ (raised k asked).moment = λ k e. subst (λ (x : ℕ). x ≤ (raised k asked).moment) e (le-max_right asked.moment k) in
     subst (λ (s : Step). last_in log ≤ s.moment → IsTrue (is_in_time s.act reply)) is says (more m at)
-
--- ---- the turn words that failed tries found
-
-pub found_nothing : (s : SeatView) → FoundBusy s s
-found_nothing s = ([], sym (append-nil s.busy), tt)
-
-each_push : {X : Type 0} (P : X → Type 0) (xs : List X) (x : X) → Each P xs → P x → Each P (xs ++ x ∷ [])
-each_push P [] x h p = (p, tt)
-each_push P (y ∷ xs) x h p = (h.0, each_push P xs x h.1 p)
-
-pub found_more : (s t u : SeatView) (word : ℕ) → FoundBusy s t → t.number ≡ s.number → word ≢ 0 → word ≢ t.number + 1 → u.busy ≡ t.busy ++ word ∷ [] → FoundBusy s u
-found_more s t u word f same taken other is = (
-  f.0 ++ word ∷ [],
-  is ∙ (ap (λ (l : List ℕ). l ++ word ∷ []) f.1 ∙ append_assoc s.busy f.0 (word ∷ [])),
-  each_push (λ (w : ℕ). (w ≢ 0) × (w ≢ s.number + 1)) f.0 word f.2 (taken, λ e. other (e ∙ ap (λ (n : ℕ). n + 1) (sym same))),
-)
-
-pub found_as : (s t u : SeatView) → FoundBusy s t → u.busy ≡ t.busy → FoundBusy s u
-found_as s t u f is = (f.0, is ∙ f.1, f.2)

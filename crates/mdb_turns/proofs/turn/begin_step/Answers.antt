@@ -2,9 +2,9 @@ use Rattle.std.proofs.Common.{ℕ, IsTrue, ap, sym, subst, ◌∙◌}
 use Rattle.mdb_log.specs.declared.step.Step.{Step}
 use Rattle.mdb_log.specs.Driver.{is_reply_to}
 use Rattle.mdb_log.specs.Acts.{IsDriverAct}
-use Rattle.mdb_shared.specs.Seats.{raised}
-use Rattle.mdb_shared.proofs.Keeping.{raised_enough}
-use Rattle.mdb_shared.proofs.turn.begin_step.Goals as goal
+use Rattle.mdb_turns.specs.Stepping.{raised}
+use Rattle.mdb_turns.proofs.Keeping.{raised_enough}
+use Rattle.mdb_turns.proofs.turn.begin_step.Goals as goal
 
 pub step-stepped-requires-clause-act : goal.step-stepped-requires-clause-act
 step-stepped-requires-clause-act g c = subst (λ (s : Step). IsDriverAct s.act) (sym c.raise-raised.ensures) c.requires.act

@@ -1,8 +1,8 @@
 use Rattle.std.proofs.Common.{rules, arith, ◌≡◌, ◌+◌, [], ◌∷◌, length, ap, sym, subst, ◌∙◌, length-append}
 use Rattle.mdb_log.specs.declared.log.Entry.{Entry}
-use Rattle.mdb_shared.specs.Turning.{with_entry, without_turn}
-use Rattle.mdb_shared.proofs.Keeping.{filled, adds_at, releases_at, grown_me, let_go_me, last_same}
-use Rattle.mdb_shared.proofs.turn.finish.Goals as goal
+use Rattle.mdb_turns.specs.Turning.{with_entry, without_turn}
+use Rattle.mdb_turns.proofs.Keeping.{filled, adds_at, releases_at, grown_me, let_go_me, last_same}
+use Rattle.mdb_turns.proofs.turn.finish.Goals as goal
 
 pub fetch_add-requires : goal.fetch_add-requires
 fetch_add-requires g c = let v = c.args.table_seat.now.me.0 in let e = c.requires.log.0 in

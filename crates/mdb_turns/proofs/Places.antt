@@ -5,8 +5,8 @@ use mathlib.Core.Option.{some, some-injective, some-ne-none}
 use native.Mathlib.Decide.{ℕ_discrete}
 use lib.ListN.{get_elem?}
 use Rattle.atomic_table.proofs.Lists.{set_here, set_else, at_longer}
-use Rattle.mdb_shared.specs.declared.rule.View.{View}
-use Rattle.mdb_shared.specs.Turning.{At}
+use Rattle.mdb_turns.specs.declared.rule.View.{View}
+use Rattle.mdb_turns.specs.Turning.{At}
 
 inside : (vs : List View) (id : ℕ) (v : View) → get_elem? vs id ≡ some v → id < length vs
 inside [] id v e = absurd (some-ne-none v (sym e))

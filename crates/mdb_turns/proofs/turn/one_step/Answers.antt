@@ -1,7 +1,7 @@
 use Rattle.std.proofs.Common.{ap}
-use Rattle.mdb_shared.specs.declared.rule.View.{View}
-use Rattle.mdb_shared.proofs.Keeping.{has_turn, one_more, stepped_well, view_after}
-use Rattle.mdb_shared.proofs.turn.one_step.Goals as goal
+use Rattle.mdb_turns.specs.declared.rule.View.{View}
+use Rattle.mdb_turns.proofs.Keeping.{has_turn, one_more, stepped_well, view_after}
+use Rattle.mdb_turns.proofs.turn.one_step.Goals as goal
 
 pub finish-requires-clause-turn : goal.finish-requires-clause-turn
 finish-requires-clause-turn g c κs within = has_turn c.args.table_seat.now.me.0 _ _ _ c.in-Ok.ensures.ok.turn c.requires.ready.2

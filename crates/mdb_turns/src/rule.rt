@@ -54,7 +54,7 @@ pub struct Turns<C> {
 }
 
 impl<C: Core> TableRule<Slot<C>, View, Beginning> for Turns<C> {
-    ghost use Rattle.mdb_shared.specs.Turning.{Keeps, first_view};
+    ghost use Rattle.mdb_turns.specs.Turning.{Keeps, first_view};
 
     ghost holds = { λ key. Keeps C.stands key.base.value key.seats };
 
@@ -67,7 +67,7 @@ pub struct TakeTurn<C> {
 }
 
 impl<C: Core> Play<Slot<C>, View> for TakeTurn<C> {
-    ghost use Rattle.mdb_shared.specs.Turning.{turn_taken};
+    ghost use Rattle.mdb_turns.specs.Turning.{turn_taken};
 
     ghost then = { turn_taken C.stands };
 }
@@ -76,7 +76,7 @@ impl<C: Core> Play<Slot<C>, View> for TakeTurn<C> {
 pub struct Add;
 
 impl<C> Play<Slot<C>, View> for Add {
-    ghost use Rattle.mdb_shared.specs.Turning.{added};
+    ghost use Rattle.mdb_turns.specs.Turning.{added};
 
     ghost then = { added };
 }
@@ -85,7 +85,7 @@ impl<C> Play<Slot<C>, View> for Add {
 pub struct Release;
 
 impl<C> Play<Slot<C>, View> for Release {
-    ghost use Rattle.mdb_shared.specs.Turning.{turn_released};
+    ghost use Rattle.mdb_turns.specs.Turning.{turn_released};
 
     ghost then = { turn_released };
 }
@@ -94,7 +94,7 @@ impl<C> Play<Slot<C>, View> for Release {
 pub struct LoadCount;
 
 impl<C> Play<Slot<C>, View> for LoadCount {
-    ghost use Rattle.mdb_shared.specs.Turning.{count_loaded};
+    ghost use Rattle.mdb_turns.specs.Turning.{count_loaded};
 
     ghost then = { count_loaded };
 }
@@ -103,7 +103,7 @@ impl<C> Play<Slot<C>, View> for LoadCount {
 pub struct Number;
 
 impl Split<View> for Number {
-    ghost use Rattle.mdb_shared.specs.Turning.{numbering, numbered};
+    ghost use Rattle.mdb_turns.specs.Turning.{numbering, numbered};
 
     ghost left = { numbering };
 
@@ -114,7 +114,7 @@ impl Split<View> for Number {
 pub struct Copied;
 
 impl Split<View> for Copied {
-    ghost use Rattle.mdb_shared.specs.Turning.{copied};
+    ghost use Rattle.mdb_turns.specs.Turning.{copied};
 
     ghost left = { λ v. v };
 
@@ -125,7 +125,7 @@ impl Split<View> for Copied {
 pub struct Absorb;
 
 impl Join<View> for Absorb {
-    ghost use Rattle.mdb_shared.specs.Turning.{absorbed, spent};
+    ghost use Rattle.mdb_turns.specs.Turning.{absorbed, spent};
 
     ghost both = { absorbed };
 

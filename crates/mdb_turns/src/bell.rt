@@ -2,7 +2,7 @@
 
 ghost use Rattle.std.specs.Prelude.{◌≡◌};
 ghost use Rattle.std.specs.List.{list_any};
-ghost use Rattle.mdb_shared.specs.News.{is_other, concerns, is_news};
+ghost use Rattle.mdb_turns.specs.News.{is_other, concerns, is_news};
 
 use mdb_events::{CmapEvent, Fact};
 use mdb_log::{Act, Entry, Log};

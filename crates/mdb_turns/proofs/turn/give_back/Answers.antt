@@ -1,6 +1,6 @@
 use Rattle.std.proofs.Common.{rules, subst}
-use Rattle.mdb_shared.proofs.Keeping.{filled, releases_at}
-use Rattle.mdb_shared.proofs.turn.give_back.Goals as goal
+use Rattle.mdb_turns.proofs.Keeping.{filled, releases_at}
+use Rattle.mdb_turns.proofs.turn.give_back.Goals as goal
 
 pub store-requires : goal.store-requires
 store-requires g c = (

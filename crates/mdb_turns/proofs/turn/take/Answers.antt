@@ -1,7 +1,7 @@
 use Rattle.std.proofs.Common.{rules, ap, sym, ◌∙◌, ◌∷◌, Some}
 use Rattle.atomic_table.specs.Table.{rest}
-use Rattle.mdb_shared.proofs.Keeping.{claims}
-use Rattle.mdb_shared.proofs.turn.take.Goals as goal
+use Rattle.mdb_turns.proofs.Keeping.{claims}
+use Rattle.mdb_turns.proofs.turn.take.Goals as goal
 
 pub compare_exchange-found-requires : goal.compare_exchange-found-requires
 compare_exchange-found-requires g c = (search rules, search rules, claims g.C.Core.stands _ _ _ _ _ _ _ c.requires.ready.1 c.requires.ready.2)
