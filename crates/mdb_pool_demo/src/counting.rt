@@ -4,7 +4,7 @@ use mdb_events::{CmapEvent, ConnectionClosedReason, End, Fact};
 use mdb_log::{Act, Entry, Log, Reply};
 
 /// Counts that don't depend on the schedule.
-#[derive(Clone, Copy, Debug, PartialEq, Eq)]
+#[derive(Clone, Copy, Debug)]
 pub struct Counts {
     /// Requests of callers, and grants to them.
     pub requested: u64,
@@ -93,7 +93,7 @@ pub fn count(log: &Log) -> Counts {
 }
 
 /// How many entries a log has of each kind.
-#[derive(Clone, Copy, Debug, PartialEq, Eq)]
+#[derive(Clone, Copy, Debug)]
 pub struct Kinds {
     pub all: u64,
     pub requests: u64,

@@ -20,7 +20,7 @@ const MOST: u32 = 32;
 const MOST_ROUNDS: u32 = 1_000_000;
 
 /// So many threads that share so many connections, each for so many rounds.
-#[derive(Clone, Copy, Debug, PartialEq, Eq)]
+#[derive(Clone, Copy, Debug)]
 pub struct Plan {
     pub threads: u32,
     pub connections: u32,

@@ -67,7 +67,7 @@ pub fn scene<R: Threads + Wait + Clock + Sync>(
 }
 
 /// What the scenes tell.
-#[derive(Clone, Copy, Debug, PartialEq, Eq)]
+#[derive(Clone, Copy, Debug)]
 pub struct Told {
     /// The pool under load.
     pub load: Counts,
