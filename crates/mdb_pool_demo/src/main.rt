@@ -55,7 +55,7 @@ fn words(rt: &HostRuntime) -> Result<Vec<String>, AllocError> {
     }
 }
 
-fn asked(rt: &HostRuntime) -> Result<Asked, AllocError> {
+fn read_command_line(rt: &HostRuntime) -> Result<Asked, AllocError> {
     let words = words(rt)?;
     let asked = asked_by(words.as_slice());
     drop(words);
@@ -141,7 +141,7 @@ fn show_usage(rt: &HostRuntime) -> io::Result<ExitCode> {
 }
 
 fn main(rt: HostRuntime) -> io::Result<ExitCode> {
-    match asked(&rt)? {
+    match read_command_line(&rt)? {
         Asked::Scenes => show_scenes(&rt, run(&rt, rt.alloc())),
         Asked::Rounds(plan) => show_rounds(&rt, plan, measure(&rt, rt.alloc(), plan)),
         Asked::Unknown => show_usage(&rt),
