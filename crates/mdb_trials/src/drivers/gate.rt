@@ -157,7 +157,7 @@ fn both<C: Core, R: Threads + Wait + Sync>(
     worked && served
 }
 
-pub(super) fn has_no_turn<C: Core, R: Threads + Wait + Sync>(
+pub(crate) fn has_no_turn<C: Core, R: Threads + Wait + Sync>(
     rt: &R,
     alloc: Global,
     driver: SharedDriver<C>,

@@ -115,7 +115,7 @@ fn is_lent_twice<C: Core, R: Wait>(access: &Access<'_, C, R>, seat: Seat<C>) -> 
 }
 
 // Whether the seat's numbers go on, and the pool is still ready after there was no memory to establish its first connection.
-pub(super) fn goes_on<C: Core, R: Wait>(
+pub(crate) fn goes_on<C: Core, R: Wait>(
     rt: &R,
     alloc: Global,
     driver: SharedDriver<C>,

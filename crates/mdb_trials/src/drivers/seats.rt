@@ -25,7 +25,7 @@ const REQUESTS: [Line; 8] = [
     Line(1, 0, Call::GiveUp(2), Told::UnknownRequest),
 ];
 
-pub(super) fn tells_once<C: Core, R: Wait>(
+pub(crate) fn tells_once<C: Core, R: Wait>(
     access: &Access<'_, C, R>,
     first: &mut Seat<C>,
     second: &mut Seat<C>,

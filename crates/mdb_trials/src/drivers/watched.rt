@@ -94,7 +94,7 @@ fn is_alone<C: Core, R: Wait>(access: &Access<'_, C, R>, seat: &mut Seat<C>, num
     count == Ok(1)
 }
 
-pub(super) fn waits_for_news<C: Core, R: Wait>(
+pub(crate) fn waits_for_news<C: Core, R: Wait>(
     access: &Access<'_, C, R>,
     first: &mut Seat<C>,
     second: &mut Seat<C>,
@@ -121,7 +121,7 @@ const AVAILABLE: [Line; 3] = [
 ];
 
 // The connection that was checked out.
-pub(super) fn checked_out(
+pub(crate) fn checked_out(
     answer: Result<PooledConnection, CheckOutError>,
 ) -> Option<PooledConnection> {
     match answer {
@@ -168,7 +168,7 @@ fn fills<C: Core, R: Wait>(access: &Access<'_, C, R>, seat: &mut Seat<C>) -> boo
     }
 }
 
-pub(super) fn goes_out_and_in<C: Core, R: Wait>(
+pub(crate) fn goes_out_and_in<C: Core, R: Wait>(
     access: &Access<'_, C, R>,
     first: &mut Seat<C>,
     second: &mut Seat<C>,
@@ -211,7 +211,7 @@ fn is_told<C: Core, R: Wait>(
     Ok(count == 1 && is_peeked && is_observed)
 }
 
-pub(super) fn tells_the_state<C: Core, R: Wait>(
+pub(crate) fn tells_the_state<C: Core, R: Wait>(
     access: &Access<'_, C, R>,
     seat: &mut Seat<C>,
 ) -> bool

@@ -12,7 +12,7 @@ use std::alloc::Global;
 use std::sync::Wait;
 use std::test::Fail;
 
-pub(super) fn has_no_pool<C: Core>(alloc: Global, core: C) -> Option<bool> {
+pub(crate) fn has_no_pool<C: Core>(alloc: Global, core: C) -> Option<bool> {
     let servers = core.description().servers().len();
     let published = core.published();
     let job = core.job(alloc, 0, 1);
@@ -74,7 +74,7 @@ fn follow<C: Core, R: Wait>(
     Some((is_well?, count))
 }
 
-pub(super) fn tells_how_requests_stand<C: Core, R: Wait>(
+pub(crate) fn tells_how_requests_stand<C: Core, R: Wait>(
     rt: &R,
     alloc: Global,
     driver: SharedDriver<C>,
@@ -92,7 +92,7 @@ fn polls_tell_how_requests_stand(rt: HostRuntime) -> Result<(), Fail> {
     Ok(())
 }
 
-pub(super) fn gives_back<C: Core, R: Wait>(
+pub(crate) fn gives_back<C: Core, R: Wait>(
     rt: &R,
     alloc: Global,
     driver: SharedDriver<C>,
@@ -138,7 +138,7 @@ fn last_moments<C: Core>(
 
 // Whether two seats that make a step each at the moments 9 and 4, meet, and close with one missing first, close with both, after steps whose
 // moments only grew.
-pub(super) fn closes_late<C: Core, R: Wait>(
+pub(crate) fn closes_late<C: Core, R: Wait>(
     rt: &R,
     alloc: Global,
     driver: SharedDriver<C>,

@@ -125,7 +125,7 @@ fn counted(log: &Log) -> Option<(u64, u64)> {
 }
 
 // Whether two threads that make 20,000 steps each make one log of them all. None where a step was not made, for lack of memory.
-pub(super) fn adds_by_two<C: Core, R: Threads + Wait + Sync>(
+pub(crate) fn adds_by_two<C: Core, R: Threads + Wait + Sync>(
     rt: &R,
     alloc: Global,
     driver: SharedDriver<C>,
@@ -222,7 +222,7 @@ fn in_turn(log: &Log) -> bool {
     true
 }
 
-pub(super) fn goes_round_twice<C: Core>(alloc: Global, core: C) -> Option<bool>
+pub(crate) fn goes_round_twice<C: Core>(alloc: Global, core: C) -> Option<bool>
     requires { C.stands core [] }
 {
     let log = log_of_rounds(alloc, core)?;
