@@ -6,9 +6,9 @@ use Rattle.mdb_log.specs.PlainLegal.{LegalLog}
 use Rattle.mdb_lines.specs.LogText.{text_of}
 use Rattle.mdb_entries.specs.Answers.{shown_line, ShowAll, TextShows}
 use Rattle.mdb_entries.specs.OfLog.{shown_of}
+use Rattle.mdb_judging.proofs.LegalShown.{legal-log-shown}
 use Rattle.mdb_audit.specs.LegalText.{IsLine, AreLines, IsVerdict}
 use Rattle.mdb_audit.specs.declared.verdict.Verdict.TheVariants.{Legal}
-use Rattle.mdb_audit.proofs.LegalShown.{legal-log-shown}
 
 lines-shown : (n : ℕ) (log : List Entry) → ShowAll n log → AreLines n (map shown_line log) (map shown_of log)
 lines-shown n [] s = tt

@@ -14,14 +14,14 @@ use Rattle.mdb_lines.specs.Script.{lines_of}
 use Rattle.mdb_lines.proofs.Loops.{line_not_last}
 use Rattle.mdb_entries.specs.declared.shown.Shown.{Shown}
 use Rattle.mdb_entries.specs.Shows.{shown_text, Shows}
-use Rattle.mdb_audit.specs.Shown.{entry_of, entries_of}
-use Rattle.mdb_audit.specs.Faults.{OpensOnce, IsEntryFault}
-use Rattle.mdb_audit.specs.Audited.{Audits, TakenFor}
+use Rattle.mdb_judging.specs.Shown.{entry_of, entries_of}
+use Rattle.mdb_judging.specs.Faults.{OpensOnce, IsEntryFault}
+use Rattle.mdb_judging.specs.Audited.{Audits, TakenFor}
+use Rattle.mdb_judging.specs.declared.auditor.Auditor.{Auditor}
+use Rattle.mdb_judging.specs.declared.why.Why.{Why}
+use Rattle.mdb_judging.specs.declared.why.Why.TheVariants.{Spelling, Opening, Grant, Place, Waiting}
 use Rattle.mdb_audit.specs.LegalText.{IsLine, AreLines, ShowsFault, IsFault, IsVerdict}
 use Rattle.mdb_audit.specs.LineTaking.{ShowsThis, LineTaken, Between}
-use Rattle.mdb_audit.specs.declared.auditor.Auditor.{Auditor}
-use Rattle.mdb_audit.specs.declared.verdict.Why.{Why}
-use Rattle.mdb_audit.specs.declared.verdict.Why.TheVariants.{Spelling, Opening, Grant, Place, Waiting}
 use Rattle.mdb_audit.specs.declared.verdict.Verdict.TheVariants.{Legal, Bad}
 
 -- a line that shows an entry, with its newline

@@ -6,9 +6,9 @@ use Rattle.mdb_lines.specs.declared.run_error.RunError.{RunError}
 use Rattle.mdb_lines.specs.declared.run_error.RunError.TheVariants as errors
 use Rattle.mdb_lines.specs.Status.{Told, Tells, status, message}
 use Rattle.mdb_lines.specs.Loops.{TookFront, ReadsAll}
+use Rattle.mdb_judging.specs.declared.why.Why.{Why}
+use Rattle.mdb_judging.specs.declared.why.Why.TheVariants.{Spelling, Opening, Grant, Place, Waiting}
 use Rattle.mdb_audit.specs.LegalText.{IsVerdict}
-use Rattle.mdb_audit.specs.declared.verdict.Why.{Why}
-use Rattle.mdb_audit.specs.declared.verdict.Why.TheVariants.{Spelling, Opening, Grant, Place, Waiting}
 use Rattle.mdb_audit.specs.declared.verdict.Verdict.{Verdict}
 use Rattle.mdb_audit.specs.declared.verdict.Verdict.TheVariants.{Legal, Bad}
 

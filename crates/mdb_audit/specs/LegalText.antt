@@ -5,10 +5,10 @@ use Rattle.mdb_log.specs.PlainLegal.{LegalLog}
 use Rattle.mdb_lines.specs.Script.{lines_of}
 use Rattle.mdb_entries.specs.declared.shown.Shown.{Shown}
 use Rattle.mdb_entries.specs.Shows.{shown_text, Shows}
-use Rattle.mdb_audit.specs.Shown.{entry_of, entries_of}
-use Rattle.mdb_audit.specs.Faults.{IsEntryFault}
-use Rattle.mdb_audit.specs.declared.verdict.Why.{Why}
-use Rattle.mdb_audit.specs.declared.verdict.Why.TheVariants.{Spelling, Opening, Grant, Place, Waiting}
+use Rattle.mdb_judging.specs.Shown.{entry_of, entries_of}
+use Rattle.mdb_judging.specs.Faults.{IsEntryFault}
+use Rattle.mdb_judging.specs.declared.why.Why.{Why}
+use Rattle.mdb_judging.specs.declared.why.Why.TheVariants.{Spelling, Opening, Grant, Place, Waiting}
 use Rattle.mdb_audit.specs.declared.verdict.Verdict.{Verdict}
 use Rattle.mdb_audit.specs.declared.verdict.Verdict.TheVariants.{Legal, Bad}
 

@@ -1,14 +1,3 @@
 pub mod AuditRuns
-pub mod Audited
-pub mod Fairness
-pub mod Faults
-pub mod Judging
 pub mod LegalText
 pub mod LineTaking
-pub mod Newest
-pub mod Opens
-pub mod Queueing
-pub mod Shown
-pub mod Taking
-pub mod TakingOn
-pub mod Touching

@@ -5,11 +5,11 @@ use Rattle.mdb_log.specs.PlainLegal.{LegalLog}
 use Rattle.mdb_lines.specs.Script.{lines_of}
 use Rattle.mdb_entries.specs.declared.shown.Shown.{Shown}
 use Rattle.mdb_entries.specs.Shows.{Shows}
-use Rattle.mdb_audit.specs.Shown.{entries_of}
-use Rattle.mdb_audit.specs.Audited.{Audits}
+use Rattle.mdb_judging.specs.Shown.{entries_of}
+use Rattle.mdb_judging.specs.Audited.{Audits}
+use Rattle.mdb_judging.specs.declared.auditor.Auditor.{Auditor}
+use Rattle.mdb_judging.specs.declared.why.Why.{Why}
 use Rattle.mdb_audit.specs.LegalText.{IsLine, AreLines, IsFault}
-use Rattle.mdb_audit.specs.declared.auditor.Auditor.{Auditor}
-use Rattle.mdb_audit.specs.declared.verdict.Why.{Why}
 
 -- the entry that the line of this number shows, given without its newline, or that it shows none
 abbrev pub ShowsThis : ℕ → List ℕ → Option Shown → Type 0

@@ -3,15 +3,15 @@
 ghost use Rattle.std.specs.Prelude.{◌≡◌, ◌+◌, ◌++◌, codes, [], List, length, IfOk};
 ghost use Rattle.mdb_log.specs.PlainLegal.{LegalLog};
 ghost use Rattle.mdb_entries.specs.declared.shown.Shown.{Shown};
-ghost use Rattle.mdb_audit.specs.Audited.{Audits};
+ghost use Rattle.mdb_judging.specs.Audited.{Audits};
+ghost use Rattle.mdb_judging.specs.Shown.{entries_of};
 ghost use Rattle.mdb_audit.specs.LegalText.{IsVerdict};
 ghost use Rattle.mdb_audit.specs.LineTaking.{ShowsThis, LineTaken};
-ghost use Rattle.mdb_audit.specs.Shown.{entries_of};
 
-use crate::auditor::Auditor;
-use crate::verdict::{Verdict, Why};
+use crate::verdict::Verdict;
 use mdb_base::OutOfMemory;
 use mdb_entries::{Shown, ShownError, read_entry};
+use mdb_judging::{Auditor, Why};
 use mdb_lines::cut_line;
 use std::alloc::Global;
 

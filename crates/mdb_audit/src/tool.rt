@@ -8,8 +8,9 @@ ghost use Rattle.mdb_audit.specs.AuditRuns.{LineWritten, RunsAudit, AuditEnds, E
 ghost use Rattle.mdb_audit.specs.LegalText.{IsVerdict};
 
 use crate::text::{MAX_LOG, audit};
-use crate::verdict::{Verdict, Why};
+use crate::verdict::Verdict;
 use mdb_base::{OutOfMemory, Sink, Source};
+use mdb_judging::Why;
 use mdb_lines::{RunError, Status, end_with_error, read_all, tell_usage, write_all};
 use std::alloc::Global;
 

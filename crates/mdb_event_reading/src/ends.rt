@@ -8,7 +8,7 @@ ghost use Rattle.mdb_parts.specs.Reading.{Gives};
 
 use crate::end_kind::{EndKind, end_kind};
 use mdb_base::cut;
-use mdb_events::{End, Boxed};
+use mdb_events::{Boxed, End};
 use mdb_parts::{LineError, error, error_types, is_error};
 use std::alloc::Global;
 

@@ -4,7 +4,7 @@ ghost use Rattle.std.specs.Prelude.{◌≡◌, ◌<◌, ◌^◌, IfSome};
 ghost use Rattle.mdb_event_reading.specs.EventTypes.{is_event, AreSizesOfTypes, IsEventOfTypes};
 
 use mdb_base::Moment;
-use mdb_events::{CmapEvent, ConnectionPoolOptions, Boxed};
+use mdb_events::{Boxed, CmapEvent, ConnectionPoolOptions};
 use mdb_parts::number_types::{narrow, optional_id, wide};
 
 /// The address keeps the rules of addresses.

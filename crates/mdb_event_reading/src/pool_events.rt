@@ -10,7 +10,7 @@ ghost use Rattle.mdb_parts.specs.Reading.{Gives};
 use crate::dashes::{narrow_or_dash, service_or_dash, truth, wide_or_dash};
 use crate::shapes::address_alone;
 use mdb_events::{
-    CmapEvent, ConnectionPoolOptions, Boxed, PoolClearedEvent, PoolClosedEvent, PoolCreatedEvent,
+    Boxed, CmapEvent, ConnectionPoolOptions, PoolClearedEvent, PoolClosedEvent, PoolCreatedEvent,
     PoolReadyEvent,
 };
 use mdb_parts::LineError;

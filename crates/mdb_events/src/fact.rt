@@ -3,7 +3,6 @@
 use crate::boxed::Boxed;
 use crate::cmap::CmapEvent;
 use crate::end::End;
-use crate::boxed::Boxed;
 use crate::sdam::SdamEvent;
 use crate::words::ServiceOrDash;
 use mdb_base::{Error, ObjectId, ServerAddress};

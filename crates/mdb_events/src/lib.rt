@@ -8,7 +8,6 @@ mod cmap_text;
 mod end;
 mod fact;
 mod handlers;
-mod boxed;
 mod reasons;
 mod sdam;
 mod sdam_from;
@@ -26,7 +25,6 @@ pub use cmap_text::write_cmap;
 pub use end::End;
 pub use fact::Fact;
 pub use handlers::{CmapEventHandler, SdamEventHandler, deliver_cmap, deliver_sdam};
-pub use boxed::Boxed;
 pub use reasons::{
     ConnectionCheckoutFailedReason, ConnectionClosedReason, closed_reason_text, failed_reason_text,
 };

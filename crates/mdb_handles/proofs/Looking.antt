@@ -2,7 +2,7 @@
 use Rattle.std.proofs.Common.{◌≡◌, ℕ, ◌≤◌, ◌<◌, Bool, true, false, List, [], ◌∷◌, ◌++◌, sym, subst}
 use Rattle.mdb_log.specs.declared.log.Entry.{Entry}
 use Rattle.mdb_log.specs.Driver.{StartsWith}
-use Rattle.mdb_shared.specs.Seats.{SeatView}
+use Rattle.mdb_turns.specs.Stepping.{SeatView}
 use Rattle.mdb_handles.specs.declared.watching.TopologyWatcher.{TopologyWatcher}
 use Rattle.mdb_workers.specs.Making.{Made}
 use Rattle.mdb_handles.specs.Watching.{with_mark, wanting, RetractedIf, Retracted, Updated}

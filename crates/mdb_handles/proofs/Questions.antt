@@ -10,7 +10,8 @@ use Rattle.mdb_log.specs.declared.reply.Reply.{Reply}
 use Rattle.mdb_shared.specs.Checkout.{is_pending, told_by, Names}
 use Rattle.mdb_shared.specs.declared.checkout.Poll.{Poll}
 use Rattle.mdb_shared.specs.declared.checkout.Poll.TheVariants.{Ready, NotYet, Ended as PollEnded, Refused as PollRefused}
-use Rattle.mdb_shared.specs.Seats.{SeatView, Each}
+use Rattle.mdb_turns.specs.Stepping.{SeatView}
+use Rattle.mdb_shared.specs.Seats.{Each}
 use Rattle.mdb_handles.specs.declared.asking.CheckOutError.{CheckOutError}
 use Rattle.mdb_handles.specs.declared.asking.CheckOutError.TheVariants.{Ended, Refused, OutOfTime, GaveUp, OutOfMemory}
 use Rattle.mdb_handles.specs.CheckingOut.{Tells, IsOpen, Asks, AskFor, Requests, IsGivenUp, Settled, LeftBy}

@@ -7,7 +7,8 @@ use Rattle.mdb_log.specs.declared.step.Act.TheVariants.{Request, Collect, GiveUp
 use Rattle.mdb_log.specs.declared.reply.Reply.{Reply}
 use Rattle.mdb_log.specs.declared.reply.Reply.TheVariants.{Pooled, Done, Ended as HasEnded, Refused as IsRefused}
 use Rattle.mdb_shared.specs.Checkout.{is_pending}
-use Rattle.mdb_shared.specs.Seats.{SeatView, Each}
+use Rattle.mdb_turns.specs.Stepping.{SeatView}
+use Rattle.mdb_shared.specs.Seats.{Each}
 use Rattle.mdb_handles.specs.declared.asking.CheckOutError.{CheckOutError}
 use Rattle.mdb_handles.specs.declared.asking.CheckOutError.TheVariants.{Ended, Refused, OutOfTime, GaveUp, OutOfMemory}
 use Rattle.mdb_workers.specs.Making.{Made}

@@ -1,6 +1,6 @@
 -- What clauses see of a thread's handle.
 use Rattle.std.specs.Prelude.{◌≡◌}
-use Rattle.mdb_shared.specs.Seats.{SeatView}
+use Rattle.mdb_turns.specs.Stepping.{SeatView}
 use Rattle.mdb_handles.specs.Numbers.{NumbersView}
 
 -- the seat, and the numbers for requests that it has left

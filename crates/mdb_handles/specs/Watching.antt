@@ -5,7 +5,7 @@ use Rattle.mdb_log.specs.declared.log.Entry.{Entry}
 use Rattle.mdb_log.specs.declared.step.Act.{Act}
 use Rattle.mdb_log.specs.declared.step.Act.TheVariants.{Want, Unwant}
 use Rattle.mdb_log.specs.declared.reply.Reply.TheVariants.{Count}
-use Rattle.mdb_shared.specs.Seats.{SeatView}
+use Rattle.mdb_turns.specs.Stepping.{SeatView}
 use Rattle.mdb_workers.specs.Making.{Made, OneMore}
 use Rattle.mdb_journal.specs.Entries.{HasStopped}
 use Rattle.mdb_handles.specs.declared.topology_state.TopologyState.{TopologyState}

@@ -18,7 +18,9 @@ use crate::topology_state::TopologyState;
 use crate::watching::{TopologyWatcher, dismiss};
 use mdb_base::{Moment, OutOfMemory};
 use mdb_log::{Core, Step};
-use mdb_workers::{Establisher, Gate, Work, WorkError, keep_time, serve, report_left, stop, tick, work};
+use mdb_workers::{
+    Establisher, Gate, Work, WorkError, keep_time, report_left, serve, stop, tick, work,
+};
 use std::rt::Clock;
 use std::sync::Wait;
 use std::time::{Duration, Instant};

@@ -25,7 +25,9 @@ fn are_all_lent<C: Core, R: Wait>(places: &Vec<SpareHandle<'_, C, R>>) -> bool {
 }
 
 // Takes a handle that isn't lent.
-fn take_one<'a, C: Core, R: Wait>(places: &mut Vec<SpareHandle<'a, C, R>>) -> Option<Handle<'a, C, R>> {
+fn take_one<'a, C: Core, R: Wait>(
+    places: &mut Vec<SpareHandle<'a, C, R>>,
+) -> Option<Handle<'a, C, R>> {
     for at in 0..places.len() {
         if let Some(handle) = places[at].take() {
             return Some(handle);

@@ -104,12 +104,7 @@ fn alone<C: Core>(
 }
 
 // The rounds of one thread at a driver of this core.
-fn tell_alone<C: Core>(
-    rt: &HostRuntime,
-    core: C,
-    log: Log,
-    rounds: u32,
-) -> io::Result<ExitCode>
+fn tell_alone<C: Core>(rt: &HostRuntime, core: C, log: Log, rounds: u32) -> io::Result<ExitCode>
     requires { C.stands core log }
 {
     let mut lasting = Lasting::new(core, log);
@@ -122,7 +117,10 @@ fn tell_alone<C: Core>(
 fn tell_shared(rt: &HostRuntime, shared: Result<Shared, LongError>) -> io::Result<ExitCode> {
     match shared {
         Ok(shared) => {
-            println!(rt; "returned={} taken_all={}", shared.returned, shared.taken_all)?;
+            println!(rt;
+                "returned={} taken_all={}",
+                shared.returned, shared.taken_all
+            )?;
             Ok(ExitCode::SUCCESS)
         }
         Err(why) => fail(rt, why),

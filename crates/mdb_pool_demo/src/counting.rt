@@ -1,10 +1,10 @@
-//! What a log tells of its connections.
+//! What a log tells of its connections, and how many entries it has of each kind.
 
 use mdb_events::{CmapEvent, ConnectionClosedReason, End, Fact};
 use mdb_log::{Act, Entry, Reply};
 
 /// Counts that don't depend on the schedule.
-#[derive(Clone, Copy, Debug, PartialEq, Eq)]
+#[derive(Clone, Copy, Debug)]
 pub struct Counts {
     /// Requests of callers, and grants to them.
     pub requested: u64,
@@ -90,4 +90,48 @@ pub fn count(entries: &[Entry]) -> Counts {
         count_entry(&mut counts, entry);
     }
     counts
+}
+
+/// How many entries a log has of each kind.
+#[derive(Clone, Copy, Debug)]
+pub struct Kinds {
+    pub all: u64,
+    pub requests: u64,
+    /// Questions how a request stands.
+    pub collects: u64,
+    /// Claims, and those of them that found no connection to establish.
+    pub claims: u64,
+    pub idle_claims: u64,
+    /// All others, as returns and reports.
+    pub others: u64,
+}
+
+fn note(kinds: &mut Kinds, entry: &Entry) {
+    kinds.all = kinds.all.wrapping_add(1);
+    match (&entry.step.act, &entry.reply) {
+        (Act::Request(_, _), _) => kinds.requests = kinds.requests.wrapping_add(1),
+        (Act::Collect(_), _) => kinds.collects = kinds.collects.wrapping_add(1),
+        (Act::Claim, Reply::NoJob) => {
+            kinds.claims = kinds.claims.wrapping_add(1);
+            kinds.idle_claims = kinds.idle_claims.wrapping_add(1);
+        }
+        (Act::Claim, _) => kinds.claims = kinds.claims.wrapping_add(1),
+        _ => kinds.others = kinds.others.wrapping_add(1),
+    }
+}
+
+/// The kinds of the entries of the log.
+pub fn kinds_of(log: &Log) -> Kinds {
+    let mut kinds = Kinds {
+        all: 0,
+        requests: 0,
+        collects: 0,
+        claims: 0,
+        idle_claims: 0,
+        others: 0,
+    };
+    for entry in log.entries() {
+        note(&mut kinds, entry);
+    }
+    kinds
 }

@@ -6,8 +6,9 @@ use crate::clients::round;
 use crate::closing::fill;
 use crate::counting::{Counts, count};
 use crate::errors::DemoError;
-use crate::opening::{Limits, hello, open};
+use crate::opening::{Limits, open};
 use crate::roles::establisher;
+use crate::running::greet;
 use mdb_handles::{Handle, SpareSeats};
 use mdb_journal::Journal;
 use mdb_log::{Core, Use};
@@ -63,8 +64,7 @@ fn establish<C: Core, R: Wait>(me: &mut Handle<'_, C, R>, alloc: Global) -> Resu
 
 // Makes the connections of the pool, before any guest comes.
 fn prepare<C: Core, R: Wait>(me: &mut Handle<'_, C, R>, alloc: Global) -> Result<(), DemoError> {
-    let step = hello(alloc)?;
-    drop(me.step(step)?);
+    greet(me, alloc)?;
     fill(me, alloc, SEATS)?;
     establish(me, alloc)
 }
@@ -112,6 +112,25 @@ fn lend_all<C: Core, R: Threads + Wait + Sync>(
     visited
 }
 
+// The connections are made by one seat, and the other seats are lent.
+fn receive<C: Core, R: Threads + Wait + Sync>(
+    me: &mut Handle<'_, C, R>,
+    driver: &SharedDriver<C>,
+    rt: &R,
+    alloc: Global,
+    seats: Vec<Seat<C>>,
+) -> Result<(), DemoError>
+    requires own { All (λ s. s.driver ≡ driver.now.id) seats.items }
+{
+    match prepare(me, alloc) {
+        Ok(()) => lend_all(driver, rt, alloc, seats),
+        Err(why) => {
+            drop(seats);
+            Err(why)
+        }
+    }
+}
+
 // One seat makes the connections, and counts in the end; the others are lent.
 fn count_visits<C: Core, R: Threads + Wait + Sync>(
     driver: &SharedDriver<C>,
@@ -122,17 +141,34 @@ fn count_visits<C: Core, R: Threads + Wait + Sync>(
     requires own { All (λ s. s.driver ≡ driver.now.id) seats.items }
 {
     let Some(seat) = seats.pop() else {
+        drop(seats);
         return Err(DemoError::Seat);
     };
     let mut me = Handle::new(driver, rt, alloc, seat);
-    prepare(&mut me, alloc)?;
-    lend_all(driver, rt, alloc, seats)?;
-    Ok(me.look(&Counting))
+    let received = receive(&mut me, driver, rt, alloc, seats);
+    let counts = me.look(&Counting);
+    drop(me);
+    received?;
+    Ok(counts)
+}
+
+// The guests of a driver of this core.
+fn visits_of<C: Core, R: Threads + Wait + Sync>(
+    rt: &R,
+    alloc: Global,
+    core: C,
+    log: Log,
+) -> Result<Counts, DemoError>
+    requires stands { C.stands core log }
+{
+    let (driver, seats) = SharedDriver::new(alloc, core, log, SEATS + 1)?;
+    let counts = count_visits(&driver, rt, alloc, seats);
+    drop(driver);
+    counts
 }
 
 /// More guests than seats check connections out and in, each at a seat that is lent for a round.
 pub fn crowd<R: Threads + Wait + Sync>(rt: &R, alloc: Global) -> Result<Counts, DemoError> {
     let (core, log) = open(alloc, CROWD)?;
-    let (driver, seats) = SharedDriver::new(alloc, core, log, SEATS + 1)?;
-    count_visits(&driver, rt, alloc, seats)
+    visits_of(rt, alloc, core, log)
 }

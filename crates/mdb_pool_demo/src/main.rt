@@ -28,20 +28,59 @@ const FAILED: u8 = 1;
 
 const WRONG_WORDS: u8 = 2;
 
+// What the command line asks for.
+#[derive(Clone, Copy)]
+enum Asked {
+    Scenes,
+    Rounds(Plan),
+    Unknown,
+}
+
+fn asked_by(words: &[String]) -> Asked {
+    if words.is_empty() {
+        return Asked::Scenes;
+    }
+    match Plan::read(words) {
+        Some(plan) => Asked::Rounds(plan),
+        None => Asked::Unknown,
+    }
+}
+
+// The words of the command line; none where one of them is no text.
+fn words(rt: &HostRuntime) -> Result<Vec<String>, AllocError> {
+    match env::args(rt) {
+        Ok(args) => args.skip(1).collect(rt.alloc()),
+        Err(e) if e.kind() == ErrorKind::OutOfMemory => Err(AllocError),
+        Err(_) => Ok(Vec::new(rt.alloc())),
+    }
+}
+
+fn read_command_line(rt: &HostRuntime) -> Result<Asked, AllocError> {
+    let words = words(rt)?;
+    let asked = asked_by(words.as_slice());
+    drop(words);
+    Ok(asked)
+}
+
 fn show(rt: &HostRuntime, told: &Told) -> io::Result<ExitCode> {
-    println!(rt; "requested={}", told.load.requested)?;
-    println!(rt; "granted={}", told.load.granted)?;
-    println!(rt; "returned={}", told.load.returned)?;
-    println!(rt; "created={}", told.load.created)?;
-    println!(rt; "closed={}", told.load.closed)?;
-    println!(rt; "established={}", told.load.established)?;
-    println!(rt; "entries={}", told.load.entries)?;
-    println!(rt; "published={}", told.published)?;
-    println!(rt; "heard={}", told.heard)?;
-    println!(rt; "timed_out={}", told.timed_out)?;
-    println!(rt; "idle={}", told.idle)?;
-    println!(rt; "given_up={}", told.given_up)?;
-    println!(rt; "lent={}", told.lent)?;
+    let counts = [
+        ("requested", told.load.requested),
+        ("granted", told.load.granted),
+        ("returned", told.load.returned),
+        ("created", told.load.created),
+        ("closed", told.load.closed),
+        ("established", told.load.established),
+        ("entries", told.load.entries),
+        ("published", told.published),
+        ("heard", told.heard),
+        ("timed_out", told.timed_out),
+        ("idle", told.idle),
+        ("given_up", told.given_up),
+        ("lent", told.lent),
+    ];
+    for (name, count) in &counts {
+        println!(rt; "{name}={count}")?;
+    }
     Ok(ExitCode::SUCCESS)
 }
 
@@ -78,38 +117,33 @@ fn show_measured(rt: &HostRuntime, plan: Plan, measured: &Measured) -> io::Resul
     Ok(ExitCode::SUCCESS)
 }
 
-// The words of the command line; none where one of them is no text.
-fn words(rt: &HostRuntime) -> Result<Vec<String>, AllocError> {
-    let mut words = Vec::new(rt.alloc());
-    match env::args(rt) {
-        Ok(args) => {
-            for word in args.skip(1) {
-                words.push(word)?;
-            }
-        }
-        Err(e) => {
-            if e.kind() == ErrorKind::OutOfMemory {
-                return Err(AllocError);
-            }
-        }
+fn show_scenes(rt: &HostRuntime, told: Result<Told, DemoError>) -> io::Result<ExitCode> {
+    match told {
+        Ok(told) => show(rt, &told),
+        Err(why) => fail(rt, why),
     }
-    Ok(words)
+}
+
+fn show_rounds(
+    rt: &HostRuntime,
+    plan: Plan,
+    measured: Result<Measured, DemoError>,
+) -> io::Result<ExitCode> {
+    match measured {
+        Ok(measured) => show_measured(rt, plan, &measured),
+        Err(why) => fail(rt, why),
+    }
+}
+
+fn show_usage(rt: &HostRuntime) -> io::Result<ExitCode> {
+    eprintln!(rt; "{USAGE}")?;
+    Ok(ExitCode::from(WRONG_WORDS))
 }
 
 fn main(rt: HostRuntime) -> io::Result<ExitCode> {
-    let words = words(&rt)?;
-    if words.is_empty() {
-        return match run(&rt, rt.alloc()) {
-            Ok(told) => show(&rt, &told),
-            Err(why) => fail(&rt, why),
-        };
-    }
-    let Some(plan) = Plan::read(words.as_slice()) else {
-        eprintln!(rt; "{USAGE}")?;
-        return Ok(ExitCode::from(WRONG_WORDS));
-    };
-    match measure(&rt, rt.alloc(), plan) {
-        Ok(measured) => show_measured(&rt, plan, &measured),
-        Err(why) => fail(&rt, why),
+    match read_command_line(&rt)? {
+        Asked::Scenes => show_scenes(&rt, run(&rt, rt.alloc())),
+        Asked::Rounds(plan) => show_rounds(&rt, plan, measure(&rt, rt.alloc(), plan)),
+        Asked::Unknown => show_usage(&rt),
     }
 }

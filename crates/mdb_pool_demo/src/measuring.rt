@@ -1,12 +1,10 @@
 //! Rounds of many threads on one pool, which `bench/threads.py` asks for.
 
-use crate::counting::{Counts, count};
+use crate::counting::{Counts, Kinds};
 use crate::errors::DemoError;
 use crate::opening::Limits;
 use crate::roles::Role;
-use crate::running::Outcome;
 use crate::scenes::scene;
-use mdb_log::{Act, Entry, Log, Reply};
 use std::alloc::Global;
 use std::rt::Clock;
 use std::sync::Wait;
@@ -22,7 +20,7 @@ const MOST: u32 = 32;
 const MOST_ROUNDS: u32 = 1_000_000;
 
 /// So many threads that share so many connections, each for so many rounds.
-#[derive(Clone, Copy, Debug, PartialEq, Eq)]
+#[derive(Clone, Copy, Debug)]
 pub struct Plan {
     pub threads: u32,
     pub connections: u32,
@@ -53,50 +51,6 @@ impl Plan {
     }
 }
 
-/// How many entries a log has of each kind.
-#[derive(Clone, Copy, Debug, PartialEq, Eq)]
-pub struct Kinds {
-    pub all: u64,
-    pub requests: u64,
-    /// Questions how a request stands.
-    pub collects: u64,
-    /// Claims, and those of them that found no connection to establish.
-    pub claims: u64,
-    pub idle_claims: u64,
-    /// All others, as returns and reports.
-    pub others: u64,
-}
-
-fn note(kinds: &mut Kinds, entry: &Entry) {
-    kinds.all = kinds.all.wrapping_add(1);
-    match (&entry.step.act, &entry.reply) {
-        (Act::Request(_, _), _) => kinds.requests = kinds.requests.wrapping_add(1),
-        (Act::Collect(_), _) => kinds.collects = kinds.collects.wrapping_add(1),
-        (Act::Claim, Reply::NoJob) => {
-            kinds.claims = kinds.claims.wrapping_add(1);
-            kinds.idle_claims = kinds.idle_claims.wrapping_add(1);
-        }
-        (Act::Claim, _) => kinds.claims = kinds.claims.wrapping_add(1),
-        _ => kinds.others = kinds.others.wrapping_add(1),
-    }
-}
-
-/// The kinds of the entries of the log.
-pub fn kinds_of(log: &Log) -> Kinds {
-    let mut kinds = Kinds {
-        all: 0,
-        requests: 0,
-        collects: 0,
-        claims: 0,
-        idle_claims: 0,
-        others: 0,
-    };
-    for entry in log.entries() {
-        note(&mut kinds, entry);
-    }
-    kinds
-}
-
 /// What the rounds came to, the entries of the log by kind, and the time that they took, with the start of the threads.
 #[derive(Clone, Copy)]
 pub struct Measured {
@@ -105,21 +59,13 @@ pub struct Measured {
     pub time: Duration,
 }
 
+// A worker, the one that closes, and the clients.
 fn roles(alloc: Global, plan: Plan) -> Result<Vec<Role>, DemoError> {
-    let mut roles = Vec::new(alloc);
-    roles.push(Role::Worker)?;
-    roles.push(Role::Closer)?;
+    let mut roles = vec![in alloc; Role::Worker, Role::Closer]?;
     for _ in 0..plan.threads {
         roles.push(Role::Client(plan.rounds))?;
     }
     Ok(roles)
-}
-
-// The log is counted, and let go.
-fn counted(outcome: Outcome) -> (Counts, Kinds) {
-    let told = (count(outcome.log.entries()), kinds_of(&outcome.log));
-    drop(outcome);
-    told
 }
 
 // The rounds that the roles do.
@@ -139,12 +85,10 @@ fn rounds<R: Threads + Wait + Clock + Sync>(
         return Err(DemoError::Clock);
     };
     let outcome = scene(rt, alloc, limits, roles)?;
-    let elapsed = start.elapsed(rt);
-    let (counts, kinds) = counted(outcome);
-    match elapsed {
+    match start.elapsed(rt) {
         Ok(time) => Ok(Measured {
-            counts,
-            kinds,
+            counts: outcome.counts,
+            kinds: outcome.kinds,
             time,
         }),
         Err(_) => Err(DemoError::Clock),
@@ -158,5 +102,7 @@ pub fn measure<R: Threads + Wait + Clock + Sync>(
     plan: Plan,
 ) -> Result<Measured, DemoError> {
     let roles = roles(alloc, plan)?;
-    rounds(rt, alloc, plan, roles.as_slice())
+    let measured = rounds(rt, alloc, plan, roles.as_slice());
+    drop(roles);
+    measured
 }

@@ -61,29 +61,28 @@ fn options(seeds: Vec<ServerAddress>, limits: Limits) -> Options {
 }
 
 // The reply of a server alone.
-fn greeting() -> HelloCommandResponse {
+fn greeting(alloc: Global) -> Result<Boxed<HelloCommandResponse>, DemoError> {
     let mut reply = HelloCommandResponse::default();
     reply.min_wire_version = Some(0);
     reply.max_wire_version = Some(21);
-    reply
-}
-
-// The server of this address greets.
-fn hello_from(alloc: Global, address: ServerAddress) -> Result<Step, DemoError>
-    ensures { IfOk result (λ step. IsDriverAct step.act) }
-{
-    let reply = Boxed::new(alloc, greeting())?;
-    Ok(Step {
-        moment: 1,
-        act: Act::Hello(address, 0, HelloResult::Ok(5, reply)),
-    })
+    Ok(Boxed::new(alloc, reply)?)
 }
 
 /// A server alone greets.
 pub fn hello(alloc: Global) -> Result<Step, DemoError>
     ensures { IfOk result (λ step. IsDriverAct step.act) }
 {
-    hello_from(alloc, address(alloc)?)
+    let address = address(alloc)?;
+    match greeting(alloc) {
+        Ok(reply) => Ok(Step {
+            moment: 1,
+            act: Act::Hello(address, 0, HelloResult::Ok(5, reply)),
+        }),
+        Err(why) => {
+            drop(address);
+            Err(why)
+        }
+    }
 }
 
 /// A driver of the one server, with its log.

@@ -22,7 +22,7 @@ use std::time::{Duration, Instant};
 const TICK: u64 = 10;
 
 /// What a thread does.
-#[derive(Clone, Copy, Debug, PartialEq, Eq)]
+#[derive(Clone, Copy, Debug)]
 pub enum Role {
     /// Establishes connections.
     Worker,

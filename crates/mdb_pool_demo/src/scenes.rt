@@ -1,6 +1,6 @@
 //! The scenes of the demo: a pool under load, and what ends a wait.
 
-use crate::counting::{Counts, count};
+use crate::counting::Counts;
 use crate::crowd::crowd;
 use crate::errors::DemoError;
 use crate::opening::{Limits, open};
@@ -66,37 +66,8 @@ pub fn scene<R: Threads + Wait + Clock + Sync>(
     play_out(rt, alloc, core, log, roles)
 }
 
-// What one scene tells: its log is counted, and let go.
-#[derive(Clone, Copy)]
-struct Tally {
-    counts: Counts,
-    published: u64,
-    heard: u64,
-}
-
-fn tally_of(outcome: Outcome) -> Tally {
-    let told = Tally {
-        counts: count(outcome.log.entries()),
-        published: outcome.published,
-        heard: outcome.heard,
-    };
-    drop(outcome);
-    told
-}
-
-// One scene, counted.
-fn shown<R: Threads + Wait + Clock + Sync>(
-    rt: &R,
-    alloc: Global,
-    limits: Limits,
-    roles: &[Role],
-) -> Result<Tally, DemoError> {
-    let outcome = scene(rt, alloc, limits, roles)?;
-    Ok(tally_of(outcome))
-}
-
 /// What the scenes tell.
-#[derive(Clone, Copy, Debug, PartialEq, Eq)]
+#[derive(Clone, Copy, Debug)]
 pub struct Told {
     /// The pool under load.
     pub load: Counts,
@@ -115,9 +86,9 @@ pub struct Told {
 
 /// All scenes, one after the other.
 pub fn run<R: Threads + Wait + Clock + Sync>(rt: &R, alloc: Global) -> Result<Told, DemoError> {
-    let load = shown(rt, alloc, LOAD, &LOAD_ROLES)?;
-    let times = shown(rt, alloc, TIMES, &TIMES_ROLES)?;
-    let leaving = shown(rt, alloc, LEAVING, &LEAVING_ROLES)?;
+    let load = scene(rt, alloc, LOAD, &LOAD_ROLES)?;
+    let times = scene(rt, alloc, TIMES, &TIMES_ROLES)?;
+    let leaving = scene(rt, alloc, LEAVING, &LEAVING_ROLES)?;
     let lent = crowd(rt, alloc)?;
     Ok(Told {
         load: load.counts,

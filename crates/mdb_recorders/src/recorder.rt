@@ -1,7 +1,7 @@
 //! Who takes the entries of a shared driver and hands them on.
 
 ghost use Rattle.std.specs.Prelude.{◌≡◌, ◌+◌, ◌<◌, ◌^◌, ◌∷◌, ◌++◌, [], length, drop, OnOk, OnErr};
-ghost use Rattle.mdb_shared.specs.Seats.{OnlySaw};
+ghost use Rattle.mdb_turns.specs.Stepping.{OnlySaw};
 ghost use Rattle.mdb_recorders.specs.Recording.{Follows};
 
 use crate::handling::EntryHandler;

@@ -8,12 +8,13 @@ use Rattle.atomic_table.specs.Seated.{TableId}
 use Rattle.atomic_table.specs.Table.{Me, Final, Seen}
 use Rattle.atomic_table.proofs.Lists.{at_longer, at_last}
 use Rattle.mdb_log.specs.declared.log.Entry.{Entry}
-use Rattle.mdb_shared.specs.declared.rule.SeatEntries.{SeatEntries}
-use Rattle.mdb_shared.specs.declared.rule.View.{View}
+use Rattle.mdb_turns.specs.declared.rule.SeatEntries.{SeatEntries}
+use Rattle.mdb_turns.specs.declared.rule.View.{View}
 use Rattle.mdb_log.specs.Driver.{StartsWith}
-use Rattle.mdb_shared.specs.Turning.{own, seat_entries, Keeps, Slot, Settles}
-use Rattle.mdb_shared.specs.Seats.{SeatView, seat_view, mine_of, IsReady, AllOf, seat_entries_of, behind, Each, ByOne, Accounts}
-use Rattle.mdb_shared.proofs.Keeping.{turn_of, true_not_false}
+use Rattle.mdb_turns.specs.Turning.{own, seat_entries, Keeps, Slot, Settles}
+use Rattle.mdb_turns.specs.Stepping.{SeatView, seat_view, mine_of, IsReady}
+use Rattle.mdb_shared.specs.Seats.{AllOf, seat_entries_of, behind, Each, ByOne, Accounts}
+use Rattle.mdb_turns.proofs.Keeping.{turn_of, true_not_false}
 
 -- ---- as many distinct numbers below n as n are all of them
 
@@ -138,7 +139,7 @@ each_behind P (s ∷ ss) all = (
 some_behind : (ss : List SeatView) (k : ℕ) (p : SeatEntries) → get_elem? (behind ss) k ≡ some p → (i : ℕ) × (s : SeatView) × (slice_get ss i ≡ Some s) × (seat_entries_of s ≡ p)
 some_behind [] k p e = absurd (some-ne-none p (sym e))
 some_behind (s ∷ ss) k p e = ⊎_elim (λ (t : get_elem? (behind ss) k ≡ some p). let h = some_behind ss k p t in (suc h.0, h.1, h.2, h.3)) (λ (t : (k ≡ length (behind ss)) × (seat_entries_of s ≡ p)). (0, s, refl, t.1))
-    (Rattle.mdb_shared.proofs.Keeping.at_end (behind ss) (seat_entries_of s) p k e)
+    (Rattle.mdb_turns.proofs.Keeping.at_end (behind ss) (seat_entries_of s) p k e)
 
 each_from : (P : Entry → Type 0) (es : List Entry) → ((k : ℕ) (e : Entry) → get_elem? es k ≡ some e → P e) → Each P es
 each_from P [] all = tt

@@ -55,8 +55,8 @@ use Rattle.mdb_log.specs.contracts.step.Act as Act
 use Rattle.mdb_past.proofs.past.Past.TheSendSync.{the_send as past}
 use Rattle.mdb_journal.specs.contracts.journal.Journal as Journal
 use Rattle.mdb_journal.specs.contracts.journal.Journal.TheInside as JournalInside
-use Rattle.mdb_shared.specs.contracts.records.Records as Records
-use Rattle.mdb_shared.specs.contracts.records.Records.TheInside as RecordsInside
+use Rattle.mdb_turns.specs.contracts.records.Records as Records
+use Rattle.mdb_turns.specs.contracts.records.Records.TheInside as RecordsInside
 
 number : IsSend u32
 number = search sendable

@@ -1,6 +1,5 @@
 pub mod Closing
 pub mod Crossing
-pub mod Keeping
-pub mod Places
+pub mod Jobs
 pub mod Sharing
-mod Jobs
+pub mod Waited

@@ -8,16 +8,17 @@ use mathlib.Core.Option.{some, some-injective, some-ne-none}
 use native.Mathlib.Decide.{ℕ_discrete}
 use lib.ListN.{get_elem?}
 use Rattle.atomic_table.specs.Seated.{TableId}
-use Rattle.mdb_shared.specs.Seats.{SeatView, seat_view, fresh_seat, IsReady}
+use Rattle.mdb_turns.specs.Stepping.{SeatView, seat_view, IsReady}
+use Rattle.mdb_shared.specs.Seats.{fresh_seat}
 use Rattle.atomic_table.specs.Table.{State, Me, Splits, Joins}
 use Rattle.atomic_table.proofs.Lists.{set_else, at_longer, at_last}
 use Rattle.mdb_log.specs.declared.log.Entry.{Entry}
-use Rattle.mdb_shared.specs.declared.rule.SeatEntries.{SeatEntries}
-use Rattle.mdb_shared.specs.declared.rule.View.{View}
+use Rattle.mdb_turns.specs.declared.rule.SeatEntries.{SeatEntries}
+use Rattle.mdb_turns.specs.declared.rule.View.{View}
 use Rattle.mdb_log.specs.Driver.{StartsWith}
-use Rattle.mdb_shared.specs.Turning.{own, seat_entries, Fits, Keeps, HasNumber, At, Slot, keeper_view, numbering, numbered, bumped, number_of, copied, absorbed, spent, either_next, no_longer}
-use Rattle.mdb_shared.proofs.Keeping.{at_end, only_one, others_fit, elsewhere, true_not_false}
-use Rattle.mdb_shared.proofs.Places.{here, stays, stays_before, other_joins, one_joins}
+use Rattle.mdb_turns.specs.Turning.{own, seat_entries, Fits, Keeps, HasNumber, At, Slot, keeper_view, numbering, numbered, bumped, number_of, copied, absorbed, spent, either_next, no_longer}
+use Rattle.mdb_turns.proofs.Keeping.{at_end, only_one, others_fit, elsewhere, true_not_false}
+use Rattle.mdb_turns.proofs.Places.{here, stays, stays_before, other_joins, one_joins}
 
 own_none : (n : ℕ) (xs : List Entry) → ((k : ℕ) (e : Entry) → get_elem? xs k ≡ some e → e.seat < n) → own n xs ≡ []
 own_none n [] below = refl

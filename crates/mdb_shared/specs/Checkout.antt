@@ -13,7 +13,7 @@ use Rattle.mdb_shared.specs.declared.checkout.Poll.{Poll}
 use Rattle.mdb_shared.specs.declared.checkout.Poll.TheVariants.{Ready, NotYet, Ended as PollEnded, Refused as PollRefused}
 use Rattle.mdb_shared.specs.declared.checkout.BackWhy.{BackWhy}
 use Rattle.mdb_shared.specs.declared.checkout.BackWhy.TheVariants.{Refused as BackRefused, OutOfMemory}
-use Rattle.mdb_shared.specs.Seats.{SeatView, Stepped, OnlySaw}
+use Rattle.mdb_turns.specs.Stepping.{SeatView, Stepped, OnlySaw}
 
 -- Steps that name no moment are made at 0, and raised like all others.
 abbrev pub collecting : ℕ → Step

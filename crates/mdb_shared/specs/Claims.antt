@@ -5,11 +5,13 @@ use Rattle.mdb_log.specs.declared.step.Act.TheVariants.{Claim}
 use Rattle.mdb_log.specs.declared.step.Step.{Step}
 use Rattle.mdb_log.specs.declared.reply.Reply.{Reply}
 use Rattle.mdb_log.specs.declared.reply.Reply.TheVariants.{Job, NoJob}
+use Rattle.mdb_turns.specs.declared.try_error.TryError.{TryError}
+use Rattle.mdb_turns.specs.declared.try_error.TryError.TheVariants as tries
 use Rattle.mdb_shared.specs.declared.claiming.Claimed.{Claimed}
 use Rattle.mdb_shared.specs.declared.claiming.Claimed.TheVariants.{Job as ClaimedJob, Unread, NoJob as NoneClaimed}
 use Rattle.mdb_shared.specs.declared.claiming.NoClaim.{NoClaim}
 use Rattle.mdb_shared.specs.declared.claiming.NoClaim.TheVariants.{Busy, OutOfMemory}
-use Rattle.mdb_shared.specs.Seats.{SeatView, OnlySaw}
+use Rattle.mdb_turns.specs.Stepping.{SeatView, OnlySaw}
 
 abbrev pub claiming : Step
 claiming = record { moment = 0; act = Claim }
@@ -24,6 +26,11 @@ claimed_by NoneClaimed = NoJob
 abbrev pub Holds : (ℕ → ℕ → Option JobRecord) → Claimed → Type 0
 Holds job_of (ClaimedJob pool id job) = job_of pool id ≡ Some job
 Holds job_of _ = ⊤
+
+-- why no claim was made, where the try to make its step failed so
+abbrev pub no_claim : TryError → NoClaim
+no_claim (tries.Busy word step) = Busy word
+no_claim tries.OutOfMemory = OutOfMemory
 
 -- after a try that made no claim: the turn word that was found, which is another seat's, or out of memory
 abbrev pub Missed : SeatView → SeatView → NoClaim → Type 0

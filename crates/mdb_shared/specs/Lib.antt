@@ -1,4 +1,3 @@
-pub mod Turning
-pub mod Seats
 pub mod Checkout
 pub mod Claims
+pub mod Seats

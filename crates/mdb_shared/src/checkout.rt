@@ -3,7 +3,8 @@
 ghost use Rattle.std.specs.Prelude.{◌≡◌, IsTrue, IfOk, IfErr, OnOk, OnErr};
 ghost use Rattle.mdb_log.specs.Driver.{is_reply_to, is_in_time};
 ghost use Rattle.mdb_log.specs.declared.reply.Reply.TheVariants.{Done};
-ghost use Rattle.mdb_shared.specs.Seats.{Stepped, OnlySaw, FoundBusy};
+ghost use Rattle.mdb_turns.specs.Stepping.{Stepped, OnlySaw};
+ghost use Rattle.mdb_shared.specs.Seats.{FoundBusy};
 ghost use Rattle.mdb_shared.specs.Checkout.{collecting, returning, giving_up, told_by, is_back_in_time, Names, ComesBack};
 
 use crate::driver::SharedDriver;

@@ -2,17 +2,15 @@
 
 ghost use Rattle.std.specs.Prelude.{◌≡◌, IsTrue, IfOk, IfErr, OnErr};
 ghost use Rattle.mdb_log.specs.Driver.{tells_job, IsThere};
-ghost use Rattle.mdb_shared.specs.Seats.{IsReady, seat_view, Stepped, OnlySaw, FoundBusy};
-ghost use Rattle.mdb_shared.specs.Claims.{claiming, claimed_by, Holds, Missed};
+ghost use Rattle.mdb_turns.specs.Stepping.{IsReady, seat_view, Stepped, OnlySaw};
+ghost use Rattle.mdb_shared.specs.Seats.{FoundBusy};
+ghost use Rattle.mdb_shared.specs.Claims.{claiming, claimed_by, no_claim, Holds, Missed};
 
-use crate::answers::TryError;
 use crate::driver::SharedDriver;
-use crate::records::Records;
-use crate::rule::{Lock, TableSeat};
 use crate::seat::Seat;
-use crate::turn::{begin_step, finish};
 use mdb_base::OutOfMemory;
 use mdb_log::{Act, Core, Job, Reply, Step};
+use mdb_turns::{Lock, Records, TableSeat, TryError, begin_step, finish};
 use std::alloc::Global;
 use std::sync::Wait;
 
@@ -32,6 +30,19 @@ pub enum Claimed {
 enum NoClaim {
     Busy(u64),
     OutOfMemory,
+}
+
+// Why no claim was made, where the try to make its step failed so. The step is dropped here, so that nothing else owns it.
+fn no_claim(failed: TryError) -> NoClaim
+    ensures { result ≡ no_claim failed }
+{
+    match failed {
+        TryError::Busy(word, step) => {
+            drop(step);
+            NoClaim::Busy(word)
+        }
+        TryError::OutOfMemory => NoClaim::OutOfMemory,
+    }
 }
 
 // The reply to a claim, with the job that it names.
@@ -73,8 +84,7 @@ fn one_claim<C: Core>(
     };
     let (core, log, reply) = match begin_step(table, table_seat, alloc, number, step) {
         Ok(begun) => begun,
-        Err(TryError::Busy(word, _)) => return Err(NoClaim::Busy(word)),
-        Err(TryError::OutOfMemory) => return Err(NoClaim::OutOfMemory),
+        Err(failed) => return Err(no_claim(failed)),
     };
     let claimed = with_job(&core, alloc, &log, reply);
     finish(table, table_seat, core, log, number);

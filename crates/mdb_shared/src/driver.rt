@@ -3,20 +3,19 @@
 ghost use Rattle.std.specs.Prelude.{◌≡◌, ◌+◌, ◌<◌, ◌≤◌, ℕ, IsTrue, length, slice_get, Some, IfOk, IfErr, OnOk, OnErr};
 ghost use Rattle.mdb_log.specs.Driver.{StartsWith, is_reply_to, is_in_time};
 ghost use Rattle.mdb_log.specs.Acts.{IsDriverAct};
-ghost use Rattle.mdb_shared.specs.Seats.{Stepped, OnlySaw, Failed, FoundBusy, fresh_seat, IsSameSeat, AllOf, Accounts};
+ghost use Rattle.mdb_turns.specs.Stepping.{Stepped, OnlySaw, Failed};
+ghost use Rattle.mdb_shared.specs.Seats.{FoundBusy, fresh_seat, IsSameSeat, AllOf, Accounts};
 
-use crate::answers::{TryError, Unclosed};
+use crate::answers::Unclosed;
 use crate::ending::{end, gather};
 use crate::making::make_seats;
 use crate::meeting::{load_count, meet_at};
-use crate::records::Records;
-use crate::rule::{Lock, Beginning};
 use crate::seat::Seat;
-use crate::turn::one_step;
 use atomic_table::{Refused, Table};
 use mdb_base::OutOfMemory;
 use mdb_journal::Journal;
 use mdb_log::{Core, Log, Reply, Step};
+use mdb_turns::{Beginning, Lock, Records, TryError, one_step};
 use std::alloc::Global;
 use std::marker::Model;
 use std::snapshot::Snapshot;

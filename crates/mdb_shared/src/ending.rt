@@ -2,14 +2,13 @@
 
 ghost use Rattle.std.specs.Prelude.{◌≡◌, ◌≤◌, ◌<◌, false, [], ◌++◌, length};
 ghost use Rattle.mdb_log.specs.Driver.{StartsWith};
-ghost use Rattle.mdb_shared.specs.Turning.{Settles};
+ghost use Rattle.mdb_turns.specs.Turning.{Settles};
 ghost use Rattle.mdb_shared.specs.Seats.{Each, behind, AllOf};
 
 use crate::meeting::load_count;
-use crate::records::Records;
-use crate::rule::{Absorb, Lock, TableSeat};
 use crate::seat::Seat;
 use mdb_log::Core;
+use mdb_turns::{Absorb, Lock, Records, TableSeat};
 
 // One takes in the other, and looks.
 pub(crate) fn take_in<C: Core>(table: &Lock<C>, all: &mut TableSeat<C>, table_seat: TableSeat<C>)
@@ -42,7 +41,10 @@ pub(crate) fn gather<C: Core>(table: &Lock<C>, mut seats: Vec<Seat<C>>) -> Table
         number: _,
     } = seat;
     while let Some(seat) = seats.pop() {
-        let Seat { table_seat, number: _ } = seat;
+        let Seat {
+            table_seat,
+            number: _,
+        } = seat;
         take_in(table, &mut all, table_seat);
     }
     all

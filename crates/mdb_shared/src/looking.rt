@@ -1,15 +1,15 @@
 //! Looks at the core and its log, which add no entry.
 
 ghost use Rattle.std.specs.Prelude.{◌≡◌, ◌≢◌, ◌+◌, ◌∷◌, ◌++◌, [], IfOk, IfErr};
-ghost use Rattle.mdb_shared.specs.Seats.{IsReady, seat_view, OnlySaw, FoundBusy};
-ghost use Rattle.mdb_shared.specs.Turning.{found_busy};
+ghost use Rattle.mdb_turns.specs.Stepping.{IsReady, seat_view, OnlySaw};
+ghost use Rattle.mdb_shared.specs.Seats.{FoundBusy};
+ghost use Rattle.mdb_turns.specs.Turning.{found_busy};
 
 use crate::driver::SharedDriver;
-use crate::rule::{Lock, TableSeat};
 use crate::seat::Seat;
-use crate::turn::{give_back, take};
 use mdb_journal::Journal;
 use mdb_log::Core;
+use mdb_turns::{Lock, TableSeat, give_back, take};
 use std::sync::Wait;
 
 /// What one looks for in a driver.

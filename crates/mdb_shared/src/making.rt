@@ -1,13 +1,13 @@
 //! The seats of a new driver.
 
 ghost use Rattle.std.specs.Prelude.{◌≡◌, ◌<◌, ℕ, [], length, slice_get, Some, IfOk};
-ghost use Rattle.mdb_shared.specs.Turning.{first_view};
+ghost use Rattle.mdb_turns.specs.Turning.{first_view};
 ghost use Rattle.mdb_shared.specs.Seats.{fresh_seat};
 
-use crate::rule::{Lock, Number, TableSeat};
 use crate::seat::Seat;
 use mdb_base::OutOfMemory;
 use mdb_log::Core;
+use mdb_turns::{Lock, Number, TableSeat};
 use std::alloc::Global;
 
 // The seats, by number.

@@ -2,10 +2,10 @@
 
 ghost use Rattle.std.specs.Prelude.{◌≡◌, false, length};
 ghost use Rattle.mdb_log.specs.Driver.{StartsWith};
-ghost use Rattle.mdb_shared.specs.Turning.{absorbed, copied, IsSameTableSeat, having_seen};
+ghost use Rattle.mdb_turns.specs.Turning.{absorbed, copied, IsSameTableSeat, having_seen};
 
-use crate::rule::{Absorb, Copied, Lock, LoadCount, TableSeat};
 use mdb_log::Core;
+use mdb_turns::{Absorb, Copied, LoadCount, Lock, TableSeat};
 
 // One load of the count: the seat has seen the whole log then.
 pub(crate) fn load_count<C: Core>(table: &Lock<C>, table_seat: &mut TableSeat<C>) -> u64

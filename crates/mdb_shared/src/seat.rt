@@ -1,7 +1,7 @@
 //! Seats at a shared driver.
 
-use crate::rule::TableSeat;
 use mdb_log::Core;
+use mdb_turns::TableSeat;
 use std::marker::Model;
 
 /// A thread's place at one driver. It has a number, which its entries carry. Contracts see what it has seen of the log, its own entries, and
@@ -26,7 +26,7 @@ impl<C: Core> Seat<C> {
 impl<C: Core> Model for Seat<C> {
     ghost use Rattle.std.specs.Coded.{codes};
     ghost use Rattle.mdb_base.specs.DocumentCode.{fields_coded};
-    ghost use Rattle.mdb_shared.specs.Seats.{SeatView, seat_view, IsReady};
+    ghost use Rattle.mdb_turns.specs.Stepping.{SeatView, seat_view, IsReady};
 
     ghost Value = { SeatView };
 

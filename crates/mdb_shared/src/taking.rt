@@ -1,15 +1,15 @@
 //! Entries that are handed out: each comes out once, in the turn, and takes no memory of the driver from then on.
 
 ghost use Rattle.std.specs.Prelude.{◌≡◌, ◌≢◌, ◌≤◌, ◌<◌, ◌+◌, ◌^◌, ◌∷◌, ◌++◌, [], IfOk, IfErr, length, drop};
-ghost use Rattle.mdb_shared.specs.Seats.{IsReady, seat_view, OnlySaw, FoundBusy};
-ghost use Rattle.mdb_shared.specs.Turning.{found_busy};
+ghost use Rattle.mdb_turns.specs.Stepping.{IsReady, seat_view, OnlySaw};
+ghost use Rattle.mdb_shared.specs.Seats.{FoundBusy};
+ghost use Rattle.mdb_turns.specs.Turning.{found_busy};
 
 use crate::driver::SharedDriver;
-use crate::rule::{Lock, TableSeat};
 use crate::seat::Seat;
-use crate::turn::{give_back, take};
 use mdb_journal::Taken;
 use mdb_log::Core;
+use mdb_turns::{Lock, TableSeat, give_back, take};
 use std::alloc::Global;
 use std::sync::Wait;
 

@@ -6,7 +6,7 @@ use mathlib.Core.Logic.{dite}
 use native.Mathlib.Decide.{ℕ_discrete}
 use Rattle.mdb_log.specs.declared.log.Entry.{Entry}
 use Rattle.mdb_log.specs.declared.step.Step.{Step}
-use Rattle.mdb_shared.specs.Turning.{own}
+use Rattle.mdb_turns.specs.Turning.{own}
 use Rattle.mdb_shared.specs.Seats.{Each}
 use Rattle.mdb_shared_runs.specs.Shares.{lines_of_player_from, lines_of_player}
 

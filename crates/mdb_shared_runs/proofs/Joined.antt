@@ -6,8 +6,9 @@ use Rattle.atomic_table.specs.Seated.{TableId}
 use Rattle.mdb_log.specs.declared.log.Entry.{Entry}
 use Rattle.mdb_log.specs.declared.step.Step.{Step}
 use Rattle.mdb_log.specs.Driver.{StartsWith}
-use Rattle.mdb_shared.specs.Turning.{own}
-use Rattle.mdb_shared.specs.Seats.{SeatView, Each, Accounts, AllOf, ByOne, fresh_seat}
+use Rattle.mdb_turns.specs.Turning.{own}
+use Rattle.mdb_turns.specs.Stepping.{SeatView}
+use Rattle.mdb_shared.specs.Seats.{Each, Accounts, AllOf, ByOne, fresh_seat}
 use Rattle.mdb_base.specs.declared.out_of_memory.OutOfMemory.{OutOfMemory}
 use Rattle.mdb_shared_runs.specs.declared.player.Player.{Player}
 use Rattle.mdb_shared_runs.specs.declared.player.Played.{Played}

@@ -5,8 +5,8 @@ use Rattle.mdb_log.specs.declared.log.Entry.{Entry}
 use Rattle.mdb_log.specs.declared.step.Step.{Step}
 use Rattle.mdb_log.specs.Driver.{StartsWith}
 use Rattle.mdb_log.specs.declared.reply.Reply.{Reply}
-use Rattle.mdb_shared.specs.Turning.{own}
-use Rattle.mdb_shared.specs.Seats.{SeatView, Stepped, raised, last_in}
+use Rattle.mdb_turns.specs.Turning.{own}
+use Rattle.mdb_turns.specs.Stepping.{SeatView, Stepped, raised, last_in}
 use Rattle.mdb_shared_runs.specs.Shares.{lines_of_player, raised_along}
 use Rattle.mdb_shared_runs.specs.Plays.{Adds, Plays, HasPlayed}
 use Rattle.mdb_shared_runs.proofs.Dealing.{part_grows, part_stays}

@@ -4,7 +4,8 @@ use Rattle.atomic_table.specs.Seated.{TableId}
 use Rattle.mdb_log.specs.declared.log.Entry.{Entry}
 use Rattle.mdb_log.specs.declared.step.Step.{Step}
 use Rattle.mdb_log.specs.Driver.{StartsWith}
-use Rattle.mdb_shared.specs.Seats.{SeatView, raised, last_in, fresh_seat}
+use Rattle.mdb_turns.specs.Stepping.{SeatView, raised, last_in}
+use Rattle.mdb_shared.specs.Seats.{fresh_seat}
 use Rattle.mdb_shared_runs.specs.declared.player.Player.{Player}
 use Rattle.mdb_shared_runs.specs.Shares.{lines_of_player, IsShared}
 

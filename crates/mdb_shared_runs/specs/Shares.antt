@@ -2,8 +2,8 @@
 use Rattle.std.specs.Prelude.{◌≡◌, ℕ, ◌+◌, ◌<◌, ◌==◌, ◌%◌, List, [], ◌∷◌, ◌++◌, map, All, length, if◌then◌else◌}
 use Rattle.mdb_log.specs.declared.log.Entry.{Entry}
 use Rattle.mdb_log.specs.declared.step.Step.{Step}
-use Rattle.mdb_shared.specs.Turning.{own}
-use Rattle.mdb_shared.specs.Seats.{raised, last_in}
+use Rattle.mdb_turns.specs.Turning.{own}
+use Rattle.mdb_turns.specs.Stepping.{raised, last_in}
 
 -- the steps that are the player j's of k players, where the first one has the number n: those whose number is j modulo k
 abbrev pub lines_of_player_from : ℕ → ℕ → ℕ → List Step → List Step

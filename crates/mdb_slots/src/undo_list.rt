@@ -3,8 +3,8 @@
 ghost use Rattle.std.specs.Prelude.{◌≡◌, ◌<◌, ◌≤◌, ◌+◌, ◌++◌, ◌∷◌, [], None, length, slice_set, OnOk, OnErr};
 ghost use Rattle.mdb_slots.specs.Open.{list_after, room_after, ListFits};
 
-use crate::edit::{Edit, undo_all, redo_all};
-use crate::storage::{enlarge, drop_storage, move_to};
+use crate::edit::{Edit, redo_all, undo_all};
+use crate::storage::{drop_storage, enlarge, move_to};
 use mdb_base::OutOfMemory;
 use std::alloc::Global;
 use std::marker::Model;

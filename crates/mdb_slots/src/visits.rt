@@ -18,7 +18,13 @@ pub(crate) fn read<'a, T: Drop>(list: &'a UndoList<T>, at: u32, touches: &mut To
 }
 
 /// The value takes the place of another. Where it stays, so do all changes before it, and it needs no place in the log.
-pub(crate) fn write<T: Drop>(list: &mut UndoList<T>, at: u32, value: T, stays: bool, touches: &mut Touches)
+pub(crate) fn write<T: Drop>(
+    list: &mut UndoList<T>,
+    at: u32,
+    value: T,
+    stays: bool,
+    touches: &mut Touches,
+)
     requires within { at < length list.old.now }
     requires room { stays ≡ false → 0 < list.old.room }
     requires few { touches.old.count < 2 ^ 64 - 1 }

@@ -5,7 +5,6 @@ ghost use Rattle.mdb_log.specs.Connections.{one_if};
 ghost use Rattle.mdb_tallies.specs.Changes.{pending_now, at_hand_now, closed_now, once_created, once_closed, once_checked_in, once_established, once_failed, once_granted, once_taken, once_over, once_returned, kept_now, lent_now, held_by_now, done_now, by_party};
 ghost use Rattle.mdb_tallies.specs.Standing.{is_lent};
 
-use crate::occurrence::How;
 use crate::connection::Connection;
 use crate::occurrence::How;
 use crate::party::{Gift, Party};

@@ -3,7 +3,6 @@
 ghost use Rattle.std.specs.Prelude.{OnOk};
 ghost use Rattle.mdb_tallies.specs.Kept.{PartyDid, Covers};
 
-use crate::occurrence::How;
 use crate::counts::{by_party, is_done};
 use crate::occurrence::How;
 use crate::tables::Tables;

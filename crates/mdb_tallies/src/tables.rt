@@ -11,7 +11,6 @@ use crate::default_map::DefaultMap;
 use crate::lists::Lists;
 use crate::party::{Gift, Party};
 use crate::pools::Pool;
-use crate::default_map::DefaultMap;
 use mdb_base::OutOfMemory;
 use std::alloc::Global;
 

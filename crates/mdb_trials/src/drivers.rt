@@ -10,14 +10,17 @@ mod seats;
 mod watched;
 
 use crate::lines::server;
+use crate::opening::pair;
 use mdb_base::{Items, ObjectId, Options};
 use mdb_log::{Core, Log};
+use mdb_shared::{Seat, SharedDriver};
 use mdb_topology::TopologyCore;
+use mdb_workers::Access;
 use std::alloc::Global;
 use std::sync::Wait;
 use std::thread::Threads;
 
-#[derive(Clone, Copy, PartialEq, Eq)]
+#[derive(Clone, Copy)]
 enum Scene {
     AllSeats,
     Gate,
@@ -86,6 +89,67 @@ fn opened(alloc: Global, load_balanced: bool) -> Option<(TopologyCore, Log)>
     open(alloc, options(alloc, load_balanced)?)
 }
 
+// Whether the scene of two seats on one thread goes as it should.
+fn act<C: Core, R: Wait>(
+    access: &Access<'_, C, R>,
+    first: &mut Seat<C>,
+    second: &mut Seat<C>,
+    scene: Scene,
+) -> bool
+    requires own { (first.old.driver ≡ access.now.driver.now.id) × (second.old.driver ≡ access.now.driver.now.id) }
+{
+    match scene {
+        Scene::OutAndIn => watched::goes_out_and_in(access, first, second),
+        Scene::FirstState => watched::tells_the_state(access, first),
+        Scene::News => watched::waits_for_news(access, first, second),
+        _ => seats::tells_once(access, first, second),
+    }
+}
+
+// One thread has both seats.
+fn play_alone<C: Core, R: Wait>(
+    rt: &R,
+    alloc: Global,
+    driver: SharedDriver<C>,
+    mut first: Seat<C>,
+    mut second: Seat<C>,
+    scene: Scene,
+) -> bool
+    requires own { (first.driver ≡ driver.id) × (second.driver ≡ driver.id) }
+{
+    let access = Access {
+        driver: &driver,
+        rt,
+        alloc,
+    };
+    let is_well = act(&access, &mut first, &mut second, scene);
+    drop(access);
+    drop(first);
+    drop(second);
+    drop(driver);
+    is_well
+}
+
+// Whether the scene of two seats goes as it should.
+fn play_pair<C: Core, R: Threads + Wait + Sync>(
+    rt: &R,
+    alloc: Global,
+    core: C,
+    log: Log,
+    scene: Scene,
+) -> bool
+    requires { C.stands core log }
+{
+    let Some((driver, first, second)) = pair(alloc, core, log) else {
+        return false;
+    };
+    match scene {
+        Scene::Gate => gate::has_no_turn(rt, alloc, driver, first, second),
+        Scene::LentSeat => handles::goes_on(rt, alloc, driver, first, second),
+        _ => play_alone(rt, alloc, driver, first, second, scene),
+    }
+}
+
 // Whether the scene goes as it should over this driver.
 fn play<C: Core, R: Threads + Wait + Sync>(
     rt: &R,
@@ -100,17 +164,12 @@ fn play<C: Core, R: Threads + Wait + Sync>(
     };
     match scene {
         Scene::AllSeats => many::takes_turns(rt, alloc, core, log),
-        Scene::Gate => gate::has_no_turn(rt, alloc, core, log),
-        Scene::LentSeat => handles::goes_on(rt, alloc, core, log),
-        Scene::Requests => seats::tells_once(rt, alloc, core, log),
-        Scene::OutAndIn => watched::goes_out_and_in(rt, alloc, core, log),
-        Scene::FirstState => watched::tells_the_state(rt, alloc, core, log),
-        Scene::News => watched::waits_for_news(rt, alloc, core, log),
+        _ => play_pair(rt, alloc, core, log, scene),
     }
 }
 
 // Whether the scene goes as it should over a new driver.
 fn goes_well<R: Threads + Wait + Sync>(rt: &R, alloc: Global, scene: Scene) -> bool {
-    let is_balanced = scene != Scene::LentSeat;
+    let is_balanced = !matches!(scene, Scene::LentSeat);
     play(rt, alloc, opened(alloc, is_balanced), scene)
 }

@@ -104,27 +104,32 @@ pub fn told_by(reply: &Reply) -> Told {
     }
 }
 
-/// What the answer to a step tells.
-pub fn summary(answer: Result<Reply, OutOfMemory>) -> Told {
+fn told_by_answer(answer: &Result<Reply, OutOfMemory>) -> Told {
     match answer {
-        Ok(reply) => {
-            let told = told_by(&reply);
-            drop(reply);
-            told
-        }
+        Ok(reply) => told_by(reply),
         Err(_) => Told::NoMemory,
     }
 }
 
-fn summary_of_try(answer: Result<Reply, TryError>) -> Told {
+/// What the answer to a step tells.
+pub fn summary(answer: Result<Reply, OutOfMemory>) -> Told {
+    let told = told_by_answer(&answer);
+    drop(answer);
+    told
+}
+
+fn told_by_try(answer: &Result<Reply, TryError>) -> Told {
     match answer {
-        Ok(reply) => summary(Ok(reply)),
-        Err(TryError::Busy(_, step)) => {
-            drop(step);
-            Told::Other
-        }
+        Ok(reply) => told_by(reply),
+        Err(TryError::Busy(_, _)) => Told::Other,
         Err(TryError::OutOfMemory) => Told::NoMemory,
     }
+}
+
+fn summary_of_try(answer: Result<Reply, TryError>) -> Told {
+    let told = told_by_try(&answer);
+    drop(answer);
+    told
 }
 
 /// What a check-in tells. A connection that came back is taken apart.

@@ -5,13 +5,14 @@ ghost use Rattle.std.specs.Prelude.{◌≡◌, [], IfSome};
 mod calls;
 mod sharing;
 
-use mdb_log::Core;
+use crate::opening::pair;
+use mdb_log::{Core, Log};
 use mdb_total::Total;
 use std::alloc::Global;
 use std::sync::Wait;
 use std::thread::Threads;
 
-#[derive(Clone, Copy, PartialEq, Eq)]
+#[derive(Clone, Copy)]
 enum Scene {
     NoPool,
     Polls,
@@ -19,6 +20,24 @@ enum Scene {
     Closing,
     TwoThreads,
     AllSeats,
+}
+
+// Whether the scene of two seats goes as it should over this core. None where there was no memory for it.
+fn play_pair<C: Core, R: Threads + Wait + Sync>(
+    rt: &R,
+    alloc: Global,
+    core: C,
+    scene: Scene,
+) -> Option<bool>
+    requires { C.stands core [] }
+{
+    let (driver, first, second) = pair(alloc, core, Log::new(alloc))?;
+    match scene {
+        Scene::Polls => calls::tells_how_requests_stand(rt, alloc, driver, first, second),
+        Scene::ComeBack => calls::gives_back(rt, alloc, driver, first, second),
+        Scene::Closing => calls::closes_late(rt, alloc, driver, first, second),
+        _ => sharing::adds_by_two(rt, alloc, driver, first, second),
+    }
 }
 
 // Whether the scene goes as it should over this core. None where there was no memory for it.
@@ -33,11 +52,8 @@ fn play<C: Core, R: Threads + Wait + Sync>(
     let core = core?;
     match scene {
         Scene::NoPool => calls::has_no_pool(alloc, core),
-        Scene::Polls => calls::tells_how_requests_stand(rt, alloc, core),
-        Scene::ComeBack => calls::gives_back(rt, alloc, core),
-        Scene::Closing => calls::closes_late(rt, alloc, core),
-        Scene::TwoThreads => sharing::adds_by_two(rt, alloc, core),
         Scene::AllSeats => sharing::goes_round_twice(alloc, core),
+        _ => play_pair(rt, alloc, core, scene),
     }
 }
 

@@ -13,7 +13,7 @@ use Rattle.mdb_parts.specs.Parts.{parts_text, addresses}
 use Rattle.mdb_lines.specs.Grammar.{is_act, is_open}
 use Rattle.mdb_lines.specs.Script.{Spells}
 use Rattle.mdb_lines.specs.Spelling.{use_text, established_parts, failed_at_text, hello_text, beaten_text, act_text, spelling}
-use Rattle.mdb_shared.specs.Seats.{raised}
+use Rattle.mdb_turns.specs.Stepping.{raised}
 
 -- another number stands before the rest
 again : (m n : ℕ) (rest : List ℕ) → n < 2 ^ 64 → prints (decimal m ++ rest) ≡ true → prints (decimal n ++ rest) ≡ true

@@ -8,8 +8,8 @@ use Rattle.mdb_lines.specs.Script.{Spells, AreAllowed}
 use Rattle.mdb_lines.specs.Spelling.{spelling}
 use Rattle.mdb_laws.specs.Answers.{AreAnswers}
 use Rattle.mdb_topology.specs.Lines.{entry_after, steps_of}
-use Rattle.mdb_shared.specs.Turning.{own}
-use Rattle.mdb_shared.specs.Seats.{raised, last_in}
+use Rattle.mdb_turns.specs.Turning.{own}
+use Rattle.mdb_turns.specs.Stepping.{raised, last_in}
 use Rattle.mdb_shared_runs.specs.Shares.{lines_of_player_from, lines_of_player, raised_along, IsShared}
 use Rattle.mdb_shared_runs.specs.Scripts.{SharesSteps, Shared}
 use Rattle.mdb_verdicts.proofs.Raised.{raised-spells}

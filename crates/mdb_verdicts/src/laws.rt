@@ -12,8 +12,8 @@ ghost use Rattle.mdb_audit.specs.declared.verdict.Verdict.{Verdict as Answer};
 ghost use Rattle.mdb_audit.specs.declared.verdict.Verdict.TheVariants.{Legal};
 
 use crate::moments::moments_fit;
+use crate::shows::text_shows_log;
 use mdb_log::Log;
-use mdb_readable::text_shows_log;
 
 /// The text of a log that a run returned is the text of a legal log, with as many lines as the log has entries. No other verdict
 /// is right, so `audit` gives this one or tells out of memory. Reads the log once.

@@ -10,7 +10,8 @@ use Rattle.mdb_log.specs.declared.reply.Reply.{Reply}
 use Rattle.mdb_log.specs.declared.reply.Reply.TheVariants.{Pooled, Establishing, Waiting, Ended, Job, NoJob, Changed, Count, Done, Refused}
 use Rattle.mdb_log.specs.declared.step.Step.{Step}
 use Rattle.mdb_log.specs.Driver.{StartsWith, is_in_time}
-use Rattle.mdb_shared.specs.Seats.{SeatView, Each, FoundBusy, Stepped, OnlySaw, IsSameSeat}
+use Rattle.mdb_turns.specs.Stepping.{SeatView, Stepped, OnlySaw}
+use Rattle.mdb_shared.specs.Seats.{Each, FoundBusy, IsSameSeat}
 use Rattle.mdb_shared.specs.Checkout.{is_back_in_time, ComesBack}
 use Rattle.mdb_shared.specs.declared.checkout.BackWhy.{BackWhy}
 use Rattle.mdb_shared.specs.declared.checkout.BackWhy.TheVariants.{Refused as BackRefused, OutOfMemory}

@@ -6,7 +6,8 @@ use Rattle.mdb_log.specs.Acts.{IsDriverAct}
 use Rattle.mdb_log.specs.declared.log.Entry.{Entry}
 use Rattle.mdb_log.specs.declared.step.Act.{Act}
 use Rattle.mdb_log.specs.declared.step.Act.TheVariants.{Expire, Maintain}
-use Rattle.mdb_shared.specs.Seats.{SeatView, Each}
+use Rattle.mdb_turns.specs.Stepping.{SeatView}
+use Rattle.mdb_shared.specs.Seats.{Each}
 use Rattle.mdb_workers.specs.Making.{Made, MadeAt}
 use Rattle.mdb_workers.specs.Ticking.{AreDue, BothDue, IsDueAct, TickedBy, TickedInPart, Ticked, addresses_of}
 use Rattle.mdb_workers.proofs.Adding.{each_more, made_none_at, made_then_at, made_seen}

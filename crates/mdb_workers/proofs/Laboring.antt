@@ -13,7 +13,8 @@ use Rattle.mdb_log.specs.declared.reply.Reply.{Reply}
 use Rattle.mdb_shared.specs.Claims.{claiming, claimed_by, Holds}
 use Rattle.mdb_shared.specs.declared.claiming.Claimed.{Claimed as MayClaim}
 use Rattle.mdb_shared.specs.declared.claiming.Claimed.TheVariants.{Job as JobClaimed, Unread, NoJob as NoneClaimed}
-use Rattle.mdb_shared.specs.Seats.{SeatView, FoundBusy, Stepped}
+use Rattle.mdb_turns.specs.Stepping.{SeatView, Stepped}
+use Rattle.mdb_shared.specs.Seats.{FoundBusy}
 use Rattle.mdb_workers.specs.declared.establishing.Call.{Call}
 use Rattle.mdb_workers.specs.declared.establishing.EstablishError.{EstablishError}
 use Rattle.mdb_workers.specs.declared.establishing.EstablishError.TheVariants.{Refused, OutOfMemory}

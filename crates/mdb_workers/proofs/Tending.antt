@@ -9,7 +9,8 @@ use Rattle.mdb_log.specs.declared.step.Act.{Act}
 use Rattle.mdb_log.specs.declared.step.Established.{Established}
 use Rattle.mdb_log.specs.declared.step.Step.{Step}
 use Rattle.mdb_shared.specs.Claims.{claiming}
-use Rattle.mdb_shared.specs.Seats.{SeatView, FoundBusy, Stepped}
+use Rattle.mdb_turns.specs.Stepping.{SeatView, Stepped}
+use Rattle.mdb_shared.specs.Seats.{FoundBusy}
 use Rattle.mdb_workers.specs.declared.establishing.Call.{Call}
 use Rattle.mdb_workers.specs.declared.establishing.EstablishError.{EstablishError}
 use Rattle.mdb_workers.specs.declared.establishing.EstablishError.TheVariants.{Refused, OutOfMemory}

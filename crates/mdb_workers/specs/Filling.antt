@@ -5,7 +5,8 @@ use Rattle.mdb_log.specs.declared.log.Entry.{Entry}
 use Rattle.mdb_log.specs.declared.step.Act.TheVariants.{Warm}
 use Rattle.mdb_log.specs.declared.reply.Reply.{Reply}
 use Rattle.mdb_log.specs.declared.reply.Reply.TheVariants.{Establishing}
-use Rattle.mdb_shared.specs.Seats.{SeatView, Each}
+use Rattle.mdb_turns.specs.Stepping.{SeatView}
+use Rattle.mdb_shared.specs.Seats.{Each}
 use Rattle.mdb_workers.specs.declared.filling.Fill.{Fill}
 use Rattle.mdb_workers.specs.Making.{Made}
 

@@ -7,7 +7,8 @@ use Rattle.mdb_log.specs.Driver.{StartsWith, is_in_time}
 use Rattle.mdb_log.specs.declared.reply.Reply.TheVariants.{Refused}
 use Rattle.mdb_shared.specs.declared.checkout.BackWhy.{BackWhy}
 use Rattle.mdb_shared.specs.declared.checkout.BackWhy.TheVariants.{Refused as BackRefused, OutOfMemory}
-use Rattle.mdb_shared.specs.Seats.{SeatView, FoundBusy, last_in}
+use Rattle.mdb_turns.specs.Stepping.{SeatView, last_in}
+use Rattle.mdb_shared.specs.Seats.{FoundBusy}
 
 module _ {T : Type 0} (stands : T → List Entry → Type 0) where
   -- The entry stands right behind this log, with this seat's number. Its step was made at this moment, or at that of the last accepted step where that is

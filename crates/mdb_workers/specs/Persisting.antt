@@ -5,7 +5,7 @@ use Rattle.mdb_log.specs.declared.log.Entry.{Entry}
 use Rattle.mdb_log.specs.declared.step.Act.{Act}
 use Rattle.mdb_log.specs.declared.step.FailedAt.TheVariants.{Pre}
 use Rattle.mdb_log.specs.declared.step.Step.{Step}
-use Rattle.mdb_shared.specs.Seats.{SeatView}
+use Rattle.mdb_turns.specs.Stepping.{SeatView}
 use Rattle.mdb_log.specs.declared.pooled.PooledConnection.{PooledConnection}
 use Rattle.mdb_log.specs.declared.step.Act.TheVariants.{Failed, Return}
 use Rattle.mdb_log.specs.declared.step.Use.{Use}

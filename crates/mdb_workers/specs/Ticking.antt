@@ -7,7 +7,8 @@ use Rattle.mdb_log.specs.declared.log.Entry.{Entry}
 use Rattle.mdb_log.specs.declared.step.Act.{Act}
 use Rattle.mdb_log.specs.declared.step.Act.TheVariants.{Expire, Maintain}
 use Rattle.mdb_log.specs.Driver.{StartsWith}
-use Rattle.mdb_shared.specs.Seats.{SeatView, Each}
+use Rattle.mdb_turns.specs.Stepping.{SeatView}
+use Rattle.mdb_shared.specs.Seats.{Each}
 use Rattle.mdb_workers.specs.Making.{MadeAt}
 
 abbrev pub addresses_of : TopologyDescription → List ServerAddress

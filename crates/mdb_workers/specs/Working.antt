@@ -10,7 +10,7 @@ use Rattle.mdb_log.specs.declared.step.FailedAt.TheVariants.{Pre}
 use Rattle.mdb_base.specs.declared.error.Error.{Error}
 use Rattle.mdb_base.specs.declared.error.ErrorKind.TheVariants.{Other}
 use Rattle.mdb_log.specs.declared.reply.Reply.TheVariants.{Job as TellsJob, NoJob}
-use Rattle.mdb_shared.specs.Seats.{SeatView}
+use Rattle.mdb_turns.specs.Stepping.{SeatView}
 use Rattle.mdb_workers.specs.declared.establishing.Call.{Call}
 use Rattle.mdb_workers.specs.Establishing.{Reports}
 use Rattle.mdb_workers.specs.Making.{Made}

@@ -5,10 +5,9 @@ ghost use Rattle.std.specs.Prelude.{◌≡◌};
 use super::watched::checked_out;
 use super::{Scene, goes_well};
 use crate::lines::{Ask, Call, Line, Told, follows, found, server};
-use crate::opening::pair;
 use mdb_base::{Error, ErrorKind, Items, Text};
 use mdb_handles::check_out;
-use mdb_log::{Core, Job, Log, PooledConnection};
+use mdb_log::{Core, Job, PooledConnection};
 use mdb_shared::{Seat, SharedDriver};
 use mdb_workers::{Access, Gate, MemEstablisher, Work, work};
 use std::alloc::Global;
@@ -158,17 +157,15 @@ fn both<C: Core, R: Threads + Wait + Sync>(
     worked && served
 }
 
-pub(super) fn has_no_turn<C: Core, R: Threads + Wait + Sync>(
+pub(crate) fn has_no_turn<C: Core, R: Threads + Wait + Sync>(
     rt: &R,
     alloc: Global,
-    core: C,
-    log: Log,
+    driver: SharedDriver<C>,
+    mut first: Seat<C>,
+    mut second: Seat<C>,
 ) -> bool
-    requires { C.stands core log }
+    requires own { (first.driver ≡ driver.id) × (second.driver ≡ driver.id) }
 {
-    let Some((driver, mut first, mut second)) = pair(alloc, core, log) else {
-        return false;
-    };
     let access = Access {
         driver: &driver,
         rt,

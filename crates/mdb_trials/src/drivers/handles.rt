@@ -5,12 +5,11 @@ ghost use Rattle.mdb_log.specs.Acts.{IsDriverAct};
 
 use super::{Scene, goes_well};
 use crate::lines::{Ask, Told, server, step_of, summary};
-use crate::opening::pair;
-use mdb_events::Held;
+use mdb_events::Boxed;
 use mdb_handles::{Handle, SpareSeats};
 use mdb_hello::HelloCommandResponse;
-use mdb_log::{Act, Core, HelloResult, Log, Step};
-use mdb_shared::Seat;
+use mdb_log::{Act, Core, HelloResult, Step};
+use mdb_shared::{Seat, SharedDriver};
 use mdb_workers::Access;
 use std::alloc::Global;
 use std::sync::Wait;
@@ -116,12 +115,15 @@ fn is_lent_twice<C: Core, R: Wait>(access: &Access<'_, C, R>, seat: Seat<C>) -> 
 }
 
 // Whether the seat's numbers go on, and the pool is still ready after there was no memory to establish its first connection.
-pub(super) fn goes_on<C: Core, R: Wait>(rt: &R, alloc: Global, core: C, log: Log) -> bool
-    requires { C.stands core log }
+pub(crate) fn goes_on<C: Core, R: Wait>(
+    rt: &R,
+    alloc: Global,
+    driver: SharedDriver<C>,
+    mut first: Seat<C>,
+    second: Seat<C>,
+) -> bool
+    requires own { (first.driver ≡ driver.id) × (second.driver ≡ driver.id) }
 {
-    let Some((driver, mut first, second)) = pair(alloc, core, log) else {
-        return false;
-    };
     let access = Access {
         driver: &driver,
         rt,

@@ -88,7 +88,7 @@ fn closes<C: Core>(driver: SharedDriver<C>, seats: Vec<Seat<C>>) -> bool
     is_named
 }
 
-pub(super) fn takes_turns<C: Core, R: Wait>(rt: &R, alloc: Global, core: C, log: Log) -> bool
+pub(crate) fn takes_turns<C: Core, R: Wait>(rt: &R, alloc: Global, core: C, log: Log) -> bool
     requires { C.stands core log }
 {
     let Some((driver, seats)) = opened(alloc, core, log, SEATS) else {

@@ -1,11 +1,12 @@
 //! Two seats on one thread: how requests stand, and the log that both make.
 
-ghost use Rattle.std.specs.Prelude.{IfSome};
+ghost use Rattle.std.specs.Prelude.{◌≡◌, IfSome};
 
 use super::{Scene, goes_well, opened};
 use crate::lines::{Ask, Call, Line, Told, follows, step_of, summary};
 use crate::opening::{close_late, pair};
 use mdb_log::{Core, Entry, Log, step_whole};
+use mdb_shared::Seat;
 use mdb_workers::Access;
 use std::alloc::Global;
 use std::sync::Wait;
@@ -24,23 +25,14 @@ const REQUESTS: [Line; 8] = [
     Line(1, 0, Call::GiveUp(2), Told::UnknownRequest),
 ];
 
-pub(super) fn tells_once<C: Core, R: Wait>(rt: &R, alloc: Global, core: C, log: Log) -> bool
-    requires { C.stands core log }
+pub(crate) fn tells_once<C: Core, R: Wait>(
+    access: &Access<'_, C, R>,
+    first: &mut Seat<C>,
+    second: &mut Seat<C>,
+) -> bool
+    requires own { (first.old.driver ≡ access.now.driver.now.id) × (second.old.driver ≡ access.now.driver.now.id) }
 {
-    let Some((driver, mut first, mut second)) = pair(alloc, core, log) else {
-        return false;
-    };
-    let access = Access {
-        driver: &driver,
-        rt,
-        alloc,
-    };
-    let is_well = follows(&access, &mut first, &mut second, &REQUESTS) == Some(true);
-    drop(access);
-    drop(first);
-    drop(second);
-    drop(driver);
-    is_well
+    follows(access, first, second, &REQUESTS) == Some(true)
 }
 
 #[test]

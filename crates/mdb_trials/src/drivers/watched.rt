@@ -4,12 +4,11 @@ ghost use Rattle.std.specs.Prelude.{◌≡◌};
 
 use super::{Scene, goes_well};
 use crate::lines::{Ask, Call, Line, Told, checks_in, follows, server, steps};
-use crate::opening::pair;
 use mdb_base::OutOfMemory;
 use mdb_describe::TopologyType;
 use mdb_events::End;
 use mdb_handles::{CheckOutError, OpToken, Server, TopologyState, TopologyWatcher, check_out};
-use mdb_log::{Core, Log, PooledConnection, Reply};
+use mdb_log::{Core, PooledConnection, Reply};
 use mdb_shared::Seat;
 use mdb_workers::{Access, Fill, fill_pool};
 use std::alloc::Global;
@@ -67,42 +66,45 @@ fn operations_are_counted_by_tokens(rt: HostRuntime) -> Result<(), Fail> {
     Ok(())
 }
 
-// Whether nothing is new at first, and whether a time of the cluster then is, while one watcher asks for checks.
+// Whether nothing is new at first, and whether a time of the cluster then is, while the watcher asks for checks.
 fn hears<C: Core, R: Wait>(
     access: &Access<'_, C, R>,
     first: &mut Seat<C>,
     second: &mut Seat<C>,
+    watcher: &mut TopologyWatcher,
 ) -> Result<bool, OutOfMemory>
     requires own { (first.old.driver ≡ access.now.driver.now.id) × (second.old.driver ≡ access.now.driver.now.id) }
+    ensures own { second.new.driver ≡ second.old.driver }
 {
-    let mut watcher = TopologyWatcher::new(7);
     drop(watcher.observe_latest(access, first)?);
     let is_early = watcher.wait_for_update(access, first, 3)?;
     let wanted = watcher.request_immediate_check(access, first)?;
     let told = steps(access, second, 0, Ask::Time);
     let is_news = watcher.wait_for_update(access, first, 3)?;
-    let mut next = TopologyWatcher::new(8);
-    let count = next.request_immediate_check(access, second)?;
-    Ok(!is_early && wanted == 1 && told == Told::Done && is_news && count == 1)
+    Ok(!is_early && wanted == 1 && told == Told::Done && is_news)
 }
 
-pub(super) fn waits_for_news<C: Core, R: Wait>(rt: &R, alloc: Global, core: C, log: Log) -> bool
-    requires { C.stands core log }
+// Whether a further watcher is alone with its request.
+fn is_alone<C: Core, R: Wait>(access: &Access<'_, C, R>, seat: &mut Seat<C>, number: u32) -> bool
+    requires own { seat.old.driver ≡ access.now.driver.now.id }
 {
-    let Some((driver, mut first, mut second)) = pair(alloc, core, log) else {
-        return false;
-    };
-    let access = Access {
-        driver: &driver,
-        rt,
-        alloc,
-    };
-    let is_well = hears(&access, &mut first, &mut second).unwrap_or(false);
-    drop(access);
-    drop(first);
-    drop(second);
-    drop(driver);
-    is_well
+    let mut watcher = TopologyWatcher::new(number);
+    let count = watcher.request_immediate_check(access, seat);
+    drop(watcher);
+    count == Ok(1)
+}
+
+pub(crate) fn waits_for_news<C: Core, R: Wait>(
+    access: &Access<'_, C, R>,
+    first: &mut Seat<C>,
+    second: &mut Seat<C>,
+) -> bool
+    requires own { (first.old.driver ≡ access.now.driver.now.id) × (second.old.driver ≡ access.now.driver.now.id) }
+{
+    let mut watcher = TopologyWatcher::new(7);
+    let hears = hears(access, first, second, &mut watcher);
+    drop(watcher);
+    hears == Ok(true) && is_alone(access, second, 8)
 }
 
 #[test]
@@ -119,7 +121,7 @@ const AVAILABLE: [Line; 3] = [
 ];
 
 // The connection that was checked out.
-pub(super) fn checked_out(
+pub(crate) fn checked_out(
     answer: Result<PooledConnection, CheckOutError>,
 ) -> Option<PooledConnection> {
     match answer {
@@ -166,24 +168,16 @@ fn fills<C: Core, R: Wait>(access: &Access<'_, C, R>, seat: &mut Seat<C>) -> boo
     }
 }
 
-pub(super) fn goes_out_and_in<C: Core, R: Wait>(rt: &R, alloc: Global, core: C, log: Log) -> bool
-    requires { C.stands core log }
+pub(crate) fn goes_out_and_in<C: Core, R: Wait>(
+    access: &Access<'_, C, R>,
+    first: &mut Seat<C>,
+    second: &mut Seat<C>,
+) -> bool
+    requires own { (first.old.driver ≡ access.now.driver.now.id) × (second.old.driver ≡ access.now.driver.now.id) }
 {
-    let Some((driver, mut first, mut second)) = pair(alloc, core, log) else {
-        return false;
-    };
-    let access = Access {
-        driver: &driver,
-        rt,
-        alloc,
-    };
-    let is_available = follows(&access, &mut first, &mut second, &AVAILABLE) == Some(true);
-    let is_out_and_in = goes_out(&access, &mut first);
-    let is_filled = fills(&access, &mut first);
-    drop(access);
-    drop(first);
-    drop(second);
-    drop(driver);
+    let is_available = follows(access, first, second, &AVAILABLE) == Some(true);
+    let is_out_and_in = goes_out(access, first);
+    let is_filled = fills(access, first);
     is_available && is_out_and_in && is_filled
 }
 
@@ -206,10 +200,10 @@ fn is_first_state(state: TopologyState, kind: TopologyType) -> bool {
 fn is_told<C: Core, R: Wait>(
     access: &Access<'_, C, R>,
     seat: &mut Seat<C>,
+    watcher: &mut TopologyWatcher,
 ) -> Result<bool, OutOfMemory>
     requires own { seat.old.driver ≡ access.now.driver.now.id }
 {
-    let mut watcher = TopologyWatcher::new(1);
     let count = watcher.request_immediate_check(access, seat)?;
     let kind = watcher.topology_type(access, seat);
     let is_peeked = is_first_state(watcher.peek_latest(access, seat)?, kind);
@@ -217,23 +211,16 @@ fn is_told<C: Core, R: Wait>(
     Ok(count == 1 && is_peeked && is_observed)
 }
 
-pub(super) fn tells_the_state<C: Core, R: Wait>(rt: &R, alloc: Global, core: C, log: Log) -> bool
-    requires { C.stands core log }
+pub(crate) fn tells_the_state<C: Core, R: Wait>(
+    access: &Access<'_, C, R>,
+    seat: &mut Seat<C>,
+) -> bool
+    requires own { seat.old.driver ≡ access.now.driver.now.id }
 {
-    let Some((driver, mut first, second)) = pair(alloc, core, log) else {
-        return false;
-    };
-    let access = Access {
-        driver: &driver,
-        rt,
-        alloc,
-    };
-    let is_well = is_told(&access, &mut first).unwrap_or(false);
-    drop(access);
-    drop(first);
-    drop(second);
-    drop(driver);
-    is_well
+    let mut watcher = TopologyWatcher::new(1);
+    let is_told = is_told(access, seat, &mut watcher);
+    drop(watcher);
+    is_told == Ok(true)
 }
 
 #[test]

@@ -1,18 +1,18 @@
 //! Each call of a shared driver, once or more.
 
-ghost use Rattle.std.specs.Prelude.{◌≡◌, []};
+ghost use Rattle.std.specs.Prelude.{◌≡◌};
 
 use super::{Scene, goes_well};
 use crate::lines::{Ask, Call, Line, Told, follows, step_of};
-use crate::opening::{close_late, pair};
+use crate::opening::close_late;
 use mdb_log::{Core, Log};
-use mdb_shared::TryError;
+use mdb_shared::{Seat, SharedDriver, TryError};
 use mdb_workers::Access;
 use std::alloc::Global;
 use std::sync::Wait;
 use std::test::Fail;
 
-pub(super) fn has_no_pool<C: Core>(alloc: Global, core: C) -> Option<bool> {
+pub(crate) fn has_no_pool<C: Core>(alloc: Global, core: C) -> Option<bool> {
     let servers = core.description().servers().len();
     let published = core.published();
     let job = core.job(alloc, 0, 1);
@@ -50,10 +50,16 @@ const COME_BACK: [Line; 5] = [
 ];
 
 // Whether each line is told, and how many entries the log has then.
-fn follow<C: Core, R: Wait>(rt: &R, alloc: Global, core: C, lines: &[Line]) -> Option<(bool, u64)>
-    requires { C.stands core [] }
+fn follow<C: Core, R: Wait>(
+    rt: &R,
+    alloc: Global,
+    driver: SharedDriver<C>,
+    mut first: Seat<C>,
+    mut second: Seat<C>,
+    lines: &[Line],
+) -> Option<(bool, u64)>
+    requires { (first.driver ≡ driver.id) × (second.driver ≡ driver.id) }
 {
-    let (driver, mut first, mut second) = pair(alloc, core, Log::new(alloc))?;
     let access = Access {
         driver: &driver,
         rt,
@@ -68,14 +74,16 @@ fn follow<C: Core, R: Wait>(rt: &R, alloc: Global, core: C, lines: &[Line]) -> O
     Some((is_well?, count))
 }
 
-pub(super) fn tells_how_requests_stand<C: Core, R: Wait>(
+pub(crate) fn tells_how_requests_stand<C: Core, R: Wait>(
     rt: &R,
     alloc: Global,
-    core: C,
+    driver: SharedDriver<C>,
+    first: Seat<C>,
+    second: Seat<C>,
 ) -> Option<bool>
-    requires { C.stands core [] }
+    requires { (first.driver ≡ driver.id) × (second.driver ≡ driver.id) }
 {
-    Some(follow(rt, alloc, core, &POLLS)? == (true, 6))
+    Some(follow(rt, alloc, driver, first, second, &POLLS)? == (true, 6))
 }
 
 #[test]
@@ -84,10 +92,16 @@ fn polls_tell_how_requests_stand(rt: HostRuntime) -> Result<(), Fail> {
     Ok(())
 }
 
-pub(super) fn gives_back<C: Core, R: Wait>(rt: &R, alloc: Global, core: C) -> Option<bool>
-    requires { C.stands core [] }
+pub(crate) fn gives_back<C: Core, R: Wait>(
+    rt: &R,
+    alloc: Global,
+    driver: SharedDriver<C>,
+    first: Seat<C>,
+    second: Seat<C>,
+) -> Option<bool>
+    requires { (first.driver ≡ driver.id) × (second.driver ≡ driver.id) }
 {
-    Some(follow(rt, alloc, core, &COME_BACK)? == (true, 5))
+    Some(follow(rt, alloc, driver, first, second, &COME_BACK)? == (true, 5))
 }
 
 #[test]
@@ -102,15 +116,37 @@ const ONE_EACH: [Line; 2] = [
     Line(1, 4, Call::Try(Ask::Want(1)), Told::Count(2)),
 ];
 
-// Two seats make a step each at the moments 9 and 4, meet, and close. Whether each step was told, what the first seat had seen, the core and its log.
-fn met_and_closed<C: Core, R: Wait>(
+fn last_moment(log: &Log) -> Option<u64> {
+    Some(log.entries().last()?.step.moment)
+}
+
+// The last moments of the core and of the log, where one seat alone doesn't close the driver, and both do.
+fn last_moments<C: Core>(
+    alloc: Global,
+    driver: SharedDriver<C>,
+    first: Seat<C>,
+    second: Seat<C>,
+) -> Option<(u64, Option<u64>)>
+    requires { (first.driver ≡ driver.id) × (second.driver ≡ driver.id) }
+{
+    let (core, log) = close_late(alloc, driver, first, second)?;
+    let moments = (core.last_moment(), last_moment(&log));
+    drop(core);
+    drop(log);
+    Some(moments)
+}
+
+// Whether two seats that make a step each at the moments 9 and 4, meet, and close with one missing first, close with both, after steps whose
+// moments only grew.
+pub(crate) fn closes_late<C: Core, R: Wait>(
     rt: &R,
     alloc: Global,
-    core: C,
-) -> Option<((Option<bool>, u64), C, Log)>
-    requires { C.stands core [] }
+    driver: SharedDriver<C>,
+    mut first: Seat<C>,
+    mut second: Seat<C>,
+) -> Option<bool>
+    requires { (first.driver ≡ driver.id) × (second.driver ≡ driver.id) }
 {
-    let (driver, mut first, mut second) = pair(alloc, core, Log::new(alloc))?;
     let access = Access {
         driver: &driver,
         rt,
@@ -120,22 +156,7 @@ fn met_and_closed<C: Core, R: Wait>(
     drop(access);
     driver.meet(&mut first, &mut second);
     let seen = driver.seen_count(&mut first);
-    let (core, log) = close_late(alloc, driver, first, second)?;
-    Some(((is_well, seen), core, log))
-}
-
-fn last_moment(log: &Log) -> Option<u64> {
-    Some(log.entries().last()?.step.moment)
-}
-
-// Whether two seats that close with one missing first close with both, after steps whose moments only grew.
-pub(super) fn closes_late<C: Core, R: Wait>(rt: &R, alloc: Global, core: C) -> Option<bool>
-    requires { C.stands core [] }
-{
-    let ((is_well, seen), core, log) = met_and_closed(rt, alloc, core)?;
-    let moments = (core.last_moment(), last_moment(&log));
-    drop(core);
-    drop(log);
+    let moments = last_moments(alloc, driver, first, second)?;
     Some(is_well? && seen == 2 && moments == (9, Some(9)))
 }
 

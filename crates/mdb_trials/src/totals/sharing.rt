@@ -4,7 +4,7 @@ ghost use Rattle.std.specs.Prelude.{◌≡◌, [], All, IfSome};
 
 use super::{Scene, goes_well};
 use crate::lines::{Ask, Told, step_of, steps};
-use crate::opening::{keep, log_of, opened, pair};
+use crate::opening::{keep, log_of, opened};
 use mdb_log::{Core, Log, Reply};
 use mdb_shared::{Seat, SharedDriver};
 use mdb_workers::Access;
@@ -63,16 +63,17 @@ fn closed<C: Core>(
     None
 }
 
-// What two threads made, and their log.
+// What two threads made, and what their log counts.
 fn added_by_two<C: Core, R: Threads + Wait + Sync>(
     rt: &R,
     alloc: Global,
-    core: C,
+    driver: SharedDriver<C>,
+    first: Seat<C>,
+    second: Seat<C>,
     count: u32,
-) -> Option<(u32, u32, Log)>
-    requires { C.stands core [] }
+) -> Option<(u32, u32, Option<(u64, u64)>)>
+    requires { (first.driver ≡ driver.id) × (second.driver ≡ driver.id) }
 {
-    let (driver, first, second) = pair(alloc, core, Log::new(alloc))?;
     let shared = &driver;
     let (a, b) = join(
         rt,
@@ -86,7 +87,9 @@ fn added_by_two<C: Core, R: Threads + Wait + Sync>(
         { add_ones(rt, alloc, shared, second, count) },
     );
     let log = closed(alloc, driver, a.0, b.0)?;
-    Some((a.1, b.1, log))
+    let counted = counted(&log);
+    drop(log);
+    Some((a.1, b.1, counted))
 }
 
 // Each entry counts one more; how many the first seat made, and how many there are.
@@ -106,16 +109,16 @@ fn counted(log: &Log) -> Option<(u64, u64)> {
 }
 
 // Whether two threads that make 20,000 steps each make one log of them all. None where a step was not made, for lack of memory.
-pub(super) fn adds_by_two<C: Core, R: Threads + Wait + Sync>(
+pub(crate) fn adds_by_two<C: Core, R: Threads + Wait + Sync>(
     rt: &R,
     alloc: Global,
-    core: C,
+    driver: SharedDriver<C>,
+    first: Seat<C>,
+    second: Seat<C>,
 ) -> Option<bool>
-    requires { C.stands core [] }
+    requires { (first.driver ≡ driver.id) × (second.driver ≡ driver.id) }
 {
-    let (one, other, log) = added_by_two(rt, alloc, core, 20000)?;
-    let counted = counted(&log);
-    drop(log);
+    let (one, other, counted) = added_by_two(rt, alloc, driver, first, second, 20000)?;
     if one != 20000 || other != 20000 {
         return None;
     }
@@ -203,7 +206,7 @@ fn in_turn(log: &Log) -> bool {
     true
 }
 
-pub(super) fn goes_round_twice<C: Core>(alloc: Global, core: C) -> Option<bool>
+pub(crate) fn goes_round_twice<C: Core>(alloc: Global, core: C) -> Option<bool>
     requires { C.stands core [] }
 {
     let log = log_of_rounds(alloc, core)?;

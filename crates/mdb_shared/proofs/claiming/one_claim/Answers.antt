@@ -1,10 +1,10 @@
 use Rattle.std.proofs.Common.{List, ap, sym, subst, ◌∙◌}
 use Rattle.mdb_log.specs.declared.log.Entry.{Entry}
-use Rattle.mdb_shared.specs.declared.rule.View.{View}
+use Rattle.mdb_turns.specs.declared.rule.View.{View}
 use Rattle.mdb_shared.specs.Claims.{Holds}
-use Rattle.mdb_shared.specs.Seats.{seat_view}
-use Rattle.mdb_shared.proofs.Keeping.{has_turn, one_more, stepped_well, view_after}
-use Rattle.mdb_shared.proofs.Jobs.{tells, as_claimed}
+use Rattle.mdb_turns.specs.Stepping.{seat_view}
+use Rattle.mdb_turns.proofs.Keeping.{has_turn, one_more, stepped_well, view_after}
+use Rattle.mdb_shared.proofs.Jobs.{tells, as_claimed, missed_as}
 use Rattle.mdb_shared.proofs.claiming.one_claim.Goals as goal
 
 pub with_job-claimed-requires-clause-stands : goal.with_job-claimed-requires-clause-stands

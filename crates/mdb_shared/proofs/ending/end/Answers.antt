@@ -1,7 +1,7 @@
 use Rattle.std.proofs.Common.{List, refl, subst, sym, ◌∙◌}
 use Rattle.std.specs.Option.{IsSome}
 use Rattle.mdb_log.specs.declared.log.Entry.{Entry}
-use Rattle.mdb_shared.specs.Turning.{Slot, Settles}
+use Rattle.mdb_turns.specs.Turning.{Slot, Settles}
 use Rattle.mdb_shared.proofs.Closing.{ends, same_content}
 use Rattle.mdb_shared.proofs.ending.end.Goals as goal
 

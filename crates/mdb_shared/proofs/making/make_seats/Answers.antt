@@ -1,8 +1,9 @@
 use Rattle.std.proofs.Common.{rules, arith, ◌≡◌, ◌<◌, ◌+◌, List, length, length-append, ℕ, ap, sym, subst, refl, ◌∙◌, slice_get, Some}
 use Rattle.atomic_table.specs.Table.{Me}
-use Rattle.mdb_shared.specs.declared.rule.View.{View}
-use Rattle.mdb_shared.specs.Turning.{Slot}
-use Rattle.mdb_shared.specs.Seats.{SeatView, fresh_seat}
+use Rattle.mdb_turns.specs.declared.rule.View.{View}
+use Rattle.mdb_turns.specs.Turning.{Slot}
+use Rattle.mdb_turns.specs.Stepping.{SeatView}
+use Rattle.mdb_shared.specs.Seats.{fresh_seat}
 use Rattle.mdb_shared.proofs.Sharing.{numbers, get_push, is_fresh, keeper_next}
 use Rattle.mdb_shared.proofs.making.make_seats.Goals as goal
 

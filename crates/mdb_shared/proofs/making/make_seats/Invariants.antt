@@ -1,6 +1,6 @@
 use Rattle.std.proofs.Common.{◌≡◌, ◌<◌, ◌≤◌, ℕ, [], length, slice_get, Some}
 use Rattle.std.specs.Vec.{vec_capacity}
-use Rattle.mdb_shared.specs.Turning.{keeper_view}
+use Rattle.mdb_turns.specs.Turning.{keeper_view}
 use Rattle.mdb_shared.specs.Seats.{fresh_seat}
 use Rattle.mdb_shared.proofs.making.make_seats.Given as goal
 

@@ -1,10 +1,10 @@
 use Rattle.std.proofs.Common.{rules, List, length, ap, sym, subst, ◌∙◌}
 use Rattle.atomic_table.specs.Table.{Me}
 use Rattle.mdb_log.specs.declared.log.Entry.{Entry}
-use Rattle.mdb_shared.specs.declared.rule.View.{View}
+use Rattle.mdb_turns.specs.declared.rule.View.{View}
 use Rattle.mdb_log.specs.Driver.{StartsWith}
-use Rattle.mdb_shared.specs.Turning.{Slot, having_seen}
-use Rattle.mdb_shared.proofs.Keeping.{looks}
+use Rattle.mdb_turns.specs.Turning.{Slot, having_seen}
+use Rattle.mdb_turns.proofs.Keeping.{looks}
 use Rattle.mdb_shared.proofs.meeting.load_count.Goals as goal
 
 pub load-requires : goal.load-requires

@@ -1,8 +1,8 @@
 use Rattle.std.proofs.Common.{◌≡◌, ap, sym, subst, ◌∙◌}
 use Rattle.atomic_table.specs.Table.{Me}
-use Rattle.mdb_shared.specs.declared.rule.View.{View}
+use Rattle.mdb_turns.specs.declared.rule.View.{View}
 use Rattle.mdb_log.specs.Driver.{StartsWith}
-use Rattle.mdb_shared.specs.Turning.{Slot, absorbed, copied}
+use Rattle.mdb_turns.specs.Turning.{Slot, absorbed, copied}
 use Rattle.mdb_shared.proofs.Sharing.{met}
 use Rattle.mdb_shared.proofs.meeting.meet_at.Goals as goal
 

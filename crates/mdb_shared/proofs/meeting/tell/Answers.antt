@@ -1,7 +1,7 @@
 use Rattle.std.proofs.Common.{rules, ap}
-use Rattle.mdb_shared.specs.declared.rule.View.{View}
+use Rattle.mdb_turns.specs.declared.rule.View.{View}
 use Rattle.atomic_table.specs.Table.{Me}
-use Rattle.mdb_shared.specs.Turning.{Slot}
+use Rattle.mdb_turns.specs.Turning.{Slot}
 use Rattle.mdb_shared.proofs.Sharing.{copies, absorbs}
 use Rattle.mdb_shared.proofs.meeting.tell.Goals as goal
 

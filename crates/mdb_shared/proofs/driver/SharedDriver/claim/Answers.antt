@@ -1,6 +1,6 @@
 use Rattle.std.proofs.Common.{subst, refl, ◌∙◌}
 use Rattle.mdb_shared.specs.Claims.{claiming, claimed_by, Missed}
-use Rattle.mdb_shared.proofs.Keeping.{stepped_after, saw_after, found_nothing, found_more, found_as}
+use Rattle.mdb_shared.proofs.Waited.{stepped_after, saw_after, found_nothing, found_more, found_as}
 use Rattle.mdb_shared.proofs.driver.SharedDriver.claim.Goals as goal
 
 pub returns-in-Ok-clause-ok : goal.returns-in-Ok-clause-ok

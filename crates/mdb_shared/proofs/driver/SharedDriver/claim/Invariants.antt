@@ -1,5 +1,5 @@
 use Rattle.mdb_shared.specs.Seats.{FoundBusy}
-use Rattle.mdb_shared.proofs.Keeping.{Waited}
+use Rattle.mdb_shared.proofs.Waited.{Waited}
 use Rattle.mdb_shared.proofs.driver.SharedDriver.claim.Given as goal
 
 abbrev pub invariant-loop : goal.invariant-loop

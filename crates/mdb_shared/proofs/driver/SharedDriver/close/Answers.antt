@@ -1,5 +1,5 @@
 use Rattle.std.proofs.Common.{rules, arith, ◌≡◌, ◌≤◌, length, List, ap, sym, subst, ◌∙◌}
-use Rattle.mdb_shared.specs.declared.rule.SeatEntries.{SeatEntries}
+use Rattle.mdb_turns.specs.declared.rule.SeatEntries.{SeatEntries}
 use Rattle.mdb_shared.specs.Seats.{DriverView, Accounts}
 use Rattle.mdb_shared.proofs.Closing.{length_behind, accounts}
 use Rattle.mdb_shared.proofs.driver.SharedDriver.close.Goals as goal

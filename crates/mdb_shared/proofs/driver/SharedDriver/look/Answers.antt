@@ -1,5 +1,5 @@
 use Rattle.std.proofs.Common.{refl, ◌∙◌}
-use Rattle.mdb_shared.proofs.Keeping.{saw_after, found_nothing, found_more, found_as}
+use Rattle.mdb_shared.proofs.Waited.{saw_after, found_nothing, found_more, found_as}
 use Rattle.mdb_shared.proofs.driver.SharedDriver.look.Goals as goal
 
 pub returns-in-Ok-clause-saw : goal.returns-in-Ok-clause-saw

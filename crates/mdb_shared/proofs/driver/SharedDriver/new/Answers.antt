@@ -1,4 +1,4 @@
-use Rattle.mdb_shared.proofs.Keeping.{begun}
+use Rattle.mdb_turns.proofs.Keeping.{begun}
 use Rattle.mdb_shared.proofs.Sharing.{all_seats}
 use Rattle.mdb_shared.proofs.driver.SharedDriver.new.Goals as goal
 

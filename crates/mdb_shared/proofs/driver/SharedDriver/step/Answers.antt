@@ -1,7 +1,7 @@
 use Rattle.std.proofs.Common.{subst, refl, ◌∙◌}
-use Rattle.mdb_shared.specs.declared.answers.TryError.{TryError}
-use Rattle.mdb_shared.specs.Seats.{Failed}
-use Rattle.mdb_shared.proofs.Keeping.{stepped_after, saw_after, found_nothing, found_more, found_as}
+use Rattle.mdb_turns.specs.declared.try_error.TryError.{TryError}
+use Rattle.mdb_turns.specs.Stepping.{Failed}
+use Rattle.mdb_shared.proofs.Waited.{stepped_after, saw_after, found_nothing, found_more, found_as}
 use Rattle.mdb_shared.proofs.driver.SharedDriver.step.Goals as goal
 
 pub returns-in-Ok-clause-ok : goal.returns-in-Ok-clause-ok

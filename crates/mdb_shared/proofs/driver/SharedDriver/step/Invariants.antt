@@ -1,6 +1,6 @@
 use Rattle.std.proofs.Common.{◌≡◌}
 use Rattle.mdb_shared.specs.Seats.{FoundBusy}
-use Rattle.mdb_shared.proofs.Keeping.{Waited}
+use Rattle.mdb_shared.proofs.Waited.{Waited}
 use Rattle.mdb_shared.proofs.driver.SharedDriver.step.Given as goal
 
 abbrev pub invariant-loop : goal.invariant-loop

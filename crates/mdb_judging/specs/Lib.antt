@@ -1,0 +1,11 @@
+pub mod Audited
+pub mod Fairness
+pub mod Faults
+pub mod Judging
+pub mod Newest
+pub mod Opens
+pub mod Queueing
+pub mod Shown
+pub mod Taking
+pub mod TakingOn
+pub mod Touching
