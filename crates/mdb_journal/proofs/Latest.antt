@@ -1,6 +1,9 @@
 -- What all entries tell, once one more has come.
-use Rattle.std.proofs.Common.{◌≡◌, ℕ, suc, zero, ◌<◌, ◌≤◌, ◌&&◌, ◌||◌, Bool, true, false, IsTrue, if◌then◌else◌, Option, Some, List, [], ◌∷◌, ◌++◌, length, refl, sym, ◌∙◌, ap, arith}
-use Rattle.std.specs.Prelude.{slice_get}
+use Rattle.std.proofs.Common.{◌≡◌, ℕ, suc, zero, ◌+◌, ◌-◌, ◌<◌, ◌≤◌, ◌&&◌, ◌||◌, Bool, true, false, IsTrue, if◌then◌else◌, Option, Some, List, [], ◌∷◌, ◌++◌, length, take, refl, sym, ◌∙◌, ap, subst, append_assoc, append-nil, length-append, arith}
+use Rattle.std.proofs.lemmas.List.{take_more, length-take-le}
+use Rattle.std.proofs.lemmas.List.Folds.{list_any-append}
+use Rattle.std.proofs.Math.Seq.{get_or-append_seam}
+use Rattle.std.specs.Prelude.{slice_get, get_or}
 use Rattle.std.specs.List.{list_any}
 use Rattle.mdb_log.specs.declared.reply.Reply.{Reply}
 use Rattle.mdb_log.specs.declared.reply.Reply.TheVariants.{Done}
@@ -69,3 +72,63 @@ stopped-at (e ∷ es) h = on (stops e) refl h
     on : (b : Bool) → stops e ≡ b → IsTrue (b || list_any stops es) → HasStopped (e ∷ es)
     on true q g = let p = both (stops_by e.step.act) (is_done e.reply) q in (0, e, refl, stop-act e.step.act p.0, done-reply e.reply p.1)
     on false q g = let r = stopped-at es g in (suc r.0, r.1, r.2, r.3, r.4)
+
+-- ---- what a loop over them has found so far
+
+upto-within : (b : Bool) (i end : ℕ) → end ≤ i → (if b then i + 1 else end) ≤ i + 1
+upto-within true i end l = omega arith
+upto-within false i end l = omega (arith, l)
+
+-- the last news up to the next place
+pub news-upto : (es : List Entry) (i end : ℕ) (e : Entry) → i < length es → e ≡ get_or es i e → end ≡ news_end (take i es) → end ≤ i
+    → ((if is_news e then i + 1 else end) ≡ news_end (take (i + 1) es)) × ((if is_news e then i + 1 else end) ≤ i + 1)
+news-upto es i end e l is so within =
+    let long : length (take i es) ≡ i = length-take-le i es (omega (arith, l)) in
+    let more : take (i + 1) es ≡ take i es ++ e ∷ [] = take_more es i e l ∙ ap (λ (x : Entry). take i es ++ x ∷ []) (sym is) in
+    let end-is : news_end (take (i + 1) es) ≡ (if is_news e then i + 1 else end) =
+            ap news_end more ∙ (news-more (take i es) e ∙ (ap (λ (n : ℕ). if is_news e then suc n else news_end (take i es)) long ∙ ap (λ (n : ℕ). if is_news e then suc i else n) (sym so) ∙ ap (λ (n : ℕ). if is_news e then n else end) (omega arith))) in
+    (sym end-is, upto-within (is_news e) i end within)
+
+-- ---- one entry more, where the first ones were handed out
+
+or-false : (b : Bool) → (b || false) ≡ b
+or-false true = refl
+or-false false = refl
+
+one-more : (past old new : List Entry) (e : Entry) → new ≡ old ++ e ∷ [] → past ++ new ≡ (past ++ old) ++ e ∷ []
+one-more past old new e is = ap (λ (es : List Entry). past ++ es) is ∙ sym (append_assoc past old (e ∷ []))
+
+-- how many there are up to the last news
+pub news-on : (past old new : List Entry) (e : Entry) → new ≡ old ++ e ∷ [] → news_end (past ++ new) ≡ (if is_news e then length past + length new else news_end (past ++ old))
+news-on past old new e is =
+    let count : suc (length (past ++ old)) ≡ length past + length new = omega (arith, length-append past old, ap length is ∙ length-append old (e ∷ [])) in
+    ap news_end (one-more past old new e is) ∙ (news-more (past ++ old) e ∙ ap (λ (n : ℕ). if is_news e then n else news_end (past ++ old)) count)
+
+-- whether one of them stops the driver
+pub stops-on : (past old new : List Entry) (e : Entry) → new ≡ old ++ e ∷ [] → list_any stops (past ++ new) ≡ (list_any stops (past ++ old) || stops e)
+stops-on past old new e is =
+    ap (list_any stops) (one-more past old new e is) ∙ (list_any-append stops (past ++ old) (e ∷ []) ∙ ap (λ (b : Bool). list_any stops (past ++ old) || b) (or-false (stops e)))
+
+-- the last one is the new one
+newest-is : (old new : List Entry) (e n : Entry) → new ≡ old ++ e ∷ [] → n ≡ get_or new (length new - 1) n → n ≡ e
+newest-is old new e n is last =
+    let at : length (old ++ e ∷ []) - 1 ≡ length old = omega (arith, length-append old (e ∷ [])) in
+    last ∙ (ap (λ (l : List Entry). get_or l (length l - 1) n) is ∙ (ap (λ (k : ℕ). get_or (old ++ e ∷ []) k n) at ∙ get_or-append_seam old e [] n))
+
+-- what is kept of all entries
+pub kept-on : (past old new : List Entry) (e n : Entry) (news : ℕ) (stopped is-news is-stop : Bool) → new ≡ old ++ e ∷ [] → n ≡ get_or new (length new - 1) n → news ≡ news_end (past ++ old)
+    → stopped ≡ list_any stops (past ++ old) → is-news ≡ is_news n → is-stop ≡ stops n
+    → ((if is-news then length past + length new else news) ≡ news_end (past ++ new)) × ((stopped || is-stop) ≡ list_any stops (past ++ new))
+kept-on past old new e n news stopped is-news is-stop is last up any newer stopping =
+    let same : n ≡ e = newest-is old new e n is last in (
+      ap (λ (b : Bool). if b then length past + length new else news) (newer ∙ ap is_news same) ∙ (ap (λ (m : ℕ). if is_news e then length past + length new else m) up ∙ sym (news-on past old new e is)),
+      ap (λ (b : Bool). stopped || b) (stopping ∙ ap stops same) ∙ (ap (λ (b : Bool). b || stops e) any ∙ sym (stops-on past old new e is)),
+    )
+
+-- what holds of all entries where none or one more came
+
+pub all-same : (P : List Entry → Type 0) (past old new : List Entry) → new ≡ old → P ((past ++ old) ++ []) → P (past ++ new)
+all-same P past old new is h = subst P (append-nil (past ++ old) ∙ ap (λ (es : List Entry). past ++ es) (sym is)) h
+
+pub all-more : (P : List Entry → Type 0) (past old new : List Entry) (e : Entry) → new ≡ old ++ e ∷ [] → P ((past ++ old) ++ e ∷ []) → P (past ++ new)
+all-more P past old new e is h = subst P (sym (one-more past old new e is)) h
