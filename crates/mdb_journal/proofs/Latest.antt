@@ -12,7 +12,7 @@ use Rattle.mdb_log.specs.declared.step.Act.TheVariants.{Stop}
 use Rattle.mdb_log.specs.Driver.{is_done}
 use Rattle.mdb_log.specs.declared.log.Entry.{Entry}
 use Rattle.mdb_journal.specs.News.{is_news}
-use Rattle.mdb_journal.specs.Entries.{news_with, news_end, stops_by, stops, HasNews, HasStopped}
+use Rattle.mdb_journal.specs.Entries.{news_with, news_end, news_then, stops_by, stops, HasNews, HasStopped}
 
 behind : (b is : Bool) (n : ℕ) (m : ℕ) → news_with b (if is then suc n else m) ≡ (if is then suc (suc n) else news_with b m)
 behind b true n m = refl
@@ -35,14 +35,14 @@ news-within (e ∷ es) = within (is_news e) (news_end es) (length es) (news-with
 
 last-news : (n : ℕ) (es : List Entry) → news_end es ≡ suc n → (e : Entry) × (slice_get es n ≡ Some e) × IsTrue (is_news e)
 last-news n [] h = cc
-last-news n (e ∷ es) h = on (news_end es) (is_news e) refl refl n h
+last-news n (e ∷ es) h = on (λ k. last-news k es) (news_end es) (is_news e) refl refl n h
   where
-    on : (m : ℕ) (b : Bool) → news_end es ≡ m → is_news e ≡ b → (k : ℕ) → news_with b m ≡ suc k → (x : Entry) × (slice_get (e ∷ es) k ≡ Some x) × IsTrue (is_news x)
-    on zero true q is zero g = (e, refl, is)
-    on zero true q is (suc k) g = cc
-    on zero false q is k g = cc
-    on (suc m) b q is zero g = cc
-    on (suc m) b q is (suc k) g = last-news k es (q ∙ omega (arith, g))
+    on : ((k : ℕ) → news_end es ≡ suc k → (x : Entry) × (slice_get es k ≡ Some x) × IsTrue (is_news x)) → (m : ℕ) (b : Bool) → news_end es ≡ m → is_news e ≡ b → (k : ℕ) → news_with b m ≡ suc k → (x : Entry) × (slice_get (e ∷ es) k ≡ Some x) × IsTrue (is_news x)
+    on later zero true q is zero g = (e, refl, is)
+    on later zero true q is (suc k) g = cc
+    on later zero false q is k g = cc
+    on later (suc m) b q is zero g = cc
+    on later (suc m) b q is (suc k) g = later k (q ∙ omega (arith, g))
 
 -- where the last news comes after a place, there is news from it on
 pub news-from : (from : ℕ) (es : List Entry) → from < news_end es → HasNews from es
@@ -67,11 +67,11 @@ both false b h = cc
 -- where any entry stops the driver, there is one that does
 pub stopped-at : (es : List Entry) → IsTrue (list_any stops es) → HasStopped es
 stopped-at [] h = cc
-stopped-at (e ∷ es) h = on (stops e) refl h
+stopped-at (e ∷ es) h = on (stopped-at es) (stops e) refl h
   where
-    on : (b : Bool) → stops e ≡ b → IsTrue (b || list_any stops es) → HasStopped (e ∷ es)
-    on true q g = let p = both (stops_by e.step.act) (is_done e.reply) q in (0, e, refl, stop-act e.step.act p.0, done-reply e.reply p.1)
-    on false q g = let r = stopped-at es g in (suc r.0, r.1, r.2, r.3, r.4)
+    on : (IsTrue (list_any stops es) → HasStopped es) → (b : Bool) → stops e ≡ b → IsTrue (b || list_any stops es) → HasStopped (e ∷ es)
+    on later true q g = let p = both (stops_by e.step.act) (is_done e.reply) q in (0, e, refl, stop-act e.step.act p.0, done-reply e.reply p.1)
+    on later false q g = let r = later g in (suc r.0, r.1, r.2, r.3, r.4)
 
 -- ---- what a loop over them has found so far
 
@@ -81,12 +81,12 @@ upto-within false i end l = omega (arith, l)
 
 -- the last news up to the next place
 pub news-upto : (es : List Entry) (i end : ℕ) (e : Entry) → i < length es → e ≡ get_or es i e → end ≡ news_end (take i es) → end ≤ i
-    → ((if is_news e then i + 1 else end) ≡ news_end (take (i + 1) es)) × ((if is_news e then i + 1 else end) ≤ i + 1)
+    → (news_then e (i + 1) end ≡ news_end (take (i + 1) es)) × (news_then e (i + 1) end ≤ i + 1)
 news-upto es i end e l is so within =
     let long : length (take i es) ≡ i = length-take-le i es (omega (arith, l)) in
     let more : take (i + 1) es ≡ take i es ++ e ∷ [] = take_more es i e l ∙ ap (λ (x : Entry). take i es ++ x ∷ []) (sym is) in
     let end-is : news_end (take (i + 1) es) ≡ (if is_news e then i + 1 else end) =
-            ap news_end more ∙ (news-more (take i es) e ∙ (ap (λ (n : ℕ). if is_news e then suc n else news_end (take i es)) long ∙ ap (λ (n : ℕ). if is_news e then suc i else n) (sym so) ∙ ap (λ (n : ℕ). if is_news e then n else end) (omega arith))) in
+    ap news_end more ∙ (news-more (take i es) e ∙ (ap (λ (n : ℕ). if is_news e then suc n else news_end (take i es)) long ∙ ap (λ (n : ℕ). if is_news e then suc i else n) (sym so) ∙ ap (λ (n : ℕ). if is_news e then n else end) (omega arith))) in
     (sym end-is, upto-within (is_news e) i end within)
 
 -- ---- one entry more, where the first ones were handed out
@@ -116,13 +116,13 @@ newest-is old new e n is last =
     last ∙ (ap (λ (l : List Entry). get_or l (length l - 1) n) is ∙ (ap (λ (k : ℕ). get_or (old ++ e ∷ []) k n) at ∙ get_or-append_seam old e [] n))
 
 -- what is kept of all entries
-pub kept-on : (past old new : List Entry) (e n : Entry) (news : ℕ) (stopped is-news is-stop : Bool) → new ≡ old ++ e ∷ [] → n ≡ get_or new (length new - 1) n → news ≡ news_end (past ++ old)
-    → stopped ≡ list_any stops (past ++ old) → is-news ≡ is_news n → is-stop ≡ stops n
-    → ((if is-news then length past + length new else news) ≡ news_end (past ++ new)) × ((stopped || is-stop) ≡ list_any stops (past ++ new))
-kept-on past old new e n news stopped is-news is-stop is last up any newer stopping =
+pub kept-on : (past old new : List Entry) (e n : Entry) (gone news : ℕ) (stopped : Bool) → new ≡ old ++ e ∷ [] → n ≡ get_or new (length new - 1) n → gone ≡ length past → news ≡ news_end (past ++ old)
+    → stopped ≡ list_any stops (past ++ old) → (news_then n (gone + length new) news ≡ news_end (past ++ new)) × ((stopped || stops n) ≡ list_any stops (past ++ new))
+kept-on past old new e n gone news stopped is last count up any =
     let same : n ≡ e = newest-is old new e n is last in (
-      ap (λ (b : Bool). if b then length past + length new else news) (newer ∙ ap is_news same) ∙ (ap (λ (m : ℕ). if is_news e then length past + length new else m) up ∙ sym (news-on past old new e is)),
-      ap (λ (b : Bool). stopped || b) (stopping ∙ ap stops same) ∙ (ap (λ (b : Bool). b || stops e) any ∙ sym (stops-on past old new e is)),
+      ap (λ (x : Entry). news_then x (gone + length new) news) same
+          ∙ (ap (λ (m : ℕ). news_then e (m + length new) news) count ∙ (ap (λ (m : ℕ). news_then e (length past + length new) m) up ∙ sym (news-on past old new e is))),
+      ap (λ (x : Entry). stopped || stops x) same ∙ (ap (λ (b : Bool). b || stops e) any ∙ sym (stops-on past old new e is)),
     )
 
 -- what holds of all entries where none or one more came

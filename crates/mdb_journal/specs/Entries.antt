@@ -34,6 +34,10 @@ abbrev pub news_end : List Entry → ℕ
 news_end [] = 0
 news_end (e ∷ es) = news_with (is_news e) (news_end es)
 
+-- How many entries there are up to the last one that is news, where this entry is the last of so many and before it there were these.
+abbrev pub news_then : Entry → ℕ → ℕ → ℕ
+news_then e count before = if is_news e then count else before
+
 -- An entry of the log, no earlier than this one, is news.
 abbrev pub HasNews : ℕ → List Entry → Type 0
 HasNews from log = (k : ℕ) × (e : Entry) × (from ≤ k) × (slice_get log k ≡ Some e) × IsTrue (is_news e)

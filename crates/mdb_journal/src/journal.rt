@@ -8,8 +8,7 @@ ghost use Rattle.mdb_log.specs.Acts.{IsDriverAct};
 ghost use Rattle.mdb_log.specs.History.{history_of, last_moment};
 ghost use Rattle.mdb_journal.specs.Entries.{kept, stops, news_end, HasNews, HasStopped};
 
-use crate::newest::{any_stops, newest, news_end, stops};
-use crate::news::is_news;
+use crate::newest::{any_stops, newest, news_end, news_then, stops_then};
 use mdb_base::OutOfMemory;
 use mdb_log::{Core, Entry, Log, Reply, Step};
 use mdb_past::{Past, Tells};
@@ -75,7 +74,7 @@ impl Journal {
     {
         // The entries have a number of the type.
         let _count = log.len();
-        let news = news_end(log.entries()) as u64;
+        let news = news_end(log.entries());
         let stopped = any_stops(log.entries());
         Journal {
             past: Past::none(),
@@ -157,13 +156,12 @@ impl Journal {
             return Err(OutOfMemory);
         }
         let reply = core.step(alloc, &mut self.recent, seat, step)?;
+        let count = self.gone + self.recent.len() as u64;
         let entry = newest(&self.recent);
-        let is_news = is_news(entry);
-        let stops = stops(entry);
-        if is_news {
-            self.news = self.gone + self.recent.len() as u64;
-        }
-        self.stopped = self.stopped || stops;
+        let news = news_then(entry, count, self.news);
+        let stopped = stops_then(entry, self.stopped);
+        self.news = news;
+        self.stopped = stopped;
         Ok(reply)
     }
 
