@@ -7,7 +7,7 @@ use Rattle.mdb_turns.proofs.Keeping.{raised_enough}
 use Rattle.mdb_turns.proofs.turn.begin_step.Goals as goal
 
 pub step-stepped-requires-clause-act : goal.step-stepped-requires-clause-act
-step-stepped-requires-clause-act g c = subst (λ (s : Step). IsDriverAct s.act) (sym c.raise-raised.ensures) c.requires.act
+step-stepped-requires-clause-act g c κs within = subst (λ (s : Step). IsDriverAct s.act) (sym c.raise-raised.ensures) c.requires.act
 
 pub returns-in-Ok-stepped-clause-ok : goal.returns-in-Ok-stepped-clause-ok
 returns-in-Ok-stepped-clause-ok g c = let t = c.in-Ok.ensures.ok in let h = c.in-Ok-stepped.ensures.entry in record {
