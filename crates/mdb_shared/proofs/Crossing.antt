@@ -117,17 +117,17 @@ pub log : IsSend Log.the_row
 log = search (entry, rules) depth 20
 
 pub journal : IsSend Journal.the_row
-journal = view_send JournalInside.the_row _ _ _ _ (recorded_send JournalInside.the_field.row _ _ JournalInside.the_type.to_one (struct_send (shape JournalInside.the_type) (search (past, entry, rules) depth 20, (duration, (log, (duration, (search rules, tt)))))))
+journal = view_send JournalInside.the_row _ _ _ _ (recorded_send JournalInside.the_field.row _ _ JournalInside.the_type.to_one (struct_send (shape JournalInside.the_type) (search (past, rules) depth 20, (duration, (log, (duration, (search rules, tt)))))))
 
 records : IsSend Records.the_row
 records = view_send RecordsInside.the_row _ _ _ _ (recorded_send RecordsInside.the_field.row _ _ RecordsInside.the_type.to_one (struct_send (shape RecordsInside.the_type) (journal, tt)))
 
 module _ (C : RattleType) (g : Core.Ghosts C.Denot) where
   pub seat_crosses : IsSend C → IsSend (Seat.the_row C g)
-  seat_crosses s = view_send (SeatInside.the_row C g) _ _ _ _ (recorded_send (SeatInside.the_field C g).row _ _ (SeatInside.the_type C g).to_one (struct_send (shape (SeatInside.the_type C g)) (search (place.the_send, records, log, crosses, sendable) depth 20, (number, tt))))
+  seat_crosses s = view_send (SeatInside.the_row C g) _ _ _ _ (recorded_send (SeatInside.the_field C g).row _ _ (SeatInside.the_type C g).to_one (struct_send (shape (SeatInside.the_type C g)) (search (place.the_send, records, crosses, sendable) depth 20, (number, tt))))
 
   pub driver_lends : IsSend C → IsSync (Driver.the_row C g)
-  driver_lends s = view_sync (DriverInside.the_row C g) _ _ _ _ (recorded_sync (DriverInside.the_field C g).row _ _ (DriverInside.the_type C g).to_one (struct_sync (shape (DriverInside.the_type C g)) (search (table.the_field_sync, records, log, crosses, sendable) depth 20, (search sendable, (counter, (counter, (counter, tt)))))))
+  driver_lends s = view_sync (DriverInside.the_row C g) _ _ _ _ (recorded_sync (DriverInside.the_field C g).row _ _ (DriverInside.the_type C g).to_one (struct_sync (shape (DriverInside.the_type C g)) (search (table.the_field_sync, records, crosses, sendable) depth 20, (search sendable, (counter, (counter, (counter, tt)))))))
 
 -- for `search`: what has a seat or lends a driver crosses where its core may
 pub ruleset seats = (seat_crosses, driver_lends, crosses, sendable)
