@@ -120,8 +120,8 @@ fn note(kinds: &mut Kinds, entry: &Entry) {
     }
 }
 
-/// The kinds of the entries of the log.
-pub fn kinds_of(log: &Log) -> Kinds {
+/// The kinds of the entries.
+pub fn kinds_of(entries: &[Entry]) -> Kinds {
     let mut kinds = Kinds {
         all: 0,
         requests: 0,
@@ -130,7 +130,7 @@ pub fn kinds_of(log: &Log) -> Kinds {
         idle_claims: 0,
         others: 0,
     };
-    for entry in log.entries() {
+    for entry in entries {
         note(&mut kinds, entry);
     }
     kinds

@@ -11,7 +11,7 @@ use crate::roles::establisher;
 use crate::running::greet;
 use mdb_handles::{Handle, SpareSeats};
 use mdb_journal::Journal;
-use mdb_log::{Core, Use};
+use mdb_log::{Core, Log, Use};
 use mdb_shared::{Look, Seat, SharedDriver};
 use mdb_workers::OpenGate;
 use std::alloc::Global;

@@ -212,7 +212,7 @@ fn hall_of(roles: &[Role]) -> Hall {
 fn told(journal: Journal) -> Result<(Counts, Kinds), DemoError> {
     match journal.whole() {
         Ok(log) => {
-            let told = (count(log.entries()), kinds_of(&log));
+            let told = (count(log.entries()), kinds_of(log.entries()));
             drop(log);
             Ok(told)
         }
