@@ -5,12 +5,9 @@ use Rattle.mdb_log.specs.declared.log.Entry.{Entry}
 use Rattle.mdb_log.specs.declared.step.Act.TheVariants.{Claim}
 use Rattle.mdb_log.specs.declared.reply.Reply.{Reply}
 use Rattle.mdb_log.specs.declared.reply.Reply.TheVariants.{Pooled, Establishing, Waiting, Ended, Job, NoJob, Changed, Count, Done, Refused}
-use Rattle.mdb_shared.specs.Claims.{claiming, claimed_by, no_claim, Missed}
-use Rattle.mdb_shared.specs.declared.claiming.NoClaim.{NoClaim}
+use Rattle.mdb_shared.specs.Claims.{claiming, claimed_by}
 use Rattle.mdb_shared.specs.declared.claiming.Claimed.{Claimed}
-use Rattle.mdb_turns.specs.Stepping.{SeatView, Stepped, Failed}
-use Rattle.mdb_turns.specs.declared.try_error.TryError.{TryError}
-use Rattle.mdb_turns.specs.declared.try_error.TryError.TheVariants.{Busy, OutOfMemory}
+use Rattle.mdb_turns.specs.Stepping.{SeatView, Stepped}
 
 never : (b : Bool) → IsTrue (b && false) → IsTrue false
 never true h = h
@@ -31,11 +28,3 @@ tells (Refused why) kind time = never (not (is_time_back why)) time
 
 pub as_claimed : {T : Type 0} (stands : T → List Entry → Type 0) (s s' : SeatView) (reply : Reply) (claimed : Claimed) → claimed_by claimed ≡ reply → Stepped stands s s' claiming reply → Stepped stands s s' claiming (claimed_by claimed)
 as_claimed stands s s' reply claimed is = subst (λ (r : Reply). Stepped stands s s' claiming r) (sym is)
-
--- a try that failed made no claim
-missed : (s s' : SeatView) (failed : TryError) → Failed s s' claiming failed → Missed s s' (no_claim failed)
-missed s s' (Busy word back) f = (f.1, f.2, f.3, f.4, f.5)
-missed s s' OutOfMemory f = f
-
-pub missed_as : (s s' : SeatView) (failed : TryError) (why : NoClaim) → why ≡ no_claim failed → Failed s s' claiming failed → Missed s s' why
-missed_as s s' failed why is f = subst (λ (w : NoClaim). Missed s s' w) (sym is) (missed s s' failed f)

@@ -11,6 +11,7 @@ use crate::ending::{end, gather};
 use crate::making::make_seats;
 use crate::meeting::{load_count, meet_at};
 use crate::seat::Seat;
+use crate::wait_queue::no_callers;
 use atomic_table::{Refused, Table};
 use mdb_base::OutOfMemory;
 use mdb_journal::Journal;
@@ -29,7 +30,7 @@ pub struct SharedDriver<C: Core> {
     pub(crate) table: Lock<C>,
     made: u32,
     // How many callers wait for a connection, by wait queue; how many sleep for the turn, and how many until the log tells news.
-    pub(crate) waiting: AtomicU64,
+    pub(crate) waiting: [AtomicU64; 8],
     pub(crate) at_turn: AtomicU64,
     pub(crate) at_bell: AtomicU64,
 }
@@ -81,7 +82,7 @@ impl<C: Core> SharedDriver<C> {
         let driver = SharedDriver {
             table,
             made: seats,
-            waiting: AtomicU64::new(0),
+            waiting: no_callers(),
             at_turn: AtomicU64::new(0),
             at_bell: AtomicU64::new(0),
         };

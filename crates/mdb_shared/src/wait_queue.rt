@@ -4,28 +4,30 @@
 use crate::driver::SharedDriver;
 use mdb_base::ServerAddress;
 use mdb_log::Core;
-use std::sync::atomic::Ordering;
+use std::sync::atomic::{AtomicU64, Ordering};
 use std::thread::yield_now;
 
 // How often one lets others run while callers wait. Then one asks all the same.
 const YIELDS: u32 = 64;
 
-// One caller in each of eight counters. A counter has eight bits, since no more than 64 seats wait.
-const CALLERS: [u64; 8] = [
-    1,
-    1 << 8,
-    1 << 16,
-    1 << 24,
-    1 << 32,
-    1 << 40,
-    1 << 48,
-    1 << 56,
-];
+/// Counters of all wait queues, while nobody waits.
+pub(crate) fn no_callers() -> [AtomicU64; 8] {
+    [
+        AtomicU64::new(0),
+        AtomicU64::new(0),
+        AtomicU64::new(0),
+        AtomicU64::new(0),
+        AtomicU64::new(0),
+        AtomicU64::new(0),
+        AtomicU64::new(0),
+        AtomicU64::new(0),
+    ]
+}
 
 /// The counter of those who wait for a connection to a server. There are eight, so servers may share one.
 #[derive(Clone, Copy, Debug, PartialEq, Eq)]
 pub struct WaitQueue {
-    caller: u64,
+    number: u32,
 }
 
 impl WaitQueue {
@@ -35,28 +37,26 @@ impl WaitQueue {
         for byte in address.host().as_bytes() {
             sum = sum.wrapping_add(*byte as u32);
         }
-        WaitQueue {
-            caller: CALLERS[(sum % 8) as usize],
-        }
+        WaitQueue { number: sum % 8 }
     }
 }
 
 impl<C: Core> SharedDriver<C> {
     /// A caller begins to wait for a connection. `leave_queue` follows.
     pub fn enter_queue(&self, queue: WaitQueue) {
-        self.waiting.fetch_add(queue.caller, Ordering::SeqCst);
+        self.waiting[(queue.number % 8) as usize].fetch_add(1, Ordering::SeqCst);
     }
 
     /// A caller that had begun to wait does so no more.
     pub fn leave_queue(&self, queue: WaitQueue) {
-        self.waiting.fetch_sub(queue.caller, Ordering::SeqCst);
+        self.waiting[(queue.number % 8) as usize].fetch_sub(1, Ordering::SeqCst);
     }
 
     /// Lets other threads run while callers wait in the queue, for some microseconds at most.
     pub fn yield_to(&self, queue: WaitQueue) {
-        let bits = queue.caller.wrapping_mul(0xff);
+        let waiting = &self.waiting[(queue.number % 8) as usize];
         for _ in 0..YIELDS {
-            if self.waiting.load(Ordering::SeqCst) & bits == 0 {
+            if waiting.load(Ordering::SeqCst) == 0 {
                 return;
             }
             yield_now();

@@ -4,7 +4,7 @@ use Rattle.mdb_turns.specs.declared.rule.View.{View}
 use Rattle.mdb_shared.specs.Claims.{Holds}
 use Rattle.mdb_turns.specs.Stepping.{seat_view}
 use Rattle.mdb_turns.proofs.Keeping.{has_turn, one_more, stepped_well, view_after}
-use Rattle.mdb_shared.proofs.Jobs.{tells, as_claimed, missed_as}
+use Rattle.mdb_shared.proofs.Jobs.{tells, as_claimed}
 use Rattle.mdb_shared.proofs.claiming.one_claim.Goals as goal
 
 pub with_job-claimed-requires-clause-stands : goal.with_job-claimed-requires-clause-stands
