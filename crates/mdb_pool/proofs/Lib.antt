@@ -74,3 +74,4 @@ pub mod Unserved
 pub mod UnservedCount
 pub mod WalksBack
 pub mod Marks
+mod Claims

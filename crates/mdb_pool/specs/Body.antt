@@ -11,6 +11,7 @@ use Rattle.mdb_pool.specs.declared.request.Request.{Request}
 use Rattle.mdb_pool.specs.declared.status.Status.{Status}
 use Rattle.mdb_pool.specs.declared.status.Clear.{Clear}
 use Rattle.mdb_pool.specs.Inner.{PoolShelf, PoolRoom, Inner}
+use Rattle.mdb_pool.specs.Claiming.{ClaimSteps, claimed_after, ClaimsFit}
 use Rattle.mdb_pool.specs.Core.{PoolCore}
 use Rattle.mdb_pool.specs.declared.body.Body.{Body}
 
@@ -23,7 +24,7 @@ pub record PoolSteps : Type 0 where
   pub status : Option Status
   pub clears : ListSteps Clear
   pub settled : NumberSteps
-  pub claimed : NumberSteps
+  pub claimed : ClaimSteps
 
 -- the pool that is read from it
 abbrev pub pool_of : Inner → PoolCore
@@ -38,7 +39,7 @@ pool_of i = record {
   status = i.base.status;
   clears = i.base.clears;
   settled = numbers_kept i.base.settled;
-  claimed = numbers_kept i.base.claimed;
+  claimed = i.base.claimed.numbers;
   inner = i;
 }
 
@@ -55,7 +56,7 @@ pool_after p s = record {
   status = or_else p.status s.status;
   clears = list_after p.clears s.clears;
   settled = spanned_after p.settled s.settled;
-  claimed = spanned_after p.claimed s.claimed;
+  claimed = claimed_after p.claimed s.claimed;
 }
 
 -- how long each part becomes without memory once the changes are made
@@ -65,7 +66,6 @@ room_after p r = record {
   requests = sided_capacity_after p.requests r.requests;
   clears = length_after p.clears r.clears;
   settled = capacity_after p.settled r.settled;
-  claimed = capacity_after p.claimed r.claimed;
 }
 
 abbrev pub inner_after : PoolSteps → Inner → Inner
@@ -85,7 +85,7 @@ PoolFits p i =
     × SidedFits (λ q. q.number) no_service (λ q. q.asked_at) (λ q. is_queued q.phase && q.warm) (λ q. is_queued q.phase) p.requests i.base.requests i.room.requests
     × ListFits p.clears i.base.clears i.room.clears
     × NumbersFit p.settled i.base.settled i.room.settled
-    × NumbersFit p.claimed i.base.claimed i.room.claimed
+    × ClaimsFit (or_else p.created i.base.created) (claimed_after p.claimed i.base.claimed) (items (sided_after p.connections i.base.connections).table)
 
 -- the same of the parts of a pool
 abbrev pub base_of : Body → PoolShelf
@@ -94,13 +94,13 @@ base_of b = record {
   address = b.address;
   options = b.options;
   last = b.last.base;
-  created = b.created.base;
+  created = b.connections.created.base;
   connections = b.connections.base;
   requests = b.requests.base;
   status = b.status.base;
   clears = b.clears.base;
   settled = b.settled.base;
-  claimed = b.claimed.base;
+  claimed = b.connections.settled;
 }
 
 abbrev pub room_of : Body → PoolRoom
@@ -109,7 +109,6 @@ room_of b = record {
   requests = b.requests.capacity;
   clears = b.clears.capacity;
   settled = b.settled.capacity;
-  claimed = b.claimed.capacity;
 }
 
 abbrev pub inner_of : Body → Inner
@@ -121,12 +120,12 @@ now_of b = record {
   address = b.address;
   options = b.options;
   last = b.last.now;
-  created = b.created.now;
+  created = b.connections.created.now;
   connections = b.connections.now;
   requests = b.requests.now;
   status = b.status.now;
   clears = b.clears.now;
   settled = b.settled.now;
-  claimed = b.claimed.now;
+  claimed = b.connections.claimed;
   inner = inner_of b;
 }

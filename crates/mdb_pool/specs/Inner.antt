@@ -9,6 +9,11 @@ use Rattle.mdb_pool.specs.declared.request.Request.{Request}
 use Rattle.mdb_pool.specs.declared.status.Status.{Status}
 use Rattle.mdb_pool.specs.declared.status.Clear.{Clear}
 
+-- the numbers of the connections that are claimed, and the last of them, 0 where there is none
+pub record Claimed : Type 0 where
+  pub numbers : List ℕ
+  pub last : ℕ
+
 -- what a pool is read from
 pub record PoolShelf : Type 0 where
   pub pool : ℕ
@@ -21,7 +26,7 @@ pub record PoolShelf : Type 0 where
   pub status : Status
   pub clears : List Clear
   pub settled : Spanned
-  pub claimed : Spanned
+  pub claimed : Claimed
 
 -- how long each part becomes without memory
 pub record PoolRoom : Type 0 where
@@ -29,7 +34,6 @@ pub record PoolRoom : Type 0 where
   pub requests : SidedCapacities
   pub clears : ℕ
   pub settled : ℕ
-  pub claimed : ℕ
 
 pub record Inner : Type 0 where
   pub base : PoolShelf

@@ -8,6 +8,7 @@ pub mod Keyed
 pub mod Places
 pub mod Available
 pub mod Kept
+pub mod Claiming
 pub mod Refusing
 pub mod Changes
 pub mod Matching

@@ -5,7 +5,7 @@ ghost use Rattle.mdb_pool.specs.Core.{SameKept};
 ghost use Rattle.mdb_pool.specs.Body.{now_of, inner_of, inner_after, pool_of, led, PoolFits};
 
 use super::PoolOptions;
-use super::connection::Connection;
+use super::connections::{Connections, ConnectionsRedo};
 use super::request::Request;
 use super::status::{Clear, Status};
 use mdb_base::{Moment, ServerAddress};
@@ -20,26 +20,22 @@ pub struct Body {
     pub address: ServerAddress,
     pub options: PoolOptions,
     pub last: TurnedOne<Moment>,
-    pub created: TurnedOne<u32>,
-    pub connections: Sides<Connection>,
+    pub connections: Connections,
     pub requests: Sides<Request>,
     pub status: TurnedOne<Status>,
     pub clears: Turned<Clear>,
     pub settled: NumberSet,
-    pub claimed: NumberSet,
 }
 
 /// Changes of a pool that were taken back, to be made again.
 #[derive(Drop)]
 pub struct BodyRedo {
     last: Option<Moment>,
-    created: Option<u32>,
-    connections: SidesRedo<Connection>,
+    connections: ConnectionsRedo,
     requests: SidesRedo<Request>,
     status: Option<Status>,
     clears: Redo<Clear>,
     settled: NumberSetRedo,
-    claimed: NumberSetRedo,
 }
 
 impl Model for BodyRedo {
@@ -48,7 +44,7 @@ impl Model for BodyRedo {
 
     ghost Value = { PoolSteps };
 
-    ghost view = { λ t. record { last = t.last; created = t.created; connections = t.connections; requests = t.requests; status = t.status; clears = t.clears; settled = t.settled; claimed = t.claimed } };
+    ghost view = { λ t. record { last = t.last; created = t.connections.created; connections = t.connections.live; requests = t.requests; status = t.status; clears = t.clears; settled = t.settled; claimed = t.connections.claimed } };
 }
 
 impl Body {
@@ -61,13 +57,11 @@ impl Body {
     {
         BodyRedo {
             last: self.last.turn(),
-            created: self.created.turn(),
             connections: self.connections.turn(alloc),
             requests: self.requests.turn(alloc),
             status: self.status.turn(),
             clears: self.clears.turn(alloc),
             settled: self.settled.turn(alloc),
-            claimed: self.claimed.turn(alloc),
         }
     }
 
@@ -77,13 +71,11 @@ impl Body {
         ensures same { SameKept (now_of self.old) (now_of self.new) }
     {
         self.last.settle();
-        self.created.settle();
         self.connections.settle();
         self.requests.settle();
         self.status.settle();
         self.clears.settle();
         self.settled.settle();
-        self.claimed.settle();
     }
 
     /// Whatever was changed goes, and the changes are made again and stay. It takes no memory.
@@ -93,21 +85,17 @@ impl Body {
     {
         let BodyRedo {
             last,
-            created,
             connections,
             requests,
             status,
             clears,
             settled,
-            claimed,
         } = redo;
         self.last.redo(last);
-        self.created.redo(created);
         self.connections.redo(connections);
         self.requests.redo(requests);
         self.status.redo(status);
         self.clears.redo(clears);
         self.settled.redo(settled);
-        self.claimed.redo(claimed);
     }
 }

@@ -238,10 +238,9 @@ impl Draft {
         let _limit = self.options().limit_id;
         let timeouts = self.timeouts();
         let id = self.created() + 1;
-        self.set_created(id);
         let number = request.number;
         self.enter_phase(alloc, request, Phase::Given(id))?;
-        self.put_connection(
+        self.create_connection(
             alloc,
             Connection::pending(id, moment, Some(number), timeouts),
         )?;
@@ -265,8 +264,7 @@ impl Draft {
         // The id is at most the limit, which bounds it.
         let _limit = self.options().limit_id;
         let id = self.created() + 1;
-        self.set_created(id);
-        self.put_connection(alloc, Connection::pending(id, moment, None, 0))?;
+        self.create_connection(alloc, Connection::pending(id, moment, None, 0))?;
         self.push_created(facts, id)?;
         Ok(())
     }

@@ -1,12 +1,12 @@
 //! A pool with changes that can be taken back.
 
-ghost use Rattle.std.specs.Prelude.{◌≡◌, ◌++◌, ◌∷◌, [], true, false, is_some, length, map, OnOk, option_copied};
+ghost use Rattle.std.specs.Prelude.{◌≡◌, ◌+◌, ◌++◌, ◌∷◌, [], true, false, is_some, length, map, OnOk, option_copied, Some};
 ghost use Rattle.mdb_log.specs.Connections.{has};
 ghost use Rattle.mdb_slots.specs.Keyed.{others, put, swap};
 ghost use Rattle.mdb_slots.specs.Lists.{apart};
 ghost use Rattle.mdb_slots.specs.Sided.{stays};
 ghost use Rattle.mdb_pool.specs.Keyed.{marked};
-ghost use Rattle.mdb_pool.specs.Kept.{connection_at, connection_in, request_at, request_in};
+ghost use Rattle.mdb_pool.specs.Kept.{connection_at, connection_in, first_unclaimed, request_at, request_in};
 ghost use Rattle.mdb_pool.specs.Places.{is_available, is_pending, is_queued};
 
 use super::PoolOptions;
@@ -61,7 +61,7 @@ impl Draft {
     pub(super) fn created(&self) -> u32
         ensures { result ≡ self.now.created }
     {
-        *self.body.created.get()
+        self.body.connections.created()
     }
 
     pub(super) fn status(&self) -> &Status
@@ -110,25 +110,11 @@ impl Draft {
         self.body.is_settled(number)
     }
 
-    // A claim was told to establish the connection.
-    pub(super) fn is_claimed(&self, id: u32) -> bool
-        ensures { result ≡ has id self.now.claimed }
-    {
-        self.body.is_claimed(id)
-    }
-
     pub(super) fn set_last(&mut self, moment: Moment)
         ensures core { self.new ≡ record self.old { last = moment } }
         ensures inner { self.new.inner ≡ self.old.inner }
     {
         self.body.last.set(moment);
-    }
-
-    pub(super) fn set_created(&mut self, created: u32)
-        ensures core { self.new ≡ record self.old { created = created } }
-        ensures inner { self.new.inner ≡ self.old.inner }
-    {
-        self.body.created.set(created);
     }
 
     pub(super) fn set_status(&mut self, status: Status)
@@ -155,22 +141,36 @@ impl Draft {
         self.body.settled.insert(number)
     }
 
-    pub(super) fn claim(&mut self, id: u32) -> Result<(), OutOfMemory>
-        ensures core { OnOk result (self.new ≡ record self.old { claimed = marked id self.old.claimed }) }
+    // A claim is told of the connection, which came first among the pending ones that no claim was told of.
+    pub(super) fn claim(&mut self, connection: &Connection)
+        requires { first_unclaimed self.old ≡ Some connection.now }
+        ensures core { self.new ≡ record self.old { claimed = marked connection.now.id self.old.claimed } }
         ensures inner { self.new.inner ≡ self.old.inner }
     {
-        if self.is_claimed(id) {
-            return Ok(());
-        }
-        self.body.claimed.insert(id)
+        self.body.connections.claim(connection);
     }
 
-    // The connection comes last.
+    // The connection, which is the next one that is created and pending, comes last.
+    pub(super) fn create_connection(
+        &mut self,
+        alloc: Global,
+        connection: Connection,
+    ) -> Result<(), OutOfMemory>
+        requires id { connection.id ≡ self.old.created + 1 }
+        requires pending { is_pending connection.place ≡ true }
+        ensures core { OnOk result (self.new ≡ record self.old { created = connection.id; connections = put (λ x. x.id) connection self.old.connections }) }
+        ensures inner { self.new.inner ≡ self.old.inner }
+    {
+        self.body.connections.create(alloc, connection)
+    }
+
+    // The connection, which is not pending, comes last.
     pub(super) fn put_connection(
         &mut self,
         alloc: Global,
         connection: Connection,
     ) -> Result<(), OutOfMemory>
+        requires { is_pending connection.place ≡ false }
         ensures core { OnOk result (self.new ≡ record self.old { connections = put (λ x. x.id) connection self.old.connections }) }
         ensures inner { self.new.inner ≡ self.old.inner }
     {

@@ -22,13 +22,6 @@ impl Body {
         self.settled.contains(number)
     }
 
-    // A claim was told to establish the connection.
-    pub fn is_claimed(&self, id: u32) -> bool
-        ensures { result ≡ has id self.now.claimed.now }
-    {
-        self.claimed.contains(id)
-    }
-
     pub fn first_queued(&self) -> Option<&Request>
         ensures { option_copied result ≡ first_queued (now_of self.now) }
     {
@@ -42,11 +35,10 @@ impl Body {
         self.connections.last_left().copied()
     }
 
-    #[tactic(auto, using(crate::proofs::Bodies::numbered_length))]
     pub fn pending_count(&self) -> usize
         ensures { result ≡ pending_count (now_of self.now) }
     {
-        self.connections.right().len()
+        self.connections.pending_count()
     }
 
     // Warm requests are to get connections: too few are live, and neither the maximum nor the ids stand against one more.
@@ -56,7 +48,7 @@ impl Body {
         let live = self.connections.len();
         live < self.options.min_pool_size.unwrap_or(0) as usize
             && live < self.options.max_pool_size.unwrap_or(DEFAULT_MAX_POOL_SIZE) as usize
-            && *self.created.get() < self.options.limit_id
+            && self.connections.created() < self.options.limit_id
     }
 
     // One more connection may be pending.
@@ -74,7 +66,7 @@ impl Body {
     pub fn has_room(&self) -> bool
         ensures { result ≡ has_room (now_of self.now) }
     {
-        *self.created.get() < self.options.limit_id
+        self.connections.created() < self.options.limit_id
             && self.connections.len()
                 < self.options.max_pool_size.unwrap_or(DEFAULT_MAX_POOL_SIZE) as usize
             && self.may_connect()
@@ -122,7 +114,7 @@ impl Body {
         self.status.get().is_ready()
             && self.connections.len() < self.options.min_pool_size.unwrap_or(0) as usize
             && self.may_connect()
-            && *self.created.get() < self.options.limit_id
+            && self.connections.created() < self.options.limit_id
     }
 
     // The connection of the request, where a party holds it.
@@ -178,14 +170,7 @@ impl Body {
     pub fn first_unclaimed(&self) -> Option<Connection>
         ensures { result ≡ first_unclaimed (now_of self.now) }
     {
-        let mut next = self.connections.first_right();
-        while let Some(x) = next {
-            if !self.is_claimed(x.id) {
-                return Some(*x);
-            }
-            next = self.connections.next_right(x.id);
-        }
-        None
+        self.connections.first_unclaimed().copied()
     }
 
     // It is a caller that has waited for too long, if it waits.

@@ -4,6 +4,7 @@
 mod body;
 mod changes;
 mod claiming;
+mod claims;
 mod clearing;
 mod clears;
 mod closing;
@@ -11,6 +12,7 @@ mod collecting;
 mod coming_back;
 pub mod composing;
 mod connection;
+mod connections;
 mod draft;
 mod draft_reads;
 mod establishing;

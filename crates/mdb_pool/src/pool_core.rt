@@ -3,6 +3,7 @@
 ghost use Rattle.std.specs.Prelude.{◌≡◌, IfOk, true, is_some, nat_lt, option_copied, None, List, if◌then◌else◌, ◌&&◌};
 
 use super::body::Body;
+use super::connections::Connections;
 use super::draft::Draft;
 use super::status::Status;
 use super::{PoolOptions, PoolState};
@@ -59,13 +60,11 @@ impl PoolCore {
                     address,
                     options,
                     last: TurnedOne::new(0),
-                    created: TurnedOne::new(0),
-                    connections: Sides::new(alloc),
+                    connections: Connections::new(alloc),
                     requests: Sides::new(alloc),
                     status: TurnedOne::new(Status::at_first(options.load_balanced)),
                     clears: Turned::new(alloc),
                     settled: NumberSet::new(alloc),
-                    claimed: NumberSet::new(alloc),
                 },
             },
         }

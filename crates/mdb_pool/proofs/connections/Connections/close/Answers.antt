@@ -1,0 +1,8 @@
+use Rattle.mdb_pool.proofs.Claims.{rest-fit}
+use Rattle.mdb_pool.proofs.connections.Connections.close.Goals as goal
+
+pub invariant_of-self-in-Ok : goal.invariant_of-self-in-Ok
+invariant_of-self-in-Ok c = rw (c.in-Ok.ensures.now, c.let_go.ensures.base) (rest-fit c.self.inside.claims.created.now c.self.inside.claims.now c.self.inside.live.now c.self.invariant.0, c.self.invariant.1)
+
+pub invariant_of-self-in-Err : goal.invariant_of-self-in-Err
+invariant_of-self-in-Err c = rw (c.in-Err.ensures.gone, c.let_go.ensures.base, c.take_back.ensures.created.0, c.take_back.ensures.created.1, c.take_back.ensures.claimed.0, c.take_back.ensures.claimed.1) (c.self.invariant.1, c.self.invariant.1)

@@ -1,0 +1,6 @@
+use Rattle.mdb_pool.proofs.connections.Connections.redo.Goals as goal
+
+pub invariant_of-self : goal.invariant_of-self
+invariant_of-self c =
+    let z = rw c.self.view_is c.requires.claims in
+    rw (c.redo.ensures.now, c.redo.ensures.base, c.redo-2.ensures.created.1, c.redo-2.ensures.created.0, c.redo-2.ensures.claimed.1, c.redo-2.ensures.claimed.0) (z, z)
