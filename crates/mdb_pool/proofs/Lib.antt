@@ -75,3 +75,5 @@ pub mod UnservedCount
 pub mod WalksBack
 pub mod Marks
 mod Claims
+pub mod Living
+pub mod Clearings

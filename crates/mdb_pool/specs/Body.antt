@@ -1,7 +1,7 @@
 -- What a pool is read from, and how its changes are made again.
 use Rattle.std.specs.Prelude.{◌&&◌, ℕ, Option, None}
 use Rattle.mdb_base.specs.declared.object_id.ObjectId.{ObjectId}
-use Rattle.mdb_slots.specs.Open.{ListSteps, or_else, list_after, ListFits, room_after as length_after}
+use Rattle.mdb_slots.specs.Open.{or_else}
 use Rattle.mdb_slots.specs.Table.{items}
 use Rattle.mdb_slots.specs.NumberSet.{NumberSteps, numbers_kept, spanned_after, capacity_after, NumbersFit}
 use Rattle.mdb_slots.specs.Sided.{SidedSteps, SidedFits, sided_after, sided_capacity_after}
@@ -9,9 +9,9 @@ use Rattle.mdb_pool.specs.Places.{is_available, is_pending, is_queued}
 use Rattle.mdb_pool.specs.declared.connection.Connection.{Connection}
 use Rattle.mdb_pool.specs.declared.request.Request.{Request}
 use Rattle.mdb_pool.specs.declared.status.Status.{Status}
-use Rattle.mdb_pool.specs.declared.status.Clear.{Clear}
 use Rattle.mdb_pool.specs.Inner.{PoolShelf, PoolRoom, Inner}
 use Rattle.mdb_pool.specs.Claiming.{ClaimSteps, claimed_after, ClaimsFit}
+use Rattle.mdb_pool.specs.Clearing.{ClearSteps, cleared_after, ClearsFit}
 use Rattle.mdb_pool.specs.Core.{PoolCore}
 use Rattle.mdb_pool.specs.declared.body.Body.{Body}
 
@@ -22,7 +22,7 @@ pub record PoolSteps : Type 0 where
   pub connections : SidedSteps Connection
   pub requests : SidedSteps Request
   pub status : Option Status
-  pub clears : ListSteps Clear
+  pub clears : ClearSteps
   pub settled : NumberSteps
   pub claimed : ClaimSteps
 
@@ -37,7 +37,7 @@ pool_of i = record {
   connections = items i.base.connections.table;
   requests = items i.base.requests.table;
   status = i.base.status;
-  clears = i.base.clears;
+  clears = i.base.clears.all;
   settled = numbers_kept i.base.settled;
   claimed = i.base.claimed.numbers;
   inner = i;
@@ -54,7 +54,7 @@ pool_after p s = record {
   connections = sided_after p.connections s.connections;
   requests = sided_after p.requests s.requests;
   status = or_else p.status s.status;
-  clears = list_after p.clears s.clears;
+  clears = cleared_after p.clears s.clears;
   settled = spanned_after p.settled s.settled;
   claimed = claimed_after p.claimed s.claimed;
 }
@@ -64,7 +64,6 @@ abbrev pub room_after : PoolSteps → PoolRoom → PoolRoom
 room_after p r = record {
   connections = sided_capacity_after p.connections r.connections;
   requests = sided_capacity_after p.requests r.requests;
-  clears = length_after p.clears r.clears;
   settled = capacity_after p.settled r.settled;
 }
 
@@ -83,7 +82,7 @@ abbrev pub PoolFits : PoolSteps → Inner → Type 0
 PoolFits p i =
     SidedFits (λ x. x.id) (λ x. x.service) (λ x. x.since) (λ x. is_available x.place) (λ x. is_pending x.place) p.connections i.base.connections i.room.connections
     × SidedFits (λ q. q.number) no_service (λ q. q.asked_at) (λ q. is_queued q.phase && q.warm) (λ q. is_queued q.phase) p.requests i.base.requests i.room.requests
-    × ListFits p.clears i.base.clears i.room.clears
+    × ClearsFit (or_else p.created i.base.created) (cleared_after p.clears i.base.clears) (items (sided_after p.connections i.base.connections).table)
     × NumbersFit p.settled i.base.settled i.room.settled
     × ClaimsFit (or_else p.created i.base.created) (claimed_after p.claimed i.base.claimed) (items (sided_after p.connections i.base.connections).table)
 
@@ -98,7 +97,7 @@ base_of b = record {
   connections = b.connections.base;
   requests = b.requests.base;
   status = b.status.base;
-  clears = b.clears.base;
+  clears = b.connections.cleared;
   settled = b.settled.base;
   claimed = b.connections.settled;
 }
@@ -107,7 +106,6 @@ abbrev pub room_of : Body → PoolRoom
 room_of b = record {
   connections = b.connections.capacity;
   requests = b.requests.capacity;
-  clears = b.clears.capacity;
   settled = b.settled.capacity;
 }
 
@@ -124,7 +122,7 @@ now_of b = record {
   connections = b.connections.now;
   requests = b.requests.now;
   status = b.status.now;
-  clears = b.clears.now;
+  clears = b.connections.clears;
   settled = b.settled.now;
   claimed = b.connections.claimed;
   inner = inner_of b;

@@ -2,7 +2,6 @@
 use Rattle.std.specs.Prelude.{ℕ, ◌≡◌, ◌≤◌, ◌<◌, true, false, ⊤, List, [], ◌∷◌, Option}
 use Rattle.mdb_log.specs.Connections.{has}
 use Rattle.mdb_slots.specs.Open.{OpenOne, or_else}
-use Rattle.mdb_slots.specs.Sided.{SidedShelf, SidedSteps, SidedCapacities}
 use Rattle.mdb_pool.specs.declared.connection.Connection.{Connection}
 use Rattle.mdb_pool.specs.Inner.{Claimed}
 use Rattle.mdb_pool.specs.Kept.{ids_where}
@@ -40,20 +39,5 @@ pub record OpenClaims : Type 0 where
 
 -- changes of both
 pub record CountSteps : Type 0 where
-  pub created : Option ℕ
-  pub claimed : ClaimSteps
-
--- the connections, how many were created, and what is claimed, as they are and as they were when they were last settled
-pub record OpenConnections : Type 0 where
-  pub now : List Connection
-  pub base : SidedShelf Connection
-  pub capacity : SidedCapacities
-  pub created : OpenOne ℕ
-  pub claimed : List ℕ
-  pub settled : Claimed
-
--- changes of them
-pub record ConnectionSteps : Type 0 where
-  pub live : SidedSteps Connection
   pub created : Option ℕ
   pub claimed : ClaimSteps

@@ -5,6 +5,7 @@ use Rattle.mdb_log.specs.declared.options.PoolOptions.{PoolOptions}
 use Rattle.mdb_slots.specs.NumberSet.{Spanned}
 use Rattle.mdb_slots.specs.Sided.{SidedShelf, SidedCapacities}
 use Rattle.mdb_pool.specs.declared.connection.Connection.{Connection}
+use Rattle.mdb_pool.specs.declared.marks.Marks.{Marks}
 use Rattle.mdb_pool.specs.declared.request.Request.{Request}
 use Rattle.mdb_pool.specs.declared.status.Status.{Status}
 use Rattle.mdb_pool.specs.declared.status.Clear.{Clear}
@@ -13,6 +14,11 @@ use Rattle.mdb_pool.specs.declared.status.Clear.{Clear}
 pub record Claimed : Type 0 where
   pub numbers : List ℕ
   pub last : ℕ
+
+-- all clears, and the marks in memory that tell of them
+pub record Cleared : Type 0 where
+  pub all : List Clear
+  pub marks : Marks
 
 -- what a pool is read from
 pub record PoolShelf : Type 0 where
@@ -24,7 +30,7 @@ pub record PoolShelf : Type 0 where
   pub connections : SidedShelf Connection
   pub requests : SidedShelf Request
   pub status : Status
-  pub clears : List Clear
+  pub clears : Cleared
   pub settled : Spanned
   pub claimed : Claimed
 
@@ -32,7 +38,6 @@ pub record PoolShelf : Type 0 where
 pub record PoolRoom : Type 0 where
   pub connections : SidedCapacities
   pub requests : SidedCapacities
-  pub clears : ℕ
   pub settled : ℕ
 
 pub record Inner : Type 0 where

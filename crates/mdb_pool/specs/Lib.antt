@@ -9,6 +9,8 @@ pub mod Places
 pub mod Available
 pub mod Kept
 pub mod Claiming
+pub mod Clearing
+pub mod Connecting
 pub mod Refusing
 pub mod Changes
 pub mod Matching

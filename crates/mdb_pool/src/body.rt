@@ -7,9 +7,9 @@ ghost use Rattle.mdb_pool.specs.Body.{now_of, inner_of, inner_after, pool_of, le
 use super::PoolOptions;
 use super::connections::{Connections, ConnectionsRedo};
 use super::request::Request;
-use super::status::{Clear, Status};
+use super::status::Status;
 use mdb_base::{Moment, ServerAddress};
-use mdb_slots::{NumberSet, NumberSetRedo, Redo, Sides, SidesRedo, Turned, TurnedOne};
+use mdb_slots::{NumberSet, NumberSetRedo, Sides, SidesRedo, TurnedOne};
 use std::alloc::Global;
 use std::marker::Model;
 
@@ -23,7 +23,6 @@ pub struct Body {
     pub connections: Connections,
     pub requests: Sides<Request>,
     pub status: TurnedOne<Status>,
-    pub clears: Turned<Clear>,
     pub settled: NumberSet,
 }
 
@@ -34,7 +33,6 @@ pub struct BodyRedo {
     connections: ConnectionsRedo,
     requests: SidesRedo<Request>,
     status: Option<Status>,
-    clears: Redo<Clear>,
     settled: NumberSetRedo,
 }
 
@@ -44,7 +42,7 @@ impl Model for BodyRedo {
 
     ghost Value = { PoolSteps };
 
-    ghost view = { λ t. record { last = t.last; created = t.connections.created; connections = t.connections.live; requests = t.requests; status = t.status; clears = t.clears; settled = t.settled; claimed = t.connections.claimed } };
+    ghost view = { λ t. record { last = t.last; created = t.connections.created; connections = t.connections.live; requests = t.requests; status = t.status; clears = t.connections.clears; settled = t.settled; claimed = t.connections.claimed } };
 }
 
 impl Body {
@@ -60,7 +58,6 @@ impl Body {
             connections: self.connections.turn(alloc),
             requests: self.requests.turn(alloc),
             status: self.status.turn(),
-            clears: self.clears.turn(alloc),
             settled: self.settled.turn(alloc),
         }
     }
@@ -74,7 +71,6 @@ impl Body {
         self.connections.settle();
         self.requests.settle();
         self.status.settle();
-        self.clears.settle();
         self.settled.settle();
     }
 
@@ -88,14 +84,12 @@ impl Body {
             connections,
             requests,
             status,
-            clears,
             settled,
         } = redo;
         self.last.redo(last);
         self.connections.redo(connections);
         self.requests.redo(requests);
         self.status.redo(status);
-        self.clears.redo(clears);
         self.settled.redo(settled);
     }
 }

@@ -1,7 +1,7 @@
 //! The single changes of a pool, each with its facts.
 
 ghost use Rattle.mdb_pool.specs.Facts.{new_pool_error, checked_out_fact, closed_fact, created_fact, started_fact, ready_fact};
-ghost use Rattle.std.specs.Prelude.{false, ◌≡◌, ◌++◌, ◌∷◌, ◌+◌, ◌-◌, ◌<◌, [], OnOk, IfOk};
+ghost use Rattle.std.specs.Prelude.{false, ◌≡◌, ◌++◌, ◌∷◌, ◌+◌, ◌-◌, ◌<◌, [], OnOk, IfOk, is_some, true};
 
 use super::connection::{Connection, Place};
 use super::draft::Draft;
@@ -31,7 +31,7 @@ pub(super) fn new_pool_error(alloc: Global) -> Result<Error, AllocError>
 impl Draft {
     ghost use Rattle.mdb_slots.specs.Keyed.{swap};
     ghost use Rattle.mdb_pool.specs.Places.{is_queued};
-    ghost use Rattle.mdb_pool.specs.Kept.{outcome_now};
+    ghost use Rattle.mdb_pool.specs.Kept.{connection_at, outcome_now};
     ghost use Rattle.mdb_pool.specs.Changes.{asking, away, away_end, away_facts, discarding, creating, spawning, ending, granting, establishing, telling, handed};
     ghost use Rattle.mdb_events.specs.declared.fact.Fact.TheVariants.{Pool, Granted, Ended};
     ghost use Rattle.mdb_events.specs.declared.cmap.CmapEvent.TheVariants.{ConnectionCreated, ConnectionCheckedOut};
@@ -365,6 +365,7 @@ impl Draft {
         made: Established,
         asked_at: Moment,
     ) -> Result<(), OutOfMemory>
+        requires lives { is_some (connection_at self.old connection.id) ≡ true }
         ensures core { OnOk result (self.new ≡ establishing self.old moment connection made) }
         ensures facts { OnOk result (facts.new.items ≡ facts.old.items ++ ready_fact self.old.pool self.old.address connection.id (moment - connection.created_at) ∷ checked_out_fact self.old.pool self.old.address connection.id (moment - asked_at) ∷ []) }
         ensures inner { self.new.inner ≡ self.old.inner }

@@ -5,7 +5,7 @@ ghost use Rattle.std.specs.Prelude.{◌≡◌, ◌++◌, ◌∷◌, ◌-◌, [],
 use super::draft::Draft;
 use super::pool_core::PoolCore;
 use super::request::{Phase, Request};
-use super::status::{Clear, Status};
+use super::status::Status;
 use super::{Act, Reply, Step, What};
 use mdb_base::{Error, Moment, ObjectId, OutOfMemory};
 use mdb_events::{CmapEvent, End, Fact, Held, PoolClearedEvent};
@@ -80,11 +80,7 @@ impl Draft {
     {
         let told = Held::copy_of(alloc, cause)?;
         facts.push(Fact::Raised(self.number(), service, told))?;
-        self.push_clear(Clear {
-            service,
-            after: self.created(),
-            timeout: cause.is_network_timeout(),
-        })?;
+        self.push_clear(alloc, service, cause.is_network_timeout())?;
         self.set_last(moment);
         if service.is_some() {
             return Ok(());

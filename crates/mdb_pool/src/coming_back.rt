@@ -1,6 +1,6 @@
 //! The changes of a pool by which connections come back and requests are given up.
 
-ghost use Rattle.std.specs.Prelude.{◌≡◌, ◌++◌, ◌∷◌, ◌-◌, [], false, OnOk, Some};
+ghost use Rattle.std.specs.Prelude.{◌≡◌, ◌++◌, ◌∷◌, ◌-◌, [], false, OnOk, Some, is_some, true};
 
 use super::connection::{Connection, Place};
 use super::draft::Draft;
@@ -97,6 +97,7 @@ impl Draft {
         connection: Connection,
         reason: Option<ConnectionClosedReason>,
     ) -> Result<(), OutOfMemory>
+        requires lives { is_some (connection_at self.old connection.id) ≡ true }
         ensures core { OnOk result (self.new ≡ record self.old { connections = placed moment connection reason self.old.connections }) }
         ensures inner { self.new.inner ≡ self.old.inner }
     {
@@ -126,6 +127,7 @@ impl Draft {
         made: Established,
         reason: Option<ConnectionClosedReason>,
     ) -> Result<(), OutOfMemory>
+        requires lives { is_some (connection_at self.old connection.id) ≡ true }
         ensures core { OnOk result (self.new ≡ pooling_for self.old moment connection made reason) }
         ensures facts { OnOk result (facts.new.items ≡ facts.old.items ++ ready_fact self.old.pool self.old.address connection.id (moment - connection.created_at) ∷ back_facts self.old (record connection { service = made.service_id; wire = Some made.wire }) reason) }
         ensures inner { self.new.inner ≡ self.old.inner }
@@ -147,6 +149,7 @@ impl Draft {
         connection: Connection,
         made: Established,
     ) -> Result<(), OutOfMemory>
+        requires lives { is_some (connection_at self.old connection.id) ≡ true }
         ensures core { OnOk result (self.new ≡ pooling self.old moment connection made) }
         ensures facts { OnOk result (facts.new.items ≡ facts.old.items ++ ready_fact self.old.pool self.old.address connection.id (moment - connection.created_at) ∷ []) }
         ensures inner { self.new.inner ≡ self.old.inner }
@@ -169,6 +172,7 @@ impl Draft {
         request: Request,
         reason: Option<ConnectionClosedReason>,
     ) -> Result<(), OutOfMemory>
+        requires lives { is_some (connection_at self.old connection.id) ≡ true }
         ensures core { OnOk result (self.new ≡ filling_for self.old moment connection made request reason) }
         ensures facts { OnOk result (facts.new.items ≡ facts.old.items ++ (ready_fact self.old.pool self.old.address connection.id (moment - connection.created_at) ∷ back_facts self.old (record connection { service = made.service_id; wire = Some made.wire }) reason) ++ Ended request.number Filled ∷ []) }
         ensures inner { self.new.inner ≡ self.old.inner }
@@ -255,6 +259,7 @@ impl Draft {
         request: Request,
         reason: Option<ConnectionClosedReason>,
     ) -> Result<(), OutOfMemory>
+        requires lives { is_some (connection_at self.old connection.id) ≡ true }
         ensures core { OnOk result (self.new ≡ returning_for self.old moment connection request reason) }
         ensures facts { OnOk result (facts.new.items ≡ facts.old.items ++ back_facts self.old connection reason) }
         ensures inner { self.new.inner ≡ self.old.inner }
@@ -319,6 +324,7 @@ impl Draft {
         request: Request,
         reason: Option<ConnectionClosedReason>,
     ) -> Result<(), OutOfMemory>
+        requires lives { is_some (connection_at self.old connection.id) ≡ true }
         ensures core { OnOk result (self.new ≡ handing_for self.old moment connection request reason) }
         ensures facts { OnOk result (facts.new.items ≡ facts.old.items ++ Ended request.number GaveUp ∷ back_facts self.old connection reason) }
         ensures inner { self.new.inner ≡ self.old.inner }

@@ -13,8 +13,8 @@ use super::PoolOptions;
 use super::body::Body;
 use super::connection::Connection;
 use super::request::Request;
-use super::status::{Clear, Status};
-use mdb_base::{Moment, OutOfMemory, ServerAddress};
+use super::status::Status;
+use mdb_base::{Moment, ObjectId, OutOfMemory, ServerAddress};
 use std::alloc::Global;
 use std::marker::Model;
 
@@ -70,12 +70,6 @@ impl Draft {
         self.body.status.get()
     }
 
-    pub(super) fn clears(&self) -> &[Clear]
-        ensures { result.now ≡ self.now.clears }
-    {
-        self.body.clears.as_slice()
-    }
-
     // How many connections live.
     pub(super) fn live(&self) -> usize
         ensures { result ≡ length self.now.connections }
@@ -124,11 +118,17 @@ impl Draft {
         self.body.status.set(status);
     }
 
-    pub(super) fn push_clear(&mut self, clear: Clear) -> Result<(), OutOfMemory>
-        ensures core { OnOk result (self.new ≡ record self.old { clears = self.old.clears ++ clear ∷ [] }) }
+    // The pool, or a service of it, is cleared once more.
+    pub(super) fn push_clear(
+        &mut self,
+        alloc: Global,
+        service: Option<ObjectId>,
+        timeout: bool,
+    ) -> Result<(), OutOfMemory>
+        ensures core { OnOk result (self.new ≡ record self.old { clears = self.old.clears ++ record { service = service; after = self.old.created; timeout = timeout } ∷ [] }) }
         ensures inner { self.new.inner ≡ self.old.inner }
     {
-        self.body.clears.push(clear)
+        self.body.connections.clear(alloc, service, timeout)
     }
 
     pub(super) fn settle(&mut self, number: u32) -> Result<(), OutOfMemory>
@@ -164,13 +164,14 @@ impl Draft {
         self.body.connections.create(alloc, connection)
     }
 
-    // The connection, which is not pending, comes last.
+    // The connection, which lives and is not pending, comes last.
     pub(super) fn put_connection(
         &mut self,
         alloc: Global,
         connection: Connection,
     ) -> Result<(), OutOfMemory>
-        requires { is_pending connection.place ≡ false }
+        requires pending { is_pending connection.place ≡ false }
+        requires lives { is_some (connection_at self.old connection.id) ≡ true }
         ensures core { OnOk result (self.new ≡ record self.old { connections = put (λ x. x.id) connection self.old.connections }) }
         ensures inner { self.new.inner ≡ self.old.inner }
     {

@@ -1,6 +1,6 @@
 //! What a changed pool has among its connections and requests.
 
-ghost use Rattle.std.specs.Prelude.{◌≡◌, count_by, option_copied, IfOk};
+ghost use Rattle.std.specs.Prelude.{◌≡◌, count_by, is_some, true, option_copied, IfOk};
 
 use super::Reply;
 use super::connection::Connection;
@@ -17,7 +17,7 @@ impl Draft {
     ghost use Rattle.mdb_slots.specs.Slots.{listing};
     ghost use Rattle.mdb_pool.specs.Places.{is_available, is_queued};
     ghost use Rattle.mdb_pool.specs.Changes.{available_ones, pending_ones};
-    ghost use Rattle.mdb_pool.specs.Kept.{pending_count, is_ended_at, request_at, outcome_now, wants_now, candidate_now, fills_now, first_perished, first_overdue, first_queued, last_available, has_room, given_in, held_given, held_connection, pending_connection, holder_request, first_unclaimed, stale_for, perished_now, reason_now, timeouts_in};
+    ghost use Rattle.mdb_pool.specs.Kept.{connection_at, pending_count, is_ended_at, request_at, outcome_now, wants_now, candidate_now, fills_now, first_perished, first_overdue, first_queued, last_available, has_room, given_in, held_given, held_connection, pending_connection, holder_request, first_unclaimed, stale_for, perished_now, reason_now, timeouts_in};
 
     pub(super) fn first_queued(&self) -> Option<&Request>
         ensures { option_copied result ≡ first_queued self.now }
@@ -99,6 +99,7 @@ impl Draft {
     }
 
     pub(super) fn stale_for(&self, id: u32, service: Option<ObjectId>) -> bool
+        requires { is_some (connection_at self.now id) ≡ true }
         ensures { result ≡ stale_for self.now id service }
     {
         self.body.stale_for(id, service)
@@ -109,6 +110,7 @@ impl Draft {
         moment: Moment,
         connection: Connection,
     ) -> Option<ConnectionClosedReason>
+        requires { is_some (connection_at self.now connection.id) ≡ true }
         ensures { result ≡ perished_now self.now moment connection }
     {
         self.body.perished(moment, connection)
@@ -121,6 +123,7 @@ impl Draft {
     }
 
     pub(super) fn reason_now(&self, connection: Connection) -> Option<ConnectionClosedReason>
+        requires { is_some (connection_at self.now connection.id) ≡ true }
         ensures { result ≡ reason_now self.now connection }
     {
         self.body.reason_now(connection)

@@ -40,6 +40,7 @@ impl Draft {
     }
 
     // A request whose connection is held is given up.
+    #[tactic(auto, using(crate::proofs::Living::party_lives))]
     fn give_up_held(
         &mut self,
         alloc: Global,

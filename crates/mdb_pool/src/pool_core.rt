@@ -8,7 +8,7 @@ use super::draft::Draft;
 use super::status::Status;
 use super::{PoolOptions, PoolState};
 use mdb_base::{Error, ServerAddress};
-use mdb_slots::{NumberSet, Sides, SlotTable, Turned, TurnedOne};
+use mdb_slots::{NumberSet, Sides, SlotTable, TurnedOne};
 use std::alloc::Global;
 use std::marker::Model;
 
@@ -63,7 +63,6 @@ impl PoolCore {
                     connections: Connections::new(alloc),
                     requests: Sides::new(alloc),
                     status: TurnedOne::new(Status::at_first(options.load_balanced)),
-                    clears: Turned::new(alloc),
                     settled: NumberSet::new(alloc),
                 },
             },

@@ -4,7 +4,6 @@ ghost use Rattle.std.specs.Prelude.{◌≡◌, is_some, nat_lt};
 ghost use Rattle.mdb_pool.specs.Body.{now_of};
 
 use super::body::Body;
-use super::clears::count_clears;
 use super::request::Phase;
 use mdb_base::ObjectId;
 
@@ -84,9 +83,9 @@ impl Body {
 
     // How often the pool was cleared: for the service, or as a whole where there is none.
     pub fn generation(&self, service: Option<ObjectId>) -> u64
-        ensures { result ≡ clears_for service self.now.clears.now }
+        ensures { result ≡ clears_for service self.now.connections.clears }
     {
-        count_clears(self.clears.as_slice(), service) as u64
+        self.connections.generation(service)
     }
 
     // One more clear would pass the limit of the generation.

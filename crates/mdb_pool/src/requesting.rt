@@ -22,6 +22,7 @@ impl Draft {
     ghost use Rattle.mdb_log.specs.declared.step.Act.TheVariants.{Request as RequestAct};
 
     // The available connection that a new caller gets at once.
+    #[tactic(auto, using(crate::proofs::Living::last_lives))]
     fn ready_connection(&self, moment: Moment) -> Option<Connection>
         ensures { result ≡ ready_connection self.now moment }
     {
