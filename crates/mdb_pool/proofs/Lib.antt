@@ -77,3 +77,4 @@ pub mod Marks
 mod Claims
 pub mod Living
 pub mod Clearings
+mod Asked
