@@ -9,9 +9,9 @@ use Rattle.mdb_slots.proofs.Apart.{apart-put, apart-swap}
 use Rattle.mdb_slots.proofs.Lists.{has-append as among-append}
 use Rattle.mdb_slots.proofs.Numbers.{same-number}
 use Rattle.mdb_pool.specs.declared.request.Request.{Request}
-use Rattle.mdb_pool.specs.Asking.{lingers, if_lingers, is_gone, RequestsFit}
+use Rattle.mdb_pool.specs.Asking.{RequestsFit}
 use Rattle.mdb_pool.specs.Keyed.{marked}
-use Rattle.mdb_pool.specs.Kept.{is_asked_at, request_in}
+use Rattle.mdb_pool.specs.Kept.{if_lingers, is_asked_at, is_gone, lingers, request_in}
 use Rattle.mdb_pool.specs.Places.{is_done, is_queued}
 use Rattle.mdb_pool.proofs.Marks.{has-marked, marked-again}
 use Rattle.mdb_pool.proofs.Tables.{entry_at-key, entry_at-others, entry_at-put, entry_at-swap_any}

@@ -78,3 +78,5 @@ mod Claims
 pub mod Living
 pub mod Clearings
 mod Asked
+pub mod Lingering
+mod Leaving

@@ -3,26 +3,14 @@ use Rattle.std.specs.Prelude.{ℕ, ◌≡◌, Bool, true, false, not, ◌&&◌, 
 use Rattle.mdb_log.specs.Connections.{has}
 use Rattle.mdb_slots.specs.Keyed.{entry_at}
 use Rattle.mdb_slots.specs.Lists.{apart, has as among}
-use Rattle.mdb_slots.specs.NumberSet.{Spanned, NumberSteps}
-use Rattle.mdb_slots.specs.Sided.{SidedShelf, SidedSteps, SidedCapacities}
-use Rattle.mdb_slots.specs.Table.{Shelf, TableSteps, Capacities}
+use Rattle.mdb_slots.specs.NumberSet.{NumberSteps, numbers_kept, spanned_after, capacity_after, NumbersFit}
+use Rattle.mdb_slots.specs.Sided.{SidedSteps, SidedFits, sided_after, sided_capacity_after}
+use Rattle.mdb_slots.specs.Table.{TableSteps, items, shelf_after, capacity_after as table_capacity_after, Fits as TableFits}
 use Rattle.mdb_pool.specs.declared.request.Request.{Request}
 use Rattle.mdb_pool.specs.declared.request_parts.RequestParts.{RequestParts}
-use Rattle.mdb_pool.specs.Kept.{request_in}
-use Rattle.mdb_pool.specs.Places.{is_done}
-
--- A request leaves once it is settled, and is over or has ended.
-abbrev pub lingers : List ℕ → Request → Bool
-lingers ks q = not (has q.number ks && is_done q.phase)
-
-abbrev pub if_lingers : List ℕ → Option Request → Option Request
-if_lingers ks None = None
-if_lingers ks (Some q) = if lingers ks q then Some q else None
-
--- it was there, and has left
-abbrev pub is_gone : List ℕ → Option Request → Bool
-is_gone ks None = false
-is_gone ks (Some q) = not (lingers ks q)
+use Rattle.mdb_pool.specs.Inner.{Asked, AskedRoom}
+use Rattle.mdb_pool.specs.Kept.{if_lingers, lingers, request_in}
+use Rattle.mdb_pool.specs.Places.{is_done, is_queued}
 
 -- Memory has those that have not left, of these the numbers that are settled, and all numbers that ever asked.
 pub record RequestsFit (all : List Request) (settled : List ℕ) (kept : List Request) (told known : List ℕ) : Type 0 where
@@ -31,20 +19,6 @@ pub record RequestsFit (all : List Request) (settled : List ℕ) (kept : List Re
   pub told_is : (r : ℕ) → is_some (entry_at (λ k. k) r told) ≡ (is_some (request_in kept r) && has r settled)
   pub known_is : (r : ℕ) → among r known ≡ is_some (request_in all r)
   pub noted : (r : ℕ) → has r settled ≡ true → is_some (request_in all r) ≡ true
-
--- what the requests are read from
-pub record Asked : Type 0 where
-  pub all : List Request
-  pub settled : List ℕ
-  pub kept : SidedShelf Request
-  pub told : Shelf ℕ
-  pub known : Spanned
-
--- how long each part becomes without memory
-pub record AskedRoom : Type 0 where
-  pub kept : SidedCapacities
-  pub told : Capacities
-  pub known : ℕ
 
 -- changes of them
 pub record AskedSteps : Type 0 where
@@ -69,3 +43,21 @@ asked_room p = record { kept = p.kept.capacity; told = p.told.capacity; known = 
 
 abbrev pub PartsFit : RequestParts → Type 0
 PartsFit p = RequestsFit p.all.value p.settled.value p.kept.now p.told.now p.known.now
+
+abbrev pub asked_after : AskedSteps → Asked → Asked
+asked_after p s = record { all = p.all; settled = p.settled; kept = sided_after p.kept s.kept; told = shelf_after p.told s.told; known = spanned_after p.known s.known }
+
+abbrev pub asked_room_after : AskedSteps → AskedRoom → AskedRoom
+asked_room_after p r = record { kept = sided_capacity_after p.kept r.kept; told = table_capacity_after p.told r.told; known = capacity_after p.known r.known }
+
+-- what the requests are read from has them all
+abbrev pub BaseFits : Asked → Type 0
+BaseFits s = RequestsFit s.all s.settled (items s.kept.table) (items s.told) (numbers_kept s.known)
+
+-- the changes can be made without memory
+abbrev pub AskedFits : AskedSteps → Asked → AskedRoom → Type 0
+AskedFits p s r =
+    SidedFits (λ q. q.number) (λ q. None) (λ q. q.asked_at) (λ q. is_queued q.phase && q.warm) (λ q. is_queued q.phase) p.kept s.kept r.kept
+    × TableFits (λ k. k) p.told s.told r.told
+    × NumbersFit p.known s.known r.known
+    × BaseFits (asked_after p s)

@@ -5,9 +5,9 @@ ghost use Rattle.mdb_log.specs.Connections.{has};
 ghost use Rattle.mdb_slots.specs.Keyed.{put, swap};
 ghost use Rattle.mdb_slots.specs.NumberSet.{numbers_kept};
 ghost use Rattle.mdb_slots.specs.Table.{items};
-ghost use Rattle.mdb_pool.specs.Asking.{asked_base, asked_room, is_gone, PartsFit};
+ghost use Rattle.mdb_pool.specs.Asking.{asked_base, asked_room, PartsFit};
 ghost use Rattle.mdb_pool.specs.Keyed.{marked};
-ghost use Rattle.mdb_pool.specs.Kept.{request_in};
+ghost use Rattle.mdb_pool.specs.Kept.{is_gone, request_in};
 ghost use Rattle.mdb_pool.specs.Places.{is_done, is_queued};
 
 use super::request::Request;

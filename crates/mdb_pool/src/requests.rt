@@ -4,12 +4,9 @@ ghost use Rattle.std.specs.Prelude.{◌≡◌, ◌&&◌, [], true, false, not, i
 ghost use Rattle.mdb_log.specs.Connections.{has};
 ghost use Rattle.mdb_slots.specs.Keyed.{after_key, entry_at, entry_before, last_of, put, rest_of, swap};
 ghost use Rattle.mdb_slots.specs.Lists.{apart};
-ghost use Rattle.mdb_slots.specs.NumberSet.{nothing_spanned, numbers_kept, spanned_after, capacity_after, NumbersFit};
-ghost use Rattle.mdb_slots.specs.Sided.{nothing_sided, sided_after, sided_capacity_after, SidedFits};
-ghost use Rattle.mdb_slots.specs.Table.{items, nothing_shelved, shelf_after, capacity_after as table_capacity_after, Fits as TableFits};
-ghost use Rattle.mdb_pool.specs.Asking.{if_lingers, is_gone, lingers, RequestsFit};
+ghost use Rattle.mdb_pool.specs.Asking.{asked_after, asked_room_after, AskedFits};
 ghost use Rattle.mdb_pool.specs.Keyed.{marked};
-ghost use Rattle.mdb_pool.specs.Kept.{is_asked_at, request_in};
+ghost use Rattle.mdb_pool.specs.Kept.{if_lingers, is_asked_at, is_gone, lingers, request_in};
 ghost use Rattle.mdb_pool.specs.Places.{is_done, is_queued};
 
 use super::request::Request;
@@ -27,15 +24,13 @@ pub struct Requests {
 }
 
 impl Model for Requests {
-    ghost use Rattle.mdb_slots.specs.NumberSet.{numbers_kept};
-    ghost use Rattle.mdb_slots.specs.Table.{items};
-    ghost use Rattle.mdb_pool.specs.Asking.{asked_base, asked_room, OpenRequests, PartsFit, RequestsFit};
+    ghost use Rattle.mdb_pool.specs.Asking.{asked_base, asked_room, BaseFits, OpenRequests, PartsFit};
 
     ghost Value = { OpenRequests };
 
     ghost view = { λ r. record { now = r.parts.all.value; settled = r.parts.settled.value; base = asked_base r.parts; capacity = asked_room r.parts } };
 
-    ghost invariant = { λ r. PartsFit r.parts × RequestsFit r.parts.all_base.value r.parts.settled_base.value (items r.parts.kept.base.table) (items r.parts.told.base) (numbers_kept r.parts.known.base) };
+    ghost invariant = { λ r. PartsFit r.parts × BaseFits (asked_base r.parts) };
 }
 
 /// Changes that were taken back, to be made again.
@@ -209,10 +204,7 @@ impl Requests {
         ensures base { self.new.base ≡ self.old.base }
         ensures capacity { self.new.capacity ≡ self.old.capacity }
         ensures onto { (result.all ≡ self.old.now) × (result.settled ≡ self.old.settled) }
-        ensures kept { SidedFits (λ q. q.number) (λ q. None) (λ q. q.asked_at) (λ q. is_queued q.phase && q.warm) (λ q. is_queued q.phase) result.kept self.new.base.kept self.new.capacity.kept }
-        ensures told { TableFits (λ k. k) result.told self.new.base.told self.new.capacity.told }
-        ensures known { NumbersFit result.known self.new.base.known self.new.capacity.known }
-        ensures fits { RequestsFit result.all result.settled (items (sided_after result.kept self.new.base.kept).table) (items (shelf_after result.told self.new.base.told)) (numbers_kept (spanned_after result.known self.new.base.known)) }
+        ensures fits { AskedFits result self.new.base self.new.capacity }
     {
         let all = Past::of::<Past<Request>, SameRequests>(&self.parts.all);
         let settled = Past::of::<Past<u32>, SameNumbers>(&self.parts.settled);
@@ -230,13 +222,10 @@ impl Requests {
 
     /// Whatever was changed goes, and the changes are made again and stay. It takes no memory.
     pub fn redo(&mut self, redo: RequestsRedo)
-        requires kept { SidedFits (λ q. q.number) (λ q. None) (λ q. q.asked_at) (λ q. is_queued q.phase && q.warm) (λ q. is_queued q.phase) redo.kept self.old.base.kept self.old.capacity.kept }
-        requires told { TableFits (λ k. k) redo.told self.old.base.told self.old.capacity.told }
-        requires known { NumbersFit redo.known self.old.base.known self.old.capacity.known }
-        requires fits { RequestsFit redo.all redo.settled (items (sided_after redo.kept self.old.base.kept).table) (items (shelf_after redo.told self.old.base.told)) (numbers_kept (spanned_after redo.known self.old.base.known)) }
-        ensures base { self.new.base ≡ record { all = redo.all; settled = redo.settled; kept = sided_after redo.kept self.old.base.kept; told = shelf_after redo.told self.old.base.told; known = spanned_after redo.known self.old.base.known } }
+        requires { AskedFits redo self.old.base self.old.capacity }
+        ensures base { self.new.base ≡ asked_after redo self.old.base }
         ensures now { (self.new.now ≡ self.new.base.all) × (self.new.settled ≡ self.new.base.settled) }
-        ensures capacity { self.new.capacity ≡ record { kept = sided_capacity_after redo.kept self.old.capacity.kept; told = table_capacity_after redo.told self.old.capacity.told; known = capacity_after redo.known self.old.capacity.known } }
+        ensures capacity { self.new.capacity ≡ asked_room_after redo self.old.capacity }
     {
         let RequestsRedo {
             kept,
