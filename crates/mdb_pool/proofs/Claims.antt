@@ -6,7 +6,7 @@ use Rattle.std.proofs.lemmas.Grind.{common_steps}
 use Rattle.mdb_log.specs.Connections.{has}
 use Rattle.mdb_log.proofs.Numbers.{has-append}
 use Rattle.mdb_slots.specs.Keyed.{entry_at, put, others, swap}
-use Rattle.mdb_slots.specs.Sided.{stays, amended}
+use Rattle.mdb_slots.specs.Sided.{stays, amended, relisted}
 use Rattle.mdb_slots.specs.Lists.{apart}
 use Rattle.mdb_slots.proofs.Noted.{noted-others, noted-put, noted-swap, swap-number}
 use Rattle.mdb_slots.proofs.Numbers.{same-number}
@@ -137,15 +137,15 @@ module _ (made : ℕ) (k : Claimed) (cs : List Connection) (z : ClaimsFit made k
 
   -- one that is not pending comes
   pub put-fit : (x : Connection) → is_pending x.place ≡ false → ClaimsFit made k (put (λ y. y.id) x cs)
-  put-fit x off = fewer-fit (λ j. not (j == x.id)) (put (λ y. y.id) x cs) (noted-put (λ y. y.id) (λ y. y.id) (λ j. j) (λ y. refl) (λ y. is_pending y.place) x cs ∙ rw off refl)
+  put-fit x off = fewer-fit (λ j. not (j == x.id)) (put (λ y. y.id) x cs) (noted-put (λ y. y.id) (λ y. y.id) (λ j. j) (λ y. refl) (λ y. is_pending y.place) x cs ∙ ap (λ b. relisted (λ j. j) b x.id (pending-ids cs)) off)
 
   -- one takes the place of another
   pub swap-fit : (x : Connection) → apart (map (λ y. y.id) cs) ≡ true → stays (λ y. is_pending y.place) x (entry_at (λ y. y.id) x.id cs) ≡ true → ClaimsFit made k (swap (λ y. y.id) x cs)
   swap-fit x single stood = on (is_pending x.place) refl (noted-swap (λ y. y.id) (λ y. y.id) (λ j. j) (λ y. refl) (λ y. is_pending y.place) x cs single stood)
     where
       on : (b : Bool) → is_pending x.place ≡ b → pending-ids (swap (λ y. y.id) x cs) ≡ amended (λ j. j) (is_pending x.place) x.id (pending-ids cs) → ClaimsFit made k (swap (λ y. y.id) x cs)
-      on true e is = same-fit (swap (λ y. y.id) x cs) (is ∙ (rw e refl ∙ swap-number x.id (pending-ids cs)))
-      on false e is = fewer-fit (λ j. not (j == x.id)) (swap (λ y. y.id) x cs) (is ∙ rw e refl)
+      on true e is = same-fit (swap (λ y. y.id) x cs) (is ∙ (ap (λ b. amended (λ j. j) b x.id (pending-ids cs)) e ∙ swap-number x.id (pending-ids cs)))
+      on false e is = fewer-fit (λ j. not (j == x.id)) (swap (λ y. y.id) x cs) (is ∙ ap (λ b. amended (λ j. j) b x.id (pending-ids cs)) e)
 
   -- those that are not pending, or not available, stay alone
   pub rest-fit : ClaimsFit made k (filter (λ x. not (is_pending x.place)) (filter (λ x. not (is_available x.place)) cs))
@@ -170,7 +170,7 @@ module _ (made : ℕ) (k : Claimed) (cs : List Connection) (z : ClaimsFit made k
       let before = others-fit x.id in
       let is : pending-ids (put (λ y. y.id) x cs) ≡ pending-ids ds ++ x.id ∷ [] =
           noted-put (λ y. y.id) (λ y. y.id) (λ j. j) (λ y. refl) (λ y. is_pending y.place) x cs
-          ∙ (rw on refl ∙ ap (λ ns. ns ++ x.id ∷ []) (sym (noted-others (λ y. y.id) (λ y. y.id) (λ j. j) (λ y. refl) (λ y. is_pending y.place) x.id cs))) in
+          ∙ (ap (λ b. relisted (λ j. j) b x.id (pending-ids cs)) on ∙ ap (λ ns. ns ++ x.id ∷ []) (sym (noted-others (λ y. y.id) (λ y. y.id) (λ j. j) (λ y. refl) (λ y. is_pending y.place) x.id cs))) in
       let either : (c : ℕ) → has c (pending-ids (put (λ y. y.id) x cs)) ≡ true → has c (pending-ids ds) || (x.id == c) ≡ true = λ c h. sym (has-append c x.id (pending-ids ds)) ∙ (ap (has c) (sym is) ∙ h) in
       record {
         within = omega (arith, z.within, next);

@@ -37,7 +37,7 @@ module _ (p : Mark → Bool) where
 
   pub weigh_within : (ms : List Mark) → weigh p ms ≤ weigh (λ m. true) ms
   weigh_within [] = omega arith
-  weigh_within (x ∷ ms) = let h = weigh_within ms in on (p x)
+  weigh_within (x ∷ ms) = on (p x)
     where
       on : (b : Bool) → (if b then x.count else 0) + weigh p ms ≤ x.count + weigh (λ m. true) ms
       on true = let h = weigh_within ms in omega (arith, h)
@@ -122,7 +122,7 @@ module _ (cs : List Connection) (made : ℕ) where
         all = joined (λ x. true) (λ o n. refl) true refl refl;
         total = λ t. joined (counts_at t None) (λ o n. refl) (same_service o.service t) refl (ap (λ s. same_service s t) (sym named));
         positive = λ a l. all-set ms at n a (omega (arith, is, l));
-        earlier = λ t c asked. joined (counts_at t (Some c)) (λ o n. refl) (same_service o.service t && nat_lt o.after c) refl (rw (← named, one-gap cs made o.after m.after j.3 j.4 j.5 c asked) refl);
+        earlier = λ t c asked. joined (counts_at t (Some c)) (λ o n. refl) (same_service o.service t && nat_lt o.after c) refl (ap (λ s. same_service s t && nat_lt m.after c) (sym named) ∙ ap (λ b. same_service o.service t && b) (sym (one-gap cs made o.after m.after j.3 j.4 j.5 c asked)));
       }
     where
       joined : (p : Mark → Bool) → ((o : Mark) (n : ℕ) → p (record o { count = n }) ≡ p o) → (b : Bool) → p j.0 ≡ b → p m ≡ b → weigh p (slice_set ms at (record j.0 { count = count })) ≡ weigh p ms + part p m
@@ -149,26 +149,13 @@ module _ (made : ℕ) (k : Cleared) (cs : List Connection) (z : ClearsFit made k
       still c (inr l) = inr l
 
   pub others-counts : (c : ℕ) → ClearsFit made k (others (λ x. x.id) c cs)
-  others-counts c = fewer-counts (others (λ x. x.id) c cs) (λ d h. on (c == d) refl (ap is_some (sym (entry_at-others (λ (x : Connection). x.id) d c cs)) ∙ h))
-    where
-      on : {d : ℕ} (b : Bool) → (c == d) ≡ b → is_some (if c == d then None else connection_in cs d) ≡ true → is_some (connection_in cs d) ≡ true
-      on true e h = absurd (rw e at h)
-      on false e h = rw e at h
+  others-counts c = fewer-counts (others (λ x. x.id) c cs) (λ d h. grind (arith, common_steps, entry_at-others (λ (x : Connection). x.id) d c cs, h))
 
   pub put-counts : (x : Connection) → is_some (connection_in cs x.id) ≡ true → ClearsFit made k (put (λ y. y.id) x cs)
-  put-counts x lives = fewer-counts (put (λ y. y.id) x cs) (λ d h. on (x.id == d) refl (ap is_some (sym (entry_at-put (λ (y : Connection). y.id) d x cs)) ∙ h))
-    where
-      on : {d : ℕ} (b : Bool) → (x.id == d) ≡ b → is_some (if x.id == d then Some x else connection_in cs d) ≡ true → is_some (connection_in cs d) ≡ true
-      on {d} true e h = subst (λ j. is_some (connection_in cs j) ≡ true) (same-number x.id d e) lives
-      on false e h = rw e at h
+  put-counts x lives = fewer-counts (put (λ y. y.id) x cs) (λ d h. grind (arith, common_steps, entry_at-put (λ (y : Connection). y.id) d x cs, lives, h))
 
   pub swap-counts : (x : Connection) → ClearsFit made k (swap (λ y. y.id) x cs)
-  swap-counts x = fewer-counts (swap (λ y. y.id) x cs) (λ d h. on d (x.id == d) (is_some (connection_in cs d)) refl refl (ap is_some (sym (entry_at-swap_any (λ (y : Connection). y.id) d x cs)) ∙ h))
-    where
-      on : (d : ℕ) (b e : Bool) → (x.id == d) ≡ b → is_some (connection_in cs d) ≡ e → is_some (if x.id == d then (if is_some (connection_in cs d) then Some x else None) else connection_in cs d) ≡ true → e ≡ true
-      on d b true f g h = refl
-      on d true false f g h = absurd (rw (f, g) at h)
-      on d false false f g h = absurd (rw (f, g) at h)
+  swap-counts x = fewer-counts (swap (λ y. y.id) x cs) (λ d h. grind (arith, common_steps, entry_at-swap_any (λ (y : Connection). y.id) d x cs, h))
 
   pub filter-counts : (q : Connection → Bool) → ClearsFit made k (filter q cs)
   filter-counts q = fewer-counts (filter q cs) (λ d h. among d cs h)
@@ -183,7 +170,7 @@ module _ (made : ℕ) (k : Cleared) (cs : List Connection) (z : ClearsFit made k
     where
       live : (c : ℕ) (b : Bool) → (x.id == c) ≡ b → is_some (connection_in (put (λ y. y.id) x cs) c) ≡ true → IsAsked cs made c
       live c true e h = inr (omega (arith, next, same-number x.id c e))
-      live c false e h = inl (rw e at (ap is_some (sym (entry_at-put (λ (y : Connection). y.id) c x cs)) ∙ h))
+      live c false e h = inl (grind (arith, common_steps, entry_at-put (λ (y : Connection). y.id) c x cs, e, h))
 
       was : (c : ℕ) → IsAsked (put (λ y. y.id) x cs) x.id c → IsAsked cs made c
       was c (inl h) = live c (x.id == c) refl h
