@@ -8,6 +8,8 @@ use Rattle.mdb_slots.specs.Lists.{apart, has as among}
 use Rattle.mdb_slots.proofs.Apart.{apart-put, apart-swap}
 use Rattle.mdb_slots.proofs.Lists.{has-append as among-append}
 use Rattle.mdb_slots.proofs.Numbers.{same-number}
+use Rattle.mdb_pool.specs.declared.request.Phase.{Phase}
+use Rattle.mdb_pool.specs.declared.request.Phase.TheVariants.{Queued, Given, Over, Ended as EndedPhase}
 use Rattle.mdb_pool.specs.declared.request.Request.{Request}
 use Rattle.mdb_pool.specs.Asking.{RequestsFit}
 use Rattle.mdb_pool.specs.Keyed.{marked}
@@ -423,3 +425,35 @@ queued-kept p ks (q ∷ qs) f = on (p q) (lingers ks q) refl refl (queued-kept p
         off false = refl
     on false true e g r = rw (g, e) r
     on false false e g r = rw (g, e) r
+
+-- so is the first of them
+pub first-kept : (p : Request → Bool) (ks : List ℕ) (qs : List Request) → ((q : Request) → p q ≡ true → is_done q.phase ≡ false) → find p (filter (lingers ks) qs) ≡ find p qs
+first-kept p ks [] f = refl
+first-kept p ks (q ∷ qs) f = on (p q) (lingers ks q) refl refl (first-kept p ks qs f)
+  where
+    on : (b d : Bool) → p q ≡ b → lingers ks q ≡ d → find p (filter (lingers ks) qs) ≡ find p qs → find p (filter (lingers ks) (q ∷ qs)) ≡ find p (q ∷ qs)
+    on true true e g r = rw (g, e) refl
+    on true false e g r = let k : lingers ks q ≡ true = rw (f q e) (off (has q.number ks)) in cc
+      where
+        off : (b : Bool) → not (b && false) ≡ true
+        off true = refl
+        off false = refl
+    on false true e g r = rw (g, e) r
+    on false false e g r = rw (g, e) r
+
+-- a queued request is neither over nor ended
+pub queued-open : (q : Request) → is_queued q.phase ≡ true → is_done q.phase ≡ false
+queued-open q e = on q.phase refl e
+  where
+    on : (p : Phase) → q.phase ≡ p → is_queued p ≡ true → is_done q.phase ≡ false
+    on Queued f h = rw f refl
+    on (Given c) f h = cc
+    on Over f h = cc
+    on (EndedPhase end) f h = cc
+
+pub warm-open : (q : Request) → (is_queued q.phase && q.warm) ≡ true → is_done q.phase ≡ false
+warm-open q e = queued-open q (left-of (is_queued q.phase) q.warm e)
+  where
+    left-of : (a b : Bool) → (a && b) ≡ true → a ≡ true
+    left-of true b h = refl
+    left-of false b h = cc

@@ -58,7 +58,7 @@ unsettled_there ks qs r e = on (request_in qs r) refl
     on None f = refl
     on (Some q) f = rw (entry_at-key number-of r q qs f, e) refl
 
-kept-some : (ks : List ℕ) (o : Option Request) (q : Request) → if_lingers ks o ≡ Some q → (o ≡ Some q) × (lingers ks q ≡ true)
+pub kept-some : (ks : List ℕ) (o : Option Request) (q : Request) → if_lingers ks o ≡ Some q → (o ≡ Some q) × (lingers ks q ≡ true)
 kept-some ks None q e = cc
 kept-some ks (Some p) q e = on (lingers ks p) refl
   where
