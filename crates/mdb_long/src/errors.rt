@@ -1,0 +1,54 @@
+//! What goes wrong in a long run.
+
+use mdb_base::{AddressError, OutOfMemory};
+use std::alloc::{AllocError, AllocFailed};
+use thiserror::Error;
+
+/// Why a run came to no good end.
+#[derive(Clone, Copy, Debug, PartialEq, Eq, Error)]
+pub enum LongError {
+    #[error("out of memory")]
+    OutOfMemory,
+    #[error("bad address")]
+    Address,
+    #[error("the options don't go together")]
+    Options,
+    /// A step was answered otherwise than in a driver whose servers all answer.
+    #[error("another answer")]
+    Answer,
+    #[error("no number is left for a request")]
+    Number,
+    #[error("a seat is missing")]
+    Seat,
+    #[error("entries are missing")]
+    Missing,
+    #[error("a thread was not started")]
+    Thread,
+}
+
+impl From<OutOfMemory> for LongError {
+    fn from(_why: OutOfMemory) -> LongError {
+        LongError::OutOfMemory
+    }
+}
+
+impl From<AllocError> for LongError {
+    fn from(_why: AllocError) -> LongError {
+        LongError::OutOfMemory
+    }
+}
+
+impl<T: Drop> From<AllocFailed<T>> for LongError {
+    fn from(_why: AllocFailed<T>) -> LongError {
+        LongError::OutOfMemory
+    }
+}
+
+impl From<AddressError> for LongError {
+    fn from(why: AddressError) -> LongError {
+        match why {
+            AddressError::BadAddress => LongError::Address,
+            AddressError::OutOfMemory => LongError::OutOfMemory,
+        }
+    }
+}

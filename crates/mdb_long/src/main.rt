@@ -1,0 +1,148 @@
+//! Rounds of a driver that runs for long: connections out and in, clears, and a server that goes and comes, while the entries of its log are taken. It has no
+//! clock: `bench/endure.py` times it, and looks how much memory it keeps.
+#![tactic(auto)]
+
+ghost use Rattle.std.specs.Prelude.{IfOk, IfSome, ◌≤◌};
+
+mod counter;
+mod errors;
+mod lasting;
+mod opening;
+mod plan;
+mod rounds;
+mod sharing;
+
+use errors::LongError;
+use lasting::Lasting;
+use mdb_log::{Core, Log};
+use opening::open;
+use plan::{Plan, USAGE};
+use rounds::{Tally, greet, run};
+use sharing::{Shared, share};
+use std::alloc::AllocError;
+use std::io::ErrorKind;
+use std::process::ExitCode;
+use std::{env, io};
+
+const FAILED: u8 = 1;
+
+const WRONG_WORDS: u8 = 2;
+
+// So often it tells how far it is.
+const PARTS: u32 = 10;
+
+// The words of the command line; none where one of them is no text.
+fn words(rt: &HostRuntime) -> Result<Vec<String>, AllocError> {
+    let mut words = Vec::new(rt.alloc());
+    match env::args(rt) {
+        Ok(args) => {
+            for word in args.skip(1) {
+                words.push(word)?;
+            }
+        }
+        Err(e) => {
+            if e.kind() == ErrorKind::OutOfMemory {
+                return Err(AllocError);
+            }
+        }
+    }
+    Ok(words)
+}
+
+fn read_plan(rt: &HostRuntime) -> Result<Option<Plan>, AllocError>
+    ensures { IfOk result (λ plan. IfSome plan (λ p. IfSome p.threads (λ n. n ≤ 32))) }
+{
+    let words = words(rt)?;
+    let plan = Plan::read(words.as_slice());
+    drop(words);
+    Ok(plan)
+}
+
+// What went wrong.
+fn fail(rt: &HostRuntime, why: LongError) -> io::Result<ExitCode> {
+    match why {
+        LongError::OutOfMemory => Err(AllocError.into()),
+        why => {
+            eprintln!(rt; "{why}")?;
+            Ok(ExitCode::from(FAILED))
+        }
+    }
+}
+
+fn told(rt: &HostRuntime, entries: u64, tally: Tally) -> io::Result<()> {
+    println!(rt;
+        "returned={} entries={entries} established={} cleared={} came={}",
+        tally.returned, tally.established, tally.cleared, tally.came
+    )
+}
+
+// All rounds by one thread. What times them reads a line after each part of them.
+fn alone<C: Core>(
+    rt: &HostRuntime,
+    lasting: &mut Lasting<C>,
+    rounds: u32,
+) -> io::Result<Result<(), LongError>> {
+    let mut tally = Tally::new();
+    if let Err(why) = greet(lasting, rt.alloc()) {
+        return Ok(Err(why));
+    }
+    let part = rounds / PARTS;
+    let mut from = 0u32;
+    for number in 1..PARTS + 1 {
+        let to = if number == PARTS {
+            rounds
+        } else {
+            from.saturating_add(part)
+        };
+        if let Err(why) = run(lasting, rt.alloc(), from, to, &mut tally) {
+            return Ok(Err(why));
+        }
+        from = to;
+        told(rt, lasting.len(), tally)?;
+    }
+    Ok(Ok(()))
+}
+
+// The rounds of one thread at a driver of this core.
+fn tell_alone<C: Core>(
+    rt: &HostRuntime,
+    core: C,
+    log: Log,
+    rounds: u32,
+) -> io::Result<ExitCode>
+    requires { C.stands core log }
+{
+    let mut lasting = Lasting::new(core, log);
+    match alone(rt, &mut lasting, rounds)? {
+        Ok(()) => Ok(ExitCode::SUCCESS),
+        Err(why) => fail(rt, why),
+    }
+}
+
+fn tell_shared(rt: &HostRuntime, shared: Result<Shared, LongError>) -> io::Result<ExitCode> {
+    match shared {
+        Ok(shared) => {
+            println!(rt; "returned={} taken_all={}", shared.returned, shared.taken_all)?;
+            Ok(ExitCode::SUCCESS)
+        }
+        Err(why) => fail(rt, why),
+    }
+}
+
+fn main(rt: HostRuntime) -> io::Result<ExitCode> {
+    let Some(plan) = read_plan(&rt)? else {
+        eprintln!(rt; "{USAGE}")?;
+        return Ok(ExitCode::from(WRONG_WORDS));
+    };
+    let (core, log) = match open(rt.alloc()) {
+        Ok(opened) => opened,
+        Err(why) => return fail(&rt, why),
+    };
+    match plan.threads {
+        None => tell_alone(&rt, core, log, plan.rounds),
+        Some(threads) => {
+            let shared = share(&rt, rt.alloc(), core, log, threads, plan.rounds);
+            tell_shared(&rt, shared)
+        }
+    }
+}

@@ -1,0 +1,104 @@
+//! A driver of three routers.
+
+ghost use Rattle.std.specs.Prelude.{IfOk};
+ghost use Rattle.mdb_log.specs.Acts.{IsDriverAct};
+ghost use Rattle.mdb_topology.specs.Logging.{IsDriverOf};
+
+use crate::errors::LongError;
+use mdb_base::{Error, ErrorKind, Items, ObjectId, Options, ServerAddress, Text};
+use mdb_events::Held;
+use mdb_hello::HelloCommandResponse;
+use mdb_log::{Act, HelloResult, Log};
+use mdb_topology::TopologyCore;
+use std::alloc::Global;
+
+/// How many servers there are.
+pub const SERVERS: u32 = 3;
+
+// How many connections a pool has at most, and at least.
+const MOST: u32 = 4;
+
+const LEAST: u32 = 2;
+
+// How long a check takes, in nanoseconds.
+const CHECK: u64 = 5;
+
+/// The address of the server of this number.
+pub fn address(alloc: Global, server: u32) -> Result<ServerAddress, LongError> {
+    let name = match server {
+        0 => "a:1",
+        1 => "b:1",
+        _ => "c:1",
+    };
+    Ok(ServerAddress::parse(alloc, name)?)
+}
+
+/// The addresses of the first so many servers.
+pub fn addresses(alloc: Global, servers: u32) -> Result<Vec<ServerAddress>, LongError> {
+    let mut addresses = Vec::new(alloc);
+    for server in 0..servers {
+        addresses.push(address(alloc, server)?)?;
+    }
+    Ok(addresses)
+}
+
+fn options(alloc: Global) -> Result<Options, LongError> {
+    Ok(Options {
+        seeds: Items::new(addresses(alloc, SERVERS)?),
+        set_name: None,
+        direct: false,
+        load_balanced: false,
+        max_pool_size: Some(MOST),
+        min_pool_size: Some(LEAST),
+        max_connecting: None,
+        max_idle_time: None,
+        max_wait: None,
+        heartbeat: None,
+        connect: None,
+        streaming: None,
+        limit_id: None,
+        limit_generation: None,
+        limit_pool: None,
+        limit_monitor: None,
+        topology_id: ObjectId([0; 12]),
+    })
+}
+
+/// A router at the server greets, for this pool of it.
+pub fn hello(alloc: Global, server: u32, pool: u32) -> Result<Act, LongError>
+    ensures { IfOk result IsDriverAct }
+{
+    let mut reply = HelloCommandResponse::default();
+    reply.min_wire_version = Some(0);
+    reply.max_wire_version = Some(21);
+    reply.msg = Some(Text::new(String::from_str(alloc, "isdbgrid")?));
+    let reply = Held::new(alloc, reply)?;
+    let address = address(alloc, server)?;
+    Ok(Act::Hello(address, pool, HelloResult::Ok(CHECK, reply)))
+}
+
+/// An operation of the party met an error of the network.
+pub fn network_error(alloc: Global, party: u32) -> Result<Act, LongError>
+    ensures { IfOk result IsDriverAct }
+{
+    let error = Error {
+        kind: ErrorKind::Network,
+        labels: Items::new(Vec::new(alloc)),
+        topology_version: None,
+        message: Text::new(String::new(alloc)),
+    };
+    Ok(Act::Error(party, Held::new(alloc, error)?))
+}
+
+/// A driver of the servers, with its log.
+pub fn open(alloc: Global) -> Result<(TopologyCore, Log), LongError>
+    ensures { IfOk result (λ opened. IsDriverOf opened.0 opened.1) }
+{
+    let options = options(alloc)?;
+    if options.check().is_some() {
+        return Err(LongError::Options);
+    }
+    let mut log = Log::new(alloc);
+    let core = TopologyCore::open_seeds(alloc, &mut log, 0, options)?;
+    Ok((core, log))
+}
