@@ -90,10 +90,11 @@ fn add(
         marks.push(mark)?;
         return Ok(());
     };
-    let Some(count) = marks[at].count.checked_add(mark.count) else {
+    let old = marks[at];
+    let Some(count) = old.count.checked_add(mark.count) else {
         return Err(OutOfMemory);
     };
-    marks[at] = Mark { count, ..marks[at] };
+    marks[at] = Mark { count, ..old };
     Ok(())
 }
 
