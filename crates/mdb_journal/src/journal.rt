@@ -73,6 +73,8 @@ impl Journal {
         ensures all { result.all ≡ log }
         ensures gone { result.gone ≡ 0 }
     {
+        // The entries have a number of the type.
+        let _count = log.len();
         let news = news_end(log.entries()) as u64;
         let stopped = any_stops(log.entries());
         Journal {
