@@ -148,6 +148,12 @@ pub fn count(marks: &Marks, service: Option<ObjectId>, before: Option<u32>) -> u
     sum
 }
 
+fn one_if(is: bool) -> usize
+    ensures { result ≡ (if is then 1 else 0) }
+{
+    if is { 1 } else { 0 }
+}
+
 /// One clear more, of the service or of the pool as a whole, once so many connections were created.
 pub fn with_clear(
     alloc: Global,
@@ -165,7 +171,7 @@ pub fn with_clear(
     let Some(total) = marks.total.checked_add(1) else {
         return Err(OutOfMemory);
     };
-    let Some(timeouts) = marks.timeouts.checked_add(timeout as usize) else {
+    let Some(timeouts) = marks.timeouts.checked_add(one_if(timeout)) else {
         return Err(OutOfMemory);
     };
     let list = marked(alloc, live, created, marks.list.as_slice(), service)?;
