@@ -8,6 +8,7 @@ ghost use Rattle.mdb_shared_runs.specs.Parts.{HasPlayed, numbered_from, AreFresh
 use crate::gate::LineGate;
 use crate::part::{Part, Played, play};
 use mdb_base::OutOfMemory;
+use mdb_journal::Journal;
 use mdb_log::{Core, Log, Step};
 use mdb_shared::{Seat, SharedDriver};
 use std::alloc::Global;
@@ -74,6 +75,16 @@ fn play_all<C: Core, R: Threads + Wait + Sync, G: LineGate>(
     all_seats(alloc, ended)
 }
 
+// All entries, of which nobody took one.
+fn whole(journal: Journal) -> Result<Log, OutOfMemory>
+    ensures { IfOk result (λ log. log ≡ journal.all) }
+{
+    match journal.whole() {
+        Ok(log) => Ok(log),
+        Err(_) => Err(OutOfMemory),
+    }
+}
+
 /// The log after the steps, each of which is done by the part of its number.
 pub(super) fn share<C: Core, R: Threads + Wait + Sync, G: LineGate>(
     rt: &R,
@@ -93,10 +104,7 @@ pub(super) fn share<C: Core, R: Threads + Wait + Sync, G: LineGate>(
     let (driver, seats) = SharedDriver::new(alloc, core, log, count)?;
     let seats = play_all(rt, alloc, count, gate, &driver, steps, seats)?;
     match driver.close(seats) {
-        Ok((_core, journal)) => match journal.whole() {
-            Ok(log) => Ok(log),
-            Err(_) => Err(OutOfMemory),
-        },
+        Ok((_core, journal)) => whole(journal),
         Err(_) => Err(OutOfMemory),
     }
 }

@@ -1,3 +1,7 @@
+use Rattle.std.proofs.Common.{◌≡◌, List, sym, subst}
+use Rattle.mdb_log.specs.declared.log.Entry.{Entry}
+use Rattle.mdb_log.proofs.Coming.{when-ok}
+use Rattle.mdb_shared_runs.specs.Parts.{IsSharedOn}
 use Rattle.mdb_shared_runs.proofs.Joined.{all_own, shared_on}
 use Rattle.mdb_shared_runs.proofs.parts.share.Goals as goal
 
@@ -7,5 +11,8 @@ close-requires-clause-own g c κs within =
 
 pub returns-in-Ok : goal.returns-in-Ok
 returns-in-Ok g c =
-    shared_on g.C.Core.stands c.in_ok-driver.driver.id c.in_ok-driver.driver.base c.args.log c.args.count c.args.steps.now c.in_ok-seats.seats.items c.in-Ok.log _
-    c.in_ok-driver.ensures.base c.requires.parts.0 c.in-Ok.ensures.accounts c.in_ok-seats.ensures c.in-Ok.ensures.stands
+    let Shared : List Entry → Type 0 = IsSharedOn g.C.Core.stands c.args.count c.args.log c.args.steps.now in
+    let shared : Shared c.in-Ok.journal.all =
+            shared_on g.C.Core.stands c.in_ok-driver.driver.id c.in_ok-driver.driver.base c.args.log c.args.count c.args.steps.now c.in_ok-seats.seats.items
+            c.in-Ok.journal.all _ c.in_ok-driver.ensures.base c.requires.parts.0 c.in-Ok.ensures.accounts c.in_ok-seats.ensures c.in-Ok.ensures.stands in
+    when-ok c.whole.result (λ log. log ≡ c.in-Ok.journal.all) Shared c.whole.ensures (λ log is. subst Shared (sym is) shared)
