@@ -1,4 +1,4 @@
-use Rattle.std.proofs.Common.{sym, ◌∙◌, ap}
+use Rattle.std.proofs.Common.{is_some, ◌∙◌, ap}
 use Rattle.mdb_pool.proofs.Asked.{told-at}
 use Rattle.mdb_pool.proofs.request_parts.RequestParts.is_told.Goals as goal
 

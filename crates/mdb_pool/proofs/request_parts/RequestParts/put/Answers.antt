@@ -1,4 +1,4 @@
-use Rattle.std.proofs.Common.{refl, sym, ◌∙◌, ap}
+use Rattle.std.proofs.Common.{is_some, ◌∙◌, ap}
 use Rattle.mdb_pool.proofs.Asked.{put-fits}
 use Rattle.mdb_pool.proofs.request_parts.RequestParts.put.Goals as goal
 

@@ -1,4 +1,4 @@
-use Rattle.std.proofs.Common.{refl, sym, ◌∙◌, ap}
+use Rattle.std.proofs.Common.{rules}
 use Rattle.mdb_pool.proofs.Asked.{swap-fits, leave-fits}
 use Rattle.mdb_pool.proofs.Bodies.{stays_out}
 use Rattle.mdb_pool.proofs.request_parts.RequestParts.replace.Goals as goal

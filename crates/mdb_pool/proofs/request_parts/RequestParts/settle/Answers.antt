@@ -1,4 +1,4 @@
-use Rattle.std.proofs.Common.{refl, sym, ◌∙◌, ap}
+use Rattle.std.proofs.Common.{rules}
 use Rattle.mdb_pool.proofs.Asked.{done-fits, told-fits, gone-settled}
 use Rattle.mdb_pool.proofs.request_parts.RequestParts.settle.Goals as goal
 
