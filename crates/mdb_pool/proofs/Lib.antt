@@ -77,3 +77,6 @@ pub mod Marks
 mod Claims
 pub mod Living
 pub mod Clearings
+mod Asked
+pub mod Lingering
+mod Leaving

@@ -3,13 +3,13 @@ use Rattle.std.specs.Prelude.{◌&&◌, ℕ, Option, None}
 use Rattle.mdb_base.specs.declared.object_id.ObjectId.{ObjectId}
 use Rattle.mdb_slots.specs.Open.{or_else}
 use Rattle.mdb_slots.specs.Table.{items}
-use Rattle.mdb_slots.specs.NumberSet.{NumberSteps, numbers_kept, spanned_after, capacity_after, NumbersFit}
 use Rattle.mdb_slots.specs.Sided.{SidedSteps, SidedFits, sided_after, sided_capacity_after}
 use Rattle.mdb_pool.specs.Places.{is_available, is_pending, is_queued}
 use Rattle.mdb_pool.specs.declared.connection.Connection.{Connection}
 use Rattle.mdb_pool.specs.declared.request.Request.{Request}
 use Rattle.mdb_pool.specs.declared.status.Status.{Status}
 use Rattle.mdb_pool.specs.Inner.{PoolShelf, PoolRoom, Inner}
+use Rattle.mdb_pool.specs.Asking.{AskedSteps, asked_after, asked_room_after, AskedFits}
 use Rattle.mdb_pool.specs.Claiming.{ClaimSteps, claimed_after, ClaimsFit}
 use Rattle.mdb_pool.specs.Clearing.{ClearSteps, cleared_after, ClearsFit}
 use Rattle.mdb_pool.specs.Core.{PoolCore}
@@ -20,10 +20,9 @@ pub record PoolSteps : Type 0 where
   pub last : Option ℕ
   pub created : Option ℕ
   pub connections : SidedSteps Connection
-  pub requests : SidedSteps Request
+  pub requests : AskedSteps
   pub status : Option Status
   pub clears : ClearSteps
-  pub settled : NumberSteps
   pub claimed : ClaimSteps
 
 -- the pool that is read from it
@@ -35,10 +34,10 @@ pool_of i = record {
   last = i.base.last;
   created = i.base.created;
   connections = items i.base.connections.table;
-  requests = items i.base.requests.table;
+  requests = i.base.requests.all;
   status = i.base.status;
   clears = i.base.clears.all;
-  settled = numbers_kept i.base.settled;
+  settled = i.base.requests.settled;
   claimed = i.base.claimed.numbers;
   inner = i;
 }
@@ -52,10 +51,9 @@ pool_after p s = record {
   last = or_else p.last s.last;
   created = or_else p.created s.created;
   connections = sided_after p.connections s.connections;
-  requests = sided_after p.requests s.requests;
+  requests = asked_after p.requests s.requests;
   status = or_else p.status s.status;
   clears = cleared_after p.clears s.clears;
-  settled = spanned_after p.settled s.settled;
   claimed = claimed_after p.claimed s.claimed;
 }
 
@@ -63,8 +61,7 @@ pool_after p s = record {
 abbrev pub room_after : PoolSteps → PoolRoom → PoolRoom
 room_after p r = record {
   connections = sided_capacity_after p.connections r.connections;
-  requests = sided_capacity_after p.requests r.requests;
-  settled = capacity_after p.settled r.settled;
+  requests = asked_room_after p.requests r.requests;
 }
 
 abbrev pub inner_after : PoolSteps → Inner → Inner
@@ -74,16 +71,12 @@ inner_after p i = record { base = pool_after p i.base; room = room_after p i.roo
 abbrev pub led : PoolSteps → PoolCore → PoolCore
 led p s = pool_of (inner_after p s.inner)
 
-abbrev pub no_service : {T : Type 0} → T → Option ObjectId
-no_service x = None
-
 -- the changes can be made without memory, and lead to a pool
 abbrev pub PoolFits : PoolSteps → Inner → Type 0
 PoolFits p i =
     SidedFits (λ x. x.id) (λ x. x.service) (λ x. x.since) (λ x. is_available x.place) (λ x. is_pending x.place) p.connections i.base.connections i.room.connections
-    × SidedFits (λ q. q.number) no_service (λ q. q.asked_at) (λ q. is_queued q.phase && q.warm) (λ q. is_queued q.phase) p.requests i.base.requests i.room.requests
+    × AskedFits p.requests i.base.requests i.room.requests
     × ClearsFit (or_else p.created i.base.created) (cleared_after p.clears i.base.clears) (items (sided_after p.connections i.base.connections).table)
-    × NumbersFit p.settled i.base.settled i.room.settled
     × ClaimsFit (or_else p.created i.base.created) (claimed_after p.claimed i.base.claimed) (items (sided_after p.connections i.base.connections).table)
 
 -- the same of the parts of a pool
@@ -98,7 +91,6 @@ base_of b = record {
   requests = b.requests.base;
   status = b.status.base;
   clears = b.connections.cleared;
-  settled = b.settled.base;
   claimed = b.connections.settled;
 }
 
@@ -106,7 +98,6 @@ abbrev pub room_of : Body → PoolRoom
 room_of b = record {
   connections = b.connections.capacity;
   requests = b.requests.capacity;
-  settled = b.settled.capacity;
 }
 
 abbrev pub inner_of : Body → Inner
@@ -123,7 +114,7 @@ now_of b = record {
   requests = b.requests.now;
   status = b.status.now;
   clears = b.connections.clears;
-  settled = b.settled.now;
+  settled = b.requests.settled;
   claimed = b.connections.claimed;
   inner = inner_of b;
 }

@@ -4,6 +4,7 @@ use Rattle.mdb_base.specs.declared.address.ServerAddress.{ServerAddress}
 use Rattle.mdb_log.specs.declared.options.PoolOptions.{PoolOptions}
 use Rattle.mdb_slots.specs.NumberSet.{Spanned}
 use Rattle.mdb_slots.specs.Sided.{SidedShelf, SidedCapacities}
+use Rattle.mdb_slots.specs.Table.{Shelf, Capacities}
 use Rattle.mdb_pool.specs.declared.connection.Connection.{Connection}
 use Rattle.mdb_pool.specs.declared.marks.Marks.{Marks}
 use Rattle.mdb_pool.specs.declared.request.Request.{Request}
@@ -20,6 +21,20 @@ pub record Cleared : Type 0 where
   pub all : List Clear
   pub marks : Marks
 
+-- all requests and those that are settled, and what memory keeps: those that have not left, of these the settled ones, and all numbers
+pub record Asked : Type 0 where
+  pub all : List Request
+  pub settled : List ℕ
+  pub kept : SidedShelf Request
+  pub told : Shelf ℕ
+  pub known : Spanned
+
+-- how long each part becomes without memory
+pub record AskedRoom : Type 0 where
+  pub kept : SidedCapacities
+  pub told : Capacities
+  pub known : ℕ
+
 -- what a pool is read from
 pub record PoolShelf : Type 0 where
   pub pool : ℕ
@@ -28,17 +43,15 @@ pub record PoolShelf : Type 0 where
   pub last : ℕ
   pub created : ℕ
   pub connections : SidedShelf Connection
-  pub requests : SidedShelf Request
+  pub requests : Asked
   pub status : Status
   pub clears : Cleared
-  pub settled : Spanned
   pub claimed : Claimed
 
 -- how long each part becomes without memory
 pub record PoolRoom : Type 0 where
   pub connections : SidedCapacities
-  pub requests : SidedCapacities
-  pub settled : ℕ
+  pub requests : AskedRoom
 
 pub record Inner : Type 0 where
   pub base : PoolShelf

@@ -8,6 +8,7 @@ pub mod Keyed
 pub mod Places
 pub mod Available
 pub mod Kept
+pub mod Asking
 pub mod Claiming
 pub mod Clearing
 pub mod Connecting

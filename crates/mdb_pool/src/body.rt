@@ -6,10 +6,10 @@ ghost use Rattle.mdb_pool.specs.Body.{now_of, inner_of, inner_after, pool_of, le
 
 use super::PoolOptions;
 use super::connections::{Connections, ConnectionsRedo};
-use super::request::Request;
+use super::requests::{Requests, RequestsRedo};
 use super::status::Status;
 use mdb_base::{Moment, ServerAddress};
-use mdb_slots::{NumberSet, NumberSetRedo, Sides, SidesRedo, TurnedOne};
+use mdb_slots::TurnedOne;
 use std::alloc::Global;
 use std::marker::Model;
 
@@ -21,9 +21,8 @@ pub struct Body {
     pub options: PoolOptions,
     pub last: TurnedOne<Moment>,
     pub connections: Connections,
-    pub requests: Sides<Request>,
+    pub requests: Requests,
     pub status: TurnedOne<Status>,
-    pub settled: NumberSet,
 }
 
 /// Changes of a pool that were taken back, to be made again.
@@ -31,9 +30,8 @@ pub struct Body {
 pub struct BodyRedo {
     last: Option<Moment>,
     connections: ConnectionsRedo,
-    requests: SidesRedo<Request>,
+    requests: RequestsRedo,
     status: Option<Status>,
-    settled: NumberSetRedo,
 }
 
 impl Model for BodyRedo {
@@ -42,7 +40,7 @@ impl Model for BodyRedo {
 
     ghost Value = { PoolSteps };
 
-    ghost view = { λ t. record { last = t.last; created = t.connections.created; connections = t.connections.live; requests = t.requests; status = t.status; clears = t.connections.clears; settled = t.settled; claimed = t.connections.claimed } };
+    ghost view = { λ t. record { last = t.last; created = t.connections.created; connections = t.connections.live; requests = t.requests; status = t.status; clears = t.connections.clears; claimed = t.connections.claimed } };
 }
 
 impl Body {
@@ -58,7 +56,6 @@ impl Body {
             connections: self.connections.turn(alloc),
             requests: self.requests.turn(alloc),
             status: self.status.turn(),
-            settled: self.settled.turn(alloc),
         }
     }
 
@@ -71,7 +68,6 @@ impl Body {
         self.connections.settle();
         self.requests.settle();
         self.status.settle();
-        self.settled.settle();
     }
 
     /// Whatever was changed goes, and the changes are made again and stay. It takes no memory.
@@ -84,12 +80,10 @@ impl Body {
             connections,
             requests,
             status,
-            settled,
         } = redo;
         self.last.redo(last);
         self.connections.redo(connections);
         self.requests.redo(requests);
         self.status.redo(status);
-        self.settled.redo(settled);
     }
 }

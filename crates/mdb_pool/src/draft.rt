@@ -1,13 +1,13 @@
 //! A pool with changes that can be taken back.
 
-ghost use Rattle.std.specs.Prelude.{◌≡◌, ◌+◌, ◌++◌, ◌∷◌, [], true, false, is_some, length, map, OnOk, option_copied, Some};
+ghost use Rattle.std.specs.Prelude.{◌≡◌, ◌+◌, ◌++◌, ◌∷◌, [], true, false, is_some, length, map, None, OnOk, option_copied, Some};
 ghost use Rattle.mdb_log.specs.Connections.{has};
 ghost use Rattle.mdb_slots.specs.Keyed.{others, put, swap};
 ghost use Rattle.mdb_slots.specs.Lists.{apart};
 ghost use Rattle.mdb_slots.specs.Sided.{stays};
 ghost use Rattle.mdb_pool.specs.Keyed.{marked};
-ghost use Rattle.mdb_pool.specs.Kept.{connection_at, connection_in, first_unclaimed, request_at, request_in};
-ghost use Rattle.mdb_pool.specs.Places.{is_available, is_pending, is_queued};
+ghost use Rattle.mdb_pool.specs.Kept.{connection_at, first_unclaimed, is_gone, kept_request, kept_requests, request_at};
+ghost use Rattle.mdb_pool.specs.Places.{is_available, is_done, is_pending, is_queued};
 
 use super::PoolOptions;
 use super::body::Body;
@@ -77,9 +77,9 @@ impl Draft {
         self.body.connections.len()
     }
 
-    // How many requests there are.
+    // How many requests have not left.
     pub(super) fn asked(&self) -> usize
-        ensures value { result ≡ length self.now.requests }
+        ensures value { result ≡ length (kept_requests self.now) }
         ensures apart { apart (map (λ q. q.number) self.now.requests) ≡ true }
     {
         self.body.requests.len()
@@ -91,17 +91,11 @@ impl Draft {
         self.body.connections.get(id)
     }
 
+    // The request, where it has not left.
     pub(super) fn request(&self, number: u32) -> Option<&Request>
-        ensures { option_copied result ≡ request_at self.now number }
+        ensures { option_copied result ≡ kept_request self.now number }
     {
         self.body.requests.get(number)
-    }
-
-    // The outcome of the request was told, or it gave up or came back.
-    pub(super) fn is_settled(&self, number: u32) -> bool
-        ensures { result ≡ has number self.now.settled }
-    {
-        self.body.is_settled(number)
     }
 
     pub(super) fn set_last(&mut self, moment: Moment)
@@ -131,14 +125,13 @@ impl Draft {
         self.body.connections.clear(alloc, service, timeout)
     }
 
-    pub(super) fn settle(&mut self, number: u32) -> Result<(), OutOfMemory>
+    // The request of this number, which came, is settled.
+    pub(super) fn settle(&mut self, alloc: Global, number: u32) -> Result<(), OutOfMemory>
+        requires { is_some (request_at self.old number) ≡ true }
         ensures core { OnOk result (self.new ≡ record self.old { settled = marked number self.old.settled }) }
         ensures inner { self.new.inner ≡ self.old.inner }
     {
-        if self.is_settled(number) {
-            return Ok(());
-        }
-        self.body.settled.insert(number)
+        self.body.requests.note(alloc, number)
     }
 
     // A claim is told of the connection, which came first among the pending ones that no claim was told of.
@@ -199,22 +192,25 @@ impl Draft {
         self.body.connections.remove(alloc, id)
     }
 
-    // The request comes last.
+    // The request, which is new and open, comes last.
     pub(super) fn put_request(&mut self, alloc: Global, request: Request) -> Result<(), OutOfMemory>
+        requires fresh { request_at self.old request.number ≡ None }
+        requires open { is_done request.phase ≡ false }
         ensures core { OnOk result (self.new ≡ record self.old { requests = put (λ q. q.number) request self.old.requests }) }
+        ensures unsettled { OnOk result (has request.number self.new.settled ≡ false) }
         ensures inner { self.new.inner ≡ self.old.inner }
     {
         self.body.requests.put(alloc, request)
     }
 
-    // The request, which is not queued, takes the place of the one that had its number.
-    #[tactic(auto, using(crate::proofs::Bodies::stays_out))]
+    // The request, which is not queued and has not left, takes the place of the one that had its number.
     pub(super) fn replace_request(
         &mut self,
         alloc: Global,
         request: Request,
     ) -> Result<(), OutOfMemory>
-        requires { is_queued request.phase ≡ false }
+        requires there { is_gone self.old.settled (request_at self.old request.number) ≡ false }
+        requires unqueued { is_queued request.phase ≡ false }
         ensures core { OnOk result (self.new ≡ record self.old { requests = swap (λ q. q.number) request self.old.requests }) }
         ensures inner { self.new.inner ≡ self.old.inner }
     {

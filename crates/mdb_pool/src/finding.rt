@@ -1,6 +1,6 @@
 //! What the parts of a pool have among their connections and requests.
 
-ghost use Rattle.std.specs.Prelude.{◌≡◌, ◌&&◌, not, nat_lt, option_copied, IfOk};
+ghost use Rattle.std.specs.Prelude.{◌≡◌, ◌&&◌, not, nat_lt, option_copied, IfOk, false};
 ghost use Rattle.mdb_log.specs.Connections.{has};
 ghost use Rattle.mdb_pool.specs.Body.{now_of};
 
@@ -13,14 +13,7 @@ use mdb_log::{DEFAULT_MAX_CONNECTING, DEFAULT_MAX_POOL_SIZE};
 
 impl Body {
     ghost use Rattle.mdb_log.specs.State.{max_connecting};
-    ghost use Rattle.mdb_pool.specs.Kept.{wants_now, blocked_now, first_caller, candidate_now, fills_now, first_perished, first_overdue, overdue_since, first_queued, last_available, pending_count, has_room, given_in, held_given, held_connection, pending_connection, holder_request, outcome_now, first_unclaimed};
-
-    // The outcome of the request was told, or it gave up or came back.
-    pub fn is_settled(&self, number: u32) -> bool
-        ensures { result ≡ has number self.now.settled.now }
-    {
-        self.settled.contains(number)
-    }
+    ghost use Rattle.mdb_pool.specs.Kept.{wants_now, blocked_now, first_caller, candidate_now, fills_now, first_perished, first_overdue, overdue_since, first_queued, last_available, pending_count, has_room, given_in, held_given, held_connection, pending_connection, kept_holder, outcome_now, first_unclaimed};
 
     pub fn first_queued(&self) -> Option<&Request>
         ensures { option_copied result ≡ first_queued (now_of self.now) }
@@ -83,7 +76,7 @@ impl Body {
     fn first_caller(&self) -> Option<&Request>
         ensures { option_copied result ≡ first_caller (now_of self.now) }
     {
-        if self.requests.left().len() == self.requests.right().len() {
+        if self.requests.warm_count() == self.requests.queued_count() {
             return None;
         }
         let mut next = self.requests.first_right();
@@ -131,6 +124,7 @@ impl Body {
     }
 
     // The connection that the party holds.
+    #[tactic(auto, using(crate::proofs::Lingering::given_kept))]
     pub fn held_connection(&self, party: u32) -> Option<&Connection>
         ensures { option_copied result ≡ held_connection (now_of self.now) party }
     {
@@ -141,6 +135,7 @@ impl Body {
     }
 
     // The pending connection that the party is given.
+    #[tactic(auto, using(crate::proofs::Lingering::given_kept))]
     pub fn pending_connection(&self, party: u32) -> Option<Connection>
         ensures { result ≡ pending_connection (now_of self.now) party }
     {
@@ -156,9 +151,9 @@ impl Body {
         }
     }
 
-    // The request that will have the connection.
+    // The request that will have the connection, where it has not left.
     pub fn holder_request(&self, connection: Connection) -> Option<&Request>
-        ensures { option_copied result ≡ holder_request (now_of self.now) connection }
+        ensures { option_copied result ≡ kept_holder (now_of self.now) connection }
     {
         match connection.holder {
             Some(holder) => self.requests.get(holder),
@@ -200,8 +195,10 @@ impl Body {
         None
     }
 
-    // What the request is told.
+    // What the request is told, which is not settled.
+    #[tactic(auto, using(crate::proofs::Lingering::unsettled_kept))]
     pub fn outcome(&self, request: u32) -> Result<Reply, OutOfMemory>
+        requires { has request self.now.requests.settled ≡ false }
         ensures { IfOk result (λ reply. reply ≡ outcome_now (now_of self.now) request) }
     {
         Ok(match self.requests.get(request) {
