@@ -74,3 +74,9 @@ pub mod Unserved
 pub mod UnservedCount
 pub mod WalksBack
 pub mod Marks
+mod Claims
+pub mod Living
+pub mod Clearings
+mod Asked
+pub mod Lingering
+mod Leaving
