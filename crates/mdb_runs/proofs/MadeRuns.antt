@@ -4,9 +4,8 @@ use Rattle.std.proofs.Math.Seq.{take-length}
 use Rattle.mdb_base.specs.Outside.{Rose, Held, Took}
 use Rattle.mdb_log.specs.declared.step.Step.{Step}
 use Rattle.mdb_log.specs.declared.log.Entry.{Entry}
-use Rattle.mdb_lines.specs.Script.{max_input}
-use Rattle.mdb_lines.specs.Loops.{TookFront, ReadsFew}
-use Rattle.mdb_lines.proofs.Loops.{took_no_more, consumes_none, called_none, reads_so_far}
+use Rattle.mdb_lines.specs.Loops.{TookFront}
+use Rattle.mdb_lines.proofs.Loops.{took_no_more}
 use Rattle.mdb_topology.specs.Lines.{log_of, steps_of}
 use Rattle.mdb_runs.specs.Runs.{Seen, Finished}
 use Rattle.mdb_runs.specs.Made.{summary_line}
@@ -17,10 +16,6 @@ made_log old new log steps h same = h.ran.answers ∙ ap log_of same
 
 pub never_rose : Rose 0 0 → ⊥
 never_rose h = omega (arith, h)
-
--- a source that is left alone is read by no call
-pub reads_none : (a : Option (List ℕ)) (p : Option ℕ) → ReadsFew max_input a a p p
-reads_none a p = reads_so_far max_input a a p p 0 [] (consumes_none a) (called_none p) (omega arith) (omega arith)
 
 -- the sink took the line, or its front
 pub line_front : (a b : Option Held) (n : ℕ) (text : List ℕ) → text ≡ summary_line n → TookFront a b text → TookFront a b (summary_line n)
