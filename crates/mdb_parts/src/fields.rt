@@ -1,6 +1,6 @@
 //! Fields of a line: a value behind a name, and what is left of the line.
 
-ghost use Rattle.std.specs.Prelude.{◌≡◌, ◌<◌, ◌^◌, ◌++◌, ℕ, ℤ, List, decimal, true, FitsSigned};
+ghost use Rattle.std.specs.Prelude.{◌≡◌, ◌<◌, ◌^◌, ◌++◌, ℕ, ℤ, List, decimal, FitsSigned};
 ghost use Rattle.std.specs.Int.{w32};
 ghost use Rattle.std.specs.Fmt.{signed_decimal};
 ghost use Rattle.mdb_parts.specs.Reading.{Follows, GivesFirst};
