@@ -1,5 +1,6 @@
 //! Checking connections out (CMAP, "Checking Out a Connection"): a request, and then questions how it stands. Between them the caller sleeps until the log
-//! tells that its request is settled, so a request that waits takes one question more, and not one for each piece of news.
+//! tells that its request is settled, so a request that waits takes one question more, and not one for each piece of news. Who finds callers waiting lets them go
+//! first, for a moment.
 
 ghost use Rattle.std.specs.Prelude.{◌≡◌, [], IfOk, OnErr};
 ghost use Rattle.mdb_log.specs.declared.step.Act.TheVariants.{Request};
@@ -12,7 +13,7 @@ use crate::standing::{Standing, State, await_outcome};
 use mdb_base::{OutOfMemory, ServerAddress};
 use mdb_events::End;
 use mdb_log::{Act, Core, PooledConnection, Refused, Reply, Step};
-use mdb_shared::{Poll, Seat};
+use mdb_shared::{Poll, Seat, WaitQueue};
 use mdb_workers::{Access, add, ask, let_go};
 use std::rt::Clock;
 use std::sync::Wait;
@@ -132,6 +133,26 @@ fn collect<C: Core, R: Wait, L: Limit>(
     unreachable!()
 }
 
+// Waits for the outcome, in the wait queue of the server where no connection is being established for the request.
+fn wait_in<C: Core, R: Wait, L: Limit>(
+    access: &Access<'_, C, R>,
+    seat: &mut Seat<C>,
+    standing: Standing,
+    limit: &L,
+    queue: WaitQueue,
+) -> Result<PooledConnection, CheckOutError>
+    requires own { seat.old.driver ≡ access.now.driver.now.id }
+    ensures answer { Collected C.stands (L.ends limit.now) standing.request seat.old seat.new result }
+{
+    if standing.at.is_some() {
+        return collect(access, seat, standing, limit);
+    }
+    access.driver.enter_queue(queue);
+    let answer = collect(access, seat, standing, limit);
+    access.driver.leave_queue(queue);
+    answer
+}
+
 // The request, and then questions.
 fn check_out_by<C: Core, R: Wait, L: Limit>(
     access: &Access<'_, C, R>,
@@ -143,6 +164,8 @@ fn check_out_by<C: Core, R: Wait, L: Limit>(
     requires own { seat.old.driver ≡ access.now.driver.now.id }
     ensures answer { SettledFrom C.stands (L.ends limit.now) request address seat.old seat.new result }
 {
+    let queue = WaitQueue::of(&address);
+    access.driver.yield_to(queue);
     let from = access.driver.seen_count(seat);
     match request_once(access, seat, request, address) {
         Ok(Poll::NotYet(reply)) => {
@@ -151,7 +174,7 @@ fn check_out_by<C: Core, R: Wait, L: Limit>(
                 from,
                 at: place_of(reply),
             };
-            collect(access, seat, standing, limit)
+            wait_in(access, seat, standing, limit, queue)
         }
         Ok(Poll::Ready(connection)) => Ok(connection),
         Ok(Poll::Ended(end)) => Err(CheckOutError::Ended(end)),

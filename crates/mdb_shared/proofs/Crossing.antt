@@ -127,7 +127,7 @@ module _ (C : RattleType) (g : Core.Ghosts C.Denot) where
   seat_crosses s = view_send (SeatInside.the_row C g) _ _ _ _ (recorded_send (SeatInside.the_field C g).row _ _ (SeatInside.the_type C g).to_one (struct_send (shape (SeatInside.the_type C g)) (search (place.the_send, records, log, crosses, sendable) depth 20, (number, tt))))
 
   pub driver_lends : IsSend C → IsSync (Driver.the_row C g)
-  driver_lends s = view_sync (DriverInside.the_row C g) _ _ _ _ (recorded_sync (DriverInside.the_field C g).row _ _ (DriverInside.the_type C g).to_one (struct_sync (shape (DriverInside.the_type C g)) (search (table.the_field_sync, records, log, crosses, sendable) depth 20, (search sendable, (counter, (counter, tt))))))
+  driver_lends s = view_sync (DriverInside.the_row C g) _ _ _ _ (recorded_sync (DriverInside.the_field C g).row _ _ (DriverInside.the_type C g).to_one (struct_sync (shape (DriverInside.the_type C g)) (search (table.the_field_sync, records, log, crosses, sendable) depth 20, (search sendable, (counter, (counter, (counter, tt)))))))
 
 -- for `search`: what has a seat or lends a driver crosses where its core may
 pub ruleset seats = (seat_crosses, driver_lends, crosses, sendable)

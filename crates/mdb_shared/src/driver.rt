@@ -29,7 +29,8 @@ use std::sync::atomic::AtomicU64;
 pub struct SharedDriver<C: Core> {
     pub(crate) table: Lock<C>,
     made: u32,
-    // How many sleep for the turn, and how many until the log tells news.
+    // How many callers wait for a connection, by wait queue; how many sleep for the turn, and how many until the log tells news.
+    pub(crate) waiting: AtomicU64,
     pub(crate) at_turn: AtomicU64,
     pub(crate) at_bell: AtomicU64,
 }
@@ -81,6 +82,7 @@ impl<C: Core> SharedDriver<C> {
         let driver = SharedDriver {
             table,
             made: seats,
+            waiting: AtomicU64::new(0),
             at_turn: AtomicU64::new(0),
             at_bell: AtomicU64::new(0),
         };
@@ -194,6 +196,7 @@ impl<C: Core> SharedDriver<C> {
         let SharedDriver {
             table,
             made: _,
+            waiting: _,
             at_turn: _,
             at_bell: _,
         } = self;

@@ -14,6 +14,7 @@ mod rule;
 mod seat;
 mod taking;
 mod turn;
+mod wait_queue;
 mod waiting;
 
 pub use answers::{TryError, Unclosed};
@@ -22,3 +23,4 @@ pub use claiming::Claimed;
 pub use driver::SharedDriver;
 pub use looking::Look;
 pub use seat::Seat;
+pub use wait_queue::WaitQueue;

@@ -5,7 +5,7 @@ use Rattle.mdb_handles.proofs.asking.check_out_by.Goals as goal
 pub returns-in-Ok-NotYet : goal.returns-in-Ok-NotYet
 returns-in-Ok-NotYet g c = record {
   answer = settled_asking g.C.Core.stands (g.L.Limit.ends c.args.limit.now) c.args.request c.args.address c.args.seat.now c.seen_count-from.new.seat c.request_once.new.seat _ (made_same g.C.Core.stands _ _ c.seen_count-from.ensures.same c.seen_count-from.ensures.seen) c.in-Ok-NotYet.ensures.ok
-      c.collect.new.seat c.collect.result _ c.in-Ok-NotYet.field-0-is c.in-Ok-NotYet.ensures.names c.collect.ensures.answer;
+      c.wait_in.new.seat c.wait_in.result _ c.in-Ok-NotYet.field-0-is c.in-Ok-NotYet.ensures.names c.wait_in.ensures.answer;
 }
 
 pub returns-in-Ok-Ready : goal.returns-in-Ok-Ready
