@@ -9,7 +9,8 @@ nothing. --pid follows a run of rt ci that has begun already, in place of starti
 started in a folder whose path begins with one of the prefixes, also those that begin later, until the script is ended (INT or TERM);
 runs of rt check there do not count. --resume FILE keeps the sums there, and begins with what stands in it, so that several runs that
 each did a part add up. --sum starts and follows nothing: the table of what --resume holds. --write puts the table into docs/GATE.md,
-between the lines '<!-- table -->' and '<!-- end of table -->'. Seconds are user and system time together, of all threads.
+between the lines '<!-- table -->' and '<!-- end of table -->'. Seconds are user and system time together, of all threads; below the table stand
+their sum as it was, and in the unit of the budget.
 """
 import argparse
 import json
@@ -24,6 +25,8 @@ from collections import defaultdict
 ROOT = os.path.dirname(os.path.dirname(os.path.abspath(__file__)))
 TICKS = os.sysconf("SC_CLK_TCK")
 PURPOSES = ("proof", "edits", "tests", "programs")
+# The budget counts seconds of a machine on which this proof takes so many: the same work costs more on one machine than on another, and from hour to hour.
+UNIT = ("mdb_base", "proof"), 166
 
 
 def stat_of(pid):
@@ -117,7 +120,11 @@ def table(sums):
         rows.append(f"| `{crate}` | {' | '.join(cells)} | {chain(crate):.0f} |")
     whole = [sum(seconds(it, purpose) for it in needs) for purpose in PURPOSES]
     rows.append(f"| **all** | {' | '.join(f'{it:.0f}' for it in whole)} | {max(chain(it) for it in needs):.0f} |")
-    rows += ["", f"Together {sum(whole) / 60:.0f} processor minutes."]
+    minutes, longest, unit = sum(whole) / 60, max(chain(it) for it in needs) / 60, seconds(*UNIT[0])
+    rows += ["", f"Together {minutes:.0f} processor minutes, the longest chain {longest:.0f}."]
+    if unit:
+        share = UNIT[1] / unit
+        rows[-1] += f" In seconds of which the proof of `{UNIT[0][0]}` takes {UNIT[1]}: {minutes * share:.0f} and {longest * share:.0f}."
     return "\n".join(rows)
 
 
