@@ -6,7 +6,7 @@ use Rattle.mdb_log.specs.History.{Item}
 use Rattle.mdb_log.specs.Legal.{first}
 use Rattle.mdb_log.specs.PlainRequests.{waiting}
 use Rattle.mdb_audit.specs.declared.queues.Queues.{Queues}
-use Rattle.mdb_tallies.specs.declared.table.Table.{Table}
+use Rattle.mdb_tallies.specs.declared.default_map.DefaultMap.{DefaultMap}
 use Rattle.mdb_tallies.specs.declared.tables.Tables.{Tables}
 use Rattle.mdb_tallies.specs.Tables.{at, same_key}
 use Rattle.mdb_tallies.specs.Lists.{nth, len}
@@ -72,7 +72,7 @@ again true x y z = refl
 again false x y z = refl
 
 -- one caller more that doesn't wait
-pub passes-next : (t : Tables) (p n r : ℕ) (old new : Queues) (gone : Table ℕ) → Passes t p n old new → r ≡ nth new.callers p n → told t p r ≡ false → ((a b c : ℕ) → at gone a b c ≡ (if same_key p 0 0 a b c then (n + 1) else at new.gone a b c)) → Passes t p (n + 1) old (record new { gone = gone })
+pub passes-next : (t : Tables) (p n r : ℕ) (old new : Queues) (gone : DefaultMap ℕ) → Passes t p n old new → r ≡ nth new.callers p n → told t p r ≡ false → ((a b c : ℕ) → at gone a b c ≡ (if same_key p 0 0 a b c then (n + 1) else at new.gone a b c)) → Passes t p (n + 1) old (record new { gone = gone })
 passes-next t p n r old new gone passes is idle set = record {
   callers = passes.callers;
   gone = λ a b c. set a b c ∙ ap (λ k. if same_key p 0 0 a b c then (n + 1) else k) (passes.gone a b c) ∙ again (same_key p 0 0 a b c) (n + 1) n (at old.gone a b c);

@@ -18,7 +18,7 @@ use Rattle.mdb_audit.specs.declared.homes.Homes.{Homes}
 use Rattle.mdb_audit.specs.Shown.{facts_of}
 use Rattle.mdb_log.proofs.Numbers.{same-number}
 use Rattle.mdb_tallies.specs.Tables.{at}
-use Rattle.mdb_tallies.specs.declared.table.Table.{Table}
+use Rattle.mdb_tallies.specs.declared.default_map.DefaultMap.{DefaultMap}
 use Rattle.mdb_tallies.proofs.Placed.{same}
 use Rattle.mdb_audit.specs.Newest.{last_at}
 use Rattle.mdb_audit.specs.declared.newest.Last.{Last}
@@ -56,19 +56,19 @@ home-opened m p a h old new s f = record {
     l = record { number = p; closings = at old.closings p 0 0 }
 
     itself : (if at new.closings p 0 0 == at old.closings p 0 0 then Some p else None) ≡ Some p
-    itself = rw (ap (λ (t : Table ℕ). at t p 0 0) f.closings, same-number (at old.closings p 0 0)) refl
+    itself = rw (ap (λ (t : DefaultMap ℕ). at t p 0 0) f.closings, same-number (at old.closings p 0 0)) refl
 
     before : (x : Option Last) → still_open new x ≡ still_open old x
     before None = refl
-    before (Some last) = ap (λ (t : Table ℕ). if at t last.number 0 0 == last.closings then Some last.number else None) f.closings
+    before (Some last) = ap (λ (t : DefaultMap ℕ). if at t last.number 0 0 == last.closings then Some last.number else None) f.closings
 
     here : (b : ServerAddress) (same : Bool) → still_open new (if same then Some l else last_at old.newest b) ≡ (if same then Some p else open_pool h b)
     here b true = itself
     here b false = before (last_at old.newest b) ∙ s.here b
 
     within : (b : ServerAddress) (last : Last) (same : Bool) → (if same then Some l else last_at old.newest b) ≡ Some last → last.closings ≤ at new.closings last.number 0 0
-    within b last true e = subst (λ (x : Last). x.closings ≤ at new.closings x.number 0 0) (some-same l last e) (subst (λ (t : Table ℕ). at old.closings p 0 0 ≤ at t p 0 0) (sym f.closings) (omega arith))
-    within b last false e = subst (λ (t : Table ℕ). last.closings ≤ at t last.number 0 0) (sym f.closings) (s.within b last e)
+    within b last true e = subst (λ (x : Last). x.closings ≤ at new.closings x.number 0 0) (some-same l last e) (subst (λ (t : DefaultMap ℕ). at old.closings p 0 0 ≤ at t p 0 0) (sym f.closings) (omega arith))
+    within b last false e = subst (λ (t : DefaultMap ℕ). last.closings ≤ at t last.number 0 0) (sym f.closings) (s.within b last e)
 
 -- a pool was closed
 home-shut : (m p : ℕ) (h : List Item) (old new : Homes) → HomesStand h old → IsClosed p old new → (k : List Item) → homes k ≡ homes h → ((b : ServerAddress) → open_pool k b ≡ unless_closed p (open_pool h b)) → HomesStand k new

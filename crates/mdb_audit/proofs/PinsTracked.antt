@@ -8,7 +8,7 @@ use Rattle.mdb_log.specs.declared.step.Act.TheVariants.{GiveUp, Return, Pin, Rep
 use Rattle.mdb_log.specs.History.{Item, did, of_pool, open_pool}
 use Rattle.mdb_log.specs.Connections.{one_if}
 use Rattle.mdb_log.specs.PlainHolders.{has_returned, holds, pins_made, pins_dropped, is_pinned}
-use Rattle.mdb_tallies.specs.declared.change.How.TheVariants as how
+use Rattle.mdb_tallies.specs.declared.occurrence.How.TheVariants as how
 use Rattle.mdb_tallies.specs.declared.tables.Tables.{Tables}
 use Rattle.mdb_tallies.specs.Tables.{at}
 use Rattle.mdb_tallies.specs.Standing.{is_lent}

@@ -10,8 +10,8 @@ use Rattle.mdb_log.specs.Connections.{has}
 use Rattle.mdb_log.specs.Requests.{some_act, was_asked}
 use Rattle.mdb_log.specs.PlainRequests.{requests, pool_of, is_warm, is_granted, is_ended, waiting}
 use Rattle.mdb_log.proofs.Numbers.{has-append}
-use Rattle.mdb_tallies.specs.declared.change.Change.{Change}
-use Rattle.mdb_tallies.specs.declared.change.Change.TheVariants as change
+use Rattle.mdb_tallies.specs.declared.occurrence.Occurrence.{Occurrence}
+use Rattle.mdb_tallies.specs.declared.occurrence.Occurrence.TheVariants as change
 use Rattle.mdb_tallies.specs.declared.party.Party.{Party}
 use Rattle.mdb_tallies.specs.Standing.{party_of}
 use Rattle.mdb_tallies.specs.Changes.{party_after}
@@ -37,7 +37,7 @@ pub still-same : (f g keep : ℕ → Bool) (ks js : List ℕ) → ((k : ℕ) →
 still-same f g keep ks js e same = filter_agree g (λ k. f k && keep k) e ks ∙ sym (filter-filter f keep ks) ∙ ap (filter keep) same ∙ filter-filter f keep js ∙ sym (filter_agree g (λ k. f k && keep k) e js)
 
 -- who waits still, after a change that no party asks with
-abbrev pub keeps_waiting : Change → ℕ → Bool
+abbrev pub keeps_waiting : Occurrence → ℕ → Bool
 keeps_waiting (change.Granted q p c) r = not (q == r)
 keeps_waiting (change.Ended q) r = not (q == r)
 keeps_waiting _ r = true
@@ -59,11 +59,11 @@ returned_waits true p x = sym (and-true (waits_now p x))
 returned_waits false p x = sym (and-true (waits_now p x))
 
 -- the change is no request
-abbrev pub is_asking : Change → Bool
+abbrev pub is_asking : Occurrence → Bool
 is_asking (change.Asked r pool warm) = true
 is_asking _ = false
 
-pub waits-after : (c : Change) (p r : ℕ) (x : Party) → is_asking c ≡ false → waits_now p (party_after c r x) ≡ waits_now p x && keeps_waiting c r
+pub waits-after : (c : Occurrence) (p r : ℕ) (x : Party) → is_asking c ≡ false → waits_now p (party_after c r x) ≡ waits_now p x && keeps_waiting c r
 waits-after (change.Asked q pool warm) p r x e = cc
 waits-after (change.Granted q s d) p r x e = granted_waits (q == r) p x
 waits-after (change.Ended q) p r x e = ended_waits (q == r) p x

@@ -14,8 +14,8 @@ use Rattle.mdb_log.specs.Connections.{has}
 use Rattle.mdb_log.specs.Requests.{some_act, was_asked}
 use Rattle.mdb_log.specs.PlainRequests.{requests}
 use Rattle.mdb_log.proofs.Numbers.{same-number}
-use Rattle.mdb_tallies.specs.declared.change.Change.{Change}
-use Rattle.mdb_tallies.specs.declared.change.Change.TheVariants as change
+use Rattle.mdb_tallies.specs.declared.occurrence.Occurrence.{Occurrence}
+use Rattle.mdb_tallies.specs.declared.occurrence.Occurrence.TheVariants as change
 use Rattle.mdb_tallies.specs.declared.party.Party.{Party}
 use Rattle.mdb_audit.specs.declared.queues.Queues.{Queues}
 use Rattle.mdb_tallies.specs.declared.tables.Tables.{Tables}
@@ -37,12 +37,12 @@ use Rattle.mdb_audit.proofs.Joined.{queues-joined}
 pub queues-same : (h : List Item) (t : Tables) (old new : Queues) → QueuesStand h old → QueuesFollow change.Nothing t old new → QueuesStand h new
 queues-same h t old new s f = subst (QueuesStand h) (sym f) s
 
-quiet : (c : Change) (t : Tables) (old new : Queues) → is_asking c ≡ false → QueuesFollow c t old new → new ≡ old
+quiet : (c : Occurrence) (t : Tables) (old new : Queues) → is_asking c ≡ false → QueuesFollow c t old new → new ≡ old
 quiet (change.Asked r pool warm) t old new e f = cc
 quiet c t old new e f = f
 
 -- an item that no party asks with
-not-asking : (c : Change) (h k : List Item) (t : Tables) (old new : Queues) → is_asking c ≡ false → ((r : ℕ) → party_of k r ≡ party_after c r (party_of h r)) → requests k ≡ requests h → ((r : ℕ) → some_act was_asked h r ≡ true → some_act was_asked k r ≡ true) → QueuesStand h old → QueuesFollow c t old new → QueuesStand k new
+not-asking : (c : Occurrence) (h k : List Item) (t : Tables) (old new : Queues) → is_asking c ≡ false → ((r : ℕ) → party_of k r ≡ party_after c r (party_of h r)) → requests k ≡ requests h → ((r : ℕ) → some_act was_asked h r ≡ true → some_act was_asked k r ≡ true) → QueuesStand h old → QueuesFollow c t old new → QueuesStand k new
 not-asking c h k t old new e parties all asked s f = subst (QueuesStand k) (sym (quiet c t old new e f)) (queues-kept h k (keeps_waiting c) old (λ p r. ap (waits_now p) (parties r) ∙ waits-after c p r (party_of h r) e) all asked s)
 
 -- who asked before joins no queue

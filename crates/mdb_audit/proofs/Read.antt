@@ -3,8 +3,8 @@ use Rattle.std.proofs.Common.{ℕ, ◌≡◌, Bool, List, [], ◌∷◌, Option,
 use Rattle.mdb_events.specs.declared.fact.Fact.{Fact}
 use Rattle.mdb_entries.specs.declared.shown.ShownFact.{ShownFact}
 use Rattle.mdb_entries.specs.declared.shown.ShownFact.TheVariants as shown
-use Rattle.mdb_tallies.specs.declared.change.Change.{Change}
-use Rattle.mdb_tallies.specs.declared.change.Change.TheVariants as change
+use Rattle.mdb_tallies.specs.declared.occurrence.Occurrence.{Occurrence}
+use Rattle.mdb_tallies.specs.declared.occurrence.Occurrence.TheVariants as change
 use Rattle.mdb_tallies.specs.Reading.{of_fact}
 use Rattle.mdb_audit.specs.Shown.{facts_of, shown_change}
 
@@ -12,7 +12,7 @@ pub asked_same : (r : ℕ) (x y : Option ℕ) (warm : Bool) → x ≡ y → chan
 asked_same r x y warm e = ap (λ z. change.Asked r z warm) e
 
 -- what the change is: what the first of the facts says
-abbrev pub Says : List Fact → Change → Type 0
+abbrev pub Says : List Fact → Occurrence → Type 0
 Says [] c = c ≡ change.Nothing
 Says (f ∷ fs) c = c ≡ of_fact f
 

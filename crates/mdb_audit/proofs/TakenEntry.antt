@@ -10,7 +10,7 @@ use Rattle.mdb_log.specs.History.{Item, did, open_pool, with_answer, with_facts}
 use Rattle.mdb_log.specs.PlainLegal.{with_entry, is_refused, AllFirstCome, IsFairAnswer, OnePlace, NoneLeftWaiting}
 use Rattle.mdb_entries.specs.declared.shown.Shown.{Shown}
 use Rattle.mdb_audit.specs.declared.auditor.Auditor.{Auditor}
-use Rattle.mdb_tallies.specs.declared.change.Change.{Change}
+use Rattle.mdb_tallies.specs.declared.occurrence.Occurrence.{Occurrence}
 use Rattle.mdb_tallies.specs.declared.tables.Tables.{Tables}
 use Rattle.mdb_audit.specs.declared.verdict.Why.{Why}
 use Rattle.mdb_audit.specs.declared.verdict.Why.TheVariants.{Spelling, Opening, Grant, Place, Waiting}
@@ -47,7 +47,7 @@ fair-accepted b step (Refused why) facts h e t = cc
 fair-accepted b step reply facts h e t = t
 
 -- the step of the entry
-keeps-step : (o : PoolOptions) (h : List Item) (step : Step) (reply : Reply) (ch : Change) (old new : Auditor) → ((k : List Item) → HomesStand k old.homes → ch ≡ of_act (open_pool k) step.act) → OnePlace h → Keeps o h old → TakesChange o.load_balanced ch old new → Keeps o (did step reply ∷ h) new
+keeps-step : (o : PoolOptions) (h : List Item) (step : Step) (reply : Reply) (ch : Occurrence) (old new : Auditor) → ((k : List Item) → HomesStand k old.homes → ch ≡ of_act (open_pool k) step.act) → OnePlace h → Keeps o h old → TakesChange o.load_balanced ch old new → Keeps o (did step reply ∷ h) new
 keeps-step o h step reply ch old new says one k t = record {
   tables = stands-step o step.moment step.act reply h old.tables new.tables k.tables (subst (λ c. Follows o.load_balanced c old.tables new.tables) (says h k.homes) (t.tables k.tables.lists));
   pins = stood-step o step.moment step.act reply h old.tables old.pins new.pins k.tables k.pins (subst (λ c. PinsFollow c old.tables old.pins new.pins) (says h k.homes) (t.pins k.tables.lists (grants-of o h old.tables old.pins k.tables k.pins)));
@@ -56,7 +56,7 @@ keeps-step o h step reply ch old new says one k t = record {
   homes = subst (λ y. HomesStand (did step reply ∷ h) y) (sym t.homes) (homes-step step reply h old.homes k.homes);
 }
 
-reaches-step : (o : PoolOptions) (balanced : Bool) (h : List Item) (start : Start) (step : Step) (reply : Reply) (ch : Change) (old new : Auditor) → o.load_balanced ≡ balanced → ((k : List Item) → HomesStand k old.homes → ch ≡ of_act (open_pool k) step.act) → OnePlace h → Reaches o h start old → TakesChange balanced ch old new → Reaches o (did step reply ∷ h) start new
+reaches-step : (o : PoolOptions) (balanced : Bool) (h : List Item) (start : Start) (step : Step) (reply : Reply) (ch : Occurrence) (old new : Auditor) → o.load_balanced ≡ balanced → ((k : List Item) → HomesStand k old.homes → ch ≡ of_act (open_pool k) step.act) → OnePlace h → Reaches o h start old → TakesChange balanced ch old new → Reaches o (did step reply ∷ h) start new
 reaches-step o balanced h start step reply ch old new e says one r t = record {
   kept = after;
   tracks = tracks-next balanced ch start.tables old.tables new.tables old.pins old.keepings old.touched new.touched r.kept.tables.lists r.tracks t.touched (t.tables r.kept.tables.lists);
@@ -73,7 +73,7 @@ reaches-step o balanced h start step reply ch old new e says one r t = record {
     after = keeps-step o h step reply ch old new says one r.kept (subst (λ z. TakesChange z ch old new) (sym e) t)
 
 -- The step and the facts of an accepted entry.
-pub took-entry : (balanced b : Bool) (shown : Shown) (ch : Change) (old mid new : Auditor) → ((k : List Item) → HomesStand k old.homes → ch ≡ of_act (open_pool k) shown.step.act) → TakesChange balanced ch old mid → TakesFacts balanced b shown.facts mid new → TakesEntry balanced b (entry_of shown) old new
+pub took-entry : (balanced b : Bool) (shown : Shown) (ch : Occurrence) (old mid new : Auditor) → ((k : List Item) → HomesStand k old.homes → ch ≡ of_act (open_pool k) shown.step.act) → TakesChange balanced ch old mid → TakesFacts balanced b shown.facts mid new → TakesEntry balanced b (entry_of shown) old new
 took-entry balanced b shown ch old mid new says t f = record {
   options = f.options ∙ t.options;
   reaches = λ o h start e a one r. subst (λ k. Reaches o k start new) (sym (with-accepted shown.step shown.reply (facts_of shown.facts) h a)) (f.reaches o shown.step.moment (did shown.step shown.reply ∷ h) start e (reaches-step o balanced h start shown.step shown.reply ch old mid e says one r t));

@@ -8,8 +8,8 @@ use Rattle.mdb_log.specs.PlainLegal.{AllFirstCome}
 use Rattle.mdb_entries.specs.declared.shown.ShownFact.{ShownFact}
 use Rattle.mdb_entries.specs.declared.shown.ShownFact.TheVariants as shown
 use Rattle.mdb_audit.specs.declared.auditor.Auditor.{Auditor}
-use Rattle.mdb_tallies.specs.declared.change.Change.{Change}
-use Rattle.mdb_tallies.specs.declared.change.Change.TheVariants as change
+use Rattle.mdb_tallies.specs.declared.occurrence.Occurrence.{Occurrence}
+use Rattle.mdb_tallies.specs.declared.occurrence.Occurrence.TheVariants as change
 use Rattle.mdb_audit.specs.declared.homes.Homes.{Homes}
 use Rattle.mdb_audit.specs.declared.queues.Queues.{Queues}
 use Rattle.mdb_tallies.specs.declared.tables.Tables.{Tables}
@@ -48,13 +48,13 @@ stands-same o b h old new s f = record {
 }
 
 -- what a change did to the auditor, whose queues and homes were noted
-pub record Noted (balanced : Bool) (fact : ShownFact) (ch : Change) (old new : Auditor) (q : Queues) (x : Homes) : Type 0 where
+pub record Noted (balanced : Bool) (fact : ShownFact) (ch : Occurrence) (old new : Auditor) (q : Queues) (x : Homes) : Type 0 where
   pub says : ch ≡ shown_change fact
   pub homes : HomesFollow fact old.homes x
   pub taken : TakesChange balanced ch (record old { queues = q; homes = x }) new
 
 -- the fact is one of the history's
-keeps-made : (o : PoolOptions) (m : ℕ) (h : List Item) (fact : ShownFact) (f : Fact) (ch : Change) (old new : Auditor) (q : Queues) (x : Homes) → facts_of (fact ∷ []) ≡ f ∷ [] → shown_change fact ≡ of_fact f → Keeps o h old → QueuesStand h q → Noted o.load_balanced fact ch old new q x → Keeps o (made m f ∷ h) new
+keeps-made : (o : PoolOptions) (m : ℕ) (h : List Item) (fact : ShownFact) (f : Fact) (ch : Occurrence) (old new : Auditor) (q : Queues) (x : Homes) → facts_of (fact ∷ []) ≡ f ∷ [] → shown_change fact ≡ of_fact f → Keeps o h old → QueuesStand h q → Noted o.load_balanced fact ch old new q x → Keeps o (made m f ∷ h) new
 keeps-made o m h fact f ch old new q x is says k s n = record {
   tables = stands-fact o m f h old.tables new.tables k.tables (subst (λ c. Follows o.load_balanced c old.tables new.tables) (n.says ∙ says) (n.taken.tables k.tables.lists));
   pins = stood-fact o m f h old.tables old.pins new.pins k.tables k.pins (subst (λ c. PinsFollow c old.tables old.pins new.pins) (n.says ∙ says) (n.taken.pins k.tables.lists (grants-of o h old.tables old.pins k.tables k.pins)));
@@ -64,7 +64,7 @@ keeps-made o m h fact f ch old new q x is says k s n = record {
 }
 
 -- the fact is none of the history's
-keeps-told : (o : PoolOptions) (h : List Item) (fact : ShownFact) (ch : Change) (old new : Auditor) (q : Queues) (x : Homes) → facts_of (fact ∷ []) ≡ [] → shown_change fact ≡ change.Nothing → Keeps o h old → QueuesStand h q → Noted o.load_balanced fact ch old new q x → Keeps o h new
+keeps-told : (o : PoolOptions) (h : List Item) (fact : ShownFact) (ch : Occurrence) (old new : Auditor) (q : Queues) (x : Homes) → facts_of (fact ∷ []) ≡ [] → shown_change fact ≡ change.Nothing → Keeps o h old → QueuesStand h q → Noted o.load_balanced fact ch old new q x → Keeps o h new
 keeps-told o h fact ch old new q x is says k s n = record {
   tables = stands-same o o.load_balanced h old.tables new.tables k.tables (subst (λ c. Follows o.load_balanced c old.tables new.tables) (n.says ∙ says) (n.taken.tables k.tables.lists));
   pins = stood-same h old.tables old.pins new.pins k.pins (subst (λ c. PinsFollow c old.tables old.pins new.pins) (n.says ∙ says) (n.taken.pins k.tables.lists (grants-of o h old.tables old.pins k.tables k.pins)));
@@ -73,7 +73,7 @@ keeps-told o h fact ch old new q x is says k s n = record {
   homes = subst (λ y. HomesStand h y) (sym n.taken.homes) (homes-told fact h old.homes x is k.homes n.homes);
 }
 
-keeps-shown : (o : PoolOptions) (m : ℕ) (h : List Item) (fact : ShownFact) (ch : Change) (old new : Auditor) (q : Queues) (x : Homes) → Keeps o h old → QueuesStand h q → Noted o.load_balanced fact ch old new q x → Keeps o (with_facts m (facts_of (fact ∷ [])) h) new
+keeps-shown : (o : PoolOptions) (m : ℕ) (h : List Item) (fact : ShownFact) (ch : Occurrence) (old new : Auditor) (q : Queues) (x : Homes) → Keeps o h old → QueuesStand h q → Noted o.load_balanced fact ch old new q x → Keeps o (with_facts m (facts_of (fact ∷ [])) h) new
 keeps-shown o m h (shown.Opened p a) ch old new q x k s n = keeps-made o m h (shown.Opened p a) (fact.Opened p a) ch old new q x refl (shown-says (shown.Opened p a)) k s n
 keeps-shown o m h (shown.Pool p e) ch old new q x k s n = keeps-made o m h (shown.Pool p e) (fact.Pool p e) ch old new q x refl (shown-says (shown.Pool p e)) k s n
 keeps-shown o m h (shown.Granted r p c) ch old new q x k s n = keeps-made o m h (shown.Granted r p c) (fact.Granted r p c) ch old new q x refl (shown-says (shown.Granted r p c)) k s n
@@ -110,7 +110,7 @@ shown-pinned m (shown.CheckNow a) h p c = pinned-again p h c
 shown-pinned m (shown.Cancel a) h p c = pinned-again p h c
 
 -- One fact.
-pub took-fact : (balanced b : Bool) (fact : ShownFact) (ch : Change) (old new : Auditor) (q : Queues) (x : Homes) → ((o : PoolOptions) (h : List Item) → Stands o h old.tables → QueuesStand h old.queues → Tells b (FairFact h fact)) → ((o : PoolOptions) (h : List Item) → Stands o h old.tables → QueuesStand h old.queues → QueuesStand h q) → Noted balanced fact ch old new q x → TakesFacts balanced b (fact ∷ []) old new
+pub took-fact : (balanced b : Bool) (fact : ShownFact) (ch : Occurrence) (old new : Auditor) (q : Queues) (x : Homes) → ((o : PoolOptions) (h : List Item) → Stands o h old.tables → QueuesStand h old.queues → Tells b (FairFact h fact)) → ((o : PoolOptions) (h : List Item) → Stands o h old.tables → QueuesStand h old.queues → QueuesStand h q) → Noted balanced fact ch old new q x → TakesFacts balanced b (fact ∷ []) old new
 took-fact balanced b fact ch old new q x fair stood n = record {
   options = n.taken.options;
   reaches = λ o m h start e r.

@@ -3,7 +3,7 @@ use Rattle.std.proofs.Common.{ℕ, ◌≡◌, ◌==◌, Bool, true, false, not, 
 use Rattle.mdb_tallies.specs.declared.connection.Place.{Place}
 use Rattle.mdb_audit.specs.declared.touched.Touched.{Touched}
 use Rattle.mdb_tallies.specs.Lists.{in_list, is_place}
-use Rattle.mdb_tallies.specs.declared.change.How.{How}
+use Rattle.mdb_tallies.specs.declared.occurrence.How.{How}
 use Rattle.mdb_tallies.specs.declared.tables.Tables.{Tables}
 use Rattle.mdb_tallies.specs.Changes.{done_now}
 use Rattle.mdb_tallies.specs.Tables.{at}

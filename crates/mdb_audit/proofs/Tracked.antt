@@ -5,10 +5,10 @@ use Rattle.mdb_log.specs.Connections.{has}
 use Rattle.mdb_tallies.specs.declared.connection.Connection.{Connection}
 use Rattle.mdb_tallies.specs.declared.party.Party.{Party}
 use Rattle.mdb_tallies.specs.declared.pools.Pool.{Pool}
-use Rattle.mdb_tallies.specs.declared.change.Change.{Change}
-use Rattle.mdb_tallies.specs.declared.change.Change.TheVariants as change
-use Rattle.mdb_tallies.specs.declared.change.How.{How}
-use Rattle.mdb_tallies.specs.declared.change.How.TheVariants.{GaveBack, Over}
+use Rattle.mdb_tallies.specs.declared.occurrence.Occurrence.{Occurrence}
+use Rattle.mdb_tallies.specs.declared.occurrence.Occurrence.TheVariants as change
+use Rattle.mdb_tallies.specs.declared.occurrence.How.{How}
+use Rattle.mdb_tallies.specs.declared.occurrence.How.TheVariants.{GaveBack, Over}
 use Rattle.mdb_tallies.specs.declared.tables.Tables.{Tables}
 use Rattle.mdb_audit.specs.declared.touched.Touched.{Touched}
 use Rattle.mdb_tallies.specs.Standing.{is_lent}
@@ -41,7 +41,7 @@ not-here true f x e = cc
 not-here false f x e = refl
 
 -- a connection that a change does not touch is as it was
-pub untouched-place : (ch : Change) (t : Tables) (s : PinStory) (k : Keepings) (p c : ℕ) (x : Connection) → Covers t → touches_place ch t s k p c ≡ false → connection_after ch (λ r. at t.gifts r p c) (λ r. at t.parties r 0 0) p c x ≡ x
+pub untouched-place : (ch : Occurrence) (t : Tables) (s : PinStory) (k : Keepings) (p c : ℕ) (x : Connection) → Covers t → touches_place ch t s k p c ≡ false → connection_after ch (λ r. at t.gifts r p c) (λ r. at t.parties r 0 0) p c x ≡ x
 untouched-place (change.Returned r) t s y p c x k e = not-given GaveBack t r p c x k e
 untouched-place (change.Ended r) t s y p c x k e = not-given Over t r p c x k e
 untouched-place (change.Taken r q d) t s y p c x k e = not-here ((q == p) && (d == c)) (once_taken (kept_now (at t.gifts r p c) (at t.parties r 0 0)) (not (at t.parties r 0 0).is_returned) (lent_now (at t.gifts r p c) (at t.parties r 0 0))) x e
@@ -58,7 +58,7 @@ not-there true y x e = cc
 not-there false y x e = refl
 
 -- a pool that a change does not touch is as it was
-pub untouched-pool : (ch : Change) (balanced : Bool) (was now : ℕ → Connection) (p : ℕ) (x : Pool) → touches_pool ch p ≡ false → pool_after ch balanced was now p x ≡ x
+pub untouched-pool : (ch : Occurrence) (balanced : Bool) (was now : ℕ → Connection) (p : ℕ) (x : Pool) → touches_pool ch p ≡ false → pool_after ch balanced was now p x ≡ x
 untouched-pool (change.Established q d) balanced was now p x e = not-there (q == p) _ x e
 untouched-pool (change.Failed q d) balanced was now p x e = not-there (q == p) _ x e
 untouched-pool (change.Created q d) balanced was now p x e = not-there (q == p) _ x e
@@ -83,7 +83,7 @@ left-true true b e = refl
 left-true false b e = cc
 
 -- at a pool that a change does not touch nobody waits who did not wait there
-pub untouched-waits : (ch : Change) (p r : ℕ) (x : Party) → touches_pool ch p ≡ false → waits_now p (party_after ch r x) ≡ true → waits_now p x ≡ true
+pub untouched-waits : (ch : Occurrence) (p r : ℕ) (x : Party) → touches_pool ch p ≡ false → waits_now p (party_after ch r x) ≡ true → waits_now p x ≡ true
 untouched-waits (change.Asked q pool warm) p r x e w = asks_here ((q == r) && not x.is_asked) p pool warm x e w
 untouched-waits (change.Granted q s d) p r x e w = left-true (waits_now p x) (keeps_waiting (change.Granted q s d) r) (sym (waits-after (change.Granted q s d) p r x refl) ∙ w)
 untouched-waits (change.Ended q) p r x e w = left-true (waits_now p x) (keeps_waiting (change.Ended q) r) (sym (waits-after (change.Ended q) p r x refl) ∙ w)
@@ -91,7 +91,7 @@ untouched-waits (change.Returned q) p r x e w = left-true (waits_now p x) true (
 untouched-waits ch p r x e w = w
 
 -- One more change.
-pub tracks-next : (balanced : Bool) (ch : Change) (old now new : Tables) (s : PinStory) (z : Keepings) (x y : Touched) → Covers now → Tracks old now x → Touches ch now s z x y → Follows balanced ch now new → Tracks old new y
+pub tracks-next : (balanced : Bool) (ch : Occurrence) (old now new : Tables) (s : PinStory) (z : Keepings) (x y : Touched) → Covers now → Tracks old now x → Touches ch now s z x y → Follows balanced ch now new → Tracks old new y
 tracks-next balanced ch old now new s z x y k t a f = record {
   connections = λ p c e.
       let apart : has_place x.places.items p c || touches_place ch now s z p c ≡ false = sym (a.places p c) ∙ e in

@@ -66,7 +66,7 @@ pub record NotWritten (old new : Seen) : Type 0 where
   pub taken : TookFront old.held new.held (verdict_line verdict)
   pub rose : Rose old.writes new.writes
 
--- A run ended before its end, with this cause. Only at a fault of the sink was anything written.
+-- A run ended before its end, with this cause. Only at a write error was anything written.
 abbrev pub AuditFails : Seen → Seen → RunError → Type 0
 AuditFails old new errors.OutOfMemory = (new.reads ≡ old.reads) × (new.writes ≡ old.writes) × (new.held ≡ old.held)
 AuditFails old new errors.ReadFault = Rose old.reads new.reads × (new.writes ≡ old.writes) × (new.held ≡ old.held)

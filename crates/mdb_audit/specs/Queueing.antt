@@ -3,8 +3,8 @@ use Rattle.std.specs.Prelude.{ℕ, ◌≡◌, ◌<◌, ◌≤◌, Bool, true, fa
 use Rattle.mdb_log.specs.History.{Item}
 use Rattle.mdb_log.specs.Requests.{some_act, was_asked}
 use Rattle.mdb_log.specs.PlainRequests.{waiting}
-use Rattle.mdb_tallies.specs.declared.change.Change.{Change}
-use Rattle.mdb_tallies.specs.declared.change.Change.TheVariants as change
+use Rattle.mdb_tallies.specs.declared.occurrence.Occurrence.{Occurrence}
+use Rattle.mdb_tallies.specs.declared.occurrence.Occurrence.TheVariants as change
 use Rattle.mdb_audit.specs.declared.queues.Queues.{Queues}
 use Rattle.mdb_tallies.specs.declared.tables.Tables.{Tables}
 use Rattle.mdb_tallies.specs.Tables.{at, same_key}
@@ -34,7 +34,7 @@ pub record JoinsIf (test : Bool) (p r : ℕ) (old new : Queues) : Type 0 where
   pub gone : new.gone ≡ old.gone
 
 -- The queues after a change, where the tables are those before it: who asks a pool with its first step, and not only to fill it, is the last caller there.
-abbrev pub QueuesFollow : Change → Tables → Queues → Queues → Type 0
+abbrev pub QueuesFollow : Occurrence → Tables → Queues → Queues → Type 0
 QueuesFollow (change.Asked r (Some p) false) t old new = JoinsIf (not (at t.parties r 0 0).is_asked) p r old new
 QueuesFollow _ t old new = new ≡ old
 

@@ -6,8 +6,8 @@ use Rattle.mdb_log.specs.declared.log.Entry.{Entry}
 use Rattle.mdb_entries.specs.declared.shown.Shown.{Shown}
 use Rattle.mdb_entries.specs.declared.shown.ShownFact.{ShownFact}
 use Rattle.mdb_entries.specs.declared.shown.ShownFact.TheVariants as shown
-use Rattle.mdb_tallies.specs.declared.change.Change.{Change}
-use Rattle.mdb_tallies.specs.declared.change.Change.TheVariants as change
+use Rattle.mdb_tallies.specs.declared.occurrence.Occurrence.{Occurrence}
+use Rattle.mdb_tallies.specs.declared.occurrence.Occurrence.TheVariants as change
 use Rattle.mdb_tallies.specs.Reading.{of_event}
 
 -- Events of servers and of the topology say nothing of pools: their facts are left out.
@@ -29,7 +29,7 @@ abbrev pub entries_of : List Shown → List Entry
 entries_of = map entry_of
 
 -- what a fact says, as it is printed
-abbrev pub shown_change : ShownFact → Change
+abbrev pub shown_change : ShownFact → Occurrence
 shown_change (shown.Opened q a) = change.Opened q
 shown_change (shown.Pool q event) = of_event q event
 shown_change (shown.Granted r q c) = change.Granted r q c

@@ -9,7 +9,7 @@ use Rattle.mdb_log.specs.PlainState.{could_be_granted}
 use Rattle.mdb_log.specs.PlainLegal.{InPlace, AllFirstCome, OnePlace, NoneLeftWaiting}
 use Rattle.mdb_entries.specs.declared.shown.ShownFact.{ShownFact}
 use Rattle.mdb_audit.specs.declared.auditor.Auditor.{Auditor}
-use Rattle.mdb_tallies.specs.declared.change.Change.{Change}
+use Rattle.mdb_tallies.specs.declared.occurrence.Occurrence.{Occurrence}
 use Rattle.mdb_tallies.specs.declared.connection.Place.{Place}
 use Rattle.mdb_tallies.specs.declared.tables.Tables.{Tables}
 use Rattle.mdb_audit.specs.declared.verdict.Why.{Why}
@@ -31,7 +31,7 @@ Tells true A = A
 Tells false A = A → ⊥
 
 -- what the auditor takes of one change
-pub record TakesChange (balanced : Bool) (change : Change) (old new : Auditor) : Type 0 where
+pub record TakesChange (balanced : Bool) (change : Occurrence) (old new : Auditor) : Type 0 where
   pub options : new.options ≡ old.options
   pub homes : new.homes ≡ old.homes
   pub queues : QueuesFollow change old.tables old.queues new.queues

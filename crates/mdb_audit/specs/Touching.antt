@@ -3,10 +3,10 @@ use Rattle.std.specs.Prelude.{ℕ, ◌≡◌, Bool, true, false, not, ◌&&◌, 
 use Rattle.mdb_log.specs.History.{is_number}
 use Rattle.mdb_log.specs.Connections.{has}
 use Rattle.mdb_tallies.specs.declared.connection.Place.{Place}
-use Rattle.mdb_tallies.specs.declared.change.Change.{Change}
-use Rattle.mdb_tallies.specs.declared.change.Change.TheVariants as change
-use Rattle.mdb_tallies.specs.declared.change.How.{How}
-use Rattle.mdb_tallies.specs.declared.change.How.TheVariants as how
+use Rattle.mdb_tallies.specs.declared.occurrence.Occurrence.{Occurrence}
+use Rattle.mdb_tallies.specs.declared.occurrence.Occurrence.TheVariants as change
+use Rattle.mdb_tallies.specs.declared.occurrence.How.{How}
+use Rattle.mdb_tallies.specs.declared.occurrence.How.TheVariants as how
 use Rattle.mdb_tallies.specs.declared.tables.Tables.{Tables}
 use Rattle.mdb_audit.specs.declared.touched.Touched.{Touched}
 use Rattle.mdb_tallies.specs.Changes.{done_now}
@@ -31,7 +31,7 @@ abbrev pub reaches : How → ℕ → Tables → ℕ → ℕ → Bool
 reaches how r t p c = was_given t r p c && not (done_now how (at t.parties r 0 0))
 
 -- the connection c of pool p is one that the change touches
-abbrev pub touches_place : Change → Tables → PinStory → Keepings → ℕ → ℕ → Bool
+abbrev pub touches_place : Occurrence → Tables → PinStory → Keepings → ℕ → ℕ → Bool
 touches_place (change.GivenUp r) t s k p c = recalls t s k r p c
 touches_place (change.Returned r) t s k p c = reaches how.GaveBack r t p c
 touches_place (change.Ended r) t s k p c = reaches how.Over r t p c
@@ -47,7 +47,7 @@ touches_place (change.Granted r q d) t s k p c = (q == p) && (d == c)
 touches_place _ t s k p c = false
 
 -- the pool p is one that the change touches
-abbrev pub touches_pool : Change → ℕ → Bool
+abbrev pub touches_pool : Occurrence → ℕ → Bool
 touches_pool (change.Asked r pool warm) p = is_number pool p
 touches_pool (change.Opened q) p = q == p
 touches_pool (change.Began q) p = q == p
@@ -69,7 +69,7 @@ pub record Adds (is_here : ℕ → ℕ → Bool) (is_there : ℕ → Bool) (old 
   pub pools : (p : ℕ) → has p new.pools.items ≡ has p old.pools.items || is_there p
 
 -- what the change touches is touched too
-abbrev pub Touches : Change → Tables → PinStory → Keepings → Touched → Touched → Type 0
+abbrev pub Touches : Occurrence → Tables → PinStory → Keepings → Touched → Touched → Type 0
 Touches change t s k old new = Adds (touches_place change t s k) (touches_pool change) old new
 
 -- Between these tables all is the same but what is touched; and nobody waits at a pool that is not touched who did not wait there before.

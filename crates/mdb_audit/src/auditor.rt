@@ -22,7 +22,7 @@ use mdb_base::{Options, OutOfMemory};
 use mdb_entries::{Shown, ShownFact};
 use mdb_log::{Act, PoolOptions, Reply};
 use mdb_pins::{Keepings, PinStory};
-use mdb_tallies::{Change, Tables};
+use mdb_tallies::{Occurrence, Tables};
 use std::alloc::Global;
 
 /// What was read of a log so far.
@@ -89,7 +89,7 @@ impl Auditor {
         }
     }
 
-    fn take_change(&mut self, is_balanced: bool, change: Change) -> Result<(), OutOfMemory>
+    fn take_change(&mut self, is_balanced: bool, change: Occurrence) -> Result<(), OutOfMemory>
         ensures { OnOk result (TakesChange is_balanced change self.old self.new) }
     {
         self.queues.note(&self.tables, &change)?;

@@ -10,7 +10,7 @@ use crate::newest::{Last, Newest};
 use mdb_base::{OutOfMemory, ServerAddress};
 use mdb_entries::ShownFact;
 use mdb_events::CmapEvent;
-use mdb_tallies::Table;
+use mdb_tallies::DefaultMap;
 use std::alloc::Global;
 
 /// A pool that was opened.
@@ -25,7 +25,7 @@ pub struct OpenedPool {
 pub struct Homes {
     pub all: Vec<OpenedPool>,
     pub newest: Newest,
-    pub closings: Table<u32>,
+    pub closings: DefaultMap<u32>,
 }
 
 impl Homes {
@@ -35,7 +35,7 @@ impl Homes {
         Homes {
             all: Vec::new(alloc),
             newest: Newest::new(alloc),
-            closings: Table::new(alloc, 0),
+            closings: DefaultMap::new(alloc, 0),
         }
     }
 

@@ -10,14 +10,14 @@ ghost use Rattle.mdb_tallies.specs.Kept.{Stands};
 ghost use Rattle.mdb_audit.specs.Queueing.{QueuesStand, QueuesFollow, JoinsIf};
 
 use mdb_base::OutOfMemory;
-use mdb_tallies::{Change, Lists, Table, Tables};
+use mdb_tallies::{Occurrence, Lists, DefaultMap, Tables};
 use std::alloc::Global;
 
 /// The callers of each pool, and how many of the first of them wait no more.
 #[derive(Drop)]
 pub struct Queues {
     pub callers: Lists<u32>,
-    pub gone: Table<u32>,
+    pub gone: DefaultMap<u32>,
 }
 
 impl Queues {
@@ -27,7 +27,7 @@ impl Queues {
     {
         Queues {
             callers: Lists::new(alloc, 0),
-            gone: Table::new(alloc, 0),
+            gone: DefaultMap::new(alloc, 0),
         }
     }
 
@@ -42,11 +42,11 @@ impl Queues {
     }
 
     /// The queues after a change; the tables are those before it.
-    pub fn note(&mut self, tables: &Tables, change: &Change) -> Result<(), OutOfMemory>
+    pub fn note(&mut self, tables: &Tables, change: &Occurrence) -> Result<(), OutOfMemory>
         ensures { OnOk result (QueuesFollow change.now tables.now self.old self.new) }
     {
         match change {
-            Change::Asked(party, Some(pool), false) => self.join(tables, *party, *pool),
+            Occurrence::Asked(party, Some(pool), false) => self.join(tables, *party, *pool),
             _ => Ok(()),
         }
     }

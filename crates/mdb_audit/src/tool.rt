@@ -89,7 +89,7 @@ fn run<S: Source, K: Sink>(alloc: Global, source: &mut S, sink: &mut K) -> Resul
 }
 
 // Says how the tool is used, and answers the status of a usage.
-fn refused<E: Sink>(errors: &mut E) -> Status
+fn refuse_words<E: Sink>(errors: &mut E) -> Status
     ensures status { result ≡ 2 }
     ensures told { Tells (record { held = E.held errors.old; faults = E.faults errors.old }) (record { held = E.held errors.new; faults = E.faults errors.new }) usage }
 {
@@ -98,7 +98,7 @@ fn refused<E: Sink>(errors: &mut E) -> Status
 }
 
 /// Reads a log on `source`, writes its verdict on `sink`, and answers the status: 0 where it is legal, 7 where it isn't, 1
-/// for want of memory, 3 and 4 for a fault of source or sink, 6 for a log that is too long. Words are a usage, status 2, at
+/// for lack of memory, 3 for a read error, 4 for a write error, 6 for a log that is too long. Words are a usage, status 2, at
 /// which nothing is read or written. What ended the run goes to `errors`.
 pub fn run_audit<S: Source, K: Sink, E: Sink>(
     alloc: Global,
@@ -124,7 +124,7 @@ pub fn run_audit<S: Source, K: Sink, E: Sink>(
         → TellsTooLong (record { held = E.held errors.old; faults = E.faults errors.old }) (record { held = E.held errors.new; faults = E.faults errors.new }) result }
 {
     if !words.is_empty() {
-        return refused(errors);
+        return refuse_words(errors);
     }
     match run(alloc, source, sink) {
         Ok(verdict) => status(verdict),

@@ -7,7 +7,7 @@ ghost use Rattle.mdb_pins.specs.Keeping.{has_pinned, recalls};
 
 use mdb_base::OutOfMemory;
 use mdb_pins::{Doings, Keepings, PinStory};
-use mdb_tallies::{Change, How, Lists, Place, Tables, is_done};
+use mdb_tallies::{Occurrence, How, Lists, Place, Tables, is_done};
 use std::alloc::Global;
 
 /// What an entry touched.
@@ -130,28 +130,28 @@ impl Touched {
         tables: &Tables,
         pins: &PinStory,
         keepings: &Keepings,
-        change: &Change,
+        change: &Occurrence,
     ) -> Result<(), OutOfMemory>
         ensures { OnOk result (Touches change.now tables.now pins.now keepings.now self.old self.new) }
     {
         match change {
-            Change::Nothing | Change::Asked(_, None, _) | Change::Pinned(_) => Ok(()),
-            Change::Asked(_, Some(pool), _)
-            | Change::Opened(pool)
-            | Change::Began(pool)
-            | Change::Turned(pool, _) => self.touch_pool(*pool),
-            Change::GivenUp(party) => self.touch_recalled(tables, pins, keepings, *party),
-            Change::Returned(party) => self.touch_all(tables, How::GaveBack, *party),
-            Change::Ended(party) => self.touch_all(tables, How::Over, *party),
-            Change::Replicated(pool, id)
-            | Change::Taken(_, pool, id)
-            | Change::Unpinned(pool, id)
-            | Change::Established(pool, id)
-            | Change::Failed(pool, id)
-            | Change::Created(pool, id)
-            | Change::Closed(pool, id)
-            | Change::CheckedIn(pool, id)
-            | Change::Granted(_, pool, id) => self.touch(*pool, *id),
+            Occurrence::Nothing | Occurrence::Asked(_, None, _) | Occurrence::Pinned(_) => Ok(()),
+            Occurrence::Asked(_, Some(pool), _)
+            | Occurrence::Opened(pool)
+            | Occurrence::Began(pool)
+            | Occurrence::Turned(pool, _) => self.touch_pool(*pool),
+            Occurrence::GivenUp(party) => self.touch_recalled(tables, pins, keepings, *party),
+            Occurrence::Returned(party) => self.touch_all(tables, How::GaveBack, *party),
+            Occurrence::Ended(party) => self.touch_all(tables, How::Over, *party),
+            Occurrence::Replicated(pool, id)
+            | Occurrence::Taken(_, pool, id)
+            | Occurrence::Unpinned(pool, id)
+            | Occurrence::Established(pool, id)
+            | Occurrence::Failed(pool, id)
+            | Occurrence::Created(pool, id)
+            | Occurrence::Closed(pool, id)
+            | Occurrence::CheckedIn(pool, id)
+            | Occurrence::Granted(_, pool, id) => self.touch(*pool, *id),
         }
     }
 }

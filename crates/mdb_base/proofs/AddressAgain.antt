@@ -142,7 +142,7 @@ address_again a h =
       | inr none ↦ rw none (plain_again a.host (codes ":" ++ decimal a.port) a.port parts.0 none (rest_cons 58 (decimal a.port)) port)
     ]
 
--- the same without its port, where that is the default one
+-- an address is read back from its host alone, where its port is the default one
 pub host_again : (a : ServerAddress) → is_address a ≡ true → a.port ≡ 27017 → address_of (host_text a.host) ≡ Some a
 host_again a h e =
     let parts = address_parts a h in

@@ -35,6 +35,6 @@ pub record IsSpelledAddress (text : List ℕ) (a : ServerAddress) : Type 0 where
   pub rule : is_address a ≡ true
   pub spelled : (text ≡ address a) ⊎ ((text ≡ host_text a.host) × (a.port ≡ 27017))
 
--- the same in letters of any case
+-- the text is the address, or its host alone, in letters of any case
 abbrev pub IsAddressText : List ℕ → ServerAddress → Type 0
 IsAddressText text a = IsSpelledAddress (map to_ascii_lowercase text) a

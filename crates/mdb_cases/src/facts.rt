@@ -5,12 +5,12 @@ use crate::page::Page;
 use crate::pool_events::{pool_event, service};
 use crate::words::{parted, small};
 use mdb_base::Error;
-use mdb_events::{End, Fact, Held};
+use mdb_events::{End, Fact, Boxed};
 
 /// A network error that stands apart; none where memory is short.
-pub fn held_down(page: &mut Page) -> Option<Held<Error>> {
+pub fn held_down(page: &mut Page) -> Option<Boxed<Error>> {
     let error = down(page);
-    match Held::new(page.alloc, error) {
+    match Boxed::new(page.alloc, error) {
         Ok(error) => Some(error),
         Err(_) => {
             page.fail();

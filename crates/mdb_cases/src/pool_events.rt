@@ -7,7 +7,7 @@ use mdb_events::{
     CmapEvent, ConnectionCheckedInEvent, ConnectionCheckedOutEvent, ConnectionCheckoutFailedEvent,
     ConnectionCheckoutFailedReason, ConnectionCheckoutStartedEvent, ConnectionClosedEvent,
     ConnectionClosedReason, ConnectionCreatedEvent, ConnectionPoolOptions, ConnectionReadyEvent,
-    Held, PoolClearedEvent, PoolClosedEvent, PoolCreatedEvent, PoolReadyEvent,
+    Boxed, PoolClearedEvent, PoolClosedEvent, PoolCreatedEvent, PoolReadyEvent,
 };
 
 /// The address that stands first, and none where the first word is no address.
@@ -47,7 +47,7 @@ pub fn failed_reason(word: &str) -> ConnectionCheckoutFailedReason {
     }
 }
 
-fn sizes(page: &mut Page, words: &str) -> Option<Held<ConnectionPoolOptions>> {
+fn sizes(page: &mut Page, words: &str) -> Option<Boxed<ConnectionPoolOptions>> {
     if words.ends_with(" none") {
         return None;
     }
@@ -56,7 +56,7 @@ fn sizes(page: &mut Page, words: &str) -> Option<Held<ConnectionPoolOptions>> {
         max_pool_size: value_of(words, "max").parse::<u32>().ok(),
         min_pool_size: value_of(words, "min").parse::<u32>().ok(),
     };
-    match Held::new(page.alloc, sizes) {
+    match Boxed::new(page.alloc, sizes) {
         Ok(sizes) => Some(sizes),
         Err(_) => {
             page.fail();

@@ -3,7 +3,7 @@
 use crate::server_events::server_event;
 use mdb_cases::{Page, closed_reason, failed_reason, made_end, made_fact, parted, pool_event};
 use mdb_events::{
-    CmapEvent, End, Fact, Held, SdamEvent, closed_reason_text, failed_reason_text, write_cmap,
+    CmapEvent, End, Fact, Boxed, SdamEvent, closed_reason_text, failed_reason_text, write_cmap,
     write_sdam,
 };
 
@@ -64,7 +64,7 @@ fn ended(page: &mut Page, given: &str) {
 fn of_server(page: &mut Page, words: &str) -> Option<Fact> {
     let (name, words) = parted(words);
     let event = server_event(page, name, words)?;
-    match Held::new(page.alloc, event) {
+    match Boxed::new(page.alloc, event) {
         Ok(event) => Some(Fact::Sdam(event)),
         Err(_) => {
             page.fail();

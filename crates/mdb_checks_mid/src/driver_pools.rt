@@ -5,7 +5,7 @@ ghost use Rattle.mdb_topology.specs.Logging.{IsDriverOf};
 use crate::drivers::take;
 use crate::pool_told;
 use mdb_cases::{Page, made_options, parted, small};
-use mdb_events::Held;
+use mdb_events::Boxed;
 use mdb_hello::HelloCommandResponse;
 use mdb_log::{Act, Established, HelloResult, Log, Use};
 use mdb_topology::TopologyCore;
@@ -20,7 +20,7 @@ fn greet(page: &mut Page, core: &mut TopologyCore, log: &mut Log, seed: &str, po
     };
     let mut reply = HelloCommandResponse::default();
     reply.msg = Some(page.text("isdbgrid"));
-    match Held::new(page.alloc, reply) {
+    match Boxed::new(page.alloc, reply) {
         Ok(reply) => {
             let came = HelloResult::Ok(5, reply);
             take(page, core, log, 1, Act::Hello(address, pool, came));

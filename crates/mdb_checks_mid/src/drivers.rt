@@ -7,7 +7,7 @@ use mdb_base::{
     ClusterTime, Error, ErrorKind, Items, Moment, ObjectId, OutOfMemory, ServerAddress, Text,
 };
 use mdb_cases::{Page, made_options, parted, tell_topology};
-use mdb_events::Held;
+use mdb_events::Boxed;
 use mdb_hello::HelloCommandResponse;
 use mdb_log::{
     Act, ConnectionGeneration, Core, Established, HelloResult, Job, LoadBalancedGeneration, Log,
@@ -47,7 +47,7 @@ fn greet(page: &mut Page, core: &mut TopologyCore, log: &mut Log)
     let Some(address) = page.address("a:1") else {
         return;
     };
-    match Held::new(page.alloc, HelloCommandResponse::default()) {
+    match Boxed::new(page.alloc, HelloCommandResponse::default()) {
         Ok(reply) => {
             let came = HelloResult::Ok(5, reply);
             take(page, core, log, 1, Act::Hello(address, 0, came));

@@ -1,6 +1,6 @@
 //! Cases of mdb_pool: why a pool refuses a request, steps in two parts, and the job of a connection.
 
-ghost use Rattle.mdb_pool.specs.Parts.{IsPlanOf};
+ghost use Rattle.mdb_pool.specs.Planning.{IsPlanOf};
 
 use crate::pool::Pool;
 use crate::pool_told::{tell_facts, tell_reply};
@@ -8,7 +8,7 @@ use mdb_base::ObjectId;
 use mdb_cases::{Page, number, parted, small};
 use mdb_log::{Act, Job, PoolGeneration, Step};
 use mdb_pool::PoolCore;
-use mdb_pool::parts::{Answered, Plan, apply, prepare};
+use mdb_pool::planning::{Answered, Plan, apply, prepare};
 
 /// `pool would MOMENT PARTY`: why the pool refuses the party's request, if it does.
 pub fn would(page: &mut Page, core: &PoolCore, words: &str) {

@@ -6,7 +6,7 @@ use crate::pool::{Pool, cause, failed_at, made, service, used};
 use crate::pool_told::tell_entry;
 use mdb_base::{Moment, OutOfMemory};
 use mdb_cases::{Page, number, parted, small};
-use mdb_events::Held;
+use mdb_events::Boxed;
 use mdb_log::{Act, Step};
 
 type Stepped = Result<(), OutOfMemory>;
@@ -65,7 +65,7 @@ fn fail(page: &mut Page, pool: &mut Pool, moment: Moment, words: &str) -> Steppe
     let (home, words) = parted(words);
     let (id, words) = parted(words);
     let cause = cause(page, words);
-    let cause = Held::new(page.alloc, cause)?;
+    let cause = Boxed::new(page.alloc, cause)?;
     let act = Act::Failed(small(home), small(id), failed_at(words), cause);
     take_step(page, pool, moment, act)
 }
@@ -132,7 +132,7 @@ fn clear(page: &mut Page, pool: &mut Pool, moment: Moment, words: &str) -> Stepp
         page.put("malformed ");
     }
     let cause = cause(page, words);
-    let cause = Held::new(page.alloc, cause)?;
+    let cause = Boxed::new(page.alloc, cause)?;
     let act = Act::Clear(number, service(words), cause);
     take_step(page, pool, moment, act)
 }

@@ -6,7 +6,7 @@ ghost use Rattle.mdb_topology.specs.Logging.{IsDriverOf};
 use crate::drivers::{lost, take};
 use mdb_base::{Error, Items, ObjectId, Options};
 use mdb_cases::{Page, made_options, parted};
-use mdb_events::Held;
+use mdb_events::Boxed;
 use mdb_log::{Act, BeatenResult, Core, Established, FailedAt, HelloResult, Log, Step};
 use mdb_topology::TopologyCore;
 
@@ -24,9 +24,9 @@ fn refuse(page: &mut Page, core: &mut TopologyCore, log: &mut Log, act: Act)
     }
 }
 
-fn held_error(page: &mut Page) -> Option<Held<Error>> {
+fn held_error(page: &mut Page) -> Option<Boxed<Error>> {
     let error = lost(page);
-    match Held::new(page.alloc, error) {
+    match Boxed::new(page.alloc, error) {
         Ok(error) => Some(error),
         Err(_) => {
             page.fail();
@@ -36,7 +36,7 @@ fn held_error(page: &mut Page) -> Option<Held<Error>> {
 }
 
 // A hello of the monitor failed.
-fn spend_hello(page: &mut Page, core: &mut TopologyCore, log: &mut Log, error: Held<Error>)
+fn spend_hello(page: &mut Page, core: &mut TopologyCore, log: &mut Log, error: Boxed<Error>)
     requires stands { IsDriverOf core.old log.old }
 {
     let Some(address) = page.address("a:1") else {
@@ -51,7 +51,7 @@ fn spend_hello(page: &mut Page, core: &mut TopologyCore, log: &mut Log, error: H
 }
 
 // A check of the monitor failed.
-fn spend_check(page: &mut Page, core: &mut TopologyCore, log: &mut Log, error: Held<Error>)
+fn spend_check(page: &mut Page, core: &mut TopologyCore, log: &mut Log, error: Boxed<Error>)
     requires stands { IsDriverOf core.old log.old }
 {
     let (Some(begun), Some(ended)) = (page.address("a:1"), page.address("a:1")) else {
@@ -63,7 +63,7 @@ fn spend_check(page: &mut Page, core: &mut TopologyCore, log: &mut Log, error: H
 }
 
 // Under load balancing, an operation on the connection of a service failed.
-fn spend_operation(page: &mut Page, core: &mut TopologyCore, log: &mut Log, error: Held<Error>)
+fn spend_operation(page: &mut Page, core: &mut TopologyCore, log: &mut Log, error: Boxed<Error>)
     requires stands { IsDriverOf core.old log.old }
 {
     let Some(address) = page.address("a:1") else {
@@ -80,7 +80,7 @@ fn spend_operation(page: &mut Page, core: &mut TopologyCore, log: &mut Log, erro
 }
 
 // Under load balancing, a connection of a service failed to be established.
-fn spend_failure(page: &mut Page, core: &mut TopologyCore, log: &mut Log, error: Held<Error>)
+fn spend_failure(page: &mut Page, core: &mut TopologyCore, log: &mut Log, error: Boxed<Error>)
     requires stands { IsDriverOf core.old log.old }
 {
     let Some(address) = page.address("a:1") else {

@@ -121,7 +121,7 @@ apart_within whole others (x ∷ xs) h =
 pub missing_apart : (servers others : List ServerDescription) → list_all (λ a. is_known a servers && not (is_known a others)) (missing servers others) ≡ true
 missing_apart servers others = apart_within servers others servers (λ a k. k)
 
--- The same of a whole difference.
+-- A whole difference that is told is the one that was found.
 kept_diff : (d e : Diff) → unless_empty d ≡ Some e → d ≡ e
 kept_diff d e h = elim (cases_Bool (is_empty d.changed && (is_empty d.removed && is_empty d.added))) [
   | inl none ↦ absurd (cc)

@@ -216,7 +216,7 @@ error_nowhere c s hosts servers met i all walked =
 reason_is : (q : Test) (s : ServerDescription) (kept : Bool) (o : Option (List ℕ)) → kept ≡ q s → o ≡ reason_if kept s → reason_if (q s) s ≡ o
 reason_is q s kept o kept_is o_is = ap (λ (b : Bool). reason_if b s) (sym kept_is) ∙ sym o_is
 
--- the same over the servers that are listed
+-- the first incompatible server of those that are listed, from the i-th on
 abbrev pub ListedTo : List ServerAddress → List ServerDescription → ℕ → Type 0
 ListedTo hosts servers i = first_incompatible (keep_listed hosts servers) ≡ first_kept (λ s. is_listed hosts s.address) (drop i servers)
 

@@ -8,7 +8,7 @@ ghost use Rattle.mdb_parts.specs.Reading.{Gives};
 
 use crate::end_kind::{EndKind, end_kind};
 use mdb_base::cut;
-use mdb_events::{End, Held};
+use mdb_events::{End, Boxed};
 use mdb_parts::{LineError, error, error_types, is_error};
 use std::alloc::Global;
 
@@ -18,11 +18,11 @@ fn read_kind(alloc: Global, kind: EndKind, text: &str) -> Result<End, LineError>
     match kind {
         EndKind::Cleared => {
             let error = error(alloc, text)?;
-            Ok(End::Cleared(Held::new(alloc, error)?))
+            Ok(End::Cleared(Boxed::new(alloc, error)?))
         }
         EndKind::Failed => {
             let error = error(alloc, text)?;
-            Ok(End::Failed(Held::new(alloc, error)?))
+            Ok(End::Failed(Boxed::new(alloc, error)?))
         }
         EndKind::Closed => Ok(End::Closed),
         EndKind::Warmed => Ok(End::Warmed),

@@ -4,7 +4,7 @@ ghost use Rattle.std.specs.Prelude.{◌≡◌, ◌<◌, ◌^◌, IfSome};
 ghost use Rattle.mdb_event_reading.specs.EventTypes.{is_event, AreSizesOfTypes, IsEventOfTypes};
 
 use mdb_base::Moment;
-use mdb_events::{CmapEvent, ConnectionPoolOptions, Held};
+use mdb_events::{CmapEvent, ConnectionPoolOptions, Boxed};
 use mdb_parts::number_types::{narrow, optional_id, wide};
 
 /// The address keeps the rules of addresses.
@@ -26,7 +26,7 @@ pub fn is_event(event: &CmapEvent) -> bool
     }
 }
 
-fn sizes(sizes: &Option<Held<ConnectionPoolOptions>>)
+fn sizes(sizes: &Option<Boxed<ConnectionPoolOptions>>)
     ensures { IfSome sizes.now AreSizesOfTypes }
 {
     match sizes {

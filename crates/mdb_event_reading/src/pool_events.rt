@@ -10,7 +10,7 @@ ghost use Rattle.mdb_parts.specs.Reading.{Gives};
 use crate::dashes::{narrow_or_dash, service_or_dash, truth, wide_or_dash};
 use crate::shapes::address_alone;
 use mdb_events::{
-    CmapEvent, ConnectionPoolOptions, Held, PoolClearedEvent, PoolClosedEvent, PoolCreatedEvent,
+    CmapEvent, ConnectionPoolOptions, Boxed, PoolClearedEvent, PoolClosedEvent, PoolCreatedEvent,
     PoolReadyEvent,
 };
 use mdb_parts::LineError;
@@ -35,14 +35,14 @@ fn sizes(text: &str) -> Result<ConnectionPoolOptions, LineError>
 fn sizes_or_dash(
     alloc: Global,
     text: &str,
-) -> Result<Option<Held<ConnectionPoolOptions>>, LineError>
+) -> Result<Option<Boxed<ConnectionPoolOptions>>, LineError>
     ensures { (o : Option ConnectionPoolOptions) → IfSome o AreSizesOfTypes → text.now ≡ codes " " ++ options_or_dash o → Gives o result }
 {
     if text == " -" {
         return Ok(None);
     }
     let sizes = sizes(text)?;
-    Ok(Some(Held::new(alloc, sizes)?))
+    Ok(Some(Boxed::new(alloc, sizes)?))
 }
 
 /// A pool was made: its address and its sizes.

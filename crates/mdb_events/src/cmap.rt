@@ -1,6 +1,6 @@
 //! The events of connection pools, named as in the public standard (CMAP, "Events").
 
-use crate::held::Held;
+use crate::boxed::Boxed;
 use crate::reasons::{ConnectionCheckoutFailedReason, ConnectionClosedReason};
 use mdb_base::{Moment, ObjectId, ServerAddress};
 
@@ -24,7 +24,7 @@ pub struct ConnectionPoolOptions {
 #[derive(Debug, Drop, PartialEq, Eq)]
 pub struct PoolCreatedEvent {
     pub address: ServerAddress,
-    pub options: Option<Held<ConnectionPoolOptions>>,
+    pub options: Option<Boxed<ConnectionPoolOptions>>,
 }
 
 /// A pool may create and hand out connections (CMAP, "PoolReadyEvent").

@@ -2,7 +2,7 @@
 
 ghost use Rattle.std.specs.Prelude.{◌≡◌};
 
-use crate::held::Held;
+use crate::boxed::Boxed;
 use mdb_base::Error;
 use std::alloc::AllocError;
 use std::fmt;
@@ -11,9 +11,9 @@ use std::fmt;
 #[derive(Debug, Drop, PartialEq, Eq)]
 pub enum End {
     /// Its pool was new or paused when it asked, or was cleared while it waited. Carries the cause.
-    Cleared(Held<Error>),
+    Cleared(Boxed<Error>),
     /// Its connection could not be established. Carries the cause.
-    Failed(Held<Error>),
+    Failed(Boxed<Error>),
     /// Its pool was closed.
     Closed,
     /// A warm request found enough connections.

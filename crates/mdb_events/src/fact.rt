@@ -2,7 +2,7 @@
 
 use crate::cmap::CmapEvent;
 use crate::end::End;
-use crate::held::Held;
+use crate::boxed::Boxed;
 use crate::sdam::SdamEvent;
 use crate::words::ServiceOrDash;
 use mdb_base::{Error, ObjectId, ServerAddress};
@@ -20,9 +20,9 @@ pub enum Fact {
     /// The request ended.
     Ended(u32, End),
     /// The generation of the pool, or of one service behind it, was raised by this cause.
-    Raised(u32, Option<ObjectId>, Held<Error>),
+    Raised(u32, Option<ObjectId>, Boxed<Error>),
     /// This event of a server or of the topology was made.
-    Sdam(Held<SdamEvent>),
+    Sdam(Boxed<SdamEvent>),
     /// The monitor of the address should check now.
     CheckNow(ServerAddress),
     /// The check of the address that runs should be cancelled.

@@ -7,7 +7,7 @@ mod cmap_text;
 mod end;
 mod fact;
 mod handlers;
-mod held;
+mod boxed;
 mod reasons;
 mod sdam;
 mod sdam_from;
@@ -24,7 +24,7 @@ pub use cmap_text::write_cmap;
 pub use end::End;
 pub use fact::Fact;
 pub use handlers::{CmapEventHandler, SdamEventHandler, deliver_cmap, deliver_sdam};
-pub use held::Held;
+pub use boxed::Boxed;
 pub use reasons::{
     ConnectionCheckoutFailedReason, ConnectionClosedReason, closed_reason_text, failed_reason_text,
 };

@@ -21,7 +21,7 @@ use Rattle.mdb_topology.specs.Logging.{opening_step, IsDriverOf}
 use Rattle.mdb_topology.specs.Stepping.{IsLogged}
 use Rattle.mdb_topology.specs.Driving.{IsTaken}
 use Rattle.mdb_topology.specs.Stepping.{is_driver_act}
-use Rattle.mdb_topology.proofs.Driven.{steps-opened}
+use Rattle.mdb_topology.proofs.DriverOpened.ScriptsLog.{steps-opened}
 use Rattle.mdb_fleets.specs.declared.member.Member.{Member}
 use Rattle.mdb_fleets.specs.declared.member.Sent.{Sent}
 use Rattle.mdb_fleet_runs.specs.declared.event.FleetAct.{FleetAct}

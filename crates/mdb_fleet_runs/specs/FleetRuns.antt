@@ -88,7 +88,7 @@ LineRuns n number line t u held new_held faults new_faults (Err (errors.Malforme
     (m ≡ number) × ((e : Event) → SpellsEvent line e → ⊥) × Took held new_held [] × (new_faults ≡ faults)
 LineRuns n number line t u held new_held faults new_faults (Err errors.TooLong) = ⊥
 
--- The events ended before their end, of which these had happened: for want of memory, at a fault of the sink, or at a line that spells none.
+-- The events ended before their end, of which these had happened: for lack of memory, at a write error, or at a line that spells none.
 abbrev pub EventsEnd : List ℕ → ℕ → List Event → List (List ℕ) → Option Held → Option Held → ℕ → ℕ → RunError → Type 0
 EventsEnd input n events more held new_held faults new_faults errors.OutOfMemory = Begins input n events more × Took held new_held (text_of n events) × (new_faults ≡ faults)
 EventsEnd input n events more held new_held faults new_faults errors.ReadFault = ⊥
@@ -97,7 +97,7 @@ EventsEnd input n events more held new_held faults new_faults (errors.Malformed 
     (bad : List ℕ) × Begins input n events (bad ∷ more) × (m ≡ 2 + length events) × IsBad bad × Took held new_held (text_of n events) × (new_faults ≡ faults)
 EventsEnd input n events more held new_held faults new_faults errors.TooLong = ⊥
 
--- So did the lines; or the first line gave no members, and nothing was written: for want of memory, or where it spells none.
+-- So did the lines; or the first line gave no members, and nothing was written: for lack of memory, or where it spells none.
 abbrev pub FirstEnds : List ℕ → Option Held → Option Held → ℕ → ℕ → RunError → Type 0
 FirstEnds input held new_held faults new_faults errors.OutOfMemory = Took held new_held [] × (new_faults ≡ faults)
 FirstEnds input held new_held faults new_faults (errors.Malformed m) =

@@ -18,7 +18,7 @@ link_reply l = reply_now l.fleet.now l.member
 abbrev pub link_state : LinkState
 link_state = record { last_error = None; faults = 0 }
 
--- An exchange gives the document of the member's reply, which is read back as that reply, or meets want of memory.
+-- An exchange gives the document of the member's reply, which is read back as that reply, or meets out of memory.
 abbrev pub GivesReply : HelloCommandResponse → Result Doc LinkError → Type 0
 GivesReply reply (Ok doc) = (doc_content doc ≡ written reply) × (read (doc_content doc) ≡ Ok reply)
 GivesReply reply (Err (link.Failed error)) = ⊥

@@ -11,14 +11,14 @@ ghost use Rattle.mdb_workers.specs.Making.{Made, OneMore};
 ghost use Rattle.mdb_workers.specs.Persisting.{TendedBy};
 ghost use Rattle.mdb_workers.specs.Ticking.{Ticked, TickedInPart};
 ghost use Rattle.mdb_handles.specs.Watching.{Shows, with_mark, wanting, Retracted, WaitedOn};
-ghost use Rattle.mdb_workers.specs.Working.{SettledBy, Worked};
+ghost use Rattle.mdb_workers.specs.Working.{ReportsLeft, Worked};
 
 use crate::handle::Handle;
 use crate::topology_state::TopologyState;
 use crate::watching::{TopologyWatcher, dismiss};
 use mdb_base::{Moment, OutOfMemory};
 use mdb_log::{Core, Step};
-use mdb_workers::{Establisher, Gate, Work, WorkError, keep_time, serve, settle, stop, tick, work};
+use mdb_workers::{Establisher, Gate, Work, WorkError, keep_time, serve, report_left, stop, tick, work};
 use std::rt::Clock;
 use std::sync::Wait;
 use std::time::{Duration, Instant};
@@ -37,13 +37,13 @@ impl<'a, C: Core, R: Wait> Handle<'a, C, R> {
         work(&self.access, &mut self.seat, establisher, gate, budget)
     }
 
-    /// Reports what `work` left at want of memory, as `settle` does.
-    pub fn settle(&mut self, pool: u32, id: u32, step: Option<Step>)
+    /// Reports what `work` left where memory runs out, as the function of that name does.
+    pub fn report_left(&mut self, pool: u32, id: u32, step: Option<Step>)
         requires act { IfSome step (λ s. IsDriverAct s.act) }
         ensures same { IsSameHandle self.old self.new }
-        ensures entry { (e : Entry) × SettledBy pool id step e × Made C.stands self.old.seat self.new.seat (e ∷ []) }
+        ensures entry { (e : Entry) × ReportsLeft pool id step e × Made C.stands self.old.seat self.new.seat (e ∷ []) }
     {
-        settle(&self.access, &mut self.seat, pool, id, step)
+        report_left(&self.access, &mut self.seat, pool, id, step)
     }
 
     /// Establishes connections until the driver stops, as `serve` does.

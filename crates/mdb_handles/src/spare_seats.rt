@@ -10,22 +10,22 @@ use std::alloc::Global;
 use std::sync::{Condvar, Mutex, Wait};
 
 // A handle, or the place of one that is lent.
-type Place<'a, C, R> = Option<Handle<'a, C, R>>;
+type SpareHandle<'a, C, R> = Option<Handle<'a, C, R>>;
 
 /// Handles of one driver that threads borrow in turn, each with the numbers for requests that its seat has left. A handle is always one of a seat of its driver,
 /// whichever thread has it. It takes memory when it is made, and none later.
 #[derive(Drop)]
 pub struct SpareSeats<'a, C: Core, R: Wait> {
-    places: Mutex<Vec<Place<'a, C, R>>>,
+    places: Mutex<Vec<SpareHandle<'a, C, R>>>,
     returned: Condvar,
 }
 
-fn are_all_lent<C: Core, R: Wait>(places: &Vec<Place<'_, C, R>>) -> bool {
+fn are_all_lent<C: Core, R: Wait>(places: &Vec<SpareHandle<'_, C, R>>) -> bool {
     places.iter().all(|place| place.is_none())
 }
 
 // Takes a handle that isn't lent.
-fn take_one<'a, C: Core, R: Wait>(places: &mut Vec<Place<'a, C, R>>) -> Option<Handle<'a, C, R>> {
+fn take_one<'a, C: Core, R: Wait>(places: &mut Vec<SpareHandle<'a, C, R>>) -> Option<Handle<'a, C, R>> {
     for at in 0..places.len() {
         if let Some(handle) = places[at].take() {
             return Some(handle);
@@ -36,7 +36,7 @@ fn take_one<'a, C: Core, R: Wait>(places: &mut Vec<Place<'a, C, R>>) -> Option<H
 
 // Puts a handle into the place of one that is lent.
 fn put_one<'a, C: Core, R: Wait>(
-    places: &mut Vec<Place<'a, C, R>>,
+    places: &mut Vec<SpareHandle<'a, C, R>>,
     handle: Handle<'a, C, R>,
 ) -> Result<(), Handle<'a, C, R>> {
     for at in 0..places.len() {

@@ -86,7 +86,7 @@ five_added old p q r s t a b c d e ea eb ec ed ee =
 pub two_added : {X : Type 0} (old p q a b : List X) → a ≡ old ++ p → b ≡ a ++ q → b ≡ old ++ (p ++ q)
 two_added old p q a b ea eb = eb ∙ ap (λ xs. xs ++ q) ea ∙ append_assoc old p q
 
--- want of memory where the reading gives a value
+-- lack of memory where the reading gives a value
 pub whole : {T : Type 0} (answer : Result T HelloError) (r : Result T (List ℕ)) → IsOk r → Gives answer r → Reads answer r
 whole (Ok x) r ok gives = gives
 whole (Err (hello.BadField name)) r ok gives = gives

@@ -60,7 +60,7 @@ pub record IsCounted (old new : MemLink) : Type 0 where
   pub state : link_state new ≡ link_state old
 
 -- A call that is to fail gives the link's error, which is then the last one, and leaves the documents; any other call
--- hands out the first of them. Want of memory changes nothing.
+-- hands out the first of them. Running out of memory changes nothing.
 abbrev pub Moves : MemLink → MemLink → Result Doc LinkError → Type 0
 Moves old new (Ok doc) = IsCounted old new × (fails_next old ≡ false) × (left old ≡ doc_content doc ∷ left new)
 Moves old new (Err (link.Failed error)) = (new ≡ failed old) × (fails_next old ≡ true) × (error ≡ link_error old)

@@ -12,7 +12,7 @@ use Rattle.mdb_log.specs.Connections.{has, pending_list, holding, held, pins}
 use Rattle.mdb_log.specs.Requests.{some_act, names_party, was_asked, leaves, told, is_open}
 use Rattle.mdb_log.specs.Homes.{Home}
 use Rattle.mdb_pool.specs.Refusal.{first_row, wrong_service}
-use Rattle.mdb_pool.proofs.Items.{first-passes, one-passes, two-pass, three-pass, not-false, both-true}
+use Rattle.mdb_pool.proofs.Answered.Item.{first-passes, one-passes, two-pass, three-pass, not-false, both-true}
 use Rattle.mdb_sound.specs.Sound.{Sound}
 use Rattle.mdb_sound.proofs.Rested.{Rested}
 use Rattle.mdb_topology.specs.Homes.{concerns, home_of}

@@ -10,7 +10,7 @@ use Rattle.mdb_log.specs.History.{Item, PoolItem, asked, warmed, gave_up, return
 use Rattle.mdb_log.specs.Connections.{has, pending_list, holding, held, pins}
 use Rattle.mdb_log.specs.Requests.{some_act, names_party, was_asked, leaves, told, is_open}
 use Rattle.mdb_pool.specs.Refusal.{first_row, wrong_service}
-use Rattle.mdb_pool.proofs.Items.{one-passes, two-pass, three-pass, not-false, both-true}
+use Rattle.mdb_pool.proofs.Answered.Item.{one-passes, two-pass, three-pass, not-false, both-true}
 use Rattle.mdb_sound.specs.Sound.{Sound, Holds, MayTake}
 use Rattle.mdb_sound.proofs.Acts.{Done, requests as asks, warms, gives_up, establishes, fails, returns, pins_one, replicates, takes, unpins, maintains, expires, readies, clears, shuts, tells}
 use Rattle.mdb_sound.proofs.Calm.{one-lives}

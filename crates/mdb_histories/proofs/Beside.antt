@@ -14,7 +14,7 @@ use Rattle.mdb_log.specs.Connections.{holding}
 use Rattle.mdb_log.specs.Homes.{Home, homes}
 use Rattle.mdb_log.proofs.Frame.{asked-party, no-party-asked}
 use Rattle.mdb_pool.specs.Refusal.{first_row}
-use Rattle.mdb_pool.proofs.Items.{first-passes, one-passes}
+use Rattle.mdb_pool.proofs.Answered.Item.{first-passes, one-passes}
 use Rattle.mdb_sound.proofs.Rested.{Rested}
 use Rattle.mdb_topology.specs.Homes.{concerns, home_of}
 use Rattle.mdb_topology.specs.Refusal.{rows_of, homeless, holds_pinned}

@@ -20,7 +20,7 @@ use Rattle.mdb_log.specs.Connections.{has, pending_list}
 use Rattle.mdb_log.specs.Homes.{Home}
 use Rattle.mdb_log.specs.Opening.{pool_options}
 use Rattle.mdb_pool.specs.Refusal.{first_row}
-use Rattle.mdb_pool.proofs.Items.{first-passes, one-passes, not-false}
+use Rattle.mdb_pool.proofs.Answered.Item.{first-passes, one-passes, not-false}
 use Rattle.mdb_sound.specs.Sound.{Sound}
 use Rattle.mdb_sound.proofs.Rested.{Rested}
 use Rattle.mdb_sound.proofs.Served.{Fine}
@@ -31,7 +31,7 @@ use Rattle.mdb_topology.specs.Homes.{concerns, home_of, begun}
 use Rattle.mdb_topology.specs.Publishing.{told_by}
 use Rattle.mdb_topology.specs.Refusal.{rows_of}
 use Rattle.mdb_topology.specs.Turns.{in_turn}
-use Rattle.mdb_topology.proofs.FailedMarks.{Constant, constant-none, mark-constant}
+use Rattle.mdb_topology.proofs.Failure.MarkOfNoPool.{Constant, constant-none, mark-constant}
 use Rattle.mdb_histories.specs.SoundHistory.{SoundHistory, was_opened}
 use Rattle.mdb_histories.proofs.Begins.{number-is}
 use Rattle.mdb_histories.proofs.Beside.{alike-none, alike-beside}

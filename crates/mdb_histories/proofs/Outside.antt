@@ -20,8 +20,8 @@ use Rattle.mdb_topology.specs.Monitors.{heartbeat}
 use Rattle.mdb_topology.specs.Publishing.{told_by}
 use Rattle.mdb_topology.specs.Refusal.{rows_of}
 use Rattle.mdb_topology.specs.Turns.{in_turn}
-use Rattle.mdb_topology.proofs.Heartbeats.{heartbeat-calm}
-use Rattle.mdb_topology.proofs.Laws.{turn-append}
+use Rattle.mdb_topology.proofs.OfMonitors.FactsOfCheck.{heartbeat-calm}
+use Rattle.mdb_topology.proofs.WholeSteps.LeavesAsItIs.{turn-append}
 use Rattle.mdb_histories.specs.SoundHistory.{SoundHistory, was_opened}
 use Rattle.mdb_histories.proofs.Comes.{AllMayCome, come-sound, come-both}
 use Rattle.mdb_histories.proofs.Parties.{each-sound}

@@ -22,9 +22,9 @@ use Rattle.mdb_log.proofs.Numbers.{same-number}
 use Rattle.mdb_log.proofs.Pins.{queued-asked}
 use Rattle.mdb_pool.specs.Facts.{new_pool_error, closed_fact, pool_closed_fact, close_reason, end_facts, all_ends, check_in, come_back, hand_over, fail_requester, sweep, fill, clear_facts, close_facts, readied, turned_away, overdue, is_over, act_facts}
 use Rattle.mdb_pool.specs.Serving.{serving}
-use Rattle.mdb_pool.proofs.ClearedActs.{ends-own, clear-all-own}
-use Rattle.mdb_pool.proofs.Laws.{own-append, serve-own}
-use Rattle.mdb_pool.proofs.Maintains.{sweep-own, fill-own}
+use Rattle.mdb_pool.proofs.Answered.Clear.{ends-own, clear-all-own}
+use Rattle.mdb_pool.proofs.Turns.Fair.{own-append, serve-own}
+use Rattle.mdb_pool.proofs.Turns.MaintainMany.{sweep-own, fill-own}
 use Rattle.mdb_sound.proofs.Acts.{Done, requests as asks, warms, gives_up, establishes, fails, returns, pins_one, replicates, takes, unpins, maintains, expires, readies, clears, shuts, tells}
 use Rattle.mdb_sound.proofs.Order.{has-filter, requests-asked}
 use Rattle.mdb_sound.proofs.Rested.{Rested}

@@ -18,7 +18,7 @@ use Rattle.mdb_topology.specs.Homes.{concerns, home_of, begun}
 use Rattle.mdb_topology.specs.Refusal.{rows_of}
 use Rattle.mdb_topology.specs.Finding.{is_pool_act}
 use Rattle.mdb_topology.specs.Facts.{own_facts, serve_all, step_facts}
-use Rattle.mdb_topology.proofs.Tame.{plain-facts}
+use Rattle.mdb_topology.proofs.OnePool.TellsNoTopology.{plain-facts}
 use Rattle.mdb_histories.specs.SoundHistory.{SoundHistory, was_opened}
 use Rattle.mdb_histories.proofs.Accepted.{step-comes}
 use Rattle.mdb_histories.proofs.Begins.{home-done}

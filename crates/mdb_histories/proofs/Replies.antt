@@ -14,7 +14,7 @@ use Rattle.mdb_log.specs.History.{Item, did, made, is_number, of_pool, open_pool
 use Rattle.mdb_log.specs.Homes.{Home, homes}
 use Rattle.mdb_log.specs.Own.{IsAccepted}
 use Rattle.mdb_log.specs.Requests.{is_claimed}
-use Rattle.mdb_pool.proofs.Limits.{reply-accepted}
+use Rattle.mdb_pool.proofs.Histories.LimitsAreKept.{reply-accepted}
 use Rattle.mdb_sound.specs.Sound.{Sound}
 use Rattle.mdb_topology.specs.Answer.{pool_reply, reply_to}
 use Rattle.mdb_topology.specs.Homes.{home_of, is_here}

@@ -24,10 +24,10 @@ use Rattle.mdb_topology.specs.Description.{description_of, is_stopped, rule_afte
 use Rattle.mdb_topology.specs.Facts.{trouble, clear_of, clearing, asking, own_facts, serve_all, step_facts}
 use Rattle.mdb_topology.specs.Publishing.{told_by}
 use Rattle.mdb_topology.specs.Standing.{PoolFits, PoolsFit, StandsFor}
-use Rattle.mdb_topology.proofs.Alone.{here-alone, open-unclosed, is-there}
-use Rattle.mdb_topology.proofs.Free.{act-free}
-use Rattle.mdb_topology.proofs.Laws.{with-append}
-use Rattle.mdb_topology.proofs.TellingSteps.{told-first}
+use Rattle.mdb_topology.proofs.OnePool.OpenAtOneAddress.{here-alone, open-unclosed, is-there}
+use Rattle.mdb_topology.proofs.OnePool.NumbersWithinLimits.{act-free}
+use Rattle.mdb_topology.proofs.WholeSteps.LeavesAsItIs.{with-append}
+use Rattle.mdb_topology.proofs.WholeSteps.CheckThenRule.{told-first}
 use Rattle.mdb_laws.specs.Causes.{marks_of, changes, clears, described_after, difference_by, caused}
 use Rattle.mdb_laws.proofs.Marks.{Seen, own-number, same-number, marks-append, out-marks, is_opened, touches, spared, below-facts, same-homes}
 use Rattle.mdb_laws.proofs.Published.{IsSound, IsFresh}

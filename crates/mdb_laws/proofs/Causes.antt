@@ -19,7 +19,7 @@ use Rattle.mdb_log.specs.Own.{IsAccepted}
 use Rattle.mdb_log.specs.Requests.{is_claimed}
 use Rattle.mdb_log.specs.State.{generation_of}
 use Rattle.mdb_log.proofs.Later.{with_answer-accepted}
-use Rattle.mdb_pool.proofs.Limits.{reply-accepted}
+use Rattle.mdb_pool.proofs.Histories.LimitsAreKept.{reply-accepted}
 use Rattle.mdb_topology.specs.declared.topology.TopologyCore.{TopologyCore}
 use Rattle.mdb_topology.specs.Homes.{is_here, begun}
 use Rattle.mdb_topology.specs.Description.{Rule, description_of, rule_after, applied, change_by}
@@ -32,7 +32,7 @@ use Rattle.mdb_laws.specs.Causes.{marks_of, changes, clears, described_after, di
 use Rattle.mdb_laws.proofs.Gone.{open_after, open-marks, cleared-same}
 use Rattle.mdb_laws.proofs.OpenFor.{open-known}
 use Rattle.mdb_laws.proofs.Risen.{act-generation, raised_among, facts-generation}
-use Rattle.mdb_topology.proofs.Laws.{description-facts}
+use Rattle.mdb_topology.proofs.WholeSteps.LeavesAsItIs.{description-facts}
 use Rattle.mdb_laws.proofs.Published.{IsSound, removed-known}
 use Rattle.mdb_laws.proofs.Caused.{sound-of, step-marks}
 

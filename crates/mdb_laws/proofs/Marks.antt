@@ -11,7 +11,7 @@ use Rattle.mdb_log.specs.History.{Item, made, PoolItem, created, closed, checked
 use Rattle.mdb_log.specs.Homes.{homes}
 use Rattle.mdb_log.specs.State.{state_of}
 use Rattle.mdb_topology.specs.OfServers.{is_of_server}
-use Rattle.mdb_topology.proofs.Free.{any_out}
+use Rattle.mdb_topology.proofs.OnePool.NumbersWithinLimits.{any_out}
 use Rattle.mdb_laws.specs.Causes.{mark_of, marks_of}
 
 pub own-number : (p : ℕ) → (p == p) ≡ true

@@ -22,8 +22,8 @@ use Rattle.mdb_topology.specs.Turns.{in_turn}
 use Rattle.mdb_topology.specs.Description.{begins_with, unopened, description_of}
 use Rattle.mdb_topology.specs.Publishing.{publication, topology_opening, opening}
 use Rattle.mdb_topology.specs.Facts.{step_facts, serve_all}
-use Rattle.mdb_topology.proofs.Laws.{turn-append, with-append}
-use Rattle.mdb_topology.proofs.TellingSteps.{told-first}
+use Rattle.mdb_topology.proofs.WholeSteps.LeavesAsItIs.{turn-append, with-append}
+use Rattle.mdb_topology.proofs.WholeSteps.CheckThenRule.{told-first}
 use Rattle.mdb_laws.specs.Causes.{marks_of, changes, caused}
 use Rattle.mdb_laws.proofs.Marks.{marks-append, out-marks}
 use Rattle.mdb_laws.proofs.Published.{IsSound, IsFresh, says-published}

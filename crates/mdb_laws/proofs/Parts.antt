@@ -25,7 +25,7 @@ use Rattle.mdb_topology.specs.Ready.{is_ready_type}
 use Rattle.mdb_topology.specs.Touching.{is_ready_server, is_ready_at}
 use Rattle.mdb_topology.specs.Turns.{in_turn}
 use Rattle.mdb_topology.specs.Publishing.{ready_pool, close_pool, description_changed, server_changed, server_closed, server_opened, opened_at}
-use Rattle.mdb_topology.proofs.Free.{any_out, out-append, all-ends-free}
+use Rattle.mdb_topology.proofs.OnePool.NumbersWithinLimits.{any_out, out-append, all-ends-free}
 use Rattle.mdb_laws.specs.Causes.{opened, told_created, closed, marks_of, readied_at, closed_at, opened_from}
 use Rattle.mdb_laws.proofs.Marks.{any-append, marks-append, out-marks, is_opened, touches, out-untouched, out-unopened, Seen}
 use Rattle.mdb_laws.proofs.Runs.{IsOfAddress}

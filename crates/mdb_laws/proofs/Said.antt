@@ -27,7 +27,7 @@ use Rattle.mdb_topology.specs.Homes.{is_here}
 use Rattle.mdb_topology.specs.Monitors.{heartbeat}
 use Rattle.mdb_topology.specs.Errors.{Case, monitored, state_change, lost, Clear, nothing, whole, only, Trouble, asks}
 use Rattle.mdb_topology.specs.Facts.{clearing, asking}
-use Rattle.mdb_topology.proofs.Free.{any_out, out-append, all-ends-free, serving-free, IsTame}
+use Rattle.mdb_topology.proofs.OnePool.NumbersWithinLimits.{any_out, out-append, all-ends-free, serving-free, IsTame}
 use Rattle.mdb_laws.specs.Causes.{cleared, told_cleared, marks_of, clears}
 use Rattle.mdb_laws.proofs.Marks.{out-marks, if-so-state}
 

@@ -30,8 +30,8 @@ use Rattle.mdb_topology.specs.OfServers.{is_of_server}
 use Rattle.mdb_topology.specs.Refusal.{refusal}
 use Rattle.mdb_topology.specs.Answer.{answer, answered, pool_reply}
 use Rattle.mdb_topology.specs.Standing.{StandsFor}
-use Rattle.mdb_topology.proofs.Free.{any_out, out-append, out-open, serving-free, act-free}
-use Rattle.mdb_topology.proofs.Steps.{plain-step}
+use Rattle.mdb_topology.proofs.OnePool.NumbersWithinLimits.{any_out, out-append, out-open, serving-free, act-free}
+use Rattle.mdb_topology.proofs.WholeSteps.TellsNothing.{plain-step}
 use Rattle.mdb_laws.specs.Stale.{is_stale_failure, after, SparesServer}
 use Rattle.mdb_laws.proofs.Stale.{outdated-none}
 

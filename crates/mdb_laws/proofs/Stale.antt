@@ -17,8 +17,8 @@ use Rattle.mdb_topology.specs.Facts.{trouble, step_facts}
 use Rattle.mdb_topology.specs.Refusal.{refusal}
 use Rattle.mdb_topology.specs.Answer.{answer, answered, changed_reply}
 use Rattle.mdb_topology.specs.Standing.{StandsFor}
-use Rattle.mdb_topology.proofs.Steps.{stale-error}
-use Rattle.mdb_topology.proofs.TellingSteps.{served-all}
+use Rattle.mdb_topology.proofs.WholeSteps.TellsNothing.{stale-error}
+use Rattle.mdb_topology.proofs.WholeSteps.CheckThenRule.{served-all}
 use Rattle.mdb_laws.specs.Alike.{IsWithoutEffect}
 use Rattle.mdb_laws.specs.Stale.{concerns_no_more, is_stale_error}
 use Rattle.mdb_laws.proofs.Alike.{error-alike}

@@ -17,7 +17,7 @@ CutsLine bytes (Some x) = (lines_of bytes ≡ (x.0.now ++ codes "\n") ∷ lines_
 abbrev pub TookFront : Option Held → Option Held → List ℕ → Type 0
 TookFront old new text = (n : ℕ) × Took old new (take n text)
 
--- Reading ended so: for want of memory, at a fault, or past the greatest length.
+-- Reading ended so: for lack of memory, at a fault, or past the greatest length.
 abbrev pub ReadEnds : ℕ → Option (List ℕ) → Option (List ℕ) → ℕ → ℕ → RunError → Type 0
 ReadEnds limit left new_left faults new_faults errors.OutOfMemory = new_faults ≡ faults
 ReadEnds limit left new_left faults new_faults errors.ReadFault = Rose faults new_faults

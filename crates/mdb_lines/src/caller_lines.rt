@@ -12,7 +12,7 @@ use mdb_parts::words::last;
 use std::alloc::Global;
 
 /// A request: a moment, a party and an address.
-pub fn request(alloc: Global, text: &str) -> Result<Step, LineError>
+pub(crate) fn request(alloc: Global, text: &str) -> Result<Step, LineError>
     ensures { ReadsAsked (λ party a. act.Request party a) text.now result }
 {
     let (moment, party, address) = party_at_address(alloc, text)?;
@@ -21,7 +21,7 @@ pub fn request(alloc: Global, text: &str) -> Result<Step, LineError>
 }
 
 /// A request that only fills the pool: a moment, its number and an address.
-pub fn warm(alloc: Global, text: &str) -> Result<Step, LineError>
+pub(crate) fn warm(alloc: Global, text: &str) -> Result<Step, LineError>
     ensures { ReadsAsked (λ party a. act.Warm party a) text.now result }
 {
     let (moment, party, address) = party_at_address(alloc, text)?;
@@ -30,7 +30,7 @@ pub fn warm(alloc: Global, text: &str) -> Result<Step, LineError>
 }
 
 /// A caller asks how its request stands: a moment and the request.
-pub fn collect(text: &str) -> Result<Step, LineError>
+pub(crate) fn collect(text: &str) -> Result<Step, LineError>
     ensures { ReadsParty (λ party. act.Collect party) text.now result }
 {
     let (moment, party) = moment_and_party(text)?;
@@ -39,7 +39,7 @@ pub fn collect(text: &str) -> Result<Step, LineError>
 }
 
 /// A worker asks for a connection to establish: a moment.
-pub fn claim(text: &str) -> Result<Step, LineError>
+pub(crate) fn claim(text: &str) -> Result<Step, LineError>
     ensures { ReadsMoment act.Claim text.now result }
 {
     let moment = moment(text)?;
@@ -48,7 +48,7 @@ pub fn claim(text: &str) -> Result<Step, LineError>
 }
 
 /// A caller gives up: a moment and the request.
-pub fn give_up(text: &str) -> Result<Step, LineError>
+pub(crate) fn give_up(text: &str) -> Result<Step, LineError>
     ensures { ReadsParty (λ party. act.GiveUp party) text.now result }
 {
     let (moment, party) = moment_and_party(text)?;
@@ -58,7 +58,7 @@ pub fn give_up(text: &str) -> Result<Step, LineError>
 
 /// A return: a moment, a party and how the connection was used.
 #[tactic(auto, using(mdb_parts::proofs::TextLemmas::follows))]
-pub fn returned(text: &str) -> Result<Step, LineError>
+pub(crate) fn returned(text: &str) -> Result<Step, LineError>
     ensures { ReadsReturn text.now result }
 {
     let (moment, rest) = u64_field(text, " ")?;
@@ -70,7 +70,7 @@ pub fn returned(text: &str) -> Result<Step, LineError>
 }
 
 /// The maintenance of a pool: a moment and an address.
-pub fn maintain(alloc: Global, text: &str) -> Result<Step, LineError>
+pub(crate) fn maintain(alloc: Global, text: &str) -> Result<Step, LineError>
     ensures { ReadsAddress (λ a. act.Maintain a) text.now result }
 {
     let (moment, address) = moment_and_address(alloc, text)?;
@@ -79,7 +79,7 @@ pub fn maintain(alloc: Global, text: &str) -> Result<Step, LineError>
 }
 
 /// The end of the callers of a pool that waited too long: a moment and an address.
-pub fn expire(alloc: Global, text: &str) -> Result<Step, LineError>
+pub(crate) fn expire(alloc: Global, text: &str) -> Result<Step, LineError>
     ensures { ReadsAddress (λ a. act.Expire a) text.now result }
 {
     let (moment, address) = moment_and_address(alloc, text)?;

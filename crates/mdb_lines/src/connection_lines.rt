@@ -33,7 +33,7 @@ fn made(text: &str) -> Result<Established, LineError>
 
 /// A connection was established: a moment, the pool, the connection, and what was reported.
 #[tactic(auto, using(mdb_parts::proofs::TextLemmas::follows, crate::proofs::FormLemmas::server_fits))]
-pub fn established(text: &str) -> Result<Step, LineError>
+pub(crate) fn established(text: &str) -> Result<Step, LineError>
     ensures { ReadsEstablished text.now result }
 {
     let (moment, rest) = u64_field(text, " ")?;

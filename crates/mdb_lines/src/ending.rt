@@ -9,7 +9,7 @@ use crate::status::tell_error;
 use mdb_base::Sink;
 use mdb_log::Log;
 
-/// The status of a run that ended with an error: 1 for want of memory, 3 and 4 for a fault of the source or the sink, 5 for a
+/// The status of a run that ended with an error: 1 for lack of memory, 3 for a read error, 4 for a write error, 5 for a
 /// malformed line, 6 for an input that is too long. The error's text goes to `errors`, as far as it takes it. It takes no memory.
 pub fn end_with_error<E: Sink>(errors: &mut E, e: RunError) -> Status
     ensures status { result ≡ status e }

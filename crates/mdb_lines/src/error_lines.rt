@@ -16,7 +16,7 @@ ghost use Rattle.mdb_lines.specs.Types.{IsFailedAtOfTypes};
 ghost use Rattle.mdb_lines.specs.Forms.{ReadsError, ReadsFailed};
 
 use mdb_base::{Error, ObjectId, cut};
-use mdb_events::Held;
+use mdb_events::Boxed;
 use mdb_log::{Act, FailedAt, Step};
 use mdb_parts::fields::{u32_field, u64_field};
 use mdb_parts::values::id_word;
@@ -26,13 +26,13 @@ use std::alloc::Global;
 
 /// An operation met an error: a moment, the party and the error.
 #[tactic(auto, using(mdb_parts::proofs::TextLemmas::follows))]
-pub fn met(alloc: Global, text: &str) -> Result<Step, LineError>
+pub(crate) fn met(alloc: Global, text: &str) -> Result<Step, LineError>
     ensures { ReadsError text.now result }
 {
     let (moment, rest) = u64_field(text, " ")?;
     let (party, rest) = u32_field(rest, " ")?;
     let error = error(alloc, rest)?;
-    let act = Act::Error(party, Held::new(alloc, error)?);
+    let act = Act::Error(party, Boxed::new(alloc, error)?);
     Ok(Step { moment, act })
 }
 
@@ -76,13 +76,13 @@ fn failure(alloc: Global, text: &str) -> Result<(FailedAt, Error), LineError>
 
 /// A connection failed before it was established: a moment, the pool, the connection, when it failed and why.
 #[tactic(auto, using(mdb_parts::proofs::TextLemmas::follows, crate::proofs::FailureLemmas::failure_follows))]
-pub fn failed(alloc: Global, text: &str) -> Result<Step, LineError>
+pub(crate) fn failed(alloc: Global, text: &str) -> Result<Step, LineError>
     ensures { ReadsFailed text.now result }
 {
     let (moment, rest) = u64_field(text, " ")?;
     let (pool, rest) = u32_field(rest, " ")?;
     let (id, rest) = u32_field(rest, " ")?;
     let (at, error) = failure(alloc, rest)?;
-    let act = Act::Failed(pool, id, at, Held::new(alloc, error)?);
+    let act = Act::Failed(pool, id, at, Boxed::new(alloc, error)?);
     Ok(Step { moment, act })
 }

@@ -115,7 +115,7 @@ fn topology_kind(word: &str) -> Option<LineKind>
 
 /// The kind of line that begins with this word.
 #[tactic(auto, unfolding(crate::specs::Forms::kind_of))]
-pub fn kind_of(word: &str) -> Option<LineKind>
+pub(crate) fn kind_of(word: &str) -> Option<LineKind>
     ensures { result ≡ kind_of word.now }
 {
     if word == "open" {

@@ -96,9 +96,9 @@ impl fmt::Display for Lost<'_> {
 
 // A pool and a connection.
 #[derive(Drop)]
-struct Place(u32, u32);
+struct PoolAndConnection(u32, u32);
 
-impl fmt::Display for Place {
+impl fmt::Display for PoolAndConnection {
     ghost use Rattle.std.specs.Prelude.{Some, decimal, codes, ◌++◌};
 
     ghost output = { λ x. Some (decimal x.0 ++ (codes " " ++ decimal x.1)) };
@@ -158,7 +158,7 @@ impl fmt::Display for LineText<'_> {
             Act::Pin(r) => write!(f, "pin {m} {r}"),
             Act::Replicate(p, c) => write!(f, "replicate {m} {p} {c}"),
             Act::Take(r, p, c) => {
-                let place = Place(*p, *c);
+                let place = PoolAndConnection(*p, *c);
                 write!(f, "take {m} {r} {place}")
             }
             Act::Unpin(p, c) => write!(f, "unpin {m} {p} {c}"),

@@ -12,7 +12,7 @@ use std::alloc::Global;
 
 /// What a hello came to: a moment, an address, the pool and the outcome.
 #[tactic(auto, using(mdb_parts::proofs::TextLemmas::follows, mdb_parts::proofs::AddressLemmas::address_lacks, crate::proofs::OutcomeLemmas::hello_follows))]
-pub fn hello(alloc: Global, text: &str) -> Result<Step, LineError>
+pub(crate) fn hello(alloc: Global, text: &str) -> Result<Step, LineError>
     ensures { ReadsHello text.now result }
 {
     let (moment, rest) = u64_field(text, " ")?;
@@ -26,7 +26,7 @@ pub fn hello(alloc: Global, text: &str) -> Result<Step, LineError>
 
 /// A check ended: a moment, an address, the pool, nanoseconds and the outcome.
 #[tactic(auto, using(mdb_parts::proofs::TextLemmas::follows, mdb_parts::proofs::AddressLemmas::address_lacks, crate::proofs::OutcomeLemmas::beaten_follows))]
-pub fn beaten(alloc: Global, text: &str) -> Result<Step, LineError>
+pub(crate) fn beaten(alloc: Global, text: &str) -> Result<Step, LineError>
     ensures { ReadsBeaten text.now result }
 {
     let (moment, rest) = u64_field(text, " ")?;
@@ -41,7 +41,7 @@ pub fn beaten(alloc: Global, text: &str) -> Result<Step, LineError>
 
 /// A check begins: a moment, an address and the pool.
 #[tactic(auto, using(mdb_parts::proofs::TextLemmas::follows, mdb_parts::proofs::AddressLemmas::address_lacks))]
-pub fn beat(alloc: Global, text: &str) -> Result<Step, LineError>
+pub(crate) fn beat(alloc: Global, text: &str) -> Result<Step, LineError>
     ensures { ReadsBeat text.now result }
 {
     let (moment, rest) = u64_field(text, " ")?;
@@ -55,7 +55,7 @@ pub fn beat(alloc: Global, text: &str) -> Result<Step, LineError>
 
 /// A round trip was measured: a moment, an address, the pool and nanoseconds.
 #[tactic(auto, using(mdb_parts::proofs::TextLemmas::follows, mdb_parts::proofs::AddressLemmas::address_lacks))]
-pub fn rtt(alloc: Global, text: &str) -> Result<Step, LineError>
+pub(crate) fn rtt(alloc: Global, text: &str) -> Result<Step, LineError>
     ensures { ReadsRtt text.now result }
 {
     let (moment, rest) = u64_field(text, " ")?;

@@ -11,7 +11,7 @@ ghost use Rattle.mdb_parts.specs.Reading.{lacks, Gives, GivesFirst};
 ghost use Rattle.mdb_lines.specs.Forms.{ReadsOpen};
 
 use mdb_base::{Items, Moment, ObjectId, Options, ServerAddress, Text};
-use mdb_events::Held;
+use mdb_events::Boxed;
 use mdb_log::{Act, Step};
 use mdb_parts::LineError;
 use mdb_parts::parts::{flag_part, part, text_part, u32_part, u64_part};
@@ -168,7 +168,7 @@ fn options_of(
 }
 
 /// The first line: its seeds and its options.
-pub fn opened(alloc: Global, text: &str) -> Result<Step, LineError>
+pub(crate) fn opened(alloc: Global, text: &str) -> Result<Step, LineError>
     ensures { ReadsOpen text.now result }
 {
     let (word, rest) = field(text, " seeds=")?;
@@ -180,6 +180,6 @@ pub fn opened(alloc: Global, text: &str) -> Result<Step, LineError>
     let options = options_of(seeds, kind, sizes, checks, limits);
     Ok(Step {
         moment: 0,
-        act: Act::Open(Held::new(alloc, options)?),
+        act: Act::Open(Boxed::new(alloc, options)?),
     })
 }

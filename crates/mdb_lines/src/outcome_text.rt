@@ -31,9 +31,9 @@ impl fmt::Display for HelloText<'_> {
 
 /// A pool, and what its hello came to.
 #[derive(Drop)]
-pub struct Told<'a>(pub u32, pub &'a HelloResult);
+pub struct PoolAndHello<'a>(pub u32, pub &'a HelloResult);
 
-impl fmt::Display for Told<'_> {
+impl fmt::Display for PoolAndHello<'_> {
     ghost use Rattle.std.specs.Prelude.{Some, decimal, ◌++◌};
     ghost use Rattle.mdb_lines.specs.Spelling.{hello_text};
 

@@ -15,7 +15,7 @@ ghost use Rattle.mdb_lines.specs.Grammar.{is_hello, is_beaten};
 ghost use Rattle.mdb_lines.specs.Spelling.{hello_text, beaten_text};
 ghost use Rattle.mdb_lines.specs.Types.{IsHelloOfTypes, IsBeatenOfTypes};
 
-use mdb_events::Held;
+use mdb_events::Boxed;
 use mdb_log::{BeatenResult, HelloResult};
 use mdb_parts::fields::u64_field;
 use mdb_parts::words::{after, last};
@@ -29,7 +29,7 @@ fn answered(alloc: Global, text: &str) -> Result<HelloResult, LineError>
 {
     let (rtt, rest) = u64_field(text, " rtt=")?;
     let (reply, _more) = reply(alloc, rest)?;
-    let held = Held::new(alloc, reply)?;
+    let held = Boxed::new(alloc, reply)?;
     Ok(HelloResult::Ok(rtt, held))
 }
 
@@ -38,11 +38,11 @@ fn unanswered(alloc: Global, text: &str) -> Result<HelloResult, LineError>
 {
     let rest = last(text, " err")?;
     let error = error(alloc, rest)?;
-    Ok(HelloResult::Err(Held::new(alloc, error)?))
+    Ok(HelloResult::Err(Boxed::new(alloc, error)?))
 }
 
 /// What a hello came to.
-pub fn hello_outcome(alloc: Global, text: &str) -> Result<HelloResult, LineError>
+pub(crate) fn hello_outcome(alloc: Global, text: &str) -> Result<HelloResult, LineError>
     ensures { (came : HelloResult) → IsHelloOfTypes came → is_hello came ≡ true → text.now ≡ hello_text came → Gives came result }
 {
     match after(text, " ok") {
@@ -55,7 +55,7 @@ fn succeeded(alloc: Global, text: &str) -> Result<BeatenResult, LineError>
     ensures { (r : HelloCommandResponse) (more : Bool) → IsReplyOfTypes r → is_reply r ≡ true → text.now ≡ fields_text r more → Gives (beaten.Ok r more) result }
 {
     let (reply, more) = reply(alloc, text)?;
-    let held = Held::new(alloc, reply)?;
+    let held = Boxed::new(alloc, reply)?;
     Ok(BeatenResult::Ok(held, more))
 }
 
@@ -63,7 +63,7 @@ fn failed(alloc: Global, text: &str) -> Result<BeatenResult, LineError>
     ensures { (e : Error) → IsErrorOfTypes e → is_error e ≡ true → text.now ≡ codes " " ++ error_text e → Gives (beaten.Err e) result }
 {
     let error = error(alloc, text)?;
-    Ok(BeatenResult::Err(Held::new(alloc, error)?))
+    Ok(BeatenResult::Err(Boxed::new(alloc, error)?))
 }
 
 fn cancelled(alloc: Global, text: &str) -> Result<BeatenResult, LineError>
@@ -71,11 +71,11 @@ fn cancelled(alloc: Global, text: &str) -> Result<BeatenResult, LineError>
 {
     let rest = last(text, " cancelled")?;
     let error = error(alloc, rest)?;
-    Ok(BeatenResult::Cancelled(Held::new(alloc, error)?))
+    Ok(BeatenResult::Cancelled(Boxed::new(alloc, error)?))
 }
 
 /// What a check came to.
-pub fn beaten_outcome(alloc: Global, text: &str) -> Result<BeatenResult, LineError>
+pub(crate) fn beaten_outcome(alloc: Global, text: &str) -> Result<BeatenResult, LineError>
     ensures { (came : BeatenResult) → IsBeatenOfTypes came → is_beaten came ≡ true → text.now ≡ beaten_text came → Gives came result }
 {
     match after(text, " ok") {

@@ -116,7 +116,7 @@ fn keeps_topology_rules(alloc: Global, act: &Act) -> Result<bool, OutOfMemory>
 }
 
 /// Whether a step keeps the rules of the grammar.
-pub fn keeps_rules(alloc: Global, step: &Step) -> Result<bool, OutOfMemory>
+pub(crate) fn keeps_rules(alloc: Global, step: &Step) -> Result<bool, OutOfMemory>
     ensures { IfOk result (λ keeps. keeps ≡ is_step step.now) }
 {
     match &step.act {
@@ -141,7 +141,7 @@ pub fn keeps_rules(alloc: Global, step: &Step) -> Result<bool, OutOfMemory>
 }
 
 /// Whether a step may stand on a line of this number.
-pub fn keeps_place(step: &Step, number: u32) -> bool
+pub(crate) fn keeps_place(step: &Step, number: u32) -> bool
     ensures { IsTrue result ↔ (is_open step.now.act ≡ (number == 1)) }
 {
     match &step.act {

@@ -47,7 +47,7 @@ impl From<AllocError> for RunError {
     }
 }
 
-/// The status of a run that ended so: 1 for want of memory, 3 and 4 for a fault of the source or the sink, 5 for a malformed
+/// The status of a run that ended so: 1 for lack of memory, 3 for a read error, 4 for a write error, 5 for a malformed
 /// line, 6 for an input that is too long.
 pub fn status_of(e: RunError) -> Status
     ensures { result ≡ status e }

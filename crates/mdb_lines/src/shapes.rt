@@ -14,7 +14,7 @@ use mdb_parts::words::{last, number32, number64};
 use std::alloc::Global;
 
 /// A moment.
-pub fn moment(text: &str) -> Result<Moment, LineError>
+pub(crate) fn moment(text: &str) -> Result<Moment, LineError>
     ensures { (m : ℕ) → m < 2 ^ 64 → text.now ≡ codes " " ++ decimal m → Gives m result }
 {
     let word = last(text, " ")?;
@@ -23,7 +23,7 @@ pub fn moment(text: &str) -> Result<Moment, LineError>
 
 /// A moment and a party.
 #[tactic(auto, using(mdb_parts::proofs::TextLemmas::follows))]
-pub fn moment_and_party(text: &str) -> Result<(Moment, u32), LineError>
+pub(crate) fn moment_and_party(text: &str) -> Result<(Moment, u32), LineError>
     ensures { (m party : ℕ) → m < 2 ^ 64 → party < 2 ^ 32 → text.now ≡ codes " " ++ (decimal m ++ (codes " " ++ decimal party)) → Gives (m, party) result }
 {
     let (moment, rest) = u64_field(text, " ")?;
@@ -34,7 +34,7 @@ pub fn moment_and_party(text: &str) -> Result<(Moment, u32), LineError>
 
 /// A moment and an address.
 #[tactic(auto, using(mdb_parts::proofs::TextLemmas::follows))]
-pub fn moment_and_address(alloc: Global, text: &str) -> Result<(Moment, ServerAddress), LineError>
+pub(crate) fn moment_and_address(alloc: Global, text: &str) -> Result<(Moment, ServerAddress), LineError>
     ensures { (m : ℕ) (a : ServerAddress) → m < 2 ^ 64 → is_address a ≡ true → text.now ≡ codes " " ++ (decimal m ++ (codes " " ++ address a)) → Gives (m, a) result }
 {
     let (moment, rest) = u64_field(text, " ")?;
@@ -45,7 +45,7 @@ pub fn moment_and_address(alloc: Global, text: &str) -> Result<(Moment, ServerAd
 
 /// A moment, a party and an address.
 #[tactic(auto, using(mdb_parts::proofs::TextLemmas::follows))]
-pub fn party_at_address(
+pub(crate) fn party_at_address(
     alloc: Global,
     text: &str,
 ) -> Result<(Moment, u32, ServerAddress), LineError>
@@ -61,7 +61,7 @@ pub fn party_at_address(
 
 /// A moment, a pool and a connection.
 #[tactic(auto, using(mdb_parts::proofs::TextLemmas::follows))]
-pub fn connection(text: &str) -> Result<(Moment, u32, u32), LineError>
+pub(crate) fn moment_pool_and_connection(text: &str) -> Result<(Moment, u32, u32), LineError>
     ensures { (m p c : ℕ) → m < 2 ^ 64 → p < 2 ^ 32 → c < 2 ^ 32
         → text.now ≡ codes " " ++ (decimal m ++ (codes " " ++ (decimal p ++ (codes " " ++ decimal c)))) → Gives (m, p, c) result }
 {

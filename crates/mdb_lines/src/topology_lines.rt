@@ -14,7 +14,7 @@ use std::alloc::Global;
 
 /// The hosts that SRV records name: a moment and addresses.
 #[tactic(auto, using(mdb_parts::proofs::TextLemmas::follows))]
-pub fn hosts(alloc: Global, text: &str) -> Result<Step, LineError>
+pub(crate) fn hosts(alloc: Global, text: &str) -> Result<Step, LineError>
     ensures { ReadsHosts text.now result }
 {
     let (moment, rest) = u64_field(text, " ")?;
@@ -26,7 +26,7 @@ pub fn hosts(alloc: Global, text: &str) -> Result<Step, LineError>
 
 /// A time of the cluster: a moment and the time.
 #[tactic(auto, using(mdb_parts::proofs::TextLemmas::follows))]
-pub fn cluster_time(text: &str) -> Result<Step, LineError>
+pub(crate) fn cluster_time(text: &str) -> Result<Step, LineError>
     ensures { ReadsTime text.now result }
 {
     let (moment, rest) = u64_field(text, " ")?;
@@ -37,7 +37,7 @@ pub fn cluster_time(text: &str) -> Result<Step, LineError>
 }
 
 /// A watcher wants the servers checked: a moment and the watcher.
-pub fn want(text: &str) -> Result<Step, LineError>
+pub(crate) fn want(text: &str) -> Result<Step, LineError>
     ensures { ReadsParty (λ watcher. act.Want watcher) text.now result }
 {
     let (moment, watcher) = moment_and_party(text)?;
@@ -46,7 +46,7 @@ pub fn want(text: &str) -> Result<Step, LineError>
 }
 
 /// A watcher no longer wants it: a moment and the watcher.
-pub fn unwant(text: &str) -> Result<Step, LineError>
+pub(crate) fn unwant(text: &str) -> Result<Step, LineError>
     ensures { ReadsParty (λ watcher. act.Unwant watcher) text.now result }
 {
     let (moment, watcher) = moment_and_party(text)?;
@@ -55,7 +55,7 @@ pub fn unwant(text: &str) -> Result<Step, LineError>
 }
 
 /// The driver is stopped: a moment.
-pub fn stop(text: &str) -> Result<Step, LineError>
+pub(crate) fn stop(text: &str) -> Result<Step, LineError>
     ensures { ReadsMoment act.Stop text.now result }
 {
     let moment = moment(text)?;

@@ -1,6 +1,6 @@
 //! The text of the lines of the topology and of its monitors.
 
-use crate::outcome_text::{Checked, Told};
+use crate::outcome_text::{Checked, PoolAndHello};
 use mdb_base::{Moment, Nanos};
 use mdb_log::Act;
 use mdb_parts::part_text::Addresses;
@@ -36,7 +36,7 @@ impl fmt::Display for TopologyText<'_> {
         let m = self.0;
         match self.1 {
             Act::Hello(address, pool, came) => {
-                let told = Told(*pool, came);
+                let told = PoolAndHello(*pool, came);
                 write!(f, "hello {m} {address} {told}")
             }
             Act::Beaten(address, pool, time, came) => {

@@ -102,7 +102,7 @@ fn number(number: &u32)
 }
 
 /// The numbers of a step are those of its types.
-pub fn step_types(step: &Step)
+pub(crate) fn step_types(step: &Step)
     ensures { IsStepOfTypes step.now }
 {
     let _moment = step.moment;

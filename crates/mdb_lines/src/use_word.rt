@@ -9,7 +9,7 @@ use mdb_log::Use;
 use mdb_parts::LineError;
 
 /// How a connection was used.
-pub fn use_word(word: &str) -> Result<Use, LineError>
+pub(crate) fn use_word(word: &str) -> Result<Use, LineError>
     ensures { (used : Use) → word.now ≡ use_text used → Gives used result }
 {
     if word == "ok" {

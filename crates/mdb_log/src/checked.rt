@@ -3,7 +3,7 @@
 ghost use Rattle.std.specs.Prelude.{◌≡◌};
 
 use mdb_base::{Error, Nanos};
-use mdb_events::Held;
+use mdb_events::Boxed;
 use mdb_hello::HelloCommandResponse;
 use std::alloc::AllocError;
 
@@ -11,8 +11,8 @@ use std::alloc::AllocError;
 #[derive(Debug, Drop)]
 pub enum HelloResult {
     /// The round trip, and the reply.
-    Ok(Nanos, Held<HelloCommandResponse>),
-    Err(Held<Error>),
+    Ok(Nanos, Boxed<HelloCommandResponse>),
+    Err(Boxed<Error>),
 }
 
 impl Clone for HelloResult {
@@ -30,10 +30,10 @@ impl Clone for HelloResult {
 #[derive(Debug, Drop)]
 pub enum BeatenResult {
     /// The reply, and whether the server sends more replies unasked.
-    Ok(Held<HelloCommandResponse>, bool),
-    Err(Held<Error>),
+    Ok(Boxed<HelloCommandResponse>, bool),
+    Err(Boxed<Error>),
     /// The check was cancelled by this cause.
-    Cancelled(Held<Error>),
+    Cancelled(Boxed<Error>),
 }
 
 impl Clone for BeatenResult {

@@ -4,7 +4,7 @@ ghost use Rattle.std.specs.Prelude.{◌≡◌};
 
 use super::{BeatenResult, HelloResult};
 use mdb_base::{ClusterTime, Error, Items, Moment, Nanos, ObjectId, Options, ServerAddress};
-use mdb_events::Held;
+use mdb_events::Boxed;
 use std::alloc::AllocError;
 
 /// What establishing a connection found out.
@@ -54,7 +54,7 @@ pub enum Use {
 #[derive(Debug, Drop)]
 pub enum Act {
     /// The driver is opened.
-    Open(Held<Options>),
+    Open(Boxed<Options>),
     /// A caller, by its number, asks for a connection to the address.
     Request(u32, ServerAddress),
     /// A request, by its number, that only fills the pool.
@@ -68,7 +68,7 @@ pub enum Act {
     /// A pending connection was established.
     Established(u32, u32, Established),
     /// A pending connection failed.
-    Failed(u32, u32, FailedAt, Held<Error>),
+    Failed(u32, u32, FailedAt, Boxed<Error>),
     /// A party returns its connection.
     Return(u32, Use),
     /// A party pins its connection.
@@ -80,7 +80,7 @@ pub enum Act {
     /// One pin less.
     Unpin(u32, u32),
     /// An operation of a party met an error on its connection.
-    Error(u32, Held<Error>),
+    Error(u32, Boxed<Error>),
     /// What the hello of a monitor at the address came to, beside the number of the pool that it was begun for.
     Hello(ServerAddress, u32, HelloResult),
     /// The monitor of the address begins a check, beside the number of the pool.
@@ -106,7 +106,7 @@ pub enum Act {
     /// A pool may be used.
     Ready(u32),
     /// The connections of a pool, or those of a service of it, become stale.
-    Clear(u32, Option<ObjectId>, Held<Error>),
+    Clear(u32, Option<ObjectId>, Boxed<Error>),
     /// A pool is closed for good.
     Close(u32),
 }

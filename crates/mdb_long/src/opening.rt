@@ -6,7 +6,7 @@ ghost use Rattle.mdb_topology.specs.Logging.{IsDriverOf};
 
 use crate::errors::LongError;
 use mdb_base::{Error, ErrorKind, Items, ObjectId, Options, ServerAddress, Text};
-use mdb_events::Held;
+use mdb_events::Boxed;
 use mdb_hello::HelloCommandResponse;
 use mdb_log::{Act, HelloResult, Log};
 use mdb_topology::TopologyCore;
@@ -72,7 +72,7 @@ pub fn hello(alloc: Global, server: u32, pool: u32) -> Result<Act, LongError>
     reply.min_wire_version = Some(0);
     reply.max_wire_version = Some(21);
     reply.msg = Some(Text::new(String::from_str(alloc, "isdbgrid")?));
-    let reply = Held::new(alloc, reply)?;
+    let reply = Boxed::new(alloc, reply)?;
     let address = address(alloc, server)?;
     Ok(Act::Hello(address, pool, HelloResult::Ok(CHECK, reply)))
 }
@@ -87,7 +87,7 @@ pub fn network_error(alloc: Global, party: u32) -> Result<Act, LongError>
         topology_version: None,
         message: Text::new(String::new(alloc)),
     };
-    Ok(Act::Error(party, Held::new(alloc, error)?))
+    Ok(Act::Error(party, Boxed::new(alloc, error)?))
 }
 
 /// A driver of the servers, with its log.

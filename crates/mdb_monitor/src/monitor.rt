@@ -46,7 +46,7 @@ pub struct MonitorCore {
     pub(crate) running: Option<u32>,
 }
 
-// A step of the topology works on a copy, so that want of memory leaves the monitor as it was.
+// A step of the topology works on a copy, so that lack of memory leaves the monitor as it was.
 impl Clone for MonitorCore {
     ghost is_clone = { λ s t. t ≡ s };
 

@@ -1,4 +1,4 @@
--- Want of memory is handed on.
+-- Running out of memory is handed on.
 use Rattle.std.proofs.Common.{◌≡◌, Result, Ok, Err, IsErrAnd, ◌∙◌}
 use Rattle.mdb_parts.specs.Reading.{Gives}
 use Rattle.mdb_parts.specs.declared.line_error.LineError.{LineError}

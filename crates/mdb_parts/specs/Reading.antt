@@ -22,6 +22,6 @@ Gives x r = MatchResult r (λ y. y ≡ x) (λ e. e ≡ OutOfMemory)
 abbrev pub GivesFirst : {A : Type 0} → A → List ℕ → Result (A × Bor (List ℕ)) LineError → Type 0
 GivesFirst x rest r = MatchResult r (λ y. (y.0 ≡ x) × (y.1.now ≡ rest)) (λ e. e ≡ OutOfMemory)
 
--- The same of a text.
+-- This text was read, and this is left, unless memory ran out.
 abbrev pub GivesText : List ℕ → List ℕ → Result (Bor (List ℕ) × Bor (List ℕ)) LineError → Type 0
 GivesText x rest r = MatchResult r (λ y. (y.0.now ≡ x) × (y.1.now ≡ rest)) (λ e. e ≡ OutOfMemory)

@@ -1,9 +1,9 @@
 -- What the calls do to the pins is what the change says.
 use Rattle.std.proofs.Common.{ℕ, ◌+◌, ◌≡◌, ◌==◌, Bool, true, false, not, ◌&&◌, if◌then◌else◌, refl, sym, ap, ◌∙◌}
-use Rattle.mdb_tallies.specs.declared.change.Change.TheVariants as change
+use Rattle.mdb_tallies.specs.declared.occurrence.Occurrence.TheVariants as change
 use Rattle.mdb_tallies.specs.declared.connection.Place.{Place}
 use Rattle.mdb_tallies.specs.declared.lists.Lists.{Lists}
-use Rattle.mdb_tallies.specs.declared.table.Table.{Table}
+use Rattle.mdb_tallies.specs.declared.default_map.DefaultMap.{DefaultMap}
 use Rattle.mdb_tallies.specs.declared.tables.Tables.{Tables}
 use Rattle.mdb_tallies.specs.Tables.{at, same_key}
 use Rattle.mdb_tallies.specs.Lists.{nth, len, listed, PushesIf}
@@ -59,21 +59,21 @@ doing f r v old new e is n = e n ∙ go (r == n) refl
     go true u = is ∙ ap (λ m. f (of_number old m)) (same r n u)
     go false u = refl
 
-pub given_up-follows : (t : Tables) (old : PinStory) (r : ℕ) (pins : Table Pins) (doings : Numbered Doings) (v : Doings) → Grants t old.grants → Walked how.GaveUp t (of_number old.doings) old.grants r old.pins pins → ((n : ℕ) → of_number doings n ≡ (if r == n then v else of_number old.doings n)) → v ≡ record (of_number old.doings r) { give_ups = (of_number old.doings r).give_ups + 1; pins_then = (of_number old.doings r).pins } → PinsFollow (change.GivenUp r) t old (record { pins = pins; doings = doings; grants = old.grants })
+pub given_up-follows : (t : Tables) (old : PinStory) (r : ℕ) (pins : DefaultMap Pins) (doings : Numbered Doings) (v : Doings) → Grants t old.grants → Walked how.GaveUp t (of_number old.doings) old.grants r old.pins pins → ((n : ℕ) → of_number doings n ≡ (if r == n then v else of_number old.doings n)) → v ≡ record (of_number old.doings r) { give_ups = (of_number old.doings r).give_ups + 1; pins_then = (of_number old.doings r).pins } → PinsFollow (change.GivenUp r) t old (record { pins = pins; doings = doings; grants = old.grants })
 given_up-follows t old r pins doings v g w d is = record {
   pins = λ p c. w p c ∙ whole (listed (len old.grants r) (nth old.grants r) p c) _ (at old.pins p c 0) (λ e. gave_up-else t (of_number old.doings) r p c (at old.pins p c 0) (unlent t r p c (sym (g.all r p c) ∙ e)));
   doings = doing (λ x. record x { give_ups = x.give_ups + 1; pins_then = x.pins }) r v old.doings doings d is;
   grants = refl;
 }
 
-pub pinned-follows : (t : Tables) (old : PinStory) (r : ℕ) (pins : Table Pins) (doings : Numbered Doings) (v : Doings) → Grants t old.grants → Walked how.Pinned t (of_number old.doings) old.grants r old.pins pins → ((n : ℕ) → of_number doings n ≡ (if r == n then v else of_number old.doings n)) → v ≡ record (of_number old.doings r) { pins = (of_number old.doings r).pins + 1 } → PinsFollow (change.Pinned r) t old (record { pins = pins; doings = doings; grants = old.grants })
+pub pinned-follows : (t : Tables) (old : PinStory) (r : ℕ) (pins : DefaultMap Pins) (doings : Numbered Doings) (v : Doings) → Grants t old.grants → Walked how.Pinned t (of_number old.doings) old.grants r old.pins pins → ((n : ℕ) → of_number doings n ≡ (if r == n then v else of_number old.doings n)) → v ≡ record (of_number old.doings r) { pins = (of_number old.doings r).pins + 1 } → PinsFollow (change.Pinned r) t old (record { pins = pins; doings = doings; grants = old.grants })
 pinned-follows t old r pins doings v g w d is = record {
   pins = λ p c. w p c ∙ whole (listed (len old.grants r) (nth old.grants r) p c) _ (at old.pins p c 0) (λ e. pinned-else t (of_number old.doings) r p c (at old.pins p c 0) (unlent t r p c (sym (g.all r p c) ∙ e)));
   doings = doing (λ x. record x { pins = x.pins + 1 }) r v old.doings doings d is;
   grants = refl;
 }
 
-pub returned-follows : (t : Tables) (old : PinStory) (r : ℕ) (pins : Table Pins) → Covers t → Walked how.GaveBack t (of_number old.doings) t.places r old.pins pins → PinsFollow (change.Returned r) t old (record { pins = pins; doings = old.doings; grants = old.grants })
+pub returned-follows : (t : Tables) (old : PinStory) (r : ℕ) (pins : DefaultMap Pins) → Covers t → Walked how.GaveBack t (of_number old.doings) t.places r old.pins pins → PinsFollow (change.Returned r) t old (record { pins = pins; doings = old.doings; grants = old.grants })
 returned-follows t old r pins k w = record {
   pins = λ p c. w p c ∙ whole (listed (len t.places r) (nth t.places r) p c) _ (at old.pins p c 0) (λ e. let none = sym (k.all r p c) ∙ e in gave_back-else t (of_number old.doings) r p c (at old.pins p c 0) (unkept t r p c (right-false (at t.gifts r p c).is_granted (at t.gifts r p c).is_taken none)) (unlent t r p c (left-false (at t.gifts r p c).is_granted (at t.gifts r p c).is_taken none)));
   doings = λ n. refl;
@@ -89,7 +89,7 @@ returned-again t s r e = record {
 }
 
 -- one connection's pins are others
-pub put-at : (f : ℕ → ℕ → Pins → Pins) (q d : ℕ) (x : Pins) (old new : Table Pins) → x ≡ f q d (at old q d 0) → ((a b c : ℕ) → at new a b c ≡ (if same_key q d 0 a b c then x else at old a b c)) → (p c : ℕ) → at new p c 0 ≡ only_at ((q == p) && (d == c)) (f p c (at old p c 0)) (at old p c 0)
+pub put-at : (f : ℕ → ℕ → Pins → Pins) (q d : ℕ) (x : Pins) (old new : DefaultMap Pins) → x ≡ f q d (at old q d 0) → ((a b c : ℕ) → at new a b c ≡ (if same_key q d 0 a b c then x else at old a b c)) → (p c : ℕ) → at new p c 0 ≡ only_at ((q == p) && (d == c)) (f p c (at old p c 0)) (at old p c 0)
 put-at f q d x old new is e p c = e p c 0 ∙ go (q == p) (d == c) refl refl
   where
     go : (b s : Bool) → (q == p) ≡ b → (d == c) ≡ s → (if (b && s) && true then x else at old p c 0) ≡ only_at (b && s) (f p c (at old p c 0)) (at old p c 0)
@@ -97,13 +97,13 @@ put-at f q d x old new is e p c = e p c 0 ∙ go (q == p) (d == c) refl refl
     go true false u v = refl
     go false s u v = refl
 
-pub replicated-follows : (t : Tables) (old : PinStory) (q d : ℕ) (x : Pins) (pins : Table Pins) → x ≡ once_pinned (keeper (at t.connections q d 0).kept (of_number old.doings) (at old.pins q d 0)) (at old.pins q d 0) → ((a b c : ℕ) → at pins a b c ≡ (if same_key q d 0 a b c then x else at old.pins a b c)) → PinsFollow (change.Replicated q d) t old (record { pins = pins; doings = old.doings; grants = old.grants })
+pub replicated-follows : (t : Tables) (old : PinStory) (q d : ℕ) (x : Pins) (pins : DefaultMap Pins) → x ≡ once_pinned (keeper (at t.connections q d 0).kept (of_number old.doings) (at old.pins q d 0)) (at old.pins q d 0) → ((a b c : ℕ) → at pins a b c ≡ (if same_key q d 0 a b c then x else at old.pins a b c)) → PinsFollow (change.Replicated q d) t old (record { pins = pins; doings = old.doings; grants = old.grants })
 replicated-follows t old q d x pins is e = record { pins = put-at (λ p c y. once_pinned (keeper (at t.connections p c 0).kept (of_number old.doings) y) y) q d x old.pins pins is e; doings = λ n. refl; grants = refl }
 
-pub unpinned-follows : (t : Tables) (old : PinStory) (q d : ℕ) (x : Pins) (pins : Table Pins) → x ≡ once_unpinned (keeper (at t.connections q d 0).kept (of_number old.doings) (at old.pins q d 0)) (at old.pins q d 0) → ((a b c : ℕ) → at pins a b c ≡ (if same_key q d 0 a b c then x else at old.pins a b c)) → PinsFollow (change.Unpinned q d) t old (record { pins = pins; doings = old.doings; grants = old.grants })
+pub unpinned-follows : (t : Tables) (old : PinStory) (q d : ℕ) (x : Pins) (pins : DefaultMap Pins) → x ≡ once_unpinned (keeper (at t.connections q d 0).kept (of_number old.doings) (at old.pins q d 0)) (at old.pins q d 0) → ((a b c : ℕ) → at pins a b c ≡ (if same_key q d 0 a b c then x else at old.pins a b c)) → PinsFollow (change.Unpinned q d) t old (record { pins = pins; doings = old.doings; grants = old.grants })
 unpinned-follows t old q d x pins is e = record { pins = put-at (λ p c y. once_unpinned (keeper (at t.connections p c 0).kept (of_number old.doings) y) y) q d x old.pins pins is e; doings = λ n. refl; grants = refl }
 
-pub taken-follows : (t : Tables) (old : PinStory) (r q d : ℕ) (x : Pins) (pins : Table Pins) → x ≡ taken_by (not (at t.parties r 0 0).is_returned && not (keeps t r q d)) (at t.connections q d 0).kept (of_number old.doings) r (at old.pins q d 0) → ((a b c : ℕ) → at pins a b c ≡ (if same_key q d 0 a b c then x else at old.pins a b c)) → PinsFollow (change.Taken r q d) t old (record { pins = pins; doings = old.doings; grants = old.grants })
+pub taken-follows : (t : Tables) (old : PinStory) (r q d : ℕ) (x : Pins) (pins : DefaultMap Pins) → x ≡ taken_by (not (at t.parties r 0 0).is_returned && not (keeps t r q d)) (at t.connections q d 0).kept (of_number old.doings) r (at old.pins q d 0) → ((a b c : ℕ) → at pins a b c ≡ (if same_key q d 0 a b c then x else at old.pins a b c)) → PinsFollow (change.Taken r q d) t old (record { pins = pins; doings = old.doings; grants = old.grants })
 taken-follows t old r q d x pins is e = record { pins = put-at (λ p c y. taken_by (not (at t.parties r 0 0).is_returned && not (keeps t r p c)) (at t.connections p c 0).kept (of_number old.doings) r y) q d x old.pins pins is e; doings = λ n. refl; grants = refl }
 
 pub granted-follows : (t : Tables) (old : PinStory) (r q d : ℕ) (lists : Lists Place) → PushesIf (not (at t.gifts r q d).is_granted) r (record { pool = q; id = d }) old.grants lists → PinsFollow (change.Granted r q d) t old (record { pins = old.pins; doings = old.doings; grants = lists })

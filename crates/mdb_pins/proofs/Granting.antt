@@ -1,7 +1,7 @@
 -- The lists of grants after a change have each connection that a party was granted, once.
 use Rattle.std.proofs.Common.{ℕ, ◌≡◌, ◌<◌, ◌==◌, Bool, true, false, not, ◌&&◌, ◌||◌, if◌then◌else◌, refl, sym, ap, subst, ◌∙◌}
-use Rattle.mdb_tallies.specs.declared.change.Change.{Change}
-use Rattle.mdb_tallies.specs.declared.change.Change.TheVariants as change
+use Rattle.mdb_tallies.specs.declared.occurrence.Occurrence.{Occurrence}
+use Rattle.mdb_tallies.specs.declared.occurrence.Occurrence.TheVariants as change
 use Rattle.mdb_tallies.specs.declared.connection.Place.{Place}
 use Rattle.mdb_tallies.specs.declared.lists.Lists.{Lists}
 use Rattle.mdb_tallies.specs.declared.party.Gift.{Gift}
@@ -71,7 +71,7 @@ again g r p c l before has = (λ q x y. has.0 q x y ∙ sym (granted-bit (((r ==
 still : (g f : ℕ → ℕ → ℕ → Gift) (old new : Lists Place) → new ≡ old → ((r p c : ℕ) → (f r p c).is_granted ≡ (g r p c).is_granted) → Have g old → Have f new
 still g f old new e same has = subst (Have f) (sym e) (λ r p c. has.0 r p c ∙ sym (same r p c), has.1)
 
-pub grants-next : (ch : Change) (t : Tables) (old new : Lists Place) (g : ℕ → ℕ → ℕ → Gift) → ((r p c : ℕ) → at t.gifts r p c ≡ g r p c) → Have g old → GrantsFollow ch t old new → Have (λ r p c. gift_after ch r p c (g r p c)) new
+pub grants-next : (ch : Occurrence) (t : Tables) (old new : Lists Place) (g : ℕ → ℕ → ℕ → Gift) → ((r p c : ℕ) → at t.gifts r p c ≡ g r p c) → Have g old → GrantsFollow ch t old new → Have (λ r p c. gift_after ch r p c (g r p c)) new
 grants-next (change.Granted r p c) t old new g is has f = by (not (at t.gifts r p c).is_granted) refl f
   where
     by : (b : Bool) → not (at t.gifts r p c).is_granted ≡ b → PushesIf b r (record { pool = p; id = c }) old new → Have (λ q x y. gift_after (change.Granted r p c) q x y (g q x y)) new

@@ -2,8 +2,8 @@
 use Rattle.std.proofs.Common.{ℕ, ◌+◌, ◌-◌, ◌≡◌, ◌≤◌, ◌==◌, Bool, true, false, not, ◌&&◌, ◌||◌, if◌then◌else◌, nat_lt, refl, sym, ap, subst, ◌∙◌, arith}
 use Rattle.std.specs.Prelude.{⊤}
 use Rattle.std.proofs.lemmas.Grind.{common_steps}
-use Rattle.mdb_tallies.specs.declared.change.Change.{Change}
-use Rattle.mdb_tallies.specs.declared.change.Change.TheVariants as change
+use Rattle.mdb_tallies.specs.declared.occurrence.Occurrence.{Occurrence}
+use Rattle.mdb_tallies.specs.declared.occurrence.Occurrence.TheVariants as change
 use Rattle.mdb_tallies.specs.declared.connection.Connection.{Connection}
 use Rattle.mdb_tallies.specs.declared.tables.Tables.{Tables}
 use Rattle.mdb_tallies.specs.Tables.{at}
@@ -23,7 +23,7 @@ use Rattle.mdb_pins.specs.Keeping.{is_alone, is_settled, has_pinned, concerns, g
 use Rattle.mdb_pins.proofs.Fitting.{is-one}
 
 -- Of a created connection that one party keeps, a party that pins was lent nothing; and where parties return, one at most keeps a created one.
-abbrev pub Allows : Change → Tables → Type 0
+abbrev pub Allows : Occurrence → Tables → Type 0
 Allows (change.Pinned r) t = (p c : ℕ) → is_alone (at t.connections p c 0) ≡ true → lends t r p c ≡ false
 Allows (change.Returned r) t = (p c : ℕ) → nat_lt 0 (at t.connections p c 0).creations ≡ true → (at t.connections p c 0).kept ≤ 1
 Allows _ t = ⊤
@@ -80,7 +80,7 @@ pub alone-keeper : (x : Connection) (doings : ℕ → Doings) (y : Pins) → is_
 alone-keeper x doings y e = ap (λ b. if b then doings y.keepers else nobody) (both-right (nat_lt 0 x.creations) (x.kept == 1) e)
 
 -- a connection that a change does not concern: one party kept it alone, it is its keeper still, and what it wanted it wants
-pub record Stays (ch : Change) (l m : Bool) (doings : ℕ → Doings) (x : Connection) (y y-now : Pins) : Type 0 where
+pub record Stays (ch : Occurrence) (l m : Bool) (doings : ℕ → Doings) (x : Connection) (y y-now : Pins) : Type 0 where
   pub alone : is_alone x ≡ true
   pub keepers : y-now.keepers ≡ y.keepers
   pub wants : (gives_up ch y.keepers ≡ false → l ≡ true → m ≡ true) → is_settled (doings y.keepers) y || (l || has_pinned (doings y.keepers)) ≡ true → is_settled (doings_after ch y.keepers (doings y.keepers)) y-now || (m || has_pinned (doings_after ch y.keepers (doings y.keepers))) ≡ true
@@ -175,7 +175,7 @@ alone-either : (b : Bool) (f : Connection → Connection) (x : Connection) → i
 alone-either true f x u e = sym u ∙ e
 alone-either false f x u e = e
 
-quiet : (ch : Change) (l m : Bool) (doings : ℕ → Doings) (x : Connection) (y y-now : Pins) → y-now ≡ y → ((n : ℕ) (d : Doings) → doings_after ch n d ≡ d) → ((n : ℕ) → gives_up ch n ≡ false) → is_alone x ≡ true → Stays ch l m doings x y y-now
+quiet : (ch : Occurrence) (l m : Bool) (doings : ℕ → Doings) (x : Connection) (y y-now : Pins) → y-now ≡ y → ((n : ℕ) (d : Doings) → doings_after ch n d ≡ d) → ((n : ℕ) → gives_up ch n ≡ false) → is_alone x ≡ true → Stays ch l m doings x y y-now
 quiet ch l m doings x y y-now is same none e = subst (Stays ch l m doings x y) (sym is) (record {
   alone = e;
   keepers = refl;
@@ -186,7 +186,7 @@ elsewhere : (b : Bool) (y-there y : Pins) → b ≡ false → only_at b y-there 
 elsewhere true y-there y e = cc
 elsewhere false y-there y e = refl
 
-stays : (ch : Change) (t : Tables) (l m : Bool) (doings : ℕ → Doings) (p c : ℕ) (y : Pins) → Allows ch t → ((n : ℕ) → (doings n).pins_then ≤ (doings n).pins) → (is_alone (at t.connections p c 0) ≡ true → y.heard ≤ (doings y.keepers).give_ups) → concerns ch p c ≡ false → is_alone (connection_after ch (λ r. at t.gifts r p c) (λ r. at t.parties r 0 0) p c (at t.connections p c 0)) ≡ true → Stays ch l m doings (at t.connections p c 0) y (pins_after ch t doings p c y)
+stays : (ch : Occurrence) (t : Tables) (l m : Bool) (doings : ℕ → Doings) (p c : ℕ) (y : Pins) → Allows ch t → ((n : ℕ) → (doings n).pins_then ≤ (doings n).pins) → (is_alone (at t.connections p c 0) ≡ true → y.heard ≤ (doings y.keepers).give_ups) → concerns ch p c ≡ false → is_alone (connection_after ch (λ r. at t.gifts r p c) (λ r. at t.parties r 0 0) p c (at t.connections p c 0)) ≡ true → Stays ch l m doings (at t.connections p c 0) y (pins_after ch t doings p c y)
 stays (change.GivenUp r) t l m doings p c y allows ordered heard apart e = gave-stays r l m (lends t r p c) doings (at t.connections p c 0) y (heard e) e
 stays (change.Pinned r) t l m doings p c y allows ordered heard apart e = pinned-stays r (lends t r p c) l m _ doings (at t.connections p c 0) y (allows p c e) (ordered y.keepers) e
 stays (change.Returned r) t l m doings p c y allows ordered heard apart e =
@@ -203,7 +203,7 @@ stays (change.CheckedIn q d) t l m doings p c y allows ordered heard apart e = q
 stays (change.Granted r q d) t l m doings p c y allows ordered heard apart e = quiet (change.Granted r q d) l m doings (at t.connections p c 0) y y refl (λ n d. refl) (λ n. refl) (alone-either ((q == p) && (d == c)) (once_granted (lent_now (at t.gifts r p c) (at t.parties r 0 0)) (is_lent true (at t.gifts r p c).is_taken (at t.parties r 0 0).is_returned (at t.parties r 0 0).is_ended)) (at t.connections p c 0) refl e)
 stays ch t l m doings p c y allows ordered heard apart e = quiet ch l m doings (at t.connections p c 0) y y refl (λ n d. refl) (λ n. refl) e
 
-ordered-after : (ch : Change) (n : ℕ) (d : Doings) → d.pins_then ≤ d.pins → (doings_after ch n d).pins_then ≤ (doings_after ch n d).pins
+ordered-after : (ch : Occurrence) (n : ℕ) (d : Doings) → d.pins_then ≤ d.pins → (doings_after ch n d).pins_then ≤ (doings_after ch n d).pins
 ordered-after (change.GivenUp r) n d e = by (r == n)
   where
     by : (b : Bool) → (if b then gave d else d).pins_then ≤ (if b then gave d else d).pins
@@ -217,7 +217,7 @@ ordered-after (change.Pinned r) n d e = by (r == n)
 ordered-after ch n d e = e
 
 -- One more change.
-pub keepings-next : (balanced : Bool) (ch : Change) (t u : Tables) (s z : PinStory) (k m : Keepings) → Allows ch t → ((p c : ℕ) → is_alone (at t.connections p c 0) ≡ true → (at s.pins p c 0).heard ≤ (of_number s.doings (at s.pins p c 0).keepers).give_ups) → KeepingsStand t s k → Follows balanced ch t u → PinsFollow ch t s z → KeepingsFollow ch u z k m → KeepingsStand u z m
+pub keepings-next : (balanced : Bool) (ch : Occurrence) (t u : Tables) (s z : PinStory) (k m : Keepings) → Allows ch t → ((p c : ℕ) → is_alone (at t.connections p c 0) ≡ true → (at s.pins p c 0).heard ≤ (of_number s.doings (at s.pins p c 0).keepers).give_ups) → KeepingsStand t s k → Follows balanced ch t u → PinsFollow ch t s z → KeepingsFollow ch u z k m → KeepingsStand u z m
 keepings-next balanced ch t u s z k m allows heard stand f g n = record {
   all = λ p c e. all-now p c e (concerns ch p c) refl;
   fresh = λ p c e. fresh-now p c e (concerns ch p c) refl;

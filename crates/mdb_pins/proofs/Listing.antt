@@ -3,10 +3,10 @@ use Rattle.std.proofs.Common.{ℕ, ◌≡◌, ◌==◌, Bool, true, false, ◌&&
 use Rattle.mdb_log.specs.History.{is_number}
 use Rattle.mdb_log.proofs.Numbers.{same-number}
 use Rattle.mdb_log.proofs.Bools.{both-left, both-right}
-use Rattle.mdb_tallies.specs.declared.change.Change.{Change}
+use Rattle.mdb_tallies.specs.declared.occurrence.Occurrence.{Occurrence}
 use Rattle.mdb_tallies.specs.declared.connection.Place.{Place}
 use Rattle.mdb_tallies.specs.declared.lists.Lists.{Lists}
-use Rattle.mdb_tallies.specs.declared.table.Table.{Table}
+use Rattle.mdb_tallies.specs.declared.default_map.DefaultMap.{DefaultMap}
 use Rattle.mdb_tallies.specs.declared.tables.Tables.{Tables}
 use Rattle.mdb_tallies.specs.Tables.{at, same_key}
 use Rattle.mdb_tallies.specs.Lists.{nth, len, listed, in_list, is_place, Pushes, Clears}
@@ -46,7 +46,7 @@ some-is m n e = ap (λ o. unwrap_or o m) e
 pub written-before : (r q d : ℕ) (k : Keepings) → is_number (at k.written q d 0) r ≡ true → WritesOnce r q d k k
 written-before r q d k e = record { all = λ n p c u. u; fresh = refl; written = λ w. w; here = λ w. w q d r (number-is (at k.written q d 0) r e) }
 
-pub written-now : (r q d : ℕ) (old : Keepings) (lists : Lists Place) (table : Table (Option ℕ)) → Pushes r (record { pool = q; id = d }) old.all lists → ((a b c : ℕ) → at table a b c ≡ (if same_key q d 0 a b c then (Some r) else at old.written a b c)) → WritesOnce r q d old (record { all = lists; fresh = old.fresh; written = table })
+pub written-now : (r q d : ℕ) (old : Keepings) (lists : Lists Place) (table : DefaultMap (Option ℕ)) → Pushes r (record { pool = q; id = d }) old.all lists → ((a b c : ℕ) → at table a b c ≡ (if same_key q d 0 a b c then (Some r) else at old.written a b c)) → WritesOnce r q d old (record { all = lists; fresh = old.fresh; written = table })
 written-now r q d old lists table e there = record {
   all = still-listed r (record { pool = q; id = d }) old.all lists e;
   fresh = refl;

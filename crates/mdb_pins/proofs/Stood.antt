@@ -7,7 +7,7 @@ use Rattle.mdb_log.specs.declared.options.PoolOptions.{PoolOptions}
 use Rattle.mdb_events.specs.declared.cmap.CmapEvent.{CmapEvent}
 use Rattle.mdb_log.specs.History.{Item, PoolItem, made, of_pool, if_so, has_asked, created, closed, checked_in, ended, raised, pool_created, pool_ready, pool_closed}
 use Rattle.mdb_log.specs.PlainHolders.{has_returned, pins_made, pins_dropped, is_pinned, has_pin, comes_back, is_taking}
-use Rattle.mdb_tallies.specs.declared.change.Change.TheVariants as change
+use Rattle.mdb_tallies.specs.declared.occurrence.Occurrence.TheVariants as change
 use Rattle.mdb_tallies.specs.declared.tables.Tables.{Tables}
 use Rattle.mdb_tallies.specs.Tables.{at}
 use Rattle.mdb_tallies.specs.Lists.{nth, len, listed}

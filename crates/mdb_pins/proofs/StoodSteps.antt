@@ -10,7 +10,7 @@ use Rattle.mdb_log.specs.declared.step.Use.{Use}
 use Rattle.mdb_log.proofs.Numbers.{same-number}
 use Rattle.mdb_log.specs.Connections.{one_if}
 use Rattle.mdb_log.specs.PlainHolders.{has_returned, is_taken_by, parties, pins_made, pins_dropped, is_pinned, holds}
-use Rattle.mdb_tallies.specs.declared.change.Change.TheVariants as change
+use Rattle.mdb_tallies.specs.declared.occurrence.Occurrence.TheVariants as change
 use Rattle.mdb_tallies.specs.declared.tables.Tables.{Tables}
 use Rattle.mdb_tallies.specs.Tables.{at}
 use Rattle.mdb_tallies.specs.Totals.{total}

@@ -2,7 +2,7 @@
 use Rattle.std.proofs.Common.{ℕ, ◌+◌, ◌≡◌, ◌<◌, ◌==◌, Bool, true, false, ◌&&◌, ◌||◌, if◌then◌else◌, refl, ap, ◌∙◌, add-one}
 use Rattle.mdb_tallies.specs.declared.connection.Place.{Place}
 use Rattle.mdb_tallies.specs.declared.lists.Lists.{Lists}
-use Rattle.mdb_tallies.specs.declared.table.Table.{Table}
+use Rattle.mdb_tallies.specs.declared.default_map.DefaultMap.{DefaultMap}
 use Rattle.mdb_tallies.specs.declared.tables.Tables.{Tables}
 use Rattle.mdb_tallies.specs.Tables.{at, same_key}
 use Rattle.mdb_tallies.specs.Lists.{nth, len, listed}
@@ -12,11 +12,11 @@ use Rattle.mdb_pins.specs.declared.pins.Pins.{Pins}
 use Rattle.mdb_pins.specs.declared.walk.How.{How}
 use Rattle.mdb_pins.specs.Following.{by_how, EachOnce, WalkedFar}
 
-pub far-none : (how : How) (t : Tables) (doings : ℕ → Doings) (l : Lists Place) (r : ℕ) (old : Table Pins) → WalkedFar how t doings l r 0 old old
+pub far-none : (how : How) (t : Tables) (doings : ℕ → Doings) (l : Lists Place) (r : ℕ) (old : DefaultMap Pins) → WalkedFar how t doings l r 0 old old
 far-none how t doings l r old = λ p c. refl
 
 -- one place more
-pub far-next : (how : How) (t : Tables) (doings : ℕ → Doings) (l : Lists Place) (r i : ℕ) (old now new : Table Pins) (place : Place) (x : Pins) → EachOnce l r → WalkedFar how t doings l r i old now → i < len l r → place ≡ nth l r i → x ≡ by_how how t doings r place.pool place.id (at now place.pool place.id 0) → ((a b c : ℕ) → at new a b c ≡ (if same_key place.pool place.id 0 a b c then x else at now a b c)) → WalkedFar how t doings l r (i + 1) old new
+pub far-next : (how : How) (t : Tables) (doings : ℕ → Doings) (l : Lists Place) (r i : ℕ) (old now new : DefaultMap Pins) (place : Place) (x : Pins) → EachOnce l r → WalkedFar how t doings l r i old now → i < len l r → place ≡ nth l r i → x ≡ by_how how t doings r place.pool place.id (at now place.pool place.id 0) → ((a b c : ℕ) → at new a b c ≡ (if same_key place.pool place.id 0 a b c then x else at now a b c)) → WalkedFar how t doings l r (i + 1) old new
 far-next how t doings l r i old now new place x once far below e here there = λ p c. rw (add-one i) (rw (← e) (there p c 0 ∙ go p c (place.pool == p) (place.id == c) refl refl))
   where
     unseen : listed i (nth l r) place.pool place.id ≡ false

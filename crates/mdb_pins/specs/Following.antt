@@ -1,11 +1,11 @@
 -- The pins after a change, where the tables are those before it.
 use Rattle.std.specs.Prelude.{ℕ, ◌+◌, ◌-◌, ◌≡◌, ◌<◌, Bool, false, not, ◌&&◌, ◌==◌, if◌then◌else◌}
 use Rattle.mdb_log.specs.Connections.{one_if}
-use Rattle.mdb_tallies.specs.declared.change.Change.{Change}
-use Rattle.mdb_tallies.specs.declared.change.Change.TheVariants as change
+use Rattle.mdb_tallies.specs.declared.occurrence.Occurrence.{Occurrence}
+use Rattle.mdb_tallies.specs.declared.occurrence.Occurrence.TheVariants as change
 use Rattle.mdb_tallies.specs.declared.connection.Place.{Place}
 use Rattle.mdb_tallies.specs.declared.lists.Lists.{Lists}
-use Rattle.mdb_tallies.specs.declared.table.Table.{Table}
+use Rattle.mdb_tallies.specs.declared.default_map.DefaultMap.{DefaultMap}
 use Rattle.mdb_tallies.specs.declared.tables.Tables.{Tables}
 use Rattle.mdb_tallies.specs.Tables.{at}
 use Rattle.mdb_tallies.specs.Lists.{nth, len, listed, PushesIf}
@@ -49,10 +49,10 @@ abbrev pub EachOnce : Lists Place → ℕ → Type 0
 EachOnce l r = (i : ℕ) → i < len l r → listed i (nth l r) (nth l r i).pool (nth l r i).id ≡ false
 
 -- the first places of the list changed by what the party did, and nothing else
-abbrev pub WalkedFar : How → Tables → (ℕ → Doings) → Lists Place → ℕ → ℕ → Table Pins → Table Pins → Type 0
+abbrev pub WalkedFar : How → Tables → (ℕ → Doings) → Lists Place → ℕ → ℕ → DefaultMap Pins → DefaultMap Pins → Type 0
 WalkedFar how t doings l r i old new = (p c : ℕ) → at new p c 0 ≡ (if listed i (nth l r) p c then by_how how t doings r p c (at old p c 0) else at old p c 0)
 
-abbrev pub Walked : How → Tables → (ℕ → Doings) → Lists Place → ℕ → Table Pins → Table Pins → Type 0
+abbrev pub Walked : How → Tables → (ℕ → Doings) → Lists Place → ℕ → DefaultMap Pins → DefaultMap Pins → Type 0
 Walked how t doings l r old new = WalkedFar how t doings l r (len l r) old new
 
 -- the connection is this one, and the change is made
@@ -60,7 +60,7 @@ abbrev pub only_at : Bool → Pins → Pins → Pins
 only_at b y x = if b then y else x
 
 -- The pins of connection c of pool p after a change.
-abbrev pub pins_after : Change → Tables → (ℕ → Doings) → ℕ → ℕ → Pins → Pins
+abbrev pub pins_after : Occurrence → Tables → (ℕ → Doings) → ℕ → ℕ → Pins → Pins
 pins_after (change.GivenUp r) t doings p c x = by_how how.GaveUp t doings r p c x
 pins_after (change.Returned r) t doings p c x = by_how how.GaveBack t doings r p c x
 pins_after (change.Pinned r) t doings p c x = by_how how.Pinned t doings r p c x
@@ -70,13 +70,13 @@ pins_after (change.Taken r q d) t doings p c x = only_at ((q == p) && (d == c)) 
 pins_after _ t doings p c x = x
 
 -- What a party did after a change.
-abbrev pub doings_after : Change → ℕ → Doings → Doings
+abbrev pub doings_after : Occurrence → ℕ → Doings → Doings
 doings_after (change.GivenUp r) q d = if r == q then record d { give_ups = d.give_ups + 1; pins_then = d.pins } else d
 doings_after (change.Pinned r) q d = if r == q then record d { pins = d.pins + 1 } else d
 doings_after _ q d = d
 
 -- The lists of grants after a change: each connection stands once.
-abbrev pub GrantsFollow : Change → Tables → Lists Place → Lists Place → Type 0
+abbrev pub GrantsFollow : Occurrence → Tables → Lists Place → Lists Place → Type 0
 GrantsFollow (change.Granted r q d) t old new = PushesIf (not (at t.gifts r q d).is_granted) r (record { pool = q; id = d }) old new
 GrantsFollow _ t old new = new ≡ old
 
@@ -86,7 +86,7 @@ pub record Grants (t : Tables) (l : Lists Place) : Type 0 where
   pub once : (r : ℕ) → EachOnce l r
 
 -- The pins, what parties did and the lists of grants after a change.
-pub record PinsFollow (change : Change) (t : Tables) (old new : PinStory) : Type 0 where
+pub record PinsFollow (change : Occurrence) (t : Tables) (old new : PinStory) : Type 0 where
   pub pins : (p c : ℕ) → at new.pins p c 0 ≡ pins_after change t (of_number old.doings) p c (at old.pins p c 0)
   pub doings : (r : ℕ) → of_number new.doings r ≡ doings_after change r (of_number old.doings r)
   pub grants : GrantsFollow change t old.grants new.grants

@@ -1,7 +1,7 @@
 -- Which connections a give-up of a party may set at their pins.
 use Rattle.std.specs.Prelude.{ℕ, ◌≡◌, ◌≤◌, Bool, true, false, not, ◌&&◌, ◌||◌, ◌==◌, nat_lt, Some}
-use Rattle.mdb_tallies.specs.declared.change.Change.{Change}
-use Rattle.mdb_tallies.specs.declared.change.Change.TheVariants as change
+use Rattle.mdb_tallies.specs.declared.occurrence.Occurrence.{Occurrence}
+use Rattle.mdb_tallies.specs.declared.occurrence.Occurrence.TheVariants as change
 use Rattle.mdb_tallies.specs.declared.connection.Connection.{Connection}
 use Rattle.mdb_tallies.specs.declared.tables.Tables.{Tables}
 use Rattle.mdb_tallies.specs.Tables.{at}
@@ -41,14 +41,14 @@ abbrev pub recalls : Tables → PinStory → Keepings → ℕ → ℕ → ℕ �
 recalls t s k r p c = not (at t.parties r 0 0).is_returned && (in_list s.grants r p c || (in_list k.fresh r p c || (has_pinned (of_number s.doings r) && in_list k.all r p c)))
 
 -- what is said of the connection by others than its keeper
-abbrev pub concerns : Change → ℕ → ℕ → Bool
+abbrev pub concerns : Occurrence → ℕ → ℕ → Bool
 concerns (change.Replicated q d) p c = (q == p) && (d == c)
 concerns (change.Taken r q d) p c = (q == p) && (d == c)
 concerns (change.Created q d) p c = (q == p) && (d == c)
 concerns _ p c = false
 
 -- whose give-up it is
-abbrev pub gives_up : Change → ℕ → Bool
+abbrev pub gives_up : Occurrence → ℕ → Bool
 gives_up (change.GivenUp r) q = r == q
 gives_up _ q = false
 
@@ -80,5 +80,5 @@ pub record Notes (is_here : ℕ → ℕ → Bool) (is_over : ℕ → Bool) (t : 
   pub here : WrittenStand old → (p c : ℕ) → is_here p c ≡ true → is_alone (at t.connections p c 0) ≡ true → (in_list new.all (at s.pins p c 0).keepers p c ≡ true) × (in_list new.fresh (at s.pins p c 0).keepers p c ≡ true)
 
 -- The keepings after a change; the tables and the pins are those after it.
-abbrev pub KeepingsFollow : Change → Tables → PinStory → Keepings → Keepings → Type 0
+abbrev pub KeepingsFollow : Occurrence → Tables → PinStory → Keepings → Keepings → Type 0
 KeepingsFollow change t s old new = Notes (concerns change) (gives_up change) t s old new

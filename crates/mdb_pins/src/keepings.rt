@@ -12,7 +12,7 @@ ghost use Rattle.mdb_pins.specs.Keeping.{is_alone, WritesOnce, Writes, Forgets, 
 
 use crate::story::PinStory;
 use mdb_base::OutOfMemory;
-use mdb_tallies::{Change, Connection, Lists, Place, Table, Tables};
+use mdb_tallies::{Occurrence, Connection, Lists, Place, DefaultMap, Tables};
 use std::alloc::Global;
 
 /// Created connections that one party keeps.
@@ -23,7 +23,7 @@ pub struct Keepings {
     /// Those that something else than a pin of the party concerned since its last give-up.
     pub fresh: Lists<Place>,
     /// The party in whose list a connection was written last, by pool and connection.
-    pub written: Table<Option<u32>>,
+    pub written: DefaultMap<Option<u32>>,
 }
 
 // The connection was created, and one party keeps it.
@@ -60,7 +60,7 @@ impl Keepings {
         Keepings {
             all: Lists::new(alloc, Place { pool: 0, id: 0 }),
             fresh: Lists::new(alloc, Place { pool: 0, id: 0 }),
-            written: Table::new(alloc, None),
+            written: DefaultMap::new(alloc, None),
         }
     }
 
@@ -119,13 +119,13 @@ impl Keepings {
         &mut self,
         tables: &Tables,
         pins: &PinStory,
-        change: &Change,
+        change: &Occurrence,
     ) -> Result<(), OutOfMemory>
         ensures { OnOk result (KeepingsFollow change.now tables.now pins.now self.old self.new) }
     {
         match change {
-            Change::GivenUp(party) => self.forget(*party),
-            Change::Replicated(pool, id) | Change::Taken(_, pool, id) | Change::Created(pool, id) =>
+            Occurrence::GivenUp(party) => self.forget(*party),
+            Occurrence::Replicated(pool, id) | Occurrence::Taken(_, pool, id) | Occurrence::Created(pool, id) =>
                 { self.follow(tables, pins, *pool, *id) }
             _ => Ok(()),
         }

@@ -3,7 +3,7 @@
 ghost use Rattle.std.specs.Prelude.{◌≡◌, ℕ, List, [], IfOk, OnOk};
 ghost use Rattle.mdb_log.specs.History.{Item};
 ghost use Rattle.mdb_tallies.specs.Kept.{Covers};
-ghost use Rattle.mdb_tallies.specs.declared.change.Change.TheVariants as change;
+ghost use Rattle.mdb_tallies.specs.declared.occurrence.Occurrence.TheVariants as change;
 ghost use Rattle.mdb_pins.specs.Following.{Grants, PinsFollow, pinned_now};
 ghost use Rattle.mdb_pins.specs.Counts.{nobody};
 ghost use Rattle.mdb_pins.specs.Numbered.{of_number};
@@ -14,14 +14,14 @@ use crate::numbered::Numbered;
 use crate::pins::Pins;
 use crate::walk::{How, is_new, keeper, taken_by, walk};
 use mdb_base::OutOfMemory;
-use mdb_tallies::{Change, Lists, Place, Table, Tables, one_more, push_if};
+use mdb_tallies::{Occurrence, Lists, Place, DefaultMap, Tables, one_more, push_if};
 use std::alloc::Global;
 
 /// The pins of each connection, and what each party did.
 #[derive(Drop)]
 pub struct PinStory {
     /// By pool and connection.
-    pub pins: Table<Pins>,
+    pub pins: DefaultMap<Pins>,
     /// By party.
     pub doings: Numbered<Doings>,
     /// The connections that each party was granted.
@@ -48,7 +48,7 @@ impl PinStory {
             pins_then: 0,
         };
         PinStory {
-            pins: Table::new(alloc, none),
+            pins: DefaultMap::new(alloc, none),
             doings: Numbered::new(alloc, nobody),
             grants: Lists::new(alloc, Place { pool: 0, id: 0 }),
         }
@@ -169,17 +169,17 @@ impl PinStory {
     }
 
     /// The pins after a change; the tables are those before it.
-    pub fn note(&mut self, tables: &Tables, change: &Change) -> Result<(), OutOfMemory>
+    pub fn note(&mut self, tables: &Tables, change: &Occurrence) -> Result<(), OutOfMemory>
         ensures { OnOk result (Covers tables.now → Grants tables.now self.old.grants → PinsFollow change.now tables.now self.old self.new) }
     {
         match change {
-            Change::GivenUp(party) => self.give_up(tables, *party),
-            Change::Returned(party) => self.give_back(tables, *party),
-            Change::Pinned(party) => self.pin(tables, *party),
-            Change::Replicated(pool, id) => self.replicate(tables, *pool, *id),
-            Change::Taken(party, pool, id) => self.take(tables, *party, *pool, *id),
-            Change::Unpinned(pool, id) => self.unpin(tables, *pool, *id),
-            Change::Granted(party, pool, id) => self.grant(tables, *party, *pool, *id),
+            Occurrence::GivenUp(party) => self.give_up(tables, *party),
+            Occurrence::Returned(party) => self.give_back(tables, *party),
+            Occurrence::Pinned(party) => self.pin(tables, *party),
+            Occurrence::Replicated(pool, id) => self.replicate(tables, *pool, *id),
+            Occurrence::Taken(party, pool, id) => self.take(tables, *party, *pool, *id),
+            Occurrence::Unpinned(pool, id) => self.unpin(tables, *pool, *id),
+            Occurrence::Granted(party, pool, id) => self.grant(tables, *party, *pool, *id),
             _ => Ok(()),
         }
     }

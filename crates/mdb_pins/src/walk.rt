@@ -10,7 +10,7 @@ use crate::doings::Doings;
 use crate::numbered::Numbered;
 use crate::pins::{Pins, sum};
 use mdb_base::OutOfMemory;
-use mdb_tallies::{Lists, Place, Table, Tables, is_kept, is_lent, one_if};
+use mdb_tallies::{Lists, Place, DefaultMap, Tables, is_kept, is_lent, one_if};
 
 /// What a party did that concerns the pins of what it was given.
 #[derive(Clone, Copy, Debug)]
@@ -126,7 +126,7 @@ fn by_how(
 
 /// What the party did is done to the pins of each connection of its list.
 pub fn walk(
-    pins: &mut Table<Pins>,
+    pins: &mut DefaultMap<Pins>,
     doings: &Numbered<Doings>,
     tables: &Tables,
     how: How,

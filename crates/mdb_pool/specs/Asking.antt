@@ -6,8 +6,8 @@ use Rattle.mdb_slots.specs.Lists.{apart, has as among}
 use Rattle.mdb_slots.specs.NumberSet.{NumberSteps, numbers_kept, spanned_after, capacity_after, NumbersFit}
 use Rattle.mdb_slots.specs.Sided.{SidedSteps, SidedFits, sided_after, sided_capacity_after}
 use Rattle.mdb_slots.specs.Table.{TableSteps, items, shelf_after, capacity_after as table_capacity_after, Fits as TableFits}
-use Rattle.mdb_pool.specs.declared.request.Request.{Request}
-use Rattle.mdb_pool.specs.declared.request_parts.RequestParts.{RequestParts}
+use Rattle.mdb_pool.specs.declared.kept.request.Request.{Request}
+use Rattle.mdb_pool.specs.declared.kept.request_parts.RequestParts.{RequestParts}
 use Rattle.mdb_pool.specs.Inner.{Asked, AskedRoom}
 use Rattle.mdb_pool.specs.Kept.{if_lingers, lingers, request_in}
 use Rattle.mdb_pool.specs.Places.{is_done, is_queued}
@@ -28,7 +28,7 @@ pub record AskedSteps : Type 0 where
   pub told : TableSteps ℕ
   pub known : NumberSteps
 
--- the requests and those that are settled, as they are, and what they were read from when they were last settled
+-- the requests and those that are settled, as they are, and what they were read from when they were last committed
 pub record OpenRequests : Type 0 where
   pub now : List Request
   pub settled : List ℕ

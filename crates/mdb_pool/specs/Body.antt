@@ -5,15 +5,15 @@ use Rattle.mdb_slots.specs.Open.{or_else}
 use Rattle.mdb_slots.specs.Table.{items}
 use Rattle.mdb_slots.specs.Sided.{SidedSteps, SidedFits, sided_after, sided_capacity_after}
 use Rattle.mdb_pool.specs.Places.{is_available, is_pending, is_queued}
-use Rattle.mdb_pool.specs.declared.connection.Connection.{Connection}
-use Rattle.mdb_pool.specs.declared.request.Request.{Request}
-use Rattle.mdb_pool.specs.declared.status.Status.{Status}
+use Rattle.mdb_pool.specs.declared.kept.connection.Connection.{Connection}
+use Rattle.mdb_pool.specs.declared.kept.request.Request.{Request}
+use Rattle.mdb_pool.specs.declared.kept.status.Status.{Status}
 use Rattle.mdb_pool.specs.Inner.{PoolShelf, PoolRoom, Inner}
 use Rattle.mdb_pool.specs.Asking.{AskedSteps, asked_after, asked_room_after, AskedFits}
 use Rattle.mdb_pool.specs.Claiming.{ClaimSteps, claimed_after, ClaimsFit}
 use Rattle.mdb_pool.specs.Clearing.{ClearSteps, cleared_after, ClearsFit}
 use Rattle.mdb_pool.specs.Core.{PoolCore}
-use Rattle.mdb_pool.specs.declared.body.Body.{Body}
+use Rattle.mdb_pool.specs.declared.kept.body.Body.{Body}
 
 -- the changes of a pool
 pub record PoolSteps : Type 0 where
@@ -79,7 +79,7 @@ PoolFits p i =
     × ClearsFit (or_else p.created i.base.created) (cleared_after p.clears i.base.clears) (items (sided_after p.connections i.base.connections).table)
     × ClaimsFit (or_else p.created i.base.created) (claimed_after p.claimed i.base.claimed) (items (sided_after p.connections i.base.connections).table)
 
--- the same of the parts of a pool
+-- what the parts of a pool are read from
 abbrev pub base_of : Body → PoolShelf
 base_of b = record {
   pool = b.pool;

@@ -4,19 +4,19 @@ use Rattle.mdb_events.specs.declared.fact.Fact.{Fact}
 use Rattle.mdb_events.specs.declared.fact.Fact.TheVariants.{Granted, Ended}
 use Rattle.mdb_base.specs.declared.error.Error.{Error}
 use Rattle.mdb_base.specs.Errors.{is_timeout}
-use Rattle.mdb_pool.specs.declared.status.Status.{Status}
-use Rattle.mdb_pool.specs.declared.status.Status.TheVariants.{New, Ready, Paused, Closed}
+use Rattle.mdb_pool.specs.declared.kept.status.Status.{Status}
+use Rattle.mdb_pool.specs.declared.kept.status.Status.TheVariants.{New, Ready, Paused, Closed}
 use Rattle.mdb_pool.specs.Facts.{new_pool_error, checked_in_fact, checked_out_fact, checkout_failed_fact, failure_of, closed_fact, created_fact, pool_closed_fact, pool_ready_fact}
 use Rattle.mdb_events.specs.declared.reasons.ConnectionClosedReason.{ConnectionClosedReason}
 use Rattle.mdb_events.specs.declared.reasons.ConnectionClosedReason.TheVariants.{PoolClosed as PoolClosedReason}
 use Rattle.mdb_events.specs.declared.end.End.{End}
 use Rattle.mdb_events.specs.declared.end.End.TheVariants.{GaveUp, Cleared, Closed as ClosedEnd, Warmed, Filled}
 use Rattle.mdb_base.specs.declared.object_id.ObjectId.{ObjectId}
-use Rattle.mdb_pool.specs.declared.request.Phase.{Phase}
-use Rattle.mdb_pool.specs.declared.connection.Connection.{Connection}
-use Rattle.mdb_pool.specs.declared.connection.Place.TheVariants.{Pending, Available, Held, Pinned}
-use Rattle.mdb_pool.specs.declared.request.Request.{Request}
-use Rattle.mdb_pool.specs.declared.request.Phase.TheVariants.{Queued, Given, Over, Ended as EndedPhase}
+use Rattle.mdb_pool.specs.declared.kept.request.Phase.{Phase}
+use Rattle.mdb_pool.specs.declared.kept.connection.Connection.{Connection}
+use Rattle.mdb_pool.specs.declared.kept.connection.Place.TheVariants.{Pending, Available, Held, Pinned}
+use Rattle.mdb_pool.specs.declared.kept.request.Request.{Request}
+use Rattle.mdb_pool.specs.declared.kept.request.Phase.TheVariants.{Queued, Given, Over, Ended as EndedPhase}
 use Rattle.mdb_pool.specs.Core.{PoolCore}
 use Rattle.mdb_slots.specs.Keyed.{put, others, swap}
 use Rattle.mdb_pool.specs.Keyed.{marked}
@@ -262,7 +262,7 @@ raising s m service error = record s {
 abbrev pub ended_request : PoolCore → Request → Request
 ended_request s q = if unserved_in s q.phase then record q { phase = EndedPhase ClosedEnd } else q
 
--- the same of the one with the number alone
+-- of the requests the one with the number ends, where nothing was handed to it
 abbrev pub ended_one : PoolCore → ℕ → List Request
 ended_one s r = map (λ q. if q.number == r then ended_request s q else q) s.requests
 

@@ -2,7 +2,7 @@
 use Rattle.std.specs.Prelude.{ℕ, ◌≡◌, ◌≤◌, ◌<◌, true, false, ⊤, List, [], ◌∷◌, Option}
 use Rattle.mdb_log.specs.Connections.{has}
 use Rattle.mdb_slots.specs.Open.{OpenOne, or_else}
-use Rattle.mdb_pool.specs.declared.connection.Connection.{Connection}
+use Rattle.mdb_pool.specs.declared.kept.connection.Connection.{Connection}
 use Rattle.mdb_pool.specs.Inner.{Claimed}
 use Rattle.mdb_pool.specs.Kept.{ids_where}
 use Rattle.mdb_pool.specs.Places.{is_pending}
@@ -31,7 +31,7 @@ pub record ClaimSteps : Type 0 where
 abbrev pub claimed_after : ClaimSteps → Claimed → Claimed
 claimed_after p k = record { numbers = p.numbers; last = or_else p.last k.last }
 
--- how many connections were created and what is claimed, as it is and as it was when it was last settled
+-- how many connections were created and what is claimed, as it is and as it was when it was last committed
 pub record OpenClaims : Type 0 where
   pub created : OpenOne ℕ
   pub now : Claimed

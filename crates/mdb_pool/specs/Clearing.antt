@@ -4,10 +4,10 @@ use Rattle.std.specs.List.{AllByRecursion}
 use Rattle.mdb_base.specs.declared.object_id.ObjectId.{ObjectId}
 use Rattle.mdb_log.specs.History.{same_service}
 use Rattle.mdb_slots.specs.Open.{or_else}
-use Rattle.mdb_pool.specs.declared.connection.Connection.{Connection}
-use Rattle.mdb_pool.specs.declared.marks.Mark.{Mark}
-use Rattle.mdb_pool.specs.declared.marks.Marks.{Marks}
-use Rattle.mdb_pool.specs.declared.status.Clear.{Clear}
+use Rattle.mdb_pool.specs.declared.kept.connection.Connection.{Connection}
+use Rattle.mdb_pool.specs.declared.kept.marks.Mark.{Mark}
+use Rattle.mdb_pool.specs.declared.kept.marks.Marks.{Marks}
+use Rattle.mdb_pool.specs.declared.kept.status.Clear.{Clear}
 use Rattle.mdb_pool.specs.Inner.{Cleared}
 use Rattle.mdb_pool.specs.Jobs.{has_id}
 use Rattle.mdb_pool.specs.Kept.{connection_in, clears_for, clears_before, timeouts_in}
@@ -61,7 +61,7 @@ pub record ClearSteps : Type 0 where
 abbrev pub cleared_after : ClearSteps → Cleared → Cleared
 cleared_after p k = record { all = p.all; marks = or_else p.marks k.marks }
 
--- what is cleared, as it is and as it was when it was last settled
+-- what is cleared, as it is and as it was when it was last committed
 pub record OpenCleared : Type 0 where
   pub now : Cleared
   pub base : Cleared

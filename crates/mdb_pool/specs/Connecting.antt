@@ -2,13 +2,13 @@
 use Rattle.std.specs.Prelude.{ℕ, List, Option}
 use Rattle.mdb_slots.specs.Open.{OpenOne}
 use Rattle.mdb_slots.specs.Sided.{SidedShelf, SidedSteps, SidedCapacities}
-use Rattle.mdb_pool.specs.declared.connection.Connection.{Connection}
-use Rattle.mdb_pool.specs.declared.status.Clear.{Clear}
+use Rattle.mdb_pool.specs.declared.kept.connection.Connection.{Connection}
+use Rattle.mdb_pool.specs.declared.kept.status.Clear.{Clear}
 use Rattle.mdb_pool.specs.Claiming.{ClaimSteps}
 use Rattle.mdb_pool.specs.Clearing.{ClearSteps}
 use Rattle.mdb_pool.specs.Inner.{Claimed, Cleared}
 
--- the connections, how many were created, what is claimed and what is cleared, as they are and as they were when they were last settled
+-- the connections, how many were created, what is claimed and what is cleared, as they are and as they were when they were last committed
 pub record OpenConnections : Type 0 where
   pub now : List Connection
   pub base : SidedShelf Connection

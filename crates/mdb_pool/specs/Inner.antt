@@ -5,11 +5,11 @@ use Rattle.mdb_log.specs.declared.options.PoolOptions.{PoolOptions}
 use Rattle.mdb_slots.specs.NumberSet.{Spanned}
 use Rattle.mdb_slots.specs.Sided.{SidedShelf, SidedCapacities}
 use Rattle.mdb_slots.specs.Table.{Shelf, Capacities}
-use Rattle.mdb_pool.specs.declared.connection.Connection.{Connection}
-use Rattle.mdb_pool.specs.declared.marks.Marks.{Marks}
-use Rattle.mdb_pool.specs.declared.request.Request.{Request}
-use Rattle.mdb_pool.specs.declared.status.Status.{Status}
-use Rattle.mdb_pool.specs.declared.status.Clear.{Clear}
+use Rattle.mdb_pool.specs.declared.kept.connection.Connection.{Connection}
+use Rattle.mdb_pool.specs.declared.kept.marks.Marks.{Marks}
+use Rattle.mdb_pool.specs.declared.kept.request.Request.{Request}
+use Rattle.mdb_pool.specs.declared.kept.status.Status.{Status}
+use Rattle.mdb_pool.specs.declared.kept.status.Clear.{Clear}
 
 -- the numbers of the connections that are claimed, and the last of them, 0 where there is none
 pub record Claimed : Type 0 where

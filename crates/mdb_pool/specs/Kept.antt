@@ -3,11 +3,11 @@ use Rattle.std.specs.List.{list_any}
 use Rattle.std.specs.Prelude.{ℕ, nat_le, true, Bool, false, ◌&&◌, if◌then◌else◌, nat_lt, ◌-◌, ◌==◌, List, [], ◌∷◌, length, map, filter, find, count_by, Option, Some, None, not, is_some, ◌||◌, ℤ}
 use Rattle.mdb_log.specs.declared.reply.Reply.{Reply}
 use Rattle.mdb_log.specs.declared.reply.Reply.TheVariants.{Waiting, Establishing as EstablishingReply, Pooled, Job, NoJob, Ended as EndedReply}
-use Rattle.mdb_pool.specs.declared.connection.Connection.{Connection}
-use Rattle.mdb_pool.specs.declared.connection.Place.{Place}
-use Rattle.mdb_pool.specs.declared.request.Request.{Request}
-use Rattle.mdb_pool.specs.declared.request.Phase.{Phase}
-use Rattle.mdb_pool.specs.declared.request.Phase.TheVariants.{Queued, Given, Over, Ended as EndedPhase}
+use Rattle.mdb_pool.specs.declared.kept.connection.Connection.{Connection}
+use Rattle.mdb_pool.specs.declared.kept.connection.Place.{Place}
+use Rattle.mdb_pool.specs.declared.kept.request.Request.{Request}
+use Rattle.mdb_pool.specs.declared.kept.request.Phase.{Phase}
+use Rattle.mdb_pool.specs.declared.kept.request.Phase.TheVariants.{Queued, Given, Over, Ended as EndedPhase}
 use Rattle.mdb_pool.specs.Core.{PoolCore}
 use Rattle.mdb_pool.specs.Places.{is_done, is_pending, is_available, is_held, is_at_pin, is_queued}
 use Rattle.mdb_slots.specs.Keyed.{entry_at}
@@ -19,11 +19,11 @@ use Rattle.mdb_base.specs.declared.object_id.ObjectId.{ObjectId}
 use Rattle.mdb_events.specs.declared.end.End.{End}
 use Rattle.mdb_events.specs.declared.reasons.ConnectionClosedReason.{ConnectionClosedReason}
 use Rattle.mdb_events.specs.declared.reasons.ConnectionClosedReason.TheVariants.{Stale, Idle, Error as ErrorReason, Dropped as DroppedReason, PoolClosed as PoolClosedReason}
-use Rattle.mdb_pool.specs.declared.status.Status.{Status}
-use Rattle.mdb_pool.specs.declared.status.Status.TheVariants.{New, Ready, Paused, Closed}
-use Rattle.mdb_pool.specs.declared.status.Clear.{Clear}
-use Rattle.mdb_pool.specs.declared.status.PoolState.{PoolState}
-use Rattle.mdb_pool.specs.declared.status.PoolState.TheVariants.{New as NewState, Ready as ReadyState, Paused as PausedState, Closed as ClosedState}
+use Rattle.mdb_pool.specs.declared.kept.status.Status.{Status}
+use Rattle.mdb_pool.specs.declared.kept.status.Status.TheVariants.{New, Ready, Paused, Closed}
+use Rattle.mdb_pool.specs.declared.kept.status.Clear.{Clear}
+use Rattle.mdb_pool.specs.declared.kept.status.PoolState.{PoolState}
+use Rattle.mdb_pool.specs.declared.kept.status.PoolState.TheVariants.{New as NewState, Ready as ReadyState, Paused as PausedState, Closed as ClosedState}
 use Rattle.mdb_base.specs.declared.error.Error.{Error}
 use Rattle.mdb_log.specs.History.{same_service}
 use Rattle.mdb_log.specs.declared.step.Use.{Use}
@@ -341,7 +341,7 @@ reason_of errored stale dropped =
     else (if dropped then Some DroppedReason
     else None))
 
--- the same in the pool as it is
+-- why a connection is closed at its check-in, in the pool as it is
 abbrev pub reason_now : PoolCore → Connection → Option ConnectionClosedReason
 reason_now s x = if is_shut s.status then Some PoolClosedReason else reason_of x.errored (stale_for s x.id x.service) (is_dropped x.used)
 

@@ -18,7 +18,7 @@ pub mod Matching
 pub mod Jobs
 pub mod Standing
 pub mod Quiet
-pub mod Parts
+pub mod Planning
 pub mod Composing
 pub mod Body
 pub mod Ended

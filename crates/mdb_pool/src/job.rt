@@ -2,8 +2,8 @@
 
 ghost use Rattle.std.specs.Prelude.{◌≡◌, IfOk, Some};
 
-use super::pool_core::PoolCore;
-use super::{Job, PoolGeneration, PoolStamp};
+use crate::pool_core::PoolCore;
+use crate::{Job, PoolGeneration, PoolStamp};
 use mdb_base::{Items, ObjectId, OutOfMemory};
 use std::alloc::{AllocError, Global};
 

@@ -2,14 +2,14 @@
 
 ghost use Rattle.std.specs.Prelude.{◌≡◌, IfOk, true, is_some, nat_lt, option_copied, None, List, if◌then◌else◌, ◌&&◌};
 
-use super::body::Body;
-use super::connections::Connections;
-use super::requests::Requests;
-use super::draft::Draft;
-use super::status::Status;
-use super::{PoolOptions, PoolState};
+use crate::kept::body::Body;
+use crate::kept::connections::Connections;
+use crate::kept::requests::Requests;
+use crate::kept::draft::Draft;
+use crate::kept::status::Status;
+use crate::{PoolOptions, PoolState};
 use mdb_base::{Error, ServerAddress};
-use mdb_slots::{SlotTable, TurnedOne};
+use mdb_slots::{SlotTable, UndoCell};
 use std::alloc::Global;
 use std::marker::Model;
 
@@ -17,7 +17,7 @@ use std::marker::Model;
 /// the pool as it was where there is no memory. In clauses `inner` is what it is read from, which tells the plans that it can follow.
 #[derive(Drop)]
 pub struct PoolCore {
-    pub(super) draft: Draft,
+    pub(crate) draft: Draft,
 }
 
 impl Model for PoolCore {
@@ -60,10 +60,10 @@ impl PoolCore {
                     pool,
                     address,
                     options,
-                    last: TurnedOne::new(0),
+                    last: UndoCell::new(0),
                     connections: Connections::new(alloc),
                     requests: Requests::new(alloc),
-                    status: TurnedOne::new(Status::at_first(options.load_balanced)),
+                    status: UndoCell::new(Status::at_first(options.load_balanced)),
                 },
             },
         }

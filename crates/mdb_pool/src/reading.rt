@@ -4,37 +4,37 @@ ghost use Rattle.std.specs.Prelude.{◌≡◌, is_some, nat_lt, false};
 ghost use Rattle.mdb_log.specs.Connections.{has};
 ghost use Rattle.mdb_pool.specs.Body.{now_of};
 
-use super::body::Body;
-use super::request::Phase;
+use crate::kept::body::Body;
+use crate::kept::request::Phase;
 use mdb_base::ObjectId;
 
 impl Body {
     ghost use Rattle.mdb_pool.specs.Kept.{held_connection, request_at, connection_at, is_pending_at, is_held_at, is_open_now, is_ended_at, pins_at, clears_for, exhausted_now};
 
     // The party asked this pool, or took a pinned connection of it.
-    pub fn knows(&self, party: u32) -> bool
+    pub(crate) fn knows(&self, party: u32) -> bool
         ensures { result ≡ is_some (request_at (now_of self.now) party) }
     {
         self.requests.knows(party)
     }
 
     // The party holds a connection of this pool.
-    pub fn holds(&self, party: u32) -> bool
+    pub(crate) fn holds(&self, party: u32) -> bool
         ensures { result ≡ is_some (held_connection (now_of self.now) party) }
     {
         self.held_connection(party).is_some()
     }
 
     // The request was made at this pool, its outcome was not told yet, and its caller neither gave up nor returned the connection.
-    pub fn is_open(&self, request: u32) -> bool
+    pub(crate) fn is_open(&self, request: u32) -> bool
         ensures { result ≡ is_open_now (now_of self.now) request }
     {
         self.requests.is_open(request)
     }
 
     // The request, which is not settled, ended in another way.
-    #[tactic(auto, using(crate::proofs::Lingering::unsettled_kept))]
-    pub fn is_ended(&self, request: u32) -> bool
+    #[tactic(auto, using(crate::proofs::KeptInLittle::AskedOfThoseThatStay::unsettled_kept))]
+    pub(crate) fn is_ended(&self, request: u32) -> bool
         requires { has request self.now.requests.settled ≡ false }
         ensures { result ≡ is_ended_at (request_at (now_of self.now) request) }
     {
@@ -45,7 +45,7 @@ impl Body {
     }
 
     // The connection isn't established yet.
-    pub fn is_pending(&self, id: u32) -> bool
+    pub(crate) fn is_pending(&self, id: u32) -> bool
         ensures { result ≡ is_pending_at (connection_at (now_of self.now) id) }
     {
         match self.connections.get(id) {
@@ -55,7 +55,7 @@ impl Body {
     }
 
     // The connection is one of this pool, and a party has it since it was established.
-    pub fn is_held(&self, id: u32) -> bool
+    pub(crate) fn is_held(&self, id: u32) -> bool
         ensures { result ≡ is_held_at (connection_at (now_of self.now) id) }
     {
         match self.connections.get(id) {
@@ -65,7 +65,7 @@ impl Body {
     }
 
     // The connection is one of this pool and has a pin.
-    pub fn has_pin(&self, id: u32) -> bool
+    pub(crate) fn has_pin(&self, id: u32) -> bool
         ensures { result ≡ nat_lt 0 (pins_at (connection_at (now_of self.now) id)) }
     {
         match self.connections.get(id) {
@@ -75,14 +75,14 @@ impl Body {
     }
 
     // How often the pool was cleared: for the service, or as a whole where there is none.
-    pub fn generation(&self, service: Option<ObjectId>) -> u64
+    pub(crate) fn generation(&self, service: Option<ObjectId>) -> u64
         ensures { result ≡ clears_for service self.now.connections.clears }
     {
         self.connections.generation(service)
     }
 
     // One more clear would pass the limit of the generation.
-    pub fn is_exhausted(&self, service: Option<ObjectId>) -> bool
+    pub(crate) fn is_exhausted(&self, service: Option<ObjectId>) -> bool
         ensures { result ≡ exhausted_now (now_of self.now) service }
     {
         !self.status.get().is_closed() && self.options.limit_generation <= self.generation(service)

@@ -16,15 +16,15 @@ use Rattle.mdb_shared.proofs.Crossing.{seat_crosses, driver_lends}
 use Rattle.mdb_handles.specs.contracts.spare_seats.SpareSeats as Spare
 use Rattle.mdb_handles.proofs.Crossing.{spare_lends}
 use Rattle.mdb_pool_demo.specs.contracts.hall.Hall as Hall
-use Rattle.mdb_pool_demo.specs.contracts.parts.Part as Part
-use Rattle.mdb_pool_demo.specs.contracts.parts.Played as Played
+use Rattle.mdb_pool_demo.specs.contracts.roles.SeatedRole as SeatedRole
+use Rattle.mdb_pool_demo.specs.contracts.roles.Played as Played
 use Rattle.mdb_pool_demo.proofs.errors.DemoError.TheSendSync.{the_field_send as error}
 use Rattle.mdb_pool_demo.proofs.hall.Hall.TheSendSync.{the_sync as hall}
-use Rattle.mdb_pool_demo.proofs.parts.Role.TheSendSync.{the_field_send as role}
+use Rattle.mdb_pool_demo.proofs.roles.Role.TheSendSync.{the_field_send as role}
 
 module _ (C : RattleType) (g : Core.Ghosts C.Denot) where
-  pub part_crosses : IsSend C → IsSend (Part.the_row C g)
-  part_crosses s = recorded_send (Part.the_field C g).row _ _ (Part.the_type C g).to_one (struct_send (shape (Part.the_type C g)) (seat_crosses C g s, (role, tt)))
+  pub part_crosses : IsSend C → IsSend (SeatedRole.the_row C g)
+  part_crosses s = recorded_send (SeatedRole.the_field C g).row _ _ (SeatedRole.the_type C g).to_one (struct_send (shape (SeatedRole.the_type C g)) (seat_crosses C g s, (role, tt)))
 
   pub played_crosses : IsSend C → IsSend (Played.the_row C g)
   played_crosses s = recorded_send (Played.the_field C g).row _ _ (Played.the_type C g).to_one (struct_send (shape (Played.the_type C g)) (seat_crosses C g s, (search (error, crosses, sendable) depth 20, tt)))

@@ -23,7 +23,7 @@ pub fn number<C: Core, R: Wait>(me: &mut Handle<'_, C, R>) -> Result<u32, DemoEr
     }
 }
 
-/// Why the check-out gave no connection. A request that may be open at want of memory is given up.
+/// Why the check-out gave no connection. A request that may be open where memory runs out is given up.
 pub fn told<C: Core, R: Wait>(
     me: &mut Handle<'_, C, R>,
     request: u32,

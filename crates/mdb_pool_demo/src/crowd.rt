@@ -7,7 +7,7 @@ use crate::closing::fill;
 use crate::counting::{Counts, count};
 use crate::errors::DemoError;
 use crate::opening::{Limits, hello, open};
-use crate::parts::establisher;
+use crate::roles::establisher;
 use mdb_handles::{Handle, SpareSeats};
 use mdb_journal::Journal;
 use mdb_log::{Core, Use};

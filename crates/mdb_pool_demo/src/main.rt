@@ -11,7 +11,7 @@ mod hall;
 mod listening;
 mod measuring;
 mod opening;
-mod parts;
+mod roles;
 mod running;
 mod scenes;
 mod waits;

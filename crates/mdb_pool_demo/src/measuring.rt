@@ -3,7 +3,7 @@
 use crate::counting::{Counts, count};
 use crate::errors::DemoError;
 use crate::opening::Limits;
-use crate::parts::Role;
+use crate::roles::Role;
 use crate::running::Outcome;
 use crate::scenes::scene;
 use mdb_log::{Act, Entry, Log, Reply};

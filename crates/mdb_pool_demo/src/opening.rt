@@ -6,7 +6,7 @@ ghost use Rattle.mdb_topology.specs.Logging.{IsDriverOf};
 
 use crate::errors::DemoError;
 use mdb_base::{AddressError, Items, Moment, ObjectId, Options, ServerAddress};
-use mdb_events::Held;
+use mdb_events::Boxed;
 use mdb_hello::HelloCommandResponse;
 use mdb_log::{Act, HelloResult, Log, Step};
 use mdb_topology::TopologyCore;
@@ -72,7 +72,7 @@ fn greeting() -> HelloCommandResponse {
 fn hello_from(alloc: Global, address: ServerAddress) -> Result<Step, DemoError>
     ensures { IfOk result (λ step. IsDriverAct step.act) }
 {
-    let reply = Held::new(alloc, greeting())?;
+    let reply = Boxed::new(alloc, greeting())?;
     Ok(Step {
         moment: 1,
         act: Act::Hello(address, 0, HelloResult::Ok(5, reply)),

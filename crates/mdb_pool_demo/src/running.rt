@@ -5,7 +5,7 @@ ghost use Rattle.std.specs.Prelude.{◌≡◌, All, IfOk};
 use crate::errors::DemoError;
 use crate::hall::Hall;
 use crate::opening::hello;
-use crate::parts::{Part, Played, Role, play};
+use crate::roles::{SeatedRole, Played, Role, play};
 use mdb_journal::Journal;
 use mdb_log::{Core, Log};
 use mdb_shared::{Seat, SharedDriver};
@@ -31,7 +31,7 @@ fn parts<C: Core>(
     alloc: Global,
     seats: Vec<Seat<C>>,
     roles: &[Role],
-) -> Result<Vec<Part<C>>, DemoError>
+) -> Result<Vec<SeatedRole<C>>, DemoError>
     requires own { All (λ s. s.driver ≡ driver.now.id) seats.items }
     ensures own { IfOk result (λ parts. All (λ p. p.seat.driver ≡ driver.now.id) parts.items) }
 {
@@ -41,7 +41,7 @@ fn parts<C: Core>(
         let Some(role) = roles.get(number) else {
             return Err(DemoError::Seat);
         };
-        parts.push(Part { seat, role: *role })?;
+        parts.push(SeatedRole { seat, role: *role })?;
         number = number.wrapping_add(1);
     }
     Ok(parts)
@@ -69,7 +69,7 @@ fn play_all<C: Core, R: Threads + Wait + Clock + Sync>(
     driver: &SharedDriver<C>,
     rt: &R,
     alloc: Global,
-    parts: Vec<Part<C>>,
+    parts: Vec<SeatedRole<C>>,
     hall: &Hall,
 ) -> Result<Vec<Seat<C>>, DemoError>
     requires own { All (λ p. p.seat.driver ≡ driver.now.id) parts.items }
@@ -78,7 +78,7 @@ fn play_all<C: Core, R: Threads + Wait + Clock + Sync>(
     let played = map_vec(
         rt,
         parts,
-        &move |part: Part<C>| -> Played<C>
+        &move |part: SeatedRole<C>| -> Played<C>
             requires { part.seat.driver ≡ driver.now.id }
             ensures { result.seat.driver ≡ driver.entry.now.id }
         { play(driver, rt, alloc, part, hall) },

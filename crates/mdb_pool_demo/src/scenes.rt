@@ -4,7 +4,7 @@ use crate::counting::{Counts, count};
 use crate::crowd::crowd;
 use crate::errors::DemoError;
 use crate::opening::{Limits, open};
-use crate::parts::Role;
+use crate::roles::Role;
 use crate::running::{Outcome, play_out};
 use std::alloc::Global;
 use std::rt::Clock;

@@ -20,7 +20,7 @@ use Rattle.mdb_proxies.specs.Telling.{tells, ask_of, kept_reply, tell, worth_kee
 use Rattle.mdb_proxies.specs.Recording.{Begun, SameAsks, told_at, tell_at}
 use Rattle.mdb_proxies.specs.Replies.{Replies, Performs, is_collectable, is_held_off, found, kept_for, core_step, tell_if, new_ask}
 use Rattle.mdb_proxies.specs.Tables.{KeptBy, NotedBy, AreMade, blank, note_of, place_of, held_at, is_off_in, standing_if, standings}
-use Rattle.mdb_proxies.proofs.Turned.{charge-is}
+use Rattle.mdb_proxies.proofs.AfterEntry.{charge-is}
 use Rattle.mdb_proxies.specs.declared.asked.Note.{Note}
 use Rattle.mdb_proxies.proofs.Telling.{same_asks}
 use Rattle.mdb_proxies.proofs.Places.{told-is, told-same}

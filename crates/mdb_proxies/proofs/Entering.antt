@@ -9,7 +9,7 @@ use Rattle.mdb_proxies.specs.declared.books.Books.{Books}
 use Rattle.mdb_proxies.specs.Charge.{since, is_held}
 use Rattle.mdb_proxies.specs.Telling.{ask_of, is_finished, reply_to}
 use Rattle.mdb_proxies.specs.Replies.{is_collectable}
-use Rattle.mdb_proxies.specs.Tables.{KeptBy, NotedBy, noted, note_of, turned, place_of}
+use Rattle.mdb_proxies.specs.Tables.{KeptBy, NotedBy, noted, note_of, after_entry, place_of}
 use Rattle.mdb_proxies.proofs.Kept.{keeps-entered}
 use Rattle.mdb_proxies.proofs.Noted.{noted-is, length-notes}
 use Rattle.mdb_proxies.proofs.Places.{Placed, placed, unplaced, note-at, hander, requested-by}
@@ -18,10 +18,10 @@ pub record Entering (more : List Entry) (b : Books) : Type 0 where
   pub keeps : KeptBy more b
   pub noted : NotedBy more b
 
-pub entering : (log more : List Entry) (e n : Entry) (b c : Books) → more ≡ log ++ e ∷ [] → n ≡ e → c.standing.items ≡ turned n b.standing.items
+pub entering : (log more : List Entry) (e n : Entry) (b c : Books) → more ≡ log ++ e ∷ [] → n ≡ e → c.standing.items ≡ after_entry n b.standing.items
     → c.notes.items ≡ noted n (length log) (λ r. get nat_eq b.known r) b.notes.items → c.asks ≡ b.asks → c.known ≡ b.known → KeptBy log b → NotedBy log b → Entering more c
 entering log more e n b c g i s t a k keeps notes = record {
-  keeps = rw (a, k) (keeps-entered log more e b.standing.items c.standing.items b.asks.items (λ r. get nat_eq b.known r) g (s ∙ ap (λ (x : Entry). turned x b.standing.items) i) keeps);
+  keeps = rw (a, k) (keeps-entered log more e b.standing.items c.standing.items b.asks.items (λ r. get nat_eq b.known r) g (s ∙ ap (λ (x : Entry). after_entry x b.standing.items) i) keeps);
   noted = t ∙ ap (λ (x : Entry). noted x (length log) (λ r. get nat_eq b.known r) b.notes.items) i
       ∙ ap (λ (ns : List Note). noted e (length log) (λ r. get nat_eq b.known r) ns) notes
       ∙ sym (noted-is log e b.asks.items (λ r. get nat_eq b.known r) keeps.made keeps.single keeps.placed)

@@ -15,9 +15,9 @@ use Rattle.mdb_proxies.specs.declared.freed.Freed.{Freed}
 use Rattle.mdb_proxies.specs.declared.freed.Freed.TheVariants.{Nowhere, At, Anywhere}
 use Rattle.mdb_proxies.specs.Charge.{requests}
 use Rattle.mdb_proxies.specs.Shares.{share_of}
-use Rattle.mdb_proxies.specs.Tables.{standing_at, charged_at, held_at, charge_in, may_go, some_may_go, sooner_in, next_in, IsBest, fate_of, fated, turned, is_freed, KeepsCharge, goes_elsewhere, IsOnly}
+use Rattle.mdb_proxies.specs.Tables.{standing_at, charged_at, held_at, charge_in, may_go, some_may_go, sooner_in, next_in, IsBest, fate_of, fated, after_entry, is_freed, KeepsCharge, goes_elsewhere, IsOnly}
 use Rattle.mdb_proxies.proofs.Bools.{left, right, first, rest, other, both}
-use Rattle.mdb_proxies.proofs.Within.{standing-is, charge-append, turned-append, handed-fate}
+use Rattle.mdb_proxies.proofs.Within.{standing-is, charge-append, after_entry-append, handed-fate}
 use Rattle.mdb_proxies.proofs.Numbers.{around}
 use Rattle.mdb_proxies.proofs.Hands.{any-same, push-charge}
 
@@ -89,22 +89,22 @@ unheld : (shares : List ℕ) (os : List Standing) (f : Freed) (o : Standing) →
 unheld shares os f o h = rw h refl
 
 -- what an entry leaves of these asks
-pub only-turned : (shares : List ℕ) (e : Entry) (os ps : List Standing) (f m w : Freed) (ls : List Standing) → KeepsCharge m os ps → ((t : ℕ) (a : ServerAddress) → is_freed w t a ≡ false → (is_freed f t a ≡ false) × (is_freed m t a ≡ false))
-    → list_any (goes_elsewhere shares os f) ls ≡ false → list_any (goes_elsewhere shares ps w) (turned e ls) ≡ false
-only-turned shares e os ps f m w [] k s g = refl
-only-turned shares e os ps f m w (o ∷ ls) k s g =
+pub only-after_entry : (shares : List ℕ) (e : Entry) (os ps : List Standing) (f m w : Freed) (ls : List Standing) → KeepsCharge m os ps → ((t : ℕ) (a : ServerAddress) → is_freed w t a ≡ false → (is_freed f t a ≡ false) × (is_freed m t a ≡ false))
+    → list_any (goes_elsewhere shares os f) ls ≡ false → list_any (goes_elsewhere shares ps w) (after_entry e ls) ≡ false
+only-after_entry shares e os ps f m w [] k s g = refl
+only-after_entry shares e os ps f m w (o ∷ ls) k s g =
     go (fate_of e o) (elsewhere-fewer shares os ps f m w o k s (first (goes_elsewhere shares os f o) (list_any (goes_elsewhere shares os f) ls) g))
-    (only-turned shares e os ps f m w ls k s (rest (goes_elsewhere shares os f o) (list_any (goes_elsewhere shares os f) ls) g))
+    (only-after_entry shares e os ps f m w ls k s (rest (goes_elsewhere shares os f o) (list_any (goes_elsewhere shares os f) ls) g))
   where
-    go : (x : Fate) → goes_elsewhere shares ps w o ≡ false → list_any (goes_elsewhere shares ps w) (turned e ls) ≡ false → list_any (goes_elsewhere shares ps w) (fated x o (turned e ls)) ≡ false
-    go Stays h ih = ap (λ (b : Bool). b || list_any (goes_elsewhere shares ps w) (turned e ls)) h ∙ ih
+    go : (x : Fate) → goes_elsewhere shares ps w o ≡ false → list_any (goes_elsewhere shares ps w) (after_entry e ls) ≡ false → list_any (goes_elsewhere shares ps w) (fated x o (after_entry e ls)) ≡ false
+    go Stays h ih = ap (λ (b : Bool). b || list_any (goes_elsewhere shares ps w) (after_entry e ls)) h ∙ ih
     go Charged h ih = ih
     go Gone h ih = ih
 
 -- After an entry what may go stands where a charge fell.
-pub only-after : (shares : List ℕ) (e : Entry) (os ps : List Standing) (f m w : Freed) → ps ≡ turned e os → KeepsCharge m os ps → ((t : ℕ) (a : ServerAddress) → is_freed w t a ≡ false → (is_freed f t a ≡ false) × (is_freed m t a ≡ false))
+pub only-after : (shares : List ℕ) (e : Entry) (os ps : List Standing) (f m w : Freed) → ps ≡ after_entry e os → KeepsCharge m os ps → ((t : ℕ) (a : ServerAddress) → is_freed w t a ≡ false → (is_freed f t a ≡ false) × (is_freed m t a ≡ false))
     → IsOnly shares os f → IsOnly shares ps w
-only-after shares e os ps f m w i k s g = subst (λ (l : List Standing). list_any (goes_elsewhere shares ps w) l ≡ false) (sym i) (only-turned shares e os ps f m w os k s g)
+only-after shares e os ps f m w i k s g = subst (λ (l : List Standing). list_any (goes_elsewhere shares ps w) l ≡ false) (sym i) (only-after_entry shares e os ps f m w os k s g)
 
 none-elsewhere : (shares : List ℕ) (os ls : List Standing) → list_any (may_go shares os) ls ≡ false → list_any (goes_elsewhere shares os Nowhere) ls ≡ false
 none-elsewhere shares os ls h = any-same (goes_elsewhere shares os Nowhere) (may_go shares os) ls (λ o. go (may_go shares os o)) ∙ h
@@ -125,20 +125,20 @@ only-anywhere shares os (o ∷ ls) = go (may_go shares os o) (only-anywhere shar
     go false ih = ih
 
 -- where none could go before an entry, or all is looked at
-pub only-passed : (shares : List ℕ) (e : Entry) (os ps : List Standing) (m : Freed) (behind : Bool) → ps ≡ turned e os → KeepsCharge m os ps → behind ≡ some_may_go shares os → IsOnly shares ps (if behind then Anywhere else m)
+pub only-passed : (shares : List ℕ) (e : Entry) (os ps : List Standing) (m : Freed) (behind : Bool) → ps ≡ after_entry e os → KeepsCharge m os ps → behind ≡ some_may_go shares os → IsOnly shares ps (if behind then Anywhere else m)
 only-passed shares e os ps m true i k b = only-anywhere shares ps ps
 only-passed shares e os ps m false i k b = only-after shares e os ps Nowhere m m i k (λ t a f. (refl, f)) (only-nowhere shares os (sym b))
 
 -- the entry of the ask that stands last, where the others could not go, or all is looked at
-pub only-begun : (shares : List ℕ) (e : Entry) (os stand ps : List Standing) (n : Standing) (m : Freed) (behind : Bool) → stand ≡ os ++ n ∷ [] → ps ≡ turned e stand → n.held ≡ true → requests n.request e.step.act ≡ true → KeepsCharge m stand ps
+pub only-begun : (shares : List ℕ) (e : Entry) (os stand ps : List Standing) (n : Standing) (m : Freed) (behind : Bool) → stand ≡ os ++ n ∷ [] → ps ≡ after_entry e stand → n.held ≡ true → requests n.request e.step.act ≡ true → KeepsCharge m stand ps
     → some_may_go shares os ≡ behind → IsOnly shares ps (if behind then Anywhere else m)
 only-begun shares e os stand ps n m true j i h q k b = only-anywhere shares ps ps
 only-begun shares e os stand ps n m false j i h q k b =
     let same : (y : Standing) → may_go shares stand y ≡ may_go shares os y = λ y. ap (λ c. y.held && nat_lt c (share_of shares y.tenant)) (ap (λ (l : List Standing). charge_in l y.tenant y.address) j ∙ push-charge os n y.tenant y.address h) in
     let before : list_any (goes_elsewhere shares stand Nowhere) os ≡ false = none-elsewhere shares stand os (any-same (may_go shares stand) (may_go shares os) os same ∙ b) in
-    let others : list_any (goes_elsewhere shares ps m) (turned e os) ≡ false = only-turned shares e stand ps Nowhere m m os k (λ t a f. (refl, f)) before in
-    let newest : list_any (goes_elsewhere shares ps m) (turned e (n ∷ [])) ≡ false = elim (handed-fate e n h q) [ inl f ↦ rw f refl | inr f ↦ rw f refl ] in
-    ap (list_any (goes_elsewhere shares ps m)) (i ∙ ap (turned e) j ∙ turned-append e os (n ∷ [])) ∙ list_any-append (goes_elsewhere shares ps m) (turned e os) (turned e (n ∷ [])) ∙ ap (λ b. b || list_any (goes_elsewhere shares ps m) (turned e (n ∷ []))) others ∙ newest
+    let others : list_any (goes_elsewhere shares ps m) (after_entry e os) ≡ false = only-after_entry shares e stand ps Nowhere m m os k (λ t a f. (refl, f)) before in
+    let newest : list_any (goes_elsewhere shares ps m) (after_entry e (n ∷ [])) ≡ false = elim (handed-fate e n h q) [ inl f ↦ rw f refl | inr f ↦ rw f refl ] in
+    ap (list_any (goes_elsewhere shares ps m)) (i ∙ ap (after_entry e) j ∙ after_entry-append e os (n ∷ [])) ∙ list_any-append (goes_elsewhere shares ps m) (after_entry e os) (after_entry e (n ∷ [])) ∙ ap (λ b. b || list_any (goes_elsewhere shares ps m) (after_entry e (n ∷ []))) others ∙ newest
 
 -- ---- the next one
 

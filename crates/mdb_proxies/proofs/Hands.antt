@@ -14,7 +14,7 @@ use Rattle.mdb_proxies.specs.declared.asked.Standing.{Standing}
 use Rattle.mdb_proxies.specs.Charge.{requests}
 use Rattle.mdb_proxies.specs.Shares.{share_of}
 use Rattle.mdb_proxies.specs.Handing.{Entered, IsRequestAt}
-use Rattle.mdb_proxies.specs.Tables.{standing_at, held_at, charge_in, held_in, may_go, some_may_go, turned, AreWithin, Keeps, is_off_in}
+use Rattle.mdb_proxies.specs.Tables.{standing_at, held_at, charge_in, held_in, may_go, some_may_go, after_entry, AreWithin, Keeps, is_off_in}
 use Rattle.mdb_proxies.proofs.Bools.{left, right, first, rest, other}
 use Rattle.mdb_proxies.proofs.Within.{NoneRequested, SingleStandings, handed-within, handed-fewer, standing-is, charge-append, held-uncharged}
 use Rattle.mdb_proxies.proofs.Numbers.{free-none, split-free, single-standings, around}
@@ -41,9 +41,9 @@ hands-on shares log more os ps xs known moment i step reply h m r e k w =
     let free = split-free front back o single in
     let nf : NoneRequested e.entry front = free-none e.entry o.request o.address front act free.0 in
     let nb : NoneRequested e.entry back = free-none e.entry o.request o.address back act free.1 in
-    let within : AreWithin shares (turned e.entry (front ++ o ∷ back)) = handed-within shares e.entry front back o held asked nf nb (subst (λ (l : List Standing). may_go shares l o ≡ true) split goes) (subst (AreWithin shares) split w) in
-    let fewer : held_in (turned e.entry (front ++ o ∷ back)) < held_in (front ++ o ∷ back) = handed-fewer e.entry front back o held asked in
-    let is : ps ≡ turned e.entry (front ++ o ∷ back) = e.after ∙ ap (turned e.entry) split in
+    let within : AreWithin shares (after_entry e.entry (front ++ o ∷ back)) = handed-within shares e.entry front back o held asked nf nb (subst (λ (l : List Standing). may_go shares l o ≡ true) split goes) (subst (AreWithin shares) split w) in
+    let fewer : held_in (after_entry e.entry (front ++ o ∷ back)) < held_in (front ++ o ∷ back) = handed-fewer e.entry front back o held asked in
+    let is : ps ≡ after_entry e.entry (front ++ o ∷ back) = e.after ∙ ap (after_entry e.entry) split in
     record {
       keeps = keeps-entered log more e.entry os ps xs known e.grown e.after k;
       within = subst (AreWithin shares) (sym is) within;

@@ -6,18 +6,18 @@ use Rattle.mdb_log.specs.declared.log.Entry.{Entry}
 use Rattle.mdb_proxies.specs.declared.asked.Asked.{Asked}
 use Rattle.mdb_proxies.specs.declared.asked.Standing.{Standing}
 use Rattle.mdb_proxies.specs.Charge.{is_held, counts, is_requested, is_charged}
-use Rattle.mdb_proxies.specs.Tables.{turned, standing_of, standing_if, standings, is_fresh, place_of, AreSingle, AreMade, Keeps}
+use Rattle.mdb_proxies.specs.Tables.{after_entry, standing_of, standing_if, standings, is_fresh, place_of, AreSingle, AreMade, Keeps}
 use Rattle.mdb_proxies.proofs.Bools.{not-true, left, right, both, swapped}
-use Rattle.mdb_proxies.proofs.Turned.{turned-is}
+use Rattle.mdb_proxies.proofs.AfterEntry.{after_entry-is}
 
 pub made-later : (m n : ℕ) (xs : List Asked) → m ≤ n → AreMade m xs → AreMade n xs
 made-later m n [] h k = tt
 made-later m n (x ∷ xs) h k = (omega (arith, k.0), made-later m n xs h k.1)
 
 -- one more entry
-pub keeps-entered : (log more : List Entry) (e : Entry) (os ps : List Standing) (xs : List Asked) (known : ℕ → Option ℕ) → more ≡ log ++ e ∷ [] → ps ≡ turned e os → Keeps log os xs known → Keeps more ps xs known
+pub keeps-entered : (log more : List Entry) (e : Entry) (os ps : List Standing) (xs : List Asked) (known : ℕ → Option ℕ) → more ≡ log ++ e ∷ [] → ps ≡ after_entry e os → Keeps log os xs known → Keeps more ps xs known
 keeps-entered log more e os ps xs known g t k = subst (λ (l : List Entry). Keeps l ps xs known) (sym g) record {
-  standing = t ∙ ap (turned e) k.standing ∙ sym (turned-is log e xs k.made);
+  standing = t ∙ ap (after_entry e) k.standing ∙ sym (after_entry-is log e xs k.made);
   made = made-later (length log) (length (log ++ e ∷ [])) xs (omega (arith, length-append log (e ∷ []))) k.made;
   single = k.single;
   placed = k.placed;

@@ -1,6 +1,6 @@
 pub mod Bools
 pub mod Logged
-pub mod Turned
+pub mod AfterEntry
 pub mod Within
 pub mod Numbers
 pub mod Telling
@@ -11,7 +11,7 @@ pub mod Entering
 pub mod Hands
 pub mod Freeing
 pub mod Charges
-pub mod TurnLoop
+pub mod AfterEntryLoop
 pub mod Counting
 pub mod Next
 pub mod Going

@@ -288,12 +288,12 @@ same-tell-if false r xs = same_asks xs
 not-held-at : (log : List Entry) (x : Asked) (xs : List Asked) → is_held_at xs log x.tenant x.address ≡ false → AreGone log x xs
 not-held-at log x [] h = tt
 not-held-at log x (y ∷ ys) h = (
-  (λ a. other (is_at x.tenant x.address y) (is_held log y) (turned-about a) (first (is_at x.tenant x.address y && is_held log y) (is_held_at ys log x.tenant x.address) h)),
+  (λ a. other (is_at x.tenant x.address y) (is_held log y) (after_entry-about a) (first (is_at x.tenant x.address y && is_held log y) (is_held_at ys log x.tenant x.address) h)),
   not-held-at log x ys (rest (is_at x.tenant x.address y && is_held log y) (is_held_at ys log x.tenant x.address) h),
 )
   where
-    turned-about : is_at y.tenant y.address x ≡ true → is_at x.tenant x.address y ≡ true
-    turned-about a =
+    after_entry-about : is_at y.tenant y.address x ≡ true → is_at x.tenant x.address y ≡ true
+    after_entry-about a =
         let is = at-is y.tenant y.address x a in
         let one : ((x.tenant == x.tenant) && same_address x.address x.address) ≡ true = subst (λ (t : ℕ). ((x.tenant == t) && same_address x.address x.address) ≡ true) (sym is.0) (subst (λ (z : ServerAddress). ((x.tenant == y.tenant) && same_address x.address z) ≡ true) (sym is.1) a) in
         subst (λ (z : ServerAddress). ((y.tenant == x.tenant) && same_address z x.address) ≡ true) is.1 (subst (λ (t : ℕ). ((t == x.tenant) && same_address x.address x.address) ≡ true) is.0 one)
@@ -387,7 +387,7 @@ performs-order m shares old new log more (Finish r used) reply k s h p f = told-
 performs-order m shares old new log more (Pass act) reply k s h p f =
     told-order m shares old new log more (core_step m (Pass act)) reply None (subst (λ (l : List Asked). SameAsks old l) (sym p.asks) (same_asks old)) k s (passed-own act (passed-of (is_passed act) h)) p.replied f
 
--- So does a step that wants for memory, which changes nothing.
+-- So does a step that runs out of memory, which changes nothing.
 pub acts-order : {E : Type 0} (m : ℕ) (shares : List ℕ) (old new : List Asked) (log more : List Entry) (act : ProxyAct) (r : Result ProxyReply E) → AreMade (length log) old → AreSingle old → refusal_by shares old log act ≡ None → IsFirstCome log old
     → IfOk r (λ reply. Performs m shares old new log more act reply) → OnErr r ((more ≡ log) × (new ≡ old)) → IsFirstCome more new
 acts-order m shares old new log more act (Ok reply) k s h f p e = performs-order m shares old new log more act reply k s h p f

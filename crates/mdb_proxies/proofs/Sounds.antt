@@ -18,8 +18,8 @@ use Rattle.mdb_proxies.specs.Charge.{requests}
 use Rattle.mdb_proxies.specs.Shares.{share_of, are_shares}
 use Rattle.mdb_proxies.specs.Handing.{Entered, IsRequestAt}
 use Rattle.mdb_proxies.specs.Recording.{Recorded, SameAsks}
-use Rattle.mdb_proxies.specs.Tables.{blank, notes_of, may_go, some_may_go, is_off_in, fate_of, turned, standing_of, standings, is_fresh, place_of, AreMade, AreSingle, AreWithin, Keeps, Sound}
-use Rattle.mdb_proxies.proofs.Within.{NoneRequested, turned-append}
+use Rattle.mdb_proxies.specs.Tables.{blank, notes_of, may_go, some_may_go, is_off_in, fate_of, after_entry, standing_of, standings, is_fresh, place_of, AreMade, AreSingle, AreWithin, Keeps, Sound}
+use Rattle.mdb_proxies.proofs.Within.{NoneRequested, after_entry-append}
 use Rattle.mdb_proxies.proofs.Numbers.{free-none, free-standings}
 use Rattle.mdb_proxies.proofs.Kept.{keeps-entered, keeps-recorded, keeps-forgotten, left-single}
 use Rattle.mdb_proxies.proofs.Hands.{HandsOn, hands-on, push-charge, push-within, off-stays, on-goes}
@@ -89,11 +89,11 @@ refused-fate e o f q = rw (q, f) (go o.held)
     go false = refl
 
 -- a refused entry that requests none of them changes nothing
-pub refused-same : (e : Entry) (os : List Standing) → is_refusal e.reply ≡ true → NoneRequested e os → turned e os ≡ os
+pub refused-same : (e : Entry) (os : List Standing) → is_refusal e.reply ≡ true → NoneRequested e os → after_entry e os ≡ os
 refused-same e [] f n = refl
 refused-same e (o ∷ os) f n = rw (refused-fate e o f n.0) (ap (λ (l : List Standing). o ∷ l) (refused-same e os f n.1))
 
-refused-gone : (e : Entry) (o : Standing) → o.held ≡ true → requests o.request e.step.act ≡ true → is_refusal e.reply ≡ true → turned e (o ∷ []) ≡ []
+refused-gone : (e : Entry) (o : Standing) → o.held ≡ true → requests o.request e.step.act ≡ true → is_refusal e.reply ≡ true → after_entry e (o ∷ []) ≡ []
 refused-gone e o h q f = rw (h, q, f) refl
 
 -- what the core said of the newest ask
@@ -132,8 +132,8 @@ sound-refused log more shares b c xs x ps moment i step reply a j s l r n f ca c
     let e : Entry = n.entry in
     let is : Newest log xs x e reply = newest-asked log more xs x b.standing.items ps moment i step reply j fresh l r n in
     let refused : is_refusal e.reply ≡ true = ap is_refusal is.replied ∙ f in
-    let unchanged : turned e os ≡ os = refused-same e os refused is.others in
-    let left : ps ≡ os = n.after ∙ ap (turned e) j ∙ turned-append e os (o ∷ []) ∙ ap (λ (l : List Standing). turned e os ++ l) (refused-gone e o refl is.asked refused) ∙ append-nil (turned e os) ∙ unchanged in
+    let unchanged : after_entry e os ≡ os = refused-same e os refused is.others in
+    let left : ps ≡ os = n.after ∙ ap (after_entry e) j ∙ after_entry-append e os (o ∷ []) ∙ ap (λ (l : List Standing). after_entry e os ++ l) (refused-gone e o refl is.asked refused) ∙ append-nil (after_entry e os) ∙ unchanged in
     let knows : ℕ → Option ℕ = λ r. if r == x.request then None else get nat_eq b.known r in
     let before : Keeps log os xs knows = keeps-forgotten log b.standing.items os xs x (λ r. get nat_eq b.known r) knows refl (λ r. refl) kept in
     let after : Keeps more ps xs knows = keeps-entered log more e os ps xs knows n.grown (left ∙ sym unchanged) before in

@@ -12,7 +12,7 @@ use Rattle.mdb_proxies.specs.declared.books.Fate.TheVariants.{Stays, Charged, Go
 use Rattle.mdb_proxies.specs.Shares.{share_of}
 use Rattle.mdb_proxies.specs.Charge.{requests, ends, settles}
 use Rattle.mdb_proxies.proofs.Bools.{left, right}
-use Rattle.mdb_proxies.specs.Tables.{standing_at, charged_at, charge_in, held_in, may_go, fate_of, fated, turned, AreWithin}
+use Rattle.mdb_proxies.specs.Tables.{standing_at, charged_at, charge_in, held_in, may_go, fate_of, fated, after_entry, AreWithin}
 
 -- ---- entries that are none of the requests of the standing asks
 
@@ -37,16 +37,16 @@ quiet-fate e o h = rw h (go o.held (settles o.request e))
     go false false = inl refl
 
 -- an entry that requests none of them adds nothing to the charge
-pub quiet-charge : (e : Entry) (os : List Standing) (t : ℕ) (a : ServerAddress) → NoneRequested e os → charge_in (turned e os) t a ≤ charge_in os t a
+pub quiet-charge : (e : Entry) (os : List Standing) (t : ℕ) (a : ServerAddress) → NoneRequested e os → charge_in (after_entry e os) t a ≤ charge_in os t a
 quiet-charge e [] t a n = omega arith
 quiet-charge e (o ∷ os) t a n =
-    let ih : charge_in (turned e os) t a ≤ charge_in os t a = quiet-charge e os t a n.1 in
+    let ih : charge_in (after_entry e os) t a ≤ charge_in os t a = quiet-charge e os t a n.1 in
     elim (quiet-fate e o n.0) [
-      | inl i ↦ rw i (more (charged_at t a o) (charge_in (turned e os) t a) (charge_in os t a) ih)
-      | inr i ↦ rw i (less (charged_at t a o) (charge_in (turned e os) t a) (charge_in os t a) ih)
+      | inl i ↦ rw i (more (charged_at t a o) (charge_in (after_entry e os) t a) (charge_in os t a) ih)
+      | inr i ↦ rw i (less (charged_at t a o) (charge_in (after_entry e os) t a) (charge_in os t a) ih)
     ]
 
-pub quiet-within : (shares : List ℕ) (e : Entry) (os : List Standing) → NoneRequested e os → AreWithin shares os → AreWithin shares (turned e os)
+pub quiet-within : (shares : List ℕ) (e : Entry) (os : List Standing) → NoneRequested e os → AreWithin shares os → AreWithin shares (after_entry e os)
 quiet-within shares e os n w = λ t a. omega (arith, quiet-charge e os t a n, w t a)
 
 -- ---- the entry of an ask that is handed on
@@ -63,9 +63,9 @@ fated-append Stays o xs ys = refl
 fated-append Charged o xs ys = refl
 fated-append Gone o xs ys = refl
 
-pub turned-append : (e : Entry) (xs ys : List Standing) → turned e (xs ++ ys) ≡ turned e xs ++ turned e ys
-turned-append e [] ys = refl
-turned-append e (o ∷ xs) ys = ap (fated (fate_of e o) o) (turned-append e xs ys) ∙ fated-append (fate_of e o) o (turned e xs) (turned e ys)
+pub after_entry-append : (e : Entry) (xs ys : List Standing) → after_entry e (xs ++ ys) ≡ after_entry e xs ++ after_entry e ys
+after_entry-append e [] ys = refl
+after_entry-append e (o ∷ xs) ys = ap (fated (fate_of e o) o) (after_entry-append e xs ys) ∙ fated-append (fate_of e o) o (after_entry e xs) (after_entry e ys)
 
 plus-if : (b : Bool) (k m n : ℕ) → k ≡ m + n → (if b then 1 + k else k) ≡ (if b then 1 + m else m) + n
 plus-if true k m n h = omega (arith, h)
@@ -113,27 +113,27 @@ may-below true m n h = (Decides-ltb m n).0 h
 may-below false m n h = absurd (let k : false ≡ true = h in cc)
 
 handed-share : (shares : List ℕ) (e : Entry) (front back : List Standing) (o : Standing) (t : ℕ) (a : ServerAddress) → o.held ≡ true → requests o.request e.step.act ≡ true → NoneRequested e front → NoneRequested e back
-    → may_go shares (front ++ o ∷ back) o ≡ true → charge_in (front ++ o ∷ back) t a ≤ share_of shares t → charge_in (turned e (front ++ o ∷ back)) t a ≤ share_of shares t
+    → may_go shares (front ++ o ∷ back) o ≡ true → charge_in (front ++ o ∷ back) t a ≤ share_of shares t → charge_in (after_entry e (front ++ o ∷ back)) t a ≤ share_of shares t
 handed-share shares e front back o t a h q nf nb m w = go (standing_at t a o) refl
   where
     before : charge_in (front ++ o ∷ back) t a ≡ charge_in front t a + charge_in back t a
     before = charge-append front (o ∷ back) t a ∙ ap (λ n. charge_in front t a + n) (held-uncharged o back t a h)
 
-    after : charge_in (turned e (front ++ o ∷ back)) t a ≡ charge_in (turned e front) t a + charge_in (fated (fate_of e o) o (turned e back)) t a
-    after = ap (λ os. charge_in os t a) (turned-append e front (o ∷ back)) ∙ charge-append (turned e front) (turned e (o ∷ back)) t a
+    after : charge_in (after_entry e (front ++ o ∷ back)) t a ≡ charge_in (after_entry e front) t a + charge_in (fated (fate_of e o) o (after_entry e back)) t a
+    after = ap (λ os. charge_in os t a) (after_entry-append e front (o ∷ back)) ∙ charge-append (after_entry e front) (after_entry e (o ∷ back)) t a
 
-    go : (b : Bool) → standing_at t a o ≡ b → charge_in (turned e (front ++ o ∷ back)) t a ≤ share_of shares t
-    go false i = omega (arith, before, after, w, quiet-charge e front t a nf, quiet-charge e back t a nb, handed-charge e o (turned e back) t a false h q i)
+    go : (b : Bool) → standing_at t a o ≡ b → charge_in (after_entry e (front ++ o ∷ back)) t a ≤ share_of shares t
+    go false i = omega (arith, before, after, w, quiet-charge e front t a nf, quiet-charge e back t a nb, handed-charge e o (after_entry e back) t a false h q i)
     go true i =
         let is : (o.tenant ≡ t) × (o.address ≡ a) = standing-is t a o i in
         let own : charge_in (front ++ o ∷ back) o.tenant o.address < share_of shares o.tenant = may-below o.held (charge_in (front ++ o ∷ back) o.tenant o.address) (share_of shares o.tenant) m in
         let there : charge_in (front ++ o ∷ back) t o.address < share_of shares t = subst (λ (k : ℕ). charge_in (front ++ o ∷ back) k o.address < share_of shares k) is.0 own in
         let here : charge_in (front ++ o ∷ back) t a < share_of shares t = subst (λ (x : ServerAddress). charge_in (front ++ o ∷ back) t x < share_of shares t) is.1 there in
-        omega (arith, before, after, here, quiet-charge e front t a nf, quiet-charge e back t a nb, handed-charge e o (turned e back) t a true h q i)
+        omega (arith, before, after, here, quiet-charge e front t a nf, quiet-charge e back t a nb, handed-charge e o (after_entry e back) t a true h q i)
 
 -- An ask that may go keeps its tenant within its share.
 pub handed-within : (shares : List ℕ) (e : Entry) (front back : List Standing) (o : Standing) → o.held ≡ true → requests o.request e.step.act ≡ true → NoneRequested e front → NoneRequested e back
-    → may_go shares (front ++ o ∷ back) o ≡ true → AreWithin shares (front ++ o ∷ back) → AreWithin shares (turned e (front ++ o ∷ back))
+    → may_go shares (front ++ o ∷ back) o ≡ true → AreWithin shares (front ++ o ∷ back) → AreWithin shares (after_entry e (front ++ o ∷ back))
 handed-within shares e front back o h q nf nb m w = λ t a. handed-share shares e front back o t a h q nf nb m (w t a)
 
 -- ---- fewer are held back
@@ -143,18 +143,18 @@ any-held Stays o m os ps h = more o.held (held_in ps) (held_in os) h
 any-held Charged o m os ps h = less o.held (held_in ps) (held_in os) h
 any-held Gone o m os ps h = less o.held (held_in ps) (held_in os) h
 
-pub turned-held : (e : Entry) (os : List Standing) → held_in (turned e os) ≤ held_in os
-turned-held e [] = omega arith
-turned-held e (o ∷ os) = any-held (fate_of e o) o 0 os (turned e os) (turned-held e os)
+pub after_entry-held : (e : Entry) (os : List Standing) → held_in (after_entry e os) ≤ held_in os
+after_entry-held e [] = omega arith
+after_entry-held e (o ∷ os) = any-held (fate_of e o) o 0 os (after_entry e os) (after_entry-held e os)
 
 handed-held : (e : Entry) (o : Standing) (os : List Standing) → o.held ≡ true → requests o.request e.step.act ≡ true → held_in (fated (fate_of e o) o os) ≡ held_in os
 handed-held e o os h q = elim (handed-fate e o h q) [ inl f ↦ rw f refl | inr f ↦ rw f refl ]
 
-pub handed-fewer : (e : Entry) (front back : List Standing) (o : Standing) → o.held ≡ true → requests o.request e.step.act ≡ true → held_in (turned e (front ++ o ∷ back)) < held_in (front ++ o ∷ back)
+pub handed-fewer : (e : Entry) (front back : List Standing) (o : Standing) → o.held ≡ true → requests o.request e.step.act ≡ true → held_in (after_entry e (front ++ o ∷ back)) < held_in (front ++ o ∷ back)
 handed-fewer e front back o h q =
     let one : held_in (o ∷ back) ≡ 1 + held_in back = rw h refl in
-    let after : held_in (turned e (front ++ o ∷ back)) ≡ held_in (turned e front) + held_in (fated (fate_of e o) o (turned e back)) = ap held_in (turned-append e front (o ∷ back)) ∙ held-append (turned e front) (turned e (o ∷ back)) in
-    omega (arith, one, after, held-append front (o ∷ back), handed-held e o (turned e back) h q, turned-held e front, turned-held e back)
+    let after : held_in (after_entry e (front ++ o ∷ back)) ≡ held_in (after_entry e front) + held_in (fated (fate_of e o) o (after_entry e back)) = ap held_in (after_entry-append e front (o ∷ back)) ∙ held-append (after_entry e front) (after_entry e (o ∷ back)) in
+    omega (arith, one, after, held-append front (o ∷ back), handed-held e o (after_entry e back) h q, after_entry-held e front, after_entry-held e back)
 
 -- ---- numbers
 

@@ -61,9 +61,9 @@ fated Charged o os = record o { held = false } ∷ os
 fated Gone o os = os
 
 -- the standing asks after one more entry
-abbrev pub turned : Entry → List Standing → List Standing
-turned e [] = []
-turned e (o ∷ os) = fated (fate_of e o) o (turned e os)
+abbrev pub after_entry : Entry → List Standing → List Standing
+after_entry e [] = []
+after_entry e (o ∷ os) = fated (fate_of e o) o (after_entry e os)
 
 abbrev pub standing_of : Asked → Bool → Standing
 standing_of x h = record { tenant = x.tenant; request = x.request; address = x.address; held = h }

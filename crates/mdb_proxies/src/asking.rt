@@ -10,14 +10,14 @@ ghost use Rattle.mdb_proxies.specs.Tables.{Sound, some_may_go, is_off_in, is_fre
 
 use crate::asked::Asked;
 use crate::books::{charge, holds_back, is_refused, share_of};
-use crate::handing::Parts;
+use crate::handing::ProxyState;
 use crate::step::ProxyReply;
 use crate::told::tells;
 use mdb_base::{Moment, OutOfMemory, ServerAddress};
 use mdb_log::Core;
 use std::alloc::Global;
 
-impl<C: Core> Parts<C> {
+impl<C: Core> ProxyState<C> {
     // The ask that was just recorded is handed on at once.
     fn begin(&mut self, alloc: Global, moment: Moment) -> Result<ProxyReply, OutOfMemory>
         requires stands { C.stands self.old.core self.old.log }

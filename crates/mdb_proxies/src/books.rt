@@ -6,7 +6,7 @@ ghost use Rattle.mdb_log.specs.Driver.{is_refusal};
 ghost use Rattle.mdb_proxies.specs.Shares.{share_of};
 ghost use Rattle.mdb_proxies.specs.Charge.{requests, returns, is_end, ends, settles};
 ghost use Rattle.mdb_proxies.specs.declared.asked.Standing.{Standing as StandingRecord};
-ghost use Rattle.mdb_proxies.specs.Tables.{charged_at, held_at, charge_in, may_go, IsBest, fate_of, turned, KeepsCharge};
+ghost use Rattle.mdb_proxies.specs.Tables.{charged_at, held_at, charge_in, may_go, IsBest, fate_of, after_entry, KeepsCharge};
 
 use crate::asked::{Asked, Note, Standing};
 use crate::freed::Freed;
@@ -181,8 +181,8 @@ fn fate_by(standing: &Standing, entry: &Entry) -> Fate
 }
 
 // What the newest entry makes of the standing asks, and where it frees some of a share.
-pub fn turn(standing: &mut Vec<Standing>, entry: &Entry) -> Freed
-    ensures turned { standing.new.items ≡ turned entry.now standing.old.items }
+pub fn take_entry(standing: &mut Vec<Standing>, entry: &Entry) -> Freed
+    ensures after_entry { standing.new.items ≡ after_entry entry.now standing.old.items }
     ensures freed { KeepsCharge result standing.old.items standing.new.items }
 {
     let mut freed = Freed::Nowhere;

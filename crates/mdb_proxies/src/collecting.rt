@@ -11,14 +11,14 @@ ghost use Rattle.mdb_proxies.specs.Replies.{Performs, is_collectable};
 ghost use Rattle.mdb_proxies.specs.Recording.{told_at, tell_at};
 ghost use Rattle.mdb_proxies.specs.Tables.{Sound, some_may_go};
 
-use crate::handing::Parts;
+use crate::handing::ProxyState;
 use crate::step::ProxyReply;
 use crate::told::tells;
 use mdb_base::{Moment, OutOfMemory};
 use mdb_log::{Act, Core, Reply, Use};
 use std::alloc::Global;
 
-impl<C: Core> Parts<C> {
+impl<C: Core> ProxyState<C> {
     // The caller of the ask at this place was told what it came to, if so.
     fn tell(&mut self, place: usize, told: bool)
         requires place { place < length self.old.books.asks.items }

@@ -20,7 +20,7 @@ use std::alloc::Global;
 
 // The parts of a proxy.
 #[derive(Drop)]
-pub struct Parts<C: Core> {
+pub struct ProxyState<C: Core> {
     pub core: C,
     pub log: Log,
     pub shares: Vec<u32>,
@@ -68,7 +68,7 @@ fn enter<C: Core>(
 {
     let at = log.len();
     let reply = step_whole(core, alloc, log, 0, step)?;
-    let freed = books.turn(newest(log), at);
+    let freed = books.take_entry(newest(log), at);
     Ok((reply, freed))
 }
 
@@ -106,7 +106,7 @@ fn hand_on<C: Core>(
     entered
 }
 
-impl<C: Core> Parts<C> {
+impl<C: Core> ProxyState<C> {
     // Hands on the asks that lag, until none is left or memory runs out. Only those lag that stand where some of a share was freed.
     pub fn go_on(&mut self, alloc: Global, moment: Moment, freed: Freed) -> Handed
         requires stands { C.stands self.old.core self.old.log }
@@ -154,7 +154,7 @@ impl<C: Core> Parts<C> {
         Handed { some, short: false }
     }
 
-    // Goes on where some ask lags. `OutOfMemory` where none was handed on for want of memory.
+    // Goes on where some ask lags. `OutOfMemory` where none was handed on for lack of memory.
     pub fn catch_up(&mut self, alloc: Global, moment: Moment) -> Result<(), OutOfMemory>
         requires stands { C.stands self.old.core self.old.log }
         requires sound { Sound self.old.log self.old.shares.items self.old.books }

@@ -2,10 +2,10 @@
 
 ghost use Rattle.std.specs.Prelude.{◌≡◌, ℕ, ◌+◌, ◌∷◌, [], ◌++◌, length, nat_eq};
 ghost use Rattle.std.specs.HashMap.{get};
-ghost use Rattle.mdb_proxies.specs.Tables.{handed_at, taken_back, noted_at, noted, turned, KeepsCharge};
+ghost use Rattle.mdb_proxies.specs.Tables.{handed_at, taken_back, noted_at, noted, after_entry, KeepsCharge};
 
 use crate::asked::Note;
-use crate::books::{Books, is_refused, turn};
+use crate::books::{Books, is_refused, take_entry};
 use crate::freed::Freed;
 use mdb_log::{Act, Entry};
 
@@ -89,14 +89,14 @@ impl Books {
     }
 
     // What the newest entry, at this place of the log, makes of the books, and where it frees some of a share.
-    pub fn turn(&mut self, entry: &Entry, at: usize) -> Freed
+    pub fn take_entry(&mut self, entry: &Entry, at: usize) -> Freed
         ensures notes { self.new.notes.items ≡ noted entry.now at (λ r. get nat_eq self.old.known r) self.old.notes.items }
         ensures asks { self.new.asks ≡ self.old.asks }
-        ensures standing { self.new.standing.items ≡ turned entry.now self.old.standing.items }
+        ensures standing { self.new.standing.items ≡ after_entry entry.now self.old.standing.items }
         ensures known { self.new.known ≡ self.old.known }
         ensures freed { KeepsCharge result self.old.standing.items self.new.standing.items }
     {
         self.note(entry, at);
-        turn(&mut self.standing, entry)
+        take_entry(&mut self.standing, entry)
     }
 }

@@ -12,7 +12,7 @@ ghost use Rattle.mdb_proxies.specs.View.{KeepsShares};
 
 use crate::asked::Asked;
 use crate::books::Books;
-use crate::handing::Parts;
+use crate::handing::ProxyState;
 use crate::passed::is_passed;
 use crate::shares::{ShareError, are_shares};
 use crate::step::{Answer, ProxyAct, ProxyRefused, ProxyReply, ProxyStep};
@@ -25,7 +25,7 @@ use std::marker::Model;
 /// address, and is held back otherwise. So no tenant waits because of the connections of another.
 #[derive(Drop)]
 pub struct Proxy<C: Core> {
-    parts: Parts<C>,
+    parts: ProxyState<C>,
 }
 
 impl<C: Core> Model for Proxy<C> {
@@ -45,7 +45,7 @@ impl<C: Core> Model for Proxy<C> {
     ghost invariant = { λ p. C.stands p.parts.core p.parts.log × Sound p.parts.log p.parts.shares.items p.parts.books × (p.parts.behind ≡ some_may_go p.parts.shares.items p.parts.books.standing.items) × IsFirstCome p.parts.log p.parts.books.asks.items };
 }
 
-impl<C: Core> Parts<C> {
+impl<C: Core> ProxyState<C> {
     // Why the act is refused, whatever its moment.
     fn refusal_by(&self, act: &ProxyAct) -> Option<ProxyRefused>
         requires sound { Sound self.now.log self.now.shares.items self.now.books }
@@ -172,7 +172,7 @@ impl<C: Core> Proxy<C> {
             return Err(ShareError::Shares);
         }
         Ok(Proxy {
-            parts: Parts {
+            parts: ProxyState {
                 core,
                 log,
                 shares,
@@ -209,7 +209,7 @@ impl<C: Core> Proxy<C> {
         ensures stands { C.stands result.0 result.1 }
     {
         let Proxy { parts } = self;
-        let Parts {
+        let ProxyState {
             core,
             log,
             shares,
@@ -231,7 +231,7 @@ impl<C: Core> Proxy<C> {
         // What is not refused is answered by the proxy where the request is held back or its reply was kept, and else by the core.
         ensures performs { IfOk result (λ answer. refusal_of self.old step ≡ None → Performs step.moment self.old.shares self.old.asks self.new.asks self.old.log self.new.log step.act answer.reply) }
 
-        // A want of memory that is told changed nothing.
+        // A lack of memory that is told changed nothing.
         ensures err { OnErr result ((refusal_of self.old step ≡ None) × (self.new ≡ self.old)) }
         ensures keeps { KeepsShares self.new }
 

@@ -6,7 +6,7 @@ ghost use Rattle.mdb_log.specs.Driver.{is_refusal};
 ghost use Rattle.mdb_proxies.specs.Telling.{tells, worth_keeping};
 
 use crate::books::{Books, is_refused};
-use crate::handing::Parts;
+use crate::handing::ProxyState;
 use mdb_base::OutOfMemory;
 use mdb_log::{Core, Reply};
 
@@ -74,7 +74,7 @@ impl Books {
     }
 }
 
-impl<C: Core> Parts<C> {
+impl<C: Core> ProxyState<C> {
     // The reply that is kept for the caller of the ask at this place, which the entry at the other place of the log handed on.
     pub fn kept(&self, place: usize, at: usize) -> Result<Option<Reply>, OutOfMemory>
         requires place { place < length self.now.books.asks.items }

@@ -99,8 +99,8 @@ distinct-charged log a (x ∷ xs) rs d each = go (is_charged_at log a x) refl (d
             let k : (has r rs && not (x.request == r)) ≡ true = sym (has-without-is r x.request rs) ∙ h in
             let there : has r rs ≡ true = grind arith in
             let other : (x.request == r) ≡ false = grind arith in
-            let turned : (r == x.request) ≡ false = grind arith in
-            later true i r there (rw turned refl)
+            let after_entry : (r == x.request) ≡ false = grind arith in
+            later true i r there (rw after_entry refl)
 
 -- ---- tenants
 

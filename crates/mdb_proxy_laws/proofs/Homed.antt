@@ -26,7 +26,7 @@ use Rattle.mdb_topology.specs.declared.topology.TopologyCore.{TopologyCore}
 use Rattle.mdb_topology.specs.Lines.{entry_after}
 use Rattle.mdb_topology.specs.Logging.{opening_step, Stood, AreDriven, IsDriverOf}
 use Rattle.mdb_topology.specs.Standing.{home, is_open_at, at_address, PoolsFit}
-use Rattle.mdb_topology.proofs.Lists.{position-at, position-within}
+use Rattle.mdb_topology.proofs.General.OneElement.{position-at, position-within}
 use Rattle.mdb_histories.proofs.OfPlain.Frames.{asks, asked-act}
 use Rattle.mdb_proxies.proofs.Bools.{left, right}
 use Rattle.mdb_proxies.proofs.Within.{same-address}

@@ -29,8 +29,8 @@ use Rattle.mdb_topology.specs.declared.topology.TopologyCore.{TopologyCore}
 use Rattle.mdb_topology.specs.Logging.{IsDriverOf}
 use Rattle.mdb_topology.specs.Standing.{PoolFits, PoolsStand}
 use Rattle.mdb_pool.specs.Core.{PoolCore}
-use Rattle.mdb_pool.proofs.Places.{one-place}
-use Rattle.mdb_pool.proofs.Served.{served-settled}
+use Rattle.mdb_pool.proofs.Histories.OnePlaceEach.{one-place}
+use Rattle.mdb_pool.proofs.Turns.NoMove.{served-settled}
 use Rattle.mdb_histories.specs.SoundHistory.{SoundHistory}
 use Rattle.mdb_histories.proofs.Logs.{driver-sound}
 use Rattle.mdb_histories.proofs.Parties.{each-sound}

@@ -23,7 +23,7 @@ use Rattle.mdb_topology.specs.Homes.{home_of, begun}
 use Rattle.mdb_topology.specs.Monitors.{heartbeat}
 use Rattle.mdb_topology.specs.Publishing.{told_by}
 use Rattle.mdb_topology.specs.Turns.{in_turn}
-use Rattle.mdb_topology.proofs.Heartbeats.{heartbeat-calm}
+use Rattle.mdb_topology.proofs.OfMonitors.FactsOfCheck.{heartbeat-calm}
 use Rattle.mdb_histories.proofs.Troubles.{asking-calm}
 use Rattle.mdb_proxy_laws.proofs.Uncreating.{IsUncreating, AreUncreating, is_maintaining, calm-uncreating, act-uncreating}
 use Rattle.mdb_proxy_laws.proofs.Published.{PartsUncreating, told-uncreating, clearing-uncreating}

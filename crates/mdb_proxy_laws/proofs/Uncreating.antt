@@ -19,8 +19,8 @@ use Rattle.mdb_log.specs.Connections.{pending_list, available_list, known_servic
 use Rattle.mdb_log.specs.Requests.{requests, queued, end_of, is_warm, is_unserved}
 use Rattle.mdb_log.specs.State.{State, is_new, is_ready, is_paused, is_closed, state_of}
 use Rattle.mdb_pool.specs.Facts.{new_pool_error, close_reason, closes, closed_fact, pool_closed_fact, end_facts, all_ends, overdue, check_in, come_back, fail_requester, hand_over, clear_facts, close_facts, turned_away, readied, act_facts}
-use Rattle.mdb_topology.proofs.Same.{IsCalm}
-use Rattle.mdb_topology.proofs.Heartbeats.{AreCalm}
+use Rattle.mdb_topology.proofs.OnePool.SameHistories.{IsCalm}
+use Rattle.mdb_topology.proofs.OfMonitors.FactsOfCheck.{AreCalm}
 
 abbrev pub IsUncreating : Fact → Type 0
 IsUncreating (Pool q (ConnectionCreated e)) = ⊥
@@ -118,8 +118,8 @@ module _ (p : ℕ) (a : ServerAddress) (o : PoolOptions) (m : ℕ) where
       on is_ready e = rw e all
       on (is_paused error) e = rw e all
 
-  turned-uncreating : (xs : List PoolItem) (r : ℕ) → AreUncreating (turned_away p a o m xs r)
-  turned-uncreating xs r = on (state_of o xs) refl
+  after_entry-uncreating : (xs : List PoolItem) (r : ℕ) → AreUncreating (turned_away p a o m xs r)
+  after_entry-uncreating xs r = on (state_of o xs) refl
     where
       on : (t : State) → state_of o xs ≡ t → AreUncreating (turned_away p a o m xs r)
       on is_new e = rw e (end-uncreating xs r (Cleared new_pool_error))
@@ -149,8 +149,8 @@ module _ (p : ℕ) (a : ServerAddress) (o : PoolOptions) (m : ℕ) where
   -- the facts of an act that maintains no pool
   pub act-uncreating : (xs ys : List PoolItem) (act : Act) → is_maintaining act ≡ false → AreUncreating (act_facts p a o m xs ys act)
   act-uncreating xs ys (Do.Established q c how) e = (tt, handed-uncreating ys c (granted_to ys c))
-  act-uncreating xs ys (Do.Request r b) e = (tt, turned-uncreating ys r)
-  act-uncreating xs ys (Do.Warm r b) e = turned-uncreating ys r
+  act-uncreating xs ys (Do.Request r b) e = (tt, after_entry-uncreating ys r)
+  act-uncreating xs ys (Do.Warm r b) e = after_entry-uncreating ys r
   act-uncreating xs ys (Do.GiveUp r) e = on (is_some (end_of xs r)) refl
     where
       on : (b : Bool) → is_some (end_of xs r) ≡ b → AreUncreating (act_facts p a o m xs ys (Do.GiveUp r))

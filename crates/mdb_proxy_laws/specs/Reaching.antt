@@ -16,7 +16,7 @@ pub record Steps (old new : ProxyView) (step : ProxyStep) : Type 0 where
   pub performs : refusal_of old step ≡ None → Performs step.moment old.shares old.asks new.asks old.log new.log step.act reply
   pub keeps : KeepsShares new
 
--- The one is reached from the other by these steps. A step that wants for memory changes nothing, and is none of them.
+-- The one is reached from the other by these steps. A step that runs out of memory changes nothing, and is none of them.
 abbrev pub Reaches : ProxyView → ProxyView → List ProxyStep → Type 0
 Reaches old new [] = new ≡ old
 Reaches old new (s ∷ ss) = (mid : ProxyView) × Steps old mid s × Reaches mid new ss

@@ -211,7 +211,7 @@ share-lacks n e = decimal_lacks 44 n (omega arith) (narrow n e)
     narrow : (n : ℕ) → is_share n ≡ true → n < 2 ^ 64
     narrow n e = grind arith
 
--- want of memory is handed on
+-- lack of memory is handed on
 pub handed_on : {A : Type 0} (P : A → Type 0) (r : Result A LineError) (e : LineError) → e ≡ OutOfMemory → IsErrAnd r (λ y. y ≡ e) → MatchResult r P (λ y. y ≡ OutOfMemory)
 handed_on P (Ok y) e wanting h = absurd h
 handed_on P (Err y) e wanting h = h ∙ wanting

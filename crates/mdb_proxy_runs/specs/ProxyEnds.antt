@@ -95,7 +95,7 @@ RunEnds input faults new_faults _ = ⊥
 
 -- ---- whole runs
 
--- A run ended before its end, with this cause: for want of memory, at a fault of the source or of the sink, at the first line that has no place, or past the greatest length.
+-- A run ended before its end, with this cause: for lack of memory, at a read error or of the sink, at the first line that has no place, or past the greatest length.
 abbrev pub Ended : Seen → Seen → RunError → Type 0
 Ended old new errors.OutOfMemory = (new.reads ≡ old.reads) × (new.writes ≡ old.writes)
 Ended old new errors.ReadFault = Rose old.reads new.reads × (new.writes ≡ old.writes)

@@ -20,7 +20,7 @@ use Rattle.mdb_log.specs.Requests.{requests, queued, is_warm, end_of, is_unserve
 use Rattle.mdb_log.specs.State.{State, is_new, is_ready, is_paused, is_closed, state_of, min_size}
 use Rattle.mdb_pool.specs.Facts.{new_pool_error, created_fact, closed_fact, pool_closed_fact, closes, check_in, come_back, hand_over, fail_requester, sweep, fill, turned_away, readied, end_facts, all_ends, close_reason, perished, clear_facts, close_facts, overdue, act_facts}
 use Rattle.mdb_pool.specs.Serving.{next_move, serve, serving}
-use Rattle.mdb_pool.proofs.Laws.{Move, nothing, closing, granting, creating, warming, move-of}
+use Rattle.mdb_pool.proofs.Turns.Fair.{Move, nothing, closing, granting, creating, warming, move-of}
 use Rattle.mdb_readable.proofs.Plain.{IsPlainAddress, IsPlainError, IsPlainEnd, IsPlainFact, ArePlainFacts, IsPlainAct, ArePlainParts}
 use Rattle.mdb_readable.proofs.Lists.{all-both}
 use Rattle.mdb_readable.proofs.PoolParts.{IsPlainState, state-plain}

@@ -157,7 +157,7 @@ object_from (Some j) = kind_from (text_at (codes "kind") j) j
 abbrev pub said : List ℕ → Said
 said line = object_from (if is_utf8 line then document line else None)
 
--- the same as the code has it
+-- what a line tells, as the code has it
 abbrev pub line_view : Line → Said
 line_view lines.Malformed = malformed
 line_view lines.Passed = passed

@@ -62,7 +62,7 @@ pub record NotWritten (standard : Standard) (old new : Seen) : Type 0 where
   pub taken : TookFront old.held new.held (report standard text)
   pub rose : Rose old.writes new.writes
 
--- A run ended before its end, with this cause. Only at a fault of the sink was anything written.
+-- A run ended before its end, with this cause. Only at a write error was anything written.
 abbrev pub RunFails : Standard → Seen → Seen → RunError → Type 0
 RunFails standard old new errors.OutOfMemory = (new.reads ≡ old.reads) × (new.writes ≡ old.writes) × (new.held ≡ old.held)
 RunFails standard old new errors.ReadFault = Rose old.reads new.reads × (new.writes ≡ old.writes) × (new.held ≡ old.held)

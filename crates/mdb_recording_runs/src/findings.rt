@@ -14,7 +14,7 @@ use std::alloc::Global;
 
 /// Where findings are told of: the number of the event's line, the event, the address of its pool, and what is known before it.
 #[derive(Clone, Copy)]
-pub struct Place<'a> {
+pub struct EventContext<'a> {
     pub standard: Standard,
     pub number: u64,
     pub address: &'a str,
@@ -49,7 +49,7 @@ fn finding_line(
 fn tell_rule(
     alloc: Global,
     out: &mut String,
-    place: &Place<'_>,
+    place: &EventContext<'_>,
     rule: Rule,
 ) -> Result<u64, OutOfMemory>
     ensures { IfOk result (λ n. (h : List Event_) → place.now.known.now ≡ glance_of h place.now.recorded.now
@@ -74,7 +74,7 @@ pub fn sum(count: u64, more: u64) -> Result<u64, OutOfMemory>
 }
 
 /// Tells of each rule that the event breaks, and answers how many these are.
-pub fn tell_findings(alloc: Global, out: &mut String, place: &Place<'_>) -> Result<u64, OutOfMemory>
+pub fn tell_findings(alloc: Global, out: &mut String, place: &EventContext<'_>) -> Result<u64, OutOfMemory>
     ensures { IfOk result (λ n. (h : List Event_) → place.now.known.now ≡ glance_of h place.now.recorded.now
         → TellsRules (λ r. breaks place.now.standard r h place.now.recorded.now) (λ r. finding_line place.now.number place.now.address.now place.now.recorded.now r) all_rules (string_bytes out.old) (string_bytes out.new) n) }
 {

@@ -6,8 +6,8 @@ ghost use Rattle.mdb_recording_lines.specs.LineForms.{line_view, malformed as un
 ghost use Rattle.mdb_recording_runs.specs.Keeping.{Keeps};
 ghost use Rattle.mdb_recording_runs.specs.Report.{Read, after_event, after_said, after_seen, event_text, nothing, said_text, server_findings_text};
 
-use crate::findings::{Place, sum, tell_findings};
-use crate::server_findings::{ServerPlace, tell_server_findings};
+use crate::findings::{EventContext, sum, tell_findings};
+use crate::server_findings::{ServerEventContext, tell_server_findings};
 use json::Scratch;
 use mdb_base::OutOfMemory;
 use mdb_recording_lines::{Line, Names, read_line};
@@ -57,7 +57,7 @@ impl Reader {
         let pool = self.names.number(self.alloc, address)?;
         let recorded = Recorded { pool, event };
         let known = self.judge.look(&recorded);
-        let place = Place {
+        let place = EventContext {
             standard: self.standard,
             number,
             address,
@@ -82,7 +82,7 @@ impl Reader {
             → Keeps standard (after_seen s event.now) (text ++ server_findings_text s.server_history number (option_map (λ a. a.now) address.entry) event.now) self.new) }
     {
         let known = self.server_judge.look(event);
-        let place = ServerPlace {
+        let place = ServerEventContext {
             number,
             address,
             event,

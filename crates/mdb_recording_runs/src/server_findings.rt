@@ -15,7 +15,7 @@ use std::alloc::Global;
 
 /// Where findings are told of: the number of the event's line, the address of its server, if it names one, the event, and what is known before it.
 #[derive(Clone, Copy)]
-pub struct ServerPlace<'a> {
+pub struct ServerEventContext<'a> {
     pub number: u64,
     pub address: Option<&'a str>,
     pub event: &'a ServerEvent,
@@ -48,7 +48,7 @@ fn server_finding_line(
 fn tell_server_rule(
     alloc: Global,
     out: &mut String,
-    place: &ServerPlace<'_>,
+    place: &ServerEventContext<'_>,
     rule: ServerRule,
 ) -> Result<u64, OutOfMemory>
     ensures { IfOk result (λ n. (h : List Event_) → place.now.known.now ≡ known_of h place.now.event.now
@@ -67,7 +67,7 @@ fn tell_server_rule(
 pub fn tell_server_findings(
     alloc: Global,
     out: &mut String,
-    place: &ServerPlace<'_>,
+    place: &ServerEventContext<'_>,
 ) -> Result<u64, OutOfMemory>
     ensures { IfOk result (λ n. (h : List Event_) → place.now.known.now ≡ known_of h place.now.event.now
         → TellsRules (λ r. breaks r h place.now.event.now) (λ r. server_finding_line place.now.number (option_map (λ a. a.now) place.now.address) r) all_server_rules (string_bytes out.old) (string_bytes out.new) n) }

@@ -91,7 +91,7 @@ fn standard_of(words: &[&str]) -> Option<Standard>
 }
 
 // Says how the tool is used, and answers the status of a usage.
-fn refused<E: Sink>(errors: &mut E) -> Status
+fn refuse_words<E: Sink>(errors: &mut E) -> Status
     ensures status { result ≡ 2 }
     ensures told { Tells (record { held = E.held errors.old; faults = E.faults errors.old }) (record { held = E.held errors.new; faults = E.faults errors.new }) usage }
 {
@@ -119,7 +119,7 @@ fn run_by<S: Source, K: Sink, E: Sink>(
 }
 
 /// Reads a recording on `source`, writes what it finds on `sink`, and answers the status: 0 where nothing is found, 7 where
-/// something is, 1 for want of memory, 3 and 4 for a fault of source or sink, 6 for a recording that is too long. The words
+/// something is, 1 for lack of memory, 3 for a read error, 4 for a write error, 6 for a recording that is too long. The words
 /// are none, or `--cmap` and a year, 2020 or 2021, by whose standard it is judged; others are a usage, status 2, at which
 /// nothing is read or written. What ended the run goes to `errors`.
 pub fn run_recorded<S: Source, K: Sink, E: Sink>(
@@ -140,6 +140,6 @@ pub fn run_recorded<S: Source, K: Sink, E: Sink>(
 {
     match standard_of(words) {
         Some(standard) => run_by(alloc, standard, source, sink, errors),
-        None => refused(errors),
+        None => refuse_words(errors),
     }
 }

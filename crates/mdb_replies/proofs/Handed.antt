@@ -1,4 +1,4 @@
--- Want of memory is handed on, beside what is left of a line.
+-- Running out of memory is handed on, beside what is left of a line.
 use Rattle.std.proofs.Common.{◌≡◌, ℕ, List, Result, Ok, Err, IsErrAnd, ◌∙◌}
 use Rattle.std.specs.Borrow.{Bor}
 use Rattle.mdb_parts.specs.Reading.{GivesFirst}

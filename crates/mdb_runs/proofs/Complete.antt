@@ -65,7 +65,7 @@ lengthy old new (Err errors.WriteFault) input left long read finished (given, al
 lengthy old new (Err (errors.Malformed n)) input left long read finished (given, all, rest) = let size = ap length (told old.left new.left input given left all.consumed all.ended) in absurd (omega (arith, size, long, all.short))
 lengthy old new (Err errors.TooLong) input left long read finished ended = inl refl
 
--- what is told of an error, where it is this one or want of memory
+-- what is told of an error, where it is this one or out of memory
 pub tells_so : (e f : RunError) (old new : Told) (answer : ℕ) → answer ≡ status f → Tells old new (message f) → EndsWith e (Err f) → ToolTells e old new answer
 tells_so e f old new answer is told (inl same) = inl (subst (λ (x : RunError). answer ≡ status x) same is, subst (λ (x : RunError). Tells old new (message x)) same told)
 tells_so e f old new answer is told (inr none) = inr (subst (λ (x : RunError). answer ≡ status x) none is)

@@ -83,7 +83,7 @@ pub record Ran (input : List ℕ) (log : List Entry) (held new_held : Option Hel
   pub taken : Took held new_held (text_of log)
   pub same : new_faults ≡ faults
 
--- The lines ended before their end: for want of memory, at a fault of the sink, or at a line that spells no step. The log so far is legal.
+-- The lines ended before their end: for lack of memory, at a write error, or at a line that spells no step. The log so far is legal.
 abbrev pub RunEnds : List ℕ → Option Held → Option Held → ℕ → ℕ → RunError → Type 0
 RunEnds input held new_held faults new_faults errors.OutOfMemory =
     (steps : List Step) × (more : List (List ℕ)) × Begins input steps more × IsLegalLog (log_of steps) × Took held new_held (text_of (log_of steps)) × (new_faults ≡ faults)

@@ -19,7 +19,7 @@ use std::alloc::Global;
 const USAGE: &str = "usage: mdb_script [make N | share K]\n";
 
 // Says how the tool is used, and answers the status of a usage.
-fn refused<E: Sink>(errors: &mut E) -> Status
+fn refuse_words<E: Sink>(errors: &mut E) -> Status
     ensures status { result ≡ 2 }
     ensures told { Tells (record { held = E.held errors.old; faults = E.faults errors.old }) (record { held = E.held errors.new; faults = E.faults errors.new }) usage }
 {
@@ -28,8 +28,8 @@ fn refused<E: Sink>(errors: &mut E) -> Status
 }
 
 /// Runs the script on `source` where there are no words, and the generated script of n rounds at the words `make n`, of
-/// which it writes the summary; it answers the status: 0 where the script ran to its end, 1 for want of memory, 3 and 4 for
-/// a fault of source or sink, 5 for a malformed line, 6 for an input that is too long. All other words are a usage,
+/// which it writes the summary; it answers the status: 0 where the script ran to its end, 1 for lack of memory, 3 and 4 for
+/// a read or write error, 5 for a malformed line, 6 for an input that is too long. All other words are a usage,
 /// status 2, at which nothing is read or written. What ended the run goes to `errors`.
 pub fn run_tool<S: Source, K: Sink, E: Sink>(
     alloc: Global,
@@ -66,7 +66,7 @@ pub fn run_tool<S: Source, K: Sink, E: Sink>(
             Ok(()) => 0,
             Err(e) => end_with_error(errors, e),
         },
-        ToolCommand::Share(_) => refused(errors),
-        ToolCommand::Usage => refused(errors),
+        ToolCommand::Share(_) => refuse_words(errors),
+        ToolCommand::Usage => refuse_words(errors),
     }
 }

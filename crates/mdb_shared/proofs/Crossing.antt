@@ -24,7 +24,7 @@ use Rattle.mdb_describe.specs.contracts.description.ServerDescription as Server
 use Rattle.mdb_describe.specs.contracts.topology.TopologyDescription as Topology
 use Rattle.mdb_events.proofs.cmap.CmapEvent.TheSendSync.{the_field_send as cmap}
 use Rattle.mdb_events.proofs.end.End.TheSendSync.{the_field_send as end}
-use Rattle.mdb_events.proofs.held.Held.TheSendSync.{the_send as held}
+use Rattle.mdb_events.proofs.boxed.Boxed.TheSendSync.{the_send as held}
 use Rattle.mdb_events.proofs.sdam.ServerClosedEvent.TheSendSync.{the_field_send as closed}
 use Rattle.mdb_events.proofs.sdam.ServerHeartbeatFailedEvent.TheSendSync.{the_field_send as failed}
 use Rattle.mdb_events.proofs.sdam.ServerHeartbeatStartedEvent.TheSendSync.{the_field_send as started}

@@ -12,10 +12,10 @@ use Rattle.mdb_shared.specs.Seats.{SeatView, seat_view, fresh_seat, IsReady}
 use Rattle.atomic_table.specs.Table.{State, Me, Splits, Joins}
 use Rattle.atomic_table.proofs.Lists.{set_else, at_longer, at_last}
 use Rattle.mdb_log.specs.declared.log.Entry.{Entry}
-use Rattle.mdb_shared.specs.declared.rule.Part.{Part}
+use Rattle.mdb_shared.specs.declared.rule.SeatEntries.{SeatEntries}
 use Rattle.mdb_shared.specs.declared.rule.View.{View}
 use Rattle.mdb_log.specs.Driver.{StartsWith}
-use Rattle.mdb_shared.specs.Turning.{own, part, Fits, Keeps, HasNumber, At, Held, keeper_view, numbering, numbered, bumped, number_of, copied, absorbed, spent, either_next, no_longer}
+use Rattle.mdb_shared.specs.Turning.{own, seat_entries, Fits, Keeps, HasNumber, At, Slot, keeper_view, numbering, numbered, bumped, number_of, copied, absorbed, spent, either_next, no_longer}
 use Rattle.mdb_shared.proofs.Keeping.{at_end, only_one, others_fit, elsewhere, true_not_false}
 use Rattle.mdb_shared.proofs.Places.{here, stays, stays_before, other_joins, one_joins}
 
@@ -86,7 +86,7 @@ given new to owner n = if eqb n new then to else owner n
 
 module _ {T : Type 0} (stands : T → List Entry → Type 0) (base : List Entry) (seats : ℕ) where
   abbrev St : Type 0
-  St = State (Held T) View
+  St = State (Slot T) View
 
   abbrev Rule : St → Type 0
   Rule = Keeps stands base seats
@@ -96,11 +96,11 @@ module _ {T : Type 0} (stands : T → List Entry → Type 0) (base : List Entry)
 
   -- a view of no number
   no_number : (past : List Entry) (t next keeper : ℕ) (owner : ℕ → ℕ) (id : ℕ) (seen : List Entry) → StartsWith (base ++ past) seen
-      → Fits base past t next keeper owner id record { seen = seen; told = seen; parts = []; next = None; turn = false; busy = [] }
+      → Fits base past t next keeper owner id record { seen = seen; told = seen; own_numbers = []; next = None; turn = false; busy = [] }
   no_number past t next keeper owner id seen front = record {
     seen = front;
     told = front;
-    parts = λ k p there. absurd (some-ne-none p (sym there));
+    own_numbers = λ k p there. absurd (some-ne-none p (sym there));
     apart = λ j k p q there _ _. absurd (some-ne-none p (sym there));
     holds_turn = λ on. absurd (true_not_false false on refl);
     keeps_next = λ k e. cc;
@@ -142,11 +142,11 @@ module _ {T : Type 0} (stands : T → List Entry → Type 0) (base : List Entry)
       let F : ℕ → View → Type 0 = Fits base r.past x next r.keeper r.owner in let G : ℕ → View → Type 0 = Fits base r.past x (next + 1) r.keeper owner in
       let old_owner : (n : ℕ) → n < next → owner n ≡ r.owner n = λ n low. ap (λ (b : Bool). if b then l else r.owner n) (ne_eqb n next (λ e. omega arith)) in
       let new_owner : owner k ≡ l = ap (λ (b : Bool). if b then l else r.owner k) (eq-eqb k next k_is) in
-      let parts_are : number_of v.next ≡ part k [] ∷ [] = ap number_of is in
-      let only : (i : ℕ) (p : Part) → get_elem? (number_of v.next) i ≡ some p → (i ≡ 0) × (part k [] ≡ p) = λ i p there. only_one (part k []) p i (ap (λ (ps : List Part). get_elem? ps i) (sym parts_are) ∙ there) in
+      let parts_are : number_of v.next ≡ seat_entries k [] ∷ [] = ap number_of is in
+      let only : (i : ℕ) (p : SeatEntries) → get_elem? (number_of v.next) i ≡ some p → (i ≡ 0) × (seat_entries k [] ≡ p) = λ i p there. only_one (seat_entries k []) p i (ap (λ (ps : List SeatEntries). get_elem? ps i) (sym parts_are) ∙ there) in
       let empty : own k r.past ≡ [] = own_none k r.past (λ i e there. subst (λ (n : ℕ). e.seat < n) (sym k_is) (r.authors i e there)) in
-      let old_parts : (j : ℕ) (d : View) → F j d → (i : ℕ) (p : Part) → get_elem? d.parts i ≡ some p → (owner p.number ≡ j) × (p.number < next + 1) × (own p.number r.past ≡ p.mine)
-      = λ j d g i p there. let h = g.parts i p there in let low = h.1 in (old_owner p.number low ∙ h.0, omega arith, h.2) in record {
+      let old_parts : (j : ℕ) (d : View) → F j d → (i : ℕ) (p : SeatEntries) → get_elem? d.own_numbers i ≡ some p → (owner p.number ≡ j) × (p.number < next + 1) × (own p.number r.past ≡ p.mine)
+      = λ j d g i p there. let h = g.own_numbers i p there in let low = h.1 in (old_owner p.number low ∙ h.0, omega arith, h.2) in record {
         past = r.past;
         next = next + 1;
         keeper = r.keeper;
@@ -157,16 +157,16 @@ module _ {T : Type 0} (stands : T → List Entry → Type 0) (base : List Entry)
         few = omega arith;
         fits = λ j d there. ⊎_elim
             (λ (old : get_elem? (set s.views id (numbering v)) j ≡ some d). others_fit F G s.views id (numbering v)
-            record { seen = f.seen; told = f.told; parts = old_parts id v f; apart = f.apart; holds_turn = f.holds_turn; keeps_next = λ i e. let bump : bumped v.next ≡ Some (k + 1) = ap bumped is in let e' : i ≡ k + 1 = cc in (kept.0, omega arith) }
-            (λ i u apart _ g. record { seen = g.seen; told = g.told; parts = old_parts i u g; apart = g.apart; holds_turn = g.holds_turn; keeps_next = λ n e. absurd (apart (sym (g.keeps_next n e).0 ∙ kept.0)) })
+            record { seen = f.seen; told = f.told; own_numbers = old_parts id v f; apart = f.apart; holds_turn = f.holds_turn; keeps_next = λ i e. let bump : bumped v.next ≡ Some (k + 1) = ap bumped is in let e' : i ≡ k + 1 = cc in (kept.0, omega arith) }
+            (λ i u apart _ g. record { seen = g.seen; told = g.told; own_numbers = old_parts i u g; apart = g.apart; holds_turn = g.holds_turn; keeps_next = λ n e. absurd (apart (sym (g.keeps_next n e).0 ∙ kept.0)) })
             r.fits j d old)
-            (λ (new : (j ≡ length (set s.views id (numbering v))) × (numbered v ≡ d)). let place : j ≡ l = new.0 ∙ length-set s.views id (numbering v) in subst (G j) new.1 record {
+            (λ (new : (j ≡ length (set s.views id (numbering v))) × (numbered v ≡ d)). let table_seat : j ≡ l = new.0 ∙ length-set s.views id (numbering v) in subst (G j) new.1 record {
               seen = f.seen;
               told = f.seen;
-              parts = λ i p at_i. let o = only i p at_i in (
-                subst (λ (y : Part). owner y.number ≡ j) o.1 (new_owner ∙ sym place),
-                subst (λ (y : Part). y.number < next + 1) o.1 (omega arith),
-                subst (λ (y : Part). own y.number r.past ≡ y.mine) o.1 empty,
+              own_numbers = λ i p at_i. let o = only i p at_i in (
+                subst (λ (y : SeatEntries). owner y.number ≡ j) o.1 (new_owner ∙ sym table_seat),
+                subst (λ (y : SeatEntries). y.number < next + 1) o.1 (omega arith),
+                subst (λ (y : SeatEntries). own y.number r.past ≡ y.mine) o.1 empty,
               );
               apart = λ a b p q at_a at_b _. (only a p at_a).0 ∙ sym (only b q at_b).0;
               holds_turn = λ on. absurd (true_not_false false on refl);
@@ -174,7 +174,7 @@ module _ {T : Type 0} (stands : T → List Entry → Type 0) (base : List Entry)
             })
             (at_end (set s.views id (numbering v)) (numbered v) d j there);
         owned = λ m low. dite (ℕ_discrete m next)
-            (λ e. (numbered v, subst (λ (j : ℕ). get_elem? (set s.views id w ++ numbered v ∷ []) j ≡ some (numbered v)) (sym (ap (λ (b : Bool). if b then l else r.owner m) (eq-eqb m next e))) (at_last (set s.views id w) (numbered v) l (length-set s.views id w)), (0, part k [], ap (λ (ps : List Part). get_elem? ps 0) parts_are, k_is ∙ sym e)))
+            (λ e. (numbered v, subst (λ (j : ℕ). get_elem? (set s.views id w ++ numbered v ∷ []) j ≡ some (numbered v)) (sym (ap (λ (b : Bool). if b then l else r.owner m) (eq-eqb m next e))) (at_last (set s.views id w) (numbered v) l (length-set s.views id w)), (0, seat_entries k [], ap (λ (ps : List SeatEntries). get_elem? ps 0) parts_are, k_is ∙ sym e)))
             (λ ne. let below : m < next = omega arith in subst (λ (j : ℕ). At (HasNumber m) (set s.views id w ++ numbered v ∷ []) j) (sym (old_owner m below)) (stays_before (HasNumber m) (set s.views id w) (numbered v ∷ []) (r.owner m) (stays (HasNumber m) s.views id (r.owner m) v w at (λ h. h) (r.owned m below))));
         kept = subst (λ (j : ℕ). At (λ u. u.next ≡ Some (next + 1)) (set s.views id w ++ numbered v ∷ []) j) (sym kept.0) (w, at_longer (set s.views id w) (numbered v ∷ []) id w (here s.views id v w at), ap bumped is ∙ ap (λ (n : ℕ). Some (n + 1)) k_is);
         whole = (r.whole.0, stays_before (λ u. u.seen ≡ base ++ r.past) (set s.views id w) (numbered v ∷ []) r.whole.0 (stays (λ u. u.seen ≡ base ++ r.past) s.views id r.whole.0 v w at (λ h. h) r.whole.1));
@@ -191,22 +191,22 @@ module _ {T : Type 0} (stands : T → List Entry → Type 0) (base : List Entry)
       let owner : ℕ → ℕ = λ n. moved other id (r.owner n) in let keeper : ℕ = moved other id r.keeper in
       let F : ℕ → View → Type 0 = Fits base r.past x r.next r.keeper r.owner in let G : ℕ → View → Type 0 = Fits base r.past x r.next keeper owner in
       let apart' : id ≢ other = λ e. apart (sym e) in
-      let mine : (k : ℕ) (p : Part) → get_elem? v.parts k ≡ some p → (owner p.number ≡ id) × (p.number < r.next) × (own p.number r.past ≡ p.mine)
-      = λ k p at_k. let h = f.parts k p at_k in (moved_not other id (r.owner p.number) (λ e. apart (sym e ∙ h.0)) ∙ h.0, h.1, h.2) in
-      let theirs : (k : ℕ) (p : Part) → get_elem? w.parts k ≡ some p → (owner p.number ≡ id) × (p.number < r.next) × (own p.number r.past ≡ p.mine)
-      = λ k p at_k. let h = f'.parts k p at_k in (moved_there other id (r.owner p.number) h.0, h.1, h.2) in
-      let not_both : (j k : ℕ) (p q : Part) → get_elem? v.parts j ≡ some p → get_elem? w.parts k ≡ some q → p.number ≢ q.number
-      = λ j k p q at_j at_k e. apart (sym (f'.parts k q at_k).0 ∙ (ap r.owner (sym e) ∙ (f.parts j p at_j).0)) in
+      let mine : (k : ℕ) (p : SeatEntries) → get_elem? v.own_numbers k ≡ some p → (owner p.number ≡ id) × (p.number < r.next) × (own p.number r.past ≡ p.mine)
+      = λ k p at_k. let h = f.own_numbers k p at_k in (moved_not other id (r.owner p.number) (λ e. apart (sym e ∙ h.0)) ∙ h.0, h.1, h.2) in
+      let theirs : (k : ℕ) (p : SeatEntries) → get_elem? w.own_numbers k ≡ some p → (owner p.number ≡ id) × (p.number < r.next) × (own p.number r.past ≡ p.mine)
+      = λ k p at_k. let h = f'.own_numbers k p at_k in (moved_there other id (r.owner p.number) h.0, h.1, h.2) in
+      let not_both : (j k : ℕ) (p q : SeatEntries) → get_elem? v.own_numbers j ≡ some p → get_elem? w.own_numbers k ≡ some q → p.number ≢ q.number
+      = λ j k p q at_j at_k e. apart (sym (f'.own_numbers k q at_k).0 ∙ (ap r.owner (sym e) ∙ (f.own_numbers j p at_j).0)) in
       let joined : G id both = record {
         seen = starts_either log w.seen v.seen (no_longer v.seen w.seen) f'.seen f.seen;
         told = starts_either log v.seen w.seen (no_longer v.seen w.seen) f.seen f'.seen;
-        parts = λ k p at_k. ⊎_elim (λ (t : get_elem? v.parts k ≡ some p). mine k p t) (λ (t : (i : ℕ) × (k ≡ length v.parts + i) × (get_elem? w.parts i ≡ some p)). theirs t.0 p t.2) (at_append v.parts w.parts k p at_k);
+        own_numbers = λ k p at_k. ⊎_elim (λ (t : get_elem? v.own_numbers k ≡ some p). mine k p t) (λ (t : (i : ℕ) × (k ≡ length v.own_numbers + i) × (get_elem? w.own_numbers i ≡ some p)). theirs t.0 p t.2) (at_append v.own_numbers w.own_numbers k p at_k);
         apart = λ j k p q at_j at_k same. ⊎_elim
-            (λ (a : get_elem? v.parts j ≡ some p). ⊎_elim (λ (b : get_elem? v.parts k ≡ some q). f.apart j k p q a b same)
-            (λ (b : (i : ℕ) × (k ≡ length v.parts + i) × (get_elem? w.parts i ≡ some q)). absurd (not_both j b.0 p q a b.2 same)) (at_append v.parts w.parts k q at_k))
-            (λ (a : (i : ℕ) × (j ≡ length v.parts + i) × (get_elem? w.parts i ≡ some p)). ⊎_elim (λ (b : get_elem? v.parts k ≡ some q). absurd (not_both k a.0 q p b a.2 (sym same)))
-            (λ (b : (i : ℕ) × (k ≡ length v.parts + i) × (get_elem? w.parts i ≡ some q)). a.1 ∙ (ap (λ (n : ℕ). length v.parts + n) (f'.apart a.0 b.0 p q a.2 b.2 same) ∙ sym b.1)) (at_append v.parts w.parts k q at_k))
-            (at_append v.parts w.parts j p at_j);
+            (λ (a : get_elem? v.own_numbers j ≡ some p). ⊎_elim (λ (b : get_elem? v.own_numbers k ≡ some q). f.apart j k p q a b same)
+            (λ (b : (i : ℕ) × (k ≡ length v.own_numbers + i) × (get_elem? w.own_numbers i ≡ some q)). absurd (not_both j b.0 p q a b.2 same)) (at_append v.own_numbers w.own_numbers k q at_k))
+            (λ (a : (i : ℕ) × (j ≡ length v.own_numbers + i) × (get_elem? w.own_numbers i ≡ some p)). ⊎_elim (λ (b : get_elem? v.own_numbers k ≡ some q). absurd (not_both k a.0 q p b a.2 (sym same)))
+            (λ (b : (i : ℕ) × (k ≡ length v.own_numbers + i) × (get_elem? w.own_numbers i ≡ some q)). a.1 ∙ (ap (λ (n : ℕ). length v.own_numbers + n) (f'.apart a.0 b.0 p q a.2 b.2 same) ∙ sym b.1)) (at_append v.own_numbers w.own_numbers k q at_k))
+            (at_append v.own_numbers w.own_numbers j p at_j);
         holds_turn = λ on. absurd (true_not_false v.turn on off);
         keeps_next = λ k e. ⊎_elim (λ (a : v.next ≡ Some k). let h = f.keeps_next k a in (moved_not other id r.keeper (λ z. apart (sym z ∙ h.0)) ∙ h.0, h.1))
             (λ (b : w.next ≡ Some k). let h = f'.keeps_next k b in (moved_there other id r.keeper h.0, h.1)) (either_cases v.next w.next k e);
@@ -224,12 +224,12 @@ module _ {T : Type 0} (stands : T → List Entry → Type 0) (base : List Entry)
             (λ j d not_id _ g not_other. record {
               seen = g.seen;
               told = g.told;
-              parts = λ k p at_k. let h = g.parts k p at_k in (moved_not other id (r.owner p.number) (λ e. not_other (sym h.0 ∙ e)) ∙ h.0, h.1, h.2);
+              own_numbers = λ k p at_k. let h = g.own_numbers k p at_k in (moved_not other id (r.owner p.number) (λ e. not_other (sym h.0 ∙ e)) ∙ h.0, h.1, h.2);
               apart = g.apart;
               holds_turn = g.holds_turn;
               keeps_next = λ k e. let h = g.keeps_next k e in (moved_not other id r.keeper (λ z. not_other (sym h.0 ∙ z)) ∙ h.0, h.1);
             }) r.fits);
-        owned = λ m low. joins (HasNumber m) s.views id other v w both spent at at' apart (λ h. (h.0, h.1, at_longer v.parts w.parts h.0 h.1 h.2, h.3)) (λ h. (length v.parts + h.0, h.1, at_after v.parts w.parts h.0 (length v.parts + h.0) h.1 refl h.2, h.3)) (r.owner m) (r.owned m low);
+        owned = λ m low. joins (HasNumber m) s.views id other v w both spent at at' apart (λ h. (h.0, h.1, at_longer v.own_numbers w.own_numbers h.0 h.1 h.2, h.3)) (λ h. (length v.own_numbers + h.0, h.1, at_after v.own_numbers w.own_numbers h.0 (length v.own_numbers + h.0) h.1 refl h.2, h.3)) (r.owner m) (r.owned m low);
         kept = joins (λ u. u.next ≡ Some r.next) s.views id other v w both spent at at' apart (λ h. ap (λ (o : Option ℕ). either_next o w.next) h) (λ h. either_right v.next w.next r.next h (λ k e. (f.keeps_next k e).1)) r.keeper r.kept;
         whole = (moved other id r.whole.0, joins (λ u. u.seen ≡ log) s.views id other v w both spent at at' apart (λ h. longer_left log v.seen w.seen h f'.seen) (λ h. longer_right log v.seen w.seen h f.seen) r.whole.0 r.whole.1);
         taken = λ taken. let t = r.taken taken in (
@@ -273,13 +273,13 @@ met one other told saw last is front front' done =
     (ap (λ (v : View). v.seen) done ∙ ap (λ (c : Bool). if c then saw.seen else one.seen) yes, both.1, both.0)
 
 -- a seat that was cut off the keeper is new
-pub is_fresh : {T : Type 0} (z y : TableId) (base : List Entry) (n : ℕ) (k m : Me (Held T) View) → k ≡ (keeper_view base n, []) → m ≡ (numbered k.0, []) → z ≡ y → (seat_view z n m.0 ≡ fresh_seat y base n) × IsReady n m
+pub is_fresh : {T : Type 0} (z y : TableId) (base : List Entry) (n : ℕ) (k m : Me (Slot T) View) → k ≡ (keeper_view base n, []) → m ≡ (numbered k.0, []) → z ≡ y → (seat_view z n m.0 ≡ fresh_seat y base n) × IsReady n m
 is_fresh {T} z y base n k m is cut same =
-    let e : m ≡ (numbered (keeper_view base n), []) = cut ∙ ap (λ (x : Me (Held T) View). (numbered x.0, [])) is in
-    (ap (λ (x : Me (Held T) View). seat_view z n x.0) e ∙ ap (λ (x : TableId). fresh_seat x base n) same, subst (λ (x : Me (Held T) View). IsReady n x) (sym e) (refl, refl, refl))
+    let e : m ≡ (numbered (keeper_view base n), []) = cut ∙ ap (λ (x : Me (Slot T) View). (numbered x.0, [])) is in
+    (ap (λ (x : Me (Slot T) View). seat_view z n x.0) e ∙ ap (λ (x : TableId). fresh_seat x base n) same, subst (λ (x : Me (Slot T) View). IsReady n x) (sym e) (refl, refl, refl))
 
-pub keeper_next : {T : Type 0} (base : List Entry) (n : ℕ) (k m : Me (Held T) View) → k ≡ (keeper_view base n, []) → m ≡ (numbering k.0, k.1) → m ≡ (keeper_view base (n + 1), [])
-keeper_next {T} base n k m is cut = cut ∙ ap (λ (x : Me (Held T) View). (numbering x.0, x.1)) is
+pub keeper_next : {T : Type 0} (base : List Entry) (n : ℕ) (k m : Me (Slot T) View) → k ≡ (keeper_view base n, []) → m ≡ (numbering k.0, k.1) → m ≡ (keeper_view base (n + 1), [])
+keeper_next {T} base n k m is cut = cut ∙ ap (λ (x : Me (Slot T) View). (numbering x.0, x.1)) is
 
 -- the seats of a new driver are its own
 pub all_seats : (z : TableId) (base : List Entry) (n : ℕ) (xs : List SeatView) → length xs ≡ n → ((i : ℕ) → i < n → slice_get xs i ≡ Some (fresh_seat z base i)) → All (λ s. s.driver ≡ z) xs

@@ -25,7 +25,7 @@ abbrev pub Holds : (ℕ → ℕ → Option JobRecord) → Claimed → Type 0
 Holds job_of (ClaimedJob pool id job) = job_of pool id ≡ Some job
 Holds job_of _ = ⊤
 
--- after a try that made no claim: the turn word that was found, which is another seat's, or want of memory
+-- after a try that made no claim: the turn word that was found, which is another seat's, or out of memory
 abbrev pub Missed : SeatView → SeatView → NoClaim → Type 0
 Missed s s' (Busy word) = (word ≢ 0) × (word ≢ s.number + 1) × (s'.seen ≡ s.seen) × (s'.mine ≡ s.mine) × (s'.busy ≡ s.busy ++ word ∷ [])
 Missed s s' OutOfMemory = OnlySaw s s' × (s'.busy ≡ s.busy)

@@ -5,13 +5,13 @@ use Rattle.atomic_table.specs.Seated.{TableId}
 use Rattle.mdb_log.specs.declared.log.Entry.{Entry}
 use Rattle.mdb_log.specs.declared.step.Step.{Step}
 use Rattle.mdb_log.specs.declared.reply.Reply.{Reply}
-use Rattle.mdb_shared.specs.declared.rule.Part.{Part}
+use Rattle.mdb_shared.specs.declared.rule.SeatEntries.{SeatEntries}
 use Rattle.mdb_shared.specs.declared.rule.View.{View}
 use Rattle.mdb_shared.specs.declared.answers.TryError.{TryError}
 use Rattle.mdb_shared.specs.declared.answers.TryError.TheVariants.{Busy, OutOfMemory}
 use Rattle.mdb_log.specs.Driver.{StartsWith, IsEntry}
 use Rattle.mdb_log.specs.History.{history_of, last_moment}
-use Rattle.mdb_shared.specs.Turning.{Held, part, own, with_turn}
+use Rattle.mdb_shared.specs.Turning.{Slot, seat_entries, own, with_turn}
 
 -- the step, with its moment raised where it was smaller
 abbrev pub raised : ℕ → Step → Step
@@ -32,17 +32,17 @@ pub record SeatView : Type 0 where
   pub busy : List ℕ
 
 -- the entries of the one number
-abbrev pub mine_of : List Part → List Entry
+abbrev pub mine_of : List SeatEntries → List Entry
 mine_of [] = []
 mine_of (p ∷ ps) = p.mine
 
 -- the seat holds no slot, hasn't the turn, and has this number
-abbrev pub IsReady : {T : Type 0} → ℕ → Me (Held T) View → Type 0
-IsReady {T} n me = (me.1 ≡ []) × (me.0.turn ≡ false) × (me.0.parts ≡ part n (mine_of me.0.parts) ∷ [])
+abbrev pub IsReady : {T : Type 0} → ℕ → Me (Slot T) View → Type 0
+IsReady {T} n me = (me.1 ≡ []) × (me.0.turn ≡ false) × (me.0.own_numbers ≡ seat_entries n (mine_of me.0.own_numbers) ∷ [])
 
 -- what clauses see of a seat's view
 abbrev pub seat_view : TableId → ℕ → View → SeatView
-seat_view z n v = record { driver = z; number = n; seen = v.seen; mine = mine_of v.parts; busy = v.busy }
+seat_view z n v = record { driver = z; number = n; seen = v.seen; mine = mine_of v.own_numbers; busy = v.busy }
 
 -- the moment of the last accepted step of a log, 0 where there was none
 abbrev pub last_in : List Entry → ℕ
@@ -59,7 +59,7 @@ module _ {T : Type 0} (stands : T → List Entry → Type 0) where
       × ((core : T) × stands core s'.seen)
 
 -- The seat has the turn, and its step stands at the end of the log that it found there, behind all that the seat had seen. Core and log are in its hands, and nothing lies in the slot.
-pub record Begun {T : Type 0} (stands : T → List Entry → Type 0) (number : ℕ) (v : View) (me : Me (Held T) View) (step : Step) (core : T) (log : List Entry) (reply : Reply) : Type 0 where
+pub record Begun {T : Type 0} (stands : T → List Entry → Type 0) (number : ℕ) (v : View) (me : Me (Slot T) View) (step : Step) (core : T) (log : List Entry) (reply : Reply) : Type 0 where
   pub before : List Entry
   pub entry : Entry
   pub front : StartsWith before v.seen
@@ -72,7 +72,7 @@ pub record Begun {T : Type 0} (stands : T → List Entry → Type 0) (number : �
 abbrev pub OnlySaw : SeatView → SeatView → Type 0
 OnlySaw s s' = StartsWith s'.seen s.seen × (s'.mine ≡ s.mine)
 
--- after a try that failed: the turn word that was found, which is another seat's, or want of memory
+-- after a try that failed: the turn word that was found, which is another seat's, or out of memory
 abbrev pub Failed : SeatView → SeatView → Step → TryError → Type 0
 Failed s s' step (Busy word back) = (back ≡ step) × (word ≢ 0) × (word ≢ s.number + 1) × (s'.seen ≡ s.seen) × (s'.mine ≡ s.mine) × (s'.busy ≡ s.busy ++ word ∷ [])
 Failed s s' step OutOfMemory = OnlySaw s s' × (s'.busy ≡ s.busy)
@@ -86,13 +86,13 @@ abbrev pub IsSameSeat : SeatView → SeatView → Type 0
 IsSameSeat s s' = (s'.driver ≡ s.driver) × (s'.number ≡ s.number) × (s'.mine ≡ s.mine) × (s'.busy ≡ s.busy)
 
 -- a seat's number with its entries
-abbrev pub part_of : SeatView → Part
-part_of s = part s.number s.mine
+abbrev pub seat_entries_of : SeatView → SeatEntries
+seat_entries_of s = seat_entries s.number s.mine
 
 -- the seats' numbers with their entries, the last seat first
-abbrev pub behind : List SeatView → List Part
+abbrev pub behind : List SeatView → List SeatEntries
 behind [] = []
-behind (s ∷ ss) = behind ss ++ part_of s ∷ []
+behind (s ∷ ss) = behind ss ++ seat_entries_of s ∷ []
 
 module _ {X : Type 0} where
   -- P holds of each element

@@ -4,7 +4,7 @@ use mathlib.Core.Option.{some}
 use lib.ListN.{get_elem?}
 use Rattle.atomic_table.specs.Table.{State, Me, Step, rest}
 use Rattle.mdb_log.specs.declared.log.Entry.{Entry}
-use Rattle.mdb_shared.specs.declared.rule.Part.{Part}
+use Rattle.mdb_shared.specs.declared.rule.SeatEntries.{SeatEntries}
 use Rattle.mdb_shared.specs.declared.rule.View.{View}
 use Rattle.mdb_log.specs.Driver.{StartsWith}
 
@@ -13,40 +13,40 @@ abbrev pub own : ℕ → List Entry → List Entry
 own n [] = []
 own n (e ∷ es) = if e.seat == n then e ∷ own n es else own n es
 
-abbrev pub part : ℕ → List Entry → Part
-part n mine = record { number = n; mine = mine }
+abbrev pub seat_entries : ℕ → List Entry → SeatEntries
+seat_entries n mine = record { number = n; mine = mine }
 
 -- no number, and the next number
 abbrev pub first_view : List Entry → View
-first_view base = record { seen = base; told = base; parts = []; next = Some 0; turn = false; busy = [] }
+first_view base = record { seen = base; told = base; own_numbers = []; next = Some 0; turn = false; busy = [] }
 
 -- no number, and this next number
 abbrev pub keeper_view : List Entry → ℕ → View
-keeper_view base n = record { seen = base; told = base; parts = []; next = Some n; turn = false; busy = [] }
+keeper_view base n = record { seen = base; told = base; own_numbers = []; next = Some n; turn = false; busy = [] }
 
 -- a view that knows as much, and has no number
 abbrev pub copied : View → View
-copied v = record { seen = v.seen; told = v.seen; parts = []; next = None; turn = false; busy = [] }
+copied v = record { seen = v.seen; told = v.seen; own_numbers = []; next = None; turn = false; busy = [] }
 
 -- what is left of a view that another took in
 abbrev pub spent : View
-spent = record { seen = []; told = []; parts = []; next = None; turn = false; busy = [] }
+spent = record { seen = []; told = []; own_numbers = []; next = None; turn = false; busy = [] }
 
 abbrev pub bumped : Option ℕ → Option ℕ
 bumped (Some k) = Some (k + 1)
 bumped None = None
 
 -- the part of a new seat
-abbrev pub number_of : Option ℕ → List Part
-number_of (Some k) = part k [] ∷ []
+abbrev pub number_of : Option ℕ → List SeatEntries
+number_of (Some k) = seat_entries k [] ∷ []
 number_of None = []
 
 -- the view that keeps the next number, and that of the new seat, as the seat is cut off
 abbrev pub numbering : View → View
-numbering v = record { seen = v.seen; told = v.told; parts = v.parts; next = bumped v.next; turn = v.turn; busy = v.busy }
+numbering v = record { seen = v.seen; told = v.told; own_numbers = v.own_numbers; next = bumped v.next; turn = v.turn; busy = v.busy }
 
 abbrev pub numbered : View → View
-numbered v = record { seen = v.seen; told = v.seen; parts = number_of v.next; next = None; turn = false; busy = [] }
+numbered v = record { seen = v.seen; told = v.seen; own_numbers = number_of v.next; next = None; turn = false; busy = [] }
 
 abbrev pub either_next : Option ℕ → Option ℕ → Option ℕ
 either_next (Some k) n = Some k
@@ -63,7 +63,7 @@ abbrev pub absorbed : View → View → View
 absorbed v w = record {
   seen = if no_longer v.seen w.seen then w.seen else v.seen;
   told = if no_longer v.seen w.seen then v.seen else w.seen;
-  parts = v.parts ++ w.parts;
+  own_numbers = v.own_numbers ++ w.own_numbers;
   next = either_next v.next w.next;
   turn = v.turn;
   busy = v.busy;
@@ -75,17 +75,17 @@ pub record Fits (base past : List Entry) (turn next keeper : ℕ) (owner : ℕ �
   pub seen : StartsWith (base ++ past) v.seen
   pub told : StartsWith (base ++ past) v.told
   -- it owns its numbers, each of which was made and stands beside its own entries past the base
-  pub parts : (k : ℕ) (p : Part) → get_elem? v.parts k ≡ some p → (owner p.number ≡ id) × (p.number < next) × (own p.number past ≡ p.mine)
+  pub own_numbers : (k : ℕ) (p : SeatEntries) → get_elem? v.own_numbers k ≡ some p → (owner p.number ≡ id) × (p.number < next) × (own p.number past ≡ p.mine)
   -- no number comes twice
-  pub apart : (j k : ℕ) (p q : Part) → get_elem? v.parts j ≡ some p → get_elem? v.parts k ≡ some q → p.number ≡ q.number → j ≡ k
+  pub apart : (j k : ℕ) (p q : SeatEntries) → get_elem? v.own_numbers j ≡ some p → get_elem? v.own_numbers k ≡ some q → p.number ≡ q.number → j ≡ k
   -- with the turn it has one number, which the turn word names, and has seen the whole log
-  pub holds_turn : v.turn ≡ true → (n : ℕ) × (mine : List Entry) × (v.parts ≡ part n mine ∷ []) × (turn ≡ n + 1) × (v.seen ≡ base ++ past)
+  pub holds_turn : v.turn ≡ true → (n : ℕ) × (mine : List Entry) × (v.own_numbers ≡ seat_entries n mine ∷ []) × (turn ≡ n + 1) × (v.seen ≡ base ++ past)
   -- the next number stands in one view alone
   pub keeps_next : (k : ℕ) → v.next ≡ Some k → (keeper ≡ id) × (k ≡ next)
 
 -- the number is one of the view's
 abbrev pub HasNumber : ℕ → View → Type 0
-HasNumber n v = (k : ℕ) × (p : Part) × (get_elem? v.parts k ≡ some p) × (p.number ≡ n)
+HasNumber n v = (k : ℕ) × (p : SeatEntries) × (get_elem? v.own_numbers k ≡ some p) × (p.number ≡ n)
 
 -- there is a view at this place, and P holds of it
 abbrev pub At : (View → Type 0) → List View → ℕ → Type 0
@@ -118,58 +118,58 @@ module _ {T : Type 0} (stands : T → List Entry → Type 0) (base : List Entry)
 
 -- the seat has the turn, and has seen the whole log
 abbrev pub with_turn : View → List Entry → View
-with_turn v log = record { seen = log; told = v.told; parts = v.parts; next = v.next; turn = true; busy = v.busy }
+with_turn v log = record { seen = log; told = v.told; own_numbers = v.own_numbers; next = v.next; turn = true; busy = v.busy }
 
 -- the seat found the turn taken
 abbrev pub found_busy : View → ℕ → View
-found_busy v r = record { seen = v.seen; told = v.told; parts = v.parts; next = v.next; turn = v.turn; busy = v.busy ++ r ∷ [] }
+found_busy v r = record { seen = v.seen; told = v.told; own_numbers = v.own_numbers; next = v.next; turn = v.turn; busy = v.busy ++ r ∷ [] }
 
 abbrev pub without_turn : View → View
-without_turn v = record { seen = v.seen; told = v.told; parts = v.parts; next = v.next; turn = false; busy = v.busy }
+without_turn v = record { seen = v.seen; told = v.told; own_numbers = v.own_numbers; next = v.next; turn = false; busy = v.busy }
 
-abbrev pub grown_parts : List Part → Entry → List Part
-grown_parts [] e = []
-grown_parts (p ∷ ps) e = part p.number (p.mine ++ e ∷ []) ∷ ps
+abbrev pub grown_numbers : List SeatEntries → Entry → List SeatEntries
+grown_numbers [] e = []
+grown_numbers (p ∷ ps) e = seat_entries p.number (p.mine ++ e ∷ []) ∷ ps
 
 -- the seat has added an entry
 abbrev pub with_entry : View → Entry → View
-with_entry v e = record { seen = v.seen ++ e ∷ []; told = v.told; parts = grown_parts v.parts e; next = v.next; turn = v.turn; busy = v.busy }
+with_entry v e = record { seen = v.seen ++ e ∷ []; told = v.told; own_numbers = grown_numbers v.own_numbers e; next = v.next; turn = v.turn; busy = v.busy }
 
 abbrev pub having_seen : View → List Entry → View
-having_seen v log = record { seen = log; told = v.told; parts = v.parts; next = v.next; turn = v.turn; busy = v.busy }
+having_seen v log = record { seen = log; told = v.told; own_numbers = v.own_numbers; next = v.next; turn = v.turn; busy = v.busy }
 
 -- what lies in the slot, where it isn't out
-abbrev pub Held : Type 0 → Type 0
-Held T = Option (T × List Entry)
+abbrev pub Slot : Type 0 → Type 0
+Slot T = Option (T × List Entry)
 
 -- What each kind of atomic step tells: m and m' are what the seat knows and holds before and after it, and r is the word that it found.
 module _ {T : Type 0} where
   -- the turn was free: the seat has it, and the state is in its hands; or it was taken, and not by this seat
-  abbrev pub claimed : (T → List Entry → Type 0) → Step (Held T) → Me (Held T) View → ℕ → Me (Held T) View → Type 0
-  claimed stands st m r m' =
+  abbrev pub turn_taken : (T → List Entry → Type 0) → Step (Slot T) → Me (Slot T) View → ℕ → Me (Slot T) View → Type 0
+  turn_taken stands st m r m' =
       (r ≡ 0 → (c : T) × (log : List Entry) × (m' ≡ (with_turn m.0 log, (0, Some (c, log)) ∷ m.1)) × stands c log × StartsWith log m.0.seen)
       × (r ≢ 0 → (m' ≡ (found_busy m.0 r, m.1)) × (r ≢ st.second))
 
   -- the entry by which the held log is longer than what was seen
-  abbrev pub added : Step (Held T) → Me (Held T) View → ℕ → Me (Held T) View → Type 0
+  abbrev pub added : Step (Slot T) → Me (Slot T) View → ℕ → Me (Slot T) View → Type 0
   added st m r m' = (c : T) (e : Entry) → m.1 ≡ (0, Some (c, m.0.seen ++ e ∷ [])) ∷ [] → m' ≡ (with_entry m.0 e, m.1)
 
   -- the turn and the slot are given back
-  abbrev pub let_go : Step (Held T) → Me (Held T) View → ℕ → Me (Held T) View → Type 0
-  let_go st m r m' = m' ≡ (without_turn m.0, rest m.1)
+  abbrev pub turn_released : Step (Slot T) → Me (Slot T) View → ℕ → Me (Slot T) View → Type 0
+  turn_released st m r m' = m' ≡ (without_turn m.0, rest m.1)
 
   -- the log as it was then, of the length found
-  abbrev pub looked : Step (Held T) → Me (Held T) View → ℕ → Me (Held T) View → Type 0
-  looked st m r m' = (log : List Entry) × (m' ≡ (having_seen m.0 log, m.1)) × StartsWith log m.0.seen × StartsWith log m.0.told × (length log ≡ r)
+  abbrev pub count_loaded : Step (Slot T) → Me (Slot T) View → ℕ → Me (Slot T) View → Type 0
+  count_loaded st m r m' = (log : List Entry) × (m' ≡ (having_seen m.0 log, m.1)) × StartsWith log m.0.seen × StartsWith log m.0.told × (length log ≡ r)
 
--- the same but for what was seen and told
-abbrev pub IsSamePlace : {T : Type 0} → Me (Held T) View → Me (Held T) View → Type 0
-IsSamePlace {T} m m' = (m'.0.parts ≡ m.0.parts) × (m'.0.turn ≡ m.0.turn) × (m'.0.busy ≡ m.0.busy) × (m'.1 ≡ m.1)
+-- the seat of the table is as before, but for what was seen and told
+abbrev pub IsSameTableSeat : {T : Type 0} → Me (Slot T) View → Me (Slot T) View → Type 0
+IsSameTableSeat {T} m m' = (m'.0.own_numbers ≡ m.0.own_numbers) × (m'.0.turn ≡ m.0.turn) × (m'.0.busy ≡ m.0.busy) × (m'.1 ≡ m.1)
 
 -- the log begins with what the view has seen, and past the base the entries are those of its numbers
 abbrev pub Settles : List Entry → View → List Entry → Type 0
 Settles base v log =
     StartsWith log v.seen
     × ((past : List Entry) × (log ≡ base ++ past)
-    × ((k : ℕ) (p : Part) → get_elem? v.parts k ≡ some p → own p.number past ≡ p.mine)
-    × ((k : ℕ) (e : Entry) → get_elem? past k ≡ some e → (i : ℕ) × (p : Part) × (get_elem? v.parts i ≡ some p) × (p.number ≡ e.seat)))
+    × ((k : ℕ) (p : SeatEntries) → get_elem? v.own_numbers k ≡ some p → own p.number past ≡ p.mine)
+    × ((k : ℕ) (e : Entry) → get_elem? past k ≡ some e → (i : ℕ) × (p : SeatEntries) × (get_elem? v.own_numbers i ≡ some p) × (p.number ≡ e.seat)))

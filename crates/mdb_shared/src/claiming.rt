@@ -1,4 +1,4 @@
-//! Claims of connections to establish. The job is read before the turn is let go: later it may be gone.
+//! Claims of connections to establish. The job is read before the turn is released: later it may be gone.
 
 ghost use Rattle.std.specs.Prelude.{◌≡◌, IsTrue, IfOk, IfErr, OnErr};
 ghost use Rattle.mdb_log.specs.Driver.{tells_job, IsThere};
@@ -8,7 +8,7 @@ ghost use Rattle.mdb_shared.specs.Claims.{claiming, claimed_by, Holds, Missed};
 use crate::answers::TryError;
 use crate::driver::SharedDriver;
 use crate::records::Records;
-use crate::rule::{Lock, Place};
+use crate::rule::{Lock, TableSeat};
 use crate::seat::Seat;
 use crate::turn::{begin_step, finish};
 use mdb_base::OutOfMemory;
@@ -56,28 +56,28 @@ fn with_job<C: Core>(core: &C, alloc: Global, log: &Records, reply: Reply) -> Cl
 // One claim by the seat of this number, if the turn isn't taken.
 fn one_claim<C: Core>(
     table: &Lock<C>,
-    place: &mut Place<C>,
+    table_seat: &mut TableSeat<C>,
     alloc: Global,
     number: u32,
 ) -> Result<Claimed, NoClaim>
-    requires table { (table.now.shared.table_id.words ≡ 2) × (table.now.shared.table_id.slots ≡ 1) × (place.old.table_id ≡ table.now.shared.table_id) }
-    requires ready { IsReady number place.old.me }
-    ensures same { (place.new.table_id ≡ place.old.table_id) × (place.new.id ≡ place.old.id) × IsReady number place.new.me }
-    ensures ok { IfOk result (λ claimed. Stepped C.stands (seat_view place.old.table_id number place.old.me.0) (seat_view place.new.table_id number place.new.me.0) claiming (claimed_by claimed) × (place.new.me.0.busy ≡ place.old.me.0.busy)) }
-    ensures job { IfOk result (Holds (C.job_after place.new.me.0.seen)) }
-    ensures err { IfErr result (λ why. Missed (seat_view place.old.table_id number place.old.me.0) (seat_view place.new.table_id number place.new.me.0) why) }
+    requires table { (table.now.shared.table_id.words ≡ 2) × (table.now.shared.table_id.slots ≡ 1) × (table_seat.old.table_id ≡ table.now.shared.table_id) }
+    requires ready { IsReady number table_seat.old.me }
+    ensures same { (table_seat.new.table_id ≡ table_seat.old.table_id) × (table_seat.new.id ≡ table_seat.old.id) × IsReady number table_seat.new.me }
+    ensures ok { IfOk result (λ claimed. Stepped C.stands (seat_view table_seat.old.table_id number table_seat.old.me.0) (seat_view table_seat.new.table_id number table_seat.new.me.0) claiming (claimed_by claimed) × (table_seat.new.me.0.busy ≡ table_seat.old.me.0.busy)) }
+    ensures job { IfOk result (Holds (C.job_after table_seat.new.me.0.seen)) }
+    ensures err { IfErr result (λ why. Missed (seat_view table_seat.old.table_id number table_seat.old.me.0) (seat_view table_seat.new.table_id number table_seat.new.me.0) why) }
 {
     let step = Step {
         moment: 0,
         act: Act::Claim,
     };
-    let (core, log, reply) = match begin_step(table, place, alloc, number, step) {
+    let (core, log, reply) = match begin_step(table, table_seat, alloc, number, step) {
         Ok(begun) => begun,
         Err(TryError::Busy(word, _)) => return Err(NoClaim::Busy(word)),
         Err(TryError::OutOfMemory) => return Err(NoClaim::OutOfMemory),
     };
     let claimed = with_job(&core, alloc, &log, reply);
-    finish(table, place, core, log, number);
+    finish(table, table_seat, core, log, number);
     Ok(claimed)
 }
 
@@ -90,7 +90,7 @@ impl<C: Core> SharedDriver<C> {
         ensures job { IfOk result (Holds (C.job_after seat.new.seen)) }
         ensures err { IfErr result (Missed seat.old seat.new) }
     {
-        let claimed = one_claim(&self.table, &mut seat.place, alloc, seat.number);
+        let claimed = one_claim(&self.table, &mut seat.table_seat, alloc, seat.number);
         if !matches!(&claimed, Err(NoClaim::Busy(_))) {
             self.pass_turn();
         }

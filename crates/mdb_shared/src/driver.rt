@@ -8,9 +8,9 @@ ghost use Rattle.mdb_shared.specs.Seats.{Stepped, OnlySaw, Failed, FoundBusy, fr
 use crate::answers::{TryError, Unclosed};
 use crate::ending::{end, gather};
 use crate::making::make_seats;
-use crate::meeting::{look, meet_at};
+use crate::meeting::{load_count, meet_at};
 use crate::records::Records;
-use crate::rule::{Lock, Opening};
+use crate::rule::{Lock, Beginning};
 use crate::seat::Seat;
 use crate::turn::one_step;
 use atomic_table::{Refused, Table};
@@ -65,7 +65,7 @@ impl<C: Core> SharedDriver<C> {
         ensures own { IfOk result (λ r. AllOf r.0.id r.1.items) }
         ensures fresh { IfOk result (λ r. (i : ℕ) → i < seats → slice_get r.1.items i ≡ Some (fresh_seat r.0.id log i)) }
     {
-        let about = Opening {
+        let about = Beginning {
             base: Snapshot::of(&log),
             seats: seats as u64,
         };
@@ -103,7 +103,7 @@ impl<C: Core> SharedDriver<C> {
         let mut is_news = false;
         let answer = one_step(
             &self.table,
-            &mut seat.place,
+            &mut seat.table_seat,
             alloc,
             seat.number,
             step,
@@ -162,7 +162,7 @@ impl<C: Core> SharedDriver<C> {
         ensures count { length seat.new.seen ≡ result }
         ensures seen { StartsWith seat.new.seen seat.old.seen }
     {
-        look(&self.table, &mut seat.place)
+        load_count(&self.table, &mut seat.table_seat)
     }
 
     /// Both have then seen the same, which begins with what each had seen. It waits for nobody and takes no memory.
@@ -172,7 +172,7 @@ impl<C: Core> SharedDriver<C> {
         ensures met { one.new.seen ≡ other.new.seen }
         ensures seen { StartsWith other.new.seen one.old.seen × StartsWith other.new.seen other.old.seen }
     {
-        meet_at(&self.table, &mut one.place, &mut other.place);
+        meet_at(&self.table, &mut one.table_seat, &mut other.table_seat);
     }
 
     /// The core and the log, where all seats of the driver are given: all entries, of which those that were taken are gone from memory. It waits for nobody

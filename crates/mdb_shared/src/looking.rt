@@ -5,7 +5,7 @@ ghost use Rattle.mdb_shared.specs.Seats.{IsReady, seat_view, OnlySaw, FoundBusy}
 ghost use Rattle.mdb_shared.specs.Turning.{found_busy};
 
 use crate::driver::SharedDriver;
-use crate::rule::{Lock, Place};
+use crate::rule::{Lock, TableSeat};
 use crate::seat::Seat;
 use crate::turn::{give_back, take};
 use mdb_journal::Journal;
@@ -32,23 +32,23 @@ pub trait Look<C: Core> {
 // A look by the seat of this number, unless the turn is taken.
 fn one_look<C: Core, L: Look<C>>(
     table: &Lock<C>,
-    place: &mut Place<C>,
+    table_seat: &mut TableSeat<C>,
     number: u32,
     look: &L,
 ) -> Result<L::Found, u64>
-    requires table { (table.now.shared.table_id.words ≡ 2) × (table.now.shared.table_id.slots ≡ 1) × (place.old.table_id ≡ table.now.shared.table_id) }
-    requires ready { IsReady number place.old.me }
-    ensures same { (place.new.table_id ≡ place.old.table_id) × (place.new.id ≡ place.old.id) × IsReady number place.new.me }
-    ensures ok { IfOk result (λ found. OnlySaw (seat_view place.old.table_id number place.old.me.0) (seat_view place.new.table_id number place.new.me.0) × (place.new.me.0.busy ≡ place.old.me.0.busy) × L.tells look.now place.new.me.0.seen found) }
-    ensures err { IfErr result (λ word. (place.new.me ≡ (found_busy place.old.me.0 word, [])) × (word ≢ 0) × (word ≢ number + 1)) }
+    requires table { (table.now.shared.table_id.words ≡ 2) × (table.now.shared.table_id.slots ≡ 1) × (table_seat.old.table_id ≡ table.now.shared.table_id) }
+    requires ready { IsReady number table_seat.old.me }
+    ensures same { (table_seat.new.table_id ≡ table_seat.old.table_id) × (table_seat.new.id ≡ table_seat.old.id) × IsReady number table_seat.new.me }
+    ensures ok { IfOk result (λ found. OnlySaw (seat_view table_seat.old.table_id number table_seat.old.me.0) (seat_view table_seat.new.table_id number table_seat.new.me.0) × (table_seat.new.me.0.busy ≡ table_seat.old.me.0.busy) × L.tells look.now table_seat.new.me.0.seen found) }
+    ensures err { IfErr result (λ word. (table_seat.new.me ≡ (found_busy table_seat.old.me.0 word, [])) × (word ≢ 0) × (word ≢ number + 1)) }
 {
     // The turn is held from here to `give_back`.
-    let (core, records) = match take(table, place, number) {
+    let (core, records) = match take(table, table_seat, number) {
         Ok(state) => state,
         Err(word) => return Err(word),
     };
     let found = look.look(&core, records.journal());
-    give_back(table, place, core, records);
+    give_back(table, table_seat, core, records);
     Ok(found)
 }
 
@@ -60,7 +60,7 @@ impl<C: Core> SharedDriver<C> {
         ensures ok { IfOk result (λ found. OnlySaw seat.old seat.new × (seat.new.busy ≡ seat.old.busy) × L.tells look.now seat.new.seen found) }
         ensures err { IfErr result (λ word. (word ≢ 0) × (word ≢ seat.old.number + 1) × (seat.new.seen ≡ seat.old.seen) × (seat.new.mine ≡ seat.old.mine) × (seat.new.busy ≡ seat.old.busy ++ word ∷ [])) }
     {
-        let found = one_look(&self.table, &mut seat.place, seat.number, look);
+        let found = one_look(&self.table, &mut seat.table_seat, seat.number, look);
         if found.is_ok() {
             self.pass_turn();
         }

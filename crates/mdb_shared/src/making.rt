@@ -4,17 +4,17 @@ ghost use Rattle.std.specs.Prelude.{◌≡◌, ◌<◌, ℕ, [], length, slice_g
 ghost use Rattle.mdb_shared.specs.Turning.{first_view};
 ghost use Rattle.mdb_shared.specs.Seats.{fresh_seat};
 
-use crate::rule::{Lock, Number, Place};
+use crate::rule::{Lock, Number, TableSeat};
 use crate::seat::Seat;
 use mdb_base::OutOfMemory;
 use mdb_log::Core;
 use std::alloc::Global;
 
 // The seats, by number.
-pub(super) fn make_seats<C: Core>(
+pub(crate) fn make_seats<C: Core>(
     alloc: Global,
     table: &Lock<C>,
-    mut keeper: Place<C>,
+    mut keeper: TableSeat<C>,
     count: u32,
 ) -> Result<Vec<Seat<C>>, OutOfMemory>
     requires table { (table.now.shared.table_id.words ≡ 2) × (keeper.table_id ≡ table.now.shared.table_id) × (table.now.shared.key.seats ≡ count) }
@@ -26,8 +26,8 @@ pub(super) fn make_seats<C: Core>(
         return Err(OutOfMemory);
     };
     for number in 0..count {
-        let place = table.shared.split_seat::<Number>(&mut keeper);
-        seats.push_reserved(Seat { place, number });
+        let table_seat = table.shared.split_seat::<Number>(&mut keeper);
+        seats.push_reserved(Seat { table_seat, number });
     }
     Ok(seats)
 }

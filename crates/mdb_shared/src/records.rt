@@ -33,7 +33,7 @@ impl Model for Records {
 
 impl Records {
     /// The entries of a log, of which none was handed out.
-    pub fn begin(log: Log) -> Records
+    pub(crate) fn begin(log: Log) -> Records
         ensures { result ≡ log }
     {
         Records {
@@ -42,33 +42,33 @@ impl Records {
     }
 
     /// The log as others see it.
-    pub fn journal(&self) -> &Journal
+    pub(crate) fn journal(&self) -> &Journal
         ensures { result.now.all ≡ self.now }
     {
         &self.journal
     }
 
     /// The log, for others.
-    pub fn into_journal(self) -> Journal
+    pub(crate) fn into_journal(self) -> Journal
         ensures { result.all ≡ self }
     {
         self.journal
     }
 
     /// How many entries ever came.
-    pub fn len(&self) -> u64
+    pub(crate) fn len(&self) -> u64
         ensures { result ≡ length self.now }
     {
         self.journal.len()
     }
 
     /// The last entry is news to others.
-    pub fn ring(&self) -> bool {
+    pub(crate) fn ring(&self) -> bool {
         self.journal.news() == self.journal.len()
     }
 
     /// One entry more, by a step of the core.
-    pub fn step<C: Core>(
+    pub(crate) fn step<C: Core>(
         &mut self,
         core: &mut C,
         alloc: Global,
@@ -88,7 +88,7 @@ impl Records {
     }
 
     /// The entries that were not handed out yet are handed out: all from one on.
-    pub fn take(&mut self, alloc: Global) -> Taken
+    pub(crate) fn take(&mut self, alloc: Global) -> Taken
         ensures same { self.new ≡ self.old }
         ensures within { (result.from ≤ length self.old) × (length self.old < 2 ^ 64) }
         ensures entries { result.entries ≡ drop result.from self.old }

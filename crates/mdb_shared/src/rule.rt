@@ -12,7 +12,7 @@ use std::marker::PhantomData;
 use std::snapshot::Snapshot;
 
 /// A seat's number, and the entries past the base that carry it.
-pub struct Part {
+pub struct SeatEntries {
     pub number: u64,
     pub mine: LinkedList<Entry>,
 }
@@ -24,7 +24,7 @@ pub struct View {
     /// What the shorter of two seats had seen when they were last joined.
     pub told: LinkedList<Entry>,
     /// Its number with its entries: none in a copy, several after joins.
-    pub parts: LinkedList<Part>,
+    pub own_numbers: LinkedList<SeatEntries>,
     /// The next number, in the one view that keeps it.
     pub next: Option<u64>,
     /// It has the turn.
@@ -35,26 +35,26 @@ pub struct View {
 
 /// The log that the driver was given, and how many seats it has.
 #[derive(Drop)]
-pub struct Opening {
+pub struct Beginning {
     pub base: Snapshot<Log>,
     pub seats: u64,
 }
 
 /// What lies in the slot.
-pub type Held<C> = Option<(C, Records)>;
+pub type Slot<C> = Option<(C, Records)>;
 
 /// The turn word, the count word and the slot, which keep the rule.
-pub type Lock<C> = Table<Held<C>, View, Opening, Turns<C>, Global>;
+pub type Lock<C> = Table<Slot<C>, View, Beginning, Turns<C>, Global>;
 
 /// A seat of the table.
-pub type Place<C> = atomic_table::Seat<Held<C>, View>;
+pub type TableSeat<C> = atomic_table::Seat<Slot<C>, View>;
 
 /// The rule of turn word, count word and slot.
 pub struct Turns<C> {
     core: PhantomData<C>,
 }
 
-impl<C: Core> TableRule<Held<C>, View, Opening> for Turns<C> {
+impl<C: Core> TableRule<Slot<C>, View, Beginning> for Turns<C> {
     ghost use Rattle.mdb_shared.specs.Turning.{Keeps, first_view};
 
     ghost holds = { λ key. Keeps C.stands key.base.value key.seats };
@@ -63,20 +63,20 @@ impl<C: Core> TableRule<Held<C>, View, Opening> for Turns<C> {
 }
 
 /// The turn word goes from 0 to the seat's number and 1.
-pub struct Claim<C> {
+pub struct TakeTurn<C> {
     core: PhantomData<C>,
 }
 
-impl<C: Core> Play<Held<C>, View> for Claim<C> {
-    ghost use Rattle.mdb_shared.specs.Turning.{claimed};
+impl<C: Core> Play<Slot<C>, View> for TakeTurn<C> {
+    ghost use Rattle.mdb_shared.specs.Turning.{turn_taken};
 
-    ghost then = { claimed C.stands };
+    ghost then = { turn_taken C.stands };
 }
 
 /// The count goes up by one.
 pub struct Add;
 
-impl<C> Play<Held<C>, View> for Add {
+impl<C> Play<Slot<C>, View> for Add {
     ghost use Rattle.mdb_shared.specs.Turning.{added};
 
     ghost then = { added };
@@ -85,19 +85,19 @@ impl<C> Play<Held<C>, View> for Add {
 /// The turn word goes back to 0.
 pub struct Release;
 
-impl<C> Play<Held<C>, View> for Release {
-    ghost use Rattle.mdb_shared.specs.Turning.{let_go};
+impl<C> Play<Slot<C>, View> for Release {
+    ghost use Rattle.mdb_shared.specs.Turning.{turn_released};
 
-    ghost then = { let_go };
+    ghost then = { turn_released };
 }
 
 /// The count is loaded.
-pub struct Look;
+pub struct LoadCount;
 
-impl<C> Play<Held<C>, View> for Look {
-    ghost use Rattle.mdb_shared.specs.Turning.{looked};
+impl<C> Play<Slot<C>, View> for LoadCount {
+    ghost use Rattle.mdb_shared.specs.Turning.{count_loaded};
 
-    ghost then = { looked };
+    ghost then = { count_loaded };
 }
 
 /// A new numbered seat is cut off.

@@ -1,6 +1,6 @@
 //! Seats at a shared driver.
 
-use crate::rule::Place;
+use crate::rule::TableSeat;
 use mdb_log::Core;
 use std::marker::Model;
 
@@ -8,7 +8,7 @@ use std::marker::Model;
 /// the turn words that its failed tries found.
 #[derive(Drop)]
 pub struct Seat<C: Core> {
-    pub(crate) place: Place<C>,
+    pub(crate) table_seat: TableSeat<C>,
     pub(crate) number: u32,
 }
 
@@ -32,7 +32,7 @@ impl<C: Core> Model for Seat<C> {
 
     ghost coded = { Prim.hlevel (codes, fields_coded) };
 
-    ghost view = { λ s. seat_view s.place.table_id s.number s.place.me.0 };
+    ghost view = { λ s. seat_view s.table_seat.table_id s.number s.table_seat.me.0 };
 
-    ghost invariant = { λ s. IsReady s.number s.place.me };
+    ghost invariant = { λ s. IsReady s.number s.table_seat.me };
 }

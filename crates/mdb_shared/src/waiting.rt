@@ -40,7 +40,7 @@ impl<C: Core> SharedDriver<C> {
         self.at_turn.fetch_sub(1, Ordering::SeqCst);
     }
 
-    // The turn was let go: one who sleeps for it is woken. Who goes to sleep is counted before the kernel looks at the turn word, so either
+    // The turn was released: one who sleeps for it is woken. Who goes to sleep is counted before the kernel looks at the turn word, so either
     // this counts it, or it finds the word changed and doesn't sleep.
     pub(crate) fn pass_turn(&self) {
         if self.at_turn.load(Ordering::SeqCst) != 0 {

@@ -1,4 +1,4 @@
--- What a part takes to its thread, and what the threads share.
+-- What a player takes to its thread, and what the threads share.
 use base.Fml.{Lft}
 use mir.Syntax.{Sym, Lifetime}
 use denote.Builtin.{u32}
@@ -16,8 +16,8 @@ use Rattle.mdb_base.proofs.out_of_memory.OutOfMemory.TheSendSync.{the_field_send
 use Rattle.mdb_log.specs.declared.driver.Core as Core
 use Rattle.mdb_shared.specs.contracts.driver.SharedDriver as Driver
 use Rattle.mdb_shared.proofs.Crossing.{seat_crosses, driver_lends}
-use Rattle.mdb_shared_runs.specs.contracts.part.Part as Part
-use Rattle.mdb_shared_runs.specs.contracts.part.Played as Played
+use Rattle.mdb_shared_runs.specs.contracts.player.Player as Player
+use Rattle.mdb_shared_runs.specs.contracts.player.Played as Played
 use Rattle.mdb_log.specs.contracts.step.Step as Step
 use Rattle.mdb_shared_runs.proofs.Lending.{step}
 
@@ -31,14 +31,14 @@ pub steps : IsSync Step.the_row
 steps = search (step, recorded_sync)
 
 module _ (C : RattleType) (g : Core.Ghosts C.Denot) where
-  pub part_crosses : IsSend C → IsSend (Part.the_field C g).row
-  part_crosses s = struct_send (shape (Part.the_type C g)) (number, (seat_crosses C g s, tt))
+  pub part_crosses : IsSend C → IsSend (Player.the_field C g).row
+  part_crosses s = struct_send (shape (Player.the_type C g)) (number, (seat_crosses C g s, tt))
 
   -- a seat beside what became of its part
   pub played_crosses : IsSend C → IsSend (Played.the_row C g)
   played_crosses s = recorded_send (Played.the_field C g).row _ _ (Played.the_type C g).to_one (struct_send (shape (Played.the_type C g)) (seat_crosses C g s, (search (memory, crosses, sendable) depth 20, tt)))
 
-  -- the closure that plays a part has the runtime, the allocator, the count of parts, the gate, the driver and the steps
+  -- the closure that plays a player has the runtime, the allocator, the count of players, the gate, the driver and the steps
   pub closure_lends : (ν : Sym) (R G S : RattleType) (ℓ ℓ₁ ℓ₂ ℓ₃ : Lifetime) (κ κ₁ κ₂ κ₃ : Lft) → IsSend C → IsSync R → IsSync G → IsSync S
       → IsSync (TupleAt ν (ShrRef ℓ κ R ∷ Heap.the_row ∷ u32 ∷ ShrRef ℓ₁ κ₁ G ∷ ShrRef ℓ₂ κ₂ (Driver.the_row C g) ∷ ShrSlice ℓ₃ κ₃ S ∷ []))
   closure_lends ν R G S ℓ ℓ₁ ℓ₂ ℓ₃ κ κ₁ κ₂ κ₃ c r a s =
@@ -46,5 +46,5 @@ module _ (C : RattleType) (g : Core.Ghosts C.Denot) where
       recorded_sync (field T).row _ _ T.to_one
       (struct_sync (shape T) (shr_sync ℓ κ R r, (heap, (number_lends, (shr_sync ℓ₁ κ₁ G a, (shr_sync ℓ₂ κ₂ (Driver.the_row C g) (driver_lends C g c), (shr_slice_sync ℓ₃ κ₃ S s, tt)))))))
 
--- for `search`: where the core may cross, parts do
-pub ruleset parts = (part_crosses, crosses, sendable)
+-- for `search`: where the core may cross, players do
+pub ruleset players = (part_crosses, crosses, sendable)

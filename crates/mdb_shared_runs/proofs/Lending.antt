@@ -16,7 +16,7 @@ use Rattle.mdb_base.proofs.topology_version.TopologyVersion.TheSendSync.{the_fie
 use Rattle.mdb_base.specs.contracts.document.Doc as Doc
 use Rattle.mdb_base.specs.contracts.held_document.Document as Document
 use Rattle.mdb_base.specs.contracts.held_document.Document.TheInside as Inside
-use Rattle.mdb_events.proofs.held.Held.TheSendSync.{the_sync as held}
+use Rattle.mdb_events.proofs.boxed.Boxed.TheSendSync.{the_sync as held}
 use Rattle.mdb_hello.specs.contracts.response.HelloCommandResponse as Response
 use Rattle.mdb_log.proofs.step.Established.TheSendSync.{the_field_sync as established}
 use Rattle.mdb_log.proofs.step.FailedAt.TheSendSync.{the_field_sync as failed_at}

@@ -15,13 +15,13 @@ use Rattle.mdb_topology.specs.Stepping.{is_driver_act}
 use Rattle.mdb_topology.specs.Driving.{IsFirstStep}
 use Rattle.mdb_topology.specs.Lines.{entry_after}
 use Rattle.mdb_topology.specs.Logging.{IsDriverOf, AreDriven, opening_step}
-use Rattle.mdb_topology.proofs.Driven.{legal-log, kept-log}
+use Rattle.mdb_topology.proofs.DriverOpened.ScriptsLog.{legal-log, kept-log}
 use Rattle.mdb_histories.proofs.Logs.{sound-log}
 use Rattle.mdb_histories.proofs.OfPlain.Drivers.{plain-log}
 use Rattle.mdb_runs.specs.Runs.{IsWithin}
 use Rattle.mdb_runs.proofs.Between.{has-driver}
 use Rattle.mdb_runs.proofs.Taken.{taken}
-use Rattle.mdb_shared_runs.specs.Parts.{IsSharedOn}
+use Rattle.mdb_shared_runs.specs.Plays.{IsSharedOn}
 use Rattle.mdb_laws.specs.Answers.{AreAnswers}
 use Rattle.mdb_shared_runs.specs.Scripts.{Shared}
 
@@ -92,7 +92,7 @@ begins_with (s ∷ ss) first some is =
     let rest : take (length (s ∷ ss) - 1) ss ≡ ss = rw size (take-length ss) in
     cc
 
--- what the parts share is the log of all steps
+-- what the players share is the log of all steps
 pub shares_all : {E : Type 0} (k : ℕ) (steps : List Step) (first : Step) (opened : List Entry) (r : Result (List Entry) E) → 1 ≤ length steps → first ≡ get_or steps 0 first → IsFirstStep first
     → opened ≡ entry_after 0 [] first ∷ [] → IfOk r (IsSharedOn IsDriverOf k opened (take (length steps - 1) (drop 1 steps))) → IfOk r (λ log. Shared k steps log × All (λ (e : Entry). HasSpelling e.step) log)
 shares_all k steps first opened (Err e) some is opens begun h = tt

@@ -1,4 +1,4 @@
--- What a part did, entry by entry, and where its entries stand in the one log.
+-- What a player did, entry by entry, and where its entries stand in the one log.
 use Rattle.std.proofs.Common.{◌≡◌, ℕ, suc, ◌+◌, ◌%◌, ◌<◌, ◌≤◌, ◌≢◌, Bool, true, false, if◌then◌else◌, ◌==◌, List, [], ◌∷◌, ◌++◌, length, map, take, get_or, refl, sym, ap, ◌∙◌, arith, subst, length-append, eq-eqb}
 use Rattle.std.proofs.lemmas.List.{append-nil, append_assoc, append_cancel_left}
 use Rattle.mdb_log.specs.declared.log.Entry.{Entry}
@@ -7,8 +7,8 @@ use Rattle.mdb_log.specs.Driver.{StartsWith}
 use Rattle.mdb_log.specs.declared.reply.Reply.{Reply}
 use Rattle.mdb_shared.specs.Turning.{own}
 use Rattle.mdb_shared.specs.Seats.{SeatView, Stepped, raised, last_in}
-use Rattle.mdb_shared_runs.specs.Shares.{part_of, raised_along}
-use Rattle.mdb_shared_runs.specs.Parts.{Adds, Plays, HasPlayed}
+use Rattle.mdb_shared_runs.specs.Shares.{lines_of_player, raised_along}
+use Rattle.mdb_shared_runs.specs.Plays.{Adds, Plays, HasPlayed}
 use Rattle.mdb_shared_runs.proofs.Dealing.{part_grows, part_stays}
 
 starts_trans : (long mid short : List Entry) → StartsWith long mid → StartsWith mid short → StartsWith long short
@@ -39,15 +39,15 @@ played_push ss x s s1 s2 (es, mine, plays) same (before, e, front, seat, step, s
   subst (λ (l : List Entry). Plays s.number s.seen (ss ++ x ∷ []) (es ++ e ∷ []) l) (sym seen) (plays_push s.number s.seen ss es s1.seen x before e plays front (seat ∙ same) step),
 )
 
--- the line is the part's, and is done
+-- the line is the player's, and is done
 pub played_step : (k j i n : ℕ) (xs : List Step) (x : Step) (s s1 s2 : SeatView) → i < length xs → x ≡ get_or xs i x → n ≡ 1 + i → n % k ≡ j
-    → HasPlayed (part_of k j (take i xs)) s s1 → s1.number ≡ s.number → Adds x s1 s2 → HasPlayed (part_of k j (take (i + 1) xs)) s s2
+    → HasPlayed (lines_of_player k j (take i xs)) s s1 → s1.number ≡ s.number → Adds x s1 s2 → HasPlayed (lines_of_player k j (take (i + 1) xs)) s s2
 played_step k j i n xs x s s1 s2 within is at here played same added =
-    subst (λ (l : List Step). HasPlayed l s s2) (sym (part_grows k j xs i n x within is at here)) (played_push (part_of k j (take i xs)) x s s1 s2 played same added)
+    subst (λ (l : List Step). HasPlayed l s s2) (sym (part_grows k j xs i n x within is at here)) (played_push (lines_of_player k j (take i xs)) x s s1 s2 played same added)
 
--- the line is another part's
+-- the line is another player's
 pub played_skip : (k j i n : ℕ) (xs : List Step) (x : Step) (s s1 : SeatView) → i < length xs → x ≡ get_or xs i x → n ≡ 1 + i → n % k ≢ j
-    → HasPlayed (part_of k j (take i xs)) s s1 → HasPlayed (part_of k j (take (i + 1) xs)) s s1
+    → HasPlayed (lines_of_player k j (take i xs)) s s1 → HasPlayed (lines_of_player k j (take (i + 1) xs)) s s1
 played_skip k j i n xs x s s1 within is at other played = subst (λ (l : List Step). HasPlayed l s s1) (sym (part_stays k j xs i n x within is at other)) played
 
 pub plays_length : (j : ℕ) (seen : List Entry) (ss : List Step) (es now : List Entry) → Plays j seen ss es now → length es ≡ length ss
@@ -90,7 +90,7 @@ own_append j (e ∷ xs) ys = own_if (e.seat == j) e (own j (xs ++ ys)) (own j xs
 own_first : (j : ℕ) (e : Entry) (es : List Entry) → e.seat ≡ j → own j (e ∷ es) ≡ e ∷ own j es
 own_first j e es is = ap (λ (b : Bool). if b then e ∷ own j es else own j es) (eq-eqb e.seat j is)
 
--- the part's entries behind what was seen are at least those
+-- the player's entries behind what was seen are at least those
 at_least : (j : ℕ) (seen : List Entry) (ss : List Step) (es now rest : List Entry) → Plays j seen ss es now → StartsWith (seen ++ rest) now → length es ≤ length (own j rest)
 at_least j seen [] [] now rest h front = omega arith
 at_least j seen [] (e ∷ es) now rest h front = absurd h
@@ -107,7 +107,7 @@ none_if : (b : Bool) (e : Entry) (xs : List Entry) → (if b then e ∷ xs else 
 none_if true e xs h = absurd (cc)
 none_if false e xs h = (refl, h)
 
--- entries of other parts are passed over
+-- entries of other players are passed over
 skip : (j : ℕ) (seen between rest : List Entry) (s : Step) (ss : List Step) → own j between ≡ [] → raised_along j seen (between ++ rest) (s ∷ ss) ≡ raised_along j (seen ++ between) rest (s ∷ ss)
 skip j seen [] rest s ss none = ap (λ (l : List Entry). raised_along j l rest (s ∷ ss)) (sym (append-nil seen))
 skip j seen (f ∷ between) rest s ss none =
@@ -126,7 +126,7 @@ short_is_nil (x ∷ xs) h = absurd (omega (arith, h))
 tail_same : (e : Entry) (xs ys : List Entry) → e ∷ xs ≡ e ∷ ys → xs ≡ ys
 tail_same e xs ys h = cc
 
--- The part's entries in the log are those that it added, so each was raised to the last moment before it.
+-- The player's entries in the log are those that it added, so each was raised to the last moment before it.
 pub along : (j : ℕ) (seen : List Entry) (ss : List Step) (es now rest : List Entry) → Plays j seen ss es now → StartsWith (seen ++ rest) now → own j rest ≡ es
     → map (λ (e : Entry). e.step) es ≡ raised_along j seen rest ss
 along j seen [] [] now rest h front own_is = sym (along_nil j seen rest)

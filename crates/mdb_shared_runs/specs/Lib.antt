@@ -1,6 +1,6 @@
 pub mod Reading
 pub mod Shares
-pub mod Parts
+pub mod Plays
 pub mod Scripts
 pub mod Runs
 pub mod Program

@@ -10,7 +10,7 @@ use Rattle.mdb_runs.specs.Runs.{Seen}
 use Rattle.mdb_runs.specs.Tool.{ToolRuns, ToolMakes, ToolRefuses}
 use Rattle.mdb_shared_runs.specs.Runs.{SharedFinished, SharedEnded}
 
--- what a run by k parts comes to, by its status
+-- what a run by k players comes to, by its status
 abbrev pub ProgramShares : ℕ → Seen → Seen → Told → Told → ℕ → Type 0
 ProgramShares k old new told new_told answer =
     ((log : List Entry) × (answer ≡ 0) × SharedFinished k old new log × (new_told ≡ told))
@@ -26,6 +26,6 @@ ProgramEndsAs command.Usage old new told new_told answer = ToolRefuses old new t
 abbrev pub ProgramEnds : List (List ℕ) → Seen → Seen → Told → Told → ℕ → Type 0
 ProgramEnds words old new told new_told answer = (c : ToolCommand) × Says words c × ProgramEndsAs c old new told new_told answer
 
--- the words ask for the script on the source, by one part or by several
+-- the words ask for the script on the source, by one player or by several
 abbrev pub AsksScript : List (List ℕ) → Type 0
 AsksScript words = (words ≡ []) ⊎ ((k : ℕ) × Names words (command.Share k))

@@ -12,7 +12,7 @@ use Rattle.mdb_lines.specs.Loops.{TookFront, ReadsAll}
 use Rattle.mdb_runs.specs.Runs.{Seen, IsScript, IsBadAt}
 use Rattle.mdb_shared_runs.specs.Scripts.{Shared}
 
--- The input is a script, this is a log of it that k parts share, and this is the text of the log.
+-- The input is a script, this is a log of it that k players share, and this is the text of the log.
 abbrev pub IsShare : ℕ → List ℕ → List Entry → List ℕ → Type 0
 IsShare k input log text = (steps : List Step) × IsScript input steps × Shared k steps log × (text ≡ text_of log)
 

@@ -1,4 +1,4 @@
--- The one log of a script whose lines parts share.
+-- The one log of a script whose lines players share.
 use Rattle.std.specs.Prelude.{◌≡◌, ℕ, List, [], ◌∷◌, ◌++◌}
 use Rattle.mdb_log.specs.declared.log.Entry.{Entry}
 use Rattle.mdb_log.specs.declared.step.Step.{Step}
@@ -12,7 +12,7 @@ use Rattle.mdb_histories.specs.SoundHistory.{SoundHistory}
 use Rattle.mdb_runs.specs.Runs.{HasDriver}
 use Rattle.mdb_shared_runs.specs.Shares.{IsShared}
 
--- The log of a script that k parts share: the first step opens the driver, and the others are shared.
+-- The log of a script that k players share: the first step opens the driver, and the others are shared.
 abbrev pub SharesSteps : ℕ → List Step → List Entry → Type 0
 SharesSteps k [] log = log ≡ []
 SharesSteps k (first ∷ later) log =

@@ -1,8 +1,8 @@
-//! What is called before each line of a part.
+//! What is called before each line of a player.
 
-/// A call before each line, made by the worker of the part, which has no turn then. Lines are counted from 1 after the one that opens.
+/// A call before each line, made by the worker of the player, which has no turn then. Lines are counted from 1 after the one that opens.
 pub trait LineGate: Sync {
-    fn before(&self, part: u32, line: u32);
+    fn before(&self, player: u32, line: u32);
 }
 
 /// A gate that does nothing.

@@ -4,8 +4,8 @@
 mod gate;
 mod lines;
 mod opening;
-mod part;
-mod parts;
+mod player;
+mod players;
 mod program;
 mod shared;
 mod text;

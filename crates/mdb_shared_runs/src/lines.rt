@@ -72,7 +72,7 @@ fn add_step(alloc: Global, line: &[u8], number: u32, steps: &mut Vec<Step>) -> R
 }
 
 /// The steps of all lines.
-pub(super) fn read_steps(alloc: Global, input: &[u8]) -> Result<Vec<Step>, RunError>
+pub(crate) fn read_steps(alloc: Global, input: &[u8]) -> Result<Vec<Step>, RunError>
     requires { length input.now ≤ MAX_INPUT }
     ensures steps { IfOk result (λ steps. IsScript input.now steps.items) }
     ensures few { IfOk result (λ steps. length steps.items ≤ MAX_INPUT) }

@@ -11,7 +11,7 @@ use mdb_topology::TopologyCore;
 use std::alloc::Global;
 
 /// Opens the driver, and begins its log.
-pub(super) fn open(alloc: Global, first: &Step) -> Result<(TopologyCore, Log), OutOfMemory>
+pub(crate) fn open(alloc: Global, first: &Step) -> Result<(TopologyCore, Log), OutOfMemory>
     requires opens { IsFirstStep first.now }
     ensures entry { IfOk result (λ r. r.1 ≡ entry_after 0 [] first.now ∷ []) }
     ensures opened { IfOk result (λ r. IsDriverOf r.0 r.1) }

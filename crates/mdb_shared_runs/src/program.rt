@@ -1,4 +1,4 @@
-//! The program: the tool, and scripts that parts share.
+//! The program: the tool, and scripts that players share.
 
 ghost use Rattle.std.specs.Prelude.{◌≡◌, ◌≤◌, ◌<◌, ℕ, List, length, map, Some, IfSome, IfNone};
 ghost use Rattle.mdb_log.specs.declared.step.Step.{Step};
@@ -21,9 +21,9 @@ use std::alloc::Global;
 use std::sync::Wait;
 use std::thread::Threads;
 
-// How many parts the words ask for.
-fn parts_of(words: &[&str]) -> Option<u32>
-    ensures parts { IfSome result (λ k. Names (map (λ w. w.now) words.now) (Share k)) }
+// How many players the words ask for.
+fn player_count(words: &[&str]) -> Option<u32>
+    ensures players { IfSome result (λ k. Names (map (λ w. w.now) words.now) (Share k)) }
     ensures none { IfNone result ((k : ℕ) → ¬ (Names (map (λ w. w.now) words.now) (Share k))) }
 {
     match read_words(words) {
@@ -32,7 +32,7 @@ fn parts_of(words: &[&str]) -> Option<u32>
     }
 }
 
-// Runs the script on the source by k parts, and answers its status.
+// Runs the script on the source by k players, and answers its status.
 fn share<R: Threads + Wait + Sync, S: Source, K: Sink, E: Sink>(
     rt: &R,
     alloc: Global,
@@ -61,8 +61,8 @@ fn share<R: Threads + Wait + Sync, S: Source, K: Sink, E: Sink>(
     }
 }
 
-/// Runs the script on `source` by k parts at the words `share k`, k being 1 to 8, and answers the status: 0 where the script ran to its end, 1
-/// for want of memory, 3 and 4 for a fault of source or sink, 5 for a malformed line, 6 for an input that is too long. What ended the run goes
+/// Runs the script on `source` by k players at the words `share k`, k being 1 to 8, and answers the status: 0 where the script ran to its end, 1
+/// for lack of memory, 3 for a read error, 4 for a write error, 5 for a malformed line, 6 for an input that is too long. What ended the run goes
 /// to `errors`. All other words are those of the tool.
 pub fn run_program<R: Threads + Wait + Sync, S: Source, K: Sink, E: Sink>(
     rt: &R,
@@ -91,7 +91,7 @@ pub fn run_program<R: Threads + Wait + Sync, S: Source, K: Sink, E: Sink>(
     ensures too_long { (input : List ℕ) → AsksScript (map (λ w. w.now) words.now) → S.left source.old ≡ Some input → MAX_INPUT < length input → ¬ (Rose (S.faults source.old) (S.faults source.new))
         → ToolTells TooLong (record { held = E.held errors.old; faults = E.faults errors.old }) (record { held = E.held errors.new; faults = E.faults errors.new }) result }
 {
-    match parts_of(words) {
+    match player_count(words) {
         Some(k) => share(rt, alloc, k, source, sink, errors),
         None => run_tool(alloc, words, source, sink, errors),
     }

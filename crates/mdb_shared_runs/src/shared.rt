@@ -1,4 +1,4 @@
-//! Runs of one script by several parts.
+//! Runs of one script by several players.
 
 ghost use Rattle.std.specs.Prelude.{◌≡◌, ◌<◌, ◌≤◌, ℕ, List, All, IfOk, IfErr, MatchResult, Some, length};
 ghost use Rattle.mdb_base.specs.Outside.{Rose};
@@ -16,7 +16,7 @@ ghost use Rattle.mdb_shared_runs.specs.Runs.{IsShare, Writes, SharedFinished, Sh
 use crate::gate::{LineGate, NoGate};
 use crate::lines::read_steps;
 use crate::opening::open;
-use crate::parts::share;
+use crate::players::share;
 use crate::text::log_text;
 use mdb_base::{OutOfMemory, Sink, Source};
 use mdb_lines::{MAX_INPUT, RunError, read_all, write_all};
@@ -25,7 +25,7 @@ use std::alloc::Global;
 use std::sync::Wait;
 use std::thread::Threads;
 
-// The log of the steps: the first opens the driver, and the parts do the others.
+// The log of the steps: the first opens the driver, and the players do the others.
 fn share_steps<R: Threads + Wait + Sync, G: LineGate>(
     rt: &R,
     alloc: Global,
@@ -36,7 +36,7 @@ fn share_steps<R: Threads + Wait + Sync, G: LineGate>(
     requires allowed { AreAllowed 1 steps.now }
     requires within { IsWithin steps.now }
     requires few { length steps.now ≤ MAX_INPUT }
-    requires parts { (1 ≤ k) × (k ≤ 8) }
+    requires players { (1 ≤ k) × (k ≤ 8) }
     ensures shared { IfOk result (Shared k steps.now) }
     ensures spelled { IfOk result (All (λ e. HasSpelling e.step)) }
 {
@@ -71,7 +71,7 @@ fn share_input<R: Threads + Wait + Sync, G: LineGate>(
     input: &[u8],
 ) -> Result<(Log, Vec<u8>), RunError>
     requires short { length input.now ≤ MAX_INPUT }
-    requires parts { (1 ≤ k) × (k ≤ 8) }
+    requires players { (1 ≤ k) × (k ≤ 8) }
     ensures share { IfOk result (λ r. IsShare k input.now r.0 r.1.items) }
     ensures none { IfErr result (NoScript input.now) }
 {
@@ -116,8 +116,8 @@ fn run<R: Threads + Wait + Sync, S: Source, K: Sink, G: LineGate>(
     }
 }
 
-/// Reads a whole script, opens its driver, and lets k parts do the lines behind the first, each on a seat of its own in a thread of its own:
-/// the line i, counted from 1 behind the first, is one of the part i mod k, which does its lines in order and calls the gate before each. Once
+/// Reads a whole script, opens its driver, and lets k players do the lines behind the first, each on a seat of its own in a thread of its own:
+/// the line i, counted from 1 behind the first, is one of the player i mod k, which does its lines in order and calls the gate before each. Once
 /// all have ended, the text of the one log is written, flushed.
 pub fn run_gated<R: Threads + Wait + Sync, S: Source, K: Sink, G: LineGate>(
     rt: &R,
@@ -154,7 +154,7 @@ pub fn run_gated<R: Threads + Wait + Sync, S: Source, K: Sink, G: LineGate>(
     run(rt, alloc, k, gate, source, sink)
 }
 
-/// A run of a script by k parts with no gate.
+/// A run of a script by k players with no gate.
 pub fn run_shared<R: Threads + Wait + Sync, S: Source, K: Sink>(
     rt: &R,
     alloc: Global,

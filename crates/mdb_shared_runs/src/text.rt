@@ -10,7 +10,7 @@ use mdb_log::Entry;
 use std::alloc::Global;
 
 /// The text of all entries.
-pub(super) fn log_text(alloc: Global, entries: &[Entry]) -> Result<Vec<u8>, OutOfMemory>
+pub(crate) fn log_text(alloc: Global, entries: &[Entry]) -> Result<Vec<u8>, OutOfMemory>
     requires { All (λ e. HasSpelling e.step) entries.now }
     ensures { IfOk result (λ text. text.items ≡ text_of entries.now) }
 {

@@ -1,12 +1,12 @@
 -- All slots that have a number are chained, one after the other.
 use Rattle.std.proofs.Common.{◌≡◌, ℕ, zero, suc, ◌<◌, Option, Some, None, List, [], length, refl, sym, ◌∙◌, ap, subst, set}
-use Rattle.mdb_slots.specs.declared.entry.Entry.{Entry}
+use Rattle.mdb_slots.specs.declared.index_entry.IndexEntry.{IndexEntry}
 use Rattle.mdb_slots.specs.SlotIndex.{entry, head_at, place_at, number_at, numbers_of, masked, trail, bucket_in, Single, IsBucket, IsIndex}
 use Rattle.mdb_slots.proofs.Numbers.{numbers-at, numbers-set, numbers-length, set-number, masked-none, masked-next, masked-at, masked-some, masked-length}
 use Rattle.mdb_slots.proofs.IndexInserts.{index-insert}
 
 -- no slot is chained
-pub nothing-chained : (hs : List (Option ℕ)) (es : List Entry) → ((b : ℕ) → head_at hs b ≡ None) → IsIndex hs es (masked zero (numbers_of es))
+pub nothing-chained : (hs : List (Option ℕ)) (es : List IndexEntry) → ((b : ℕ) → head_at hs b ≡ None) → IsIndex hs es (masked zero (numbers_of es))
 nothing-chained hs es h =
     record {
       buckets = λ b q. rw (h b) (bucket b);
@@ -23,7 +23,7 @@ nothing-chained hs es h =
     bucket : (b : ℕ) → IsBucket (length hs) b None es (masked zero (numbers_of es)) (trail (length es) None es)
     bucket b = rw (no-trail (length es)) (record { linked = refl; once = refl; holds = λ s. rw (masked-none (numbers_of es) s) refl })
 
-module _ (hs : List (Option ℕ)) (es : List Entry) (s : ℕ) (one : Single (numbers_of es)) (i : IsIndex hs es (masked s (numbers_of es))) (h : s < length es) where
+module _ (hs : List (Option ℕ)) (es : List IndexEntry) (s : ℕ) (one : Single (numbers_of es)) (i : IsIndex hs es (masked s (numbers_of es))) (h : s < length es) where
   within : s < length (numbers_of es)
   within = rw (numbers-length es) h
 

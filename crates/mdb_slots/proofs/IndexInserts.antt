@@ -1,13 +1,13 @@
 -- A slot gets a number, and is the first of its bucket.
 use Rattle.std.proofs.Common.{◌≡◌, ◌≢◌, ℕ, zero, suc, ◌+◌, ◌<◌, ◌==◌, if◌then◌else◌, Bool, true, false, Option, Some, None, List, [], ◌∷◌, ◌++◌, length, refl, sym, ◌∙◌, ap, subst, set, get_or-set_other, get_or-set_same, length-set, length-append}
-use Rattle.mdb_slots.specs.declared.entry.Entry.{Entry}
+use Rattle.mdb_slots.specs.declared.index_entry.IndexEntry.{IndexEntry}
 use Rattle.mdb_slots.specs.Lists.{has}
 use Rattle.mdb_slots.specs.SlotIndex.{entry, no_entry, head_at, place_at, number_at, slot_of, trail, bucket_in, in_bucket, IsBucket, IsIndex}
 use Rattle.mdb_slots.proofs.Trails.{linked-set, linked-grow}
 use Rattle.mdb_slots.proofs.Numbers.{bucket_in-below, same-number, is-same, not-same, some-same, number-set, slot_of-some, slot_of-none, slot_of-at, slot_of-absent, number-append}
 use Rattle.mdb_slots.proofs.IndexLaws.{bucket-keeps}
 
-module _ {hs : List (Option ℕ)} {es : List Entry} {ns : List (Option ℕ)} (i : IsIndex hs es ns) (k s : ℕ) (p : 0 < length hs) (h : s < length es) (new : number_at ns s ≡ None) (absent : (t : ℕ) → number_at ns t ≢ Some k) where
+module _ {hs : List (Option ℕ)} {es : List IndexEntry} {ns : List (Option ℕ)} (i : IsIndex hs es ns) (k s : ℕ) (p : 0 < length hs) (h : s < length es) (new : number_at ns s ≡ None) (absent : (t : ℕ) → number_at ns t ≢ Some k) where
   abbrev b₀ : ℕ
   b₀ = bucket_in k (length hs)
 
@@ -20,7 +20,7 @@ module _ {hs : List (Option ℕ)} {es : List Entry} {ns : List (Option ℕ)} (i 
   not-of : (b : ℕ) → b < length hs → has s (list b) ≡ false
   not-of b q = (i.buckets b q).holds s ∙ rw new refl
 
-  abbrev es' : List Entry
+  abbrev es' : List IndexEntry
   es' = set es s (entry (Some k) (head_at hs b₀))
 
   abbrev ns' : List (Option ℕ)
@@ -119,7 +119,7 @@ module _ {hs : List (Option ℕ)} {es : List Entry} {ns : List (Option ℕ)} (i 
               without t e false v = slot_of-none q t ns f (old-number t q v e)
 
 -- one more entry, without a number
-pub index-grow : {hs : List (Option ℕ)} {es : List Entry} {ns : List (Option ℕ)} → IsIndex hs es ns → IsIndex hs (es ++ no_entry ∷ []) (ns ++ None ∷ [])
+pub index-grow : {hs : List (Option ℕ)} {es : List IndexEntry} {ns : List (Option ℕ)} → IsIndex hs es ns → IsIndex hs (es ++ no_entry ∷ []) (ns ++ None ∷ [])
 index-grow {hs = hs} {es = es} {ns = ns} i =
     record {
       buckets = λ b q. bucket-keeps (more b (i.buckets b q));
@@ -137,7 +137,7 @@ index-grow {hs = hs} {es = es} {ns = ns} i =
           holds = λ s. rw (number-append ns s) (u.holds s);
         }
 
-    entries-more : (xs : List Entry) (s : ℕ) → (place_at (xs ++ no_entry ∷ []) s).number ≡ (place_at xs s).number
+    entries-more : (xs : List IndexEntry) (s : ℕ) → (place_at (xs ++ no_entry ∷ []) s).number ≡ (place_at xs s).number
     entries-more [] zero = refl
     entries-more [] (suc s) = refl
     entries-more (x ∷ xs) zero = refl

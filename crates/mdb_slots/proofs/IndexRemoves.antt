@@ -1,7 +1,7 @@
 -- A slot loses its number, and goes from its bucket.
 use Rattle.std.proofs.Common.{◌≡◌, ◌≢◌, ℕ, zero, suc, ◌<◌, ◌==◌, if◌then◌else◌, Bool, true, false, Option, Some, None, IfSome, List, [], ◌∷◌, ◌++◌, length, refl, sym, ◌∙◌, ap, subst, arith, set, get_or-set_other, get_or-set_same, length-set}
 use Rattle.std.proofs.lemmas.Grind.{common_steps}
-use Rattle.mdb_slots.specs.declared.entry.Entry.{Entry}
+use Rattle.mdb_slots.specs.declared.index_entry.IndexEntry.{IndexEntry}
 use Rattle.mdb_slots.specs.Lists.{has, apart, last_or, previous}
 use Rattle.mdb_slots.specs.Links.{where_none}
 use Rattle.mdb_slots.specs.SlotIndex.{no_entry, head_at, place_at, number_at, slot_of, Linked, trail, bucket_in, in_bucket, lead_same, IsBucket, IsIndex}
@@ -13,15 +13,15 @@ use Rattle.mdb_slots.proofs.Trails.{linked-set, linked-lead_same, linked-front, 
 use Rattle.mdb_slots.proofs.Numbers.{bucket_in-below, same-number, is-same, not-same, some-same, slot_of-some, slot_of-none, slot_of-at, slot_of-absent, number-set}
 use Rattle.mdb_slots.proofs.IndexLaws.{bucket-keeps}
 
-pub length-lead_same : (o a : Option ℕ) (es : List Entry) → length (lead_same o a es) ≡ length es
+pub length-lead_same : (o a : Option ℕ) (es : List IndexEntry) → length (lead_same o a es) ≡ length es
 length-lead_same None a es = refl
 length-lead_same (Some b) a es = length-set es b (record (place_at es b) { same = a })
 
-pub number-lead_same : (o a : Option ℕ) (es : List Entry) (t : ℕ) → (place_at (lead_same o a es) t).number ≡ (place_at es t).number
+pub number-lead_same : (o a : Option ℕ) (es : List IndexEntry) (t : ℕ) → (place_at (lead_same o a es) t).number ≡ (place_at es t).number
 number-lead_same None a es t = refl
 number-lead_same (Some b) a es t = same es b t
   where
-    same : (xs : List Entry) (c u : ℕ) → (place_at (set xs c (record (place_at xs c) { same = a })) u).number ≡ (place_at xs u).number
+    same : (xs : List IndexEntry) (c u : ℕ) → (place_at (set xs c (record (place_at xs c) { same = a })) u).number ≡ (place_at xs u).number
     same [] c u = refl
     same (x ∷ xs) zero zero = refl
     same (x ∷ xs) zero (suc u) = refl
@@ -32,7 +32,7 @@ number-lead_same (Some b) a es t = same es b t
 rest-once : (s : ℕ) (xs ys : List ℕ) → apart (xs ++ s ∷ ys) ≡ true → apart (xs ++ ys) ≡ true
 rest-once s xs ys e = (apart-parts s xs ys e).both
 
-pub linked-remove : (es : List Entry) (o : Option ℕ) (s : ℕ) (xs ys : List ℕ) → apart (xs ++ s ∷ ys) ≡ true → Linked es o (xs ++ s ∷ ys) None → Linked (set (lead_same (last_or None xs) (place_at es s).same es) s no_entry) (where_none (last_or None xs) (place_at es s).same o) (xs ++ ys) None
+pub linked-remove : (es : List IndexEntry) (o : Option ℕ) (s : ℕ) (xs ys : List ℕ) → apart (xs ++ s ∷ ys) ≡ true → Linked es o (xs ++ s ∷ ys) None → Linked (set (lead_same (last_or None xs) (place_at es s).same es) s no_entry) (where_none (last_or None xs) (place_at es s).same o) (xs ++ ys) None
 linked-remove es o s xs ys e l =
     linked-join _ _ (place_at es s).same xs ys None (linked-set _ s no_entry _ xs _ a.k_before front) (linked-set _ s no_entry _ ys None a.k_after (linked-lead_same es (last_or None xs) (place_at es s).same _ ys None out back))
   where
@@ -58,7 +58,7 @@ has-part k s xs ys h = grind (arith, common_steps, h, has-append k xs (s ∷ ys)
 has-rest : (t s : ℕ) (xs ys : List ℕ) → (s == t) ≡ false → has t (xs ++ ys) ≡ has t (xs ++ s ∷ ys)
 has-rest t s xs ys w = grind (arith, common_steps, w, has-append t xs ys, has-append t xs (s ∷ ys))
 
-module _ {hs : List (Option ℕ)} {es : List Entry} {ns : List (Option ℕ)} (i : IsIndex hs es ns) (k s : ℕ) (e : number_at ns s ≡ Some k) where
+module _ {hs : List (Option ℕ)} {es : List IndexEntry} {ns : List (Option ℕ)} (i : IsIndex hs es ns) (k s : ℕ) (e : number_at ns s ≡ Some k) where
   abbrev b₀ : ℕ
   b₀ = bucket_in k (length hs)
 
@@ -94,7 +94,7 @@ module _ {hs : List (Option ℕ)} {es : List Entry} {ns : List (Option ℕ)} (i 
   elsewhere b q w t m = (i.buckets b q).holds t ∙ in_bucket-other (length hs) b₀ b (number_at ns t) (sym ((i.buckets b₀ b₀-below).holds t) ∙ m) w
 
   module _ (xs ys : List ℕ) (is : list b₀ ≡ xs ++ s ∷ ys) where
-    abbrev es' : List Entry
+    abbrev es' : List IndexEntry
     es' = set (lead_same (last_or None xs) (place_at es s).same es) s no_entry
 
     abbrev hs' : List (Option ℕ)

@@ -1,6 +1,6 @@
 -- An index by the numbers of its own entries, after a number came or went.
 use Rattle.std.proofs.Common.{◌≡◌, ◌≢◌, ℕ, ◌<◌, ◌==◌, if◌then◌else◌, Option, Some, None, IfSome, List, [], ◌∷◌, ◌++◌, length, ◌∙◌, ap, set}
-use Rattle.mdb_slots.specs.declared.entry.Entry.{Entry}
+use Rattle.mdb_slots.specs.declared.index_entry.IndexEntry.{IndexEntry}
 use Rattle.mdb_slots.specs.Lists.{previous}
 use Rattle.mdb_slots.specs.Links.{where_none}
 use Rattle.mdb_slots.specs.SlotIndex.{entry, no_entry, head_at, place_at, number_at, numbers_of, slot_of, trail, bucket_in, lead_same, IsIndex}
@@ -8,7 +8,7 @@ use Rattle.mdb_slots.proofs.Numbers.{slot_of-some, slot_of-none, slot_of-append,
 use Rattle.mdb_slots.proofs.IndexInserts.{index-insert, slot_of-insert, index-grow}
 use Rattle.mdb_slots.proofs.IndexRemoves.{index-remove, slot_of-remove, before-inside, inside, b₀-below}
 
-module _ {hs : List (Option ℕ)} {es : List Entry} (i : IsIndex hs es (numbers_of es)) where
+module _ {hs : List (Option ℕ)} {es : List IndexEntry} (i : IsIndex hs es (numbers_of es)) where
   pub grown : IsIndex hs (es ++ no_entry ∷ []) (numbers_of (es ++ no_entry ∷ []))
   grown = rw (numbers-append es no_entry) (index-grow i)
 

@@ -2,7 +2,7 @@
 use Rattle.std.proofs.Common.{◌≡◌, ◌≢◌, ℕ, zero, suc, ◌-◌, ◌<◌, ◌==◌, if◌then◌else◌, Bool, true, false, Option, Some, None, option_map, List, [], ◌∷◌, ◌++◌, length, refl, sym, ◌∙◌, ap, subst, arith, set, get_or-set_other, get_or-set_same}
 use Rattle.std.proofs.lemmas.Grind.{common_steps}
 use Rattle.std.proofs.lemmas.Nat.{and_le_r}
-use Rattle.mdb_slots.specs.declared.entry.Entry.{Entry}
+use Rattle.mdb_slots.specs.declared.index_entry.IndexEntry.{IndexEntry}
 use Rattle.mdb_slots.specs.SlotIndex.{bucket_in, place_at, number_at, numbers_of, is_number, slot_of, lead_same, Single, masked}
 
 pub bucket_in-below : (k n : ℕ) → 0 < n → bucket_in k n < n
@@ -69,12 +69,12 @@ slot_of-absent k ns h = on (slot_of k ns) refl
     on (Some t) w = absurd (h t (slot_of-some k t ns w))
 
 -- the numbers after a write of an entry
-pub numbers-set : (es : List Entry) (s : ℕ) (e : Entry) → numbers_of (set es s e) ≡ set (numbers_of es) s e.number
+pub numbers-set : (es : List IndexEntry) (s : ℕ) (e : IndexEntry) → numbers_of (set es s e) ≡ set (numbers_of es) s e.number
 numbers-set [] s e = refl
 numbers-set (x ∷ es) zero e = refl
 numbers-set (x ∷ es) (suc s) e = ap (λ zs. x.number ∷ zs) (numbers-set es s e)
 
-pub numbers-at : (es : List Entry) (s : ℕ) → number_at (numbers_of es) s ≡ (place_at es s).number
+pub numbers-at : (es : List IndexEntry) (s : ℕ) → number_at (numbers_of es) s ≡ (place_at es s).number
 numbers-at [] s = refl
 numbers-at (x ∷ es) zero = refl
 numbers-at (x ∷ es) (suc s) = numbers-at es s
@@ -84,16 +84,16 @@ set-number [] s = refl
 set-number (n ∷ ns) zero = refl
 set-number (n ∷ ns) (suc s) = ap (λ zs. n ∷ zs) (set-number ns s)
 
-pub numbers-lead_same : (p o : Option ℕ) (es : List Entry) → numbers_of (lead_same p o es) ≡ numbers_of es
+pub numbers-lead_same : (p o : Option ℕ) (es : List IndexEntry) → numbers_of (lead_same p o es) ≡ numbers_of es
 numbers-lead_same None o es = refl
 numbers-lead_same (Some b) o es =
     numbers-set es b (record (place_at es b) { same = o }) ∙ ap (λ n. set (numbers_of es) b n) (sym (numbers-at es b)) ∙ set-number (numbers_of es) b
 
-pub numbers-append : (es : List Entry) (e : Entry) → numbers_of (es ++ e ∷ []) ≡ numbers_of es ++ e.number ∷ []
+pub numbers-append : (es : List IndexEntry) (e : IndexEntry) → numbers_of (es ++ e ∷ []) ≡ numbers_of es ++ e.number ∷ []
 numbers-append [] e = refl
 numbers-append (x ∷ es) e = ap (λ zs. x.number ∷ zs) (numbers-append es e)
 
-pub numbers-length : (es : List Entry) → length (numbers_of es) ≡ length es
+pub numbers-length : (es : List IndexEntry) → length (numbers_of es) ≡ length es
 numbers-length [] = refl
 numbers-length (x ∷ es) = ap (λ n. suc n) (numbers-length es)
 

@@ -1,11 +1,11 @@
 -- Walks along the chain of a bucket.
 use Rattle.std.proofs.Common.{◌≡◌, ℕ, ◌<◌, ◌==◌, true, false, Option, Some, None, List, length, refl, sym, ◌∙◌, ap, arith}
-use Rattle.mdb_slots.specs.declared.entry.Entry.{Entry}
+use Rattle.mdb_slots.specs.declared.index_entry.IndexEntry.{IndexEntry}
 use Rattle.mdb_slots.specs.Lists.{previous}
 use Rattle.mdb_slots.specs.SlotIndex.{place_at, Linked, trail, seek, is_number}
 use Rattle.mdb_slots.proofs.Trails.{linked-step}
 
-module _ (n : ℕ) (es : List Entry) (o : Option ℕ) (s : ℕ) (e : o ≡ Some s) (l : Linked es o (trail n o es) None) where
+module _ (n : ℕ) (es : List IndexEntry) (o : Option ℕ) (s : ℕ) (e : o ≡ Some s) (l : Linked es o (trail n o es) None) where
   pub step-within : s < length es
   step-within = (linked-step n es o s e l).0
 

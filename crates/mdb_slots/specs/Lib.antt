@@ -3,7 +3,7 @@ pub mod Lists
 pub mod MaybeSlot
 pub mod Links
 pub mod Items
-pub mod Change
+pub mod Edits
 pub mod Open
 pub mod SlotOrder
 pub mod SlotIndex

@@ -37,7 +37,7 @@ capacity_after p capacity = or_else p.capacity capacity
 abbrev pub NumbersFit : NumberSteps → Spanned → ℕ → Type 0
 NumbersFit p s capacity = length s.spans + length p.numbers ≤ capacity_after p capacity
 
--- the numbers as they are, what they were read from when they were last settled, and how many spans there were places for then
+-- the numbers as they are, what they were read from when they were last committed, and how many spans there were places for then
 pub record OpenNumbers : Type 0 where
   pub now : List ℕ
   pub base : Spanned

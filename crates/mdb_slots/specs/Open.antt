@@ -1,9 +1,9 @@
 -- A list with changes that can be taken back.
 use Rattle.std.specs.Prelude.{◌≡◌, ◌≤◌, ◌+◌, ℕ, List, length, Option, None, Some}
-use Rattle.mdb_slots.specs.declared.change.Change.{Change}
-use Rattle.mdb_slots.specs.Change.{rewound, grows}
+use Rattle.mdb_slots.specs.declared.edit.Edit.{Edit}
+use Rattle.mdb_slots.specs.Edits.{rewound, grows}
 
--- the list as it is and as it was when it was last settled, the capacity that it had then, how long it becomes without memory, and how many changes may come without memory
+-- the list as it is and as it was when it was last committed, the capacity that it had then, how long it becomes without memory, and how many changes may come without memory
 pub record Open (T : Type 0) : Type 0 where
   pub now : List T
   pub base : List T
@@ -13,10 +13,10 @@ pub record Open (T : Type 0) : Type 0 where
 
 -- the changes of a list, and the capacity of the storage that it moves to for them, if it does
 pub record ListSteps (T : Type 0) : Type 0 where
-  pub changes : List (Change T)
+  pub changes : List (Edit T)
   pub storage : Option ℕ
 
--- one value as it is and as it was when it was last settled
+-- one value as it is and as it was when it was last committed
 pub record OpenOne (T : Type 0) : Type 0 where
   pub now : T
   pub base : T

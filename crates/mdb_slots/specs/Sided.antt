@@ -47,7 +47,7 @@ pub record SidedCapacities : Type 0 where
   pub left : Capacities
   pub right : Capacities
 
--- the values as they are, what they were read from when they were last settled, and the capacities that there were then
+-- the values as they are, what they were read from when they were last committed, and the capacities that there were then
 pub record OpenSided (T : Type 0) : Type 0 where
   pub now : List T
   pub base : SidedShelf T

@@ -1,4 +1,4 @@
--- The order of slots, with what it was when it was last settled.
+-- The order of slots, with what it was when it was last committed.
 use Rattle.std.specs.Prelude.{ℕ, None, List, []}
 use Rattle.mdb_slots.specs.declared.node.Node.{Node}
 use Rattle.mdb_slots.specs.declared.ends.Ends.{Ends}
@@ -16,7 +16,7 @@ pub record OrderSteps : Type 0 where
   pub nodes : ListSteps Node
   pub ends : Ends
 
--- the order as it is and what it was read from when it was last settled, the capacity that it had then, and how many changes may come without memory
+-- the order as it is and what it was read from when it was last committed, the capacity that it had then, and how many changes may come without memory
 pub record OpenOrder : Type 0 where
   pub now : Order
   pub base : Laid

@@ -23,7 +23,7 @@ pub record SlotSizes : Type 0 where
   pub order : ℕ
   pub cells : ℕ
 
--- the slots in use in their order, what each slot holds, what they were read from when they were last settled, the capacities that there were then, and how many changes of each part may come without memory
+-- the slots in use in their order, what each slot holds, what they were read from when they were last committed, the capacities that there were then, and how many changes of each part may come without memory
 pub record OpenSlots (T : Type 0) : Type 0 where
   pub order : Order
   pub cells : List (Option T)

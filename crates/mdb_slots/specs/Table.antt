@@ -1,6 +1,6 @@
--- Values in slots, with what they were when they were last settled.
+-- Values in slots, with what they were when they were last committed.
 use Rattle.std.specs.Prelude.{◌≡◌, ◌<◌, ◌≤◌, ◌+◌, ℕ, Option, List, length}
-use Rattle.mdb_slots.specs.declared.parts.Parts.{Parts}
+use Rattle.mdb_slots.specs.declared.indexed_slots.IndexedSlots.{IndexedSlots}
 use Rattle.mdb_slots.specs.Links.{Order}
 use Rattle.mdb_slots.specs.SlotOrder.{order_of}
 use Rattle.mdb_slots.specs.Slots.{SlotShelf, SlotSteps, SlotSizes, nothing_filled, slots_after, slots_room_after, SlotsFit}
@@ -22,7 +22,7 @@ pub record TableSteps (T : Type 0) : Type 0 where
   pub slots : SlotSteps T
   pub index : IndexSteps
 
--- the values as they are, what they were read from when they were last settled, and the capacities that there were then
+-- the values as they are, what they were read from when they were last committed, and the capacities that there were then
 pub record OpenTable (T : Type 0) : Type 0 where
   pub now : List T
   pub base : Shelf T
@@ -44,26 +44,26 @@ module _ {T : Type 0} where
   abbrev pub capacity_after : TableSteps T → Capacities → Capacities
   capacity_after p c = record { slots = slots_room_after p.slots c.slots; index = index_room_after p.index c.index }
 
-  -- the same of the parts of a table
-  abbrev pub base_of : Parts T → Shelf T
+  -- what the parts of a table are read from
+  abbrev pub base_of : IndexedSlots T → Shelf T
   base_of p = record { slots = p.slots.base; index = p.index.base }
 
-  abbrev pub capacity_of : Parts T → Capacities
+  abbrev pub capacity_of : IndexedSlots T → Capacities
   capacity_of p = record { slots = p.slots.capacity; index = p.index.capacity }
 
-  abbrev pub values_of : Parts T → List T
+  abbrev pub values_of : IndexedSlots T → List T
   values_of p = values p.slots.cells p.slots.order.used
 
   -- the place and the value of one slot may change without memory
-  abbrev pub MayChange : Parts T → Type 0
+  abbrev pub MayChange : IndexedSlots T → Type 0
   MayChange p = (4 ≤ p.slots.room.order) × (1 ≤ p.slots.room.cells)
 
   -- one value may go without memory
-  abbrev pub MayGo : Parts T → Type 0
+  abbrev pub MayGo : IndexedSlots T → Type 0
   MayGo p = (3 ≤ p.slots.room.order) × (1 ≤ p.slots.room.cells) × AreWithin (both 1 2) p.index.room
 
   -- one value may come without memory
-  abbrev pub MayCome : Parts T → Type 0
+  abbrev pub MayCome : IndexedSlots T → Type 0
   MayCome p = (2 ≤ p.slots.room.order) × (1 ≤ p.slots.room.cells) × (0 < p.index.width) × AreWithin (both 1 1) p.index.room
 
 module _ {T : Type 0} (key : T → ℕ) where
@@ -76,7 +76,7 @@ module _ {T : Type 0} (key : T → ℕ) where
   abbrev pub HoldsShelf : Shelf T → Type 0
   HoldsShelf s = Holds s.slots.cells (numbers_of s.index.entries) (order_of s.slots.order)
 
-  abbrev pub HoldsParts : Parts T → Type 0
+  abbrev pub HoldsParts : IndexedSlots T → Type 0
   HoldsParts p = Holds p.slots.cells p.index.now p.slots.order
 
   -- the changes can be made without memory, and lead to a table

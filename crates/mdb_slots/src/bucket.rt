@@ -3,19 +3,19 @@
 ghost use Rattle.std.specs.Prelude.{◌≡◌, ◌<◌, ◌≤◌, ◌+◌, ◌-◌, ◌^◌, ℕ, suc, Some, None, length, slice_set};
 ghost use Rattle.mdb_slots.specs.SlotIndex.{bucket_in, entry, head_at, numbers_of, number_at, masked, Single, IsIndex, base_of, capacity_of, room_of, both, AreWithin, LeavesAll};
 
-use crate::entry::{Entry, entry_of};
+use crate::index_entry::{IndexEntry, entry_of};
 use crate::maybe_slot::MaybeSlot;
-use crate::turned::Turned;
+use crate::undo_list::UndoList;
 
 /// The first slot of each bucket, and the entry of each slot.
 #[derive(Drop)]
 pub struct Buckets {
-    pub heads: Turned<MaybeSlot>,
-    pub entries: Turned<Entry>,
+    pub heads: UndoList<MaybeSlot>,
+    pub entries: UndoList<IndexEntry>,
 }
 
 /// The bucket of the number, of so many.
-pub fn bucket_of(number: u32, width: usize) -> usize
+pub(crate) fn bucket_of(number: u32, width: usize) -> usize
     requires { 0 < width }
     ensures value { result ≡ bucket_in number width }
     ensures within { result < width }
@@ -25,7 +25,7 @@ pub fn bucket_of(number: u32, width: usize) -> usize
 
 /// The first slot of the bucket.
 #[inline]
-pub fn head_of(heads: &[MaybeSlot], bucket: usize) -> MaybeSlot
+pub(crate) fn head_of(heads: &[MaybeSlot], bucket: usize) -> MaybeSlot
     requires { bucket < length heads.now }
     ensures { result ≡ head_at heads.now bucket }
 {
@@ -33,7 +33,7 @@ pub fn head_of(heads: &[MaybeSlot], bucket: usize) -> MaybeSlot
 }
 
 /// No bucket has a slot.
-pub fn empty(heads: &mut Turned<MaybeSlot>)
+pub(crate) fn empty(heads: &mut UndoList<MaybeSlot>)
     requires { length heads.old.now ≤ heads.old.room }
     ensures none { (b : ℕ) → head_at heads.new.now b ≡ None }
     ensures len { length heads.new.now ≡ length heads.old.now }
@@ -49,7 +49,7 @@ pub fn empty(heads: &mut Turned<MaybeSlot>)
 }
 
 /// So many more buckets, without slots.
-pub fn lengthen(heads: &mut Turned<MaybeSlot>, more: usize)
+pub(crate) fn lengthen(heads: &mut UndoList<MaybeSlot>, more: usize)
     requires none { (b : ℕ) → head_at heads.old.now b ≡ None }
     requires within { length heads.old.now + more ≤ heads.old.reach }
     requires room { more ≤ heads.old.room }
@@ -66,7 +66,7 @@ pub fn lengthen(heads: &mut Turned<MaybeSlot>, more: usize)
 
 impl Buckets {
     /// The slot has the number, and comes first in its bucket.
-    pub fn put_first(&mut self, number: u32, slot: u32)
+    pub(crate) fn put_first(&mut self, number: u32, slot: u32)
         requires width { 0 < length self.old.heads.now }
         requires within { slot < length self.old.entries.now }
         requires few { slot < 2 ^ 32 - 1 }
@@ -78,7 +78,7 @@ impl Buckets {
         ensures room { LeavesAll (room_of self.new) (both 1 1) (room_of self.old) }
     {
         let bucket = bucket_of(number, self.heads.as_slice().len());
-        let entry = Entry {
+        let entry = IndexEntry {
             number: Some(number),
             same: self.heads.as_slice()[bucket],
         };
@@ -108,7 +108,7 @@ impl Buckets {
     }
 
     /// All slots that have a number are chained.
-    pub fn chain_all(&mut self, slots: u32)
+    pub(crate) fn chain_all(&mut self, slots: u32)
         requires slots { slots ≡ length self.old.entries.now }
         requires width { 0 < length self.old.heads.now }
         requires none { (b : ℕ) → head_at self.old.heads.now b ≡ None }

@@ -19,7 +19,7 @@ impl Ends {
     ghost use Rattle.std.specs.Prelude.{◌≡◌};
     ghost use Rattle.mdb_slots.specs.SlotOrder.{no_ends};
 
-    pub fn new() -> Ends
+    pub(crate) fn new() -> Ends
         ensures { result ≡ no_ends }
     {
         Ends {
@@ -33,7 +33,7 @@ impl Ends {
 }
 
 /// The one where there is nothing, the other elsewhere.
-pub fn where_none(test: MaybeSlot, one: MaybeSlot, other: MaybeSlot) -> MaybeSlot
+pub(crate) fn where_none(test: MaybeSlot, one: MaybeSlot, other: MaybeSlot) -> MaybeSlot
     ensures { result ≡ where_none test one other }
 {
     match test.get() {
@@ -43,7 +43,7 @@ pub fn where_none(test: MaybeSlot, one: MaybeSlot, other: MaybeSlot) -> MaybeSlo
 }
 
 /// The ends that a change leads back to are those of now, where it stays.
-pub fn lasting(stays: bool, now: &Ends, was: &mut Ends)
+pub(crate) fn lasting(stays: bool, now: &Ends, was: &mut Ends)
     ensures { was.new ≡ (if stays then now.now else was.old) }
 {
     if stays {

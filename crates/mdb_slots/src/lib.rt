@@ -3,16 +3,16 @@
 #![tactic(auto)]
 
 mod bucket;
-mod change;
+mod edit;
 mod ends;
-mod entry;
+mod index_entry;
 mod keyed;
 mod maybe_slot;
 mod naming;
 mod node;
 mod number_set;
 mod number_steps;
-mod parts;
+mod indexed_slots;
 mod records;
 mod side_parts;
 mod sided;
@@ -24,11 +24,11 @@ mod slots;
 mod storage;
 mod table;
 mod touches;
-mod turned;
-mod turned_one;
+mod undo_list;
+mod undo_cell;
 mod visits;
 
-pub use change::Change;
+pub use edit::Edit;
 pub use keyed::Keyed;
 pub use number_set::NumberSet;
 pub use number_steps::NumberSetRedo;
@@ -38,5 +38,5 @@ pub use sides::{Sides, SidesRedo};
 pub use slot_table::SlotTable;
 pub use table::{Table, TableRedo};
 pub use touches::Touches;
-pub use turned::{Redo, Turned};
-pub use turned_one::TurnedOne;
+pub use undo_list::{Redo, UndoList};
+pub use undo_cell::UndoCell;

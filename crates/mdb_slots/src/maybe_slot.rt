@@ -26,7 +26,7 @@ impl Model for MaybeSlot {
 impl MaybeSlot {
     /// No slot.
     #[inline]
-    pub fn none() -> MaybeSlot
+    pub(crate) fn none() -> MaybeSlot
         ensures { result ≡ None }
     {
         MaybeSlot { bits: u32::MAX }
@@ -34,7 +34,7 @@ impl MaybeSlot {
 
     /// This slot.
     #[inline]
-    pub fn some(slot: u32) -> MaybeSlot
+    pub(crate) fn some(slot: u32) -> MaybeSlot
         requires { slot < 2 ^ 32 - 1 }
         ensures { result ≡ Some slot }
     {
@@ -43,7 +43,7 @@ impl MaybeSlot {
 
     /// The slot, if there is one.
     #[inline]
-    pub fn get(self) -> Option<u32>
+    pub(crate) fn get(self) -> Option<u32>
         ensures { result ≡ self }
     {
         if self.bits == u32::MAX {

@@ -9,7 +9,7 @@ use crate::slots::Slots;
 use crate::touches::Touches;
 
 /// The name of the record in the slot, if there is one.
-pub fn named(slots: &Slots<Record>, slot: Option<u32>, touches: &mut Touches) -> Option<SlotRef>
+pub(crate) fn named(slots: &Slots<Record>, slot: Option<u32>, touches: &mut Touches) -> Option<SlotRef>
     requires member { IfSome slot (λ k. has k slots.now.order.used ≡ true) }
     requires few { touches.old.count < 2 ^ 64 - 1 }
     ensures value { result ≡ name_at slots.now.cells slot }

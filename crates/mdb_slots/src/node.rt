@@ -6,7 +6,7 @@ ghost use Rattle.mdb_slots.specs.Open.{GoesBack};
 
 use crate::maybe_slot::MaybeSlot;
 use crate::touches::Touches;
-use crate::turned::Turned;
+use crate::undo_list::UndoList;
 use crate::visits::{read, write};
 
 /// The neighbours of a slot in the chain.
@@ -17,7 +17,7 @@ pub struct Node {
     pub used: bool,
 }
 
-pub fn node_of(nodes: &Turned<Node>, at: u32, touches: &mut Touches) -> Node
+pub(crate) fn node_of(nodes: &UndoList<Node>, at: u32, touches: &mut Touches) -> Node
     requires within { at < length nodes.now.now }
     requires few { touches.old.count < 2 ^ 64 - 1 }
     ensures value { result ≡ node_at nodes.now.now at }
@@ -27,8 +27,8 @@ pub fn node_of(nodes: &Turned<Node>, at: u32, touches: &mut Touches) -> Node
 }
 
 /// The node there, if there is one, is followed by `after` from now on.
-pub fn set_after(
-    nodes: &mut Turned<Node>,
+pub(crate) fn set_after(
+    nodes: &mut UndoList<Node>,
     at: MaybeSlot,
     after: MaybeSlot,
     stays: bool,
@@ -49,8 +49,8 @@ pub fn set_after(
 }
 
 /// The node there, if there is one, is preceded by `before` from now on.
-pub fn set_before(
-    nodes: &mut Turned<Node>,
+pub(crate) fn set_before(
+    nodes: &mut UndoList<Node>,
     at: MaybeSlot,
     before: MaybeSlot,
     stays: bool,

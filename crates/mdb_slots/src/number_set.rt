@@ -14,7 +14,7 @@ use std::alloc::Global;
 use std::marker::Model;
 use std::mem;
 
-/// Numbers that were put, each once: as they are, and as they were when they were last settled. They never go.
+/// Numbers that were put, each once: as they are, and as they were when they were last committed. They never go.
 #[derive(Drop)]
 pub struct NumberSet {
     settled: Spans,
@@ -82,7 +82,7 @@ impl NumberSet {
     }
 
     /// The changes go, and what comes back makes them again. It takes no memory.
-    pub fn turn(&mut self, alloc: Global) -> NumberSetRedo
+    pub fn undo(&mut self, alloc: Global) -> NumberSetRedo
         ensures now { self.new.now ≡ numbers_kept self.old.base }
         ensures base { self.new.base ≡ self.old.base }
         ensures capacity { self.new.capacity ≡ self.old.capacity }
@@ -106,7 +106,7 @@ impl NumberSet {
     }
 
     /// The changes stay. It takes no memory.
-    pub fn settle(&mut self)
+    pub fn commit(&mut self)
         ensures now { self.new.now ≡ self.old.now }
         ensures base { numbers_kept self.new.base ≡ self.old.now }
     {

@@ -1,4 +1,4 @@
-//! Numbers that came to a set since it was last settled.
+//! Numbers that came to a set since it was last committed.
 
 ghost use Rattle.std.specs.Prelude.{◌≡◌, ◌≤◌, ◌+◌, ◌||◌, ◌++◌, ◌∷◌, [], ℕ, None, length, OnOk, OnErr};
 ghost use Rattle.mdb_intervals.specs.Spans.{has as is_within};

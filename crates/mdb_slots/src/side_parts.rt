@@ -83,7 +83,7 @@ impl<T: Sided> SideParts<T> {
     }
 
     /// The item comes last, in place of the one that had its number.
-    pub fn put(&mut self, item: T) -> Result<(), OutOfMemory>
+    pub(crate) fn put(&mut self, item: T) -> Result<(), OutOfMemory>
         requires { PartsInStep T.key T.service T.since T.on_left T.on_right self.old }
         ensures now { OnOk result (self.new.table.now ≡ put T.key item self.old.table.now) }
         ensures in_step { OnOk result (PartsInStep T.key T.service T.since T.on_left T.on_right self.new) }
@@ -100,7 +100,7 @@ impl<T: Sided> SideParts<T> {
     }
 
     /// The item takes the place of the one that had its number. Nothing changes where there was none.
-    pub fn replace(&mut self, item: T) -> Result<(), OutOfMemory>
+    pub(crate) fn replace(&mut self, item: T) -> Result<(), OutOfMemory>
         requires in_step { PartsInStep T.key T.service T.since T.on_left T.on_right self.old }
         requires left { stays T.on_left item (entry_at T.key (T.key item) self.old.table.now) ≡ true }
         requires right { stays T.on_right item (entry_at T.key (T.key item) self.old.table.now) ≡ true }
@@ -120,7 +120,7 @@ impl<T: Sided> SideParts<T> {
     }
 
     /// The value that has the number goes.
-    pub fn remove(&mut self, key: u32) -> Result<(), OutOfMemory>
+    pub(crate) fn remove(&mut self, key: u32) -> Result<(), OutOfMemory>
         requires { PartsInStep T.key T.service T.since T.on_left T.on_right self.old }
         ensures now { OnOk result (self.new.table.now ≡ others T.key key self.old.table.now) }
         ensures in_step { OnOk result (PartsInStep T.key T.service T.since T.on_left T.on_right self.new) }
@@ -134,15 +134,15 @@ impl<T: Sided> SideParts<T> {
     }
 
     /// All changes go.
-    pub fn take_back(&mut self, alloc: Global)
+    pub(crate) fn roll_back(&mut self, alloc: Global)
         ensures table { self.new.table.now ≡ items self.old.table.base }
         ensures left { self.new.left.now ≡ items self.old.left.base }
         ensures right { self.new.right.now ≡ items self.old.right.base }
         ensures base { sides_base self.new ≡ sides_base self.old }
         ensures capacity { sides_capacity self.new ≡ sides_capacity self.old }
     {
-        let _table_gone = self.table.turn(alloc);
-        let _left_gone = self.left.turn(alloc);
-        let _right_gone = self.right.turn(alloc);
+        let _table_gone = self.table.undo(alloc);
+        let _left_gone = self.left.undo(alloc);
+        let _right_gone = self.right.undo(alloc);
     }
 }

@@ -17,7 +17,7 @@ use mdb_base::OutOfMemory;
 use std::alloc::Global;
 use std::marker::Model;
 
-/// At most one value for each number, with lists of those on the left and on the right: as they are, and as they were when they were last settled. The left list keeps records, the right one numbers.
+/// At most one value for each number, with lists of those on the left and on the right: as they are, and as they were when they were last committed. The left list keeps records, the right one numbers.
 #[derive(Drop)]
 pub struct Sides<T: Sided> {
     parts: SideParts<T>,
@@ -199,7 +199,7 @@ impl<T: Sided> Sides<T> {
         match self.parts.put(item) {
             Ok(()) => Ok(()),
             Err(e) => {
-                self.parts.take_back(alloc);
+                self.parts.roll_back(alloc);
                 Err(e)
             }
         }
@@ -217,7 +217,7 @@ impl<T: Sided> Sides<T> {
         match self.parts.replace(item) {
             Ok(()) => Ok(()),
             Err(e) => {
-                self.parts.take_back(alloc);
+                self.parts.roll_back(alloc);
                 Err(e)
             }
         }
@@ -233,7 +233,7 @@ impl<T: Sided> Sides<T> {
         match self.parts.remove(key) {
             Ok(()) => Ok(()),
             Err(e) => {
-                self.parts.take_back(alloc);
+                self.parts.roll_back(alloc);
                 Err(e)
             }
         }
@@ -268,16 +268,16 @@ impl<T: Sided> Sides<T> {
     }
 
     /// The changes go, and what comes back makes them again. It takes no memory.
-    pub fn turn(&mut self, alloc: Global) -> SidesRedo<T>
+    pub fn undo(&mut self, alloc: Global) -> SidesRedo<T>
         ensures now { self.new.now ≡ items self.old.base.table }
         ensures base { self.new.base ≡ self.old.base }
         ensures capacity { self.new.capacity ≡ self.old.capacity }
         ensures plan { SidedPlans T.key T.service T.since T.on_left T.on_right result self.new.base self.new.capacity self.old.now }
     {
         SidesRedo {
-            table: self.parts.table.turn(alloc),
-            left: self.parts.left.turn(alloc),
-            right: self.parts.right.turn(alloc),
+            table: self.parts.table.undo(alloc),
+            left: self.parts.left.undo(alloc),
+            right: self.parts.right.undo(alloc),
         }
     }
 
@@ -295,12 +295,12 @@ impl<T: Sided> Sides<T> {
     }
 
     /// The changes stay. It takes no memory.
-    pub fn settle(&mut self)
+    pub fn commit(&mut self)
         ensures now { self.new.now ≡ self.old.now }
         ensures base { items self.new.base.table ≡ self.old.now }
     {
-        self.parts.table.settle();
-        self.parts.left.settle();
-        self.parts.right.settle();
+        self.parts.table.commit();
+        self.parts.left.commit();
+        self.parts.right.commit();
     }
 }

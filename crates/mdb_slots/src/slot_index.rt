@@ -5,9 +5,9 @@ ghost use Rattle.mdb_slots.specs.SlotIndex.{slot_of, numbers_of, nothing_indexed
 
 use crate::bucket::{Buckets, bucket_of, empty, head_of, lengthen};
 use crate::ends::where_none;
-use crate::entry::{Entry, entry_of, find_before, find_number, set_same};
+use crate::index_entry::{IndexEntry, entry_of, find_before, find_number, set_same};
 use crate::maybe_slot::MaybeSlot;
-use crate::turned::{Redo, Turned};
+use crate::undo_list::{Redo, UndoList};
 use mdb_base::OutOfMemory;
 use std::alloc::Global;
 use std::marker::Model;
@@ -36,7 +36,7 @@ impl Model for SlotIndex {
 #[derive(Drop)]
 pub struct IndexRedo {
     heads: Redo<MaybeSlot>,
-    entries: Redo<Entry>,
+    entries: Redo<IndexEntry>,
 }
 
 impl Model for IndexRedo {
@@ -48,27 +48,27 @@ impl Model for IndexRedo {
 }
 
 impl SlotIndex {
-    pub fn new(alloc: Global) -> SlotIndex
+    pub(crate) fn new(alloc: Global) -> SlotIndex
         ensures now { result.now ≡ [] }
         ensures base { result.base ≡ nothing_indexed }
     {
         SlotIndex {
             buckets: Buckets {
-                heads: Turned::new(alloc),
-                entries: Turned::new(alloc),
+                heads: UndoList::new(alloc),
+                entries: UndoList::new(alloc),
             },
         }
     }
 
     /// How many slots there are.
-    pub fn len(&self) -> usize
+    pub(crate) fn len(&self) -> usize
         ensures { result ≡ length self.now.now }
     {
         self.buckets.entries.as_slice().len()
     }
 
     /// The slot that has the number.
-    pub fn get(&self, number: u32) -> Option<u32>
+    pub(crate) fn get(&self, number: u32) -> Option<u32>
         ensures { result ≡ slot_of number self.now.now }
     {
         let width = self.buckets.heads.as_slice().len();
@@ -80,7 +80,7 @@ impl SlotIndex {
     }
 
     /// One more slot, without a number.
-    pub fn grow(&mut self) -> Result<(), OutOfMemory>
+    pub(crate) fn grow(&mut self) -> Result<(), OutOfMemory>
         ensures now { (q : ℕ) → slot_of q self.new.now ≡ slot_of q self.old.now }
         ensures len { OnOk result (length self.new.now ≡ length self.old.now + 1) }
         ensures longer { length self.old.now ≤ length self.new.now }
@@ -89,7 +89,7 @@ impl SlotIndex {
         ensures base { self.new.base ≡ self.old.base }
         ensures capacity { self.new.capacity ≡ self.old.capacity }
     {
-        self.buckets.entries.push(Entry {
+        self.buckets.entries.push(IndexEntry {
             number: None,
             same: MaybeSlot::none(),
         })?;
@@ -122,7 +122,7 @@ impl SlotIndex {
 
     /// One number may go without memory.
     #[inline]
-    pub fn ready_to_remove(&mut self) -> Result<(), OutOfMemory>
+    pub(crate) fn ready_to_remove(&mut self) -> Result<(), OutOfMemory>
         ensures now { self.new.now ≡ self.old.now }
         ensures room { OnOk result (AreWithin (both 1 2) self.new.room) }
         ensures base { self.new.base ≡ self.old.base }
@@ -134,7 +134,7 @@ impl SlotIndex {
 
     /// One number may come without memory.
     #[inline]
-    pub fn ready_to_insert(&mut self) -> Result<(), OutOfMemory>
+    pub(crate) fn ready_to_insert(&mut self) -> Result<(), OutOfMemory>
         ensures now { self.new.now ≡ self.old.now }
         ensures width { OnOk result (0 < self.new.width) }
         ensures room { OnOk result (AreWithin (both 1 1) self.new.room) }
@@ -149,7 +149,7 @@ impl SlotIndex {
     }
 
     /// The slot has the number from now on.
-    pub fn insert(&mut self, number: u32, slot: u32)
+    pub(crate) fn insert(&mut self, number: u32, slot: u32)
         requires width { 0 < self.old.width }
         requires within { slot < length self.old.now }
         requires few { slot < 2 ^ 32 - 1 }
@@ -166,7 +166,7 @@ impl SlotIndex {
     }
 
     /// The slot of the number has none from now on.
-    pub fn remove(&mut self, number: u32, slot: u32)
+    pub(crate) fn remove(&mut self, number: u32, slot: u32)
         requires slot { slot_of number self.old.now ≡ Some slot }
         requires room { AreWithin (both 1 2) self.old.room }
         ensures now { (q : ℕ) → slot_of q self.new.now ≡ if number == q then None else slot_of q self.old.now }
@@ -181,7 +181,7 @@ impl SlotIndex {
         let before = find_before(self.buckets.entries.as_slice(), first, slot);
         let same = entry_of(self.buckets.entries.as_slice(), slot).same;
         set_same(&mut self.buckets.entries, before, same);
-        let freed = Entry {
+        let freed = IndexEntry {
             number: None,
             same: MaybeSlot::none(),
         };
@@ -192,20 +192,20 @@ impl SlotIndex {
     }
 
     /// The changes go, and what comes back makes them again.
-    pub fn turn(&mut self, alloc: Global) -> IndexRedo
+    pub(crate) fn undo(&mut self, alloc: Global) -> IndexRedo
         ensures now { self.new.now ≡ numbers_of self.old.base.entries }
         ensures base { self.new.base ≡ self.old.base }
         ensures capacity { self.new.capacity ≡ self.old.capacity }
         ensures fits { IndexFits result self.new.base self.new.capacity }
         ensures onto { numbers_of (indexing_after result self.new.base).entries ≡ self.old.now }
     {
-        let heads = self.buckets.heads.turn(alloc);
-        let entries = self.buckets.entries.turn(alloc);
+        let heads = self.buckets.heads.undo(alloc);
+        let entries = self.buckets.entries.undo(alloc);
         IndexRedo { heads, entries }
     }
 
     /// Whatever was changed goes, and the changes are made again and stay.
-    pub fn redo(&mut self, redo: IndexRedo)
+    pub(crate) fn redo(&mut self, redo: IndexRedo)
         requires { IndexFits redo self.old.base self.old.capacity }
         ensures base { self.new.base ≡ indexing_after redo self.old.base }
         ensures now { self.new.now ≡ numbers_of self.new.base.entries }
@@ -217,11 +217,11 @@ impl SlotIndex {
     }
 
     /// The changes stay.
-    pub fn settle(&mut self)
+    pub(crate) fn commit(&mut self)
         ensures now { self.new.now ≡ self.old.now }
         ensures base { numbers_of self.new.base.entries ≡ self.old.now }
     {
-        self.buckets.heads.settle_short();
-        self.buckets.entries.settle_short();
+        self.buckets.heads.commit_short();
+        self.buckets.entries.commit_short();
     }
 }

@@ -8,7 +8,7 @@ use crate::ends::{Ends, lasting, where_none};
 use crate::maybe_slot::MaybeSlot;
 use crate::node::{Node, node_of, set_after, set_before};
 use crate::touches::Touches;
-use crate::turned::{Redo, Turned};
+use crate::undo_list::{Redo, UndoList};
 use crate::visits::write;
 use mdb_base::OutOfMemory;
 use std::alloc::Global;
@@ -17,7 +17,7 @@ use std::marker::Model;
 /// The order of the slots in use, linked both ways through the nodes.
 #[derive(Drop)]
 pub struct SlotOrder {
-    nodes: Turned<Node>,
+    nodes: UndoList<Node>,
     ends: Ends,
     was: Ends,
 }
@@ -48,19 +48,19 @@ impl Model for OrderRedo {
 }
 
 impl SlotOrder {
-    pub fn new(alloc: Global) -> SlotOrder
+    pub(crate) fn new(alloc: Global) -> SlotOrder
         ensures used { result.now.used ≡ [] }
         ensures spare { result.now.spare ≡ 0 }
         ensures base { result.base ≡ nothing_laid }
     {
         SlotOrder {
-            nodes: Turned::new(alloc),
+            nodes: UndoList::new(alloc),
             ends: Ends::new(),
             was: Ends::new(),
         }
     }
 
-    pub fn len(&self) -> usize
+    pub(crate) fn len(&self) -> usize
         ensures value { result ≡ length self.now.now.used }
         ensures apart { apart self.now.now.used ≡ true }
         ensures few { length self.now.now.used + self.now.now.spare < 2 ^ 32 }
@@ -68,26 +68,26 @@ impl SlotOrder {
         self.ends.len
     }
 
-    pub fn spare(&self) -> usize
+    pub(crate) fn spare(&self) -> usize
         ensures { result ≡ self.now.now.spare }
     {
         self.ends.spare
     }
 
-    pub fn first(&self) -> Option<u32>
+    pub(crate) fn first(&self) -> Option<u32>
         ensures { result ≡ head_or None self.now.now.used }
     {
         self.ends.first.get()
     }
 
-    pub fn last(&self) -> Option<u32>
+    pub(crate) fn last(&self) -> Option<u32>
         ensures { result ≡ last_or None self.now.now.used }
     {
         self.ends.last.get()
     }
 
     /// The slot that came after this one.
-    pub fn after(&self, at: u32, touches: &mut Touches) -> Option<u32>
+    pub(crate) fn after(&self, at: u32, touches: &mut Touches) -> Option<u32>
         requires member { has at self.now.now.used ≡ true }
         requires few { touches.old.count < 2 ^ 64 - 1 }
         ensures value { result ≡ next at self.now.now.used }
@@ -97,7 +97,7 @@ impl SlotOrder {
     }
 
     /// The slot that came before this one.
-    pub fn before(&self, at: u32, touches: &mut Touches) -> Option<u32>
+    pub(crate) fn before(&self, at: u32, touches: &mut Touches) -> Option<u32>
         requires member { has at self.now.now.used ≡ true }
         requires few { touches.old.count < 2 ^ 64 - 1 }
         ensures value { result ≡ previous None at self.now.now.used }
@@ -107,7 +107,7 @@ impl SlotOrder {
     }
 
     /// So many changes of nodes may come without memory.
-    pub fn ready(&mut self, changes: usize) -> Result<(), OutOfMemory>
+    pub(crate) fn ready(&mut self, changes: usize) -> Result<(), OutOfMemory>
         ensures now { self.new.now ≡ self.old.now }
         ensures base { self.new.base ≡ self.old.base }
         ensures capacity { self.new.capacity ≡ self.old.capacity }
@@ -117,7 +117,7 @@ impl SlotOrder {
     }
 
     /// One more slot may be used.
-    pub fn grow(&mut self) -> Result<(), OutOfMemory>
+    pub(crate) fn grow(&mut self) -> Result<(), OutOfMemory>
         requires { length self.old.now.used + self.old.now.spare < 2 ^ 32 - 1 }
         ensures used { self.new.now.used ≡ self.old.now.used }
         ensures spare { OnOk result (self.new.now.spare ≡ self.old.now.spare + 1) }
@@ -138,7 +138,7 @@ impl SlotOrder {
     }
 
     /// Takes a free slot, as the newest in use. Where it stays, so do all changes before it.
-    pub fn push(&mut self, stays: bool, touches: &mut Touches) -> u32
+    pub(crate) fn push(&mut self, stays: bool, touches: &mut Touches) -> u32
         requires spare { 0 < self.old.now.spare }
         requires room { stays ≡ false → 1 < self.old.room }
         requires few { touches.old.count < 2 ^ 64 - 4 }
@@ -173,7 +173,7 @@ impl SlotOrder {
     }
 
     /// The slot is free from now on. Where that stays, so do all changes before it.
-    pub fn remove(&mut self, at: u32, stays: bool, touches: &mut Touches)
+    pub(crate) fn remove(&mut self, at: u32, stays: bool, touches: &mut Touches)
         requires member { has at self.old.now.used ≡ true }
         requires room { stays ≡ false → 2 < self.old.room }
         requires few { touches.old.count < 2 ^ 64 - 6 }
@@ -204,7 +204,7 @@ impl SlotOrder {
     }
 
     /// The slot is the newest in use from now on. The change can be taken back.
-    pub fn renew(&mut self, at: u32, touches: &mut Touches)
+    pub(crate) fn renew(&mut self, at: u32, touches: &mut Touches)
         requires member { has at self.old.now.used ≡ true }
         requires room { 3 < self.old.room }
         requires few { touches.old.count < 2 ^ 64 - 8 }
@@ -235,21 +235,21 @@ impl SlotOrder {
     }
 
     /// The changes go, and what comes back makes them again.
-    pub fn turn(&mut self, alloc: Global) -> OrderRedo
+    pub(crate) fn undo(&mut self, alloc: Global) -> OrderRedo
         ensures now { self.new.now ≡ order_of self.old.base }
         ensures base { self.new.base ≡ self.old.base }
         ensures capacity { self.new.capacity ≡ self.old.capacity }
         ensures fits { OrderFits result self.new.base self.new.capacity }
         ensures onto { order_of (laid_after result self.new.base) ≡ self.old.now }
     {
-        let nodes = self.nodes.turn(alloc);
+        let nodes = self.nodes.undo(alloc);
         let ends = self.ends;
         self.ends = self.was;
         OrderRedo { nodes, ends }
     }
 
     /// Whatever was changed goes, and the changes are made again and stay.
-    pub fn redo(&mut self, redo: OrderRedo)
+    pub(crate) fn redo(&mut self, redo: OrderRedo)
         requires { OrderFits redo self.old.base self.old.capacity }
         ensures base { self.new.base ≡ laid_after redo self.old.base }
         ensures now { self.new.now ≡ order_of self.new.base }
@@ -262,12 +262,12 @@ impl SlotOrder {
     }
 
     /// The changes stay.
-    pub fn settle(&mut self)
+    pub(crate) fn commit(&mut self)
         ensures now { self.new.now ≡ self.old.now }
         ensures base { order_of self.new.base ≡ self.old.now }
         ensures room { self.old.room ≤ self.new.room }
     {
-        self.nodes.settle();
+        self.nodes.commit();
         self.was = self.ends;
     }
 }

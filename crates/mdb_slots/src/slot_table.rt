@@ -48,7 +48,7 @@ impl Slots<Record> {
     {
         while self.free() < more {
             self.grow()?;
-            self.settle();
+            self.commit();
         }
         Ok(())
     }

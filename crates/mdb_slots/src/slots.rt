@@ -8,7 +8,7 @@ ghost use Rattle.mdb_slots.specs.Slots.{nothing_filled, slots_after, slots_room_
 
 use crate::slot_order::{OrderRedo, SlotOrder};
 use crate::touches::Touches;
-use crate::turned::{Redo, Turned};
+use crate::undo_list::{Redo, UndoList};
 use crate::visits::{read, write};
 use mdb_base::OutOfMemory;
 use std::alloc::Global;
@@ -18,7 +18,7 @@ use std::marker::Model;
 #[derive(Drop)]
 pub struct Slots<T: Drop> {
     order: SlotOrder,
-    cells: Turned<Option<T>>,
+    cells: UndoList<Option<T>>,
 }
 
 impl<T: Drop> Model for Slots<T> {
@@ -56,7 +56,7 @@ impl<T: Drop> Slots<T> {
     {
         Slots {
             order: SlotOrder::new(alloc),
-            cells: Turned::new(alloc),
+            cells: UndoList::new(alloc),
         }
     }
 
@@ -220,7 +220,7 @@ impl<T: Drop> Slots<T> {
     }
 
     /// The changes go, and what comes back makes them again.
-    pub(crate) fn turn(&mut self, alloc: Global) -> SlotsRedo<T>
+    pub(crate) fn undo(&mut self, alloc: Global) -> SlotsRedo<T>
         ensures order { self.new.order ≡ order_of self.old.base.order }
         ensures cells { self.new.cells ≡ self.old.base.cells }
         ensures base { self.new.base ≡ self.old.base }
@@ -230,8 +230,8 @@ impl<T: Drop> Slots<T> {
         ensures cells_onto { (slots_after result self.new.base).cells ≡ self.old.cells }
     {
         SlotsRedo {
-            order: self.order.turn(alloc),
-            cells: self.cells.turn(alloc),
+            order: self.order.undo(alloc),
+            cells: self.cells.undo(alloc),
         }
     }
 
@@ -249,13 +249,13 @@ impl<T: Drop> Slots<T> {
     }
 
     /// The changes stay.
-    pub(crate) fn settle(&mut self)
+    pub(crate) fn commit(&mut self)
         ensures order { self.new.order ≡ self.old.order }
         ensures cells { self.new.cells ≡ self.old.cells }
         ensures order_base { order_of self.new.base.order ≡ self.old.order }
         ensures cells_base { self.new.base.cells ≡ self.old.cells }
     {
-        self.order.settle();
-        self.cells.settle();
+        self.order.commit();
+        self.cells.commit();
     }
 }

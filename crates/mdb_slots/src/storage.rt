@@ -21,7 +21,7 @@ fn pour<T: Drop>(from: &mut Vec<T>, to: &mut Vec<T>)
 }
 
 /// The items move to the other storage, if there is one, and their own comes back. It takes no memory.
-pub fn moved<T: Drop>(items: &mut Vec<T>, storage: Option<Vec<T>>) -> Option<Vec<T>>
+pub(crate) fn move_to<T: Drop>(items: &mut Vec<T>, storage: Option<Vec<T>>) -> Option<Vec<T>>
     requires empty { IfSome storage (λ v. v.items ≡ []) }
     requires fits { IfSome storage (λ v. vec_len items.old ≤ vec_capacity v) }
     ensures items { items.new.items ≡ items.old.items }
@@ -41,7 +41,7 @@ pub fn moved<T: Drop>(items: &mut Vec<T>, storage: Option<Vec<T>>) -> Option<Vec
 /// There is no other storage any more.
 #[cold]
 #[inline(never)]
-pub fn let_go<T: Drop>(storage: &mut Option<Vec<T>>)
+pub(crate) fn drop_storage<T: Drop>(storage: &mut Option<Vec<T>>)
     ensures { storage.new ≡ None }
 {
     *storage = None;
@@ -50,7 +50,7 @@ pub fn let_go<T: Drop>(storage: &mut Option<Vec<T>>)
 /// The items move to storage that is at least twice as large and has room for so many more, and their own comes back.
 #[cold]
 #[inline(never)]
-pub fn enlarged<T: Drop>(items: &mut Vec<T>, more: usize) -> Result<Vec<T>, OutOfMemory>
+pub(crate) fn enlarge<T: Drop>(items: &mut Vec<T>, more: usize) -> Result<Vec<T>, OutOfMemory>
     ensures items { items.new.items ≡ items.old.items }
     ensures within { OnOk result (vec_len items.new + more ≤ vec_capacity items.new) }
     ensures longer { vec_capacity items.old ≤ vec_capacity items.new }

@@ -5,7 +5,7 @@ ghost use Rattle.mdb_slots.specs.Keyed.{entry_at, entry_after, entry_before, fir
 ghost use Rattle.mdb_slots.specs.Table.{Fits, Plans, items, nothing_shelved, shelf_after, capacity_after};
 
 use crate::keyed::Keyed;
-use crate::parts::Parts;
+use crate::indexed_slots::IndexedSlots;
 use crate::records::Record;
 use crate::slot_index::{IndexRedo, SlotIndex};
 use crate::slot_table::SlotTable;
@@ -15,10 +15,10 @@ use mdb_base::OutOfMemory;
 use std::alloc::Global;
 use std::marker::Model;
 
-/// At most one value for each number: as they are, and as they were when they were last settled.
+/// At most one value for each number: as they are, and as they were when they were last committed.
 #[derive(Drop)]
 pub struct Table<T: Keyed> {
-    parts: Parts<T>,
+    parts: IndexedSlots<T>,
     // There may be changes since.
     changed: bool,
 }
@@ -56,7 +56,7 @@ impl<T: Keyed> Table<T> {
         ensures base { result.base ≡ nothing_shelved }
     {
         Table {
-            parts: Parts {
+            parts: IndexedSlots {
                 slots: Slots::empty(alloc),
                 index: SlotIndex::new(alloc),
             },
@@ -177,7 +177,7 @@ impl<T: Keyed> Table<T> {
     }
 
     /// The changes go, and what comes back makes them again. It takes no memory.
-    pub fn turn(&mut self, alloc: Global) -> TableRedo<T>
+    pub fn undo(&mut self, alloc: Global) -> TableRedo<T>
         ensures now { self.new.now ≡ items self.old.base }
         ensures base { self.new.base ≡ self.old.base }
         ensures capacity { self.new.capacity ≡ self.old.capacity }
@@ -185,8 +185,8 @@ impl<T: Keyed> Table<T> {
     {
         self.changed = false;
         TableRedo {
-            slots: self.parts.slots.turn(alloc),
-            index: self.parts.index.turn(alloc),
+            slots: self.parts.slots.undo(alloc),
+            index: self.parts.index.undo(alloc),
         }
     }
 
@@ -204,13 +204,13 @@ impl<T: Keyed> Table<T> {
     }
 
     /// The changes stay. It takes no memory.
-    pub fn settle(&mut self)
+    pub fn commit(&mut self)
         ensures now { self.new.now ≡ self.old.now }
         ensures base { items self.new.base ≡ self.old.now }
     {
         if self.changed {
-            self.parts.slots.settle();
-            self.parts.index.settle();
+            self.parts.slots.commit();
+            self.parts.index.commit();
             self.changed = false;
         }
     }

@@ -4,10 +4,10 @@ ghost use Rattle.std.specs.Prelude.{◌≡◌, ◌+◌, ◌-◌, ◌^◌, ◌<�
 ghost use Rattle.mdb_slots.specs.Open.{GoesBack};
 
 use crate::touches::Touches;
-use crate::turned::Turned;
+use crate::undo_list::UndoList;
 
 /// What stands there.
-pub fn read<'a, T: Drop>(list: &'a Turned<T>, at: u32, touches: &mut Touches) -> &'a T
+pub(crate) fn read<'a, T: Drop>(list: &'a UndoList<T>, at: u32, touches: &mut Touches) -> &'a T
     requires within { at < length list.now.now }
     requires few { touches.old.count < 2 ^ 64 - 1 }
     ensures value { (d : T) → result.now ≡ slice_index_or list.now.now at d }
@@ -18,7 +18,7 @@ pub fn read<'a, T: Drop>(list: &'a Turned<T>, at: u32, touches: &mut Touches) ->
 }
 
 /// The value takes the place of another. Where it stays, so do all changes before it, and it needs no place in the log.
-pub fn write<T: Drop>(list: &mut Turned<T>, at: u32, value: T, stays: bool, touches: &mut Touches)
+pub(crate) fn write<T: Drop>(list: &mut UndoList<T>, at: u32, value: T, stays: bool, touches: &mut Touches)
     requires within { at < length list.old.now }
     requires room { stays ≡ false → 0 < list.old.room }
     requires few { touches.old.count < 2 ^ 64 - 1 }

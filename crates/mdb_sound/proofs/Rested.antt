@@ -1,11 +1,11 @@
 -- What the items of a pool say where no answer is half told, by the state that fits them.
 use Rattle.std.proofs.Common.{ℕ, ◌≡◌, ◌<◌, Bool, true, false, List, [], ◌∷◌, Option, Some, None, is_some, ◌⊎◌, inl, inr, refl, sym, ◌∙◌, ap, subst, arith}
-use Rattle.mdb_pool.specs.declared.connection.Connection.{Connection}
-use Rattle.mdb_pool.specs.declared.connection.Place.{Place}
-use Rattle.mdb_pool.specs.declared.connection.Place.TheVariants.{Pending, Available, Held, Pinned}
-use Rattle.mdb_pool.specs.declared.request.Request.{Request}
-use Rattle.mdb_pool.specs.declared.request.Phase.{Phase}
-use Rattle.mdb_pool.specs.declared.request.Phase.TheVariants.{Queued, Given, Over, Ended as EndedPhase}
+use Rattle.mdb_pool.specs.declared.kept.connection.Connection.{Connection}
+use Rattle.mdb_pool.specs.declared.kept.connection.Place.{Place}
+use Rattle.mdb_pool.specs.declared.kept.connection.Place.TheVariants.{Pending, Available, Held, Pinned}
+use Rattle.mdb_pool.specs.declared.kept.request.Request.{Request}
+use Rattle.mdb_pool.specs.declared.kept.request.Phase.{Phase}
+use Rattle.mdb_pool.specs.declared.kept.request.Phase.TheVariants.{Queued, Given, Over, Ended as EndedPhase}
 use Rattle.mdb_pool.specs.Core.{PoolCore}
 use Rattle.mdb_log.specs.History.{PoolItem, given, has_asked}
 use Rattle.mdb_log.specs.Connections.{one_if, has, live, pending_list, available_list, parties, pins, is_pinned, held, granted_to}
@@ -13,7 +13,7 @@ use Rattle.mdb_log.specs.Requests.{is_warm, end_of}
 use Rattle.mdb_pool.specs.Matching.{Matches}
 use Rattle.mdb_pool.specs.Places.{is_pending, is_available, is_held, is_at_pin, stays}
 use Rattle.mdb_pool.specs.Kept.{connection_at, request_at, given_of, given_in, holder_at, end_at, end_in, is_ended_at, one_party, pins_at, is_pinned_at}
-use Rattle.mdb_pool.proofs.Tables.{has-where, passes}
+use Rattle.mdb_pool.proofs.Listed.Values.{has-where, passes}
 
 -- what the moments between the answers have in common
 pub record Rested (xs : List PoolItem) : Type 0 where

@@ -16,8 +16,8 @@ use Rattle.mdb_pool.specs.Facts.{closed_fact, checked_out_fact}
 use Rattle.mdb_log.proofs.Later.{after-append}
 use Rattle.mdb_log.proofs.Numbers.{same-number}
 use Rattle.mdb_log.proofs.Pins.{queued-asked}
-use Rattle.mdb_pool.proofs.Lasts.{last_of-has}
-use Rattle.mdb_pool.proofs.Laws.{candidate-has, candidate-first}
+use Rattle.mdb_pool.proofs.Listed.Last.{last_of-has}
+use Rattle.mdb_pool.proofs.Turns.Fair.{candidate-has, candidate-first}
 use Rattle.mdb_sound.specs.Sound.{Sound, was_closed, just_created, MayCreate, MayGrant}
 use Rattle.mdb_sound.proofs.Calm.{Calm, open-ready, queued-unended, strangers, available-closes, calm-close, calm-end, calm-grant, calm-create}
 

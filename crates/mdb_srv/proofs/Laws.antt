@@ -30,7 +30,7 @@ accepted_are original Error hosts kept e = strictly (find (λ host. not (matches
     strictly None none is = some_are original hosts kept is ∙ sym (none_fails (matches original) hosts none)
     strictly (Some stranger) some is = absurd (cc is)
 
--- the same, where what is left of the hosts is not empty
+-- where some hosts are left, they are those that match the asked one
 pub kept_are : (original : List ℕ) (dm : DomainMismatch) (hosts kept : List ServerAddress) → valid_hosts original dm hosts ≡ some_hosts original kept
     → 0 < length kept → kept ≡ filter (matches original) hosts
 kept_are original dm hosts [] e some = absurd (omega (arith, some))

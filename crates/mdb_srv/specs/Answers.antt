@@ -6,19 +6,19 @@ use Rattle.mdb_srv.specs.declared.error.SrvError.TheVariants.{DnsResolve, Resolv
 use Rattle.mdb_srv.specs.declared.resolver.LookupError.{LookupError}
 use Rattle.mdb_srv.specs.declared.resolver.LookupError.TheVariants.{Failed, OutOfMemory as no_memory}
 
--- a refusal with this text, or want of memory
+-- a refusal with this text, or out of memory
 abbrev pub Says : List ℕ → SrvError → Type 0
 Says text (DnsResolve said) = said ≡ text
 Says text ResolverFault = ⊥
 Says text OutOfMemory = Unit {0}
 
--- a refusal with the text that the definition gives, or want of memory
+-- a refusal with the text that the definition gives, or out of memory
 abbrev pub Refuses : {T : Type 0} → Result T (List ℕ) → SrvError → Type 0
 Refuses defined (DnsResolve said) = defined ≡ Err said
 Refuses defined ResolverFault = ⊥
 Refuses defined OutOfMemory = Unit {0}
 
--- the same, or a fault of the resolver
+-- a refusal with the text that the definition gives, out of memory, or a fault of the resolver
 abbrev pub RefusesOrFails : {T : Type 0} → Result T (List ℕ) → SrvError → Type 0
 RefusesOrFails defined (DnsResolve said) = defined ≡ Err said
 RefusesOrFails defined ResolverFault = Unit {0}

@@ -21,7 +21,7 @@ HostsFollow original dm (Ok records) (Ok found) = (valid_hosts original dm (host
 HostsFollow original dm (Ok records) (Err e) = Refuses (valid_hosts original dm (hosts_of records)) e
 HostsFollow original dm (Err failed) result = result ≡ Err (fault_of failed)
 
--- The SRV records were looked up once; or not at all, for want of memory.
+-- The SRV records were looked up once; or not at all, for lack of memory.
 abbrev pub LooksHostsUp : {R : Type 0} → (R → Result (List SrvRecord) LookupError → R → Type 0) → List ℕ → DomainMismatch
     → R → R → Result LookupHosts SrvError → Type 0
 LooksHostsUp looked original dm old new result =

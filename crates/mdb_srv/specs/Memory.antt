@@ -53,7 +53,7 @@ counted r = record r { calls = next_lookup r }
 abbrev pub failed : MemResolver → MemResolver
 failed r = record r { calls = next_lookup r; faults = min (r.faults + 1) (2 ^ 64 - 1) }
 
--- A lookup whose number is listed fails, and any other gives what is held. Want of memory changes nothing.
+-- A lookup whose number is listed fails, and any other gives what is held. Running out of memory changes nothing.
 abbrev pub Moves : {T : Type 0} → T → MemResolver → Result T LookupError → MemResolver → Type 0
 Moves held old (Ok found) new = (new ≡ counted old) × (fails_next old ≡ false) × (found ≡ held)
 Moves held old (Err Failed) new = (new ≡ failed old) × (fails_next old ≡ true)

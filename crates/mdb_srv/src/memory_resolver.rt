@@ -19,7 +19,7 @@ pub struct MemRecords {
 }
 
 /// A resolver that holds its records: for each name those of the first entry with that name, and none for any other.
-/// Both lookups are numbered together from 1, and those whose numbers stand in `fails` fail. A lookup that wants memory
+/// Both lookups are numbered together from 1, and those whose numbers stand in `fails` fail. A lookup that needs memory
 /// has no number.
 #[derive(Debug, Drop)]
 pub struct MemResolver {

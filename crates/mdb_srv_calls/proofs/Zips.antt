@@ -17,7 +17,7 @@ zip_never R (x ∷ xs) [] i d below never zip = zip
 zip_never R (x ∷ xs) (z ∷ zs) zero d below never zip = never z zip.0
 zip_never R (x ∷ xs) (z ∷ zs) (suc i) d below never zip = zip_never R xs zs i d (omega arith) never zip.1
 
--- the same of texts that are lent
+-- one more pair of a lent text and a value
 pub texts_more : {B : Type 0} (R : List ℕ → B → Type 0) (texts : List (Bor (List ℕ))) (ys : List B) (i : ℕ) (d : Bor (List ℕ)) (y : B)
     → i < length texts → AllZip R (take i (map (λ t. t.now) texts)) ys → R (get_or texts i d).now y → AllZip R (take (i + 1) (map (λ t. t.now) texts)) (ys ++ y ∷ [])
 texts_more R texts ys i d y below zip r =

@@ -6,7 +6,7 @@ use Rattle.mdb_log.proofs.Bools.{both-left, both-right}
 use Rattle.mdb_tallies.specs.declared.connection.Place.{Place}
 use Rattle.mdb_tallies.specs.declared.lists.Lists.{Lists}
 use Rattle.mdb_tallies.specs.declared.party.Gift.{Gift}
-use Rattle.mdb_tallies.specs.declared.table.Table.{Table}
+use Rattle.mdb_tallies.specs.declared.default_map.DefaultMap.{DefaultMap}
 use Rattle.mdb_tallies.specs.declared.tables.Tables.{Tables}
 use Rattle.mdb_tallies.specs.Tables.{at, same_key}
 use Rattle.mdb_tallies.specs.Lists.{nth, len, listed, is_place, Pushes, PushesIf}
@@ -58,7 +58,7 @@ given-again true g x e f = e ∙ sym (f refl)
 given-again false g x e f = refl
 
 -- the lists cover with one place more
-pub covers-more : (old : Tables) (r p c : ℕ) (g : Gift) (lists : Lists Place) (t : Table Gift) → any_way g ≡ true → any_way (at old.gifts r p c) ≡ false → Pushes r (record { pool = p; id = c }) old.places lists → ((x y z : ℕ) → at t x y z ≡ (if same_key r p c x y z then g else at old.gifts x y z)) → Covers old → Covers (record old { gifts = t; places = lists })
+pub covers-more : (old : Tables) (r p c : ℕ) (g : Gift) (lists : Lists Place) (t : DefaultMap Gift) → any_way g ≡ true → any_way (at old.gifts r p c) ≡ false → Pushes r (record { pool = p; id = c }) old.places lists → ((x y z : ℕ) → at t x y z ≡ (if same_key r p c x y z then g else at old.gifts x y z)) → Covers old → Covers (record old { gifts = t; places = lists })
 covers-more old r p c g lists t way fresh push there covers = record { all = λ q x y. all q x y (r == q) refl; once = λ q i. once q i (r == q) refl }
   where
     v : Place
@@ -79,14 +79,14 @@ covers-more old r p c g lists t way fresh push there covers = record { all = λ 
         rw one (listed-same i (nth lists q) (nth old.places q) (nth old.places q i).pool (nth old.places q i).id (λ j m. apart-nth r q (record { pool = p; id = c }) old.places lists push u j) ∙ covers.once q i (rw n at below))
 
 -- the lists cover as before where the pair was given before
-pub covers-again : (old : Tables) (r p c : ℕ) (g : Gift) (t : Table Gift) → any_way g ≡ true → any_way (at old.gifts r p c) ≡ true → ((x y z : ℕ) → at t x y z ≡ (if same_key r p c x y z then g else at old.gifts x y z)) → Covers old → Covers (record old { gifts = t })
+pub covers-again : (old : Tables) (r p c : ℕ) (g : Gift) (t : DefaultMap Gift) → any_way g ≡ true → any_way (at old.gifts r p c) ≡ true → ((x y z : ℕ) → at t x y z ≡ (if same_key r p c x y z then g else at old.gifts x y z)) → Covers old → Covers (record old { gifts = t })
 covers-again old r p c g t way before there covers = record { all = λ q x y. covers.all q x y ∙ sym (ap any_way (there q x y) ∙ given-again (same_key r p c q x y) g (at old.gifts q x y) way (λ k. known q x y k)); once = covers.once }
   where
     known : (q x y : ℕ) → same_key r p c q x y ≡ true → any_way (at old.gifts q x y) ≡ true
     known q x y k = let a : r ≡ q = same r q (both-left (r == q) (p == x) (both-left ((r == q) && (p == x)) (c == y) k)) in let b : p ≡ x = same p x (both-right (r == q) (p == x) (both-left ((r == q) && (p == x)) (c == y) k)) in let d : c ≡ y = same c y (both-right ((r == q) && (p == x)) (c == y) k) in rw (← a, ← b, ← d) before
 
 -- the tables after the party was given the connection
-pub gives : (old : Tables) (r p c : ℕ) (g : Gift) (lists : Lists Place) (t : Table Gift) → g.is_granted || g.is_taken ≡ true → PushesIf (not ((at old.gifts r p c).is_granted || (at old.gifts r p c).is_taken)) r (record { pool = p; id = c }) old.places lists → ((x y z : ℕ) → at t x y z ≡ (if same_key r p c x y z then g else at old.gifts x y z)) → Gives r p c g old (record old { gifts = t; places = lists })
+pub gives : (old : Tables) (r p c : ℕ) (g : Gift) (lists : Lists Place) (t : DefaultMap Gift) → g.is_granted || g.is_taken ≡ true → PushesIf (not ((at old.gifts r p c).is_granted || (at old.gifts r p c).is_taken)) r (record { pool = p; id = c }) old.places lists → ((x y z : ℕ) → at t x y z ≡ (if same_key r p c x y z then g else at old.gifts x y z)) → Gives r p c g old (record old { gifts = t; places = lists })
 gives old r p c g lists t way push there = record { gifts = there; connections = refl; parties = refl; pools = refl; lists = λ covers. by covers (not (any_way (at old.gifts r p c))) refl push }
   where
     by : Covers old → (b : Bool) → not (any_way (at old.gifts r p c)) ≡ b → PushesIf b r (record { pool = p; id = c }) old.places lists → Covers (record old { gifts = t; places = lists })

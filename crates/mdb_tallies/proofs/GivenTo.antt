@@ -3,9 +3,9 @@ use Rattle.std.proofs.Common.{ℕ, ◌≡◌, ◌==◌, Bool, true, false, not, 
 use Rattle.mdb_tallies.specs.declared.connection.Connection.{Connection}
 use Rattle.mdb_tallies.specs.declared.party.Gift.{Gift}
 use Rattle.mdb_tallies.specs.declared.party.Party.{Party}
-use Rattle.mdb_tallies.specs.declared.table.Table.{Table}
+use Rattle.mdb_tallies.specs.declared.default_map.DefaultMap.{DefaultMap}
 use Rattle.mdb_tallies.specs.declared.tables.Tables.{Tables}
-use Rattle.mdb_tallies.specs.declared.change.Change.TheVariants as change
+use Rattle.mdb_tallies.specs.declared.occurrence.Occurrence.TheVariants as change
 use Rattle.mdb_tallies.specs.Tables.{at, same_key}
 use Rattle.mdb_tallies.specs.Standing.{is_lent}
 use Rattle.mdb_tallies.specs.Kept.{Replaces, Gives, Follows}
@@ -55,7 +55,7 @@ taken-follows b r q d x g old mid new e f h k = record {
   lists = λ covers. h.lists (covers-same old mid e.gifts e.places covers);
 }
 
-pub granted-follows : (b : Bool) (r q d : ℕ) (x : Connection) (g : Gift) (v : Party) (old mid now : Tables) (t : Table Party) → Replaces q d x 0 old mid → x ≡ once_granted (lent_now (at old.gifts r q d) (at old.parties r 0 0)) (lent_now g (at old.parties r 0 0)) (at old.connections q d 0) → Gives r q d g mid now → g ≡ record (at old.gifts r q d) { is_granted = true } → ((a b c : ℕ) → at t a b c ≡ (if same_key r 0 0 a b c then v else at now.parties a b c)) → v ≡ record (at old.parties r 0 0) { is_granted = true } → Follows b (change.Granted r q d) old (record now { parties = t })
+pub granted-follows : (b : Bool) (r q d : ℕ) (x : Connection) (g : Gift) (v : Party) (old mid now : Tables) (t : DefaultMap Party) → Replaces q d x 0 old mid → x ≡ once_granted (lent_now (at old.gifts r q d) (at old.parties r 0 0)) (lent_now g (at old.parties r 0 0)) (at old.connections q d 0) → Gives r q d g mid now → g ≡ record (at old.gifts r q d) { is_granted = true } → ((a b c : ℕ) → at t a b c ≡ (if same_key r 0 0 a b c then v else at now.parties a b c)) → v ≡ record (at old.parties r 0 0) { is_granted = true } → Follows b (change.Granted r q d) old (record now { parties = t })
 granted-follows b r q d x g v old mid now t e f h k n w = record {
   connections = λ p c. ap (λ y. at y p c 0) h.connections ∙ placed q d 0 x (granting (at old.parties r 0 0) (at old.gifts r q d)) old mid e is p c ∙ moved (granting (at old.parties r 0 0)) (λ n m. at old.gifts r n m) q d p c (at old.connections p c 0);
   gifts = λ s p c. h.gifts s p c ∙ ap (λ y. if same_key r q d s p c then y else at mid.gifts s p c) k ∙ ap (λ y. if same_key r q d s p c then once_lent (at old.gifts r q d) else at y s p c) e.gifts ∙ moved-gift once_lent (λ n m l. at old.gifts n m l) r q d s p c;

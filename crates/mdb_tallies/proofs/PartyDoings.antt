@@ -4,10 +4,10 @@ use Rattle.mdb_tallies.specs.declared.connection.Connection.{Connection}
 use Rattle.mdb_tallies.specs.declared.connection.Place.{Place}
 use Rattle.mdb_tallies.specs.declared.party.Gift.{Gift}
 use Rattle.mdb_tallies.specs.declared.party.Party.{Party}
-use Rattle.mdb_tallies.specs.declared.table.Table.{Table}
+use Rattle.mdb_tallies.specs.declared.default_map.DefaultMap.{DefaultMap}
 use Rattle.mdb_tallies.specs.declared.tables.Tables.{Tables}
-use Rattle.mdb_tallies.specs.declared.change.How.{How}
-use Rattle.mdb_tallies.specs.declared.change.How.TheVariants.{GaveBack, Over}
+use Rattle.mdb_tallies.specs.declared.occurrence.How.{How}
+use Rattle.mdb_tallies.specs.declared.occurrence.How.TheVariants.{GaveBack, Over}
 use Rattle.mdb_tallies.specs.Tables.{at, same_key}
 use Rattle.mdb_tallies.specs.Lists.{nth, len, listed}
 use Rattle.mdb_tallies.specs.Kept.{Covers, SoFar, PartyDid}
@@ -63,7 +63,7 @@ pub did-none : (how : How) (r : ℕ) (t : Tables) → SoFar how r 0 t t
 did-none how r t = record { connections = λ p c. refl; gifts = refl; parties = refl; pools = refl; places = refl }
 
 -- one place more
-pub did-next : (how : How) (r i : ℕ) (old now : Tables) (t : Table Connection) (place : Place) (x : Connection) → Covers old → SoFar how r i old now → i < len old.places r → place ≡ nth old.places r i → x ≡ by_party how (at now.gifts r place.pool place.id) (at old.parties r 0 0) (at now.connections place.pool place.id 0) → ((a b c : ℕ) → at t a b c ≡ (if same_key place.pool place.id 0 a b c then x else at now.connections a b c)) → SoFar how r (i + 1) old (record now { connections = t })
+pub did-next : (how : How) (r i : ℕ) (old now : Tables) (t : DefaultMap Connection) (place : Place) (x : Connection) → Covers old → SoFar how r i old now → i < len old.places r → place ≡ nth old.places r i → x ≡ by_party how (at now.gifts r place.pool place.id) (at old.parties r 0 0) (at now.connections place.pool place.id 0) → ((a b c : ℕ) → at t a b c ≡ (if same_key place.pool place.id 0 a b c then x else at now.connections a b c)) → SoFar how r (i + 1) old (record now { connections = t })
 did-next how r i old now t place x covers far below e here there = record { connections = λ p c. rw (add-one i) (rw (← e) (there p c 0 ∙ go p c (place.pool == p) (place.id == c) refl refl)); gifts = far.gifts; parties = far.parties; pools = far.pools; places = far.places }
   where
     unseen : listed i (nth old.places r) place.pool place.id ≡ false

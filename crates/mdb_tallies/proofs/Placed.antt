@@ -5,7 +5,7 @@ use Rattle.mdb_log.proofs.Numbers.{same-number}
 use Rattle.mdb_tallies.specs.declared.connection.Connection.{Connection}
 use Rattle.mdb_tallies.specs.declared.pools.Pool.{Pool}
 use Rattle.mdb_tallies.specs.declared.tables.Tables.{Tables}
-use Rattle.mdb_tallies.specs.declared.change.Change.TheVariants as change
+use Rattle.mdb_tallies.specs.declared.occurrence.Occurrence.TheVariants as change
 use Rattle.mdb_tallies.specs.Tables.{at, same_key}
 use Rattle.mdb_tallies.specs.Kept.{Replaces, Follows, Covers}
 use Rattle.mdb_tallies.specs.Changes.{recounted, pool_if, changed_if, pending_now, at_hand_now, closed_now, once_created, once_closed, once_checked_in, once_established, once_failed}

@@ -6,10 +6,10 @@ use Rattle.mdb_tallies.specs.declared.connection.Connection.{Connection}
 use Rattle.mdb_tallies.specs.declared.party.Gift.{Gift}
 use Rattle.mdb_tallies.specs.declared.party.Party.{Party}
 use Rattle.mdb_tallies.specs.declared.pools.Pool.{Pool}
-use Rattle.mdb_tallies.specs.declared.change.Change.{Change}
-use Rattle.mdb_tallies.specs.declared.change.Change.TheVariants as change
-use Rattle.mdb_tallies.specs.declared.change.How.{How}
-use Rattle.mdb_tallies.specs.declared.change.How.TheVariants as how
+use Rattle.mdb_tallies.specs.declared.occurrence.Occurrence.{Occurrence}
+use Rattle.mdb_tallies.specs.declared.occurrence.Occurrence.TheVariants as change
+use Rattle.mdb_tallies.specs.declared.occurrence.How.{How}
+use Rattle.mdb_tallies.specs.declared.occurrence.How.TheVariants as how
 
 -- facts
 
@@ -78,7 +78,7 @@ by_party how.GaveBack gift party x = once_returned (kept_now gift party) (lent_n
 by_party how.Over gift party x = once_over (lent_now gift party) x
 
 -- The connection c of pool p after a change: gifts tells how each party was given it, and parties what is known of each.
-abbrev pub connection_after : Change → (ℕ → Gift) → (ℕ → Party) → ℕ → ℕ → Connection → Connection
+abbrev pub connection_after : Occurrence → (ℕ → Gift) → (ℕ → Party) → ℕ → ℕ → Connection → Connection
 connection_after (change.Returned r) gifts parties p c x = by_party how.GaveBack (gifts r) (parties r) x
 connection_after (change.Taken r q d) gifts parties p c x = changed_if ((q == p) && (d == c)) (once_taken (kept_now (gifts r) (parties r)) (not (parties r).is_returned) (lent_now (gifts r) (parties r))) x
 connection_after (change.Established q d) gifts parties p c x = changed_if ((q == p) && (d == c)) once_established x
@@ -91,13 +91,13 @@ connection_after (change.Ended r) gifts parties p c x = by_party how.Over (gifts
 connection_after _ gifts parties p c x = x
 
 -- how the party q was given the connection c of pool p, after a change
-abbrev pub gift_after : Change → ℕ → ℕ → ℕ → Gift → Gift
+abbrev pub gift_after : Occurrence → ℕ → ℕ → ℕ → Gift → Gift
 gift_after (change.Granted r s d) q p c x = if ((r == q) && (s == p)) && (d == c) then record x { is_granted = true } else x
 gift_after (change.Taken r s d) q p c x = if ((r == q) && (s == p)) && (d == c) then record x { is_taken = true } else x
 gift_after _ q p c x = x
 
 -- the party q after a change: it asks with its first step
-abbrev pub party_after : Change → ℕ → Party → Party
+abbrev pub party_after : Occurrence → ℕ → Party → Party
 party_after (change.Asked r pool warm) q x = if (r == q) && not x.is_asked then record x { is_asked = true; pool = pool; is_warm = warm } else x
 party_after (change.Returned r) q x = if r == q then record x { is_returned = true } else x
 party_after (change.Granted r p c) q x = if r == q then record x { is_granted = true } else x
@@ -126,7 +126,7 @@ abbrev pub pool_if : Bool → Pool → Pool → Pool
 pool_if b y x = if b then y else x
 
 -- The pool p after a change: balanced tells whether pools are ready from the start, was and now what a connection of it was and is.
-abbrev pub pool_after : Change → Bool → (ℕ → Connection) → (ℕ → Connection) → ℕ → Pool → Pool
+abbrev pub pool_after : Occurrence → Bool → (ℕ → Connection) → (ℕ → Connection) → ℕ → Pool → Pool
 pool_after (change.Established q d) balanced was now p x = pool_if (q == p) (recounted (was d) (now d) x) x
 pool_after (change.Failed q d) balanced was now p x = pool_if (q == p) (recounted (was d) (now d) x) x
 pool_after (change.Created q d) balanced was now p x = pool_if (q == p) (recounted (was d) (now d) (record x { created = x.created + 1 })) x

@@ -5,8 +5,8 @@ use Rattle.mdb_log.specs.History.{Item}
 use Rattle.mdb_tallies.specs.declared.connection.Connection.{Connection}
 use Rattle.mdb_tallies.specs.Standing.{connection_of, gift_of, party_of, pool_stands}
 use Rattle.mdb_tallies.specs.declared.party.Gift.{Gift}
-use Rattle.mdb_tallies.specs.declared.change.Change.{Change}
-use Rattle.mdb_tallies.specs.declared.change.How.{How}
+use Rattle.mdb_tallies.specs.declared.occurrence.Occurrence.{Occurrence}
+use Rattle.mdb_tallies.specs.declared.occurrence.How.{How}
 use Rattle.mdb_tallies.specs.Lists.{nth, len, listed}
 use Rattle.mdb_tallies.specs.declared.tables.Tables.{Tables}
 use Rattle.mdb_tallies.specs.Tables.{at, same_key}
@@ -42,7 +42,7 @@ pub record PartyDid (how : How) (r : ℕ) (old new : Tables) : Type 0 where
   pub places : new.places ≡ old.places
 
 -- The tables after a change: each connection, gift, party and pool is what it is after the change.
-pub record Follows (balanced : Bool) (change : Change) (old new : Tables) : Type 0 where
+pub record Follows (balanced : Bool) (change : Occurrence) (old new : Tables) : Type 0 where
   pub connections : (p c : ℕ) → at new.connections p c 0 ≡ connection_after change (λ r. at old.gifts r p c) (λ r. at old.parties r 0 0) p c (at old.connections p c 0)
   pub gifts : (r p c : ℕ) → at new.gifts r p c ≡ gift_after change r p c (at old.gifts r p c)
   pub parties : (r : ℕ) → at new.parties r 0 0 ≡ party_after change r (at old.parties r 0 0)

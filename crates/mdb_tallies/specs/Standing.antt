@@ -46,7 +46,7 @@ connection_of h p c = connection_by (of_pool p h) (has_returned h) (is_ended h) 
 abbrev pub gift_by : List PoolItem → ℕ → ℕ → Gift
 gift_by xs r c = record { is_granted = is_granted_to xs r c; is_taken = is_taken_by xs r c }
 
--- the same by the history, in pool p
+-- how the party r was given the connection c of pool p, by the history
 abbrev pub gift_of : List Item → ℕ → ℕ → ℕ → Gift
 gift_of h r p c = gift_by (of_pool p h) r c
 

@@ -5,7 +5,7 @@ ghost use Rattle.mdb_log.specs.Connections.{one_if};
 ghost use Rattle.mdb_tallies.specs.Changes.{pending_now, at_hand_now, closed_now, once_created, once_closed, once_checked_in, once_established, once_failed, once_granted, once_taken, once_over, once_returned, kept_now, lent_now, held_by_now, done_now, by_party};
 ghost use Rattle.mdb_tallies.specs.Standing.{is_lent};
 
-use crate::change::How;
+use crate::occurrence::How;
 use crate::connection::Connection;
 use crate::party::{Gift, Party};
 use mdb_base::OutOfMemory;
@@ -17,7 +17,7 @@ pub fn one_if(test: bool) -> u64
 }
 
 /// The count with one part in place of another. A count past 2^64 - 1 is more than memory could have brought.
-pub fn exchange(count: u64, old: u64, new: u64) -> Result<u64, OutOfMemory>
+pub(crate) fn exchange(count: u64, old: u64, new: u64) -> Result<u64, OutOfMemory>
     ensures { IfOk result (λ n. n ≡ (count + new) - old) }
 {
     match count.checked_add(new) {
@@ -137,7 +137,7 @@ pub fn is_lent(gift: &Gift, party: &Party) -> bool
     gift.is_granted && !gift.is_taken && !party.is_returned && !party.is_ended
 }
 
-pub fn is_held(gift: &Gift, party: &Party, connection: &Connection) -> bool
+pub(crate) fn is_held(gift: &Gift, party: &Party, connection: &Connection) -> bool
     ensures { result ≡ held_by_now gift.now party.now connection.now }
 {
     is_kept(gift, party) || (is_lent(gift, party) && !connection.is_pending())
@@ -154,7 +154,7 @@ pub fn is_done(how: How, party: &Party) -> bool
 }
 
 /// The connection after what one of its parties did.
-pub fn by_party(how: How, gift: &Gift, party: &Party, old: Connection) -> Connection
+pub(crate) fn by_party(how: How, gift: &Gift, party: &Party, old: Connection) -> Connection
     ensures { result ≡ by_party how gift.now party.now old }
 {
     match how {

@@ -3,7 +3,7 @@
 ghost use Rattle.std.specs.Prelude.{OnOk};
 ghost use Rattle.mdb_tallies.specs.Kept.{PartyDid, Covers};
 
-use crate::change::How;
+use crate::occurrence::How;
 use crate::counts::{by_party, is_done};
 use crate::tables::Tables;
 use mdb_base::OutOfMemory;

@@ -3,7 +3,7 @@
 ghost use Rattle.std.specs.Prelude.{◌≡◌, ◌||◌, not, true, Bool, OnOk};
 ghost use Rattle.mdb_tallies.specs.Kept.{Follows, Gives};
 ghost use Rattle.mdb_tallies.specs.Lists.{PushesIf};
-ghost use Rattle.mdb_tallies.specs.declared.change.Change.TheVariants as change;
+ghost use Rattle.mdb_tallies.specs.declared.occurrence.Occurrence.TheVariants as change;
 
 use crate::connection::Place;
 use crate::counts::{is_kept, is_lent};

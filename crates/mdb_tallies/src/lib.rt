@@ -2,7 +2,7 @@
 #![tactic(auto)]
 
 mod apply;
-mod change;
+mod occurrence;
 mod connection;
 mod counts;
 mod doings;
@@ -13,16 +13,16 @@ mod notes;
 mod party;
 mod places;
 mod pools;
-mod table;
+mod default_map;
 mod tables;
 
 pub use apply::of_event;
-pub use change::{Change, How};
+pub use occurrence::{Occurrence, How};
 pub use connection::{Connection, Place};
 pub use counts::{is_done, is_kept, is_lent, one_if, one_more};
 pub use giving::push_if;
 pub use lists::Lists;
 pub use party::{Gift, Party};
 pub use pools::Pool;
-pub use table::Table;
+pub use default_map::DefaultMap;
 pub use tables::Tables;

@@ -3,15 +3,15 @@
 ghost use Rattle.std.specs.Prelude.{◌≡◌, ℕ, OnOk};
 ghost use Rattle.mdb_tallies.specs.Lists.{nth, len, Pushes, Clears};
 
-use crate::table::Table;
+use crate::default_map::DefaultMap;
 use mdb_base::OutOfMemory;
 use std::alloc::Global;
 
 /// A list for each number.
 #[derive(Drop)]
 pub struct Lists<V: Copy> {
-    pub items: Table<V>,
-    pub lengths: Table<u32>,
+    pub items: DefaultMap<V>,
+    pub lengths: DefaultMap<u32>,
 }
 
 impl<V: Copy> Lists<V> {
@@ -20,8 +20,8 @@ impl<V: Copy> Lists<V> {
         ensures { (k : ℕ) → len result k ≡ 0 }
     {
         Lists {
-            items: Table::new(alloc, none),
-            lengths: Table::new(alloc, 0),
+            items: DefaultMap::new(alloc, none),
+            lengths: DefaultMap::new(alloc, 0),
         }
     }
 

@@ -2,9 +2,9 @@
 
 ghost use Rattle.std.specs.Prelude.{Bool, OnOk};
 ghost use Rattle.mdb_tallies.specs.Kept.{Follows, Covers};
-ghost use Rattle.mdb_tallies.specs.declared.change.Change.TheVariants as change;
+ghost use Rattle.mdb_tallies.specs.declared.occurrence.Occurrence.TheVariants as change;
 
-use crate::change::How;
+use crate::occurrence::How;
 use crate::party::Party;
 use crate::pools::Pool;
 use crate::tables::Tables;

@@ -2,7 +2,7 @@
 
 ghost use Rattle.std.specs.Prelude.{Bool, OnOk};
 ghost use Rattle.mdb_tallies.specs.Kept.{Follows};
-ghost use Rattle.mdb_tallies.specs.declared.change.Change.TheVariants as change;
+ghost use Rattle.mdb_tallies.specs.declared.occurrence.Occurrence.TheVariants as change;
 
 use crate::connection::Connection;
 use crate::tables::Tables;

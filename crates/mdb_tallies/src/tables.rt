@@ -10,7 +10,7 @@ use crate::counts::{exchange, one_if};
 use crate::lists::Lists;
 use crate::party::{Gift, Party};
 use crate::pools::Pool;
-use crate::table::Table;
+use crate::default_map::DefaultMap;
 use mdb_base::OutOfMemory;
 use std::alloc::Global;
 
@@ -18,13 +18,13 @@ use std::alloc::Global;
 #[derive(Drop)]
 pub struct Tables {
     /// By pool and connection.
-    pub connections: Table<Connection>,
+    pub connections: DefaultMap<Connection>,
     /// By party.
-    pub parties: Table<Party>,
+    pub parties: DefaultMap<Party>,
     /// By party, pool and connection.
-    pub gifts: Table<Gift>,
+    pub gifts: DefaultMap<Gift>,
     /// By pool.
-    pub pools: Table<Pool>,
+    pub pools: DefaultMap<Pool>,
     /// The connections that each party was given.
     pub places: Lists<Place>,
 }
@@ -87,10 +87,10 @@ impl Tables {
             available: 0,
         };
         Tables {
-            connections: Table::new(alloc, nothing),
-            parties: Table::new(alloc, nobody),
-            gifts: Table::new(alloc, none),
-            pools: Table::new(alloc, empty),
+            connections: DefaultMap::new(alloc, nothing),
+            parties: DefaultMap::new(alloc, nobody),
+            gifts: DefaultMap::new(alloc, none),
+            pools: DefaultMap::new(alloc, empty),
             places: Lists::new(alloc, Place { pool: 0, id: 0 }),
         }
     }

@@ -5,11 +5,11 @@ use Rattle.mdb_log.specs.declared.step.Step.{Step}
 use Rattle.mdb_log.specs.declared.step.Act.{Act}
 use Rattle.mdb_log.specs.declared.step.Act.TheVariants.{Ready, Close}
 use Rattle.mdb_pool.specs.Core.{PoolCore}
-use Rattle.mdb_pool.specs.declared.parts.Answered.{Answered}
+use Rattle.mdb_pool.specs.declared.planning.Answered.{Answered}
 use Rattle.mdb_pool.specs.Body.{PoolSteps as Plan}
-use Rattle.mdb_pool.specs.Parts.{Plans, IsPlanOf, IsDone}
-use Rattle.mdb_topology.specs.declared.change.Change.{Change}
-use Rattle.mdb_topology.specs.declared.change.Change.TheVariants.{Alter}
+use Rattle.mdb_pool.specs.Planning.{Plans, IsPlanOf, IsDone}
+use Rattle.mdb_topology.specs.declared.pools.pool_change.PoolChange.{PoolChange}
+use Rattle.mdb_topology.specs.declared.pools.pool_change.PoolChange.TheVariants.{Alter}
 
 -- the acts of the driver itself, by the number of the pool
 abbrev pub readying : ℕ → Act
@@ -22,8 +22,8 @@ closing p = Close p
 abbrev pub step_of : ℕ → (ℕ → Act) → ℕ → Step
 step_of m act p = record { moment = m; act = act p }
 
--- The pool at the place does the act: the change stands behind the earlier ones, and its facts come after those before it.
-pub record PlansOne (pools : List PoolCore) (i m : ℕ) (act : ℕ → Act) (earlier changes : List Change) (before after : List Fact) : Type 0 where
+-- The pool at the index does the act: the change stands behind the earlier ones, and its facts come after those before it.
+pub record PlansOne (pools : List PoolCore) (i m : ℕ) (act : ℕ → Act) (earlier changes : List PoolChange) (before after : List Fact) : Type 0 where
   pub pool : PoolCore
   pub there : slice_get pools i ≡ Some pool
   pub plan : Plan
@@ -34,6 +34,6 @@ pub record PlansOne (pools : List PoolCore) (i m : ℕ) (act : ℕ → Act) (ear
   pub told : after ≡ before ++ answered.facts
 
 -- the pool at this place, if there is one, does the act
-abbrev pub PlansAt : List PoolCore → Option ℕ → ℕ → (ℕ → Act) → List Change → List Change → List Fact → List Fact → Type 0
+abbrev pub PlansAt : List PoolCore → Option ℕ → ℕ → (ℕ → Act) → List PoolChange → List PoolChange → List Fact → List Fact → Type 0
 PlansAt pools None m act earlier changes before after = (changes ≡ earlier) × (after ≡ before)
 PlansAt pools (Some i) m act earlier changes before after = PlansOne pools i m act earlier changes before after

@@ -3,24 +3,24 @@ use Rattle.std.specs.Prelude.{ℕ, ◌≡◌, List, slice_get, Some, None}
 use Rattle.mdb_log.specs.declared.step.Step.{Step}
 use Rattle.mdb_log.specs.declared.step.Act.{Act}
 use Rattle.mdb_pool.specs.Core.{PoolCore}
-use Rattle.mdb_pool.specs.Parts.{IsDone, Plans, IsPlanOf}
+use Rattle.mdb_pool.specs.Planning.{IsDone, Plans, IsPlanOf}
 use Rattle.mdb_pool.specs.Refusing.{refusal_now}
-use Rattle.mdb_topology.specs.declared.outcome.Outcome.{Outcome}
-use Rattle.mdb_topology.specs.declared.outcome.Outcome.TheVariants.{Refused, Idle, Planned}
+use Rattle.mdb_topology.specs.declared.pools.pool_decision.PoolDecision.{PoolDecision}
+use Rattle.mdb_topology.specs.declared.pools.pool_decision.PoolDecision.TheVariants.{Refused, Idle, Planned}
 use Rattle.mdb_topology.specs.Finding.{missing_pool}
 
 -- The act concerns no pool: it is refused by its cause, or a claim that finds no job.
-abbrev pub Lacks : List PoolCore → Act → Outcome → Type 0
+abbrev pub Lacks : List PoolCore → Act → PoolDecision → Type 0
 Lacks pools act (Refused why) = missing_pool pools act ≡ Some why
 Lacks pools act Idle = missing_pool pools act ≡ None
 Lacks pools act (Planned i plan told) = ⊥
 
--- The pool s at the place i refuses the step, or a plan leads it to where it has done it.
-abbrev pub Asked : PoolCore → ℕ → Step → Outcome → Type 0
+-- The pool s at the index i refuses the step, or a plan leads it to where it has done it.
+abbrev pub Asked : PoolCore → ℕ → Step → PoolDecision → Type 0
 Asked s i step (Refused why) = refusal_now s step ≡ Some why
 Asked s i step Idle = ⊥
 Asked s i step (Planned j plan told) = (j ≡ i) × (refusal_now s step ≡ None) × IsPlanOf plan s × ((t : PoolCore) → Plans plan s t → IsDone s t step told)
 
--- the pool at the place is asked
-abbrev pub IsAsked : List PoolCore → ℕ → Step → Outcome → Type 0
+-- the pool at the index is asked
+abbrev pub IsAsked : List PoolCore → ℕ → Step → PoolDecision → Type 0
 IsAsked pools i step outcome = (s : PoolCore) × (slice_get pools i ≡ Some s) × Asked s i step outcome

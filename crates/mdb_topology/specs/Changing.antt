@@ -10,12 +10,12 @@ use Rattle.mdb_monitor.specs.Standing.{StandsFor as MonitorStands}
 use Rattle.mdb_log.specs.declared.reply.What.{What}
 use Rattle.mdb_log.specs.declared.reply.What.TheVariants.{Servers, Pool}
 use Rattle.mdb_log.specs.declared.reply.Refused.TheVariants.{Exhausted}
-use Rattle.mdb_topology.specs.declared.next.Next.{Next}
-use Rattle.mdb_topology.specs.declared.next.Stepped.{Stepped}
-use Rattle.mdb_topology.specs.declared.next.Stepped.TheVariants.{Refused, Accepted}
-use Rattle.mdb_topology.specs.declared.monitoring.Monitoring.TheVariants.{Same}
+use Rattle.mdb_topology.specs.declared.transition.Transition.{Transition}
+use Rattle.mdb_topology.specs.declared.transition.Decision.{Decision}
+use Rattle.mdb_topology.specs.declared.transition.Decision.TheVariants.{Refused, Accepted}
+use Rattle.mdb_topology.specs.declared.monitors.monitoring.Monitoring.TheVariants.{Same}
 use Rattle.mdb_topology.specs.Monitors.{setting, hello_reply}
-use Rattle.mdb_topology.specs.declared.monitoring.Monitoring.{Monitoring}
+use Rattle.mdb_topology.specs.declared.monitors.monitoring.Monitoring.{Monitoring}
 use Rattle.mdb_events.specs.declared.fact.Fact.TheVariants.{Sdam}
 use Rattle.mdb_events.specs.declared.sdam.SdamEvent.{SdamEvent}
 use Rattle.mdb_monitor.specs.declared.check.Report.{Report}
@@ -32,7 +32,7 @@ use Rattle.mdb_log.specs.declared.reply.Reply.{Reply}
 use Rattle.mdb_log.specs.declared.reply.Reply.TheVariants.{Changed}
 use Rattle.mdb_log.specs.History.{Item}
 use Rattle.mdb_pool.specs.Core.{PoolCore}
-use Rattle.mdb_topology.specs.declared.change.Change.{Change}
+use Rattle.mdb_topology.specs.declared.pools.pool_change.PoolChange.{PoolChange}
 use Rattle.mdb_topology.specs.declared.topology.TopologyCore.{TopologyCore}
 use Rattle.mdb_topology.specs.Description.{rule_after, description_of, is_stop}
 use Rattle.mdb_topology.specs.Facts.{trouble}
@@ -65,7 +65,7 @@ pub record IsChanging (o : Options) (h : List Item) (t : TopologyDescription) (n
   pub stop : is_stop step.act ≡ stops
 
 -- The parts are planned on the pools as they stand: which addresses they touch is left open, and a pool is open for each server that is known then.
-pub record IsTold (o : Options) (m : ℕ) (pools : List PoolCore) (n : ℕ) (u : TopologyDescription) (parts : List (List Item → List Fact)) (changes : List Change) (facts : List Fact) : Type 0 where
+pub record IsTold (o : Options) (m : ℕ) (pools : List PoolCore) (n : ℕ) (u : TopologyDescription) (parts : List (List Item → List Fact)) (changes : List PoolChange) (facts : List Fact) : Type 0 where
   pub touched : ServerAddress → Bool
   pub planned : IsPlanned o m pools n touched parts changes [] facts
   pub few : n + length (opened_by changes) ≤ 2 ^ 32
@@ -94,7 +94,7 @@ change_past w u =
     else None
 
 -- What a change to u at the moment m comes to, but for what the step does at the monitors.
-pub record IsChanged (w : TopologyCore) (m : ℕ) (u : TopologyDescription) (n : Next) : Type 0 where
+pub record IsChanged (w : TopologyCore) (m : ℕ) (u : TopologyDescription) (n : Transition) : Type 0 where
   pub past : change_past w u ≡ None
   pub ordered : in_order u.servers ≡ true
   pub reply : n.reply ≡ Changed (is_some (difference w.description.servers u.servers))
@@ -106,17 +106,17 @@ pub record IsChanged (w : TopologyCore) (m : ℕ) (u : TopologyDescription) (n :
   pub new : All (λ x. MonitorStands x []) n.monitors.items
 
 -- It is refused by the limit that it would pass, or comes to what is told.
-abbrev pub ChangesTo : TopologyCore → ℕ → TopologyDescription → Stepped → Type 0
+abbrev pub ChangesTo : TopologyCore → ℕ → TopologyDescription → Decision → Type 0
 ChangesTo w m u (Refused why) = (what : What) × (why ≡ Exhausted what) × (change_past w u ≡ Some what)
 ChangesTo w m u (Accepted n) = IsChanged w m u n
 
--- The same step with what it does at the monitors, and the event of its check before its facts.
-pub record IsWithCheck (y n : Next) (monitoring : Monitoring) (event : SdamEvent) : Type 0 where
+-- A step is another one with what it does at the monitors, and the event of its check before its facts.
+pub record IsWithCheck (y n : Transition) (monitoring : Monitoring) (event : SdamEvent) : Type 0 where
   pub others : n ≡ record y { facts = n.facts; monitoring = monitoring }
   pub facts : n.facts.items ≡ Sdam event ∷ y.facts.items
 
 -- nothing changes
-pub record IsUnchanged (n : Next) : Type 0 where
+pub record IsUnchanged (n : Transition) : Type 0 where
   pub reply : n.reply ≡ Changed false
   pub facts : n.facts.items ≡ []
   pub changes : n.changes.items ≡ []
@@ -125,7 +125,7 @@ pub record IsUnchanged (n : Next) : Type 0 where
   pub goes_on : n.stops ≡ false
 
 -- A change, or none.
-abbrev pub ChangesIf : TopologyCore → ℕ → Option TopologyDescription → Stepped → Type 0
+abbrev pub ChangesIf : TopologyCore → ℕ → Option TopologyDescription → Decision → Type 0
 ChangesIf w m (Some u) stepped = ChangesTo w m u stepped
 ChangesIf w m None (Refused why) = ⊥
 ChangesIf w m None (Accepted n) = IsUnchanged n
@@ -142,8 +142,8 @@ reply_known w a m (Beaten.Ok r more) (Update v average) = if w.stopped then None
 reply_known w a m came report = None
 
 -- What a check that ended comes to, by what is known after it.
-abbrev pub ConcludesAs : TopologyCore → ℕ → Monitoring → SdamEvent → Option TopologyDescription → Stepped → Type 0
+abbrev pub ConcludesAs : TopologyCore → ℕ → Monitoring → SdamEvent → Option TopologyDescription → Decision → Type 0
 ConcludesAs w m monitoring event None (Refused why) = ⊥
-ConcludesAs w m monitoring event None (Accepted n) = (y : Next) × IsUnchanged y × IsWithCheck y n monitoring event
+ConcludesAs w m monitoring event None (Accepted n) = (y : Transition) × IsUnchanged y × IsWithCheck y n monitoring event
 ConcludesAs w m monitoring event (Some u) (Refused why) = ChangesTo w m u (Refused why)
-ConcludesAs w m monitoring event (Some u) (Accepted n) = (y : Next) × IsChanged w m u y × IsWithCheck y n monitoring event
+ConcludesAs w m monitoring event (Some u) (Accepted n) = (y : Transition) × IsChanged w m u y × IsWithCheck y n monitoring event

@@ -10,8 +10,8 @@ use Rattle.mdb_monitor.specs.Beginnings.{begin_row}
 use Rattle.mdb_monitor.specs.Items.{MonitorItem, began, ended, measured, since, samples}
 use Rattle.mdb_monitor.specs.Standing.{StandsFor as MonitorStands}
 use Rattle.mdb_monitor.specs.declared.monitor.MonitorCore.{MonitorCore}
-use Rattle.mdb_topology.specs.declared.monitoring.Monitoring.{Monitoring}
-use Rattle.mdb_topology.specs.declared.monitoring.Monitoring.TheVariants.{Same, Checked, Asked}
+use Rattle.mdb_topology.specs.declared.monitors.monitoring.Monitoring.{Monitoring}
+use Rattle.mdb_topology.specs.declared.monitors.monitoring.Monitoring.TheVariants.{Same, Checked, Asked}
 
 -- the monitors that there are
 abbrev pub monitors_after : Monitoring → List MonitorCore → List MonitorCore

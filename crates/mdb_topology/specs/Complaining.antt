@@ -4,7 +4,7 @@ use Rattle.mdb_base.specs.declared.object_id.ObjectId.{ObjectId}
 use Rattle.mdb_base.specs.declared.error.Error.{Error}
 use Rattle.mdb_base.specs.Errors.{is_incompatible, is_shutting_down, is_state_change}
 use Rattle.mdb_describe.specs.Topology.{server_at}
-use Rattle.mdb_pool.specs.declared.connection.Connection.{Connection}
+use Rattle.mdb_pool.specs.declared.kept.connection.Connection.{Connection}
 use Rattle.mdb_pool.specs.Core.{PoolCore}
 use Rattle.mdb_pool.specs.Kept.{clears_before, clears_for, held_connection}
 use Rattle.mdb_topology.specs.declared.topology.TopologyCore.{TopologyCore}
@@ -35,7 +35,7 @@ is_hard_now x e = is_shutting_down e.kind || int_lt (unwrap_or x.wire (pos 0)) (
 abbrev pub service_cleared : Connection → Error → Option ObjectId
 service_cleared x e = if is_state_change e.kind && not (is_hard_now x e) then None else x.service
 
--- The party holds the connection of the pool at the place, and the error about it is current and has a row.
+-- The party holds the connection of the pool at the index, and the error about it is current and has a row.
 pub record Complains (w : TopologyCore) (r i id : ℕ) (e : Error) : Type 0 where
   pub pool : PoolCore
   pub connection : Connection

@@ -15,19 +15,19 @@ use Rattle.mdb_log.specs.declared.step.Act.{Act}
 use Rattle.mdb_log.specs.declared.step.Act.TheVariants.{Failed}
 use Rattle.mdb_log.specs.History.{Item, PoolItem, of_pool, service_in}
 use Rattle.mdb_log.specs.Opening.{pool_options}
-use Rattle.mdb_pool.specs.declared.connection.Connection.{Connection}
+use Rattle.mdb_pool.specs.declared.kept.connection.Connection.{Connection}
 use Rattle.mdb_pool.specs.Core.{PoolCore}
-use Rattle.mdb_pool.specs.declared.parts.Answered.{Answered}
+use Rattle.mdb_pool.specs.declared.planning.Answered.{Answered}
 use Rattle.mdb_pool.specs.Body.{PoolSteps as Plan}
 use Rattle.mdb_pool.specs.Facts.{clear_facts}
 use Rattle.mdb_pool.specs.Kept.{clears_before, clears_for}
-use Rattle.mdb_pool.specs.Parts.{Plans, IsPlanOf, IsDone}
+use Rattle.mdb_pool.specs.Planning.{Plans, IsPlanOf, IsDone}
 use Rattle.mdb_pool.specs.Refusal.{wrong_service}
 use Rattle.mdb_pool.specs.Refusing.{refusal_now}
-use Rattle.mdb_topology.specs.declared.change.Change.{Change}
-use Rattle.mdb_topology.specs.declared.change.Change.TheVariants.{Alter}
-use Rattle.mdb_topology.specs.declared.marked.Asked.{Asked}
-use Rattle.mdb_topology.specs.declared.marked.Asked.TheVariants.{Nothing, CheckNow, CancelIfCleared}
+use Rattle.mdb_topology.specs.declared.pools.pool_change.PoolChange.{PoolChange}
+use Rattle.mdb_topology.specs.declared.pools.pool_change.PoolChange.TheVariants.{Alter}
+use Rattle.mdb_topology.specs.declared.errors.marked.Asked.{Asked}
+use Rattle.mdb_topology.specs.declared.errors.marked.Asked.TheVariants.{Nothing, CheckNow, CancelIfCleared}
 use Rattle.mdb_topology.specs.declared.topology.TopologyCore.{TopologyCore}
 use Rattle.mdb_topology.specs.Acting.{step_of, PlansOne}
 use Rattle.mdb_topology.specs.Complaining.{is_hard_now}
@@ -88,14 +88,14 @@ abbrev pub DoesBoth : PoolCore → PoolCore → Step → Step → Answered → A
 DoesBoth s u first second a b = (t : PoolCore) × IsDone s t first a × IsDone t u second b
 
 -- The plan of the pool does the two steps, and is the last change.
-pub record PlansBoth (pool : PoolCore) (i : ℕ) (first second : Step) (a b : Answered) (earlier changes : List Change) : Type 0 where
+pub record PlansBoth (pool : PoolCore) (i : ℕ) (first second : Step) (a b : Answered) (earlier changes : List PoolChange) : Type 0 where
   pub plan : Plan
   pub made : IsPlanOf plan pool
   pub does : (u : PoolCore) → Plans plan pool u → DoesBoth pool u first second a b
   pub behind : changes ≡ earlier ++ Alter i plan ∷ []
 
--- The pool at the place does the first act and then fails: the facts of the first, of what is asked, and of the failure come after those before them.
-pub record PlansTwo (pools : List PoolCore) (i : ℕ) (first : ℕ → Act) (step : Step) (asked : Asked) (earlier changes : List Change) (before after : List Fact) : Type 0 where
+-- The pool at the index does the first act and then fails: the facts of the first, of what is asked, and of the failure come after those before them.
+pub record PlansTwo (pools : List PoolCore) (i : ℕ) (first : ℕ → Act) (step : Step) (asked : Asked) (earlier changes : List PoolChange) (before after : List Fact) : Type 0 where
   pub pool : PoolCore
   pub there : slice_get pools i ≡ Some pool
   pub plan : Plan
@@ -107,13 +107,13 @@ pub record PlansTwo (pools : List PoolCore) (i : ℕ) (first : ℕ → Act) (ste
   pub told : after ≡ ((before ++ clear.facts) ++ asked_of asked true pool.address) ++ failure.facts
 
 -- The pool fails alone, after what is asked.
-pub record PlansAlone (pools : List PoolCore) (i : ℕ) (step : Step) (asked : Asked) (earlier changes : List Change) (before after : List Fact) : Type 0 where
+pub record PlansAlone (pools : List PoolCore) (i : ℕ) (step : Step) (asked : Asked) (earlier changes : List PoolChange) (before after : List Fact) : Type 0 where
   pub pool : PoolCore
   pub there : slice_get pools i ≡ Some pool
   pub one : PlansOne pools i step.moment (λ p. step.act) earlier changes (before ++ asked_of asked false pool.address) after
 
 -- The failure in its pool, after a clear where that is wanted.
-abbrev pub Fails : Bool → List PoolCore → ℕ → Step → Option ObjectId → Error → Asked → List Change → List Change → List Fact → List Fact → Type 0
+abbrev pub Fails : Bool → List PoolCore → ℕ → Step → Option ObjectId → Error → Asked → List PoolChange → List PoolChange → List Fact → List Fact → Type 0
 Fails false pools i step service error asked earlier changes before after = PlansAlone pools i step asked earlier changes before after
 Fails true pools i step service error asked earlier changes before after =
     (d : PlansTwo pools i (clear_act service error) step asked earlier changes before after) × (refusal_now d.pool (step_of step.moment (clear_act service error) d.pool.pool) ≡ None)
@@ -136,6 +136,6 @@ abbrev pub IsToldOf : TopologyCore → ℕ → TopologyDescription → List Fact
 IsToldOf w m u facts = (k : List Item) → PoolsStand (pool_options w.options) w.pools.cores.items k → in_turn m (publication w.options m w.description u) k ≡ facts
 
 -- A mark and the failure are told.
-abbrev pub FailureTold : TopologyCore → Step → ℕ → TopologyDescription → Error → Bool → Asked → List Change → List Fact → Type 0
+abbrev pub FailureTold : TopologyCore → Step → ℕ → TopologyDescription → Error → Bool → Asked → List PoolChange → List Fact → Type 0
 FailureTold w step i u error clears asked changes facts =
     (before : List Fact) × IsToldOf w step.moment u before × Fails (is_some (difference w.description.servers u.servers) && clears) w.pools.cores.items i step None error asked [] changes before facts

@@ -42,21 +42,21 @@ abbrev pub numbered : List PoolCore → ℕ → Option ℕ
 numbered pools p = if nat_lt p (length pools) then Some p else None
 
 -- the pool that the act concerns
-abbrev pub place_of : List PoolCore → Act → Option ℕ
-place_of pools (Request r a) = at_address pools a
-place_of pools (Warm r a) = at_address pools a
-place_of pools (Maintain a) = at_address pools a
-place_of pools (Expire a) = at_address pools a
-place_of pools (Collect r) = asked_by pools r
-place_of pools (GiveUp r) = asked_by pools r
-place_of pools Claim = first_job pools
-place_of pools (Established q c how) = numbered pools q
-place_of pools (Return r used) = holder pools r
-place_of pools (Pin r) = holder pools r
-place_of pools (Replicate q c) = numbered pools q
-place_of pools (Take r q c) = numbered pools q
-place_of pools (Unpin q c) = numbered pools q
-place_of pools _ = None
+abbrev pub index_of : List PoolCore → Act → Option ℕ
+index_of pools (Request r a) = at_address pools a
+index_of pools (Warm r a) = at_address pools a
+index_of pools (Maintain a) = at_address pools a
+index_of pools (Expire a) = at_address pools a
+index_of pools (Collect r) = asked_by pools r
+index_of pools (GiveUp r) = asked_by pools r
+index_of pools Claim = first_job pools
+index_of pools (Established q c how) = numbered pools q
+index_of pools (Return r used) = holder pools r
+index_of pools (Pin r) = holder pools r
+index_of pools (Replicate q c) = numbered pools q
+index_of pools (Take r q c) = numbered pools q
+index_of pools (Unpin q c) = numbered pools q
+index_of pools _ = None
 
 -- the act uses up the number of a party that some pool knows
 abbrev pub names_known : List PoolCore → Act → Bool

@@ -24,14 +24,14 @@ use Rattle.mdb_log.specs.History.{Item}
 use Rattle.mdb_pool.specs.Core.{PoolCore}
 use Rattle.mdb_pool.specs.Kept.{exhausted_now}
 use Rattle.mdb_pool.specs.Refusing.{refusal_now}
-use Rattle.mdb_topology.specs.declared.change.Change.{Change}
-use Rattle.mdb_topology.specs.declared.marked.Asked.{Asked}
-use Rattle.mdb_topology.specs.declared.marked.Asked.TheVariants.{Nothing, CheckNow, CancelIfCleared}
-use Rattle.mdb_topology.specs.declared.monitoring.Monitoring.{Monitoring}
-use Rattle.mdb_topology.specs.declared.monitoring.Monitoring.TheVariants.{Same}
-use Rattle.mdb_topology.specs.declared.next.Next.{Next}
-use Rattle.mdb_topology.specs.declared.next.Stepped.{Stepped}
-use Rattle.mdb_topology.specs.declared.next.Stepped.TheVariants as Then
+use Rattle.mdb_topology.specs.declared.pools.pool_change.PoolChange.{PoolChange}
+use Rattle.mdb_topology.specs.declared.errors.marked.Asked.{Asked}
+use Rattle.mdb_topology.specs.declared.errors.marked.Asked.TheVariants.{Nothing, CheckNow, CancelIfCleared}
+use Rattle.mdb_topology.specs.declared.monitors.monitoring.Monitoring.{Monitoring}
+use Rattle.mdb_topology.specs.declared.monitors.monitoring.Monitoring.TheVariants.{Same}
+use Rattle.mdb_topology.specs.declared.transition.Transition.{Transition}
+use Rattle.mdb_topology.specs.declared.transition.Decision.{Decision}
+use Rattle.mdb_topology.specs.declared.transition.Decision.TheVariants as Then
 use Rattle.mdb_topology.specs.declared.topology.TopologyCore.{TopologyCore}
 use Rattle.mdb_events.specs.declared.sdam.SdamEvent.{SdamEvent}
 use Rattle.mdb_log.specs.Opening.{pool_options}
@@ -77,12 +77,12 @@ clear_with (Some s) = only s
 abbrev pub clear_act : Option ObjectId → Error → ℕ → Act
 clear_act service error p = ClearAct p service error
 
--- the pool at the place accepts the clear
+-- the pool at the index accepts the clear
 abbrev pub AcceptsClear : List PoolCore → ℕ → ℕ → Option ObjectId → Error → Type 0
 AcceptsClear pools i m service error = (s : PoolCore) → slice_get pools i ≡ Some s → refusal_now s (step_of m (clear_act service error) s.pool) ≡ None
 
--- The pool at the place is cleared, where that is wanted.
-abbrev pub Clears : Bool → List PoolCore → ℕ → ℕ → Option ObjectId → Error → List Change → List Change → List Fact → List Fact → Type 0
+-- The pool at the index is cleared, where that is wanted.
+abbrev pub Clears : Bool → List PoolCore → ℕ → ℕ → Option ObjectId → Error → List PoolChange → List PoolChange → List Fact → List Fact → Type 0
 Clears false pools i m service error earlier changes before after = (changes ≡ earlier) × (after ≡ before)
 Clears true pools i m service error earlier changes before after =
     (d : PlansOne pools i m (clear_act service error) earlier changes before after) × (refusal_now d.pool (step_of m (clear_act service error) d.pool.pool) ≡ None)
@@ -127,14 +127,14 @@ abbrev pub MarkPasses : TopologyCore → ℕ → TopologyDescription → Trouble
 MarkPasses w m u x past = (k : List Item) → PoolsStand (pool_options w.options) w.pools.cores.items k → first_past w.options m k (in_turn m (mark_parts w m u x) k) ≡ past
 
 -- The change to u by the trouble is told, with what is cleared and asked; it opens no pool, and takes no number past a limit.
-pub record MarkTold (w : TopologyCore) (m : ℕ) (u : TopologyDescription) (x : Trouble) (facts : List Fact) (changes : List Change) (changed : Bool) : Type 0 where
+pub record MarkTold (w : TopologyCore) (m : ℕ) (u : TopologyDescription) (x : Trouble) (facts : List Fact) (changes : List PoolChange) (changed : Bool) : Type 0 where
   pub told : IsTold w.options m w.pools.cores.items (length w.pools.cores.items) u (mark_parts w m u x) changes facts
   pub opens : opened_by changes ≡ []
   pub changed_is : changed ≡ is_some (difference w.description.servers u.servers)
   pub spare : MarkPasses w m u x None
 
 -- What a step makes of a driver by a mark that is told, but for what it does at the monitors.
-pub record IsMarked (w : TopologyCore) (m : ℕ) (u : TopologyDescription) (x : Trouble) (n : Next) : Type 0 where
+pub record IsMarked (w : TopologyCore) (m : ℕ) (u : TopologyDescription) (x : Trouble) (n : Transition) : Type 0 where
   pub changed : Bool
   pub told : MarkTold w m u x n.facts.items n.changes.items changed
   pub reply : n.reply ≡ Changed changed
@@ -144,18 +144,18 @@ pub record IsMarked (w : TopologyCore) (m : ℕ) (u : TopologyDescription) (x : 
   pub nothing : n.monitoring ≡ Same
 
 -- what becomes of the step by it
-abbrev pub MarksTo : TopologyCore → ℕ → TopologyDescription → Trouble → Stepped → Type 0
+abbrev pub MarksTo : TopologyCore → ℕ → TopologyDescription → Trouble → Decision → Type 0
 MarksTo w m u x (Then.Refused why) = (why ≡ Exhausted Generation) × MarkPasses w m u x (Some Generation)
 MarksTo w m u x (Then.Accepted n) = IsMarked w m u x n
 
 -- A failed check marks its server, and makes nothing known once the driver was stopped.
-abbrev pub FailsTo : TopologyCore → ℕ → TopologyDescription → Trouble → Bool → Next → Type 0
+abbrev pub FailsTo : TopologyCore → ℕ → TopologyDescription → Trouble → Bool → Transition → Type 0
 FailsTo w m u x false n = IsMarked w m u x n
 FailsTo w m u x true n = IsUnchanged n
 
--- the same with what the check does at the monitors, and its event first
-abbrev pub FailsAs : TopologyCore → ℕ → Monitoring → SdamEvent → TopologyDescription → Trouble → Next → Type 0
-FailsAs w m monitoring event u x n = (y : Next) × FailsTo w m u x w.stopped y × IsWithCheck y n monitoring event
+-- A failed check marks its server, with what the check does at the monitors, and its event first.
+abbrev pub FailsAs : TopologyCore → ℕ → Monitoring → SdamEvent → TopologyDescription → Trouble → Transition → Type 0
+FailsAs w m monitoring event u x n = (y : Transition) × FailsTo w m u x w.stopped y × IsWithCheck y n monitoring event
 
 -- The check that ended so failed, and the mark of the server at the address would clear its pool s past the limit of the generation.
 abbrev pub check_spends : TopologyCore → PoolCore → ServerAddress → BeatenResult → Bool

@@ -110,7 +110,7 @@ abbrev pub names_hosts : Act → Bool
 names_hosts (Do.Hosts hosts) = true
 names_hosts _ = false
 
--- Which refusals want of memory may come before: none but those of the servers and of the pools that would come by a reply, which show only in what would be known then, and that of a connection's number which was drawn before.
+-- Which refusals lack of memory may come before: none but those of the servers and of the pools that would come by a reply, which show only in what would be known then, and that of a connection's number which was drawn before.
 abbrev pub may_yield : Bool → Bool → Option Refused → Bool
 may_yield over named None = true
 may_yield over named (Some (Exhausted Servers)) = not named

@@ -15,9 +15,9 @@ use Rattle.mdb_log.specs.Own.{IsAccepted}
 use Rattle.mdb_log.specs.Opening.{pool_options}
 use Rattle.mdb_pool.specs.Core.{PoolCore}
 use Rattle.mdb_topology.specs.declared.topology.TopologyCore.{TopologyCore}
-use Rattle.mdb_topology.specs.declared.next.Next.{Next}
-use Rattle.mdb_topology.specs.declared.next.Stepped.{Stepped}
-use Rattle.mdb_topology.specs.declared.next.Stepped.TheVariants.{Refused, Accepted}
+use Rattle.mdb_topology.specs.declared.transition.Transition.{Transition}
+use Rattle.mdb_topology.specs.declared.transition.Decision.{Decision}
+use Rattle.mdb_topology.specs.declared.transition.Decision.TheVariants.{Refused, Accepted}
 use Rattle.mdb_topology.specs.Answer.{answer}
 use Rattle.mdb_topology.specs.Refusal.{refusal, may_want}
 use Rattle.mdb_topology.specs.Description.{Rule, applied}
@@ -54,7 +54,7 @@ abbrev pub is_driver_act : Act → Bool
 is_driver_act act = is_pool_act act || is_topology_act act
 
 -- An accepted step: its answer, and what each part of the driver then is, where its pools are those to which the changes lead.
-pub record Follows (w : TopologyCore) (n : Next) (step : Step) (h : List Item) : Type 0 where
+pub record Follows (w : TopologyCore) (n : Transition) (step : Step) (h : List Item) : Type 0 where
   pub answer_is : answer w.options h step ≡ record { reply = n.reply; facts = n.facts.items }
   pub accepted : IsAccepted n.reply
   pub fair : IsFairAnswer h step n.reply n.facts.items
@@ -70,15 +70,15 @@ pub record Follows (w : TopologyCore) (n : Next) (step : Step) (h : List Item) :
   pub counts : Counts w.options step.moment (w.published + one_if (is_some n.description)) (numbers_after n.monitoring w.fresh) (n.stops || w.stopped) (watchers_after n.monitoring w.watchers) (with_answer step n.reply n.facts.items h)
 
 -- so it is after some history
-abbrev pub FollowsSome : TopologyCore → Next → Step → Type 0
+abbrev pub FollowsSome : TopologyCore → Transition → Step → Type 0
 FollowsSome w n step = (h : List Item) × StandsFor w h × Follows w n step h
 
 -- What becomes of a step after the history.
-abbrev pub BecomesOf : TopologyCore → Step → Stepped → List Item → Type 0
+abbrev pub BecomesOf : TopologyCore → Step → Decision → List Item → Type 0
 BecomesOf w step (Refused why) h = refusal w.options h step ≡ Some why
 BecomesOf w step (Accepted n) h = Follows w n step h
 
--- Want of memory may be the answer to the step after the history.
+-- Running out of memory may be the answer to the step after the history.
 abbrev pub MayWant : TopologyCore → Step → List Item → Type 0
 MayWant w step h = may_want w.options h step ≡ true
 

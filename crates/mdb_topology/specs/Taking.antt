@@ -11,15 +11,15 @@ use Rattle.mdb_log.specs.Own.{IsAccepted}
 use Rattle.mdb_log.specs.Beside.{AllFreshGrants}
 use Rattle.mdb_log.specs.Opening.{pool_options}
 use Rattle.mdb_pool.specs.Core.{PoolCore}
-use Rattle.mdb_pool.specs.Parts.{Plans, IsPlanOf}
+use Rattle.mdb_pool.specs.Planning.{Plans, IsPlanOf}
 use Rattle.mdb_pool.specs.Standing.{SameHome}
-use Rattle.mdb_topology.specs.declared.outcome.Outcome.{Outcome}
-use Rattle.mdb_topology.specs.declared.outcome.Outcome.TheVariants.{Refused, Idle, Planned}
+use Rattle.mdb_topology.specs.declared.pools.pool_decision.PoolDecision.{PoolDecision}
+use Rattle.mdb_topology.specs.declared.pools.pool_decision.PoolDecision.TheVariants.{Refused, Idle, Planned}
 use Rattle.mdb_topology.specs.Answer.{answer}
 use Rattle.mdb_topology.specs.Refusal.{refusal}
 use Rattle.mdb_topology.specs.Standing.{PoolsStand}
 
--- An accepted act: the pool at the place i takes the state t, and all others stay.
+-- An accepted act: the pool at the index i takes the state t, and all others stay.
 pub record Takes (o : Options) (pools : List PoolCore) (i : ℕ) (t : PoolCore) (before after : List Fact) (step : Step) (reply : Reply) (h : List Item) : Type 0 where
   pub facts : List Fact
   pub facts_are : after ≡ before ++ facts
@@ -37,12 +37,12 @@ pub record Rests (o : Options) (pools : List PoolCore) (step : Step) (h : List I
   pub fair : IsFairAnswer h step NoJob []
 
 -- What becomes of the step after the history: it is refused by its cause, or accepted as its answer says.
-abbrev pub Performs : Options → List PoolCore → Step → Outcome → List Item → Type 0
+abbrev pub Performs : Options → List PoolCore → Step → PoolDecision → List Item → Type 0
 Performs o pools step (Refused why) h = refusal o h step ≡ Some why
 Performs o pools step Idle h = Rests o pools step h
 Performs o pools step (Planned i plan told) h = (s t : PoolCore) → slice_get pools i ≡ Some s → Plans plan s t → Takes o pools i t [] told.facts step told.reply h
 
 -- The plan is of the pool that is there now; the pool that it leads to stays at home, and its last moment is that of the step.
-abbrev pub IsReady : List PoolCore → Step → Outcome → Type 0
+abbrev pub IsReady : List PoolCore → Step → PoolDecision → Type 0
 IsReady pools step (Planned i plan told) = (s : PoolCore) × (slice_get pools i ≡ Some s) × IsPlanOf plan s × ((t : PoolCore) → Plans plan s t → SameHome s t × (t.last ≡ step.moment))
 IsReady pools step outcome = ⊤

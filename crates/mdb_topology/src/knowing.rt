@@ -29,7 +29,7 @@ impl TopologyCore {
         &self.description
     }
 
-    // The pool at the place.
+    // The pool at the index.
     fn pool_at(&self, number: u32) -> Option<&PoolCore>
         ensures { option_copied result ≡ slice_get self.now.pools.cores.items number }
     {
@@ -42,7 +42,7 @@ impl TopologyCore {
         ensures opened { (h : List Item) → StandsFor self.now h → is_some (option_copied result) ≡ nat_lt number (length (homes h)) }
         ensures fits { (h : List Item) (s : Core) → StandsFor self.now h → option_copied result ≡ Some s → PoolFits (pool_options self.now.options) h number s }
         ensures stands { (h : List Item) (s : Core) → StandsFor self.now h → option_copied result ≡ Some s → StandsIn s h }
-        ensures place { (h : List Item) (s : Core) → StandsFor self.now h → option_copied result ≡ Some s → slice_get (homes h) number ≡ Some (home s) }
+        ensures index { (h : List Item) (s : Core) → StandsFor self.now h → option_copied result ≡ Some s → slice_get (homes h) number ≡ Some (home s) }
         ensures missing { (h : List Item) → StandsFor self.now h → option_copied result ≡ None → of_pool number h ≡ [] }
     {
         self.pool_at(number)
@@ -53,7 +53,7 @@ impl TopologyCore {
         ensures { (h : List Item) → StandsFor self.now h → result ≡ open_pool h address.now }
     {
         match self.pools.at_address(address) {
-            Some(place) => u32::try_from(place).ok(),
+            Some(index) => u32::try_from(index).ok(),
             None => None,
         }
     }

@@ -10,8 +10,8 @@ ghost use Rattle.mdb_topology.specs.Events.{opening_fact};
 ghost use Rattle.mdb_topology.specs.Opening.{IsOpened, Publishes};
 
 use crate::pools::Pools;
-use crate::sdam_facts::tell_event;
-use crate::topology_change::TopologyChange;
+use crate::known::sdam_facts::tell_event;
+use crate::known::topology_change::TopologyChange;
 use mdb_base::{Moment, Options, OutOfMemory, ServerAddress};
 use mdb_describe::{Diff, ServerDescription, TopologyDescription};
 use mdb_events::{Fact, SdamEvent, TopologyOpeningEvent};
@@ -155,7 +155,7 @@ fn publish_opened(
 }
 
 /// A driver is opened at the moment, with options that keep the rules.
-pub fn open(alloc: Global, options: &Options, moment: Moment) -> Result<Opening, OutOfMemory>
+pub(crate) fn open(alloc: Global, options: &Options, moment: Moment) -> Result<Opening, OutOfMemory>
     requires { broken_rule options.now ≡ None }
     ensures last { IfOk result (λ made. made.pools.last ≡ moment) }
     ensures opened { IfOk result (λ made. IsOpened options.now moment made.pools.cores.items made.description made.facts.items) }

@@ -11,11 +11,11 @@ ghost use Rattle.mdb_topology.specs.Monitors.{setting};
 
 use crate::opening::{Opening, open};
 use crate::pools::Pools;
-use crate::telling_changes::push_monitor;
+use crate::known::telling_changes::push_monitor;
 use crate::topology::TopologyCore;
 use mdb_base::{Items, Options, OutOfMemory};
 use mdb_describe::TopologyDescription;
-use mdb_events::{Fact, Held};
+use mdb_events::{Fact, Boxed};
 use mdb_log::{Act, Entry, Log, Reply, Step};
 use mdb_monitor::{CheckCount, MonitorCore};
 use mdb_pool::PoolCore;
@@ -48,7 +48,7 @@ fn enter_opening(
     ensures ok { OnOk result (log.new ≡ log.old ++ record { seat = seat; step = opening_step options.now; reply = Done; facts = facts.items } ∷ []) }
     ensures err { OnErr result (log.new ≡ log.old) }
 {
-    match Held::copy_of(alloc, options) {
+    match Boxed::copy_of(alloc, options) {
         Ok(options) => log.push(Entry {
             seat,
             step: Step {

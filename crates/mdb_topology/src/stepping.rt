@@ -4,11 +4,11 @@ ghost use Rattle.std.specs.Prelude.{◌≡◌, ◌≤◌, ◌+◌, ◌++◌, ◌
 ghost use Rattle.mdb_log.specs.Connections.{one_if};
 ghost use Rattle.mdb_topology.specs.Stepping.{is_driver_act};
 
-use crate::acting::is_pool_act;
-use crate::change::Change;
-use crate::monitoring::Monitoring;
-use crate::next::{Next, Stepped};
-use crate::outcome::Outcome;
+use crate::pools::acting::is_pool_act;
+use crate::pools::pool_change::PoolChange;
+use crate::monitors::monitoring::Monitoring;
+use crate::transition::{Transition, Decision};
+use crate::pools::pool_decision::PoolDecision;
 use crate::topology::TopologyCore;
 use mdb_base::{Moment, OutOfMemory};
 use mdb_describe::TopologyDescription;
@@ -79,7 +79,7 @@ impl TopologyCore {
     ghost use Rattle.mdb_topology.specs.Stepping.{is_topology_act, BecomesOf, Follows, FollowsSome, Logs, MayWant};
 
     // Room for the pools and monitors that come, and the number of publications afterwards.
-    fn make_room(&mut self, next: &Next) -> Result<u64, OutOfMemory>
+    fn make_room(&mut self, next: &Transition) -> Result<u64, OutOfMemory>
         ensures same { IsSame self.old self.new }
         ensures pools { OnOk result (length self.new.pools.cores.items + length next.now.monitors.items ≤ vec_capacity self.new.pools.cores) }
         ensures monitors { OnOk result (length self.new.monitors.items + length next.now.monitors.items ≤ vec_capacity self.new.monitors) }
@@ -122,7 +122,7 @@ impl TopologyCore {
     fn take(
         &mut self,
         moment: Moment,
-        changes: Vec<Change>,
+        changes: Vec<PoolChange>,
         description: Option<TopologyDescription>,
         monitors: Vec<MonitorCore>,
         monitoring: Monitoring,
@@ -154,7 +154,7 @@ impl TopologyCore {
         log: &mut Log,
         seat: u32,
         step: &Step,
-        next: Next,
+        next: Transition,
     ) -> Result<Reply, OutOfMemory>
         requires follows { FollowsSome self.old next step.now }
         ensures options { self.new.options ≡ self.old.options }
@@ -170,7 +170,7 @@ impl TopologyCore {
                 return Err(e);
             }
         };
-        let Next {
+        let Transition {
             reply,
             facts,
             changes,
@@ -197,7 +197,7 @@ impl TopologyCore {
     }
 
     // What becomes of an act that concerns the topology.
-    fn topology_act(&mut self, alloc: Global, step: &Step) -> Result<Stepped, OutOfMemory>
+    fn topology_act(&mut self, alloc: Global, step: &Step) -> Result<Decision, OutOfMemory>
         requires stands { StandsForSome self.old }
         requires in_time { self.old.pools.last ≤ step.now.moment }
         requires act { is_topology_act step.now.act ≡ true }
@@ -231,7 +231,7 @@ impl TopologyCore {
     }
 
     // What becomes of an act of one pool.
-    fn pool_act(&mut self, alloc: Global, step: &Step) -> Result<Stepped, OutOfMemory>
+    fn pool_act(&mut self, alloc: Global, step: &Step) -> Result<Decision, OutOfMemory>
         requires stands { StandsForSome self.old }
         requires in_time { self.old.pools.last ≤ step.now.moment }
         requires act { is_pool_act step.now.act ≡ true }
@@ -240,16 +240,16 @@ impl TopologyCore {
         ensures wants { OnErr result ((h : List Item) → StandsFor self.old h → MayWant self.old step.now h) }
     {
         match self.pools.act(alloc, step)? {
-            Outcome::Refused(why) => Ok(Stepped::Refused(why)),
-            Outcome::Idle => Ok(Stepped::Accepted(Next::of_reply(alloc, Reply::NoJob))),
-            Outcome::Planned(index, plan, told) => {
-                Ok(Stepped::Accepted(Next::of_pool(alloc, index, plan, told)?))
+            PoolDecision::Refused(why) => Ok(Decision::Refused(why)),
+            PoolDecision::Idle => Ok(Decision::Accepted(Transition::of_reply(alloc, Reply::NoJob))),
+            PoolDecision::Planned(index, plan, told) => {
+                Ok(Decision::Accepted(Transition::of_pool(alloc, index, plan, told)?))
             }
         }
     }
 
     // What becomes of the step, before any of it is done.
-    fn becomes(&mut self, alloc: Global, step: &Step) -> Result<Stepped, OutOfMemory>
+    fn becomes(&mut self, alloc: Global, step: &Step) -> Result<Decision, OutOfMemory>
         requires stands { StandsForSome self.old }
         requires act { IsDriverAct step.now.act }
         ensures same { self.new ≡ self.old }
@@ -257,7 +257,7 @@ impl TopologyCore {
         ensures wants { OnErr result ((h : List Item) → StandsFor self.old h → MayWant self.old step.now h) }
     {
         if step.moment < self.pools.last {
-            return Ok(Stepped::Refused(Refused::TimeBack(self.pools.last)));
+            return Ok(Decision::Refused(Refused::TimeBack(self.pools.last)));
         }
         if is_pool_act(&step.act) {
             return self.pool_act(alloc, step);
@@ -267,7 +267,7 @@ impl TopologyCore {
 
     /// Why the driver would refuse the step, `None` where it would accept it. Nothing changes. The answer is `OutOfMemory` only where the step would not be refused, where by a reply more than 128 servers
     /// would be known or a pool would come whose number is past the limit (that shows only in what would be known then), or where a check begins over a connection whose number is. Any other refused step
-    /// is lost for want of memory for its entry in the log alone.
+    /// is lost for lack of memory for its entry in the log alone.
     pub fn refusal(&mut self, alloc: Global, step: &Step) -> Result<Option<Refused>, OutOfMemory>
         requires stands { StandsForSome self.old }
         requires act { IsDriverAct step.now.act }
@@ -276,8 +276,8 @@ impl TopologyCore {
         ensures wants { OnErr result ((h : List Item) → StandsFor self.old h → may_want self.old.options h step.now ≡ true) }
     {
         match self.becomes(alloc, step)? {
-            Stepped::Refused(why) => Ok(Some(why)),
-            Stepped::Accepted(next) => {
+            Decision::Refused(why) => Ok(Some(why)),
+            Decision::Accepted(next) => {
                 drop(next);
                 Ok(None)
             }
@@ -301,11 +301,11 @@ impl TopologyCore {
         ensures err_log { OnErr result (log.new ≡ log.old) }
     {
         match self.becomes(alloc, step)? {
-            Stepped::Refused(why) => {
+            Decision::Refused(why) => {
                 let reply = Reply::Refused(why);
                 Ok(enter(log, seat, step, reply, Vec::new(alloc))?)
             }
-            Stepped::Accepted(next) => self.accept(log, seat, step, next),
+            Decision::Accepted(next) => self.accept(log, seat, step, next),
         }
     }
 

@@ -6,7 +6,7 @@ ghost use Rattle.mdb_log.specs.declared.checked.HelloResult.TheVariants as hello
 
 use crate::topology::TopologyCore;
 use mdb_base::{ClusterTime, Error, Items, Moment, Nanos, OutOfMemory, ServerAddress};
-use mdb_events::Held;
+use mdb_events::Boxed;
 use mdb_hello::HelloCommandResponse;
 use mdb_log::{Act, HelloResult, Log, Reply, Step};
 use std::alloc::Global;
@@ -39,7 +39,7 @@ impl TopologyCore {
         ensures err_core { OnErr result (IsSame self.old self.new) }
         ensures err_log { OnErr result (log.new ≡ log.old) }
     {
-        let held = Held::new(alloc, reply)?;
+        let held = Boxed::new(alloc, reply)?;
         let act = Act::Hello(address, pool, HelloResult::Ok(rtt, held));
         self.step(alloc, log, seat, &Step { moment, act })
     }
@@ -64,7 +64,7 @@ impl TopologyCore {
         ensures err_core { OnErr result (IsSame self.old self.new) }
         ensures err_log { OnErr result (log.new ≡ log.old) }
     {
-        let held = Held::new(alloc, error)?;
+        let held = Boxed::new(alloc, error)?;
         let act = Act::Hello(address, pool, HelloResult::Err(held));
         self.step(alloc, log, seat, &Step { moment, act })
     }
@@ -88,7 +88,7 @@ impl TopologyCore {
         ensures err_core { OnErr result (IsSame self.old self.new) }
         ensures err_log { OnErr result (log.new ≡ log.old) }
     {
-        let held = Held::new(alloc, error)?;
+        let held = Boxed::new(alloc, error)?;
         let act = Act::Error(party, held);
         self.step(alloc, log, seat, &Step { moment, act })
     }

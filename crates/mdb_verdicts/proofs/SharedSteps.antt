@@ -10,7 +10,7 @@ use Rattle.mdb_laws.specs.Answers.{AreAnswers}
 use Rattle.mdb_topology.specs.Lines.{entry_after, steps_of}
 use Rattle.mdb_shared.specs.Turning.{own}
 use Rattle.mdb_shared.specs.Seats.{raised, last_in}
-use Rattle.mdb_shared_runs.specs.Shares.{part_from, part_of, raised_along, IsShared}
+use Rattle.mdb_shared_runs.specs.Shares.{lines_of_player_from, lines_of_player, raised_along, IsShared}
 use Rattle.mdb_shared_runs.specs.Scripts.{SharesSteps, Shared}
 use Rattle.mdb_verdicts.proofs.Raised.{raised-spells}
 
@@ -32,11 +32,11 @@ later-lines n (s ∷ ss) more h =
     (place, later-lines (n + 1) ss (omega (arith, more)) h.1)
 
 -- those of one part
-part-lines : (k j n : ℕ) (ss : List Step) → AllByRecursion IsLater ss → AllByRecursion IsLater (part_from k j n ss)
+part-lines : (k j n : ℕ) (ss : List Step) → AllByRecursion IsLater ss → AllByRecursion IsLater (lines_of_player_from k j n ss)
 part-lines k j n [] h = tt
 part-lines k j n (s ∷ ss) h = on (n % k == j) (part-lines k j (n + 1) ss h.1)
   where
-    on : (b : Bool) → AllByRecursion IsLater (part_from k j (n + 1) ss) → AllByRecursion IsLater (if b then s ∷ part_from k j (n + 1) ss else part_from k j (n + 1) ss)
+    on : (b : Bool) → AllByRecursion IsLater (lines_of_player_from k j (n + 1) ss) → AllByRecursion IsLater (if b then s ∷ lines_of_player_from k j (n + 1) ss else lines_of_player_from k j (n + 1) ss)
     on true rest = (h.0, rest)
     on false rest = rest
 
@@ -106,7 +106,7 @@ shared-some : (k : ℕ) (first : Step) (later : List Step) (entries : List Entry
 shared-some k first later entries allowed shared moments =
     let lines : AllByRecursion IsLater later = later-lines 2 later (omega arith) allowed.1 in
     shared-lines k 2 (entry_after 0 [] first ∷ []) entries (omega arith) shared.seats moments
-    (λ j under. record { steps = part_of k j later; lines = part-lines k j 1 later lines; same = shared.parts j under })
+    (λ j under. record { steps = lines_of_player k j later; lines = part-lines k j 1 later lines; same = shared.players j under })
 
 -- what a shared log needs for its text to show it
 pub shared-answers : (k : ℕ) (steps : List Step) (log : List Entry) → Shared k steps log → AreAnswers [] log

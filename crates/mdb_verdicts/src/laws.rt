@@ -16,7 +16,7 @@ use mdb_log::Log;
 use mdb_readable::text_shows_log;
 
 /// The text of a log that a run returned is the text of a legal log, with as many lines as the log has entries. No other verdict
-/// is right, so `audit` gives this one or tells want of memory. Reads the log once.
+/// is right, so `audit` gives this one or tells out of memory. Reads the log once.
 pub fn run_logs_are_legal(log: &Log)
     ensures legal { (input : List ℕ) (held new_held : Option Held) (faults new_faults : ℕ) → Ran input log.now held new_held faults new_faults → IsVerdict (text_of log.now) (Legal (length log.now)) }
     ensures only { (input : List ℕ) (held new_held : Option Held) (faults new_faults : ℕ) → Ran input log.now held new_held faults new_faults → (answer : Answer) → IsVerdict (text_of log.now) answer → answer ≡ Legal (length log.now) }

@@ -15,8 +15,8 @@ use Rattle.mdb_workers.specs.declared.establishing.EstablishError.{EstablishErro
 use Rattle.mdb_workers.specs.declared.establishing.EstablishError.TheVariants.{Refused, OutOfMemory}
 use Rattle.mdb_workers.specs.Establishing.{Reports}
 use Rattle.mdb_workers.specs.Making.{Made}
-use Rattle.mdb_workers.specs.Persisting.{TendedBy, LeftAct, IsTry, SettledIf}
-use Rattle.mdb_workers.specs.Working.{CalledOnce, Claims, IsReportOf, Tended, SettledBy}
+use Rattle.mdb_workers.specs.Persisting.{TendedBy, LeftAct, IsTry, ReportsLeftIf}
+use Rattle.mdb_workers.specs.Working.{CalledOnce, Claims, IsReportOf, Tended, ReportsLeft}
 use Rattle.mdb_workers.proofs.Adding.{made_none, made_then, made_step}
 
 pub tended_then : (es fs : List Entry) → Tended es → Tended fs → Tended (es ++ fs)
@@ -42,7 +42,7 @@ pub may_step : (step : Option Step) → IfSome step (λ x. (x.moment ≡ 0) × I
 may_step (Some step) h = h.1
 may_step None h = tt
 
-settled_report : (pool id : ℕ) (step : Option Step) (r : Entry) → MayReport pool id step → SettledBy pool id step r → IsReportOf pool id r.step.act
+settled_report : (pool id : ℕ) (step : Option Step) (r : Entry) → MayReport pool id step → ReportsLeft pool id step r → IsReportOf pool id r.step.act
 settled_report pool id (Some step) r may by = subst (IsReportOf pool id) (sym by) may
 settled_report pool id None r may by = subst (IsReportOf pool id) (sym by.2) (refl, refl)
 
@@ -66,7 +66,7 @@ module _ {T : Type 0} (stands : T → List Entry → Type 0) where
         let one = made_step stands t u claiming NoJob d n f refl (subst (Stepped stands t u claiming) is st) in
         (one.0 ∷ [], one.3, (one.1, one.2))
 
-    pub tended_job : (v : SeatView) (pool id : ℕ) (step : Option Step) → reply ≡ TellsJob pool id → MayReport pool id step → ((r : Entry) × SettledBy pool id step r × Made stands u v (r ∷ [])) → TendedBy stands t v
+    pub tended_job : (v : SeatView) (pool id : ℕ) (step : Option Step) → reply ≡ TellsJob pool id → MayReport pool id step → ((r : Entry) × ReportsLeft pool id step r × Made stands u v (r ∷ [])) → TendedBy stands t v
     tended_job v pool id step is may by =
         let one = made_step stands t u claiming (TellsJob pool id) d n f refl (subst (Stepped stands t u claiming) is st) in (
           one.0 ∷ by.0 ∷ [],
@@ -79,10 +79,10 @@ pub may_act : (pool id : ℕ) (step : Option Step) (act : Act) → IfSome step (
 may_act pool id (Some step) act may left = subst IsDriverAct (sym left) may
 may_act pool id None act may left = subst IsDriverAct (sym left.2) tt
 
-settles_act : (pool id : ℕ) (step : Option Step) (act : Act) (e : Entry) → LeftAct pool id step act → e.step.act ≡ act → SettledBy pool id step e
+settles_act : (pool id : ℕ) (step : Option Step) (act : Act) (e : Entry) → LeftAct pool id step act → e.step.act ≡ act → ReportsLeft pool id step e
 settles_act pool id (Some step) act e left is = is ∙ left
 settles_act pool id None act e left is = (left.0, left.1, is ∙ left.2)
 
-pub settled_if : {T : Type 0} (stands : T → List Entry → Type 0) (s s' : SeatView) (pool id : ℕ) (step : Option Step) (act : Act) (done : Bool) → LeftAct pool id step act → IsTry stands s s' act done → SettledIf stands pool id step s s' done
+pub settled_if : {T : Type 0} (stands : T → List Entry → Type 0) (s s' : SeatView) (pool id : ℕ) (step : Option Step) (act : Act) (done : Bool) → LeftAct pool id step act → IsTry stands s s' act done → ReportsLeftIf stands pool id step s s' done
 settled_if stands s s' pool id step act true left one = (one.0, settles_act pool id step act one.0 left one.1, one.2)
 settled_if stands s s' pool id step act false left none = none

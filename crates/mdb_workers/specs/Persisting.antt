@@ -15,9 +15,9 @@ use Rattle.mdb_shared.specs.declared.checkout.BackWhy.TheVariants.{Refused as Ba
 use Rattle.mdb_workers.specs.declared.persisting.Tried.{Tried}
 use Rattle.mdb_workers.specs.declared.persisting.Tried.TheVariants.{Back, Refused, Again}
 use Rattle.mdb_workers.specs.Making.{Made, OneMore}
-use Rattle.mdb_workers.specs.Working.{IsWant, SettledBy, Tended}
+use Rattle.mdb_workers.specs.Working.{IsWant, ReportsLeft, Tended}
 
--- The act that reports what was left: that of the step, or else that the connection failed before the hello for want of memory.
+-- The act that reports what was left: that of the step, or else that the connection failed before the hello for lack of memory.
 abbrev pub LeftAct : ℕ → ℕ → Option Step → Act → Type 0
 LeftAct pool id (Some step) act = act ≡ step.act
 LeftAct pool id None act = (error : Error) × IsWant error × (act ≡ Failed pool id Pre error)
@@ -34,9 +34,9 @@ module _ {T : Type 0} (stands : T → List Entry → Type 0) where
   IsTry s s' act false = Made stands s s' []
 
   -- one entry reports what was left, or there was no memory for it
-  abbrev pub SettledIf : ℕ → ℕ → Option Step → SeatView → SeatView → Bool → Type 0
-  SettledIf pool id step s s' true = (e : Entry) × SettledBy pool id step e × Made stands s s' (e ∷ [])
-  SettledIf pool id step s s' false = Made stands s s' []
+  abbrev pub ReportsLeftIf : ℕ → ℕ → Option Step → SeatView → SeatView → Bool → Type 0
+  ReportsLeftIf pool id step s s' true = (e : Entry) × ReportsLeft pool id step e × Made stands s s' (e ∷ [])
+  ReportsLeftIf pool id step s s' false = Made stands s s' []
 
   -- each connection that was claimed is reported
   abbrev pub TendedBy : SeatView → SeatView → Type 0

@@ -96,7 +96,7 @@ Tended (e ∷ f ∷ es) = (FindsNone e × Tended (f ∷ es)) ⊎ (IsDealtWith e 
 abbrev pub IsWant : Error → Type 0
 IsWant error = (error.kind ≡ Other) × (error.labels ≡ codes "SystemOverloadedError" ∷ [])
 
--- The entry reports the connection: by this step, or, where there is none, as failed before the hello for want of memory.
-abbrev pub SettledBy : ℕ → ℕ → Option Step → Entry → Type 0
-SettledBy pool id (Some step) e = e.step.act ≡ step.act
-SettledBy pool id None e = (error : Error) × IsWant error × (e.step.act ≡ Failed pool id Pre error)
+-- The entry reports the connection: by this step, or, where there is none, as failed before the hello for lack of memory.
+abbrev pub ReportsLeft : ℕ → ℕ → Option Step → Entry → Type 0
+ReportsLeft pool id (Some step) e = e.step.act ≡ step.act
+ReportsLeft pool id None e = (error : Error) × IsWant error × (e.step.act ≡ Failed pool id Pre error)

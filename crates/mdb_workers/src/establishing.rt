@@ -3,7 +3,7 @@
 ghost use Rattle.std.specs.Prelude.{◌≡◌, ℕ, List};
 
 use mdb_base::{Error, ObjectId};
-use mdb_events::Held;
+use mdb_events::Boxed;
 use mdb_log::{Established, Job};
 use std::alloc::Global;
 use thiserror::Error as ThisError;
@@ -13,7 +13,7 @@ use thiserror::Error as ThisError;
 pub enum EstablishError {
     /// It failed with this error: whether after the hello of the server, with the service that it named.
     #[error("the connection was refused")]
-    Refused(bool, Option<ObjectId>, Held<Error>),
+    Refused(bool, Option<ObjectId>, Boxed<Error>),
     /// There was no memory.
     #[error("out of memory")]
     OutOfMemory,

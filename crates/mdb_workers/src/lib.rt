@@ -1,5 +1,5 @@
 //! What threads with a role do at their seat of a shared driver: they establish connections, keep time, fill pools, wait for news, or report what was left at
-//! want of memory. Beside it single calls of a driver, with what each adds to the entries of its seat.
+//! lack of memory. Beside it single calls of a driver, with what each adds to the entries of its seat.
 #![tactic(auto)]
 
 mod access;
@@ -20,7 +20,7 @@ pub use establishing::{Call, EstablishError, Establisher, Gate, OpenGate};
 pub use filling::{Fill, fill_pool};
 pub use listening::{Jobs, Woken, next_job, next_news};
 pub use memory_establisher::MemEstablisher;
-pub use persisting::{Unreturned, abandon, hand_back, settle, stop, tend};
+pub use persisting::{Unreturned, abandon, hand_back, report_left, stop, tend};
 pub use serving::serve;
 pub use steps::{add, ask, give_back, glance, let_go, pause, rest};
 pub use ticking::{keep_time, tick};

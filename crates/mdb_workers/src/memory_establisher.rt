@@ -8,7 +8,7 @@ ghost use Rattle.mdb_workers.specs.Memory.{made_so_far, refusals};
 
 use crate::establishing::{Call, EstablishError, Establisher};
 use mdb_base::Error;
-use mdb_events::Held;
+use mdb_events::Boxed;
 use mdb_log::{Established, Job, PoolGeneration, PoolStamp};
 use std::alloc::{AllocError, Global};
 
@@ -80,13 +80,13 @@ impl MemEstablisher {
     }
 
     // Refuses the job, and remembers that.
-    fn refuse(&mut self, alloc: Global, job: Job) -> Result<Held<Error>, AllocError>
+    fn refuse(&mut self, alloc: Global, job: Job) -> Result<Boxed<Error>, AllocError>
         ensures calls { IfOk result (λ error. made_so_far self.new ≡ calls_after (made_so_far self.old) job (Err (Refused false None error))) }
         ensures rose { OnOk result (Rose (refusals self.old) (refusals self.new)) }
         ensures err { OnErr result ((made_so_far self.new ≡ made_so_far self.old) × (refusals self.new ≡ refusals self.old)) }
     {
-        let error = Held::copy_of(alloc, &self.error)?;
-        let told = Held::copy_of(alloc, &self.error)?;
+        let error = Boxed::copy_of(alloc, &self.error)?;
+        let told = Boxed::copy_of(alloc, &self.error)?;
         self.calls.push(Call {
             job,
             answer: Err(EstablishError::Refused(false, None, told)),

@@ -7,8 +7,8 @@ ghost use Rattle.mdb_log.specs.declared.log.Entry.{Entry};
 ghost use Rattle.mdb_log.specs.declared.step.Act.TheVariants.{GiveUp, Return, Stop};
 ghost use Rattle.mdb_log.specs.declared.reply.Reply.TheVariants.{Done, Refused as IsRefused};
 ghost use Rattle.mdb_workers.specs.Making.{Made, OneMore};
-ghost use Rattle.mdb_workers.specs.Persisting.{IsTry, LeftAct, SettledIf, TendedBy, TriedBack, tried_by};
-ghost use Rattle.mdb_workers.specs.Working.{IsWant, SettledBy};
+ghost use Rattle.mdb_workers.specs.Persisting.{IsTry, LeftAct, ReportsLeftIf, TendedBy, TriedBack, tried_by};
+ghost use Rattle.mdb_workers.specs.Working.{IsWant, ReportsLeft};
 
 use crate::access::Access;
 use crate::ends::Work;
@@ -16,7 +16,7 @@ use crate::establishing::{Establisher, Gate};
 use crate::steps::{add, give_back, let_go, pause};
 use crate::working::establish;
 use mdb_base::{Error, ErrorKind, Items, OutOfMemory, Text};
-use mdb_events::Held;
+use mdb_events::Boxed;
 use mdb_log::{Act, Core, FailedAt, PooledConnection, Refused, Reply, Step, Use};
 use mdb_shared::{Back, BackWhy, Claimed, Seat};
 use std::alloc::Global;
@@ -168,7 +168,7 @@ fn left_act(alloc: Global, pool: u32, id: u32, step: &Option<Step>) -> Result<Ac
     match step {
         Some(step) => Ok(step.act.clone()?),
         None => {
-            let error = Held::new(alloc, no_memory(alloc)?)?;
+            let error = Boxed::new(alloc, no_memory(alloc)?)?;
             Ok(Act::Failed(pool, id, FailedAt::Pre, error))
         }
     }
@@ -185,7 +185,7 @@ fn try_left<C: Core, R: Wait>(
     requires own { seat.old.driver ≡ access.now.driver.now.id }
     requires act { IfSome step.now (λ s. IsDriverAct s.act) }
     ensures same { (seat.new.driver ≡ seat.old.driver) × (seat.new.number ≡ seat.old.number) }
-    ensures entry { SettledIf C.stands pool id step.now seat.old seat.new result }
+    ensures entry { ReportsLeftIf C.stands pool id step.now seat.old seat.new result }
 {
     match left_act(access.alloc, pool, id, step) {
         Ok(act) => try_once(access, seat, act),
@@ -193,7 +193,7 @@ fn try_left<C: Core, R: Wait>(
     }
 }
 
-fn settle_left<C: Core, R: Wait>(
+fn keep_reporting<C: Core, R: Wait>(
     access: &Access<'_, C, R>,
     seat: &mut Seat<C>,
     pool: u32,
@@ -203,7 +203,7 @@ fn settle_left<C: Core, R: Wait>(
     requires own { seat.old.driver ≡ access.now.driver.now.id }
     requires act { IfSome step.now (λ s. IsDriverAct s.act) }
     ensures same { (seat.new.driver ≡ seat.old.driver) × (seat.new.number ≡ seat.old.number) }
-    ensures entry { (e : Entry) × SettledBy pool id step.now e × Made C.stands seat.old seat.new (e ∷ []) }
+    ensures entry { (e : Entry) × ReportsLeft pool id step.now e × Made C.stands seat.old seat.new (e ∷ []) }
 {
     for _ in access.rt.forever() {
         if try_left(access, seat, pool, id, step) {
@@ -214,10 +214,10 @@ fn settle_left<C: Core, R: Wait>(
     unreachable!()
 }
 
-/// Reports what `work` left at want of memory, the pool and the number of the connection that was claimed with the step that wasn't reported. Where there
+/// Reports what `work` left where memory runs out, the pool and the number of the connection that was claimed with the step that wasn't reported. Where there
 /// is none, the connection has failed before the hello, with an error of the label `SystemOverloadedError`: so its server stays as it is, and its pool isn't
 /// cleared (SDAM, "Error handling pseudocode"). It tries again while there is no memory.
-pub fn settle<C: Core, R: Wait>(
+pub fn report_left<C: Core, R: Wait>(
     access: &Access<'_, C, R>,
     seat: &mut Seat<C>,
     pool: u32,
@@ -227,9 +227,9 @@ pub fn settle<C: Core, R: Wait>(
     requires own { seat.old.driver ≡ access.now.driver.now.id }
     requires act { IfSome step (λ s. IsDriverAct s.act) }
     ensures same { (seat.new.driver ≡ seat.old.driver) × (seat.new.number ≡ seat.old.number) }
-    ensures entry { (e : Entry) × SettledBy pool id step e × Made C.stands seat.old seat.new (e ∷ []) }
+    ensures entry { (e : Entry) × ReportsLeft pool id step e × Made C.stands seat.old seat.new (e ∷ []) }
 {
-    settle_left(access, seat, pool, id, &step);
+    keep_reporting(access, seat, pool, id, &step);
 }
 
 /// Establishes one connection, where there is one to establish: it is claimed, established and reported. Where there is no memory for that it is reported as
@@ -246,12 +246,12 @@ pub fn tend<C: Core, R: Wait, E: Establisher, G: Gate>(
     match access.driver.claim(access.rt, access.alloc, seat) {
         Ok(Claimed::Job(pool, id, job)) => {
             let step = establish(access.alloc, establisher, gate, pool, id, &job);
-            settle(access, seat, pool, id, step);
+            report_left(access, seat, pool, id, step);
             Work::Spent
         }
         Ok(Claimed::NoJob) => Work::Idle,
         Ok(Claimed::Unread(pool, id)) => {
-            settle(access, seat, pool, id, None);
+            report_left(access, seat, pool, id, None);
             Work::Spent
         }
         Err(OutOfMemory) => {

@@ -27,7 +27,7 @@ fn failed_at(after_hello: bool, service: Option<ObjectId>) -> FailedAt
     FailedAt::Pre
 }
 
-// The act that reports the answer. There is none for want of memory.
+// The act that reports the answer. There is none for lack of memory.
 fn report_of(pool: u32, id: u32, answer: Result<Established, EstablishError>) -> Option<Act>
     ensures some { IfSome result (Reports pool id answer) }
     ensures act { IfSome result IsDriverAct }

@@ -11,7 +11,7 @@ use Rattle.mdb_topology.specs.declared.topology.TopologyCore.{TopologyCore}
 use Rattle.mdb_topology.specs.Lines.{entry_after}
 use Rattle.mdb_topology.specs.Driving.{Holds}
 use Rattle.mdb_topology.specs.Logging.{opening_step, IsDriverOf}
-use Rattle.mdb_topology.proofs.Driven.{legal-log}
+use Rattle.mdb_topology.proofs.DriverOpened.ScriptsLog.{legal-log}
 use Rattle.mdb_histories.proofs.Logs.{driver-sound}
 use Rattle.mdb_histories.specs.Opened.{BeginsAccepted, BeginsWithSeeds}
 use Rattle.mdb_histories.proofs.OfPlain.Accepted.{opening-accepted}

@@ -17,7 +17,7 @@ use Rattle.mdb_log.specs.History.{Item, of_pool, open_pool, last_moment, with_ac
 use Rattle.mdb_log.specs.Opening.{pool_options}
 use Rattle.mdb_log.proofs.Later.{with_entries-append}
 use Rattle.mdb_pool.specs.Refusal.{first_row}
-use Rattle.mdb_pool.proofs.Items.{first-passes}
+use Rattle.mdb_pool.proofs.Answered.Item.{first-passes}
 use Rattle.mdb_sound.proofs.Rested.{Rested}
 use Rattle.mdb_topology.specs.declared.topology.TopologyCore.{TopologyCore}
 use Rattle.mdb_topology.specs.Answer.{answer, reply_to}

@@ -33,7 +33,7 @@ use Rattle.mdb_histories.specs.SoundHistory.{SoundHistory}
 use Rattle.mdb_histories.proofs.Begins.{number-is}
 use Rattle.mdb_histories.proofs.Comes.{AllMayCome, come-sound}
 use Rattle.mdb_histories.proofs.FailedSteps.{failed-come}
-use Rattle.mdb_topology.proofs.FailedMarks.{Constant, constant-none, mark-constant}
+use Rattle.mdb_topology.proofs.Failure.MarkOfNoPool.{Constant, constant-none, mark-constant}
 use Rattle.mdb_histories.proofs.Outside.{last_parts, told, parts-are}
 use Rattle.mdb_histories.proofs.PoolSteps.{begun-sound}
 use Rattle.mdb_histories.proofs.Steps.{home-concerned}

@@ -18,8 +18,8 @@ use Rattle.mdb_pool.specs.Serving.{serving}
 use Rattle.mdb_topology.specs.Facts.{serve_all}
 use Rattle.mdb_histories.specs.SoundHistory.{SoundHistory}
 use Rattle.mdb_histories.proofs.Comes.{AllMayCome, come-sound, own-leave}
-use Rattle.mdb_topology.proofs.Same.{IsCalm}
-use Rattle.mdb_topology.proofs.Heartbeats.{AreCalm}
+use Rattle.mdb_topology.proofs.OnePool.SameHistories.{IsCalm}
+use Rattle.mdb_topology.proofs.OfMonitors.FactsOfCheck.{AreCalm}
 use Rattle.mdb_histories.proofs.Numbered.{AllApart, homes-apart}
 use Rattle.mdb_histories.proofs.Owns.{serving-own}
 use Rattle.mdb_laws.specs.CloseCauses.{HasCause, AllCaused}

@@ -10,7 +10,7 @@ use Rattle.mdb_log.specs.Requests.{queued, is_warm}
 use Rattle.mdb_log.specs.State.{state_of, ready, may_create}
 use Rattle.mdb_pool.specs.Facts.{perished}
 use Rattle.mdb_pool.specs.Serving.{last_of, candidate, wants_connection, caller_move, meet, warm_move, move_for, next_move, serve, serving}
-use Rattle.mdb_pool.proofs.Laws.{candidate-first}
+use Rattle.mdb_pool.proofs.Turns.Fair.{candidate-first}
 use Rattle.mdb_laws.specs.CloseCauses.{meeting, AllCaused}
 use Rattle.mdb_laws.proofs.OfCloses.Quiet.{caused-both}
 

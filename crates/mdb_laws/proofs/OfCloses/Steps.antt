@@ -24,12 +24,12 @@ use Rattle.mdb_topology.specs.Homes.{concerns, home_of, begun}
 use Rattle.mdb_topology.specs.Monitors.{heartbeat}
 use Rattle.mdb_topology.specs.Refusal.{rows_of}
 use Rattle.mdb_topology.specs.Turns.{in_turn}
-use Rattle.mdb_topology.proofs.Tame.{plain-facts}
+use Rattle.mdb_topology.proofs.OnePool.TellsNoTopology.{plain-facts}
 use Rattle.mdb_histories.specs.SoundHistory.{SoundHistory}
 use Rattle.mdb_histories.proofs.Begins.{home-done}
 use Rattle.mdb_histories.proofs.Comes.{AllMayCome, come-sound}
 use Rattle.mdb_histories.proofs.Outside.{IsOutside, last_parts, told, k1, k2, parts-are, outside-come}
-use Rattle.mdb_topology.proofs.Heartbeats.{heartbeat-calm}
+use Rattle.mdb_topology.proofs.OfMonitors.FactsOfCheck.{heartbeat-calm}
 use Rattle.mdb_histories.proofs.Owns.{act-own, clear-own}
 use Rattle.mdb_histories.proofs.Parties.{each-sound}
 use Rattle.mdb_histories.proofs.PoolSteps.{begun-sound, pool-come}

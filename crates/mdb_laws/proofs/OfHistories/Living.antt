@@ -15,7 +15,7 @@ use Rattle.mdb_pool.specs.Facts.{clear_facts, readied}
 use Rattle.std.specs.Prelude.{slice_get}
 use Rattle.std.specs.List.{list_any}
 use Rattle.mdb_pool.specs.Core.{PoolCore}
-use Rattle.mdb_pool.proofs.Places.{one-place}
+use Rattle.mdb_pool.proofs.Histories.OnePlaceEach.{one-place}
 use Rattle.mdb_sound.specs.Counts.{creations, closings, establishings, failures, names, creates}
 use Rattle.mdb_sound.specs.Laws.{ConnectionLaws, NamingLaws}
 use Rattle.mdb_sound.specs.Sound.{Sound}

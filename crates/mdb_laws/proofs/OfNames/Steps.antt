@@ -19,8 +19,8 @@ use Rattle.mdb_topology.specs.Homes.{concerns, home_of, begun}
 use Rattle.mdb_topology.specs.Monitors.{heartbeat}
 use Rattle.mdb_topology.specs.Publishing.{told_by}
 use Rattle.mdb_topology.specs.Turns.{in_turn}
-use Rattle.mdb_topology.proofs.Tame.{plain-facts}
-use Rattle.mdb_topology.proofs.Heartbeats.{heartbeat-calm}
+use Rattle.mdb_topology.proofs.OnePool.TellsNoTopology.{plain-facts}
+use Rattle.mdb_topology.proofs.OfMonitors.FactsOfCheck.{heartbeat-calm}
 use Rattle.mdb_histories.proofs.Steps.{home-concerned}
 use Rattle.mdb_histories.proofs.Troubles.{asking-calm}
 use Rattle.mdb_laws.proofs.OfNames.Plain.{ArePlain, calm-plain, is_establishing, act-plain}

@@ -1,4 +1,4 @@
-use Rattle.mdb_pool.proofs.Limits.{answer-within}
+use Rattle.mdb_pool.proofs.Histories.LimitsAreKept.{answer-within}
 use Rattle.mdb_pool_laws.proofs.answers_keep_limits.Goals as goal
 
 pub returns : goal.returns

@@ -1,4 +1,4 @@
-//! One thread: a seat that is lent twice, and want of memory where its connections are to be established.
+//! One thread: a seat that is lent twice, and out of memory where its connections are to be established.
 
 ghost use Rattle.std.specs.Prelude.{◌≡◌, IfSome};
 ghost use Rattle.mdb_log.specs.Acts.{IsDriverAct};
@@ -17,11 +17,11 @@ use std::sync::Wait;
 use std::test::Fail;
 
 // The reply of a server alone.
-fn greeting(alloc: Global) -> Option<Held<HelloCommandResponse>> {
+fn greeting(alloc: Global) -> Option<Boxed<HelloCommandResponse>> {
     let mut reply = HelloCommandResponse::default();
     reply.min_wire_version = Some(0);
     reply.max_wire_version = Some(21);
-    Held::new(alloc, reply).ok()
+    Boxed::new(alloc, reply).ok()
 }
 
 // A server alone greets.
@@ -69,7 +69,7 @@ fn asks_in_vain<C: Core, R: Wait>(
 ) -> Option<u32> {
     let number = me.take_numbers(1)?;
     let told = requests(me, alloc, number);
-    me.settle(0, id, None);
+    me.report_left(0, id, None);
     if told == Told::Establishing(0, id) {
         Some(number)
     } else {

@@ -105,7 +105,7 @@ fn counted(log: &Log) -> Option<(u64, u64)> {
     Some((of_first, total))
 }
 
-// Whether two threads that make 20,000 steps each make one log of them all. None where a step was not made, for want of memory.
+// Whether two threads that make 20,000 steps each make one log of them all. None where a step was not made, for lack of memory.
 pub(super) fn adds_by_two<C: Core, R: Threads + Wait + Sync>(
     rt: &R,
     alloc: Global,

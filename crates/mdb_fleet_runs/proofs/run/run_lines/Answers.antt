@@ -2,7 +2,7 @@ use Rattle.std.proofs.Common.{◌≡◌, ℕ, length, Some, [], ◌∷◌, arith
 use Rattle.std.proofs.lemmas.Grind.{common_steps}
 use Rattle.mdb_base.specs.AddressReading.{beyond}
 use Rattle.mdb_lines.specs.Script.{lines_of}
-use Rattle.mdb_topology.proofs.Driven.{legal-log}
+use Rattle.mdb_topology.proofs.DriverOpened.ScriptsLog.{legal-log}
 use Rattle.mdb_fleet_runs.proofs.Between.{starts, goes-on, done, line-ends, last-ends, first-last, first-ends}
 use Rattle.mdb_fleet_runs.proofs.run.run_lines.Goals as goal
 

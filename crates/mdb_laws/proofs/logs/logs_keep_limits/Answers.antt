@@ -1,5 +1,5 @@
 use Rattle.std.proofs.Common.{Some}
-use Rattle.mdb_topology.proofs.Driven.{kept-log}
+use Rattle.mdb_topology.proofs.DriverOpened.ScriptsLog.{kept-log}
 use Rattle.mdb_laws.proofs.logs.logs_keep_limits.Goals as goal
 
 pub returns : goal.returns

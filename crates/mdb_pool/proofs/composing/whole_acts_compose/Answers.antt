@@ -1,6 +1,6 @@
-use Rattle.mdb_pool.proofs.Alone.{ready-alone, clear-alone, close-alone}
-use Rattle.mdb_pool.proofs.FailedAfterClear.{failed-after-clear}
-use Rattle.mdb_pool.proofs.QuietActs.{opening-quiet, answer-quiet}
+use Rattle.mdb_pool.proofs.NothingServed.AfterClearOrClose.{ready-alone, clear-alone, close-alone}
+use Rattle.mdb_pool.proofs.SameAnswers.FailureAfterClear.{failed-after-clear}
+use Rattle.mdb_pool.proofs.NothingServed.KeptByActs.{opening-quiet, answer-quiet}
 use Rattle.mdb_pool.proofs.composing.whole_acts_compose.Goals as goal
 
 pub returns-clause-opening : goal.returns-clause-opening

@@ -1,6 +1,6 @@
 use Rattle.std.proofs.Common.{◌≡◌}
 use Rattle.mdb_shared.specs.declared.seat.Seat.{Seat}
-use Rattle.mdb_pool_demo.specs.declared.parts.Played.{Played}
+use Rattle.mdb_pool_demo.specs.declared.roles.Played.{Played}
 use Rattle.mdb_pool_demo.proofs.Gathering.{gathered}
 use Rattle.mdb_pool_demo.proofs.running.seats_of.Goals as goal
 

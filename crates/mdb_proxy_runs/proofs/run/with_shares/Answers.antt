@@ -1,5 +1,5 @@
 use Rattle.std.proofs.Common.{Some, inr}
-use Rattle.mdb_topology.proofs.Driven.{legal-log}
+use Rattle.mdb_topology.proofs.DriverOpened.ScriptsLog.{legal-log}
 use Rattle.mdb_proxy_runs.proofs.Answered.{played}
 use Rattle.mdb_proxy_runs.proofs.Ending.{second-last, second-ends, later-ends}
 use denote.Param.Send.{sendable}

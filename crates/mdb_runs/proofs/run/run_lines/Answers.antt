@@ -1,7 +1,7 @@
 use Rattle.std.proofs.Common.{arith, length, ◌≡◌}
 use Rattle.std.proofs.lemmas.Grind.{common_steps}
 use Rattle.mdb_runs.proofs.Between.{goes_on, has-driver, done, line_ends, last_ends}
-use Rattle.mdb_topology.proofs.Driven.{legal-log, kept-log}
+use Rattle.mdb_topology.proofs.DriverOpened.ScriptsLog.{legal-log, kept-log}
 use Rattle.mdb_histories.proofs.Logs.{sound-log}
 use Rattle.mdb_histories.proofs.OfPlain.Drivers.{plain-log}
 use Rattle.mdb_runs.proofs.run.run_lines.Goals as goal

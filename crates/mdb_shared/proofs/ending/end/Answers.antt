@@ -1,13 +1,13 @@
 use Rattle.std.proofs.Common.{List, refl, subst, sym, ◌∙◌}
 use Rattle.std.specs.Option.{IsSome}
 use Rattle.mdb_log.specs.declared.log.Entry.{Entry}
-use Rattle.mdb_shared.specs.Turning.{Held, Settles}
+use Rattle.mdb_shared.specs.Turning.{Slot, Settles}
 use Rattle.mdb_shared.proofs.Closing.{ends, same_content}
 use Rattle.mdb_shared.proofs.ending.end.Goals as goal
 
 pub unwrap-requires : goal.unwrap-requires
 unwrap-requires g c = let t = ends g.C.Core.stands c.args.table.shared.key.base.value c.args.table.shared.key.seats c.args.all.id c.args.all.me.0 _ _ c.close_with-closed.ensures.values.2 c.requires.off c.requires.all c.take-state.result c.take-state.ensures.value in
-    subst (λ (x : Held g.row.C.Denot). IsSome x) (sym t.2) refl
+    subst (λ (x : Slot g.row.C.Denot). IsSome x) (sym t.2) refl
 
 pub returns-clause-stands : goal.returns-clause-stands
 returns-clause-stands g c = let t = ends g.C.Core.stands c.args.table.shared.key.base.value c.args.table.shared.key.seats c.args.all.id c.args.all.me.0 _ _ c.close_with-closed.ensures.values.2 c.requires.off c.requires.all c.take-state.result c.take-state.ensures.value in

@@ -1,7 +1,7 @@
 use Rattle.std.proofs.Common.{rules, ap}
 use Rattle.mdb_shared.specs.declared.rule.View.{View}
 use Rattle.atomic_table.specs.Table.{Me}
-use Rattle.mdb_shared.specs.Turning.{Held}
+use Rattle.mdb_shared.specs.Turning.{Slot}
 use Rattle.mdb_shared.proofs.Sharing.{copies, absorbs}
 use Rattle.mdb_shared.proofs.meeting.tell.Goals as goal
 
@@ -10,4 +10,4 @@ split_seat-copy-requires g c = (search rules, search rules, copies g.C.Core.stan
 
 pub join_seat-requires : goal.join_seat-requires
 join_seat-requires g c = let e = c.split_seat-copy.ensures.4 in
-    (search rules, search rules, search rules, search rules, absorbs g.C.Core.stands _ _ _ _ _ _ c.requires.off (ap (λ (m : Me (Held g.row.C.Denot) View). m.0.turn) e))
+    (search rules, search rules, search rules, search rules, absorbs g.C.Core.stands _ _ _ _ _ _ c.requires.off (ap (λ (m : Me (Slot g.row.C.Denot) View). m.0.turn) e))

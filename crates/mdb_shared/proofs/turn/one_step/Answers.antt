@@ -4,10 +4,10 @@ use Rattle.mdb_shared.proofs.Keeping.{has_turn, one_more, stepped_well, view_aft
 use Rattle.mdb_shared.proofs.turn.one_step.Goals as goal
 
 pub finish-requires-clause-turn : goal.finish-requires-clause-turn
-finish-requires-clause-turn g c κs within = has_turn c.args.place.now.me.0 _ _ _ c.in-Ok.ensures.ok.turn c.requires.ready.2
+finish-requires-clause-turn g c κs within = has_turn c.args.table_seat.now.me.0 _ _ _ c.in-Ok.ensures.ok.turn c.requires.ready.2
 
 pub finish-requires-clause-log : goal.finish-requires-clause-log
-finish-requires-clause-log g c κs within = let b = c.in-Ok.ensures.ok in (b.entry, b.is.0, one_more c.args.place.now.me.0 _ _ _ b.entry b.turn b.more)
+finish-requires-clause-log g c κs within = let b = c.in-Ok.ensures.ok in (b.entry, b.is.0, one_more c.args.table_seat.now.me.0 _ _ _ b.entry b.turn b.more)
 
 pub finish-requires-clause-stands : goal.finish-requires-clause-stands
 finish-requires-clause-stands g c κs within = c.in-Ok.ensures.ok.fits
@@ -15,7 +15,7 @@ finish-requires-clause-stands g c κs within = c.in-Ok.ensures.ok.fits
 pub returns-clause-ok : goal.returns-clause-ok
 returns-clause-ok g c =
     let b = c.in-Ok.ensures.ok in
-    let v = c.args.place.now.me.0 in
+    let v = c.args.table_seat.now.me.0 in
     let done = c.finish.ensures.me b.entry (one_more v _ _ _ b.entry b.turn b.more) in
     let view = view_after v b.before _ _ b.entry b.turn done in
-    (stepped_well g.C.Core.stands c.args.place.now.table_id c.finish.new.place.table_id _ _ _ _ _ v _ _ b done c.requires.ready.2, ap (λ (w : View). w.busy) view)
+    (stepped_well g.C.Core.stands c.args.table_seat.now.table_id c.finish.new.table_seat.table_id _ _ _ _ _ v _ _ b done c.requires.ready.2, ap (λ (w : View). w.busy) view)

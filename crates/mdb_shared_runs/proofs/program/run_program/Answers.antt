@@ -6,7 +6,7 @@ use Rattle.mdb_shared_runs.proofs.Programs.{tool_ends, asks_none, map_none}
 use Rattle.mdb_shared_runs.proofs.program.run_program.Goals as goal
 
 pub returns-in-Some-clause-ends : goal.returns-in-Some-clause-ends
-returns-in-Some-clause-ends g c = (Share c.in-Some.k, c.in-Some.ensures.parts, c.share.ensures.ends)
+returns-in-Some-clause-ends g c = (Share c.in-Some.k, c.in-Some.ensures.players, c.share.ensures.ends)
 
 pub returns-in-Some-clause-malformed : goal.returns-in-Some-clause-malformed
 returns-in-Some-clause-malformed g c =

@@ -2,9 +2,9 @@ use Rattle.std.proofs.Common.{◌≡◌, [], length, ap, arith}
 use Rattle.mdb_describe.specs.declared.topology.TopologyDescription.{TopologyDescription}
 use Rattle.mdb_describe.specs.Topology.{opened}
 use Rattle.mdb_topology.specs.Description.{begins_with}
-use Rattle.mdb_topology.proofs.Balancers.{few-opened, few-begun}
-use Rattle.mdb_topology.proofs.Opened.{few-seeds, is-opened}
-use Rattle.mdb_topology.proofs.Published.{empty-stand}
+use Rattle.mdb_topology.proofs.DriverOpened.KnownBalancers.{few-opened, few-begun}
+use Rattle.mdb_topology.proofs.DriverOpened.OpenedDriver.{few-seeds, is-opened}
+use Rattle.mdb_topology.proofs.Publications.MadeAtOnce.{empty-stand}
 use Rattle.mdb_topology.proofs.opening.open.Goals as goal
 
 pub publish-requires-clause-open_for : goal.publish-requires-clause-open_for

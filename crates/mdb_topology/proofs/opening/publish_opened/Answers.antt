@@ -2,7 +2,7 @@ use Rattle.std.proofs.Common.{◌≡◌, [], length, ap, arith}
 use Rattle.mdb_describe.specs.declared.topology.TopologyDescription.{TopologyDescription}
 use Rattle.mdb_describe.specs.Topology.{opened}
 use Rattle.mdb_pool.specs.Core.{PoolCore}
-use Rattle.mdb_topology.proofs.Balancers.{few-opened}
+use Rattle.mdb_topology.proofs.DriverOpened.KnownBalancers.{few-opened}
 use Rattle.mdb_topology.proofs.opening.publish_opened.Goals as goal
 
 pub publish-requires-clause-few : goal.publish-requires-clause-few

@@ -1,6 +1,6 @@
 use Rattle.std.proofs.Common.{◌∙◌, ap, ◌++◌, ◌∷◌, [], map}
 use Rattle.mdb_topology.specs.Monitors.{setting}
-use Rattle.mdb_topology.proofs.Monitored.{pools-more}
+use Rattle.mdb_topology.proofs.OfMonitors.MonitorsOfPools.{pools-more}
 use Rattle.mdb_topology.proofs.opening_seeds.pool_monitors.Goals as goal
 
 pub loop-pool-preserved : goal.loop-pool-preserved

@@ -2,15 +2,15 @@ use Rattle.std.proofs.Common.{List, subst}
 use Rattle.mdb_log.specs.History.{Item}
 use Rattle.mdb_pool.specs.Core.{PoolCore}
 use Rattle.mdb_pool.specs.Standing.{StandsFor, Answers}
-use Rattle.mdb_pool.proofs.Answering.{passes}
-use Rattle.mdb_pool.proofs.SameKept.{answers_same}
+use Rattle.mdb_pool.proofs.Answered.Steps.{passes}
+use Rattle.mdb_pool.proofs.SameAnswers.KeptTheSame.{answers_same}
 use Rattle.mdb_pool.proofs.pool_core.PoolCore.done.Goals as goal
 
 pub returns-in-Ok-clause-answers : goal.returns-in-Ok-clause-answers
 returns-in-Ok-clause-answers c =
     let before = c.args.facts.now.items in let after = c.tell_step.new.facts.items in let step = c.args.step.now in let reply = c.in-Ok.reply in
-    subst (λ (p : PoolCore). (h : List Item) → StandsFor p h → Answers p c.keep.new.self before after step reply h) c.self.view_is
-    (λ h z. answers_same c.self.inside.draft c.tell_step.new.self c.keep.new.self before after step reply h c.keep.ensures.same (c.in-Ok.ensures.answers h z))
+    subst (λ (p : PoolCore). (h : List Item) → StandsFor p h → Answers p c.commit.new.self before after step reply h) c.self.view_is
+    (λ h z. answers_same c.self.inside.draft c.tell_step.new.self c.commit.new.self before after step reply h c.commit.ensures.same (c.in-Ok.ensures.answers h z))
 
 pub returns-in-Err-clause-passes : goal.returns-in-Err-clause-passes
 returns-in-Err-clause-passes c = passes c.args.self.now c.args.step.now c.requires.passes

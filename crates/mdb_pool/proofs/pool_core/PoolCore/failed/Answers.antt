@@ -1,6 +1,6 @@
 use Rattle.std.proofs.Common.{rules}
 use Rattle.mdb_log.specs.declared.step.Act.TheVariants.{Failed}
-use Rattle.mdb_pool.proofs.Answering.{on-error, passes, refuses-now}
+use Rattle.mdb_pool.proofs.Answered.Steps.{on-error, passes, refuses-now}
 use Rattle.mdb_pool.proofs.pool_core.PoolCore.failed.Goals as goal
 
 pub returns-in-Some-clause-answers : goal.returns-in-Some-clause-answers

@@ -1,5 +1,5 @@
 use Rattle.std.proofs.Common.{rules, ◌∙◌}
-use Rattle.mdb_pool.proofs.Getters.{generation-now}
+use Rattle.mdb_pool.proofs.Told.OfItems.{generation-now}
 use Rattle.mdb_pool.proofs.pool_core.PoolCore.generation.Goals as goal
 
 pub returns-clause-kept : goal.returns-clause-kept

@@ -3,8 +3,8 @@ use Rattle.mdb_log.specs.declared.generation.PoolGeneration.TheVariants.{Normal,
 use Rattle.mdb_log.specs.declared.options.PoolOptions.{PoolOptions}
 use Rattle.mdb_pool.specs.Core.{PoolCore}
 use Rattle.mdb_pool.specs.Jobs.{count_at}
-use Rattle.mdb_pool.proofs.Named.{AreNamed}
-use Rattle.mdb_pool.proofs.PendingJobs.{normal-generation, balanced-generation}
+use Rattle.mdb_pool.proofs.Told.ServicesOfClears.{AreNamed}
+use Rattle.mdb_pool.proofs.Told.JobGenerations.{normal-generation, balanced-generation}
 use Rattle.mdb_pool.proofs.pool_core.PoolCore.generations_before.Goals as goal
 
 not-true : (b : Bool) → not b ≡ true → b ≡ false

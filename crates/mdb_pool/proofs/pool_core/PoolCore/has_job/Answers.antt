@@ -1,5 +1,5 @@
 use Rattle.std.proofs.Common.{rules, ◌∙◌}
-use Rattle.mdb_pool.proofs.Getters.{job-now, stands-in}
+use Rattle.mdb_pool.proofs.Told.OfItems.{job-now, stands-in}
 use Rattle.mdb_pool.proofs.pool_core.PoolCore.has_job.Goals as goal
 
 pub returns-clause-kept : goal.returns-clause-kept

@@ -1,5 +1,5 @@
 use Rattle.std.proofs.Common.{rules, ◌∙◌}
-use Rattle.mdb_pool.proofs.Getters.{held-now}
+use Rattle.mdb_pool.proofs.Told.OfItems.{held-now}
 use Rattle.mdb_pool.proofs.pool_core.PoolCore.held_by.Goals as goal
 
 pub returns-in-Some-clause-kept : goal.returns-in-Some-clause-kept

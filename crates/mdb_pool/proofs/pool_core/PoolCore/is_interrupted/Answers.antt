@@ -1,5 +1,5 @@
 use Rattle.std.proofs.Common.{◌∙◌}
-use Rattle.mdb_pool.proofs.Getters.{interrupted-now}
+use Rattle.mdb_pool.proofs.Told.OfItems.{interrupted-now}
 use Rattle.mdb_pool.proofs.pool_core.PoolCore.is_interrupted.Goals as goal
 
 pub returns : goal.returns

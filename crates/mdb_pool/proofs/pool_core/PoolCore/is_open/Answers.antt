@@ -1,6 +1,6 @@
 use Rattle.std.proofs.Common.{rules, ◌≡◌, ◌∙◌}
 use Rattle.mdb_pool.specs.Kept.{is_open_now}
-use Rattle.mdb_pool.proofs.Getters.{open-alone, open-now}
+use Rattle.mdb_pool.proofs.Told.OfItems.{open-alone, open-now}
 use Rattle.mdb_pool.proofs.pool_core.PoolCore.is_open.Goals as goal
 
 pub returns-clause-among : goal.returns-clause-among

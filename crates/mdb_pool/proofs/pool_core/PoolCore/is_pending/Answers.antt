@@ -1,6 +1,6 @@
 use Rattle.std.proofs.Common.{rules, ◌≡◌, ◌∙◌}
 use Rattle.mdb_pool.specs.Kept.{connection_at, is_pending_at}
-use Rattle.mdb_pool.proofs.Getters.{pending-now}
+use Rattle.mdb_pool.proofs.Told.OfItems.{pending-now}
 use Rattle.mdb_pool.proofs.pool_core.PoolCore.is_pending.Goals as goal
 
 pub returns : goal.returns

@@ -4,8 +4,8 @@ use Rattle.mdb_log.specs.declared.generation.PoolGeneration.{PoolGeneration}
 use Rattle.mdb_log.specs.declared.job.Job.{Job}
 use Rattle.mdb_log.specs.Connections.{has, pending_list}
 use Rattle.mdb_pool.specs.Kept.{connection_at, is_pending_at}
-use Rattle.mdb_pool.proofs.Getters.{pending-now}
-use Rattle.mdb_pool.proofs.Living.{pending_lives}
+use Rattle.mdb_pool.proofs.Told.OfItems.{pending-now}
+use Rattle.mdb_pool.proofs.KeptInLittle.ConnectionsThatLive.{pending_lives}
 use Rattle.mdb_pool.proofs.pool_core.PoolCore.job.Goals as goal
 
 abbrev job_of : ℕ → ℕ → ServerAddress → PoolGeneration → Job

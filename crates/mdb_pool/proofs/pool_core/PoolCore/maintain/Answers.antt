@@ -3,7 +3,7 @@ use Rattle.std.specs.Prelude.{IfOk}
 use Rattle.mdb_log.specs.declared.step.Act.TheVariants.{Maintain as MaintainAct}
 use Rattle.mdb_log.specs.History.{Item}
 use Rattle.mdb_pool.specs.Standing.{StandsFor, Answers}
-use Rattle.mdb_pool.proofs.Answering.{refuses-now}
+use Rattle.mdb_pool.proofs.Answered.Steps.{refuses-now}
 use Rattle.mdb_pool.proofs.pool_core.PoolCore.maintain.Goals as goal
 
 pub returns-clause-answers : goal.returns-clause-answers

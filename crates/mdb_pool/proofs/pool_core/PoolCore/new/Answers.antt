@@ -1,4 +1,4 @@
-use Rattle.mdb_pool.proofs.Opened.{opening-stands}
+use Rattle.mdb_pool.proofs.Follows.Opening.{opening-stands}
 use Rattle.mdb_pool.proofs.pool_core.PoolCore.new.Goals as goal
 
 pub returns-clause-stands : goal.returns-clause-stands

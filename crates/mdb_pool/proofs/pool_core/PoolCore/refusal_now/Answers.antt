@@ -1,5 +1,5 @@
 use Rattle.std.proofs.Common.{rules, ◌∙◌}
-use Rattle.mdb_pool.proofs.Refusals.{refused-now}
+use Rattle.mdb_pool.proofs.Answered.Refusal.{refused-now}
 use Rattle.mdb_pool.proofs.pool_core.PoolCore.refusal_now.Goals as goal
 
 pub returns-clause-kept : goal.returns-clause-kept

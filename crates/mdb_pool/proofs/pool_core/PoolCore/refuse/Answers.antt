@@ -1,6 +1,6 @@
 use Rattle.std.proofs.Common.{◌++◌, ◌∷◌, [], ◌∙◌, ap}
 use Rattle.mdb_log.specs.declared.reply.Reply.TheVariants.{Refused}
-use Rattle.mdb_pool.proofs.Answering.{refuses-logs}
+use Rattle.mdb_pool.proofs.Answered.Steps.{refuses-logs}
 use Rattle.mdb_pool.proofs.pool_core.PoolCore.refuse.Goals as goal
 
 pub returns-clause-logs : goal.returns-clause-logs

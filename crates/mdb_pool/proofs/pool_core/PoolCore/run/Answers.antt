@@ -5,8 +5,8 @@ use Rattle.mdb_log.specs.declared.step.Step.{Step}
 use Rattle.mdb_log.specs.declared.log.Entry.{Entry}
 use Rattle.mdb_pool.specs.Core.{PoolCore}
 use Rattle.mdb_pool.specs.Standing.{SameHome, Runs}
-use Rattle.mdb_pool.proofs.Answering.{on-error}
-use Rattle.mdb_pool.proofs.Runs.{run-more}
+use Rattle.mdb_pool.proofs.Answered.Steps.{on-error}
+use Rattle.mdb_pool.proofs.Histories.StepsInOrder.{run-more}
 use Rattle.mdb_pool.proofs.pool_core.PoolCore.run.Goals as goal
 
 pub loop-step-preserved : goal.loop-step-preserved

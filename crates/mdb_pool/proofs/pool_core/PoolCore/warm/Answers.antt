@@ -1,6 +1,6 @@
 use Rattle.std.proofs.Common.{rules}
 use Rattle.mdb_log.specs.declared.step.Act.TheVariants.{Warm}
-use Rattle.mdb_pool.proofs.Answering.{refuses-now}
+use Rattle.mdb_pool.proofs.Answered.Steps.{refuses-now}
 use Rattle.mdb_pool.proofs.pool_core.PoolCore.warm.Goals as goal
 
 pub returns-in-Some-clause-answers : goal.returns-in-Some-clause-answers

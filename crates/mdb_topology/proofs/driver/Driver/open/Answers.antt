@@ -1,7 +1,7 @@
 use Rattle.std.proofs.Common.{◌∙◌, ap, ◌∷◌, []}
 use Rattle.mdb_topology.specs.Lines.{entry_after}
 use Rattle.mdb_topology.proofs.driver.Driver.open.Goals as goal
-use Rattle.mdb_topology.proofs.Driven.{first-step-is}
+use Rattle.mdb_topology.proofs.DriverOpened.ScriptsLog.{first-step-is}
 
 pub returns-clause-ok : goal.returns-clause-ok
 returns-clause-ok c =

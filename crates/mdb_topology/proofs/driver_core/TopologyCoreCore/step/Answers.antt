@@ -1,8 +1,8 @@
 use Rattle.std.proofs.Common.{◌++◌, subst}
 use Rattle.mdb_log.specs.History.{history_of}
 use Rattle.mdb_topology.specs.Logging.{IsDriverOf}
-use Rattle.mdb_topology.proofs.CoreLog.{when-ok, in-either, moved, nothing-came, still-driver, core-kind, core-in-time, core-job}
-use Rattle.mdb_topology.proofs.Driven.{still-opened}
+use Rattle.mdb_topology.proofs.WholeSteps.CoreOfManyPools.{when-ok, in-either, moved, nothing-came, still-driver, core-kind, core-in-time, core-job}
+use Rattle.mdb_topology.proofs.DriverOpened.ScriptsLog.{still-opened}
 use Rattle.mdb_topology.proofs.driver_core.TopologyCoreCore.step.Goals as goal
 
 pub returns-clause-stands : goal.returns-clause-stands

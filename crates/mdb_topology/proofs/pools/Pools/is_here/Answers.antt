@@ -1,5 +1,5 @@
 use Rattle.std.proofs.Common.{sym, ◌∙◌}
-use Rattle.mdb_topology.proofs.Alone.{open-here, none-here}
+use Rattle.mdb_topology.proofs.OnePool.OpenAtOneAddress.{open-here, none-here}
 use Rattle.mdb_topology.proofs.pools.Pools.is_here.Goals as goal
 
 pub returns-in-Some : goal.returns-in-Some

@@ -8,9 +8,9 @@ use Rattle.mdb_pool.specs.Core.{PoolCore}
 use Rattle.mdb_topology.specs.declared.pools.Pools.{Pools}
 use Rattle.mdb_topology.specs.Planned.{PlansMore}
 use Rattle.mdb_topology.specs.Publishing.{server_closed}
-use Rattle.mdb_topology.proofs.Lists.{at-index}
-use Rattle.mdb_topology.proofs.PlannedLists.{different-take, closed-more}
-use Rattle.mdb_topology.proofs.PlannedParts.{plans-none}
+use Rattle.mdb_topology.proofs.General.OneElement.{at-index}
+use Rattle.mdb_topology.proofs.Publications.PlannedOfMany.{different-take, closed-more}
+use Rattle.mdb_topology.proofs.Publications.PlannedOfServer.{plans-none}
 use Rattle.mdb_topology.proofs.pools.Pools.plan_all_closed.Goals as goal
 
 pub loop-address-init : goal.loop-address-init

@@ -5,8 +5,8 @@ use Rattle.std.proofs.lemmas.Option.{slice_get_read}
 use Rattle.mdb_pool.specs.Core.{PoolCore}
 use Rattle.mdb_topology.specs.Failing.{DoesBoth}
 use Rattle.mdb_topology.specs.Marking.{asked_of}
-use Rattle.mdb_topology.proofs.Places.{some-same}
-use Rattle.mdb_topology.proofs.SameVec.{put-back}
+use Rattle.mdb_topology.proofs.General.OnePosition.{some-same}
+use Rattle.mdb_topology.proofs.General.VectorPutBack.{put-back}
 use Rattle.mdb_topology.proofs.pools.Pools.plan_both.Goals as goal
 
 pub plan_two-requires-clause-second_accepted : goal.plan_two-requires-clause-second_accepted

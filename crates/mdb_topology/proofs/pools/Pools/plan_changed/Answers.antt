@@ -9,7 +9,7 @@ use Rattle.mdb_topology.specs.Acting.{readying, PlansAt}
 use Rattle.mdb_topology.specs.Publishing.{server_changed}
 use Rattle.mdb_topology.specs.Ready.{is_ready_type}
 use Rattle.mdb_topology.specs.Standing.{at_address}
-use Rattle.mdb_topology.proofs.PlannedParts.{plans-unknown, plans-changed}
+use Rattle.mdb_topology.proofs.Publications.PlannedOfServer.{plans-unknown, plans-changed}
 use Rattle.mdb_topology.proofs.pools.Pools.plan_changed.Goals as goal
 
 -- nothing is told of a server that was not known, or is not

@@ -8,8 +8,8 @@ use Rattle.mdb_pool.specs.Core.{PoolCore}
 use Rattle.mdb_pool.specs.Refusing.{refusal_now}
 use Rattle.mdb_topology.specs.Acting.{PlansOne}
 use Rattle.mdb_topology.specs.Marking.{Clears, clear_act}
-use Rattle.mdb_topology.proofs.Places.{some-same}
-use Rattle.mdb_topology.proofs.PlannedActs.{planned-as}
+use Rattle.mdb_topology.proofs.General.OnePosition.{some-same}
+use Rattle.mdb_topology.proofs.OnePool.PlannedAct.{planned-as}
 use Rattle.mdb_topology.proofs.pools.Pools.plan_clear.Goals as goal
 
 pub plan_act-requires-clause-accepted : goal.plan_act-requires-clause-accepted

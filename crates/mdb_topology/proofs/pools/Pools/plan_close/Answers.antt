@@ -7,13 +7,13 @@ use Rattle.mdb_log.specs.declared.step.Act.TheVariants.{Close as CloseAct}
 use Rattle.mdb_pool.specs.Core.{PoolCore}
 use Rattle.mdb_topology.specs.Acting.{PlansAt, closing}
 use Rattle.mdb_topology.specs.Standing.{at_address}
-use Rattle.mdb_topology.proofs.Places.{some-same}
-use Rattle.mdb_topology.proofs.PlannedActs.{planned-as}
+use Rattle.mdb_topology.proofs.General.OnePosition.{some-same}
+use Rattle.mdb_topology.proofs.OnePool.PlannedAct.{planned-as}
 use Rattle.mdb_topology.proofs.pools.Pools.plan_close.Goals as goal
 
 pub returns-clause-planned : goal.returns-clause-planned
 returns-clause-planned c =
-    let pools = c.args.self.now.cores.items in let m = c.args.moment in let i = c.in-Some.place in let s = c.index.result.now in
+    let pools = c.args.self.now.cores.items in let m = c.args.moment in let i = c.in-Some.index in let s = c.index.result.now in
     let earlier = c.args.changes.now.items in let later = c.plan_act.new.changes.items in let before = c.args.facts.now.items in let after = c.plan_act.new.facts.items in
     let at : at_address pools c.args.address.now ≡ Some i = sym c.at_address.ensures ∙ c.in-Some.is in
     let inside : i < length pools = search rules in

@@ -5,7 +5,7 @@ use Rattle.mdb_topology.specs.Acting.{closing, PlansAt}
 use Rattle.mdb_topology.specs.Planned.{PlansMore}
 use Rattle.mdb_topology.specs.Publishing.{server_closed}
 use Rattle.mdb_topology.specs.Standing.{at_address}
-use Rattle.mdb_topology.proofs.PlannedParts.{plans-closed}
+use Rattle.mdb_topology.proofs.Publications.PlannedOfServer.{plans-closed}
 use Rattle.mdb_topology.proofs.pools.Pools.plan_closed.Goals as goal
 
 -- what holds where it went well

@@ -6,12 +6,12 @@ use Rattle.mdb_log.specs.Acts.{IsPoolAct}
 use Rattle.mdb_log.specs.declared.step.Act.{Act}
 use Rattle.mdb_log.specs.declared.step.Act.TheVariants.{Clear as ClearAct}
 use Rattle.mdb_pool.specs.Core.{PoolCore}
-use Rattle.mdb_pool.specs.Parts.{IsDone}
+use Rattle.mdb_pool.specs.Planning.{IsDone}
 use Rattle.mdb_pool.specs.Refusing.{refusal_now}
 use Rattle.mdb_topology.specs.Failing.{Fails, PlansTwo}
 use Rattle.mdb_topology.specs.Marking.{clear_act}
-use Rattle.mdb_topology.proofs.Places.{some-same}
-use Rattle.mdb_topology.proofs.PlannedTwo.{two-as}
+use Rattle.mdb_topology.proofs.General.OnePosition.{some-same}
+use Rattle.mdb_topology.proofs.OnePool.TwoSteps.{two-as}
 use Rattle.mdb_topology.proofs.pools.Pools.plan_failure.Goals as goal
 
 pub plan_both-requires-clause-acts : goal.plan_both-requires-clause-acts

@@ -2,15 +2,15 @@ use Rattle.std.proofs.Common.{ℕ, ◌≡◌, true, false, List, [], ◌∷◌, 
 use Rattle.mdb_base.specs.OptionRules.{all_different}
 use Rattle.mdb_base.specs.declared.address.ServerAddress.{ServerAddress}
 use Rattle.mdb_describe.specs.Servers.{is_listed}
-use Rattle.mdb_topology.specs.declared.change.Change.{Change}
+use Rattle.mdb_topology.specs.declared.pools.pool_change.PoolChange.{PoolChange}
 use Rattle.mdb_topology.specs.declared.pools.Pools.{Pools}
 use Rattle.mdb_topology.specs.Planned.{PlansMore}
 use Rattle.mdb_topology.specs.Publishing.{server_changed, server_closed, topology_changed, server_opened, publication}
 use Rattle.mdb_topology.specs.Standing.{are_absent}
 use Rattle.mdb_topology.specs.Touching.{readies, touches}
-use Rattle.mdb_topology.proofs.PlannedAll.{added-absent, added-new, plans-all}
-use Rattle.mdb_topology.proofs.PlannedParts.{plans-told}
-use Rattle.mdb_topology.proofs.Different.{ordered-different}
+use Rattle.mdb_topology.proofs.Publications.PlannedWhole.{added-absent, added-new, plans-all}
+use Rattle.mdb_topology.proofs.Publications.PlannedOfServer.{plans-told}
+use Rattle.mdb_topology.proofs.General.AddressesDiffer.{ordered-different}
 use Rattle.mdb_topology.proofs.pools.Pools.plan_publication.Goals as goal
 
 pub plan_all_changed-requires-clause-different : goal.plan_all_changed-requires-clause-different
@@ -55,5 +55,5 @@ returns-clause-planned c =
     let s : PlansMore o m pools n (is_listed d.added) (map (server_opened o) d.added) [] d.added c2 c3 f3 f4 =
     subst (λ (xs : List ServerAddress). PlansMore o m pools n (is_listed xs) (map (server_opened o) xs) [] xs c2 c3 f3 f4) c.as_slice-added.ensures
     (subst (λ (k : ℕ). PlansMore o m pools k (is_listed come) (map (server_opened o) come) [] come c2 c3 f3 f4) count (c.in_ok-plan_all_opened.ensures m pools absent)) in
-    subst (λ (cs : List Change). PlansMore o m pools n (touches u d) (publication o m t u) d.removed d.added cs c3 f0 f4) c.new-changes.ensures.items
+    subst (λ (cs : List PoolChange). PlansMore o m pools n (touches u d) (publication o m t u) d.removed d.added cs c3 f0 f4) c.new-changes.ensures.items
     (plans-all t u d c.requires.difference c.requires.in_both o m pools n c0 c1 c2 c3 f0 f1 f2 f3 f4 p q r s)

@@ -1,5 +1,5 @@
 use Rattle.std.proofs.Common.{sym, ◌∙◌}
-use Rattle.mdb_topology.proofs.Published.{publishes-nothing}
+use Rattle.mdb_topology.proofs.Publications.MadeAtOnce.{publishes-nothing}
 use Rattle.mdb_topology.proofs.pools.Pools.publish.Goals as goal
 
 pub returns-in-None-clause-published : goal.returns-in-None-clause-published

@@ -4,15 +4,15 @@ use Rattle.mdb_log.specs.declared.reply.Refused.TheVariants.{Exhausted}
 use Rattle.mdb_log.specs.declared.reply.What.TheVariants.{Monitor}
 use Rattle.mdb_log.specs.Connections.{one_if}
 use Rattle.mdb_monitor.specs.Standing.{runs}
-use Rattle.mdb_topology.specs.declared.next.Next.{Next}
-use Rattle.mdb_topology.specs.declared.monitoring.Monitoring.TheVariants.{Checked}
+use Rattle.mdb_topology.specs.declared.transition.Transition.{Transition}
+use Rattle.mdb_topology.specs.declared.monitors.monitoring.Monitoring.TheVariants.{Checked}
 use Rattle.mdb_topology.specs.Checking.{Begins, number_limit}
 use Rattle.mdb_topology.specs.Monitors.{runs as runs_at, fresh_for, is_connected, monitor_items}
 use Rattle.mdb_topology.specs.Refusal.{may_want, refusal}
 use Rattle.mdb_topology.specs.Stepping.{Follows}
-use Rattle.mdb_topology.proofs.Beating.{beat-fresh, beat-past, beat-wants, follows-beat}
-use Rattle.mdb_topology.proofs.Places.{some-same}
-use Rattle.mdb_topology.proofs.Spent.{wants-after}
+use Rattle.mdb_topology.proofs.OfMonitors.CheckBegins.{beat-fresh, beat-past, beat-wants, follows-beat}
+use Rattle.mdb_topology.proofs.General.OnePosition.{some-same}
+use Rattle.mdb_topology.proofs.Marks.AtItsLimit.{wants-after}
 use Rattle.mdb_topology.proofs.topology.TopologyCore.beat.Goals as goal
 
 pub returns-then-is_past_limit-clause-becomes : goal.returns-then-is_past_limit-clause-becomes
@@ -23,7 +23,7 @@ returns-then-is_past_limit-clause-becomes c h z =
     let p = c.args.pool in
     let ms = w.monitors.items in
     let x = c.index.result.now in
-    let own : c.in-Some.index ≡ p = c.in-Some.ensures.place in
+    let own : c.in-Some.index ≡ p = c.in-Some.ensures.index in
     let at_p : slice_get ms p ≡ Some x = subst (λ q. slice_get ms q ≡ Some x) own (slice_get_read ms (length ms) c.in-Some.index x refl c.in-Some.ensures.within c.index.ensures) in
     let idle : runs_at h p ≡ false = sym (c.if-running.ensures.items (monitor_items h p) (z.monitors.each p x at_p)) in
     let numbered : c.number_for-number.result ≡ fresh_for h p = c.number_for-number.ensures h z ∙ ap (fresh_for h) own in
@@ -46,7 +46,7 @@ returns-then-is_past_limit-2-clause-becomes c h z =
     let p = c.args.pool in
     let ms = w.monitors.items in
     let x = c.index.result.now in
-    let own : c.in-Some.index ≡ p = c.in-Some.ensures.place in
+    let own : c.in-Some.index ≡ p = c.in-Some.ensures.index in
     let at_i : slice_get ms c.in-Some.index ≡ Some x = slice_get_read ms (length ms) c.in-Some.index x refl c.in-Some.ensures.within c.index.ensures in
     let at_p : slice_get ms p ≡ Some x = subst (λ q. slice_get ms q ≡ Some x) own at_i in
     let idle : runs_at h p ≡ false = sym (c.if-running.ensures.items (monitor_items h p) (z.monitors.each p x at_p)) in
@@ -67,13 +67,13 @@ returns-in-Ok-clause-becomes c h z =
     let b = c.in_ok-monitor.begin in
     let r = c.of_reply.result in
     let e = c.of_reply.ensures in
-    let own : c.in-Some.index ≡ p = c.in-Some.ensures.place in
+    let own : c.in-Some.index ≡ p = c.in-Some.ensures.index in
     let at_i : slice_get ms c.in-Some.index ≡ Some x = slice_get_read ms (length ms) c.in-Some.index x refl c.in-Some.ensures.within c.index.ensures in
     let at_p : slice_get ms p ≡ Some x = subst (λ q. slice_get ms q ≡ Some x) own at_i in
     let idle : runs_at h p ≡ false = sym (c.if-running.ensures.items (monitor_items h p) (z.monitors.each p x at_p)) in
     let numbered : c.number_for-number.result ≡ fresh_for h p = c.number_for-number.ensures h z ∙ ap (fresh_for h) own in
     let begins : Begins x y (fresh_for h p) b = subst (λ q. Begins x y q b) numbered (c.in_ok-monitor.ensures x at_i) in
-    let n : Next = record { reply = r.reply; facts = c.in-Ok.facts; changes = r.changes; description = r.description; monitors = r.monitors; monitoring = Checked c.in-Some.index y c.in_ok-numbers.numbers; stops = r.stops } in
+    let n : Transition = record { reply = r.reply; facts = c.in-Ok.facts; changes = r.changes; description = r.description; monitors = r.monitors; monitoring = Checked c.in-Some.index y c.in_ok-numbers.numbers; stops = r.stops } in
     subst (λ v. Follows w n (record { moment = m; act = v }) h) (sym c.requires.act)
     (follows-beat w h z m c.requires.in_time a p (sym c.in-Some.ensures.here) idle c.if-self.false x y b at_p begins (sym c.if-is_past_limit-2.ensures.past)
     n e.changes e.monitors e.description e.stops c.in-Ok.ensures e.reply c.in_ok-numbers.numbers (ap (λ q. Checked q y c.in_ok-numbers.numbers) own)
@@ -87,7 +87,7 @@ returns-in_err-numbers-clause-wants c = wants-after c.args.self.now c.args.step.
     let p = c.args.pool in
     let ms = w.monitors.items in
     let x = c.index.result.now in
-    let own : c.in-Some.index ≡ p = c.in-Some.ensures.place in
+    let own : c.in-Some.index ≡ p = c.in-Some.ensures.index in
     let at_p : slice_get ms p ≡ Some x = subst (λ q. slice_get ms q ≡ Some x) own (slice_get_read ms (length ms) c.in-Some.index x refl c.in-Some.ensures.within c.index.ensures) in
     let idle : runs_at h p ≡ false = sym (c.if-running.ensures.items (monitor_items h p) (z.monitors.each p x at_p)) in
     let numbered : c.number_for-number.result ≡ fresh_for h p = c.number_for-number.ensures h z ∙ ap (fresh_for h) own in
@@ -103,7 +103,7 @@ returns-in_err-monitor-clause-wants c = wants-after c.args.self.now c.args.step.
     let p = c.args.pool in
     let ms = w.monitors.items in
     let x = c.index.result.now in
-    let own : c.in-Some.index ≡ p = c.in-Some.ensures.place in
+    let own : c.in-Some.index ≡ p = c.in-Some.ensures.index in
     let at_p : slice_get ms p ≡ Some x = subst (λ q. slice_get ms q ≡ Some x) own (slice_get_read ms (length ms) c.in-Some.index x refl c.in-Some.ensures.within c.index.ensures) in
     let idle : runs_at h p ≡ false = sym (c.if-running.ensures.items (monitor_items h p) (z.monitors.each p x at_p)) in
     let numbered : c.number_for-number.result ≡ fresh_for h p = c.number_for-number.ensures h z ∙ ap (fresh_for h) own in
@@ -119,7 +119,7 @@ returns-in-Err-clause-wants c = λ h z.
     let p = c.args.pool in
     let ms = w.monitors.items in
     let x = c.index.result.now in
-    let own : c.in-Some.index ≡ p = c.in-Some.ensures.place in
+    let own : c.in-Some.index ≡ p = c.in-Some.ensures.index in
     let at_p : slice_get ms p ≡ Some x = subst (λ q. slice_get ms q ≡ Some x) own (slice_get_read ms (length ms) c.in-Some.index x refl c.in-Some.ensures.within c.index.ensures) in
     let idle : runs_at h p ≡ false = sym (c.if-running.ensures.items (monitor_items h p) (z.monitors.each p x at_p)) in
     let numbered : c.number_for-number.result ≡ fresh_for h p = c.number_for-number.ensures h z ∙ ap (fresh_for h) own in

@@ -6,11 +6,11 @@ use Rattle.mdb_describe.specs.Differences.{difference}
 use Rattle.mdb_describe.specs.Update.{updated}
 use Rattle.mdb_log.specs.declared.checked.BeatenResult.TheVariants.{Err}
 use Rattle.mdb_log.specs.declared.step.Act.TheVariants.{Beaten}
-use Rattle.mdb_topology.specs.declared.marked.Asked.TheVariants.{Nothing}
+use Rattle.mdb_topology.specs.declared.errors.marked.Asked.TheVariants.{Nothing}
 use Rattle.mdb_log.specs.declared.reply.Refused.TheVariants.{NotChecking, WrongMode, Exhausted}
 use Rattle.mdb_log.specs.declared.reply.What.TheVariants.{Generation}
 use Rattle.mdb_monitor.specs.Standing.{runs}
-use Rattle.mdb_topology.specs.declared.monitoring.Monitoring.TheVariants.{Checked}
+use Rattle.mdb_topology.specs.declared.monitors.monitoring.Monitoring.TheVariants.{Checked}
 use Rattle.mdb_topology.specs.Changing.{ConcludesAs}
 use Rattle.mdb_topology.specs.Marking.{check_spends, IsOfPool, FailsAs}
 use Rattle.mdb_topology.specs.Checking.{Ends}
@@ -20,12 +20,12 @@ use Rattle.mdb_pool.specs.Kept.{exhausted_now}
 use Rattle.mdb_pool.specs.Refusal.{wrong_service}
 use Rattle.mdb_topology.specs.Standing.{is_open_at}
 use Rattle.mdb_topology.specs.Stepping.{is_here_among, BecomesOf, Follows}
-use Rattle.mdb_topology.proofs.Ending.{follows-beaten-away, beaten-idle, beaten-mode, concluded}
-use Rattle.mdb_topology.proofs.FailedChecks.{here-at, untroubled-else, its_trouble, failure-of-pool, failure-told}
-use Rattle.mdb_topology.proofs.SpentChecks.{check-spent, check-wants}
-use Rattle.mdb_topology.proofs.Lists.{position-within}
-use Rattle.mdb_topology.proofs.Spent.{wants-after, clear-accepted, not-both, some-place}
-use Rattle.mdb_topology.proofs.Places.{some-same}
+use Rattle.mdb_topology.proofs.OfMonitors.CheckEnds.{follows-beaten-away, beaten-idle, beaten-mode, concluded}
+use Rattle.mdb_topology.proofs.OfMonitors.CheckFailed.{here-at, untroubled-else, its_trouble, failure-of-pool, failure-told}
+use Rattle.mdb_topology.proofs.Marks.AtItsLimitByCheck.{check-spent, check-wants}
+use Rattle.mdb_topology.proofs.General.OneElement.{position-within}
+use Rattle.mdb_topology.proofs.Marks.AtItsLimit.{wants-after, clear-accepted, not-both, some-place}
+use Rattle.mdb_topology.proofs.General.OnePosition.{some-same}
 use Rattle.mdb_topology.proofs.topology.TopologyCore.beaten.Goals as goal
 
 pub returns-in_default-clause-becomes : goal.returns-in_default-clause-becomes
@@ -47,7 +47,7 @@ returns-then-not-running-clause-becomes c h z =
     let p = c.args.pool in
     let ms = w.monitors.items in
     let x = c.index.result.now in
-    let own : c.in-Some.index ≡ p = c.in-Some.ensures.place in
+    let own : c.in-Some.index ≡ p = c.in-Some.ensures.index in
     let at_p : slice_get ms p ≡ Some x = subst (λ q. slice_get ms q ≡ Some x) own (slice_get_read ms (length ms) c.in-Some.index x refl c.in-Some.ensures.within c.index.ensures) in
     let idle : runs_at h p ≡ false = sym (c.if-not-running.ensures.items (monitor_items h p) (z.monitors.each p x at_p)) in
     subst (λ v. refusal w.options h (record { moment = m; act = v }) ≡ Some NotChecking) (sym c.requires.act)
@@ -61,7 +61,7 @@ returns-then-self-2-clause-becomes c h z =
     let p = c.args.pool in
     let ms = w.monitors.items in
     let x = c.index.result.now in
-    let own : c.in-Some.index ≡ p = c.in-Some.ensures.place in
+    let own : c.in-Some.index ≡ p = c.in-Some.ensures.index in
     let at_p : slice_get ms p ≡ Some x = subst (λ q. slice_get ms q ≡ Some x) own (slice_get_read ms (length ms) c.in-Some.index x refl c.in-Some.ensures.within c.index.ensures) in
     let running : runs_at h p ≡ true = sym (c.if-not-running.ensures.items (monitor_items h p) (z.monitors.each p x at_p)) in
     subst (λ v. refusal w.options h (record { moment = m; act = v }) ≡ Some WrongMode) (sym c.requires.act)
@@ -70,7 +70,7 @@ returns-then-self-2-clause-becomes c h z =
 pub overspends_by_check-requires-clause-there : goal.overspends_by_check-requires-clause-there
 overspends_by_check-requires-clause-there c =
     let w = c.args.self.now in
-    position-within (is_open_at c.args.address.now) w.pools.cores.items c.in-Some.index (here-at w c.args.address.now c.args.pool c.in-Some.index c.in-Some.ensures.place (sym c.in-Some.ensures.here))
+    position-within (is_open_at c.args.address.now) w.pools.cores.items c.in-Some.index (here-at w c.args.address.now c.args.pool c.in-Some.index c.in-Some.ensures.index (sym c.in-Some.ensures.here))
 
 pub returns-then-overspends_by_check-clause-becomes : goal.returns-then-overspends_by_check-clause-becomes
 returns-then-overspends_by_check-clause-becomes c h z =
@@ -80,7 +80,7 @@ returns-then-overspends_by_check-clause-becomes c h z =
     let p = c.args.pool in
     let ms = w.monitors.items in
     let x = c.index.result.now in
-    let own : c.in-Some.index ≡ p = c.in-Some.ensures.place in
+    let own : c.in-Some.index ≡ p = c.in-Some.ensures.index in
     let at_p : slice_get ms p ≡ Some x = subst (λ q. slice_get ms q ≡ Some x) own (slice_get_read ms (length ms) c.in-Some.index x refl c.in-Some.ensures.within c.index.ensures) in
     let there = sym c.in-Some.ensures.here in
     let running : runs_at h p ≡ true = sym (c.if-not-running.ensures.items (monitor_items h p) (z.monitors.each p x at_p)) in
@@ -105,7 +105,7 @@ returns-in_err-monitor-clause-wants c = wants-after c.args.self.now c.args.step.
     let p = c.args.pool in
     let ms = w.monitors.items in
     let x = c.index.result.now in
-    let own : c.in-Some.index ≡ p = c.in-Some.ensures.place in
+    let own : c.in-Some.index ≡ p = c.in-Some.ensures.index in
     let at_p : slice_get ms p ≡ Some x = subst (λ q. slice_get ms q ≡ Some x) own (slice_get_read ms (length ms) c.in-Some.index x refl c.in-Some.ensures.within c.index.ensures) in
     let there = sym c.in-Some.ensures.here in
     let running : runs_at h p ≡ true = sym (c.if-not-running.ensures.items (monitor_items h p) (z.monitors.each p x at_p)) in
@@ -125,7 +125,7 @@ returns-in-Ok-clause-becomes c =
     let x = c.index.result.now in
     let y = c.in_ok-monitor.monitor in
     let f = c.in_ok-monitor.finish in
-    let own : c.in-Some.index ≡ p = c.in-Some.ensures.place in
+    let own : c.in-Some.index ≡ p = c.in-Some.ensures.index in
     let at_i : slice_get ms c.in-Some.index ≡ Some x = slice_get_read ms (length ms) c.in-Some.index x refl c.in-Some.ensures.within c.index.ensures in
     let at_p : slice_get ms p ≡ Some x = subst (λ q. slice_get ms q ≡ Some x) own at_i in
     let ends : Ends x y c.args.duration (check_result a c.args.came.now) f = c.in_ok-monitor.ensures x at_i in
@@ -143,7 +143,7 @@ returns-in-Ok-clause-wants c = wants-after c.args.self.now c.args.step.now _ (λ
     let p = c.args.pool in
     let ms = w.monitors.items in
     let x = c.index.result.now in
-    let own : c.in-Some.index ≡ p = c.in-Some.ensures.place in
+    let own : c.in-Some.index ≡ p = c.in-Some.ensures.index in
     let at_p : slice_get ms p ≡ Some x = subst (λ q. slice_get ms q ≡ Some x) own (slice_get_read ms (length ms) c.in-Some.index x refl c.in-Some.ensures.within c.index.ensures) in
     let there = sym c.in-Some.ensures.here in
     let running : runs_at h p ≡ true = sym (c.if-not-running.ensures.items (monitor_items h p) (z.monitors.each p x at_p)) in
@@ -161,7 +161,7 @@ returns-in-Err-after_check-clause-wants c = λ h z.
     let p = c.args.pool in
     let ms = w.monitors.items in
     let x = c.index.result.now in
-    let own : c.in-Some.index ≡ p = c.in-Some.ensures.place in
+    let own : c.in-Some.index ≡ p = c.in-Some.ensures.index in
     let at_p : slice_get ms p ≡ Some x = subst (λ q. slice_get ms q ≡ Some x) own (slice_get_read ms (length ms) c.in-Some.index x refl c.in-Some.ensures.within c.index.ensures) in
     let there = sym c.in-Some.ensures.here in
     let running : runs_at h p ≡ true = sym (c.if-not-running.ensures.items (monitor_items h p) (z.monitors.each p x at_p)) in
@@ -172,7 +172,7 @@ returns-in-Err-after_check-clause-wants c = λ h z.
     (check-wants w h z m c.requires.in_time a p c.args.duration there running c.if-self-2.false s.0 (subst (λ q. slice_get w.pools.cores.items q ≡ Some s.0) own s.1) c.args.came.now spare)
 
 pub fail-requires-clause-here : goal.fail-requires-clause-here
-fail-requires-clause-here c = here-at c.args.self.now c.args.address.now c.args.pool c.in-Some.index c.in-Some.ensures.place (sym c.in-Some.ensures.here)
+fail-requires-clause-here c = here-at c.args.self.now c.args.address.now c.args.pool c.in-Some.index c.in-Some.ensures.index (sym c.in-Some.ensures.here)
 
 pub fail-requires-clause-accepted : goal.fail-requires-clause-accepted
 fail-requires-clause-accepted c going cleared s at_s =
@@ -193,7 +193,7 @@ returns-in-Err-clause-becomes c h z =
     let p = c.args.pool in
     let ms = w.monitors.items in
     let x = c.index.result.now in
-    let own : c.in-Some.index ≡ p = c.in-Some.ensures.place in
+    let own : c.in-Some.index ≡ p = c.in-Some.ensures.index in
     let at_p : slice_get ms p ≡ Some x = subst (λ q. slice_get ms q ≡ Some x) own (slice_get_read ms (length ms) c.in-Some.index x refl c.in-Some.ensures.within c.index.ensures) in
     let there = sym c.in-Some.ensures.here in
     let running : runs_at h p ≡ true = sym (c.if-not-running.ensures.items (monitor_items h p) (z.monitors.each p x at_p)) in
@@ -219,7 +219,7 @@ returns-in_err-next-clause-wants c = wants-after c.args.self.now c.args.step.now
     let p = c.args.pool in
     let ms = w.monitors.items in
     let x = c.index.result.now in
-    let own : c.in-Some.index ≡ p = c.in-Some.ensures.place in
+    let own : c.in-Some.index ≡ p = c.in-Some.ensures.index in
     let at_p : slice_get ms p ≡ Some x = subst (λ q. slice_get ms q ≡ Some x) own (slice_get_read ms (length ms) c.in-Some.index x refl c.in-Some.ensures.within c.index.ensures) in
     let there = sym c.in-Some.ensures.here in
     let running : runs_at h p ≡ true = sym (c.if-not-running.ensures.items (monitor_items h p) (z.monitors.each p x at_p)) in

@@ -1,5 +1,5 @@
 use Rattle.std.proofs.Common.{sym, ◌∙◌}
-use Rattle.mdb_topology.proofs.DriverActs.{topology-rest}
+use Rattle.mdb_topology.proofs.WholeSteps.TwoKinds.{topology-rest}
 use Rattle.mdb_topology.proofs.topology.TopologyCore.becomes.Goals as goal
 
 pub topology_act-requires-clause-act : goal.topology_act-requires-clause-act

@@ -1,16 +1,16 @@
 use Rattle.std.proofs.Common.{ap, [], None, Some, false, sym, subst, refl, ◌≡◌, true}
 use Rattle.mdb_describe.specs.Topology.{later_time}
 use Rattle.mdb_log.specs.declared.reply.Reply.TheVariants.{Done}
-use Rattle.mdb_topology.specs.declared.next.Next.{Next}
+use Rattle.mdb_topology.specs.declared.transition.Transition.{Transition}
 use Rattle.mdb_topology.specs.Changing.{IsChanging}
-use Rattle.mdb_topology.proofs.Becoming.{as-next}
-use Rattle.mdb_topology.proofs.Same.{IsPlain}
-use Rattle.mdb_topology.proofs.Updating.{time-changing, time-resting, passes-time}
-use Rattle.mdb_topology.proofs.FollowingQuiet.{follows-quiet}
+use Rattle.mdb_topology.proofs.WholeSteps.Stops.{as-next}
+use Rattle.mdb_topology.proofs.OnePool.SameHistories.{IsPlain}
+use Rattle.mdb_topology.proofs.Publications.WhichSteps.{time-changing, time-resting, passes-time}
+use Rattle.mdb_topology.proofs.WholeSteps.QuietStep.{follows-quiet}
 use Rattle.mdb_topology.specs.Refusal.{may_want}
-use Rattle.mdb_topology.proofs.Wants.{untroubled-wants}
+use Rattle.mdb_topology.proofs.WholeSteps.ComesBeforeMemory.{untroubled-wants}
 use Rattle.mdb_log.specs.declared.step.Act.TheVariants as Do
-use Rattle.mdb_topology.proofs.Spent.{wants-after}
+use Rattle.mdb_topology.proofs.Marks.AtItsLimit.{wants-after}
 use Rattle.mdb_topology.proofs.topology.TopologyCore.cluster_time.Goals as goal
 
 pub returns-then-self-clause-becomes : goal.returns-then-self-clause-becomes
@@ -27,7 +27,7 @@ returns-clause-becomes c h z =
     let m = c.args.step.now.moment in
     let r = c.of_reply-2.result in
     let e = c.of_reply-2.ensures in
-    let n : Next = record { reply = r.reply; facts = r.facts; changes = r.changes; description = Some c.in_ok-later.later; monitors = r.monitors; monitoring = r.monitoring; stops = r.stops } in
+    let n : Transition = record { reply = r.reply; facts = r.facts; changes = r.changes; description = Some c.in_ok-later.later; monitors = r.monitors; monitoring = r.monitoring; stops = r.stops } in
     let changing = subst (λ a. IsChanging w.options h w.description (Some (record w.description { cluster_time = later_time w.description.cluster_time c.args.time })) (record { moment = m; act = a }) Done false []) (sym c.requires.act)
     (time-changing w h z m c.requires.in_time c.args.time c.if-self.false) in
     follows-quiet w h z c.args.step.now c.requires.in_time n e.changes e.facts e.monitors e.monitoring (subst IsPlain (sym e.reply) tt) (ap (λ u. u.servers) c.in_ok-later.ensures) (as-next changing (ap Some c.in_ok-later.ensures) e.reply e.stops)

@@ -1,6 +1,6 @@
 use Rattle.std.proofs.Common.{subst}
 use Rattle.mdb_topology.specs.Changing.{ChangesIf}
-use Rattle.mdb_topology.proofs.Ending.{with-check-concludes}
+use Rattle.mdb_topology.proofs.OfMonitors.CheckEnds.{with-check-concludes}
 use Rattle.mdb_topology.proofs.topology.TopologyCore.conclude.Goals as goal
 
 pub returns-in_ok-with_check-in-Ok-Accepted-clause-concludes : goal.returns-in_ok-with_check-in-Ok-Accepted-clause-concludes

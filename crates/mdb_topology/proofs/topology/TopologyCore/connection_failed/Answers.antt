@@ -6,9 +6,9 @@ use Rattle.mdb_log.specs.declared.step.Act.TheVariants.{Failed, Unpin}
 use Rattle.mdb_pool.specs.Core.{PoolCore}
 use Rattle.mdb_pool.specs.Refusing.{refusal_now}
 use Rattle.mdb_topology.specs.Refusal.{refusal}
-use Rattle.mdb_topology.proofs.FailedRows.{failed-refused}
-use Rattle.mdb_topology.proofs.Placed.{number-at, numbered-is, place-within}
-use Rattle.mdb_topology.proofs.Places.{some-same}
+use Rattle.mdb_topology.proofs.Failure.RefusedByItsPool.{failed-refused}
+use Rattle.mdb_topology.proofs.OnePool.FoundAt.{number-at, numbered-is, place-within}
+use Rattle.mdb_topology.proofs.General.OnePosition.{some-same}
 use Rattle.mdb_topology.proofs.topology.TopologyCore.connection_failed.Goals as goal
 
 pub returns-in-Some-refusal_now-clause-becomes : goal.returns-in-Some-refusal_now-clause-becomes
@@ -16,7 +16,7 @@ returns-in-Some-refusal_now-clause-becomes c h z =
     let w = c.args.self.now in
     let m = c.args.step.now.moment in
     let pools = w.pools.cores.items in
-    let i = c.in-Some.place in
+    let i = c.in-Some.index in
     let s = c.index.result.now in
     let why = c.in-Some-refusal_now.why in
     let found = sym c.numbered.ensures ∙ c.in-Some.is in
@@ -31,7 +31,7 @@ pub fail_at-requires-clause-failing : goal.fail_at-requires-clause-failing
 fail_at-requires-clause-failing c = λ s there.
     let w = c.args.self.now in
     let pools = w.pools.cores.items in
-    let i = c.in-Some.place in
+    let i = c.in-Some.index in
     let p = c.index.result.now in
     let found = sym c.numbered.ensures ∙ c.in-Some.is in
     let at_p : slice_get pools i ≡ Some p = slice_get_read pools (length pools) i p refl (place-within pools (Unpin c.args.number c.args.id) i found) c.index.ensures in

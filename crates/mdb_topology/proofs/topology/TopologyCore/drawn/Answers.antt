@@ -1,6 +1,6 @@
 use Rattle.std.proofs.Common.{◌≡◌, ◌+◌, length, true, false, refl, arith}
 use Rattle.std.proofs.lemmas.Option.{slice_get_read}
-use Rattle.mdb_topology.proofs.Beating.{drawn-at}
+use Rattle.mdb_topology.proofs.OfMonitors.CheckBegins.{drawn-at}
 use Rattle.mdb_topology.proofs.topology.TopologyCore.drawn.Goals as goal
 
 pub returns-then-connected : goal.returns-then-connected

@@ -4,24 +4,24 @@ use Rattle.std.proofs.lemmas.Option.{slice_get_read}
 use Rattle.std.proofs.lemmas.Result.{IfOk-weaker, on_err_weaker}
 use Rattle.mdb_pool.specs.Core.{PoolCore}
 use Rattle.mdb_pool.specs.Kept.{connection_at}
-use Rattle.mdb_pool.proofs.Items.{both-true}
-use Rattle.mdb_topology.specs.declared.marked.Asked.TheVariants.{Nothing}
+use Rattle.mdb_pool.proofs.Answered.Item.{both-true}
+use Rattle.mdb_topology.specs.declared.errors.marked.Asked.TheVariants.{Nothing}
 use Rattle.mdb_describe.specs.Descriptions.{failed}
 use Rattle.mdb_describe.specs.Differences.{difference}
 use Rattle.mdb_describe.specs.Update.{updated}
 use Rattle.mdb_topology.specs.Description.{updates}
 use Rattle.mdb_topology.specs.Standing.{at_address}
 use Rattle.mdb_topology.specs.Failing.{clears_after, service_after, asked_after, TellsFailure}
-use Rattle.mdb_topology.proofs.Bools.{not-back, not-front}
-use Rattle.mdb_topology.proofs.FailedActs.{live-at, at-nothing, at-service, at-mark, at-place}
-use Rattle.mdb_topology.proofs.Places.{some-same}
+use Rattle.mdb_topology.proofs.General.Truth.{not-back, not-front}
+use Rattle.mdb_topology.proofs.Failure.Answer.{live-at, at-nothing, at-service, at-mark, at-place}
+use Rattle.mdb_topology.proofs.General.OnePosition.{some-same}
 use Rattle.mdb_topology.proofs.topology.TopologyCore.fail_at.Goals as goal
 
 pub returns-then-leaves_failure-clause-becomes : goal.returns-then-leaves_failure-clause-becomes
 returns-then-leaves_failure-clause-becomes c =
     let w = c.args.self.now in
     let pools = w.pools.cores.items in
-    let i = c.args.place in
+    let i = c.args.index in
     let step = c.args.step.now in
     let e = c.args.error.now in
     let s = c.index.result.now in
@@ -35,7 +35,7 @@ pub returns-then-self-clause-becomes : goal.returns-then-self-clause-becomes
 returns-then-self-clause-becomes c =
     let w = c.args.self.now in
     let pools = w.pools.cores.items in
-    let i = c.args.place in
+    let i = c.args.index in
     let step = c.args.step.now in
     let e = c.args.error.now in
     let s = c.index.result.now in
@@ -55,7 +55,7 @@ pub fail_marked-requires-clause-here : goal.fail_marked-requires-clause-here
 fail_marked-requires-clause-here c = λ s there.
     let w = c.args.self.now in
     let pools = w.pools.cores.items in
-    let i = c.args.place in
+    let i = c.args.index in
     let step = c.args.step.now in
     let e = c.args.error.now in
     let p = c.index.result.now in
@@ -70,7 +70,7 @@ pub returns-clause-becomes : goal.returns-clause-becomes
 returns-clause-becomes c =
     let w = c.args.self.now in
     let pools = w.pools.cores.items in
-    let i = c.args.place in
+    let i = c.args.index in
     let step = c.args.step.now in
     let e = c.args.error.now in
     let s = c.index.result.now in
@@ -90,7 +90,7 @@ pub returns-then-leaves_failure-clause-wants : goal.returns-then-leaves_failure-
 returns-then-leaves_failure-clause-wants c =
     let w = c.args.self.now in
     let pools = w.pools.cores.items in
-    let i = c.args.place in
+    let i = c.args.index in
     let step = c.args.step.now in
     let e = c.args.error.now in
     let s = c.index.result.now in
@@ -104,7 +104,7 @@ pub returns-then-self-clause-wants : goal.returns-then-self-clause-wants
 returns-then-self-clause-wants c =
     let w = c.args.self.now in
     let pools = w.pools.cores.items in
-    let i = c.args.place in
+    let i = c.args.index in
     let step = c.args.step.now in
     let e = c.args.error.now in
     let s = c.index.result.now in
@@ -124,7 +124,7 @@ pub returns-clause-wants : goal.returns-clause-wants
 returns-clause-wants c =
     let w = c.args.self.now in
     let pools = w.pools.cores.items in
-    let i = c.args.place in
+    let i = c.args.index in
     let step = c.args.step.now in
     let e = c.args.error.now in
     let s = c.index.result.now in

@@ -10,10 +10,10 @@ use Rattle.mdb_pool.specs.Kept.{exhausted_now}
 use Rattle.mdb_pool.specs.Refusal.{wrong_service}
 use Rattle.mdb_topology.specs.Failing.{asked_after, FailureTold, TellsFailure}
 use Rattle.mdb_topology.specs.Standing.{at_address, StandsFor}
-use Rattle.mdb_topology.proofs.FailedActs.{marked-refusal, marked-follows}
-use Rattle.mdb_topology.proofs.Places.{some-same}
-use Rattle.mdb_topology.proofs.Spent.{after-any, clear-accepted, not-both}
-use Rattle.mdb_topology.proofs.Wants.{none-wants}
+use Rattle.mdb_topology.proofs.Failure.Answer.{marked-refusal, marked-follows}
+use Rattle.mdb_topology.proofs.General.OnePosition.{some-same}
+use Rattle.mdb_topology.proofs.Marks.AtItsLimit.{after-any, clear-accepted, not-both}
+use Rattle.mdb_topology.proofs.WholeSteps.ComesBeforeMemory.{none-wants}
 use Rattle.mdb_log.specs.History.{Item}
 use Rattle.mdb_topology.specs.Description.{updates}
 use Rattle.mdb_topology.specs.Stepping.{MayWant}
@@ -26,7 +26,7 @@ returns-then-overspends-clause-becomes c h s z there f =
     let pools = w.pools.cores.items in
     let step = c.args.step.now in
     let e = c.args.error.now in
-    let i = c.args.place in
+    let i = c.args.index in
     let p = c.index.result.now in
     let at_p : slice_get pools i ≡ Some p = slice_get_read pools (length pools) i p refl c.requires.there c.index.ensures in
     let at : c.address.result.now ≡ s.address = c.address.ensures ∙ ap (λ (u : PoolCore). u.address) (some-same p s (slice_get pools i) at_p there) in
@@ -36,7 +36,7 @@ returns-then-overspends-clause-becomes c h s z there f =
 
 pub returns-in_err-address-clause-wants : goal.returns-in_err-address-clause-wants
 returns-in_err-address-clause-wants c = after-any _
-    ((h : List Item) (s : PoolCore) → StandsFor c.args.self.now h → slice_get c.args.self.now.pools.cores.items c.args.place ≡ Some s
+    ((h : List Item) (s : PoolCore) → StandsFor c.args.self.now h → slice_get c.args.self.now.pools.cores.items c.args.index ≡ Some s
     → TellsFailure c.args.self.now.options h c.args.step.now s (Some (updates (failed s.address c.args.error.now))) (is_some (difference c.args.self.now.description.servers (updated c.args.self.now.description (failed s.address c.args.error.now)).servers) && c.args.clears) None c.args.error.now (asked_after c.args.error.now)
     → MayWant c.args.self.now c.args.step.now h)
     (λ h s z there f.
@@ -45,7 +45,7 @@ returns-in_err-address-clause-wants c = after-any _
     let pools = w.pools.cores.items in
     let step = c.args.step.now in
     let e = c.args.error.now in
-    let i = c.args.place in
+    let i = c.args.index in
     let p = c.index.result.now in
     let at_p : slice_get pools i ≡ Some p = slice_get_read pools (length pools) i p refl c.requires.there c.index.ensures in
     let at : c.address.result.now ≡ s.address = c.address.ensures ∙ ap (λ (u : PoolCore). u.address) (some-same p s (slice_get pools i) at_p there) in
@@ -55,7 +55,7 @@ returns-in_err-address-clause-wants c = after-any _
 
 pub returns-in_err-later-clause-wants : goal.returns-in_err-later-clause-wants
 returns-in_err-later-clause-wants c = after-any _
-    ((h : List Item) (s : PoolCore) → StandsFor c.args.self.now h → slice_get c.args.self.now.pools.cores.items c.args.place ≡ Some s
+    ((h : List Item) (s : PoolCore) → StandsFor c.args.self.now h → slice_get c.args.self.now.pools.cores.items c.args.index ≡ Some s
     → TellsFailure c.args.self.now.options h c.args.step.now s (Some (updates (failed s.address c.args.error.now))) (is_some (difference c.args.self.now.description.servers (updated c.args.self.now.description (failed s.address c.args.error.now)).servers) && c.args.clears) None c.args.error.now (asked_after c.args.error.now)
     → MayWant c.args.self.now c.args.step.now h)
     (λ h s z there f.
@@ -64,7 +64,7 @@ returns-in_err-later-clause-wants c = after-any _
     let pools = w.pools.cores.items in
     let step = c.args.step.now in
     let e = c.args.error.now in
-    let i = c.args.place in
+    let i = c.args.index in
     let p = c.index.result.now in
     let at_p : slice_get pools i ≡ Some p = slice_get_read pools (length pools) i p refl c.requires.there c.index.ensures in
     let at : c.address.result.now ≡ s.address = c.address.ensures ∙ ap (λ (u : PoolCore). u.address) (some-same p s (slice_get pools i) at_p there) in
@@ -79,7 +79,7 @@ returns-clause-wants c = λ h s z there f.
     let pools = w.pools.cores.items in
     let step = c.args.step.now in
     let e = c.args.error.now in
-    let i = c.args.place in
+    let i = c.args.index in
     let p = c.index.result.now in
     let at_p : slice_get pools i ≡ Some p = slice_get_read pools (length pools) i p refl c.requires.there c.index.ensures in
     let at : c.address.result.now ≡ s.address = c.address.ensures ∙ ap (λ (u : PoolCore). u.address) (some-same p s (slice_get pools i) at_p there) in
@@ -91,8 +91,8 @@ pub tell_failure-told-requires-clause-here : goal.tell_failure-told-requires-cla
 tell_failure-told-requires-clause-here c =
     let pools = c.args.self.now.pools.cores.items in
     let q = c.index-2.result.now in
-    let at_q : slice_get pools c.args.place ≡ Some q = slice_get_read pools (length pools) c.args.place q refl c.requires.there c.index-2.ensures in
-    subst (λ a. at_address pools a ≡ Some c.args.place) (sym (c.in_ok-address.ensures.cases ∙ c.address-2.ensures)) (c.requires.here q at_q)
+    let at_q : slice_get pools c.args.index ≡ Some q = slice_get_read pools (length pools) c.args.index q refl c.requires.there c.index-2.ensures in
+    subst (λ a. at_address pools a ≡ Some c.args.index) (sym (c.in_ok-address.ensures.cases ∙ c.address-2.ensures)) (c.requires.here q at_q)
 
 pub tell_failure-told-requires-clause-accepted : goal.tell_failure-told-requires-clause-accepted
 tell_failure-told-requires-clause-accepted c cleared s there =
@@ -101,7 +101,7 @@ tell_failure-told-requires-clause-accepted c cleared s there =
     let pools = w.pools.cores.items in
     let step = c.args.step.now in
     let e = c.args.error.now in
-    let i = c.args.place in
+    let i = c.args.index in
     let p = c.index.result.now in
     let at_p : slice_get pools i ≡ Some p = slice_get_read pools (length pools) i p refl c.requires.there c.index.ensures in
     let at : c.address.result.now ≡ s.address = c.address.ensures ∙ ap (λ (u : PoolCore). u.address) (some-same p s (slice_get pools i) at_p there) in
@@ -120,7 +120,7 @@ returns-in-Ok-clause-becomes c h s z there f =
     let pools = w.pools.cores.items in
     let step = c.args.step.now in
     let e = c.args.error.now in
-    let i = c.args.place in
+    let i = c.args.index in
     let q = c.index-2.result.now in
     let at_q : slice_get pools i ≡ Some q = slice_get_read pools (length pools) i q refl c.requires.there c.index-2.ensures in
     let at : c.in_ok-address.address ≡ s.address = c.in_ok-address.ensures.cases ∙ (c.address-2.ensures ∙ ap (λ (u : PoolCore). u.address) (some-same q s (slice_get pools i) at_q there)) in

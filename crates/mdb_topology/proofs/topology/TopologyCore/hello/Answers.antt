@@ -5,14 +5,14 @@ use Rattle.mdb_describe.specs.Descriptions.{from_reply}
 use Rattle.mdb_describe.specs.Update.{updated}
 use Rattle.mdb_topology.specs.Monitors.{hello_reply}
 use Rattle.mdb_topology.specs.Changing.{IsChanging, IsUpdating}
-use Rattle.mdb_topology.proofs.Becoming.{as-next}
-use Rattle.mdb_topology.proofs.Same.{IsPlain}
-use Rattle.mdb_topology.proofs.Updating.{hello-updating, hello-resting, passes-time}
-use Rattle.mdb_topology.proofs.FollowingQuiet.{follows-quiet}
-use Rattle.mdb_topology.proofs.MakesKnown.{changes-become}
+use Rattle.mdb_topology.proofs.WholeSteps.Stops.{as-next}
+use Rattle.mdb_topology.proofs.OnePool.SameHistories.{IsPlain}
+use Rattle.mdb_topology.proofs.Publications.WhichSteps.{hello-updating, hello-resting, passes-time}
+use Rattle.mdb_topology.proofs.WholeSteps.QuietStep.{follows-quiet}
+use Rattle.mdb_topology.proofs.Publications.BecomesKnown.{changes-become}
 use Rattle.mdb_topology.specs.Refusal.{may_want}
-use Rattle.mdb_topology.proofs.Spent.{wants-after}
-use Rattle.mdb_topology.proofs.Wants.{untroubled-wants}
+use Rattle.mdb_topology.proofs.Marks.AtItsLimit.{wants-after}
+use Rattle.mdb_topology.proofs.WholeSteps.ComesBeforeMemory.{untroubled-wants}
 use Rattle.mdb_log.specs.declared.checked.HelloResult.TheVariants as Hello
 use Rattle.mdb_log.specs.declared.step.Act.TheVariants as Do
 use Rattle.mdb_topology.proofs.topology.TopologyCore.hello.Goals as goal

@@ -5,18 +5,18 @@ use Rattle.mdb_describe.specs.Descriptions.{failed}
 use Rattle.mdb_describe.specs.Update.{updated}
 use Rattle.mdb_topology.specs.Changing.{IsTelling}
 use Rattle.mdb_topology.specs.Marking.{HasParts, IsMarking, IsOfPool, MarkPasses, MarksTo}
-use Rattle.mdb_topology.proofs.MarkBecoming.{as-parts}
-use Rattle.mdb_topology.proofs.Same.{IsPlain}
-use Rattle.mdb_topology.specs.declared.marked.Asked.TheVariants.{Nothing}
+use Rattle.mdb_topology.proofs.Marks.ComesTo.{as-parts}
+use Rattle.mdb_topology.proofs.OnePool.SameHistories.{IsPlain}
+use Rattle.mdb_topology.specs.declared.errors.marked.Asked.TheVariants.{Nothing}
 use Rattle.mdb_topology.specs.Standing.{is_open_at}
-use Rattle.mdb_topology.proofs.FailedChecks.{here-at}
-use Rattle.mdb_topology.proofs.Lists.{position-within}
-use Rattle.mdb_topology.proofs.Spent.{own-place, place-own, some-place}
-use Rattle.mdb_topology.proofs.Updating.{or-not}
-use Rattle.mdb_topology.proofs.Wants.{none-wants}
-use Rattle.mdb_topology.proofs.ErringSteps.{met, met-of-pool, met-marking, met-resting}
-use Rattle.mdb_topology.proofs.FollowingQuiet.{follows-silent}
-use Rattle.mdb_topology.proofs.MarkedSteps.{marks-become, marks-spare}
+use Rattle.mdb_topology.proofs.OfMonitors.CheckFailed.{here-at}
+use Rattle.mdb_topology.proofs.General.OneElement.{position-within}
+use Rattle.mdb_topology.proofs.Marks.AtItsLimit.{own-place, place-own, some-place}
+use Rattle.mdb_topology.proofs.Publications.WhichSteps.{or-not}
+use Rattle.mdb_topology.proofs.WholeSteps.ComesBeforeMemory.{none-wants}
+use Rattle.mdb_topology.proofs.Marks.WhichSteps.{met, met-of-pool, met-marking, met-resting}
+use Rattle.mdb_topology.proofs.WholeSteps.QuietStep.{follows-silent}
+use Rattle.mdb_topology.proofs.Marks.BecomesOfStep.{marks-become, marks-spare}
 use Rattle.mdb_topology.proofs.topology.TopologyCore.hello_error.Goals as goal
 
 pub returns-then-leaves_reply-clause-becomes : goal.returns-then-leaves_reply-clause-becomes

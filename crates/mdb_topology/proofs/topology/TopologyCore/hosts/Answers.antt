@@ -3,14 +3,14 @@ use Rattle.std.proofs.lemmas.Result.{IfOk-weaker}
 use Rattle.mdb_log.specs.declared.reply.Reply.TheVariants.{Changed}
 use Rattle.mdb_describe.specs.Topology.{synced}
 use Rattle.mdb_topology.specs.Changing.{IsChanging, IsUpdating}
-use Rattle.mdb_topology.proofs.Becoming.{as-next}
-use Rattle.mdb_topology.proofs.Same.{IsPlain}
-use Rattle.mdb_topology.proofs.Updating.{hosts-updating, hosts-resting, passes-time}
-use Rattle.mdb_topology.proofs.FollowingQuiet.{follows-quiet}
-use Rattle.mdb_topology.proofs.MakesKnown.{changes-become, spared-update}
-use Rattle.mdb_topology.proofs.Spent.{wants-after}
-use Rattle.mdb_topology.proofs.Wants.{none-wants}
-use Rattle.mdb_topology.specs.declared.next.Stepped.TheVariants.{Refused}
+use Rattle.mdb_topology.proofs.WholeSteps.Stops.{as-next}
+use Rattle.mdb_topology.proofs.OnePool.SameHistories.{IsPlain}
+use Rattle.mdb_topology.proofs.Publications.WhichSteps.{hosts-updating, hosts-resting, passes-time}
+use Rattle.mdb_topology.proofs.WholeSteps.QuietStep.{follows-quiet}
+use Rattle.mdb_topology.proofs.Publications.BecomesKnown.{changes-become, spared-update}
+use Rattle.mdb_topology.proofs.Marks.AtItsLimit.{wants-after}
+use Rattle.mdb_topology.proofs.WholeSteps.ComesBeforeMemory.{none-wants}
+use Rattle.mdb_topology.specs.declared.transition.Decision.TheVariants.{Refused}
 use Rattle.mdb_log.specs.declared.reply.Refused.TheVariants.{Exhausted}
 use Rattle.mdb_topology.proofs.topology.TopologyCore.hosts.Goals as goal
 

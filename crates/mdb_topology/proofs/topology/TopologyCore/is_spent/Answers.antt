@@ -3,8 +3,8 @@ use Rattle.std.specs.Prelude.{nat_le, slice_get}
 use Rattle.std.proofs.lemmas.Option.{slice_get_read}
 use Rattle.mdb_pool.specs.Core.{PoolCore}
 use Rattle.mdb_pool.specs.Kept.{clears_for, exhausted_now, is_shut}
-use Rattle.mdb_topology.proofs.Places.{some-same}
-use Rattle.mdb_topology.proofs.Spent.{limit-is}
+use Rattle.mdb_topology.proofs.General.OnePosition.{some-same}
+use Rattle.mdb_topology.proofs.Marks.AtItsLimit.{limit-is}
 use Rattle.mdb_topology.proofs.topology.TopologyCore.is_spent.Goals as goal
 
 pub returns : goal.returns
@@ -12,8 +12,8 @@ returns c s there =
     let w = c.args.self.now in
     let pools = w.pools.cores.items in
     let p = c.index.result.now in
-    let at_p : slice_get pools c.args.place ≡ Some p = slice_get_read pools (length pools) c.args.place p refl c.requires.there c.index.ensures in
+    let at_p : slice_get pools c.args.index ≡ Some p = slice_get_read pools (length pools) c.args.index p refl c.requires.there c.index.ensures in
     c.is_at_limit.ensures
     ∙ (ap (λ n. not (is_shut p.status) && nat_le n (clears_for c.args.service p.clears)) c.unwrap_or-limit.ensures
-    ∙ (limit-is w c.requires.stands c.args.place p at_p c.args.service
-    ∙ ap (λ (u : PoolCore). exhausted_now u c.args.service) (some-same p s (slice_get pools c.args.place) at_p there)))
+    ∙ (limit-is w c.requires.stands c.args.index p at_p c.args.service
+    ∙ ap (λ (u : PoolCore). exhausted_now u c.args.service) (some-same p s (slice_get pools c.args.index) at_p there)))

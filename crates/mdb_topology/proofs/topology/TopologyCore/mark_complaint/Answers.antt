@@ -6,17 +6,17 @@ use Rattle.mdb_describe.specs.Descriptions.{failed}
 use Rattle.mdb_describe.specs.Update.{updated}
 use Rattle.mdb_pool.specs.Core.{PoolCore}
 use Rattle.mdb_pool.specs.Kept.{connection_at}
-use Rattle.mdb_pool.proofs.PinnedActs.{held-at}
-use Rattle.mdb_topology.specs.declared.marked.Asked.TheVariants.{CheckNow, CancelIfCleared}
+use Rattle.mdb_pool.proofs.Answered.Pin.{held-at}
+use Rattle.mdb_topology.specs.declared.errors.marked.Asked.TheVariants.{CheckNow, CancelIfCleared}
 use Rattle.mdb_topology.specs.Changing.{IsTelling}
 use Rattle.mdb_topology.specs.Complaining.{is_hard_now}
 use Rattle.mdb_topology.specs.Errors.{state_change, lost}
 use Rattle.mdb_topology.specs.Marking.{IsOfPool, IsMarking}
 use Rattle.mdb_topology.specs.Standing.{at_address}
-use Rattle.mdb_topology.proofs.ComplaintMarks.{complaint-here, row_trouble, changed-of-pool, changed-marking, lost-of-pool, lost-marking, changed-case, lost-case}
-use Rattle.mdb_topology.proofs.MarkedSteps.{marks-become, marks-spare}
-use Rattle.mdb_topology.proofs.Places.{some-same}
-use Rattle.mdb_topology.proofs.Wants.{none-wants}
+use Rattle.mdb_topology.proofs.Marks.OfOperations.{complaint-here, row_trouble, changed-of-pool, changed-marking, lost-of-pool, lost-marking, changed-case, lost-case}
+use Rattle.mdb_topology.proofs.Marks.BecomesOfStep.{marks-become, marks-spare}
+use Rattle.mdb_topology.proofs.General.OnePosition.{some-same}
+use Rattle.mdb_topology.proofs.WholeSteps.ComesBeforeMemory.{none-wants}
 use Rattle.mdb_topology.proofs.topology.TopologyCore.mark_complaint.Goals as goal
 
 pub mark-requires-clause-here : goal.mark-requires-clause-here
@@ -25,7 +25,7 @@ mark-requires-clause-here c s there =
     let m = c.args.step.now.moment in
     let r = c.args.party in
     let e = c.args.error.now in
-    let i = c.args.place in
+    let i = c.args.index in
     let l = c.requires.in_time in
     let q = c.requires.complains in
     subst (λ (u : PoolCore). at_address w.pools.cores.items u.address ≡ Some i) (some-same q.pool s (slice_get w.pools.cores.items i) q.there there)
@@ -37,7 +37,7 @@ returns-then-is_state_change_error-clause-becomes c =
     let m = c.args.step.now.moment in
     let r = c.args.party in
     let e = c.args.error.now in
-    let i = c.args.place in
+    let i = c.args.index in
     let l = c.requires.in_time in
     let q = c.requires.complains in
     let p = c.index.result.now in
@@ -60,7 +60,7 @@ returns-then-is_state_change_error-clause-wants c =
     let m = c.args.step.now.moment in
     let r = c.args.party in
     let e = c.args.error.now in
-    let i = c.args.place in
+    let i = c.args.index in
     let l = c.requires.in_time in
     let q = c.requires.complains in
     let p = c.index.result.now in
@@ -83,7 +83,7 @@ mark-requires-2-clause-here c s there =
     let m = c.args.step.now.moment in
     let r = c.args.party in
     let e = c.args.error.now in
-    let i = c.args.place in
+    let i = c.args.index in
     let l = c.requires.in_time in
     let q = c.requires.complains in
     subst (λ (u : PoolCore). at_address w.pools.cores.items u.address ≡ Some i) (some-same q.pool s (slice_get w.pools.cores.items i) q.there there)
@@ -95,7 +95,7 @@ returns-clause-becomes c =
     let m = c.args.step.now.moment in
     let r = c.args.party in
     let e = c.args.error.now in
-    let i = c.args.place in
+    let i = c.args.index in
     let l = c.requires.in_time in
     let q = c.requires.complains in
     let case = lost-case e (sym c.is_state_change_error.ensures ∙ c.if-is_state_change_error.false) q.row in
@@ -112,7 +112,7 @@ returns-clause-wants c =
     let m = c.args.step.now.moment in
     let r = c.args.party in
     let e = c.args.error.now in
-    let i = c.args.place in
+    let i = c.args.index in
     let l = c.requires.in_time in
     let q = c.requires.complains in
     let case = lost-case e (sym c.is_state_change_error.ensures ∙ c.if-is_state_change_error.false) q.row in

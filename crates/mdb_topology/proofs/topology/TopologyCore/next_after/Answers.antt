@@ -1,7 +1,7 @@
 use Rattle.std.proofs.Common.{[], refl, sym, ap, ◌∙◌}
 use Rattle.mdb_monitor.specs.Endings.{next_of}
 use Rattle.mdb_monitor.specs.Standing.{setting_of}
-use Rattle.mdb_topology.proofs.Ahead.{follows-next}
+use Rattle.mdb_topology.proofs.OfMonitors.NextCheck.{follows-next}
 use Rattle.mdb_topology.proofs.topology.TopologyCore.next_after.Goals as goal
 
 pub returns : goal.returns

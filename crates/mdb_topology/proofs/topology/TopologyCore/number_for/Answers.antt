@@ -1,6 +1,6 @@
 use Rattle.std.proofs.Common.{length, true, false, refl}
 use Rattle.std.proofs.lemmas.Option.{slice_get_read}
-use Rattle.mdb_topology.proofs.Beating.{number-at}
+use Rattle.mdb_topology.proofs.OfMonitors.CheckBegins.{number-at}
 use Rattle.mdb_topology.proofs.topology.TopologyCore.number_for.Goals as goal
 
 pub returns-then-connected : goal.returns-then-connected

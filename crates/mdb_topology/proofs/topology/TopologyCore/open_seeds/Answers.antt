@@ -2,7 +2,7 @@ use Rattle.std.proofs.Common.{refl, sym, subst, false}
 use Rattle.mdb_topology.specs.Logging.{IsDriverOf}
 use Rattle.mdb_topology.specs.declared.topology.TopologyCore.{TopologyCore}
 use Rattle.mdb_topology.proofs.topology.TopologyCore.open_seeds.Goals as goal
-use Rattle.mdb_topology.proofs.OpenedLog.{begins-log, opening-log}
+use Rattle.mdb_topology.proofs.DriverOpened.ItsLog.{begins-log, opening-log}
 
 pub returns-in-Ok-clause-entry : goal.returns-in-Ok-clause-entry
 returns-in-Ok-clause-entry c =

@@ -5,24 +5,24 @@ use Rattle.mdb_log.specs.declared.reply.Refused.TheVariants.{NotHolder}
 use Rattle.mdb_log.specs.declared.reply.Reply.TheVariants.{Changed}
 use Rattle.mdb_pool.specs.Core.{PoolCore}
 use Rattle.mdb_pool.specs.Kept.{connection_at, held_connection, id_at}
-use Rattle.mdb_pool.proofs.Items.{both-true}
-use Rattle.mdb_pool.proofs.PinnedActs.{held-at}
+use Rattle.mdb_pool.proofs.Answered.Item.{both-true}
+use Rattle.mdb_pool.proofs.Answered.Pin.{held-at}
 use Rattle.mdb_topology.specs.Complaining.{concerns_now, service_cleared}
 use Rattle.mdb_topology.specs.Current.{operating}
 use Rattle.mdb_topology.specs.Errors.{case_of, for_service}
 use Rattle.mdb_topology.specs.Finding.{holder}
 use Rattle.mdb_topology.specs.Marking.{IsClearing}
-use Rattle.mdb_topology.proofs.BalancedComplaints.{balanced-clearing}
-use Rattle.mdb_topology.proofs.Bools.{not-back}
-use Rattle.mdb_topology.proofs.Lists.{position-within, at-index}
-use Rattle.mdb_topology.proofs.Places.{some-same}
+use Rattle.mdb_topology.proofs.Marks.ClearsService.{balanced-clearing}
+use Rattle.mdb_topology.proofs.General.Truth.{not-back}
+use Rattle.mdb_topology.proofs.General.OneElement.{position-within, at-index}
+use Rattle.mdb_topology.proofs.General.OnePosition.{some-same}
 use Rattle.mdb_topology.specs.Changing.{IsChanging}
 use Rattle.mdb_topology.specs.Refusal.{refusal}
-use Rattle.mdb_topology.proofs.Becoming.{as-next}
-use Rattle.mdb_topology.proofs.ComplaintSteps.{Held, held-there, complaint-homeless}
-use Rattle.mdb_topology.proofs.ComplaintMarks.{complaint-here, row_trouble, complaint-resting}
-use Rattle.mdb_topology.proofs.FollowingQuiet.{follows-quiet}
-use Rattle.mdb_topology.proofs.Same.{IsPlain}
+use Rattle.mdb_topology.proofs.WholeSteps.Stops.{as-next}
+use Rattle.mdb_topology.proofs.Marks.CurrentErrors.{Held, held-there, complaint-homeless}
+use Rattle.mdb_topology.proofs.Marks.OfOperations.{complaint-here, row_trouble, complaint-resting}
+use Rattle.mdb_topology.proofs.WholeSteps.QuietStep.{follows-quiet}
+use Rattle.mdb_topology.proofs.OnePool.SameHistories.{IsPlain}
 use Rattle.mdb_topology.proofs.topology.TopologyCore.operation_error.Goals as goal
 
 pub returns-in_default-clause-becomes : goal.returns-in_default-clause-becomes
@@ -53,8 +53,8 @@ module _ (pools : List PoolCore) (r i : ℕ) (held : holder pools r ≡ Some i) 
 
 pub returns-in_default-held_by-clause-becomes : goal.returns-in_default-held_by-clause-becomes
 returns-in_default-held_by-clause-becomes c h z =
-    let none : ◌≡◌ {A = Option ℕ} (Some (held-there c.args.self.now.pools.cores.items c.args.party c.in-Some.place (sym c.holder.ensures ∙ c.in-Some.is)).connection.id) None =
-    id-is c.args.self.now.pools.cores.items c.args.party c.in-Some.place (sym c.holder.ensures ∙ c.in-Some.is) c.index.result.now c.index.ensures c.held_by.result c.held_by.ensures.kept ∙ c.in_default-held_by.is in
+    let none : ◌≡◌ {A = Option ℕ} (Some (held-there c.args.self.now.pools.cores.items c.args.party c.in-Some.index (sym c.holder.ensures ∙ c.in-Some.is)).connection.id) None =
+    id-is c.args.self.now.pools.cores.items c.args.party c.in-Some.index (sym c.holder.ensures ∙ c.in-Some.is) c.index.result.now c.index.ensures c.held_by.result c.held_by.ensures.kept ∙ c.in_default-held_by.is in
     cc
 
 pub returns-then-leaves_complaint-clause-becomes : goal.returns-then-leaves_complaint-clause-becomes
@@ -63,7 +63,7 @@ returns-then-leaves_complaint-clause-becomes c h z =
     let m = c.args.step.now.moment in
     let r = c.args.party in
     let x = c.args.error.now in
-    let i = c.in-Some.place in
+    let i = c.in-Some.index in
     let e = c.of_reply.ensures in
     let pools = w.pools.cores.items in
     let held = sym c.holder.ensures ∙ c.in-Some.is in
@@ -80,7 +80,7 @@ mark_complaint-requires-clause-complains c =
     let w = c.args.self.now in
     let r = c.args.party in
     let x = c.args.error.now in
-    let i = c.in-Some.place in
+    let i = c.in-Some.index in
     let pools = w.pools.cores.items in
     let held = sym c.holder.ensures ∙ c.in-Some.is in
     let there = held-there pools r i held in
@@ -95,7 +95,7 @@ returns-then-self-clause-becomes c =
     let m = c.args.step.now.moment in
     let r = c.args.party in
     let x = c.args.error.now in
-    let i = c.in-Some.place in
+    let i = c.in-Some.index in
     let l = c.requires.in_time in
     let pools = w.pools.cores.items in
     let held = sym c.holder.ensures ∙ c.in-Some.is in
@@ -119,7 +119,7 @@ returns-then-self-clause-wants c =
     let m = c.args.step.now.moment in
     let r = c.args.party in
     let x = c.args.error.now in
-    let i = c.in-Some.place in
+    let i = c.in-Some.index in
     let l = c.requires.in_time in
     let pools = w.pools.cores.items in
     let held = sym c.holder.ensures ∙ c.in-Some.is in

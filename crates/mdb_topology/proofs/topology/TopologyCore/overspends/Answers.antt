@@ -5,7 +5,7 @@ use Rattle.mdb_describe.specs.Update.{updated}
 use Rattle.mdb_pool.specs.Core.{PoolCore}
 use Rattle.mdb_pool.specs.Kept.{exhausted_now}
 use Rattle.std.proofs.Common.{Bool, false, None}
-use Rattle.mdb_topology.proofs.Bools.{and-false, and-true}
+use Rattle.mdb_topology.proofs.General.Truth.{and-false, and-true}
 use Rattle.mdb_topology.proofs.topology.TopologyCore.overspends.Goals as goal
 
 pub returns-then-not-clears : goal.returns-then-not-clears

@@ -5,8 +5,8 @@ use Rattle.mdb_describe.specs.Update.{updated}
 use Rattle.mdb_log.specs.declared.checked.BeatenResult.TheVariants.{Err}
 use Rattle.mdb_pool.specs.Kept.{exhausted_now}
 use Rattle.mdb_topology.specs.Marking.{check_spends}
-use Rattle.mdb_topology.proofs.FailedChecks.{untroubled-else}
-use Rattle.mdb_topology.proofs.Spent.{untroubled-spends}
+use Rattle.mdb_topology.proofs.OfMonitors.CheckFailed.{untroubled-else}
+use Rattle.mdb_topology.proofs.Marks.AtItsLimit.{untroubled-spends}
 use Rattle.mdb_topology.proofs.topology.TopologyCore.overspends_by_check.Goals as goal
 
 pub returns-in_default : goal.returns-in_default

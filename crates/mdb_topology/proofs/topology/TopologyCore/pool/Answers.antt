@@ -1,8 +1,8 @@
 use Rattle.std.proofs.Common.{sym, ◌∙◌, ap, length, is_some, nat_lt}
 use Rattle.std.proofs.lemmas.List.{length-map}
 use Rattle.mdb_topology.specs.Standing.{home}
-use Rattle.mdb_topology.proofs.Handed.{stands-in, home-is}
-use Rattle.mdb_topology.proofs.HomeJobs.{some-place}
+use Rattle.mdb_topology.proofs.OnePool.HandedOut.{stands-in, home-is}
+use Rattle.mdb_topology.proofs.OnePool.JobsAreThere.{some-place}
 use Rattle.mdb_topology.proofs.topology.TopologyCore.pool.Goals as goal
 
 pub returns-clause-opened : goal.returns-clause-opened
@@ -16,8 +16,8 @@ returns-clause-fits c = λ h s z e. z.pools.fit.each c.args.number s (sym c.pool
 pub returns-clause-stands : goal.returns-clause-stands
 returns-clause-stands c = λ h s z e. stands-in c.args.self.now.options c.args.self.now.pools.cores.items h z.pools.fit c.args.number s (sym c.pool_at.ensures ∙ e)
 
-pub returns-clause-place : goal.returns-clause-place
-returns-clause-place c = λ h s z e. home-is c.args.self.now.options c.args.self.now.pools.cores.items h z.pools.fit c.args.number s (sym c.pool_at.ensures ∙ e)
+pub returns-clause-index : goal.returns-clause-index
+returns-clause-index c = λ h s z e. home-is c.args.self.now.options c.args.self.now.pools.cores.items h z.pools.fit c.args.number s (sym c.pool_at.ensures ∙ e)
 
 pub returns-clause-missing : goal.returns-clause-missing
 returns-clause-missing c = λ h z e. z.pools.fit.rest c.args.number (sym c.pool_at.ensures ∙ e)

@@ -1,11 +1,11 @@
 use Rattle.std.proofs.Common.{◌≤◌, length, sym, subst}
 use Rattle.mdb_topology.specs.Description.{description_of}
 use Rattle.mdb_topology.specs.Taking.{Performs, IsReady}
-use Rattle.mdb_topology.proofs.FollowingOne.{follows-pool}
-use Rattle.mdb_topology.proofs.FollowingQuiet.{follows-idle}
-use Rattle.mdb_topology.proofs.Performed.{planned-accepted}
-use Rattle.mdb_topology.proofs.Wants.{none-wants}
-use Rattle.mdb_topology.proofs.Spent.{wants-after}
+use Rattle.mdb_topology.proofs.WholeSteps.PoolStep.{follows-pool}
+use Rattle.mdb_topology.proofs.WholeSteps.QuietStep.{follows-idle}
+use Rattle.mdb_topology.proofs.OnePool.BecomesOfAct.{planned-accepted}
+use Rattle.mdb_topology.proofs.WholeSteps.ComesBeforeMemory.{none-wants}
+use Rattle.mdb_topology.proofs.Marks.AtItsLimit.{wants-after}
 use Rattle.mdb_topology.proofs.topology.TopologyCore.pool_act.Goals as goal
 
 pub returns-in-Idle-clause-becomes : goal.returns-in-Idle-clause-becomes

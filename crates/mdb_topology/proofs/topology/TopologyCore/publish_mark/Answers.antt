@@ -1,5 +1,5 @@
 use Rattle.std.proofs.lemmas.Result.{IfOk-weaker}
-use Rattle.mdb_topology.proofs.MarkTelling.{mark-few, mark-planned}
+use Rattle.mdb_topology.proofs.Marks.Tells.{mark-few, mark-planned}
 use Rattle.mdb_topology.proofs.topology.TopologyCore.publish_mark.Goals as goal
 
 pub plan_publication-requires-clause-few : goal.plan_publication-requires-clause-few

@@ -1,6 +1,6 @@
 use Rattle.std.proofs.Common.{◌≡◌, Some, sym, subst}
 use Rattle.mdb_topology.specs.Stepping.{BecomesOf}
-use Rattle.mdb_topology.proofs.Performed.{accepted-answer}
+use Rattle.mdb_topology.proofs.OnePool.BecomesOfAct.{accepted-answer}
 use Rattle.mdb_topology.proofs.topology.TopologyCore.refusal.Goals as goal
 
 pub returns-in-Refused-clause-why : goal.returns-in-Refused-clause-why

@@ -1,7 +1,7 @@
 use Rattle.std.proofs.Common.{sym, subst}
 use Rattle.mdb_topology.specs.Logging.{IsDriverOf}
-use Rattle.mdb_topology.proofs.CoreLog.{in-either, still-driver}
-use Rattle.mdb_topology.proofs.Driven.{still-opened}
+use Rattle.mdb_topology.proofs.WholeSteps.CoreOfManyPools.{in-either, still-driver}
+use Rattle.mdb_topology.proofs.DriverOpened.ScriptsLog.{still-opened}
 use Rattle.mdb_topology.proofs.topology.TopologyCore.step.Goals as goal
 
 pub returns-clause-driver : goal.returns-clause-driver

@@ -3,16 +3,16 @@ use Rattle.mdb_log.specs.declared.reply.Reply.TheVariants.{Done}
 use Rattle.mdb_topology.specs.declared.topology.TopologyCore.{TopologyCore}
 use Rattle.mdb_describe.specs.Servers.{in_order}
 use Rattle.mdb_topology.specs.Publishing.{topology_closed_fact}
-use Rattle.mdb_topology.specs.declared.next.Next.{Next}
+use Rattle.mdb_topology.specs.declared.transition.Transition.{Transition}
 use Rattle.mdb_topology.specs.Changing.{IsChanging}
-use Rattle.mdb_topology.proofs.Becoming.{as-next, stops-next}
-use Rattle.mdb_topology.proofs.Same.{IsPlain}
-use Rattle.mdb_topology.proofs.Updating.{stop-resting, passes-time}
-use Rattle.mdb_topology.proofs.FollowingQuiet.{follows-quiet}
+use Rattle.mdb_topology.proofs.WholeSteps.Stops.{as-next, stops-next}
+use Rattle.mdb_topology.proofs.OnePool.SameHistories.{IsPlain}
+use Rattle.mdb_topology.proofs.Publications.WhichSteps.{stop-resting, passes-time}
+use Rattle.mdb_topology.proofs.WholeSteps.QuietStep.{follows-quiet}
 use Rattle.mdb_topology.specs.Refusal.{may_want}
-use Rattle.mdb_topology.proofs.Wants.{untroubled-wants}
+use Rattle.mdb_topology.proofs.WholeSteps.ComesBeforeMemory.{untroubled-wants}
 use Rattle.mdb_log.specs.declared.step.Act.TheVariants as Do
-use Rattle.mdb_topology.proofs.Spent.{wants-after}
+use Rattle.mdb_topology.proofs.Marks.AtItsLimit.{wants-after}
 use Rattle.mdb_topology.proofs.topology.TopologyCore.stop_all.Goals as goal
 
 pub returns-then-self-clause-becomes : goal.returns-then-self-clause-becomes
@@ -21,7 +21,7 @@ returns-then-self-clause-becomes c h z =
     let m = c.args.step.now.moment in
     let r = c.of_reply.result in
     let e = c.of_reply.ensures in
-    let n : Next = record { reply = r.reply; facts = r.facts; changes = r.changes; description = r.description; monitors = r.monitors; monitoring = r.monitoring; stops = true } in
+    let n : Transition = record { reply = r.reply; facts = r.facts; changes = r.changes; description = r.description; monitors = r.monitors; monitoring = r.monitoring; stops = true } in
     let rests = subst (λ a. IsChanging w.options h w.description None (record { moment = m; act = a }) Done true []) (sym c.requires.act) (stop-resting w h z m c.requires.in_time c.if-self.true) in
     follows-quiet w h z c.args.step.now c.requires.in_time n e.changes e.facts e.monitors e.monitoring (subst IsPlain (sym e.reply) tt) (rw e.description refl) (as-next rests e.description e.reply refl)
 

@@ -1,5 +1,5 @@
 use Rattle.std.proofs.Common.{◌∙◌}
-use Rattle.mdb_topology.proofs.Differing.{nothing-told}
+use Rattle.mdb_topology.proofs.Publications.OfDifference.{nothing-told}
 use Rattle.mdb_topology.proofs.topology.TopologyCore.tell.Goals as goal
 
 pub returns-in-None-clause-told : goal.returns-in-None-clause-told

@@ -6,7 +6,7 @@ use Rattle.mdb_topology.specs.Marking.{AcceptsClear}
 use Rattle.mdb_topology.specs.Planned.{PlansMore}
 use Rattle.mdb_topology.specs.Publishing.{telling}
 use Rattle.mdb_topology.specs.Touching.{touched_by}
-use Rattle.mdb_topology.proofs.FailedActs.{still-at, told-of}
+use Rattle.mdb_topology.proofs.Failure.Answer.{still-at, told-of}
 use Rattle.mdb_topology.proofs.topology.TopologyCore.tell_failure.Goals.{then-changed, else-changed}
 use Rattle.mdb_topology.proofs.topology.TopologyCore.tell_failure.Goals as goal
 

@@ -6,7 +6,7 @@ use Rattle.mdb_topology.specs.Marking.{AcceptsClear, Clears, MarkTold, asked_of}
 use Rattle.mdb_topology.specs.Planned.{PlansMore}
 use Rattle.mdb_topology.specs.Publishing.{telling}
 use Rattle.mdb_topology.specs.Touching.{touched_by}
-use Rattle.mdb_topology.proofs.MarkBecoming.{mark-comes}
+use Rattle.mdb_topology.proofs.Marks.ComesTo.{mark-comes}
 use Rattle.mdb_topology.proofs.topology.TopologyCore.tell_mark.Goals.{then-changed, else-changed}
 use Rattle.mdb_topology.proofs.topology.TopologyCore.tell_mark.Goals as goal
 

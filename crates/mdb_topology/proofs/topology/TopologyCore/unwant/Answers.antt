@@ -1,15 +1,15 @@
 use Rattle.std.proofs.Common.{◌≡◌, ◌∙◌, length, sym, subst, ap, true, refl, false}
 use Rattle.mdb_log.specs.declared.reply.Reply.TheVariants.{Count}
 use Rattle.mdb_monitor.specs.Asking.{unwanted}
-use Rattle.mdb_topology.specs.declared.next.Next.{Next}
-use Rattle.mdb_topology.specs.declared.monitoring.Monitoring.TheVariants.{Asked}
+use Rattle.mdb_topology.specs.declared.transition.Transition.{Transition}
+use Rattle.mdb_topology.specs.declared.monitors.monitoring.Monitoring.TheVariants.{Asked}
 use Rattle.mdb_topology.specs.Stepping.{Follows}
-use Rattle.mdb_topology.proofs.Wanting.{follows-unwant}
+use Rattle.mdb_topology.proofs.OfMonitors.Watchers.{follows-unwant}
 use Rattle.mdb_topology.specs.Refusal.{may_want}
-use Rattle.mdb_topology.proofs.Updating.{passes-time}
-use Rattle.mdb_topology.proofs.Wants.{untroubled-wants}
+use Rattle.mdb_topology.proofs.Publications.WhichSteps.{passes-time}
+use Rattle.mdb_topology.proofs.WholeSteps.ComesBeforeMemory.{untroubled-wants}
 use Rattle.mdb_log.specs.declared.step.Act.TheVariants as Do
-use Rattle.mdb_topology.proofs.Spent.{wants-after}
+use Rattle.mdb_topology.proofs.Marks.AtItsLimit.{wants-after}
 use Rattle.mdb_topology.proofs.topology.TopologyCore.unwant.Goals as goal
 
 pub returns-clause-becomes : goal.returns-clause-becomes
@@ -19,7 +19,7 @@ returns-clause-becomes c h z =
     let x = c.args.watcher in
     let r = c.of_reply.result in
     let e = c.of_reply.ensures in
-    let n : Next = record { reply = r.reply; facts = r.facts; changes = r.changes; description = r.description; monitors = r.monitors; monitoring = Asked c.unwant-count.new.self; stops = r.stops } in
+    let n : Transition = record { reply = r.reply; facts = r.facts; changes = r.changes; description = r.description; monitors = r.monitors; monitoring = Asked c.unwant-count.new.self; stops = r.stops } in
     let now : c.unwant-count.new.self ≡ unwanted x w.watchers = c.unwant-count.ensures.unwanted ∙ ap (unwanted x) c.in_ok-watchers.ensures.cases in
     subst (λ a. Follows w n (record { moment = m; act = a }) h) (sym c.requires.act)
     (follows-unwant w h z m c.requires.in_time x n e.changes e.monitors e.description e.stops e.facts (ap Asked now) (e.reply ∙ (ap Count c.unwant-count.ensures.counted ∙ ap (λ ws. Count (length ws)) now)))

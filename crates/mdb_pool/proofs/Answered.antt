@@ -1,0 +1,22 @@
+-- What an act does, one a file, is the answer to its step.
+pub mod Act
+pub mod Accepted
+pub mod Steps
+pub mod Item
+pub mod Refusal
+pub mod Request
+pub mod Warm
+pub mod Collect
+pub mod Claim
+pub mod GiveUp
+pub mod Establish
+pub mod Fail
+pub mod Return
+pub mod Pin
+pub mod Take
+pub mod Unpin
+pub mod MarkReady
+pub mod Clear
+pub mod Close
+pub mod Expire
+pub mod Maintain

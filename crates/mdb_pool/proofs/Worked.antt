@@ -1,0 +1,3 @@
+-- Worked examples, computed.
+pub mod Pools
+pub mod Jobs

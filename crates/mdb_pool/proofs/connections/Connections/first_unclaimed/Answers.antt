@@ -1,6 +1,0 @@
-use Rattle.std.proofs.Common.{◌∙◌}
-use Rattle.mdb_pool.proofs.Claims.{unclaimed-found}
-use Rattle.mdb_pool.proofs.connections.Connections.first_unclaimed.Goals as goal
-
-pub returns : goal.returns
-returns c = c.first_after.ensures ∙ rw (c.last.ensures) (unclaimed-found c.self.inside.claims.created.now c.self.inside.claims.now c.self.inside.live.now c.self.invariant.0)

@@ -1,0 +1,20 @@
+use Rattle.std.proofs.Common.{◌≡◌, ◌∙◌, sym, ap}
+use Rattle.mdb_log.specs.declared.step.Act.{Act}
+use Rattle.mdb_pool.specs.Body.{now_of}
+use Rattle.mdb_pool.specs.Core.{PoolCore}
+use Rattle.mdb_pool.specs.Refusal.{first_row}
+use Rattle.mdb_pool.specs.Refusing.{rows_now}
+use Rattle.mdb_pool.proofs.kept.body.Body.row_refusal.Goals as goal
+
+-- the rows of an act are those of the step's act
+rows-of : (s : PoolCore) {a b : Act} → a ≡ b → first_row (rows_now s b) ≡ first_row (rows_now s a)
+rows-of s e = ap (λ k. first_row (rows_now s k)) (sym e)
+
+pub returns-in-Failed : goal.returns-in-Failed
+returns-in-Failed c = c.failed_refusal.ensures c.in-Failed.field-3 ∙ rows-of (now_of c.args.self.now) c.in-Failed.is
+
+pub returns-in-Return : goal.returns-in-Return
+returns-in-Return c = c.holder_refusal.ensures c.in-Return.field-1 ∙ rows-of (now_of c.args.self.now) c.in-Return.is
+
+pub returns-in-Clear : goal.returns-in-Clear
+returns-in-Clear c = c.clear_refusal.ensures c.in-Clear.field-0 c.in-Clear.field-2 ∙ rows-of (now_of c.args.self.now) c.in-Clear.is

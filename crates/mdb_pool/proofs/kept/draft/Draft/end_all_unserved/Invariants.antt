@@ -1,0 +1,7 @@
+use Rattle.std.proofs.Common.{◌≡◌, take}
+use Rattle.mdb_pool.specs.Ended.{ended_all}
+use Rattle.mdb_pool.proofs.kept.draft.Draft.end_all_unserved.Given as goal
+
+-- those before have ended
+abbrev pub invariant-loop-number : goal.invariant-loop-number
+invariant-loop-number l = l.self ≡ record l.initial.self { requests = ended_all l.initial.self (take l.number-index l.numbers) }

@@ -1,0 +1,20 @@
+use Rattle.std.proofs.Common.{◌≡◌, List, length}
+use Rattle.mdb_events.specs.declared.end.End.TheVariants.{Cleared}
+use Rattle.mdb_log.specs.History.{PoolItem}
+use Rattle.mdb_pool.specs.Standing.{Fits, SameHome, SameNotes}
+use Rattle.mdb_pool.specs.Kept.{numbers_where}
+use Rattle.mdb_pool.specs.Places.{is_queued}
+use Rattle.mdb_pool.proofs.Turns.End.{Ending}
+use Rattle.mdb_pool.proofs.kept.draft.Draft.end_queue.Given as goal
+
+abbrev pub invariant-loop-request : goal.invariant-loop-request
+invariant-loop-request l = record {
+  last : l.self.last ≡ l.initial.self.last;
+  home : SameHome l.initial.self l.self;
+  inner : l.self.inner ≡ l.initial.self.inner;
+  notes : SameNotes l.initial.self l.self;
+  ends : (xs : List PoolItem) → Fits l.initial.self xs → Ending l.initial.self l.self l.moment (Cleared l.cause) l.initial.facts.items l.facts.items xs;
+}
+
+abbrev pub decreases-loop-request : goal.decreases-loop-request
+decreases-loop-request l = length (numbers_where is_queued l.self.requests)

@@ -1,0 +1,18 @@
+use Rattle.std.proofs.Common.{◌++◌, sym, ◌∙◌, ap, append-nil}
+use Rattle.mdb_slots.specs.Keyed.{rest_of}
+use Rattle.mdb_pool.specs.Changes.{shut_facts, pending_ones}
+use Rattle.mdb_pool.proofs.Listed.WalksForth.{walk-shorter}
+use Rattle.mdb_pool.proofs.Turns.EndUnserved.{shut-on}
+use Rattle.mdb_pool.proofs.kept.draft.Draft.push_pending.Goals as goal
+
+pub loop-next-init : goal.loop-next-init
+loop-next-init c = ap (λ xs. c.args.facts.now.items ++ shut_facts c.args.self.now xs) c.first_pending-next.ensures
+
+pub loop-next-smaller : goal.loop-next-smaller
+loop-next-smaller c = walk-shorter (λ x. x.id) (pending_ones c.args.self.now) c.in-Some.x c.loop-next.next c.next_pending-next.result c.in-Some.is c.next_pending-next.ensures
+
+pub loop-next-preserved : goal.loop-next-preserved
+loop-next-preserved c = shut-on c.args.self.now (pending_ones c.args.self.now) c.loop-next.facts.items c.push_close.new.facts.items c.in-Some.x c.loop-next.next c.next_pending-next.result c.in-Some.is c.next_pending-next.ensures c.in_ok-push_close.ensures ∙ c.loop-next.invariant
+
+pub returns : goal.returns
+returns c = sym (append-nil c.loop-next.facts.items) ∙ (sym (ap (λ o. c.loop-next.facts.items ++ shut_facts c.args.self.now (rest_of (λ x. x.id) o (pending_ones c.args.self.now))) c.in_default.is) ∙ c.loop-next.invariant)

@@ -1,0 +1,19 @@
+use Rattle.std.proofs.Common.{◌≡◌, List, length}
+use Rattle.mdb_log.specs.History.{PoolItem}
+use Rattle.mdb_pool.specs.Standing.{Fits, SameHome, SameNotes}
+use Rattle.mdb_pool.specs.Kept.{ids_where}
+use Rattle.mdb_pool.specs.Places.{is_available}
+use Rattle.mdb_pool.proofs.Turns.MaintainMany.{Sweeping}
+use Rattle.mdb_pool.proofs.kept.draft.Draft.sweep.Given as goal
+
+abbrev pub invariant-loop-connection : goal.invariant-loop-connection
+invariant-loop-connection l = record {
+  last : l.self.last ≡ l.initial.self.last;
+  home : SameHome l.initial.self l.self;
+  inner : l.self.inner ≡ l.initial.self.inner;
+  notes : SameNotes l.initial.self l.self;
+  sweeps : (xs : List PoolItem) → Fits l.initial.self xs → Sweeping l.initial.self l.self l.moment l.initial.facts.items l.facts.items xs;
+}
+
+abbrev pub decreases-loop-connection : goal.decreases-loop-connection
+decreases-loop-connection l = length (ids_where is_available l.self.connections)

@@ -1,6 +1,0 @@
-use Rattle.std.proofs.Common.{is_some, ◌∙◌, ap}
-use Rattle.mdb_pool.proofs.Asked.{told-at}
-use Rattle.mdb_pool.proofs.request_parts.RequestParts.is_told.Goals as goal
-
-pub returns : goal.returns
-returns c = λ there. c.is_some.ensures ∙ (ap is_some c.get.ensures ∙ told-at c.args.self.now.all.value c.args.self.now.settled.value c.args.self.now.kept.now c.args.self.now.told.now c.args.self.now.known.now c.requires c.args.number there)

@@ -1,0 +1,16 @@
+-- An error marks a server Unknown or clears a service.
+pub mod CurrentErrors
+pub mod OfOperations
+pub mod ClearsService
+pub mod ServiceOfConnection
+pub mod Outdated
+pub mod WhichSteps
+pub mod BecomesOfStep
+pub mod ComesTo
+pub mod ChangesKnown
+pub mod PastLimits
+pub mod Tells
+pub mod StaysKnown
+pub mod ClearsPool
+pub mod AtItsLimit
+pub mod AtItsLimitByCheck

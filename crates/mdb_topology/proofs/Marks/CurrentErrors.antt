@@ -1,0 +1,154 @@
+-- Which errors of operations are current, and what trouble they tell of.
+use Rattle.std.proofs.Common.{ℕ, ◌≡◌, ◌≤◌, ◌&&◌, Bool, true, false, if◌then◌else◌, List, Option, Some, None, is_some, refl, sym, ◌∙◌, ap, subst, arith}
+use Rattle.std.specs.Prelude.{pos, slice_get, unwrap_or}
+use Rattle.mdb_base.specs.declared.error.Error.{Error}
+use Rattle.mdb_base.specs.declared.object_id.ObjectId.{ObjectId}
+use Rattle.mdb_base.specs.declared.options.Options.{Options}
+use Rattle.mdb_describe.specs.declared.topology.TopologyDescription.{TopologyDescription}
+use Rattle.mdb_log.specs.declared.step.Act.{Act}
+use Rattle.mdb_log.specs.declared.step.Act.TheVariants as Do
+use Rattle.mdb_log.specs.declared.step.Use.TheVariants as Used
+use Rattle.mdb_log.specs.declared.reply.Refused.TheVariants.{NotHolder}
+use Rattle.mdb_log.specs.History.{Item, PoolItem, of_pool}
+use Rattle.mdb_log.specs.Connections.{holding, wire_of}
+use Rattle.mdb_log.specs.Opening.{pool_options}
+use Rattle.mdb_log.specs.State.{is_stale}
+use Rattle.mdb_pool.specs.declared.kept.connection.Connection.{Connection}
+use Rattle.mdb_pool.specs.Core.{PoolCore}
+use Rattle.mdb_pool.specs.Kept.{held_connection, connection_at}
+use Rattle.mdb_pool.specs.Matching.{Matches}
+use Rattle.mdb_pool.specs.Standing.{Fits}
+use Rattle.mdb_pool.proofs.Answered.Act.{holding-is}
+use Rattle.mdb_pool.proofs.Answered.Pin.{held-at}
+use Rattle.mdb_pool.proofs.Follows.Stale.{live-created, live-served}
+use Rattle.mdb_topology.specs.declared.topology.TopologyCore.{TopologyCore}
+use Rattle.mdb_topology.specs.Complaining.{is_outdated, concerns_now}
+use Rattle.mdb_topology.specs.Current.{Complaint, operating, in_operation, complaint_of, is_current}
+use Rattle.mdb_topology.specs.Errors.{Case, Trouble, case_of, current_trouble, complaint_trouble, trouble_of}
+use Rattle.mdb_topology.specs.Finding.{holder}
+use Rattle.mdb_topology.specs.Homes.{home_of, begun}
+use Rattle.mdb_topology.specs.Refusal.{first_refusal, refusal}
+use Rattle.mdb_topology.specs.Standing.{home, PoolFits, StandsFor}
+use Rattle.mdb_topology.proofs.General.OneElement.{position-at, position-within, at-place}
+use Rattle.mdb_topology.proofs.OnePool.FoundAt.{home-placed, home-missing}
+use Rattle.mdb_topology.proofs.Publications.WhichSteps.{at_m, in-time, passes-time}
+
+-- the wire version of a live connection
+pub live-wired : (s : PoolCore) (xs : List PoolItem) → Matches s xs → (c : ℕ) (x : Connection) → connection_at s c ≡ Some x → wire_of xs c ≡ x.wire
+live-wired s xs m c x e = grind (arith, m.told.wire c, e)
+
+-- the connection is stale where its generation is outdated
+outdated-is : (s : PoolCore) (xs : List PoolItem) → Matches s xs → (c : ℕ) (x : Connection) → connection_at s c ≡ Some x → is_stale s.options xs c ≡ is_outdated s c x.service
+outdated-is s xs m c x e =
+    let t : Option ObjectId = if s.options.load_balanced then x.service else None in
+    rw (live-served s xs m c x e, m.clearing.before c t (live-created s xs m c x e), m.clearing.clears t) refl
+
+-- the pool of which the party holds a connection
+pub record Held (pools : List PoolCore) (r i : ℕ) : Type 0 where
+  pub pool : PoolCore
+  pub connection : Connection
+  pub there : slice_get pools i ≡ Some pool
+  pub has : held_connection pool r ≡ Some connection
+
+pub held-there : (pools : List PoolCore) (r i : ℕ) → holder pools r ≡ Some i → Held pools r i
+held-there pools r i held = on (slice_get pools i) refl
+  where
+    held_in : (s : PoolCore) (y : Option Connection) → slice_get pools i ≡ Some s → held_connection s r ≡ y → Held pools r i
+    held_in s None f g =
+        let yes : is_some (held_connection s r) ≡ true = (position-at (λ u. is_some (held_connection u r)) pools i s held f).0 in
+        let no : is_some (held_connection s r) ≡ false = rw g refl in
+        let t : true ≡ false = sym yes ∙ no in
+        cc
+    held_in s (Some x) f g = record { pool = s; connection = x; there = f; has = g }
+
+    on : (y : Option PoolCore) → slice_get pools i ≡ y → Held pools r i
+    on None f = absurd (at-place pools i (position-within (λ u. is_some (held_connection u r)) pools i held) f)
+    on (Some s) f = held_in s (held_connection s r) f refl
+
+module _ (w : TopologyCore) (h : List Item) (z : StandsFor w h) (m : ℕ) (l : w.pools.last ≤ m) (r : ℕ) (e : Error) where
+  abbrev o : Options
+  o = w.options
+
+  abbrev t : TopologyDescription
+  t = w.description
+
+  abbrev pools : List PoolCore
+  pools = w.pools.cores.items
+
+  abbrev act : Act
+  act = Do.Error r e
+
+  abbrev k : List Item
+  k = begun h (at_m w h z m l act)
+
+  -- no pool of which the party holds a connection
+  pub complaint-homeless : holder pools r ≡ None → refusal o h (at_m w h z m l act) ≡ Some NotHolder
+  complaint-homeless none =
+      let missing : home_of h act ≡ None = home-missing (pool_options o) pools h z.pools.fit (Do.Return r Used.Ok) refl none in
+      rw (in-time w h z m l, missing) refl
+
+  module _ (i : ℕ) (s : PoolCore) (x : Connection) (held : holder pools r ≡ Some i) (there : slice_get pools i ≡ Some s) (has : held_connection s r ≡ Some x) where
+    home-is : home_of h act ≡ Some (home s)
+    home-is = home-placed (pool_options o) pools h z.pools.fit (Do.Return r Used.Ok) refl i s there held
+
+    pub complaint-passes : first_refusal o h (at_m w h z m l act) ≡ None
+    complaint-passes = passes-time w h z m l act (rw home-is refl)
+
+    abbrev xs : List PoolItem
+    xs = of_pool s.pool h
+
+    d : PoolFits (pool_options o) h i s
+    d = z.pools.fit.each i s there
+
+    pub number-is : s.pool ≡ i
+    number-is = d.number
+
+    fits : Fits s xs
+    fits = subst (λ p. Fits s (of_pool p h)) (sym d.number) d.fits
+
+    at-id : connection_at s x.id ≡ Some x
+    at-id = (held-at s r x has).1
+
+    holding-x : holding xs r ≡ Some x.id
+    holding-x = holding-is s xs fits r ∙ rw has refl
+
+    abbrev c : Complaint
+    c = record { pool = s.pool; address = s.address; connection = x.id; phase = operating; error = e }
+
+    complaint-is : complaint_of k act ≡ Some c
+    complaint-is =
+        ap (in_operation k r e) home-is
+        ∙ ap (λ (y : Option ℕ). Some (record { pool = s.pool; address = s.address; connection = unwrap_or y 0; phase = operating; error = e })) holding-x
+
+    current-is : is_current o k t c ≡ concerns_now w s x e
+    current-is =
+        let stale : is_stale (pool_options o) xs x.id ≡ is_outdated s x.id x.service = ap (λ p. is_stale p xs x.id) (sym d.options) ∙ outdated-is s xs fits.matches x.id x at-id in
+        rw (z.pools.fit.open_are s.address, stale) refl
+
+    -- the trouble of the row
+    abbrev pub complained : Case → Trouble
+    complained row = record { row = row; pool = s.pool; address = s.address; error = e; wire = unwrap_or x.wire (pos 0); service = x.service }
+
+    abbrev complained-of : Option Case → Option Trouble
+    complained-of None = None
+    complained-of (Some row) = Some (complained row)
+
+    trouble-row : (y : Option Case) → current_trouble k c y ≡ complained-of y
+    trouble-row None = refl
+    trouble-row (Some row) = rw (live-wired s xs fits.matches x.id x at-id, live-served s xs fits.matches x.id x at-id) refl
+
+    -- a current error of a row is its trouble
+    pub trouble-told : (row : Case) → concerns_now w s x e ≡ true → case_of operating e ≡ Some row → trouble_of o k t act ≡ Some (complained row)
+    trouble-told row current case =
+        ap (complaint_trouble o k t) complaint-is
+        ∙ (ap (λ b. if b then current_trouble k c (case_of operating e) else None) (current-is ∙ current)
+        ∙ (ap (current_trouble k c) case ∙ trouble-row (Some row)))
+
+    -- and no other is one
+    pub trouble-none : concerns_now w s x e && is_some (case_of operating e) ≡ false → trouble_of o k t act ≡ None
+    trouble-none none = ap (complaint_trouble o k t) complaint-is ∙ (ap (λ b. if b then current_trouble k c (case_of operating e) else None) current-is ∙ on (concerns_now w s x e) (case_of operating e) none)
+      where
+        on : (b : Bool) (y : Option Case) → b && is_some y ≡ false → (if b then current_trouble k c y else None) ≡ None
+        on false y f = refl
+        on true None f = refl
+        on true (Some row) f = cc

@@ -1,0 +1,25 @@
+-- An act of one pool: where it is found, asked, planned and done, and what it leaves.
+pub mod FoundAt
+pub mod RefusedByItsRows
+pub mod AnswerOfAll
+pub mod AcceptedAct
+pub mod BecomesOfAct
+pub mod StandsAfter
+pub mod OneAnswer
+pub mod PlannedAct
+pub mod TwoSteps
+pub mod ChangesInOrder
+pub mod OthersStay
+pub mod SameKnowledge
+pub mod SameHistories
+pub mod DriversOwnAct
+pub mod FactsWithoutAct
+pub mod FactsLeaveOthers
+pub mod OpenAtOneAddress
+pub mod OpenedWhereNone
+pub mod JobsAreThere
+pub mod WarmGetsPending
+pub mod HandedOut
+pub mod NoJobLeavesAll
+pub mod TellsNoTopology
+pub mod NumbersWithinLimits

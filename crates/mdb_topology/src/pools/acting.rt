@@ -1,0 +1,81 @@
+//! What becomes of an act of one pool.
+
+ghost use Rattle.std.specs.Prelude.{◌≡◌, ◌≤◌, IfOk, OnErr, List, None, All, length, true};
+ghost use Rattle.mdb_topology.specs.Finding.{is_pool_act};
+
+use crate::pools::pool_decision::PoolDecision;
+use crate::pools::Pools;
+use mdb_base::OutOfMemory;
+use mdb_log::{Act, Refused, Step};
+use std::alloc::Global;
+
+/// The act is one of those of one pool that clear none.
+pub(crate) fn is_pool_act(act: &Act) -> bool
+    ensures { result ≡ is_pool_act act.now }
+{
+    match act {
+        Act::Request(_, _) | Act::Warm(_, _) | Act::Maintain(_) | Act::Expire(_) => true,
+        Act::Collect(_) | Act::Claim | Act::GiveUp(_) | Act::Established(_, _, _) => true,
+        Act::Return(_, _) | Act::Pin(_) | Act::Replicate(_, _) => true,
+        Act::Take(_, _, _) | Act::Unpin(_, _) => true,
+        _ => false,
+    }
+}
+
+impl Pools {
+    ghost use Rattle.mdb_base.specs.declared.options.Options.{Options};
+    ghost use Rattle.mdb_log.specs.History.{Item, last_moment};
+    ghost use Rattle.mdb_log.specs.Opening.{pool_options};
+    ghost use Rattle.mdb_topology.specs.Asking.{Lacks};
+    ghost use Rattle.mdb_topology.specs.Description.{description_of};
+    ghost use Rattle.mdb_topology.specs.Finding.{is_pool_act, names_known};
+    ghost use Rattle.mdb_topology.specs.Refusal.{refusal};
+    ghost use Rattle.mdb_topology.specs.Standing.{PoolsStand};
+    ghost use Rattle.mdb_topology.specs.Taking.{IsReady, Performs};
+
+    // The act uses up the number of a party that some pool knows.
+    fn names_known(&self, act: &Act) -> bool
+        ensures { result ≡ names_known self.now.cores.items act.now }
+    {
+        match act {
+            Act::Request(party, _) | Act::Warm(party, _) => self.knows(*party),
+            Act::Take(party, _, _) => self.knows(*party),
+            _ => false,
+        }
+    }
+
+    // What becomes of an act that concerns no pool: a claim finds no job, and all others are refused.
+    fn without_pool(&self, act: &Act) -> PoolDecision
+        ensures { Lacks self.now.cores.items act.now result }
+    {
+        PoolDecision::Refused(match act {
+            Act::Request(_, _) | Act::Warm(_, _) => Refused::UnknownServer,
+            Act::Maintain(_) | Act::Expire(_) => Refused::UnknownServer,
+            Act::Collect(_) | Act::GiveUp(_) => Refused::UnknownRequest,
+            Act::Established(_, _, _) => Refused::NotPending,
+            Act::Return(_, _) | Act::Pin(_) => Refused::NotHolder,
+            Act::Take(party, _, _) if self.knows(*party) => Refused::RequestKnown,
+            Act::Replicate(_, _) | Act::Take(_, _, _) | Act::Unpin(_, _) => Refused::Unpinned,
+            _ => return PoolDecision::Idle,
+        })
+    }
+
+    /// What becomes of an act of one pool, at or after the last moment. The pools stay as they are.
+    pub(crate) fn act(&mut self, alloc: Global, step: &Step) -> Result<PoolDecision, OutOfMemory>
+        requires act { is_pool_act step.now.act ≡ true }
+        requires in_time { self.old.last ≤ step.now.moment }
+        requires early { All (λ s. s.last ≤ self.old.last) self.old.cores.items }
+        ensures same { self.new ≡ self.old }
+        ensures ready { IfOk result (λ outcome. IsReady self.old.cores.items step.now outcome) }
+        ensures performs { IfOk result (λ outcome. (o : Options) (h : List Item) → PoolsStand (pool_options o) self.old.cores.items h → last_moment h ≡ self.old.last → length (description_of o h).servers ≤ 128 → Performs o self.old.cores.items step.now outcome h) }
+        ensures wants { OnErr result ((o : Options) (h : List Item) → PoolsStand (pool_options o) self.old.cores.items h → last_moment h ≡ self.old.last → length (description_of o h).servers ≤ 128 → refusal o h step.now ≡ None) }
+    {
+        let Some(index) = self.index_of(&step.act) else {
+            return Ok(self.without_pool(&step.act));
+        };
+        if self.names_known(&step.act) {
+            return Ok(PoolDecision::Refused(Refused::RequestKnown));
+        }
+        self.ask(alloc, index, step)
+    }
+}

@@ -1,0 +1,38 @@
+//! The clear of a pool.
+
+ghost use Rattle.std.specs.Prelude.{◌≡◌, ◌<◌, OnOk, length, true};
+
+use crate::pools::pool_change::PoolChange;
+use crate::errors::marked::PoolTrouble;
+use crate::pools::Pools;
+use mdb_base::{Moment, OutOfMemory};
+use mdb_events::{Fact, Boxed};
+use mdb_log::{Act, Step};
+use std::alloc::Global;
+
+impl Pools {
+    ghost use Rattle.mdb_topology.specs.Marking.{AcceptsClear, Clears};
+
+    /// The pool at the index is to be cleared, or a service of it, where that is wanted.
+    pub(crate) fn plan_clear(
+        &mut self,
+        alloc: Global,
+        moment: Moment,
+        trouble: &PoolTrouble<'_>,
+        facts: &mut Vec<Fact>,
+        changes: &mut Vec<PoolChange>,
+    ) -> Result<(), OutOfMemory>
+        requires there { trouble.now.index < length self.old.cores.items }
+        requires accepted { trouble.now.clears ≡ true → AcceptsClear self.old.cores.items trouble.now.index moment trouble.now.service trouble.now.error.now }
+        ensures same { self.new ≡ self.old }
+        ensures clears { OnOk result (Clears trouble.now.clears self.old.cores.items trouble.now.index moment trouble.now.service trouble.now.error.now changes.old.items changes.new.items facts.old.items facts.new.items) }
+    {
+        let wanted = trouble.clears;
+        if !wanted {
+            return Ok(());
+        }
+        let error = Boxed::copy_of(alloc, trouble.error)?;
+        let act = Act::Clear(self.cores[trouble.index].number(), trouble.service, error);
+        self.plan_act(alloc, trouble.index, Step { moment, act }, facts, changes)
+    }
+}

@@ -1,0 +1,168 @@
+//! A pending connection of a pool fails, after a clear of the pool where that is wanted.
+
+ghost use Rattle.std.specs.Prelude.{◌≡◌, ◌<◌, ◌++◌, ◌∷◌, [], IfOk, OnOk, None, Some, slice_get, length, true, false};
+ghost use Rattle.mdb_log.specs.Acts.{IsPoolAct};
+ghost use Rattle.mdb_pool.specs.Planning.{IsDone};
+ghost use Rattle.mdb_pool.specs.Refusing.{refusal_now};
+ghost use Rattle.mdb_pool.specs.Core.{PoolCore as Core};
+ghost use Rattle.mdb_pool.specs.declared.planning.Answered.{Answered as Answer};
+ghost use Rattle.mdb_topology.specs.Failing.{PlansBoth};
+ghost use Rattle.mdb_topology.specs.Marking.{asked_of};
+
+use crate::pools::pool_change::PoolChange;
+use crate::errors::marked::{Asked, PoolTrouble};
+use crate::errors::marking::ask;
+use crate::pools::Pools;
+use mdb_base::{OutOfMemory, ServerAddress};
+use mdb_events::{Fact, Boxed};
+use mdb_log::{Act, Step};
+use mdb_pool::PoolCore;
+use mdb_pool::planning::{Answered, prepare};
+use std::alloc::{AllocError, Global};
+
+// Two steps, which the pool accepts one after the other, are answered, and their change comes after those before it.
+fn plan_two(
+    alloc: Global,
+    pool: &mut PoolCore,
+    index: usize,
+    first: Step,
+    second: &Step,
+    changes: &mut Vec<PoolChange>,
+) -> Result<(Answered, Answered), OutOfMemory>
+    requires first_act { IsPoolAct pool.old.pool first.act }
+    requires second_act { IsPoolAct pool.old.pool second.now.act }
+    requires first_accepted { refusal_now pool.old first ≡ None }
+    requires second_accepted { (t : Core) (a : Answer) → IsDone pool.old t first a → refusal_now t second.now ≡ None }
+    ensures same { pool.new ≡ pool.old }
+    ensures planned { IfOk result (λ made. PlansBoth pool.old index first second.now made.0 made.1 changes.old.items changes.new.items) }
+{
+    let mut steps = Vec::new(alloc);
+    steps.push(first)?;
+    let second = second.clone()?;
+    steps.push(second)?;
+    let (mut answers, plan) = prepare(alloc, pool, &steps)?;
+    let Some(later) = answers.pop() else {
+        unreachable!();
+    };
+    let Some(sooner) = answers.pop() else {
+        unreachable!();
+    };
+    changes.push(PoolChange::Alter(index, plan))?;
+    Ok((sooner, later))
+}
+
+// What an answer told comes after what was told before.
+fn tell(facts: &mut Vec<Fact>, answered: Answered) -> Result<(), AllocError>
+    ensures { OnOk result (facts.new.items ≡ facts.old.items ++ answered.facts) }
+{
+    let mut told = answered.facts.into_inner();
+    facts.append(&mut told)
+}
+
+// What the clear told, what is asked, and what the failure told.
+fn tell_both(
+    facts: &mut Vec<Fact>,
+    address: &ServerAddress,
+    asked: Asked,
+    cleared: Answered,
+    failed: Answered,
+) -> Result<(), AllocError>
+    ensures { OnOk result (facts.new.items ≡ ((facts.old.items ++ cleared.facts) ++ asked_of asked true address.now) ++ failed.facts) }
+{
+    tell(facts, cleared)?;
+    ask(facts, asked, true, address)?;
+    tell(facts, failed)
+}
+
+impl Pools {
+    ghost use Rattle.mdb_topology.specs.Acting.{step_of};
+    ghost use Rattle.mdb_topology.specs.Failing.{Fails, IsFailing, PlansAlone, PlansTwo, StillFails};
+    ghost use Rattle.mdb_topology.specs.Marking.{AcceptsClear, clear_act};
+
+    // The failure alone, after what is asked.
+    fn plan_failed(
+        &mut self,
+        alloc: Global,
+        step: &Step,
+        trouble: &PoolTrouble<'_>,
+        facts: &mut Vec<Fact>,
+        changes: &mut Vec<PoolChange>,
+    ) -> Result<(), OutOfMemory>
+        requires there { trouble.now.index < length self.old.cores.items }
+        requires failing { (s : Core) → slice_get self.old.cores.items trouble.now.index ≡ Some s → IsFailing s step.now trouble.now.error.now }
+        ensures same { self.new ≡ self.old }
+        ensures planned { OnOk result (PlansAlone self.old.cores.items trouble.now.index step.now trouble.now.asked changes.old.items changes.new.items facts.old.items facts.new.items) }
+    {
+        ask(
+            facts,
+            trouble.asked,
+            false,
+            self.cores[trouble.index].address(),
+        )?;
+        let step = step.clone()?;
+        self.plan_act(alloc, trouble.index, step, facts, changes)
+    }
+
+    // The clear, what is asked, and the failure.
+    fn plan_both(
+        &mut self,
+        alloc: Global,
+        clear: Step,
+        step: &Step,
+        trouble: &PoolTrouble<'_>,
+        facts: &mut Vec<Fact>,
+        changes: &mut Vec<PoolChange>,
+    ) -> Result<(), OutOfMemory>
+        requires there { trouble.now.index < length self.old.cores.items }
+        requires moment { clear.moment ≡ step.now.moment }
+        requires acts { (s : Core) → slice_get self.old.cores.items trouble.now.index ≡ Some s → IsPoolAct s.pool clear.act × IsPoolAct s.pool step.now.act }
+        requires accepted { (s : Core) → slice_get self.old.cores.items trouble.now.index ≡ Some s → refusal_now s clear ≡ None }
+        requires still { (s : Core) → slice_get self.old.cores.items trouble.now.index ≡ Some s → (t : Core) (a : Answer) → IsDone s t clear a → refusal_now t step.now ≡ None }
+        ensures same { self.new ≡ self.old }
+        ensures planned { OnOk result (PlansTwo self.old.cores.items trouble.now.index (λ p. clear.act) step.now trouble.now.asked changes.old.items changes.new.items facts.old.items facts.new.items) }
+    {
+        let (cleared, failed) = plan_two(
+            alloc,
+            &mut self.cores[trouble.index],
+            trouble.index,
+            clear,
+            step,
+            changes,
+        )?;
+        tell_both(
+            facts,
+            self.cores[trouble.index].address(),
+            trouble.asked,
+            cleared,
+            failed,
+        )?;
+        Ok(())
+    }
+
+    /// A pending connection of the pool at the index fails by the step, after a clear by the error where that is wanted.
+    pub(crate) fn plan_failure(
+        &mut self,
+        alloc: Global,
+        step: &Step,
+        trouble: &PoolTrouble<'_>,
+        facts: &mut Vec<Fact>,
+        changes: &mut Vec<PoolChange>,
+    ) -> Result<(), OutOfMemory>
+        requires there { trouble.now.index < length self.old.cores.items }
+        requires failing { (s : Core) → slice_get self.old.cores.items trouble.now.index ≡ Some s → IsFailing s step.now trouble.now.error.now }
+        requires still { (s : Core) → slice_get self.old.cores.items trouble.now.index ≡ Some s → StillFails s step.now trouble.now.service trouble.now.error.now }
+        requires accepted { trouble.now.clears ≡ true → AcceptsClear self.old.cores.items trouble.now.index step.now.moment trouble.now.service trouble.now.error.now }
+        ensures same { self.new ≡ self.old }
+        ensures fails { OnOk result (Fails trouble.now.clears self.old.cores.items trouble.now.index step.now trouble.now.service trouble.now.error.now trouble.now.asked changes.old.items changes.new.items facts.old.items facts.new.items) }
+    {
+        let wanted = trouble.clears;
+        if !wanted {
+            return self.plan_failed(alloc, step, trouble, facts, changes);
+        }
+        let error = Boxed::copy_of(alloc, trouble.error)?;
+        let act = Act::Clear(self.cores[trouble.index].number(), trouble.service, error);
+        let moment = step.moment;
+        let clear = Step { moment, act };
+        self.plan_both(alloc, clear, step, trouble, facts, changes)
+    }
+}
