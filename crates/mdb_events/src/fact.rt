@@ -1,5 +1,6 @@
 //! What a step of the driver makes known.
 
+use crate::boxed::Boxed;
 use crate::cmap::CmapEvent;
 use crate::end::End;
 use crate::boxed::Boxed;

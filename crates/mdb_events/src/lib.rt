@@ -1,6 +1,7 @@
 //! The events of connection pools, servers and topologies, and the facts that a step makes, with their exact texts.
 #![tactic(auto)]
 
+mod boxed;
 mod cmap;
 mod cmap_from;
 mod cmap_text;
@@ -14,6 +15,7 @@ mod sdam_from;
 mod sdam_text;
 mod words;
 
+pub use boxed::Boxed;
 pub use cmap::{
     CmapEvent, ConnectionCheckedInEvent, ConnectionCheckedOutEvent, ConnectionCheckoutFailedEvent,
     ConnectionCheckoutStartedEvent, ConnectionClosedEvent, ConnectionCreatedEvent, ConnectionInfo,

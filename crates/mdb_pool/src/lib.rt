@@ -10,6 +10,7 @@ mod pool_core;
 mod reading;
 mod steps;
 
+pub use kept::status::PoolState;
 pub use mdb_log::{
     Act, BeatenResult, ConnectionGeneration, Core, DEFAULT_MAX_POOL_SIZE, Entry, Established,
     FailedAt, HelloResult, Job, LoadBalancedGeneration, Log, PinnedConnectionHandle,

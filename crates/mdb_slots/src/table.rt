@@ -4,6 +4,7 @@ ghost use Rattle.std.specs.Prelude.{◌≡◌, [], length, OnOk, OnErr, option_c
 ghost use Rattle.mdb_slots.specs.Keyed.{entry_at, entry_after, entry_before, first_of, last_of, others, put, swap};
 ghost use Rattle.mdb_slots.specs.Table.{Fits, Plans, items, nothing_shelved, shelf_after, capacity_after};
 
+use crate::indexed_slots::IndexedSlots;
 use crate::keyed::Keyed;
 use crate::indexed_slots::IndexedSlots;
 use crate::records::Record;

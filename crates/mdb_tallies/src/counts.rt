@@ -7,6 +7,7 @@ ghost use Rattle.mdb_tallies.specs.Standing.{is_lent};
 
 use crate::occurrence::How;
 use crate::connection::Connection;
+use crate::occurrence::How;
 use crate::party::{Gift, Party};
 use mdb_base::OutOfMemory;
 

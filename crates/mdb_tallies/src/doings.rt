@@ -5,6 +5,7 @@ ghost use Rattle.mdb_tallies.specs.Kept.{PartyDid, Covers};
 
 use crate::occurrence::How;
 use crate::counts::{by_party, is_done};
+use crate::occurrence::How;
 use crate::tables::Tables;
 use mdb_base::OutOfMemory;
 

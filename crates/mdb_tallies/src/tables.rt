@@ -7,6 +7,7 @@ ghost use Rattle.mdb_tallies.specs.Kept.{Replaces, Stands};
 
 use crate::connection::{Connection, Place};
 use crate::counts::{exchange, one_if};
+use crate::default_map::DefaultMap;
 use crate::lists::Lists;
 use crate::party::{Gift, Party};
 use crate::pools::Pool;

@@ -9,6 +9,8 @@ ghost use Rattle.mdb_topology.specs.Description.{with_balancers, begins_with, un
 ghost use Rattle.mdb_topology.specs.Events.{opening_fact};
 ghost use Rattle.mdb_topology.specs.Opening.{IsOpened, Publishes};
 
+use crate::known::sdam_facts::tell_event;
+use crate::known::topology_change::TopologyChange;
 use crate::pools::Pools;
 use crate::known::sdam_facts::tell_event;
 use crate::known::topology_change::TopologyChange;

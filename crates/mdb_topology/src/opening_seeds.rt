@@ -9,6 +9,7 @@ ghost use Rattle.mdb_topology.specs.Logging.{opening_step};
 ghost use Rattle.mdb_topology.specs.Opening.{IsOpened};
 ghost use Rattle.mdb_topology.specs.Monitors.{setting};
 
+use crate::known::telling_changes::push_monitor;
 use crate::opening::{Opening, open};
 use crate::pools::Pools;
 use crate::known::telling_changes::push_monitor;

@@ -10,6 +10,7 @@ use crate::monitors::monitoring::Monitoring;
 use crate::transition::{Transition, Decision};
 use crate::pools::pool_decision::PoolDecision;
 use crate::topology::TopologyCore;
+use crate::transition::{Decision, Transition};
 use mdb_base::{Moment, OutOfMemory};
 use mdb_describe::TopologyDescription;
 use mdb_events::Fact;

@@ -13,6 +13,7 @@ use crate::errors::complaining::{has_row, is_hard, service_cleared};
 use crate::errors::marked::{Asked, PoolTrouble};
 use crate::transition::{Transition, Decision};
 use crate::topology::TopologyCore;
+use crate::transition::{Decision, Transition};
 use mdb_base::{Error, ObjectId, OutOfMemory, ServerAddress};
 use mdb_log::{Refused, Reply, Step, What};
 use mdb_pool::PoolCore;

@@ -9,6 +9,7 @@ use crate::errors::marked::PoolTrouble;
 use crate::monitors::monitoring::Monitoring;
 use crate::transition::Transition;
 use crate::topology::TopologyCore;
+use crate::transition::Transition;
 use mdb_base::{OutOfMemory, ServerAddress};
 use mdb_events::SdamEvent;
 use mdb_log::{Reply, Step};

@@ -19,6 +19,7 @@ use crate::errors::complaining::is_hard;
 use crate::errors::marked::{Asked, PoolTrouble};
 use crate::transition::{Transition, Decision};
 use crate::topology::TopologyCore;
+use crate::transition::{Decision, Transition};
 use mdb_base::{Error, ObjectId, OutOfMemory, ServerAddress};
 use mdb_describe::TopologyDescription;
 use mdb_events::Fact;

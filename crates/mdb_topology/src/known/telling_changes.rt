@@ -11,6 +11,7 @@ use crate::pools::pool_change::PoolChange;
 use crate::monitors::monitoring::Monitoring;
 use crate::transition::Transition;
 use crate::topology::TopologyCore;
+use crate::transition::Transition;
 use mdb_base::{Options, ServerAddress};
 use mdb_describe::TopologyDescription;
 use mdb_events::Fact;

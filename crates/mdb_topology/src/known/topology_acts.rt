@@ -8,6 +8,7 @@ ghost use Rattle.mdb_log.specs.declared.checked.HelloResult.TheVariants.{Ok as R
 use crate::transition::{Transition, Decision};
 use crate::known::sdam_facts::tell_event;
 use crate::topology::TopologyCore;
+use crate::transition::{Decision, Transition};
 use mdb_base::{ClusterTime, Nanos, OutOfMemory, ServerAddress};
 use mdb_events::{Fact, SdamEvent, TopologyClosedEvent};
 use mdb_hello::HelloCommandResponse;

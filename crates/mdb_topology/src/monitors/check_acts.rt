@@ -10,6 +10,7 @@ use crate::monitors::monitoring::Monitoring;
 use crate::transition::{Transition, Decision};
 use crate::known::sdam_facts::sdam_fact;
 use crate::topology::TopologyCore;
+use crate::transition::{Decision, Transition};
 use mdb_base::{OutOfMemory, ServerAddress};
 use mdb_events::{Fact, SdamEvent};
 use mdb_log::{Refused, Reply, Step, What};

@@ -9,6 +9,7 @@ use crate::monitors::monitoring::Monitoring;
 use crate::transition::{Transition, Decision};
 use crate::known::rules::hello_reply;
 use crate::topology::TopologyCore;
+use crate::transition::{Decision, Transition};
 use mdb_base::{Moment, Nanos, OutOfMemory, ServerAddress};
 use mdb_describe::TopologyDescription;
 use mdb_events::SdamEvent;

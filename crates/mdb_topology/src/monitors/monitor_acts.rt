@@ -6,6 +6,7 @@ ghost use Rattle.mdb_log.specs.declared.step.Act.TheVariants.{Rtt as RttAct, Wan
 use crate::monitors::monitoring::Monitoring;
 use crate::transition::{Transition, Decision};
 use crate::topology::TopologyCore;
+use crate::transition::{Decision, Transition};
 use mdb_base::{Nanos, OutOfMemory, ServerAddress};
 use mdb_log::{Refused, Reply, Step};
 use mdb_monitor::MonitorCore;

@@ -5,6 +5,7 @@ ghost use Rattle.mdb_topology.specs.Finding.{is_pool_act};
 
 use crate::pools::pool_decision::PoolDecision;
 use crate::pools::Pools;
+use crate::pools::pool_decision::PoolDecision;
 use mdb_base::OutOfMemory;
 use mdb_log::{Act, Refused, Step};
 use std::alloc::Global;

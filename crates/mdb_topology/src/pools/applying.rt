@@ -4,6 +4,7 @@ ghost use Rattle.std.specs.Prelude.{◌≡◌, ◌≤◌, ◌+◌, List, length,
 
 use crate::pools::pool_change::PoolChange;
 use crate::pools::Pools;
+use crate::pools::pool_change::PoolChange;
 use mdb_base::OutOfMemory;
 use mdb_pool::planning::apply;
 

@@ -8,6 +8,7 @@ ghost use Rattle.mdb_topology.specs.Finding.{is_pool_act};
 
 use crate::pools::pool_decision::PoolDecision;
 use crate::pools::Pools;
+use crate::pools::pool_decision::PoolDecision;
 use mdb_base::OutOfMemory;
 use mdb_log::Step;
 use mdb_pool::PoolCore;

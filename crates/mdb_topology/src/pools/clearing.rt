@@ -5,6 +5,7 @@ ghost use Rattle.std.specs.Prelude.{◌≡◌, ◌<◌, OnOk, length, true};
 use crate::pools::pool_change::PoolChange;
 use crate::errors::marked::PoolTrouble;
 use crate::pools::Pools;
+use crate::pools::pool_change::PoolChange;
 use mdb_base::{Moment, OutOfMemory};
 use mdb_events::{Fact, Boxed};
 use mdb_log::{Act, Step};

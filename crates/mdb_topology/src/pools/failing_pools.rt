@@ -13,6 +13,7 @@ use crate::pools::pool_change::PoolChange;
 use crate::errors::marked::{Asked, PoolTrouble};
 use crate::errors::marking::ask;
 use crate::pools::Pools;
+use crate::pools::pool_change::PoolChange;
 use mdb_base::{OutOfMemory, ServerAddress};
 use mdb_events::{Fact, Boxed};
 use mdb_log::{Act, Step};

@@ -8,6 +8,7 @@ ghost use Rattle.mdb_pool.specs.Core.{PoolCore as Core};
 
 use crate::pools::pool_change::PoolChange;
 use crate::pools::Pools;
+use crate::pools::pool_change::PoolChange;
 use mdb_base::OutOfMemory;
 use mdb_events::Fact;
 use mdb_log::Step;
