@@ -1,19 +1,21 @@
 //! Why the connections among the parts of a pool are closed.
 
-ghost use Rattle.std.specs.Prelude.{◌≡◌};
+ghost use Rattle.std.specs.Prelude.{◌≡◌, is_some, true};
 ghost use Rattle.mdb_pool.specs.Body.{now_of};
 
 use crate::kept::body::Body;
-use crate::kept::clears::{cleared_since, count_timeouts, is_dropped};
+use crate::kept::clears::is_dropped;
 use crate::kept::connection::Connection;
 use mdb_base::{Moment, ObjectId};
 use mdb_events::ConnectionClosedReason;
 
 impl Body {
-    ghost use Rattle.mdb_pool.specs.Kept.{stale_for, idle_since, perished_now, reason_now, timeouts_in, first_perished};
+    ghost use Rattle.mdb_pool.specs.Kept.{connection_at, stale_for, idle_since, perished_now, reason_now, timeouts_in, first_perished};
 
-    // A connection of the service would be stale.
+    // A connection of the service, which lives, would be stale.
+    #[tactic(auto, using(crate::proofs::Follows::Stale::since_is))]
     pub(crate) fn stale_for(&self, id: u32, service: Option<ObjectId>) -> bool
+        requires { is_some (connection_at (now_of self.now) id) ≡ true }
         ensures { result ≡ stale_for (now_of self.now) id service }
     {
         let named = if self.options.load_balanced {
@@ -24,7 +26,7 @@ impl Body {
         if self.options.load_balanced && named.is_none() {
             return false;
         }
-        cleared_since(self.clears.as_slice(), id, named)
+        self.connections.generation_before(id, named) != self.connections.generation(named)
     }
 
     // It would have been available for too long.
@@ -43,6 +45,7 @@ impl Body {
         moment: Moment,
         connection: Connection,
     ) -> Option<ConnectionClosedReason>
+        requires { is_some (connection_at (now_of self.now) connection.id) ≡ true }
         ensures { result ≡ perished_now (now_of self.now) moment connection }
     {
         if self.stale_for(connection.id, connection.service) {
@@ -56,13 +59,14 @@ impl Body {
 
     // How many clears by a network timeout the pool had.
     pub(crate) fn timeouts(&self) -> usize
-        ensures { result ≡ timeouts_in self.now.clears.now }
+        ensures { result ≡ timeouts_in self.now.connections.clears }
     {
-        count_timeouts(self.clears.as_slice())
+        self.connections.timeouts()
     }
 
     // Why a connection is closed when it comes back.
     pub(crate) fn reason_now(&self, connection: Connection) -> Option<ConnectionClosedReason>
+        requires { is_some (connection_at (now_of self.now) connection.id) ≡ true }
         ensures { result ≡ reason_now (now_of self.now) connection }
     {
         if self.status.get().is_closed() {
