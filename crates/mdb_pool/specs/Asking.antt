@@ -12,12 +12,12 @@ use Rattle.mdb_pool.specs.Inner.{Asked, AskedRoom}
 use Rattle.mdb_pool.specs.Kept.{if_lingers, lingers, request_in}
 use Rattle.mdb_pool.specs.Places.{is_done, is_queued}
 
--- Memory has those that have not left, of these the numbers that are settled, and all numbers that ever asked.
-pub record RequestsFit (all : List Request) (settled : List ℕ) (kept : List Request) (told known : List ℕ) : Type 0 where
+-- Memory has those that have not left, of these the numbers that are settled, and all numbers that ever asked, where the pool stands alone.
+pub record RequestsFit (all : List Request) (settled : List ℕ) (kept : List Request) (told : List ℕ) (alone : Bool) (known : List ℕ) : Type 0 where
   pub single : apart (map (λ q. q.number) all) ≡ true
   pub kept_is : kept ≡ filter (lingers settled) all
   pub told_is : (r : ℕ) → is_some (entry_at (λ k. k) r told) ≡ (is_some (request_in kept r) && has r settled)
-  pub known_is : (r : ℕ) → among r known ≡ is_some (request_in all r)
+  pub known_is : alone ≡ true → (r : ℕ) → among r known ≡ is_some (request_in all r)
   pub noted : (r : ℕ) → has r settled ≡ true → is_some (request_in all r) ≡ true
 
 -- changes of them
@@ -36,23 +36,23 @@ pub record OpenRequests : Type 0 where
   pub capacity : AskedRoom
 
 abbrev pub asked_base : RequestParts → Asked
-asked_base p = record { all = p.all_base.value; settled = p.settled_base.value; kept = p.kept.base; told = p.told.base; known = p.known.base }
+asked_base p = record { alone = p.alone; all = p.all_base.value; settled = p.settled_base.value; kept = p.kept.base; told = p.told.base; known = p.known.base }
 
 abbrev pub asked_room : RequestParts → AskedRoom
 asked_room p = record { kept = p.kept.capacity; told = p.told.capacity; known = p.known.capacity }
 
 abbrev pub PartsFit : RequestParts → Type 0
-PartsFit p = RequestsFit p.all.value p.settled.value p.kept.now p.told.now p.known.now
+PartsFit p = RequestsFit p.all.value p.settled.value p.kept.now p.told.now p.alone p.known.now
 
 abbrev pub asked_after : AskedSteps → Asked → Asked
-asked_after p s = record { all = p.all; settled = p.settled; kept = sided_after p.kept s.kept; told = shelf_after p.told s.told; known = spanned_after p.known s.known }
+asked_after p s = record { alone = s.alone; all = p.all; settled = p.settled; kept = sided_after p.kept s.kept; told = shelf_after p.told s.told; known = spanned_after p.known s.known }
 
 abbrev pub asked_room_after : AskedSteps → AskedRoom → AskedRoom
 asked_room_after p r = record { kept = sided_capacity_after p.kept r.kept; told = table_capacity_after p.told r.told; known = capacity_after p.known r.known }
 
 -- what the requests are read from has them all
 abbrev pub BaseFits : Asked → Type 0
-BaseFits s = RequestsFit s.all s.settled (items s.kept.table) (items s.told) (numbers_kept s.known)
+BaseFits s = RequestsFit s.all s.settled (items s.kept.table) (items s.told) s.alone (numbers_kept s.known)
 
 -- the changes can be made without memory
 abbrev pub AskedFits : AskedSteps → Asked → AskedRoom → Type 0

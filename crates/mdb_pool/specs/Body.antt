@@ -39,6 +39,7 @@ pool_of i = record {
   clears = i.base.clears.all;
   settled = i.base.requests.settled;
   claimed = i.base.claimed.numbers;
+  alone = i.base.requests.alone;
   inner = i;
 }
 
@@ -116,5 +117,6 @@ now_of b = record {
   clears = b.connections.clears;
   settled = b.requests.settled;
   claimed = b.connections.claimed;
+  alone = b.requests.base.alone;
   inner = inner_of b;
 }

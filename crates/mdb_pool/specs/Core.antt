@@ -1,5 +1,5 @@
 -- What a pool keeps.
-use Rattle.std.specs.Prelude.{ℕ, ◌≡◌, List}
+use Rattle.std.specs.Prelude.{ℕ, ◌≡◌, Bool, List}
 use Rattle.mdb_base.specs.declared.address.ServerAddress.{ServerAddress}
 use Rattle.mdb_log.specs.declared.options.PoolOptions.{PoolOptions}
 use Rattle.mdb_pool.specs.declared.kept.connection.Connection.{Connection}
@@ -9,7 +9,8 @@ use Rattle.mdb_pool.specs.declared.kept.status.Clear.{Clear}
 use Rattle.mdb_pool.specs.Inner.{Inner}
 
 -- a pool: the moment of its last step, how many connections it created, its connections and requests in the order in which they were put, its state
--- and its clears, the requests whose outcome was told or that gave up or came back, the connections that a claim was told to establish, and what it is read from
+-- and its clears, the requests whose outcome was told or that gave up or came back, the connections that a claim was told to establish, whether it stands alone, and so keeps the numbers of all
+-- its parties, as in a driver the driver does, and what it is read from
 pub record PoolCore : Type 0 where
   pub pool : ℕ
   pub address : ServerAddress
@@ -22,6 +23,7 @@ pub record PoolCore : Type 0 where
   pub clears : List Clear
   pub settled : List ℕ
   pub claimed : List ℕ
+  pub alone : Bool
   pub inner : Inner
 
 -- the two pools keep the same, whatever they are read from

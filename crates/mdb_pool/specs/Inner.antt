@@ -1,5 +1,5 @@
 -- What a pool is read from, and its room. No history speaks of it.
-use Rattle.std.specs.Prelude.{ℕ, List}
+use Rattle.std.specs.Prelude.{ℕ, Bool, List}
 use Rattle.mdb_base.specs.declared.address.ServerAddress.{ServerAddress}
 use Rattle.mdb_log.specs.declared.options.PoolOptions.{PoolOptions}
 use Rattle.mdb_slots.specs.NumberSet.{Spanned}
@@ -21,8 +21,9 @@ pub record Cleared : Type 0 where
   pub all : List Clear
   pub marks : Marks
 
--- all requests and those that are settled, and what memory keeps: those that have not left, of these the settled ones, and all numbers
+-- all requests and those that are settled, and what memory keeps: those that have not left, of these the settled ones, and all numbers where the pool stands alone
 pub record Asked : Type 0 where
+  pub alone : Bool
   pub all : List Request
   pub settled : List ℕ
   pub kept : SidedShelf Request

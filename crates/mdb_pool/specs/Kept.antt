@@ -384,3 +384,7 @@ kept_holder s x = of_holder x.holder
 -- those that have not left
 abbrev pub kept_requests : PoolCore → List Request
 kept_requests s = filter (lingers s.settled) s.requests
+
+-- the pool is closed and nothing of it lives: it has no connection, and each of its requests has left
+abbrev pub is_spent : PoolCore → Bool
+is_spent s = is_shut s.status && ((length s.connections == 0) && (length (kept_requests s) == 0))

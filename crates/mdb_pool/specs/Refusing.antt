@@ -1,5 +1,5 @@
 -- When a pool refuses a step, by what it keeps: the rows of its refusals in their order, each over the kept values.
-use Rattle.std.specs.Prelude.{ℕ, Bool, not, ◌&&◌, ◌==◌, nat_lt, is_some, List, [], ◌∷◌, Option}
+use Rattle.std.specs.Prelude.{ℕ, ◌≡◌, Bool, true, false, not, ◌&&◌, ◌||◌, ◌==◌, nat_lt, is_some, List, [], ◌∷◌, Option, All, ⊤}
 use Rattle.mdb_base.specs.declared.address.ServerAddress.{ServerAddress}
 use Rattle.mdb_base.specs.Equality.{same_address}
 use Rattle.mdb_log.specs.declared.step.Step.{Step}
@@ -46,3 +46,26 @@ rows_now s _ = []
 -- the refusal of a step, None where it is accepted
 abbrev pub refusal_now : PoolCore → Step → Option Refused
 refusal_now s step = first_row ((nat_lt step.moment s.last, TimeBack s.last) ∷ rows_now s step.act)
+
+-- the pool can tell whether the party is new: it stands alone, and keeps all numbers, or the party is new
+abbrev pub can_tell : PoolCore → ℕ → Bool
+can_tell s r = s.alone || not (is_some (request_at s r))
+
+-- it can tell so of the party that the act names for the first time, where it names one
+abbrev pub tells_new : PoolCore → Act → Bool
+tells_new s (Request r a) = can_tell s r
+tells_new s (Warm r a) = can_tell s r
+tells_new s (Take r q c) = can_tell s r
+tells_new s _ = true
+
+-- the act names no party for the first time
+abbrev pub names_nobody : Act → Bool
+names_nobody (Request r a) = false
+names_nobody (Warm r a) = false
+names_nobody (Take r q c) = false
+names_nobody _ = true
+
+-- Steps one after another: the pool can tell of the first, and of the others too, as it stands alone or they name nobody.
+abbrev pub TellsNew : PoolCore → List Step → Type 0
+TellsNew s [] = ⊤
+TellsNew s (step ∷ more) = (tells_new s step.act ≡ true) × All (λ x. (s.alone || names_nobody x.act) ≡ true) more

@@ -49,11 +49,12 @@ pub record StandsIn (s : PoolCore) (h : List Item) : Type 0 where
   pub opens : (r : ℕ) → has_asked (of_pool s.pool h) r ≡ true → is_open h r ≡ not (has r s.settled)
   pub claims : (c : ℕ) → is_claimed h s.pool c ≡ has c s.claimed
 
--- the number, the address and the options stay
+-- the number, the address and the options stay, and whether it stands alone
 pub record SameHome (s t : PoolCore) : Type 0 where
   pub pool : t.pool ≡ s.pool
   pub address : t.address ≡ s.address
   pub options : t.options ≡ s.options
+  pub alone : t.alone ≡ s.alone
 
 -- what was told and claimed, and what the pool is, stays
 pub record SameNotes (s t : PoolCore) : Type 0 where

@@ -5,6 +5,7 @@ ghost use Rattle.mdb_log.specs.Acts.{IsPoolAct};
 ghost use Rattle.mdb_log.specs.History.{Item};
 ghost use Rattle.mdb_pool.specs.Body.{led, pool_of, PoolFits};
 ghost use Rattle.mdb_pool.specs.Core.{PoolCore as Core};
+ghost use Rattle.mdb_pool.specs.Refusing.{TellsNew};
 ghost use Rattle.mdb_pool.specs.Standing.{StandsFor};
 ghost use Rattle.mdb_pool.specs.Planning.{LeadsTo, IsPrepared, Plans, IsPlanOf};
 
@@ -47,6 +48,7 @@ impl Draft {
     ) -> Result<(Vec<Answered>, Plan), OutOfMemory>
         requires committed { self.old ≡ pool_of self.old.inner }
         requires acts { All (λ step. IsPoolAct self.old.pool step.act) steps.now }
+        requires new { TellsNew self.old steps.now }
         ensures same { self.new ≡ self.old }
         ensures fits { IfOk result (λ made. PoolFits made.1 self.old.inner) }
         ensures does { IfOk result (λ made. LeadsTo self.old (led made.1 self.old) steps.now made.0.items) }
@@ -65,13 +67,14 @@ impl Draft {
 }
 
 /// The first part of steps that are taken one after another: it answers each as it is after those before it, and makes ready what the second part
-/// needs. The pool stays as it is, whatever the answer, and so do the plans that were made on it.
+/// needs. The pool stays as it is, whatever the answer, and so do the plans that were made on it. In a driver no step but the first names a party, and that party is new to the pool.
 pub fn prepare(
     alloc: Global,
     pool: &mut PoolCore,
     steps: &[Step],
 ) -> Result<(Vec<Answered>, Plan), OutOfMemory>
-    requires { All (λ step. IsPoolAct pool.old.pool step.act) steps.now }
+    requires acts { All (λ step. IsPoolAct pool.old.pool step.act) steps.now }
+    requires new { TellsNew pool.old steps.now }
     ensures same { pool.new ≡ pool.old }
     ensures plan { IfOk result (λ made. IsPlanOf made.1 pool.new) }
     ensures does { IfOk result (λ made. (t : Core) → Plans made.1 pool.new t → LeadsTo pool.old t steps.now made.0.items) }

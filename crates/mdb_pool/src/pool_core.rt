@@ -33,7 +33,8 @@ impl Model for PoolCore {
 }
 
 impl PoolCore {
-    ghost use Rattle.mdb_pool.specs.Kept.{held_connection, request_at, connection_at, is_open_now, id_at, wire_at, name_of, cause_of, state_in};
+    ghost use Rattle.mdb_pool.specs.Kept.{held_connection, request_at, connection_at, is_open_now, is_spent, id_at, wire_at, name_of, cause_of, state_in};
+    ghost use Rattle.mdb_pool.specs.Refusing.{can_tell};
     ghost use Rattle.mdb_log.specs.Connections.{has, held, pins, is_live, pending_list, holding, wire_of};
     ghost use Rattle.mdb_log.specs.Requests.{is_open};
     ghost use Rattle.mdb_log.specs.State.{state_of};
@@ -45,14 +46,21 @@ impl PoolCore {
     ghost use Rattle.mdb_log.specs.Limits.{WithinLimits};
     ghost use Rattle.mdb_log.specs.History.{Item, PoolItem, has_asked, has_party, of_pool, opening};
 
-    /// A pool that was just made: a load-balanced one is ready, a normal one new. Its sizes are at most 65,535.
-    pub fn new(alloc: Global, pool: u32, address: ServerAddress, options: PoolOptions) -> PoolCore
+    // A pool that was just made, and keeps the numbers of its parties where it stands alone.
+    fn made(
+        alloc: Global,
+        pool: u32,
+        address: ServerAddress,
+        options: PoolOptions,
+        alone: bool,
+    ) -> PoolCore
         ensures stands { StandsFor result (opening pool address options) }
         ensures none_left { NoneLeftWaiting options (of_pool pool (opening pool address options)) }
         ensures within { WithinLimits options (of_pool pool (opening pool address options)) }
         ensures pool { result.pool ≡ pool }
         ensures address { result.address ≡ address }
         ensures options { result.options ≡ options }
+        ensures alone { result.alone ≡ alone }
     {
         PoolCore {
             draft: Draft {
@@ -62,11 +70,42 @@ impl PoolCore {
                     options,
                     last: UndoCell::new(0),
                     connections: Connections::new(alloc),
-                    requests: Requests::new(alloc),
+                    requests: Requests::new(alloc, alone),
                     status: UndoCell::new(Status::at_first(options.load_balanced)),
                 },
             },
         }
+    }
+
+    /// A pool that was just made: a load-balanced one is ready, a normal one new. Its sizes are at most 65,535. It stands alone, and keeps the number of each party that it knew.
+    pub fn new(alloc: Global, pool: u32, address: ServerAddress, options: PoolOptions) -> PoolCore
+        ensures stands { StandsFor result (opening pool address options) }
+        ensures none_left { NoneLeftWaiting options (of_pool pool (opening pool address options)) }
+        ensures within { WithinLimits options (of_pool pool (opening pool address options)) }
+        ensures pool { result.pool ≡ pool }
+        ensures address { result.address ≡ address }
+        ensures options { result.options ≡ options }
+        ensures alone { result.alone ≡ true }
+    {
+        PoolCore::made(alloc, pool, address, options, true)
+    }
+
+    /// The same for a pool among others, of which the driver keeps the numbers of all parties: it is to be asked only by parties that are new to it.
+    pub fn new_in_driver(
+        alloc: Global,
+        pool: u32,
+        address: ServerAddress,
+        options: PoolOptions,
+    ) -> PoolCore
+        ensures stands { StandsFor result (opening pool address options) }
+        ensures none_left { NoneLeftWaiting options (of_pool pool (opening pool address options)) }
+        ensures within { WithinLimits options (of_pool pool (opening pool address options)) }
+        ensures pool { result.pool ≡ pool }
+        ensures address { result.address ≡ address }
+        ensures options { result.options ≡ options }
+        ensures alone { result.alone ≡ false }
+    {
+        PoolCore::made(alloc, pool, address, options, false)
     }
 
     /// The number of the pool.
@@ -117,8 +156,9 @@ impl PoolCore {
         }
     }
 
-    /// The party asked this pool, or took a pinned connection of it.
+    /// The party asked this pool, or took a pinned connection of it. A pool that stands alone can tell; one of a driver keeps no numbers.
     pub fn knows(&self, party: u32) -> bool
+        requires { can_tell self.now party ≡ true }
         ensures kept { result ≡ is_some (request_at self.now party) }
         ensures items { (xs : List PoolItem) → Fits self.now xs → result ≡ has_party xs party }
     {
@@ -131,6 +171,13 @@ impl PoolCore {
         ensures items { (xs : List PoolItem) → Fits self.now xs → result ≡ is_some (holding xs party) }
     {
         self.draft.body.holds(party)
+    }
+
+    /// It is closed and nothing of it lives: it has no connection, and each of its requests was told how it ended, and returned what it held. No call changes it any more but for its last moment.
+    pub fn is_spent(&self) -> bool
+        ensures { result ≡ is_spent self.now }
+    {
+        self.draft.body.is_spent()
     }
 
     /// The request was made at this pool, its outcome was not told yet, and its caller neither gave up nor returned the connection.

@@ -1,6 +1,6 @@
 //! What a pool with these parts answers to its getters.
 
-ghost use Rattle.std.specs.Prelude.{◌≡◌, is_some, nat_lt, false};
+ghost use Rattle.std.specs.Prelude.{◌≡◌, is_some, nat_lt, true, false};
 ghost use Rattle.mdb_log.specs.Connections.{has};
 ghost use Rattle.mdb_pool.specs.Body.{now_of};
 
@@ -9,13 +9,22 @@ use crate::kept::request::Phase;
 use mdb_base::ObjectId;
 
 impl Body {
-    ghost use Rattle.mdb_pool.specs.Kept.{held_connection, request_at, connection_at, is_pending_at, is_held_at, is_open_now, is_ended_at, pins_at, clears_for, exhausted_now};
+    ghost use Rattle.mdb_pool.specs.Kept.{held_connection, request_at, connection_at, is_pending_at, is_held_at, is_open_now, is_ended_at, is_spent, pins_at, clears_for, exhausted_now};
+    ghost use Rattle.mdb_pool.specs.Refusing.{can_tell};
 
     // The party asked this pool, or took a pinned connection of it.
     pub(crate) fn knows(&self, party: u32) -> bool
+        requires { can_tell (now_of self.now) party ≡ true }
         ensures { result ≡ is_some (request_at (now_of self.now) party) }
     {
         self.requests.knows(party)
+    }
+
+    // It is closed, has no connection, and each of its requests has left.
+    pub(crate) fn is_spent(&self) -> bool
+        ensures { result ≡ is_spent (now_of self.now) }
+    {
+        self.status.get().is_closed() && self.connections.len() == 0 && self.requests.len() == 0
     }
 
     // The party holds a connection of this pool.

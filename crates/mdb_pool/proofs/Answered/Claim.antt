@@ -64,7 +64,7 @@ pub claim-accepts : (s s0 s1 t : PoolCore) (before after : List Fact) (n : ℕ) 
     → Accepts s t before after n Claim reply xs xs
 claim-accepts s s0 s1 t before after n reply xs z s0_is s1_is home notes serves reply_is =
     let whole : s1 ≡ record (claiming s) { last = n } = s1_is ∙ ap {A = PoolCore} (λ k. record k { last = n }) s0_is in
-    let at_home : SameHome s s1 = rw whole (record { pool = refl; address = refl; options = refl }) in
+    let at_home : SameHome s s1 = rw whole (record { pool = refl; address = refl; options = refl; alone = refl }) in
     accepts s s1 t t before before after n Claim reply [] xs xs
     refl
     (sym (append-nil before)) at_home (rw whole (noted-fits s s.settled (claiming s).claimed n xs z)) serves

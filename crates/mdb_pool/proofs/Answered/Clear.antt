@@ -199,7 +199,7 @@ pub shut-accepts : (s s1 t : PoolCore) (before after : List Fact) (n q : ℕ) (s
 shut-accepts s s1 t before after n q service error xs z shut s1_is home notes serves =
     accepts s s1 t t before before after n (ClearAct q service error) Done [] xs xs
     (says-nothing s xs z n error (shut-status s.status shut) service)
-    (sym (append-nil before)) (rw s1_is (record { pool = refl; address = refl; options = refl })) (rw s1_is (later-fits s xs z n)) serves
+    (sym (append-nil before)) (rw s1_is (record { pool = refl; address = refl; options = refl; alone = refl })) (rw s1_is (later-fits s xs z n)) serves
     (λ zs w. w)
     (λ claims own zs m. refl)
     tt

@@ -251,7 +251,7 @@ close-accepts s s1 t before f1 after n q xs z unshut s1_is f1_is home notes serv
     accepts s s1 t t before f1 after n (CloseAct q) Done (closing_facts s n) xs xs
     (close-are s xs z n unshut)
     (f1_is ∙ (ap (λ k. (k ++ off_facts s n (unserved_ones s)) ++ pool_closed_fact s.pool s.address ∷ []) split ∙ (ap (λ k. k ++ pool_closed_fact s.pool s.address ∷ []) (append_assoc before (shut_facts s (available_ones s ++ pending_ones s)) (off_facts s n (unserved_ones s))) ∙ append_assoc before (shut_facts s (available_ones s ++ pending_ones s) ++ off_facts s n (unserved_ones s)) (pool_closed_fact s.pool s.address ∷ []))))
-    (rw s1_is (record { pool = refl; address = refl; options = refl }))
+    (rw s1_is (record { pool = refl; address = refl; options = refl; alone = refl }))
     (rw s1_is (subst (Fits (closing s n)) (sym (close-known s xs z n)) (close-fits s xs z n)))
     serves
     (λ zs w. w)
@@ -270,7 +270,7 @@ pub closed-accepts : (s s1 t : PoolCore) (before after : List Fact) (n q : ℕ) 
 closed-accepts s s1 t before after n q xs z shut s1_is home notes serves =
     accepts s s1 t t before before after n (CloseAct q) Done [] xs xs
     (close-nothing s xs z n shut)
-    (sym (append-nil before)) (rw s1_is (record { pool = refl; address = refl; options = refl })) (rw s1_is (later-fits s xs z n)) serves
+    (sym (append-nil before)) (rw s1_is (record { pool = refl; address = refl; options = refl; alone = refl })) (rw s1_is (later-fits s xs z n)) serves
     (λ zs w. w)
     (λ claims own zs m. refl)
     tt

@@ -21,7 +21,7 @@ pub collect-accepts : (s s1 t u : PoolCore) (before after : List Fact) (n r : �
     → ((k : List PoolItem) → Fits s1 k → Serves s1 t n before after k) → u ≡ telling t r → reply ≡ outcome_now t r
     → Accepts s u before after n (Collect r) reply xs xs
 collect-accepts s s1 t u before after n r reply xs z s1_is home notes serves u_is reply_is =
-    let at_home : SameHome s s1 = rw s1_is (record { pool = refl; address = refl; options = refl }) in
+    let at_home : SameHome s s1 = rw s1_is (record { pool = refl; address = refl; options = refl; alone = refl }) in
     accepts s s1 t u before before after n (Collect r) reply [] xs xs
     refl
     (sym (append-nil before)) at_home (rw s1_is (noted-fits s s.settled s.claimed n xs z)) serves

@@ -93,7 +93,7 @@ module _ (s : PoolCore) (xs : List PoolItem) (z : Fits s xs) (n : ℕ) (x : Conn
   established-accepts s1 t before f1 after q at_x place held at_q cold s1_is f1_is home notes serves =
       accepts s s1 t t before f1 after n (EstablishedAct s.pool x.id how) Done (up-facts q) xs ys
       (up-are q at_x place held at_q cold)
-      f1_is (rw s1_is (record { pool = refl; address = refl; options = refl })) (rw s1_is (establish-fits s xs z n x how q.number at_x place held (ap warm_of at_q ∙ cold))) serves
+      f1_is (rw s1_is (record { pool = refl; address = refl; options = refl; alone = refl })) (rw s1_is (establish-fits s xs z n x how q.number at_x place held (ap warm_of at_q ∙ cold))) serves
       (λ zs v. v)
       (λ claims own zs m. refl)
       tt
@@ -109,7 +109,7 @@ module _ (s : PoolCore) (xs : List PoolItem) (z : Fits s xs) (n : ℕ) (x : Conn
   rest-accepts s1 t before f1 after at_x place alone nobody s1_is f1_is home notes serves =
       accepts s s1 t t before f1 after n (EstablishedAct s.pool x.id how) Done (ready_fact s.pool s.address x.id (n - x.created_at) ∷ []) xs ys
       (rest-are at_x nobody)
-      f1_is (rw s1_is (record { pool = refl; address = refl; options = refl })) (rw s1_is (rest-fits s xs z n x how at_x place alone nobody)) serves
+      f1_is (rw s1_is (record { pool = refl; address = refl; options = refl; alone = refl })) (rw s1_is (rest-fits s xs z n x how at_x place alone nobody)) serves
       (λ zs v. v)
       (λ claims own zs m. refl)
       tt
@@ -130,8 +130,8 @@ module _ (s : PoolCore) (xs : List PoolItem) (z : Fits s xs) (n : ℕ) (x : Conn
       keeps f = cc
 
   pool-home-for : (o : Option ConnectionClosedReason) → SameHome s (pooling_for s n x how o)
-  pool-home-for None = record { pool = refl; address = refl; options = refl }
-  pool-home-for (Some w) = record { pool = refl; address = refl; options = refl }
+  pool-home-for None = record { pool = refl; address = refl; options = refl; alone = refl }
+  pool-home-for (Some w) = record { pool = refl; address = refl; options = refl; alone = refl }
 
   pool-notes-for : (o : Option ConnectionClosedReason) → SameNotes s (pooling_for s n x how o)
   pool-notes-for None = record { settled = refl; claimed = refl; status = refl }
@@ -198,7 +198,7 @@ module _ (s : PoolCore) (xs : List PoolItem) (z : Fits s xs) (n : ℕ) (x : Conn
       let open_then : shuts (said ++ Ended q.number Filled ∷ []) ≡ false = shut-append s.pool s.address s.options n said (Ended q.number Filled ∷ []) ∙ rw (back-open s up_x why) refl in
       accepts s s1 t t before f1 after n (EstablishedAct s.pool x.id how) Done (said ++ Ended q.number Filled ∷ []) xs ys
       (fill-are q at_x place held at_q hot)
-      (f1_is ∙ append_assoc before said (Ended q.number Filled ∷ [])) (rw s1_is (record { pool = (pool-home-for why).pool; address = (pool-home-for why).address; options = (pool-home-for why).options })) (rw s1_is (fill-fits-for q at_x place at_q phase why)) serves
+      (f1_is ∙ append_assoc before said (Ended q.number Filled ∷ [])) (rw s1_is (record { pool = (pool-home-for why).pool; address = (pool-home-for why).address; options = (pool-home-for why).options; alone = (pool-home-for why).alone })) (rw s1_is (fill-fits-for q at_x place at_q phase why)) serves
       (λ zs v. v)
       (λ claims own zs m. refl)
       tt

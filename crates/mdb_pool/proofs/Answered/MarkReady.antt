@@ -69,7 +69,7 @@ pub ready-accepts : (s s1 t : PoolCore) (before f1 after : List Fact) (n p : ℕ
 ready-accepts s s1 t before f1 after n p xs z s1_is f1_is home notes serves =
     accepts s s1 t t before f1 after n (ReadyAct p) Done (readied_facts s) xs xs
     (ready-are s xs z n s.status z.matches.clearing.status)
-    f1_is (rw s1_is (record { pool = refl; address = refl; options = refl })) (rw s1_is (ready-fits-for s xs z n s.status refl)) serves
+    f1_is (rw s1_is (record { pool = refl; address = refl; options = refl; alone = refl })) (rw s1_is (ready-fits-for s xs z n s.status refl)) serves
     (λ zs v. v)
     (λ claims own zs m. refl)
     tt

@@ -74,8 +74,8 @@ module _ (s : PoolCore) (xs : List PoolItem) (z : Fits s xs) (n : ℕ) (x : Conn
       keeps f = cc
 
   home-for : (o : Option ConnectionClosedReason) → SameHome s (returning_for s n used_x q o)
-  home-for None = record { pool = refl; address = refl; options = refl }
-  home-for (Some w) = record { pool = refl; address = refl; options = refl }
+  home-for None = record { pool = refl; address = refl; options = refl; alone = refl }
+  home-for (Some w) = record { pool = refl; address = refl; options = refl; alone = refl }
 
   notes-for : (o : Option ConnectionClosedReason) → ((returning_for s n used_x q o).settled ≡ marked q.number s.settled) × ((returning_for s n used_x q o).claimed ≡ s.claimed) × ((returning_for s n used_x q o).status ≡ s.status)
   notes-for None = (refl, refl, refl)
@@ -103,7 +103,7 @@ module _ (s : PoolCore) (xs : List PoolItem) (z : Fits s xs) (n : ℕ) (x : Conn
   stand-accepts s1 t before after held at_x place at_q phase some_pins s1_is home notes serves =
       accepts s s1 t t before before after n (ReturnAct q.number used) Done [] xs ys
       (stand-are held at_x some_pins)
-      (sym (append-nil before)) (rw s1_is (record { pool = refl; address = refl; options = refl })) (rw s1_is (stand-fits s xs z n x q at_x place at_q phase some_pins used)) serves
+      (sym (append-nil before)) (rw s1_is (record { pool = refl; address = refl; options = refl; alone = refl })) (rw s1_is (stand-fits s xs z n x q at_x place at_q phase some_pins used)) serves
       (λ zs v. v)
       (λ claims own zs m. refl)
       tt

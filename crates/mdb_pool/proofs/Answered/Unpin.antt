@@ -57,7 +57,7 @@ module _ (s : PoolCore) (xs : List PoolItem) (z : Fits s xs) (n : ℕ) (x : Conn
   unpin-accepts s1 t before after more s1_is home notes serves =
       accepts s s1 t t before before after n (Unpin s.pool x.id) Done [] xs ys
       (stays-are more)
-      (sym (append-nil before)) (rw s1_is (record { pool = refl; address = refl; options = refl })) (rw s1_is (unpin-fits s xs z n x at_x some_pins more)) serves
+      (sym (append-nil before)) (rw s1_is (record { pool = refl; address = refl; options = refl; alone = refl })) (rw s1_is (unpin-fits s xs z n x at_x some_pins more)) serves
       (λ zs v. v)
       (λ claims own zs m. refl)
       tt
@@ -82,7 +82,7 @@ module _ (s : PoolCore) (xs : List PoolItem) (z : Fits s xs) (n : ℕ) (x : Conn
   pin-end-accepts s1 t before f1 after place one s1_is f1_is home notes serves =
       accepts s s1 t t before f1 after n (Unpin s.pool x.id) Done (back_facts s x why) xs ys
       (ends-are (rw (place, one) refl))
-      f1_is (rw s1_is (record { pool = refl; address = refl; options = refl })) (rw s1_is (fits-for (is-pinned x.place place) one why)) serves
+      f1_is (rw s1_is (record { pool = refl; address = refl; options = refl; alone = refl })) (rw s1_is (fits-for (is-pinned x.place place) one why)) serves
       (λ zs v. v)
       (λ claims own zs m. refl)
       tt

@@ -51,8 +51,8 @@ module _ (s : PoolCore) (xs : List PoolItem) (z : Fits s xs) (n r : ℕ) (absent
   away-fits (Some end) = rw (same-number r) (end-fits (asking s r n true) ys (warm-fits s xs z n r absent) n new_q end there refl)
 
   away-home : (o : Option End) → SameHome s (away (asking s r n true) r n true o)
-  away-home None = record { pool = refl; address = refl; options = refl }
-  away-home (Some end) = record { pool = refl; address = refl; options = refl }
+  away-home None = record { pool = refl; address = refl; options = refl; alone = refl }
+  away-home (Some end) = record { pool = refl; address = refl; options = refl; alone = refl }
 
   away-notes : (o : Option End) → SameNotes s (away (asking s r n true) r n true o)
   away-notes None = record { settled = refl; claimed = refl; status = refl }

@@ -13,9 +13,9 @@ use Rattle.mdb_pool.specs.Standing.{Fits, StandsFor}
 use Rattle.mdb_pool.specs.Matching.{Matches}
 use Rattle.mdb_log.proofs.Numbers.{same-number}
 
-module _ (p : ℕ) (a : ServerAddress) (o : PoolOptions) (status : Status) (inner : Inner) where
+module _ (p : ℕ) (a : ServerAddress) (o : PoolOptions) (status : Status) (alone : Bool) (inner : Inner) where
   abbrev pub opened : PoolCore
-  opened = record { pool = p; address = a; options = o; last = 0; created = 0; connections = []; requests = []; status = status; clears = []; settled = []; claimed = []; inner = inner }
+  opened = record { pool = p; address = a; options = o; last = 0; created = 0; connections = []; requests = []; status = status; clears = []; settled = []; claimed = []; alone = alone; inner = inner }
 
   both : {A : Type 0} (b : Bool) (x : A) → (if b then x else x) ≡ x
   both true x = refl

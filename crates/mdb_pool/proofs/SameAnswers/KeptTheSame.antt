@@ -60,7 +60,7 @@ module _ (i : Inner) where
   }
 
   home-with : (s t : PoolCore) → SameHome s t → SameHome s (with_inner t)
-  home-with s t z = record { pool = z.pool; address = z.address; options = z.options }
+  home-with s t z = record { pool = z.pool; address = z.address; options = z.options; alone = z.alone }
 
   done-with : (s t : PoolCore) (step : Step) (a : Answered) → IsDone s t step a → IsDone s (with_inner t) step a
   done-with s t step a z = record { home = home-with s t z.home; last = z.last; does = λ xs f. accepts-with s t _ _ _ _ _ xs _ (z.does xs f) }

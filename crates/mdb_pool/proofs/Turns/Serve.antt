@@ -304,8 +304,8 @@ pub warming-keeps : (t u : PoolCore) (n : ℕ) (q : Request) → u ≡ warming t
 warming-keeps t u n q new = on (wants_now t) refl
   where
     on : (b : Bool) → wants_now t ≡ b → (u.last ≡ t.last) × SameHome t u × SameNotes t u
-    on true w = rw (new, w) (refl, record { pool = refl; address = refl; options = refl }, record { settled = refl; claimed = refl; status = refl })
-    on false w = rw (new, w) (refl, record { pool = refl; address = refl; options = refl }, record { settled = refl; claimed = refl; status = refl })
+    on true w = rw (new, w) (refl, record { pool = refl; address = refl; options = refl; alone = refl }, record { settled = refl; claimed = refl; status = refl })
+    on false w = rw (new, w) (refl, record { pool = refl; address = refl; options = refl; alone = refl }, record { settled = refl; claimed = refl; status = refl })
 
 -- a pool that isn't ready is not served
 pub serves-nothing : (s : PoolCore) (n : ℕ) (facts : List Fact) (xs : List PoolItem) → Fits s xs → is_ready_now s.status ≡ false → Serves s s n facts facts xs
@@ -321,5 +321,5 @@ pub meeting-keeps : (t u : PoolCore) (n : ℕ) (x : Connection) (q : Request) �
 meeting-keeps t u n x q new = on (perished_now t n x) refl
   where
     on : (o : Option ConnectionClosedReason) → perished_now t n x ≡ o → (u.last ≡ t.last) × SameHome t u × SameNotes t u
-    on (Some why) e = rw (new, e) (refl, record { pool = refl; address = refl; options = refl }, record { settled = refl; claimed = refl; status = refl })
-    on None e = rw (new, e) (refl, record { pool = refl; address = refl; options = refl }, record { settled = refl; claimed = refl; status = refl })
+    on (Some why) e = rw (new, e) (refl, record { pool = refl; address = refl; options = refl; alone = refl }, record { settled = refl; claimed = refl; status = refl })
+    on None e = rw (new, e) (refl, record { pool = refl; address = refl; options = refl; alone = refl }, record { settled = refl; claimed = refl; status = refl })

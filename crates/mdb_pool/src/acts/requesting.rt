@@ -1,6 +1,6 @@
 //! A caller asks a pool for a connection.
 
-ghost use Rattle.std.specs.Prelude.{◌≡◌, ◌∷◌, ◌++◌, [], OnOk, OnErr, IfOk, List, None};
+ghost use Rattle.std.specs.Prelude.{◌≡◌, ◌∷◌, ◌++◌, [], OnOk, OnErr, IfOk, List, None, true};
 
 use crate::kept::connection::Connection;
 use crate::kept::draft::Draft;
@@ -112,6 +112,7 @@ impl PoolCore {
         moment: Moment,
         request: u32,
     ) -> Result<Reply, OutOfMemory>
+        requires { self.old.alone ≡ true }
         ensures home { OnOk result (SameHome self.old self.new) }
         ensures answers { IfOk result (λ reply. (h : List Item) → StandsFor self.old h → Answers self.old self.new facts.old.items facts.new.items (record { moment = moment; act = RequestAct request self.old.address }) reply h) }
         ensures err_core { OnErr result (self.new ≡ self.old) }

@@ -101,6 +101,7 @@ impl PoolCore {
         party: u32,
         id: u32,
     ) -> Result<Reply, OutOfMemory>
+        requires { self.old.alone ≡ true }
         ensures home { OnOk result (SameHome self.old self.new) }
         ensures answers { IfOk result (λ reply. (h : List Item) → StandsFor self.old h → Answers self.old self.new facts.old.items facts.new.items (record { moment = moment; act = Take party self.old.pool id }) reply h) }
         ensures err_core { OnErr result (self.new ≡ self.old) }

@@ -1,6 +1,6 @@
 //! The parts of a pool's requests, changed together.
 
-ghost use Rattle.std.specs.Prelude.{◌≡◌, true, false, is_some, None, OnOk};
+ghost use Rattle.std.specs.Prelude.{◌≡◌, ◌++◌, ◌∷◌, [], true, false, is_some, None, OnOk};
 ghost use Rattle.mdb_log.specs.Connections.{has};
 ghost use Rattle.mdb_slots.specs.Keyed.{put, swap};
 ghost use Rattle.mdb_slots.specs.NumberSet.{numbers_kept};
@@ -16,10 +16,12 @@ use mdb_past::{Past, Tells};
 use mdb_slots::{NumberSet, Sides, Table};
 use std::alloc::Global;
 
-/// The requests that have not left, the numbers of those of them that are settled, and all numbers that ever asked. Contracts see all requests, and all that
-/// are settled.
+/// The requests that have not left, the numbers of those of them that are settled, and all numbers that ever asked, where the pool stands alone. Contracts see
+/// all requests, and all that are settled.
 #[derive(Drop)]
 pub struct RequestParts {
+    // The pool stands alone.
+    pub alone: bool,
     pub kept: Sides<Request>,
     pub told: Table<u32>,
     pub known: NumberSet,
@@ -80,6 +82,18 @@ impl RequestParts {
         self.told.get(number).is_some()
     }
 
+    // The number of a new request is kept, where the pool stands alone.
+    fn note_party(&mut self, number: u32) -> Result<(), OutOfMemory>
+        requires { self.old.alone ≡ true → has number self.old.known.now ≡ false }
+        ensures known { OnOk result (self.old.alone ≡ true → self.new.known.now ≡ self.old.known.now ++ number ∷ []) }
+        ensures others { (self.new ≡ record self.old { known = self.new.known }) × (self.new.known.base ≡ self.old.known.base) × (self.new.known.capacity ≡ self.old.known.capacity) }
+    {
+        if self.alone {
+            self.known.insert(number)?;
+        }
+        Ok(())
+    }
+
     /// The request, which is new, comes last.
     pub(crate) fn put(&mut self, alloc: Global, request: Request) -> Result<(), OutOfMemory>
         requires fits { PartsFit self.old }
@@ -92,7 +106,7 @@ impl RequestParts {
         ensures room { asked_room self.new ≡ asked_room self.old }
     {
         let all = Past::of::<(&Past<Request>, &Request), Put>(&(&self.all, &request));
-        self.known.insert(request.number)?;
+        self.note_party(request.number)?;
         self.kept.put(alloc, request)?;
         self.all = all;
         Ok(())

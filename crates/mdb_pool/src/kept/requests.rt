@@ -1,6 +1,6 @@
-//! The requests of a pool, with changes that can be taken back. Those that left take no memory but a number.
+//! The requests of a pool, with changes that can be taken back. Those that left take no memory but a number, where the pool stands alone.
 
-ghost use Rattle.std.specs.Prelude.{◌≡◌, ◌&&◌, [], true, false, not, is_some, filter, find, map, length, count_by, None, OnOk, option_copied};
+ghost use Rattle.std.specs.Prelude.{◌≡◌, ◌&&◌, ◌||◌, [], true, false, not, is_some, filter, find, map, length, count_by, None, OnOk, option_copied};
 ghost use Rattle.mdb_log.specs.Connections.{has};
 ghost use Rattle.mdb_slots.specs.Keyed.{after_key, entry_at, entry_before, last_of, put, rest_of, swap};
 ghost use Rattle.mdb_slots.specs.Lists.{apart};
@@ -52,13 +52,15 @@ impl Model for RequestsRedo {
 }
 
 impl Requests {
-    /// None came.
-    pub(crate) fn new(alloc: Global) -> Requests
+    /// None came, to a pool that stands alone, or to one of a driver.
+    pub(crate) fn new(alloc: Global, alone: bool) -> Requests
+        ensures alone { result.base.alone ≡ alone }
         ensures now { (result.now ≡ []) × (result.settled ≡ []) }
         ensures base { (result.base.all ≡ []) × (result.base.settled ≡ []) }
     {
         Requests {
             parts: RequestParts {
+                alone,
                 kept: Sides::new(alloc),
                 told: Table::new(alloc),
                 known: NumberSet::new(alloc),
@@ -85,11 +87,12 @@ impl Requests {
         self.parts.kept.get(number)
     }
 
-    /// A request of this number came.
+    /// A request of this number came. It can be told where the pool stands alone, and where none came.
     pub(crate) fn knows(&self, number: u32) -> bool
+        requires { (self.now.base.alone || not (is_some (request_in self.now.now number))) ≡ true }
         ensures { result ≡ is_some (request_in self.now.now number) }
     {
-        self.parts.known.contains(number)
+        self.parts.alone && self.parts.known.contains(number)
     }
 
     /// It asked, and is not settled.
@@ -247,6 +250,7 @@ impl Requests {
     pub(crate) fn commit(&mut self)
         ensures now { (self.new.now ≡ self.old.now) × (self.new.settled ≡ self.old.settled) }
         ensures base { (self.new.base.all ≡ self.old.now) × (self.new.base.settled ≡ self.old.settled) }
+        ensures alone { self.new.base.alone ≡ self.old.base.alone }
     {
         self.parts.kept.commit();
         self.parts.told.commit();

@@ -1,6 +1,6 @@
 //! When a pool with these parts refuses a step. Refusals are tested before all else, and take no memory.
 
-ghost use Rattle.std.specs.Prelude.{◌≡◌, ℕ, Some, nat_lt, if◌then◌else◌, List};
+ghost use Rattle.std.specs.Prelude.{◌≡◌, ℕ, Some, nat_lt, true, if◌then◌else◌, List};
 ghost use Rattle.mdb_pool.specs.Body.{now_of};
 
 use crate::kept::body::Body;
@@ -10,7 +10,7 @@ use mdb_base::{Moment, ObjectId, ServerAddress};
 
 impl Body {
     ghost use Rattle.mdb_pool.specs.Refusal.{first_row, wrong_service};
-    ghost use Rattle.mdb_pool.specs.Refusing.{is_here, is_pending_here, is_pinned_here, rows_now, refusal_now};
+    ghost use Rattle.mdb_pool.specs.Refusing.{can_tell, is_here, is_pending_here, is_pinned_here, rows_now, refusal_now, tells_new};
     ghost use Rattle.mdb_log.specs.Acts.{IsPoolAct};
     ghost use Rattle.mdb_base.specs.declared.error.Error.{Error};
     ghost use Rattle.mdb_log.specs.declared.step.Use.{Use};
@@ -49,6 +49,7 @@ impl Body {
     }
 
     pub(crate) fn request_refusal(&self, request: u32, address: &ServerAddress) -> Option<Refused>
+        requires { can_tell (now_of self.now) request ≡ true }
         ensures { result ≡ first_row (rows_now (now_of self.now) (Request request address.now)) }
     {
         if !self.is_here(address) {
@@ -134,6 +135,7 @@ impl Body {
     }
 
     fn take_refusal(&self, party: u32, pool: u32, id: u32) -> Option<Refused>
+        requires { can_tell (now_of self.now) party ≡ true }
         ensures { result ≡ first_row (rows_now (now_of self.now) (Take party pool id)) }
     {
         if self.knows(party) {
@@ -162,6 +164,7 @@ impl Body {
 
     // The first row that holds of those of the act.
     fn row_refusal(&self, act: &Act) -> Option<Refused>
+        requires { tells_new (now_of self.now) act.now ≡ true }
         ensures { result ≡ first_row (rows_now (now_of self.now) act.now) }
     {
         match act {
@@ -195,6 +198,7 @@ impl Body {
 
     // Why a request at the pool's own address is refused.
     pub(crate) fn asking_refusal(&self, moment: Moment, request: u32) -> Option<Refused>
+        requires { can_tell (now_of self.now) request ≡ true }
         ensures { result ≡ if nat_lt moment self.now.last.now then Some (TimeBack self.now.last.now) else first_row (rows_now (now_of self.now) (Request request self.now.address)) }
     {
         self.refusal_at(moment, self.request_refusal(request, &self.address))
@@ -227,7 +231,8 @@ impl Body {
 
     // Why the pool refuses the step, `None` where it accepts it.
     pub(crate) fn refusal_now(&self, step: &Step) -> Option<Refused>
-        requires { IsPoolAct self.now.pool step.now.act }
+        requires act { IsPoolAct self.now.pool step.now.act }
+        requires new { tells_new (now_of self.now) step.now.act ≡ true }
         ensures { result ≡ refusal_now (now_of self.now) step.now }
     {
         self.refusal_at(step.moment, self.row_refusal(&step.act))
@@ -238,12 +243,13 @@ impl PoolCore {
     ghost use Rattle.mdb_log.specs.Acts.{IsPoolAct};
     ghost use Rattle.mdb_log.specs.History.{Item};
     ghost use Rattle.mdb_pool.specs.Refusal.{refusal_of};
-    ghost use Rattle.mdb_pool.specs.Refusing.{refusal_now};
+    ghost use Rattle.mdb_pool.specs.Refusing.{refusal_now, tells_new};
     ghost use Rattle.mdb_pool.specs.Standing.{StandsFor};
 
-    /// Why the pool refuses the step, `None` where it accepts it. It only looks, and takes no memory.
+    /// Why the pool refuses the step, `None` where it accepts it. It only looks, and takes no memory. A pool of a driver is asked only for parties that are new to it.
     pub fn refusal_now(&self, step: &Step) -> Option<Refused>
-        requires { IsPoolAct self.now.pool step.now.act }
+        requires act { IsPoolAct self.now.pool step.now.act }
+        requires new { tells_new self.now step.now.act ≡ true }
         ensures kept { result ≡ refusal_now self.now step.now }
         ensures history { (h : List Item) → StandsFor self.now h → result ≡ refusal_of self.now.pool self.now.options h step.now }
     {

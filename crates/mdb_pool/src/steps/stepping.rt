@@ -1,6 +1,6 @@
 //! The steps of a pool.
 
-ghost use Rattle.std.specs.Prelude.{◌≡◌, ◌++◌, ◌∷◌, [], OnOk, OnErr, IfOk, All, List, Some, None};
+ghost use Rattle.std.specs.Prelude.{◌≡◌, ◌++◌, ◌∷◌, [], OnOk, OnErr, IfOk, All, List, Some, None, true};
 
 use crate::kept::draft::Draft;
 use crate::planning::Answered;
@@ -23,13 +23,14 @@ fn usual_facts(act: &Act) -> usize {
 impl Draft {
     ghost use Rattle.mdb_log.specs.Acts.{IsPoolAct};
     ghost use Rattle.mdb_log.specs.History.{Item};
-    ghost use Rattle.mdb_pool.specs.Refusing.{refusal_now};
+    ghost use Rattle.mdb_pool.specs.Refusing.{refusal_now, tells_new, TellsNew};
     ghost use Rattle.mdb_pool.specs.Standing.{StandsFor, SameHome, Answers, Logs};
     ghost use Rattle.mdb_pool.specs.Planning.{Does, DoesOne, DoesAll, IsPrepared};
 
     // Why the step is refused.
     fn refusal_now(&self, step: &Step) -> Option<Refused>
-        requires { IsPoolAct self.now.pool step.now.act }
+        requires act { IsPoolAct self.now.pool step.now.act }
+        requires new { tells_new self.now step.now.act ≡ true }
         ensures { result ≡ refusal_now self.now step.now }
     {
         self.body.refusal_now(step)
@@ -143,7 +144,8 @@ impl Draft {
 
     // Answers the step, and does it where it isn't refused.
     pub(crate) fn answer(&mut self, alloc: Global, step: &Step) -> Result<Answered, OutOfMemory>
-        requires { IsPoolAct self.old.pool step.now.act }
+        requires act { IsPoolAct self.old.pool step.now.act }
+        requires new { tells_new self.old step.now.act ≡ true }
         ensures home { OnOk result (SameHome self.old self.new) }
         ensures one { IfOk result (λ answered. DoesOne self.old self.new step.now answered (refusal_now self.old step.now)) }
         ensures answers { IfOk result (λ answered. (h : List Item) → StandsFor self.old h → Answers self.old self.new [] answered.facts step.now answered.reply h) }
@@ -169,7 +171,8 @@ impl Draft {
         alloc: Global,
         steps: &[Step],
     ) -> Result<Vec<Answered>, OutOfMemory>
-        requires { All (λ step. IsPoolAct self.old.pool step.act) steps.now }
+        requires acts { All (λ step. IsPoolAct self.old.pool step.act) steps.now }
+        requires new { TellsNew self.old steps.now }
         ensures home { OnOk result (SameHome self.old self.new) }
         ensures does { IfOk result (λ answers. DoesAll self.old self.new steps.now answers.items) }
         ensures prepared { IfOk result (λ answers. (h : List Item) → StandsFor self.old h → IsPrepared self.old self.new steps.now answers.items h) }
@@ -186,7 +189,7 @@ impl Draft {
 
 impl PoolCore {
     ghost use Rattle.mdb_pool.specs.Standing.{SameHome, StandsFor, Answers, Logs, Runs, RunsFront};
-    ghost use Rattle.mdb_pool.specs.Refusing.{refusal_now};
+    ghost use Rattle.mdb_pool.specs.Refusing.{refusal_now, tells_new};
     ghost use Rattle.mdb_pool.specs.Planning.{Passes};
     ghost use Rattle.mdb_log.specs.Acts.{IsPoolAct};
     ghost use Rattle.mdb_log.specs.Legal.{NoneLeftWaiting};
@@ -227,7 +230,8 @@ impl PoolCore {
         facts: &mut Vec<Fact>,
         step: &Step,
     ) -> Result<Reply, OutOfMemory>
-        requires { IsPoolAct self.old.pool step.now.act }
+        requires act { IsPoolAct self.old.pool step.now.act }
+        requires new { tells_new self.old step.now.act ≡ true }
         ensures home { OnOk result (SameHome self.old self.new) }
         ensures answers { IfOk result (λ reply. (h : List Item) → StandsFor self.old h → Answers self.old self.new facts.old.items facts.new.items step.now reply h) }
         ensures err_core { OnErr result (self.new ≡ self.old) }
@@ -293,7 +297,8 @@ impl PoolCore {
         seat: u32,
         step: &Step,
     ) -> Result<(), OutOfMemory>
-        requires { IsPoolAct self.old.pool step.now.act }
+        requires act { IsPoolAct self.old.pool step.now.act }
+        requires new { tells_new self.old step.now.act ≡ true }
         ensures home { OnOk result (SameHome self.old self.new) }
         ensures logs { OnOk result ((h : List Item) → StandsFor self.old h → Logs self.old self.new log.old log.new seat step.now h) }
         ensures err_core { OnErr result (self.new ≡ self.old) }
@@ -315,7 +320,8 @@ impl PoolCore {
         seat: u32,
         steps: &[Step],
     ) -> Result<(), OutOfMemory>
-        requires { All (λ step. IsPoolAct self.old.pool step.act) steps.now }
+        requires alone { self.old.alone ≡ true }
+        requires acts { All (λ step. IsPoolAct self.old.pool step.act) steps.now }
         ensures home { SameHome self.old self.new }
         ensures legal { OnOk result ((h : List Item) → StandsFor self.old h → NoneLeftWaiting self.old.options (of_pool self.old.pool h) → Runs self.old self.new log.old log.new seat steps.now h) }
         ensures begun { OnErr result ((h : List Item) → StandsFor self.old h → NoneLeftWaiting self.old.options (of_pool self.old.pool h) → RunsFront self.old self.new log.old log.new seat steps.now h) }

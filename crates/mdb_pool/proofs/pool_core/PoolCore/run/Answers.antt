@@ -17,6 +17,7 @@ loop-step-preserved c =
         pool = c.in_ok-step.ensures.home.pool ∙ c.loop-step.invariant.home.pool;
         address = c.in_ok-step.ensures.home.address ∙ c.loop-step.invariant.home.address;
         options = c.in_ok-step.ensures.home.options ∙ c.loop-step.invariant.home.options;
+        alone = c.in_ok-step.ensures.home.alone ∙ c.loop-step.invariant.home.alone;
       };
       runs = λ h z i. subst (λ steps. Runs c.args.self.now c.step.new.self c.args.log.now c.step.new.log c.args.seat steps h) (sym more) (run-more c.args.self.now c.loop-step.self c.step.new.self c.args.log.now c.loop-step.log c.step.new.log (take c.loop-step.step-index c.args.steps.now) c.args.seat c.step-item.result h c.loop-step.invariant.home c.in_ok-step.ensures.home (c.loop-step.invariant.runs h z i) c.in_ok-step.ensures.logs);
     }

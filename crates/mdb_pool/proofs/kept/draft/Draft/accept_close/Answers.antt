@@ -14,4 +14,5 @@ returns-clause-home c = record {
   pool = c.in_ok-serve-2.ensures.home.pool ∙ c.in_ok-close_open.ensures.home.pool;
   address = c.in_ok-serve-2.ensures.home.address ∙ c.in_ok-close_open.ensures.home.address;
   options = c.in_ok-serve-2.ensures.home.options ∙ c.in_ok-close_open.ensures.home.options;
+  alone = c.in_ok-serve-2.ensures.home.alone ∙ c.in_ok-close_open.ensures.home.alone;
 }

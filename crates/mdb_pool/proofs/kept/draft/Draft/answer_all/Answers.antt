@@ -20,6 +20,7 @@ loop-step-preserved c =
         pool = c.in_ok-answered.ensures.home.pool ∙ c.loop-step.invariant.home.pool;
         address = c.in_ok-answered.ensures.home.address ∙ c.loop-step.invariant.home.address;
         options = c.in_ok-answered.ensures.home.options ∙ c.loop-step.invariant.home.options;
+        alone = c.in_ok-answered.ensures.home.alone ∙ c.loop-step.invariant.home.alone;
       };
       does = subst (DoesAll s u (take (c.loop-step.step-index + 1) c.args.steps.now)) (sym pushed) (subst (λ steps. DoesAll s u steps (c.loop-step.answers.items ++ one ∷ [])) (sym more) (does-more s t u done c.step-item.result c.loop-step.answers.items one c.loop-step.invariant.does c.in_ok-answered.ensures.one));
       prepared = λ h z. subst (λ told. IsPrepared s u (take (c.loop-step.step-index + 1) c.args.steps.now) told h) (sym pushed) (subst (λ steps. IsPrepared s u steps (c.loop-step.answers.items ++ one ∷ []) h) (sym more) (prepared-more s t u done c.step-item.result c.loop-step.answers.items one h c.loop-step.invariant.home (c.loop-step.invariant.prepared h z) c.in_ok-answered.ensures.answers));

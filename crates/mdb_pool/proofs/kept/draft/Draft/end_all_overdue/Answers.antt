@@ -7,7 +7,7 @@ pub loop-request-init : goal.loop-request-init
 loop-request-init c = record {
   last = refl;
   inner = refl;
-  home = record { pool = refl; address = refl; options = refl };
+  home = record { pool = refl; address = refl; options = refl; alone = refl };
   notes = record { settled = refl; claimed = refl; status = refl };
   expires = λ h z. expire-start c.args.self.now c.args.moment c.args.facts.now.items h z;
 }
@@ -19,7 +19,7 @@ pub loop-request-preserved : goal.loop-request-preserved
 loop-request-preserved c = record {
   last = rw c.in_ok-end_overdue.ensures.core c.loop-request.invariant.last;
   inner = c.end_overdue.ensures.inner ∙ c.loop-request.invariant.inner;
-  home = rw c.in_ok-end_overdue.ensures.core (record { pool = c.loop-request.invariant.home.pool; address = c.loop-request.invariant.home.address; options = c.loop-request.invariant.home.options });
+  home = rw c.in_ok-end_overdue.ensures.core (record { pool = c.loop-request.invariant.home.pool; address = c.loop-request.invariant.home.address; options = c.loop-request.invariant.home.options; alone = c.loop-request.invariant.home.alone });
   notes = rw c.in_ok-end_overdue.ensures.core (record { settled = c.loop-request.invariant.notes.settled; claimed = c.loop-request.invariant.notes.claimed; status = c.loop-request.invariant.notes.status });
   expires = λ h z. expire-more c.args.self.now c.loop-request.self c.loop-request.invariant.home c.args.moment c.args.facts.now.items c.loop-request.facts.items h (c.loop-request.invariant.expires h z) c.end_overdue.new.self c.end_overdue.new.facts.items c.in_ok-request.request (sym c.in-Some.ensures ∙ ap Some (sym c.in_ok-request.ensures)) c.in_ok-end_overdue.ensures.core c.in_ok-end_overdue.ensures.facts;
 }

@@ -8,7 +8,7 @@ pub loop-request-init : goal.loop-request-init
 loop-request-init c = record {
   last = refl;
   inner = refl;
-  home = record { pool = refl; address = refl; options = refl };
+  home = record { pool = refl; address = refl; options = refl; alone = refl };
   notes = record { settled = refl; claimed = refl; status = refl };
   ends = λ h z. ends-start c.args.self.now c.args.moment (Cleared c.args.cause.now) c.args.facts.now.items h z;
 }
@@ -20,7 +20,7 @@ pub loop-request-preserved : goal.loop-request-preserved
 loop-request-preserved c = record {
   last = rw c.in_ok-end_cleared.ensures.core c.loop-request.invariant.last;
   inner = c.end_cleared.ensures.inner ∙ c.loop-request.invariant.inner;
-  home = rw c.in_ok-end_cleared.ensures.core (record { pool = c.loop-request.invariant.home.pool; address = c.loop-request.invariant.home.address; options = c.loop-request.invariant.home.options });
+  home = rw c.in_ok-end_cleared.ensures.core (record { pool = c.loop-request.invariant.home.pool; address = c.loop-request.invariant.home.address; options = c.loop-request.invariant.home.options; alone = c.loop-request.invariant.home.alone });
   notes = rw c.in_ok-end_cleared.ensures.core (record { settled = c.loop-request.invariant.notes.settled; claimed = c.loop-request.invariant.notes.claimed; status = c.loop-request.invariant.notes.status });
   ends = λ h z. ends-more c.args.self.now c.loop-request.self c.end_cleared.new.self c.loop-request.invariant.home c.args.moment (Cleared c.args.cause.now) c.args.facts.now.items c.loop-request.facts.items c.end_cleared.new.facts.items h c.in_ok-request.request z (c.loop-request.invariant.ends h z) (sym c.in-Some.ensures ∙ ap Some (sym c.in_ok-request.ensures)) c.in_ok-end_cleared.ensures.core c.in_ok-end_cleared.ensures.facts;
 }

@@ -6,7 +6,7 @@ pub loop-alloc-init : goal.loop-alloc-init
 loop-alloc-init c = record {
   last = refl;
   inner = refl;
-  home = record { pool = refl; address = refl; options = refl };
+  home = record { pool = refl; address = refl; options = refl; alone = refl };
   notes = record { settled = refl; claimed = refl; status = refl };
   fills = λ h z. fill-start c.args.self.now c.args.moment c.args.facts.now.items h z;
 }
@@ -18,7 +18,7 @@ pub loop-alloc-preserved : goal.loop-alloc-preserved
 loop-alloc-preserved c = record {
   last = rw c.in_ok-spawn.ensures.core c.loop-alloc.invariant.last;
   inner = c.spawn.ensures.inner ∙ c.loop-alloc.invariant.inner;
-  home = rw c.in_ok-spawn.ensures.core (record { pool = c.loop-alloc.invariant.home.pool; address = c.loop-alloc.invariant.home.address; options = c.loop-alloc.invariant.home.options });
+  home = rw c.in_ok-spawn.ensures.core (record { pool = c.loop-alloc.invariant.home.pool; address = c.loop-alloc.invariant.home.address; options = c.loop-alloc.invariant.home.options; alone = c.loop-alloc.invariant.home.alone });
   notes = rw c.in_ok-spawn.ensures.core (record { settled = c.loop-alloc.invariant.notes.settled; claimed = c.loop-alloc.invariant.notes.claimed; status = c.loop-alloc.invariant.notes.status });
   fills = λ h z. fill-more c.args.self.now c.loop-alloc.self c.loop-alloc.invariant.home c.args.moment c.args.facts.now.items c.loop-alloc.facts.items h (c.loop-alloc.invariant.fills h z) c.spawn.new.self c.spawn.new.facts.items (sym c.wants_filling.ensures ∙ c.loop-alloc-test.true) c.in_ok-spawn.ensures.core c.in_ok-spawn.ensures.facts;
 }

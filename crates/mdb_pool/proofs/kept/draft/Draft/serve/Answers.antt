@@ -9,7 +9,7 @@ pub loop-request-init : goal.loop-request-init
 loop-request-init c = record {
   last = refl;
   inner = refl;
-  home = record { pool = refl; address = refl; options = refl };
+  home = record { pool = refl; address = refl; options = refl; alone = refl };
   notes = record { settled = refl; claimed = refl; status = refl };
   ready = sym (c.is_ready.ensures ∙ ap is_ready_now c.status.ensures) ∙ c.if-not-is_ready.false;
   serves = λ h z. starts c.args.self.now c.args.moment c.args.facts.now.items h z;
@@ -24,7 +24,7 @@ loop-request-preserved-in-Continue-branch-3 c =
     record {
       last = kept.0 ∙ c.loop-request.invariant.last;
       inner = c.meet.ensures.inner ∙ c.loop-request.invariant.inner;
-      home = record { pool = kept.1.pool ∙ c.loop-request.invariant.home.pool; address = kept.1.address ∙ c.loop-request.invariant.home.address; options = kept.1.options ∙ c.loop-request.invariant.home.options };
+      home = record { pool = kept.1.pool ∙ c.loop-request.invariant.home.pool; address = kept.1.address ∙ c.loop-request.invariant.home.address; options = kept.1.options ∙ c.loop-request.invariant.home.options; alone = kept.1.alone ∙ c.loop-request.invariant.home.alone };
       notes = record { settled = kept.2.settled ∙ c.loop-request.invariant.notes.settled; claimed = kept.2.claimed ∙ c.loop-request.invariant.notes.claimed; status = kept.2.status ∙ c.loop-request.invariant.notes.status };
       ready = ap is_ready_now kept.2.status ∙ c.loop-request.invariant.ready;
       serves = λ h z. turn-meet-to c.args.self.now c.loop-request.self c.meet.new.self c.loop-request.invariant.home c.args.moment c.args.facts.now.items c.loop-request.facts.items c.meet.new.facts.items h c.in_ok-request.request c.in-Some-last_available.connection (c.loop-request.invariant.serves h z) c.loop-request.invariant.ready (sym c.in-Some.ensures ∙ ap Some (sym c.in_ok-request.ensures)) c.if-request.false (sym c.in-Some-last_available.ensures) c.in_ok-meet.ensures.core c.in_ok-meet.ensures.facts;
@@ -37,7 +37,7 @@ pub loop-request-preserved : goal.loop-request-preserved
 loop-request-preserved c = record {
   last = rw c.in_ok-create.ensures.core c.loop-request.invariant.last;
   inner = c.create.ensures.inner ∙ c.loop-request.invariant.inner;
-  home = rw c.in_ok-create.ensures.core (record { pool = c.loop-request.invariant.home.pool; address = c.loop-request.invariant.home.address; options = c.loop-request.invariant.home.options });
+  home = rw c.in_ok-create.ensures.core (record { pool = c.loop-request.invariant.home.pool; address = c.loop-request.invariant.home.address; options = c.loop-request.invariant.home.options; alone = c.loop-request.invariant.home.alone });
   notes = rw c.in_ok-create.ensures.core (record { settled = c.loop-request.invariant.notes.settled; claimed = c.loop-request.invariant.notes.claimed; status = c.loop-request.invariant.notes.status });
   ready = rw c.in_ok-create.ensures.core c.loop-request.invariant.ready;
   serves = λ h z. turn-create-to c.args.self.now c.loop-request.self c.create.new.self c.loop-request.invariant.home c.args.moment c.args.facts.now.items c.loop-request.facts.items c.create.new.facts.items h c.in_ok-request.request (c.loop-request.invariant.serves h z) c.loop-request.invariant.ready (sym c.in-Some.ensures ∙ ap Some (sym c.in_ok-request.ensures)) c.if-request.false (sym c.in_default-last_available.ensures) (sym c.has_room.ensures ∙ c.if-has_room.true) c.in_ok-create.ensures.core c.in_ok-create.ensures.facts;
@@ -61,7 +61,7 @@ loop-request-preserved-in-Continue-branch-2 c =
     record {
       last = kept.0 ∙ c.loop-request.invariant.last;
       inner = c.warm_up.ensures.inner ∙ c.loop-request.invariant.inner;
-      home = record { pool = kept.1.pool ∙ c.loop-request.invariant.home.pool; address = kept.1.address ∙ c.loop-request.invariant.home.address; options = kept.1.options ∙ c.loop-request.invariant.home.options };
+      home = record { pool = kept.1.pool ∙ c.loop-request.invariant.home.pool; address = kept.1.address ∙ c.loop-request.invariant.home.address; options = kept.1.options ∙ c.loop-request.invariant.home.options; alone = kept.1.alone ∙ c.loop-request.invariant.home.alone };
       notes = record { settled = kept.2.settled ∙ c.loop-request.invariant.notes.settled; claimed = kept.2.claimed ∙ c.loop-request.invariant.notes.claimed; status = kept.2.status ∙ c.loop-request.invariant.notes.status };
       ready = ap is_ready_now kept.2.status ∙ c.loop-request.invariant.ready;
       serves = λ h z. turn-warm-to c.args.self.now c.loop-request.self c.warm_up.new.self c.loop-request.invariant.home c.args.moment c.args.facts.now.items c.loop-request.facts.items c.warm_up.new.facts.items h c.in_ok-request.request (c.loop-request.invariant.serves h z) c.loop-request.invariant.ready (sym c.in-Some.ensures ∙ ap Some (sym c.in_ok-request.ensures)) c.if-request.true c.in_ok-warm_up.ensures.core c.in_ok-warm_up.ensures.facts;

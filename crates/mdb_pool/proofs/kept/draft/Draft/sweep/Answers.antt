@@ -7,7 +7,7 @@ pub loop-connection-init : goal.loop-connection-init
 loop-connection-init c = record {
   last = refl;
   inner = refl;
-  home = record { pool = refl; address = refl; options = refl };
+  home = record { pool = refl; address = refl; options = refl; alone = refl };
   notes = record { settled = refl; claimed = refl; status = refl };
   sweeps = λ h z. sweep-start c.args.self.now c.args.moment c.args.facts.now.items h z;
 }
@@ -19,7 +19,7 @@ pub loop-connection-preserved : goal.loop-connection-preserved
 loop-connection-preserved c = record {
   last = rw c.in_ok-discard.ensures.core c.loop-connection.invariant.last;
   inner = c.discard.ensures.inner ∙ c.loop-connection.invariant.inner;
-  home = rw c.in_ok-discard.ensures.core (record { pool = c.loop-connection.invariant.home.pool; address = c.loop-connection.invariant.home.address; options = c.loop-connection.invariant.home.options });
+  home = rw c.in_ok-discard.ensures.core (record { pool = c.loop-connection.invariant.home.pool; address = c.loop-connection.invariant.home.address; options = c.loop-connection.invariant.home.options; alone = c.loop-connection.invariant.home.alone });
   notes = rw c.in_ok-discard.ensures.core (record { settled = c.loop-connection.invariant.notes.settled; claimed = c.loop-connection.invariant.notes.claimed; status = c.loop-connection.invariant.notes.status });
   sweeps = λ h z. sweep-more c.args.self.now c.loop-connection.self c.loop-connection.invariant.home c.args.moment c.args.facts.now.items c.loop-connection.facts.items h (c.loop-connection.invariant.sweeps h z) c.discard.new.self c.discard.new.facts.items c.in-Some.connection c.in-Some-perished.reason (sym c.in-Some.ensures) (sym c.in-Some-perished.ensures) c.in_ok-discard.ensures.core c.in_ok-discard.ensures.facts;
 }
