@@ -65,6 +65,10 @@ impl Bench {
     fn step(&mut self, act: Act) -> Stepped
         requires { IsPoolAct self.old.core.pool act }
     {
+        if !self.core.is_alone() {
+            drop(act);
+            return Ok(());
+        }
         let step = Step { moment: 0, act };
         let stepped = self.core.step(self.alloc, &mut self.log, 0, &step);
         drop(step);
@@ -75,6 +79,9 @@ impl Bench {
         match &mut self.asking.act {
             Act::Request(number, _) => *number = party,
             _ => return Ok(()),
+        }
+        if !self.core.is_alone() {
+            return Ok(());
         }
         self.core.step(self.alloc, &mut self.log, 0, &self.asking)
     }

@@ -122,7 +122,7 @@ fn of_pin(page: &mut Page, pool: &mut Pool, moment: Moment, act: &str, words: &s
         "pin" => pool.core.pin(page.alloc, facts, moment, party),
         "replicate" => pool.core.replicate(page.alloc, facts, moment, party),
         "unpin" => pool.core.unpin(page.alloc, facts, moment, party),
-        "take" => pool
+        "take" if pool.core.is_alone() => pool
             .core
             .take_connection(page.alloc, facts, moment, party, id),
         _ => of_pool(page, pool, moment, act),
@@ -134,8 +134,8 @@ fn of_party(page: &mut Page, pool: &mut Pool, moment: Moment, act: &str, words: 
     let party = small(party);
     let facts = &mut pool.facts;
     match act {
-        "request" => pool.core.request(page.alloc, facts, moment, party),
-        "warm" => pool.core.warm(page.alloc, facts, moment, party),
+        "request" if pool.core.is_alone() => pool.core.request(page.alloc, facts, moment, party),
+        "warm" if pool.core.is_alone() => pool.core.warm(page.alloc, facts, moment, party),
         "collect" => pool.core.collect(page.alloc, facts, moment, party),
         "giveup" => pool.core.give_up(page.alloc, facts, moment, party),
         "return" => pool

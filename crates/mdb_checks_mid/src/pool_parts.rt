@@ -20,7 +20,9 @@ pub fn would(page: &mut Page, core: &PoolCore, words: &str) {
         moment: number(moment),
         act: Act::Request(small(party), address),
     };
-    page.debug(&core.refusal_now(&step));
+    if core.is_alone() {
+        page.debug(&core.refusal_now(&step));
+    }
     drop(step);
 }
 
@@ -51,6 +53,10 @@ pub fn request_in_parts(page: &mut Page, pool: &mut Pool, words: &str, applies: 
         moment: number(moment),
         act: Act::Request(small(party), address),
     }];
+    if !pool.core.is_alone() {
+        drop(steps);
+        return;
+    }
     let prepared = prepare(page.alloc, &mut pool.core, &steps);
     drop(steps);
     match prepared {

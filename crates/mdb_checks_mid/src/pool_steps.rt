@@ -15,6 +15,10 @@ type Stepped = Result<(), OutOfMemory>;
 fn take_step(page: &mut Page, pool: &mut Pool, moment: Moment, act: Act) -> Stepped
     requires { IsPoolAct pool.old.core.pool act }
 {
+    if !pool.core.is_alone() {
+        drop(act);
+        return Ok(());
+    }
     let step = Step { moment, act };
     let stepped = pool.core.step(page.alloc, &mut pool.log, 0, &step);
     drop(step);
@@ -203,6 +207,10 @@ fn run_two(page: &mut Page, pool: &mut Pool, first: Act, second: Act) -> Stepped
         act: second,
     };
     let steps = [first, second];
+    if !pool.core.is_alone() {
+        drop(steps);
+        return Ok(());
+    }
     let ran = pool.core.run(page.alloc, &mut pool.log, 0, &steps);
     drop(steps);
     ran

@@ -106,7 +106,8 @@ pub fn tell(page: &mut Page, core: &PoolCore, words: &str) {
     let (what, words) = parted(words);
     let party = small(words);
     match what {
-        "knows" => page.answer(core.knows(party)),
+        "knows" if core.is_alone() => page.answer(core.knows(party)),
+        "knows" => page.put("not alone"),
         "is_open" => page.answer(core.is_open(party)),
         "holds" => page.answer(core.holds(party)),
         "held_by" => page.debug(&core.held_by(party)),

@@ -108,6 +108,13 @@ impl PoolCore {
         PoolCore::made(alloc, pool, address, options, false)
     }
 
+    /// It keeps the number of each party that it knew, as a pool does that is in no driver.
+    pub fn is_alone(&self) -> bool
+        ensures { result ≡ self.now.alone }
+    {
+        self.draft.body.requests.is_alone()
+    }
+
     /// The number of the pool.
     pub fn number(&self) -> u32
         ensures { result ≡ self.now.pool }
@@ -173,7 +180,7 @@ impl PoolCore {
         self.draft.body.holds(party)
     }
 
-    /// It is closed and nothing of it lives: it has no connection, and each of its requests was told how it ended, and returned what it held. No call changes it any more but for its last moment.
+    /// It is closed and nothing of it lives: it has no connection, and each of its requests was told how it ended, and returned what it held.
     pub fn is_spent(&self) -> bool
         ensures { result ≡ is_spent self.now }
     {

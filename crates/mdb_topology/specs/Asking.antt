@@ -1,8 +1,9 @@
 -- What one of the pools makes of a step.
-use Rattle.std.specs.Prelude.{ℕ, ◌≡◌, List, slice_get, Some, None}
+use Rattle.std.specs.Prelude.{ℕ, ◌≡◌, false, List, slice_get, Some, None}
 use Rattle.mdb_log.specs.declared.step.Step.{Step}
 use Rattle.mdb_log.specs.declared.step.Act.{Act}
 use Rattle.mdb_pool.specs.Core.{PoolCore}
+use Rattle.mdb_pool.specs.Kept.{is_spent}
 use Rattle.mdb_pool.specs.Planning.{IsDone, Plans, IsPlanOf}
 use Rattle.mdb_pool.specs.Refusing.{refusal_now}
 use Rattle.mdb_topology.specs.declared.pools.pool_decision.PoolDecision.{PoolDecision}
@@ -21,6 +22,6 @@ Asked s i step (Refused why) = refusal_now s step ≡ Some why
 Asked s i step Idle = ⊥
 Asked s i step (Planned j plan told) = (j ≡ i) × (refusal_now s step ≡ None) × IsPlanOf plan s × ((t : PoolCore) → Plans plan s t → IsDone s t step told)
 
--- the pool at the index is asked
+-- the pool at the index is asked, in which something lives
 abbrev pub IsAsked : List PoolCore → ℕ → Step → PoolDecision → Type 0
-IsAsked pools i step outcome = (s : PoolCore) × (slice_get pools i ≡ Some s) × Asked s i step outcome
+IsAsked pools i step outcome = (s : PoolCore) × (slice_get pools i ≡ Some s) × Asked s i step outcome × (is_spent s ≡ false)

@@ -1,5 +1,6 @@
 -- What becomes of the monitors and watchers by what a step does at them.
-use Rattle.std.specs.Prelude.{ℕ, ◌≡◌, ◌<◌, false, List, ◌∷◌, set, unwrap_or, ⊤}
+use Rattle.std.specs.Prelude.{ℕ, ◌≡◌, true, false, List, ◌∷◌, set, unwrap_or, ⊤}
+use Rattle.mdb_log.specs.Connections.{has}
 use Rattle.mdb_base.specs.declared.options.Options.{Options}
 use Rattle.mdb_monitor.specs.declared.check.Begin.{Begin}
 use Rattle.mdb_monitor.specs.declared.check.CheckResult.{CheckResult}
@@ -31,11 +32,11 @@ watchers_after Same watchers = watchers
 watchers_after (Checked i monitor numbers) watchers = watchers
 watchers_after (Asked watchers) before = watchers
 
--- it is one of so many monitors
-abbrev pub IsPlaced : Monitoring → ℕ → Type 0
-IsPlaced Same n = ⊤
-IsPlaced (Checked i monitor numbers) n = i < n
-IsPlaced (Asked watchers) n = ⊤
+-- it is at one of the monitors that memory keeps
+abbrev pub IsPlaced : Monitoring → List ℕ → Type 0
+IsPlaced Same kept = ⊤
+IsPlaced (Checked i monitor numbers) kept = has i kept ≡ true
+IsPlaced (Asked watchers) kept = ⊤
 
 -- the greatest number of a monitor's connection
 abbrev pub number_limit : Options → ℕ

@@ -1,11 +1,12 @@
 -- Which of the pools an act concerns, by what they keep, and why it is refused where it concerns none.
-use Rattle.std.specs.Prelude.{ℕ, Bool, true, false, if◌then◌else◌, nat_lt, is_some, List, length, position, Option, Some, None}
+use Rattle.std.specs.Prelude.{ℕ, Bool, true, false, if◌then◌else◌, is_some, List, position, Option, Some, None}
 use Rattle.mdb_log.specs.declared.step.Act.{Act}
 use Rattle.mdb_log.specs.declared.step.Act.TheVariants.{Request, Warm, Maintain, Expire, Collect, Claim, GiveUp, Established, Return, Pin, Replicate, Take, Unpin}
 use Rattle.mdb_log.specs.declared.reply.Refused.{Refused}
 use Rattle.mdb_log.specs.declared.reply.Refused.TheVariants.{UnknownServer, RequestKnown, UnknownRequest, NotHolder, NotPending, Unpinned}
 use Rattle.mdb_pool.specs.Core.{PoolCore}
 use Rattle.mdb_pool.specs.Kept.{is_open_now, held_connection, first_unclaimed}
+use Rattle.mdb_topology.specs.Living.{lives_at}
 use Rattle.mdb_topology.specs.Standing.{at_address, knows}
 
 -- The acts of one pool that clear none.
@@ -37,9 +38,9 @@ holder pools r = position (λ s. is_some (held_connection s r)) pools
 abbrev pub first_job : List PoolCore → Option ℕ
 first_job pools = position (λ s. is_some (first_unclaimed s)) pools
 
--- the pool with the number
+-- the pool with the number, where something lives in it
 abbrev pub numbered : List PoolCore → ℕ → Option ℕ
-numbered pools p = if nat_lt p (length pools) then Some p else None
+numbered pools p = if lives_at pools p then Some p else None
 
 -- the pool that the act concerns
 abbrev pub index_of : List PoolCore → Act → Option ℕ
@@ -57,6 +58,13 @@ index_of pools (Replicate q c) = numbered pools q
 index_of pools (Take r q c) = numbered pools q
 index_of pools (Unpin q c) = numbered pools q
 index_of pools _ = None
+
+-- the party that the act names for the first time
+abbrev pub named_by : Act → Option ℕ
+named_by (Request r a) = Some r
+named_by (Warm r a) = Some r
+named_by (Take r q c) = Some r
+named_by _ = None
 
 -- the act uses up the number of a party that some pool knows
 abbrev pub names_known : List PoolCore → Act → Bool

@@ -19,6 +19,8 @@ pub mod Acting
 pub mod Touching
 pub mod Opening
 pub mod Taking
+pub mod Living
+pub mod Watching
 pub mod Finding
 pub mod Asking
 pub mod Limits

@@ -8,15 +8,16 @@ use Rattle.mdb_log.specs.History.{Item}
 use Rattle.mdb_log.specs.Homes.{Home}
 use Rattle.mdb_log.specs.Opening.{pool_options}
 use Rattle.mdb_pool.specs.Core.{PoolCore}
+use Rattle.mdb_pool.specs.Kept.{is_spent}
 use Rattle.mdb_pool.specs.Planning.{Plans}
 use Rattle.mdb_topology.specs.declared.pools.pool_change.PoolChange.{PoolChange}
 use Rattle.mdb_topology.specs.declared.pools.pool_change.PoolChange.TheVariants.{Alter, Open}
 use Rattle.mdb_topology.specs.Standing.{home, at_address, PoolsStand}
 use Rattle.mdb_topology.specs.Telling.{Tells}
 
--- One pool changes as it was planned, or one more is opened.
+-- One pool, in which something lives, changes as it was planned, or one more is opened.
 abbrev pub Leads : PoolChange → List PoolCore → List PoolCore → Type 0
-Leads (Alter i plan) pools later = (s : PoolCore) × (t : PoolCore) × (slice_get pools i ≡ Some s) × Plans plan s t × (later ≡ set pools i t)
+Leads (Alter i plan) pools later = (s : PoolCore) × (t : PoolCore) × (slice_get pools i ≡ Some s) × Plans plan s t × (later ≡ set pools i t) × (is_spent s ≡ false)
 Leads (Open core) pools later = later ≡ pools ++ core ∷ []
 
 -- changes one after another

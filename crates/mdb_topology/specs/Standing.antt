@@ -1,7 +1,8 @@
 -- When what a driver keeps stands for its history.
-use Rattle.std.specs.Prelude.{ℕ, ◌^◌, ◌≡◌, ◌≤◌, ◌==◌, Bool, true, false, not, ◌&&◌, is_some, if◌then◌else◌, List, [], ◌∷◌, length, map, position, slice_get, Option, Some, None, All}
+use Rattle.std.specs.Prelude.{ℕ, ◌^◌, ◌≡◌, ◌≤◌, ◌==◌, Bool, true, false, not, ◌&&◌, is_some, if◌then◌else◌, List, [], ◌∷◌, length, map, position, slice_get, Option, Some, None, All, ⊥}
 use Rattle.std.specs.List.{list_any}
 use Rattle.mdb_base.specs.Equality.{same_address}
+use Rattle.mdb_intervals.specs.Spans.{has as is_within}
 use Rattle.mdb_base.specs.declared.address.ServerAddress.{ServerAddress}
 use Rattle.mdb_base.specs.declared.options.Options.{Options}
 use Rattle.mdb_describe.specs.declared.topology.TopologyDescription.{TopologyDescription}
@@ -10,9 +11,9 @@ use Rattle.mdb_monitor.specs.declared.monitor.MonitorCore.{MonitorCore}
 use Rattle.mdb_monitor.specs.Standing.{StandsFor as MonitorStands}
 use Rattle.mdb_log.specs.declared.options.PoolOptions.{PoolOptions}
 use Rattle.mdb_pool.specs.Core.{PoolCore}
-use Rattle.mdb_log.specs.History.{Item, of_pool, open_pool, last_moment}
-use Rattle.mdb_log.specs.Connections.{has}
-use Rattle.mdb_log.specs.Requests.{some_act, names_party, was_asked, leaves, told, is_claimed}
+use Rattle.mdb_log.specs.History.{Item, has_asked, of_pool, open_pool, last_moment}
+use Rattle.mdb_log.specs.Connections.{has, holding, is_live}
+use Rattle.mdb_log.specs.Requests.{some_act, names_party, was_asked, leaves, told, is_claimed, is_open}
 use Rattle.mdb_pool.specs.Kept.{request_at, is_asked_at, is_shut}
 use Rattle.mdb_pool.specs.Serving.{IsServed}
 use Rattle.mdb_pool.specs.Quiet.{IsQuiet}
@@ -20,7 +21,9 @@ use Rattle.mdb_log.specs.Limits.{WithinLimits}
 use Rattle.mdb_pool.specs.Standing.{Fits}
 use Rattle.mdb_log.specs.Homes.{Home, homes}
 use Rattle.mdb_log.specs.Opening.{pool_options}
+use Rattle.mdb_topology.specs.declared.pools.Pools.{Pools}
 use Rattle.mdb_topology.specs.declared.topology.TopologyCore.{TopologyCore}
+use Rattle.mdb_topology.specs.Living.{lives_at}
 use Rattle.mdb_topology.specs.Monitors.{setting, monitor_items, fresh, watchers_of}
 use Rattle.mdb_topology.specs.Description.{description_of, published, is_stopped}
 
@@ -61,6 +64,17 @@ pub record PoolFits (o : PoolOptions) (h : List Item) (p : ℕ) (s : PoolCore) :
   pub number : s.pool ≡ p
   pub options : s.options ≡ o
   pub fits : Fits s (of_pool p h)
+
+-- the driver keeps the number of each party that some pool knows, and no other
+abbrev pub KnowsAll : Pools → Type 0
+KnowsAll p = (r : ℕ) → is_within r p.known.spans ≡ knows p.cores.items r
+
+-- Nothing of the pool with the number p lives: it is not open, nobody holds a connection of it, none of it lives, and no request that was made at it is open.
+pub record IsGone (h : List Item) (p : ℕ) : Type 0 where
+  pub shut : (a : ServerAddress) → open_pool h a ≡ Some p → ⊥
+  pub held : (r : ℕ) → holding (of_pool p h) r ≡ None
+  pub live : (c : ℕ) → is_live (of_pool p h) c ≡ false
+  pub open_none : (r : ℕ) → has_asked (of_pool p h) r && is_open h r ≡ false
 
 -- no party is known to two pools
 abbrev pub IsApart : List PoolCore → Type 0
@@ -120,6 +134,10 @@ pub record StandsFor (w : TopologyCore) (h : List Item) : Type 0 where
   pub monitors : MonitorsFit w.options w.monitors.items h
   pub described : Describes w.options w.description h
   pub counts : Counts w.options w.pools.last w.published w.fresh w.stopped w.watchers h
+  -- the numbers of all parties that some act named
+  pub known : (r : ℕ) → is_within r w.pools.known.spans ≡ some_act names_party h r
+  -- memory keeps the monitor of each pool in which something lives
+  pub watched : (p : ℕ) → lives_at w.pools.cores.items p ≡ true → has p w.monitors.kept ≡ true
   -- their numbers are of 32 bits
   pub numbers : length w.pools.cores.items ≤ 2 ^ 32
   -- no pool was stepped after the last moment
@@ -136,7 +154,9 @@ pub record IsSame (w v : TopologyCore) : Type 0 where
   pub published : v.published ≡ w.published
   pub stopped : v.stopped ≡ w.stopped
   pub cores : v.pools.cores.items ≡ w.pools.cores.items
+  pub known : v.pools.known.spans ≡ w.pools.known.spans
   pub last : v.pools.last ≡ w.pools.last
   pub monitors : v.monitors.items ≡ w.monitors.items
+  pub kept : v.monitors.kept ≡ w.monitors.kept
   pub fresh : v.fresh ≡ w.fresh
   pub watchers : v.watchers ≡ w.watchers

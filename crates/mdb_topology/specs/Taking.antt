@@ -1,5 +1,5 @@
 -- What becomes of a step of one pool.
-use Rattle.std.specs.Prelude.{ℕ, ◌≡◌, List, [], ◌∷◌, ◌++◌, set, slice_get, Some, ⊤}
+use Rattle.std.specs.Prelude.{ℕ, ◌≡◌, false, List, [], ◌∷◌, ◌++◌, set, slice_get, Some, ⊤}
 use Rattle.mdb_base.specs.declared.options.Options.{Options}
 use Rattle.mdb_events.specs.declared.fact.Fact.{Fact}
 use Rattle.mdb_log.specs.declared.step.Step.{Step}
@@ -11,6 +11,7 @@ use Rattle.mdb_log.specs.Own.{IsAccepted}
 use Rattle.mdb_log.specs.Beside.{AllFreshGrants}
 use Rattle.mdb_log.specs.Opening.{pool_options}
 use Rattle.mdb_pool.specs.Core.{PoolCore}
+use Rattle.mdb_pool.specs.Kept.{is_spent}
 use Rattle.mdb_pool.specs.Planning.{Plans, IsPlanOf}
 use Rattle.mdb_pool.specs.Standing.{SameHome}
 use Rattle.mdb_topology.specs.declared.pools.pool_decision.PoolDecision.{PoolDecision}
@@ -42,7 +43,7 @@ Performs o pools step (Refused why) h = refusal o h step ≡ Some why
 Performs o pools step Idle h = Rests o pools step h
 Performs o pools step (Planned i plan told) h = (s t : PoolCore) → slice_get pools i ≡ Some s → Plans plan s t → Takes o pools i t [] told.facts step told.reply h
 
--- The plan is of the pool that is there now; the pool that it leads to stays at home, and its last moment is that of the step.
+-- The plan is of the pool that is there now, in which something lives; the pool that it leads to stays at home, and its last moment is that of the step.
 abbrev pub IsReady : List PoolCore → Step → PoolDecision → Type 0
-IsReady pools step (Planned i plan told) = (s : PoolCore) × (slice_get pools i ≡ Some s) × IsPlanOf plan s × ((t : PoolCore) → Plans plan s t → SameHome s t × (t.last ≡ step.moment))
+IsReady pools step (Planned i plan told) = (s : PoolCore) × (slice_get pools i ≡ Some s) × IsPlanOf plan s × ((t : PoolCore) → Plans plan s t → SameHome s t × (t.last ≡ step.moment)) × (is_spent s ≡ false)
 IsReady pools step outcome = ⊤

@@ -1,6 +1,6 @@
 //! What a driver knows, as its log tells it.
 
-ghost use Rattle.std.specs.Prelude.{◌≡◌, IfOk, List, [], None, Some, is_some, length, nat_lt, option_copied, slice_get};
+ghost use Rattle.std.specs.Prelude.{◌≡◌, IfOk, IfSome, List, None, Some, is_some, length, nat_lt, option_copied, slice_get, true, false};
 
 use crate::topology::TopologyCore;
 use mdb_base::{Moment, OutOfMemory, ServerAddress};
@@ -11,16 +11,18 @@ use std::alloc::Global;
 
 impl TopologyCore {
     ghost use Rattle.mdb_log.specs.declared.log.Entry.{Entry};
-    ghost use Rattle.mdb_log.specs.History.{Item, last_moment, of_pool, open_pool};
+    ghost use Rattle.mdb_log.specs.History.{Item, last_moment, open_pool};
     ghost use Rattle.mdb_log.specs.Homes.{homes};
     ghost use Rattle.mdb_log.specs.Opening.{pool_options};
     ghost use Rattle.mdb_pool.specs.Core.{PoolCore as Core};
+    ghost use Rattle.mdb_pool.specs.Kept.{is_spent};
     ghost use Rattle.mdb_pool.specs.Standing.{StandsIn};
     ghost use Rattle.mdb_topology.specs.Description.{description_of, published};
     ghost use Rattle.mdb_topology.specs.Jobs.{job_after};
+    ghost use Rattle.mdb_topology.specs.Living.{living_at};
     ghost use Rattle.mdb_topology.specs.Logging.{IsDriverOf};
     ghost use Rattle.mdb_topology.specs.Monitors.{check_count};
-    ghost use Rattle.mdb_topology.specs.Standing.{StandsFor, PoolFits, home};
+    ghost use Rattle.mdb_topology.specs.Standing.{StandsFor, IsGone, PoolFits, home};
 
     /// What is known of the topology.
     pub fn description(&self) -> &TopologyDescription
@@ -29,21 +31,22 @@ impl TopologyCore {
         &self.description
     }
 
-    // The pool at the index.
+    // The pool with the number, where something lives in it.
     fn pool_at(&self, number: u32) -> Option<&PoolCore>
-        ensures { option_copied result ≡ slice_get self.now.pools.cores.items number }
+        ensures { option_copied result ≡ living_at self.now.pools.cores.items number }
     {
         self.pools.pool(number)
     }
 
-    /// The pool with the number: what its calls answer that only look at it is what the driver's history says of the pool's items. `None` where no pool of this number was
-    /// opened. A pool that was closed keeps its number.
+    /// The pool with the number: what its calls answer that only look at it is what the driver's history says of the pool's items. A pool that was closed keeps its number. `None` where no pool of this
+    /// number was opened, or the pool was closed and nothing of it lives: no connection, and no request that is open.
     pub fn pool(&self, number: u32) -> Option<&PoolCore>
-        ensures opened { (h : List Item) → StandsFor self.now h → is_some (option_copied result) ≡ nat_lt number (length (homes h)) }
+        ensures opened { (h : List Item) → StandsFor self.now h → is_some (option_copied result) ≡ true → nat_lt number (length (homes h)) ≡ true }
+        ensures lives { IfSome (option_copied result) (λ s. is_spent s ≡ false) }
+        ensures missing { (h : List Item) → StandsFor self.now h → option_copied result ≡ None → IsGone h number }
         ensures fits { (h : List Item) (s : Core) → StandsFor self.now h → option_copied result ≡ Some s → PoolFits (pool_options self.now.options) h number s }
         ensures stands { (h : List Item) (s : Core) → StandsFor self.now h → option_copied result ≡ Some s → StandsIn s h }
         ensures index { (h : List Item) (s : Core) → StandsFor self.now h → option_copied result ≡ Some s → slice_get (homes h) number ≡ Some (home s) }
-        ensures missing { (h : List Item) → StandsFor self.now h → option_copied result ≡ None → of_pool number h ≡ [] }
     {
         self.pool_at(number)
     }

@@ -4,4 +4,6 @@ pub mod check_acts;
 pub mod checks_ahead;
 pub mod ended_checks;
 pub mod monitor_acts;
+pub mod monitor_list;
 pub mod monitoring;
+pub mod watched;

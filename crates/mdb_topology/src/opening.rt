@@ -12,9 +12,11 @@ ghost use Rattle.mdb_topology.specs.Opening.{IsOpened, Publishes};
 use crate::known::sdam_facts::tell_event;
 use crate::known::topology_change::TopologyChange;
 use crate::pools::Pools;
+use crate::pools::cores::Cores;
 use mdb_base::{Moment, Options, OutOfMemory, ServerAddress};
 use mdb_describe::{Diff, ServerDescription, TopologyDescription};
 use mdb_events::{Fact, SdamEvent, TopologyOpeningEvent};
+use mdb_intervals::Spans;
 use std::alloc::{AllocError, Global};
 
 /// The parts of a driver that was just opened.
@@ -94,6 +96,7 @@ impl Pools {
         requires ordered { AreInOrder diff.now }
         requires in_both { are_in_both change.now.earlier.now.servers change.now.later.now.servers diff.now.changed ≡ true }
         ensures last { self.new.last ≡ self.old.last }
+        ensures known { self.new.known ≡ self.old.known }
         ensures published { OnOk result (Publishes change.now.options.now change.now.moment change.now.earlier.now change.now.later.now self.old.cores.items self.new.cores.items facts.old.items facts.new.items) }
     {
         let changes = self.plan_publication(alloc, change, diff, facts)?;
@@ -120,6 +123,7 @@ impl Pools {
         requires open_for { (a : ServerAddress) → is_some (at_address self.old.cores.items a) ≡ is_known a change.now.earlier.now.servers }
         requires few { length self.old.cores.items + length change.now.later.now.servers ≤ 2 ^ 32 }
         ensures last { self.new.last ≡ self.old.last }
+        ensures known { self.new.known ≡ self.old.known }
         ensures published { OnOk result (Publishes change.now.options.now change.now.moment change.now.earlier.now change.now.later.now self.old.cores.items self.new.cores.items facts.old.items facts.new.items) }
     {
         match change.earlier.diff(alloc, change.later)? {
@@ -142,6 +146,7 @@ fn publish_opened(
     requires seeds { length options.now.seeds ≤ 128 }
     requires empty { pools.old.cores.items ≡ [] }
     ensures last { pools.new.last ≡ pools.old.last }
+    ensures known { pools.new.known ≡ pools.old.known }
     ensures published { OnOk result (Publishes options.now moment (unopened options.now) seeded.now [] pools.new.cores.items facts.old.items facts.new.items) }
 {
     let before = unopened(seeded)?;
@@ -158,13 +163,15 @@ fn publish_opened(
 pub(crate) fn open(alloc: Global, options: &Options, moment: Moment) -> Result<Opening, OutOfMemory>
     requires { broken_rule options.now ≡ None }
     ensures last { IfOk result (λ made. made.pools.last ≡ moment) }
+    ensures known { IfOk result (λ made. made.pools.known.spans ≡ []) }
     ensures opened { IfOk result (λ made. IsOpened options.now moment made.pools.cores.items made.description made.facts.items) }
 {
     let mut facts = Vec::new(alloc);
     tell_opening(alloc, &mut facts, options)?;
     let seeded = TopologyDescription::initialize(alloc, options)?;
     let mut pools = Pools {
-        cores: Vec::new(alloc),
+        cores: Cores::new(alloc),
+        known: Spans::new(alloc),
         last: moment,
     };
     publish_opened(alloc, options, moment, &seeded, &mut pools, &mut facts)?;

@@ -1,38 +1,45 @@
 //! The opening of a driver, with the first entry of its log.
 
-ghost use Rattle.std.specs.Prelude.{◌≡◌, ◌++◌, ◌∷◌, [], IfOk, OnOk, OnErr, All, List, None, map};
+ghost use Rattle.std.specs.Prelude.{◌≡◌, ◌++◌, ◌∷◌, [], ℕ, IfOk, OnOk, OnErr, All, List, None, length, map, nat_lt, true};
 ghost use Rattle.mdb_base.specs.OptionRules.{broken_rule};
 ghost use Rattle.mdb_monitor.specs.Standing.{StandsFor as MonitorStands};
 ghost use Rattle.mdb_events.specs.declared.fact.Fact.{Fact as FactRecord};
 ghost use Rattle.mdb_log.specs.declared.reply.Reply.TheVariants.{Done};
+ghost use Rattle.mdb_log.specs.Connections.{has};
+ghost use Rattle.mdb_topology.specs.Living.{lives_at};
 ghost use Rattle.mdb_topology.specs.Logging.{opening_step};
 ghost use Rattle.mdb_topology.specs.Opening.{IsOpened};
 ghost use Rattle.mdb_topology.specs.Monitors.{setting};
 
-use crate::known::telling_changes::push_monitor;
+use crate::known::telling_changes::monitor_of;
+use crate::monitors::monitor_list::Monitors;
 use crate::opening::{Opening, open};
 use crate::pools::Pools;
+use crate::pools::cores::Cores;
 use crate::topology::TopologyCore;
 use mdb_base::{Items, Options, OutOfMemory};
 use mdb_describe::TopologyDescription;
 use mdb_events::{Boxed, Fact};
 use mdb_log::{Act, Entry, Log, Reply, Step};
-use mdb_monitor::{CheckCount, MonitorCore};
-use mdb_pool::PoolCore;
+use mdb_monitor::CheckCount;
 use std::alloc::{AllocError, Global};
 
-// A monitor for each of the pools.
+// A monitor for each of the pools, in all of which something lives.
 fn pool_monitors(
     alloc: Global,
     options: &Options,
-    pools: &[PoolCore],
-) -> Result<Vec<MonitorCore>, AllocError>
-    ensures settings { IfOk result (λ made. map (λ m. m.setting) made.items ≡ map (λ s. setting options.now s.address) pools.now) }
+    cores: &Cores,
+) -> Result<Monitors, OutOfMemory>
+    requires { (p : ℕ) → nat_lt p (length cores.now.items) ≡ lives_at cores.now.items p }
+    ensures settings { IfOk result (λ made. map (λ m. m.setting) made.items ≡ map (λ s. setting options.now s.address) cores.now.items) }
     ensures stand { IfOk result (λ made. All (λ m. MonitorStands m []) made.items) }
+    ensures kept { IfOk result (λ made. (p : ℕ) → lives_at cores.now.items p ≡ true → has p made.kept ≡ true) }
 {
-    let mut made = Vec::new(alloc);
-    for pool in pools {
-        push_monitor(&mut made, options, pool.address())?;
+    let mut made = Monitors::new(alloc);
+    made.reserve(cores.len())?;
+    for place in 0..cores.len() {
+        let address = cores.at(place).address().clone()?;
+        made.push_reserved(monitor_of(address, options));
     }
     Ok(made)
 }
@@ -70,7 +77,7 @@ fn enter_opening(
 pub struct Begun {
     pub pools: Pools,
     pub description: TopologyDescription,
-    pub monitors: Vec<MonitorCore>,
+    pub monitors: Monitors,
 }
 
 // The parts of a driver that is opened, once its log is begun.
@@ -78,6 +85,8 @@ fn begin(alloc: Global, log: &mut Log, seat: u32, options: &Options) -> Result<B
     requires { broken_rule options.now ≡ None }
     ensures begins { IfOk result (λ made. (facts : List FactRecord) × IsOpened options.now 0 made.pools.cores.items made.description facts × (log.new ≡ log.old ++ record { seat = seat; step = opening_step options.now; reply = Done; facts = facts } ∷ [])) }
     ensures last { IfOk result (λ made. made.pools.last ≡ 0) }
+    ensures known { IfOk result (λ made. made.pools.known.spans ≡ []) }
+    ensures kept { IfOk result (λ made. (p : ℕ) → lives_at made.pools.cores.items p ≡ true → has p made.monitors.kept ≡ true) }
     ensures settings { IfOk result (λ made. map (λ m. m.setting) made.monitors.items ≡ map (λ s. setting options.now s.address) made.pools.cores.items) }
     ensures stand { IfOk result (λ made. All (λ m. MonitorStands m []) made.monitors.items) }
     ensures err { OnErr result (log.new ≡ log.old) }
@@ -87,7 +96,7 @@ fn begin(alloc: Global, log: &mut Log, seat: u32, options: &Options) -> Result<B
         description,
         facts,
     } = open(alloc, options, 0)?;
-    match pool_monitors(alloc, options, pools.cores.as_slice()) {
+    match pool_monitors(alloc, options, &pools.cores) {
         Ok(monitors) => match enter_opening(alloc, log, seat, options, facts) {
             Ok(()) => Ok(Begun {
                 pools,

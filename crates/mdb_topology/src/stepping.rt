@@ -1,9 +1,10 @@
 //! The steps of a driver.
 
-ghost use Rattle.std.specs.Prelude.{◌≡◌, ◌≤◌, ◌+◌, ◌++◌, ◌∷◌, [], OnOk, OnErr, IfOk, List, Option, is_some, unwrap_or, length, vec_capacity, true};
-ghost use Rattle.mdb_log.specs.Connections.{one_if};
+ghost use Rattle.std.specs.Prelude.{◌≡◌, ◌≤◌, ◌+◌, ◌++◌, ◌∷◌, [], ◌&&◌, ◌||◌, ℕ, nat_le, nat_lt, OnOk, OnErr, IfOk, List, Option, is_some, unwrap_or, length, true};
+ghost use Rattle.mdb_log.specs.Connections.{has, one_if};
 ghost use Rattle.mdb_topology.specs.Stepping.{is_driver_act};
 
+use crate::monitors::monitor_list::Monitors;
 use crate::monitors::monitoring::Monitoring;
 use crate::pools::acting::is_pool_act;
 use crate::pools::pool_change::PoolChange;
@@ -43,9 +44,10 @@ fn enter(
 }
 
 // More monitors, for which there is room.
-fn push_all(monitors: &mut Vec<MonitorCore>, more: Vec<MonitorCore>)
-    requires { length monitors.old.items + length more.items ≤ vec_capacity monitors.old }
-    ensures { monitors.new.items ≡ monitors.old.items ++ more.items }
+fn push_all(monitors: &mut Monitors, more: Vec<MonitorCore>)
+    requires { length monitors.old.items + length more.items ≤ monitors.old.room }
+    ensures items { monitors.new.items ≡ monitors.old.items ++ more.items }
+    ensures kept { (p : ℕ) → has p monitors.old.kept || (nat_le (length monitors.old.items) p && nat_lt p (length monitors.new.items)) ≡ true → has p monitors.new.kept ≡ true }
 {
     for monitor in more {
         monitors.push_reserved(monitor);
@@ -74,6 +76,7 @@ impl TopologyCore {
     ghost use Rattle.mdb_topology.specs.Answer.{answer};
     ghost use Rattle.mdb_topology.specs.Checking.{monitors_after, numbers_after, watchers_after, IsPlaced};
     ghost use Rattle.mdb_topology.specs.Finding.{is_pool_act};
+    ghost use Rattle.mdb_topology.specs.Living.{lives_at};
     ghost use Rattle.mdb_topology.specs.Logging.{IsDriverOf};
     ghost use Rattle.mdb_topology.specs.Refusal.{may_want, refusal};
     ghost use Rattle.mdb_topology.specs.Stepping.{is_topology_act, BecomesOf, Follows, FollowsSome, Logs, MayWant};
@@ -81,11 +84,13 @@ impl TopologyCore {
     // Room for the pools and monitors that come, and the number of publications afterwards.
     fn make_room(&mut self, next: &Transition) -> Result<u64, OutOfMemory>
         ensures same { IsSame self.old self.new }
-        ensures pools { OnOk result (length self.new.pools.cores.items + length next.now.monitors.items ≤ vec_capacity self.new.pools.cores) }
-        ensures monitors { OnOk result (length self.new.monitors.items + length next.now.monitors.items ≤ vec_capacity self.new.monitors) }
+        ensures pools { OnOk result (length self.new.pools.cores.items + length next.now.monitors.items ≤ self.new.pools.cores.room) }
+        ensures monitors { OnOk result (length self.new.monitors.items + length next.now.monitors.items ≤ self.new.monitors.room) }
+        ensures known { OnOk result (length self.new.pools.known.spans + 1 ≤ self.new.pools.known.capacity) }
         ensures published { IfOk result (λ n. n ≡ self.old.published + one_if (is_some next.now.description)) }
     {
         let more = next.monitors.len();
+        self.pools.known.reserve(1)?;
         self.pools.reserve(more)?;
         self.monitors.reserve(more)?;
         if next.description.is_none() {
@@ -99,9 +104,10 @@ impl TopologyCore {
 
     // The monitors, and who asks for a check, become as it was planned. No memory is taken.
     fn watch(&mut self, monitoring: Monitoring)
-        requires placed { IsPlaced monitoring (length self.old.monitors.items) }
+        requires placed { IsPlaced monitoring self.old.monitors.kept }
         ensures monitors { self.new.monitors.items ≡ monitors_after monitoring self.old.monitors.items }
-        ensures room { vec_capacity self.new.monitors ≡ vec_capacity self.old.monitors }
+        ensures kept { self.new.monitors.kept ≡ self.old.monitors.kept }
+        ensures room { self.new.monitors.room ≡ self.old.monitors.room }
         ensures fresh { self.new.fresh ≡ numbers_after monitoring self.old.fresh }
         ensures watchers { self.new.watchers ≡ watchers_after monitoring self.old.watchers }
         ensures others { self.new ≡ record self.old { monitors = self.new.monitors; fresh = self.new.fresh; watchers = self.new.watchers } }
@@ -109,7 +115,7 @@ impl TopologyCore {
         match monitoring {
             Monitoring::Same => {}
             Monitoring::Checked(index, monitor, numbers) => {
-                self.monitors[index] = monitor;
+                self.monitors.put(index, monitor);
                 self.fresh = numbers;
             }
             Monitoring::Asked(watchers) => {
@@ -118,7 +124,7 @@ impl TopologyCore {
         }
     }
 
-    // What is known changes, and the pools as it was planned. No memory is taken.
+    // What is known changes, and the pools as it was planned. The monitors of those in which nothing lives then leave. No memory is taken.
     fn take(
         &mut self,
         moment: Moment,
@@ -128,10 +134,12 @@ impl TopologyCore {
         monitoring: Monitoring,
     )
         requires leads { (later : List PoolCore) × LeadsAll changes.items self.old.pools.cores.items later }
-        requires pools { length self.old.pools.cores.items + length (opened_by changes.items) ≤ vec_capacity self.old.pools.cores }
-        requires monitors { length self.old.monitors.items + length monitors.items ≤ vec_capacity self.old.monitors }
-        requires placed { IsPlaced monitoring (length self.old.monitors.items) }
+        requires pools { length self.old.pools.cores.items + length (opened_by changes.items) ≤ self.old.pools.cores.room }
+        requires monitors { length self.old.monitors.items + length monitors.items ≤ self.old.monitors.room }
+        requires placed { IsPlaced monitoring self.old.monitors.kept }
         ensures led { (later : List PoolCore) → LeadsAll changes.items self.old.pools.cores.items later → later ≡ self.new.pools.cores.items }
+        ensures known { self.new.pools.known ≡ self.old.pools.known }
+        ensures kept { (p : ℕ) → lives_at self.new.pools.cores.items p ≡ true → has p self.old.monitors.kept || (nat_le (length self.old.monitors.items) p && nat_lt p (length self.new.monitors.items)) ≡ true → has p self.new.monitors.kept ≡ true }
         ensures last { self.new.pools.last ≡ moment }
         ensures monitors { self.new.monitors.items ≡ monitors_after monitoring self.old.monitors.items ++ monitors.items }
         ensures fresh { self.new.fresh ≡ numbers_after monitoring self.old.fresh }
@@ -143,6 +151,7 @@ impl TopologyCore {
         self.pools.last = moment;
         self.watch(monitoring);
         push_all(&mut self.monitors, monitors);
+        self.monitors.let_go(&self.pools.cores);
         if let Some(known) = description {
             self.description = known;
         }
@@ -182,6 +191,7 @@ impl TopologyCore {
         match enter(log, seat, step, reply, facts) {
             Ok(told) => {
                 self.take(step.moment, changes, description, monitors, monitoring);
+                self.pools.note(&step.act);
                 self.published = published;
                 self.stopped = stops || self.stopped;
                 Ok(told)

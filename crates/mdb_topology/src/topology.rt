@@ -1,11 +1,13 @@
 //! The state of a driver.
 
+use crate::monitors::monitor_list::Monitors;
 use crate::pools::Pools;
 use mdb_base::Options;
 use mdb_describe::TopologyDescription;
-use mdb_monitor::{CheckCount, MonitorCore};
+use mdb_monitor::CheckCount;
 
-/// All pools of one driver with what is known of its servers. Each pool has a monitor, at the pool's number.
+/// All pools of one driver with what is known of its servers. Each pool has a monitor, at the pool's number. Memory keeps the pools in which something lives, and their monitors: one that is open, or
+/// closed and has a connection, or a request that was not told how it ended.
 #[derive(Drop)]
 pub struct TopologyCore {
     // What the driver was opened with.
@@ -19,7 +21,7 @@ pub struct TopologyCore {
     // Its pools by number, closed ones too.
     pub(crate) pools: Pools,
     // The monitor of each pool, at the pool's number.
-    pub(crate) monitors: Vec<MonitorCore>,
+    pub(crate) monitors: Monitors,
     // How many checks began so far that connected.
     pub(crate) fresh: u64,
     // Who asks for a check.

@@ -72,6 +72,13 @@ impl Requests {
         }
     }
 
+    /// The pool stands alone.
+    pub(crate) fn is_alone(&self) -> bool
+        ensures { result ≡ self.now.base.alone }
+    {
+        self.parts.alone
+    }
+
     /// How many have not left.
     pub(crate) fn len(&self) -> usize
         ensures value { result ≡ length (filter (lingers self.now.settled) self.now.now) }

@@ -8,6 +8,7 @@ ghost use Rattle.mdb_pool.specs.Core.{PoolCore as Core};
 ghost use Rattle.mdb_pool.specs.Kept.{connection_at};
 ghost use Rattle.mdb_topology.specs.Current.{operating};
 ghost use Rattle.mdb_topology.specs.Errors.{case_of, for_service};
+ghost use Rattle.mdb_topology.specs.Living.{lives_at};
 
 use crate::errors::complaining::{has_row, is_hard, service_cleared};
 use crate::errors::marked::{Asked, PoolTrouble};
@@ -65,7 +66,7 @@ impl TopologyCore {
         requires stands { StandsForSome self.old }
         requires in_time { self.old.pools.last ≤ step.now.moment }
         requires balanced { self.old.options.load_balanced ≡ true }
-        requires there { index < length self.old.pools.cores.items }
+        requires there { lives_at self.old.pools.cores.items index ≡ true }
         ensures same { self.new ≡ self.old }
         ensures becomes { IfOk result (λ stepped. (h : List Item) (s : Core) (x : Trouble) → StandsFor self.old h → slice_get self.old.pools.cores.items index ≡ Some s → at_address self.old.pools.cores.items s.address ≡ Some index → x.pool ≡ s.pool → x.address ≡ s.address → x.error ≡ error.now → IsClearing self.old h step.now x (for_service service) → BecomesOf self.old step.now stepped h) }
         ensures wants { OnErr result ((h : List Item) (s : Core) (x : Trouble) → StandsFor self.old h → slice_get self.old.pools.cores.items index ≡ Some s → at_address self.old.pools.cores.items s.address ≡ Some index → x.pool ≡ s.pool → x.address ≡ s.address → x.error ≡ error.now → IsClearing self.old h step.now x (for_service service) → MayWant self.old step.now h) }
@@ -104,7 +105,7 @@ impl TopologyCore {
     ) -> Result<Decision, OutOfMemory>
         requires stands { StandsForSome self.old }
         requires in_time { self.old.pools.last ≤ step.now.moment }
-        requires there { index < length self.old.pools.cores.items }
+        requires there { lives_at self.old.pools.cores.items index ≡ true }
         requires act { step.now.act ≡ ErrorAct party error.now }
         requires normal { self.old.options.load_balanced ≡ false }
         requires complains { Complains self.old party index id error.now }
@@ -112,7 +113,7 @@ impl TopologyCore {
         ensures becomes { IfOk result (λ stepped. (h : List Item) → StandsFor self.old h → BecomesOf self.old step.now stepped h) }
         ensures wants { OnErr result ((h : List Item) → StandsFor self.old h → MayWant self.old step.now h) }
     {
-        let hard = is_hard(&self.pools.cores[index], id, error);
+        let hard = is_hard(self.pools.cores.at(index), id, error);
         if error.is_state_change_error() {
             return self.mark(alloc, step, index, error, hard, Asked::CheckNow);
         }
@@ -145,15 +146,15 @@ impl TopologyCore {
         let Some(index) = self.pools.holder(party) else {
             return Ok(Decision::Refused(Refused::NotHolder));
         };
-        let Some(id) = self.pools.cores[index].held_by(party) else {
+        let Some(id) = self.pools.cores.at(index).held_by(party) else {
             return Ok(Decision::Refused(Refused::NotHolder));
         };
-        if self.leaves_complaint(&self.pools.cores[index], id, error) {
+        if self.leaves_complaint(self.pools.cores.at(index), id, error) {
             let reply = Reply::Changed(false);
             return Ok(Decision::Accepted(Transition::of_reply(alloc, reply)));
         }
         if self.options.load_balanced {
-            let service = service_cleared(&self.pools.cores[index], id, error);
+            let service = service_cleared(self.pools.cores.at(index), id, error);
             return self.clear_service(alloc, step, index, service, error);
         }
         self.mark_complaint(alloc, step, index, party, id, error)

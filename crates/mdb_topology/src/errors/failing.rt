@@ -13,6 +13,7 @@ ghost use Rattle.mdb_pool.specs.Kept.{clears_before, clears_for, connection_at};
 ghost use Rattle.mdb_topology.specs.Current.{establishing};
 ghost use Rattle.mdb_topology.specs.Errors.{case_of};
 ghost use Rattle.mdb_topology.specs.Failing.{is_timely, is_uncleared, clears_after, service_after, asked_after};
+ghost use Rattle.mdb_topology.specs.Living.{lives_at};
 
 use crate::errors::complaining::is_hard;
 use crate::errors::marked::{Asked, PoolTrouble};
@@ -150,7 +151,7 @@ impl TopologyCore {
     ) -> Result<Decision, OutOfMemory>
         requires stands { StandsForSome self.old }
         requires in_time { self.old.pools.last ≤ step.now.moment }
-        requires there { index < length self.old.pools.cores.items }
+        requires there { lives_at self.old.pools.cores.items index ≡ true }
         requires failing { (s : Core) → slice_get self.old.pools.cores.items index ≡ Some s → IsFailing s step.now error.now }
         requires balanced { is_some service ≡ true → self.old.options.load_balanced ≡ true }
         ensures same { self.new ≡ self.old }
@@ -190,7 +191,7 @@ impl TopologyCore {
     ) -> Result<(Vec<Fact>, Vec<PoolChange>), OutOfMemory>
         requires stands { StandsForSome self.old }
         requires in_time { self.old.pools.last ≤ step.now.moment }
-        requires there { trouble.now.index < length self.old.pools.cores.items }
+        requires there { lives_at self.old.pools.cores.items trouble.now.index ≡ true }
         requires failing { (s : Core) → slice_get self.old.pools.cores.items trouble.now.index ≡ Some s → IsFailing s step.now trouble.now.error.now }
         requires here { at_address self.old.pools.cores.items address.now ≡ Some trouble.now.index }
         requires marked { later.now ≡ updated self.old.description (failed address.now trouble.now.error.now) }
@@ -231,17 +232,17 @@ impl TopologyCore {
         requires stands { StandsForSome self.old }
         requires in_time { self.old.pools.last ≤ step.now.moment }
         requires normal { self.old.options.load_balanced ≡ false }
-        requires there { index < length self.old.pools.cores.items }
+        requires there { lives_at self.old.pools.cores.items index ≡ true }
         requires failing { (s : Core) → slice_get self.old.pools.cores.items index ≡ Some s → IsFailing s step.now error.now }
         requires here { (s : Core) → slice_get self.old.pools.cores.items index ≡ Some s → at_address self.old.pools.cores.items s.address ≡ Some index }
         ensures same { self.new ≡ self.old }
         ensures becomes { IfOk result (λ stepped. (h : List Item) (s : Core) → StandsFor self.old h → slice_get self.old.pools.cores.items index ≡ Some s → TellsFailure self.old.options h step.now s (Some (updates (failed s.address error.now))) (is_some (difference self.old.description.servers (updated self.old.description (failed s.address error.now)).servers) && clears) None error.now (asked_after error.now) → BecomesOf self.old step.now stepped h) }
         ensures wants { OnErr result ((h : List Item) (s : Core) → StandsFor self.old h → slice_get self.old.pools.cores.items index ≡ Some s → TellsFailure self.old.options h step.now s (Some (updates (failed s.address error.now))) (is_some (difference self.old.description.servers (updated self.old.description (failed s.address error.now)).servers) && clears) None error.now (asked_after error.now) → MayWant self.old step.now h) }
     {
-        if self.overspends(index, self.pools.cores[index].address(), error, clears) {
+        if self.overspends(index, self.pools.cores.at(index).address(), error, clears) {
             return Ok(Decision::Refused(Refused::Exhausted(What::Generation)));
         }
-        let address = self.pools.cores[index].address().clone()?;
+        let address = self.pools.cores.at(index).address().clone()?;
         let later = self.after_error(alloc, &address, error)?;
         let asked = asked_after(error);
         let trouble = PoolTrouble {
@@ -279,20 +280,20 @@ impl TopologyCore {
         requires stands { StandsForSome self.old }
         requires in_time { self.old.pools.last ≤ step.now.moment }
         requires act { step.now.act ≡ FailedAct index id at error.now }
-        requires there { index < length self.old.pools.cores.items }
+        requires there { lives_at self.old.pools.cores.items index ≡ true }
         requires failing { (s : Core) → slice_get self.old.pools.cores.items index ≡ Some s → IsFailing s step.now error.now }
         ensures same { self.new ≡ self.old }
         ensures becomes { IfOk result (λ stepped. (h : List Item) → StandsFor self.old h → BecomesOf self.old step.now stepped h) }
         ensures wants { OnErr result ((h : List Item) → StandsFor self.old h → MayWant self.old step.now h) }
     {
-        if self.leaves_failure(&self.pools.cores[index], id, at, error) {
+        if self.leaves_failure(self.pools.cores.at(index), id, at, error) {
             return self.fail_unmarked(alloc, step, index, None, error);
         }
         if self.options.load_balanced {
-            let service = service_after(&self.pools.cores[index], id, at, error);
+            let service = service_after(self.pools.cores.at(index), id, at, error);
             return self.fail_unmarked(alloc, step, index, service, error);
         }
-        let clears = clears_after(&self.pools.cores[index], id, error);
+        let clears = clears_after(self.pools.cores.at(index), id, error);
         self.fail_marked(alloc, step, index, error, clears)
     }
 
@@ -316,7 +317,7 @@ impl TopologyCore {
         let Some(index) = self.pools.numbered(number) else {
             return Ok(Decision::Refused(Refused::NotPending));
         };
-        if let Some(why) = self.pools.cores[index].refusal_now(step) {
+        if let Some(why) = self.pools.cores.at(index).refusal_now(step) {
             return Ok(Decision::Refused(why));
         }
         self.fail_at(alloc, step, index, id, at, error)

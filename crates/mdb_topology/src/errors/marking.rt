@@ -8,6 +8,7 @@ ghost use Rattle.mdb_pool.specs.Core.{PoolCore as Core};
 ghost use Rattle.mdb_topology.specs.Marking.{asked_of};
 ghost use Rattle.mdb_topology.specs.Publishing.{telling};
 ghost use Rattle.mdb_topology.specs.Touching.{touched_by};
+ghost use Rattle.mdb_topology.specs.Living.{lives_at};
 
 use crate::errors::marked::{Asked, Marked, PoolTrouble};
 use crate::known::topology_change::TopologyChange;
@@ -163,16 +164,16 @@ impl TopologyCore {
         requires stands { StandsForSome self.old }
         requires in_time { self.old.pools.last ≤ step.now.moment }
         requires normal { self.old.options.load_balanced ≡ false }
-        requires there { index < length self.old.pools.cores.items }
+        requires there { lives_at self.old.pools.cores.items index ≡ true }
         requires here { (s : Core) → slice_get self.old.pools.cores.items index ≡ Some s → at_address self.old.pools.cores.items s.address ≡ Some index }
         ensures same { self.new ≡ self.old }
         ensures marks { IfOk result (λ stepped. (s : Core) (x : Trouble) → slice_get self.old.pools.cores.items index ≡ Some s → IsOfPool self.old.options x index s.address error.now clears asked → MarksTo self.old step.now.moment (updated self.old.description (failed s.address error.now)) x stepped) }
         ensures spares { OnErr result ((s : Core) (x : Trouble) → slice_get self.old.pools.cores.items index ≡ Some s → IsOfPool self.old.options x index s.address error.now clears asked → MarkPasses self.old step.now.moment (updated self.old.description (failed s.address error.now)) x None) }
     {
-        if self.overspends(index, self.pools.cores[index].address(), error, clears) {
+        if self.overspends(index, self.pools.cores.at(index).address(), error, clears) {
             return Ok(Decision::Refused(Refused::Exhausted(What::Generation)));
         }
-        let address = self.pools.cores[index].address().clone()?;
+        let address = self.pools.cores.at(index).address().clone()?;
         let trouble = PoolTrouble {
             index,
             service: None,

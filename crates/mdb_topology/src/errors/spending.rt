@@ -7,6 +7,7 @@ ghost use Rattle.mdb_describe.specs.Same.{same, same_error, same_kind, same_opti
 ghost use Rattle.mdb_describe.specs.Update.{is_older, updated};
 ghost use Rattle.mdb_pool.specs.Core.{PoolCore as Core};
 ghost use Rattle.mdb_pool.specs.Kept.{clears_for, exhausted_now, is_shut};
+ghost use Rattle.mdb_topology.specs.Living.{lives_at};
 
 use crate::topology::TopologyCore;
 use mdb_base::{Error, ErrorKind, ObjectId, ServerAddress, TopologyVersion};
@@ -76,17 +77,17 @@ impl TopologyCore {
     /// One more clear of the pool at the index, or for a service of it, would take its generation past the limit.
     pub(crate) fn is_spent(&self, index: usize, service: Option<ObjectId>) -> bool
         requires stands { StandsForSome self.now }
-        requires there { index < length self.now.pools.cores.items }
+        requires there { lives_at self.now.pools.cores.items index ≡ true }
         ensures { (s : Core) → slice_get self.now.pools.cores.items index ≡ Some s → result ≡ exhausted_now s service }
     {
         let limit = self.options.limit_generation.unwrap_or(u64::MAX);
-        is_at_limit(&self.pools.cores[index], limit, service)
+        is_at_limit(self.pools.cores.at(index), limit, service)
     }
 
     /// A clear for the service, where there is one, of the pool at the index would.
     pub(crate) fn overspends_service(&self, index: usize, service: Option<ObjectId>) -> bool
         requires stands { StandsForSome self.now }
-        requires there { index < length self.now.pools.cores.items }
+        requires there { lives_at self.now.pools.cores.items index ≡ true }
         ensures { (s : Core) → slice_get self.now.pools.cores.items index ≡ Some s → result ≡ is_some service && exhausted_now s service }
     {
         if service.is_none() {
@@ -120,7 +121,7 @@ impl TopologyCore {
         clears: bool,
     ) -> bool
         requires stands { StandsForSome self.now }
-        requires there { index < length self.now.pools.cores.items }
+        requires there { lives_at self.now.pools.cores.items index ≡ true }
         ensures { (s : Core) → slice_get self.now.pools.cores.items index ≡ Some s → result ≡ (is_some (difference self.now.description.servers (updated self.now.description (failed address.now error.now)).servers) && clears) && exhausted_now s None }
     {
         if !clears {
@@ -140,7 +141,7 @@ impl TopologyCore {
         came: &BeatenResult,
     ) -> bool
         requires stands { StandsForSome self.now }
-        requires there { index < length self.now.pools.cores.items }
+        requires there { lives_at self.now.pools.cores.items index ≡ true }
         ensures { (s : Core) → slice_get self.now.pools.cores.items index ≡ Some s → result ≡ check_spends self.now s address.now came.now }
     {
         let BeatenResult::Err(error) = came else {

@@ -71,7 +71,7 @@ fn plan_opened(
 {
     tell_opened(alloc, facts, options, address, number)?;
     let copy = address.clone()?;
-    let core = PoolCore::new(alloc, number, copy, pool_options(options));
+    let core = PoolCore::new_in_driver(alloc, number, copy, pool_options(options));
     changes.push(PoolChange::Open(core))?;
     Ok(())
 }

@@ -63,7 +63,7 @@ impl Pools {
         let Some(index) = self.at_address(address) else {
             return Ok(());
         };
-        let act = Act::Ready(self.cores[index].number());
+        let act = Act::Ready(self.cores.at(index).number());
         self.plan_act(alloc, index, Step { moment, act }, facts, changes)
     }
 

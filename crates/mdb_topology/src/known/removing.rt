@@ -53,7 +53,7 @@ impl Pools {
         let Some(index) = self.at_address(address) else {
             return Ok(());
         };
-        let act = Act::Close(self.cores[index].number());
+        let act = Act::Close(self.cores.at(index).number());
         self.plan_act(alloc, index, Step { moment, act }, facts, changes)
     }
 

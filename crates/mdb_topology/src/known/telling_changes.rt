@@ -70,7 +70,7 @@ impl Publication {
 
 // The monitor of a server, as the options say: by default it is checked every 10 seconds, a connection to it is made within 10 seconds, and it is asked to
 // answer when something changes.
-fn monitor_of(address: ServerAddress, options: &Options) -> MonitorCore
+pub(crate) fn monitor_of(address: ServerAddress, options: &Options) -> MonitorCore
     ensures setting { result.setting ≡ setting options.now address }
     ensures stands { MonitorStands result [] }
 {

@@ -1,9 +1,9 @@
 //! A check of a monitor begins.
 
-ghost use Rattle.std.specs.Prelude.{◌≡◌, ◌≤◌, ◌<◌, ◌^◌, ◌+◌, ◌∷◌, [], not, IfOk, OnErr, List, nat_lt, length, false};
+ghost use Rattle.std.specs.Prelude.{◌≡◌, ◌≤◌, ◌<◌, ◌^◌, ◌+◌, ◌∷◌, [], not, IfOk, OnErr, List, nat_lt, true, false};
 ghost use Rattle.mdb_log.specs.declared.step.Act.TheVariants.{Beat as BeatAct};
 ghost use Rattle.mdb_events.specs.declared.fact.Fact.TheVariants.{Sdam};
-ghost use Rattle.mdb_log.specs.Connections.{one_if};
+ghost use Rattle.mdb_log.specs.Connections.{has, one_if};
 ghost use Rattle.mdb_topology.specs.Checking.{number_limit};
 
 use crate::known::sdam_facts::sdam_fact;
@@ -38,10 +38,10 @@ impl TopologyCore {
 
     // The number of the connection that the next check of the monitor makes; one over a connection needs none.
     fn number_for(&self, index: usize) -> u64
-        requires within { index < length self.now.monitors.items }
+        requires kept { has index self.now.monitors.kept ≡ true }
         ensures { (h : List Item) → StandsFor self.now h → result ≡ fresh_for h index }
     {
-        if self.monitors[index].connected() {
+        if self.monitors.at(index).connected() {
             return 0;
         }
         self.fresh
@@ -62,21 +62,21 @@ impl TopologyCore {
         index: usize,
         number: u32,
     ) -> Result<(MonitorCore, Begin), OutOfMemory>
-        requires within { index < length self.now.monitors.items }
+        requires kept { has index self.now.monitors.kept ≡ true }
         requires idle { (x : MonitorCore) → slice_get self.now.monitors.items index ≡ Some x → runs x ≡ false }
         ensures { IfOk result (λ (monitor, begin). (x : MonitorCore) → slice_get self.now.monitors.items index ≡ Some x → Begins x monitor number begin) }
     {
-        let mut monitor = self.monitors[index].clone()?;
+        let mut monitor = self.monitors.at(index).clone()?;
         let begin = monitor.begin(alloc, number)?;
         Ok((monitor, begin))
     }
 
     // How many checks began that connected, with the next one of the monitor.
     fn drawn(&self, index: usize) -> Result<u64, OutOfMemory>
-        requires within { index < length self.now.monitors.items }
+        requires kept { has index self.now.monitors.kept ≡ true }
         ensures { IfOk result (λ numbers. (h : List Item) → StandsFor self.now h → numbers ≡ self.now.fresh + one_if (not (is_connected h index))) }
     {
-        if self.monitors[index].connected() {
+        if self.monitors.at(index).connected() {
             return Ok(self.fresh);
         }
         match self.fresh.checked_add(1) {
@@ -102,7 +102,7 @@ impl TopologyCore {
         let Some(index) = self.monitored(address, pool) else {
             return Ok(Decision::Refused(Refused::UnknownServer));
         };
-        if self.monitors[index].running() {
+        if self.monitors.at(index).running() {
             return Ok(Decision::Refused(Refused::CheckRunning));
         }
         if self.options.load_balanced {

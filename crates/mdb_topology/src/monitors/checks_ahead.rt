@@ -1,6 +1,7 @@
 //! What the next check of a server does, and what follows from one that ends: asked beforehand, of a driver that stays as it is.
 
-ghost use Rattle.std.specs.Prelude.{◌≡◌, ℕ, IfOk, List, Some, is_some, option_copied, slice_get};
+ghost use Rattle.std.specs.Prelude.{◌≡◌, ℕ, IfOk, List, Some, None, if◌then◌else◌, is_some, option_copied, slice_get};
+ghost use Rattle.mdb_log.specs.Connections.{has};
 
 use crate::monitors::ended_checks::check_result;
 use crate::topology::TopologyCore;
@@ -18,9 +19,9 @@ impl TopologyCore {
     ghost use Rattle.mdb_topology.specs.Monitors.{fresh, monitor_items, setting};
     ghost use Rattle.mdb_topology.specs.Standing.{StandsFor};
 
-    // The monitor at the index.
+    // The monitor at the index, where memory keeps it.
     fn monitor_at(&self, index: usize) -> Option<&MonitorCore>
-        ensures { option_copied result ≡ slice_get self.now.monitors.items index }
+        ensures { option_copied result ≡ if has index self.now.monitors.kept then slice_get self.now.monitors.items index else None }
     {
         self.monitors.get(index)
     }

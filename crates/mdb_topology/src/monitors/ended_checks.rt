@@ -1,8 +1,9 @@
 //! A check of a monitor ends.
 
-ghost use Rattle.std.specs.Prelude.{◌≡◌, ◌≤◌, ◌<◌, ◌∷◌, ◌++◌, IfOk, OnErr, List, length, slice_get, Some, true};
+ghost use Rattle.std.specs.Prelude.{◌≡◌, ◌≤◌, ◌∷◌, ◌++◌, IfOk, OnErr, List, slice_get, Some, true};
 ghost use Rattle.mdb_log.specs.declared.step.Act.TheVariants.{Beaten as BeatenAct};
 ghost use Rattle.mdb_topology.specs.Monitors.{check_result};
+ghost use Rattle.mdb_log.specs.Connections.{has};
 
 use crate::errors::marked::{Asked, PoolTrouble};
 use crate::known::rules::hello_reply;
@@ -51,12 +52,12 @@ impl TopologyCore {
         duration: Nanos,
         came: &BeatenResult,
     ) -> Result<(MonitorCore, Finish), OutOfMemory>
-        requires within { index < length self.now.monitors.items }
+        requires kept { has index self.now.monitors.kept ≡ true }
         requires running { (x : MonitorCore) → slice_get self.now.monitors.items index ≡ Some x → runs x ≡ true }
         ensures { IfOk result (λ (monitor, finish). (x : MonitorCore) → slice_get self.now.monitors.items index ≡ Some x → Ends x monitor duration (check_result address.now came.now) finish) }
     {
         let result = check_result(alloc, address, came)?;
-        match self.monitors[index].clone() {
+        match self.monitors.at(index).clone() {
             Ok(mut monitor) => match monitor.finish(alloc, duration, result, false) {
                 Ok(finish) => Ok((monitor, finish)),
                 Err(e) => {
@@ -170,7 +171,7 @@ impl TopologyCore {
             let reply = Reply::Changed(false);
             return Ok(Decision::Accepted(Transition::of_reply(alloc, reply)));
         };
-        if !self.monitors[index].running() {
+        if !self.monitors.at(index).running() {
             return Ok(Decision::Refused(Refused::NotChecking));
         }
         if self.options.load_balanced {

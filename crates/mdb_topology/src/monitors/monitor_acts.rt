@@ -1,7 +1,8 @@
 //! The acts of monitors, and of watchers who ask for a check.
 
-ghost use Rattle.std.specs.Prelude.{◌≡◌, ◌≤◌, ◌<◌, IfOk, IfSome, OnErr, is_some, length, List};
+ghost use Rattle.std.specs.Prelude.{◌≡◌, ◌≤◌, IfOk, IfSome, OnErr, is_some, List, true};
 ghost use Rattle.mdb_log.specs.declared.step.Act.TheVariants.{Rtt as RttAct, Want as WantAct, Unwant as UnwantAct};
+ghost use Rattle.mdb_log.specs.Connections.{has};
 
 use crate::monitors::monitoring::Monitoring;
 use crate::topology::TopologyCore;
@@ -24,7 +25,7 @@ impl TopologyCore {
         requires stands { StandsForSome self.now }
         ensures here { is_some result ≡ is_here_among self.now.pools.cores.items address.now pool }
         ensures index { IfSome result (λ i. i ≡ pool) }
-        ensures within { IfSome result (λ i. i < length self.now.monitors.items) }
+        ensures kept { IfSome result (λ i. has i self.now.monitors.kept ≡ true) }
     {
         if self.pools.is_here(address, pool) {
             return Some(pool as usize);
@@ -34,10 +35,10 @@ impl TopologyCore {
 
     // The monitor at the index with one more round trip, and the average afterwards.
     fn sampled(&self, index: usize, sample: Nanos) -> Result<(MonitorCore, Nanos), AllocError>
-        requires within { index < length self.now.monitors.items }
+        requires kept { has index self.now.monitors.kept ≡ true }
         ensures { IfOk result (λ (monitor, average). (x : MonitorCore) → slice_get self.now.monitors.items index ≡ Some x → Measures x monitor sample average) }
     {
-        let mut monitor = self.monitors[index].clone()?;
+        let mut monitor = self.monitors.at(index).clone()?;
         let average = monitor.rtt_sample(sample);
         Ok((monitor, average))
     }

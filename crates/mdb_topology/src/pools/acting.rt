@@ -1,7 +1,9 @@
 //! What becomes of an act of one pool.
 
-ghost use Rattle.std.specs.Prelude.{◌≡◌, ◌≤◌, IfOk, OnErr, List, None, All, length, true};
-ghost use Rattle.mdb_topology.specs.Finding.{is_pool_act};
+ghost use Rattle.std.specs.Prelude.{◌≡◌, ◌≤◌, ◌<◌, ◌||◌, ℕ, IfOk, OnErr, List, None, All, length, true};
+ghost use Rattle.mdb_intervals.specs.Spans.{has as is_within};
+ghost use Rattle.mdb_log.specs.Requests.{names_party};
+ghost use Rattle.mdb_topology.specs.Finding.{is_pool_act, named_by};
 
 use crate::pools::Pools;
 use crate::pools::pool_decision::PoolDecision;
@@ -22,6 +24,16 @@ pub(crate) fn is_pool_act(act: &Act) -> bool
     }
 }
 
+// The party that the act names, of which there was none before.
+fn named_by(act: &Act) -> Option<u32>
+    ensures { result ≡ named_by act.now }
+{
+    match act {
+        Act::Request(party, _) | Act::Warm(party, _) | Act::Take(party, _, _) => Some(*party),
+        _ => None,
+    }
+}
+
 impl Pools {
     ghost use Rattle.mdb_base.specs.declared.options.Options.{Options};
     ghost use Rattle.mdb_log.specs.History.{Item, last_moment};
@@ -30,11 +42,23 @@ impl Pools {
     ghost use Rattle.mdb_topology.specs.Description.{description_of};
     ghost use Rattle.mdb_topology.specs.Finding.{is_pool_act, names_known};
     ghost use Rattle.mdb_topology.specs.Refusal.{refusal};
-    ghost use Rattle.mdb_topology.specs.Standing.{PoolsStand};
+    ghost use Rattle.mdb_topology.specs.Standing.{KnowsAll, PoolsStand};
     ghost use Rattle.mdb_topology.specs.Taking.{IsReady, Performs};
+
+    /// The party that an accepted act names is known from now on. It takes no memory.
+    pub(crate) fn note(&mut self, act: &Act)
+        requires { length self.old.known.spans < self.old.known.capacity }
+        ensures known { (r : ℕ) → is_within r self.new.known.spans ≡ names_party act.now r || is_within r self.old.known.spans }
+        ensures others { self.new ≡ record self.old { known = self.new.known } }
+    {
+        if let Some(party) = named_by(act) {
+            self.known.insert_ready(party);
+        }
+    }
 
     // The act uses up the number of a party that some pool knows.
     fn names_known(&self, act: &Act) -> bool
+        requires { KnowsAll self.now }
         ensures { result ≡ names_known self.now.cores.items act.now }
     {
         match act {
@@ -46,6 +70,7 @@ impl Pools {
 
     // What becomes of an act that concerns no pool: a claim finds no job, and all others are refused.
     fn without_pool(&self, act: &Act) -> PoolDecision
+        requires { KnowsAll self.now }
         ensures { Lacks self.now.cores.items act.now result }
     {
         PoolDecision::Refused(match act {
@@ -63,6 +88,7 @@ impl Pools {
     /// What becomes of an act of one pool, at or after the last moment. The pools stay as they are.
     pub(crate) fn act(&mut self, alloc: Global, step: &Step) -> Result<PoolDecision, OutOfMemory>
         requires act { is_pool_act step.now.act ≡ true }
+        requires known { KnowsAll self.old }
         requires in_time { self.old.last ≤ step.now.moment }
         requires early { All (λ s. s.last ≤ self.old.last) self.old.cores.items }
         ensures same { self.new ≡ self.old }

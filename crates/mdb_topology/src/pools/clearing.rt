@@ -1,6 +1,7 @@
 //! The clear of a pool.
 
-ghost use Rattle.std.specs.Prelude.{◌≡◌, ◌<◌, OnOk, length, true};
+ghost use Rattle.std.specs.Prelude.{◌≡◌, OnOk, true};
+ghost use Rattle.mdb_topology.specs.Living.{lives_at};
 
 use crate::errors::marked::PoolTrouble;
 use crate::pools::Pools;
@@ -22,7 +23,7 @@ impl Pools {
         facts: &mut Vec<Fact>,
         changes: &mut Vec<PoolChange>,
     ) -> Result<(), OutOfMemory>
-        requires there { trouble.now.index < length self.old.cores.items }
+        requires there { lives_at self.old.cores.items trouble.now.index ≡ true }
         requires accepted { trouble.now.clears ≡ true → AcceptsClear self.old.cores.items trouble.now.index moment trouble.now.service trouble.now.error.now }
         ensures same { self.new ≡ self.old }
         ensures clears { OnOk result (Clears trouble.now.clears self.old.cores.items trouble.now.index moment trouble.now.service trouble.now.error.now changes.old.items changes.new.items facts.old.items facts.new.items) }
@@ -32,7 +33,7 @@ impl Pools {
             return Ok(());
         }
         let error = Boxed::copy_of(alloc, trouble.error)?;
-        let act = Act::Clear(self.cores[trouble.index].number(), trouble.service, error);
+        let act = Act::Clear(self.cores.at(trouble.index).number(), trouble.service, error);
         self.plan_act(alloc, trouble.index, Step { moment, act }, facts, changes)
     }
 }

@@ -1,46 +1,48 @@
 //! A pending connection of a pool fails, after a clear of the pool where that is wanted.
 
-ghost use Rattle.std.specs.Prelude.{◌≡◌, ◌<◌, ◌++◌, ◌∷◌, [], IfOk, OnOk, None, Some, slice_get, length, true, false};
+ghost use Rattle.std.specs.Prelude.{◌≡◌, ◌++◌, ◌∷◌, [], IfOk, OnOk, None, Some, slice_get, true, false};
 ghost use Rattle.mdb_log.specs.Acts.{IsPoolAct};
 ghost use Rattle.mdb_pool.specs.Planning.{IsDone};
-ghost use Rattle.mdb_pool.specs.Refusing.{refusal_now};
+ghost use Rattle.mdb_pool.specs.Refusing.{names_nobody, refusal_now};
 ghost use Rattle.mdb_pool.specs.Core.{PoolCore as Core};
 ghost use Rattle.mdb_pool.specs.declared.planning.Answered.{Answered as Answer};
 ghost use Rattle.mdb_topology.specs.Failing.{PlansBoth};
+ghost use Rattle.mdb_topology.specs.Living.{lives_at};
 ghost use Rattle.mdb_topology.specs.Marking.{asked_of};
 
 use crate::errors::marked::{Asked, PoolTrouble};
 use crate::errors::marking::ask;
 use crate::pools::Pools;
+use crate::pools::cores::Cores;
 use crate::pools::pool_change::PoolChange;
 use mdb_base::{OutOfMemory, ServerAddress};
 use mdb_events::{Boxed, Fact};
 use mdb_log::{Act, Step};
-use mdb_pool::PoolCore;
-use mdb_pool::planning::{Answered, prepare};
+use mdb_pool::planning::Answered;
 use std::alloc::{AllocError, Global};
 
-// Two steps, which the pool accepts one after the other, are answered, and their change comes after those before it.
+// Two steps, which the pool at the index accepts one after the other, are answered, and their change comes after those before it.
 fn plan_two(
     alloc: Global,
-    pool: &mut PoolCore,
+    cores: &mut Cores,
     index: usize,
     first: Step,
     second: &Step,
     changes: &mut Vec<PoolChange>,
 ) -> Result<(Answered, Answered), OutOfMemory>
-    requires first_act { IsPoolAct pool.old.pool first.act }
-    requires second_act { IsPoolAct pool.old.pool second.now.act }
-    requires first_accepted { refusal_now pool.old first ≡ None }
-    requires second_accepted { (t : Core) (a : Answer) → IsDone pool.old t first a → refusal_now t second.now ≡ None }
-    ensures same { pool.new ≡ pool.old }
-    ensures planned { IfOk result (λ made. PlansBoth pool.old index first second.now made.0 made.1 changes.old.items changes.new.items) }
+    requires there { lives_at cores.old.items index ≡ true }
+    requires nobody { (names_nobody first.act ≡ true) × (names_nobody second.now.act ≡ true) }
+    requires acts { (s : Core) → slice_get cores.old.items index ≡ Some s → IsPoolAct s.pool first.act × IsPoolAct s.pool second.now.act }
+    requires accepted { (s : Core) → slice_get cores.old.items index ≡ Some s → refusal_now s first ≡ None }
+    requires still { (s : Core) → slice_get cores.old.items index ≡ Some s → (t : Core) (a : Answer) → IsDone s t first a → refusal_now t second.now ≡ None }
+    ensures same { cores.new ≡ cores.old }
+    ensures planned { IfOk result (λ made. (s : Core) → slice_get cores.old.items index ≡ Some s → PlansBoth s index first second.now made.0 made.1 changes.old.items changes.new.items) }
 {
     let mut steps = Vec::new(alloc);
     steps.push(first)?;
     let second = second.clone()?;
     steps.push(second)?;
-    let (mut answers, plan) = prepare(alloc, pool, &steps)?;
+    let (mut answers, plan) = cores.prepare(alloc, index, &steps)?;
     let Some(later) = answers.pop() else {
         unreachable!();
     };
@@ -88,7 +90,7 @@ impl Pools {
         facts: &mut Vec<Fact>,
         changes: &mut Vec<PoolChange>,
     ) -> Result<(), OutOfMemory>
-        requires there { trouble.now.index < length self.old.cores.items }
+        requires there { lives_at self.old.cores.items trouble.now.index ≡ true }
         requires failing { (s : Core) → slice_get self.old.cores.items trouble.now.index ≡ Some s → IsFailing s step.now trouble.now.error.now }
         ensures same { self.new ≡ self.old }
         ensures planned { OnOk result (PlansAlone self.old.cores.items trouble.now.index step.now trouble.now.asked changes.old.items changes.new.items facts.old.items facts.new.items) }
@@ -97,7 +99,7 @@ impl Pools {
             facts,
             trouble.asked,
             false,
-            self.cores[trouble.index].address(),
+            self.cores.at(trouble.index).address(),
         )?;
         let step = step.clone()?;
         self.plan_act(alloc, trouble.index, step, facts, changes)
@@ -113,7 +115,8 @@ impl Pools {
         facts: &mut Vec<Fact>,
         changes: &mut Vec<PoolChange>,
     ) -> Result<(), OutOfMemory>
-        requires there { trouble.now.index < length self.old.cores.items }
+        requires there { lives_at self.old.cores.items trouble.now.index ≡ true }
+        requires nobody { (names_nobody clear.act ≡ true) × (names_nobody step.now.act ≡ true) }
         requires moment { clear.moment ≡ step.now.moment }
         requires acts { (s : Core) → slice_get self.old.cores.items trouble.now.index ≡ Some s → IsPoolAct s.pool clear.act × IsPoolAct s.pool step.now.act }
         requires accepted { (s : Core) → slice_get self.old.cores.items trouble.now.index ≡ Some s → refusal_now s clear ≡ None }
@@ -123,7 +126,7 @@ impl Pools {
     {
         let (cleared, failed) = plan_two(
             alloc,
-            &mut self.cores[trouble.index],
+            &mut self.cores,
             trouble.index,
             clear,
             step,
@@ -131,7 +134,7 @@ impl Pools {
         )?;
         tell_both(
             facts,
-            self.cores[trouble.index].address(),
+            self.cores.at(trouble.index).address(),
             trouble.asked,
             cleared,
             failed,
@@ -148,7 +151,7 @@ impl Pools {
         facts: &mut Vec<Fact>,
         changes: &mut Vec<PoolChange>,
     ) -> Result<(), OutOfMemory>
-        requires there { trouble.now.index < length self.old.cores.items }
+        requires there { lives_at self.old.cores.items trouble.now.index ≡ true }
         requires failing { (s : Core) → slice_get self.old.cores.items trouble.now.index ≡ Some s → IsFailing s step.now trouble.now.error.now }
         requires still { (s : Core) → slice_get self.old.cores.items trouble.now.index ≡ Some s → StillFails s step.now trouble.now.service trouble.now.error.now }
         requires accepted { trouble.now.clears ≡ true → AcceptsClear self.old.cores.items trouble.now.index step.now.moment trouble.now.service trouble.now.error.now }
@@ -160,7 +163,7 @@ impl Pools {
             return self.plan_failed(alloc, step, trouble, facts, changes);
         }
         let error = Boxed::copy_of(alloc, trouble.error)?;
-        let act = Act::Clear(self.cores[trouble.index].number(), trouble.service, error);
+        let act = Act::Clear(self.cores.at(trouble.index).number(), trouble.service, error);
         let moment = step.moment;
         let clear = Step { moment, act };
         self.plan_both(alloc, clear, step, trouble, facts, changes)

@@ -1,22 +1,16 @@
 //! Which of the pools an act concerns.
 
-ghost use Rattle.std.specs.Prelude.{◌≡◌, option_copied, slice_get};
-ghost use Rattle.mdb_topology.specs.Standing.{is_open_at};
+ghost use Rattle.std.specs.Prelude.{◌≡◌, option_copied};
 
 use crate::pools::Pools;
+use crate::pools::cores::is_open_at;
 use mdb_base::ServerAddress;
 use mdb_log::Act;
-use mdb_pool::{PoolCore, PoolState};
-
-// The pool is open, and at the address.
-fn is_open_at(pool: &PoolCore, address: &ServerAddress) -> bool
-    ensures { result ≡ is_open_at address.now pool.now }
-{
-    !matches!(pool.state(), PoolState::Closed) && pool.address().is(address)
-}
+use mdb_pool::PoolCore;
 
 impl Pools {
-    ghost use Rattle.mdb_topology.specs.Standing.{at_address, knows, IsSingle};
+    ghost use Rattle.mdb_topology.specs.Living.{living_at};
+    ghost use Rattle.mdb_topology.specs.Standing.{at_address, knows, IsSingle, KnowsAll};
     ghost use Rattle.mdb_topology.specs.Stepping.{is_here_among};
     ghost use Rattle.mdb_topology.specs.Finding.{asked_by, holder, first_job, numbered, index_of};
 
@@ -24,12 +18,12 @@ impl Pools {
     pub(crate) fn at_address(&self, address: &ServerAddress) -> Option<usize>
         ensures { result ≡ at_address self.now.cores.items address.now }
     {
-        self.cores.iter().position(|pool| is_open_at(pool, address))
+        self.cores.open_at(address)
     }
 
-    /// The pool with the number: pools stand by number.
+    /// The pool with the number, where something lives in it: pools stand by number.
     pub(crate) fn pool(&self, number: u32) -> Option<&PoolCore>
-        ensures { option_copied result ≡ slice_get self.now.cores.items number }
+        ensures { option_copied result ≡ living_at self.now.cores.items number }
     {
         self.cores.get(number as usize)
     }
@@ -47,38 +41,39 @@ impl Pools {
 
     /// Some pool knows the party: it asked, or took a pinned connection.
     pub(crate) fn knows(&self, party: u32) -> bool
+        requires { KnowsAll self.now }
         ensures { result ≡ knows self.now.cores.items party }
     {
-        self.cores.iter().any(|pool| pool.knows(party))
+        self.known.contains(party)
     }
 
     // The pool in which the request is open.
     fn asked_by(&self, party: u32) -> Option<usize>
         ensures { result ≡ asked_by self.now.cores.items party }
     {
-        self.cores.iter().position(|pool| pool.is_open(party))
+        self.cores.asked_by(party)
     }
 
     /// The pool of which the party holds a connection.
     pub(crate) fn holder(&self, party: u32) -> Option<usize>
         ensures { result ≡ holder self.now.cores.items party }
     {
-        self.cores.iter().position(|pool| pool.holds(party))
+        self.cores.holder(party)
     }
 
     // The pool with the least number that has a job.
     fn first_job(&self) -> Option<usize>
         ensures { result ≡ first_job self.now.cores.items }
     {
-        self.cores.iter().position(|pool| pool.has_job())
+        self.cores.first_job()
     }
 
-    /// The index of the pool with the number: pools stand by number.
+    /// The index of the pool with the number, where something lives in it: pools stand by number.
     pub(crate) fn numbered(&self, number: u32) -> Option<usize>
         ensures { result ≡ numbered self.now.cores.items number }
     {
         let index = number as usize;
-        if index < self.cores.len() {
+        if self.cores.lives(index) {
             return Some(index);
         }
         None

@@ -1,5 +1,5 @@
 use Rattle.mdb_pool.proofs.Follows.Opening.{opening-stands}
-use Rattle.mdb_pool.proofs.pool_core.PoolCore.new.Goals as goal
+use Rattle.mdb_pool.proofs.pool_core.PoolCore.made.Goals as goal
 
 pub returns-clause-stands : goal.returns-clause-stands
 returns-clause-stands c =
