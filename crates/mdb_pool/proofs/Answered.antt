@@ -1,6 +1,7 @@
 -- What an act does, one a file, is the answer to its step.
 pub mod Act
 pub mod Accepted
+pub mod NewParties
 pub mod Steps
 pub mod Item
 pub mod Refusal

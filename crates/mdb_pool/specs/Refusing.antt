@@ -1,5 +1,5 @@
 -- When a pool refuses a step, by what it keeps: the rows of its refusals in their order, each over the kept values.
-use Rattle.std.specs.Prelude.{ℕ, ◌≡◌, Bool, true, false, not, ◌&&◌, ◌||◌, ◌==◌, nat_lt, is_some, List, [], ◌∷◌, Option, All, ⊤}
+use Rattle.std.specs.Prelude.{ℕ, ◌≡◌, Bool, true, false, not, ◌&&◌, ◌||◌, ◌==◌, nat_lt, is_some, List, [], ◌∷◌, Option, ⊤}
 use Rattle.mdb_base.specs.declared.address.ServerAddress.{ServerAddress}
 use Rattle.mdb_base.specs.Equality.{same_address}
 use Rattle.mdb_log.specs.declared.step.Step.{Step}
@@ -65,7 +65,12 @@ names_nobody (Warm r a) = false
 names_nobody (Take r q c) = false
 names_nobody _ = true
 
--- Steps one after another: the pool can tell of the first, and of the others too, as it stands alone or they name nobody.
+-- whoever answers the steps stands alone, or they name nobody
+abbrev pub NameNobody : Bool → List Step → Type 0
+NameNobody alone [] = ⊤
+NameNobody alone (step ∷ more) = ((alone || names_nobody step.act) ≡ true) × NameNobody alone more
+
+-- Steps one after another: the pool can tell of the first, and stands alone or the others name nobody.
 abbrev pub TellsNew : PoolCore → List Step → Type 0
 TellsNew s [] = ⊤
-TellsNew s (step ∷ more) = (tells_new s step.act ≡ true) × All (λ x. (s.alone || names_nobody x.act) ≡ true) more
+TellsNew s (step ∷ more) = (tells_new s step.act ≡ true) × NameNobody s.alone more

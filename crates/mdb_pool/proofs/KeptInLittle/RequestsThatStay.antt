@@ -113,7 +113,7 @@ entry-filter p k (q ∷ qs) a = on (p q) (q.number == k) refl refl (entry-filter
     on false true e f r = rw (e, f, e) (absent f)
     on false false e f r = rw (e, f) r
 
-module _ (all : List Request) (ks : List ℕ) (kept : List Request) (told known : List ℕ) (z : RequestsFit all ks kept told known) where
+module _ (all : List Request) (ks : List ℕ) (kept : List Request) (told : List ℕ) (alone : Bool) (known : List ℕ) (z : RequestsFit all ks kept told alone known) where
   -- what is read
   pub kept-at : (k : ℕ) → request_in kept k ≡ if_lingers ks (request_in all k)
   kept-at k = ap (λ qs. request_in qs k) z.kept_is ∙ (entry-filter (lingers ks) k all z.single ∙ same (request_in all k))
@@ -153,12 +153,13 @@ module _ (all : List Request) (ks : List ℕ) (kept : List Request) (told known 
     absent-kept : request_in kept q.number ≡ None
     absent-kept = kept-at q.number ∙ ap (if_lingers ks) fresh
 
-    pub put-fits : RequestsFit (put number-of q all) ks (put number-of q kept) told (known ++ q.number ∷ [])
-    put-fits = record {
+    -- where the pool stands alone its number comes too
+    pub put-fits : (after : List ℕ) → (alone ≡ true → after ≡ known ++ q.number ∷ []) → RequestsFit (put number-of q all) ks (put number-of q kept) told alone after
+    put-fits after grown = record {
       single = apart-put number-of q all z.single;
       kept_is = ap (put number-of q) z.kept_is ∙ sym (filter-put (lingers ks) q all put-lingers);
       told_is = λ r. z.told_is r ∙ (on-told r (q.number == r) refl ∙ ap (λ o. is_some o && has r ks) (sym (entry_at-put number-of r q kept)));
-      known_is = λ r. among-append r known (q.number ∷ []) ∙ (ap (λ b. b || among r (q.number ∷ [])) (z.known_is r) ∙ (on-known r (q.number == r) refl ∙ ap is_some (sym (entry_at-put number-of r q all))));
+      known_is = λ a r. rw (grown a) (among-append r known (q.number ∷ []) ∙ (ap (λ b. b || among r (q.number ∷ [])) (z.known_is a r) ∙ (on-known r (q.number == r) refl ∙ ap is_some (sym (entry_at-put number-of r q all)))));
       noted = λ r h. ap is_some (entry_at-put number-of r q all) ∙ on-noted r (q.number == r) refl (z.noted r h);
     }
       where
@@ -207,21 +208,21 @@ module _ (all : List Request) (ks : List ℕ) (kept : List Request) (told known 
             inner [] = refl
             inner (y ∷ ys) = grind (arith, common_steps, inner ys)
 
-    pub swap-fits : lingers ks q ≡ true → RequestsFit (swap number-of q all) ks (swap number-of q kept) told known
+    pub swap-fits : lingers ks q ≡ true → RequestsFit (swap number-of q all) ks (swap number-of q kept) told alone known
     swap-fits stays = record {
       single = apart-swap number-of q all z.single;
       kept_is = ap (swap number-of q) z.kept_is ∙ sym (filter-swap (lingers ks) q all stays none-left);
       told_is = λ r. z.told_is r ∙ ap (λ b. b && has r ks) (sym (numbered-swap r kept));
-      known_is = λ r. z.known_is r ∙ sym (numbered-swap r all);
+      known_is = λ a r. z.known_is a r ∙ sym (numbered-swap r all);
       noted = λ r h. numbered-swap r all ∙ z.noted r h;
     }
 
-    pub leave-fits : lingers ks q ≡ false → RequestsFit (swap number-of q all) ks (others number-of q.number kept) (others own-key q.number told) known
+    pub leave-fits : lingers ks q ≡ false → RequestsFit (swap number-of q all) ks (others number-of q.number kept) (others own-key q.number told) alone known
     leave-fits leaves = record {
       single = apart-swap number-of q all z.single;
       kept_is = ap (others number-of q.number) z.kept_is ∙ sym (filter-out (lingers ks) q all leaves);
       told_is = λ r. ap is_some (entry_at-others own-key r q.number told) ∙ (on r (q.number == r) (z.told_is r) ∙ ap (λ o. is_some o && has r ks) (sym (entry_at-others number-of r q.number kept)));
-      known_is = λ r. z.known_is r ∙ sym (numbered-swap r all);
+      known_is = λ a r. z.known_is a r ∙ sym (numbered-swap r all);
       noted = λ r h. numbered-swap r all ∙ z.noted r h;
     }
       where
@@ -312,7 +313,7 @@ module _ (all : List Request) (ks : List ℕ) (kept : List Request) (told known 
           on false true f g = rw (lingers-other y f, g, f) (ap (λ zs. y ∷ zs) (done-filter ys (grind (arith, common_steps, a)) (grind (arith, common_steps, e, f))))
           on false false f g = rw (lingers-other y f, g) (done-filter ys (grind (arith, common_steps, a)) (grind (arith, common_steps, e, f)))
 
-      pub done-fits : RequestsFit all now (others number-of n kept) told known
+      pub done-fits : RequestsFit all now (others number-of n kept) told alone known
       done-fits = record {
         single = z.single;
         kept_is = ap (others number-of n) z.kept_is ∙ sym (done-filter all z.single here);
@@ -358,7 +359,7 @@ module _ (all : List Request) (ks : List ℕ) (kept : List Request) (told known 
       there-kept : is_some (request_in kept n) ≡ true
       there-kept = ap is_some (kept-at n ∙ ap (if_lingers ks) here) ∙ rw (stays-then ks) refl
 
-      pub told-fits : RequestsFit all now kept (put own-key n told) known
+      pub told-fits : RequestsFit all now kept (put own-key n told) alone known
       told-fits = record {
         single = z.single;
         kept_is = z.kept_is ∙ sym (open-filter all z.single here);
@@ -387,6 +388,14 @@ module _ (all : List Request) (ks : List ℕ) (kept : List Request) (told known 
         on true e = e
         on false e = let k : lingers ks x ≡ true = rw (numbered, e) refl in cc
 
+  -- whether one came where no numbers are kept, and it can be told
+  pub knows-not : (n : ℕ) → alone ≡ false → (alone || not (is_some (request_in all n))) ≡ true → is_some (request_in all n) ≡ false
+  knows-not n none can = off (is_some (request_in all n)) (sym (ap (λ b. b || not (is_some (request_in all n))) none) ∙ can)
+    where
+      off : (b : Bool) → (false || not b) ≡ true → b ≡ false
+      off true e = cc
+      off false e = refl
+
   -- a request is open where it has not left, asked, and is not settled
   pub open-now : (n : ℕ) → request_in kept n ≡ None → (is_asked_at (request_in all n) && not (has n ks)) ≡ false
   open-now n none = on (request_in all n) refl
@@ -408,8 +417,8 @@ module _ (all : List Request) (ks : List ℕ) (kept : List Request) (told known 
               and-false false = refl
 
 -- nothing came
-pub nothing-asked : RequestsFit [] [] [] [] []
-nothing-asked = record { single = refl; kept_is = refl; told_is = λ r. refl; known_is = λ r. refl; noted = λ r h. cc }
+pub nothing-asked : (alone : Bool) → RequestsFit [] [] [] [] alone []
+nothing-asked alone = record { single = refl; kept_is = refl; told_is = λ r. refl; known_is = λ a r. refl; noted = λ r h. cc }
 
 -- the queued ones are those of all
 pub queued-kept : (p : Request → Bool) (ks : List ℕ) (qs : List Request) → ((q : Request) → p q ≡ true → is_done q.phase ≡ false) → filter p (filter (lingers ks) qs) ≡ filter p qs

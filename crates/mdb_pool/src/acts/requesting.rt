@@ -105,6 +105,7 @@ impl PoolCore {
 
     /// A caller asks for a connection. Refused as `TimeBack`, `UnknownServer` where the pool is closed, or `RequestKnown`. It ends at
     /// once where the pool is new or paused (CMAP, "Checking Out a Connection").
+    #[tactic(auto, using(crate::proofs::Answered::NewParties::alone_can))]
     pub fn request(
         &mut self,
         alloc: Global,

@@ -93,6 +93,7 @@ impl PoolCore {
 
     /// A new party takes a connection that is at its pin. Refused as `TimeBack`, as `RequestKnown` where the number was used, as `Unpinned` where no
     /// pin stands, or as `PinInUse` where the connection is held.
+    #[tactic(auto, using(crate::proofs::Answered::NewParties::alone_can))]
     pub fn take_connection(
         &mut self,
         alloc: Global,

@@ -47,6 +47,7 @@ impl PoolCore {
     /// One more connection is asked for where fewer live than the minimum (CMAP, "minPoolSize"): it waits only while as many are pending as may be, is
     /// over once its connection is established (`Filled`), and at once where none is wanted (`Warmed`). Refused as `TimeBack`, `UnknownServer`
     /// where the pool is closed, or `RequestKnown`. It ends at once where the pool is new or paused.
+    #[tactic(auto, using(crate::proofs::Answered::NewParties::alone_can))]
     pub fn warm(
         &mut self,
         alloc: Global,

@@ -3,6 +3,7 @@
 ghost use Rattle.std.specs.Prelude.{◌≡◌, ◌++◌, ◌∷◌, [], true, false, is_some, None, OnOk};
 ghost use Rattle.mdb_log.specs.Connections.{has};
 ghost use Rattle.mdb_slots.specs.Keyed.{put, swap};
+ghost use Rattle.mdb_slots.specs.Lists.{has as among};
 ghost use Rattle.mdb_slots.specs.NumberSet.{numbers_kept};
 ghost use Rattle.mdb_slots.specs.Table.{items};
 ghost use Rattle.mdb_pool.specs.Asking.{asked_base, asked_room, PartsFit};
@@ -73,6 +74,19 @@ impl<'a> Tells<(&'a Past<u32>, &'a u32), u32> for Noted {
     ghost told = { λ x. marked x.1.now x.0.now.value };
 }
 
+// The number of a new request is kept, where the pool stands alone.
+fn note_party(known: &mut NumberSet, alone: bool, number: u32) -> Result<(), OutOfMemory>
+    requires { alone ≡ true → among number known.old.now ≡ false }
+    ensures known { OnOk result (alone ≡ true → known.new.now ≡ known.old.now ++ number ∷ []) }
+    ensures base { known.new.base ≡ known.old.base }
+    ensures capacity { known.new.capacity ≡ known.old.capacity }
+{
+    if alone {
+        known.insert(number)?;
+    }
+    Ok(())
+}
+
 impl RequestParts {
     // The request is settled, where it has not left.
     pub(crate) fn is_told(&self, number: u32) -> bool
@@ -80,18 +94,6 @@ impl RequestParts {
         ensures { is_gone self.now.settled.value (request_in self.now.all.value number) ≡ false → result ≡ has number self.now.settled.value }
     {
         self.told.get(number).is_some()
-    }
-
-    // The number of a new request is kept, where the pool stands alone.
-    fn note_party(&mut self, number: u32) -> Result<(), OutOfMemory>
-        requires { self.old.alone ≡ true → has number self.old.known.now ≡ false }
-        ensures known { OnOk result (self.old.alone ≡ true → self.new.known.now ≡ self.old.known.now ++ number ∷ []) }
-        ensures others { (self.new ≡ record self.old { known = self.new.known }) × (self.new.known.base ≡ self.old.known.base) × (self.new.known.capacity ≡ self.old.known.capacity) }
-    {
-        if self.alone {
-            self.known.insert(number)?;
-        }
-        Ok(())
     }
 
     /// The request, which is new, comes last.
@@ -106,7 +108,7 @@ impl RequestParts {
         ensures room { asked_room self.new ≡ asked_room self.old }
     {
         let all = Past::of::<(&Past<Request>, &Request), Put>(&(&self.all, &request));
-        self.note_party(request.number)?;
+        note_party(&mut self.known, self.alone, request.number)?;
         self.kept.put(alloc, request)?;
         self.all = all;
         Ok(())

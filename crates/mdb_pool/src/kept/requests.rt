@@ -99,7 +99,11 @@ impl Requests {
         requires { (self.now.base.alone || not (is_some (request_in self.now.now number))) ≡ true }
         ensures { result ≡ is_some (request_in self.now.now number) }
     {
-        self.parts.alone && self.parts.known.contains(number)
+        let alone = self.parts.alone;
+        if !alone {
+            return false;
+        }
+        self.parts.known.contains(number)
     }
 
     /// It asked, and is not settled.

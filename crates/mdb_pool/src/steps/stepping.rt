@@ -290,6 +290,7 @@ impl PoolCore {
     }
 
     /// One step of the pool, in place. Where there is no memory the pool and the log are as they were. A refused one takes memory for its entry alone.
+    #[tactic(auto, using(crate::proofs::Answered::NewParties::alone_tells))]
     pub fn step(
         &mut self,
         alloc: Global,
@@ -297,8 +298,8 @@ impl PoolCore {
         seat: u32,
         step: &Step,
     ) -> Result<(), OutOfMemory>
+        requires alone { self.old.alone ≡ true }
         requires act { IsPoolAct self.old.pool step.now.act }
-        requires new { tells_new self.old step.now.act ≡ true }
         ensures home { OnOk result (SameHome self.old self.new) }
         ensures logs { OnOk result ((h : List Item) → StandsFor self.old h → Logs self.old self.new log.old log.new seat step.now h) }
         ensures err_core { OnErr result (self.new ≡ self.old) }

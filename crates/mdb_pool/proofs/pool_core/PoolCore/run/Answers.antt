@@ -22,8 +22,11 @@ loop-step-preserved c =
       runs = λ h z i. subst (λ steps. Runs c.args.self.now c.step.new.self c.args.log.now c.step.new.log c.args.seat steps h) (sym more) (run-more c.args.self.now c.loop-step.self c.step.new.self c.args.log.now c.loop-step.log c.step.new.log (take c.loop-step.step-index c.args.steps.now) c.args.seat c.step-item.result h c.loop-step.invariant.home c.in_ok-step.ensures.home (c.loop-step.invariant.runs h z i) c.in_ok-step.ensures.logs);
     }
 
-pub step-requires : goal.step-requires
-step-requires c =
+pub step-requires-clause-alone : goal.step-requires-clause-alone
+step-requires-clause-alone c = c.loop-step.invariant.home.alone ∙ c.requires.alone
+
+pub step-requires-clause-act : goal.step-requires-clause-act
+step-requires-clause-act c =
     let taken : IsPoolAct c.args.self.now.pool c.step-item.result.act = search rules in
     subst (λ p. IsPoolAct p c.step-item.result.act) (sym c.loop-step.invariant.home.pool) taken
 

@@ -1,0 +1,41 @@
+-- Whether a pool can tell that a party is new to it.
+use Rattle.std.proofs.Common.{◌≡◌, ℕ, Bool, true, false, not, ◌||◌, is_some, List, [], ◌∷◌, None, refl, sym, ◌∙◌, ap, subst}
+use Rattle.mdb_log.specs.declared.step.Act.{Act}
+use Rattle.mdb_log.specs.declared.step.Act.TheVariants.{Request, Warm, Take}
+use Rattle.mdb_log.specs.declared.step.Step.{Step}
+use Rattle.mdb_pool.specs.Core.{PoolCore}
+use Rattle.mdb_pool.specs.Refusing.{can_tell, names_nobody, tells_new, NameNobody, TellsNew}
+
+-- one that stands alone can tell of every party
+pub alone_tells : (s : PoolCore) (act : Act) → s.alone ≡ true → tells_new s act ≡ true
+alone_tells s (Request r a) e = rw e refl
+alone_tells s (Warm r a) e = rw e refl
+alone_tells s (Take r q c) e = rw e refl
+alone_tells s _ e = refl
+
+pub alone_can : (s : PoolCore) (r : ℕ) → s.alone ≡ true → can_tell s r ≡ true
+alone_can s r e = rw e refl
+
+-- and each can where the act names nobody
+pub nobody_tells : (s : PoolCore) (act : Act) → (s.alone || names_nobody act) ≡ true → tells_new s act ≡ true
+nobody_tells s act e = on s.alone refl
+  where
+    named : (x : Act) → names_nobody x ≡ true → tells_new s x ≡ true
+    named (Request r a) f = cc
+    named (Warm r a) f = cc
+    named (Take r q c) f = cc
+    named _ f = refl
+
+    on : (b : Bool) → s.alone ≡ b → tells_new s act ≡ true
+    on true f = alone_tells s act f
+    on false f = named act (sym (ap (λ b. b || names_nobody act) f) ∙ e)
+
+-- what is said of the steps that come is said after the first of them
+pub tells-on : (s t : PoolCore) (step : Step) (more : List Step) → t.alone ≡ s.alone → TellsNew s (step ∷ more) → TellsNew t more
+tells-on s t step [] e z = tt
+tells-on s t step (x ∷ more) e z = let later : NameNobody s.alone (x ∷ more) = z.1 in (nobody_tells t x.act (subst (λ b. (b || names_nobody x.act) ≡ true) (sym e) later.0), subst (λ b. NameNobody b more) (sym e) later.1)
+
+-- a pool that stands alone can tell of all steps
+pub alone-all : (alone : Bool) (steps : List Step) → alone ≡ true → NameNobody alone steps
+alone-all alone [] e = tt
+alone-all alone (step ∷ more) e = (rw e refl, alone-all alone more e)
