@@ -5,3 +5,4 @@ pub mod CountedClears
 pub mod LeftEndsOnce
 pub mod AskedOfThoseThatStay
 pub mod ConnectionsThatLive
+pub mod NothingLives

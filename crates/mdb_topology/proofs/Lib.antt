@@ -1,4 +1,5 @@
 pub mod General
+pub mod InMemory
 pub mod OnePool
 pub mod Failure
 pub mod Marks

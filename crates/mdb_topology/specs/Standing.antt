@@ -1,5 +1,5 @@
 -- When what a driver keeps stands for its history.
-use Rattle.std.specs.Prelude.{ℕ, ◌^◌, ◌≡◌, ◌≤◌, ◌==◌, Bool, true, false, not, ◌&&◌, is_some, if◌then◌else◌, List, [], ◌∷◌, length, map, position, slice_get, Option, Some, None, All, ⊥}
+use Rattle.std.specs.Prelude.{ℕ, ◌^◌, ◌≡◌, ◌≤◌, ◌==◌, Bool, true, false, not, ◌&&◌, is_some, if◌then◌else◌, List, [], ◌∷◌, length, map, position, slice_get, Option, Some, None, All}
 use Rattle.std.specs.List.{list_any}
 use Rattle.mdb_base.specs.Equality.{same_address}
 use Rattle.mdb_intervals.specs.Spans.{has as is_within}

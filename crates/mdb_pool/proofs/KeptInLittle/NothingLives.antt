@@ -1,0 +1,82 @@
+-- A closed pool in which nothing lives: nobody holds a connection of it, and none of its requests is open.
+use Rattle.std.proofs.Common.{◌≡◌, ◌≢◌, ℕ, Bool, true, false, not, ◌==◌, ◌&&◌, is_some, Option, Some, None, List, [], ◌∷◌, filter, length, refl, sym, ◌∙◌, ap, subst, arith}
+use Rattle.std.proofs.lemmas.Bool.Decides.{nat_tests}
+use Rattle.mdb_log.specs.Connections.{has}
+use Rattle.mdb_pool.specs.declared.kept.connection.Connection.{Connection}
+use Rattle.mdb_pool.specs.declared.kept.request.Request.{Request}
+use Rattle.mdb_pool.specs.Core.{PoolCore}
+use Rattle.mdb_pool.specs.Kept.{connection_at, first_unclaimed, given_of, held_connection, held_given, is_asked_at, is_held_at, is_open_now, is_pending_at, is_shut, is_spent, kept_requests, lingers, pins_at, request_at, request_in}
+use Rattle.mdb_pool.specs.Places.{is_done}
+use Rattle.mdb_pool.proofs.Answered.Item.{both-true}
+use Rattle.mdb_pool.proofs.Listed.Values.{entry_at-key}
+
+empty : {T : Type 0} (xs : List T) → (length xs == 0) ≡ true → xs ≡ []
+empty [] e = refl
+empty (x ∷ xs) e = let n : length (x ∷ xs) ≡ 0 = grind (arith, nat_tests) in absurd (omega arith)
+
+-- a value that is found and passes is counted
+counted : (p : Request → Bool) (r : ℕ) (q : Request) (qs : List Request) → request_in qs r ≡ Some q → p q ≡ true → (length (filter p qs) == 0) ≡ false
+counted p r q [] e f = cc
+counted p r q (x ∷ qs) e f = on (p x) (x.number == r) refl refl
+  where
+    some : (ys : List Request) → (length (x ∷ ys) == 0) ≡ false
+    some ys = grind (arith, nat_tests)
+
+    on : (b d : Bool) → p x ≡ b → (x.number == r) ≡ d → (length (filter p (x ∷ qs)) == 0) ≡ false
+    on true d g h = rw g (some (filter p qs))
+    on false true g h = let at : request_in (x ∷ qs) r ≡ Some x = rw h refl in let same : Some x ≡ Some q = sym at ∙ e in let w : x ≡ q = cc in let k : p x ≡ true = ap p w ∙ f in cc
+    on false false g h = let at : request_in (x ∷ qs) r ≡ request_in qs r = rw h refl in rw g (counted p r q qs (sym at ∙ e) f)
+
+module _ (s : PoolCore) (spent : is_spent s ≡ true) where
+  pub spent-shut : is_shut s.status ≡ true
+  spent-shut = (both-true (is_shut s.status) ((length s.connections == 0) && (length (kept_requests s) == 0)) spent).0
+
+  rest : (length s.connections == 0) && (length (kept_requests s) == 0) ≡ true
+  rest = (both-true (is_shut s.status) ((length s.connections == 0) && (length (kept_requests s) == 0)) spent).1
+
+  pub no-connections : s.connections ≡ []
+  no-connections = empty s.connections (both-true (length s.connections == 0) (length (kept_requests s) == 0) rest).0
+
+  none-kept : (length (kept_requests s) == 0) ≡ true
+  none-kept = (both-true (length s.connections == 0) (length (kept_requests s) == 0) rest).1
+
+  pub none-there : (c : ℕ) → connection_at s c ≡ None
+  none-there c = rw no-connections refl
+
+  pub none-held : (r : ℕ) → held_connection s r ≡ None
+  none-held r = on (given_of (request_at s r))
+    where
+      on : (o : Option ℕ) → held_given s o ≡ None
+      on None = refl
+      on (Some c) = rw (none-there c) refl
+
+  pub none-unclaimed : first_unclaimed s ≡ None
+  none-unclaimed = rw no-connections refl
+
+  pub none-pending : (c : ℕ) → is_pending_at (connection_at s c) ≡ false
+  none-pending c = rw (none-there c) refl
+
+  pub none-pinned : (c : ℕ) → pins_at (connection_at s c) ≡ 0
+  none-pinned c = rw (none-there c) refl
+
+  pub none-open : (r : ℕ) → is_open_now s r ≡ false
+  none-open r = on (request_at s r) refl
+    where
+      off : (a b : Bool) → (a && not b) ≡ true → b ≡ false
+      off true false e = refl
+      off true true e = cc
+      off false b e = cc
+
+      on : (o : Option Request) → request_at s r ≡ o → is_open_now s r ≡ false
+      on None e = rw e refl
+      on (Some q) e = open (is_open_now s r) refl
+        where
+          open : (b : Bool) → is_open_now s r ≡ b → b ≡ false
+          open false f = refl
+          open true f =
+              let unsettled : has r s.settled ≡ false = off (is_asked_at (request_at s r)) (has r s.settled) f in
+              let own : q.number ≡ r = entry_at-key (λ (k : Request). k.number) r q s.requests e in
+              let stays : lingers s.settled q ≡ true = rw (own, unsettled) refl in
+              let some : (length (kept_requests s) == 0) ≡ false = counted (lingers s.settled) r q s.requests e stays in
+              let none : (length (kept_requests s) == 0) ≡ true = none-kept in
+              cc
