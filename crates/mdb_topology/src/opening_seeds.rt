@@ -25,11 +25,7 @@ use mdb_monitor::CheckCount;
 use std::alloc::{AllocError, Global};
 
 // A monitor for each of the pools, in all of which something lives.
-fn pool_monitors(
-    alloc: Global,
-    options: &Options,
-    cores: &Cores,
-) -> Result<Monitors, OutOfMemory>
+fn pool_monitors(alloc: Global, options: &Options, cores: &Cores) -> Result<Monitors, OutOfMemory>
     requires { (p : ℕ) → nat_lt p (length cores.now.items) ≡ lives_at cores.now.items p }
     ensures settings { IfOk result (λ made. map (λ m. m.setting) made.items ≡ map (λ s. setting options.now s.address) cores.now.items) }
     ensures stand { IfOk result (λ made. All (λ m. MonitorStands m []) made.items) }

@@ -69,11 +69,11 @@ module _ (s : PoolCore) (spent : is_spent s ≡ true) where
 
       on : (o : Option Request) → request_at s r ≡ o → is_open_now s r ≡ false
       on None e = rw e refl
-      on (Some q) e = open (is_open_now s r) refl
+      on (Some q) e = unopened (is_open_now s r) refl
         where
-          open : (b : Bool) → is_open_now s r ≡ b → b ≡ false
-          open false f = refl
-          open true f =
+          unopened : (b : Bool) → is_open_now s r ≡ b → b ≡ false
+          unopened false f = refl
+          unopened true f =
               let unsettled : has r s.settled ≡ false = off (is_asked_at (request_at s r)) (has r s.settled) f in
               let own : q.number ≡ r = entry_at-key (λ (k : Request). k.number) r q s.requests e in
               let stays : lingers s.settled q ≡ true = rw (own, unsettled) refl in

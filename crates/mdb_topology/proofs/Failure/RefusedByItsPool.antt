@@ -24,9 +24,9 @@ use Rattle.mdb_topology.specs.Standing.{home, PoolsFit, StandsFor}
 use Rattle.mdb_topology.proofs.Failure.PoolsStand.{failing}
 use Rattle.mdb_topology.proofs.WholeSteps.TopologyStep.{early-later}
 use Rattle.mdb_topology.proofs.General.OneElement.{find-at}
-use Rattle.mdb_topology.proofs.OnePool.FoundAt.{number-at, home-placed}
+use Rattle.mdb_topology.proofs.OnePool.FoundAt.{number-at, placed-by-number}
 use Rattle.mdb_topology.proofs.OnePool.PlannedAct.{all-at}
-use Rattle.mdb_topology.proofs.OnePool.RefusedByItsRows.{past-pool, pending-here}
+use Rattle.mdb_topology.proofs.OnePool.RefusedByItsRows.{no-pending, pending-here}
 use Rattle.mdb_topology.proofs.Publications.WhichSteps.{in-time}
 use Rattle.std.proofs.lemmas.Option.{slice_get_within}
 
@@ -37,25 +37,18 @@ no-second false true x y = refl
 no-second false false x y = refl
 
 module _ (o : Options) (pools : List PoolCore) (h : List Item) (z : PoolsFit (pool_options o) pools h) where
-  -- past the last pool nothing is pending
+  -- of a pool in which nothing lives nothing is pending
   pub rows-nowhere : (q c : ℕ) (at : FailedAt) (error : Error) → numbered pools q ≡ None → first_row (rows_of o h (Do.Failed q c at error)) ≡ Some NotPending
-  rows-nowhere q c Pre error e = rw (past-pool o pools h z q e) refl
-  rows-nowhere q c (Post service) error e = rw (past-pool o pools h z q e) refl
+  rows-nowhere q c Pre error e = rw (no-pending o pools h z q c e) refl
+  rows-nowhere q c (Post service) error e = rw (no-pending o pools h z q c e) refl
 
   module _ (i : ℕ) (s : PoolCore) (at_i : slice_get pools i ≡ Some s) where
     pub rows-failed : (c : ℕ) (at : FailedAt) (error : Error) → first_row (rows_of o h (Do.Failed s.pool c at error)) ≡ first_row (rows_now s (Do.Failed s.pool c at error))
     rows-failed c Pre error = rw (pending-here o pools h z i s at_i s.pool c refl) (no-second (not (is_pending_here s s.pool c)) (not s.options.load_balanced) NotPending WrongMode)
     rows-failed c (Post service) error = rw (pending-here o pools h z i s at_i s.pool c refl, (z.each i s at_i).options) refl
 
-    place-of : numbered pools s.pool ≡ Some i
-    place-of =
-        let n : s.pool ≡ i = number-at (pool_options o) pools h z i s at_i in
-        let l : i < length pools = slice_get_within pools i s at_i in
-        let t : nat_lt s.pool (length pools) ≡ true = grind (arith, nat_tests) in
-        rw t (ap Some n)
-
     pub home-failed : (c : ℕ) (at : FailedAt) (error : Error) → home_of h (Do.Failed s.pool c at error) ≡ Some (home s)
-    home-failed c at error = home-placed (pool_options o) pools h z (Do.Unpin s.pool c) refl i s at_i place-of
+    home-failed c at error = placed-by-number (pool_options o) pools h z s.pool i s at_i (number-at (pool_options o) pools h z i s at_i)
 
     pub home-numbered : home_at h s.pool ≡ Some (home s)
     home-numbered =

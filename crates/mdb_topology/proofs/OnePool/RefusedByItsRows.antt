@@ -2,8 +2,6 @@
 use Rattle.std.proofs.Common.{ℕ, suc, ◌≡◌, ◌≤◌, ◌&&◌, ◌||◌, Bool, true, false, not, List, [], ◌∷◌, length, Option, Some, None, is_some, nat_lt, if◌then◌else◌, refl, sym, ◌∙◌, ap, subst, arith}
 use Rattle.std.specs.Prelude.{slice_get, unwrap_or}
 use Rattle.std.specs.List.{list_any}
-use Rattle.std.proofs.lemmas.Bool.Decides.{nat_tests}
-use Rattle.std.proofs.lemmas.Option.{slice_get_past}
 use Rattle.mdb_base.specs.declared.address.ServerAddress.{ServerAddress}
 use Rattle.mdb_base.specs.declared.options.Options.{Options}
 use Rattle.mdb_base.specs.Equality.{same_address}
@@ -11,7 +9,7 @@ use Rattle.mdb_log.specs.declared.step.Act.{Act}
 use Rattle.mdb_log.specs.declared.step.Act.TheVariants as Do
 use Rattle.mdb_log.specs.declared.reply.Refused.TheVariants.{RequestKnown, Unpinned, NotHolder, PinState}
 use Rattle.mdb_log.specs.History.{Item, PoolItem, of_pool}
-use Rattle.mdb_log.specs.Connections.{has, holding, held, pins}
+use Rattle.mdb_log.specs.Connections.{has, holding, held, pending_list, pins}
 use Rattle.mdb_log.specs.Requests.{is_open}
 use Rattle.mdb_log.specs.Opening.{pool_options}
 use Rattle.mdb_log.proofs.Numbers.{same-number}
@@ -20,23 +18,21 @@ use Rattle.mdb_pool.specs.declared.kept.request.Request.{Request as Asker}
 use Rattle.mdb_pool.specs.Core.{PoolCore}
 use Rattle.mdb_pool.specs.Refusal.{first_row}
 use Rattle.mdb_pool.specs.Refusing.{is_here, is_pending_here, is_pinned_here, rows_now}
-use Rattle.mdb_pool.specs.Kept.{request_at, connection_at, held_connection, is_open_now, is_asked_at, is_held_at, is_shut, pins_at}
+use Rattle.mdb_pool.specs.Kept.{request_at, connection_at, held_connection, is_open_now, is_asked_at, is_held_at, is_shut, is_spent, pins_at}
 use Rattle.mdb_pool.proofs.Answered.Act.{pending-is, holding-is, live-pins}
 use Rattle.mdb_pool.proofs.Listed.FirstOrLast.{id_or}
 use Rattle.mdb_pool.proofs.Answered.Pin.{held-at}
 use Rattle.mdb_pool.proofs.Answered.Take.{held-is}
 use Rattle.mdb_topology.specs.Refusal.{rows_of, has_pin, is_pending}
 use Rattle.mdb_topology.specs.Standing.{is_open_at, knows, requested, settled, at_address, PoolsFit}
+use Rattle.mdb_topology.specs.Living.{lives_at}
 use Rattle.mdb_topology.specs.Finding.{is_pool_act, asked_by, numbered, index_of, names_known, missing_pool}
 use Rattle.mdb_pool.proofs.KeptInLittle.AskedOfThoseThatStay.{open-asked}
+use Rattle.mdb_pool.proofs.KeptInLittle.NothingLives.{none-pending, none-pinned}
 use Rattle.mdb_topology.proofs.General.OneElement.{any-none, any-position, any-nowhere, position-at, position-none}
 use Rattle.mdb_topology.proofs.General.OnePosition.{some-same}
-use Rattle.mdb_topology.proofs.OnePool.FoundAt.{fits-at, number-at, numbered-is, numbered-past, home-placed, home-missing}
-
--- who asked is known
-pub asked-some : (o : Option Asker) → is_asked_at o ≡ true → is_some o ≡ true
-asked-some None e = cc
-asked-some (Some q) e = refl
+use Rattle.mdb_topology.proofs.InMemory.LivingPools.{lives-of}
+use Rattle.mdb_topology.proofs.OnePool.FoundAt.{asked-some, fits-at, number-at, numbered-is, numbered-gone, home-placed, home-missing}
 
 -- a pool that is open at the address is the one there
 here-open : (a : ServerAddress) (s : PoolCore) → is_open_at a s ≡ true → is_here s a ≡ true
@@ -99,15 +95,23 @@ module _ (o : Options) (pools : List PoolCore) (h : List Item) (z : PoolsFit (po
       on true true f g = rw (z.requested r, z.opens r, f, g) refl
       on true false f g = let k : settled pools r ≡ true = any-follows (λ u. is_asked_at (request_at u r)) (λ u. has r u.settled) pools closed f in cc
 
-  -- past the last pool there is none
-  pub past-pool : (q : ℕ) → numbered pools q ≡ None → of_pool q h ≡ []
-  past-pool q e =
-      let past : nat_lt q (length pools) ≡ false = numbered-past pools q e in
-      let over : length pools ≤ q = grind (arith, nat_tests) in
-      z.rest q (slice_get_past pools q over)
+  -- of a pool in which nothing lives, or that never was, no connection is pending, and none has a pin
+  gone-from : (f : List PoolItem → Bool) → f [] ≡ false → (q : ℕ) → ((s : PoolCore) → slice_get pools q ≡ Some s → is_spent s ≡ true → f (of_pool s.pool h) ≡ false) → numbered pools q ≡ None → f (of_pool q h) ≡ false
+  gone-from f none q there e = on (slice_get pools q) refl
+    where
+      on : (o : Option PoolCore) → slice_get pools q ≡ o → f (of_pool q h) ≡ false
+      on None g = ap f (z.rest q g) ∙ none
+      on (Some s) g = in-two (is_spent s) refl
+        where
+          in-two : (b : Bool) → is_spent s ≡ b → f (of_pool q h) ≡ false
+          in-two true k = ap (λ n. f (of_pool n h)) (sym (number-at (pool_options o) pools h z q s g)) ∙ there s g k
+          in-two false k = let l : lives_at pools q ≡ true = lives-of pools q s g k in let m : lives_at pools q ≡ false = numbered-gone pools q e in cc
+
+  pub no-pending : (q c : ℕ) → numbered pools q ≡ None → is_pending h q c ≡ false
+  no-pending q c e = gone-from (λ xs. has c (pending_list xs)) refl q (λ s g k. pending-is s (of_pool s.pool h) (fits-at (pool_options o) pools h z q s g) c ∙ none-pending s k c) e
 
   no-pin : (q c : ℕ) → numbered pools q ≡ None → has_pin h q c ≡ false
-  no-pin q c e = ap (λ xs. nat_lt 0 (pins xs c)) (past-pool q e)
+  no-pin q c e = gone-from (λ xs. nat_lt 0 (pins xs c)) refl q (λ s g k. ap (nat_lt 0) ((fits-at (pool_options o) pools h z q s g).matches.pinning.pins c ∙ none-pinned s k c)) e
 
   -- an act that concerns no pool
   pub rows-missing : (act : Act) → index_of pools act ≡ None → is_pool_act act ≡ true → first_row (rows_of o h act) ≡ missing_pool pools act
@@ -118,9 +122,9 @@ module _ (o : Options) (pools : List PoolCore) (h : List Item) (z : PoolsFit (po
   rows-missing (Do.Collect r) e k = rw (not-open r e) refl
   rows-missing (Do.GiveUp r) e k = rw (not-open r e) refl
   rows-missing Do.Claim e k = refl
-  rows-missing (Do.Established q c how) e k = rw (past-pool q e) refl
-  rows-missing (Do.Return r used) e k = rw (home-missing (pool_options o) pools h z (Do.Return r used) k e) refl
-  rows-missing (Do.Pin r) e k = rw (home-missing (pool_options o) pools h z (Do.Pin r) k e) refl
+  rows-missing (Do.Established q c how) e k = rw (no-pending q c e) refl
+  rows-missing (Do.Return r used) e k = rw (home-missing (pool_options o) pools h z (Do.Return r used) refl e) refl
+  rows-missing (Do.Pin r) e k = rw (home-missing (pool_options o) pools h z (Do.Pin r) refl e) refl
   rows-missing (Do.Replicate q c) e k = rw (no-pin q c e) refl
   rows-missing (Do.Take r q c) e k = rw (z.names r, no-pin q c e) (on (knows pools r))
     where

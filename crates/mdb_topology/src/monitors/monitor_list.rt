@@ -118,8 +118,7 @@ impl Monitors {
         ensures kept { self.new.kept ≡ self.old.kept ++ length self.old.items ∷ [] }
         ensures room { self.new.room ≡ self.old.room }
     {
-        let all =
-            Past::of::<(&Past<MonitorCore>, &MonitorCore), OneMore>(&(&self.all, &monitor));
+        let all = Past::of::<(&Past<MonitorCore>, &MonitorCore), OneMore>(&(&self.all, &monitor));
         let place = self.opened;
         self.kept.push_reserved(Watched { place, monitor });
         self.opened += 1;

@@ -33,7 +33,11 @@ impl Pools {
             return Ok(());
         }
         let error = Boxed::copy_of(alloc, trouble.error)?;
-        let act = Act::Clear(self.cores.at(trouble.index).number(), trouble.service, error);
+        let act = Act::Clear(
+            self.cores.at(trouble.index).number(),
+            trouble.service,
+            error,
+        );
         self.plan_act(alloc, trouble.index, Step { moment, act }, facts, changes)
     }
 }

@@ -71,7 +71,9 @@ pub(crate) fn is_open_at(pool: &PoolCore, address: &ServerAddress) -> bool
 fn first_open<'a>(living: &'a [Placed], address: &ServerAddress) -> Option<&'a Placed>
     ensures { option_copied result ≡ find (λ x. is_open_at address.now x.core) living.now }
 {
-    living.iter().find(|placed| is_open_at(&placed.core, address))
+    living
+        .iter()
+        .find(|placed| is_open_at(&placed.core, address))
 }
 
 // The first in which the request is open.
@@ -273,8 +275,10 @@ impl Cores {
             unreachable!()
         };
         apply(&mut self.living[index].core, plan);
-        let all =
-            Past::of::<(&Past<PoolCore>, &Placed), Changed>(&(&self.all, &self.living[index]));
+        let all = Past::of::<(&Past<PoolCore>, &Placed), Changed>(&(
+            &self.all,
+            &self.living[index],
+        ));
         let_go(&mut self.living, index);
         self.all = all;
     }

@@ -163,7 +163,11 @@ impl Pools {
             return self.plan_failed(alloc, step, trouble, facts, changes);
         }
         let error = Boxed::copy_of(alloc, trouble.error)?;
-        let act = Act::Clear(self.cores.at(trouble.index).number(), trouble.service, error);
+        let act = Act::Clear(
+            self.cores.at(trouble.index).number(),
+            trouble.service,
+            error,
+        );
         let moment = step.moment;
         let clear = Step { moment, act };
         self.plan_both(alloc, clear, step, trouble, facts, changes)
