@@ -1,5 +1,5 @@
 -- An act of one pool, planned at its place.
-use Rattle.std.specs.Prelude.{ℕ, ◌≡◌, false, List, [], ◌∷◌, ◌++◌, slice_get, Option, Some, None}
+use Rattle.std.specs.Prelude.{ℕ, ◌≡◌, List, [], ◌∷◌, ◌++◌, slice_get, Option, Some, None}
 use Rattle.mdb_events.specs.declared.fact.Fact.{Fact}
 use Rattle.mdb_log.specs.declared.step.Step.{Step}
 use Rattle.mdb_log.specs.declared.step.Act.{Act}
@@ -7,7 +7,6 @@ use Rattle.mdb_log.specs.declared.step.Act.TheVariants.{Ready, Close}
 use Rattle.mdb_pool.specs.Core.{PoolCore}
 use Rattle.mdb_pool.specs.declared.planning.Answered.{Answered}
 use Rattle.mdb_pool.specs.Body.{PoolSteps as Plan}
-use Rattle.mdb_pool.specs.Kept.{is_spent}
 use Rattle.mdb_pool.specs.Planning.{Plans, IsPlanOf, IsDone}
 use Rattle.mdb_topology.specs.declared.pools.pool_change.PoolChange.{PoolChange}
 use Rattle.mdb_topology.specs.declared.pools.pool_change.PoolChange.TheVariants.{Alter}
@@ -27,7 +26,6 @@ step_of m act p = record { moment = m; act = act p }
 pub record PlansOne (pools : List PoolCore) (i m : ℕ) (act : ℕ → Act) (earlier changes : List PoolChange) (before after : List Fact) : Type 0 where
   pub pool : PoolCore
   pub there : slice_get pools i ≡ Some pool
-  pub lives : is_spent pool ≡ false
   pub plan : Plan
   pub made : IsPlanOf plan pool
   pub answered : Answered

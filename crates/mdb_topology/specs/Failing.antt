@@ -20,7 +20,7 @@ use Rattle.mdb_pool.specs.Core.{PoolCore}
 use Rattle.mdb_pool.specs.declared.planning.Answered.{Answered}
 use Rattle.mdb_pool.specs.Body.{PoolSteps as Plan}
 use Rattle.mdb_pool.specs.Facts.{clear_facts}
-use Rattle.mdb_pool.specs.Kept.{clears_before, clears_for, is_spent}
+use Rattle.mdb_pool.specs.Kept.{clears_before, clears_for}
 use Rattle.mdb_pool.specs.Planning.{Plans, IsPlanOf, IsDone}
 use Rattle.mdb_pool.specs.Refusal.{wrong_service}
 use Rattle.mdb_pool.specs.Refusing.{refusal_now}
@@ -98,7 +98,6 @@ pub record PlansBoth (pool : PoolCore) (i : ℕ) (first second : Step) (a b : An
 pub record PlansTwo (pools : List PoolCore) (i : ℕ) (first : ℕ → Act) (step : Step) (asked : Asked) (earlier changes : List PoolChange) (before after : List Fact) : Type 0 where
   pub pool : PoolCore
   pub there : slice_get pools i ≡ Some pool
-  pub lives : is_spent pool ≡ false
   pub plan : Plan
   pub made : IsPlanOf plan pool
   pub clear : Answered

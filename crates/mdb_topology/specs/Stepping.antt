@@ -64,7 +64,7 @@ pub record Follows (w : TopologyCore) (n : Transition) (step : Step) (h : List I
   pub numbers : (later : List PoolCore) → LeadsAll n.changes.items w.pools.cores.items later → length later ≤ 2 ^ 32
   pub early : (later : List PoolCore) → LeadsAll n.changes.items w.pools.cores.items later → All (λ s. s.last ≤ step.moment) later
   pub each_opened : length n.monitors.items ≡ length (opened_by n.changes.items)
-  pub placed : IsPlaced n.monitoring (length w.monitors.items)
+  pub placed : IsPlaced n.monitoring w.monitors.kept
   pub monitors : MonitorsFit w.options (monitors_after n.monitoring w.monitors.items ++ n.monitors.items) (with_answer step n.reply n.facts.items h)
   pub described : Describes w.options (unwrap_or n.description w.description) (with_answer step n.reply n.facts.items h)
   pub counts : Counts w.options step.moment (w.published + one_if (is_some n.description)) (numbers_after n.monitoring w.fresh) (n.stops || w.stopped) (watchers_after n.monitoring w.watchers) (with_answer step n.reply n.facts.items h)

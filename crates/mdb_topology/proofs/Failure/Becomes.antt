@@ -52,6 +52,7 @@ use Rattle.mdb_topology.proofs.Failure.Plan.{clears, fails, Doing, planned-done}
 use Rattle.mdb_topology.proofs.Failure.PoolsStand.{failing}
 use Rattle.mdb_topology.proofs.Failure.RefusedByItsPool.{home-failed, not-late, failed-rows}
 use Rattle.mdb_topology.proofs.Failure.Follows.{follows-failed}
+use Rattle.mdb_topology.proofs.InMemory.NewParties.{failing-lives}
 use Rattle.mdb_topology.proofs.OnePool.NumbersWithinLimits.{take_numbers, act-free, first-free, free-append, out-free}
 use Rattle.mdb_topology.proofs.OfMonitors.FactsOfCheck.{AreCalm}
 use Rattle.mdb_topology.proofs.WholeSteps.LeavesAsItIs.{turn-append}
@@ -240,5 +241,5 @@ module _ (w : TopologyCore) (h : List Item) (z : StandsFor w h) (m : ℕ) (l : w
         → in_order (unwrap_or n.description w.description).servers ≡ true → length (unwrap_or n.description w.description).servers ≤ 128
         → ((b : ServerAddress) → is_known b (unwrap_or n.description w.description).servers ≡ is_known b w.description.servers) → Follows w n step h
     failure-follows reply known none nothing goes_on ordered fewer same_known =
-        follows-failed w h z i s there m c at error l told.facts C A E told.calm (asked-calm asked cleared s.address) does.plan does.made does.does does.last_is does.stays
+        follows-failed w h z i s there (failing-lives s step error f.failing) m c at error l told.facts C A E told.calm (asked-calm asked cleared s.address) does.plan does.made does.does does.last_is does.stays
         n reply does.told does.changes_are none nothing goes_on accepted-now facts-are place (ap (λ r. known_after r w.description) f.rule_is ∙ sym known) ordered fewer same_known

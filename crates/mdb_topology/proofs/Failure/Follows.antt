@@ -23,7 +23,7 @@ use Rattle.mdb_log.specs.LegalLog.{IsFairAnswer}
 use Rattle.mdb_log.specs.Own.{IsAccepted}
 use Rattle.mdb_pool.specs.Core.{PoolCore}
 use Rattle.mdb_pool.specs.Body.{PoolSteps as Plan}
-use Rattle.mdb_pool.specs.Kept.{is_shut}
+use Rattle.mdb_pool.specs.Kept.{is_shut, is_spent}
 use Rattle.mdb_pool.specs.Planning.{Plans, IsPlanOf}
 use Rattle.mdb_pool.specs.Standing.{SameHome}
 use Rattle.mdb_topology.specs.declared.pools.pool_change.PoolChange.TheVariants.{Alter}
@@ -46,7 +46,7 @@ use Rattle.mdb_topology.proofs.General.OneElement.{map-set, position-set}
 use Rattle.mdb_topology.proofs.General.OnePosition.{some-same}
 use Rattle.mdb_topology.proofs.OfMonitors.LeftAlone.{known-then, counts-still, monitors-still}
 
-module _ (w : TopologyCore) (h : List Item) (z : StandsFor w h) (i : ℕ) (s : PoolCore) (at_i : slice_get w.pools.cores.items i ≡ Some s) (m c : ℕ) (at : FailedAt) (error : Error) (l : w.pools.last ≤ m)
+module _ (w : TopologyCore) (h : List Item) (z : StandsFor w h) (i : ℕ) (s : PoolCore) (at_i : slice_get w.pools.cores.items i ≡ Some s) (lives : is_spent s ≡ false) (m c : ℕ) (at : FailedAt) (error : Error) (l : w.pools.last ≤ m)
     (told clears asks fails : List Fact) (calm_told : AreCalm told) (calm_asks : AreCalm asks)
     (plan : Plan) (made : IsPlanOf plan s)
     (does : (u : PoolCore) → Plans plan s u → Fails s u m (clears ++ fails) (failed c (service_in at) ∷ of_pool s.pool h))
@@ -138,7 +138,7 @@ module _ (w : TopologyCore) (h : List Item) (z : StandsFor w h) (i : ℕ) (s : P
         accepted = subst IsAccepted (sym reply) tt;
         fair = subst (λ r. IsFairAnswer h step r n.facts.items) (sym reply) (subst (IsFairAnswer h step Done) (sym facts) (failed-fair o pools h z.pools i s u at_i m c at error told clears asks fails calm_told calm_asks (does u plans)));
         fresh = subst (λ r. AllFreshGrants (pool_options o) m (did step r ∷ h) n.facts.items) (sym reply) (subst (AllFreshGrants (pool_options o) m (did step Done ∷ h)) (sym facts) (failed-fresh o pools h z.pools i s u at_i m c at error told clears asks fails calm_told calm_asks (does u plans)));
-        leads = subst (λ cs. (later : List PoolCore) × LeadsAll cs pools later) (sym changes) (set pools i u, (set pools i u, (s, u, at_i, plans, refl), refl));
+        leads = subst (λ cs. (later : List PoolCore) × LeadsAll cs pools later) (sym changes) (set pools i u, (set pools i u, (s, u, at_i, plans, refl, lives), refl));
         pools = λ later leads. let r = led later leads in subst (λ xs. PoolsStand (pool_options o) xs then) (sym r.2) (subst (PoolsStand (pool_options o) (set pools i r.0)) then-is (failed-stand o pools h z.pools i s r.0 at_i m c at error told clears asks fails calm_told calm_asks (does r.0 r.1)));
         numbers = λ later leads. let r = led later leads in subst (λ xs. length xs ≤ 2 ^ 32) (sym r.2) (subst (λ x. x ≤ 2 ^ 32) (sym (length-set pools i r.0)) z.numbers);
         early = λ later leads. let r = led later leads in let e : r.0.last ≡ m = last_is r.0 r.1 in subst (All (λ x. x.last ≤ m)) (sym r.2) (All-set (λ x. x.last ≤ m) pools i r.0 (omega (arith, e)) (early-later pools w.pools.last m l z.early));

@@ -50,7 +50,7 @@ items_with h step p = with_check (is_of h p) (fresh_for h p) step.act (monitor_i
 
 -- What the step does at the monitors is what the act says.
 pub record Watches (w : TopologyCore) (h : List Item) (step : Step) (n : Transition) : Type 0 where
-  pub placed : IsPlaced n.monitoring (length w.monitors.items)
+  pub placed : IsPlaced n.monitoring w.monitors.kept
   pub numbers : numbers_after n.monitoring w.fresh ≡ w.fresh + one_if (connects h step.act)
   pub watchers : watchers_after n.monitoring w.watchers ≡ asking step.act w.watchers
   pub settings : map (λ x. x.setting) (monitors_after n.monitoring w.monitors.items) ≡ map (λ x. x.setting) w.monitors.items

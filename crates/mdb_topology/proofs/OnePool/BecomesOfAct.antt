@@ -67,7 +67,7 @@ ready-lacking pools step (Planned i plan told) a = absurd a
 pub ready-asked : (pools : List PoolCore) (i : ℕ) (step : Step) (outcome : PoolDecision) → IsAsked pools i step outcome → IsReady pools step outcome
 ready-asked pools i step (Refused why) a = tt
 ready-asked pools i step Idle a = tt
-ready-asked pools i step (Planned j plan told) a = (a.0, ap (slice_get pools) a.2.0 ∙ a.1, a.2.2, λ t p. ((a.2.3 t p).home, (a.2.3 t p).last))
+ready-asked pools i step (Planned j plan told) a = (a.0, ap (slice_get pools) a.2.0 ∙ a.1, a.2.2, λ t p. ((a.2.3 t p).home, (a.2.3 t p).last), a.3)
 
 module _ (o : Options) (pools : List PoolCore) (h : List Item) (z : PoolsStand (pool_options o) pools h) (last : ℕ) (last_is : last_moment h ≡ last)
     (few : length (description_of o h).servers ≤ 128) (step : Step) (k : is_pool_act step.act ≡ true) (l : last ≤ step.moment) where

@@ -20,6 +20,8 @@ use Rattle.mdb_topology.specs.Publishing.{opened_at, server_opened}
 use Rattle.mdb_topology.specs.Standing.{home, is_open_at, at_address, HasOpened, PoolsStand}
 use Rattle.mdb_topology.specs.Planned.{LeadsAll, Agrees, CanTake, IsPlanned, LeavesOpen}
 use Rattle.mdb_topology.specs.Telling.{Makes, Tells}
+use Rattle.mdb_topology.proofs.InMemory.LivingPools.{alive-of}
+use Rattle.mdb_topology.proofs.OnePool.FoundAt.{open-lives}
 use Rattle.mdb_topology.proofs.OnePool.OpenedWhereNone.{has-opened}
 use Rattle.mdb_topology.proofs.OnePool.OpenAtOneAddress.{at-address}
 use Rattle.mdb_topology.proofs.General.OneElement.{position-at, position-set, position-within, map-set, get-set_other}
@@ -102,7 +104,7 @@ module _ (o : Options) (m : ℕ) (pools : List PoolCore) (a : ServerAddress) (i 
       → ((now : List PoolCore) (t : PoolCore) → at_address now a ≡ Some i → slice_get now i ≡ Some s → Plans plan s t → Tells o m parts now (set now i t) before after)
       → IsPlanned o m pools n touched parts (Alter i plan ∷ []) before after
   planned-alter n parts before after tells = record {
-    leads = λ now z. (set now i made.0, (set now i made.0, (s, made.0, still-i n now z, made.1, refl), refl));
+    leads = λ now z. (set now i made.0, (set now i made.0, (s, made.0, still-i n now z, made.1, refl, alive-of pools i s (open-lives pools a i here) at_i), refl));
     tells = λ now later z l.
         let d : Altered n now z later = altered n now z later l in
         subst (λ (w : List PoolCore). Tells o m parts now w before after) (sym d.set_is) (tells now d.next (still-here n now z) (still-i n now z) d.planned);

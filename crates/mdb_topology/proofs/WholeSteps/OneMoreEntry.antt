@@ -1,24 +1,32 @@
 -- The log of a driver, and one more step of it.
-use Rattle.std.proofs.Common.{ℕ, ◌≡◌, ◌≤◌, ◌+◌, ◌^◌, ◌||◌, false, List, [], ◌∷◌, ◌++◌, length, Option, Some, None, is_some, refl, sym, ◌∙◌, ap, subst, arith, inl, append_assoc}
-use Rattle.std.specs.Prelude.{slice_get, unwrap_or, All}
-use Rattle.std.proofs.lemmas.List.{append-nil}
+use Rattle.std.proofs.Common.{ℕ, ◌≡◌, ◌≤◌, ◌<◌, ◌+◌, ◌^◌, ◌&&◌, ◌||◌, Bool, true, false, nat_lt, List, [], ◌∷◌, ◌++◌, length, map, Option, Some, None, is_some, refl, sym, ◌∙◌, ap, subst, arith, inl, inr, append_assoc}
+use Rattle.std.specs.Prelude.{nat_le, slice_get, unwrap_or, All}
+use Rattle.std.proofs.lemmas.Bool.Decides.{nat_tests}
+use Rattle.std.proofs.lemmas.List.{append-nil, length-map}
 use Rattle.std.proofs.lemmas.List.Elements.{All-push}
 use Rattle.mdb_base.specs.OptionRules.{broken_rule}
 use Rattle.mdb_base.specs.declared.options.Options.{Options}
 use Rattle.mdb_log.specs.declared.options.PoolOptions.{PoolOptions}
 use Rattle.mdb_log.specs.declared.log.Entry.{Entry}
 use Rattle.mdb_log.specs.declared.step.Step.{Step}
+use Rattle.mdb_intervals.specs.Spans.{has as is_within}
+use Rattle.mdb_log.specs.declared.reply.Reply.{Reply}
 use Rattle.mdb_log.specs.declared.reply.Reply.TheVariants.{Refused as RefusedBy}
 use Rattle.mdb_log.specs.declared.reply.Refused.{Refused}
 use Rattle.mdb_log.specs.declared.step.Act.{Act}
 use Rattle.mdb_log.specs.declared.step.Act.TheVariants as Do
 use Rattle.mdb_log.specs.Acts.{IsDriverAct}
-use Rattle.mdb_log.specs.Connections.{one_if}
+use Rattle.mdb_events.specs.declared.fact.Fact.{Fact}
+use Rattle.mdb_log.specs.Connections.{has, one_if}
+use Rattle.mdb_log.specs.Homes.{homes}
+use Rattle.mdb_log.specs.Own.{IsAccepted}
+use Rattle.mdb_log.specs.Requests.{names_party, some_act}
 use Rattle.mdb_log.specs.History.{Item, did, of_pool, with_answer, with_entries, history_of}
 use Rattle.mdb_log.specs.Opening.{is_opening, pool_options}
 use Rattle.mdb_log.specs.Legal.{OnePlace, NoneLeftWaiting}
 use Rattle.mdb_log.specs.LegalLog.{IsFairAnswer, IsOrderly, IsLegal, OpensSeeds}
 use Rattle.mdb_log.specs.Beside.{AllFreshGrants, EntriesGrantFresh}
+use Rattle.mdb_log.proofs.Frame.{acts-facts}
 use Rattle.mdb_log.proofs.Later.{with_entries-append}
 use Rattle.mdb_pool.specs.Core.{PoolCore}
 use Rattle.mdb_pool.proofs.Histories.OnePlaceEach.{one-place}
@@ -30,8 +38,13 @@ use Rattle.mdb_topology.specs.Refusal.{refusal}
 use Rattle.mdb_topology.specs.Facts.{step_facts}
 use Rattle.mdb_topology.specs.Lines.{answer_after, entry_after}
 use Rattle.mdb_topology.specs.Checking.{monitors_after, numbers_after, watchers_after}
+use Rattle.mdb_monitor.specs.declared.monitor.MonitorCore.{MonitorCore}
+use Rattle.mdb_topology.specs.Living.{lives_at}
+use Rattle.mdb_topology.specs.Monitors.{setting}
 use Rattle.mdb_topology.specs.Planned.{LeadsAll}
-use Rattle.mdb_topology.specs.Standing.{PoolFits, PoolsStand, StandsFor, IsSame}
+use Rattle.mdb_topology.specs.Standing.{home, MonitorsFit, PoolFits, PoolsFit, PoolsStand, StandsFor, IsSame}
+use Rattle.mdb_topology.proofs.InMemory.LivingPools.{lives-within}
+use Rattle.mdb_topology.proofs.InMemory.StillLives.{Lived, still-lives}
 use Rattle.mdb_topology.specs.Stepping.{Follows, Logs}
 use Rattle.mdb_topology.specs.Logging.{opening_step, Stood, IsDriven, AreDriven, IsDriverOf}
 
@@ -42,6 +55,8 @@ same-stands w v h e z = record {
   monitors = rw (e.options, e.monitors) z.monitors;
   described = rw (e.options, e.description) z.described;
   counts = rw (e.options, e.last, e.published, e.fresh, e.stopped, e.watchers) z.counts;
+  known = λ r. rw e.known (z.known r);
+  watched = λ p. rw (e.cores, e.kept) (z.watched p);
   numbers = rw e.cores z.numbers;
   early = rw (e.cores, e.last) z.early;
 }
@@ -69,18 +84,50 @@ pub record IsTaken (w v : TopologyCore) (n : Transition) (step : Step) : Type 0 
   pub stopped : v.stopped ≡ n.stops || w.stopped
   pub fresh : v.fresh ≡ numbers_after n.monitoring w.fresh
   pub watchers : v.watchers ≡ watchers_after n.monitoring w.watchers
+  pub known : (r : ℕ) → is_within r v.pools.known.spans ≡ names_party step.act r || is_within r w.pools.known.spans
+  pub kept : (p : ℕ) → lives_at v.pools.cores.items p ≡ true → has p w.monitors.kept || (nat_le (length w.monitors.items) p && nat_lt p (length v.monitors.items)) ≡ true → has p v.monitors.kept ≡ true
 
-pub taken-logs : (w v : TopologyCore) (log after : List Entry) (seat : ℕ) (step : Step) (h : List Item) (n : Transition) → IsTaken w v n step → Follows w n step h
+-- there is a monitor for each pool
+as-many : (o : Options) (pools : List PoolCore) (monitors : List MonitorCore) (h : List Item) → PoolsFit (pool_options o) pools h → MonitorsFit o monitors h → length monitors ≡ length pools
+as-many o pools monitors h z f = sym (length-map monitors (λ m. m.setting)) ∙ (ap length f.settings ∙ (length-map (homes h) (λ x. setting o x.address) ∙ (ap length z.homes_are ∙ length-map pools home)))
+
+-- the parties that are named once the step is accepted
+named-more : (reply : Reply) (step : Step) (facts : List Fact) (h : List Item) → IsAccepted reply → (r : ℕ) → some_act names_party (with_answer step reply facts h) r ≡ names_party step.act r || some_act names_party h r
+named-more (RefusedBy why) step facts h accepted r = absurd accepted
+named-more _ step facts h accepted r = acts-facts names_party step.moment r facts _
+
+-- the monitor of a pool in which something lives then is kept
+still-watched : (w v : TopologyCore) (step : Step) (h : List Item) (n : Transition) → StandsFor w h → IsTaken w v n step → (p : ℕ) → lives_at v.pools.cores.items p ≡ true → Lived w.pools.cores.items p
+    → length v.monitors.items ≡ length v.pools.cores.items → has p v.monitors.kept ≡ true
+still-watched w v step h n z e p lives (inl lived) many = e.kept p lives (ap (λ b. b || (nat_le (length w.monitors.items) p && nat_lt p (length v.monitors.items))) (z.watched p lived))
+still-watched w v step h n z e p lives (inr new) many =
+    let before : length w.monitors.items ≡ length w.pools.cores.items = as-many w.options w.pools.cores.items w.monitors.items h z.pools.fit z.monitors in
+    let within : p < length v.pools.cores.items = lives-within v.pools.cores.items p lives in
+    let from : nat_le (length w.monitors.items) p ≡ true = grind (arith, nat_tests) in
+    let to : nat_lt p (length v.monitors.items) ≡ true = grind (arith, nat_tests) in
+    e.kept p lives (ap (λ b. has p w.monitors.kept || b) (rw (from, to) refl) ∙ or-true (has p w.monitors.kept))
+  where
+    or-true : (b : Bool) → (b || true) ≡ true
+    or-true true = refl
+    or-true false = refl
+
+pub taken-logs : (w v : TopologyCore) (log after : List Entry) (seat : ℕ) (step : Step) (h : List Item) (n : Transition) → StandsFor w h → IsTaken w v n step → Follows w n step h
     → after ≡ log ++ record { seat = seat; step = step; reply = n.reply; facts = n.facts.items } ∷ [] → Logs w v log after seat step h
-taken-logs w v log after seat step h n e f entered =
+taken-logs w v log after seat step h n z e f entered =
     let later : List PoolCore = f.leads.0 in
     let cores : later ≡ v.pools.cores.items = e.led later f.leads.1 in
     let k : List Item = with_answer step n.reply n.facts.items h in
+    let pools_stand : PoolsStand (pool_options v.options) v.pools.cores.items k = rw e.options (subst (λ xs. PoolsStand (pool_options w.options) xs k) cores (f.pools later f.leads.1)) in
+    let monitors_fit : MonitorsFit v.options v.monitors.items k = rw (e.options, e.monitors) f.monitors in
     let stands : StandsFor v k = record {
-      pools = rw e.options (subst (λ xs. PoolsStand (pool_options w.options) xs k) cores (f.pools later f.leads.1));
-      monitors = rw (e.options, e.monitors) f.monitors;
+      pools = pools_stand;
+      monitors = monitors_fit;
       described = rw (e.options, e.description) f.described;
       counts = rw (e.options, e.last, e.published, e.fresh, e.stopped, e.watchers) f.counts;
+      known = λ r. e.known r ∙ (ap (λ b. names_party step.act r || b) (z.known r) ∙ sym (named-more n.reply step n.facts.items h f.accepted r));
+      watched = λ p lives.
+          still-watched w v step h n z e p lives (still-lives n.changes.items w.pools.cores.items later p f.leads.1 (subst (λ (xs : List PoolCore). lives_at xs p ≡ true) (sym cores) lives))
+          (as-many v.options v.pools.cores.items v.monitors.items k pools_stand.fit monitors_fit);
       numbers = subst (λ xs. length xs ≤ 2 ^ 32) cores (f.numbers later f.leads.1);
       early = rw e.last (subst (All (λ s. s.last ≤ step.moment)) cores (f.early later f.leads.1));
     } in

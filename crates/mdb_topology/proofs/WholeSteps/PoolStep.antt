@@ -165,7 +165,7 @@ module _ (w : TopologyCore) (h : List Item) (z : StandsFor w h) (step : Step) (l
       accepted = subst IsAccepted (sym reply) (T t plans).accepted;
       fair = subst (λ r. IsFairAnswer h step r n.facts.items) (sym reply) (subst (IsFairAnswer h step told.reply) (own-facts t plans) (T t plans).fair);
       fresh = subst (λ r. AllFreshGrants (pool_options o) step.moment (did step r ∷ h) n.facts.items) (sym reply) (subst (AllFreshGrants (pool_options o) step.moment (did step told.reply ∷ h)) (own-facts t plans) (T t plans).fresh);
-      leads = subst (λ cs. (later : List PoolCore) × LeadsAll cs pools later) (sym changes) (set pools i t, (set pools i t, (s, t, at_i, plans, refl), refl));
+      leads = subst (λ cs. (later : List PoolCore) × LeadsAll cs pools later) (sym changes) (set pools i t, (set pools i t, (s, t, at_i, plans, refl, ready.4), refl));
       pools = λ later leads. let r = led t plans later leads in subst (λ xs. PoolsStand (pool_options o) xs (with_answer step n.reply n.facts.items h)) (sym r.2) (subst (PoolsStand (pool_options o) (set pools i r.0)) (then-is r.0 r.1) (stands r.0 r.1));
       numbers = λ later leads. let r = led t plans later leads in subst (λ xs. length xs ≤ 2 ^ 32) (sym r.2) (subst (λ x. x ≤ 2 ^ 32) (sym (length-set pools i r.0)) z.numbers);
       early = λ later leads. let r = led t plans later leads in subst (All (λ x. x.last ≤ step.moment)) (sym r.2) (early-at t plans r.0 (home-of r.0 r.1).1);

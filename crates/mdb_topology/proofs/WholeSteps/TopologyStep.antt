@@ -109,7 +109,7 @@ module _ (w : TopologyCore) (h : List Item) (z : StandsFor w h) (step : Step) (l
       (replies : (fs : List Fact) → reply_to o h step (with_facts m fs (begun h step)) step.act ≡ n.reply)
       (told : IsTold o m pools (length pools) u parts n.changes.items n.facts.items)
       (ordered : in_order u.servers ≡ true) (few : length u.servers ≤ 128)
-      (each_opened : length n.monitors.items ≡ length (opened_by n.changes.items)) (placed : IsPlaced n.monitoring (length w.monitors.items))
+      (each_opened : length n.monitors.items ≡ length (opened_by n.changes.items)) (placed : IsPlaced n.monitoring w.monitors.kept)
       (watched : homes k ≡ homes h ++ opened_by n.changes.items → MonitorsFit o (monitors_after n.monitoring w.monitors.items ++ n.monitors.items) k)
       (counts : Counts o m (w.published + one_if (is_some (rule_after o h step))) (numbers_after n.monitoring w.fresh) (n.stops || w.stopped) (watchers_after n.monitoring w.watchers) k)
       (spare : first_past o m (begun h step) (in_turn m parts (begun h step)) ≡ None) where
@@ -186,7 +186,7 @@ module _ (w : TopologyCore) (h : List Item) (z : StandsFor w h) (step : Step) (l
       → ((fs : List Fact) → reply_to o h step (with_facts m fs (begun h step)) step.act ≡ n.reply)
       → IsTold o m pools (length pools) u checked n.changes.items n.facts.items
       → in_order u.servers ≡ true → length u.servers ≤ 128
-      → length n.monitors.items ≡ length (opened_by n.changes.items) → IsPlaced n.monitoring (length w.monitors.items)
+      → length n.monitors.items ≡ length (opened_by n.changes.items) → IsPlaced n.monitoring w.monitors.kept
       → (homes k ≡ homes h ++ opened_by n.changes.items → MonitorsFit o (monitors_after n.monitoring w.monitors.items ++ n.monitors.items) k)
       → Counts o m (w.published + one_if (is_some (rule_after o h step))) (numbers_after n.monitoring w.fresh) (n.stops || w.stopped) (watchers_after n.monitoring w.watchers) k
       → first_past o m (begun h step) (in_turn m checked (begun h step)) ≡ None → Follows w n step h

@@ -16,9 +16,9 @@ pub plan_act-requires-clause-accepted : goal.plan_act-requires-clause-accepted
 plan_act-requires-clause-accepted c s there =
     let pools = c.args.self.now.cores.items in
     let i = c.args.trouble.now.index in
-    let p = c.index.result.now in
+    let p = c.at.result.now in
     let e = c.in_ok-error.error in
-    let at_i : slice_get pools i ≡ Some p = slice_get_read pools (length pools) i p refl c.requires.there c.index.ensures in
+    let at_i : slice_get pools i ≡ Some p = c.at.ensures in
     let number : c.number.result ≡ s.pool = c.number.ensures ∙ ap (λ (x : PoolCore). x.pool) (some-same p s (slice_get pools i) at_i there) in
     let same : ClearAct c.number.result c.args.trouble.now.service e ≡ clear_act c.args.trouble.now.service c.args.trouble.now.error.now s.pool = ap (λ n. ClearAct n c.args.trouble.now.service e) number ∙ ap (λ x. ClearAct s.pool c.args.trouble.now.service x) c.in_ok-error.ensures in
     (number, subst (λ (a : Act). refusal_now s (record { moment = c.args.moment; act = a }) ≡ None) (sym same) (c.requires.accepted c.if-not-wanted.false s there))
@@ -28,9 +28,9 @@ returns-clause-clears c =
     let pools = c.args.self.now.cores.items in
     let m = c.args.moment in
     let i = c.args.trouble.now.index in
-    let s = c.index.result.now in
+    let s = c.at.result.now in
     let e = c.in_ok-error.error in
-    let at_i : slice_get pools i ≡ Some s = slice_get_read pools (length pools) i s refl c.requires.there c.index.ensures in
+    let at_i : slice_get pools i ≡ Some s = c.at.ensures in
     let one : Act = ClearAct c.number.result c.args.trouble.now.service e in
     let same : one ≡ clear_act c.args.trouble.now.service c.args.trouble.now.error.now s.pool = ap (λ p. ClearAct p c.args.trouble.now.service e) c.number.ensures ∙ ap (λ x. ClearAct s.pool c.args.trouble.now.service x) c.in_ok-error.ensures in
     on_ok_weaker c.plan_act.result (λ planned.

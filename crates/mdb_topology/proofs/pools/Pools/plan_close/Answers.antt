@@ -13,11 +13,11 @@ use Rattle.mdb_topology.proofs.pools.Pools.plan_close.Goals as goal
 
 pub returns-clause-planned : goal.returns-clause-planned
 returns-clause-planned c =
-    let pools = c.args.self.now.cores.items in let m = c.args.moment in let i = c.in-Some.index in let s = c.index.result.now in
+    let pools = c.args.self.now.cores.items in let m = c.args.moment in let i = c.in-Some.index in let s = c.at.result.now in
     let earlier = c.args.changes.now.items in let later = c.plan_act.new.changes.items in let before = c.args.facts.now.items in let after = c.plan_act.new.facts.items in
     let at : at_address pools c.args.address.now ≡ Some i = sym c.at_address.ensures ∙ c.in-Some.is in
     let inside : i < length pools = search rules in
-    let at_i : slice_get pools i ≡ Some s = slice_get_read pools (length pools) i s refl inside c.index.ensures in
+    let at_i : slice_get pools i ≡ Some s = c.at.ensures in
     let one : Act = CloseAct c.number.result in
     on_ok_weaker c.plan_act.result (λ d. subst (λ o. PlansAt pools o m closing earlier later before after) (sym at)
     (planned-as pools i m one closing earlier later before after (λ x get. ap (λ p. CloseAct p) c.number.ensures ∙ ap (λ (y : PoolCore). CloseAct y.pool) (some-same s x (slice_get pools i) at_i get)) d)) c.plan_act.ensures.planned

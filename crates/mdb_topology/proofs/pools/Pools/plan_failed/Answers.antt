@@ -17,13 +17,13 @@ plan_act-requires-clause-accepted c = λ s at.
 pub returns-clause-planned : goal.returns-clause-planned
 returns-clause-planned c =
     let pools = c.args.self.now.cores.items in
-    let s = c.index.result.now in
+    let s = c.at.result.now in
     let i = c.args.trouble.now.index in
     let before = c.args.facts.now.items in
     let after = c.plan_act.new.facts.items in
     let earlier = c.args.changes.now.items in
     let changes = c.plan_act.new.changes.items in
-    let at_i : slice_get pools i ≡ Some s = slice_get_read pools (length pools) i s refl c.requires.there c.index.ensures in
+    let at_i : slice_get pools i ≡ Some s = c.at.ensures in
     let asks : c.ask.new.facts.items ≡ before ++ asked_of c.args.trouble.now.asked false s.address = c.in_ok-ask.ensures ∙ ap (λ a. before ++ asked_of c.args.trouble.now.asked false a) c.address.ensures in
     on_ok_weaker c.plan_act.result (λ one. record {
       pool = s;

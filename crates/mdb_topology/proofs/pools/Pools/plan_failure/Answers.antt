@@ -18,16 +18,16 @@ pub plan_both-requires-clause-acts : goal.plan_both-requires-clause-acts
 plan_both-requires-clause-acts c = λ s at.
     let pools = c.args.self.now.cores.items in
     let i = c.args.trouble.now.index in
-    let p = c.index.result.now in
-    let at_i : slice_get pools i ≡ Some p = slice_get_read pools (length pools) i p refl c.requires.there c.index.ensures in
+    let p = c.at.result.now in
+    let at_i : slice_get pools i ≡ Some p = c.at.ensures in
     (c.number.ensures ∙ ap (λ (x : PoolCore). x.pool) (some-same p s (slice_get pools i) at_i at), subst (λ a. IsPoolAct s.pool a) (sym (c.requires.failing s at).act_is) tt)
 
 pub plan_both-requires-clause-accepted : goal.plan_both-requires-clause-accepted
 plan_both-requires-clause-accepted c = λ s at.
     let pools = c.args.self.now.cores.items in
     let i = c.args.trouble.now.index in
-    let p = c.index.result.now in
-    let at_i : slice_get pools i ≡ Some p = slice_get_read pools (length pools) i p refl c.requires.there c.index.ensures in
+    let p = c.at.result.now in
+    let at_i : slice_get pools i ≡ Some p = c.at.ensures in
     let same : ClearAct c.number.result c.args.trouble.now.service c.in_ok-error.error ≡ clear_act c.args.trouble.now.service c.args.trouble.now.error.now s.pool =
     ap (λ n. ClearAct n c.args.trouble.now.service c.in_ok-error.error) (c.number.ensures ∙ ap (λ (x : PoolCore). x.pool) (some-same p s (slice_get pools i) at_i at)) ∙ ap (λ e. ClearAct s.pool c.args.trouble.now.service e) c.in_ok-error.ensures in
     subst (λ (x : Act). refusal_now s (record { moment = c.args.step.now.moment; act = x }) ≡ None) (sym same) (c.requires.accepted c.if-not-wanted.false s at)
@@ -36,8 +36,8 @@ pub plan_both-requires-clause-still : goal.plan_both-requires-clause-still
 plan_both-requires-clause-still c = λ s at t a d.
     let pools = c.args.self.now.cores.items in
     let i = c.args.trouble.now.index in
-    let p = c.index.result.now in
-    let at_i : slice_get pools i ≡ Some p = slice_get_read pools (length pools) i p refl c.requires.there c.index.ensures in
+    let p = c.at.result.now in
+    let at_i : slice_get pools i ≡ Some p = c.at.ensures in
     let same : ClearAct c.number.result c.args.trouble.now.service c.in_ok-error.error ≡ clear_act c.args.trouble.now.service c.args.trouble.now.error.now s.pool =
     ap (λ n. ClearAct n c.args.trouble.now.service c.in_ok-error.error) (c.number.ensures ∙ ap (λ (x : PoolCore). x.pool) (some-same p s (slice_get pools i) at_i at)) ∙ ap (λ e. ClearAct s.pool c.args.trouble.now.service e) c.in_ok-error.ensures in
     c.requires.still s at t a (subst (λ (x : Act). IsDone s t (record { moment = c.args.step.now.moment; act = x }) a) same d)
@@ -52,12 +52,12 @@ pub returns-clause-fails : goal.returns-clause-fails
 returns-clause-fails c =
     let pools = c.args.self.now.cores.items in
     let i = c.args.trouble.now.index in
-    let p = c.index.result.now in
+    let p = c.at.result.now in
     let before = c.args.facts.now.items in
     let after = c.plan_both.new.facts.items in
     let earlier = c.args.changes.now.items in
     let changes = c.plan_both.new.changes.items in
-    let at_i : slice_get pools i ≡ Some p = slice_get_read pools (length pools) i p refl c.requires.there c.index.ensures in
+    let at_i : slice_get pools i ≡ Some p = c.at.ensures in
     let one : Act = ClearAct c.number.result c.args.trouble.now.service c.in_ok-error.error in
     let same : one ≡ clear_act c.args.trouble.now.service c.args.trouble.now.error.now p.pool = ap (λ n. ClearAct n c.args.trouble.now.service c.in_ok-error.error) c.number.ensures ∙ ap (λ e. ClearAct p.pool c.args.trouble.now.service e) c.in_ok-error.ensures in
     on_ok_weaker c.plan_both.result (λ planned.

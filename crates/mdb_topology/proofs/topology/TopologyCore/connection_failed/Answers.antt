@@ -17,10 +17,10 @@ returns-in-Some-refusal_now-clause-becomes c h z =
     let m = c.args.step.now.moment in
     let pools = w.pools.cores.items in
     let i = c.in-Some.index in
-    let s = c.index.result.now in
+    let s = c.at.result.now in
     let why = c.in-Some-refusal_now.why in
     let found = sym c.numbered.ensures ∙ c.in-Some.is in
-    let there : slice_get pools i ≡ Some s = slice_get_read pools (length pools) i s refl (place-within pools (Unpin c.args.number c.args.id) i found) c.index.ensures in
+    let there : slice_get pools i ≡ Some s = c.at.ensures in
     let number : c.args.number ≡ s.pool = numbered-is pools c.args.number i found ∙ sym (number-at (pool_options w.options) pools h z.pools.fit i s there) in
     let act : c.args.step.now.act ≡ Failed s.pool c.args.id c.args.at c.args.error.now = c.requires.act ∙ ap (λ n. Failed n c.args.id c.args.at c.args.error.now) number in
     subst (λ a. refusal w.options h (record { moment = m; act = a }) ≡ Some why) (sym act)
@@ -32,9 +32,9 @@ fail_at-requires-clause-failing c = λ s there.
     let w = c.args.self.now in
     let pools = w.pools.cores.items in
     let i = c.in-Some.index in
-    let p = c.index.result.now in
+    let p = c.at.result.now in
     let found = sym c.numbered.ensures ∙ c.in-Some.is in
-    let at_p : slice_get pools i ≡ Some p = slice_get_read pools (length pools) i p refl (place-within pools (Unpin c.args.number c.args.id) i found) c.index.ensures in
+    let at_p : slice_get pools i ≡ Some p = c.at.ensures in
     let number : c.args.number ≡ s.pool = numbered-is pools c.args.number i found ∙ sym (number-at (pool_options w.options) pools c.requires.stands.0 c.requires.stands.1.pools.fit i s there) in
     record {
       connection = c.args.id;

@@ -7,14 +7,14 @@ pub returns-then-connected : goal.returns-then-connected
 returns-then-connected c h z =
     let w = c.args.self.now in
     let ms = w.monitors.items in
-    let x = c.index.result.now in
+    let x = c.at.result.now in
     let same : w.fresh ≡ w.fresh + 0 = omega arith in
-    drawn-at w h z c.args.index x (slice_get_read ms (length ms) c.args.index x refl c.requires.within c.index.ensures) true c.if-connected.ensures w.fresh same
+    drawn-at w h z c.args.index x (c.at.ensures) true c.if-connected.ensures w.fresh same
 
 pub returns-in-Some : goal.returns-in-Some
 returns-in-Some c h z =
     let w = c.args.self.now in
     let ms = w.monitors.items in
-    let x = c.index.result.now in
+    let x = c.at.result.now in
     let more : c.in-Some.numbers ≡ w.fresh + 1 = grind (arith, c.in-Some.ensures, c.in-Some.is) in
-    drawn-at w h z c.args.index x (slice_get_read ms (length ms) c.args.index x refl c.requires.within c.index.ensures) false c.if-connected.ensures c.in-Some.numbers more
+    drawn-at w h z c.args.index x (c.at.ensures) false c.if-connected.ensures c.in-Some.numbers more

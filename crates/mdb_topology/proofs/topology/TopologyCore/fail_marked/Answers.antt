@@ -27,8 +27,8 @@ returns-then-overspends-clause-becomes c h s z there f =
     let step = c.args.step.now in
     let e = c.args.error.now in
     let i = c.args.index in
-    let p = c.index.result.now in
-    let at_p : slice_get pools i ≡ Some p = slice_get_read pools (length pools) i p refl c.requires.there c.index.ensures in
+    let p = c.at.result.now in
+    let at_p : slice_get pools i ≡ Some p = c.at.ensures in
     let at : c.address.result.now ≡ s.address = c.address.ensures ∙ ap (λ (u : PoolCore). u.address) (some-same p s (slice_get pools i) at_p there) in
     let spent : (is_some (difference t.servers (updated t (failed s.address e)).servers) && c.args.clears) && exhausted_now s None ≡ true =
     subst (λ a. (is_some (difference t.servers (updated t (failed a e)).servers) && c.args.clears) && exhausted_now s None ≡ true) at (sym (c.overspends.ensures s there) ∙ c.if-overspends.true) in
@@ -46,8 +46,8 @@ returns-in_err-address-clause-wants c = after-any _
     let step = c.args.step.now in
     let e = c.args.error.now in
     let i = c.args.index in
-    let p = c.index.result.now in
-    let at_p : slice_get pools i ≡ Some p = slice_get_read pools (length pools) i p refl c.requires.there c.index.ensures in
+    let p = c.at.result.now in
+    let at_p : slice_get pools i ≡ Some p = c.at.ensures in
     let at : c.address.result.now ≡ s.address = c.address.ensures ∙ ap (λ (u : PoolCore). u.address) (some-same p s (slice_get pools i) at_p there) in
     let spent : (is_some (difference t.servers (updated t (failed s.address e)).servers) && c.args.clears) && exhausted_now s None ≡ false =
     subst (λ a. (is_some (difference t.servers (updated t (failed a e)).servers) && c.args.clears) && exhausted_now s None ≡ false) at (sym (c.overspends.ensures s there) ∙ c.if-overspends.false) in
@@ -65,8 +65,8 @@ returns-in_err-later-clause-wants c = after-any _
     let step = c.args.step.now in
     let e = c.args.error.now in
     let i = c.args.index in
-    let p = c.index.result.now in
-    let at_p : slice_get pools i ≡ Some p = slice_get_read pools (length pools) i p refl c.requires.there c.index.ensures in
+    let p = c.at.result.now in
+    let at_p : slice_get pools i ≡ Some p = c.at.ensures in
     let at : c.address.result.now ≡ s.address = c.address.ensures ∙ ap (λ (u : PoolCore). u.address) (some-same p s (slice_get pools i) at_p there) in
     let spent : (is_some (difference t.servers (updated t (failed s.address e)).servers) && c.args.clears) && exhausted_now s None ≡ false =
     subst (λ a. (is_some (difference t.servers (updated t (failed a e)).servers) && c.args.clears) && exhausted_now s None ≡ false) at (sym (c.overspends.ensures s there) ∙ c.if-overspends.false) in
@@ -80,8 +80,8 @@ returns-clause-wants c = λ h s z there f.
     let step = c.args.step.now in
     let e = c.args.error.now in
     let i = c.args.index in
-    let p = c.index.result.now in
-    let at_p : slice_get pools i ≡ Some p = slice_get_read pools (length pools) i p refl c.requires.there c.index.ensures in
+    let p = c.at.result.now in
+    let at_p : slice_get pools i ≡ Some p = c.at.ensures in
     let at : c.address.result.now ≡ s.address = c.address.ensures ∙ ap (λ (u : PoolCore). u.address) (some-same p s (slice_get pools i) at_p there) in
     let spent : (is_some (difference t.servers (updated t (failed s.address e)).servers) && c.args.clears) && exhausted_now s None ≡ false =
     subst (λ a. (is_some (difference t.servers (updated t (failed a e)).servers) && c.args.clears) && exhausted_now s None ≡ false) at (sym (c.overspends.ensures s there) ∙ c.if-overspends.false) in
@@ -90,8 +90,8 @@ returns-clause-wants c = λ h s z there f.
 pub tell_failure-told-requires-clause-here : goal.tell_failure-told-requires-clause-here
 tell_failure-told-requires-clause-here c =
     let pools = c.args.self.now.pools.cores.items in
-    let q = c.index-2.result.now in
-    let at_q : slice_get pools c.args.index ≡ Some q = slice_get_read pools (length pools) c.args.index q refl c.requires.there c.index-2.ensures in
+    let q = c.at-2.result.now in
+    let at_q : slice_get pools c.args.index ≡ Some q = c.at-2.ensures in
     subst (λ a. at_address pools a ≡ Some c.args.index) (sym (c.in_ok-address.ensures.cases ∙ c.address-2.ensures)) (c.requires.here q at_q)
 
 pub tell_failure-told-requires-clause-accepted : goal.tell_failure-told-requires-clause-accepted
@@ -102,11 +102,11 @@ tell_failure-told-requires-clause-accepted c cleared s there =
     let step = c.args.step.now in
     let e = c.args.error.now in
     let i = c.args.index in
-    let p = c.index.result.now in
-    let at_p : slice_get pools i ≡ Some p = slice_get_read pools (length pools) i p refl c.requires.there c.index.ensures in
+    let p = c.at.result.now in
+    let at_p : slice_get pools i ≡ Some p = c.at.ensures in
     let at : c.address.result.now ≡ s.address = c.address.ensures ∙ ap (λ (u : PoolCore). u.address) (some-same p s (slice_get pools i) at_p there) in
-    let q = c.index-2.result.now in
-    let at_q : slice_get pools i ≡ Some q = slice_get_read pools (length pools) i q refl c.requires.there c.index-2.ensures in
+    let q = c.at-2.result.now in
+    let at_q : slice_get pools i ≡ Some q = c.at-2.ensures in
     let own : c.in_ok-address.address ≡ s.address = c.in_ok-address.ensures.cases ∙ (c.address-2.ensures ∙ ap (λ (u : PoolCore). u.address) (some-same q s (slice_get pools i) at_q there)) in
     let spent : (is_some (difference t.servers (updated t (failed s.address e)).servers) && c.args.clears) && exhausted_now s None ≡ false =
     subst (λ a. (is_some (difference t.servers (updated t (failed a e)).servers) && c.args.clears) && exhausted_now s None ≡ false) at (sym (c.overspends.ensures s there) ∙ c.if-overspends.false) in
@@ -121,8 +121,8 @@ returns-in-Ok-clause-becomes c h s z there f =
     let step = c.args.step.now in
     let e = c.args.error.now in
     let i = c.args.index in
-    let q = c.index-2.result.now in
-    let at_q : slice_get pools i ≡ Some q = slice_get_read pools (length pools) i q refl c.requires.there c.index-2.ensures in
+    let q = c.at-2.result.now in
+    let at_q : slice_get pools i ≡ Some q = c.at-2.ensures in
     let at : c.in_ok-address.address ≡ s.address = c.in_ok-address.ensures.cases ∙ (c.address-2.ensures ∙ ap (λ (u : PoolCore). u.address) (some-same q s (slice_get pools i) at_q there)) in
     let later : c.in_ok-later.later ≡ updated w.description (failed s.address e) = c.in_ok-later.ensures ∙ ap (λ a. updated w.description (failed a e)) at in
     let told = subst (λ v. FailureTold w step i v e c.args.clears (asked_after e) c.in-Ok.changes.items c.in-Ok.facts.items) later

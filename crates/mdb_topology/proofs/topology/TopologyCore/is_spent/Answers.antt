@@ -11,8 +11,8 @@ pub returns : goal.returns
 returns c s there =
     let w = c.args.self.now in
     let pools = w.pools.cores.items in
-    let p = c.index.result.now in
-    let at_p : slice_get pools c.args.index ≡ Some p = slice_get_read pools (length pools) c.args.index p refl c.requires.there c.index.ensures in
+    let p = c.at.result.now in
+    let at_p : slice_get pools c.args.index ≡ Some p = c.at.ensures in
     c.is_at_limit.ensures
     ∙ (ap (λ n. not (is_shut p.status) && nat_le n (clears_for c.args.service p.clears)) c.unwrap_or-limit.ensures
     ∙ (limit-is w c.requires.stands c.args.index p at_p c.args.service

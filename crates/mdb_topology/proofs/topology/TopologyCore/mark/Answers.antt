@@ -21,9 +21,9 @@ returns-then-overspends-clause-marks c s x there of =
     let w = c.args.self.now in
     let t = w.description in
     let e = c.args.error.now in
-    let p = c.index.result.now in
+    let p = c.at.result.now in
     let pools = w.pools.cores.items in
-    let at_p : slice_get pools c.args.index ≡ Some p = slice_get_read pools (length pools) c.args.index p refl c.requires.there c.index.ensures in
+    let at_p : slice_get pools c.args.index ≡ Some p = c.at.ensures in
     let at : c.address.result.now ≡ s.address = c.address.ensures ∙ ap (λ (u : PoolCore). u.address) (some-same p s (slice_get pools c.args.index) at_p there) in
     let spent : (is_some (difference t.servers (updated t (failed s.address e)).servers) && c.args.clears) && exhausted_now s None ≡ true =
     subst (λ a. (is_some (difference t.servers (updated t (failed a e)).servers) && c.args.clears) && exhausted_now s None ≡ true) at (sym (c.overspends.ensures s there) ∙ c.if-overspends.true) in
@@ -37,9 +37,9 @@ returns-in_err-address-clause-spares c = after-any _
     let w = c.args.self.now in
     let t = w.description in
     let e = c.args.error.now in
-    let p = c.index.result.now in
+    let p = c.at.result.now in
     let pools = w.pools.cores.items in
-    let at_p : slice_get pools c.args.index ≡ Some p = slice_get_read pools (length pools) c.args.index p refl c.requires.there c.index.ensures in
+    let at_p : slice_get pools c.args.index ≡ Some p = c.at.ensures in
     let at : c.address.result.now ≡ s.address = c.address.ensures ∙ ap (λ (u : PoolCore). u.address) (some-same p s (slice_get pools c.args.index) at_p there) in
     let spare : (is_some (difference t.servers (updated t (failed s.address e)).servers) && c.args.clears) && exhausted_now s None ≡ false =
     subst (λ a. (is_some (difference t.servers (updated t (failed a e)).servers) && c.args.clears) && exhausted_now s None ≡ false) at (sym (c.overspends.ensures s there) ∙ c.if-overspends.false) in
@@ -53,9 +53,9 @@ returns-in_err-next-clause-spares c = after-any _
     let w = c.args.self.now in
     let t = w.description in
     let e = c.args.error.now in
-    let p = c.index.result.now in
+    let p = c.at.result.now in
     let pools = w.pools.cores.items in
-    let at_p : slice_get pools c.args.index ≡ Some p = slice_get_read pools (length pools) c.args.index p refl c.requires.there c.index.ensures in
+    let at_p : slice_get pools c.args.index ≡ Some p = c.at.ensures in
     let at : c.address.result.now ≡ s.address = c.address.ensures ∙ ap (λ (u : PoolCore). u.address) (some-same p s (slice_get pools c.args.index) at_p there) in
     let spare : (is_some (difference t.servers (updated t (failed s.address e)).servers) && c.args.clears) && exhausted_now s None ≡ false =
     subst (λ a. (is_some (difference t.servers (updated t (failed a e)).servers) && c.args.clears) && exhausted_now s None ≡ false) at (sym (c.overspends.ensures s there) ∙ c.if-overspends.false) in
@@ -64,8 +64,8 @@ returns-in_err-next-clause-spares c = after-any _
 pub mark_at-requires-clause-here : goal.mark_at-requires-clause-here
 mark_at-requires-clause-here c =
     let pools = c.args.self.now.pools.cores.items in
-    let p = c.index-2.result.now in
-    let at_p : slice_get pools c.args.index ≡ Some p = slice_get_read pools (length pools) c.args.index p refl c.requires.there c.index-2.ensures in
+    let p = c.at-2.result.now in
+    let at_p : slice_get pools c.args.index ≡ Some p = c.at-2.ensures in
     subst (λ a. at_address pools a ≡ Some c.args.index) (sym (c.in_ok-address.ensures.cases ∙ c.address-2.ensures)) (c.requires.here p at_p)
 
 pub mark_at-requires-clause-accepted : goal.mark_at-requires-clause-accepted
@@ -73,11 +73,11 @@ mark_at-requires-clause-accepted c cleared s there =
     let w = c.args.self.now in
     let t = w.description in
     let e = c.args.error.now in
-    let p = c.index.result.now in
-    let q = c.index-2.result.now in
+    let p = c.at.result.now in
+    let q = c.at-2.result.now in
     let pools = w.pools.cores.items in
-    let at_p : slice_get pools c.args.index ≡ Some p = slice_get_read pools (length pools) c.args.index p refl c.requires.there c.index.ensures in
-    let at_q : slice_get pools c.args.index ≡ Some q = slice_get_read pools (length pools) c.args.index q refl c.requires.there c.index-2.ensures in
+    let at_p : slice_get pools c.args.index ≡ Some p = c.at.ensures in
+    let at_q : slice_get pools c.args.index ≡ Some q = c.at-2.ensures in
     let at : c.address.result.now ≡ c.in_ok-address.address = c.address.ensures ∙ (ap (λ (u : PoolCore). u.address) (some-same p q (slice_get pools c.args.index) at_p at_q) ∙ sym (c.in_ok-address.ensures.cases ∙ c.address-2.ensures)) in
     let spare : (is_some (difference t.servers (updated t (failed c.in_ok-address.address e)).servers) && c.args.clears) && exhausted_now s None ≡ false =
     subst (λ a. (is_some (difference t.servers (updated t (failed a e)).servers) && c.args.clears) && exhausted_now s None ≡ false) at (sym (c.overspends.ensures s there) ∙ c.if-overspends.false) in
@@ -88,8 +88,8 @@ returns-clause-marks c s x there of =
     let w = c.args.self.now in
     let e = c.args.error.now in
     let pools = w.pools.cores.items in
-    let q = c.index-2.result.now in
-    let at_q : slice_get pools c.args.index ≡ Some q = slice_get_read pools (length pools) c.args.index q refl c.requires.there c.index-2.ensures in
+    let q = c.at-2.result.now in
+    let at_q : slice_get pools c.args.index ≡ Some q = c.at-2.ensures in
     let at : c.in_ok-address.address ≡ s.address = c.in_ok-address.ensures.cases ∙ (c.address-2.ensures ∙ ap (λ (u : PoolCore). u.address) (some-same q s (slice_get pools c.args.index) at_q there)) in
     let all = subst (λ (a : ServerAddress). (y : Trouble) → IsOfPool w.options y c.args.index a e c.args.clears c.args.asked → IsMarked w c.args.step.now.moment (updated w.description (failed a e)) y c.in_ok-next.next) at c.in_ok-next.ensures.marked in
     all x of

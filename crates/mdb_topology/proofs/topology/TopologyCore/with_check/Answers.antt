@@ -8,8 +8,8 @@ pub returns : goal.returns
 returns c x at_i =
     let ms = c.args.self.now.monitors.items in
     let y = c.in_ok-monitor.monitor in
-    let s = c.index.result.now in
-    let here : slice_get ms c.args.index ≡ Some s = slice_get_read ms (length ms) c.args.index s refl c.requires.within c.index.ensures in
+    let s = c.at.result.now in
+    let here : slice_get ms c.args.index ≡ Some s = c.at.ensures in
     let same : y ≡ x = c.in_ok-monitor.ensures.cases ∙ some-same s x (slice_get ms c.args.index) here at_i in
     let e = c.in_ok-begin.ensures in
     subst (λ v. Begins v c.begin.new.self c.args.number c.in_ok-begin.begin) same (record { setting = e.setting; stands = e.stands; begin = e.begins })

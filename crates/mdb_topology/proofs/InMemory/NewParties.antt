@@ -1,0 +1,55 @@
+-- A pool that is asked by a party that no pool knows can tell so; and one whose connection fails lives.
+use Rattle.std.proofs.Common.{ℕ, ◌≡◌, Bool, true, false, not, ◌&&◌, ◌||◌, List, is_some, None, Some, refl, sym, ◌∙◌, ap, subst}
+use Rattle.std.specs.Prelude.{nat_lt, slice_get}
+use Rattle.mdb_base.specs.declared.error.Error.{Error}
+use Rattle.mdb_log.specs.declared.step.Act.{Act}
+use Rattle.mdb_log.specs.declared.step.Act.TheVariants as Do
+use Rattle.mdb_log.specs.declared.step.Step.{Step}
+use Rattle.mdb_log.specs.declared.reply.Refused.TheVariants.{TimeBack}
+use Rattle.mdb_pool.specs.Core.{PoolCore}
+use Rattle.mdb_pool.specs.Kept.{connection_at, is_pending_at, is_spent, request_at}
+use Rattle.mdb_pool.specs.Refusal.{first_row}
+use Rattle.mdb_pool.specs.Refusing.{can_tell, is_pending_here, refusal_now, rows_now, tells_new, NameNobody, TellsNew}
+use Rattle.mdb_pool.proofs.Answered.Item.{both-true, first-passes}
+use Rattle.mdb_pool.proofs.KeptInLittle.NothingLives.{none-pending}
+use Rattle.mdb_topology.specs.Failing.{IsFailing}
+use Rattle.mdb_topology.specs.Finding.{names_known}
+use Rattle.mdb_topology.specs.Standing.{knows}
+use Rattle.mdb_topology.proofs.General.OneElement.{any-none}
+
+can-new : (s : PoolCore) (r : ℕ) → is_some (request_at s r) ≡ false → can_tell s r ≡ true
+can-new s r e = rw e (or-true s.alone)
+  where
+    or-true : (b : Bool) → (b || true) ≡ true
+    or-true true = refl
+    or-true false = refl
+
+pub new-tells : (pools : List PoolCore) (i : ℕ) (s : PoolCore) (act : Act) → slice_get pools i ≡ Some s → names_known pools act ≡ false → tells_new s act ≡ true
+new-tells pools i s (Do.Request r a) at e = can-new s r (any-none (λ u. is_some (request_at u r)) pools i s e at)
+new-tells pools i s (Do.Warm r a) at e = can-new s r (any-none (λ u. is_some (request_at u r)) pools i s e at)
+new-tells pools i s (Do.Take r q c) at e = can-new s r (any-none (λ u. is_some (request_at u r)) pools i s e at)
+new-tells pools i s _ at e = refl
+
+-- the connection that fails is there
+pub failing-lives : (s : PoolCore) (step : Step) (error : Error) → IsFailing s step error → is_spent s ≡ false
+failing-lives s step error f = on (is_spent s) refl
+  where
+    rows : first_row (rows_now s step.act) ≡ None
+    rows = (first-passes (nat_lt step.moment s.last) (TimeBack s.last) (rows_now s step.act) f.accepted).1
+
+    rows-of : first_row (rows_now s (Do.Failed s.pool f.connection f.at error)) ≡ None
+    rows-of = subst (λ a. first_row (rows_now s a) ≡ None) f.act_is rows
+
+    pending : is_pending_here s s.pool f.connection ≡ true
+    pending = back (is_pending_here s s.pool f.connection) (first-passes _ _ _ rows-of).0
+      where
+        back : (b : Bool) → not b ≡ false → b ≡ true
+        back true e = refl
+        back false e = cc
+
+    on : (b : Bool) → is_spent s ≡ b → b ≡ false
+    on true e =
+        let there : is_pending_at (connection_at s f.connection) ≡ true = (both-true _ _ pending).1 in
+        let none : is_pending_at (connection_at s f.connection) ≡ false = none-pending s e f.connection in
+        cc
+    on false e = refl
