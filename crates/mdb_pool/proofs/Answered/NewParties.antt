@@ -16,19 +16,19 @@ alone_tells s _ e = refl
 pub alone_can : (s : PoolCore) (r : ℕ) → s.alone ≡ true → can_tell s r ≡ true
 alone_can s r e = rw e refl
 
--- and each can where the act names nobody
+-- each can where the act names nobody
+pub named_tells : (s : PoolCore) (act : Act) → names_nobody act ≡ true → tells_new s act ≡ true
+named_tells s (Request r a) e = cc
+named_tells s (Warm r a) e = cc
+named_tells s (Take r q c) e = cc
+named_tells s _ e = refl
+
 pub nobody_tells : (s : PoolCore) (act : Act) → (s.alone || names_nobody act) ≡ true → tells_new s act ≡ true
 nobody_tells s act e = on s.alone refl
   where
-    named : (x : Act) → names_nobody x ≡ true → tells_new s x ≡ true
-    named (Request r a) f = cc
-    named (Warm r a) f = cc
-    named (Take r q c) f = cc
-    named _ f = refl
-
     on : (b : Bool) → s.alone ≡ b → tells_new s act ≡ true
     on true f = alone_tells s act f
-    on false f = named act (sym (ap (λ b. b || names_nobody act) f) ∙ e)
+    on false f = named_tells s act (sym (ap (λ b. b || names_nobody act) f) ∙ e)
 
 -- what is said of the steps that come is said after the first of them
 pub tells-on : (s t : PoolCore) (step : Step) (more : List Step) → t.alone ≡ s.alone → TellsNew s (step ∷ more) → TellsNew t more

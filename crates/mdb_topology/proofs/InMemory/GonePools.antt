@@ -1,5 +1,6 @@
 -- Of a pool that a driver does not hand out nothing lives.
-use Rattle.std.proofs.Common.{ℕ, ◌≡◌, ◌&&◌, Bool, true, false, not, List, [], is_some, nat_lt, Option, Some, None, refl, sym, ◌∙◌, ap, subst}
+use Rattle.std.proofs.Common.{ℕ, ◌≡◌, ◌&&◌, Bool, true, false, not, List, [], ◌==◌, is_some, nat_lt, Option, Some, None, refl, sym, ◌∙◌, ap, subst, arith}
+use Rattle.std.proofs.lemmas.Bool.Decides.{nat_tests}
 use Rattle.std.specs.Prelude.{slice_get}
 use Rattle.mdb_base.specs.declared.address.ServerAddress.{ServerAddress}
 use Rattle.mdb_base.specs.declared.options.Options.{Options}
@@ -16,11 +17,12 @@ use Rattle.mdb_pool.proofs.KeptInLittle.NothingLives.{none-held, none-open, none
 use Rattle.mdb_pool.proofs.Listed.FirstOrLast.{id_or}
 use Rattle.mdb_topology.specs.Living.{if_lives, lives_at, living_at}
 use Rattle.mdb_topology.specs.Standing.{at_address, IsGone, PoolsFit}
+use Rattle.mdb_topology.specs.Stepping.{is_here_among}
 use Rattle.mdb_topology.proofs.OnePool.FoundAt.{fits-at, number-at, open-lives}
 use Rattle.mdb_topology.proofs.OnePool.HandedOut.{stands-in}
 
 -- none is handed out where nothing lives
-none-lives : (pools : List PoolCore) (p : ℕ) → living_at pools p ≡ None → lives_at pools p ≡ false
+pub none-lives : (pools : List PoolCore) (p : ℕ) → living_at pools p ≡ None → lives_at pools p ≡ false
 none-lives pools p e = on (slice_get pools p) refl
   where
     on : (u : Option PoolCore) → slice_get pools p ≡ u → lives_at pools p ≡ false
@@ -30,6 +32,22 @@ none-lives pools p e = on (slice_get pools p) refl
         in-two : (b : Bool) → is_spent s ≡ b → lives_at pools p ≡ false
         in-two true g = rw (f, g) refl
         in-two false g = let w : living_at pools p ≡ Some s = rw (f, g) refl in let v : ◌≡◌ {A = Option PoolCore} (Some s) None = sym w ∙ e in cc
+
+-- it is open nowhere
+pub gone-here : (pools : List PoolCore) (a : ServerAddress) (p : ℕ) → living_at pools p ≡ None → is_here_among pools a p ≡ false
+gone-here pools a p e = on (at_address pools a) refl
+  where
+    on : (u : Option ℕ) → at_address pools a ≡ u → is_here_among pools a p ≡ false
+    on None f = rw f refl
+    on (Some q) f = rw f (in-two (q == p) refl)
+      where
+        in-two : (b : Bool) → (q == p) ≡ b → b ≡ false
+        in-two false g = refl
+        in-two true g =
+            let same : q ≡ p = grind (arith, nat_tests) in
+            let l : lives_at pools p ≡ true = open-lives pools a p (f ∙ ap Some same) in
+            let m : lives_at pools p ≡ false = none-lives pools p e in
+            cc
 
 module _ (o : Options) (pools : List PoolCore) (h : List Item) (z : PoolsFit (pool_options o) pools h) (p : ℕ) (gone : living_at pools p ≡ None) where
   unopened : (a : ServerAddress) → open_pool h a ≡ Some p → ⊥

@@ -32,7 +32,7 @@ use Rattle.mdb_topology.specs.Turns.{in_turn}
 use Rattle.mdb_topology.specs.Checking.{Begins, number_limit}
 use Rattle.mdb_topology.specs.Standing.{StandsFor}
 use Rattle.mdb_topology.specs.Stepping.{is_here_among, Follows}
-use Rattle.mdb_topology.proofs.OfMonitors.StepAtMonitor.{checked-watches, monitor-within, monitor-setting}
+use Rattle.mdb_topology.proofs.OfMonitors.StepAtMonitor.{checked-watches, monitor-kept, monitor-setting}
 use Rattle.mdb_topology.proofs.OfMonitors.WhatItAdds.{beat-items, beat-others}
 use Rattle.mdb_topology.proofs.OfMonitors.HasConnection.{connected-is}
 use Rattle.mdb_topology.proofs.WholeSteps.RefusedOfNoPool.{outside-refusal}
@@ -152,5 +152,5 @@ module _ (w : TopologyCore) (h : List Item) (z : StandsFor w h) (m : ℕ) (l : w
               let within : nat_lt (number_limit o) number ≡ false = ap (λ c. nat_lt (number_limit o) c.driver_connection_id) (sym begin-is) ∙ e in
               follows-watch w h z step l n (subst IsPlain (sym reply) tt) changes none known goes_on (facts ∙ ap (λ c. Sdam c.event ∷ []) begin-is) tt (silent-calm o h step refl ruled) passes ruled
               (λ fs. ap (pool_reply h (with_facts m fs (begun h step)) (Beat a p)) (find-never (homes h)) ∙ sym reply) (past-number false within)
-              (checked-watches w h z step n p numbers x y at_p begins.setting (monitor-within w h z a p here) monitoring drawn refl
+              (checked-watches w h z step n p numbers x y at_p begins.setting (monitor-kept w h z a p here) monitoring drawn refl
               (subst (MonitorStands y) (sym (beat-items h a p m Done here)) (begins.stands (monitor_items h p) (z.monitors.each p x at_p))) (λ q ne. beat-others h a p m Done here q ne))

@@ -45,7 +45,7 @@ use Rattle.mdb_topology.specs.Checking.{Ends}
 use Rattle.mdb_topology.specs.Changing.{IsChanged, change_past, reply_known, ChangesIf, ConcludesAs, IsWithCheck, IsUntroubled}
 use Rattle.mdb_topology.specs.Standing.{StandsFor}
 use Rattle.mdb_topology.specs.Stepping.{is_here_among, known_after, Follows, BecomesOf}
-use Rattle.mdb_topology.proofs.OfMonitors.StepAtMonitor.{same-watches, checked-watches, monitor-within, monitor-setting}
+use Rattle.mdb_topology.proofs.OfMonitors.StepAtMonitor.{same-watches, checked-watches, monitor-kept, monitor-setting}
 use Rattle.mdb_topology.proofs.OfMonitors.WhatItAdds.{beaten-items, beaten-others, reply-average}
 use Rattle.mdb_topology.proofs.OnePool.NumbersWithinLimits.{take_numbers, first-free}
 use Rattle.mdb_topology.proofs.Publications.BecomesKnown.{MakesKnown, refused-change, follows-change}
@@ -150,7 +150,7 @@ module _ (w : TopologyCore) (h : List Item) (z : StandsFor w h) (m : ℕ) (l : w
 
         pub watches : (n : Transition) → n.monitoring ≡ Checked p y w.fresh → Watches w h (step-of came) n
         watches n e =
-            checked-watches w h z (step-of came) n p w.fresh x y at_p ends.setting (monitor-within w h z a p here) e (let s : w.fresh ≡ w.fresh + 0 = omega arith in s) refl
+            checked-watches w h z (step-of came) n p w.fresh x y at_p ends.setting (monitor-kept w h z a p here) e (let s : w.fresh ≡ w.fresh + 0 = omega arith in s) refl
             (subst (MonitorStands y) (sym (beaten-items h a p m Done here d came)) (ends.stands (monitor_items h p) (z.monitors.each p x at_p))) (λ q ne. beaten-others h a p m Done here d came q ne)
 
         -- nothing is made known

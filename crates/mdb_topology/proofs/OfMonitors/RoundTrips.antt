@@ -23,7 +23,7 @@ use Rattle.mdb_topology.specs.Refusal.{refusal}
 use Rattle.mdb_topology.specs.Answer.{reply_to}
 use Rattle.mdb_topology.specs.Standing.{StandsFor}
 use Rattle.mdb_topology.specs.Stepping.{is_here_among, Follows}
-use Rattle.mdb_topology.proofs.OfMonitors.StepAtMonitor.{same-watches, checked-watches, monitor-within, monitor-setting}
+use Rattle.mdb_topology.proofs.OfMonitors.StepAtMonitor.{same-watches, checked-watches, monitor-kept, monitor-setting}
 use Rattle.mdb_topology.proofs.OfMonitors.WhatItAdds.{rtt-items, rtt-others}
 use Rattle.mdb_topology.proofs.WholeSteps.LeavesAsItIs.{monitor-facts}
 use Rattle.mdb_topology.proofs.OnePool.SameHistories.{IsPlain}
@@ -63,5 +63,5 @@ module _ (w : TopologyCore) (h : List Item) (z : StandsFor w h) (m : ℕ) (l : w
         ∙ sym (v.mean_is (monitor_items h p) own))) ∙ sym r) in
         follows-watch w h z step l n (subst IsPlain (sym r) tt) changes none known goes_on facts tt (silent-calm o h step refl (unruled w h z m l (Rtt a p d) refl)) (passes-time w h z m l (Rtt a p d) (rw mode refl)) (unruled w h z m l (Rtt a p d) refl)
         replied refl
-        (checked-watches w h z step n p w.fresh x y at_p v.setting (monitor-within w h z a p here) e (let f : w.fresh ≡ w.fresh + 0 = omega arith in f) refl
+        (checked-watches w h z step n p w.fresh x y at_p v.setting (monitor-kept w h z a p here) e (let f : w.fresh ≡ w.fresh + 0 = omega arith in f) refl
         (subst (MonitorStands y) (sym (rtt-items h a p m Done here d)) (v.stands (monitor_items h p) own)) (λ q ne. rtt-others h a p m Done here d q ne))

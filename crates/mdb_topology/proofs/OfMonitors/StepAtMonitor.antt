@@ -8,7 +8,7 @@ use Rattle.mdb_base.specs.declared.options.Options.{Options}
 use Rattle.mdb_monitor.specs.declared.monitor.MonitorCore.{MonitorCore}
 use Rattle.mdb_monitor.specs.Standing.{StandsFor as MonitorStands}
 use Rattle.mdb_log.specs.declared.step.Step.{Step}
-use Rattle.mdb_log.specs.Connections.{one_if}
+use Rattle.mdb_log.specs.Connections.{has, one_if}
 use Rattle.mdb_log.specs.History.{Item, open_pool, is_number}
 use Rattle.mdb_log.specs.Homes.{homes}
 use Rattle.mdb_log.specs.Opening.{pool_options}
@@ -21,7 +21,8 @@ use Rattle.mdb_topology.specs.Checking.{monitors_after}
 use Rattle.mdb_topology.specs.Monitors.{setting, monitor_items, connects, asking}
 use Rattle.mdb_topology.specs.Standing.{home, is_open_at, StandsFor}
 use Rattle.mdb_topology.proofs.OnePool.OpenAtOneAddress.{at-address, found, is-there}
-use Rattle.mdb_topology.proofs.General.OneElement.{map-set, position-within}
+use Rattle.mdb_topology.proofs.General.OneElement.{map-set}
+use Rattle.mdb_topology.proofs.OnePool.FoundAt.{open-lives}
 use Rattle.mdb_topology.proofs.General.OnePosition.{Place, at_it, beside, place, some-same}
 use Rattle.mdb_topology.proofs.OfMonitors.ChangesNoPool.{Watches, items_with}
 
@@ -38,13 +39,6 @@ module _ (w : TopologyCore) (h : List Item) (z : StandsFor w h) where
 
   abbrev ms : List MonitorCore
   ms = w.monitors.items
-
-  monitors-count : length ms ≡ length pools
-  monitors-count =
-      sym (length-map ms (λ x. x.setting))
-      ∙ (ap length z.monitors.settings
-      ∙ (length-map (homes h) (λ x. setting o x.address)
-      ∙ (ap length z.pools.fit.homes_are ∙ length-map pools home)))
 
   -- a step that leaves the monitors as they are
   pub same-watches : (step : Step) (n : Transition) → n.monitoring ≡ Same → connects h step.act ≡ false → asking step.act w.watchers ≡ w.watchers → ((p : ℕ) → items_with h step p ≡ monitor_items h p) → Watches w h step n
@@ -69,11 +63,11 @@ module _ (w : TopologyCore) (h : List Item) (z : StandsFor w h) where
   }
 
   -- one monitor takes a new state
-  pub checked-watches : (step : Step) (n : Transition) (p numbers : ℕ) (x y : MonitorCore) → slice_get ms p ≡ Some x → y.setting ≡ x.setting → p < length ms → n.monitoring ≡ Checked p y numbers
+  pub checked-watches : (step : Step) (n : Transition) (p numbers : ℕ) (x y : MonitorCore) → slice_get ms p ≡ Some x → y.setting ≡ x.setting → has p w.monitors.kept ≡ true → n.monitoring ≡ Checked p y numbers
       → numbers ≡ w.fresh + one_if (connects h step.act) → asking step.act w.watchers ≡ w.watchers
       → MonitorStands y (items_with h step p) → ((q : ℕ) → p ≢ q → items_with h step q ≡ monitor_items h q) → Watches w h step n
-  checked-watches step n p numbers x y at_p set_same within e fresh a stands others = record {
-    placed = rw e within;
+  checked-watches step n p numbers x y at_p set_same kept e fresh a stands others = record {
+    placed = rw e kept;
     numbers = rw e fresh;
     watchers = rw e (sym a);
     settings = rw e (map-set (λ v. v.setting) ms p x y at_p set_same);
@@ -96,8 +90,8 @@ module _ (w : TopologyCore) (h : List Item) (z : StandsFor w h) where
     opened-at : open_pool h a ≡ Some p
     opened-at = number-is (open_pool h a) p here
 
-    pub monitor-within : p < length ms
-    monitor-within = let e : p < length pools = position-within (is_open_at a) pools p (sym (z.pools.fit.open_are a) ∙ opened-at) in omega (arith, e, monitors-count)
+    pub monitor-kept : has p w.monitors.kept ≡ true
+    monitor-kept = z.watched p (open-lives pools a p (sym (z.pools.fit.open_are a) ∙ opened-at))
 
     -- its monitor is set up for the address
     pub monitor-setting : (x : MonitorCore) → slice_get ms p ≡ Some x → x.setting ≡ setting o a

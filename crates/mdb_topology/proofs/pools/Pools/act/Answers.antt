@@ -1,6 +1,6 @@
 use Rattle.std.proofs.Common.{sym, ◌∙◌}
 use Rattle.std.proofs.lemmas.Result.{IfOk-weaker, on_err_weaker}
-use Rattle.mdb_topology.proofs.OnePool.FoundAt.{place-within}
+use Rattle.mdb_topology.proofs.OnePool.FoundAt.{place-lives, place-within}
 use Rattle.mdb_topology.proofs.OnePool.BecomesOfAct.{ready-lacking, ready-asked, performs-lacking, performs-known, performs-asked, asked-spared}
 use Rattle.mdb_topology.proofs.Marks.AtItsLimit.{some-of}
 use Rattle.mdb_topology.proofs.pools.Pools.act.Goals as goal
@@ -14,8 +14,11 @@ returns-in_default-clause-performs c = λ o h z last few. performs-lacking o c.a
 pub returns-then-names_known-clause-performs : goal.returns-then-names_known-clause-performs
 returns-then-names_known-clause-performs c = λ o h z last few. performs-known o c.args.self.now.cores.items h z c.args.self.now.last last few c.args.step.now c.requires.act c.requires.in_time c.in-Some.index (sym c.index_of.ensures ∙ c.in-Some.is) c.requires.early (sym c.names_known.ensures ∙ c.if-names_known.true)
 
-pub ask-requires-clause-within : goal.ask-requires-clause-within
-ask-requires-clause-within c = place-within c.args.self.now.cores.items c.args.step.now.act c.in-Some.index (sym c.index_of.ensures ∙ c.in-Some.is)
+pub ask-requires-clause-new : goal.ask-requires-clause-new
+ask-requires-clause-new c = sym c.names_known.ensures ∙ c.if-names_known.false
+
+pub ask-requires-clause-there : goal.ask-requires-clause-there
+ask-requires-clause-there c = place-lives c.args.self.now.cores.items c.args.step.now.act c.in-Some.index (sym c.index_of.ensures ∙ c.in-Some.is)
 
 pub returns-clause-ready : goal.returns-clause-ready
 returns-clause-ready c = IfOk-weaker c.ask.result _ _ (λ outcome a. ready-asked c.args.self.now.cores.items c.in-Some.index c.args.step.now outcome a) c.ask.ensures.asked

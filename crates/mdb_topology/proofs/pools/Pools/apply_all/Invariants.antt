@@ -1,5 +1,4 @@
 use Rattle.std.proofs.Common.{◌≡◌, ◌+◌, List, length, drop}
-use Rattle.std.specs.Vec.{vec_capacity}
 use Rattle.mdb_pool.specs.Core.{PoolCore}
 use Rattle.mdb_topology.specs.Planned.{LeadsAll, opened_by}
 use Rattle.mdb_topology.proofs.pools.Pools.apply_all.Given as goal
@@ -9,5 +8,6 @@ invariant-loop-change l = record {
   last : l.self.last ≡ l.fn.self.last;
   ahead : (later : List PoolCore) → LeadsAll l.fn.changes.items l.fn.self.cores.items later → LeadsAll (drop (length l.yielded) l.fn.changes.items) l.self.cores.items later;
   count : length l.self.cores.items + length (opened_by (drop (length l.yielded) l.fn.changes.items)) ≡ length l.fn.self.cores.items + length (opened_by l.fn.changes.items);
-  capacity : vec_capacity l.self.cores ≡ vec_capacity l.fn.self.cores;
+  known : l.self.known ≡ l.fn.self.known;
+  room : l.self.cores.room ≡ l.fn.self.cores.room;
 }

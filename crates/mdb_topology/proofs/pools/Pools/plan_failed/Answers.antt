@@ -1,12 +1,12 @@
-use Rattle.std.proofs.Common.{◌≡◌, ◌++◌, false, length, Some, None, refl, sym, ◌∙◌, ap, subst}
+use Rattle.std.proofs.Common.{◌≡◌, ◌++◌, true, false, Some, None, refl, sym, ◌∙◌, ap, subst}
 use Rattle.std.specs.Prelude.{slice_get}
-use Rattle.std.proofs.lemmas.Option.{slice_get_read}
 use Rattle.std.proofs.lemmas.Result.{on_ok_weaker}
 use Rattle.mdb_log.specs.Acts.{IsPoolAct}
 use Rattle.mdb_log.specs.declared.step.Step.{Step}
-use Rattle.mdb_pool.specs.Refusing.{refusal_now}
+use Rattle.mdb_pool.specs.Refusing.{names_nobody, refusal_now}
 use Rattle.mdb_topology.specs.Acting.{PlansOne}
 use Rattle.mdb_topology.specs.Marking.{asked_of}
+use Rattle.mdb_topology.proofs.InMemory.LivingPools.{some-living}
 use Rattle.mdb_topology.proofs.pools.Pools.plan_failed.Goals as goal
 
 pub plan_act-requires-clause-accepted : goal.plan_act-requires-clause-accepted
@@ -32,3 +32,8 @@ returns-clause-planned c =
           subst (λ fs. PlansOne pools i c.args.step.now.moment (λ p. c.args.step.now.act) earlier changes fs after) asks
           (subst (λ (x : Step). PlansOne pools i x.moment (λ p. x.act) earlier changes c.ask.new.facts.items after) c.in_ok-step.ensures.cases one);
     }) c.plan_act.ensures.planned
+
+pub plan_act-requires-clause-nobody : goal.plan_act-requires-clause-nobody
+plan_act-requires-clause-nobody c =
+    let s = some-living c.args.self.now.cores.items c.args.trouble.now.index c.requires.there in
+    subst (λ a. names_nobody a ≡ true) (sym (ap (λ (x : Step). x.act) c.in_ok-step.ensures.cases ∙ (c.requires.failing s.0 s.1).act_is)) refl

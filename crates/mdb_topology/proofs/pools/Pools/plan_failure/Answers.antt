@@ -1,17 +1,17 @@
-use Rattle.std.proofs.Common.{◌≡◌, length, Some, None, refl, sym, ◌∙◌, ap, subst}
+use Rattle.std.proofs.Common.{◌≡◌, true, Some, None, refl, sym, ◌∙◌, ap, subst}
 use Rattle.std.specs.Prelude.{slice_get}
-use Rattle.std.proofs.lemmas.Option.{slice_get_read}
 use Rattle.std.proofs.lemmas.Result.{on_ok_weaker}
 use Rattle.mdb_log.specs.Acts.{IsPoolAct}
 use Rattle.mdb_log.specs.declared.step.Act.{Act}
 use Rattle.mdb_log.specs.declared.step.Act.TheVariants.{Clear as ClearAct}
 use Rattle.mdb_pool.specs.Core.{PoolCore}
 use Rattle.mdb_pool.specs.Planning.{IsDone}
-use Rattle.mdb_pool.specs.Refusing.{refusal_now}
+use Rattle.mdb_pool.specs.Refusing.{names_nobody, refusal_now}
 use Rattle.mdb_topology.specs.Failing.{Fails, PlansTwo}
 use Rattle.mdb_topology.specs.Marking.{clear_act}
 use Rattle.mdb_topology.proofs.General.OnePosition.{some-same}
 use Rattle.mdb_topology.proofs.OnePool.TwoSteps.{two-as}
+use Rattle.mdb_topology.proofs.InMemory.LivingPools.{some-living}
 use Rattle.mdb_topology.proofs.pools.Pools.plan_failure.Goals as goal
 
 pub plan_both-requires-clause-acts : goal.plan_both-requires-clause-acts
@@ -66,3 +66,8 @@ returns-clause-fails c =
     (λ x get. same ∙ ap (λ (y : PoolCore). clear_act c.args.trouble.now.service c.args.trouble.now.error.now y.pool) (some-same p x (slice_get pools i) at_i get)) planned in
     subst (λ b. Fails b pools i c.args.step.now c.args.trouble.now.service c.args.trouble.now.error.now c.args.trouble.now.asked earlier changes before after) (sym c.if-not-wanted.false)
     (d, c.requires.accepted c.if-not-wanted.false d.pool d.there)) c.plan_both.ensures.planned
+
+pub plan_both-requires-clause-nobody : goal.plan_both-requires-clause-nobody
+plan_both-requires-clause-nobody c =
+    let s = some-living c.args.self.now.cores.items c.args.trouble.now.index c.requires.there in
+    (refl, subst (λ a. names_nobody a ≡ true) (sym (c.requires.failing s.0 s.1).act_is) refl)

@@ -18,12 +18,11 @@ use Rattle.mdb_topology.specs.Monitors.{runs as runs_at, check_result, monitor_i
 use Rattle.mdb_topology.specs.Refusal.{may_want, refusal}
 use Rattle.mdb_pool.specs.Kept.{exhausted_now}
 use Rattle.mdb_pool.specs.Refusal.{wrong_service}
-use Rattle.mdb_topology.specs.Standing.{is_open_at}
 use Rattle.mdb_topology.specs.Stepping.{is_here_among, BecomesOf, Follows}
 use Rattle.mdb_topology.proofs.OfMonitors.CheckEnds.{follows-beaten-away, beaten-idle, beaten-mode, concluded}
 use Rattle.mdb_topology.proofs.OfMonitors.CheckFailed.{here-at, untroubled-else, its_trouble, failure-of-pool, failure-told}
 use Rattle.mdb_topology.proofs.Marks.AtItsLimitByCheck.{check-spent, check-wants}
-use Rattle.mdb_topology.proofs.General.OneElement.{position-within}
+use Rattle.mdb_topology.proofs.OnePool.FoundAt.{open-lives}
 use Rattle.mdb_topology.proofs.Marks.AtItsLimit.{wants-after, clear-accepted, not-both, some-place}
 use Rattle.mdb_topology.proofs.General.OnePosition.{some-same}
 use Rattle.mdb_topology.proofs.topology.TopologyCore.beaten.Goals as goal
@@ -70,7 +69,7 @@ returns-then-self-2-clause-becomes c h z =
 pub overspends_by_check-requires-clause-there : goal.overspends_by_check-requires-clause-there
 overspends_by_check-requires-clause-there c =
     let w = c.args.self.now in
-    position-within (is_open_at c.args.address.now) w.pools.cores.items c.in-Some.index (here-at w c.args.address.now c.args.pool c.in-Some.index c.in-Some.ensures.index (sym c.in-Some.ensures.here))
+    open-lives w.pools.cores.items c.args.address.now c.in-Some.index (here-at w c.args.address.now c.args.pool c.in-Some.index c.in-Some.ensures.index (sym c.in-Some.ensures.here))
 
 pub returns-then-overspends_by_check-clause-becomes : goal.returns-then-overspends_by_check-clause-becomes
 returns-then-overspends_by_check-clause-becomes c h z =

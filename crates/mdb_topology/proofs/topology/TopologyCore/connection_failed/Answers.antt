@@ -1,13 +1,13 @@
-use Rattle.std.proofs.Common.{◌≡◌, length, Some, None, refl, sym, ◌∙◌, ap, subst}
+use Rattle.std.proofs.Common.{◌≡◌, true, length, Some, None, refl, sym, ◌∙◌, ap, subst}
 use Rattle.std.specs.Prelude.{slice_get}
 use Rattle.std.proofs.lemmas.Option.{slice_get_read}
 use Rattle.mdb_log.specs.Opening.{pool_options}
 use Rattle.mdb_log.specs.declared.step.Act.TheVariants.{Failed, Unpin}
 use Rattle.mdb_pool.specs.Core.{PoolCore}
-use Rattle.mdb_pool.specs.Refusing.{refusal_now}
+use Rattle.mdb_pool.specs.Refusing.{refusal_now, tells_new}
 use Rattle.mdb_topology.specs.Refusal.{refusal}
 use Rattle.mdb_topology.proofs.Failure.RefusedByItsPool.{failed-refused}
-use Rattle.mdb_topology.proofs.OnePool.FoundAt.{number-at, numbered-is, place-within}
+use Rattle.mdb_topology.proofs.OnePool.FoundAt.{number-at, numbered-is, place-lives}
 use Rattle.mdb_topology.proofs.General.OnePosition.{some-same}
 use Rattle.mdb_topology.proofs.topology.TopologyCore.connection_failed.Goals as goal
 
@@ -42,3 +42,13 @@ fail_at-requires-clause-failing c = λ s there.
       act_is = c.requires.act ∙ ap (λ n. Failed n c.args.id c.args.at c.args.error.now) number;
       accepted = subst (λ (u : PoolCore). refusal_now u c.args.step.now ≡ None) (some-same p s (slice_get pools i) at_p there) (sym c.refusal_now.ensures.kept ∙ c.in_default-refusal_now.is);
     }
+
+pub at-requires : goal.at-requires
+at-requires c = place-lives c.args.self.now.pools.cores.items (Unpin c.args.number c.args.id) c.in-Some.index (sym c.numbered.ensures ∙ c.in-Some.is)
+
+pub fail_at-requires-clause-there : goal.fail_at-requires-clause-there
+fail_at-requires-clause-there c = place-lives c.args.self.now.pools.cores.items (Unpin c.args.number c.args.id) c.in-Some.index (sym c.numbered.ensures ∙ c.in-Some.is)
+
+-- a failure names nobody for the first time
+pub refusal_now-requires-clause-new : goal.refusal_now-requires-clause-new
+refusal_now-requires-clause-new c = subst (λ a. tells_new c.at.result.now a ≡ true) (sym c.requires.act) refl

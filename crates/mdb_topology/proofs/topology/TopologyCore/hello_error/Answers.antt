@@ -8,9 +8,8 @@ use Rattle.mdb_topology.specs.Marking.{HasParts, IsMarking, IsOfPool, MarkPasses
 use Rattle.mdb_topology.proofs.Marks.ComesTo.{as-parts}
 use Rattle.mdb_topology.proofs.OnePool.SameHistories.{IsPlain}
 use Rattle.mdb_topology.specs.declared.errors.marked.Asked.TheVariants.{Nothing}
-use Rattle.mdb_topology.specs.Standing.{is_open_at}
 use Rattle.mdb_topology.proofs.OfMonitors.CheckFailed.{here-at}
-use Rattle.mdb_topology.proofs.General.OneElement.{position-within}
+use Rattle.mdb_topology.proofs.OnePool.FoundAt.{open-lives}
 use Rattle.mdb_topology.proofs.Marks.AtItsLimit.{own-place, place-own, some-place}
 use Rattle.mdb_topology.proofs.Publications.WhichSteps.{or-not}
 use Rattle.mdb_topology.proofs.WholeSteps.ComesBeforeMemory.{none-wants}
@@ -33,7 +32,7 @@ pub mark-requires-clause-there : goal.mark-requires-clause-there
 mark-requires-clause-there c =
     let w = c.args.self.now in
     let left = or-not w.stopped _ (sym c.leaves_reply.ensures ∙ c.if-leaves_reply.false) in
-    position-within (is_open_at c.args.address.now) w.pools.cores.items c.args.pool (here-at w c.args.address.now c.args.pool c.args.pool refl left.1)
+    open-lives w.pools.cores.items c.args.address.now c.args.pool (here-at w c.args.address.now c.args.pool c.args.pool refl left.1)
 
 pub mark-requires-clause-here : goal.mark-requires-clause-here
 mark-requires-clause-here c =

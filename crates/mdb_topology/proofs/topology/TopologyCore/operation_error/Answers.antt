@@ -1,4 +1,4 @@
-use Rattle.std.proofs.Common.{ℕ, ◌≡◌, ◌&&◌, Bool, true, false, not, List, [], Option, Some, None, is_some, get_or, refl, sym, ◌∙◌, ap, subst}
+use Rattle.std.proofs.Common.{ℕ, ◌≡◌, ◌&&◌, Bool, true, false, not, List, [], Option, Some, None, is_some, refl, sym, ◌∙◌, ap, subst}
 use Rattle.std.specs.Prelude.{slice_get, unwrap_or}
 use Rattle.std.proofs.lemmas.Result.{IfOk-weaker, on_err_weaker}
 use Rattle.mdb_log.specs.declared.reply.Refused.TheVariants.{NotHolder}
@@ -14,7 +14,7 @@ use Rattle.mdb_topology.specs.Finding.{holder}
 use Rattle.mdb_topology.specs.Marking.{IsClearing}
 use Rattle.mdb_topology.proofs.Marks.ClearsService.{balanced-clearing}
 use Rattle.mdb_topology.proofs.General.Truth.{not-back}
-use Rattle.mdb_topology.proofs.General.OneElement.{position-within, at-index}
+use Rattle.mdb_topology.proofs.OnePool.FoundAt.{holder-lives}
 use Rattle.mdb_topology.proofs.General.OnePosition.{some-same}
 use Rattle.mdb_topology.specs.Changing.{IsChanging}
 use Rattle.mdb_topology.specs.Refusal.{refusal}
@@ -41,9 +41,9 @@ module _ (pools : List PoolCore) (r i : ℕ) (held : holder pools r ≡ Some i) 
   abbrev q : Held pools r i
   q = held-there pools r i held
 
-  module _ (p : PoolCore) (value : p ≡ get_or pools i p) where
+  module _ (p : PoolCore) (value : slice_get pools i ≡ Some p) where
     same : q.pool ≡ p
-    same = some-same q.pool p (slice_get pools i) q.there (at-index pools i p p (position-within (λ u. is_some (held_connection u r)) pools i held) value refl)
+    same = some-same q.pool p (slice_get pools i) q.there value
 
     id-is : (found : Option ℕ) → found ≡ id_at (held_connection p r) → Some q.connection.id ≡ found
     id-is found kept = sym (ap id_at q.has) ∙ (ap (λ u. id_at (held_connection u r)) same ∙ sym kept)
@@ -51,10 +51,25 @@ module _ (pools : List PoolCore) (r i : ℕ) (held : holder pools r ≡ Some i) 
     live : (id : ℕ) → q.connection.id ≡ id → connection_at p id ≡ Some q.connection
     live id e = subst (λ u. connection_at u id ≡ Some q.connection) same (subst (λ n. connection_at q.pool n ≡ Some q.connection) e (held-at q.pool r q.connection q.has).1)
 
+pub at-requires : goal.at-requires
+at-requires c = holder-lives c.args.self.now.pools.cores.items c.args.party c.in-Some.index (sym c.holder.ensures ∙ c.in-Some.is)
+
+pub at-2-requires : goal.at-2-requires
+at-2-requires c = holder-lives c.args.self.now.pools.cores.items c.args.party c.in-Some.index (sym c.holder.ensures ∙ c.in-Some.is)
+
+pub at-then-self-requires : goal.at-then-self-requires
+at-then-self-requires c = holder-lives c.args.self.now.pools.cores.items c.args.party c.in-Some.index (sym c.holder.ensures ∙ c.in-Some.is)
+
+pub clear_service-requires-clause-there : goal.clear_service-requires-clause-there
+clear_service-requires-clause-there c = holder-lives c.args.self.now.pools.cores.items c.args.party c.in-Some.index (sym c.holder.ensures ∙ c.in-Some.is)
+
+pub mark_complaint-requires-clause-there : goal.mark_complaint-requires-clause-there
+mark_complaint-requires-clause-there c = holder-lives c.args.self.now.pools.cores.items c.args.party c.in-Some.index (sym c.holder.ensures ∙ c.in-Some.is)
+
 pub returns-in_default-held_by-clause-becomes : goal.returns-in_default-held_by-clause-becomes
 returns-in_default-held_by-clause-becomes c h z =
     let none : ◌≡◌ {A = Option ℕ} (Some (held-there c.args.self.now.pools.cores.items c.args.party c.in-Some.index (sym c.holder.ensures ∙ c.in-Some.is)).connection.id) None =
-    id-is c.args.self.now.pools.cores.items c.args.party c.in-Some.index (sym c.holder.ensures ∙ c.in-Some.is) c.index.result.now c.index.ensures c.held_by.result c.held_by.ensures.kept ∙ c.in_default-held_by.is in
+    id-is c.args.self.now.pools.cores.items c.args.party c.in-Some.index (sym c.holder.ensures ∙ c.in-Some.is) c.at.result.now c.at.ensures c.held_by.result c.held_by.ensures.kept ∙ c.in_default-held_by.is in
     cc
 
 pub returns-then-leaves_complaint-clause-becomes : goal.returns-then-leaves_complaint-clause-becomes
@@ -68,9 +83,9 @@ returns-then-leaves_complaint-clause-becomes c h z =
     let pools = w.pools.cores.items in
     let held = sym c.holder.ensures ∙ c.in-Some.is in
     let there = held-there pools r i held in
-    let id = ap (λ y. unwrap_or y 0) (id-is pools r i held c.index.result.now c.index.ensures c.held_by.result c.held_by.ensures.kept ∙ c.in-Some-held_by.is) in
-    let left = not-back _ (sym (c.leaves_complaint.ensures there.connection (live pools r i held c.index-2.result.now c.index-2.ensures c.in-Some-held_by.id id) id) ∙ c.if-leaves_complaint.true) in
-    let none = subst (λ u. concerns_now w u there.connection x && is_some (case_of operating x) ≡ false) (sym (same pools r i held c.index-2.result.now c.index-2.ensures)) left in
+    let id = ap (λ y. unwrap_or y 0) (id-is pools r i held c.at.result.now c.at.ensures c.held_by.result c.held_by.ensures.kept ∙ c.in-Some-held_by.is) in
+    let left = not-back _ (sym (c.leaves_complaint.ensures there.connection (live pools r i held c.at-2.result.now c.at-2.ensures c.in-Some-held_by.id id) id) ∙ c.if-leaves_complaint.true) in
+    let none = subst (λ u. concerns_now w u there.connection x && is_some (case_of operating x) ≡ false) (sym (same pools r i held c.at-2.result.now c.at-2.ensures)) left in
     let rests = subst (λ a. IsChanging w.options h w.description None (record { moment = m; act = a }) (Changed false) false []) (sym c.requires.act)
     (complaint-resting w h z m c.requires.in_time r x i there.pool there.connection held there.there there.has none) in
     follows-quiet w h z c.args.step.now c.requires.in_time c.of_reply.result e.changes e.facts e.monitors e.monitoring (subst IsPlain (sym e.reply) tt) (rw e.description refl) (as-next rests e.description e.reply e.stops)
@@ -84,9 +99,9 @@ mark_complaint-requires-clause-complains c =
     let pools = w.pools.cores.items in
     let held = sym c.holder.ensures ∙ c.in-Some.is in
     let there = held-there pools r i held in
-    let id = ap (λ y. unwrap_or y 0) (id-is pools r i held c.index.result.now c.index.ensures c.held_by.result c.held_by.ensures.kept ∙ c.in-Some-held_by.is) in
-    let left = not-front _ (sym (c.leaves_complaint.ensures there.connection (live pools r i held c.index-2.result.now c.index-2.ensures c.in-Some-held_by.id id) id) ∙ c.if-leaves_complaint.false) in
-    let both = both-true _ _ (subst (λ u. concerns_now w u there.connection x && is_some (case_of operating x) ≡ true) (sym (same pools r i held c.index-2.result.now c.index-2.ensures)) left) in
+    let id = ap (λ y. unwrap_or y 0) (id-is pools r i held c.at.result.now c.at.ensures c.held_by.result c.held_by.ensures.kept ∙ c.in-Some-held_by.is) in
+    let left = not-front _ (sym (c.leaves_complaint.ensures there.connection (live pools r i held c.at-2.result.now c.at-2.ensures c.in-Some-held_by.id id) id) ∙ c.if-leaves_complaint.false) in
+    let both = both-true _ _ (subst (λ u. concerns_now w u there.connection x && is_some (case_of operating x) ≡ true) (sym (same pools r i held c.at-2.result.now c.at-2.ensures)) left) in
     record { pool = there.pool; connection = there.connection; held = held; there = there.there; has = there.has; id_is = id; current = both.0; row = both.1 }
 
 pub returns-then-self-clause-becomes : goal.returns-then-self-clause-becomes
@@ -100,12 +115,12 @@ returns-then-self-clause-becomes c =
     let pools = w.pools.cores.items in
     let held = sym c.holder.ensures ∙ c.in-Some.is in
     let there = held-there pools r i held in
-    let id = ap (λ y. unwrap_or y 0) (id-is pools r i held c.index.result.now c.index.ensures c.held_by.result c.held_by.ensures.kept ∙ c.in-Some-held_by.is) in
-    let left = not-front _ (sym (c.leaves_complaint.ensures there.connection (live pools r i held c.index-2.result.now c.index-2.ensures c.in-Some-held_by.id id) id) ∙ c.if-leaves_complaint.false) in
-    let both = both-true _ _ (subst (λ u. concerns_now w u there.connection x && is_some (case_of operating x) ≡ true) (sym (same pools r i held c.index-2.result.now c.index-2.ensures)) left) in
+    let id = ap (λ y. unwrap_or y 0) (id-is pools r i held c.at.result.now c.at.ensures c.held_by.result c.held_by.ensures.kept ∙ c.in-Some-held_by.is) in
+    let left = not-front _ (sym (c.leaves_complaint.ensures there.connection (live pools r i held c.at-2.result.now c.at-2.ensures c.in-Some-held_by.id id) id) ∙ c.if-leaves_complaint.false) in
+    let both = both-true _ _ (subst (λ u. concerns_now w u there.connection x && is_some (case_of operating x) ≡ true) (sym (same pools r i held c.at-2.result.now c.at-2.ensures)) left) in
     let balanced = c.if-self.true in
-    let mode = ap (λ (u : PoolCore). u.options.load_balanced) (sym (same pools r i held c.index-then-self.result.now c.index-then-self.ensures)) ∙ (ap (λ p. p.load_balanced) (c.requires.stands.1.pools.fit.each i there.pool there.there).options ∙ balanced) in
-    let service = c.service_cleared-service.ensures there.connection mode (live pools r i held c.index-then-self.result.now c.index-then-self.ensures c.in-Some-held_by.id id) in
+    let mode = ap (λ (u : PoolCore). u.options.load_balanced) (sym (same pools r i held c.at-then-self.result.now c.at-then-self.ensures)) ∙ (ap (λ p. p.load_balanced) (c.requires.stands.1.pools.fit.each i there.pool there.there).options ∙ balanced) in
+    let service = c.service_cleared-service.ensures there.connection mode (live pools r i held c.at-then-self.result.now c.at-then-self.ensures c.in-Some-held_by.id id) in
     IfOk-weaker c.clear_service.result _ _ (λ stepped f h z.
     let b = balanced-clearing w h z m l r x i there.pool there.connection held there.there there.has both.0 balanced both.1 in
     let t = row_trouble w h z m l r x i there.pool there.connection held there.there there.has both.0 b.row in
@@ -124,12 +139,12 @@ returns-then-self-clause-wants c =
     let pools = w.pools.cores.items in
     let held = sym c.holder.ensures ∙ c.in-Some.is in
     let there = held-there pools r i held in
-    let id = ap (λ y. unwrap_or y 0) (id-is pools r i held c.index.result.now c.index.ensures c.held_by.result c.held_by.ensures.kept ∙ c.in-Some-held_by.is) in
-    let left = not-front _ (sym (c.leaves_complaint.ensures there.connection (live pools r i held c.index-2.result.now c.index-2.ensures c.in-Some-held_by.id id) id) ∙ c.if-leaves_complaint.false) in
-    let both = both-true _ _ (subst (λ u. concerns_now w u there.connection x && is_some (case_of operating x) ≡ true) (sym (same pools r i held c.index-2.result.now c.index-2.ensures)) left) in
+    let id = ap (λ y. unwrap_or y 0) (id-is pools r i held c.at.result.now c.at.ensures c.held_by.result c.held_by.ensures.kept ∙ c.in-Some-held_by.is) in
+    let left = not-front _ (sym (c.leaves_complaint.ensures there.connection (live pools r i held c.at-2.result.now c.at-2.ensures c.in-Some-held_by.id id) id) ∙ c.if-leaves_complaint.false) in
+    let both = both-true _ _ (subst (λ u. concerns_now w u there.connection x && is_some (case_of operating x) ≡ true) (sym (same pools r i held c.at-2.result.now c.at-2.ensures)) left) in
     let balanced = c.if-self.true in
-    let mode = ap (λ (u : PoolCore). u.options.load_balanced) (sym (same pools r i held c.index-then-self.result.now c.index-then-self.ensures)) ∙ (ap (λ p. p.load_balanced) (c.requires.stands.1.pools.fit.each i there.pool there.there).options ∙ balanced) in
-    let service = c.service_cleared-service.ensures there.connection mode (live pools r i held c.index-then-self.result.now c.index-then-self.ensures c.in-Some-held_by.id id) in
+    let mode = ap (λ (u : PoolCore). u.options.load_balanced) (sym (same pools r i held c.at-then-self.result.now c.at-then-self.ensures)) ∙ (ap (λ p. p.load_balanced) (c.requires.stands.1.pools.fit.each i there.pool there.there).options ∙ balanced) in
+    let service = c.service_cleared-service.ensures there.connection mode (live pools r i held c.at-then-self.result.now c.at-then-self.ensures c.in-Some-held_by.id id) in
     on_err_weaker c.clear_service.result (λ f h z.
     let b = balanced-clearing w h z m l r x i there.pool there.connection held there.there there.has both.0 balanced both.1 in
     let t = row_trouble w h z m l r x i there.pool there.connection held there.there there.has both.0 b.row in

@@ -40,3 +40,6 @@ returns-in_err-of_pool-in-Planned-clause-wants c = wants-after c.args.self.now c
     let performs = subst (λ x. Performs w.options w.pools.cores.items c.args.step.now x h) c.in-Planned.is (c.in_ok-why.ensures.performs w.options h z.pools z.counts.last_is few) in
     let ready = subst (IsReady w.pools.cores.items c.args.step.now) c.in-Planned.is c.in_ok-why.ensures.ready in
     none-wants w.options h c.args.step.now (planned-accepted w.options w.pools.cores.items c.args.step.now c.in-Planned.index c.in-Planned.plan c.in-Planned.told h ready performs))
+
+pub act-requires-clause-known : goal.act-requires-clause-known
+act-requires-clause-known c = λ r. c.requires.stands.1.known r ∙ c.requires.stands.1.pools.fit.names r

@@ -1,13 +1,15 @@
-use Rattle.std.proofs.Common.{◌≡◌, ◌&&◌, ◌++◌, [], length, Some, None, is_some, sym, ◌∙◌, ap, subst}
+use Rattle.std.proofs.Common.{◌≡◌, true, ◌&&◌, ◌++◌, [], length, Some, None, is_some, sym, ◌∙◌, ap, subst}
 use Rattle.mdb_describe.specs.Descriptions.{failed}
 use Rattle.mdb_describe.specs.Differences.{difference}
 use Rattle.mdb_describe.specs.Update.{updated}
+use Rattle.mdb_topology.specs.Living.{lives_at}
 use Rattle.mdb_topology.specs.Marking.{AcceptsClear, Clears, MarkTold, asked_of}
 use Rattle.mdb_topology.specs.Planned.{PlansMore}
 use Rattle.mdb_topology.specs.Publishing.{telling}
 use Rattle.mdb_topology.specs.Touching.{touched_by}
 use Rattle.mdb_topology.proofs.Marks.ComesTo.{mark-comes}
 use Rattle.mdb_topology.proofs.topology.TopologyCore.tell_mark.Goals.{then-changed, else-changed}
+use Rattle.mdb_topology.proofs.OnePool.FoundAt.{open-lives}
 use Rattle.mdb_topology.proofs.topology.TopologyCore.tell_mark.Goals as goal
 
 pub publish_mark-requires-clause-marked : goal.publish_mark-requires-clause-marked
@@ -52,3 +54,6 @@ plan_clear-requires-clause-accepted c wanted =
     ] in
     subst (λ v. AcceptsClear v.pools.cores.items c.args.trouble.now.index c.args.step.now.moment None c.args.trouble.now.error.now) (sym c.in_ok-changes.ensures.same)
     (c.requires.accepted (ap (λ y. is_some y && c.args.trouble.now.clears) (sym c.in_ok-diff.ensures.difference) ∙ (sym cleared ∙ wanted)))
+
+pub plan_clear-requires-clause-there : goal.plan_clear-requires-clause-there
+plan_clear-requires-clause-there c = subst (λ v. lives_at v.pools.cores.items c.args.trouble.now.index ≡ true) (sym c.in_ok-changes.ensures.same) (open-lives c.args.self.now.pools.cores.items c.args.address.now c.args.trouble.now.index c.requires.here)
