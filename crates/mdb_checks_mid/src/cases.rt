@@ -2,7 +2,7 @@
 
 use crate::pool::Pool;
 use crate::{
-    driver_pools, drivers, entries, errors, generator, handles, lines, pool, shown, spent,
+    closed_pools, driver_pools, drivers, entries, errors, generator, handles, lines, pool, shown, spent,
 };
 use mdb_cases::Page;
 
@@ -24,6 +24,7 @@ impl Cases {
             "handle" => handles::handle(page, given),
             "driver" => drivers::driver(page, given),
             "driver-pool" => driver_pools::driver_pool(page, given),
+            "driver-closed" => closed_pools::closed_pool(page, given),
             "spent" => spent::spent(page, given),
             "handshake" => drivers::handshake(page, given),
             _ => of_texts(page, kind, given),

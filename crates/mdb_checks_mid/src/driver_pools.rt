@@ -53,8 +53,8 @@ fn establish(page: &mut Page, core: &mut TopologyCore, log: &mut Log, id: u32)
     take(page, core, log, 3, Act::Established(1, id, how));
 }
 
-// Of pool 1, party 1 has connection 1, and party 3 gave connection 2 back; of pool 0, connection 1 is pending for party 2.
-fn lend(page: &mut Page, core: &mut TopologyCore, log: &mut Log)
+/// Of pool 1, party 1 has connection 1, and party 3 gave connection 2 back; of pool 0, connection 1 is pending for party 2.
+pub fn lend(page: &mut Page, core: &mut TopologyCore, log: &mut Log)
     requires stands { IsDriverOf core.old log.old }
     ensures { IsDriverOf core.new log.new }
 {

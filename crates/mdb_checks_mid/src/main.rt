@@ -2,6 +2,7 @@
 #![tactic(auto)]
 
 mod cases;
+mod closed_pools;
 mod driver_pools;
 mod drivers;
 mod entries;
