@@ -1,6 +1,6 @@
 //! What the pool that a driver hands out tells, by the history of the driver.
 
-ghost use Rattle.std.specs.Prelude.{◌≡◌, ◌&&◌, List, None, Some, if◌then◌else◌, is_some, length, nat_lt, option_copied};
+ghost use Rattle.std.specs.Prelude.{◌≡◌, ◌&&◌, List, None, Some, true, if◌then◌else◌, is_some, length, nat_lt, option_copied};
 ghost use Rattle.mdb_slots.specs.Items.{records_of};
 ghost use Rattle.mdb_slots.specs.Slots.{OpenSlots, listing};
 ghost use Rattle.mdb_slots.specs.declared.records.Record.{Record};
@@ -12,16 +12,17 @@ ghost use Rattle.mdb_log.specs.Opening.{pool_options};
 ghost use Rattle.mdb_log.specs.Requests.{is_open};
 ghost use Rattle.mdb_log.specs.State.{generation_before};
 ghost use Rattle.mdb_pool.specs.Available.{available_records};
-ghost use Rattle.mdb_topology.specs.Standing.{StandsFor};
+ghost use Rattle.mdb_topology.specs.Standing.{IsGone, StandsFor};
 
 use mdb_pool::ConnectionGeneration;
 use mdb_slots::SlotTable;
 use mdb_topology::TopologyCore;
 
 /// The connections of the pool that nobody has, in the order in which they became available, each with its service and the moment since then. `None` where no pool of this
-/// number was opened.
+/// number was opened, or the pool was closed and nothing of it lives.
 pub fn available_at(core: &TopologyCore, pool: u32) -> Option<&SlotTable>
-    ensures opened { (h : List Item) → StandsFor core.now h → is_some (option_copied result) ≡ nat_lt pool (length (homes h)) }
+    ensures opened { (h : List Item) → StandsFor core.now h → is_some (option_copied result) ≡ true → nat_lt pool (length (homes h)) ≡ true }
+    ensures missing { (h : List Item) → StandsFor core.now h → option_copied result ≡ None → IsGone h pool }
     ensures told { (h : List Item) (table : OpenSlots Record) → StandsFor core.now h → option_copied result ≡ Some table → records_of (listing table).items ≡ available_records (of_pool pool h) }
 {
     match core.pool(pool) {

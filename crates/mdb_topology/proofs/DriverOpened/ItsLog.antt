@@ -21,6 +21,8 @@ use Rattle.mdb_topology.specs.declared.topology.TopologyCore.{TopologyCore}
 use Rattle.mdb_topology.specs.Description.{begins_with}
 use Rattle.mdb_topology.specs.Lines.{entry_after}
 use Rattle.mdb_topology.specs.Logging.{opening_step, Stood, IsDriverOf}
+use Rattle.mdb_log.specs.Connections.{has}
+use Rattle.mdb_topology.specs.Living.{lives_at}
 use Rattle.mdb_topology.specs.Monitors.{setting}
 use Rattle.mdb_topology.specs.Opening.{IsOpened}
 use Rattle.mdb_topology.specs.Standing.{StandsFor}
@@ -37,11 +39,11 @@ module _ (o : Options) (kept : broken_rule o ≡ None) (pools : List PoolCore) (
 
   pub opening-log : (w : TopologyCore) → w.options ≡ o → w.description ≡ t → w.published ≡ 1 → w.stopped ≡ false → w.pools.cores.items ≡ pools → w.pools.last ≡ 0 → w.fresh ≡ 0 → length w.watchers ≡ 0
       → map (λ m. m.setting) w.monitors.items ≡ map (λ s. setting o s.address) pools → All (λ m. MonitorStands m []) w.monitors.items
-      → IsDriverOf w (entry_after seat [] (opening_step o) ∷ [])
-  opening-log w e1 e2 e3 e4 e5 e6 e7 e8 settings new =
+      → w.pools.known.spans ≡ [] → ((p : ℕ) → lives_at pools p ≡ true → has p w.monitors.kept ≡ true) → IsDriverOf w (entry_after seat [] (opening_step o) ∷ [])
+  opening-log w e1 e2 e3 e4 e5 e6 e7 e8 settings new none kept_are =
       let first : Entry = record { seat = seat; step = opening_step o; reply = Done; facts = facts } in
       let ordered : in_order t.servers ≡ true = subst (λ (u : TopologyDescription). in_order u.servers ≡ true) (sym z.known) (begun-ordered o) in
-      let stands : StandsFor w (history_of (first ∷ [])) = core-stands o kept pools t facts z w e1 e2 e3 e4 e5 e6 e7 (nil_from_length w.watchers e8) settings new ordered in
+      let stands : StandsFor w (history_of (first ∷ [])) = core-stands o kept pools t facts z w e1 e2 e3 e4 e5 e6 e7 (nil_from_length w.watchers e8) settings new ordered none kept_are in
       let seeds : OpensSeeds o (history_of (first ∷ [])) = opens-seeds o kept pools t facts z in
       let order : IsOrderly (pool_options o) (history_of (first ∷ [])) = orderly (pool_options o) pools (history_of (first ∷ [])) (stands-opened o kept pools t facts z) in
       let back : o ≡ w.options = sym e1 in

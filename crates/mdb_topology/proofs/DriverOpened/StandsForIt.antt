@@ -27,7 +27,11 @@ use Rattle.mdb_log.specs.LegalLog.{numbered, OpensSeeds}
 use Rattle.mdb_log.specs.Opening.{pool_options}
 use Rattle.mdb_log.specs.State.{is_ready, state_of}
 use Rattle.mdb_log.proofs.Addresses.{own-address}
-use Rattle.mdb_log.proofs.Frame.{last-facts}
+use Rattle.mdb_intervals.specs.Spans.{has as is_within}
+use Rattle.mdb_log.specs.Connections.{has}
+use Rattle.mdb_log.specs.Requests.{names_party}
+use Rattle.mdb_log.proofs.Frame.{acts-facts, last-facts}
+use Rattle.mdb_topology.specs.Living.{lives_at}
 use Rattle.mdb_pool.specs.Core.{PoolCore}
 use Rattle.mdb_topology.specs.declared.topology.TopologyCore.{TopologyCore}
 use Rattle.mdb_topology.specs.Answer.{answer, answered}
@@ -235,8 +239,9 @@ module _ (o : Options) (kept : broken_rule o ≡ None) where
 
     -- all that a driver keeps
     pub core-stands : (w : TopologyCore) → w.options ≡ o → w.description ≡ t → w.published ≡ 1 → w.stopped ≡ false → w.pools.cores.items ≡ pools → w.pools.last ≡ 0 → w.fresh ≡ 0 → w.watchers ≡ []
-        → map (λ m. m.setting) w.monitors.items ≡ map (λ s. setting o s.address) pools → All (λ m. MonitorStands m []) w.monitors.items → in_order t.servers ≡ true → StandsFor w (with_facts 0 facts k0)
-    core-stands w e1 e2 e3 e4 e5 e6 e7 e8 settings new ordered = record {
+        → map (λ m. m.setting) w.monitors.items ≡ map (λ s. setting o s.address) pools → All (λ m. MonitorStands m []) w.monitors.items → in_order t.servers ≡ true
+        → w.pools.known.spans ≡ [] → ((p : ℕ) → lives_at pools p ≡ true → has p w.monitors.kept ≡ true) → StandsFor w (with_facts 0 facts k0)
+    core-stands w e1 e2 e3 e4 e5 e6 e7 e8 settings new ordered none kept_are = record {
       pools = rw (e1, e5) stands-opened;
       monitors = rw e1 monitors-fit;
       described = rw (e1, e2) (record { known = description-facts o 0 facts k0 ∙ sym z.known; ordered = ordered; few = subst (λ (u : TopologyDescription). length u.servers ≤ 128) (sym z.known) few; open_for = λ a. ap is_some (stands-opened.fit.open_are a) ∙ z.open_for a });
@@ -247,6 +252,8 @@ module _ (o : Options) (kept : broken_rule o ≡ None) where
         stopped_is = stopped-facts o 0 facts k0;
         watchers_are = watchers-facts o 0 facts k0;
       });
+      known = λ r. ap (is_within r) none ∙ sym (acts-facts names_party 0 r facts k0);
+      watched = λ p. rw e5 (kept_are p);
       numbers = rw e5 count;
       early = rw (e5, e6) z.early;
     }

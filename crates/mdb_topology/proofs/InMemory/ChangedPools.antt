@@ -1,5 +1,5 @@
 -- One pool changes, or one more comes: what memory has then.
-use Rattle.std.proofs.Common.{ℕ, zero, suc, ◌≡◌, ◌+◌, ◌<◌, ◌==◌, Bool, true, false, List, [], ◌∷◌, ◌++◌, length, map, set, position, append-nil, Option, Some, None, refl, sym, ◌∙◌, ap, subst, arith}
+use Rattle.std.proofs.Common.{ℕ, zero, suc, ◌≡◌, ◌+◌, ◌<◌, ◌==◌, Bool, true, false, List, [], ◌∷◌, ◌++◌, length, map, set, position, Option, Some, None, refl, sym, ◌∙◌, ap, subst, arith}
 use Rattle.std.specs.Prelude.{option_map, remove, slice_get}
 use Rattle.std.proofs.lemmas.Bool.Decides.{nat_tests}
 use Rattle.mdb_pool.specs.Core.{PoolCore}
@@ -40,6 +40,13 @@ stands n k (suc p) (x ∷ more) s e at lives = on (is_spent x) refl (stands (suc
           found = rw f (position-miss (λ (y : Placed). y.place == k) (placed n x) (living_from (suc n) more) off ∙ ap (option_map suc) r.found);
           there = rw f r.there;
         }
+
+-- the one at the index leaves, where nothing lives in it
+pub left-spent : (xs : List Placed) (i : ℕ) (x : Placed) → slice_get xs i ≡ Some x → is_spent x.core ≡ true → left_at xs i ≡ remove xs i
+left-spent xs i x at e = rw (at, e) refl
+
+pub left-kept : (xs : List Placed) (i : ℕ) (x : Placed) → slice_get xs i ≡ Some x → is_spent x.core ≡ false → left_at xs i ≡ xs
+left-kept xs i x at e = rw (at, e) refl
 
 -- behind the first one
 left-behind : (x : Placed) (xs : List Placed) (i : ℕ) → left_at (x ∷ xs) (suc i) ≡ x ∷ left_at xs i
@@ -112,8 +119,5 @@ opened-last n (x ∷ pools) s = on (is_spent x) refl (opened-last (suc n) pools 
     on true e r = rw (e, e) r
     on false e r = rw (e, e) (ap (λ ys. placed n x ∷ ys) r)
 
-pub opened-living : (pools : List PoolCore) (s : PoolCore) → is_spent s ≡ false → living_from 0 pools ++ placed (length pools) s ∷ [] ≡ living_from 0 (pools ++ s ∷ [])
-opened-living pools s e = sym (opened-last 0 pools s ∙ ap (λ ys. living_from 0 pools ++ ys) (rw e (ap (λ m. placed m s ∷ []) (let k : 0 + length pools ≡ length pools = omega arith in k))))
-
-pub opened-spent : (pools : List PoolCore) (s : PoolCore) → is_spent s ≡ true → living_from 0 pools ≡ living_from 0 (pools ++ s ∷ [])
-opened-spent pools s e = sym (opened-last 0 pools s ∙ (ap (λ ys. living_from 0 pools ++ ys) (rw e refl) ∙ append-nil (living_from 0 pools)))
+pub opened-one : (pools : List PoolCore) (s : PoolCore) → living_from 0 pools ++ living_from (length pools) (s ∷ []) ≡ living_from 0 (pools ++ s ∷ [])
+opened-one pools s = sym (opened-last 0 pools s ∙ ap (λ m. living_from 0 pools ++ living_from m (s ∷ [])) (let k : 0 + length pools ≡ length pools = omega arith in k))

@@ -32,6 +32,10 @@ watched-is all (x ∷ xs) p z = on (x.place == p) refl (watched-is all xs p z.1)
     on true e r = rw (e, e) (sym (subst (λ j. slice_get all j ≡ Some x.monitor) (equal x.place p e) z.0))
     on false e r = rw (e, e) r
 
+-- one that memory keeps is there
+pub there-kept : (all : List MonitorCore) (kept : List ℕ) (p : ℕ) (m : MonitorCore) → has p kept ≡ true → Some m ≡ (if has p kept then slice_get all p else None) → slice_get all p ≡ Some m
+there-kept all kept p m e f = sym (f ∙ rw e refl)
+
 -- a monitor takes the place of another
 module _ (all : List MonitorCore) (p : ℕ) (m : MonitorCore) where
   others-of : (kept : List Watched) → AreOf all kept → has p (places kept) ≡ false → AreOf (set all p m) kept

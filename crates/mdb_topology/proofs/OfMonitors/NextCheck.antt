@@ -1,5 +1,5 @@
 -- The monitor of the pool that is open at an address, and what follows its check.
-use Rattle.std.proofs.Common.{ℕ, ◌≡◌, ◌==◌, Bool, true, List, Option, Some, is_some, sym, ◌∙◌, ap, subst, arith}
+use Rattle.std.proofs.Common.{ℕ, ◌≡◌, ◌<◌, ◌==◌, Bool, true, if◌then◌else◌, nat_lt, List, length, Option, Some, None, is_some, refl, sym, ◌∙◌, ap, subst, arith}
 use Rattle.std.specs.Prelude.{slice_get}
 use Rattle.std.proofs.lemmas.Bool.Decides.{nat_tests}
 use Rattle.mdb_base.specs.declared.address.ServerAddress.{ServerAddress}
@@ -9,6 +9,7 @@ use Rattle.mdb_monitor.specs.declared.monitor.Setting.{Setting}
 use Rattle.mdb_monitor.specs.Endings.{next_of}
 use Rattle.mdb_monitor.specs.Standing.{StandsFor as MonitorStands}
 use Rattle.mdb_log.specs.declared.checked.BeatenResult.{BeatenResult}
+use Rattle.mdb_log.specs.Connections.{has}
 use Rattle.mdb_log.specs.History.{Item, open_pool}
 use Rattle.mdb_describe.specs.Topology.{server_at}
 use Rattle.mdb_topology.specs.declared.topology.TopologyCore.{TopologyCore}
@@ -16,7 +17,11 @@ use Rattle.mdb_topology.specs.Ahead.{is_available, next_after}
 use Rattle.mdb_topology.specs.Homes.{is_here}
 use Rattle.mdb_topology.specs.Monitors.{check_result, monitor_items, setting}
 use Rattle.mdb_topology.specs.Standing.{at_address, StandsFor}
+use Rattle.mdb_topology.proofs.InMemory.LivingPools.{lives-within}
+use Rattle.mdb_topology.proofs.OnePool.FoundAt.{open-lives}
+use Rattle.mdb_topology.proofs.OnePool.JobsAreThere.{some-place}
 use Rattle.mdb_topology.proofs.OfMonitors.StepAtMonitor.{monitor-setting}
+use Rattle.mdb_topology.proofs.WholeSteps.OneMoreEntry.{as-many}
 
 same-self : (p : ℕ) → (p == p) ≡ true
 same-self p = grind (arith, nat_tests)
@@ -32,6 +37,20 @@ module _ (w : TopologyCore) (h : List Item) (z : StandsFor w h) (a : ServerAddre
 
     here : is_here h a p ≡ true
     here = rw opened (same-self p)
+
+    -- memory keeps its monitor
+    kept : has p w.monitors.kept ≡ true
+    kept = z.watched p (open-lives w.pools.cores.items a p some)
+
+    pub opened-kept : slice_get w.monitors.items p ≡ (if has p w.monitors.kept then slice_get w.monitors.items p else None)
+    opened-kept = rw kept refl
+
+    pub opened-some : is_some (if has p w.monitors.kept then slice_get w.monitors.items p else None) ≡ is_some (open_pool h a)
+    opened-some =
+        let many : length w.monitors.items ≡ length w.pools.cores.items = as-many w.options w.pools.cores.items w.monitors.items h z.pools.fit z.monitors in
+        let within : p < length w.pools.cores.items = lives-within w.pools.cores.items p (open-lives w.pools.cores.items a p some) in
+        let there : nat_lt p (length w.monitors.items) ≡ true = grind (arith, nat_tests) in
+        rw kept (some-place w.monitors.items p ∙ (there ∙ sym (ap is_some opened)))
 
     pub opened-stands : (q : ℕ) (m : MonitorCore) → open_pool h a ≡ Some q → slice_get w.monitors.items p ≡ Some m → MonitorStands m (monitor_items h q)
     opened-stands q m e at =

@@ -20,6 +20,9 @@ use Rattle.mdb_log.proofs.Numbers.{same-number}
 use Rattle.mdb_pool.specs.Core.{PoolCore}
 use Rattle.mdb_pool.specs.Answer.{first_job}
 use Rattle.mdb_pool.specs.Jobs.{job_in}
+use Rattle.mdb_pool.specs.Kept.{is_spent}
+use Rattle.mdb_pool.proofs.Answered.Act.{pending-is}
+use Rattle.mdb_pool.proofs.KeptInLittle.NothingLives.{none-pending}
 use Rattle.mdb_pool.proofs.Listed.Values.{find-member}
 use Rattle.mdb_topology.specs.declared.topology.TopologyCore.{TopologyCore}
 use Rattle.mdb_topology.specs.Homes.{concerns, home_of, home_at}
@@ -29,7 +32,8 @@ use Rattle.mdb_topology.specs.Lines.{options_of}
 use Rattle.mdb_topology.specs.Logging.{IsDriverOf}
 use Rattle.mdb_topology.specs.Standing.{home, PoolFits, PoolsFit}
 use Rattle.mdb_topology.proofs.General.OneElement.{find-at, find-none}
-use Rattle.mdb_topology.proofs.OnePool.FoundAt.{number-at}
+use Rattle.mdb_topology.specs.Living.{living_at}
+use Rattle.mdb_topology.proofs.OnePool.FoundAt.{fits-at, number-at}
 
 -- there is something at each place below the length
 pub some-place : {T : Type 0} (xs : List T) (p : ℕ) → is_some (slice_get xs p) ≡ nat_lt p (length xs)
@@ -66,8 +70,18 @@ module _ (w : TopologyCore) (log : List Entry) (z : IsDriverOf w log) (p c : ℕ
       let d : PoolFits (pool_options w.options) h p s = z.stands.pools.fit.each p s e in
       ap (λ q. job_in s.pool s.address q (of_pool s.pool h) c) d.options ∙ sym (job-by (Some (home s)) (numbered-home (pool_options w.options) w.pools.cores.items h z.stands.pools.fit p s e))
 
-  pub job-unknown : slice_get w.pools.cores.items p ≡ None → None ≡ job_after log p c
-  job-unknown e = sym (job-by None (no-home (pool_options w.options) w.pools.cores.items h z.stands.pools.fit p e))
+  pub job-unknown : living_at w.pools.cores.items p ≡ None → None ≡ job_after log p c
+  job-unknown gone = on (slice_get w.pools.cores.items p) refl
+    where
+      on : (u : Option PoolCore) → slice_get w.pools.cores.items p ≡ u → None ≡ job_after log p c
+      on None e = sym (job-by None (no-home (pool_options w.options) w.pools.cores.items h z.stands.pools.fit p e))
+      on (Some s) e = in-two (is_spent s) refl
+        where
+          in-two : (b : Bool) → is_spent s ≡ b → None ≡ job_after log p c
+          in-two true f =
+              let none : has c (pending_list (of_pool s.pool h)) ≡ false = pending-is s (of_pool s.pool h) (fits-at (pool_options w.options) w.pools.cores.items h z.stands.pools.fit p s e) c ∙ none-pending s f c in
+              sym (rw none refl) ∙ job-known s e
+          in-two false f = let k : living_at w.pools.cores.items p ≡ Some s = rw (e, f) refl in let v : ◌≡◌ {A = Option PoolCore} (Some s) None = sym k ∙ gone in cc
 
 -- what passes one test is found by another that it passes
 found-again : {T : Type 0} (f g : T → Bool) (xs : List T) (x : T) → find f xs ≡ Some x → g x ≡ true → is_some (find g xs) ≡ true

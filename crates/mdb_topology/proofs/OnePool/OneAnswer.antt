@@ -32,6 +32,14 @@ takes-act p _ e = cc
 pub one-takes : (p : ℕ) (step : Step) → is_pool_act step.act ≡ true → All (λ (x : Step). IsPoolAct p x.act) (step ∷ [])
 one-takes p step e j d l = let z : j ≡ 0 = omega arith in subst (λ (n : ℕ). IsPoolAct p (get_or (step ∷ []) n d).act) (sym z) (takes-act p step.act e)
 
+-- steps that a pool takes, one and two
+pub all-one-step : (p : ℕ) (step : Step) → IsPoolAct p step.act → All (λ (x : Step). IsPoolAct p x.act) (step ∷ [])
+all-one-step p step e j d l = let z : j ≡ 0 = omega arith in subst (λ (n : ℕ). IsPoolAct p (get_or (step ∷ []) n d).act) (sym z) e
+
+pub all-two-steps : (p : ℕ) (first second : Step) → IsPoolAct p first.act → IsPoolAct p second.act → All (λ (x : Step). IsPoolAct p x.act) (first ∷ second ∷ [])
+all-two-steps p first second e f zero d l = e
+all-two-steps p first second e f (suc j) d l = let z : j ≡ 0 = omega arith in subst (λ (n : ℕ). IsPoolAct p (get_or (first ∷ second ∷ []) (suc n) d).act) (sym z) f
+
 -- a list of one
 only-last : {X : Type 0} (xs : List X) (x y : X) → xs ++ x ∷ [] ≡ y ∷ [] → x ≡ y
 only-last [] x y e = cc

@@ -88,7 +88,7 @@ pub record IsTaken (w v : TopologyCore) (n : Transition) (step : Step) : Type 0 
   pub kept : (p : ℕ) → lives_at v.pools.cores.items p ≡ true → has p w.monitors.kept || (nat_le (length w.monitors.items) p && nat_lt p (length v.monitors.items)) ≡ true → has p v.monitors.kept ≡ true
 
 -- there is a monitor for each pool
-as-many : (o : Options) (pools : List PoolCore) (monitors : List MonitorCore) (h : List Item) → PoolsFit (pool_options o) pools h → MonitorsFit o monitors h → length monitors ≡ length pools
+pub as-many : (o : Options) (pools : List PoolCore) (monitors : List MonitorCore) (h : List Item) → PoolsFit (pool_options o) pools h → MonitorsFit o monitors h → length monitors ≡ length pools
 as-many o pools monitors h z f = sym (length-map monitors (λ m. m.setting)) ∙ (ap length f.settings ∙ (length-map (homes h) (λ x. setting o x.address) ∙ (ap length z.homes_are ∙ length-map pools home)))
 
 -- the parties that are named once the step is accepted

@@ -1,13 +1,13 @@
 //! All pools that a driver opened, of which memory keeps those in which something lives.
 
-ghost use Rattle.std.specs.Prelude.{◌≡◌, ◌==◌, ◌+◌, ◌≤◌, ◌<◌, ◌++◌, ◌∷◌, [], List, IfOk, OnOk, All, Some, true, is_some, find, length, option_copied, option_map, slice_get, vec_capacity};
+ghost use Rattle.std.specs.Prelude.{◌≡◌, ◌==◌, ◌+◌, ◌≤◌, ◌<◌, ◌++◌, ◌∷◌, [], List, IfOk, OnOk, All, Some, true, is_some, find, length, option_copied, option_map, position, slice_get, vec_capacity};
 ghost use Rattle.mdb_log.specs.Acts.{IsPoolAct};
 ghost use Rattle.mdb_pool.specs.Core.{PoolCore as Core};
 ghost use Rattle.mdb_pool.specs.Kept.{first_unclaimed, held_connection, is_open_now};
 ghost use Rattle.mdb_pool.specs.Planning.{IsPlanOf, LeadsTo, Plans};
 ghost use Rattle.mdb_pool.specs.Refusing.{TellsNew};
 ghost use Rattle.mdb_topology.specs.Finding.{asked_by, first_job, holder};
-ghost use Rattle.mdb_topology.specs.Living.{index_in, left_at, lives_at, living_at};
+ghost use Rattle.mdb_topology.specs.Living.{index_in, left_at, lives_at, living_at, living_from};
 ghost use Rattle.mdb_topology.specs.Standing.{at_address, is_open_at};
 
 use crate::pools::placed::Placed;
@@ -114,16 +114,37 @@ fn place_of(found: Option<&Placed>) -> Option<usize>
     }
 }
 
+// The pool comes last, where something lives in it.
+fn keep(living: &mut Vec<Placed>, place: usize, core: PoolCore)
+    requires { length living.old.items < vec_capacity living.old }
+    ensures items { living.new.items ≡ living.old.items ++ living_from place (core ∷ []) }
+    ensures capacity { vec_capacity living.new ≡ vec_capacity living.old }
+{
+    if core.is_spent() {
+        drop(core);
+        return;
+    }
+    living.push_reserved(Placed { place, core });
+}
+
 // The pool at the index leaves memory, where nothing lives in it.
 fn let_go(living: &mut Vec<Placed>, index: usize)
     requires { index < length living.old.items }
     ensures items { living.new.items ≡ left_at living.old.items index }
     ensures capacity { vec_capacity living.new ≡ vec_capacity living.old }
 {
-    if living[index].core.is_spent() {
-        let gone = living.remove(index);
-        drop(gone);
+    if !living[index].core.is_spent() {
+        return;
     }
+    let gone = living.remove(index);
+    drop(gone);
+}
+
+// The index of the one at the place.
+fn index_at(living: &[Placed], place: usize) -> Option<usize>
+    ensures { result ≡ position (λ x. x.place == place) living.now }
+{
+    living.iter().position(|placed| placed.place == place)
 }
 
 impl Cores {
@@ -153,7 +174,7 @@ impl Cores {
     fn index_of(&self, place: usize) -> Option<usize>
         ensures { result ≡ index_in self.now.items place }
     {
-        self.living.iter().position(|placed| placed.place == place)
+        index_at(self.living.as_slice(), place)
     }
 
     /// The pool at the place, where something lives in it.
@@ -234,12 +255,7 @@ impl Cores {
         ensures room { self.new.room ≡ self.old.room }
     {
         let all = Past::of::<(&Past<PoolCore>, &PoolCore), OneMore>(&(&self.all, &core));
-        let place = self.opened;
-        if core.is_spent() {
-            drop(core);
-        } else {
-            self.living.push_reserved(Placed { place, core });
-        }
+        keep(&mut self.living, self.opened, core);
         self.opened += 1;
         self.all = all;
     }

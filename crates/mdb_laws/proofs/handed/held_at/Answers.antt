@@ -1,5 +1,4 @@
-use Rattle.std.proofs.Common.{refl, sym, ap}
-use Rattle.mdb_log.specs.Connections.{holding}
+use Rattle.std.proofs.Common.{refl, sym}
 use Rattle.mdb_log.specs.History.{of_pool}
 use Rattle.mdb_laws.proofs.handed.held_at.Goals as goal
 
@@ -9,4 +8,4 @@ returns-in-Some c = λ h z.
     c.held_by.ensures.items (of_pool c.args.pool h) d.fits
 
 pub returns-in-None : goal.returns-in-None
-returns-in-None c = λ h z. sym (ap (λ xs. holding xs c.args.party) (c.in-None.ensures.missing h z refl))
+returns-in-None c = λ h z. sym ((c.in-None.ensures.missing h z refl).held c.args.party)

@@ -10,4 +10,4 @@ returns-in-Some c = λ h z.
     subst (λ (n : ℕ). c.is_open.result ≡ has_asked (of_pool n h) c.args.request && is_open h c.args.request) d.number (c.is_open.ensures.among h (c.in-Some.ensures.stands h s z refl))
 
 pub returns-in-None : goal.returns-in-None
-returns-in-None c = λ h z. sym (ap (λ xs. has_asked xs c.args.request && is_open h c.args.request) (c.in-None.ensures.missing h z refl))
+returns-in-None c = λ h z. sym ((c.in-None.ensures.missing h z refl).open_none c.args.request)

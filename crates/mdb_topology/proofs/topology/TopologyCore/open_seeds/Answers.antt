@@ -28,4 +28,4 @@ returns-in-Ok-clause-opened c =
       watchers = c.new.result;
     } in
     let logged = begins-log o c.requires.fits begun.pools.cores.items begun.description z.0 z.1 c.args.seat c.args.log.now c.begin.new.log c.requires.empty z.2 in
-    subst (λ es. IsDriverOf w es) (sym logged) (opening-log o c.requires.fits begun.pools.cores.items begun.description z.0 z.1 c.args.seat w refl refl refl refl refl e.last refl c.new.ensures e.settings e.stand)
+    subst (λ es. IsDriverOf w es) (sym logged) (opening-log o c.requires.fits begun.pools.cores.items begun.description z.0 z.1 c.args.seat w refl refl refl refl refl e.last refl c.new.ensures e.settings e.stand e.known e.kept)

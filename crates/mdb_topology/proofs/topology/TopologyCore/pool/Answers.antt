@@ -1,7 +1,4 @@
-use Rattle.std.proofs.Common.{◌≡◌, ◌∙◌, Some, sym, ap, length, is_some, true, nat_lt}
-use Rattle.std.specs.Prelude.{slice_get}
-use Rattle.std.proofs.lemmas.List.{length-map}
-use Rattle.mdb_topology.specs.Standing.{home}
+use Rattle.std.proofs.Common.{◌∙◌, sym, ap, length, is_some, nat_lt}
 use Rattle.mdb_topology.proofs.InMemory.GonePools.{is-gone}
 use Rattle.mdb_topology.proofs.InMemory.LivingPools.{living-there}
 use Rattle.mdb_topology.proofs.OnePool.HandedOut.{opened-number, spent-not, stands-in, home-is}
@@ -9,8 +6,7 @@ use Rattle.mdb_topology.proofs.topology.TopologyCore.pool.Goals as goal
 
 pub returns-clause-opened : goal.returns-clause-opened
 returns-clause-opened c = λ h z e.
-    let pools = c.args.self.now.pools.cores.items in
-    opened-number pools c.args.number (ap is_some (sym c.pool_at.ensures) ∙ e) (length-map pools home) ∙ ap (nat_lt c.args.number) (ap length (sym z.pools.fit.homes_are))
+    ap (nat_lt c.args.number) (ap length z.pools.fit.homes_are) ∙ opened-number c.args.self.now.pools.cores.items c.args.number (sym (ap is_some c.pool_at.ensures) ∙ e)
 
 pub returns-clause-lives : goal.returns-clause-lives
 returns-clause-lives c = spent-not c.args.self.now.pools.cores.items c.args.number _ c.pool_at.ensures

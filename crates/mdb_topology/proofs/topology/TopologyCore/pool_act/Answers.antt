@@ -1,4 +1,4 @@
-use Rattle.std.proofs.Common.{◌≤◌, length, sym, subst}
+use Rattle.std.proofs.Common.{◌≤◌, length, sym, ◌∙◌, subst}
 use Rattle.mdb_topology.specs.Description.{description_of}
 use Rattle.mdb_topology.specs.Taking.{Performs, IsReady}
 use Rattle.mdb_topology.proofs.WholeSteps.PoolStep.{follows-pool}

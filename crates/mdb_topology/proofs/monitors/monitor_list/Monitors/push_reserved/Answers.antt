@@ -1,0 +1,13 @@
+use Rattle.std.proofs.Common.{◌≡◌, ◌+◌, ◌<◌, ◌++◌, ◌∷◌, [], length, sym, ◌∙◌, ap, arith}
+use Rattle.mdb_topology.specs.Watching.{MonitorList}
+use Rattle.mdb_topology.proofs.InMemory.StillLives.{length-last}
+use Rattle.mdb_topology.proofs.InMemory.WatchedPools.{more-watched, places-last}
+use Rattle.mdb_topology.proofs.monitors.monitor_list.Monitors.push_reserved.Goals as goal
+
+pub invariant_of-self : goal.invariant_of-self
+invariant_of-self c =
+    let s = c.self.inside in
+    let fewer : length s.all.value < s.room = rw (ap (λ (v : MonitorList). v.items) c.self.view_is, ap (λ (v : MonitorList). v.room) c.self.view_is) c.requires in
+    let more : length (s.all.value ++ c.args.monitor ∷ []) ≡ length s.all.value + 1 = length-last s.all.value c.args.monitor in
+    rw (c.of-all.ensures, c.push_reserved.ensures.items, c.self.invariant.1)
+    (more-watched s.all.value c.args.monitor s.kept.items c.self.invariant.0, sym more, omega (arith, fewer), omega (arith, fewer, c.self.invariant.1, c.self.invariant.3))
