@@ -1,6 +1,6 @@
 -- The monitors that memory keeps, whatever is done to them.
-use Rattle.std.proofs.Common.{ℕ, zero, suc, ◌≡◌, ◌≢◌, ◌+◌, ◌<◌, ◌==◌, ◌&&◌, ◌||◌, Bool, true, false, not, if◌then◌else◌, List, [], ◌∷◌, ◌++◌, length, map, filter, find, set, position, is_some, Option, Some, None, refl, sym, ◌∙◌, ap, subst, arith}
-use Rattle.std.specs.Prelude.{option_map, slice_get}
+use Rattle.std.proofs.Common.{ℕ, zero, suc, ◌≡◌, ◌≢◌, ◌+◌, ◌<◌, ◌==◌, ◌&&◌, ◌||◌, Bool, true, false, not, if◌then◌else◌, List, [], ◌∷◌, ◌++◌, length, map, filter, find, nat_lt, set, position, is_some, Option, Some, None, refl, sym, ◌∙◌, ap, subst, arith}
+use Rattle.std.specs.Prelude.{nat_le, option_map, slice_get}
 use Rattle.std.proofs.lemmas.Bool.Decides.{nat_tests}
 use Rattle.std.proofs.lemmas.Grind.{common_steps}
 use Rattle.std.proofs.lemmas.Option.{slice_get_within}
@@ -97,6 +97,42 @@ put-found (x ∷ xs) p e f = on (x.place == p) refl
         in-rest None h = let same : has p (places (x ∷ xs)) ≡ has p (places xs) = rw g refl in put-found xs p (sym same ∙ e) h
         in-rest (Some j) h = let k : ◌≡◌ {A = Option ℕ} (Some (suc j)) None = sym (position-miss (λ (y : Watched). y.place == p) x xs g ∙ ap (option_map suc) h) ∙ f in cc
 
+pub has-more : (ps : List ℕ) (q p : ℕ) → has q (ps ++ p ∷ []) ≡ has q ps || (p == q)
+has-more [] q p = on (p == q)
+  where
+    on : (b : Bool) → (b || false) ≡ b
+    on true = refl
+    on false = refl
+has-more (x ∷ ps) q p = on (x == q) (has-more ps q p)
+  where
+    on : (b : Bool) → has q (ps ++ p ∷ []) ≡ has q ps || (p == q) → (b || has q (ps ++ p ∷ [])) ≡ (b || has q ps) || (p == q)
+    on true r = refl
+    on false r = r
+
+-- those that were kept, and all that came since
+pub more-kept : (old now : List ℕ) (from count p : ℕ) → ((q : ℕ) → has q old || (nat_le from q && nat_lt q count) ≡ true → has q now ≡ true) → has p old || (nat_le from p && nat_lt p (count + 1)) ≡ true → has p (now ++ count ∷ []) ≡ true
+more-kept old now from count p f e = has-more now p count ∙ on (has p old) (nat_lt p count) refl refl
+  where
+    or-true : (b : Bool) → (b || true) ≡ true
+    or-true true = refl
+    or-true false = refl
+
+    both : (a b : Bool) → a && b ≡ true → (a ≡ true) × (b ≡ true)
+    both true true g = (refl, refl)
+    both true false g = cc
+    both false b g = cc
+
+    on : (b d : Bool) → has p old ≡ b → nat_lt p count ≡ d → has p now || (count == p) ≡ true
+    on true d g h = let k : has p now ≡ true = f p (rw g refl) in rw k refl
+    on false true g h =
+        let r = both (nat_le from p) (nat_lt p (count + 1)) (sym (ap (λ b. b || (nat_le from p && nat_lt p (count + 1))) g) ∙ e) in
+        let k : has p now ≡ true = f p (rw (g, r.0, h) refl) in
+        rw k refl
+    on false false g h =
+        let r = both (nat_le from p) (nat_lt p (count + 1)) (sym (ap (λ b. b || (nat_le from p && nat_lt p (count + 1))) g) ∙ e) in
+        let here : (count == p) ≡ true = grind (arith, nat_tests, r.1, h) in
+        rw here (or-true (has p now))
+
 -- one more comes last
 module _ (all : List MonitorCore) (m : MonitorCore) where
   more-of : (kept : List Watched) → AreOf all kept → AreOf (all ++ m ∷ []) (kept ++ watched (length all) m ∷ [])
@@ -113,18 +149,6 @@ module _ (all : List MonitorCore) (m : MonitorCore) where
   pub places-last : (kept : List Watched) (p : ℕ) → places (kept ++ watched p m ∷ []) ≡ places kept ++ p ∷ []
   places-last [] p = refl
   places-last (x ∷ xs) p = ap (λ ps. x.place ∷ ps) (places-last xs p)
-
-  has-more : (ps : List ℕ) (q p : ℕ) → has q (ps ++ p ∷ []) ≡ has q ps || (p == q)
-  has-more [] q p = on (p == q)
-    where
-      on : (b : Bool) → (b || false) ≡ b
-      on true = refl
-      on false = refl
-  has-more (x ∷ ps) q p = on (x == q) (has-more ps q p)
-    where
-      on : (b : Bool) → has q (ps ++ p ∷ []) ≡ has q ps || (p == q) → (b || has q (ps ++ p ∷ [])) ≡ (b || has q ps) || (p == q)
-      on true r = refl
-      on false r = r
 
   apart-more : (ps : List ℕ) (p : ℕ) → are_apart ps ≡ true → has p ps ≡ false → are_apart (ps ++ p ∷ []) ≡ true
   apart-more [] p a e = refl

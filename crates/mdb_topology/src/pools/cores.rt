@@ -255,7 +255,8 @@ impl Cores {
         ensures room { self.new.room ≡ self.old.room }
     {
         let all = Past::of::<(&Past<PoolCore>, &PoolCore), OneMore>(&(&self.all, &core));
-        keep(&mut self.living, self.opened, core);
+        let place = self.opened;
+        keep(&mut self.living, place, core);
         self.opened += 1;
         self.all = all;
     }

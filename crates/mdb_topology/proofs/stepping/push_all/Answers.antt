@@ -10,10 +10,10 @@ push_reserved-requires c =
     let turn = YieldsList-turn (YieldsList-from_vec {s = c.into_iter-monitor-iterator.result} c.args.more.items (search rules) (search rules))
     c.loop-monitor.yielded c.loop-monitor.monitor-iterator c.loop-monitor.yielded_by c.next.result c.next.new.self c.in-Some.monitor c.in-Some.is c.next.ensures.steps in
     let long : length c.loop-monitor.monitors.items ≡ _ = ap length inv.items ∙ length-append c.args.monitors.now.items c.loop-monitor.yielded in
-    omega (arith, turn.0, long, inv.capacity, c.requires)
+    omega (arith, turn.0, long, inv.room, c.requires)
 
-pub returns : goal.returns
-returns c =
+pub returns-clause-items : goal.returns-clause-items
+returns-clause-items c =
     let end = YieldsList-end (YieldsList-from_vec {s = c.into_iter-monitor-iterator.result} c.args.more.items (search rules) (search rules))
     c.loop-monitor.yielded c.loop-monitor.monitor-iterator c.loop-monitor.yielded_by c.next.result c.next.new.self c.in-None.is c.next.ensures.steps in
     rw (← end.0, map-id) c.loop-monitor.invariant.items
