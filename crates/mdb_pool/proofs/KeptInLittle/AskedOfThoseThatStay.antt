@@ -5,6 +5,7 @@ use Rattle.std.proofs.lemmas.Grind.{common_steps}
 use Rattle.mdb_log.specs.Connections.{has}
 use Rattle.mdb_log.specs.History.{PoolItem}
 use Rattle.mdb_slots.specs.Lists.{apart, has as among}
+use Rattle.mdb_slots.proofs.Lists.{apart-first, apart-rest}
 use Rattle.mdb_slots.proofs.Numbers.{same-number}
 use Rattle.mdb_pool.specs.declared.kept.connection.Connection.{Connection}
 use Rattle.mdb_pool.specs.declared.kept.request.Request.{Request}
@@ -118,6 +119,7 @@ module _ (s : PoolCore) where
       on None f =
           let g : given_of (request_at s r) ≡ None = sym (given_kept s.settled (request_at s r)) ∙ ap given_of f in
           let h : held_connection s r ≡ None = rw g refl in
+          let k : is_some (held_connection s r) ≡ false = ap is_some h in
           cc
       on (Some q) f = refl
 
@@ -138,7 +140,7 @@ module _ (s : PoolCore) where
     at-own : (qs : List Request) (q : Request) → apart (map number-of qs) ≡ true → In q qs → request_in qs q.number ≡ Some q
     at-own [] q a i = elim i [ ]
     at-own (p ∷ ps) q a here = grind (arith, common_steps)
-    at-own (p ∷ ps) q a (there i) = on (p.number == q.number) refl (at-own ps q (grind (arith, common_steps, a)) i)
+    at-own (p ∷ ps) q a (there i) = on (p.number == q.number) refl (at-own ps q (apart-rest p.number (map number-of ps) a) i)
       where
         behind : (ys : List Request) → In q ys → among q.number (map number-of ys) ≡ true
         behind [] j = elim j [ ]
@@ -147,7 +149,7 @@ module _ (s : PoolCore) where
 
         on : (b : Bool) → (p.number == q.number) ≡ b → request_in ps q.number ≡ Some q → request_in (p ∷ ps) q.number ≡ Some q
         on true e r =
-            let f : among p.number (map number-of ps) ≡ false = grind (arith, common_steps, a) in
+            let f : among p.number (map number-of ps) ≡ false = apart-first p.number (map number-of ps) a in
             let g : among p.number (map number-of ps) ≡ true = subst (λ k. among k (map number-of ps) ≡ true) (sym (same-number p.number q.number e)) (behind ps i) in
             cc
         on false e r = rw e r
@@ -215,10 +217,10 @@ fewer p k (q ∷ qs) e = grind (arith, common_steps, fewer p k qs, e)
 
 pub filter-apart : (p : Request → Bool) (qs : List Request) → apart (map number-of qs) ≡ true → apart (map number-of (filter p qs)) ≡ true
 filter-apart p [] a = refl
-filter-apart p (q ∷ qs) a = on (p q) refl (filter-apart p qs (grind (arith, common_steps, a)))
+filter-apart p (q ∷ qs) a = on (p q) refl (filter-apart p qs (apart-rest q.number (map number-of qs) a))
   where
     on : (b : Bool) → p q ≡ b → apart (map number-of (filter p qs)) ≡ true → apart (map number-of (filter p (q ∷ qs))) ≡ true
-    on true e r = rw (e, fewer p q.number qs (grind (arith, common_steps, a))) r
+    on true e r = rw (e, fewer p q.number qs (apart-first q.number (map number-of qs) a)) r
     on false e r = rw e r
 
 pub kept-apart : (ks : List ℕ) (qs : List Request) → apart (map number-of qs) ≡ true → apart (map number-of (filter (lingers ks) qs)) ≡ true

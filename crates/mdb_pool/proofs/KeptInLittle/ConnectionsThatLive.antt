@@ -18,20 +18,18 @@ member_lives x [] i = elim i [ ]
 member_lives x (y ∷ ys) here = grind (arith, common_steps)
 member_lives x (y ∷ ys) (there i) = grind (arith, common_steps, member_lives x ys i)
 
+-- one that stands first, or later
+split : (x y : Connection) (zs ys : List Connection) → In x (y ∷ zs) → (In x zs → In x ys) → In x (y ∷ ys)
+split x y zs ys here f = here
+split x y zs ys (there i) f = there (f i)
+
 filtered : (q : Connection → Bool) (x : Connection) (xs : List Connection) → In x (filter q xs) → In x xs
 filtered q x [] i = elim i [ ]
-filtered q x (y ∷ ys) i = on (q y) refl i
+filtered q x (y ∷ ys) i = on (q y) refl i (filtered q x ys)
   where
-    later : In x ys → In x (y ∷ ys)
-    later j = there j
-
-    split : (zs : List Connection) → In x (y ∷ zs) → (In x zs → In x ys) → In x (y ∷ ys)
-    split zs here f = here
-    split zs (there j) f = there (f j)
-
-    on : (b : Bool) → q y ≡ b → In x (filter q (y ∷ ys)) → In x (y ∷ ys)
-    on true e j = let was : filter q (y ∷ ys) ≡ y ∷ filter q ys = rw e refl in split (filter q ys) (subst (λ zs. In x zs) was j) (filtered q x ys)
-    on false e j = let was : filter q (y ∷ ys) ≡ filter q ys = rw e refl in there (filtered q x ys (subst (λ zs. In x zs) was j))
+    on : (b : Bool) → q y ≡ b → In x (filter q (y ∷ ys)) → (In x (filter q ys) → In x ys) → In x (y ∷ ys)
+    on true e j more = let was : filter q (y ∷ ys) ≡ y ∷ filter q ys = rw e refl in split x y (filter q ys) ys (subst (λ zs. In x zs) was j) more
+    on false e j more = let was : filter q (y ∷ ys) ≡ filter q ys = rw e refl in there (more (subst (λ zs. In x zs) was j))
 
 -- what a walk is at is a member
 pub walked : (q : Connection → Bool) (k : ℕ) (x : Connection) (xs : List Connection) → rest_of id-of (Some x) (filter q xs) ≡ after_key id-of k (filter q xs) → In x xs
@@ -39,14 +37,14 @@ walked q k x xs e = filtered q x xs (behind (filter q xs) (sym e))
   where
     behind : (ys : List Connection) → after_key id-of k ys ≡ x ∷ after_key id-of x.id (filter q xs) → In x ys
     behind [] f = cc
-    behind (y ∷ ys) f = on (y.id == k) refl
+    behind (y ∷ ys) f = on (y.id == k) refl (behind ys)
       where
         head : (zs : List Connection) → zs ≡ x ∷ after_key id-of x.id (filter q xs) → In x zs
         head zs g = subst (λ ws. In x ws) (sym g) here
 
-        on : (b : Bool) → (y.id == k) ≡ b → In x (y ∷ ys)
-        on true g = let was : after_key id-of k (y ∷ ys) ≡ ys = rw g refl in there (head ys ((sym was) ∙ f))
-        on false g = let was : after_key id-of k (y ∷ ys) ≡ after_key id-of k ys = rw g refl in there (behind ys ((sym was) ∙ f))
+        on : (b : Bool) → (y.id == k) ≡ b → (after_key id-of k ys ≡ x ∷ after_key id-of x.id (filter q xs) → In x ys) → In x (y ∷ ys)
+        on true g more = let was : after_key id-of k (y ∷ ys) ≡ ys = rw g refl in there (head ys (sym was ∙ f))
+        on false g more = let was : after_key id-of k (y ∷ ys) ≡ after_key id-of k ys = rw g refl in there (more (sym was ∙ f))
 
 module _ (s : PoolCore) where
   -- it is the one that has the number
