@@ -1,9 +1,12 @@
 -- What is asked of requests that have not left is what is asked of all.
-use Rattle.std.proofs.Common.{◌≡◌, ℕ, Bool, true, false, not, ◌==◌, ◌&&◌, ◌||◌, is_some, Option, Some, None, ◌⊎◌, inl, inr, List, [], ◌∷◌, map, filter, find, length, refl, sym, ◌∙◌, ap, subst, arith}
+use Rattle.std.proofs.Common.{◌≡◌, ℕ, Bool, true, false, not, ◌==◌, ◌&&◌, if◌then◌else◌, is_some, Option, Some, None, ◌⊎◌, inl, inr, List, [], ◌∷◌, map, filter, find, length, refl, sym, ◌∙◌, ap, subst, arith}
 use Rattle.std.specs.List.{filter_map}
 use Rattle.std.proofs.lemmas.Grind.{common_steps}
 use Rattle.mdb_log.specs.Connections.{has}
 use Rattle.mdb_log.specs.History.{PoolItem}
+use Rattle.mdb_events.specs.declared.end.End.{End}
+use Rattle.mdb_log.proofs.Numbers.{same-number as own-number}
+use Rattle.mdb_slots.specs.Keyed.{put, swap}
 use Rattle.mdb_slots.specs.Lists.{apart, has as among}
 use Rattle.mdb_slots.proofs.Lists.{apart-first, apart-rest}
 use Rattle.mdb_slots.proofs.Numbers.{same-number}
@@ -11,13 +14,13 @@ use Rattle.mdb_pool.specs.declared.kept.connection.Connection.{Connection}
 use Rattle.mdb_pool.specs.declared.kept.request.Request.{Request}
 use Rattle.mdb_pool.specs.declared.kept.request.Phase.{Phase}
 use Rattle.mdb_pool.specs.declared.kept.request.Phase.TheVariants.{Queued, Given, Over, Ended as EndedPhase}
-use Rattle.mdb_pool.specs.Changes.{ended_request, ended_one, unserved_ones}
+use Rattle.mdb_pool.specs.Changes.{away, unserved_ones}
 use Rattle.mdb_pool.specs.Core.{PoolCore}
 use Rattle.mdb_pool.specs.Kept.{candidate_now, blocked_now, connection_at, first_overdue, first_queued, given_in, given_of, held_connection, held_given, holder_request, if_held, if_lingers, is_asked_at, is_ended_at, is_gone, is_open_now, kept_holder, kept_request, kept_requests, lingers, overdue_now, overdue_since, request_at, request_in, unserved_in}
 use Rattle.mdb_pool.specs.Places.{is_done, is_queued}
 use Rattle.mdb_pool.specs.Standing.{Fits}
 use Rattle.mdb_pool.proofs.KeptInLittle.RequestsThatStay.{number-of, queued-kept}
-use Rattle.mdb_pool.proofs.Listed.Values.{In, here, there, entry_at-key, find-member}
+use Rattle.mdb_pool.proofs.Listed.Values.{In, here, there, entry_at-key, entry_at-put, entry_at-swap_any, find-member}
 
 -- what left was given nothing
 pub given_kept : (ks : List ℕ) (o : Option Request) → given_of (if_lingers ks o) ≡ given_of o
@@ -209,6 +212,29 @@ module _ (s : PoolCore) where
       on : (request_at s r ≡ None) ⊎ ((q : Request) × (request_at s r ≡ Some q) × (unserved_in s q.phase ≡ false)) → filter (λ q. unserved_in s q.phase) (filter_map (request_at s) (r ∷ [])) ≡ []
       on (inl f) = rw f refl
       on (inr h) = rw (h.1, h.2) refl
+
+-- one that has ended came
+pub ended-came : (o : Option Request) → is_ended_at o ≡ true → is_some o ≡ true
+ended-came None e = cc
+ended-came (Some q) e = refl
+
+-- one that was put came
+pub put-came : (q : Request) (qs : List Request) → is_some (request_in (put number-of q qs) q.number) ≡ true
+put-came q qs = ap is_some (entry_at-put number-of q.number q qs) ∙ rw (own-number q.number) refl
+
+-- one whose place another takes came, and does so still
+pub swap-came : (q : Request) (qs : List Request) (r : ℕ) → is_some (request_in qs r) ≡ true → is_some (request_in (swap number-of q qs) r) ≡ true
+swap-came q qs r e = ap is_some (entry_at-swap_any number-of r q qs) ∙ on (q.number == r) (request_in qs r) e
+  where
+    on : (b : Bool) (o : Option Request) → is_some o ≡ true → is_some (if b then (if is_some o then Some q else None) else o) ≡ true
+    on true None f = cc
+    on true (Some p) f = refl
+    on false o f = f
+
+-- a request that is turned away is not settled by that
+pub away-settled : (s : PoolCore) (r m : ℕ) (warm : Bool) (o : Option End) → (away s r m warm o).settled ≡ s.settled
+away-settled s r m warm None = refl
+away-settled s r m warm (Some end) = refl
 
 -- numbers that are apart stay so
 fewer : (p : Request → Bool) (k : ℕ) (qs : List Request) → among k (map number-of qs) ≡ false → among k (map number-of (filter p qs)) ≡ false

@@ -388,6 +388,33 @@ module _ (all : List Request) (ks : List ℕ) (kept : List Request) (told known 
         on true e = e
         on false e = let k : lingers ks x ≡ true = rw (numbered, e) refl in cc
 
+  -- one that memory has not is settled
+  pub left-settled : (n : ℕ) → is_some (request_in all n) ≡ true → request_in kept n ≡ None → ks ≡ marked n ks
+  left-settled n came none = on (request_in all n) refl came
+    where
+      on : (o : Option Request) → request_in all n ≡ o → is_some o ≡ true → ks ≡ marked n ks
+      on None e g = cc
+      on (Some x) e g = in-two (lingers ks x) refl
+        where
+          in-two : (b : Bool) → lingers ks x ≡ b → ks ≡ marked n ks
+          in-two true f = let k : request_in kept n ≡ Some x = kept-at n ∙ (ap (if_lingers ks) e ∙ rw f refl) in cc
+          in-two false f = gone-settled n x e f
+
+  -- one that memory has is there, and has not left
+  pub found-kept : (n : ℕ) (x : Request) → request_in kept n ≡ Some x → (request_in all n ≡ Some x) × (lingers ks x ≡ true)
+  found-kept n x found = on (request_in all n) refl (sym (kept-at n) ∙ found)
+    where
+      on : (o : Option Request) → request_in all n ≡ o → if_lingers ks (request_in all n) ≡ Some x → (request_in all n ≡ Some x) × (lingers ks x ≡ true)
+      on None e g = let k : if_lingers ks (request_in all n) ≡ None = ap (if_lingers ks) e in cc
+      on (Some y) e g = in-two (lingers ks y) refl
+        where
+          in-two : (b : Bool) → lingers ks y ≡ b → (request_in all n ≡ Some x) × (lingers ks x ≡ true)
+          in-two true f =
+              let k : if_lingers ks (request_in all n) ≡ Some y = ap (if_lingers ks) e ∙ rw f refl in
+              let w : y ≡ x = cc in
+              (e ∙ ap Some w, ap (lingers ks) (sym w) ∙ f)
+          in-two false f = let k : if_lingers ks (request_in all n) ≡ None = ap (if_lingers ks) e ∙ rw f refl in cc
+
   -- a request is open where it has not left, asked, and is not settled
   pub open-now : (n : ℕ) → request_in kept n ≡ None → (is_asked_at (request_in all n) && not (has n ks)) ≡ false
   open-now n none = on (request_in all n) refl
