@@ -60,6 +60,7 @@ or-true false = refl
 
 -- a connection in a list has its number there
 in-ids : (x : Connection) (xs : List Connection) → In x xs → has x.id (map (λ y. y.id) xs) ≡ true
+in-ids x [] i = elim i [ ]
 in-ids x (y ∷ xs) here = own y.id (map (λ z. z.id) xs)
 in-ids x (y ∷ xs) (there i) = behind x.id y.id (map (λ z. z.id) xs) (in-ids x xs i)
 
@@ -94,8 +95,8 @@ find-same p q (x ∷ xs) e =
     on (q x) refl (e x (own x.id (map (λ z. z.id) xs))) rest
   where
     on : (b : Bool) → q x ≡ b → p x ≡ q x → find p xs ≡ find q xs → find p (x ∷ xs) ≡ find q (x ∷ xs)
-    on true f g r = rw (f, g) refl
-    on false f g r = rw (f, g) r
+    on true f g r = rw (g, f) refl
+    on false f g r = rw (g, f) r
 
 abbrev pending-ids : List Connection → List ℕ
 pending-ids cs = ids_where is_pending cs

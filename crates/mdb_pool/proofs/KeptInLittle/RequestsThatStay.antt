@@ -18,10 +18,10 @@ use Rattle.mdb_pool.specs.Places.{is_done, is_queued}
 use Rattle.mdb_pool.proofs.Listed.Noted.{has-marked, marked-again}
 use Rattle.mdb_pool.proofs.Listed.Values.{entry_at-key, entry_at-others, entry_at-put, entry_at-swap_any}
 
-abbrev number-of : Request → ℕ
+abbrev pub number-of : Request → ℕ
 number-of q = q.number
 
-abbrev own-key : ℕ → ℕ
+abbrev pub own-key : ℕ → ℕ
 own-key k = k
 
 -- what is asked of a list of values whose numbers are apart
