@@ -1,22 +1,26 @@
 -- What is asked of requests that have not left is what is asked of all.
-use Rattle.std.proofs.Common.{◌≡◌, ℕ, Bool, true, false, not, ◌==◌, ◌&&◌, ◌||◌, is_some, Option, Some, None, ◌⊎◌, inl, inr, List, [], ◌∷◌, map, filter, find, length, refl, sym, ◌∙◌, ap, subst, arith}
+use Rattle.std.proofs.Common.{◌≡◌, ℕ, Bool, true, false, not, ◌==◌, ◌&&◌, if◌then◌else◌, is_some, Option, Some, None, ◌⊎◌, inl, inr, List, [], ◌∷◌, map, filter, find, length, refl, sym, ◌∙◌, ap, subst, arith}
 use Rattle.std.specs.List.{filter_map}
 use Rattle.std.proofs.lemmas.Grind.{common_steps}
 use Rattle.mdb_log.specs.Connections.{has}
 use Rattle.mdb_log.specs.History.{PoolItem}
+use Rattle.mdb_events.specs.declared.end.End.{End}
+use Rattle.mdb_log.proofs.Numbers.{same-number as own-number}
+use Rattle.mdb_slots.specs.Keyed.{put, swap}
 use Rattle.mdb_slots.specs.Lists.{apart, has as among}
+use Rattle.mdb_slots.proofs.Lists.{apart-first, apart-rest}
 use Rattle.mdb_slots.proofs.Numbers.{same-number}
 use Rattle.mdb_pool.specs.declared.kept.connection.Connection.{Connection}
 use Rattle.mdb_pool.specs.declared.kept.request.Request.{Request}
 use Rattle.mdb_pool.specs.declared.kept.request.Phase.{Phase}
 use Rattle.mdb_pool.specs.declared.kept.request.Phase.TheVariants.{Queued, Given, Over, Ended as EndedPhase}
-use Rattle.mdb_pool.specs.Changes.{ended_request, ended_one, unserved_ones}
+use Rattle.mdb_pool.specs.Changes.{away, unserved_ones}
 use Rattle.mdb_pool.specs.Core.{PoolCore}
 use Rattle.mdb_pool.specs.Kept.{candidate_now, blocked_now, connection_at, first_overdue, first_queued, given_in, given_of, held_connection, held_given, holder_request, if_held, if_lingers, is_asked_at, is_ended_at, is_gone, is_open_now, kept_holder, kept_request, kept_requests, lingers, overdue_now, overdue_since, request_at, request_in, unserved_in}
 use Rattle.mdb_pool.specs.Places.{is_done, is_queued}
 use Rattle.mdb_pool.specs.Standing.{Fits}
 use Rattle.mdb_pool.proofs.KeptInLittle.RequestsThatStay.{number-of, queued-kept}
-use Rattle.mdb_pool.proofs.Listed.Values.{In, here, there, entry_at-key, find-member}
+use Rattle.mdb_pool.proofs.Listed.Values.{In, here, there, entry_at-key, entry_at-put, entry_at-swap_any, find-member}
 
 -- what left was given nothing
 pub given_kept : (ks : List ℕ) (o : Option Request) → given_of (if_lingers ks o) ≡ given_of o
@@ -118,6 +122,7 @@ module _ (s : PoolCore) where
       on None f =
           let g : given_of (request_at s r) ≡ None = sym (given_kept s.settled (request_at s r)) ∙ ap given_of f in
           let h : held_connection s r ≡ None = rw g refl in
+          let k : is_some (held_connection s r) ≡ false = ap is_some h in
           cc
       on (Some q) f = refl
 
@@ -138,7 +143,7 @@ module _ (s : PoolCore) where
     at-own : (qs : List Request) (q : Request) → apart (map number-of qs) ≡ true → In q qs → request_in qs q.number ≡ Some q
     at-own [] q a i = elim i [ ]
     at-own (p ∷ ps) q a here = grind (arith, common_steps)
-    at-own (p ∷ ps) q a (there i) = on (p.number == q.number) refl (at-own ps q (grind (arith, common_steps, a)) i)
+    at-own (p ∷ ps) q a (there i) = on (p.number == q.number) refl (at-own ps q (apart-rest p.number (map number-of ps) a) i)
       where
         behind : (ys : List Request) → In q ys → among q.number (map number-of ys) ≡ true
         behind [] j = elim j [ ]
@@ -147,7 +152,7 @@ module _ (s : PoolCore) where
 
         on : (b : Bool) → (p.number == q.number) ≡ b → request_in ps q.number ≡ Some q → request_in (p ∷ ps) q.number ≡ Some q
         on true e r =
-            let f : among p.number (map number-of ps) ≡ false = grind (arith, common_steps, a) in
+            let f : among p.number (map number-of ps) ≡ false = apart-first p.number (map number-of ps) a in
             let g : among p.number (map number-of ps) ≡ true = subst (λ k. among k (map number-of ps) ≡ true) (sym (same-number p.number q.number e)) (behind ps i) in
             cc
         on false e r = rw e r
@@ -208,6 +213,29 @@ module _ (s : PoolCore) where
       on (inl f) = rw f refl
       on (inr h) = rw (h.1, h.2) refl
 
+-- one that has ended came
+pub ended-came : (o : Option Request) → is_ended_at o ≡ true → is_some o ≡ true
+ended-came None e = cc
+ended-came (Some q) e = refl
+
+-- one that was put came
+pub put-came : (q : Request) (qs : List Request) → is_some (request_in (put number-of q qs) q.number) ≡ true
+put-came q qs = ap is_some (entry_at-put number-of q.number q qs) ∙ rw (own-number q.number) refl
+
+-- one whose place another takes came, and does so still
+pub swap-came : (q : Request) (qs : List Request) (r : ℕ) → is_some (request_in qs r) ≡ true → is_some (request_in (swap number-of q qs) r) ≡ true
+swap-came q qs r e = ap is_some (entry_at-swap_any number-of r q qs) ∙ on (q.number == r) (request_in qs r) e
+  where
+    on : (b : Bool) (o : Option Request) → is_some o ≡ true → is_some (if b then (if is_some o then Some q else None) else o) ≡ true
+    on true None f = cc
+    on true (Some p) f = refl
+    on false o f = f
+
+-- a request that is turned away is not settled by that
+pub away-settled : (s : PoolCore) (r m : ℕ) (warm : Bool) (o : Option End) → (away s r m warm o).settled ≡ s.settled
+away-settled s r m warm None = refl
+away-settled s r m warm (Some end) = refl
+
 -- numbers that are apart stay so
 fewer : (p : Request → Bool) (k : ℕ) (qs : List Request) → among k (map number-of qs) ≡ false → among k (map number-of (filter p qs)) ≡ false
 fewer p k [] e = refl
@@ -215,10 +243,10 @@ fewer p k (q ∷ qs) e = grind (arith, common_steps, fewer p k qs, e)
 
 pub filter-apart : (p : Request → Bool) (qs : List Request) → apart (map number-of qs) ≡ true → apart (map number-of (filter p qs)) ≡ true
 filter-apart p [] a = refl
-filter-apart p (q ∷ qs) a = on (p q) refl (filter-apart p qs (grind (arith, common_steps, a)))
+filter-apart p (q ∷ qs) a = on (p q) refl (filter-apart p qs (apart-rest q.number (map number-of qs) a))
   where
     on : (b : Bool) → p q ≡ b → apart (map number-of (filter p qs)) ≡ true → apart (map number-of (filter p (q ∷ qs))) ≡ true
-    on true e r = rw (e, fewer p q.number qs (grind (arith, common_steps, a))) r
+    on true e r = rw (e, fewer p q.number qs (apart-first q.number (map number-of qs) a)) r
     on false e r = rw e r
 
 pub kept-apart : (ks : List ℕ) (qs : List Request) → apart (map number-of qs) ≡ true → apart (map number-of (filter (lingers ks) qs)) ≡ true

@@ -26,11 +26,11 @@ weaker m n (c ∷ cs) l a = (omega (arith, l, a.0), a.1)
 
 part-ascends : (q : ℕ → Bool) (n : ℕ) (cs : List ℕ) → Ascends n cs → Ascends n (filter q cs)
 part-ascends q n [] a = tt
-part-ascends q n (c ∷ cs) a = on (q c) refl
+part-ascends q n (c ∷ cs) a = on (q c) refl (part-ascends q c cs a.1) (part-ascends q n cs (weaker n c cs (omega (arith, a.0)) a.1))
   where
-    on : (b : Bool) → q c ≡ b → Ascends n (filter q (c ∷ cs))
-    on true e = rw e (a.0, part-ascends q c cs a.1)
-    on false e = rw e (part-ascends q n cs (weaker n c cs (omega (arith, a.0)) a.1))
+    on : (b : Bool) → q c ≡ b → Ascends c (filter q cs) → Ascends n (filter q cs) → Ascends n (filter q (c ∷ cs))
+    on true e r s = rw e (a.0, r)
+    on false e r s = rw e s
 
 part-has : (c : ℕ) (q : ℕ → Bool) (cs : List ℕ) → has c (filter q cs) ≡ true → has c cs ≡ true
 part-has c q [] h = h
@@ -48,11 +48,11 @@ ascends-more n d (c ∷ cs) a b l = (a.0, ascends-more c d cs a.1 (λ e h. b e (
 
 above : (n c : ℕ) (cs : List ℕ) → Ascends n cs → has c cs ≡ true → n < c
 above n c [] a h = cc
-above n c (x ∷ xs) a h = on (x == c) refl
+above n c (x ∷ xs) a h = on (x == c) refl (above x c xs a.1)
   where
-    on : (b : Bool) → (x == c) ≡ b → n < c
-    on true e = subst (λ k. n < k) (same-number x c e) a.0
-    on false e = let g : has c xs ≡ true = grind (arith, common_steps, e, h) in let l = above x c xs a.1 g in omega (arith, l, a.0)
+    on : (b : Bool) → (x == c) ≡ b → (has c xs ≡ true → x < c) → n < c
+    on true e more = subst (λ k. n < k) (same-number x c e) a.0
+    on false e more = let g : has c xs ≡ true = grind (arith, common_steps, e, h) in let l : x < c = more g in omega (arith, l, a.0)
 
 or-true : (b : Bool) → (b || true) ≡ true
 or-true true = refl
@@ -60,27 +60,28 @@ or-true false = refl
 
 -- a connection in a list has its number there
 in-ids : (x : Connection) (xs : List Connection) → In x xs → has x.id (map (λ y. y.id) xs) ≡ true
-in-ids x (x ∷ xs) here = own x.id (map (λ y. y.id) xs)
+in-ids x [] i = elim i [ ]
+in-ids x (y ∷ xs) here = own y.id (map (λ z. z.id) xs)
 in-ids x (y ∷ xs) (there i) = behind x.id y.id (map (λ z. z.id) xs) (in-ids x xs i)
 
 -- those with smaller numbers than the first that is not claimed are claimed
 passed : (ks : List ℕ) (n : ℕ) (xs : List Connection) (x : Connection) → Ascends n (map (λ y. y.id) xs) → find (λ y. not (has y.id ks)) xs ≡ Some x
     → (c : ℕ) → has c (map (λ y. y.id) xs) ≡ true → c < x.id → has c ks ≡ true
 passed ks n [] x a f c h l = cc
-passed ks n (y ∷ ys) x a f c h l = on (has y.id ks) (y.id == c) refl refl
+passed ks n (y ∷ ys) x a f c h l = on (has y.id ks) (y.id == c) refl refl (passed ks y.id ys x a.1)
   where
-    on : (b d : Bool) → has y.id ks ≡ b → (y.id == c) ≡ d → has c ks ≡ true
-    on true true e g = subst (λ k. has k ks ≡ true) (same-number y.id c g) e
-    on true false e g =
+    on : (b d : Bool) → has y.id ks ≡ b → (y.id == c) ≡ d → (find (λ z. not (has z.id ks)) ys ≡ Some x → (j : ℕ) → has j (map (λ z. z.id) ys) ≡ true → j < x.id → has j ks ≡ true) → has c ks ≡ true
+    on true true e g more = subst (λ k. has k ks ≡ true) (same-number y.id c g) e
+    on true false e g more =
         let rest : find (λ z. not (has z.id ks)) ys ≡ Some x = grind (arith, common_steps, e, f) in
         let m : has c (map (λ z. z.id) ys) ≡ true = grind (arith, common_steps, g, h) in
-        passed ks y.id ys x a.1 rest c m l
-    on false true e g =
+        more rest c m l
+    on false true e g more =
         let is : Some y ≡ Some x = grind (arith, common_steps, e, f) in
         let w : y ≡ x = cc in
         let s : y.id ≡ c = same-number y.id c g in
         absurd (omega (arith, l, s, ap (λ (z : Connection). z.id) w))
-    on false false e g =
+    on false false e g more =
         let is : Some y ≡ Some x = grind (arith, common_steps, e, f) in
         let w : y ≡ x = cc in
         let m : has c (map (λ z. z.id) ys) ≡ true = grind (arith, common_steps, g, h) in
@@ -166,7 +167,7 @@ module _ (made : ℕ) (k : Claimed) (cs : List Connection) (z : ClaimsFit made k
   -- the next one is created
   pub more-fit : (x : Connection) → x.id ≡ made + 1 → is_pending x.place ≡ true → ClaimsFit x.id k (put (λ y. y.id) x cs)
   more-fit x next on =
-      let ds = others (λ y. y.id) x.id cs in
+      let ds : List Connection = others (λ y. y.id) x.id cs in
       let before = others-fit x.id in
       let is : pending-ids (put (λ y. y.id) x cs) ≡ pending-ids ds ++ x.id ∷ [] =
       noted-put (λ y. y.id) (λ y. y.id) (λ j. j) (λ y. refl) (λ y. is_pending y.place) x cs

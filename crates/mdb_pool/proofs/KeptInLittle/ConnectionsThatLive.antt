@@ -1,5 +1,5 @@
 -- The connections that a pool finds live.
-use Rattle.std.proofs.Common.{ℕ, ◌≡◌, ◌<◌, Bool, true, false, ◌&&◌, is_some, List, [], ◌∷◌, filter, find, Option, Some, None, ◌⊎◌, inl, inr, refl, sym, ◌∙◌, ap, subst, arith}
+use Rattle.std.proofs.Common.{ℕ, ◌≡◌, Bool, true, false, ◌==◌, ◌&&◌, is_some, List, [], ◌∷◌, filter, find, Option, Some, None, ◌⊎◌, inl, inr, refl, sym, ◌∙◌, ap, subst, arith}
 use Rattle.std.proofs.lemmas.Grind.{common_steps}
 use Rattle.mdb_slots.specs.Keyed.{after_key, rest_of}
 use Rattle.mdb_pool.specs.declared.kept.connection.Connection.{Connection}
@@ -18,35 +18,34 @@ member_lives x [] i = elim i [ ]
 member_lives x (y ∷ ys) here = grind (arith, common_steps)
 member_lives x (y ∷ ys) (there i) = grind (arith, common_steps, member_lives x ys i)
 
+-- one that stands first, or later
+split : (x y : Connection) (zs ys : List Connection) → In x (y ∷ zs) → (In x zs → In x ys) → In x (y ∷ ys)
+split x y zs ys here f = here
+split x y zs ys (there i) f = there (f i)
+
 filtered : (q : Connection → Bool) (x : Connection) (xs : List Connection) → In x (filter q xs) → In x xs
 filtered q x [] i = elim i [ ]
-filtered q x (y ∷ ys) i = on (q y) refl i
+filtered q x (y ∷ ys) i = on (q y) refl i (filtered q x ys)
   where
-    later : In x ys → In x (y ∷ ys)
-    later j = there j
+    on : (b : Bool) → q y ≡ b → In x (filter q (y ∷ ys)) → (In x (filter q ys) → In x ys) → In x (y ∷ ys)
+    on true e j more = let was : filter q (y ∷ ys) ≡ y ∷ filter q ys = rw e refl in split x y (filter q ys) ys (subst (λ zs. In x zs) was j) more
+    on false e j more = let was : filter q (y ∷ ys) ≡ filter q ys = rw e refl in there (more (subst (λ zs. In x zs) was j))
 
-    split : (zs : List Connection) → In x (y ∷ zs) → (In x zs → In x ys) → In x (y ∷ ys)
-    split zs here f = here
-    split zs (there j) f = there (f j)
+-- what is first of what follows is a member
+behind : (x : Connection) (k : ℕ) (ys zs : List Connection) → after_key id-of k ys ≡ x ∷ zs → In x ys
+behind x k [] zs f = let none : ◌≡◌ {A = List Connection} [] (x ∷ zs) = f in cc
+behind x k (y ∷ ys) zs f = on (y.id == k) refl (behind x k ys zs)
+  where
+    first : ys ≡ x ∷ zs → In x ys
+    first e = subst (λ ws. In x ws) (sym e) here
 
-    on : (b : Bool) → q y ≡ b → In x (filter q (y ∷ ys)) → In x (y ∷ ys)
-    on true e j = let was : filter q (y ∷ ys) ≡ y ∷ filter q ys = rw e refl in split (filter q ys) (subst (λ zs. In x zs) was j) (filtered q x ys)
-    on false e j = let was : filter q (y ∷ ys) ≡ filter q ys = rw e refl in there (filtered q x ys (subst (λ zs. In x zs) was j))
+    on : (b : Bool) → (y.id == k) ≡ b → (after_key id-of k ys ≡ x ∷ zs → In x ys) → In x (y ∷ ys)
+    on true g more = let was : after_key id-of k (y ∷ ys) ≡ ys = rw g refl in there (first (sym was ∙ f))
+    on false g more = let was : after_key id-of k (y ∷ ys) ≡ after_key id-of k ys = rw g refl in there (more (sym was ∙ f))
 
 -- what a walk is at is a member
 pub walked : (q : Connection → Bool) (k : ℕ) (x : Connection) (xs : List Connection) → rest_of id-of (Some x) (filter q xs) ≡ after_key id-of k (filter q xs) → In x xs
-walked q k x xs e = filtered q x xs (behind (filter q xs) (sym e))
-  where
-    behind : (ys : List Connection) → after_key id-of k ys ≡ x ∷ after_key id-of x.id (filter q xs) → In x ys
-    behind [] f = cc
-    behind (y ∷ ys) f = on (y.id == k) refl
-      where
-        head : (zs : List Connection) → zs ≡ x ∷ after_key id-of x.id (filter q xs) → In x zs
-        head zs g = subst (λ ws. In x ws) (sym g) here
-
-        on : (b : Bool) → (y.id == k) ≡ b → In x (y ∷ ys)
-        on true g = let was : after_key id-of k (y ∷ ys) ≡ ys = rw g refl in there (head ys ((sym was) ∙ f))
-        on false g = let was : after_key id-of k (y ∷ ys) ≡ after_key id-of k ys = rw g refl in there (behind ys ((sym was) ∙ f))
+walked q k x xs e = filtered q x xs (behind x k (filter q xs) (after_key id-of x.id (filter q xs)) (sym e))
 
 module _ (s : PoolCore) where
   -- it is the one that has the number

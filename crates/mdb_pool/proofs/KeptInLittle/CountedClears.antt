@@ -1,9 +1,10 @@
 -- Counts of clears, one for each service and each gap between the connections that live, tell what all clears tell.
-use Rattle.std.proofs.Common.{◌≡◌, ℕ, zero, suc, ◌+◌, ◌≤◌, ◌<◌, Bool, true, false, not, ◌==◌, ◌&&◌, ◌||◌, if◌then◌else◌, is_some, Option, Some, None, List, [], ◌∷◌, ◌++◌, drop, filter, find, ◌⊎◌, inl, inr, refl, sym, ◌∙◌, ap, subst, arith}
-use Rattle.std.specs.Prelude.{nat_lt, count_by, slice_get, slice_set}
+use Rattle.std.proofs.Common.{◌≡◌, ℕ, zero, suc, ◌+◌, ◌≤◌, ◌<◌, Bool, true, false, not, ◌==◌, ◌&&◌, ◌||◌, if◌then◌else◌, is_some, Option, Some, None, List, [], ◌∷◌, ◌++◌, drop, length, filter, find, inl, inr, refl, sym, ◌∙◌, ap, subst, arith, add-one, drop-cons}
+use Rattle.std.specs.Prelude.{nat_lt, count_by, slice_get, slice_set, slice_index_or}
 use Rattle.std.specs.List.{AllByRecursion}
 use Rattle.std.proofs.lemmas.Bool.Decides.{nat_tests}
 use Rattle.std.proofs.lemmas.Grind.{common_steps}
+use Rattle.std.proofs.lemmas.List.{at_drop_all}
 use Rattle.mdb_base.specs.declared.object_id.ObjectId.{ObjectId}
 use Rattle.mdb_log.specs.History.{same_service}
 use Rattle.mdb_slots.specs.Keyed.{entry_at, put, others, swap}
@@ -24,10 +25,13 @@ use Rattle.mdb_pool.proofs.Listed.Values.{entry_at-others, entry_at-put, entry_a
 abbrev part : (Mark → Bool) → Mark → ℕ
 part p m = if p m then m.count else 0
 
+abbrev pub nothing : Mark
+nothing = record { service = None; after = 0; count = 0 }
+
 module _ (p : Mark → Bool) where
   pub weigh-append : (ms : List Mark) (m : Mark) → weigh p (ms ++ m ∷ []) ≡ weigh p ms + part p m
   weigh-append [] m = omega arith
-  weigh-append (x ∷ ms) m = let h : weigh p (ms ++ m ∷ []) ≡ weigh p ms + part p m = weigh-append ms m in rw h (omega arith)
+  weigh-append (x ∷ ms) m = let h : weigh p (ms ++ m ∷ []) ≡ weigh p ms + part p m = weigh-append ms m in omega (arith, h)
 
   -- one mark takes the place of another
   pub weigh-set : (ms : List Mark) (i : ℕ) (o n : Mark) → slice_get ms i ≡ Some o → weigh p (slice_set ms i n) + part p o ≡ weigh p ms + part p n
@@ -37,16 +41,14 @@ module _ (p : Mark → Bool) where
 
   pub weigh_within : (ms : List Mark) → weigh p ms ≤ weigh (λ m. true) ms
   weigh_within [] = omega arith
-  weigh_within (x ∷ ms) = on (p x)
+  weigh_within (x ∷ ms) = on (p x) (weigh_within ms)
     where
-      on : (b : Bool) → (if b then x.count else 0) + weigh p ms ≤ x.count + weigh (λ m. true) ms
-      on true = let h = weigh_within ms in omega (arith, h)
-      on false = let h = weigh_within ms in omega (arith, h)
+      on : (b : Bool) → weigh p ms ≤ weigh (λ m. true) ms → (if b then x.count else 0) + weigh p ms ≤ x.count + weigh (λ m. true) ms
+      on true h = omega (arith, h)
+      on false h = omega (arith, h)
 
-  pub weigh_rest : (ms : List Mark) (i : ℕ) (m : Mark) → slice_get ms i ≡ Some m → weigh p (drop i ms) ≡ part p m + weigh p (drop (suc i) ms)
-  weigh_rest [] i m e = cc
-  weigh_rest (x ∷ ms) zero m e = let w : x ≡ m = cc in ap (λ y. part p y + weigh p ms) w
-  weigh_rest (x ∷ ms) (suc i) m e = weigh_rest ms i m e
+  pub weigh_rest : (ms : List Mark) (i : ℕ) (d : Mark) → i < length ms → weigh p (drop i ms) ≡ part p (slice_index_or ms i d) + weigh p (drop (i + 1) ms)
+  weigh_rest ms i d l = ap (weigh p) (drop-cons ms i d l) ∙ ap (λ k. part p (slice_index_or ms i d) + weigh p (drop k ms)) (sym (add-one i))
 
   -- where all counts are positive, some are there where there are any marks
   pub weigh-some : (ms : List Mark) → AllByRecursion (λ m. 0 < m.count) ms → nat_lt 0 (count_by p ms) ≡ nat_lt 0 (weigh p ms)
@@ -76,15 +78,15 @@ parts-false a b c e = on (nat_lt a c) (nat_lt b c) e
 
 none-at : (q : ℕ → Bool) (cs : List Connection) (c : ℕ) → find (λ x. q x.id) cs ≡ None → is_some (connection_in cs c) ≡ true → q c ≡ false
 none-at q [] c e h = cc
-none-at q (y ∷ ys) c e h = on (q y.id) (y.id == c) refl refl
+none-at q (y ∷ ys) c e h = on (q y.id) (y.id == c) refl refl (none-at q ys c)
   where
-    on : (b d : Bool) → q y.id ≡ b → (y.id == c) ≡ d → q c ≡ false
-    on true d f g = cc
-    on false true f g = subst (λ k. q k ≡ false) (same-number y.id c g) f
-    on false false f g =
+    on : (b d : Bool) → q y.id ≡ b → (y.id == c) ≡ d → (find (λ x. q x.id) ys ≡ None → is_some (connection_in ys c) ≡ true → q c ≡ false) → q c ≡ false
+    on true d f g more = let k : find (λ x. q x.id) (y ∷ ys) ≡ Some y = rw f refl in cc
+    on false true f g more = subst (λ k. q k ≡ false) (same-number y.id c g) f
+    on false false f g more =
         let rest : find (λ x. q x.id) ys ≡ None = grind (arith, common_steps, e, f) in
         let there : is_some (connection_in ys c) ≡ true = grind (arith, common_steps, h, g) in
-        none-at q ys c rest there
+        more rest there
 
 one-gap : (cs : List Connection) (made a b : ℕ) → a ≤ made → b ≤ made → find (λ x. parts_at a b x.id) cs ≡ None → (c : ℕ) → IsAsked cs made c → nat_lt a c ≡ nat_lt b c
 one-gap cs made a b la lb e c (inl h) = parts-false a b c (none-at (parts_at a b) cs c e h)
@@ -138,6 +140,38 @@ module _ (cs : List Connection) (made : ℕ) where
           let two : part p m ≡ 0 = rw f refl in
           let three : part p (record j.0 { count = count }) ≡ 0 = rw (blind j.0 count, e) refl in
           omega (arith, h, one, two, three)
+
+all-at : (ms : List Mark) (i : ℕ) (d : Mark) → AllByRecursion (λ o. 0 < o.count) ms → i < length ms → 0 < (slice_index_or ms i d).count
+all-at [] i d a l = absurd (omega (arith, l))
+all-at (x ∷ ms) zero d a l = a.0
+all-at (x ∷ ms) (suc i) d a l = all-at ms i d a.1 (omega (arith, l))
+
+-- the marks that were made and those that are left count all
+pub record CountsAll (cs : List Connection) (made : ℕ) (ms new rest : List Mark) : Type 0 where
+  pub all : weigh (λ m. true) new + weigh (λ m. true) rest ≡ weigh (λ m. true) ms
+  pub total : (t : Option ObjectId) → weigh (counts_at t None) new + weigh (counts_at t None) rest ≡ weigh (counts_at t None) ms
+  pub positive : AllByRecursion (λ m. 0 < m.count) ms → AllByRecursion (λ m. 0 < m.count) new
+  pub earlier : (t : Option ObjectId) (c : ℕ) → IsAsked cs made c → weigh (counts_at t (Some c)) new + weigh (counts_at t (Some c)) rest ≡ weigh (counts_at t (Some c)) ms
+
+module _ (cs : List Connection) (made : ℕ) (ms : List Mark) where
+  pub counts-start : CountsAll cs made ms [] ms
+  counts-start = record { all = omega arith; total = λ t. omega arith; positive = λ a. tt; earlier = λ t c asked. omega arith }
+
+  pub counts-more : (new after : List Mark) (i : ℕ) → CountsAll cs made ms new (drop i ms) → i < length ms → Grown cs made new (slice_index_or ms i nothing) after → CountsAll cs made ms after (drop (i + 1) ms)
+  counts-more new after i z l g = record {
+    all = omega (arith, z.all, g.all, weigh_rest (λ m. true) ms i nothing l);
+    total = λ t. omega (arith, z.total t, g.total t, weigh_rest (counts_at t None) ms i nothing l);
+    positive = λ a. g.positive (z.positive a) (all-at ms i nothing a l);
+    earlier = λ t c asked. omega (arith, z.earlier t c asked, g.earlier t c asked, weigh_rest (counts_at t (Some c)) ms i nothing l);
+  }
+
+  pub counts-last : (new after : List Mark) (m : Mark) (i : ℕ) → CountsAll cs made ms new (drop i ms) → length ms ≤ i → Grown cs made new m after → Grown cs made ms m after
+  counts-last new after m i z l g = record {
+    all = omega (arith, z.all, g.all, at_drop_all (weigh (λ m. true)) ms i l);
+    total = λ t. omega (arith, z.total t, g.total t, at_drop_all (weigh (counts_at t None)) ms i l);
+    positive = λ a n. g.positive (z.positive a) n;
+    earlier = λ t c asked. omega (arith, z.earlier t c asked, g.earlier t c asked, at_drop_all (weigh (counts_at t (Some c))) ms i l);
+  }
 
 module _ (made : ℕ) (k : Cleared) (cs : List Connection) (z : ClearsFit made k cs) where
   -- fewer live

@@ -6,7 +6,7 @@ use Rattle.mdb_log.proofs.Numbers.{same-number as own-number}
 use Rattle.mdb_slots.specs.Keyed.{entry_at, put, others, swap}
 use Rattle.mdb_slots.specs.Lists.{apart, has as among}
 use Rattle.mdb_slots.proofs.Apart.{apart-put, apart-swap}
-use Rattle.mdb_slots.proofs.Lists.{has-append as among-append}
+use Rattle.mdb_slots.proofs.Lists.{has-append as among-append, apart-first, apart-rest}
 use Rattle.mdb_slots.proofs.Numbers.{same-number}
 use Rattle.mdb_pool.specs.declared.kept.request.Phase.{Phase}
 use Rattle.mdb_pool.specs.declared.kept.request.Phase.TheVariants.{Queued, Given, Over, Ended as EndedPhase}
@@ -18,10 +18,10 @@ use Rattle.mdb_pool.specs.Places.{is_done, is_queued}
 use Rattle.mdb_pool.proofs.Listed.Noted.{has-marked, marked-again}
 use Rattle.mdb_pool.proofs.Listed.Values.{entry_at-key, entry_at-others, entry_at-put, entry_at-swap_any}
 
-abbrev number-of : Request → ℕ
+abbrev pub number-of : Request → ℕ
 number-of q = q.number
 
-abbrev own-key : ℕ → ℕ
+abbrev pub own-key : ℕ → ℕ
 own-key k = k
 
 -- what is asked of a list of values whose numbers are apart
@@ -32,18 +32,18 @@ find-absent k (q ∷ qs) e = grind (arith, common_steps, find-absent k qs, e)
 -- at most one has the number: what it meets, all that have the number meet
 pub all-of : (p : Request → Bool) (k : ℕ) (qs : List Request) (x : Request) → apart (map number-of qs) ≡ true → request_in qs k ≡ Some x → filter (λ q. q.number == k) qs ≡ x ∷ []
 all-of p k [] x a e = cc
-all-of p k (q ∷ qs) x a e = on (q.number == k) refl
+all-of p k (q ∷ qs) x a e = on (q.number == k) refl (all-of p k qs x (apart-rest q.number (map number-of qs) a))
   where
     none : (ys : List Request) → among k (map number-of ys) ≡ false → filter (λ y. y.number == k) ys ≡ []
     none [] h = refl
     none (y ∷ ys) h = grind (arith, common_steps, none ys, h)
 
-    on : (b : Bool) → (q.number == k) ≡ b → filter (λ y. y.number == k) (q ∷ qs) ≡ x ∷ []
-    on true f =
+    on : (b : Bool) → (q.number == k) ≡ b → (request_in qs k ≡ Some x → filter (λ y. y.number == k) qs ≡ x ∷ []) → filter (λ y. y.number == k) (q ∷ qs) ≡ x ∷ []
+    on true f more =
         let w : q ≡ x = grind (arith, common_steps, e, f) in
-        let absent : among q.number (map number-of qs) ≡ false = grind (arith, common_steps, a) in
+        let absent : among q.number (map number-of qs) ≡ false = apart-first q.number (map number-of qs) a in
         rw (f, none qs (subst (λ j. among j (map number-of qs) ≡ false) (same-number q.number k f) absent), w) refl
-    on false f = rw f (all-of p k qs x (grind (arith, common_steps, a)) (grind (arith, common_steps, e, f)))
+    on false f more = rw f (more (grind (arith, common_steps, e, f)))
 
 -- values that meet a test, without one number
 filter-others : (p : Request → Bool) (k : ℕ) (qs : List Request) → filter p (others number-of k qs) ≡ others number-of k (filter p qs)
@@ -92,7 +92,7 @@ filter-out p q (x ∷ qs) e = on (p x) (x.number == q.number) refl refl (filter-
     on false false f g r = rw (g, f) r
 
 -- the one that has the number, where it meets the test
-only : (Request → Bool) → Option Request → Option Request
+abbrev only : (Request → Bool) → Option Request → Option Request
 only p None = None
 only p (Some q) = if p q then Some q else None
 
@@ -102,14 +102,14 @@ absent-filter p k (y ∷ ys) h = grind (arith, common_steps, absent-filter p k y
 
 entry-filter : (p : Request → Bool) (k : ℕ) (qs : List Request) → apart (map number-of qs) ≡ true → request_in (filter p qs) k ≡ only p (request_in qs k)
 entry-filter p k [] a = refl
-entry-filter p k (q ∷ qs) a = on (p q) (q.number == k) refl refl (entry-filter p k qs (grind (arith, common_steps, a)))
+entry-filter p k (q ∷ qs) a = on (p q) (q.number == k) refl refl (entry-filter p k qs (apart-rest q.number (map number-of qs) a))
   where
     absent : (q.number == k) ≡ true → request_in (filter p qs) k ≡ None
-    absent f = absent-filter p k qs (subst (λ j. among j (map number-of qs) ≡ false) (same-number q.number k f) (grind (arith, common_steps, a)))
+    absent f = absent-filter p k qs (subst (λ j. among j (map number-of qs) ≡ false) (same-number q.number k f) (apart-first q.number (map number-of qs) a))
 
     on : (b d : Bool) → p q ≡ b → (q.number == k) ≡ d → request_in (filter p qs) k ≡ only p (request_in qs k) → request_in (filter p (q ∷ qs)) k ≡ only p (request_in (q ∷ qs) k)
-    on true true e f r = rw (e, f, f, e) refl
-    on true false e f r = rw (e, f, f) r
+    on true true e f r = rw (e, f, e) refl
+    on true false e f r = rw (e, f) r
     on false true e f r = rw (e, f, e) (absent f)
     on false false e f r = rw (e, f) r
 
@@ -206,7 +206,14 @@ module _ (all : List Request) (ks : List ℕ) (kept : List Request) (told : List
           where
             inner : (ys : List Request) → filter (λ y. (y.number == q.number) && not (lingers ks y)) ys ≡ filter (λ y. not (lingers ks y)) (filter (λ y. y.number == q.number) ys)
             inner [] = refl
-            inner (y ∷ ys) = grind (arith, common_steps, inner ys)
+            inner (y ∷ ys) = sort (y.number == q.number) (lingers ks y) refl refl (inner ys)
+              where
+                sort : (b d : Bool) → (y.number == q.number) ≡ b → lingers ks y ≡ d
+                    → filter (λ z. (z.number == q.number) && not (lingers ks z)) ys ≡ filter (λ z. not (lingers ks z)) (filter (λ z. z.number == q.number) ys)
+                    → filter (λ z. (z.number == q.number) && not (lingers ks z)) (y ∷ ys) ≡ filter (λ z. not (lingers ks z)) (filter (λ z. z.number == q.number) (y ∷ ys))
+                sort true true f h r = rw (f, h) r
+                sort true false f h r = rw (f, h) (ap (λ zs. y ∷ zs) r)
+                sort false d f h r = rw f r
 
     pub swap-fits : lingers ks q ≡ true → RequestsFit (swap number-of q all) ks (swap number-of q kept) told alone known
     swap-fits stays = record {
@@ -232,7 +239,7 @@ module _ (all : List Request) (ks : List ℕ) (kept : List Request) (told : List
 
   -- one is settled
   module _ (n : ℕ) (x : Request) (here : request_in all n ≡ Some x) where
-    now : List ℕ
+    abbrev now : List ℕ
     now = marked n ks
 
     numbered : x.number ≡ n
@@ -259,30 +266,24 @@ module _ (all : List Request) (ks : List ℕ) (kept : List Request) (told : List
     -- those of other numbers stay as they were
     none-filter : (ys : List Request) → among n (map number-of ys) ≡ false → filter (lingers now) ys ≡ others number-of n (filter (lingers ks) ys)
     none-filter [] h = refl
-    none-filter (y ∷ ys) h = on (y.number == n) (lingers ks y) refl refl
+    none-filter (y ∷ ys) h = on (y.number == n) (lingers ks y) refl refl (none-filter ys)
       where
-        rest : among n (map number-of ys) ≡ false
-        rest = grind (arith, common_steps, h)
-
-        on : (b d : Bool) → (y.number == n) ≡ b → lingers ks y ≡ d → filter (lingers now) (y ∷ ys) ≡ others number-of n (filter (lingers ks) (y ∷ ys))
-        on true d e f = let k : among n (map number-of (y ∷ ys)) ≡ true = rw e refl in cc
-        on false true e f = rw (lingers-other y e, f, e) (ap (λ zs. y ∷ zs) (none-filter ys rest))
-        on false false e f = rw (lingers-other y e, f) (none-filter ys rest)
+        on : (b d : Bool) → (y.number == n) ≡ b → lingers ks y ≡ d → (among n (map number-of ys) ≡ false → filter (lingers now) ys ≡ others number-of n (filter (lingers ks) ys)) → filter (lingers now) (y ∷ ys) ≡ others number-of n (filter (lingers ks) (y ∷ ys))
+        on true d e f more = let k : among n (map number-of (y ∷ ys)) ≡ true = rw e refl in cc
+        on false true e f more = rw (lingers-other y e, f, e) (ap (λ zs. y ∷ zs) (more (grind (arith, common_steps, h))))
+        on false false e f more = rw (lingers-other y e, f) (more (grind (arith, common_steps, h)))
 
     none-same : (ys : List Request) → among n (map number-of ys) ≡ false → filter (lingers now) ys ≡ filter (lingers ks) ys
     none-same [] h = refl
-    none-same (y ∷ ys) h = on (y.number == n) (lingers ks y) refl refl
+    none-same (y ∷ ys) h = on (y.number == n) (lingers ks y) refl refl (none-same ys)
       where
-        rest : among n (map number-of ys) ≡ false
-        rest = grind (arith, common_steps, h)
-
-        on : (b d : Bool) → (y.number == n) ≡ b → lingers ks y ≡ d → filter (lingers now) (y ∷ ys) ≡ filter (lingers ks) (y ∷ ys)
-        on true d e f = let k : among n (map number-of (y ∷ ys)) ≡ true = rw e refl in cc
-        on false true e f = rw (lingers-other y e, f) (ap (λ zs. y ∷ zs) (none-same ys rest))
-        on false false e f = rw (lingers-other y e, f) (none-same ys rest)
+        on : (b d : Bool) → (y.number == n) ≡ b → lingers ks y ≡ d → (among n (map number-of ys) ≡ false → filter (lingers now) ys ≡ filter (lingers ks) ys) → filter (lingers now) (y ∷ ys) ≡ filter (lingers ks) (y ∷ ys)
+        on true d e f more = let k : among n (map number-of (y ∷ ys)) ≡ true = rw e refl in cc
+        on false true e f more = rw (lingers-other y e, f) (ap (λ zs. y ∷ zs) (more (grind (arith, common_steps, h))))
+        on false false e f more = rw (lingers-other y e, f) (more (grind (arith, common_steps, h)))
 
     behind : (y : Request) (ys : List Request) → apart (map number-of (y ∷ ys)) ≡ true → (y.number == n) ≡ true → among n (map number-of ys) ≡ false
-    behind y ys a e = subst (λ k. among k (map number-of ys) ≡ false) (same-number y.number n e) (grind (arith, common_steps, a))
+    behind y ys a e = subst (λ k. among k (map number-of ys) ≡ false) (same-number y.number n e) (apart-first y.number (map number-of ys) a)
 
     -- it is over or has ended, and was open: it leaves
     module _ (done : is_done x.phase ≡ true) (stood : lingers ks x ≡ true) where
@@ -302,16 +303,16 @@ module _ (all : List Request) (ks : List ℕ) (kept : List Request) (told : List
 
       done-filter : (ys : List Request) → apart (map number-of ys) ≡ true → request_in ys n ≡ Some x → filter (lingers now) ys ≡ others number-of n (filter (lingers ks) ys)
       done-filter [] a e = cc
-      done-filter (y ∷ ys) a e = on (y.number == n) (lingers ks y) refl refl
+      done-filter (y ∷ ys) a e = on (y.number == n) (lingers ks y) refl refl (done-filter ys (apart-rest y.number (map number-of ys) a))
         where
-          on : (b d : Bool) → (y.number == n) ≡ b → lingers ks y ≡ d → filter (lingers now) (y ∷ ys) ≡ others number-of n (filter (lingers ks) (y ∷ ys))
-          on true d f g =
+          on : (b d : Bool) → (y.number == n) ≡ b → lingers ks y ≡ d → (request_in ys n ≡ Some x → filter (lingers now) ys ≡ others number-of n (filter (lingers ks) ys)) → filter (lingers now) (y ∷ ys) ≡ others number-of n (filter (lingers ks) (y ∷ ys))
+          on true d f g more =
               let w : y ≡ x = grind (arith, common_steps, e, f) in
               let off : lingers now y ≡ false = ap (lingers now) w ∙ gone in
               let was : lingers ks y ≡ true = ap (lingers ks) w ∙ stood in
               rw (off, was, f) (none-filter ys (behind y ys a f))
-          on false true f g = rw (lingers-other y f, g, f) (ap (λ zs. y ∷ zs) (done-filter ys (grind (arith, common_steps, a)) (grind (arith, common_steps, e, f))))
-          on false false f g = rw (lingers-other y f, g) (done-filter ys (grind (arith, common_steps, a)) (grind (arith, common_steps, e, f)))
+          on false true f g more = rw (lingers-other y f, g, f) (ap (λ zs. y ∷ zs) (more (grind (arith, common_steps, e, f))))
+          on false false f g more = rw (lingers-other y f, g) (more (grind (arith, common_steps, e, f)))
 
       pub done-fits : RequestsFit all now (others number-of n kept) told alone known
       done-fits = record {
@@ -345,16 +346,16 @@ module _ (all : List Request) (ks : List ℕ) (kept : List Request) (told : List
 
       open-filter : (ys : List Request) → apart (map number-of ys) ≡ true → request_in ys n ≡ Some x → filter (lingers now) ys ≡ filter (lingers ks) ys
       open-filter [] a e = cc
-      open-filter (y ∷ ys) a e = on (y.number == n) (lingers ks y) refl refl
+      open-filter (y ∷ ys) a e = on (y.number == n) (lingers ks y) refl refl (open-filter ys (apart-rest y.number (map number-of ys) a))
         where
-          on : (b d : Bool) → (y.number == n) ≡ b → lingers ks y ≡ d → filter (lingers now) (y ∷ ys) ≡ filter (lingers ks) (y ∷ ys)
-          on true d f g =
+          on : (b d : Bool) → (y.number == n) ≡ b → lingers ks y ≡ d → (request_in ys n ≡ Some x → filter (lingers now) ys ≡ filter (lingers ks) ys) → filter (lingers now) (y ∷ ys) ≡ filter (lingers ks) (y ∷ ys)
+          on true d f g more =
               let w : y ≡ x = grind (arith, common_steps, e, f) in
               let is : lingers now y ≡ true = ap (lingers now) w ∙ stays-then now in
               let was : lingers ks y ≡ true = ap (lingers ks) w ∙ stays-then ks in
               rw (is, was) (ap (λ zs. y ∷ zs) (none-same ys (behind y ys a f)))
-          on false true f g = rw (lingers-other y f, g) (ap (λ zs. y ∷ zs) (open-filter ys (grind (arith, common_steps, a)) (grind (arith, common_steps, e, f))))
-          on false false f g = rw (lingers-other y f, g) (open-filter ys (grind (arith, common_steps, a)) (grind (arith, common_steps, e, f)))
+          on false true f g more = rw (lingers-other y f, g) (ap (λ zs. y ∷ zs) (more (grind (arith, common_steps, e, f))))
+          on false false f g more = rw (lingers-other y f, g) (more (grind (arith, common_steps, e, f)))
 
       there-kept : is_some (request_in kept n) ≡ true
       there-kept = ap is_some (kept-at n ∙ ap (if_lingers ks) here) ∙ rw (stays-then ks) refl
@@ -395,6 +396,33 @@ module _ (all : List Request) (ks : List ℕ) (kept : List Request) (told : List
       off : (b : Bool) → (false || not b) ≡ true → b ≡ false
       off true e = cc
       off false e = refl
+
+  -- one that memory has not is settled
+  pub left-settled : (n : ℕ) → is_some (request_in all n) ≡ true → request_in kept n ≡ None → ks ≡ marked n ks
+  left-settled n came none = on (request_in all n) refl came
+    where
+      on : (o : Option Request) → request_in all n ≡ o → is_some o ≡ true → ks ≡ marked n ks
+      on None e g = cc
+      on (Some x) e g = in-two (lingers ks x) refl
+        where
+          in-two : (b : Bool) → lingers ks x ≡ b → ks ≡ marked n ks
+          in-two true f = let k : request_in kept n ≡ Some x = kept-at n ∙ (ap (if_lingers ks) e ∙ rw f refl) in cc
+          in-two false f = gone-settled n x e f
+
+  -- one that memory has is there, and has not left
+  pub found-kept : (n : ℕ) (x : Request) → request_in kept n ≡ Some x → (request_in all n ≡ Some x) × (lingers ks x ≡ true)
+  found-kept n x found = on (request_in all n) refl (sym (kept-at n) ∙ found)
+    where
+      on : (o : Option Request) → request_in all n ≡ o → if_lingers ks (request_in all n) ≡ Some x → (request_in all n ≡ Some x) × (lingers ks x ≡ true)
+      on None e g = let k : if_lingers ks (request_in all n) ≡ None = ap (if_lingers ks) e in cc
+      on (Some y) e g = in-two (lingers ks y) refl
+        where
+          in-two : (b : Bool) → lingers ks y ≡ b → (request_in all n ≡ Some x) × (lingers ks x ≡ true)
+          in-two true f =
+              let k : if_lingers ks (request_in all n) ≡ Some y = ap (if_lingers ks) e ∙ rw f refl in
+              let w : y ≡ x = cc in
+              (e ∙ ap Some w, ap (lingers ks) (sym w) ∙ f)
+          in-two false f = let k : if_lingers ks (request_in all n) ≡ None = ap (if_lingers ks) e ∙ rw f refl in cc
 
   -- a request is open where it has not left, asked, and is not settled
   pub open-now : (n : ℕ) → request_in kept n ≡ None → (is_asked_at (request_in all n) && not (has n ks)) ≡ false

@@ -220,7 +220,9 @@ impl Connections {
         ensures ascend { IfOk result (λ services. IsStrictlySortedBy id_order services.items) }
         ensures members { IfOk result (λ services. (t : ObjectId) → has_id t services.items ≡ nat_lt 0 (clears_before id (Some t) self.now.clears)) }
     {
-        services_before(alloc, self.clears.marks().list.as_slice(), id)
+        let marks = self.clears.marks();
+        let services = services_before(alloc, marks.list.as_slice(), id)?;
+        Ok(services)
     }
 
     /// The pool, or a service of it, is cleared. Nothing changes where there is no memory.

@@ -126,21 +126,35 @@ fn counts(mark: &Mark, service: Option<ObjectId>, before: Option<u32>) -> bool
     }
 }
 
+// What it adds to their count.
+fn part_of(mark: &Mark, service: Option<ObjectId>, before: Option<u32>) -> u64
+    ensures { result ≡ (if counts_at service before mark.now then mark.now.count else 0) }
+{
+    if counts(mark, service, before) {
+        mark.count
+    } else {
+        0
+    }
+}
+
+// The counts of such marks, where all counts together have a number of the type.
+fn sum_of(marks: &[Mark], total: u64, service: Option<ObjectId>, before: Option<u32>) -> u64
+    requires { total ≡ weigh (λ m. true) marks.now }
+    ensures { result ≡ weigh (counts_at service before) marks.now }
+{
+    let mut sum = 0u64;
+    for mark in marks {
+        sum += part_of(mark, service, before);
+    }
+    sum
+}
+
 /// How many clears of the service there were, before the connection was created where one is given.
-#[tactic(auto, using(crate::proofs::KeptInLittle::CountedClears::weigh_rest, crate::proofs::KeptInLittle::CountedClears::weigh_within))]
 pub(crate) fn count(marks: &Marks, service: Option<ObjectId>, before: Option<u32>) -> u64
     requires { marks.now.total ≡ weigh (λ m. true) marks.now.list.items }
     ensures { result ≡ weigh (counts_at service before) marks.now.list.items }
 {
-    // All counts together have a number of the type.
-    let _total = marks.total;
-    let mut sum = 0u64;
-    for mark in marks.list.as_slice() {
-        if counts(mark, service, before) {
-            sum = sum + mark.count;
-        }
-    }
-    sum
+    sum_of(marks.list.as_slice(), marks.total, service, before)
 }
 
 fn one_if(is: bool) -> usize

@@ -93,7 +93,10 @@ impl RequestParts {
         requires { PartsFit self.now }
         ensures { is_gone self.now.settled.value (request_in self.now.all.value number) ≡ false → result ≡ has number self.now.settled.value }
     {
-        self.told.get(number).is_some()
+        match self.told.get(number) {
+            Some(_) => true,
+            None => false,
+        }
     }
 
     /// The request, which is new, comes last.
@@ -127,7 +130,9 @@ impl RequestParts {
     {
         let all = Past::of::<(&Past<Request>, &Request), Swapped>(&(&self.all, &request));
         let number = request.number;
-        if request.is_done() && self.is_told(number) {
+        let done = request.is_done();
+        let told = self.is_told(number);
+        if done && told {
             drop(request);
             self.kept.remove(alloc, number)?;
             self.told.remove(number)?;
@@ -150,16 +155,17 @@ impl RequestParts {
         ensures room { asked_room self.new ≡ asked_room self.old }
     {
         let settled = Past::of::<(&Past<u32>, &u32), Noted>(&(&self.settled, &number));
-        let done = match self.kept.get(number) {
-            Some(request) => request.is_done(),
+        let Some(request) = self.kept.get(number) else {
             // It has left, and is settled.
-            None => return Ok(()),
+            return Ok(());
         };
+        let done = request.is_done();
         if done {
             self.kept.remove(alloc, number)?;
-        } else {
-            self.told.put(number)?;
+            self.settled = settled;
+            return Ok(());
         }
+        self.told.put(number)?;
         self.settled = settled;
         Ok(())
     }

@@ -110,8 +110,9 @@ impl Requests {
     pub(crate) fn is_open(&self, number: u32) -> bool
         ensures { result ≡ (is_asked_at (request_in self.now.now number) && not (has number self.now.settled)) }
     {
+        let told = self.parts.is_told(number);
         match self.parts.kept.get(number) {
-            Some(request) => !request.took && !self.parts.is_told(number),
+            Some(request) => !request.took && !told,
             None => false,
         }
     }

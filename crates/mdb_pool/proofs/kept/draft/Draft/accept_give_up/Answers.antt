@@ -56,4 +56,4 @@ pub quit-requires-clause-came : goal.quit-requires-clause-came
 quit-requires-clause-came c = kept-came c.args.self.now c.args.request c.in_ok-asker.asker (sym c.in-Some.ensures ∙ ap Some (sym c.in_ok-asker.ensures))
 
 pub give_up_held-requires-clause-unsettled : goal.give_up_held-requires-clause-unsettled
-give_up_held-requires-clause-unsettled c = subst (λ d. has d c.args.self.now.settled ≡ false) (sym (entry_at-key (λ (k : Request). k.number) c.args.request c.in_ok-asker.asker c.args.self.now.requests kept-is c.args.self.now c.args.request c.in_ok-asker.asker (sym c.in-Some.ensures ∙ ap Some (sym c.in_ok-asker.ensures)))) (open_unsettled c.args.self.now c.args.request c.requires)
+give_up_held-requires-clause-unsettled c = subst (λ d. has d c.args.self.now.settled ≡ false) (sym (entry_at-key (λ (k : Request). k.number) c.args.request c.in_ok-asker.asker c.args.self.now.requests (kept-is c.args.self.now c.args.request c.in_ok-asker.asker (sym c.in-Some.ensures ∙ ap Some (sym c.in_ok-asker.ensures))))) (open_unsettled c.args.self.now c.args.request c.requires)

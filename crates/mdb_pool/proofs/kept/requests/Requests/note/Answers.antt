@@ -6,7 +6,7 @@ pub settle-requires-clause-fits : goal.settle-requires-clause-fits
 settle-requires-clause-fits c = c.self.invariant.0
 
 pub settle-requires-clause-known : goal.settle-requires-clause-known
-settle-requires-clause-known c = rw c.self.view_is c.requires
+settle-requires-clause-known c = rw (← c.self.view_is) at c.requires
 
 pub invariant_of-self-in-Ok : goal.invariant_of-self-in-Ok
 invariant_of-self-in-Ok c = (c.in-Ok.ensures.fits, rw c.settle.ensures.base c.self.invariant.1)

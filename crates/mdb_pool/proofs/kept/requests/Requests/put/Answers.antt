@@ -7,10 +7,10 @@ pub put-requires-clause-fits : goal.put-requires-clause-fits
 put-requires-clause-fits c = c.self.invariant.0
 
 pub put-requires-clause-fresh : goal.put-requires-clause-fresh
-put-requires-clause-fresh c = rw c.self.view_is c.requires.fresh
+put-requires-clause-fresh c = rw (← c.self.view_is) at c.requires.fresh
 
 pub returns-in-Ok-clause-settled : goal.returns-in-Ok-clause-settled
-returns-in-Ok-clause-settled c = (c.in-Ok.ensures.settled ∙ ap (λ (v : OpenRequests). v.settled) c.self.view_is, rw c.in-Ok.ensures.settled (put-unsettled c.self.inside.parts.all.value c.self.inside.parts.settled.value c.self.inside.parts.kept.now c.self.inside.parts.told.now c.self.inside.parts.alone c.self.inside.parts.known.now c.self.invariant.0 c.args.request (rw c.self.view_is c.requires.fresh) c.requires.open))
+returns-in-Ok-clause-settled c = (c.in-Ok.ensures.settled ∙ ap (λ (v : OpenRequests). v.settled) c.self.view_is, rw c.in-Ok.ensures.settled (put-unsettled c.self.inside.parts.all.value c.self.inside.parts.settled.value c.self.inside.parts.kept.now c.self.inside.parts.told.now c.self.inside.parts.alone c.self.inside.parts.known.now c.self.invariant.0 c.args.request (rw (← c.self.view_is) at c.requires.fresh) c.requires.open))
 
 pub invariant_of-self-in-Ok : goal.invariant_of-self-in-Ok
 invariant_of-self-in-Ok c = (c.in-Ok.ensures.fits, rw c.put.ensures.base c.self.invariant.1)

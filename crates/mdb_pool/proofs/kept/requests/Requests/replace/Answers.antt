@@ -6,7 +6,7 @@ pub replace-requires-clause-fits : goal.replace-requires-clause-fits
 replace-requires-clause-fits c = c.self.invariant.0
 
 pub replace-requires-clause-there : goal.replace-requires-clause-there
-replace-requires-clause-there c = rw c.self.view_is c.requires.there
+replace-requires-clause-there c = rw (← c.self.view_is) at c.requires.there
 
 pub invariant_of-self-in-Ok : goal.invariant_of-self-in-Ok
 invariant_of-self-in-Ok c = (c.in-Ok.ensures.fits, rw c.replace.ensures.base c.self.invariant.1)

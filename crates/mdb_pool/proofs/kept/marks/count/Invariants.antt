@@ -1,7 +1,0 @@
-use Rattle.std.proofs.Common.{◌≡◌, ◌+◌, drop}
-use Rattle.mdb_pool.specs.Clearing.{counts_at, weigh}
-use Rattle.mdb_pool.proofs.kept.marks.count.Given as goal
-
--- what was counted and what is left is all
-abbrev pub invariant-loop-mark : goal.invariant-loop-mark
-invariant-loop-mark l = l.sum + weigh (counts_at l.service l.before) (drop l.mark-index l.marks.list.items) ≡ weigh (counts_at l.service l.before) l.marks.list.items
