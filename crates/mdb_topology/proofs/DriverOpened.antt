@@ -3,6 +3,7 @@ pub mod SeedsOnce
 pub mod KnownBalancers
 pub mod PoolsThatOpen
 pub mod OpenedDriver
+pub mod OpenFromTheStart
 pub mod StandsForIt
 pub mod ItsLog
 pub mod ScriptsLog

@@ -13,7 +13,7 @@ use Rattle.mdb_describe.specs.declared.description.ServerDescription.{ServerDesc
 use Rattle.mdb_describe.specs.declared.topology.TopologyDescription.{TopologyDescription}
 use Rattle.mdb_describe.specs.declared.diff.Diff.{Diff}
 use Rattle.mdb_describe.specs.Differences.{difference, changed, missing}
-use Rattle.mdb_describe.specs.Servers.{addresses_of, in_order}
+use Rattle.mdb_describe.specs.Servers.{addresses_of, in_order, is_known, is_listed}
 use Rattle.mdb_describe.specs.Topology.{opened}
 use Rattle.mdb_events.specs.declared.fact.Fact.{Fact}
 use Rattle.mdb_monitor.specs.Standing.{StandsFor as MonitorStands}
@@ -44,13 +44,14 @@ use Rattle.mdb_topology.specs.Monitors.{setting, monitor_items}
 use Rattle.mdb_topology.specs.Opening.{IsOpened}
 use Rattle.mdb_topology.specs.Publishing.{telling, publication, topology_opening, opening}
 use Rattle.mdb_topology.specs.Refusal.{first_past, exhausted, ran_out, refused_by, refusal}
-use Rattle.mdb_topology.specs.Standing.{home, PoolsStand, MonitorsFit, StandsFor}
+use Rattle.mdb_topology.specs.Standing.{at_address, home, PoolsStand, MonitorsFit, StandsFor}
 use Rattle.mdb_topology.specs.Telling.{Comes}
 use Rattle.mdb_topology.specs.Turns.{in_turn}
 use Rattle.mdb_topology.proofs.WholeSteps.LeavesAsItIs.{with-append, turn-append, description-facts, published-facts, stopped-facts, monitor-facts, fresh-facts, watchers-facts}
 use Rattle.mdb_topology.proofs.Publications.OfDifference.{nothing-differs}
 use Rattle.mdb_topology.proofs.WholeSteps.FactsPastLimits.{past-append}
 use Rattle.mdb_topology.proofs.DriverOpened.OpenedDriver.{few-seeds, opened-comes}
+use Rattle.mdb_topology.proofs.DriverOpened.OpenFromTheStart.{all-open, known-listed, lives-all, open-unspent}
 use Rattle.mdb_topology.proofs.DriverOpened.PoolsThatOpen.{telling-homes, begun-addresses, same-missing, opened-missing}
 use Rattle.mdb_topology.proofs.Publications.PastLimits.{telling-past}
 use Rattle.mdb_topology.proofs.Publications.PlannedWhole.{of-difference}
@@ -236,6 +237,20 @@ module _ (o : Options) (kept : broken_rule o ≡ None) where
 
     pub stands-opened : PoolsStand (pool_options o) pools (with_facts 0 facts k0)
     stands-opened = subst (λ fs. PoolsStand (pool_options o) pools (with_facts 0 fs k0)) (sym facts-are) comes.stand
+
+    -- something lives in each of them
+    pub all-live : (p : ℕ) → nat_lt p (length pools) ≡ lives_at pools p
+    all-live = lives-all pools (λ p s at. open-unspent s (all-open 0 list pools homes-list (added_in_order o.seeds [] refl) there p s at))
+      where
+        homes-list : map home pools ≡ numbered 0 list
+        homes-list = sym stands-opened.fit.homes_are ∙ (ap (λ fs. homes (with_facts 0 fs k0)) facts-are ∙ homes-opened)
+
+        there : (a : ServerAddress) → is_listed list a ≡ true → is_some (at_address pools a) ≡ true
+        there a l =
+            z.open_for a
+            ∙ (ap (λ (u : TopologyDescription). is_known a u.servers) z.known
+            ∙ (known-listed a (begins_with o).servers
+            ∙ (ap (λ xs. is_listed xs a) (begun-addresses o) ∙ l)))
 
     -- all that a driver keeps
     pub core-stands : (w : TopologyCore) → w.options ≡ o → w.description ≡ t → w.published ≡ 1 → w.stopped ≡ false → w.pools.cores.items ≡ pools → w.pools.last ≡ 0 → w.fresh ≡ 0 → w.watchers ≡ []

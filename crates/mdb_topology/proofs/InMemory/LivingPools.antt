@@ -6,8 +6,6 @@ use Rattle.std.proofs.lemmas.Bool.Decides.{nat_tests}
 use Rattle.std.proofs.lemmas.Option.{slice_get_within}
 use Rattle.mdb_base.specs.declared.address.ServerAddress.{ServerAddress}
 use Rattle.mdb_base.specs.Equality.{same_address}
-use Rattle.mdb_log.proofs.Numbers.{same-number}
-use Rattle.mdb_log.proofs.Frame.{other-number}
 use Rattle.mdb_pool.specs.Core.{PoolCore}
 use Rattle.mdb_pool.specs.Kept.{first_unclaimed, held_connection, is_open_now, is_shut, is_spent}
 use Rattle.mdb_pool.proofs.KeptInLittle.NothingLives.{spent-shut, none-held, none-open, none-unclaimed}

@@ -5,7 +5,6 @@ use Rattle.std.proofs.lemmas.Bool.Decides.{nat_tests}
 use Rattle.std.proofs.lemmas.Grind.{common_steps}
 use Rattle.std.proofs.lemmas.Option.{slice_get_within}
 use Rattle.mdb_log.specs.Connections.{has}
-use Rattle.mdb_log.proofs.Numbers.{same-number}
 use Rattle.mdb_monitor.specs.declared.monitor.MonitorCore.{MonitorCore}
 use Rattle.mdb_topology.specs.declared.monitors.watched.Watched.{Watched}
 use Rattle.mdb_topology.specs.Watching.{are_apart, places, AreOf, IsWatched}

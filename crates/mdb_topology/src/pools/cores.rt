@@ -106,7 +106,7 @@ fn placed_at(living: &[Placed], place: usize) -> Option<&Placed>
 
 // The place of the pool that was found.
 fn place_of(found: Option<&Placed>) -> Option<usize>
-    ensures { result ≡ option_map (λ x. x.place) (option_copied found) }
+    ensures { result ≡ option_map (λ x. x.place) (option_copied found.entry) }
 {
     match found {
         Some(placed) => Some(placed.place),
