@@ -1,5 +1,5 @@
 -- One pool changes, or one more comes: what memory has then.
-use Rattle.std.proofs.Common.{ℕ, zero, suc, ◌≡◌, ◌+◌, ◌<◌, ◌==◌, Bool, true, false, List, [], ◌∷◌, ◌++◌, length, map, set, position, Option, Some, None, refl, sym, ◌∙◌, ap, subst, arith}
+use Rattle.std.proofs.Common.{ℕ, zero, suc, ◌≡◌, ◌+◌, ◌<◌, ◌≤◌, ◌==◌, Bool, true, false, List, [], ◌∷◌, ◌++◌, length, map, set, position, Option, Some, None, refl, sym, ◌∙◌, ap, subst, arith}
 use Rattle.std.specs.Prelude.{option_map, remove, slice_get}
 use Rattle.std.proofs.lemmas.Bool.Decides.{nat_tests}
 use Rattle.mdb_pool.specs.Core.{PoolCore}
@@ -121,3 +121,21 @@ opened-last n (x ∷ pools) s = on (is_spent x) refl (opened-last (suc n) pools 
 
 pub opened-one : (pools : List PoolCore) (s : PoolCore) → living_from 0 pools ++ living_from (length pools) (s ∷ []) ≡ living_from 0 (pools ++ s ∷ [])
 opened-one pools s = sym (opened-last 0 pools s ∙ ap (λ m. living_from 0 pools ++ living_from m (s ∷ [])) (let k : 0 + length pools ≡ length pools = omega arith in k))
+
+-- those that stay are at most as many
+shorter : (xs : List Placed) (i : ℕ) → length (remove xs i) ≤ length xs
+shorter [] zero = omega arith
+shorter [] (suc i) = omega arith
+shorter (x ∷ xs) zero = omega arith
+shorter (x ∷ xs) (suc i) = let r = shorter xs i in let s : length (remove (x ∷ xs) (suc i)) ≡ suc (length (remove xs i)) = refl in omega arith
+
+pub left-shorter : (xs : List Placed) (i : ℕ) → length (left_at xs i) ≤ length xs
+left-shorter xs i = on (slice_get xs i) refl
+  where
+    on : (o : Option Placed) → slice_get xs i ≡ o → length (left_at xs i) ≤ length xs
+    on None e = rw e (omega arith)
+    on (Some x) e = in-two (is_spent x.core) refl
+      where
+        in-two : (b : Bool) → is_spent x.core ≡ b → length (left_at xs i) ≤ length xs
+        in-two true f = rw (e, f) (shorter xs i)
+        in-two false f = rw (e, f) (omega arith)
