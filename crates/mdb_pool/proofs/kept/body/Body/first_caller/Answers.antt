@@ -6,10 +6,10 @@ use Rattle.mdb_pool.proofs.Listed.Beside.{find_among, none_else}
 use Rattle.mdb_pool.proofs.Listed.WalksForth.{walk-shorter, walk-miss, walk-hit, walk-none}
 use Rattle.mdb_pool.proofs.kept.body.Body.first_caller.Goals as goal
 
-pub returns-then-warm_count : goal.returns-then-warm_count
-returns-then-warm_count c =
+pub returns-then-warm_count-queued_count : goal.returns-then-warm_count-queued_count
+returns-then-warm_count-queued_count c =
     let rs : List Request = c.args.self.now.requests.now in
-    sym (none_else (λ q. is_queued q.phase) (λ q. q.warm) rs (sym c.warm_count.ensures ∙ (c.if-warm_count.true ∙ c.queued_count.ensures)))
+    sym (none_else (λ q. is_queued q.phase) (λ q. q.warm) rs (sym c.warm_count.ensures ∙ (c.if-warm_count-queued_count.true ∙ c.queued_count.ensures)))
 
 pub loop-next-init : goal.loop-next-init
 loop-next-init c = ap (find (λ q. not q.warm)) c.first_right-next.ensures.rest

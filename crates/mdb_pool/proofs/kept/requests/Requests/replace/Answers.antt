@@ -8,8 +8,8 @@ replace-requires-clause-fits c = c.self.invariant.0
 pub replace-requires-clause-there : goal.replace-requires-clause-there
 replace-requires-clause-there c = rw (← c.self.view_is) at c.requires.there
 
-pub invariant_of-self-in-Ok : goal.invariant_of-self-in-Ok
-invariant_of-self-in-Ok c = (c.in-Ok.ensures.fits, rw c.replace.ensures.base c.self.invariant.1)
+pub invariant_of-self : goal.invariant_of-self
+invariant_of-self c = (c.in-Ok.ensures.fits, rw c.replace.ensures.base c.self.invariant.1)
 
 pub invariant_of-self-in-Err : goal.invariant_of-self-in-Err
 invariant_of-self-in-Err c = rw (c.roll_back.ensures.all, c.roll_back.ensures.settled, c.roll_back.ensures.kept, c.roll_back.ensures.told, c.roll_back.ensures.known, c.roll_back.ensures.base, c.replace.ensures.base) (c.self.invariant.1, c.self.invariant.1)
