@@ -16,4 +16,4 @@ returns-clause-items c =
     let xs = c.args.living.now.items in
     let x = c.index.result.now in
     let at : slice_get xs c.args.index ≡ Some x = slice_get_read xs (length xs) c.args.index x refl c.requires c.index.ensures in
-    c.remove.ensures.items ∙ sym (left-spent xs c.args.index x at (sym c.is_spent.ensures ∙ c.if-not-is_spent.false))
+    c.remove-gone.ensures.items ∙ sym (left-spent xs c.args.index x at (sym c.is_spent.ensures ∙ c.if-not-is_spent.false))

@@ -9,4 +9,4 @@ pub returns : goal.returns
 returns c =
     c.place_of.ensures
     ∙ (ap (option_map (λ (x : Placed). x.place)) c.first_with_job.ensures
-    ∙ rw (← c.self.view_is, c.self.invariant.0) (found-place (λ s. is_some (first_unclaimed s)) (spent-job) c.self.inside.all.value))
+    ∙ rw (← c.self.view_is, c.as_slice.ensures, c.self.invariant.0) (found-place (λ s. is_some (first_unclaimed s)) (spent-job) c.self.inside.all.value))
