@@ -1,6 +1,6 @@
 -- What is found among the pools in which something lives is what is found among all pools.
-use Rattle.std.proofs.Common.{ℕ, zero, suc, ◌≡◌, ◌+◌, ◌<◌, ◌==◌, ◌&&◌, Bool, true, false, not, List, [], ◌∷◌, length, find, position, nat_lt, is_some, Option, Some, None, refl, sym, ◌∙◌, ap, subst, arith}
-use Rattle.std.specs.Prelude.{cond, option_map, slice_get}
+use Rattle.std.proofs.Common.{ℕ, zero, suc, ◌≡◌, ◌+◌, ◌<◌, ◌==◌, ◌&&◌, Bool, true, false, not, List, [], ◌∷◌, length, find, position, nat_lt, is_some, Bor, Option, Some, None, refl, sym, ◌∙◌, ap, subst, arith}
+use Rattle.std.specs.Prelude.{cond, option_copied, option_map, slice_get}
 use Rattle.std.specs.List.{position_or_len}
 use Rattle.std.proofs.lemmas.Bool.Decides.{nat_tests}
 use Rattle.std.proofs.lemmas.Option.{slice_get_within}
@@ -18,7 +18,7 @@ use Rattle.mdb_topology.proofs.General.OneElement.{position-at}
 pub position-hit : {T : Type 0} (f : T → Bool) (x : T) (xs : List T) → f x ≡ true → position f (x ∷ xs) ≡ Some 0
 position-hit f x xs e =
     let here : position_or_len f (x ∷ xs) ≡ 0 = rw e refl in
-    let within : nat_lt 0 (1 + length xs) ≡ true = grind (arith, nat_tests) in
+    let within : nat_lt 0 (length (x ∷ xs)) ≡ true = grind (arith, nat_tests) in
     rw (here, within) refl
 
 pub position-miss : {T : Type 0} (f : T → Bool) (x : T) (xs : List T) → f x ≡ false → position f (x ∷ xs) ≡ option_map suc (position f xs)
@@ -28,8 +28,8 @@ position-miss f x xs e = on (nat_lt (position_or_len f xs) (length xs)) refl
     here = rw e refl
 
     on : (b : Bool) → nat_lt (position_or_len f xs) (length xs) ≡ b → position f (x ∷ xs) ≡ option_map suc (position f xs)
-    on true g = let k : nat_lt (1 + position_or_len f xs) (1 + length xs) ≡ true = grind (arith, nat_tests) in rw (here, k, g) refl
-    on false g = let k : nat_lt (1 + position_or_len f xs) (1 + length xs) ≡ false = grind (arith, nat_tests) in rw (here, k, g) refl
+    on true g = let k : nat_lt (1 + position_or_len f xs) (length (x ∷ xs)) ≡ true = grind (arith, nat_tests) in rw (here, k, g) (ap Some (let e : 1 + position_or_len f xs ≡ suc (position_or_len f xs) = omega arith in e))
+    on false g = let k : nat_lt (1 + position_or_len f xs) (length (x ∷ xs)) ≡ false = grind (arith, nat_tests) in rw (here, k, g) refl
 
 shift : (n : ℕ) (o : Option ℕ) → option_map (λ i. suc n + i) o ≡ option_map (λ i. n + i) (option_map suc o)
 shift n None = refl
@@ -48,9 +48,17 @@ module _ (test : PoolCore → Bool) (fails : (s : PoolCore) → is_spent s ≡ t
       on : (b d : Bool) → is_spent s ≡ b → test s ≡ d
           → option_map (λ (x : Placed). x.place) (find (λ (x : Placed). test x.core) (living_from (suc n) more)) ≡ option_map (λ i. suc n + i) (position test more)
           → option_map (λ (x : Placed). x.place) (find (λ (x : Placed). test x.core) (living_from n (s ∷ more))) ≡ option_map (λ i. n + i) (position test (s ∷ more))
-      on true d e f r = let off : test s ≡ false = fails s e in rw (e, position-miss test s more off) (r ∙ shift n (position test more))
-      on false true e f r = let same : n + 0 ≡ n = omega arith in rw (e, f, position-hit test s more f) (ap Some (sym same))
-      on false false e f r = rw (e, f, position-miss test s more f) (r ∙ shift n (position test more))
+      on true d e f r =
+          let off : test s ≡ false = fails s e in
+          let step : option_map (λ (x : Placed). x.place) (find (λ (x : Placed). test x.core) (living_from n (s ∷ more))) ≡ option_map (λ i. n + i) (option_map suc (position test more)) = rw e (r ∙ shift n (position test more)) in
+          step ∙ sym (ap (option_map (λ i. n + i)) (position-miss test s more off))
+      on false true e f r =
+          let same : n + 0 ≡ n = omega arith in
+          let step : option_map (λ (x : Placed). x.place) (find (λ (x : Placed). test x.core) (living_from n (s ∷ more))) ≡ Some (n + 0) = rw (e, f) (ap Some (sym same)) in
+          step ∙ sym (ap (option_map (λ i. n + i)) (position-hit test s more f))
+      on false false e f r =
+          let step : option_map (λ (x : Placed). x.place) (find (λ (x : Placed). test x.core) (living_from n (s ∷ more))) ≡ option_map (λ i. n + i) (option_map suc (position test more)) = rw (e, f) (r ∙ shift n (position test more)) in
+          step ∙ sym (ap (option_map (λ i. n + i)) (position-miss test s more f))
 
   pub found-place : (pools : List PoolCore) → option_map (λ (x : Placed). x.place) (find (λ (x : Placed). test x.core) (living_from 0 pools)) ≡ position test pools
   found-place pools = found-from 0 pools ∙ from-zero (position test pools)
@@ -111,8 +119,8 @@ placed-at n k p [] e = refl
 placed-at n k zero (s ∷ more) e = on (is_spent s) refl
   where
     on : (b : Bool) → is_spent s ≡ b → option_map (λ (x : Placed). x.core) (find (λ (x : Placed). x.place == k) (living_from n (s ∷ more))) ≡ if_lives (slice_get (s ∷ more) 0)
-    on true f = rw (f, past-none (suc n) k more (omega arith), f) refl
-    on false f = let here : (n == k) ≡ true = grind (arith, nat_tests) in rw (f, here, f) refl
+    on true f = rw (f, past-none (suc n) k more (omega arith)) refl
+    on false f = let here : (n == k) ≡ true = grind (arith, nat_tests) in rw (f, here) refl
 placed-at n k (suc p) (s ∷ more) e = on (is_spent s) refl (placed-at (suc n) k p more (omega arith))
   where
     on : (b : Bool) → is_spent s ≡ b → option_map (λ (x : Placed). x.core) (find (λ (x : Placed). x.place == k) (living_from (suc n) more)) ≡ if_lives (slice_get more p)
@@ -123,14 +131,19 @@ placed-at n k (suc p) (s ∷ more) e = on (is_spent s) refl (placed-at (suc n) k
 pub living-is : (pools : List PoolCore) (p : ℕ) → option_map (λ (x : Placed). x.core) (find (λ (x : Placed). x.place == p) (living_from 0 pools)) ≡ living_at pools p
 living-is pools p = placed-at 0 p p pools (omega arith)
 
+-- what is found is read through a reference
+pub copied-some : {T : Type 0} (o : Option (Bor T)) → is_some o ≡ is_some (option_copied o)
+copied-some None = refl
+copied-some (Some x) = refl
+
 -- there is one where something lives, and none where nothing does
 pub living-some : (o : Option PoolCore) → is_some (if_lives o) ≡ lives_in o
 living-some None = refl
 living-some (Some s) = on (is_spent s) refl
   where
     on : (b : Bool) → is_spent s ≡ b → is_some (if_lives (Some s)) ≡ lives_in (Some s)
-    on true e = rw (e, e) refl
-    on false e = rw (e, e) refl
+    on true e = rw e refl
+    on false e = rw e refl
 
 pub living-there : (pools : List PoolCore) (p : ℕ) (s : PoolCore) → living_at pools p ≡ Some s → (slice_get pools p ≡ Some s) × (is_spent s ≡ false)
 living-there pools p s e = on (slice_get pools p) refl e

@@ -23,7 +23,7 @@ get-last (x ∷ xs) y = get-last xs y
 
 pub length-last : {T : Type 0} (xs : List T) (y : T) → length (xs ++ y ∷ []) ≡ length xs + 1
 length-last [] y = refl
-length-last (x ∷ xs) y = ap suc (length-last xs y)
+length-last (x ∷ xs) y = ap suc (length-last xs y) ∙ (let e : suc (length xs + 1) ≡ length (x ∷ xs) + 1 = omega arith in e)
 
 -- it lived, or it is new
 abbrev pub Lived : List PoolCore → ℕ → Type 0
@@ -38,7 +38,7 @@ one-change (Alter i plan) pools between p f (inl k) =
     on : (s t : PoolCore) → slice_get pools i ≡ Some s → is_spent s ≡ false → lives_at (set pools i t) p ≡ true → Place pools i t p → Lived pools p
     on s t at lives after (at_it w e) = inl (subst (λ j. lives_at pools j ≡ true) w (lives-of pools i s at lives))
     on s t at lives after (beside ne e) = inl (ap lives_in (sym e) ∙ after)
-one-change (Alter i plan) pools between p f (inr l) = inr (let e : length between ≡ length pools = ap length f.4 ∙ length-set in omega arith)
+one-change (Alter i plan) pools between p f (inr l) = inr (let e : length between ≡ length pools = ap length f.4 ∙ length-set pools i f.1 in omega arith)
 one-change (Open core) pools between p f (inl k) = on (nat_lt p (length pools)) refl
   where
     on : (b : Bool) → nat_lt p (length pools) ≡ b → Lived pools p

@@ -1,5 +1,5 @@
 -- The monitors that memory keeps, whatever is done to them.
-use Rattle.std.proofs.Common.{ℕ, zero, suc, ◌≡◌, ◌≢◌, ◌+◌, ◌<◌, ◌==◌, ◌&&◌, ◌||◌, Bool, true, false, not, if◌then◌else◌, List, [], ◌∷◌, ◌++◌, length, map, filter, find, nat_lt, set, position, is_some, Option, Some, None, refl, sym, ◌∙◌, ap, subst, arith}
+use Rattle.std.proofs.Common.{ℕ, zero, suc, ◌≡◌, ◌≢◌, ◌+◌, ◌<◌, ◌≤◌, ◌==◌, ◌&&◌, ◌||◌, Bool, true, false, not, if◌then◌else◌, List, [], ◌∷◌, ◌++◌, length, map, filter, find, nat_lt, set, position, is_some, Option, Some, None, refl, sym, ◌∙◌, ap, subst, arith}
 use Rattle.std.specs.Prelude.{nat_le, option_map, slice_get}
 use Rattle.std.proofs.lemmas.Bool.Decides.{nat_tests}
 use Rattle.std.proofs.lemmas.Grind.{common_steps}
@@ -28,8 +28,8 @@ watched-is all (x ∷ xs) p z = on (x.place == p) refl (watched-is all xs p z.1)
   where
     on : (b : Bool) → (x.place == p) ≡ b → option_map (λ (y : Watched). y.monitor) (find (λ (y : Watched). y.place == p) xs) ≡ (if has p (places xs) then slice_get all p else None)
         → option_map (λ (y : Watched). y.monitor) (find (λ (y : Watched). y.place == p) (x ∷ xs)) ≡ (if has p (places (x ∷ xs)) then slice_get all p else None)
-    on true e r = rw (e, e) (sym (subst (λ j. slice_get all j ≡ Some x.monitor) (equal x.place p e) z.0))
-    on false e r = rw (e, e) r
+    on true e r = rw e (sym (subst (λ j. slice_get all j ≡ Some x.monitor) (equal x.place p e) z.0))
+    on false e r = rw e r
 
 -- one that memory keeps is there
 pub there-kept : (all : List MonitorCore) (kept : List ℕ) (p : ℕ) (m : MonitorCore) → has p kept ≡ true → Some m ≡ (if has p kept then slice_get all p else None) → slice_get all p ≡ Some m
@@ -39,19 +39,19 @@ there-kept all kept p m e f = sym (f ∙ rw e refl)
 module _ (all : List MonitorCore) (p : ℕ) (m : MonitorCore) where
   others-of : (kept : List Watched) → AreOf all kept → has p (places kept) ≡ false → AreOf (set all p m) kept
   others-of [] z e = tt
-  others-of (x ∷ xs) z e = on (x.place == p) refl
+  others-of (x ∷ xs) z e = on (x.place == p) refl (λ rest. others-of xs z.1 rest)
     where
-      on : (b : Bool) → (x.place == p) ≡ b → AreOf (set all p m) (x ∷ xs)
-      on true f = let k : has p (places (x ∷ xs)) ≡ true = rw f refl in cc
-      on false f =
+      on : (b : Bool) → (x.place == p) ≡ b → (has p (places xs) ≡ false → AreOf (set all p m) xs) → AreOf (set all p m) (x ∷ xs)
+      on true f deeper = let k : has p (places (x ∷ xs)) ≡ true = rw f refl in cc
+      on false f deeper =
           let ne : p ≢ x.place = λ q. differ x.place p f (sym q) in
           let rest : has p (places xs) ≡ false = let same : has p (places (x ∷ xs)) ≡ has p (places xs) = rw f refl in sym same ∙ e in
-          (get-set_other all p x.place m ne ∙ z.0, others-of xs z.1 rest)
+          (get-set_other all p x.place m ne ∙ z.0, deeper rest)
 
   pub put-of : (kept : List Watched) (i : ℕ) → AreOf all kept → are_apart (places kept) ≡ true → position (λ (x : Watched). x.place == p) kept ≡ Some i
       → AreOf (set all p m) (set kept i (watched p m)) × (places (set kept i (watched p m)) ≡ places kept)
   put-of [] i z a e = cc
-  put-of (x ∷ xs) i z a e = on (x.place == p) refl
+  put-of (x ∷ xs) i z a e = on (x.place == p) refl (λ j g. put-of xs j z.1 apart.1 g)
     where
       left : (b c : Bool) → (not b && c) ≡ true → (b ≡ false) × (c ≡ true)
       left false true h = (refl, refl)
@@ -61,22 +61,24 @@ module _ (all : List MonitorCore) (p : ℕ) (m : MonitorCore) where
       apart : (has x.place (places xs) ≡ false) × (are_apart (places xs) ≡ true)
       apart = left (has x.place (places xs)) (are_apart (places xs)) a
 
-      on : (b : Bool) → (x.place == p) ≡ b → AreOf (set all p m) (set (x ∷ xs) i (watched p m)) × (places (set (x ∷ xs) i (watched p m)) ≡ places (x ∷ xs))
-      on true f =
+      on : (b : Bool) → (x.place == p) ≡ b
+          → ((j : ℕ) → position (λ (y : Watched). y.place == p) xs ≡ Some j → AreOf (set all p m) (set xs j (watched p m)) × (places (set xs j (watched p m)) ≡ places xs))
+          → AreOf (set all p m) (set (x ∷ xs) i (watched p m)) × (places (set (x ∷ xs) i (watched p m)) ≡ places (x ∷ xs))
+      on true f deeper =
           let own : x.place ≡ p = equal x.place p f in
           let first : Some 0 ≡ Some i = sym (position-hit (λ (y : Watched). y.place == p) x xs f) ∙ e in
           let index : 0 ≡ i = cc in
           let was : slice_get all p ≡ Some x.monitor = subst (λ j. slice_get all j ≡ Some x.monitor) own z.0 in
           subst (λ j. AreOf (set all p m) (set (x ∷ xs) j (watched p m)) × (places (set (x ∷ xs) j (watched p m)) ≡ places (x ∷ xs))) index
           ((get-set_same all p x.monitor m was, others-of xs z.1 (subst (λ j. has j (places xs) ≡ false) own apart.0)), ap (λ j. j ∷ places xs) (sym own))
-      on false f = in-rest (position (λ (y : Watched). y.place == p) xs) refl
+      on false f deeper = in-rest (position (λ (y : Watched). y.place == p) xs) refl
         where
           in-rest : (o : Option ℕ) → position (λ (y : Watched). y.place == p) xs ≡ o → AreOf (set all p m) (set (x ∷ xs) i (watched p m)) × (places (set (x ∷ xs) i (watched p m)) ≡ places (x ∷ xs))
           in-rest None g = let k : ◌≡◌ {A = Option ℕ} None (Some i) = sym (position-miss (λ (y : Watched). y.place == p) x xs f ∙ ap (option_map suc) g) ∙ e in cc
           in-rest (Some j) g =
               let k : Some (suc j) ≡ Some i = sym (position-miss (λ (y : Watched). y.place == p) x xs f ∙ ap (option_map suc) g) ∙ e in
               let index : suc j ≡ i = cc in
-              let r = put-of xs j z.1 apart.1 g in
+              let r = deeper j g in
               let ne : p ≢ x.place = λ q. differ x.place p f (sym q) in
               subst (λ n. AreOf (set all p m) (set (x ∷ xs) n (watched p m)) × (places (set (x ∷ xs) n (watched p m)) ≡ places (x ∷ xs))) index
               ((get-set_other all p x.place m ne ∙ z.0, r.0), ap (λ ps. x.place ∷ ps) r.1)
@@ -86,14 +88,14 @@ module _ (all : List MonitorCore) (p : ℕ) (m : MonitorCore) where
 
 pub put-found : (kept : List Watched) (p : ℕ) → has p (places kept) ≡ true → position (λ (x : Watched). x.place == p) kept ≡ None → ⊥
 put-found [] p e f = cc
-put-found (x ∷ xs) p e f = on (x.place == p) refl
+put-found (x ∷ xs) p e f = on (x.place == p) refl (λ d h. put-found xs p d h)
   where
-    on : (b : Bool) → (x.place == p) ≡ b → ⊥
-    on true g = let k : ◌≡◌ {A = Option ℕ} (Some 0) None = sym (position-hit (λ (y : Watched). y.place == p) x xs g) ∙ f in cc
-    on false g = in-rest (position (λ (y : Watched). y.place == p) xs) refl
+    on : (b : Bool) → (x.place == p) ≡ b → (has p (places xs) ≡ true → position (λ (y : Watched). y.place == p) xs ≡ None → ⊥) → ⊥
+    on true g deeper = let k : ◌≡◌ {A = Option ℕ} (Some 0) None = sym (position-hit (λ (y : Watched). y.place == p) x xs g) ∙ f in cc
+    on false g deeper = in-rest (position (λ (y : Watched). y.place == p) xs) refl
       where
         in-rest : (o : Option ℕ) → position (λ (y : Watched). y.place == p) xs ≡ o → ⊥
-        in-rest None h = let same : has p (places (x ∷ xs)) ≡ has p (places xs) = rw g refl in put-found xs p (sym same ∙ e) h
+        in-rest None h = let same : has p (places (x ∷ xs)) ≡ has p (places xs) = rw g refl in deeper (sym same ∙ e) h
         in-rest (Some j) h = let k : ◌≡◌ {A = Option ℕ} (Some (suc j)) None = sym (position-miss (λ (y : Watched). y.place == p) x xs g ∙ ap (option_map suc) h) ∙ f in cc
 
 pub has-more : (ps : List ℕ) (q p : ℕ) → has q (ps ++ p ∷ []) ≡ has q ps || (p == q)
@@ -151,19 +153,19 @@ module _ (all : List MonitorCore) (m : MonitorCore) where
 
   apart-more : (ps : List ℕ) (p : ℕ) → are_apart ps ≡ true → has p ps ≡ false → are_apart (ps ++ p ∷ []) ≡ true
   apart-more [] p a e = refl
-  apart-more (x ∷ ps) p a e = on (x == p) (has x ps) refl refl a e
+  apart-more (x ∷ ps) p a e = on (x == p) (has x ps) refl refl a e (λ others rest. apart-more ps p others rest)
     where
       flip : (x == p) ≡ false → (p == x) ≡ false
       flip f = grind (arith, nat_tests)
 
-      on : (b d : Bool) → (x == p) ≡ b → has x ps ≡ d → (not (has x ps) && are_apart ps) ≡ true → ((x == p) || has p ps) ≡ false → (not (has x (ps ++ p ∷ [])) && are_apart (ps ++ p ∷ [])) ≡ true
-      on true d f g h k = let w : ((x == p) || has p ps) ≡ true = rw f refl in cc
-      on false true f g h k = let w : (not (has x ps) && are_apart ps) ≡ false = rw g refl in cc
-      on false false f g h k =
+      on : (b d : Bool) → (x == p) ≡ b → has x ps ≡ d → (not (has x ps) && are_apart ps) ≡ true → ((x == p) || has p ps) ≡ false → (are_apart ps ≡ true → has p ps ≡ false → are_apart (ps ++ p ∷ []) ≡ true) → (not (has x (ps ++ p ∷ [])) && are_apart (ps ++ p ∷ [])) ≡ true
+      on true d f g h k deeper = let w : ((x == p) || has p ps) ≡ true = rw f refl in cc
+      on false true f g h k deeper = let w : (not (has x ps) && are_apart ps) ≡ false = rw g refl in cc
+      on false false f g h k deeper =
           let others : are_apart ps ≡ true = let w : (not (has x ps) && are_apart ps) ≡ are_apart ps = rw g refl in sym w ∙ h in
           let rest : has p ps ≡ false = let w : ((x == p) || has p ps) ≡ has p ps = rw f refl in sym w ∙ k in
           let off : has x (ps ++ p ∷ []) ≡ false = has-more ps x p ∙ rw (g, flip f) refl in
-          rw off (apart-more ps p others rest)
+          rw off (deeper others rest)
 
   pub more-watched : (kept : List Watched) → IsWatched all kept → IsWatched (all ++ m ∷ []) (kept ++ watched (length all) m ∷ [])
   more-watched kept z = record { each = more-of kept z.each; apart = ap are_apart (places-last kept (length all)) ∙ apart-more (places kept) (length all) z.apart (none-last kept z.each) }
@@ -175,8 +177,8 @@ module _ (test : ℕ → Bool) where
   kept-has (x ∷ xs) p e = on (test x.place) (x.place == p) refl refl (kept-has xs p e)
     where
       on : (b d : Bool) → test x.place ≡ b → (x.place == p) ≡ d → has p (places (filter (λ (y : Watched). test y.place) xs)) ≡ has p (places xs) → has p (places (filter (λ (y : Watched). test y.place) (x ∷ xs))) ≡ has p (places (x ∷ xs))
-      on true true f g r = rw (f, g, g) refl
-      on true false f g r = rw (f, g, g) r
+      on true true f g r = rw (f, g) refl
+      on true false f g r = rw (f, g) r
       on false true f g r = let k : test x.place ≡ true = ap test (equal x.place p g) ∙ e in cc
       on false false f g r = rw (f, g) r
 
@@ -222,3 +224,11 @@ module _ (test : ℕ → Bool) where
 
   pub fewer-watched : (all : List MonitorCore) (kept : List Watched) → IsWatched all kept → IsWatched all (filter (λ (x : Watched). test x.place) kept)
   fewer-watched all kept z = record { each = fewer-of all kept z.each; apart = fewer-apart kept z.apart }
+
+  pub fewer-many : (kept : List Watched) → length (filter (λ (x : Watched). test x.place) kept) ≤ length kept
+  fewer-many [] = omega arith
+  fewer-many (x ∷ xs) = on (test x.place) refl (fewer-many xs)
+    where
+      on : (b : Bool) → test x.place ≡ b → length (filter (λ (y : Watched). test y.place) xs) ≤ length xs → length (filter (λ (y : Watched). test y.place) (x ∷ xs)) ≤ length (x ∷ xs)
+      on true f r = rw f (omega (arith, r))
+      on false f r = rw f (omega (arith, r))

@@ -1,6 +1,6 @@
 //! The monitors of all pools that a driver opened, of which memory keeps those of the pools in which something lives.
 
-ghost use Rattle.std.specs.Prelude.{◌≡◌, ◌==◌, ◌+◌, ◌≤◌, ◌<◌, ◌++◌, ◌∷◌, [], ℕ, OnOk, Some, None, true, false, if◌then◌else◌, find, length, option_copied, set, slice_get};
+ghost use Rattle.std.specs.Prelude.{◌≡◌, ◌==◌, ◌+◌, ◌≤◌, ◌<◌, ◌++◌, ◌∷◌, [], ℕ, OnOk, Some, None, true, false, if◌then◌else◌, find, length, option_copied, position, set, slice_get};
 ghost use Rattle.mdb_log.specs.Connections.{has};
 ghost use Rattle.mdb_topology.specs.Living.{lives_at};
 
@@ -58,6 +58,13 @@ fn watched_at(kept: &[Watched], place: usize) -> Option<&Watched>
     ensures { option_copied result ≡ find (λ x. x.place == place) kept.now }
 {
     kept.iter().find(|watched| watched.place == place)
+}
+
+// The index of the one at the place.
+fn index_at(kept: &[Watched], place: usize) -> Option<usize>
+    ensures { result ≡ position (λ x. x.place == place) kept.now }
+{
+    kept.iter().position(|watched| watched.place == place)
 }
 
 impl Monitors {
@@ -134,7 +141,7 @@ impl Monitors {
     {
         let watched = Watched { place, monitor };
         let all = Past::of::<(&Past<MonitorCore>, &Watched), Changed>(&(&self.all, &watched));
-        let Some(index) = self.kept.iter().position(|other| other.place == place) else {
+        let Some(index) = index_at(self.kept.as_slice(), place) else {
             unreachable!()
         };
         self.kept[index] = watched;

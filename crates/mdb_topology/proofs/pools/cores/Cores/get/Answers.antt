@@ -8,11 +8,11 @@ use Rattle.mdb_topology.proofs.pools.cores.Cores.get.Goals as goal
 pub returns-in-Some : goal.returns-in-Some
 returns-in-Some c =
     let found : find (λ (x : Placed). x.place == c.args.place) (living_from 0 c.self.inside.all.value) ≡ Some c.in-Some.placed.now =
-    ap (find (λ (x : Placed). x.place == c.args.place)) (sym c.self.invariant.0) ∙ (ap (find (λ (x : Placed). x.place == c.args.place)) (sym c.as_slice.ensures) ∙ (sym c.placed_at.ensures ∙ ap option_copied c.in-Some.is)) in
+    ap (find (λ (x : Placed). x.place == c.args.place)) (sym c.self.invariant.0) ∙ (ap (find (λ (x : Placed). x.place == c.args.place)) (sym c.as_slice.ensures.value) ∙ (sym c.placed_at.ensures ∙ ap option_copied c.in-Some.is)) in
     rw (← c.self.view_is) (sym (ap (option_map (λ (x : Placed). x.core)) found) ∙ living-is c.self.inside.all.value c.args.place)
 
 pub returns-in-None : goal.returns-in-None
 returns-in-None c =
     let found : find (λ (x : Placed). x.place == c.args.place) (living_from 0 c.self.inside.all.value) ≡ None =
-    ap (find (λ (x : Placed). x.place == c.args.place)) (sym c.self.invariant.0) ∙ (ap (find (λ (x : Placed). x.place == c.args.place)) (sym c.as_slice.ensures) ∙ (sym c.placed_at.ensures ∙ ap option_copied c.in-None.is)) in
+    ap (find (λ (x : Placed). x.place == c.args.place)) (sym c.self.invariant.0) ∙ (ap (find (λ (x : Placed). x.place == c.args.place)) (sym c.as_slice.ensures.value) ∙ (sym c.placed_at.ensures ∙ ap option_copied c.in-None.is)) in
     rw (← c.self.view_is) (sym (ap (option_map (λ (x : Placed). x.core)) found) ∙ living-is c.self.inside.all.value c.args.place)
