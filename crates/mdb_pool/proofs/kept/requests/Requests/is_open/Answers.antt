@@ -6,8 +6,8 @@ use Rattle.mdb_pool.proofs.KeptInLittle.RequestsThatStay.{kept-at, open-now}
 use Rattle.mdb_pool.proofs.KeptInLittle.AskedOfThoseThatStay.{kept-some}
 use Rattle.mdb_pool.proofs.kept.requests.Requests.is_open.Goals as goal
 
-pub is_told-requires : goal.is_told-requires
-is_told-requires c = c.self.invariant.0
+pub is_told-told-requires : goal.is_told-told-requires
+is_told-told-requires c = c.self.invariant.0
 
 -- it is there: what is told of it is what is settled
 pub returns-in-Some : goal.returns-in-Some
