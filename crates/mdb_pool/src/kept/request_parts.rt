@@ -1,6 +1,6 @@
 //! The parts of a pool's requests, changed together.
 
-ghost use Rattle.std.specs.Prelude.{◌≡◌, ◌++◌, ◌∷◌, [], true, false, is_some, None, OnOk};
+ghost use Rattle.std.specs.Prelude.{◌≡◌, ◌++◌, ◌∷◌, [], true, false, not, is_some, None, OnOk};
 ghost use Rattle.mdb_log.specs.Connections.{has};
 ghost use Rattle.mdb_slots.specs.Keyed.{put, swap};
 ghost use Rattle.mdb_slots.specs.Lists.{has as among};
@@ -8,7 +8,7 @@ ghost use Rattle.mdb_slots.specs.NumberSet.{numbers_kept};
 ghost use Rattle.mdb_slots.specs.Table.{items};
 ghost use Rattle.mdb_pool.specs.Asking.{asked_base, asked_room, PartsFit};
 ghost use Rattle.mdb_pool.specs.Keyed.{marked};
-ghost use Rattle.mdb_pool.specs.Kept.{is_gone, request_in};
+ghost use Rattle.mdb_pool.specs.Kept.{is_gone, lingers, request_in};
 ghost use Rattle.mdb_pool.specs.Places.{is_done, is_queued};
 
 use crate::kept::request::Request;
@@ -99,6 +99,16 @@ impl RequestParts {
         }
     }
 
+    // The request, which has not left, leaves: it is settled, and is over or has ended.
+    fn leaves(&self, request: &Request) -> bool
+        requires { PartsFit self.now }
+        ensures { is_gone self.now.settled.value (request_in self.now.all.value request.now.number) ≡ false → result ≡ not (lingers self.now.settled.value request.now) }
+    {
+        let told = self.is_told(request.number);
+        let done = request.is_done();
+        told && done
+    }
+
     /// The request, which is new, comes last.
     pub(crate) fn put(&mut self, alloc: Global, request: Request) -> Result<(), OutOfMemory>
         requires fits { PartsFit self.old }
@@ -130,9 +140,7 @@ impl RequestParts {
     {
         let all = Past::of::<(&Past<Request>, &Request), Swapped>(&(&self.all, &request));
         let number = request.number;
-        let done = request.is_done();
-        let told = self.is_told(number);
-        if done && told {
+        if self.leaves(&request) {
             drop(request);
             self.kept.remove(alloc, number)?;
             self.told.remove(number)?;

@@ -10,12 +10,12 @@ overflow_add-sum c =
     let p = counts_at c.args.service c.args.before in
     let rest = weigh_rest p c.args.marks.now c.loop-mark.mark-index nothing c.loop-mark-test.true in
     let most = weigh_within p c.args.marks.now in
-    omega (arith, rest, most, c.loop-mark.invariant, c.part_of.ensures, c.requires, c.ranges.total)
+    omega (arith, rest, most, c.loop-mark.invariant, c.part_of-sum.ensures, c.requires, c.ranges.total)
 
 pub loop-mark-preserved : goal.loop-mark-preserved
 loop-mark-preserved c =
     let rest = weigh_rest (counts_at c.args.service c.args.before) c.args.marks.now c.loop-mark.mark-index nothing c.loop-mark-test.true in
-    omega (arith, rest, c.loop-mark.invariant, c.part_of.ensures)
+    omega (arith, rest, c.loop-mark.invariant, c.part_of-sum.ensures)
 
 pub returns : goal.returns
 returns c = omega (arith, c.loop-mark.invariant, at_drop_all (weigh (counts_at c.args.service c.args.before)) c.args.marks.now c.loop-mark.mark-index c.loop-mark-test.false)

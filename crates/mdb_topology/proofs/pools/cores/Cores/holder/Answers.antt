@@ -1,6 +1,7 @@
 use Rattle.std.proofs.Common.{find, is_some, ◌∙◌, ap}
 use Rattle.std.specs.Prelude.{option_map}
 use Rattle.mdb_pool.specs.Kept.{held_connection}
+use Rattle.mdb_topology.specs.Finding.{holder}
 use Rattle.mdb_topology.specs.declared.pools.placed.Placed.{Placed}
 use Rattle.mdb_topology.specs.Living.{PoolList}
 use Rattle.mdb_topology.proofs.InMemory.LivingPools.{found-place, spent-holder}

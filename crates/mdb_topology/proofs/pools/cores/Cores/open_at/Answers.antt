@@ -1,6 +1,6 @@
 use Rattle.std.proofs.Common.{find, ◌∙◌, ap}
 use Rattle.std.specs.Prelude.{option_map}
-use Rattle.mdb_topology.specs.Standing.{is_open_at}
+use Rattle.mdb_topology.specs.Standing.{at_address, is_open_at}
 use Rattle.mdb_topology.specs.declared.pools.placed.Placed.{Placed}
 use Rattle.mdb_topology.specs.Living.{PoolList}
 use Rattle.mdb_topology.proofs.InMemory.LivingPools.{found-place, spent-open_at}
