@@ -2,7 +2,8 @@
 
 use crate::pool::Pool;
 use crate::{
-    closed_pools, driver_pools, drivers, entries, errors, generator, handles, lines, pool, shown, spent,
+    closed_pools, driver_pools, drivers, entries, errors, generator, handles, lines, pool, shown,
+    spent,
 };
 use mdb_cases::Page;
 

@@ -10,13 +10,7 @@ use mdb_log::{Act, Core, Log, Step, Use};
 use mdb_topology::TopologyCore;
 
 // Only this seed is a host from now on: the pool of the other one is closed.
-fn keep_host(
-    page: &mut Page,
-    core: &mut TopologyCore,
-    log: &mut Log,
-    moment: Moment,
-    seed: &str,
-)
+fn keep_host(page: &mut Page, core: &mut TopologyCore, log: &mut Log, moment: Moment, seed: &str)
     requires stands { IsDriverOf core.old log.old }
     ensures { IsDriverOf core.new log.new }
 {

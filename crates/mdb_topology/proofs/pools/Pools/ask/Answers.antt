@@ -41,8 +41,7 @@ pub returns-clause-asked : goal.returns-clause-asked
 returns-clause-asked c =
     let s = c.at.result.now in
     let told = c.in_ok-answers.answers.items in
-    let n : refusal_now s c.args.step.now ≡ None = sym c.refusal_now.ensures.kept ∙ c.in_default.is in
-    (
+    let n : refusal_now s c.args.step.now ≡ None = sym c.refusal_now.ensures.kept ∙ c.in_default.is in (
       s,
       c.at.ensures,
       (
