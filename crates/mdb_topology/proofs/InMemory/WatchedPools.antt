@@ -31,6 +31,20 @@ watched-is all (x ∷ xs) p z = on (x.place == p) refl (watched-is all xs p z.1)
     on true e r = rw e (sym (subst (λ j. slice_get all j ≡ Some x.monitor) (equal x.place p e) z.0))
     on false e r = rw e r
 
+-- what is not found is not kept
+pub none-kept : (kept : List Watched) (p : ℕ) → find (λ (x : Watched). x.place == p) kept ≡ None → has p (places kept) ≡ false
+none-kept [] p e = refl
+none-kept (x ∷ xs) p e = on (x.place == p) refl (λ d. none-kept xs p d)
+  where
+    on : (b : Bool) → (x.place == p) ≡ b → (find (λ (y : Watched). y.place == p) xs ≡ None → has p (places xs) ≡ false) → has p (places (x ∷ xs)) ≡ false
+    on true f deeper =
+        let k : find (λ (y : Watched). y.place == p) (x ∷ xs) ≡ Some x = rw f refl in
+        let w : ◌≡◌ {A = Option Watched} None (Some x) = sym e ∙ k in
+        cc
+    on false f deeper =
+        let same : find (λ (y : Watched). y.place == p) (x ∷ xs) ≡ find (λ (y : Watched). y.place == p) xs = rw f refl in
+        rw f (deeper (sym same ∙ e))
+
 -- one that memory keeps is there
 pub there-kept : (all : List MonitorCore) (kept : List ℕ) (p : ℕ) (m : MonitorCore) → has p kept ≡ true → Some m ≡ (if has p kept then slice_get all p else None) → slice_get all p ≡ Some m
 there-kept all kept p m e f = sym (f ∙ rw e refl)

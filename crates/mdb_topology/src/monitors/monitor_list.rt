@@ -96,8 +96,8 @@ impl Monitors {
         requires { has place self.now.kept ≡ true }
         ensures { slice_get self.now.items place ≡ Some result.now }
     {
-        match self.get(place) {
-            Some(monitor) => monitor,
+        match watched_at(self.kept.as_slice(), place) {
+            Some(watched) => &watched.monitor,
             None => unreachable!(),
         }
     }
