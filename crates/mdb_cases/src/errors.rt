@@ -1,17 +1,21 @@
 //! Errors by their words.
 
 use crate::page::Page;
-use crate::words::{some_version, value_of};
+use crate::words::{named, signed, some_version, value_of};
 use mdb_base::{Error, ErrorKind, Items};
 
+const KINDS: [(&str, ErrorKind); 5] = [
+    ("network", ErrorKind::Network),
+    ("timeout", ErrorKind::NetworkTimeout),
+    ("auth", ErrorKind::Auth),
+    ("incompatible", ErrorKind::IncompatibleServer),
+    ("other", ErrorKind::Other),
+];
+
 fn kind(word: &str) -> ErrorKind {
-    match word {
-        "network" => ErrorKind::Network,
-        "timeout" => ErrorKind::NetworkTimeout,
-        "auth" => ErrorKind::Auth,
-        "incompatible" => ErrorKind::IncompatibleServer,
-        "other" => ErrorKind::Other,
-        code => ErrorKind::Command(code.parse::<i32>().unwrap_or(0)),
+    match named(&KINDS, word) {
+        Some(kind) => kind,
+        None => ErrorKind::Command(signed(word)),
     }
 }
 

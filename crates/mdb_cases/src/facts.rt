@@ -5,7 +5,7 @@ use crate::page::Page;
 use crate::pool_events::{pool_event, service};
 use crate::words::{parted, small};
 use mdb_base::Error;
-use mdb_events::{End, Fact, Boxed};
+use mdb_events::{Boxed, End, Fact};
 
 /// A network error that stands apart; none where memory is short.
 pub fn held_down(page: &mut Page) -> Option<Boxed<Error>> {

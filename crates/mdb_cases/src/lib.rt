@@ -22,4 +22,4 @@ pub use options::made_options;
 pub use page::Page;
 pub use pool_events::{closed_reason, failed_reason, first_address, pool_event, service};
 pub use topology::{tell_server, tell_topology};
-pub use words::{decoded, number, parted, signed, small, some_version, value_of, version};
+pub use words::{decoded, named, number, parted, signed, small, some_version, value_of, version};

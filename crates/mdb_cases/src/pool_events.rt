@@ -1,13 +1,13 @@
 //! The events of pools by their words.
 
 use crate::page::Page;
-use crate::words::{number, parted, small, value_of};
+use crate::words::{named, number, parted, small, value_of};
 use mdb_base::{ObjectId, ServerAddress};
 use mdb_events::{
-    CmapEvent, ConnectionCheckedInEvent, ConnectionCheckedOutEvent, ConnectionCheckoutFailedEvent,
-    ConnectionCheckoutFailedReason, ConnectionCheckoutStartedEvent, ConnectionClosedEvent,
-    ConnectionClosedReason, ConnectionCreatedEvent, ConnectionPoolOptions, ConnectionReadyEvent,
-    Boxed, PoolClearedEvent, PoolClosedEvent, PoolCreatedEvent, PoolReadyEvent,
+    Boxed, CmapEvent, ConnectionCheckedInEvent, ConnectionCheckedOutEvent,
+    ConnectionCheckoutFailedEvent, ConnectionCheckoutFailedReason, ConnectionCheckoutStartedEvent,
+    ConnectionClosedEvent, ConnectionClosedReason, ConnectionCreatedEvent, ConnectionPoolOptions,
+    ConnectionReadyEvent, PoolClearedEvent, PoolClosedEvent, PoolCreatedEvent, PoolReadyEvent,
 };
 
 /// The address that stands first, and none where the first word is no address.
@@ -28,15 +28,16 @@ fn milliseconds(words: &str) -> u64 {
     number(value_of(words, "ms"))
 }
 
+const CLOSED: [(&str, ConnectionClosedReason); 4] = [
+    ("Stale", ConnectionClosedReason::Stale),
+    ("Idle", ConnectionClosedReason::Idle),
+    ("Error", ConnectionClosedReason::Error),
+    ("Dropped", ConnectionClosedReason::Dropped),
+];
+
 /// The reason of this name.
 pub fn closed_reason(word: &str) -> ConnectionClosedReason {
-    match word {
-        "Stale" => ConnectionClosedReason::Stale,
-        "Idle" => ConnectionClosedReason::Idle,
-        "Error" => ConnectionClosedReason::Error,
-        "Dropped" => ConnectionClosedReason::Dropped,
-        _ => ConnectionClosedReason::PoolClosed,
-    }
+    named(&CLOSED, word).unwrap_or(ConnectionClosedReason::PoolClosed)
 }
 
 /// The reason of this name.
@@ -65,100 +66,97 @@ fn sizes(page: &mut Page, words: &str) -> Option<Boxed<ConnectionPoolOptions>> {
     }
 }
 
-fn pool_created(page: &mut Page, words: &str) -> Option<CmapEvent> {
-    Some(CmapEvent::from(PoolCreatedEvent {
-        address: first_address(page, words)?,
-        options: sizes(page, words),
-    }))
+// Which event of a pool it is.
+#[derive(Clone, Copy)]
+enum Kind {
+    PoolCreated,
+    PoolReady,
+    PoolCleared,
+    PoolClosed,
+    ConnectionCreated,
+    ConnectionReady,
+    ConnectionClosed,
+    CheckoutStarted,
+    CheckoutFailed,
+    CheckedOut,
+    CheckedIn,
 }
 
-fn pool_ready(page: &mut Page, words: &str) -> Option<CmapEvent> {
-    Some(CmapEvent::from(PoolReadyEvent {
-        address: first_address(page, words)?,
-    }))
+const KINDS: [(&str, Kind); 11] = [
+    ("PoolCreated", Kind::PoolCreated),
+    ("PoolReady", Kind::PoolReady),
+    ("PoolCleared", Kind::PoolCleared),
+    ("PoolClosed", Kind::PoolClosed),
+    ("ConnectionCreated", Kind::ConnectionCreated),
+    ("ConnectionReady", Kind::ConnectionReady),
+    ("ConnectionClosed", Kind::ConnectionClosed),
+    ("ConnectionCheckoutStarted", Kind::CheckoutStarted),
+    ("ConnectionCheckoutFailed", Kind::CheckoutFailed),
+    ("ConnectionCheckedOut", Kind::CheckedOut),
+    ("ConnectionCheckedIn", Kind::CheckedIn),
+];
+
+fn checkout(kind: Kind, address: ServerAddress, words: &str) -> CmapEvent {
+    match kind {
+        Kind::CheckoutFailed => CmapEvent::from(ConnectionCheckoutFailedEvent {
+            address,
+            reason: failed_reason(value_of(words, "reason")),
+            duration: milliseconds(words),
+        }),
+        Kind::CheckedOut => CmapEvent::from(ConnectionCheckedOutEvent {
+            address,
+            connection_id: id(words),
+            duration: milliseconds(words),
+        }),
+        Kind::CheckedIn => CmapEvent::from(ConnectionCheckedInEvent {
+            address,
+            connection_id: id(words),
+        }),
+        _ => CmapEvent::from(ConnectionCheckoutStartedEvent { address }),
+    }
 }
 
-fn pool_cleared(page: &mut Page, words: &str) -> Option<CmapEvent> {
-    Some(CmapEvent::from(PoolClearedEvent {
-        address: first_address(page, words)?,
-        service_id: service(words),
-        interrupt_in_use_connections: words.ends_with(" interrupt"),
-    }))
+fn of_connection(kind: Kind, address: ServerAddress, words: &str) -> CmapEvent {
+    match kind {
+        Kind::ConnectionCreated => CmapEvent::from(ConnectionCreatedEvent {
+            address,
+            connection_id: id(words),
+        }),
+        Kind::ConnectionReady => CmapEvent::from(ConnectionReadyEvent {
+            address,
+            connection_id: id(words),
+            duration: milliseconds(words),
+        }),
+        Kind::ConnectionClosed => CmapEvent::from(ConnectionClosedEvent {
+            address,
+            connection_id: id(words),
+            reason: closed_reason(value_of(words, "reason")),
+            service_id: service(words),
+        }),
+        _ => checkout(kind, address, words),
+    }
 }
 
-fn pool_closed(page: &mut Page, words: &str) -> Option<CmapEvent> {
-    Some(CmapEvent::from(PoolClosedEvent {
-        address: first_address(page, words)?,
-    }))
-}
-
-fn connection_created(page: &mut Page, words: &str) -> Option<CmapEvent> {
-    Some(CmapEvent::from(ConnectionCreatedEvent {
-        address: first_address(page, words)?,
-        connection_id: id(words),
-    }))
-}
-
-fn connection_ready(page: &mut Page, words: &str) -> Option<CmapEvent> {
-    Some(CmapEvent::from(ConnectionReadyEvent {
-        address: first_address(page, words)?,
-        connection_id: id(words),
-        duration: milliseconds(words),
-    }))
-}
-
-fn connection_closed(page: &mut Page, words: &str) -> Option<CmapEvent> {
-    Some(CmapEvent::from(ConnectionClosedEvent {
-        address: first_address(page, words)?,
-        connection_id: id(words),
-        reason: closed_reason(value_of(words, "reason")),
-        service_id: service(words),
-    }))
-}
-
-fn checkout_started(page: &mut Page, words: &str) -> Option<CmapEvent> {
-    Some(CmapEvent::from(ConnectionCheckoutStartedEvent {
-        address: first_address(page, words)?,
-    }))
-}
-
-fn checkout_failed(page: &mut Page, words: &str) -> Option<CmapEvent> {
-    Some(CmapEvent::from(ConnectionCheckoutFailedEvent {
-        address: first_address(page, words)?,
-        reason: failed_reason(value_of(words, "reason")),
-        duration: milliseconds(words),
-    }))
-}
-
-fn checked_out(page: &mut Page, words: &str) -> Option<CmapEvent> {
-    Some(CmapEvent::from(ConnectionCheckedOutEvent {
-        address: first_address(page, words)?,
-        connection_id: id(words),
-        duration: milliseconds(words),
-    }))
-}
-
-fn checked_in(page: &mut Page, words: &str) -> Option<CmapEvent> {
-    Some(CmapEvent::from(ConnectionCheckedInEvent {
-        address: first_address(page, words)?,
-        connection_id: id(words),
-    }))
+fn of_pool(page: &mut Page, kind: Kind, address: ServerAddress, words: &str) -> CmapEvent {
+    match kind {
+        Kind::PoolCreated => CmapEvent::from(PoolCreatedEvent {
+            address,
+            options: sizes(page, words),
+        }),
+        Kind::PoolReady => CmapEvent::from(PoolReadyEvent { address }),
+        Kind::PoolCleared => CmapEvent::from(PoolClearedEvent {
+            address,
+            service_id: service(words),
+            interrupt_in_use_connections: words.ends_with(" interrupt"),
+        }),
+        Kind::PoolClosed => CmapEvent::from(PoolClosedEvent { address }),
+        _ => of_connection(kind, address, words),
+    }
 }
 
 /// The event of a pool that has this name, and none where no such event has it.
 pub fn pool_event(page: &mut Page, name: &str, words: &str) -> Option<CmapEvent> {
-    match name {
-        "PoolCreated" => pool_created(page, words),
-        "PoolReady" => pool_ready(page, words),
-        "PoolCleared" => pool_cleared(page, words),
-        "PoolClosed" => pool_closed(page, words),
-        "ConnectionCreated" => connection_created(page, words),
-        "ConnectionReady" => connection_ready(page, words),
-        "ConnectionClosed" => connection_closed(page, words),
-        "ConnectionCheckoutStarted" => checkout_started(page, words),
-        "ConnectionCheckoutFailed" => checkout_failed(page, words),
-        "ConnectionCheckedOut" => checked_out(page, words),
-        "ConnectionCheckedIn" => checked_in(page, words),
-        _ => None,
-    }
+    let kind = named(&KINDS, name)?;
+    let address = first_address(page, words)?;
+    Some(of_pool(page, kind, address, words))
 }

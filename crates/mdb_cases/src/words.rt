@@ -18,6 +18,16 @@ pub fn signed(word: &str) -> i32 {
     word.parse::<i32>().unwrap_or(0)
 }
 
+/// What stands beside the name in the list, and none where the name is not there.
+pub fn named<T: Copy>(list: &[(&str, T)], name: &str) -> Option<T> {
+    for (own, value) in list {
+        if *own == name {
+            return Some(*value);
+        }
+    }
+    None
+}
+
 /// A version of the process zero.
 pub fn version(counter: &str) -> TopologyVersion {
     TopologyVersion {

@@ -84,10 +84,14 @@ fn check(page: &mut Page, options: &Options) {
 
 /// `options a:1,a:2 direct ..`: the first rule that a copy of such options breaks.
 pub fn options(page: &mut Page, given: &str) {
-    match made_options(page, given).clone() {
-        Ok(options) => check(page, &options),
+    let options = made_options(page, given);
+    let copied = options.clone();
+    drop(options);
+    match &copied {
+        Ok(options) => check(page, options),
         Err(_) => page.fail(),
     }
+    drop(copied);
 }
 
 // One read into this much room: the bytes that were read, or that it failed.
@@ -114,6 +118,7 @@ pub fn source(page: &mut Page, given: &str) {
     let fails = page.numbers(value_of(given, "fails"));
     let mut source = MemSource::new(held, piece, fails);
     read_each(page, &mut source, value_of(given, "rooms"));
+    drop(source);
 }
 
 // `base reading held=ab rooms=2`

@@ -175,17 +175,19 @@ fn deliver_of_server(page: &mut Page, event: &SdamEvent) {
 }
 
 fn hand_pool_event(page: &mut Page, name: &str, words: &str) {
-    if let Some(event) = pool_event(page, name, words) {
-        deliver_of_pool(page, &event);
-        drop(event);
+    let made = pool_event(page, name, words);
+    if let Some(event) = &made {
+        deliver_of_pool(page, event);
     }
+    drop(made);
 }
 
 fn hand_server_event(page: &mut Page, name: &str, words: &str) {
-    if let Some(event) = server_event(page, name, words) {
-        deliver_of_server(page, &event);
-        drop(event);
+    let made = server_event(page, name, words);
+    if let Some(event) = &made {
+        deliver_of_server(page, event);
     }
+    drop(made);
 }
 
 /// `deliver PoolReady a:1`: the function that is called with the event, and how often a function is called.

@@ -3,7 +3,7 @@
 use crate::server_events::server_event;
 use mdb_cases::{Page, closed_reason, failed_reason, made_end, made_fact, parted, pool_event};
 use mdb_events::{
-    CmapEvent, End, Fact, Boxed, SdamEvent, closed_reason_text, failed_reason_text, write_cmap,
+    Boxed, CmapEvent, End, Fact, SdamEvent, closed_reason_text, failed_reason_text, write_cmap,
     write_sdam,
 };
 
@@ -28,17 +28,19 @@ fn write_of_server(page: &mut Page, event: &SdamEvent) {
 }
 
 fn tell_of_pool(page: &mut Page, name: &str, words: &str) {
-    if let Some(event) = pool_event(page, name, words) {
-        write_of_pool(page, &event);
-        drop(event);
+    let made = pool_event(page, name, words);
+    if let Some(event) = &made {
+        write_of_pool(page, event);
     }
+    drop(made);
 }
 
 fn tell_of_server(page: &mut Page, name: &str, words: &str) {
-    if let Some(event) = server_event(page, name, words) {
-        write_of_server(page, &event);
-        drop(event);
+    let made = server_event(page, name, words);
+    if let Some(event) = &made {
+        write_of_server(page, event);
     }
+    drop(made);
 }
 
 /// `event ConnectionReady a:1 id=3 ms=7`: the text of the event.
@@ -49,16 +51,19 @@ pub fn event(page: &mut Page, given: &str) {
 }
 
 fn show_copy(page: &mut Page, end: &End) {
-    match end.clone() {
-        Ok(copy) => page.show(&copy),
+    let copied = end.clone();
+    match &copied {
+        Ok(copy) => page.show(copy),
         Err(_) => page.fail(),
     }
+    drop(copied);
 }
 
 // `events end Cleared`: the text of a copy of the end.
 fn ended(page: &mut Page, given: &str) {
     let end = made_end(page, given);
     show_copy(page, &end);
+    drop(end);
 }
 
 fn of_server(page: &mut Page, words: &str) -> Option<Fact> {
@@ -84,10 +89,11 @@ fn named_fact(page: &mut Page, name: &str, words: &str) -> Option<Fact> {
 /// `fact Granted 1 0.2`: the text of the fact.
 pub fn fact(page: &mut Page, given: &str) {
     let (name, words) = parted(given);
-    if let Some(fact) = named_fact(page, name, words) {
-        page.show(&fact);
-        drop(fact);
+    let made = named_fact(page, name, words);
+    if let Some(fact) = &made {
+        page.show(fact);
     }
+    drop(made);
 }
 
 // `events closed Stale`: why a connection was closed, in a word and in a sentence.

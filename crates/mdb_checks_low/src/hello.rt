@@ -111,21 +111,22 @@ pub fn greet(page: &mut Page, given: &str) {
     let balanced = flag(value_of(given, "balanced"));
     let ok = flag(value_of(given, "ok"));
     let awaiting = awaiting(value_of(given, "version"));
-    match hello_command(page.alloc, api.as_ref(), balanced, ok, awaiting) {
-        Ok(command) => {
-            show_command(page, &command);
-            drop(command);
-        }
+    let made = hello_command(page.alloc, api.as_ref(), balanced, ok, awaiting);
+    drop(api);
+    match &made {
+        Ok(command) => show_command(page, command),
         Err(_) => page.fail(),
     }
-    drop(api);
+    drop(made);
 }
 
 fn show_document_of(page: &mut Page, reply: &HelloCommandResponse) {
-    match reply.to_doc(page.alloc) {
-        Ok(doc) => page.debug(&doc),
+    let made = reply.to_doc(page.alloc);
+    match &made {
+        Ok(doc) => page.debug(doc),
         Err(_) => page.fail(),
     }
+    drop(made);
 }
 
 fn bad(page: &mut Page, name: &str) {
@@ -136,15 +137,14 @@ fn bad(page: &mut Page, name: &str) {
 // `hello reply FIELDS`: the fields of the reply that this document is read as.
 fn reply(page: &mut Page, given: &str) {
     let doc = document(page, given);
-    match HelloCommandResponse::from_doc(page.alloc, &doc) {
-        Ok(reply) => {
-            show_document_of(page, &reply);
-            drop(reply);
-        }
+    let read = HelloCommandResponse::from_doc(page.alloc, &doc);
+    drop(doc);
+    match &read {
+        Ok(reply) => show_document_of(page, reply),
         Err(HelloError::BadField(name)) => bad(page, name),
         Err(HelloError::OutOfMemory) => page.fail(),
     }
-    drop(doc);
+    drop(read);
 }
 
 fn set_text(page: &mut Page, reply: &mut HelloCommandResponse, name: &str, word: &str) {
@@ -230,14 +230,13 @@ fn show_reply(page: &mut Page, reply: &HelloReply) {
     page.put(" fields");
 }
 
-fn show_answer(page: &mut Page, answer: Result<HelloReply, RunHelloError>) {
-    match &answer {
+fn show_answer(page: &mut Page, answer: &Result<HelloReply, RunHelloError>) {
+    match answer {
         Ok(reply) => show_reply(page, reply),
         Err(RunHelloError::Link(error)) => page.show(error),
         Err(RunHelloError::BadField(name)) => bad(page, name),
         Err(RunHelloError::OutOfMemory) => page.fail(),
     }
-    drop(answer);
     page.put(".");
 }
 
@@ -258,7 +257,8 @@ fn greet_by(page: &mut Page, link: &mut MemLink, command: &Command) {
     };
     for _ in 0..3 {
         let answer = run_hello(page.alloc, link, &address, command);
-        show_answer(page, answer);
+        show_answer(page, &answer);
+        drop(answer);
     }
 }
 
@@ -266,13 +266,12 @@ fn greet_by(page: &mut Page, link: &mut MemLink, command: &Command) {
 /// second form.
 pub fn exchange(page: &mut Page, given: &str) {
     let mut link = link(page, given);
-    match hello_command(page.alloc, None, None, None, None) {
-        Ok(command) => {
-            greet_by(page, &mut link, &command);
-            drop(command);
-        }
+    let made = hello_command(page.alloc, None, None, None, None);
+    match &made {
+        Ok(command) => greet_by(page, &mut link, command),
         Err(_) => page.fail(),
     }
+    drop(made);
     drop(link);
 }
 

@@ -2,7 +2,7 @@
 
 use crate::hello::document;
 use mdb_base::{Document, Error, ErrorKind, ServerAddress};
-use mdb_cases::{Page, down, number, parted, small, some_version, value_of};
+use mdb_cases::{Page, down, named, number, parted, small, some_version, value_of};
 use mdb_events::SdamEvent;
 use mdb_hello::{HelloCommandResponse, HelloReply};
 use mdb_monitor::{
@@ -45,13 +45,12 @@ fn begin(page: &mut Page, core: &mut MonitorCore, fresh: u32) {
         page.put("malformed");
         return;
     }
-    match core.begin(page.alloc, fresh) {
-        Ok(begin) => {
-            show_begin(page, &begin);
-            drop(begin);
-        }
+    let begun = core.begin(page.alloc, fresh);
+    match &begun {
+        Ok(begin) => show_begin(page, begin),
         Err(_) => page.fail(),
     }
+    drop(begun);
 }
 
 fn response(words: &str) -> HelloCommandResponse {
@@ -133,13 +132,12 @@ fn finish(page: &mut Page, core: &mut MonitorCore, given: &str) {
     let duration = number(value_of(words, "ns"));
     let available = value_of(words, "new") != "true";
     let outcome = outcome(page, address, kind, words);
-    match core.finish(page.alloc, duration, outcome, available) {
-        Ok(finish) => {
-            show_finish(page, &finish);
-            drop(finish);
-        }
+    let finished = core.finish(page.alloc, duration, outcome, available);
+    match &finished {
+        Ok(finish) => show_finish(page, finish),
         Err(_) => page.fail(),
     }
+    drop(finished);
 }
 
 fn tell(page: &mut Page, core: &MonitorCore) {
@@ -181,19 +179,17 @@ fn average(page: &mut Page, given: &str) {
     }
 }
 
-fn mode(word: &str) -> ServerMonitoringMode {
-    match word {
-        "stream" => ServerMonitoringMode::Stream,
-        "poll" => ServerMonitoringMode::Poll,
-        "auto" => ServerMonitoringMode::Auto,
-        _ => ServerMonitoringMode::default(),
-    }
-}
+const MODES: [(&str, ServerMonitoringMode); 3] = [
+    ("stream", ServerMonitoringMode::Stream),
+    ("poll", ServerMonitoringMode::Poll),
+    ("auto", ServerMonitoringMode::Auto),
+];
 
 // `streams auto faas`: whether a monitor of this mode may wait for answers, here in a function as a service.
 fn streams(page: &mut Page, given: &str) {
     let (word, place) = parted(given);
-    page.answer(allow_streaming(mode(word), place == "faas"));
+    let mode = named(&MODES, word).unwrap_or_default();
+    page.answer(allow_streaming(mode, place == "faas"));
 }
 
 // The usual time between two checks, and the least one.
@@ -211,6 +207,7 @@ fn cancellation(page: &mut Page, given: &str) {
         CancellationReason::from(down(page))
     };
     show_reason(page, &reason);
+    drop(reason);
 }
 
 fn show_reason(page: &mut Page, reason: &CancellationReason) {

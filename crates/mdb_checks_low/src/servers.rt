@@ -133,19 +133,21 @@ fn show_server(page: &mut Page, kind: &str, server: &ServerDescription) {
 }
 
 fn alike_to(page: &mut Page, one: &ServerDescription, words: &str) {
-    if let Some(other) = server(page, words) {
-        page.answer(one.same(&other));
-        drop(other);
+    let made = server(page, words);
+    if let Some(other) = &made {
+        page.answer(one.same(other));
     }
+    drop(made);
 }
 
 // `alike a:1 standalone, a:1 standalone wire=7`: whether the two descriptions say the same.
 fn alike(page: &mut Page, given: &str) {
     let (one, other) = given.split_once(", ").unwrap_or((given, ""));
-    if let Some(one) = server(page, one) {
-        alike_to(page, &one, other);
-        drop(one);
+    let made = server(page, one);
+    if let Some(one) = &made {
+        alike_to(page, one, other);
     }
+    drop(made);
 }
 
 // `literal a:1 secondary set=foo me=A:1`: whether a server names its own address or none, in a reply that stands as it is.
@@ -170,10 +172,11 @@ fn literal(page: &mut Page, given: &str) {
 }
 
 fn tell_of_server(page: &mut Page, kind: &str, given: &str) {
-    if let Some(server) = server(page, given) {
-        show_server(page, kind, &server);
-        drop(server);
+    let made = server(page, given);
+    if let Some(server) = &made {
+        show_server(page, kind, server);
     }
+    drop(made);
 }
 
 /// `server KIND ..`, of the server that the words describe: `info a:1 secondary`, its text; `told a:1 secondary`, each thing by itself;

@@ -23,10 +23,10 @@ fn show_hosts(page: &mut Page, found: &LookupHosts) {
     page.show_all(found.hosts.as_slice());
 }
 
-fn show_found(page: &mut Page, found: Result<LookupHosts, SrvError>) {
+fn show_found(page: &mut Page, found: &Result<LookupHosts, SrvError>) {
     match found {
-        Ok(found) => show_hosts(page, &found),
-        Err(e) => refuse(page, &e),
+        Ok(found) => show_hosts(page, found),
+        Err(e) => refuse(page, e),
     }
 }
 
@@ -35,10 +35,14 @@ fn select(page: &mut Page, given: &str) {
     let known = page.addresses(value_of(given, "known"));
     let found = page.addresses(value_of(given, "found"));
     let max = small(value_of(given, "max"));
-    match select_hosts(page.alloc, &known, &found, max) {
-        Ok(taken) => page.show_all(&taken),
+    let taken = select_hosts(page.alloc, &known, &found, max);
+    match &taken {
+        Ok(taken) => page.show_all(taken),
         Err(_) => page.fail(),
     }
+    drop(taken);
+    drop(known);
+    drop(found);
 }
 
 // `srv rescan 5`: after how many seconds.
@@ -63,6 +67,7 @@ fn interval(page: &mut Page, given: &str) {
     } else {
         page.show(&on_lookup(Ok(&found), 10));
     }
+    drop(found);
 }
 
 // `srv polls Sharded`: whether such a topology is.
@@ -86,7 +91,8 @@ fn mode(given: &str) -> DomainMismatch {
 fn accept(page: &mut Page, given: &str) {
     let found = found(page, given, 9);
     let answer = found.validate(page.alloc, value_of(given, "of"), mode(given));
-    show_found(page, answer);
+    show_found(page, &answer);
+    drop(answer);
 }
 
 // A record whose text comes in two pieces.
@@ -171,14 +177,21 @@ fn show_config(page: &mut Page, config: &ResolvedConfig) {
     show_options(page, config);
 }
 
+// The whole configuration: the hosts, and then the options.
+fn resolve(page: &mut Page, resolver: &mut SrvResolver<MemResolver>) {
+    let resolved = resolver.resolve_client_options(page.alloc, HOST);
+    match &resolved {
+        Ok(config) => show_config(page, config),
+        Err(e) => refuse(page, e),
+    }
+    drop(resolved);
+}
+
 /// `txt`, `txt of TEXT TEXT`: the time to live, the hosts and the options of the host where it has these TXT records.
 pub fn txt(page: &mut Page, given: &str) {
     let none = Vec::new(page.alloc);
     let mut resolver = resolver(page, given.strip_prefix("of "), none);
-    match resolver.resolve_client_options(page.alloc, HOST) {
-        Ok(config) => show_config(page, &config),
-        Err(e) => refuse(page, &e),
-    }
+    resolve(page, &mut resolver);
     drop(resolver);
 }
 
@@ -192,15 +205,13 @@ fn named_config(page: &mut Page) -> ResolvedConfig {
     }
 }
 
-fn show_set(page: &mut Page, set: Result<(), SrvError>) {
+fn show_set(page: &mut Page, set: &Result<(), SrvError>) {
+    page.put(" ");
     match set {
-        Ok(()) => page.put(" set."),
-        Err(e) => {
-            page.put(" ");
-            refuse(page, &e);
-            page.put(".");
-        }
+        Ok(()) => page.put("set"),
+        Err(e) => refuse(page, e),
     }
+    page.put(".");
 }
 
 // What a lookup of the options makes of a configuration with one option.
@@ -208,21 +219,15 @@ fn configure(page: &mut Page, resolver: &mut SrvResolver<MemResolver>) {
     let mut config = named_config(page);
     let set = resolver.get_txt_options(page.alloc, HOST, &mut config);
     show_options(page, &config);
-    show_set(page, set);
+    drop(config);
+    show_set(page, &set);
+    drop(set);
 }
 
 fn look_up(page: &mut Page, resolver: &mut SrvResolver<MemResolver>) {
     let found = resolver.get_srv_hosts(page.alloc, HOST, DomainMismatch::Error);
-    show_found(page, found);
-    page.put(".");
-}
-
-// The whole configuration: the hosts, and then the options.
-fn resolve_all(page: &mut Page, resolver: &mut SrvResolver<MemResolver>) {
-    match resolver.resolve_client_options(page.alloc, HOST) {
-        Ok(config) => show_config(page, &config),
-        Err(e) => refuse(page, &e),
-    }
+    show_found(page, &found);
+    drop(found);
     page.put(".");
 }
 
@@ -234,7 +239,10 @@ pub fn lookups(page: &mut Page, given: &str) {
         match word {
             "txt" => configure(page, &mut resolver),
             "srv" => look_up(page, &mut resolver),
-            "all" => resolve_all(page, &mut resolver),
+            "all" => {
+                resolve(page, &mut resolver);
+                page.put(".");
+            }
             _ => {}
         }
     }

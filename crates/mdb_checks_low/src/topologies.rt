@@ -2,7 +2,7 @@
 
 use crate::servers::server;
 use mdb_base::{ClusterTime, Items, TagSet, Text};
-use mdb_cases::{Page, made_options, number, parted, tell_server, tell_topology};
+use mdb_cases::{Page, made_options, named, number, parted, tell_server, tell_topology};
 use mdb_describe::{Diff, Mode, ReadPreference, SelectionCriteria, TopologyDescription};
 use std::mem;
 
@@ -37,15 +37,12 @@ fn maxima(page: &mut Page, topology: &TopologyDescription) {
     }
 }
 
-fn mode(word: &str) -> Mode {
-    match word {
-        "Primary" => Mode::Primary,
-        "Secondary" => Mode::Secondary,
-        "PrimaryPreferred" => Mode::PrimaryPreferred,
-        "SecondaryPreferred" => Mode::SecondaryPreferred,
-        _ => Mode::Nearest,
-    }
-}
+const MODES: [(&str, Mode); 4] = [
+    ("Primary", Mode::Primary),
+    ("Secondary", Mode::Secondary),
+    ("PrimaryPreferred", Mode::PrimaryPreferred),
+    ("SecondaryPreferred", Mode::SecondaryPreferred),
+];
 
 fn tag_set(page: &mut Page, name: &str, value: &str) -> Option<TagSet> {
     let mut pairs: Vec<(Text, Text)> = Vec::new(page.alloc);
@@ -69,10 +66,11 @@ fn tag_sets(page: &mut Page, word: &str) -> Items<TagSet> {
 fn readable(page: &mut Page, topology: &TopologyDescription, given: &str) {
     let (word, tag) = parted(given);
     let criteria = SelectionCriteria::ReadPreference(ReadPreference {
-        mode: mode(word),
+        mode: named(&MODES, word).unwrap_or(Mode::Nearest),
         tag_sets: tag_sets(page, tag),
     });
     page.answer(topology.has_readable_server(Some(&criteria)));
+    drop(criteria);
 }
 
 fn show_diff(page: &mut Page, diff: &Diff) {
@@ -85,11 +83,13 @@ fn show_diff(page: &mut Page, diff: &Diff) {
 }
 
 fn diff(page: &mut Page, topology: &Topology) {
-    match topology.opened.diff(page.alloc, &topology.now) {
-        Ok(Some(diff)) => show_diff(page, &diff),
+    let found = topology.opened.diff(page.alloc, &topology.now);
+    match &found {
+        Ok(Some(diff)) => show_diff(page, diff),
         Ok(None) => page.put("none"),
         Err(_) => page.fail(),
     }
+    drop(found);
 }
 
 fn advance(page: &mut Page, topology: &mut TopologyDescription, to: u64) {
@@ -114,6 +114,7 @@ fn sync(page: &mut Page, topology: &mut TopologyDescription, given: &str) {
     if topology.sync_hosts(page.alloc, &hosts).is_err() {
         page.fail();
     }
+    drop(hosts);
     tell_topology(page, topology);
 }
 
@@ -138,13 +139,12 @@ fn server_of(page: &mut Page, topology: &TopologyDescription, given: &str) {
 
 // What a copy of it tells.
 fn copy(page: &mut Page, topology: &TopologyDescription) {
-    match topology.clone() {
-        Ok(copy) => {
-            tell_topology(page, &copy);
-            drop(copy);
-        }
+    let copied = topology.clone();
+    match &copied {
+        Ok(copy) => tell_topology(page, copy),
         Err(_) => page.fail(),
     }
+    drop(copied);
 }
 
 fn step(page: &mut Page, topology: &mut Topology, kind: &str, given: &str) {
