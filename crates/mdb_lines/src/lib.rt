@@ -2,7 +2,6 @@
 #![tactic(auto)]
 
 mod caller_lines;
-mod command_words;
 mod connection_lines;
 mod ending;
 mod entry_text;
@@ -16,6 +15,7 @@ mod open_text;
 mod outcome_text;
 mod outcomes;
 mod pin_lines;
+mod process_words;
 mod reading_loop;
 mod rules;
 mod run_error;
@@ -27,12 +27,12 @@ mod types;
 mod use_word;
 mod writing_loop;
 
-pub use command_words::command_words;
 pub use ending::{end_run, end_with_error};
 pub use entry_text::{ReplyText, write_entry};
 pub use line_reading::read_line;
 pub use line_text::write_line;
 pub use mdb_parts::LineError;
+pub use process_words::command_words;
 pub use reading_loop::{MAX_INPUT, cut_line, read_all};
 pub use rules::is_printable;
 pub use run_error::{RunError, Status, status_of};

@@ -1,4 +1,0 @@
-use Rattle.mdb_topology.proofs.topology.TopologyCore.monitored.Goals as goal
-
-pub is_here-requires-clause-single : goal.is_here-requires-clause-single
-is_here-requires-clause-single c = c.requires.stands.1.pools.fit.single
