@@ -85,7 +85,7 @@ fn check(page: &mut Page, options: &Options) {
 /// `options a:1,a:2 direct ..`: the first rule that a copy of such options breaks.
 pub fn options(page: &mut Page, given: &str) {
     let options = made_options(page, given);
-    let copied = options.clone();
+    let copied: Result<_, _> = options.clone();
     drop(options);
     match &copied {
         Ok(options) => check(page, options),

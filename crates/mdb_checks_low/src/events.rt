@@ -51,7 +51,7 @@ pub fn event(page: &mut Page, given: &str) {
 }
 
 fn show_copy(page: &mut Page, end: &End) {
-    let copied = end.clone();
+    let copied: Result<_, _> = end.clone();
     match &copied {
         Ok(copy) => page.show(copy),
         Err(_) => page.fail(),

@@ -139,7 +139,7 @@ fn server_of(page: &mut Page, topology: &TopologyDescription, given: &str) {
 
 // What a copy of it tells.
 fn copy(page: &mut Page, topology: &TopologyDescription) {
-    let copied = topology.clone();
+    let copied: Result<_, _> = topology.clone();
     match &copied {
         Ok(copy) => tell_topology(page, copy),
         Err(_) => page.fail(),
