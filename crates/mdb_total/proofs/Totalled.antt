@@ -1,6 +1,5 @@
 -- A running total still stands for the log after one more entry, and its replies go with their acts.
-use Rattle.std.proofs.Common.{◌≡◌, ℕ, Bool, Option, true, false, nat_lt, eqb, if◌then◌else◌, List, [], ◌∷◌, ◌++◌, append-nil, refl, sym, ap, ◌∙◌, subst}
-use Rattle.std.proofs.lemmas.List.{append_cancel_left}
+use Rattle.std.proofs.Common.{◌≡◌, ℕ, Bool, Option, true, false, nat_lt, eqb, if◌then◌else◌, List, [], ◌∷◌, ◌++◌, refl, sym, ap, ◌∙◌, subst}
 use Rattle.mdb_log.specs.declared.job.Job.{Job}
 use Rattle.mdb_log.specs.declared.log.Entry.{Entry}
 use Rattle.mdb_log.specs.declared.reply.Reply.{Reply}
@@ -35,11 +34,6 @@ still_stands c d log n step r e more is grown old gives sum last description =
       description = description ∙ old.description;
       replies = replies_more 0 log e old.replies now;
     }
-
--- where nothing came to one log, nothing comes to another
-pub unmoved : (c : Total) (before later whole more : List Entry) → later ≡ before → later ≡ before ++ more → StandsFor c whole → StandsFor c (whole ++ more)
-unmoved c before later whole more same grown old =
-    subst (StandsFor c) (sym (append-nil whole) ∙ ap (λ es. whole ++ es) (append_cancel_left before [] more (append-nil before ∙ (sym same ∙ grown)))) old
 
 either : (P : Reply → Type 0) (b : Bool) (x y : Reply) → P x → P y → P (if b then x else y)
 either P true x y p q = p
