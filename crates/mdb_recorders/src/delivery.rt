@@ -8,16 +8,16 @@ use std::alloc::Global;
 /// Tells the events of pools to one handler and those of servers and topologies to another, in the order in which they stand in the entries. No clause says
 /// what a handler's function does.
 #[derive(Drop)]
-pub struct Delivery<'a> {
-    pub pools: &'a dyn CmapEventHandler,
-    pub servers: &'a dyn SdamEventHandler,
+pub struct Delivery<'a, P: CmapEventHandler, S: SdamEventHandler> {
+    pub pools: &'a P,
+    pub servers: &'a S,
 }
 
 /// Nothing goes wrong.
 #[derive(Clone, Copy, Debug, PartialEq, Eq)]
 pub enum Never {}
 
-impl<'a> Delivery<'a> {
+impl<'a, P: CmapEventHandler, S: SdamEventHandler> Delivery<'a, P, S> {
     fn tell(&self, fact: &Fact) {
         match fact {
             Fact::Pool(_, event) => deliver_cmap(self.pools, event),
@@ -27,7 +27,7 @@ impl<'a> Delivery<'a> {
     }
 }
 
-impl<'a> EntryHandler for Delivery<'a> {
+impl<'a, P: CmapEventHandler, S: SdamEventHandler> EntryHandler for Delivery<'a, P, S> {
     ghost use Rattle.std.specs.Prelude.{⊤};
 
     type Error = Never;
