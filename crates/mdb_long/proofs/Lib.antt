@@ -1,1 +1,4 @@
 mod Counted
+pub mod Crossing
+pub mod DriverCrossing
+mod Gathering
