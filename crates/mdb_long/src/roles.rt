@@ -181,12 +181,13 @@ fn take_and_stop<C: Core, R: Wait>(
     driver: &SharedDriver<C>,
     rt: &R,
     alloc: Global,
-    mut seat: Seat<C>,
+    part: SeatedRole<C>,
     hall: &Hall,
 ) -> Played<C>
-    requires own { seat.driver ≡ driver.now.id }
-    ensures own { result.seat.driver ≡ seat.driver }
+    requires own { part.seat.driver ≡ driver.now.id }
+    ensures own { result.seat.driver ≡ part.seat.driver }
 {
+    let SeatedRole { mut seat, role: _ } = part;
     let access = Access { driver, rt, alloc };
     let done = take_all(&access, &mut seat, hall);
     stop(&access, &mut seat);
@@ -205,10 +206,7 @@ pub fn play<C: Core, R: Wait>(
     ensures own { result.seat.driver ≡ part.seat.driver }
 {
     match part.role {
-        Role::Taker => {
-            let SeatedRole { seat, role: _ } = part;
-            take_and_stop(driver, rt, alloc, seat, hall)
-        }
+        Role::Taker => take_and_stop(driver, rt, alloc, part, hall),
         _ => play_by_handle(driver, rt, alloc, part, hall),
     }
 }

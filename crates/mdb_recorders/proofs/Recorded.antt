@@ -37,6 +37,7 @@ module _ (r : Recording) (seen : List Entry) (f : Follows r seen) (none : r.held
 
 -- what was kept and what lies behind it are all that was to be handed on
 pub whole : (r : Recording) (seen : List Entry) → Follows r seen → r.held ++ drop (r.done + length r.held) seen ≡ drop r.done seen
+unfolding handed-on
 whole r seen f =
     let split : seen ≡ f.0 ++ (r.held ++ f.2.0) = f.2.1 ∙ append_assoc f.0 r.held f.2.0 in
     let all : drop r.done seen ≡ r.held ++ f.2.0 = ap (drop r.done) split ∙ (ap (λ n. drop n (f.0 ++ (r.held ++ f.2.0))) (sym f.1) ∙ drop-append_seam f.0 (r.held ++ f.2.0)) in
