@@ -14,7 +14,7 @@ pub struct Delivery {
 }
 
 /// Nothing goes wrong.
-#[derive(Clone, Copy, Debug, PartialEq, Eq)]
+#[derive(Clone, Copy)]
 pub enum Never {}
 
 impl Delivery {
