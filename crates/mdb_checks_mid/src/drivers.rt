@@ -11,7 +11,7 @@ use mdb_events::Boxed;
 use mdb_hello::HelloCommandResponse;
 use mdb_log::{
     Act, ConnectionGeneration, Core, Established, HelloResult, Job, LoadBalancedGeneration, Log,
-    PoolGeneration, PoolStamp, Reply, Step, step_whole,
+    PoolGeneration, PoolStamp, Reply, Step,
 };
 use mdb_topology::{HandshakePhase, TopologyCore};
 
@@ -32,7 +32,7 @@ pub fn take(page: &mut Page, core: &mut TopologyCore, log: &mut Log, moment: Mom
     ensures { IsDriverOf core.new log.new }
 {
     let step = Step { moment, act };
-    let told = step_whole(core, page.alloc, log, 0, &step);
+    let told = Core::step(core, page.alloc, log, 0, &step);
     drop(step);
     if told.is_err() {
         page.fail();
