@@ -4,8 +4,6 @@ use Rattle.std.specs.List.{filter_map}
 use Rattle.std.proofs.lemmas.Grind.{common_steps}
 use Rattle.mdb_log.specs.Connections.{has}
 use Rattle.mdb_log.specs.History.{PoolItem}
-use Rattle.mdb_log.specs.Requests.{is_outcome}
-use Rattle.mdb_log.specs.declared.reply.Reply.TheVariants.{Waiting}
 use Rattle.mdb_events.specs.declared.end.End.{End}
 use Rattle.mdb_log.proofs.Numbers.{same-number as own-number}
 use Rattle.mdb_slots.specs.Keyed.{put, swap}
@@ -18,7 +16,7 @@ use Rattle.mdb_pool.specs.declared.kept.request.Phase.{Phase}
 use Rattle.mdb_pool.specs.declared.kept.request.Phase.TheVariants.{Queued, Given, Over, Ended as EndedPhase}
 use Rattle.mdb_pool.specs.Changes.{away, unserved_ones}
 use Rattle.mdb_pool.specs.Core.{PoolCore}
-use Rattle.mdb_pool.specs.Kept.{candidate_now, blocked_now, connection_at, first_overdue, first_queued, given_in, given_of, held_connection, held_given, holder_request, if_held, if_lingers, is_asked_at, is_ended_at, is_gone, is_open_now, kept_holder, kept_request, kept_requests, lingers, outcome_now, overdue_now, overdue_since, request_at, request_in, unserved_in}
+use Rattle.mdb_pool.specs.Kept.{candidate_now, blocked_now, connection_at, first_overdue, first_queued, given_in, given_of, held_connection, held_given, holder_request, if_held, if_lingers, is_asked_at, is_ended_at, is_gone, is_open_now, kept_holder, kept_request, kept_requests, lingers, overdue_now, overdue_since, request_at, request_in, unserved_in}
 use Rattle.mdb_pool.specs.Places.{is_done, is_queued}
 use Rattle.mdb_pool.specs.Standing.{Fits}
 use Rattle.mdb_pool.proofs.KeptInLittle.RequestsThatStay.{number-of, queued-kept}
@@ -219,17 +217,6 @@ module _ (s : PoolCore) where
 pub ended-came : (o : Option Request) → is_ended_at o ≡ true → is_some o ≡ true
 ended-came None e = cc
 ended-came (Some q) e = refl
-
--- one that is told an outcome came
-pub outcome_came : (s : PoolCore) (r : ℕ) → is_outcome (outcome_now s r) ≡ true → is_some (request_at s r) ≡ true
-outcome_came s r e = on (request_at s r) refl
-  where
-    on : (o : Option Request) → request_at s r ≡ o → is_some (request_at s r) ≡ true
-    on None f =
-        let w : outcome_now s r ≡ Waiting = rw f refl in
-        let k : is_outcome (outcome_now s r) ≡ false = ap is_outcome w in
-        cc
-    on (Some q) f = ap is_some f
 
 -- one that was put came
 pub put-came : (q : Request) (qs : List Request) → is_some (request_in (put number-of q qs) q.number) ≡ true

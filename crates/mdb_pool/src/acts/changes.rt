@@ -397,7 +397,6 @@ impl Draft {
     }
 
     // Tells how the request stands. Whoever has a connection or has ended is told once.
-    #[tactic(auto, using(crate::proofs::KeptInLittle::AskedOfThoseThatStay::outcome_came))]
     pub(crate) fn tell(&mut self, alloc: Global, request: u32) -> Result<Reply, OutOfMemory>
         requires { has request self.old.settled ≡ false }
         ensures core { OnOk result (self.new ≡ telling self.old request) }
