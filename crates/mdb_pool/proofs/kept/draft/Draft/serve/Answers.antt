@@ -68,7 +68,7 @@ loop-request-preserved-in-Continue-branch-2 c =
     }
 
 pub warm_up-requires : goal.warm_up-requires
-warm_up-requires c = candidate-there c.loop-request.self c.asked-requests.ensures.apart c.in_ok-request.request (sym c.in-Some.ensures ∙ ap Some (sym c.in_ok-request.ensures))
+warm_up-requires c = record { there = candidate-there c.loop-request.self c.asked-requests.ensures.apart c.in_ok-request.request (sym c.in-Some.ensures ∙ ap Some (sym c.in_ok-request.ensures)) }
 
 pub meet-requires-clause-there : goal.meet-requires-clause-there
 meet-requires-clause-there c = candidate-there c.loop-request.self c.asked-requests.ensures.apart c.in_ok-request.request (sym c.in-Some.ensures ∙ ap Some (sym c.in_ok-request.ensures))
