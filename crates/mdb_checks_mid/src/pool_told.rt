@@ -107,7 +107,6 @@ pub fn tell(page: &mut Page, core: &PoolCore, words: &str) {
     let party = small(words);
     match what {
         "knows" => page.answer(core.knows(party)),
-        "has_asked" => page.answer(core.has_asked(party)),
         "is_open" => page.answer(core.is_open(party)),
         "holds" => page.answer(core.holds(party)),
         "held_by" => page.debug(&core.held_by(party)),

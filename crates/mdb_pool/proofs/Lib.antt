@@ -6,4 +6,5 @@ pub mod SameAnswers
 pub mod NothingServed
 pub mod Histories
 pub mod Told
+pub mod KeptInLittle
 pub mod Worked

@@ -1,16 +1,17 @@
 -- What a pool is read from, and how its changes are made again.
 use Rattle.std.specs.Prelude.{◌&&◌, ℕ, Option, None}
 use Rattle.mdb_base.specs.declared.object_id.ObjectId.{ObjectId}
-use Rattle.mdb_slots.specs.Open.{ListSteps, or_else, list_after, ListFits, room_after as length_after}
+use Rattle.mdb_slots.specs.Open.{or_else}
 use Rattle.mdb_slots.specs.Table.{items}
-use Rattle.mdb_slots.specs.NumberSet.{NumberSteps, numbers_kept, spanned_after, capacity_after, NumbersFit}
 use Rattle.mdb_slots.specs.Sided.{SidedSteps, SidedFits, sided_after, sided_capacity_after}
 use Rattle.mdb_pool.specs.Places.{is_available, is_pending, is_queued}
 use Rattle.mdb_pool.specs.declared.kept.connection.Connection.{Connection}
 use Rattle.mdb_pool.specs.declared.kept.request.Request.{Request}
 use Rattle.mdb_pool.specs.declared.kept.status.Status.{Status}
-use Rattle.mdb_pool.specs.declared.kept.status.Clear.{Clear}
 use Rattle.mdb_pool.specs.Inner.{PoolShelf, PoolRoom, Inner}
+use Rattle.mdb_pool.specs.Asking.{AskedSteps, asked_after, asked_room_after, AskedFits}
+use Rattle.mdb_pool.specs.Claiming.{ClaimSteps, claimed_after, ClaimsFit}
+use Rattle.mdb_pool.specs.Clearing.{ClearSteps, cleared_after, ClearsFit}
 use Rattle.mdb_pool.specs.Core.{PoolCore}
 use Rattle.mdb_pool.specs.declared.kept.body.Body.{Body}
 
@@ -19,11 +20,10 @@ pub record PoolSteps : Type 0 where
   pub last : Option ℕ
   pub created : Option ℕ
   pub connections : SidedSteps Connection
-  pub requests : SidedSteps Request
+  pub requests : AskedSteps
   pub status : Option Status
-  pub clears : ListSteps Clear
-  pub settled : NumberSteps
-  pub claimed : NumberSteps
+  pub clears : ClearSteps
+  pub claimed : ClaimSteps
 
 -- the pool that is read from it
 abbrev pub pool_of : Inner → PoolCore
@@ -34,11 +34,11 @@ pool_of i = record {
   last = i.base.last;
   created = i.base.created;
   connections = items i.base.connections.table;
-  requests = items i.base.requests.table;
+  requests = i.base.requests.all;
   status = i.base.status;
-  clears = i.base.clears;
-  settled = numbers_kept i.base.settled;
-  claimed = numbers_kept i.base.claimed;
+  clears = i.base.clears.all;
+  settled = i.base.requests.settled;
+  claimed = i.base.claimed.numbers;
   inner = i;
 }
 
@@ -51,21 +51,17 @@ pool_after p s = record {
   last = or_else p.last s.last;
   created = or_else p.created s.created;
   connections = sided_after p.connections s.connections;
-  requests = sided_after p.requests s.requests;
+  requests = asked_after p.requests s.requests;
   status = or_else p.status s.status;
-  clears = list_after p.clears s.clears;
-  settled = spanned_after p.settled s.settled;
-  claimed = spanned_after p.claimed s.claimed;
+  clears = cleared_after p.clears s.clears;
+  claimed = claimed_after p.claimed s.claimed;
 }
 
 -- how long each part becomes without memory once the changes are made
 abbrev pub room_after : PoolSteps → PoolRoom → PoolRoom
 room_after p r = record {
   connections = sided_capacity_after p.connections r.connections;
-  requests = sided_capacity_after p.requests r.requests;
-  clears = length_after p.clears r.clears;
-  settled = capacity_after p.settled r.settled;
-  claimed = capacity_after p.claimed r.claimed;
+  requests = asked_room_after p.requests r.requests;
 }
 
 abbrev pub inner_after : PoolSteps → Inner → Inner
@@ -75,17 +71,13 @@ inner_after p i = record { base = pool_after p i.base; room = room_after p i.roo
 abbrev pub led : PoolSteps → PoolCore → PoolCore
 led p s = pool_of (inner_after p s.inner)
 
-abbrev pub no_service : {T : Type 0} → T → Option ObjectId
-no_service x = None
-
 -- the changes can be made without memory, and lead to a pool
 abbrev pub PoolFits : PoolSteps → Inner → Type 0
 PoolFits p i =
     SidedFits (λ x. x.id) (λ x. x.service) (λ x. x.since) (λ x. is_available x.place) (λ x. is_pending x.place) p.connections i.base.connections i.room.connections
-    × SidedFits (λ q. q.number) no_service (λ q. q.asked_at) (λ q. is_queued q.phase && q.warm) (λ q. is_queued q.phase) p.requests i.base.requests i.room.requests
-    × ListFits p.clears i.base.clears i.room.clears
-    × NumbersFit p.settled i.base.settled i.room.settled
-    × NumbersFit p.claimed i.base.claimed i.room.claimed
+    × AskedFits p.requests i.base.requests i.room.requests
+    × ClearsFit (or_else p.created i.base.created) (cleared_after p.clears i.base.clears) (items (sided_after p.connections i.base.connections).table)
+    × ClaimsFit (or_else p.created i.base.created) (claimed_after p.claimed i.base.claimed) (items (sided_after p.connections i.base.connections).table)
 
 -- what the parts of a pool are read from
 abbrev pub base_of : Body → PoolShelf
@@ -94,22 +86,18 @@ base_of b = record {
   address = b.address;
   options = b.options;
   last = b.last.base;
-  created = b.created.base;
+  created = b.connections.created.base;
   connections = b.connections.base;
   requests = b.requests.base;
   status = b.status.base;
-  clears = b.clears.base;
-  settled = b.settled.base;
-  claimed = b.claimed.base;
+  clears = b.connections.cleared;
+  claimed = b.connections.settled;
 }
 
 abbrev pub room_of : Body → PoolRoom
 room_of b = record {
   connections = b.connections.capacity;
   requests = b.requests.capacity;
-  clears = b.clears.capacity;
-  settled = b.settled.capacity;
-  claimed = b.claimed.capacity;
 }
 
 abbrev pub inner_of : Body → Inner
@@ -121,12 +109,12 @@ now_of b = record {
   address = b.address;
   options = b.options;
   last = b.last.now;
-  created = b.created.now;
+  created = b.connections.created.now;
   connections = b.connections.now;
   requests = b.requests.now;
   status = b.status.now;
-  clears = b.clears.now;
-  settled = b.settled.now;
-  claimed = b.claimed.now;
+  clears = b.connections.clears;
+  settled = b.requests.settled;
+  claimed = b.connections.claimed;
   inner = inner_of b;
 }

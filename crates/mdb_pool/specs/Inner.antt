@@ -4,10 +4,36 @@ use Rattle.mdb_base.specs.declared.address.ServerAddress.{ServerAddress}
 use Rattle.mdb_log.specs.declared.options.PoolOptions.{PoolOptions}
 use Rattle.mdb_slots.specs.NumberSet.{Spanned}
 use Rattle.mdb_slots.specs.Sided.{SidedShelf, SidedCapacities}
+use Rattle.mdb_slots.specs.Table.{Shelf, Capacities}
 use Rattle.mdb_pool.specs.declared.kept.connection.Connection.{Connection}
+use Rattle.mdb_pool.specs.declared.kept.marks.Marks.{Marks}
 use Rattle.mdb_pool.specs.declared.kept.request.Request.{Request}
 use Rattle.mdb_pool.specs.declared.kept.status.Status.{Status}
 use Rattle.mdb_pool.specs.declared.kept.status.Clear.{Clear}
+
+-- the numbers of the connections that are claimed, and the last of them, 0 where there is none
+pub record Claimed : Type 0 where
+  pub numbers : List ℕ
+  pub last : ℕ
+
+-- all clears, and the marks in memory that tell of them
+pub record Cleared : Type 0 where
+  pub all : List Clear
+  pub marks : Marks
+
+-- all requests and those that are settled, and what memory keeps: those that have not left, of these the settled ones, and all numbers
+pub record Asked : Type 0 where
+  pub all : List Request
+  pub settled : List ℕ
+  pub kept : SidedShelf Request
+  pub told : Shelf ℕ
+  pub known : Spanned
+
+-- how long each part becomes without memory
+pub record AskedRoom : Type 0 where
+  pub kept : SidedCapacities
+  pub told : Capacities
+  pub known : ℕ
 
 -- what a pool is read from
 pub record PoolShelf : Type 0 where
@@ -17,19 +43,15 @@ pub record PoolShelf : Type 0 where
   pub last : ℕ
   pub created : ℕ
   pub connections : SidedShelf Connection
-  pub requests : SidedShelf Request
+  pub requests : Asked
   pub status : Status
-  pub clears : List Clear
-  pub settled : Spanned
-  pub claimed : Spanned
+  pub clears : Cleared
+  pub claimed : Claimed
 
 -- how long each part becomes without memory
 pub record PoolRoom : Type 0 where
   pub connections : SidedCapacities
-  pub requests : SidedCapacities
-  pub clears : ℕ
-  pub settled : ℕ
-  pub claimed : ℕ
+  pub requests : AskedRoom
 
 pub record Inner : Type 0 where
   pub base : PoolShelf

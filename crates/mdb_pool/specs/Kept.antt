@@ -9,7 +9,7 @@ use Rattle.mdb_pool.specs.declared.kept.request.Request.{Request}
 use Rattle.mdb_pool.specs.declared.kept.request.Phase.{Phase}
 use Rattle.mdb_pool.specs.declared.kept.request.Phase.TheVariants.{Queued, Given, Over, Ended as EndedPhase}
 use Rattle.mdb_pool.specs.Core.{PoolCore}
-use Rattle.mdb_pool.specs.Places.{is_pending, is_available, is_held, is_at_pin, is_queued}
+use Rattle.mdb_pool.specs.Places.{is_done, is_pending, is_available, is_held, is_at_pin, is_queued}
 use Rattle.mdb_slots.specs.Keyed.{entry_at}
 use Rattle.mdb_log.specs.Generations.{carried}
 use Rattle.mdb_log.specs.declared.generation.ConnectionGeneration.{ConnectionGeneration}
@@ -355,3 +355,32 @@ unserved_in s Queued = true
 unserved_in s (Given c) = is_pending_at (connection_at s c)
 unserved_in s Over = false
 unserved_in s (EndedPhase end) = false
+
+-- A request leaves once it is settled, and is over or has ended.
+abbrev pub lingers : List ℕ → Request → Bool
+lingers ks q = not (has q.number ks && is_done q.phase)
+
+abbrev pub if_lingers : List ℕ → Option Request → Option Request
+if_lingers ks None = None
+if_lingers ks (Some q) = if lingers ks q then Some q else None
+
+-- it was there, and has left
+abbrev pub is_gone : List ℕ → Option Request → Bool
+is_gone ks None = false
+is_gone ks (Some q) = not (lingers ks q)
+
+-- the request with the number, where it has not left
+abbrev pub kept_request : PoolCore → ℕ → Option Request
+kept_request s r = if_lingers s.settled (request_at s r)
+
+-- the request that will have the connection, where it has not left
+abbrev pub kept_holder : PoolCore → Connection → Option Request
+kept_holder s x = of_holder x.holder
+  where
+    of_holder : Option ℕ → Option Request
+    of_holder None = None
+    of_holder (Some r) = kept_request s r
+
+-- those that have not left
+abbrev pub kept_requests : PoolCore → List Request
+kept_requests s = filter (lingers s.settled) s.requests

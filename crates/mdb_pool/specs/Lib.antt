@@ -8,6 +8,10 @@ pub mod Keyed
 pub mod Places
 pub mod Available
 pub mod Kept
+pub mod Asking
+pub mod Claiming
+pub mod Clearing
+pub mod Connecting
 pub mod Refusing
 pub mod Changes
 pub mod Matching

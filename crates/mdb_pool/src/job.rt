@@ -1,48 +1,17 @@
 //! What a worker has to know that establishes a pending connection.
 
-ghost use Rattle.std.specs.Prelude.{◌≡◌, IfOk, nat_lt, Some};
-ghost use Rattle.std.specs.List.Sorted.{IsStrictlySortedBy};
-ghost use Rattle.mdb_base.specs.declared.object_id.ObjectId.{ObjectId};
-ghost use Rattle.mdb_pool.specs.Kept.{clears_before};
-ghost use Rattle.mdb_pool.specs.Jobs.{has_id, id_order};
+ghost use Rattle.std.specs.Prelude.{◌≡◌, IfOk, Some};
 
-use crate::kept::status::Clear;
 use crate::pool_core::PoolCore;
 use crate::{Job, PoolGeneration, PoolStamp};
 use mdb_base::{Items, ObjectId, OutOfMemory};
 use std::alloc::{AllocError, Global};
 
-// The services of the clears before the connection was created.
-fn named_before(alloc: Global, clears: &[Clear], id: u32) -> Result<Vec<ObjectId>, AllocError>
-    ensures { IfOk result (λ named. (t : ObjectId) → has_id t named.items ≡ nat_lt 0 (clears_before id (Some t) clears.now)) }
-{
-    let mut named = Vec::new(alloc);
-    for clear in clears {
-        if let Some(service) = clear.service
-            && clear.after < id
-        {
-            named.push(service)?;
-        }
-    }
-    Ok(named)
-}
-
-// Each of them once, in the order of the ids.
-fn services_before(alloc: Global, clears: &[Clear], id: u32) -> Result<Vec<ObjectId>, AllocError>
-    ensures ascend { IfOk result (λ services. IsStrictlySortedBy id_order services.items) }
-    ensures members { IfOk result (λ services. (t : ObjectId) → has_id t services.items ≡ nat_lt 0 (clears_before id (Some t) clears.now)) }
-{
-    let mut services = named_before(alloc, clears, id)?;
-    services.sort_unstable();
-    services.dedup();
-    Ok(services)
-}
-
 impl PoolCore {
     ghost use Rattle.std.specs.Prelude.{map, List, true, not, is_some};
     ghost use Rattle.std.specs.List.{list_any};
     ghost use Rattle.mdb_log.specs.Requests.{is_claimed};
-    ghost use Rattle.mdb_pool.specs.Kept.{first_unclaimed};
+    ghost use Rattle.mdb_pool.specs.Kept.{connection_at, first_unclaimed};
     ghost use Rattle.mdb_pool.specs.Jobs.{count_at, items_before, generations, job_in};
     ghost use Rattle.mdb_log.specs.History.{Item, PoolItem, of_pool};
     ghost use Rattle.mdb_log.specs.Connections.{has, pending_list};
@@ -71,14 +40,15 @@ impl PoolCore {
         Ok(counted)
     }
 
-    // The generation of the pool before the connection was created.
+    // The generation of the pool before the connection, which lives, was created.
     fn generations_before(&self, alloc: Global, id: u32) -> Result<PoolGeneration, AllocError>
+        requires { is_some (connection_at self.now id) ≡ true }
         ensures { IfOk result (λ before. (xs : List PoolItem) → Fits self.now xs → has id (pending_list xs) ≡ true → before ≡ generations self.now.options.load_balanced (items_before xs id)) }
     {
         if !self.draft.options().load_balanced {
             return Ok(PoolGeneration::Normal(self.count_at(id, None)));
         }
-        let services = services_before(alloc, self.draft.clears(), id)?;
+        let services = self.draft.body.connections.services_before(alloc, id)?;
         let counted = self.counted(alloc, id, services.as_slice())?;
         Ok(PoolGeneration::LoadBalanced(Items::new(counted)))
     }
@@ -90,7 +60,7 @@ impl PoolCore {
     pub fn job(&self, alloc: Global, id: u32) -> Result<Option<Job>, OutOfMemory>
         ensures { IfOk result (λ job. (xs : List PoolItem) → Fits self.now xs → job ≡ job_in self.now.pool self.now.address self.now.options xs id) }
     {
-        if !self.is_pending(id) {
+        if !self.draft.body.is_pending(id) {
             return Ok(None);
         }
         let pool = self.number();

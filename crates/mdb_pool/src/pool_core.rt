@@ -3,11 +3,13 @@
 ghost use Rattle.std.specs.Prelude.{◌≡◌, IfOk, true, is_some, nat_lt, option_copied, None, List, if◌then◌else◌, ◌&&◌};
 
 use crate::kept::body::Body;
+use crate::kept::connections::Connections;
 use crate::kept::draft::Draft;
+use crate::kept::requests::Requests;
 use crate::kept::status::Status;
 use crate::{PoolOptions, PoolState};
 use mdb_base::{Error, ServerAddress};
-use mdb_slots::{NumberSet, Sides, SlotTable, UndoCell, UndoList};
+use mdb_slots::{SlotTable, UndoCell};
 use std::alloc::Global;
 use std::marker::Model;
 
@@ -31,7 +33,7 @@ impl Model for PoolCore {
 }
 
 impl PoolCore {
-    ghost use Rattle.mdb_pool.specs.Kept.{held_connection, request_at, connection_at, is_asked_at, id_at, wire_at, name_of, cause_of, state_in};
+    ghost use Rattle.mdb_pool.specs.Kept.{held_connection, request_at, connection_at, is_open_now, id_at, wire_at, name_of, cause_of, state_in};
     ghost use Rattle.mdb_log.specs.Connections.{has, held, pins, is_live, pending_list, holding, wire_of};
     ghost use Rattle.mdb_log.specs.Requests.{is_open};
     ghost use Rattle.mdb_log.specs.State.{state_of};
@@ -59,13 +61,9 @@ impl PoolCore {
                     address,
                     options,
                     last: UndoCell::new(0),
-                    created: UndoCell::new(0),
-                    connections: Sides::new(alloc),
-                    requests: Sides::new(alloc),
+                    connections: Connections::new(alloc),
+                    requests: Requests::new(alloc),
                     status: UndoCell::new(Status::at_first(options.load_balanced)),
-                    clears: UndoList::new(alloc),
-                    settled: NumberSet::new(alloc),
-                    claimed: NumberSet::new(alloc),
                 },
             },
         }
@@ -135,16 +133,9 @@ impl PoolCore {
         self.draft.body.holds(party)
     }
 
-    /// The party asked this pool for a connection, and did not take a pinned one.
-    pub fn has_asked(&self, party: u32) -> bool
-        ensures kept { result ≡ is_asked_at (request_at self.now party) }
-        ensures items { (xs : List PoolItem) → Fits self.now xs → result ≡ has_asked xs party }
-    {
-        self.draft.body.has_asked(party)
-    }
-
     /// The request was made at this pool, its outcome was not told yet, and its caller neither gave up nor returned the connection.
     pub fn is_open(&self, request: u32) -> bool
+        ensures kept { result ≡ is_open_now self.now request }
         ensures among { (h : List Item) → StandsIn self.now h → result ≡ has_asked (of_pool self.now.pool h) request && is_open h request }
         ensures history { (h : List Item) → StandsFor self.now h → result ≡ is_open h request }
     {

@@ -1,21 +1,21 @@
 //! What a pool with these parts answers to its getters.
 
-ghost use Rattle.std.specs.Prelude.{◌≡◌, is_some, nat_lt};
+ghost use Rattle.std.specs.Prelude.{◌≡◌, is_some, nat_lt, false};
+ghost use Rattle.mdb_log.specs.Connections.{has};
 ghost use Rattle.mdb_pool.specs.Body.{now_of};
 
 use crate::kept::body::Body;
-use crate::kept::clears::count_clears;
 use crate::kept::request::Phase;
 use mdb_base::ObjectId;
 
 impl Body {
-    ghost use Rattle.mdb_pool.specs.Kept.{held_connection, request_at, connection_at, is_pending_at, is_held_at, is_open_now, is_asked_at, is_ended_at, pins_at, clears_for, exhausted_now};
+    ghost use Rattle.mdb_pool.specs.Kept.{held_connection, request_at, connection_at, is_pending_at, is_held_at, is_open_now, is_ended_at, pins_at, clears_for, exhausted_now};
 
     // The party asked this pool, or took a pinned connection of it.
     pub(crate) fn knows(&self, party: u32) -> bool
         ensures { result ≡ is_some (request_at (now_of self.now) party) }
     {
-        self.requests.get(party).is_some()
+        self.requests.knows(party)
     }
 
     // The party holds a connection of this pool.
@@ -25,25 +25,17 @@ impl Body {
         self.held_connection(party).is_some()
     }
 
-    // The party asked this pool for a connection, and did not take a pinned one.
-    pub(crate) fn has_asked(&self, party: u32) -> bool
-        ensures { result ≡ is_asked_at (request_at (now_of self.now) party) }
-    {
-        match self.requests.get(party) {
-            Some(request) => !request.took,
-            None => false,
-        }
-    }
-
     // The request was made at this pool, its outcome was not told yet, and its caller neither gave up nor returned the connection.
     pub(crate) fn is_open(&self, request: u32) -> bool
         ensures { result ≡ is_open_now (now_of self.now) request }
     {
-        self.has_asked(request) && !self.is_settled(request)
+        self.requests.is_open(request)
     }
 
-    // The request ended in another way.
+    // The request, which is not settled, ended in another way.
+    #[tactic(auto, using(crate::proofs::KeptInLittle::AskedOfThoseThatStay::unsettled_kept))]
     pub(crate) fn is_ended(&self, request: u32) -> bool
+        requires { has request self.now.requests.settled ≡ false }
         ensures { result ≡ is_ended_at (request_at (now_of self.now) request) }
     {
         match self.requests.get(request) {
@@ -84,9 +76,9 @@ impl Body {
 
     // How often the pool was cleared: for the service, or as a whole where there is none.
     pub(crate) fn generation(&self, service: Option<ObjectId>) -> u64
-        ensures { result ≡ clears_for service self.now.clears.now }
+        ensures { result ≡ clears_for service self.now.connections.clears }
     {
-        count_clears(self.clears.as_slice(), service) as u64
+        self.connections.generation(service)
     }
 
     // One more clear would pass the limit of the generation.

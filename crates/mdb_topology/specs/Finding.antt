@@ -5,7 +5,7 @@ use Rattle.mdb_log.specs.declared.step.Act.TheVariants.{Request, Warm, Maintain,
 use Rattle.mdb_log.specs.declared.reply.Refused.{Refused}
 use Rattle.mdb_log.specs.declared.reply.Refused.TheVariants.{UnknownServer, RequestKnown, UnknownRequest, NotHolder, NotPending, Unpinned}
 use Rattle.mdb_pool.specs.Core.{PoolCore}
-use Rattle.mdb_pool.specs.Kept.{request_at, is_asked_at, held_connection, first_unclaimed}
+use Rattle.mdb_pool.specs.Kept.{is_open_now, held_connection, first_unclaimed}
 use Rattle.mdb_topology.specs.Standing.{at_address, knows}
 
 -- The acts of one pool that clear none.
@@ -25,9 +25,9 @@ is_pool_act (Take r q c) = true
 is_pool_act (Unpin q c) = true
 is_pool_act _ = false
 
--- the first pool that was asked by the party
+-- the first pool in which the request is open
 abbrev pub asked_by : List PoolCore → ℕ → Option ℕ
-asked_by pools r = position (λ s. is_asked_at (request_at s r)) pools
+asked_by pools r = position (λ s. is_open_now s r) pools
 
 -- the first pool of which the party holds a connection
 abbrev pub holder : List PoolCore → ℕ → Option ℕ

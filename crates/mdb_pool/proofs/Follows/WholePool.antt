@@ -259,15 +259,15 @@ later-matches s xs n m = record {
   at_pin = m.at_pin;
 }
 
-clears_for-append : (t : Option ObjectId) (ks : List Clear) (k : Clear) → clears_for t (ks ++ k ∷ []) ≡ clears_for t ks + one_if (same_service k.service t)
+pub clears_for-append : (t : Option ObjectId) (ks : List Clear) (k : Clear) → clears_for t (ks ++ k ∷ []) ≡ clears_for t ks + one_if (same_service k.service t)
 clears_for-append t [] k = grind (arith, common_steps)
 clears_for-append t (j ∷ ks) k = grind (arith, common_steps, clears_for-append t ks k)
 
-clears_before-append : (c : ℕ) (t : Option ObjectId) (ks : List Clear) (k : Clear) → clears_before c t (ks ++ k ∷ []) ≡ clears_before c t ks + one_if (same_service k.service t && nat_lt k.after c)
+pub clears_before-append : (c : ℕ) (t : Option ObjectId) (ks : List Clear) (k : Clear) → clears_before c t (ks ++ k ∷ []) ≡ clears_before c t ks + one_if (same_service k.service t && nat_lt k.after c)
 clears_before-append c t [] k = grind (arith, common_steps)
 clears_before-append c t (j ∷ ks) k = grind (arith, common_steps, clears_before-append c t ks k)
 
-timeouts-append : (ks : List Clear) (k : Clear) → timeouts_in (ks ++ k ∷ []) ≡ timeouts_in ks + one_if k.timeout
+pub timeouts-append : (ks : List Clear) (k : Clear) → timeouts_in (ks ++ k ∷ []) ≡ timeouts_in ks + one_if k.timeout
 timeouts-append [] k = grind (arith, common_steps)
 timeouts-append (j ∷ ks) k = grind (arith, common_steps, timeouts-append ks k)
 

@@ -124,7 +124,7 @@ module _ {T : Type 0} (key : T → ℕ) where
   member-at x (y ∷ ys) (there i) l = let e : 0 < named (key x) ys = named-member x ys i in let f : named (key x) ys ≤ 1 → entry_at key (key x) ys ≡ Some x = member-at x ys i in grind (arith, common_steps)
 
   -- a value in the place of another
-  entry_at-swap_any : (k : ℕ) (x : T) (xs : List T) → entry_at key k (swap key x xs) ≡ if key x == k then (if is_some (entry_at key k xs) then Some x else None) else entry_at key k xs
+  pub entry_at-swap_any : (k : ℕ) (x : T) (xs : List T) → entry_at key k (swap key x xs) ≡ if key x == k then (if is_some (entry_at key k xs) then Some x else None) else entry_at key k xs
   entry_at-swap_any k x [] = grind arith
   entry_at-swap_any k x (y ∷ ys) = grind (arith, common_steps, entry_at-swap_any k x ys)
 

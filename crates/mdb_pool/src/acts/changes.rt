@@ -1,7 +1,7 @@
 //! The single changes of a pool, each with its facts.
 
 ghost use Rattle.mdb_pool.specs.Facts.{new_pool_error, checked_out_fact, closed_fact, created_fact, started_fact, ready_fact};
-ghost use Rattle.std.specs.Prelude.{false, ◌≡◌, ◌++◌, ◌∷◌, ◌+◌, ◌-◌, ◌<◌, [], OnOk, IfOk};
+ghost use Rattle.std.specs.Prelude.{false, ◌≡◌, ◌++◌, ◌∷◌, ◌+◌, ◌-◌, ◌<◌, [], OnOk, IfOk, is_some, true, None};
 
 use crate::kept::connection::{Connection, Place};
 use crate::kept::draft::Draft;
@@ -29,9 +29,10 @@ pub(crate) fn new_pool_error(alloc: Global) -> Result<Error, AllocError>
 }
 
 impl Draft {
+    ghost use Rattle.mdb_log.specs.Connections.{has};
     ghost use Rattle.mdb_slots.specs.Keyed.{swap};
     ghost use Rattle.mdb_pool.specs.Places.{is_queued};
-    ghost use Rattle.mdb_pool.specs.Kept.{outcome_now};
+    ghost use Rattle.mdb_pool.specs.Kept.{is_gone, request_at, connection_at, outcome_now};
     ghost use Rattle.mdb_pool.specs.Changes.{asking, away, away_end, away_facts, discarding, creating, spawning, ending, granting, establishing, telling, handed};
     ghost use Rattle.mdb_events.specs.declared.fact.Fact.TheVariants.{Pool, Granted, Ended};
     ghost use Rattle.mdb_events.specs.declared.cmap.CmapEvent.TheVariants.{ConnectionCreated, ConnectionCheckedOut};
@@ -43,7 +44,8 @@ impl Draft {
         request: Request,
         phase: Phase,
     ) -> Result<(), OutOfMemory>
-        requires { is_queued phase ≡ false }
+        requires there { is_gone self.old.settled (request_at self.old request.number) ≡ false }
+        requires unqueued { is_queued phase ≡ false }
         ensures core { OnOk result (self.new ≡ record self.old { requests = swap (λ q. q.number) (record request { phase = phase }) self.old.requests }) }
         ensures inner { self.new.inner ≡ self.old.inner }
     {
@@ -75,7 +77,9 @@ impl Draft {
         request: u32,
         warm: bool,
     ) -> Result<(), OutOfMemory>
+        requires { request_at self.old request ≡ None }
         ensures core { OnOk result (self.new ≡ asking self.old request moment warm) }
+        ensures unsettled { OnOk result (has request self.new.settled ≡ false) }
         ensures inner { self.new.inner ≡ self.old.inner }
     {
         self.set_last(moment);
@@ -112,8 +116,10 @@ impl Draft {
         moment: Moment,
         request: u32,
     ) -> Result<(), OutOfMemory>
+        requires { request_at self.old request ≡ None }
         ensures core { OnOk result (self.new ≡ asking self.old request moment false) }
         ensures facts { OnOk result (facts.new.items ≡ facts.old.items ++ started_fact self.old.pool self.old.address ∷ []) }
+        ensures unsettled { OnOk result (has request self.new.settled ≡ false) }
         ensures inner { self.new.inner ≡ self.old.inner }
     {
         self.enqueue(alloc, moment, request, false)?;
@@ -144,6 +150,7 @@ impl Draft {
         request: u32,
         warm: bool,
     ) -> Result<(), OutOfMemory>
+        requires { has request self.old.settled ≡ false }
         ensures core { OnOk result (self.new ≡ away self.old request moment warm (away_end self.old.status)) }
         ensures facts { OnOk result (facts.new.items ≡ facts.old.items ++ away_facts self.old request warm (away_end self.old.status)) }
         ensures inner { self.new.inner ≡ self.old.inner }
@@ -229,7 +236,8 @@ impl Draft {
         moment: Moment,
         request: Request,
     ) -> Result<(), OutOfMemory>
-        requires { self.old.created < self.old.options.limit_id }
+        requires there { is_gone self.old.settled (request_at self.old request.number) ≡ false }
+        requires live { self.old.created < self.old.options.limit_id }
         ensures core { OnOk result (self.new ≡ creating self.old moment request) }
         ensures facts { OnOk result (facts.new.items ≡ facts.old.items ++ Pool self.old.pool (ConnectionCreated (record { address = self.old.address; connection_id = self.old.created + 1 })) ∷ Granted request.number self.old.pool (self.old.created + 1) ∷ []) }
         ensures inner { self.new.inner ≡ self.old.inner }
@@ -238,10 +246,9 @@ impl Draft {
         let _limit = self.options().limit_id;
         let timeouts = self.timeouts();
         let id = self.created() + 1;
-        self.set_created(id);
         let number = request.number;
         self.enter_phase(alloc, request, Phase::Given(id))?;
-        self.put_connection(
+        self.create_connection(
             alloc,
             Connection::pending(id, moment, Some(number), timeouts),
         )?;
@@ -265,8 +272,7 @@ impl Draft {
         // The id is at most the limit, which bounds it.
         let _limit = self.options().limit_id;
         let id = self.created() + 1;
-        self.set_created(id);
-        self.put_connection(alloc, Connection::pending(id, moment, None, 0))?;
+        self.create_connection(alloc, Connection::pending(id, moment, None, 0))?;
         self.push_created(facts, id)?;
         Ok(())
     }
@@ -279,6 +285,7 @@ impl Draft {
         request: Request,
         end: &End,
     ) -> Result<(), OutOfMemory>
+        requires there { is_gone self.old.settled (request_at self.old request.number) ≡ false }
         ensures core { OnOk result (self.new ≡ ending self.old request end.now) }
         ensures facts { OnOk result (facts.new.items ≡ facts.old.items ++ Ended request.number end.now ∷ []) }
         ensures inner { self.new.inner ≡ self.old.inner }
@@ -330,6 +337,7 @@ impl Draft {
         connection: Connection,
         request: Request,
     ) -> Result<(), OutOfMemory>
+        requires there { is_gone self.old.settled (request_at self.old request.number) ≡ false }
         ensures core { OnOk result (self.new ≡ granting self.old connection request) }
         ensures facts { OnOk result (facts.new.items ≡ facts.old.items ++ Granted request.number self.old.pool connection.id ∷ Pool self.old.pool (ConnectionCheckedOut (record { address = self.old.address; connection_id = connection.id; duration = moment - request.asked_at })) ∷ []) }
         ensures inner { self.new.inner ≡ self.old.inner }
@@ -367,6 +375,7 @@ impl Draft {
         made: Established,
         asked_at: Moment,
     ) -> Result<(), OutOfMemory>
+        requires lives { is_some (connection_at self.old connection.id) ≡ true }
         ensures core { OnOk result (self.new ≡ establishing self.old moment connection made) }
         ensures facts { OnOk result (facts.new.items ≡ facts.old.items ++ ready_fact self.old.pool self.old.address connection.id (moment - connection.created_at) ∷ checked_out_fact self.old.pool self.old.address connection.id (moment - asked_at) ∷ []) }
         ensures inner { self.new.inner ≡ self.old.inner }
@@ -388,14 +397,15 @@ impl Draft {
     }
 
     // Tells how the request stands. Whoever has a connection or has ended is told once.
-    pub(crate) fn tell(&mut self, request: u32) -> Result<Reply, OutOfMemory>
+    pub(crate) fn tell(&mut self, alloc: Global, request: u32) -> Result<Reply, OutOfMemory>
+        requires { has request self.old.settled ≡ false }
         ensures core { OnOk result (self.new ≡ telling self.old request) }
         ensures reply { IfOk result (λ reply. reply ≡ outcome_now self.old request) }
         ensures inner { self.new.inner ≡ self.old.inner }
     {
         let reply = self.body.outcome(request)?;
         if matches!(reply, Reply::Pooled(_, _) | Reply::Ended(_)) {
-            self.settle(request)?;
+            self.settle(alloc, request)?;
         }
         Ok(reply)
     }

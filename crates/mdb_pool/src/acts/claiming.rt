@@ -25,7 +25,7 @@ impl Draft {
         let Some(connection) = self.first_unclaimed() else {
             return Ok(Reply::NoJob);
         };
-        self.claim(connection.id)?;
+        self.claim(&connection);
         Ok(Reply::Job(self.number(), connection.id))
     }
 

@@ -4,7 +4,7 @@ ghost use Rattle.std.specs.Prelude.{◌≡◌, ◌++◌, ◌∷◌, ◌-◌, [],
 
 use crate::kept::draft::Draft;
 use crate::kept::request::{Phase, Request};
-use crate::kept::status::{Clear, Status};
+use crate::kept::status::Status;
 use crate::pool_core::PoolCore;
 use crate::{Act, Reply, Step, What};
 use mdb_base::{Error, Moment, ObjectId, OutOfMemory};
@@ -15,7 +15,7 @@ impl Draft {
     ghost use Rattle.mdb_pool.specs.Changes.{ending, raising, over_facts};
     ghost use Rattle.mdb_pool.specs.Standing.{SameHome, SameNotes, Fits, EndsQueue, Clears, Accepts, StandsFor, Answers};
     ghost use Rattle.mdb_log.specs.History.{Item, PoolItem};
-    ghost use Rattle.mdb_pool.specs.Kept.{is_ready_now, is_shut, exhausted_now};
+    ghost use Rattle.mdb_pool.specs.Kept.{is_gone, request_at, is_ready_now, is_shut, exhausted_now};
     ghost use Rattle.std.specs.Prelude.{true, None};
     ghost use Rattle.mdb_log.specs.declared.step.Act.TheVariants.{Clear as ClearAct};
     ghost use Rattle.mdb_events.specs.declared.fact.Fact.TheVariants.{Raised};
@@ -31,6 +31,7 @@ impl Draft {
         request: Request,
         cause: &Error,
     ) -> Result<(), OutOfMemory>
+        requires there { is_gone self.old.settled (request_at self.old request.number) ≡ false }
         ensures core { OnOk result (self.new ≡ ending self.old request (Cleared cause.now)) }
         ensures facts { OnOk result (facts.new.items ≡ facts.old.items ++ over_facts self.old request.number request.warm (moment - request.asked_at) (Cleared cause.now)) }
         ensures inner { self.new.inner ≡ self.old.inner }
@@ -59,6 +60,8 @@ impl Draft {
         ensures inner { self.new.inner ≡ self.old.inner }
     {
         while let Some(request) = self.first_queued() {
+            // No other request has the number.
+            let _requests = self.asked();
             let request = request.copy()?;
             self.end_cleared(alloc, facts, moment, request, cause)?;
         }
@@ -80,11 +83,7 @@ impl Draft {
     {
         let told = Boxed::copy_of(alloc, cause)?;
         facts.push(Fact::Raised(self.number(), service, told))?;
-        self.push_clear(Clear {
-            service,
-            after: self.created(),
-            timeout: cause.is_network_timeout(),
-        })?;
+        self.push_clear(alloc, service, cause.is_network_timeout())?;
         self.set_last(moment);
         if service.is_some() {
             return Ok(());

@@ -132,8 +132,7 @@ impl Draft {
         ensures core { OnOk result (self.new ≡ record self.old { connections = filter (λ x. not (is_pending x.place)) (filter (λ x. not (is_available x.place)) self.old.connections) }) }
         ensures inner { self.new.inner ≡ self.old.inner }
     {
-        self.body.connections.clear_left(alloc)?;
-        self.body.connections.clear_right(alloc)
+        self.body.connections.close(alloc)
     }
 
     // A pool is closed, and the requests with these numbers end that nothing was handed to.

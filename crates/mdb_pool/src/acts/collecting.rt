@@ -1,6 +1,6 @@
 //! The caller of a request asks a pool how it stands.
 
-ghost use Rattle.std.specs.Prelude.{◌≡◌, OnOk, OnErr, IfOk, List, true};
+ghost use Rattle.std.specs.Prelude.{◌≡◌, OnOk, OnErr, IfOk, List, true, false};
 
 use crate::kept::draft::Draft;
 use crate::pool_core::PoolCore;
@@ -10,6 +10,7 @@ use mdb_events::Fact;
 use std::alloc::Global;
 
 impl Draft {
+    ghost use Rattle.mdb_log.specs.Connections.{has};
     ghost use Rattle.mdb_pool.specs.Kept.{is_open_now};
     ghost use Rattle.mdb_pool.specs.Standing.{SameHome, Fits, Accepts, StandsFor, Answers};
     ghost use Rattle.mdb_log.specs.History.{Item, PoolItem};
@@ -23,6 +24,7 @@ impl Draft {
         moment: Moment,
         request: u32,
     ) -> Result<Reply, OutOfMemory>
+        requires { has request self.old.settled ≡ false }
         ensures home { OnOk result (SameHome self.old self.new) }
         ensures last { OnOk result (self.new.last ≡ moment) }
         ensures accepts { IfOk result (λ reply. (xs : List PoolItem) → Fits self.old xs → Accepts self.old self.new facts.old.items facts.new.items moment (Collect request) reply xs xs) }
@@ -30,7 +32,7 @@ impl Draft {
     {
         self.set_last(moment);
         self.serve(alloc, facts, moment)?;
-        let reply = self.tell(request)?;
+        let reply = self.tell(alloc, request)?;
         Ok(reply)
     }
 }

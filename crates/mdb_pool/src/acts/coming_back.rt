@@ -1,6 +1,6 @@
 //! The changes of a pool by which connections come back and requests are given up.
 
-ghost use Rattle.std.specs.Prelude.{◌≡◌, ◌++◌, ◌∷◌, ◌-◌, [], false, OnOk, Some};
+ghost use Rattle.std.specs.Prelude.{◌≡◌, ◌++◌, ◌∷◌, ◌-◌, [], false, OnOk, Some, is_some, true};
 
 use crate::kept::connection::{Connection, Place};
 use crate::kept::draft::Draft;
@@ -25,7 +25,7 @@ pub(crate) fn as_made(connection: Connection, made: Established) -> Connection
 
 impl Draft {
     ghost use Rattle.mdb_pool.specs.Places.{is_queued};
-    ghost use Rattle.mdb_pool.specs.Kept.{connection_at};
+    ghost use Rattle.mdb_pool.specs.Kept.{is_gone, request_at, connection_at};
     ghost use Rattle.mdb_pool.specs.Changes.{returning_for, pooling, pooling_for, filling_for, quitting, leaving, handing_for, to_pin, back_facts, placed, finishing};
     ghost use Rattle.mdb_pool.specs.declared.kept.request.Phase.TheVariants.{Ended as EndedPhase};
     ghost use Rattle.mdb_events.specs.declared.fact.Fact.TheVariants.{Ended};
@@ -97,6 +97,7 @@ impl Draft {
         connection: Connection,
         reason: Option<ConnectionClosedReason>,
     ) -> Result<(), OutOfMemory>
+        requires lives { is_some (connection_at self.old connection.id) ≡ true }
         ensures core { OnOk result (self.new ≡ record self.old { connections = placed moment connection reason self.old.connections }) }
         ensures inner { self.new.inner ≡ self.old.inner }
     {
@@ -126,6 +127,7 @@ impl Draft {
         made: Established,
         reason: Option<ConnectionClosedReason>,
     ) -> Result<(), OutOfMemory>
+        requires lives { is_some (connection_at self.old connection.id) ≡ true }
         ensures core { OnOk result (self.new ≡ pooling_for self.old moment connection made reason) }
         ensures facts { OnOk result (facts.new.items ≡ facts.old.items ++ ready_fact self.old.pool self.old.address connection.id (moment - connection.created_at) ∷ back_facts self.old (record connection { service = made.service_id; wire = Some made.wire }) reason) }
         ensures inner { self.new.inner ≡ self.old.inner }
@@ -147,6 +149,7 @@ impl Draft {
         connection: Connection,
         made: Established,
     ) -> Result<(), OutOfMemory>
+        requires lives { is_some (connection_at self.old connection.id) ≡ true }
         ensures core { OnOk result (self.new ≡ pooling self.old moment connection made) }
         ensures facts { OnOk result (facts.new.items ≡ facts.old.items ++ ready_fact self.old.pool self.old.address connection.id (moment - connection.created_at) ∷ []) }
         ensures inner { self.new.inner ≡ self.old.inner }
@@ -169,6 +172,8 @@ impl Draft {
         request: Request,
         reason: Option<ConnectionClosedReason>,
     ) -> Result<(), OutOfMemory>
+        requires there { is_gone self.old.settled (request_at self.old request.number) ≡ false }
+        requires lives { is_some (connection_at self.old connection.id) ≡ true }
         ensures core { OnOk result (self.new ≡ filling_for self.old moment connection made request reason) }
         ensures facts { OnOk result (facts.new.items ≡ facts.old.items ++ (ready_fact self.old.pool self.old.address connection.id (moment - connection.created_at) ∷ back_facts self.old (record connection { service = made.service_id; wire = Some made.wire }) reason) ++ Ended request.number Filled ∷ []) }
         ensures inner { self.new.inner ≡ self.old.inner }
@@ -185,14 +190,16 @@ impl Draft {
         request: Request,
         phase: Phase,
     ) -> Result<(), OutOfMemory>
-        requires { is_queued phase ≡ false }
+        requires came { is_some (request_at self.old request.number) ≡ true }
+        requires there { is_gone self.old.settled (request_at self.old request.number) ≡ false }
+        requires unqueued { is_queued phase ≡ false }
         ensures core { OnOk result (self.new ≡ finishing self.old moment request phase) }
         ensures inner { self.new.inner ≡ self.old.inner }
     {
         let number = request.number;
         self.set_last(moment);
         self.enter_phase(alloc, request, phase)?;
-        self.settle(number)?;
+        self.settle(alloc, number)?;
         Ok(())
     }
 
@@ -206,7 +213,9 @@ impl Draft {
         request: Request,
         phase: Phase,
     ) -> Result<(), OutOfMemory>
-        requires { is_queued phase ≡ false }
+        requires came { is_some (request_at self.old request.number) ≡ true }
+        requires there { is_gone self.old.settled (request_at self.old request.number) ≡ false }
+        requires unqueued { is_queued phase ≡ false }
         ensures core { OnOk result (self.new ≡ to_pin self.old moment connection request phase) }
         ensures inner { self.new.inner ≡ self.old.inner }
     {
@@ -231,6 +240,8 @@ impl Draft {
         connection: Connection,
         request: Request,
     ) -> Result<(), OutOfMemory>
+        requires came { is_some (request_at self.old request.number) ≡ true }
+        requires there { is_gone self.old.settled (request_at self.old request.number) ≡ false }
         ensures core { OnOk result (self.new ≡ to_pin self.old moment connection request (EndedPhase GaveUp)) }
         ensures facts { OnOk result (facts.new.items ≡ facts.old.items ++ Ended request.number GaveUp ∷ []) }
         ensures inner { self.new.inner ≡ self.old.inner }
@@ -255,6 +266,9 @@ impl Draft {
         request: Request,
         reason: Option<ConnectionClosedReason>,
     ) -> Result<(), OutOfMemory>
+        requires came { is_some (request_at self.old request.number) ≡ true }
+        requires there { is_gone self.old.settled (request_at self.old request.number) ≡ false }
+        requires lives { is_some (connection_at self.old connection.id) ≡ true }
         ensures core { OnOk result (self.new ≡ returning_for self.old moment connection request reason) }
         ensures facts { OnOk result (facts.new.items ≡ facts.old.items ++ back_facts self.old connection reason) }
         ensures inner { self.new.inner ≡ self.old.inner }
@@ -273,6 +287,8 @@ impl Draft {
         moment: Moment,
         request: Request,
     ) -> Result<(), OutOfMemory>
+        requires came { is_some (request_at self.old request.number) ≡ true }
+        requires there { is_gone self.old.settled (request_at self.old request.number) ≡ false }
         ensures core { OnOk result (self.new ≡ quitting self.old moment request) }
         ensures facts { OnOk result (facts.new.items ≡ facts.old.items ++ Ended request.number GaveUp ∷ []) }
         ensures inner { self.new.inner ≡ self.old.inner }
@@ -292,7 +308,9 @@ impl Draft {
         connection: Connection,
         request: Request,
     ) -> Result<(), OutOfMemory>
-        requires { connection_at self.old connection.id ≡ Some connection }
+        requires came { is_some (request_at self.old request.number) ≡ true }
+        requires there { is_gone self.old.settled (request_at self.old request.number) ≡ false }
+        requires live { connection_at self.old connection.id ≡ Some connection }
         ensures core { OnOk result (self.new ≡ leaving self.old moment connection request) }
         ensures facts { OnOk result (facts.new.items ≡ facts.old.items ++ Ended request.number GaveUp ∷ []) }
         ensures inner { self.new.inner ≡ self.old.inner }
@@ -319,6 +337,9 @@ impl Draft {
         request: Request,
         reason: Option<ConnectionClosedReason>,
     ) -> Result<(), OutOfMemory>
+        requires came { is_some (request_at self.old request.number) ≡ true }
+        requires there { is_gone self.old.settled (request_at self.old request.number) ≡ false }
+        requires lives { is_some (connection_at self.old connection.id) ≡ true }
         ensures core { OnOk result (self.new ≡ handing_for self.old moment connection request reason) }
         ensures facts { OnOk result (facts.new.items ≡ facts.old.items ++ Ended request.number GaveUp ∷ back_facts self.old connection reason) }
         ensures inner { self.new.inner ≡ self.old.inner }

@@ -1,6 +1,6 @@
 //! Callers that waited in the queue for too long.
 
-ghost use Rattle.std.specs.Prelude.{◌≡◌, ◌++◌, ◌-◌, OnOk, OnErr, IfOk, List, option_copied};
+ghost use Rattle.std.specs.Prelude.{◌≡◌, ◌++◌, ◌-◌, OnOk, OnErr, IfOk, List, option_copied, false};
 
 use crate::kept::draft::Draft;
 use crate::kept::request::{Phase, Request};
@@ -11,7 +11,7 @@ use mdb_events::{End, Fact};
 use std::alloc::Global;
 
 impl Draft {
-    ghost use Rattle.mdb_pool.specs.Kept.{overdue_since, overdue_now, first_overdue};
+    ghost use Rattle.mdb_pool.specs.Kept.{is_gone, request_at, overdue_since, overdue_now, first_overdue};
     ghost use Rattle.mdb_pool.specs.Changes.{ending, over_facts};
     ghost use Rattle.mdb_pool.specs.Standing.{SameHome, SameNotes, Fits, Expires, Accepts, StandsFor, Answers};
     ghost use Rattle.mdb_log.specs.History.{Item, PoolItem};
@@ -26,6 +26,7 @@ impl Draft {
         moment: Moment,
         request: Request,
     ) -> Result<(), OutOfMemory>
+        requires there { is_gone self.old.settled (request_at self.old request.number) ≡ false }
         ensures core { OnOk result (self.new ≡ ending self.old request TimedOut) }
         ensures facts { OnOk result (facts.new.items ≡ facts.old.items ++ over_facts self.old request.number request.warm (moment - request.asked_at) TimedOut) }
         ensures inner { self.new.inner ≡ self.old.inner }
@@ -51,6 +52,8 @@ impl Draft {
         ensures inner { self.new.inner ≡ self.old.inner }
     {
         while let Some(request) = self.first_overdue(moment) {
+            // No other request has the number.
+            let _requests = self.asked();
             let request = request.copy()?;
             self.end_overdue(alloc, facts, moment, request)?;
         }

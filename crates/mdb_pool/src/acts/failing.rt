@@ -1,6 +1,6 @@
 //! A pending connection of a pool failed.
 
-ghost use Rattle.std.specs.Prelude.{◌≡◌, ◌++◌, ◌∷◌, ◌-◌, ◌&&◌, [], OnOk, OnErr, IfOk, List, true, not, is_some};
+ghost use Rattle.std.specs.Prelude.{◌≡◌, ◌++◌, ◌∷◌, ◌-◌, ◌&&◌, [], OnOk, OnErr, IfOk, List, true, not, is_some, false};
 ghost use Rattle.mdb_pool.specs.Facts.{failure_of};
 
 use crate::kept::connection::Connection;
@@ -26,7 +26,7 @@ fn failure_of(end: &End) -> ConnectionCheckoutFailedReason
 }
 
 impl Draft {
-    ghost use Rattle.mdb_pool.specs.Kept.{connection_at, is_pending_at};
+    ghost use Rattle.mdb_pool.specs.Kept.{is_gone, request_at, connection_at, is_pending_at};
     ghost use Rattle.mdb_log.specs.History.{service_in};
     ghost use Rattle.mdb_pool.specs.Changes.{failing, forgetting, over_facts};
     ghost use Rattle.mdb_pool.specs.Standing.{SameHome, Fits, Accepts, StandsFor, Answers};
@@ -74,6 +74,7 @@ impl Draft {
         request: Request,
         cause: &Error,
     ) -> Result<(), OutOfMemory>
+        requires there { is_gone self.old.settled (request_at self.old request.number) ≡ false }
         ensures core { OnOk result (self.new ≡ failing self.old moment connection request (FailedEnd cause.now)) }
         ensures facts { OnOk result (facts.new.items ≡ facts.old.items ++ closed_fact self.old.pool self.old.address connection.id ErrorReason connection.service ∷ over_facts self.old request.number request.warm (moment - request.asked_at) (FailedEnd cause.now)) }
         ensures inner { self.new.inner ≡ self.old.inner }

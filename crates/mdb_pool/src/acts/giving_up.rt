@@ -13,7 +13,8 @@ use mdb_events::Fact;
 use std::alloc::Global;
 
 impl Draft {
-    ghost use Rattle.mdb_pool.specs.Kept.{request_at, is_ended_at, is_asked_at, held_connection};
+    ghost use Rattle.mdb_log.specs.Connections.{has};
+    ghost use Rattle.mdb_pool.specs.Kept.{request_at, is_ended_at, is_asked_at, is_open_now, held_connection};
     ghost use Rattle.mdb_pool.specs.Standing.{SameHome, Fits, Accepts, StandsFor, Answers};
     ghost use Rattle.mdb_log.specs.History.{Item, PoolItem, gave_up};
     ghost use Rattle.mdb_log.specs.declared.step.Act.TheVariants.{GiveUp};
@@ -26,7 +27,8 @@ impl Draft {
         moment: Moment,
         request: u32,
     ) -> Result<Reply, OutOfMemory>
-        requires { is_ended_at (request_at self.old request) ≡ true }
+        requires ended { is_ended_at (request_at self.old request) ≡ true }
+        requires open { has request self.old.settled ≡ false }
         ensures home { OnOk result (SameHome self.old self.new) }
         ensures last { OnOk result (self.new.last ≡ moment) }
         ensures accepts { IfOk result (λ reply. (xs : List PoolItem) → Fits self.old xs → Accepts self.old self.new facts.old.items facts.new.items moment (GiveUp request) reply xs (gave_up request ∷ xs)) }
@@ -34,12 +36,13 @@ impl Draft {
     {
         let reply = self.outcome(request)?;
         self.set_last(moment);
-        self.settle(request)?;
+        self.settle(alloc, request)?;
         self.serve(alloc, facts, moment)?;
         Ok(reply)
     }
 
     // A request whose connection is held is given up.
+    #[tactic(auto, using(crate::proofs::KeptInLittle::ConnectionsThatLive::party_lives))]
     fn give_up_held(
         &mut self,
         alloc: Global,
@@ -52,6 +55,7 @@ impl Draft {
         requires asker { request_at self.old request.number ≡ Some request }
         requires open { is_ended_at (request_at self.old request.number) ≡ false }
         requires asked { is_asked_at (request_at self.old request.number) ≡ true }
+        requires unsettled { has request.number self.old.settled ≡ false }
         ensures home { OnOk result (SameHome self.old self.new) }
         ensures last { OnOk result (self.new.last ≡ moment) }
         ensures accepts { IfOk result (λ reply. (xs : List PoolItem) → Fits self.old xs → Accepts self.old self.new facts.old.items facts.new.items moment (GiveUp request.number) reply xs (gave_up request.number ∷ xs)) }
@@ -77,7 +81,7 @@ impl Draft {
         moment: Moment,
         request: u32,
     ) -> Result<Reply, OutOfMemory>
-        requires { is_asked_at (request_at self.old request) ≡ true }
+        requires { is_open_now self.old request ≡ true }
         ensures home { OnOk result (SameHome self.old self.new) }
         ensures last { OnOk result (self.new.last ≡ moment) }
         ensures accepts { IfOk result (λ reply. (xs : List PoolItem) → Fits self.old xs → Accepts self.old self.new facts.old.items facts.new.items moment (GiveUp request) reply xs (gave_up request ∷ xs)) }

@@ -15,6 +15,7 @@ impl Draft {
     ghost use Rattle.mdb_log.specs.declared.step.Act.TheVariants.{Maintain as MaintainAct};
 
     // Closes the available connections that have perished, those that came back first before the others.
+    #[tactic(auto, using(crate::proofs::KeptInLittle::ConnectionsThatLive::perished_lives))]
     fn sweep(
         &mut self,
         alloc: Global,

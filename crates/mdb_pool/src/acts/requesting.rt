@@ -22,6 +22,7 @@ impl Draft {
     ghost use Rattle.mdb_log.specs.declared.step.Act.TheVariants.{Request as RequestAct};
 
     // The available connection that a new caller gets at once.
+    #[tactic(auto, using(crate::proofs::KeptInLittle::ConnectionsThatLive::last_lives))]
     fn ready_connection(&self, moment: Moment) -> Option<Connection>
         ensures { result ≡ ready_connection self.now moment }
     {
@@ -46,6 +47,7 @@ impl Draft {
         request: u32,
         connection: Connection,
     ) -> Result<Reply, OutOfMemory>
+        requires { request_at self.old request ≡ None }
         ensures core { OnOk result (self.new ≡ granting_at_once self.old moment request connection) }
         ensures facts { OnOk result (facts.new.items ≡ facts.old.items ++ started_fact self.old.pool self.old.address ∷ Granted request self.old.pool connection.id ∷ checked_out_fact self.old.pool self.old.address connection.id 0 ∷ []) }
         ensures reply { IfOk result (λ reply. reply ≡ Pooled self.old.pool connection.id) }
@@ -64,7 +66,7 @@ impl Draft {
             },
         )?;
         self.hand(alloc, facts, connection, request, 0)?;
-        self.settle(request)?;
+        self.settle(alloc, request)?;
         Ok(Reply::Pooled(self.number(), connection.id))
     }
 
@@ -89,7 +91,7 @@ impl Draft {
         self.ask(alloc, facts, moment, request)?;
         self.turn_away(alloc, facts, moment, request, false)?;
         self.serve(alloc, facts, moment)?;
-        let reply = self.tell(request)?;
+        let reply = self.tell(alloc, request)?;
         Ok(reply)
     }
 }

@@ -28,6 +28,7 @@ impl Draft {
         party: u32,
         connection: Connection,
     ) -> Result<(), OutOfMemory>
+        requires { is_some (request_at self.old party) ≡ false }
         ensures core { OnOk result (self.new ≡ taking self.old moment party connection) }
         ensures inner { self.new.inner ≡ self.old.inner }
     {

@@ -1,6 +1,6 @@
 //! A pinned connection loses a pin.
 
-ghost use Rattle.std.specs.Prelude.{◌≡◌, ◌∷◌, ◌++◌, OnOk, OnErr, IfOk, List, true, nat_lt};
+ghost use Rattle.std.specs.Prelude.{◌≡◌, ◌∷◌, ◌++◌, OnOk, OnErr, IfOk, List, true, nat_lt, is_some};
 
 use crate::kept::connection::Connection;
 use crate::kept::draft::Draft;
@@ -55,6 +55,7 @@ impl Draft {
         connection: Connection,
         reason: Option<ConnectionClosedReason>,
     ) -> Result<(), OutOfMemory>
+        requires lives { is_some (connection_at self.old connection.id) ≡ true }
         ensures core { OnOk result (self.new ≡ pin_ending self.old moment connection reason) }
         ensures facts { OnOk result (facts.new.items ≡ facts.old.items ++ back_facts self.old connection reason) }
         ensures inner { self.new.inner ≡ self.old.inner }
@@ -67,6 +68,7 @@ impl Draft {
     }
 
     // A pinned connection loses a pin. Whoever calls has tested the refusals.
+    #[tactic(auto, using(crate::proofs::KeptInLittle::ConnectionsThatLive::at_lives))]
     pub(crate) fn accept_unpin(
         &mut self,
         alloc: Global,

@@ -32,7 +32,7 @@ impl Draft {
         self.enqueue(alloc, moment, request, true)?;
         self.turn_away(alloc, facts, moment, request, true)?;
         self.serve(alloc, facts, moment)?;
-        let reply = self.tell(request)?;
+        let reply = self.tell(alloc, request)?;
         Ok(reply)
     }
 }

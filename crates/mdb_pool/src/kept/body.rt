@@ -5,11 +5,11 @@ ghost use Rattle.mdb_pool.specs.Core.{SameKept};
 ghost use Rattle.mdb_pool.specs.Body.{now_of, inner_of, inner_after, pool_of, led, PoolFits};
 
 use crate::PoolOptions;
-use crate::kept::connection::Connection;
-use crate::kept::request::Request;
-use crate::kept::status::{Clear, Status};
+use crate::kept::connections::{Connections, ConnectionsRedo};
+use crate::kept::requests::{Requests, RequestsRedo};
+use crate::kept::status::Status;
 use mdb_base::{Moment, ServerAddress};
-use mdb_slots::{NumberSet, NumberSetRedo, Redo, Sides, SidesRedo, UndoCell, UndoList};
+use mdb_slots::UndoCell;
 use std::alloc::Global;
 use std::marker::Model;
 
@@ -24,33 +24,21 @@ pub struct Body {
     pub options: PoolOptions,
     /// The moment of its last accepted step.
     pub last: UndoCell<Moment>,
-    /// How many connections were created so far.
-    pub created: UndoCell<u32>,
-    /// Its live connections by id: on the left those that are available, on the right those that are pending.
-    pub connections: Sides<Connection>,
-    /// Its requests by number: on the left the warm ones that are queued, on the right all that are queued.
-    pub requests: Sides<Request>,
+    /// Its connections by id, with how many were created, which were claimed, and its clears.
+    pub connections: Connections,
+    /// Its requests by number, as far as they still count.
+    pub requests: Requests,
     /// Whether it may be used.
     pub status: UndoCell<Status>,
-    /// Its clears, oldest first.
-    pub clears: UndoList<Clear>,
-    /// The requests whose outcome was told, or that gave up or came back.
-    pub settled: NumberSet,
-    /// The pending connections that a claim was told to establish.
-    pub claimed: NumberSet,
 }
 
 /// Changes of a pool that were taken back, to be made again.
 #[derive(Drop)]
 pub struct BodyRedo {
     last: Option<Moment>,
-    created: Option<u32>,
-    connections: SidesRedo<Connection>,
-    requests: SidesRedo<Request>,
+    connections: ConnectionsRedo,
+    requests: RequestsRedo,
     status: Option<Status>,
-    clears: Redo<Clear>,
-    settled: NumberSetRedo,
-    claimed: NumberSetRedo,
 }
 
 impl Model for BodyRedo {
@@ -59,7 +47,7 @@ impl Model for BodyRedo {
 
     ghost Value = { PoolSteps };
 
-    ghost view = { λ t. record { last = t.last; created = t.created; connections = t.connections; requests = t.requests; status = t.status; clears = t.clears; settled = t.settled; claimed = t.claimed } };
+    ghost view = { λ t. record { last = t.last; created = t.connections.created; connections = t.connections.live; requests = t.requests; status = t.status; clears = t.connections.clears; claimed = t.connections.claimed } };
 }
 
 impl Body {
@@ -72,13 +60,9 @@ impl Body {
     {
         BodyRedo {
             last: self.last.undo(),
-            created: self.created.undo(),
             connections: self.connections.undo(alloc),
             requests: self.requests.undo(alloc),
             status: self.status.undo(),
-            clears: self.clears.undo(alloc),
-            settled: self.settled.undo(alloc),
-            claimed: self.claimed.undo(alloc),
         }
     }
 
@@ -88,13 +72,9 @@ impl Body {
         ensures same { SameKept (now_of self.old) (now_of self.new) }
     {
         self.last.commit();
-        self.created.commit();
         self.connections.commit();
         self.requests.commit();
         self.status.commit();
-        self.clears.commit();
-        self.settled.commit();
-        self.claimed.commit();
     }
 
     /// Whatever was changed goes, and the changes are made again and stay. It takes no memory.
@@ -104,21 +84,13 @@ impl Body {
     {
         let BodyRedo {
             last,
-            created,
             connections,
             requests,
             status,
-            clears,
-            settled,
-            claimed,
         } = redo;
         self.last.redo(last);
-        self.created.redo(created);
         self.connections.redo(connections);
         self.requests.redo(requests);
         self.status.redo(status);
-        self.clears.redo(clears);
-        self.settled.redo(settled);
-        self.claimed.redo(claimed);
     }
 }

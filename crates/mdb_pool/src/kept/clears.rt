@@ -2,16 +2,15 @@
 
 ghost use Rattle.std.specs.Prelude.{◌≡◌};
 ghost use Rattle.mdb_log.specs.History.{same_service};
-ghost use Rattle.mdb_pool.specs.Kept.{clears_for, clears_before, cleared_since, timeouts_in, used_as};
+ghost use Rattle.mdb_pool.specs.Kept.{clears_for, clears_before, used_as};
 ghost use Rattle.mdb_log.specs.Connections.{is_dropped};
 
 use crate::kept::connection::Connection;
-use crate::kept::status::Clear;
 use crate::pool_core::PoolCore;
 use crate::{ConnectionGeneration, LoadBalancedGeneration, Use};
 use mdb_base::ObjectId;
 
-fn same_service(a: Option<ObjectId>, b: Option<ObjectId>) -> bool
+pub(crate) fn same_service(a: Option<ObjectId>, b: Option<ObjectId>) -> bool
     ensures { result ≡ same_service a b }
 {
     match (a, b) {
@@ -19,40 +18,6 @@ fn same_service(a: Option<ObjectId>, b: Option<ObjectId>) -> bool
         (Some(a), Some(b)) => a == b,
         _ => false,
     }
-}
-
-// How often the service was cleared, or the pool as a whole where there is none.
-pub(crate) fn count_clears(clears: &[Clear], service: Option<ObjectId>) -> usize
-    ensures { result ≡ clears_for service clears.now }
-{
-    clears
-        .iter()
-        .filter(|clear| same_service(clear.service, service))
-        .count()
-}
-
-// How often so before the connection was created.
-fn count_before(clears: &[Clear], id: u32, service: Option<ObjectId>) -> usize
-    ensures { result ≡ clears_before id service clears.now }
-{
-    clears
-        .iter()
-        .filter(|clear| same_service(clear.service, service) && clear.after < id)
-        .count()
-}
-
-// Such a clear came after the connection was created.
-pub(crate) fn cleared_since(clears: &[Clear], id: u32, service: Option<ObjectId>) -> bool
-    ensures { result ≡ cleared_since id service clears.now }
-{
-    clears.iter().any(|clear| same_service(clear.service, service) && !(clear.after < id))
-}
-
-// How many of the clears were by a network timeout.
-pub(crate) fn count_timeouts(clears: &[Clear]) -> usize
-    ensures { result ≡ timeouts_in clears.now }
-{
-    clears.iter().filter(|clear| clear.timeout).count()
 }
 
 // A connection is closed that was used so last.
@@ -74,7 +39,7 @@ pub(crate) fn used_as(connection: Connection, used: Use) -> Connection
 }
 
 impl PoolCore {
-    ghost use Rattle.std.specs.Prelude.{is_some, if◌then◌else◌, Some, None, List};
+    ghost use Rattle.std.specs.Prelude.{is_some, true, if◌then◌else◌, Some, None, List};
     ghost use Rattle.mdb_pool.specs.Kept.{connection_at, generation_at, interrupted_at};
     ghost use Rattle.mdb_log.specs.Generations.{carried};
     ghost use Rattle.mdb_pool.specs.Standing.{Fits};
@@ -98,22 +63,23 @@ impl PoolCore {
         if self.draft.body.connections.get(id).is_none() {
             return None;
         }
-        Some(count_before(self.draft.body.clears.as_slice(), id, service) as u64)
+        Some(self.draft.body.connections.generation_before(id, service))
     }
 
-    // The generation that a connection of the service carries.
+    // The generation that a connection of the service carries, which lives.
     fn carried(&self, id: u32, service: Option<ObjectId>) -> ConnectionGeneration
+        requires { is_some (connection_at self.now id) ≡ true }
         ensures { result ≡ carried self.now.options.load_balanced (λ t. clears_before id t self.now.clears) service }
     {
-        let clears = self.draft.body.clears.as_slice();
+        let connections = &self.draft.body.connections;
         if !self.draft.body.options.load_balanced {
-            return ConnectionGeneration::Normal(count_before(clears, id, None) as u64);
+            return ConnectionGeneration::Normal(connections.generation_before(id, None));
         }
         let Some(service_id) = service else {
             return ConnectionGeneration::LoadBalanced(None);
         };
         ConnectionGeneration::LoadBalanced(Some(LoadBalancedGeneration {
-            generation: count_before(clears, id, service) as u64,
+            generation: connections.generation_before(id, service),
             service_id,
         }))
     }

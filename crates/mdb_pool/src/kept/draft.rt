@@ -1,20 +1,20 @@
 //! A pool with changes that can be taken back.
 
-ghost use Rattle.std.specs.Prelude.{◌≡◌, ◌++◌, ◌∷◌, [], true, false, is_some, length, map, OnOk, option_copied};
+ghost use Rattle.std.specs.Prelude.{◌≡◌, ◌+◌, ◌++◌, ◌∷◌, [], true, false, is_some, length, map, None, OnOk, option_copied, Some};
 ghost use Rattle.mdb_log.specs.Connections.{has};
 ghost use Rattle.mdb_slots.specs.Keyed.{others, put, swap};
 ghost use Rattle.mdb_slots.specs.Lists.{apart};
 ghost use Rattle.mdb_slots.specs.Sided.{stays};
 ghost use Rattle.mdb_pool.specs.Keyed.{marked};
-ghost use Rattle.mdb_pool.specs.Kept.{connection_at, connection_in, request_at, request_in};
-ghost use Rattle.mdb_pool.specs.Places.{is_available, is_pending, is_queued};
+ghost use Rattle.mdb_pool.specs.Kept.{connection_at, first_unclaimed, is_gone, kept_request, kept_requests, request_at};
+ghost use Rattle.mdb_pool.specs.Places.{is_available, is_done, is_pending, is_queued};
 
 use crate::PoolOptions;
 use crate::kept::body::Body;
 use crate::kept::connection::Connection;
 use crate::kept::request::Request;
-use crate::kept::status::{Clear, Status};
-use mdb_base::{Moment, OutOfMemory, ServerAddress};
+use crate::kept::status::Status;
+use mdb_base::{Moment, ObjectId, OutOfMemory, ServerAddress};
 use std::alloc::Global;
 use std::marker::Model;
 
@@ -61,19 +61,13 @@ impl Draft {
     pub(crate) fn created(&self) -> u32
         ensures { result ≡ self.now.created }
     {
-        *self.body.created.get()
+        self.body.connections.created()
     }
 
     pub(crate) fn status(&self) -> &Status
         ensures { result.now ≡ self.now.status }
     {
         self.body.status.get()
-    }
-
-    pub(crate) fn clears(&self) -> &[Clear]
-        ensures { result.now ≡ self.now.clears }
-    {
-        self.body.clears.as_slice()
     }
 
     // How many connections live.
@@ -83,9 +77,9 @@ impl Draft {
         self.body.connections.len()
     }
 
-    // How many requests there are.
+    // How many requests have not left.
     pub(crate) fn asked(&self) -> usize
-        ensures value { result ≡ length self.now.requests }
+        ensures value { result ≡ length (kept_requests self.now) }
         ensures apart { apart (map (λ q. q.number) self.now.requests) ≡ true }
     {
         self.body.requests.len()
@@ -97,24 +91,11 @@ impl Draft {
         self.body.connections.get(id)
     }
 
+    // The request, where it has not left.
     pub(crate) fn request(&self, number: u32) -> Option<&Request>
-        ensures { option_copied result ≡ request_at self.now number }
+        ensures { option_copied result ≡ kept_request self.now number }
     {
         self.body.requests.get(number)
-    }
-
-    // The outcome of the request was told, or it gave up or came back.
-    pub(crate) fn is_settled(&self, number: u32) -> bool
-        ensures { result ≡ has number self.now.settled }
-    {
-        self.body.is_settled(number)
-    }
-
-    // A claim was told to establish the connection.
-    pub(crate) fn is_claimed(&self, id: u32) -> bool
-        ensures { result ≡ has id self.now.claimed }
-    {
-        self.body.is_claimed(id)
     }
 
     pub(crate) fn set_last(&mut self, moment: Moment)
@@ -124,13 +105,6 @@ impl Draft {
         self.body.last.set(moment);
     }
 
-    pub(crate) fn set_created(&mut self, created: u32)
-        ensures core { self.new ≡ record self.old { created = created } }
-        ensures inner { self.new.inner ≡ self.old.inner }
-    {
-        self.body.created.set(created);
-    }
-
     pub(crate) fn set_status(&mut self, status: Status)
         ensures core { self.new ≡ record self.old { status = status } }
         ensures inner { self.new.inner ≡ self.old.inner }
@@ -138,39 +112,59 @@ impl Draft {
         self.body.status.set(status);
     }
 
-    pub(crate) fn push_clear(&mut self, clear: Clear) -> Result<(), OutOfMemory>
-        ensures core { OnOk result (self.new ≡ record self.old { clears = self.old.clears ++ clear ∷ [] }) }
+    // The pool, or a service of it, is cleared once more.
+    pub(crate) fn push_clear(
+        &mut self,
+        alloc: Global,
+        service: Option<ObjectId>,
+        timeout: bool,
+    ) -> Result<(), OutOfMemory>
+        ensures core { OnOk result (self.new ≡ record self.old { clears = self.old.clears ++ record { service = service; after = self.old.created; timeout = timeout } ∷ [] }) }
         ensures inner { self.new.inner ≡ self.old.inner }
     {
-        self.body.clears.push(clear)
+        self.body.connections.clear(alloc, service, timeout)
     }
 
-    pub(crate) fn settle(&mut self, number: u32) -> Result<(), OutOfMemory>
+    // The request of this number, which came, is settled.
+    pub(crate) fn settle(&mut self, alloc: Global, number: u32) -> Result<(), OutOfMemory>
+        requires { is_some (request_at self.old number) ≡ true }
         ensures core { OnOk result (self.new ≡ record self.old { settled = marked number self.old.settled }) }
         ensures inner { self.new.inner ≡ self.old.inner }
     {
-        if self.is_settled(number) {
-            return Ok(());
-        }
-        self.body.settled.insert(number)
+        self.body.requests.note(alloc, number)
     }
 
-    pub(crate) fn claim(&mut self, id: u32) -> Result<(), OutOfMemory>
-        ensures core { OnOk result (self.new ≡ record self.old { claimed = marked id self.old.claimed }) }
+    // A claim is told of the connection, which came first among the pending ones that no claim was told of.
+    pub(crate) fn claim(&mut self, connection: &Connection)
+        requires { first_unclaimed self.old ≡ Some connection.now }
+        ensures core { self.new ≡ record self.old { claimed = marked connection.now.id self.old.claimed } }
         ensures inner { self.new.inner ≡ self.old.inner }
     {
-        if self.is_claimed(id) {
-            return Ok(());
-        }
-        self.body.claimed.insert(id)
+        self.body.connections.claim(connection);
     }
 
-    // The connection comes last.
+    // The connection, which is the next one that is created and pending, comes last.
+    pub(crate) fn create_connection(
+        &mut self,
+        alloc: Global,
+        connection: Connection,
+    ) -> Result<(), OutOfMemory>
+        requires id { connection.id ≡ self.old.created + 1 }
+        requires pending { is_pending connection.place ≡ true }
+        ensures core { OnOk result (self.new ≡ record self.old { created = connection.id; connections = put (λ x. x.id) connection self.old.connections }) }
+        ensures inner { self.new.inner ≡ self.old.inner }
+    {
+        self.body.connections.create(alloc, connection)
+    }
+
+    // The connection, which lives and is not pending, comes last.
     pub(crate) fn put_connection(
         &mut self,
         alloc: Global,
         connection: Connection,
     ) -> Result<(), OutOfMemory>
+        requires pending { is_pending connection.place ≡ false }
+        requires lives { is_some (connection_at self.old connection.id) ≡ true }
         ensures core { OnOk result (self.new ≡ record self.old { connections = put (λ x. x.id) connection self.old.connections }) }
         ensures inner { self.new.inner ≡ self.old.inner }
     {
@@ -198,22 +192,25 @@ impl Draft {
         self.body.connections.remove(alloc, id)
     }
 
-    // The request comes last.
+    // The request, which is new and open, comes last.
     pub(crate) fn put_request(&mut self, alloc: Global, request: Request) -> Result<(), OutOfMemory>
+        requires fresh { request_at self.old request.number ≡ None }
+        requires open { is_done request.phase ≡ false }
         ensures core { OnOk result (self.new ≡ record self.old { requests = put (λ q. q.number) request self.old.requests }) }
+        ensures unsettled { OnOk result (has request.number self.new.settled ≡ false) }
         ensures inner { self.new.inner ≡ self.old.inner }
     {
         self.body.requests.put(alloc, request)
     }
 
-    // The request, which is not queued, takes the place of the one that had its number.
-    #[tactic(auto, using(crate::proofs::Listed::Beside::stays_out))]
+    // The request, which is not queued and has not left, takes the place of the one that had its number.
     pub(crate) fn replace_request(
         &mut self,
         alloc: Global,
         request: Request,
     ) -> Result<(), OutOfMemory>
-        requires { is_queued request.phase ≡ false }
+        requires there { is_gone self.old.settled (request_at self.old request.number) ≡ false }
+        requires unqueued { is_queued request.phase ≡ false }
         ensures core { OnOk result (self.new ≡ record self.old { requests = swap (λ q. q.number) request self.old.requests }) }
         ensures inner { self.new.inner ≡ self.old.inner }
     {

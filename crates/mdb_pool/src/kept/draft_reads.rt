@@ -1,6 +1,6 @@
 //! What a changed pool has among its connections and requests.
 
-ghost use Rattle.std.specs.Prelude.{◌≡◌, count_by, option_copied, IfOk};
+ghost use Rattle.std.specs.Prelude.{◌≡◌, count_by, is_some, true, option_copied, IfOk, false};
 
 use crate::Reply;
 use crate::kept::connection::Connection;
@@ -11,13 +11,14 @@ use mdb_events::ConnectionClosedReason;
 use mdb_slots::SlotTable;
 
 impl Draft {
+    ghost use Rattle.mdb_log.specs.Connections.{has};
     ghost use Rattle.mdb_slots.specs.Items.{records_of};
     ghost use Rattle.mdb_slots.specs.Keyed.{after_key, entry_before, last_of, rest_of};
     ghost use Rattle.mdb_slots.specs.Sided.{noted};
     ghost use Rattle.mdb_slots.specs.Slots.{listing};
     ghost use Rattle.mdb_pool.specs.Places.{is_available, is_queued};
     ghost use Rattle.mdb_pool.specs.Changes.{available_ones, pending_ones};
-    ghost use Rattle.mdb_pool.specs.Kept.{pending_count, is_ended_at, request_at, outcome_now, wants_now, candidate_now, fills_now, first_perished, first_overdue, first_queued, last_available, has_room, given_in, held_given, held_connection, pending_connection, holder_request, first_unclaimed, stale_for, perished_now, reason_now, timeouts_in};
+    ghost use Rattle.mdb_pool.specs.Kept.{connection_at, pending_count, is_ended_at, request_at, outcome_now, wants_now, candidate_now, fills_now, first_perished, first_overdue, first_queued, last_available, has_room, given_in, held_given, held_connection, pending_connection, kept_holder, kept_requests, first_unclaimed, stale_for, perished_now, reason_now, timeouts_in};
 
     pub(crate) fn first_queued(&self) -> Option<&Request>
         ensures { option_copied result ≡ first_queued self.now }
@@ -75,7 +76,7 @@ impl Draft {
     }
 
     pub(crate) fn holder_request(&self, connection: Connection) -> Option<&Request>
-        ensures { option_copied result ≡ holder_request self.now connection }
+        ensures { option_copied result ≡ kept_holder self.now connection }
     {
         self.body.holder_request(connection)
     }
@@ -99,6 +100,7 @@ impl Draft {
     }
 
     pub(crate) fn stale_for(&self, id: u32, service: Option<ObjectId>) -> bool
+        requires { is_some (connection_at self.now id) ≡ true }
         ensures { result ≡ stale_for self.now id service }
     {
         self.body.stale_for(id, service)
@@ -109,6 +111,7 @@ impl Draft {
         moment: Moment,
         connection: Connection,
     ) -> Option<ConnectionClosedReason>
+        requires { is_some (connection_at self.now connection.id) ≡ true }
         ensures { result ≡ perished_now self.now moment connection }
     {
         self.body.perished(moment, connection)
@@ -121,6 +124,7 @@ impl Draft {
     }
 
     pub(crate) fn reason_now(&self, connection: Connection) -> Option<ConnectionClosedReason>
+        requires { is_some (connection_at self.now connection.id) ≡ true }
         ensures { result ≡ reason_now self.now connection }
     {
         self.body.reason_now(connection)
@@ -166,29 +170,29 @@ impl Draft {
     }
 
     // How many requests are queued.
-    #[tactic(auto, using(crate::proofs::Listed::Beside::numbered_length))]
     pub(crate) fn queued_count(&self) -> usize
         ensures { result ≡ count_by (λ q. is_queued q.phase) self.now.requests }
     {
-        self.body.requests.right().len()
+        self.body.requests.queued_count()
     }
 
-    // The request that was put after all others.
+    // The request that was put after all others, of those that have not left.
     pub(crate) fn last_request(&self) -> Option<&Request>
-        ensures { option_copied result ≡ last_of self.now.requests }
+        ensures { option_copied result ≡ last_of (kept_requests self.now) }
     {
         self.body.requests.last()
     }
 
-    // The one that precedes it among all requests.
+    // The one of them that precedes it.
     pub(crate) fn previous_request(&self, number: u32) -> Option<&Request>
-        ensures { option_copied result ≡ entry_before (λ q. q.number) number self.now.requests }
+        ensures { option_copied result ≡ entry_before (λ q. q.number) number (kept_requests self.now) }
     {
         self.body.requests.previous(number)
     }
 
     // The request ended in another way.
     pub(crate) fn is_ended(&self, request: u32) -> bool
+        requires { has request self.now.settled ≡ false }
         ensures { result ≡ is_ended_at (request_at self.now request) }
     {
         self.body.is_ended(request)
@@ -196,6 +200,7 @@ impl Draft {
 
     // What the request is told.
     pub(crate) fn outcome(&self, request: u32) -> Result<Reply, OutOfMemory>
+        requires { has request self.now.settled ≡ false }
         ensures { IfOk result (λ reply. reply ≡ outcome_now self.now request) }
     {
         self.body.outcome(request)

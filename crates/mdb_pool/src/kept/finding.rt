@@ -1,6 +1,6 @@
 //! What the parts of a pool have among their connections and requests.
 
-ghost use Rattle.std.specs.Prelude.{◌≡◌, ◌&&◌, not, nat_lt, option_copied, IfOk};
+ghost use Rattle.std.specs.Prelude.{◌≡◌, ◌&&◌, not, nat_lt, option_copied, IfOk, false};
 ghost use Rattle.mdb_log.specs.Connections.{has};
 ghost use Rattle.mdb_pool.specs.Body.{now_of};
 
@@ -13,21 +13,7 @@ use mdb_log::{DEFAULT_MAX_CONNECTING, DEFAULT_MAX_POOL_SIZE};
 
 impl Body {
     ghost use Rattle.mdb_log.specs.State.{max_connecting};
-    ghost use Rattle.mdb_pool.specs.Kept.{wants_now, blocked_now, first_caller, candidate_now, fills_now, first_perished, first_overdue, overdue_since, first_queued, last_available, pending_count, has_room, given_in, held_given, held_connection, pending_connection, holder_request, outcome_now, first_unclaimed};
-
-    // The outcome of the request was told, or it gave up or came back.
-    pub(crate) fn is_settled(&self, number: u32) -> bool
-        ensures { result ≡ has number self.now.settled.now }
-    {
-        self.settled.contains(number)
-    }
-
-    // A claim was told to establish the connection.
-    pub(crate) fn is_claimed(&self, id: u32) -> bool
-        ensures { result ≡ has id self.now.claimed.now }
-    {
-        self.claimed.contains(id)
-    }
+    ghost use Rattle.mdb_pool.specs.Kept.{wants_now, blocked_now, first_caller, candidate_now, fills_now, first_perished, first_overdue, overdue_since, first_queued, last_available, pending_count, has_room, given_in, held_given, held_connection, pending_connection, kept_holder, outcome_now, first_unclaimed};
 
     pub(crate) fn first_queued(&self) -> Option<&Request>
         ensures { option_copied result ≡ first_queued (now_of self.now) }
@@ -42,11 +28,10 @@ impl Body {
         self.connections.last_left().copied()
     }
 
-    #[tactic(auto, using(crate::proofs::Listed::Beside::numbered_length))]
     pub(crate) fn pending_count(&self) -> usize
         ensures { result ≡ pending_count (now_of self.now) }
     {
-        self.connections.right().len()
+        self.connections.pending_count()
     }
 
     // Warm requests are to get connections: too few are live, and neither the maximum nor the ids stand against one more.
@@ -56,7 +41,7 @@ impl Body {
         let live = self.connections.len();
         live < self.options.min_pool_size.unwrap_or(0) as usize
             && live < self.options.max_pool_size.unwrap_or(DEFAULT_MAX_POOL_SIZE) as usize
-            && *self.created.get() < self.options.limit_id
+            && self.connections.created() < self.options.limit_id
     }
 
     // One more connection may be pending.
@@ -74,7 +59,7 @@ impl Body {
     pub(crate) fn has_room(&self) -> bool
         ensures { result ≡ has_room (now_of self.now) }
     {
-        *self.created.get() < self.options.limit_id
+        self.connections.created() < self.options.limit_id
             && self.connections.len()
                 < self.options.max_pool_size.unwrap_or(DEFAULT_MAX_POOL_SIZE) as usize
             && self.may_connect()
@@ -91,7 +76,7 @@ impl Body {
     fn first_caller(&self) -> Option<&Request>
         ensures { option_copied result ≡ first_caller (now_of self.now) }
     {
-        if self.requests.left().len() == self.requests.right().len() {
+        if self.requests.warm_count() == self.requests.queued_count() {
             return None;
         }
         let mut next = self.requests.first_right();
@@ -122,7 +107,7 @@ impl Body {
         self.status.get().is_ready()
             && self.connections.len() < self.options.min_pool_size.unwrap_or(0) as usize
             && self.may_connect()
-            && *self.created.get() < self.options.limit_id
+            && self.connections.created() < self.options.limit_id
     }
 
     // The connection of the request, where a party holds it.
@@ -139,6 +124,7 @@ impl Body {
     }
 
     // The connection that the party holds.
+    #[tactic(auto, using(crate::proofs::KeptInLittle::AskedOfThoseThatStay::given_kept))]
     pub(crate) fn held_connection(&self, party: u32) -> Option<&Connection>
         ensures { option_copied result ≡ held_connection (now_of self.now) party }
     {
@@ -149,6 +135,7 @@ impl Body {
     }
 
     // The pending connection that the party is given.
+    #[tactic(auto, using(crate::proofs::KeptInLittle::AskedOfThoseThatStay::given_kept))]
     pub(crate) fn pending_connection(&self, party: u32) -> Option<Connection>
         ensures { result ≡ pending_connection (now_of self.now) party }
     {
@@ -164,9 +151,9 @@ impl Body {
         }
     }
 
-    // The request that will have the connection.
+    // The request that will have the connection, where it has not left.
     pub(crate) fn holder_request(&self, connection: Connection) -> Option<&Request>
-        ensures { option_copied result ≡ holder_request (now_of self.now) connection }
+        ensures { option_copied result ≡ kept_holder (now_of self.now) connection }
     {
         match connection.holder {
             Some(holder) => self.requests.get(holder),
@@ -178,14 +165,7 @@ impl Body {
     pub(crate) fn first_unclaimed(&self) -> Option<Connection>
         ensures { result ≡ first_unclaimed (now_of self.now) }
     {
-        let mut next = self.connections.first_right();
-        while let Some(x) = next {
-            if !self.is_claimed(x.id) {
-                return Some(*x);
-            }
-            next = self.connections.next_right(x.id);
-        }
-        None
+        self.connections.first_unclaimed().copied()
     }
 
     // It is a caller that has waited for too long, if it waits.
@@ -215,8 +195,10 @@ impl Body {
         None
     }
 
-    // What the request is told.
+    // What the request is told, which is not settled.
+    #[tactic(auto, using(crate::proofs::KeptInLittle::AskedOfThoseThatStay::unsettled_kept))]
     pub(crate) fn outcome(&self, request: u32) -> Result<Reply, OutOfMemory>
+        requires { has request self.now.requests.settled ≡ false }
         ensures { IfOk result (λ reply. reply ≡ outcome_now (now_of self.now) request) }
     {
         Ok(match self.requests.get(request) {

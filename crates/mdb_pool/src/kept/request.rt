@@ -35,13 +35,20 @@ pub struct Request {
 }
 
 impl Request {
-    ghost use Rattle.mdb_pool.specs.Places.{is_queued};
+    ghost use Rattle.mdb_pool.specs.Places.{is_done, is_queued};
 
     /// It waits to be served.
     pub(crate) fn is_queued(&self) -> bool
         ensures { result ≡ is_queued self.now.phase }
     {
         matches!(self.phase, Phase::Queued)
+    }
+
+    /// It is over, or has ended.
+    pub(crate) fn is_done(&self) -> bool
+        ensures { result ≡ is_done self.now.phase }
+    {
+        matches!(self.phase, Phase::Over | Phase::Ended(_))
     }
 
     pub(crate) fn copy(&self) -> Result<Request, AllocError>

@@ -1,6 +1,6 @@
 //! The serving of a pool's queue.
 
-ghost use Rattle.std.specs.Prelude.{◌≡◌, ◌++◌, OnOk, List};
+ghost use Rattle.std.specs.Prelude.{◌≡◌, ◌++◌, OnOk, List, is_some, true, false};
 
 use crate::kept::connection::Connection;
 use crate::kept::draft::Draft;
@@ -10,6 +10,7 @@ use mdb_events::{End, Fact};
 use std::alloc::Global;
 
 impl Draft {
+    ghost use Rattle.mdb_pool.specs.Kept.{is_gone, request_at, connection_at};
     ghost use Rattle.mdb_pool.specs.Standing.{SameHome, SameNotes, Fits, Serves};
     ghost use Rattle.mdb_log.specs.History.{PoolItem};
     ghost use Rattle.mdb_pool.specs.Changes.{meeting, meeting_facts, warming, warming_facts};
@@ -23,6 +24,8 @@ impl Draft {
         connection: Connection,
         request: Request,
     ) -> Result<(), OutOfMemory>
+        requires there { is_gone self.old.settled (request_at self.old request.number) ≡ false }
+        requires lives { is_some (connection_at self.old connection.id) ≡ true }
         ensures core { OnOk result (self.new ≡ meeting self.old moment connection request) }
         ensures facts { OnOk result (facts.new.items ≡ facts.old.items ++ meeting_facts self.old moment connection request) }
         ensures inner { self.new.inner ≡ self.old.inner }
@@ -42,6 +45,7 @@ impl Draft {
         moment: Moment,
         request: Request,
     ) -> Result<(), OutOfMemory>
+        requires there { is_gone self.old.settled (request_at self.old request.number) ≡ false }
         ensures core { OnOk result (self.new ≡ warming self.old moment request) }
         ensures facts { OnOk result (facts.new.items ≡ facts.old.items ++ warming_facts self.old request) }
         ensures inner { self.new.inner ≡ self.old.inner }
@@ -54,6 +58,7 @@ impl Draft {
     }
 
     // Serves the queue until nothing more can be done.
+    #[tactic(auto, using(crate::proofs::KeptInLittle::ConnectionsThatLive::last_lives))]
     pub(crate) fn serve(
         &mut self,
         alloc: Global,
@@ -70,6 +75,8 @@ impl Draft {
             return Ok(());
         }
         while let Some(request) = self.candidate() {
+            // No other request has the number.
+            let _requests = self.asked();
             let request = request.copy()?;
             if request.warm {
                 self.warm_up(alloc, facts, moment, request)?;

@@ -1,19 +1,29 @@
 //! Why the connections among the parts of a pool are closed.
 
-ghost use Rattle.std.specs.Prelude.{◌≡◌};
+ghost use Rattle.std.specs.Prelude.{◌≡◌, is_some, true};
 ghost use Rattle.mdb_pool.specs.Body.{now_of};
 
 use crate::kept::body::Body;
-use crate::kept::clears::{cleared_since, count_timeouts, is_dropped};
+use crate::kept::clears::is_dropped;
 use crate::kept::connection::Connection;
 use mdb_base::{Moment, ObjectId};
 use mdb_events::ConnectionClosedReason;
 
 impl Body {
-    ghost use Rattle.mdb_pool.specs.Kept.{stale_for, idle_since, perished_now, reason_now, timeouts_in, first_perished};
+    ghost use Rattle.mdb_pool.specs.Kept.{cleared_since, connection_at, stale_for, idle_since, perished_now, reason_now, timeouts_in, first_perished};
 
-    // A connection of the service would be stale.
+    // The service, or the pool as a whole where there is none, was cleared since the connection, which lives, was created.
+    #[tactic(auto, using(crate::proofs::Follows::Stale::since_is))]
+    fn cleared_since(&self, id: u32, service: Option<ObjectId>) -> bool
+        requires { is_some (connection_at (now_of self.now) id) ≡ true }
+        ensures { result ≡ cleared_since id service self.now.connections.clears }
+    {
+        self.connections.generation_before(id, service) != self.connections.generation(service)
+    }
+
+    // A connection of the service, which lives, would be stale.
     pub(crate) fn stale_for(&self, id: u32, service: Option<ObjectId>) -> bool
+        requires { is_some (connection_at (now_of self.now) id) ≡ true }
         ensures { result ≡ stale_for (now_of self.now) id service }
     {
         let named = if self.options.load_balanced {
@@ -24,7 +34,7 @@ impl Body {
         if self.options.load_balanced && named.is_none() {
             return false;
         }
-        cleared_since(self.clears.as_slice(), id, named)
+        self.cleared_since(id, named)
     }
 
     // It would have been available for too long.
@@ -43,6 +53,7 @@ impl Body {
         moment: Moment,
         connection: Connection,
     ) -> Option<ConnectionClosedReason>
+        requires { is_some (connection_at (now_of self.now) connection.id) ≡ true }
         ensures { result ≡ perished_now (now_of self.now) moment connection }
     {
         if self.stale_for(connection.id, connection.service) {
@@ -56,13 +67,14 @@ impl Body {
 
     // How many clears by a network timeout the pool had.
     pub(crate) fn timeouts(&self) -> usize
-        ensures { result ≡ timeouts_in self.now.clears.now }
+        ensures { result ≡ timeouts_in self.now.connections.clears }
     {
-        count_timeouts(self.clears.as_slice())
+        self.connections.timeouts()
     }
 
     // Why a connection is closed when it comes back.
     pub(crate) fn reason_now(&self, connection: Connection) -> Option<ConnectionClosedReason>
+        requires { is_some (connection_at (now_of self.now) connection.id) ≡ true }
         ensures { result ≡ reason_now (now_of self.now) connection }
     {
         if self.status.get().is_closed() {

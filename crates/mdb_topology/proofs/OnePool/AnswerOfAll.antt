@@ -18,7 +18,7 @@ use Rattle.mdb_pool.specs.Answer.{reply_of}
 use Rattle.mdb_pool.specs.Planning.{with_item}
 use Rattle.mdb_pool.specs.Refusal.{first_row, wrong_service}
 use Rattle.mdb_pool.specs.Refusing.{is_pending_here, is_pinned_here, rows_now}
-use Rattle.mdb_pool.specs.Kept.{request_at, connection_at, held_connection, given_of, is_pending_at, is_asked_at, pins_at}
+use Rattle.mdb_pool.specs.Kept.{is_open_now, request_at, connection_at, held_connection, given_of, is_pending_at, is_asked_at, pins_at}
 use Rattle.mdb_pool.specs.Standing.{Fits}
 use Rattle.mdb_pool.proofs.Answered.Act.{held-known}
 use Rattle.mdb_pool.proofs.Histories.FactsGrantNothing.{IsBound}
@@ -29,6 +29,7 @@ use Rattle.mdb_topology.specs.Answer.{pool_reply, reply_to}
 use Rattle.mdb_topology.specs.Refusal.{refusal}
 use Rattle.mdb_topology.specs.Standing.{home, knows, at_address, PoolsFit}
 use Rattle.mdb_topology.specs.Finding.{is_pool_act, asked_by, holder, numbered, index_of, names_known}
+use Rattle.mdb_pool.proofs.KeptInLittle.AskedOfThoseThatStay.{open-asked}
 use Rattle.mdb_topology.proofs.OnePool.AcceptedAct.{Concerns}
 use Rattle.mdb_topology.proofs.OnePool.FactsLeaveOthers.{apart-items}
 use Rattle.mdb_topology.proofs.General.OneElement.{position-at}
@@ -80,7 +81,7 @@ module _ (o : Options) (pools : List PoolCore) (h : List Item) (z : PoolsFit (po
   open-here a e = z.open_are a ∙ (e ∙ ap Some (sym number))
 
   asker-known : (r : ℕ) → asked_by pools r ≡ Some i → is_some (request_at s r) ≡ true
-  asker-known r e = asked-some (request_at s r) (position-at (λ u. is_asked_at (request_at u r)) pools i s e at_i).0
+  asker-known r e = asked-some (request_at s r) (open-asked s r (position-at (λ u. is_open_now u r) pools i s e at_i).0)
 
   holder-known : (r : ℕ) → holder pools r ≡ Some i → is_some (request_at s r) ≡ true
   holder-known r e = held-known s r (position-at (λ u. is_some (held_connection u r)) pools i s e at_i).0

@@ -1,5 +1,5 @@
 -- An act is refused by the rows of all pools as by those of the pool that it concerns.
-use Rattle.std.proofs.Common.{ℕ, ◌≡◌, ◌≤◌, ◌&&◌, Bool, true, false, not, List, [], ◌∷◌, length, Option, Some, None, is_some, nat_lt, if◌then◌else◌, refl, sym, ◌∙◌, ap, subst, arith}
+use Rattle.std.proofs.Common.{ℕ, suc, ◌≡◌, ◌≤◌, ◌&&◌, ◌||◌, Bool, true, false, not, List, [], ◌∷◌, length, Option, Some, None, is_some, nat_lt, if◌then◌else◌, refl, sym, ◌∙◌, ap, subst, arith}
 use Rattle.std.specs.Prelude.{slice_get, unwrap_or}
 use Rattle.std.specs.List.{list_any}
 use Rattle.std.proofs.lemmas.Bool.Decides.{nat_tests}
@@ -28,6 +28,7 @@ use Rattle.mdb_pool.proofs.Answered.Take.{held-is}
 use Rattle.mdb_topology.specs.Refusal.{rows_of, has_pin, is_pending}
 use Rattle.mdb_topology.specs.Standing.{is_open_at, knows, requested, settled, at_address, PoolsFit}
 use Rattle.mdb_topology.specs.Finding.{is_pool_act, asked_by, numbered, index_of, names_known, missing_pool}
+use Rattle.mdb_pool.proofs.KeptInLittle.AskedOfThoseThatStay.{open-asked}
 use Rattle.mdb_topology.proofs.General.OneElement.{any-none, any-position, any-nowhere, position-at, position-none}
 use Rattle.mdb_topology.proofs.General.OnePosition.{some-same}
 use Rattle.mdb_topology.proofs.OnePool.FoundAt.{fits-at, number-at, numbered-is, numbered-past, home-placed, home-missing}
@@ -45,6 +46,19 @@ here-open a s e = on (not (is_shut s.status)) (same_address s.address a) e
     on true true e = refl
     on true false e = cc
     on false c e = cc
+
+-- where each that meets the one test meets the other
+any-follows : (f g : PoolCore → Bool) (ps : List PoolCore) → ((j : ℕ) (x : PoolCore) → slice_get ps j ≡ Some x → f x ≡ true → g x ≡ true) → list_any f ps ≡ true → list_any g ps ≡ true
+any-follows f g [] k e = cc
+any-follows f g (p ∷ ps) k e = on (f p) refl (any-follows f g ps (λ j x h. k (suc j) x h))
+  where
+    on : (b : Bool) → f p ≡ b → (list_any f ps ≡ true → list_any g ps ≡ true) → list_any g (p ∷ ps) ≡ true
+    on true w more = rw (k 0 p refl w) refl
+    on false w more = let same : list_any f (p ∷ ps) ≡ list_any f ps = rw w refl in either (g p) (more (sym same ∙ e))
+      where
+        either : (c : Bool) → list_any g ps ≡ true → (c || list_any g ps) ≡ true
+        either true h = refl
+        either false h = h
 
 module _ (o : Options) (pools : List PoolCore) (h : List Item) (z : PoolsFit (pool_options o) pools h) where
   -- what only a pool that knows the party says of it, is said where the party is known
@@ -70,9 +84,20 @@ module _ (o : Options) (pools : List PoolCore) (h : List Item) (z : PoolsFit (po
       rw (z.requested r, z.opens r, told, asked) refl
 
   not-open : (r : ℕ) → asked_by pools r ≡ None → is_open h r ≡ false
-  not-open r e =
-      let unknown : requested pools r ≡ false = any-nowhere (λ u. is_asked_at (request_at u r)) pools (position-none (λ u. is_asked_at (request_at u r)) pools e) in
-      rw (z.requested r, unknown) refl
+  not-open r e = on (requested pools r) (settled pools r) refl refl
+    where
+      closed : (j : ℕ) (x : PoolCore) → slice_get pools j ≡ Some x → is_asked_at (request_at x r) ≡ true → has r x.settled ≡ true
+      closed j x g k = both (is_asked_at (request_at x r)) (has r x.settled) (position-none (λ u. is_open_now u r) pools e j x g) k
+        where
+          both : (a b : Bool) → (a && not b) ≡ false → a ≡ true → b ≡ true
+          both true true f h = refl
+          both true false f h = cc
+          both false b f h = cc
+
+      on : (a b : Bool) → requested pools r ≡ a → settled pools r ≡ b → is_open h r ≡ false
+      on false b f g = rw (z.requested r, f) refl
+      on true true f g = rw (z.requested r, z.opens r, f, g) refl
+      on true false f g = let k : settled pools r ≡ true = any-follows (λ u. is_asked_at (request_at u r)) (λ u. has r u.settled) pools closed f in cc
 
   -- past the last pool there is none
   pub past-pool : (q : ℕ) → numbered pools q ≡ None → of_pool q h ≡ []
@@ -129,7 +154,7 @@ module _ (o : Options) (pools : List PoolCore) (h : List Item) (z : PoolsFit (po
     held-here q c e = subst (λ n. nat_lt 0 (held (of_pool n h) c) ≡ is_held_at (connection_at s c)) (sym e) (held-is s xs (fits-at (pool_options o) pools h z i s at_i) c)
 
     open-there : (r : ℕ) → asked_by pools r ≡ Some i → is_open h r ≡ is_open_now s r
-    open-there r e = open-at r i s at_i (asked-some (request_at s r) (position-at (λ u. is_asked_at (request_at u r)) pools i s e at_i).0)
+    open-there r e = open-at r i s at_i (asked-some (request_at s r) (open-asked s r (position-at (λ u. is_open_now u r) pools i s e at_i).0))
 
     is-at : (a : ServerAddress) → at_address pools a ≡ Some i → is_here s a ≡ true
     is-at a e = here-open a s (position-at (is_open_at a) pools i s e at_i).0

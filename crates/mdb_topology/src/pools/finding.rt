@@ -52,11 +52,11 @@ impl Pools {
         self.cores.iter().any(|pool| pool.knows(party))
     }
 
-    // The pool that was asked by the party.
+    // The pool in which the request is open.
     fn asked_by(&self, party: u32) -> Option<usize>
         ensures { result ≡ asked_by self.now.cores.items party }
     {
-        self.cores.iter().position(|pool| pool.has_asked(party))
+        self.cores.iter().position(|pool| pool.is_open(party))
     }
 
     /// The pool of which the party holds a connection.

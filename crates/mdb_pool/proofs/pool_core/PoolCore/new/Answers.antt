@@ -3,4 +3,4 @@ use Rattle.mdb_pool.proofs.pool_core.PoolCore.new.Goals as goal
 
 pub returns-clause-stands : goal.returns-clause-stands
 returns-clause-stands c =
-    rw (c.new.ensures.now, c.new-2.ensures.now, c.new-3.ensures.now, c.new-4.ensures.now, c.new-5.ensures.now, c.new-6.ensures.now, c.new-7.ensures.now, c.new-8.ensures.now) (opening-stands c.args.pool c.args.address c.args.options c.at_first.result _ c.at_first.ensures.state c.at_first.ensures.open)
+    rw (c.new.ensures.now, c.new-2.ensures.now, c.new-2.ensures.created, c.new-2.ensures.claimed, c.new-2.ensures.clears, c.new-3.ensures.now.0, c.new-3.ensures.now.1, c.new-4.ensures.now) (opening-stands c.args.pool c.args.address c.args.options c.at_first.result _ c.at_first.ensures.state c.at_first.ensures.open)

@@ -1,19 +1,15 @@
 use Rattle.std.proofs.Common.{◌≡◌, ◌&&◌, not, List, filter, find, length, sym, ◌∙◌, ap}
-use Rattle.std.specs.List.{count_by}
 use Rattle.std.specs.Prelude.{option_copied}
 use Rattle.mdb_pool.specs.Places.{is_queued}
-use Rattle.mdb_pool.specs.Body.{no_service}
 use Rattle.mdb_pool.specs.declared.kept.request.Request.{Request}
-use Rattle.mdb_pool.proofs.Listed.Beside.{find_among, listed_length, numbered_length, none_else}
+use Rattle.mdb_pool.proofs.Listed.Beside.{find_among, none_else}
 use Rattle.mdb_pool.proofs.Listed.WalksForth.{walk-shorter, walk-miss, walk-hit, walk-none}
 use Rattle.mdb_pool.proofs.kept.body.Body.first_caller.Goals as goal
 
-pub returns-then-len : goal.returns-then-len
-returns-then-len c =
+pub returns-then-warm_count-queued_count : goal.returns-then-warm_count-queued_count
+returns-then-warm_count-queued_count c =
     let rs : List Request = c.args.self.now.requests.now in
-    let warm : count_by (λ q. is_queued q.phase && q.warm) rs ≡ c.len.result = sym (listed_length (λ q. q.number) no_service (λ q. q.asked_at) (λ q. is_queued q.phase && q.warm) rs) ∙ (sym (ap length c.left.ensures) ∙ sym c.len.ensures) in
-    let all : c.len-2.result ≡ count_by (λ q. is_queued q.phase) rs = c.len-2.ensures ∙ (ap length c.right.ensures ∙ numbered_length (λ q. q.number) (λ q. is_queued q.phase) rs) in
-    sym (none_else (λ q. is_queued q.phase) (λ q. q.warm) rs (warm ∙ (c.if-len.true ∙ all)))
+    sym (none_else (λ q. is_queued q.phase) (λ q. q.warm) rs (sym c.warm_count.ensures ∙ (c.if-warm_count-queued_count.true ∙ c.queued_count.ensures)))
 
 pub loop-next-init : goal.loop-next-init
 loop-next-init c = ap (find (λ q. not q.warm)) c.first_right-next.ensures.rest

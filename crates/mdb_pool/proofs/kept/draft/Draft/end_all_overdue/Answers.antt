@@ -1,5 +1,6 @@
 use Rattle.std.proofs.Common.{Some, refl, sym, ◌∙◌, ap}
 use Rattle.mdb_pool.proofs.Turns.ExpireMany.{expire-start, expire-more, expire-done, expire-smaller}
+use Rattle.mdb_pool.proofs.KeptInLittle.AskedOfThoseThatStay.{overdue-there}
 use Rattle.mdb_pool.proofs.kept.draft.Draft.end_all_overdue.Goals as goal
 
 pub loop-request-init : goal.loop-request-init
@@ -25,3 +26,6 @@ loop-request-preserved c = record {
 
 pub returns-clause-expires : goal.returns-clause-expires
 returns-clause-expires c = λ h z. expire-done c.args.self.now c.loop-request.self c.loop-request.invariant.home c.args.moment c.args.facts.now.items c.loop-request.facts.items h (c.loop-request.invariant.expires h z) (sym c.in_default.ensures)
+
+pub end_overdue-requires : goal.end_overdue-requires
+end_overdue-requires c = record { there = overdue-there c.loop-request.self c.asked-requests.ensures.apart c.args.moment c.in_ok-request.request (sym c.in-Some.ensures ∙ ap Some (sym c.in_ok-request.ensures)) }

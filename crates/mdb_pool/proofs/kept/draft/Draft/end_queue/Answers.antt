@@ -1,6 +1,7 @@
 use Rattle.std.proofs.Common.{Some, refl, sym, ◌∙◌, ap}
 use Rattle.mdb_events.specs.declared.end.End.TheVariants.{Cleared}
 use Rattle.mdb_pool.proofs.Turns.End.{ends-start, ends-more, ends-done, ends-smaller}
+use Rattle.mdb_pool.proofs.KeptInLittle.AskedOfThoseThatStay.{first-there}
 use Rattle.mdb_pool.proofs.kept.draft.Draft.end_queue.Goals as goal
 
 pub loop-request-init : goal.loop-request-init
@@ -26,3 +27,6 @@ loop-request-preserved c = record {
 
 pub returns-clause-ends : goal.returns-clause-ends
 returns-clause-ends c = λ h z. ends-done c.args.self.now c.loop-request.self c.args.moment (Cleared c.args.cause.now) c.args.facts.now.items c.loop-request.facts.items h (c.loop-request.invariant.ends h z) (sym c.in_default.ensures)
+
+pub end_cleared-requires : goal.end_cleared-requires
+end_cleared-requires c = record { there = first-there c.loop-request.self c.asked-requests.ensures.apart c.in_ok-request.request (sym c.in-Some.ensures ∙ ap Some (sym c.in_ok-request.ensures)) }

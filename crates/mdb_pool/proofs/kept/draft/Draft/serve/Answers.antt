@@ -2,6 +2,7 @@ use Rattle.std.proofs.Common.{Some, refl, sym, ◌∙◌, ap}
 use Rattle.mdb_pool.proofs.Turns.Serve.{starts, ends-full, ends-empty, serves-nothing, turn-meet-to, turn-create-to, turn-warm-to, smaller-meet, smaller-create, smaller-warm, meeting-keeps, warming-keeps}
 use Rattle.mdb_pool.specs.Kept.{is_ready_now}
 use Rattle.mdb_pool.proofs.Follows.Stale.{ready-status}
+use Rattle.mdb_pool.proofs.KeptInLittle.AskedOfThoseThatStay.{candidate-there}
 use Rattle.mdb_pool.proofs.kept.draft.Draft.serve.Goals as goal
 
 pub loop-request-init : goal.loop-request-init
@@ -65,3 +66,12 @@ loop-request-preserved-in-Continue-branch-2 c =
       ready = ap is_ready_now kept.2.status ∙ c.loop-request.invariant.ready;
       serves = λ h z. turn-warm-to c.args.self.now c.loop-request.self c.warm_up.new.self c.loop-request.invariant.home c.args.moment c.args.facts.now.items c.loop-request.facts.items c.warm_up.new.facts.items h c.in_ok-request.request (c.loop-request.invariant.serves h z) c.loop-request.invariant.ready (sym c.in-Some.ensures ∙ ap Some (sym c.in_ok-request.ensures)) c.if-request.true c.in_ok-warm_up.ensures.core c.in_ok-warm_up.ensures.facts;
     }
+
+pub warm_up-requires : goal.warm_up-requires
+warm_up-requires c = record { there = candidate-there c.loop-request.self c.asked-requests.ensures.apart c.in_ok-request.request (sym c.in-Some.ensures ∙ ap Some (sym c.in_ok-request.ensures)) }
+
+pub meet-requires-clause-there : goal.meet-requires-clause-there
+meet-requires-clause-there c = candidate-there c.loop-request.self c.asked-requests.ensures.apart c.in_ok-request.request (sym c.in-Some.ensures ∙ ap Some (sym c.in_ok-request.ensures))
+
+pub create-requires-clause-there : goal.create-requires-clause-there
+create-requires-clause-there c = candidate-there c.loop-request.self c.asked-requests.ensures.apart c.in_ok-request.request (sym c.in-Some.ensures ∙ ap Some (sym c.in_ok-request.ensures))

@@ -1,6 +1,0 @@
-use Rattle.std.proofs.Common.{◌∙◌}
-use Rattle.mdb_pool.proofs.Listed.Beside.{found_number}
-use Rattle.mdb_pool.proofs.kept.body.Body.is_claimed.Goals as goal
-
-pub returns : goal.returns
-returns c = c.contains.ensures ∙ found_number c.args.id c.args.self.now.claimed.now

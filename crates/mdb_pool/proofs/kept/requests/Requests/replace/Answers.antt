@@ -1,0 +1,18 @@
+use Rattle.std.proofs.Common.{sym, subst, ◌∙◌, ap}
+use Rattle.mdb_pool.specs.Asking.{BaseFits, OpenRequests}
+use Rattle.mdb_pool.proofs.kept.requests.Requests.replace.Goals as goal
+
+pub replace-requires-clause-fits : goal.replace-requires-clause-fits
+replace-requires-clause-fits c = c.self.invariant.0
+
+pub replace-requires-clause-there : goal.replace-requires-clause-there
+replace-requires-clause-there c = rw (← c.self.view_is) at c.requires.there
+
+pub invariant_of-self : goal.invariant_of-self
+invariant_of-self c = (c.in-Ok.ensures.fits, subst BaseFits (sym c.replace.ensures.base) c.self.invariant.1)
+
+pub invariant_of-self-in-Err : goal.invariant_of-self-in-Err
+invariant_of-self-in-Err c = (
+  rw (c.roll_back.ensures.all, c.roll_back.ensures.settled, c.roll_back.ensures.kept, c.roll_back.ensures.told, c.roll_back.ensures.known) (subst BaseFits (sym c.replace.ensures.base) c.self.invariant.1),
+  subst BaseFits (sym (c.roll_back.ensures.base ∙ c.replace.ensures.base)) c.self.invariant.1,
+)
