@@ -1,6 +1,6 @@
 //! How a program ends that ran a script.
 
-ghost use Rattle.std.specs.Prelude.{◌≡◌, ◌×◌, MatchResult};
+ghost use Rattle.std.specs.Prelude.{◌≡◌, MatchResult};
 ghost use Rattle.mdb_lines.specs.Status.{Tells, message, status};
 
 use crate::run_error::{RunError, Status, status_of};
