@@ -8,7 +8,7 @@ ghost use Rattle.mdb_recorders.specs.Writing.{Wrote};
 
 use crate::handling::EntryHandler;
 use mdb_base::Sink;
-use mdb_lines::{write_all, write_entry};
+use mdb_lines::{log_text, write_all};
 use mdb_log::{Act, Entry};
 use std::alloc::Global;
 
@@ -38,16 +38,13 @@ fn has_line(act: &Act) -> bool
 fn text(alloc: Global, entries: &[Entry]) -> Result<Vec<u8>, WriteError>
     ensures { IfOk result (λ text. text.items ≡ text_of entries.now) }
 {
-    let mut text = Vec::new(alloc);
-    for entry in entries {
-        if !has_line(&entry.step.act) {
-            return Err(WriteError::NoLine);
-        }
-        if write_entry(alloc, entry, &mut text).is_err() {
-            return Err(WriteError::OutOfMemory);
-        }
+    if !entries.iter().all(|entry| has_line(&entry.step.act)) {
+        return Err(WriteError::NoLine);
     }
-    Ok(text)
+    match log_text(alloc, entries) {
+        Ok(text) => Ok(text),
+        Err(_) => Err(WriteError::OutOfMemory),
+    }
 }
 
 fn write<K: Sink>(sink: &mut K, alloc: Global, entries: &[Entry]) -> Result<(), WriteError>
@@ -64,7 +61,7 @@ fn write<K: Sink>(sink: &mut K, alloc: Global, entries: &[Entry]) -> Result<(), 
 
 impl<K: Sink + Drop> EntryHandler for LogWriter<K> {
     ghost use Rattle.mdb_recorders.specs.Writing.{Wrote};
-    ghost use Rattle.mdb_recorders.proofs.Written.{wrote_both};
+    ghost use Rattle.mdb_recorders.specs.Written.{wrote_both};
 
     type Error = WriteError;
 
