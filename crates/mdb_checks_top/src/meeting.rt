@@ -86,8 +86,8 @@ fn put_reply(page: &mut Page, reply: &Option<Reply>) {
     page.put("; ");
 }
 
-// Tells what the step is answered, where it is tried once more if there was no memory.
-fn ask<C: Core, R: Wait>(
+/// Tells what the step is answered, where it is tried once more if there was no memory.
+pub fn ask<C: Core, R: Wait>(
     rt: &R,
     page: &mut Page,
     driver: &SharedDriver<C>,
