@@ -1,6 +1,6 @@
 //! The rounds of a pool. Parties have the numbers from 1 on, in the order in which they ask.
 
-ghost use Rattle.std.specs.Prelude.{◌≡◌, ◌≤◌};
+ghost use Rattle.std.specs.Prelude.{ℕ, true, ◌≡◌, ◌≤◌};
 ghost use Rattle.mdb_log.specs.Acts.{IsPoolAct};
 ghost use Rattle.mdb_bench.specs.Counts.{counts_of};
 ghost use Rattle.mdb_bench.specs.Plans.{IsWithin};
@@ -32,6 +32,19 @@ fn options(connections: u32) -> PoolOptions {
         load_balanced: true,
         limit_id: u32::MAX,
         limit_generation: u64::MAX,
+    }
+}
+
+// Makes the act the request of this party, which any pool takes. False where it is no request.
+fn ask_as(act: &mut Act, party: u32) -> bool
+    ensures { result ≡ true → (pool : ℕ) → IsPoolAct pool act.new }
+{
+    match act {
+        Act::Request(number, _) => {
+            *number = party;
+            true
+        }
+        _ => false,
     }
 }
 
@@ -76,9 +89,8 @@ impl Bench {
     }
 
     fn request(&mut self, party: u32) -> Stepped {
-        match &mut self.asking.act {
-            Act::Request(number, _) => *number = party,
-            _ => return Ok(()),
+        if !ask_as(&mut self.asking.act, party) {
+            return Ok(());
         }
         if !self.core.is_alone() {
             return Ok(());

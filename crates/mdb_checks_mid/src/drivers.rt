@@ -103,10 +103,12 @@ fn jobs(page: &mut Page, core: &mut TopologyCore, log: &mut Log)
     requires stands { IsDriverOf core.old log.old }
 {
     ask(page, core, log);
-    match core.job(page.alloc, 0, 1) {
-        Ok(job) => tell_job(page, &job),
+    let job = core.job(page.alloc, 0, 1);
+    match &job {
+        Ok(job) => tell_job(page, job),
         Err(_) => page.fail(),
     }
+    drop(job);
 }
 
 fn tell_reply(page: &mut Page, told: &Result<Reply, OutOfMemory>) {
@@ -145,25 +147,32 @@ fn err(page: &mut Page, core: &mut TopologyCore, log: &mut Log, kind: &str, addr
         core.handle_application_error(page.alloc, log, 0, 4, 1, error)
     };
     tell_reply(page, &told);
+    drop(told);
 }
 
-fn call(page: &mut Page, core: &mut TopologyCore, log: &mut Log, kind: &str)
+fn update(page: &mut Page, core: &mut TopologyCore, log: &mut Log)
     requires stands { IsDriverOf core.old log.old }
 {
     let Some(address) = page.address("a:1") else {
         return;
     };
+    let reply = HelloCommandResponse::default();
+    let told = core.update(page.alloc, log, 0, 4, address, 0, 5, reply);
+    tell_reply(page, &told);
+    drop(told);
+}
+
+fn call(page: &mut Page, core: &mut TopologyCore, log: &mut Log, kind: &str)
+    requires stands { IsDriverOf core.old log.old }
+{
     let alloc = page.alloc;
     let told = match kind {
-        "update" => {
-            let reply = HelloCommandResponse::default();
-            core.update(alloc, log, 0, 4, address, 0, 5, reply)
-        }
         "hosts" => core.sync_hosts(alloc, log, 0, 4, page.addresses("b:1")),
         "time" => core.advance_cluster_time(alloc, log, 0, 4, ClusterTime(7)),
         _ => core.stop(alloc, log, 0, 4),
     };
     tell_reply(page, &told);
+    drop(told);
 }
 
 fn run(page: &mut Page, core: &mut TopologyCore, log: &mut Log, kind: &str)
@@ -172,6 +181,7 @@ fn run(page: &mut Page, core: &mut TopologyCore, log: &mut Log, kind: &str)
     match kind {
         "open" => page.put("opened"),
         "job" => jobs(page, core, log),
+        "update" => update(page, core, log),
         "monitor-error" | "application-error" => {
             if let Some(address) = page.address("a:1") {
                 lend(page, core, log);

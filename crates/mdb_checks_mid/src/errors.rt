@@ -45,6 +45,7 @@ fn link_error(page: &mut Page, given: &str) -> LinkError {
 fn of_link(page: &mut Page, given: &str) {
     let error = link_error(page, given);
     page.show(&error);
+    drop(error);
 }
 
 fn run_hello_error(page: &mut Page, given: &str) -> RunHelloError {
@@ -58,6 +59,7 @@ fn run_hello_error(page: &mut Page, given: &str) -> RunHelloError {
 fn of_run_hello(page: &mut Page, given: &str) {
     let error = run_hello_error(page, given);
     page.show(&error);
+    drop(error);
 }
 
 fn srv_error(page: &mut Page, given: &str) -> SrvError {
@@ -71,6 +73,7 @@ fn srv_error(page: &mut Page, given: &str) -> SrvError {
 fn of_srv(page: &mut Page, given: &str) {
     let error = srv_error(page, given);
     page.show(&error);
+    drop(error);
 }
 
 /// `error-text AddressError BadAddress`: the text of the error.

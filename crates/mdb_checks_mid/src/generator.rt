@@ -66,6 +66,7 @@ fn summary(page: &mut Page, given: &str) {
         page.keep(&mut entries, entry);
     }
     page.show(&Summary::of(&entries));
+    drop(entries);
 }
 
 // `generator command make 10`: what the words of a command line ask for; an empty word is written as two quotes.

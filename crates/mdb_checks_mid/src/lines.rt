@@ -16,15 +16,13 @@ fn compare(page: &mut Page, spelling: Result<String, OutOfMemory>, line: &str) {
 }
 
 fn read(page: &mut Page, number: u32, line: &str) {
-    match read_line(page.alloc, line.as_bytes(), number) {
-        Ok(step) => {
-            let spelling = write_line(page.alloc, &step);
-            drop(step);
-            compare(page, spelling, line);
-        }
+    let read = read_line(page.alloc, line.as_bytes(), number);
+    match &read {
+        Ok(step) => compare(page, write_line(page.alloc, step), line),
         Err(LineError::Bad) => page.put("bad"),
         Err(LineError::OutOfMemory) => page.fail(),
     }
+    drop(read);
 }
 
 /// `line 1 TEXT`: whether the text is a line of this number that is spelled as it was.

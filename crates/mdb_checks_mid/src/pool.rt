@@ -159,6 +159,7 @@ fn call(page: &mut Page, pool: &mut Pool, act: &str, words: &str) {
         Ok(reply) => tell_reply(page, reply),
         Err(_) => page.fail(),
     }
+    drop(answer);
     tell_facts(page, pool.facts.as_slice());
 }
 

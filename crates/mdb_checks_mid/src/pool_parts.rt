@@ -97,9 +97,11 @@ fn tell_job(page: &mut Page, job: &Job) {
 
 /// `pool tell job ID`: the pool and the connection, the address, and how often the pool, or which service how often, was cleared before.
 pub fn pending_job(page: &mut Page, core: &PoolCore, id: u32) {
-    match core.job(page.alloc, id) {
-        Ok(Some(job)) => tell_job(page, &job),
+    let job = core.job(page.alloc, id);
+    match &job {
+        Ok(Some(job)) => tell_job(page, job),
         Ok(None) => page.put("none"),
         Err(_) => page.fail(),
     }
+    drop(job);
 }

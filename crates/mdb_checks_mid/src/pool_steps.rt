@@ -1,10 +1,11 @@
 //! Cases of mdb_pool: the acts of one pool as steps, which a log keeps.
 
+ghost use Rattle.std.specs.Prelude.{ℕ, IfSome};
 ghost use Rattle.mdb_log.specs.Acts.{IsPoolAct};
 
 use crate::pool::{Pool, cause, failed_at, made, service, used};
 use crate::pool_told::tell_entry;
-use mdb_base::{Moment, OutOfMemory};
+use mdb_base::{Error, Moment, OutOfMemory};
 use mdb_cases::{Page, number, parted, small};
 use mdb_events::Boxed;
 use mdb_log::{Act, Step};
@@ -12,7 +13,7 @@ use mdb_log::{Act, Step};
 type Stepped = Result<(), OutOfMemory>;
 
 // The functions that make an act do not drop it, since a drop there looks at every kind of act.
-fn take_step(page: &mut Page, pool: &mut Pool, moment: Moment, act: Act) -> Stepped
+fn take_step(page: &mut Page, pool: &mut Pool, moment: Moment, act: Act)
     requires { IsPoolAct pool.old.core.pool act }
 {
     if !pool.core.is_alone() {
@@ -22,162 +23,95 @@ fn take_step(page: &mut Page, pool: &mut Pool, moment: Moment, act: Act) -> Step
     let step = Step { moment, act };
     let stepped = pool.core.step(page.alloc, &mut pool.log, 0, &step);
     drop(step);
-    stepped
+    if stepped.is_err() {
+        page.fail();
+    }
 }
 
-fn request(page: &mut Page, pool: &mut Pool, moment: Moment, words: &str) -> Stepped {
-    let (party, address) = parted(words);
-    let Some(address) = page.address(address) else {
-        return Ok(());
-    };
-    let act = Act::Request(small(party), address);
-    take_step(page, pool, moment, act)
-}
-
-fn warm(page: &mut Page, pool: &mut Pool, moment: Moment, words: &str) -> Stepped {
-    let (party, address) = parted(words);
-    let Some(address) = page.address(address) else {
-        return Ok(());
-    };
-    let act = Act::Warm(small(party), address);
-    take_step(page, pool, moment, act)
-}
-
-fn collect(page: &mut Page, pool: &mut Pool, moment: Moment, words: &str) -> Stepped {
-    let act = Act::Collect(small(words));
-    take_step(page, pool, moment, act)
-}
-
-fn claim(page: &mut Page, pool: &mut Pool, moment: Moment) -> Stepped {
-    let act = Act::Claim;
-    take_step(page, pool, moment, act)
-}
-
-fn give_up(page: &mut Page, pool: &mut Pool, moment: Moment, words: &str) -> Stepped {
-    let act = Act::GiveUp(small(words));
-    take_step(page, pool, moment, act)
-}
-
-fn establish(page: &mut Page, pool: &mut Pool, moment: Moment, words: &str) -> Stepped {
-    let (home, words) = parted(words);
-    let (id, words) = parted(words);
-    let act = Act::Established(small(home), small(id), made(words));
-    take_step(page, pool, moment, act)
-}
-
-fn fail(page: &mut Page, pool: &mut Pool, moment: Moment, words: &str) -> Stepped {
-    let (home, words) = parted(words);
-    let (id, words) = parted(words);
+fn held_cause(page: &mut Page, words: &str) -> Option<Boxed<Error>> {
     let cause = cause(page, words);
-    let cause = Boxed::new(page.alloc, cause)?;
-    let act = Act::Failed(small(home), small(id), failed_at(words), cause);
-    take_step(page, pool, moment, act)
-}
-
-fn give_back(page: &mut Page, pool: &mut Pool, moment: Moment, words: &str) -> Stepped {
-    let (party, how) = parted(words);
-    let act = Act::Return(small(party), used(how));
-    take_step(page, pool, moment, act)
-}
-
-fn pin(page: &mut Page, pool: &mut Pool, moment: Moment, words: &str) -> Stepped {
-    let act = Act::Pin(small(words));
-    take_step(page, pool, moment, act)
-}
-
-fn replicate(page: &mut Page, pool: &mut Pool, moment: Moment, words: &str) -> Stepped {
-    let (home, id) = parted(words);
-    let act = Act::Replicate(small(home), small(id));
-    take_step(page, pool, moment, act)
-}
-
-fn take(page: &mut Page, pool: &mut Pool, moment: Moment, words: &str) -> Stepped {
-    let (party, words) = parted(words);
-    let (home, id) = parted(words);
-    let act = Act::Take(small(party), small(home), small(id));
-    take_step(page, pool, moment, act)
-}
-
-fn unpin(page: &mut Page, pool: &mut Pool, moment: Moment, words: &str) -> Stepped {
-    let (home, id) = parted(words);
-    let act = Act::Unpin(small(home), small(id));
-    take_step(page, pool, moment, act)
-}
-
-fn maintain(page: &mut Page, pool: &mut Pool, moment: Moment, words: &str) -> Stepped {
-    let Some(address) = page.address(words) else {
-        return Ok(());
-    };
-    let act = Act::Maintain(address);
-    take_step(page, pool, moment, act)
-}
-
-fn expire(page: &mut Page, pool: &mut Pool, moment: Moment, words: &str) -> Stepped {
-    let Some(address) = page.address(words) else {
-        return Ok(());
-    };
-    let act = Act::Expire(address);
-    take_step(page, pool, moment, act)
-}
-
-// The number of a pool that is not this one is malformed here: a pool takes such a step on its own number alone.
-fn ready(page: &mut Page, pool: &mut Pool, moment: Moment, words: &str) -> Stepped {
-    let number = pool.core.number();
-    if small(words) != number {
-        page.put("malformed ");
-    }
-    take_step(page, pool, moment, Act::Ready(number))
-}
-
-fn clear(page: &mut Page, pool: &mut Pool, moment: Moment, words: &str) -> Stepped {
-    let (home, words) = parted(words);
-    let number = pool.core.number();
-    if small(home) != number {
-        page.put("malformed ");
-    }
-    let cause = cause(page, words);
-    let cause = Boxed::new(page.alloc, cause)?;
-    let act = Act::Clear(number, service(words), cause);
-    take_step(page, pool, moment, act)
-}
-
-fn close(page: &mut Page, pool: &mut Pool, moment: Moment, words: &str) -> Stepped {
-    let number = pool.core.number();
-    if small(words) != number {
-        page.put("malformed ");
-    }
-    take_step(page, pool, moment, Act::Close(number))
-}
-
-fn of_pool(page: &mut Page, pool: &mut Pool, moment: Moment, act: &str, words: &str) -> Stepped {
-    match act {
-        "established" => establish(page, pool, moment, words),
-        "failed" => fail(page, pool, moment, words),
-        "maintain" => maintain(page, pool, moment, words),
-        "expire" => expire(page, pool, moment, words),
-        "ready" => ready(page, pool, moment, words),
-        "clear" => clear(page, pool, moment, words),
-        "close" => close(page, pool, moment, words),
-        "claim" => claim(page, pool, moment),
-        _ => {
-            page.put("malformed ");
-            Ok(())
+    match Boxed::new(page.alloc, cause) {
+        Ok(cause) => Some(cause),
+        Err(_) => {
+            page.fail();
+            None
         }
     }
 }
 
-fn of_party(page: &mut Page, pool: &mut Pool, moment: Moment, act: &str, words: &str) -> Stepped {
-    match act {
-        "request" => request(page, pool, moment, words),
-        "warm" => warm(page, pool, moment, words),
-        "collect" => collect(page, pool, moment, words),
-        "giveup" => give_up(page, pool, moment, words),
-        "return" => give_back(page, pool, moment, words),
-        "pin" => pin(page, pool, moment, words),
-        "replicate" => replicate(page, pool, moment, words),
-        "take" => take(page, pool, moment, words),
-        "unpin" => unpin(page, pool, moment, words),
-        _ => of_pool(page, pool, moment, act, words),
+// The act at an address.
+fn at_address(page: &mut Page, number: u32, name: &str, words: &str) -> Option<Act>
+    ensures { IfSome result (λ act. IsPoolAct number act) }
+{
+    let (party, at) = parted(words);
+    match name {
+        "request" => Some(Act::Request(small(party), page.address(at)?)),
+        "warm" => Some(Act::Warm(small(party), page.address(at)?)),
+        "maintain" => Some(Act::Maintain(page.address(words)?)),
+        "expire" => Some(Act::Expire(page.address(words)?)),
+        _ => None,
+    }
+}
+
+// The act on the pool of this number. The number of another pool is malformed here: a pool takes such a step on its own number alone.
+fn of_pool(page: &mut Page, number: u32, name: &str, words: &str) -> Option<Act>
+    ensures { IfSome result (λ act. IsPoolAct number act) }
+{
+    let (home, words) = parted(words);
+    page.put_if(small(home) != number, "malformed ");
+    match name {
+        "ready" => Some(Act::Ready(number)),
+        "close" => Some(Act::Close(number)),
+        _ => Some(Act::Clear(number, service(words), held_cause(page, words)?)),
+    }
+}
+
+// The act on a connection.
+fn of_connection(page: &mut Page, number: u32, name: &str, words: &str) -> Option<Act>
+    ensures { IfSome result (λ act. IsPoolAct number act) }
+{
+    let (home, words) = parted(words);
+    let (id, words) = parted(words);
+    let (home, id) = (small(home), small(id));
+    match name {
+        "replicate" => Some(Act::Replicate(home, id)),
+        "unpin" => Some(Act::Unpin(home, id)),
+        "established" => Some(Act::Established(home, id, made(words))),
+        _ => Some(Act::Failed(home, id, failed_at(words), held_cause(page, words)?)),
+    }
+}
+
+// The act of a party.
+fn of_party(name: &str, words: &str) -> Option<Act>
+    ensures { (number : ℕ) → IfSome result (λ act. IsPoolAct number act) }
+{
+    let (party, words) = parted(words);
+    let party = small(party);
+    match name {
+        "collect" => Some(Act::Collect(party)),
+        "giveup" => Some(Act::GiveUp(party)),
+        "return" => Some(Act::Return(party, used(words))),
+        "pin" => Some(Act::Pin(party)),
+        "take" => {
+            let (home, id) = parted(words);
+            Some(Act::Take(party, small(home), small(id)))
+        }
+        "claim" => Some(Act::Claim),
+        _ => None,
+    }
+}
+
+// The act of this name, for the pool of this number; none where no act has it, or memory is short.
+fn named_act(page: &mut Page, number: u32, name: &str, words: &str) -> Option<Act>
+    ensures { IfSome result (λ act. IsPoolAct number act) }
+{
+    match name {
+        "ready" | "close" | "clear" => of_pool(page, number, name, words),
+        "replicate" | "unpin" | "established" | "failed" => {
+            of_connection(page, number, name, words)
+        }
+        "request" | "warm" | "maintain" | "expire" => at_address(page, number, name, words),
+        _ => of_party(name, words),
     }
 }
 
@@ -185,8 +119,9 @@ fn of_party(page: &mut Page, pool: &mut Pool, moment: Moment, act: &str, words: 
 pub fn step(page: &mut Page, pool: &mut Pool, words: &str) {
     let (act, words) = parted(words);
     let (moment, words) = parted(words);
-    if of_party(page, pool, number(moment), act, words).is_err() {
-        page.fail();
+    match named_act(page, pool.core.number(), act, words) {
+        Some(act) => take_step(page, pool, number(moment), act),
+        None => page.put("malformed "),
     }
     match pool.log.entries().last() {
         Some(entry) => tell_entry(page, entry),

@@ -14,12 +14,10 @@ fn put_shown(page: &mut Page, shown: &Shown) {
 pub fn shown(page: &mut Page, given: &str) {
     let (place, line) = parted(given);
     let read = read_entry(page.alloc, line.as_bytes(), small(place));
-    match read {
-        Ok(shown) => {
-            put_shown(page, &shown);
-            drop(shown);
-        }
+    match &read {
+        Ok(shown) => put_shown(page, shown),
         Err(ShownError::Bad) => page.put("Bad"),
         Err(ShownError::OutOfMemory) => page.fail(),
     }
+    drop(read);
 }

@@ -4,7 +4,7 @@ ghost use Rattle.mdb_log.specs.Acts.{IsDriverAct};
 ghost use Rattle.mdb_topology.specs.Logging.{IsDriverOf};
 
 use crate::drivers::{lost, take};
-use mdb_base::{Error, Items, ObjectId, Options};
+use mdb_base::{Error, Items, ObjectId, Options, ServerAddress};
 use mdb_cases::{Page, made_options, parted};
 use mdb_events::Boxed;
 use mdb_log::{Act, BeatenResult, Core, Established, FailedAt, HelloResult, Log, Step};
@@ -18,10 +18,11 @@ fn refuse(page: &mut Page, core: &mut TopologyCore, log: &mut Log, act: Act)
     let step = Step { moment: 4, act };
     let told = Core::step(core, page.alloc, log, 0, &step);
     drop(step);
-    match told {
-        Ok(reply) => page.debug(&reply),
+    match &told {
+        Ok(reply) => page.debug(reply),
         Err(_) => page.put("wanted memory"),
     }
+    drop(told);
 }
 
 fn held_error(page: &mut Page) -> Option<Boxed<Error>> {
@@ -36,34 +37,37 @@ fn held_error(page: &mut Page) -> Option<Boxed<Error>> {
 }
 
 // A hello of the monitor failed.
-fn spend_hello(page: &mut Page, core: &mut TopologyCore, log: &mut Log, error: Boxed<Error>)
+fn spend_hello(page: &mut Page, core: &mut TopologyCore, log: &mut Log)
     requires stands { IsDriverOf core.old log.old }
 {
     let Some(address) = page.address("a:1") else {
         return;
     };
-    refuse(
-        page,
-        core,
-        log,
-        Act::Hello(address, 0, HelloResult::Err(error)),
-    );
+    if let Some(error) = held_error(page) {
+        let act = Act::Hello(address, 0, HelloResult::Err(error));
+        refuse(page, core, log, act);
+    }
 }
 
 // A check of the monitor failed.
-fn spend_check(page: &mut Page, core: &mut TopologyCore, log: &mut Log, error: Boxed<Error>)
+fn spend_check(page: &mut Page, core: &mut TopologyCore, log: &mut Log)
     requires stands { IsDriverOf core.old log.old }
 {
-    let (Some(begun), Some(ended)) = (page.address("a:1"), page.address("a:1")) else {
+    let Some(begun) = page.address("a:1") else {
         return;
     };
     take(page, core, log, 1, Act::Beat(begun, 0));
-    let act = Act::Beaten(ended, 0, 5, BeatenResult::Err(error));
-    refuse(page, core, log, act);
+    let Some(ended) = page.address("a:1") else {
+        return;
+    };
+    if let Some(error) = held_error(page) {
+        let act = Act::Beaten(ended, 0, 5, BeatenResult::Err(error));
+        refuse(page, core, log, act);
+    }
 }
 
 // Under load balancing, an operation on the connection of a service failed.
-fn spend_operation(page: &mut Page, core: &mut TopologyCore, log: &mut Log, error: Boxed<Error>)
+fn spend_operation(page: &mut Page, core: &mut TopologyCore, log: &mut Log)
     requires stands { IsDriverOf core.old log.old }
 {
     let Some(address) = page.address("a:1") else {
@@ -76,11 +80,13 @@ fn spend_operation(page: &mut Page, core: &mut TopologyCore, log: &mut Log, erro
         server_id: None,
     };
     take(page, core, log, 2, Act::Established(0, 1, how));
-    refuse(page, core, log, Act::Error(1, error));
+    if let Some(error) = held_error(page) {
+        refuse(page, core, log, Act::Error(1, error));
+    }
 }
 
 // Under load balancing, a connection of a service failed to be established.
-fn spend_failure(page: &mut Page, core: &mut TopologyCore, log: &mut Log, error: Boxed<Error>)
+fn spend_failure(page: &mut Page, core: &mut TopologyCore, log: &mut Log)
     requires stands { IsDriverOf core.old log.old }
 {
     let Some(address) = page.address("a:1") else {
@@ -88,42 +94,41 @@ fn spend_failure(page: &mut Page, core: &mut TopologyCore, log: &mut Log, error:
     };
     take(page, core, log, 1, Act::Request(1, address));
     let at = FailedAt::Post(Some(ObjectId([1; 12])));
-    refuse(page, core, log, Act::Failed(0, 1, at, error));
+    if let Some(error) = held_error(page) {
+        refuse(page, core, log, Act::Failed(0, 1, at, error));
+    }
 }
 
-// So many hosts are named, of which `a:1` is not one.
+// So many hosts, of which `a:1` is not one.
+fn hosts(page: &mut Page, count: u16) -> Vec<ServerAddress> {
+    let mut hosts = Vec::new(page.alloc);
+    for port in 0..count {
+        if let Some(mut host) = page.address("b:1") {
+            host.port = port;
+            page.keep(&mut hosts, host);
+        }
+    }
+    hosts
+}
+
+// So many hosts are named.
 fn spend_hosts(page: &mut Page, core: &mut TopologyCore, log: &mut Log, count: u16)
     requires stands { IsDriverOf core.old log.old }
 {
-    let mut hosts = Vec::new(page.alloc);
-    for port in 0..count {
-        let Some(mut host) = page.address("b:1") else {
-            return;
-        };
-        host.port = port;
-        if hosts.push(host).is_err() {
-            return page.fail();
-        }
-    }
-    refuse(page, core, log, Act::Hosts(Items::new(hosts)));
+    let hosts = Items::new(hosts(page, count));
+    refuse(page, core, log, Act::Hosts(hosts));
 }
 
 fn spend(page: &mut Page, core: &mut TopologyCore, log: &mut Log, kind: &str)
     requires stands { IsDriverOf core.old log.old }
 {
     match kind {
-        "servers" => return spend_hosts(page, core, log, 129),
-        "pools" => return spend_hosts(page, core, log, 2),
-        _ => {}
-    }
-    let Some(error) = held_error(page) else {
-        return;
-    };
-    match kind {
-        "hello" => spend_hello(page, core, log, error),
-        "check" => spend_check(page, core, log, error),
-        "operation" => spend_operation(page, core, log, error),
-        _ => spend_failure(page, core, log, error),
+        "servers" => spend_hosts(page, core, log, 129),
+        "pools" => spend_hosts(page, core, log, 2),
+        "hello" => spend_hello(page, core, log),
+        "check" => spend_check(page, core, log),
+        "operation" => spend_operation(page, core, log),
+        _ => spend_failure(page, core, log),
     }
 }
 

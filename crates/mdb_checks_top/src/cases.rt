@@ -1,7 +1,7 @@
 //! Which call a kind of case makes.
 
 use crate::runs::Tool;
-use crate::{again, meeting, runs, scripts, shares};
+use crate::{again, meeting, recording, runs, scripts, shares};
 use mdb_cases::Page;
 use std::sync::Wait;
 use std::thread::Threads;
@@ -28,6 +28,7 @@ pub fn answer<R: Threads + Wait + Sync>(
     match kind {
         "again" => again::again(rt, page, given),
         "meeting" => meeting::meeting(rt, page, given),
+        "recording" => recording::recording(rt, page, given),
         "share" => shares::share(rt, page, given),
         "alone" => shares::alone(rt, page, given),
         "gated" => shares::gated(rt, page, given),

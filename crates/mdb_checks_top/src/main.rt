@@ -4,6 +4,7 @@
 mod again;
 mod cases;
 mod meeting;
+mod recording;
 mod runs;
 mod scripts;
 mod shares;

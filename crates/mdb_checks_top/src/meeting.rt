@@ -78,29 +78,31 @@ fn try_once<C: Core, R: Wait>(
     }
 }
 
-// What the step is answered, where it is tried once more if there was no memory.
-fn ask<C: Core, R: Wait>(
+fn put_reply(page: &mut Page, reply: &Option<Reply>) {
+    match reply {
+        Some(reply) => page.debug(reply),
+        None => page.fail(),
+    }
+    page.put("; ");
+}
+
+/// Tells what the step is answered, where it is tried once more if there was no memory.
+pub fn ask<C: Core, R: Wait>(
     rt: &R,
     page: &mut Page,
     driver: &SharedDriver<C>,
     seat: &mut Seat<C>,
     number: u32,
-) -> Option<Reply>
+)
     requires own { seat.old.driver ≡ driver.now.id }
     ensures own { seat.new.driver ≡ seat.old.driver }
 {
-    match try_once(rt, page, driver, seat, number) {
+    let reply = match try_once(rt, page, driver, seat, number) {
         Some(reply) => Some(reply),
         None => try_once(rt, page, driver, seat, number),
-    }
-}
-
-fn put_reply(page: &mut Page, reply: Option<Reply>) {
-    match reply {
-        Some(reply) => page.debug(&reply),
-        None => page.fail(),
-    }
-    page.put("; ");
+    };
+    put_reply(page, &reply);
+    drop(reply);
 }
 
 // The four steps, of which each seat makes every other one.
@@ -114,14 +116,10 @@ fn walk<C: Core, R: Wait>(
     requires own { (one.old.driver ≡ driver.now.id) × (other.old.driver ≡ driver.now.id) }
     ensures own { (one.new.driver ≡ one.old.driver) × (other.new.driver ≡ other.old.driver) }
 {
-    let first = ask(rt, page, driver, one, 0);
-    put_reply(page, first);
-    let second = ask(rt, page, driver, other, 1);
-    put_reply(page, second);
-    let third = ask(rt, page, driver, one, 2);
-    put_reply(page, third);
-    let fourth = ask(rt, page, driver, other, 3);
-    put_reply(page, fourth);
+    ask(rt, page, driver, one, 0);
+    ask(rt, page, driver, other, 1);
+    ask(rt, page, driver, one, 2);
+    ask(rt, page, driver, other, 3);
 }
 
 // The number of entries of the log, where both seats close the driver.
@@ -173,6 +171,7 @@ fn share<C: Core, R: Wait>(rt: &R, page: &mut Page, core: C, log: Log)
 pub fn meeting<R: Wait>(rt: &R, page: &mut Page, given: &str) {
     let options = made_options(page, given);
     if options.check().is_some() {
+        drop(options);
         return page.put("malformed");
     }
     let mut log = Log::new(page.alloc);

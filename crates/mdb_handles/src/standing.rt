@@ -101,7 +101,7 @@ fn settles(entry: &Entry, request: u32, at: &mut Option<(u32, u32)>) -> bool {
 
 // By the entries from this one on. Where some of them were taken, a question is to tell.
 fn state_by(kept: Kept<'_>, from: u64, request: u32, at: &mut Option<(u32, u32)>) -> State
-    ensures { MayBe request kept.entries.now result }
+    ensures { MayBe request kept.entry.entries.now result }
 {
     if from < kept.from {
         return State::Settled;

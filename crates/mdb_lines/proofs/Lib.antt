@@ -6,3 +6,4 @@ pub mod SameForms
 pub mod Lines
 pub mod Loops
 pub mod Tell
+pub mod LogTexts

@@ -8,4 +8,3 @@ pub mod Forms
 pub mod OpenReading
 pub mod Loops
 pub mod Status
-pub mod Ending

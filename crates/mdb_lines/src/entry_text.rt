@@ -1,8 +1,8 @@
 //! The text of an entry.
 
-ghost use Rattle.std.specs.Prelude.{◌≡◌, ◌++◌, OnOk, OnErr};
+ghost use Rattle.std.specs.Prelude.{◌≡◌, ◌++◌, All, IfOk, OnOk, OnErr};
 ghost use Rattle.mdb_lines.specs.Spelling.{HasSpelling};
-ghost use Rattle.mdb_lines.specs.LogText.{text_of_entry, what_text};
+ghost use Rattle.mdb_lines.specs.LogText.{text_of, text_of_entry, what_text};
 
 use crate::line_text::LineText;
 use mdb_base::OutOfMemory;
@@ -113,4 +113,16 @@ pub fn write_entry(alloc: Global, entry: &Entry, out: &mut Vec<u8>) -> Result<()
     let text = format!(in alloc; "{line} | {reply}{facts}\n")?;
     out.extend_from_slice(text.as_bytes())?;
     Ok(())
+}
+
+/// The text of all entries.
+pub fn log_text(alloc: Global, entries: &[Entry]) -> Result<Vec<u8>, OutOfMemory>
+    requires { All (λ e. HasSpelling e.step) entries.now }
+    ensures { IfOk result (λ text. text.items ≡ text_of entries.now) }
+{
+    let mut text = Vec::new(alloc);
+    for entry in entries {
+        write_entry(alloc, entry, &mut text)?;
+    }
+    Ok(text)
 }

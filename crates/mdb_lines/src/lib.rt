@@ -28,7 +28,7 @@ mod use_word;
 mod writing_loop;
 
 pub use ending::{end_run, end_with_error};
-pub use entry_text::{ReplyText, write_entry};
+pub use entry_text::{ReplyText, log_text, write_entry};
 pub use line_reading::read_line;
 pub use line_text::write_line;
 pub use mdb_parts::LineError;

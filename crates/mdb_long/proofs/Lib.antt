@@ -1,1 +1,3 @@
-mod Counted
+pub mod Crossing
+pub mod DriverCrossing
+mod Gathering

@@ -18,7 +18,7 @@ pub struct TooMany;
 
 impl EntryHandler for Counter {
     ghost use Rattle.std.specs.Prelude.{◌≡◌, ◌+◌, length};
-    ghost use Rattle.mdb_long.proofs.Counted.{counted_both};
+    ghost use Rattle.mdb_long.specs.Counted.{counted_both};
 
     type Error = TooMany;
 
@@ -34,5 +34,5 @@ impl EntryHandler for Counter {
         }
     }
 
-    ghost took_both = { counted_both };
+    ghost took_both = { λ first then last xs ys one other. counted_both first.entries then.entries last.entries xs ys one other };
 }

@@ -1,6 +1,6 @@
 //! What goes wrong in a long run.
 
-use mdb_base::{AddressError, OutOfMemory};
+use mdb_base::OutOfMemory;
 use std::alloc::{AllocError, AllocFailed};
 use thiserror::Error;
 
@@ -22,8 +22,6 @@ pub enum LongError {
     Seat,
     #[error("entries are missing")]
     Missing,
-    #[error("a thread was not started")]
-    Thread,
 }
 
 impl From<OutOfMemory> for LongError {
@@ -41,14 +39,5 @@ impl From<AllocError> for LongError {
 impl<T: Drop> From<AllocFailed<T>> for LongError {
     fn from(_why: AllocFailed<T>) -> LongError {
         LongError::OutOfMemory
-    }
-}
-
-impl From<AddressError> for LongError {
-    fn from(why: AddressError) -> LongError {
-        match why {
-            AddressError::BadAddress => LongError::Address,
-            AddressError::OutOfMemory => LongError::OutOfMemory,
-        }
     }
 }

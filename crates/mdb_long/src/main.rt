@@ -6,11 +6,14 @@ ghost use Rattle.std.specs.Prelude.{IfOk, IfSome, ◌≤◌};
 
 mod counter;
 mod errors;
+mod hall;
 mod lasting;
 mod opening;
 mod plan;
+mod roles;
 mod rounds;
 mod sharing;
+mod taking;
 
 use errors::LongError;
 use lasting::Lasting;
@@ -19,9 +22,11 @@ use opening::open;
 use plan::{Plan, USAGE};
 use rounds::{Tally, greet, run};
 use sharing::{Shared, share};
-use std::alloc::AllocError;
+use std::alloc::{AllocError, Global};
 use std::io::ErrorKind;
 use std::process::ExitCode;
+use std::sync::Wait;
+use std::thread::Threads;
 use std::{env, io};
 
 const FAILED: u8 = 1;
@@ -108,7 +113,9 @@ fn tell_alone<C: Core>(rt: &HostRuntime, core: C, log: Log, rounds: u32) -> io::
     requires { C.stands core log }
 {
     let mut lasting = Lasting::new(core, log);
-    match alone(rt, &mut lasting, rounds)? {
+    let done = alone(rt, &mut lasting, rounds);
+    drop(lasting);
+    match done? {
         Ok(()) => Ok(ExitCode::SUCCESS),
         Err(why) => fail(rt, why),
     }
@@ -127,19 +134,36 @@ fn tell_shared(rt: &HostRuntime, shared: Result<Shared, LongError>) -> io::Resul
     }
 }
 
+// One thread at a driver of its own.
+fn run_alone(rt: &HostRuntime, rounds: u32) -> io::Result<ExitCode> {
+    match open(rt.alloc()) {
+        Ok((core, log)) => tell_alone(rt, core, log, rounds),
+        Err(why) => fail(rt, why),
+    }
+}
+
+// Many threads at a shared driver.
+fn share_opened<R: Threads + Wait + Sync>(
+    rt: &R,
+    alloc: Global,
+    threads: u32,
+    rounds: u32,
+) -> Result<Shared, LongError>
+    requires { threads ≤ 32 }
+{
+    let (core, log) = open(alloc)?;
+    share(rt, alloc, core, log, threads, rounds)
+}
+
 fn main(rt: HostRuntime) -> io::Result<ExitCode> {
     let Some(plan) = read_plan(&rt)? else {
         eprintln!(rt; "{USAGE}")?;
         return Ok(ExitCode::from(WRONG_WORDS));
     };
-    let (core, log) = match open(rt.alloc()) {
-        Ok(opened) => opened,
-        Err(why) => return fail(&rt, why),
-    };
     match plan.threads {
-        None => tell_alone(&rt, core, log, plan.rounds),
+        None => run_alone(&rt, plan.rounds),
         Some(threads) => {
-            let shared = share(&rt, rt.alloc(), core, log, threads, plan.rounds);
+            let shared = share_opened(&rt, rt.alloc(), threads, plan.rounds);
             tell_shared(&rt, shared)
         }
     }

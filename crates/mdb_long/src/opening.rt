@@ -5,7 +5,7 @@ ghost use Rattle.mdb_log.specs.Acts.{IsDriverAct};
 ghost use Rattle.mdb_topology.specs.Logging.{IsDriverOf};
 
 use crate::errors::LongError;
-use mdb_base::{Error, ErrorKind, Items, ObjectId, Options, ServerAddress, Text};
+use mdb_base::{AddressError, Error, ErrorKind, Items, ObjectId, Options, ServerAddress, Text};
 use mdb_events::Boxed;
 use mdb_hello::HelloCommandResponse;
 use mdb_log::{Act, HelloResult, Log};
@@ -23,28 +23,47 @@ const LEAST: u32 = 2;
 // How long a check takes, in nanoseconds.
 const CHECK: u64 = 5;
 
-/// The address of the server of this number.
-pub fn address(alloc: Global, server: u32) -> Result<ServerAddress, LongError> {
-    let name = match server {
+fn name(server: u32) -> &'static str {
+    match server {
         0 => "a:1",
         1 => "b:1",
         _ => "c:1",
-    };
-    Ok(ServerAddress::parse(alloc, name)?)
+    }
+}
+
+/// The address of the server of this number.
+pub fn address(alloc: Global, server: u32) -> Result<ServerAddress, LongError> {
+    match ServerAddress::parse(alloc, name(server)) {
+        Ok(address) => Ok(address),
+        Err(AddressError::BadAddress) => Err(LongError::Address),
+        Err(AddressError::OutOfMemory) => Err(LongError::OutOfMemory),
+    }
+}
+
+fn add_address(
+    addresses: &mut Vec<ServerAddress>,
+    alloc: Global,
+    server: u32,
+) -> Result<(), LongError> {
+    let address = address(alloc, server)?;
+    match addresses.push(address) {
+        Ok(()) => Ok(()),
+        Err(_) => Err(LongError::OutOfMemory),
+    }
 }
 
 /// The addresses of the first so many servers.
 pub fn addresses(alloc: Global, servers: u32) -> Result<Vec<ServerAddress>, LongError> {
     let mut addresses = Vec::new(alloc);
     for server in 0..servers {
-        addresses.push(address(alloc, server)?)?;
+        add_address(&mut addresses, alloc, server)?;
     }
     Ok(addresses)
 }
 
-fn options(alloc: Global) -> Result<Options, LongError> {
-    Ok(Options {
-        seeds: Items::new(addresses(alloc, SERVERS)?),
+fn options(seeds: Vec<ServerAddress>) -> Options {
+    Options {
+        seeds: Items::new(seeds),
         set_name: None,
         direct: false,
         load_balanced: false,
@@ -61,20 +80,31 @@ fn options(alloc: Global) -> Result<Options, LongError> {
         limit_pool: None,
         limit_monitor: None,
         topology_id: ObjectId([0; 12]),
-    })
+    }
+}
+
+// The reply of a router.
+fn greeting(alloc: Global) -> Result<Boxed<HelloCommandResponse>, LongError> {
+    let msg = Text::new(String::from_str(alloc, "isdbgrid")?);
+    let mut reply = HelloCommandResponse::default();
+    reply.min_wire_version = Some(0);
+    reply.max_wire_version = Some(21);
+    reply.msg = Some(msg);
+    Ok(Boxed::new(alloc, reply)?)
 }
 
 /// A router at the server greets, for this pool of it.
 pub fn hello(alloc: Global, server: u32, pool: u32) -> Result<Act, LongError>
     ensures { IfOk result IsDriverAct }
 {
-    let mut reply = HelloCommandResponse::default();
-    reply.min_wire_version = Some(0);
-    reply.max_wire_version = Some(21);
-    reply.msg = Some(Text::new(String::from_str(alloc, "isdbgrid")?));
-    let reply = Boxed::new(alloc, reply)?;
     let address = address(alloc, server)?;
-    Ok(Act::Hello(address, pool, HelloResult::Ok(CHECK, reply)))
+    match greeting(alloc) {
+        Ok(reply) => Ok(Act::Hello(address, pool, HelloResult::Ok(CHECK, reply))),
+        Err(why) => {
+            drop(address);
+            Err(why)
+        }
+    }
 }
 
 /// An operation of the party met an error of the network.
@@ -94,11 +124,18 @@ pub fn network_error(alloc: Global, party: u32) -> Result<Act, LongError>
 pub fn open(alloc: Global) -> Result<(TopologyCore, Log), LongError>
     ensures { IfOk result (λ opened. IsDriverOf opened.0 opened.1) }
 {
-    let options = options(alloc)?;
-    if options.check().is_some() {
+    let options = options(addresses(alloc, SERVERS)?);
+    let is_broken = options.check().is_some();
+    if is_broken {
+        drop(options);
         return Err(LongError::Options);
     }
     let mut log = Log::new(alloc);
-    let core = TopologyCore::open_seeds(alloc, &mut log, 0, options)?;
-    Ok((core, log))
+    match TopologyCore::open_seeds(alloc, &mut log, 0, options) {
+        Ok(core) => Ok((core, log)),
+        Err(_) => {
+            drop(log);
+            Err(LongError::OutOfMemory)
+        }
+    }
 }

@@ -49,23 +49,43 @@ impl Tally {
     }
 }
 
-// A step whose reply says no more than that it was done.
+// What a step was answered, as far as a round asks.
+#[derive(Clone, Copy, Debug, PartialEq, Eq)]
+enum Answer {
+    // The party has a connection.
+    Pooled,
+    // A connection to establish: the numbers of its pool and its own.
+    Job(u32, u32),
+    Other,
+}
+
+fn answer_of(reply: &Reply) -> Answer {
+    match reply {
+        Reply::Pooled(_, _) => Answer::Pooled,
+        Reply::Job(pool, id) => Answer::Job(*pool, *id),
+        _ => Answer::Other,
+    }
+}
+
 fn act<C: Core>(
     lasting: &mut Lasting<C>,
     alloc: Global,
     at: u32,
     act: Act,
-) -> Result<Reply, LongError>
+) -> Result<Answer, LongError>
     requires { IsDriverAct act }
 {
-    Ok(lasting.step(alloc, at as u64, act)?)
+    let reply = lasting.step(alloc, at as u64, act)?;
+    let answer = answer_of(&reply);
+    drop(reply);
+    Ok(answer)
 }
 
 /// Each server greets.
 pub fn greet<C: Core>(lasting: &mut Lasting<C>, alloc: Global) -> Result<(), LongError> {
     for server in 0..SERVERS {
         let hello = hello(alloc, server, server)?;
-        drop(act(lasting, alloc, 0, hello)?);
+        act(lasting, alloc, 0, hello)?;
     }
     Ok(())
 }
@@ -78,7 +98,7 @@ fn establish<C: Core>(
     tally: &mut Tally,
 ) -> Result<(), LongError> {
     for _ in 0..u32::MAX {
-        let Reply::Job(pool, id) = act(lasting, alloc, at, Act::Claim)? else {
+        let Answer::Job(pool, id) = act(lasting, alloc, at, Act::Claim)? else {
             break;
         };
         let made = Established {
@@ -86,7 +106,7 @@ fn establish<C: Core>(
             service_id: None,
             server_id: None,
         };
-        drop(act(lasting, alloc, at, Act::Established(pool, id, made))?);
+        act(lasting, alloc, at, Act::Established(pool, id, made))?;
         tally.established = tally.established.wrapping_add(1);
     }
     Ok(())
@@ -101,14 +121,14 @@ fn take_out<C: Core>(
     tally: &mut Tally,
 ) -> Result<(), LongError> {
     let address = address(alloc, at % SERVERS)?;
-    if let Reply::Pooled(_, _) = act(lasting, alloc, at, Act::Request(party, address))? {
+    if act(lasting, alloc, at, Act::Request(party, address))? == Answer::Pooled {
         return Ok(());
     }
     establish(lasting, alloc, at, tally)?;
-    match act(lasting, alloc, at, Act::Collect(party))? {
-        Reply::Pooled(_, _) => Ok(()),
-        _ => Err(LongError::Answer),
+    if act(lasting, alloc, at, Act::Collect(party))? == Answer::Pooled {
+        return Ok(());
     }
+    Err(LongError::Answer)
 }
 
 // The connection of the party met an error of the network: its pool is cleared, and its server greets again.
@@ -120,12 +140,24 @@ fn clear<C: Core>(
     tally: &mut Tally,
 ) -> Result<(), LongError> {
     let error = network_error(alloc, party)?;
-    drop(act(lasting, alloc, at, error)?);
-    drop(act(lasting, alloc, at, Act::Return(party, Use::Errored))?);
+    act(lasting, alloc, at, error)?;
+    act(lasting, alloc, at, Act::Return(party, Use::Errored))?;
     let server = at % SERVERS;
     let hello = hello(alloc, server, tally.pool(server))?;
-    drop(act(lasting, alloc, at, hello)?);
+    act(lasting, alloc, at, hello)?;
     tally.cleared = tally.cleared.wrapping_add(1);
+    Ok(())
+}
+
+// The hosts of the topology are the first so many servers.
+fn hosts<C: Core>(
+    lasting: &mut Lasting<C>,
+    alloc: Global,
+    at: u32,
+    servers: u32,
+) -> Result<(), LongError> {
+    let hosts = Items::new(addresses(alloc, servers)?);
+    act(lasting, alloc, at, Act::Hosts(hosts))?;
     Ok(())
 }
 
@@ -136,14 +168,12 @@ fn come_again<C: Core>(
     at: u32,
     tally: &mut Tally,
 ) -> Result<(), LongError> {
-    let fewer = Act::Hosts(Items::new(addresses(alloc, SERVERS - 1)?));
-    drop(act(lasting, alloc, at, fewer)?);
-    let all = Act::Hosts(Items::new(addresses(alloc, SERVERS)?));
-    drop(act(lasting, alloc, at, all)?);
+    hosts(lasting, alloc, at, SERVERS - 1)?;
+    hosts(lasting, alloc, at, SERVERS)?;
     tally.came = tally.came.wrapping_add(1);
     let server = SERVERS - 1;
     let hello = hello(alloc, server, tally.pool(server))?;
-    drop(act(lasting, alloc, at, hello)?);
+    act(lasting, alloc, at, hello)?;
     Ok(())
 }
 
@@ -159,7 +189,7 @@ fn round<C: Core>(
     if party % CLEARS == 0 {
         clear(lasting, alloc, at, party, tally)?;
     } else {
-        drop(act(lasting, alloc, at, Act::Return(party, Use::Ok))?);
+        act(lasting, alloc, at, Act::Return(party, Use::Ok))?;
     }
     tally.returned = tally.returned.wrapping_add(1);
     if party % COMES == 0 {

@@ -1,27 +1,21 @@
-//! Rounds of many threads at a shared driver: each checks connections out and in, one establishes them, and one takes the entries.
+//! A shared driver of many threads: each checks connections out and in, one establishes them, and one takes the entries.
 
 ghost use Rattle.std.specs.Prelude.{◌≡◌, ◌≤◌, All, IfOk};
 
-use crate::counter::Counter;
 use crate::errors::LongError;
-use crate::opening::{SERVERS, address, hello};
-use mdb_base::{Error, ErrorKind, Items, Text};
+use crate::hall::Hall;
+use crate::opening::{SERVERS, hello};
+use crate::roles::{Played, Role, SeatedRole, play};
 use mdb_handles::Handle;
-use mdb_log::{Core, Established, Log, PooledConnection, Step, Use};
-use mdb_recorders::{RecordError, Recorder};
+use mdb_journal::Journal;
+use mdb_log::{Core, Log, Step};
 use mdb_shared::{Seat, SharedDriver};
-use mdb_workers::{Access, MemEstablisher, OpenGate, Unreturned, stop};
 use std::alloc::Global;
 use std::sync::Wait;
-use std::sync::atomic::{AtomicU64, Ordering};
 use std::thread::{Threads, map_vec};
-use std::time::Duration;
 
 /// The most threads that check connections out.
 pub const MOST_THREADS: u32 = 32;
-
-// How long the one who takes the entries sleeps at most, in milliseconds.
-const PAUSE: u64 = 5;
 
 /// What the threads have come to.
 #[derive(Clone, Copy, Debug, PartialEq, Eq)]
@@ -32,200 +26,78 @@ pub struct Shared {
     pub taken_all: bool,
 }
 
-// What a thread does.
-#[derive(Clone, Copy)]
-enum Role {
-    // Checks connections out and in, so many times.
-    Client(u32),
-    // Establishes connections.
-    Worker,
-    // Takes the entries, and stops the driver once all clients have left.
-    Taker,
+fn role(number: u32, rounds: u32) -> Role {
+    match number {
+        0 => Role::Worker,
+        1 => Role::Taker,
+        _ => Role::Client(rounds),
+    }
 }
 
-// What the threads share beside their driver.
-#[derive(Drop)]
-struct Hall {
-    clients: AtomicU64,
-    returned: AtomicU64,
-    taken: AtomicU64,
-}
-
-#[derive(Drop)]
-struct Part<C: Core> {
+// One more part.
+fn add_part<C: Core>(
+    driver: &SharedDriver<C>,
+    parts: &mut Vec<SeatedRole<C>>,
     seat: Seat<C>,
     role: Role,
-}
-
-#[derive(Drop)]
-struct Played<C: Core> {
-    seat: Seat<C>,
-    done: Result<(), LongError>,
-}
-
-// One connection out and in.
-fn round<C: Core, R: Wait>(
-    me: &mut Handle<'_, C, R>,
-    alloc: Global,
-    at: u32,
 ) -> Result<(), LongError>
-    ensures own { me.new.seat.driver ≡ me.old.seat.driver }
+    requires own { All (λ p. p.seat.driver ≡ driver.now.id) parts.old.items }
+    requires seat { seat.driver ≡ driver.now.id }
+    ensures own { All (λ p. p.seat.driver ≡ driver.now.id) parts.new.items }
 {
-    let Some(request) = me.take_numbers(1) else {
-        return Err(LongError::Number);
-    };
-    let address = address(alloc, at % SERVERS)?;
-    let connection = match me.check_out(request, address) {
-        Ok(connection) => connection,
-        Err(why) => {
-            drop(why);
-            return Err(LongError::Answer);
-        }
-    };
-    match me.hand_back(connection, Use::Ok) {
+    match parts.push(SeatedRole { seat, role }) {
         Ok(()) => Ok(()),
-        Err(Unreturned { connection, why: _ }) => {
-            let PooledConnection {
-                pool: _,
-                id: _,
-                party: _,
-            } = connection;
-            Err(LongError::Answer)
-        }
+        Err(_) => Err(LongError::OutOfMemory),
     }
 }
 
-fn ask<C: Core, R: Wait>(
-    me: &mut Handle<'_, C, R>,
-    alloc: Global,
-    rounds: u32,
-    hall: &Hall,
-) -> Result<(), LongError>
-    ensures own { me.new.seat.driver ≡ me.old.seat.driver }
-{
-    for at in 0..rounds {
-        round(me, alloc, at)?;
-        hall.returned.fetch_add(1, Ordering::SeqCst);
-    }
-    Ok(())
-}
-
-// An establisher that always succeeds.
-fn establisher(alloc: Global) -> MemEstablisher {
-    let made = Established {
-        wire: 21,
-        service_id: None,
-        server_id: None,
-    };
-    let error = Error {
-        kind: ErrorKind::Network,
-        labels: Items::new(Vec::new(alloc)),
-        topology_version: None,
-        message: Text::new(String::new(alloc)),
-    };
-    MemEstablisher::new(alloc, made, error, Vec::new(alloc))
-}
-
-// Takes the entries until all clients have left. It tells how many it took.
-fn take_all<C: Core, R: Wait>(
-    driver: &SharedDriver<C>,
-    rt: &R,
-    alloc: Global,
-    seat: &mut Seat<C>,
-    hall: &Hall,
-) -> Result<(), LongError>
-    requires own { seat.old.driver ≡ driver.now.id }
-    ensures own { seat.new.driver ≡ seat.old.driver }
-{
-    let mut recorder = Recorder::new(alloc, 0);
-    let mut counter = Counter { entries: 0 };
-    for _ in rt.forever() {
-        let is_over = hall.clients.load(Ordering::SeqCst) == 0;
-        match recorder.record(driver, rt, alloc, seat, &mut counter) {
-            Ok(()) => {}
-            Err(RecordError::Handler(_)) => return Err(LongError::Number),
-            Err(RecordError::Missing(_)) => return Err(LongError::Missing),
-        }
-        hall.taken.store(counter.entries, Ordering::SeqCst);
-        if is_over {
-            return Ok(());
-        }
-        driver.sleep_for(rt, counter.entries, Duration::from_millis(PAUSE));
-    }
-    unreachable!()
-}
-
-fn attend<C: Core, R: Wait>(
-    driver: &SharedDriver<C>,
-    rt: &R,
-    alloc: Global,
-    seat: Seat<C>,
-    role: Role,
-    hall: &Hall,
-) -> Played<C>
-    requires own { seat.driver ≡ driver.now.id }
-    ensures own { result.seat.driver ≡ seat.driver }
-{
-    let mut me = Handle::new(driver, rt, alloc, seat);
-    let done = match role {
-        Role::Client(rounds) => {
-            let asked = ask(&mut me, alloc, rounds, hall);
-            hall.clients.fetch_sub(1, Ordering::SeqCst);
-            asked
-        }
-        _ => {
-            me.serve(&mut establisher(alloc), &mut OpenGate);
-            Ok(())
-        }
-    };
-    Played {
-        seat: me.into_seat(),
-        done,
-    }
-}
-
-// What a thread does.
-fn play<C: Core, R: Wait>(
-    driver: &SharedDriver<C>,
-    rt: &R,
-    alloc: Global,
-    part: Part<C>,
-    hall: &Hall,
-) -> Played<C>
-    requires own { part.seat.driver ≡ driver.now.id }
-    ensures own { result.seat.driver ≡ part.seat.driver }
-{
-    let Part { mut seat, role } = part;
-    if !matches!(role, Role::Taker) {
-        return attend(driver, rt, alloc, seat, role, hall);
-    }
-    let done = take_all(driver, rt, alloc, &mut seat, hall);
-    stop(&Access { driver, rt, alloc }, &mut seat);
-    Played { seat, done }
-}
-
-// The seats with their roles: two are the worker and the one who takes entries, the others clients.
+// The seats with their roles: one is the worker, one takes entries, the others are clients.
 fn parts<C: Core>(
     driver: &SharedDriver<C>,
     alloc: Global,
     seats: Vec<Seat<C>>,
     rounds: u32,
-) -> Result<Vec<Part<C>>, LongError>
+) -> Result<Vec<SeatedRole<C>>, LongError>
     requires own { All (λ s. s.driver ≡ driver.now.id) seats.items }
     ensures own { IfOk result (λ parts. All (λ p. p.seat.driver ≡ driver.now.id) parts.items) }
 {
     let mut parts = Vec::new(alloc);
+    let mut all_added = Ok(());
     let mut number = 0u32;
     for seat in seats {
-        let role = match number {
-            0 => Role::Worker,
-            1 => Role::Taker,
-            _ => Role::Client(rounds),
-        };
-        parts.push(Part { seat, role })?;
+        let added = add_part(driver, &mut parts, seat, role(number, rounds));
+        all_added = all_added.and(added);
         number = number.wrapping_add(1);
     }
-    Ok(parts)
+    match all_added {
+        Ok(()) => Ok(parts),
+        Err(why) => {
+            drop(parts);
+            Err(why)
+        }
+    }
+}
+
+// The seats that came back, with one more.
+fn with_seat<C: Core>(
+    driver: &SharedDriver<C>,
+    seats: Result<Vec<Seat<C>>, LongError>,
+    seat: Seat<C>,
+) -> Result<Vec<Seat<C>>, LongError>
+    requires own { IfOk seats (λ seats. All (λ s. s.driver ≡ driver.now.id) seats.items) }
+    requires seat { seat.driver ≡ driver.now.id }
+    ensures own { IfOk result (λ seats. All (λ s. s.driver ≡ driver.now.id) seats.items) }
+{
+    match seats {
+        Ok(mut seats) => {
+            seats.push(seat)?;
+            Ok(seats)
+        }
+        Err(why) => {
+            drop(seat);
+            Err(why)
+        }
+    }
 }
 
 // The seats come back, where each part was done.
@@ -238,11 +110,18 @@ fn seats_of<C: Core>(
     ensures own { IfOk result (λ seats. All (λ s. s.driver ≡ driver.now.id) seats.items) }
 {
     let mut seats = Vec::new(alloc);
+    let mut all_done = Ok(());
     for Played { seat, done } in played {
-        done?;
+        all_done = all_done.and(done);
         seats.push(seat)?;
     }
-    Ok(seats)
+    match all_done {
+        Ok(()) => Ok(seats),
+        Err(why) => {
+            drop(seats);
+            Err(why)
+        }
+    }
 }
 
 // Each part in a thread of its own; the seats come back.
@@ -250,7 +129,7 @@ fn play_all<C: Core, R: Threads + Wait + Sync>(
     driver: &SharedDriver<C>,
     rt: &R,
     alloc: Global,
-    parts: Vec<Part<C>>,
+    parts: Vec<SeatedRole<C>>,
     hall: &Hall,
 ) -> Result<Vec<Seat<C>>, LongError>
     requires own { All (λ p. p.seat.driver ≡ driver.now.id) parts.items }
@@ -259,7 +138,7 @@ fn play_all<C: Core, R: Threads + Wait + Sync>(
     let played = map_vec(
         rt,
         parts,
-        &move |part: Part<C>| -> Played<C>
+        &move |part: SeatedRole<C>| -> Played<C>
             requires { part.seat.driver ≡ driver.now.id }
             ensures { result.seat.driver ≡ driver.entry.now.id }
         { play(driver, rt, alloc, part, hall) },
@@ -267,21 +146,110 @@ fn play_all<C: Core, R: Threads + Wait + Sync>(
     seats_of(driver, alloc, played)
 }
 
-// Each server greets.
-fn greet<C: Core, R: Wait>(
+// Each seat plays its role in a thread of its own; the seats come back.
+fn play_roles<C: Core, R: Threads + Wait + Sync>(
     driver: &SharedDriver<C>,
     rt: &R,
     alloc: Global,
-    seat: &mut Seat<C>,
-) -> Result<(), LongError>
-    requires own { seat.old.driver ≡ driver.now.id }
-    ensures own { seat.new.driver ≡ seat.old.driver }
+    seats: Vec<Seat<C>>,
+    rounds: u32,
+    hall: &Hall,
+) -> Result<Vec<Seat<C>>, LongError>
+    requires own { All (λ s. s.driver ≡ driver.now.id) seats.items }
+    ensures own { IfOk result (λ seats. All (λ s. s.driver ≡ driver.now.id) seats.items) }
+{
+    let parts = parts(driver, alloc, seats, rounds)?;
+    play_all(driver, rt, alloc, parts, hall)
+}
+
+// Each server greets.
+fn greet<C: Core, R: Wait>(me: &mut Handle<'_, C, R>, alloc: Global) -> Result<(), LongError>
+    ensures own { me.new.seat.driver ≡ me.old.seat.driver }
 {
     for server in 0..SERVERS {
         let act = hello(alloc, server, server)?;
-        drop(driver.step(rt, alloc, seat, Step { moment: 0, act })?);
+        drop(me.step(Step { moment: 0, act })?);
     }
     Ok(())
+}
+
+// The pools become ready by the last seat, and each other seat plays its role; all seats come back.
+fn use_seats<C: Core, R: Threads + Wait + Sync>(
+    driver: &SharedDriver<C>,
+    rt: &R,
+    alloc: Global,
+    mut seats: Vec<Seat<C>>,
+    rounds: u32,
+    hall: &Hall,
+) -> Result<Vec<Seat<C>>, LongError>
+    requires own { All (λ s. s.driver ≡ driver.now.id) seats.items }
+    ensures own { IfOk result (λ seats. All (λ s. s.driver ≡ driver.now.id) seats.items) }
+{
+    let Some(last) = seats.pop() else {
+        drop(seats);
+        return Err(LongError::Seat);
+    };
+    let mut me = Handle::new(driver, rt, alloc, last);
+    match greet(&mut me, alloc) {
+        Ok(()) => {
+            let played = play_roles(driver, rt, alloc, seats, rounds, hall);
+            with_seat(driver, played, me.into_seat())
+        }
+        Err(why) => {
+            drop(seats);
+            drop(me);
+            Err(why)
+        }
+    }
+}
+
+fn told(journal: Journal, hall: &Hall) -> Shared {
+    let gone = journal.gone();
+    drop(journal);
+    Shared {
+        returned: hall.returned(),
+        taken_all: gone == hall.taken(),
+    }
+}
+
+// What the threads of a driver have come to whose seats have come back.
+fn closed<C: Core>(
+    driver: SharedDriver<C>,
+    seats: Vec<Seat<C>>,
+    hall: &Hall,
+) -> Result<Shared, LongError>
+    requires own { All (λ s. s.driver ≡ driver.id) seats.items }
+{
+    match driver.close(seats) {
+        Ok((core, journal)) => {
+            drop(core);
+            Ok(told(journal, hall))
+        }
+        Err(unclosed) => {
+            drop(unclosed);
+            Err(LongError::Seat)
+        }
+    }
+}
+
+// Each role is played, and the driver is closed.
+fn play_parts<C: Core, R: Threads + Wait + Sync>(
+    driver: SharedDriver<C>,
+    rt: &R,
+    alloc: Global,
+    seats: Vec<Seat<C>>,
+    rounds: u32,
+    hall: &Hall,
+) -> Result<Shared, LongError>
+    requires own { All (λ s. s.driver ≡ driver.id) seats.items }
+{
+    match use_seats(&driver, rt, alloc, seats, rounds, hall) {
+        Ok(seats) => closed(driver, seats, hall),
+        Err(why) => {
+            drop(driver);
+            Err(why)
+        }
+    }
 }
 
 /// So many threads do so many rounds each at a driver of this core, while another takes the entries.
@@ -296,24 +264,9 @@ pub fn share<C: Core, R: Threads + Wait + Sync>(
     requires stands { C.stands core log }
     requires threads { threads ≤ 32 }
 {
-    let (driver, mut seats) = SharedDriver::new(alloc, core, log, threads + 3)?;
-    let Some(mut seat) = seats.pop() else {
-        return Err(LongError::Seat);
-    };
-    greet(&driver, rt, alloc, &mut seat)?;
-    let hall = Hall {
-        clients: AtomicU64::new(threads as u64),
-        returned: AtomicU64::new(0),
-        taken: AtomicU64::new(0),
-    };
-    let parts = parts(&driver, alloc, seats, rounds)?;
-    let mut seats = play_all(&driver, rt, alloc, parts, &hall)?;
-    seats.push(seat)?;
-    match driver.close(seats) {
-        Ok((_, journal)) => Ok(Shared {
-            returned: hall.returned.load(Ordering::SeqCst),
-            taken_all: journal.gone() == hall.taken.load(Ordering::SeqCst),
-        }),
-        Err(_) => Err(LongError::Seat),
-    }
+    let (driver, seats) = SharedDriver::new(alloc, core, log, threads + 3)?;
+    let hall = Hall::new(threads as u64);
+    let shared = play_parts(driver, rt, alloc, seats, rounds, &hall);
+    drop(hall);
+    shared
 }

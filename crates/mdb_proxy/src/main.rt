@@ -11,5 +11,5 @@ fn main(rt: HostRuntime) -> ExitCode {
     let mut sink = Writing::new(rt.stdout());
     let mut errors = Writing::new(rt.stderr());
     let answer = run_proxy(rt.alloc(), &mut source, &mut sink);
-    ExitCode::from(end_run(&answer, &mut errors))
+    ExitCode::from(end_run(answer, &mut errors))
 }

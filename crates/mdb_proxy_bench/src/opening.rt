@@ -1,9 +1,6 @@
-//! A proxy over a driver of one load balancer, with a connection for each tenant.
+//! What a proxy over a driver of one load balancer is opened of, with a connection for each tenant.
 
-use mdb_base::{AddressError, Items, ObjectId, Options, OutOfMemory, ServerAddress};
-use mdb_log::Log;
-use mdb_proxies::{Proxy, ShareError};
-use mdb_topology::TopologyCore;
+use mdb_base::{AddressError, Items, ObjectId, Options, ServerAddress};
 use std::alloc::Global;
 
 /// Why no proxy was opened.
@@ -14,8 +11,15 @@ pub enum Unopened {
     Wrong,
 }
 
-/// The address of the load balancer.
-pub fn address(alloc: Global) -> Result<ServerAddress, Unopened> {
+/// The address of the load balancer, the options of the driver, and the shares of the tenants.
+#[derive(Drop)]
+pub struct Opening {
+    pub address: ServerAddress,
+    pub options: Options,
+    pub shares: Vec<u32>,
+}
+
+fn address(alloc: Global) -> Result<ServerAddress, Unopened> {
     match ServerAddress::parse(alloc, "a:1") {
         Ok(address) => Ok(address),
         Err(AddressError::BadAddress) => Err(Unopened::Wrong),
@@ -66,23 +70,16 @@ fn shares(alloc: Global, tenants: u32) -> Result<Vec<u32>, Unopened> {
     Ok(shares)
 }
 
-/// The proxy, with as many connections as tenants.
-pub fn open(alloc: Global, tenants: u32) -> Result<Proxy<TopologyCore>, Unopened> {
-    let shares = shares(alloc, tenants)?;
-    let options = options(seeds(alloc)?, tenants);
-    let is_broken = options.check().is_some();
-    if is_broken {
-        drop(options);
-        return Err(Unopened::Wrong);
-    }
-    let mut log = Log::new(alloc);
-    let core = match TopologyCore::open_seeds(alloc, &mut log, 0, options) {
-        Ok(core) => core,
-        Err(OutOfMemory) => return Err(Unopened::OutOfMemory),
-    };
-    match Proxy::new(alloc, core, log, shares, tenants) {
-        Ok(proxy) => Ok(proxy),
-        Err(ShareError::Shares) => Err(Unopened::Wrong),
-        Err(ShareError::OutOfMemory) => Err(Unopened::OutOfMemory),
+impl Opening {
+    /// What is needed for so many tenants.
+    pub fn new(alloc: Global, tenants: u32) -> Result<Opening, Unopened> {
+        let shares = shares(alloc, tenants)?;
+        let address = address(alloc)?;
+        let seeds = seeds(alloc)?;
+        Ok(Opening {
+            address,
+            options: options(seeds, tenants),
+            shares,
+        })
     }
 }

@@ -4,12 +4,10 @@
 ghost use Rattle.std.specs.Prelude.{◌≤◌};
 ghost use Rattle.mdb_proxy_bench.specs.Plans.{IsWithin};
 
-use crate::opening::{Unopened, address, open};
 use crate::plan::Plan;
 use mdb_base::{ObjectId, OutOfMemory, ServerAddress};
-use mdb_log::{Act, Established, Use};
+use mdb_log::{Act, Core, Established, Use};
 use mdb_proxies::{Proxy, ProxyAct, ProxyReply, ProxyStep};
-use mdb_topology::TopologyCore;
 use std::alloc::Global;
 use std::fmt;
 
@@ -39,16 +37,16 @@ impl fmt::Display for Outcome {
     }
 }
 
-/// A proxy whose tenants each hold a connection.
+/// A proxy over any core, and how many asks were held back so far.
 #[derive(Drop)]
-pub struct Bench {
+pub struct Bench<C: Core> {
     alloc: Global,
-    proxy: Proxy<TopologyCore>,
+    proxy: Proxy<C>,
     address: ServerAddress,
     held: u32,
 }
 
-impl Bench {
+impl<C: Core> Bench<C> {
     // The functions that make an act do not drop it, since a drop there looks at every kind of act. True where the request is held back.
     fn step(&mut self, act: ProxyAct) -> Result<bool, OutOfMemory> {
         let step = ProxyStep { moment: 0, act };
@@ -97,29 +95,18 @@ impl Bench {
         Ok(())
     }
 
-    /// A proxy that is ready for the rounds of the plan.
-    pub fn open(alloc: Global, plan: Plan) -> Result<Bench, Unopened>
-        requires { IsWithin plan }
-    {
-        let address = address(alloc)?;
-        let proxy = open(alloc, plan.tenants)?;
-        let mut bench = Bench {
+    /// A proxy at the address, whose tenants have no connection yet.
+    pub fn new(alloc: Global, proxy: Proxy<C>, address: ServerAddress) -> Bench<C> {
+        Bench {
             alloc,
             proxy,
             address,
             held: 0,
-        };
-        match bench.fill(plan.tenants) {
-            Ok(()) => Ok(bench),
-            Err(OutOfMemory) => {
-                drop(bench);
-                Err(Unopened::OutOfMemory)
-            }
         }
     }
 
-    /// Does the rounds of the plan. In round n the tenant whose turn it is holds what request n got.
-    pub fn run(&mut self, plan: Plan) -> Stepped
+    // Does the rounds of the plan. In round n the tenant whose turn it is holds what request n got.
+    fn do_rounds(&mut self, plan: Plan) -> Stepped
         requires { IsWithin plan }
     {
         for n in 0..plan.rounds {
@@ -129,6 +116,14 @@ impl Bench {
             self.collect(new)?;
         }
         Ok(())
+    }
+
+    /// Each tenant gets its connection, and then the rounds of the plan are done.
+    pub fn run(&mut self, plan: Plan) -> Stepped
+        requires { IsWithin plan }
+    {
+        self.fill(plan.tenants)?;
+        self.do_rounds(plan)
     }
 
     /// What the log and the proxy have.

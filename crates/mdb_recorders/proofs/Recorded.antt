@@ -4,6 +4,7 @@ use Rattle.std.proofs.lemmas.List.{append-nil}
 use Rattle.std.proofs.Math.Seq.{drop-append_seam}
 use Rattle.mdb_log.specs.declared.log.Entry.{Entry}
 use Rattle.mdb_log.specs.Driver.{StartsWith}
+use Rattle.mdb_turns.specs.Stepping.{SeatView, OnlySaw}
 use Rattle.mdb_recorders.specs.Recording.{Recording, Follows}
 
 abbrev pub after : Recording → List Entry → Recording
@@ -36,7 +37,43 @@ module _ (r : Recording) (seen : List Entry) (f : Follows r seen) (none : r.held
 
 -- what was kept and what lies behind it are all that was to be handed on
 pub whole : (r : Recording) (seen : List Entry) → Follows r seen → r.held ++ drop (r.done + length r.held) seen ≡ drop r.done seen
+unfolding handed-on
 whole r seen f =
     let split : seen ≡ f.0 ++ (r.held ++ f.2.0) = f.2.1 ∙ append_assoc f.0 r.held f.2.0 in
     let all : drop r.done seen ≡ r.held ++ f.2.0 = ap (drop r.done) split ∙ (ap (λ n. drop n (f.0 ++ (r.held ++ f.2.0))) (sym f.1) ∙ drop-append_seam f.0 (r.held ++ f.2.0)) in
     ap (λ es. r.held ++ es) (rest (handed r) seen (handed-on r seen f) refl) ∙ sym all
+
+-- the seat saw no more
+pub saw-nothing : (s : SeatView) → OnlySaw s s
+saw-nothing s = (([], sym (append-nil s.seen)), refl)
+
+-- ---- what was kept is handed on, and then what was taken; the log has more entries meanwhile
+
+module _ (r one : Recording) (seen seen' : List Entry) (f : Follows r seen) (more : StartsWith seen' seen) (first : one ≡ handed r) where
+  -- what was kept was handed on
+  pub between : Follows one seen'
+  between = subst (λ (x : Recording). Follows x seen') (sym first) (handed-on r seen' (grown r seen seen' f more))
+
+  nothing-held : one.held ≡ []
+  nothing-held = ap (λ (x : Recording). x.held) first
+
+  -- the entries that were taken come next
+  pub next : (from : ℕ) (entries : List Entry) → from ≡ one.done → entries ≡ drop from seen' → entries ≡ drop one.done seen'
+  next from entries at is = is ∙ ap (λ (n : ℕ). drop n seen') at
+
+  pub kept-on : (entries : List Entry) → entries ≡ drop one.done seen' → Follows (after one entries) seen'
+  kept-on entries is = subst (λ (es : List Entry). Follows (after one es) seen') (sym is) (taken one seen' between nothing-held)
+
+  pub counted : (entries : List Entry) → entries ≡ drop one.done seen' → one.done + length entries ≡ length seen'
+  counted entries is = ap (λ (es : List Entry). one.done + length es) is ∙ count one seen' between nothing-held
+
+  pub all-handed : (entries : List Entry) → entries ≡ drop one.done seen' → r.held ++ entries ≡ drop r.done seen'
+  all-handed entries is = ap (λ (es : List Entry). r.held ++ es) (is ∙ ap (λ (x : Recording). drop x.done seen') first) ∙ whole r seen' (grown r seen seen' f more)
+
+  -- all was handed on
+  pub over : (entries : List Entry) (two : Recording) → entries ≡ drop one.done seen' → two ≡ handed (after one entries) → Follows two seen' × (two ≡ record { done = length seen'; held = [] })
+  over entries two is last =
+      let at : ℕ → Recording = λ n. record { done = n; held = [] } in (
+        subst (λ (x : Recording). Follows x seen') (sym last) (handed-on (after one entries) seen' (kept-on entries is)),
+        last ∙ ap at (counted entries is),
+      )

@@ -1,1 +1,3 @@
 pub mod Recording
+pub mod Writing
+pub mod Written

@@ -8,26 +8,26 @@ use std::alloc::Global;
 /// Tells the events of pools to one handler and those of servers and topologies to another, in the order in which they stand in the entries. No clause says
 /// what a handler's function does.
 #[derive(Drop)]
-pub struct Delivery<'a> {
-    pub pools: &'a dyn CmapEventHandler,
-    pub servers: &'a dyn SdamEventHandler,
+pub struct Delivery {
+    pub pools: Box<dyn CmapEventHandler + Drop>,
+    pub servers: Box<dyn SdamEventHandler + Drop>,
 }
 
 /// Nothing goes wrong.
-#[derive(Clone, Copy, Debug, PartialEq, Eq)]
+#[derive(Clone, Copy)]
 pub enum Never {}
 
-impl<'a> Delivery<'a> {
+impl Delivery {
     fn tell(&self, fact: &Fact) {
         match fact {
-            Fact::Pool(_, event) => deliver_cmap(self.pools, event),
-            Fact::Sdam(event) => deliver_sdam(self.servers, event.get()),
+            Fact::Pool(_, event) => deliver_cmap(&*self.pools, event),
+            Fact::Sdam(event) => deliver_sdam(&*self.servers, event.get()),
             _ => {}
         }
     }
 }
 
-impl<'a> EntryHandler for Delivery<'a> {
+impl EntryHandler for Delivery {
     ghost use Rattle.std.specs.Prelude.{⊤};
 
     type Error = Never;

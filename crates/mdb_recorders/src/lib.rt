@@ -3,8 +3,10 @@
 
 mod delivery;
 mod handling;
+mod log_writer;
 mod recorder;
 
 pub use delivery::{Delivery, Never};
 pub use handling::EntryHandler;
+pub use log_writer::{LogWriter, WriteError};
 pub use recorder::{RecordError, Recorder};

@@ -8,5 +8,4 @@ pub mod Opened
 pub mod Endings
 pub mod Complete
 pub mod Programs
-pub mod Texts
 pub mod DriverCrossing

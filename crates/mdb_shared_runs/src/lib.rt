@@ -8,7 +8,6 @@ mod player;
 mod players;
 mod program;
 mod shared;
-mod text;
 
 pub use gate::LineGate;
 pub use program::run_program;

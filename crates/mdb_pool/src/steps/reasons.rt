@@ -10,10 +10,18 @@ use mdb_base::{Moment, ObjectId};
 use mdb_events::ConnectionClosedReason;
 
 impl Body {
-    ghost use Rattle.mdb_pool.specs.Kept.{connection_at, stale_for, idle_since, perished_now, reason_now, timeouts_in, first_perished};
+    ghost use Rattle.mdb_pool.specs.Kept.{cleared_since, connection_at, stale_for, idle_since, perished_now, reason_now, timeouts_in, first_perished};
+
+    // The service, or the pool as a whole where there is none, was cleared since the connection, which lives, was created.
+    #[tactic(auto, using(crate::proofs::Follows::Stale::since_is))]
+    fn cleared_since(&self, id: u32, service: Option<ObjectId>) -> bool
+        requires { is_some (connection_at (now_of self.now) id) ≡ true }
+        ensures { result ≡ cleared_since id service self.now.connections.clears }
+    {
+        self.connections.generation_before(id, service) != self.connections.generation(service)
+    }
 
     // A connection of the service, which lives, would be stale.
-    #[tactic(auto, using(crate::proofs::Follows::Stale::since_is))]
     pub(crate) fn stale_for(&self, id: u32, service: Option<ObjectId>) -> bool
         requires { is_some (connection_at (now_of self.now) id) ≡ true }
         ensures { result ≡ stale_for (now_of self.now) id service }
@@ -26,7 +34,7 @@ impl Body {
         if self.options.load_balanced && named.is_none() {
             return false;
         }
-        self.connections.generation_before(id, named) != self.connections.generation(named)
+        self.cleared_since(id, named)
     }
 
     // It would have been available for too long.

@@ -21,6 +21,7 @@ use Rattle.mdb_topology.specs.Description.{description_of, published}
 use Rattle.mdb_topology.specs.Jobs.{job_at, job_after}
 use Rattle.mdb_topology.specs.Lines.{options_of, entry_after, described, publications}
 use Rattle.mdb_topology.specs.Logging.{IsDriverOf}
+use Rattle.mdb_topology.specs.Standing.{StandsFor}
 use Rattle.mdb_topology.specs.Stepping.{Logs, IsLogged}
 use Rattle.mdb_topology.proofs.WholeSteps.AnswersAsCore.{kind, timely, job-there}
 use Rattle.mdb_topology.proofs.OnePool.JobsAreThere.{options-are}
@@ -57,6 +58,12 @@ pub nothing-came : (before after whole more : List Entry) → after ≡ before �
 nothing-came before after whole more same grown =
     sym (append-nil whole) ∙ ap (λ es. whole ++ es) (append_cancel_left before [] more (append-nil before ∙ (sym same ∙ grown)))
 
+-- a step adds its entry
+pub core-entry : (w v : TopologyCore) (before after : List Entry) (h : List Item) (seat : ℕ) (step : Step) → StandsFor w h → IsLogged w v before after seat step
+    → (reply : Reply) → reply ≡ (answer w.options h step).reply → (e : Entry) × IsEntry seat step reply e × (after ≡ before ++ e ∷ [])
+core-entry w v before after h seat step z logs reply told =
+    (record { seat = seat; step = step; reply = (answer w.options h step).reply; facts = (answer w.options h step).facts }, (refl, refl, sym told), (logs h z).entry)
+
 module _ (w v : TopologyCore) (log later : List Entry) (seat : ℕ) (step : Step) (z : IsDriverOf w log) (same : v.options ≡ w.options) (logs : IsLogged w v log later seat step) (d : IsDriverAct step.act) where
   abbrev h : List Item
   h = history_of log
@@ -74,9 +81,6 @@ module _ (w v : TopologyCore) (log later : List Entry) (seat : ℕ) (step : Step
   still-driver = (adds w v log later seat step z same logged d).1
 
   module _ (reply : Reply) (told : reply ≡ its_reply) where
-    pub core-entry : (e : Entry) × IsEntry seat step reply e × (later ≡ log ++ e ∷ [])
-    core-entry = (made, (refl, refl, sym told), logged.entry)
-
     pub core-kind : is_reply_to step.act reply ≡ true
     core-kind = ap (is_reply_to step.act) told ∙ kind w h z.stands step.moment v step.act d logged.stands
 

@@ -1,7 +1,8 @@
-use Rattle.std.proofs.Common.{rules, ◌≡◌, Bool, true, false, not, refl, Some, map, sym, ◌∙◌, ap, subst}
+use Rattle.std.proofs.Common.{◌≡◌, Bool, true, false, not, refl, Some, map, sym, ◌∙◌, ap, subst}
 use Rattle.mdb_log.specs.declared.generation.PoolGeneration.TheVariants.{Normal, LoadBalanced}
 use Rattle.mdb_log.specs.declared.options.PoolOptions.{PoolOptions}
 use Rattle.mdb_pool.specs.Core.{PoolCore}
+use Rattle.mdb_pool.specs.declared.pool_core.PoolCore.TheInside.{Inside}
 use Rattle.mdb_pool.specs.Jobs.{count_at}
 use Rattle.mdb_pool.proofs.Told.ServicesOfClears.{AreNamed}
 use Rattle.mdb_pool.proofs.Told.JobGenerations.{normal-generation, balanced-generation}
@@ -22,4 +23,4 @@ pub returns : goal.returns
 returns c = λ xs z waits.
     ap LoadBalanced (c.new.ensures ∙ (c.in_ok-counted.ensures ∙ ap (map (λ t. (t, count_at c.args.self.now c.args.id (Some t)))) c.as_slice.ensures.value))
     ∙ balanced-generation c.args.self.now xs z c.args.id waits (sym (ap (λ (o : PoolOptions). o.load_balanced) c.options.ensures ∙ ap (λ (v : PoolCore). v.options.load_balanced) c.self.view_is) ∙ not-false c.options.result.load_balanced c.if-not-options.false) c.in_ok-services.services.items c.in_ok-services.ensures.ascend
-    (subst (λ ks. AreNamed c.args.id ks c.in_ok-services.services.items) (search rules) c.in_ok-services.ensures.members)
+    (subst (λ ks. AreNamed c.args.id ks c.in_ok-services.services.items) (ap (λ (i : Inside). i.draft.clears) c.self-inside.view_is ∙ ap (λ (v : PoolCore). v.clears) c.self.view_is) c.in_ok-services.ensures.members)

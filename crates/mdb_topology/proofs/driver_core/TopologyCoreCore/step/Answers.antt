@@ -1,7 +1,7 @@
 use Rattle.std.proofs.Common.{◌++◌, subst}
 use Rattle.mdb_log.specs.History.{history_of}
 use Rattle.mdb_topology.specs.Logging.{IsDriverOf}
-use Rattle.mdb_topology.proofs.WholeSteps.CoreOfManyPools.{when-ok, in-either, moved, nothing-came, still-driver, core-kind, core-in-time, core-job}
+use Rattle.mdb_topology.proofs.WholeSteps.CoreOfManyPools.{when-ok, in-either, moved, core-entry, nothing-came, still-driver, core-kind, core-in-time, core-job}
 use Rattle.mdb_topology.proofs.DriverOpened.ScriptsLog.{still-opened}
 use Rattle.mdb_topology.proofs.driver_core.TopologyCoreCore.step.Goals as goal
 
@@ -16,6 +16,13 @@ returns-clause-stands c = λ whole more z grown.
     (λ same. in-either c.step.result _ _ (IsDriverOf v (whole ++ more)) c.step.ensures.logs c.step.ensures.err_core
     (λ logs. still-driver w v whole (whole ++ more) c.args.seat c.args.step.now z c.step.ensures.options (moved w v before after whole more c.args.seat c.args.step.now grown logs) c.requires.act)
     (λ kept. subst (IsDriverOf v) (nothing-came before after whole more same grown) (still-opened w v whole z kept)))
+
+pub returns-clause-entry : goal.returns-clause-entry
+returns-clause-entry c =
+    let whole = c.requires.stands.0 in
+    let z = c.requires.stands.1 in
+    when-ok c.step.result _ _ _ c.step.ensures.logs c.step.ensures.reply
+    (λ logs reply told. core-entry c.args.self.now c.step.new.self c.args.log.now c.step.new.log (history_of whole) c.args.seat c.args.step.now z.stands logs reply (told (history_of whole) z.stands))
 
 pub returns-clause-kind : goal.returns-clause-kind
 returns-clause-kind c =

@@ -16,5 +16,5 @@ returns-in-Some-holder_request-clause-accepts c =
     let up : is_pending c.in-Some.connection.place ≡ true = ap is_pending_at (c.in-Some.ensures ∙ c.connection.ensures) ∙ c.requires in
     λ xs z. fail-of c.args.self.now c.fail.new.self c.serve.new.self c.args.facts.now.items c.fail.new.facts.items c.serve.new.facts.items c.args.moment c.args.id c.in-Some.connection c.in_ok-request.request c.args.at c.args.cause.now xs z (sym c.connection.ensures ∙ sym c.in-Some.ensures) (is-pending c.in-Some.connection.place up) (holder-is c.args.self.now c.in-Some.connection c.in_ok-request.request (sym c.in-Some-holder_request.ensures ∙ ap Some (sym c.in_ok-request.ensures))) c.in_ok-fail.ensures.core c.in_ok-fail.ensures.facts c.in_ok-serve.ensures.home c.in_ok-serve.ensures.notes c.in_ok-serve.ensures.serves
 
-pub fail-requires-clause-there : goal.fail-requires-clause-there
-fail-requires-clause-there c = holder-there c.args.self.now c.in-Some.connection c.in_ok-request.request (sym c.in-Some-holder_request.ensures ∙ ap Some (sym c.in_ok-request.ensures))
+pub fail-requires : goal.fail-requires
+fail-requires c = record { there = holder-there c.args.self.now c.in-Some.connection c.in_ok-request.request (sym c.in-Some-holder_request.ensures ∙ ap Some (sym c.in_ok-request.ensures)) }

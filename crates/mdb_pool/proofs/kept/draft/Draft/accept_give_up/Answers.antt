@@ -1,12 +1,12 @@
-use Rattle.std.proofs.Common.{◌≡◌, List, ◌∷◌, Some, sym, ◌∙◌, ap, subst, true, false}
+use Rattle.std.proofs.Common.{◌≡◌, List, ◌∷◌, Some, None, sym, ◌∙◌, ap, subst, true, false, true≢false}
 use Rattle.mdb_pool.proofs.Listed.FirstOrLast.{pending-at}
 use Rattle.mdb_pool.specs.declared.kept.request.Request.{Request}
 use Rattle.mdb_log.specs.declared.step.Act.TheVariants.{GiveUp}
 use Rattle.mdb_log.specs.Connections.{has}
 use Rattle.mdb_log.specs.History.{PoolItem, gave_up}
-use Rattle.mdb_pool.specs.Kept.{held_connection, request_at, is_ended_at, is_asked_at}
+use Rattle.mdb_pool.specs.Kept.{held_connection, kept_request, request_at, is_ended_at, is_asked_at}
 use Rattle.mdb_pool.specs.Standing.{Fits, Accepts}
-use Rattle.mdb_pool.proofs.KeptInLittle.AskedOfThoseThatStay.{kept-is, kept-there, kept-came, open-asked, open_unsettled}
+use Rattle.mdb_pool.proofs.KeptInLittle.AskedOfThoseThatStay.{kept-is, kept-there, kept-came, open-asked, open_unsettled, unsettled_kept}
 use Rattle.mdb_pool.proofs.Listed.Values.{entry_at-key}
 use Rattle.mdb_pool.proofs.Answered.GiveUp.{leave-of, quit-of}
 use Rattle.mdb_pool.proofs.kept.draft.Draft.accept_give_up.Goals as goal
@@ -57,3 +57,11 @@ quit-requires-clause-came c = kept-came c.args.self.now c.args.request c.in_ok-a
 
 pub give_up_held-requires-clause-unsettled : goal.give_up_held-requires-clause-unsettled
 give_up_held-requires-clause-unsettled c = subst (λ d. has d c.args.self.now.settled ≡ false) (sym (entry_at-key (λ (k : Request). k.number) c.args.request c.in_ok-asker.asker c.args.self.now.requests (kept-is c.args.self.now c.args.request c.in_ok-asker.asker (sym c.in-Some.ensures ∙ ap Some (sym c.in_ok-asker.ensures))))) (open_unsettled c.args.self.now c.args.request c.requires)
+
+-- it is open: it is there
+pub unreachable-requires : goal.unreachable-requires
+unreachable-requires c =
+    let s = c.args.self.now in
+    let none : kept_request s c.args.request ≡ None = sym c.in_default.ensures in
+    let gone : request_at s c.args.request ≡ None = sym (unsettled_kept s.settled s.requests c.args.request (open_unsettled s c.args.request c.requires)) ∙ none in
+    true≢false (sym (open-asked s c.args.request c.requires) ∙ ap is_asked_at gone)

@@ -27,5 +27,5 @@ loop-request-preserved c = record {
 pub returns-clause-expires : goal.returns-clause-expires
 returns-clause-expires c = λ h z. expire-done c.args.self.now c.loop-request.self c.loop-request.invariant.home c.args.moment c.args.facts.now.items c.loop-request.facts.items h (c.loop-request.invariant.expires h z) (sym c.in_default.ensures)
 
-pub end_overdue-requires-clause-there : goal.end_overdue-requires-clause-there
-end_overdue-requires-clause-there c = overdue-there c.loop-request.self c.asked-requests.ensures.apart c.args.moment c.in_ok-request.request (sym c.in-Some.ensures ∙ ap Some (sym c.in_ok-request.ensures))
+pub end_overdue-requires : goal.end_overdue-requires
+end_overdue-requires c = record { there = overdue-there c.loop-request.self c.asked-requests.ensures.apart c.args.moment c.in_ok-request.request (sym c.in-Some.ensures ∙ ap Some (sym c.in_ok-request.ensures)) }

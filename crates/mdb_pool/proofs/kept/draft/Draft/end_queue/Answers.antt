@@ -28,5 +28,5 @@ loop-request-preserved c = record {
 pub returns-clause-ends : goal.returns-clause-ends
 returns-clause-ends c = λ h z. ends-done c.args.self.now c.loop-request.self c.args.moment (Cleared c.args.cause.now) c.args.facts.now.items c.loop-request.facts.items h (c.loop-request.invariant.ends h z) (sym c.in_default.ensures)
 
-pub end_cleared-requires-clause-there : goal.end_cleared-requires-clause-there
-end_cleared-requires-clause-there c = first-there c.loop-request.self c.asked-requests.ensures.apart c.in_ok-request.request (sym c.in-Some.ensures ∙ ap Some (sym c.in_ok-request.ensures))
+pub end_cleared-requires : goal.end_cleared-requires
+end_cleared-requires c = record { there = first-there c.loop-request.self c.asked-requests.ensures.apart c.in_ok-request.request (sym c.in-Some.ensures ∙ ap Some (sym c.in_ok-request.ensures)) }

@@ -67,8 +67,8 @@ loop-request-preserved-in-Continue-branch-2 c =
       serves = λ h z. turn-warm-to c.args.self.now c.loop-request.self c.warm_up.new.self c.loop-request.invariant.home c.args.moment c.args.facts.now.items c.loop-request.facts.items c.warm_up.new.facts.items h c.in_ok-request.request (c.loop-request.invariant.serves h z) c.loop-request.invariant.ready (sym c.in-Some.ensures ∙ ap Some (sym c.in_ok-request.ensures)) c.if-request.true c.in_ok-warm_up.ensures.core c.in_ok-warm_up.ensures.facts;
     }
 
-pub warm_up-requires-clause-there : goal.warm_up-requires-clause-there
-warm_up-requires-clause-there c = candidate-there c.loop-request.self c.asked-requests.ensures.apart c.in_ok-request.request (sym c.in-Some.ensures ∙ ap Some (sym c.in_ok-request.ensures))
+pub warm_up-requires : goal.warm_up-requires
+warm_up-requires c = record { there = candidate-there c.loop-request.self c.asked-requests.ensures.apart c.in_ok-request.request (sym c.in-Some.ensures ∙ ap Some (sym c.in_ok-request.ensures)) }
 
 pub meet-requires-clause-there : goal.meet-requires-clause-there
 meet-requires-clause-there c = candidate-there c.loop-request.self c.asked-requests.ensures.apart c.in_ok-request.request (sym c.in-Some.ensures ∙ ap Some (sym c.in_ok-request.ensures))

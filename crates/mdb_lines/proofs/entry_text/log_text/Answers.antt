@@ -1,5 +1,5 @@
-use Rattle.mdb_shared_runs.proofs.Texts.{text_more, spelled_at}
-use Rattle.mdb_shared_runs.proofs.text.log_text.Goals as goal
+use Rattle.mdb_lines.proofs.LogTexts.{text_more, spelled_at}
+use Rattle.mdb_lines.proofs.entry_text.log_text.Goals as goal
 
 pub write_entry-requires : goal.write_entry-requires
 write_entry-requires c = spelled_at c.args.entries.now c.loop-entry.entry-index c.entry-item.result c.loop-entry-test.true c.entry-item.is c.requires

@@ -1,0 +1,52 @@
+//! What the threads of one driver share beside it.
+
+use std::sync::atomic::{AtomicU64, Ordering};
+
+/// The clients that have not left yet, the connections that were checked out and in, and the entries that were taken.
+#[derive(Drop)]
+pub struct Hall {
+    clients: AtomicU64,
+    returned: AtomicU64,
+    taken: AtomicU64,
+}
+
+impl Hall {
+    /// A hall for so many clients.
+    pub fn new(clients: u64) -> Hall {
+        Hall {
+            clients: AtomicU64::new(clients),
+            returned: AtomicU64::new(0),
+            taken: AtomicU64::new(0),
+        }
+    }
+
+    /// A client has left.
+    pub fn leave(&self) {
+        self.clients.fetch_sub(1, Ordering::SeqCst);
+    }
+
+    /// All clients have left.
+    pub fn is_empty(&self) -> bool {
+        self.clients.load(Ordering::SeqCst) == 0
+    }
+
+    /// A connection was checked out and in.
+    pub fn note_returned(&self) {
+        self.returned.fetch_add(1, Ordering::SeqCst);
+    }
+
+    /// How many connections were checked out and in.
+    pub fn returned(&self) -> u64 {
+        self.returned.load(Ordering::SeqCst)
+    }
+
+    /// So many entries were taken.
+    pub fn note_taken(&self, count: u64) {
+        self.taken.store(count, Ordering::SeqCst);
+    }
+
+    /// How many entries were taken.
+    pub fn taken(&self) -> u64 {
+        self.taken.load(Ordering::SeqCst)
+    }
+}
