@@ -33,8 +33,7 @@ use Rattle.mdb_pool.proofs.KeptInLittle.AskedOfThoseThatStay.{open-asked}
 use Rattle.mdb_topology.proofs.OnePool.AcceptedAct.{Concerns}
 use Rattle.mdb_topology.proofs.OnePool.FactsLeaveOthers.{apart-items}
 use Rattle.mdb_topology.proofs.General.OneElement.{position-at}
-use Rattle.mdb_topology.proofs.OnePool.FoundAt.{fits-at, number-at, numbered-is, home-placed}
-use Rattle.mdb_topology.proofs.OnePool.RefusedByItsRows.{asked-some}
+use Rattle.mdb_topology.proofs.OnePool.FoundAt.{asked-some, fits-at, number-at, numbered-is, home-placed}
 use Rattle.mdb_topology.proofs.OnePool.TellsNoTopology.{no-heartbeat, no-rule, no-trouble}
 
 -- the one party of an act

@@ -3,7 +3,6 @@ use Rattle.std.proofs.Common.{ℕ, ◌≡◌, ◌≢◌, ◌<◌, ◌==◌, Bool
 use Rattle.std.specs.Prelude.{slice_get, position}
 use Rattle.std.specs.List.{list_any}
 use Rattle.std.proofs.lemmas.Bool.Decides.{nat_tests}
-use Rattle.std.proofs.lemmas.Option.{slice_get_within}
 use Rattle.mdb_base.specs.declared.address.ServerAddress.{ServerAddress}
 use Rattle.mdb_log.specs.declared.options.PoolOptions.{PoolOptions}
 use Rattle.mdb_log.specs.declared.step.Act.{Act}
@@ -19,14 +18,16 @@ use Rattle.mdb_log.proofs.Frame.{other-number}
 use Rattle.mdb_pool.specs.declared.kept.connection.Connection.{Connection}
 use Rattle.mdb_pool.specs.Core.{PoolCore}
 use Rattle.mdb_pool.specs.Answer.{first_job}
-use Rattle.mdb_pool.specs.Kept.{request_at, is_asked_at, held_connection, first_unclaimed}
+use Rattle.mdb_pool.specs.declared.kept.request.Request.{Request as Asker}
+use Rattle.mdb_pool.specs.Kept.{request_at, is_asked_at, is_open_now, held_connection, first_unclaimed}
+use Rattle.mdb_pool.proofs.KeptInLittle.AskedOfThoseThatStay.{open-asked}
 use Rattle.mdb_pool.specs.Standing.{Fits}
 use Rattle.mdb_pool.proofs.Answered.Act.{holds-is}
 use Rattle.mdb_pool.proofs.Follows.Fits.{asked-known}
 use Rattle.mdb_pool.proofs.Answered.Claim.{job_of, first-job}
 use Rattle.mdb_topology.specs.Homes.{concerns, home_of}
 use Rattle.mdb_topology.specs.Standing.{home, is_open_at, PoolFits, PoolsFit}
-use Rattle.mdb_topology.specs.Finding.{is_pool_act, numbered, index_of}
+use Rattle.mdb_topology.specs.Finding.{asked_by, is_pool_act, numbered, index_of}
 use Rattle.mdb_topology.proofs.General.OneElement.{find-at, find-none, position-at, position-none, position-within}
 
 -- a job is told where some pending connection was not claimed
@@ -45,6 +46,11 @@ any-job p claimed (c ∷ cs) = on (claimed c) refl (any-job p claimed cs)
 told-some : (p : ℕ) (o : Option Connection) → is_told (job_of p o) ≡ is_some o
 told-some p None = refl
 told-some p (Some x) = refl
+
+-- who asked is known
+pub asked-some : (o : Option Asker) → is_asked_at o ≡ true → is_some o ≡ true
+asked-some None e = cc
+asked-some (Some q) e = refl
 
 -- the number of a place is below the length
 pub numbered-is : (pools : List PoolCore) (q i : ℕ) → numbered pools q ≡ Some i → q ≡ i
@@ -74,8 +80,8 @@ place-within pools (Do.Request r a) i e = position-within (is_open_at a) pools i
 place-within pools (Do.Warm r a) i e = position-within (is_open_at a) pools i e
 place-within pools (Do.Maintain a) i e = position-within (is_open_at a) pools i e
 place-within pools (Do.Expire a) i e = position-within (is_open_at a) pools i e
-place-within pools (Do.Collect r) i e = position-within (λ s. is_asked_at (request_at s r)) pools i e
-place-within pools (Do.GiveUp r) i e = position-within (λ s. is_asked_at (request_at s r)) pools i e
+place-within pools (Do.Collect r) i e = position-within (λ s. is_open_now s r) pools i e
+place-within pools (Do.GiveUp r) i e = position-within (λ s. is_open_now s r) pools i e
 place-within pools Do.Claim i e = position-within (λ s. is_some (first_unclaimed s)) pools i e
 place-within pools (Do.Established q c how) i e = numbered-within pools q i e
 place-within pools (Do.Return r used) i e = position-within (λ s. is_some (held_connection s r)) pools i e
@@ -84,6 +90,17 @@ place-within pools (Do.Replicate q c) i e = numbered-within pools q i e
 place-within pools (Do.Take r q c) i e = numbered-within pools q i e
 place-within pools (Do.Unpin q c) i e = numbered-within pools q i e
 place-within pools _ i e = cc
+
+-- the act neither asks for a request nor names a pool
+abbrev pub is_searched : Act → Bool
+is_searched (Do.Request r a) = true
+is_searched (Do.Warm r a) = true
+is_searched (Do.Maintain a) = true
+is_searched (Do.Expire a) = true
+is_searched Do.Claim = true
+is_searched (Do.Return r used) = true
+is_searched (Do.Pin r) = true
+is_searched _ = false
 
 module _ (o : PoolOptions) (pools : List PoolCore) (h : List Item) (z : PoolsFit o pools h) where
   -- the pool as it knows itself
@@ -125,13 +142,24 @@ module _ (o : PoolOptions) (pools : List PoolCore) (h : List Item) (z : PoolsFit
       let k : (f s ≡ true) × ((j : ℕ) (x : PoolCore) → slice_get pools j ≡ Some x → j < i → f x ≡ false) = position-at f pools i s e at_i in
       (same i s at_i ∙ k.0, λ j x g l. same j x g ∙ k.1 j x g l)
 
+  -- a request is open in one pool, and no other was asked by it
+  by-open : (r i : ℕ) (s : PoolCore) → slice_get pools i ≡ Some s → asked_by pools r ≡ Some i → IsFirst (λ p. has_asked (of_pool p h) r) i s
+  by-open r i s at_i e = (asked-at r i s at_i ∙ asked, λ j x f l. asked-at r j x f ∙ no-other j x f l (is_asked_at (request_at x r)) refl)
+    where
+      asked : is_asked_at (request_at s r) ≡ true
+      asked = open-asked s r (position-at (λ x. is_open_now x r) pools i s e at_i).0
+
+      no-other : (j : ℕ) (x : PoolCore) → slice_get pools j ≡ Some x → j < i → (b : Bool) → is_asked_at (request_at x r) ≡ b → b ≡ false
+      no-other j x f l false g = refl
+      no-other j x f l true g = let same : j ≡ i = z.apart r j i x s f at_i (asked-some (request_at x r) g) (asked-some (request_at s r) asked) in absurd (omega arith)
+
   first-concerned : (act : Act) → is_pool_act act ≡ true → (i : ℕ) (s : PoolCore) → slice_get pools i ≡ Some s → index_of pools act ≡ Some i → IsFirst (concerns h act) i s
   first-concerned (Do.Request r a) k i s at_i e = by-address a i s at_i (z.open_are a ∙ e)
   first-concerned (Do.Warm r a) k i s at_i e = by-address a i s at_i (z.open_are a ∙ e)
   first-concerned (Do.Maintain a) k i s at_i e = by-address a i s at_i (z.open_are a ∙ e)
   first-concerned (Do.Expire a) k i s at_i e = by-address a i s at_i (z.open_are a ∙ e)
-  first-concerned (Do.Collect r) k i s at_i e = by-test (λ x. is_asked_at (request_at x r)) (concerns h (Do.Collect r)) (λ j x f. asked-at r j x f) i s at_i e
-  first-concerned (Do.GiveUp r) k i s at_i e = by-test (λ x. is_asked_at (request_at x r)) (concerns h (Do.GiveUp r)) (λ j x f. asked-at r j x f) i s at_i e
+  first-concerned (Do.Collect r) k i s at_i e = by-open r i s at_i e
+  first-concerned (Do.GiveUp r) k i s at_i e = by-open r i s at_i e
   first-concerned Do.Claim k i s at_i e = by-test (λ x. is_some (first_unclaimed x)) (concerns h Do.Claim) job-at i s at_i e
   first-concerned (Do.Established q c how) k i s at_i e = by-number q i s at_i (numbered-is pools q i e)
   first-concerned (Do.Return r used) k i s at_i e = by-test (λ x. is_some (held_connection x r)) (concerns h (Do.Return r used)) (λ j x f. holds-at r j x f) i s at_i e
@@ -145,31 +173,17 @@ module _ (o : PoolOptions) (pools : List PoolCore) (h : List Item) (z : PoolsFit
   abbrev IsNone : (ℕ → Bool) → Type 0
   IsNone test = (j : ℕ) (x : PoolCore) → slice_get pools j ≡ Some x → test x.pool ≡ false
 
-  no-number : (q : ℕ) → numbered pools q ≡ None → IsNone (λ p. q == p)
-  no-number q e j x f =
-      let past : nat_lt q (length pools) ≡ false = numbered-past pools q e in
-      let within : j < length pools = slice_get_within pools j x f in
-      let n : x.pool ≡ j = number-at j x f in
-      let ne : q ≢ x.pool = λ k. (let t : nat_lt q (length pools) ≡ true = grind (arith, nat_tests) in cc) in
-      other-number q x.pool ne
-
   no-test : (f : PoolCore → Bool) (test : ℕ → Bool) → ((j : ℕ) (x : PoolCore) → slice_get pools j ≡ Some x → test x.pool ≡ f x) → position f pools ≡ None → IsNone test
   no-test f test same e j x g = same j x g ∙ position-none f pools e j x g
 
-  none-concerned : (act : Act) → index_of pools act ≡ None → is_pool_act act ≡ true → IsNone (concerns h act)
+  none-concerned : (act : Act) → index_of pools act ≡ None → is_searched act ≡ true → IsNone (concerns h act)
   none-concerned (Do.Request r a) e k j x f = ap (λ y. is_number y x.pool) (z.open_are a ∙ e)
   none-concerned (Do.Warm r a) e k j x f = ap (λ y. is_number y x.pool) (z.open_are a ∙ e)
   none-concerned (Do.Maintain a) e k j x f = ap (λ y. is_number y x.pool) (z.open_are a ∙ e)
   none-concerned (Do.Expire a) e k j x f = ap (λ y. is_number y x.pool) (z.open_are a ∙ e)
-  none-concerned (Do.Collect r) e k j y g = no-test (λ x. is_asked_at (request_at x r)) (concerns h (Do.Collect r)) (λ j x f. asked-at r j x f) e j y g
-  none-concerned (Do.GiveUp r) e k j y g = no-test (λ x. is_asked_at (request_at x r)) (concerns h (Do.GiveUp r)) (λ j x f. asked-at r j x f) e j y g
   none-concerned Do.Claim e k j y g = no-test (λ x. is_some (first_unclaimed x)) (concerns h Do.Claim) job-at e j y g
-  none-concerned (Do.Established q c how) e k j y g = no-number q e j y g
   none-concerned (Do.Return r used) e k j y g = no-test (λ x. is_some (held_connection x r)) (concerns h (Do.Return r used)) (λ j x f. holds-at r j x f) e j y g
   none-concerned (Do.Pin r) e k j y g = no-test (λ x. is_some (held_connection x r)) (concerns h (Do.Pin r)) (λ j x f. holds-at r j x f) e j y g
-  none-concerned (Do.Replicate q c) e k j y g = no-number q e j y g
-  none-concerned (Do.Take r q c) e k j y g = no-number q e j y g
-  none-concerned (Do.Unpin q c) e k j y g = no-number q e j y g
   none-concerned _ e k j y g = cc
 
   pub home-placed : (act : Act) → is_pool_act act ≡ true → (i : ℕ) (s : PoolCore) → slice_get pools i ≡ Some s → index_of pools act ≡ Some i → home_of h act ≡ Some (home s)
@@ -177,5 +191,5 @@ module _ (o : PoolOptions) (pools : List PoolCore) (h : List Item) (z : PoolsFit
       let w : IsFirst (concerns h act) i s = first-concerned act k i s at_i e in
       rw z.homes_are (find-at home (λ x. concerns h act x.number) pools i s at_i w.0 w.1)
 
-  pub home-missing : (act : Act) → is_pool_act act ≡ true → index_of pools act ≡ None → home_of h act ≡ None
+  pub home-missing : (act : Act) → is_searched act ≡ true → index_of pools act ≡ None → home_of h act ≡ None
   home-missing act k e = rw z.homes_are (find-none home (λ x. concerns h act x.number) pools (none-concerned act e k))

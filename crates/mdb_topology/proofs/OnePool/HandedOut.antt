@@ -13,8 +13,8 @@ use Rattle.mdb_pool.specs.Kept.{request_at, is_asked_at}
 use Rattle.mdb_pool.specs.Standing.{Fits, StandsIn}
 use Rattle.mdb_pool.proofs.Follows.Fits.{asked-known}
 use Rattle.mdb_topology.specs.Standing.{home, PoolsFit}
-use Rattle.mdb_topology.proofs.OnePool.FoundAt.{fits-at, number-at}
-use Rattle.mdb_topology.proofs.OnePool.RefusedByItsRows.{asked-some, open-at}
+use Rattle.mdb_topology.proofs.OnePool.FoundAt.{asked-some, fits-at, number-at}
+use Rattle.mdb_topology.proofs.OnePool.RefusedByItsRows.{open-at}
 
 module _ (o : Options) (pools : List PoolCore) (h : List Item) (z : PoolsFit (pool_options o) pools h) (p : ℕ) (s : PoolCore) (e : slice_get pools p ≡ Some s) where
   own : Fits s (of_pool s.pool h)

@@ -16,7 +16,6 @@ use Rattle.mdb_log.specs.Requests.{is_open}
 use Rattle.mdb_log.specs.Opening.{pool_options}
 use Rattle.mdb_log.proofs.Numbers.{same-number}
 use Rattle.mdb_pool.specs.declared.kept.connection.Connection.{Connection}
-use Rattle.mdb_pool.specs.declared.kept.request.Request.{Request as Asker}
 use Rattle.mdb_pool.specs.Core.{PoolCore}
 use Rattle.mdb_pool.specs.Refusal.{first_row}
 use Rattle.mdb_pool.specs.Refusing.{is_here, is_pending_here, is_pinned_here, rows_now}
@@ -31,12 +30,7 @@ use Rattle.mdb_topology.specs.Finding.{is_pool_act, asked_by, numbered, index_of
 use Rattle.mdb_pool.proofs.KeptInLittle.AskedOfThoseThatStay.{open-asked}
 use Rattle.mdb_topology.proofs.General.OneElement.{any-none, any-position, any-nowhere, position-at, position-none}
 use Rattle.mdb_topology.proofs.General.OnePosition.{some-same}
-use Rattle.mdb_topology.proofs.OnePool.FoundAt.{fits-at, number-at, numbered-is, numbered-past, home-placed, home-missing}
-
--- who asked is known
-pub asked-some : (o : Option Asker) → is_asked_at o ≡ true → is_some o ≡ true
-asked-some None e = cc
-asked-some (Some q) e = refl
+use Rattle.mdb_topology.proofs.OnePool.FoundAt.{asked-some, fits-at, number-at, numbered-is, numbered-past, home-placed, home-missing}
 
 -- a pool that is open at the address is the one there
 here-open : (a : ServerAddress) (s : PoolCore) → is_open_at a s ≡ true → is_here s a ≡ true
@@ -119,8 +113,8 @@ module _ (o : Options) (pools : List PoolCore) (h : List Item) (z : PoolsFit (po
   rows-missing (Do.GiveUp r) e k = rw (not-open r e) refl
   rows-missing Do.Claim e k = refl
   rows-missing (Do.Established q c how) e k = rw (past-pool q e) refl
-  rows-missing (Do.Return r used) e k = rw (home-missing (pool_options o) pools h z (Do.Return r used) k e) refl
-  rows-missing (Do.Pin r) e k = rw (home-missing (pool_options o) pools h z (Do.Pin r) k e) refl
+  rows-missing (Do.Return r used) e k = rw (home-missing (pool_options o) pools h z (Do.Return r used) refl e) refl
+  rows-missing (Do.Pin r) e k = rw (home-missing (pool_options o) pools h z (Do.Pin r) refl e) refl
   rows-missing (Do.Replicate q c) e k = rw (no-pin q c e) refl
   rows-missing (Do.Take r q c) e k = rw (z.names r, no-pin q c e) (on (knows pools r))
     where
