@@ -1,11 +1,13 @@
 -- A pool that is asked by a party that no pool knows can tell so; and one whose connection fails lives.
-use Rattle.std.proofs.Common.{ℕ, ◌≡◌, Bool, true, false, not, ◌&&◌, ◌||◌, List, is_some, None, Some, refl, sym, ◌∙◌, ap, subst}
+use Rattle.std.proofs.Common.{ℕ, ◌≡◌, ◌==◌, Bool, true, false, not, ◌&&◌, ◌||◌, List, is_some, None, Some, refl, sym, ◌∙◌, ap, subst, arith}
 use Rattle.std.specs.Prelude.{nat_lt, slice_get}
+use Rattle.std.proofs.lemmas.Bool.Decides.{nat_tests}
 use Rattle.mdb_base.specs.declared.error.Error.{Error}
 use Rattle.mdb_log.specs.declared.step.Act.{Act}
 use Rattle.mdb_log.specs.declared.step.Act.TheVariants as Do
 use Rattle.mdb_log.specs.declared.step.Step.{Step}
 use Rattle.mdb_log.specs.declared.reply.Refused.TheVariants.{TimeBack}
+use Rattle.mdb_log.specs.Requests.{names_party}
 use Rattle.mdb_pool.specs.Core.{PoolCore}
 use Rattle.mdb_pool.specs.Kept.{connection_at, is_pending_at, is_spent, request_at}
 use Rattle.mdb_pool.specs.Refusal.{first_row}
@@ -13,7 +15,7 @@ use Rattle.mdb_pool.specs.Refusing.{can_tell, is_pending_here, refusal_now, rows
 use Rattle.mdb_pool.proofs.Answered.Item.{both-true, first-passes}
 use Rattle.mdb_pool.proofs.KeptInLittle.NothingLives.{none-pending}
 use Rattle.mdb_topology.specs.Failing.{IsFailing}
-use Rattle.mdb_topology.specs.Finding.{names_known}
+use Rattle.mdb_topology.specs.Finding.{named_by, names_known}
 use Rattle.mdb_topology.specs.Standing.{knows}
 use Rattle.mdb_topology.proofs.General.OneElement.{any-none}
 
@@ -29,6 +31,26 @@ new-tells pools i s (Do.Request r a) at e = can-new s r (any-none (λ u. is_some
 new-tells pools i s (Do.Warm r a) at e = can-new s r (any-none (λ u. is_some (request_at u r)) pools i s e at)
 new-tells pools i s (Do.Take r q c) at e = can-new s r (any-none (λ u. is_some (request_at u r)) pools i s e at)
 new-tells pools i s _ at e = refl
+
+-- the party that an act names is the one that it names for the first time
+turned : (p q r : ℕ) → p ≡ q → (r == q) ≡ (p == r)
+turned p q r e = on (r == q) refl
+  where
+    on : (b : Bool) → (r == q) ≡ b → b ≡ (p == r)
+    on true f = let k : (p == r) ≡ true = grind (arith, nat_tests) in sym k
+    on false f = let k : (p == r) ≡ false = grind (arith, nat_tests) in sym k
+
+pub named-party : (act : Act) (q r : ℕ) → named_by act ≡ Some q → (r == q) ≡ names_party act r
+named-party (Do.Request p a) q r e = let same : p ≡ q = cc in turned p q r same
+named-party (Do.Warm p a) q r e = let same : p ≡ q = cc in turned p q r same
+named-party (Do.Take p n c) q r e = let same : p ≡ q = cc in turned p q r same
+named-party _ q r e = cc
+
+pub none-named : (act : Act) (r : ℕ) → named_by act ≡ None → names_party act r ≡ false
+none-named (Do.Request p a) r e = cc
+none-named (Do.Warm p a) r e = cc
+none-named (Do.Take p n c) r e = cc
+none-named _ r e = refl
 
 -- the connection that fails is there
 pub failing-lives : (s : PoolCore) (step : Step) (error : Error) → IsFailing s step error → is_spent s ≡ false
