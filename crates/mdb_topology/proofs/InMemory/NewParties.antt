@@ -6,13 +6,14 @@ use Rattle.mdb_base.specs.declared.error.Error.{Error}
 use Rattle.mdb_log.specs.declared.step.Act.{Act}
 use Rattle.mdb_log.specs.declared.step.Act.TheVariants as Do
 use Rattle.mdb_log.specs.declared.step.Step.{Step}
-use Rattle.mdb_log.specs.declared.reply.Refused.TheVariants.{TimeBack}
+use Rattle.mdb_log.specs.declared.reply.Refused.TheVariants.{NotPending, TimeBack, WrongMode}
+use Rattle.mdb_log.specs.History.{service_in}
 use Rattle.mdb_log.specs.Requests.{names_party}
 use Rattle.mdb_pool.specs.Core.{PoolCore}
 use Rattle.mdb_pool.specs.Kept.{connection_at, is_pending_at, is_spent, request_at}
 use Rattle.mdb_pool.specs.Refusal.{first_row}
 use Rattle.mdb_pool.specs.Refusing.{can_tell, is_pending_here, refusal_now, rows_now, tells_new, NameNobody, TellsNew}
-use Rattle.mdb_pool.proofs.Answered.Item.{both-true, first-passes}
+use Rattle.mdb_pool.proofs.Answered.Item.{both-true, first-passes, not-false, two-pass}
 use Rattle.mdb_pool.proofs.KeptInLittle.NothingLives.{none-pending}
 use Rattle.mdb_topology.specs.Failing.{IsFailing}
 use Rattle.mdb_topology.specs.Finding.{named_by, names_known}
@@ -63,15 +64,11 @@ failing-lives s step error f = on (is_spent s) refl
     rows-of = subst (λ a. first_row (rows_now s a) ≡ None) f.act_is rows
 
     pending : is_pending_here s s.pool f.connection ≡ true
-    pending = back (is_pending_here s s.pool f.connection) (first-passes _ _ _ rows-of).0
-      where
-        back : (b : Bool) → not b ≡ false → b ≡ true
-        back true e = refl
-        back false e = cc
+    pending = not-false (is_pending_here s s.pool f.connection) (two-pass (not (is_pending_here s s.pool f.connection)) (not s.options.load_balanced && is_some (service_in f.at)) NotPending WrongMode rows-of).0
 
     on : (b : Bool) → is_spent s ≡ b → b ≡ false
     on true e =
-        let there : is_pending_at (connection_at s f.connection) ≡ true = (both-true _ _ pending).1 in
+        let there : is_pending_at (connection_at s f.connection) ≡ true = (both-true (s.pool == s.pool) (is_pending_at (connection_at s f.connection)) pending).1 in
         let none : is_pending_at (connection_at s f.connection) ≡ false = none-pending s e f.connection in
         cc
     on false e = refl
