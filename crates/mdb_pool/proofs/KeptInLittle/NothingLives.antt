@@ -17,15 +17,15 @@ empty (x ∷ xs) e = let n : length (x ∷ xs) ≡ 0 = grind (arith, nat_tests) 
 -- a value that is found and passes is counted
 counted : (p : Request → Bool) (r : ℕ) (q : Request) (qs : List Request) → request_in qs r ≡ Some q → p q ≡ true → (length (filter p qs) == 0) ≡ false
 counted p r q [] e f = cc
-counted p r q (x ∷ qs) e f = on (p x) (x.number == r) refl refl
+counted p r q (x ∷ qs) e f = on (p x) (x.number == r) refl refl (counted p r q qs)
   where
     some : (ys : List Request) → (length (x ∷ ys) == 0) ≡ false
     some ys = grind (arith, nat_tests)
 
-    on : (b d : Bool) → p x ≡ b → (x.number == r) ≡ d → (length (filter p (x ∷ qs)) == 0) ≡ false
-    on true d g h = rw g (some (filter p qs))
-    on false true g h = let at : request_in (x ∷ qs) r ≡ Some x = rw h refl in let same : Some x ≡ Some q = sym at ∙ e in let w : x ≡ q = cc in let k : p x ≡ true = ap p w ∙ f in cc
-    on false false g h = let at : request_in (x ∷ qs) r ≡ request_in qs r = rw h refl in rw g (counted p r q qs (sym at ∙ e) f)
+    on : (b d : Bool) → p x ≡ b → (x.number == r) ≡ d → (request_in qs r ≡ Some q → p q ≡ true → (length (filter p qs) == 0) ≡ false) → (length (filter p (x ∷ qs)) == 0) ≡ false
+    on true d g h more = rw g (some (filter p qs))
+    on false true g h more = let at : request_in (x ∷ qs) r ≡ Some x = rw h refl in let same : Some x ≡ Some q = sym at ∙ e in let w : x ≡ q = cc in let k : p x ≡ true = ap p w ∙ f in cc
+    on false false g h more = let at : request_in (x ∷ qs) r ≡ request_in qs r = rw h refl in rw g (more (sym at ∙ e) f)
 
 module _ (s : PoolCore) (spent : is_spent s ≡ true) where
   pub spent-shut : is_shut s.status ≡ true
