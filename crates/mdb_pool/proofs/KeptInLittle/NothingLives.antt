@@ -1,12 +1,10 @@
 -- A closed pool in which nothing lives: nobody holds a connection of it, and none of its requests is open.
-use Rattle.std.proofs.Common.{◌≡◌, ◌≢◌, ℕ, Bool, true, false, not, ◌==◌, ◌&&◌, is_some, Option, Some, None, List, [], ◌∷◌, filter, length, refl, sym, ◌∙◌, ap, subst, arith}
+use Rattle.std.proofs.Common.{◌≡◌, ℕ, Bool, true, false, not, ◌==◌, ◌&&◌, Option, Some, None, List, [], ◌∷◌, filter, length, refl, sym, ◌∙◌, ap, arith}
 use Rattle.std.proofs.lemmas.Bool.Decides.{nat_tests}
 use Rattle.mdb_log.specs.Connections.{has}
-use Rattle.mdb_pool.specs.declared.kept.connection.Connection.{Connection}
 use Rattle.mdb_pool.specs.declared.kept.request.Request.{Request}
 use Rattle.mdb_pool.specs.Core.{PoolCore}
-use Rattle.mdb_pool.specs.Kept.{connection_at, first_unclaimed, given_of, held_connection, held_given, is_asked_at, is_held_at, is_open_now, is_pending_at, is_shut, is_spent, kept_requests, lingers, pins_at, request_at, request_in}
-use Rattle.mdb_pool.specs.Places.{is_done}
+use Rattle.mdb_pool.specs.Kept.{connection_at, first_unclaimed, given_of, held_connection, held_given, is_asked_at, is_open_now, is_pending_at, is_shut, is_spent, kept_requests, lingers, pins_at, request_at, request_in}
 use Rattle.mdb_pool.proofs.Answered.Item.{both-true}
 use Rattle.mdb_pool.proofs.Listed.Values.{entry_at-key}
 

@@ -1,5 +1,5 @@
 use Rattle.std.proofs.Common.{sym, subst, ◌∙◌, ap}
-use Rattle.mdb_pool.specs.Asking.{BaseFits, OpenRequests}
+use Rattle.mdb_pool.specs.Asking.{BaseFits}
 use Rattle.mdb_pool.specs.Inner.{Asked}
 use Rattle.mdb_pool.proofs.kept.requests.Requests.replace.Goals as goal
 
