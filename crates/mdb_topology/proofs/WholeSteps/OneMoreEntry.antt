@@ -105,7 +105,8 @@ still-watched w v step h n z e p lives (inr new) many =
     let within : p < length v.pools.cores.items = lives-within v.pools.cores.items p lives in
     let from : nat_le (length w.monitors.items) p ≡ true = grind (arith, nat_tests) in
     let to : nat_lt p (length v.monitors.items) ≡ true = grind (arith, nat_tests) in
-    e.kept p lives (ap (λ b. has p w.monitors.kept || b) (rw (from, to) refl) ∙ or-true (has p w.monitors.kept))
+    let came : nat_le (length w.monitors.items) p && nat_lt p (length v.monitors.items) ≡ true = rw (from, to) refl in
+    e.kept p lives (ap (λ b. has p w.monitors.kept || b) came ∙ or-true (has p w.monitors.kept))
   where
     or-true : (b : Bool) → (b || true) ≡ true
     or-true true = refl
