@@ -1,4 +1,4 @@
-use Rattle.std.proofs.Common.{ℕ, ◌≡◌, ◌+◌, ◌&&◌, ◌||◌, ◌++◌, Bool, true, nat_lt, List, length, is_some, sym, ◌∙◌, ap, subst}
+use Rattle.std.proofs.Common.{ℕ, ◌≡◌, ◌<◌, ◌+◌, ◌&&◌, ◌||◌, ◌++◌, Bool, true, nat_lt, List, length, is_some, sym, ◌∙◌, ap, subst, arith}
 use Rattle.std.specs.Prelude.{nat_le, unwrap_or}
 use Rattle.mdb_intervals.specs.Spans.{SpanSet, has as is_within}
 use Rattle.mdb_log.specs.declared.step.Step.{Step}
@@ -51,6 +51,11 @@ module _ (w r t : TopologyCore) (n : Transition) (step : Step) (noted : Pools) (
         (subst (λ (ks : List ℕ). has p ks || (nat_le (length r.monitors.items) p && nat_lt p (length t.monitors.items)) ≡ true) (sym same.kept)
         (subst (λ (ms : List MonitorCore). has p w.monitors.kept || (nat_le (length ms) p && nat_lt p (length t.monitors.items)) ≡ true) (sym same.monitors) cond));
   }
+
+pub note-requires : goal.note-requires
+note-requires c =
+    let k = c.in-Ok.ensures.known in
+    subst (λ (m : SpanSet). length m.spans < m.capacity) (sym c.take.ensures.known) (omega (arith, k))
 
 pub returns-in-Ok-clause-logs : goal.returns-in-Ok-clause-logs
 returns-in-Ok-clause-logs c = λ h z f.
