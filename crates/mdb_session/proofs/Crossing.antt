@@ -44,7 +44,7 @@ use Rattle.mdb_log.specs.contracts.log.Entry as Entry
 use Rattle.mdb_log.specs.contracts.log.Log as Log
 use Rattle.mdb_log.specs.contracts.step.Act as Act
 use Rattle.mdb_monitor.proofs.check_count.CheckCount.TheSendSync.{the_send as watchers}
-use Rattle.mdb_monitor.proofs.monitor.MonitorCore.TheSendSync.{the_field_send as monitor}
+use Rattle.mdb_topology.proofs.monitors.monitor_list.Monitors.TheSendSync.{the_send as monitors}
 use Rattle.mdb_topology.proofs.pools.Pools.TheSendSync.{the_field_send as pools}
 use Rattle.mdb_topology.specs.contracts.topology.TopologyCore as Driver
 use Rattle.mdb_session.proofs.past.Past.TheSendSync.{the_send as past}
@@ -111,7 +111,7 @@ log = search (entry, rules) depth 20
 
 -- what a session keeps
 driver : IsSend Driver.the_field.row
-driver = search (options, topology, pools, monitor, watchers, crosses, sendable) depth 20
+driver = search (options, topology, pools, monitors, watchers, crosses, sendable) depth 20
 
 pub session : IsSend Session.the_row
 session = view_send Kept.the_row _ _ _ _ (recorded_send Kept.the_field.row _ _ Kept.the_type.to_one (struct_send (shape Kept.the_type) (driver, (past, (log, tt)))))
