@@ -57,11 +57,11 @@ note-requires c =
     let k = c.in-Ok.ensures.known in
     subst (λ (m : SpanSet). length m.spans < m.capacity) (sym c.take.ensures.known) (omega (arith, k))
 
-pub returns-in-Ok-clause-logs : goal.returns-in-Ok-clause-logs
-returns-in-Ok-clause-logs c = λ h z f.
+pub returns-in-Ok-enter-clause-logs : goal.returns-in-Ok-enter-clause-logs
+returns-in-Ok-enter-clause-logs c = λ h z f.
     let w = c.args.self.now in
     let t = c.take.ensures in
     let is =
-    taken w c.make_room.new.self c.take.new.self c.args.next c.args.step.now c.note.new.self c.in-Ok.published c.is_stopped_then.result c.in-Ok.ensures.same t.led t.known t.kept t.last t.monitors t.fresh t.watchers t.description t.others
-    c.note.ensures.known c.note.ensures.others c.in-Ok.ensures.published c.is_stopped_then.ensures in
+    taken w c.make_room.new.self c.take.new.self c.args.next c.args.step.now c.note.new.self c.in-Ok.published c.is_stopped_then-self.result c.in-Ok.ensures.same t.led t.known t.kept t.last t.monitors t.fresh t.watchers t.description t.others
+    c.note.ensures.known c.note.ensures.others c.in-Ok.ensures.published c.is_stopped_then-self.ensures in
     taken-logs w _ c.args.log.now c.enter.new.log c.args.seat c.args.step.now h c.args.next z is f c.in-Ok-enter.ensures.ok
