@@ -4,17 +4,10 @@ ghost use Rattle.mdb_topology.specs.Logging.{IsDriverOf};
 
 use crate::driver_pools::lend;
 use crate::drivers::take;
-use mdb_base::{Items, Moment, ServerAddress};
+use mdb_base::{Items, Moment};
 use mdb_cases::{Page, made_options, parted, small};
 use mdb_log::{Act, Core, Log, Step, Use};
 use mdb_topology::TopologyCore;
-use std::alloc::{AllocError, Global};
-
-fn one_host(alloc: Global, address: ServerAddress) -> Result<Items<ServerAddress>, AllocError> {
-    let mut hosts = Vec::new(alloc);
-    hosts.push(address)?;
-    Ok(Items::new(hosts))
-}
 
 // Only this seed is a host from now on: the pool of the other one is closed.
 fn keep_host(page: &mut Page, core: &mut TopologyCore, log: &mut Log, moment: Moment, seed: &str)
@@ -24,11 +17,13 @@ fn keep_host(page: &mut Page, core: &mut TopologyCore, log: &mut Log, moment: Mo
     let Some(address) = page.address(seed) else {
         return;
     };
-    match one_host(page.alloc, address) {
-        Ok(hosts) => {
-            take(page, core, log, moment, Act::Hosts(hosts));
+    let mut hosts = Vec::new(page.alloc);
+    match hosts.push(address) {
+        Ok(()) => take(page, core, log, moment, Act::Hosts(Items::new(hosts))),
+        Err(_) => {
+            drop(hosts);
+            page.fail()
         }
-        Err(_) => page.fail(),
     }
 }
 
