@@ -10,6 +10,8 @@ the last tenth keeps within 2 % of the memory of the first, and takes no more th
 
 With THREADS, `PROGRAM ROUNDS THREADS` does so many rounds in each of so many threads at a shared driver, while another thread takes the entries. Then the
 resident size is read ten times a second, and told is whether the greatest one of the last tenth of the time is within 2 % of the greatest one of the second.
+
+The program runs without the C library's cache of freed pieces (`glibc.malloc.tcache_count=0`). That cache fills by some 200 KB over millions of rounds, a tenth of what the process has, while the memory in use stays the same.
 """
 import os
 import re
@@ -18,6 +20,7 @@ import sys
 import time
 
 ROUNDS = 10_000_000
+ENVIRONMENT = dict(os.environ, GLIBC_TUNABLES='glibc.malloc.tcache_count=0')
 TOLD = re.compile(r'returned=(\d+) entries=(\d+)')
 MORE_MEMORY = 1.02
 MORE_TIME = 1.05
@@ -44,7 +47,7 @@ def judge(what, first, last, most):
 
 def alone(program, rounds):
     """One thread: a line for each tenth of the rounds."""
-    child = subprocess.Popen([program, str(rounds)], stdout=subprocess.PIPE, text=True)
+    child = subprocess.Popen([program, str(rounds)], stdout=subprocess.PIPE, text=True, env=ENVIRONMENT)
     before, done, parts = time.monotonic(), 0, []
     print('    rounds   KiB   us a round  entries')
     for line in child.stdout:
@@ -66,7 +69,7 @@ def alone(program, rounds):
 
 def shared(program, rounds, threads):
     """Many threads: the resident size from time to time."""
-    child = subprocess.Popen([program, str(rounds), str(threads)], stdout=subprocess.PIPE, text=True)
+    child = subprocess.Popen([program, str(rounds), str(threads)], stdout=subprocess.PIPE, text=True, env=ENVIRONMENT)
     begun, sizes = time.monotonic(), []
     while child.poll() is None:
         size = resident(child.pid)
