@@ -18,7 +18,7 @@ fn take_step(page: &mut Page, pool: &mut Pool, moment: Moment, act: Act)
 {
     if !pool.core.is_alone() {
         drop(act);
-        return Ok(());
+        return;
     }
     let step = Step { moment, act };
     let stepped = pool.core.step(page.alloc, &mut pool.log, 0, &step);

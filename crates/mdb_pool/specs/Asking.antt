@@ -1,5 +1,5 @@
 -- The requests of a pool, of which memory keeps those that have not left.
-use Rattle.std.specs.Prelude.{ℕ, ◌≡◌, Bool, true, false, not, ◌&&◌, is_some, if◌then◌else◌, List, [], map, filter, Option, Some, None}
+use Rattle.std.specs.Prelude.{ℕ, ◌≡◌, Bool, true, ◌&&◌, is_some, List, map, filter, None}
 use Rattle.mdb_log.specs.Connections.{has}
 use Rattle.mdb_slots.specs.Keyed.{entry_at}
 use Rattle.mdb_slots.specs.Lists.{apart, has as among}
@@ -9,8 +9,8 @@ use Rattle.mdb_slots.specs.Table.{TableSteps, items, shelf_after, capacity_after
 use Rattle.mdb_pool.specs.declared.kept.request.Request.{Request}
 use Rattle.mdb_pool.specs.declared.kept.request_parts.RequestParts.{RequestParts}
 use Rattle.mdb_pool.specs.Inner.{Asked, AskedRoom}
-use Rattle.mdb_pool.specs.Kept.{if_lingers, lingers, request_in}
-use Rattle.mdb_pool.specs.Places.{is_done, is_queued}
+use Rattle.mdb_pool.specs.Kept.{lingers, request_in}
+use Rattle.mdb_pool.specs.Places.{is_queued}
 
 -- Memory has those that have not left, of these the numbers that are settled, and all numbers that ever asked, where the pool stands alone.
 pub record RequestsFit (all : List Request) (settled : List ℕ) (kept : List Request) (told : List ℕ) (alone : Bool) (known : List ℕ) : Type 0 where

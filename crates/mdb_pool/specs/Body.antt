@@ -1,12 +1,10 @@
 -- What a pool is read from, and how its changes are made again.
-use Rattle.std.specs.Prelude.{◌&&◌, ℕ, Option, None}
-use Rattle.mdb_base.specs.declared.object_id.ObjectId.{ObjectId}
+use Rattle.std.specs.Prelude.{ℕ, Option}
 use Rattle.mdb_slots.specs.Open.{or_else}
 use Rattle.mdb_slots.specs.Table.{items}
 use Rattle.mdb_slots.specs.Sided.{SidedSteps, SidedFits, sided_after, sided_capacity_after}
-use Rattle.mdb_pool.specs.Places.{is_available, is_pending, is_queued}
+use Rattle.mdb_pool.specs.Places.{is_available, is_pending}
 use Rattle.mdb_pool.specs.declared.kept.connection.Connection.{Connection}
-use Rattle.mdb_pool.specs.declared.kept.request.Request.{Request}
 use Rattle.mdb_pool.specs.declared.kept.status.Status.{Status}
 use Rattle.mdb_pool.specs.Inner.{PoolShelf, PoolRoom, Inner}
 use Rattle.mdb_pool.specs.Asking.{AskedSteps, asked_after, asked_room_after, AskedFits}

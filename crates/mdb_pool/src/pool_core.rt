@@ -1,6 +1,6 @@
 //! The core of one pool.
 
-ghost use Rattle.std.specs.Prelude.{◌≡◌, IfOk, true, is_some, nat_lt, option_copied, None, List, if◌then◌else◌, ◌&&◌};
+ghost use Rattle.std.specs.Prelude.{◌≡◌, IfOk, true, false, is_some, nat_lt, option_copied, None, List, if◌then◌else◌, ◌&&◌};
 
 use crate::kept::body::Body;
 use crate::kept::connections::Connections;

@@ -54,6 +54,13 @@ fn push_all(monitors: &mut Monitors, more: Vec<MonitorCore>)
     }
 }
 
+// The driver stops now, or has stopped.
+fn is_stopped_then(stops: bool, stopped: bool) -> bool
+    ensures { result ≡ stops || stopped }
+{
+    stops || stopped
+}
+
 /// The act is one of a driver: of one pool, or of the topology.
 pub(crate) fn is_driver_act(act: &Act) -> bool
     ensures { result ≡ is_driver_act act.now }
@@ -193,7 +200,7 @@ impl TopologyCore {
                 self.take(step.moment, changes, description, monitors, monitoring);
                 self.pools.note(&step.act);
                 self.published = published;
-                self.stopped = stops || self.stopped;
+                self.stopped = is_stopped_then(stops, self.stopped);
                 Ok(told)
             }
             Err(_) => {

@@ -1,12 +1,10 @@
 -- A closed pool in which nothing lives: nobody holds a connection of it, and none of its requests is open.
-use Rattle.std.proofs.Common.{◌≡◌, ◌≢◌, ℕ, Bool, true, false, not, ◌==◌, ◌&&◌, is_some, Option, Some, None, List, [], ◌∷◌, filter, length, refl, sym, ◌∙◌, ap, subst, arith}
+use Rattle.std.proofs.Common.{◌≡◌, ℕ, Bool, true, false, not, ◌==◌, ◌&&◌, Option, Some, None, List, [], ◌∷◌, filter, length, refl, sym, ◌∙◌, ap, arith}
 use Rattle.std.proofs.lemmas.Bool.Decides.{nat_tests}
 use Rattle.mdb_log.specs.Connections.{has}
-use Rattle.mdb_pool.specs.declared.kept.connection.Connection.{Connection}
 use Rattle.mdb_pool.specs.declared.kept.request.Request.{Request}
 use Rattle.mdb_pool.specs.Core.{PoolCore}
-use Rattle.mdb_pool.specs.Kept.{connection_at, first_unclaimed, given_of, held_connection, held_given, is_asked_at, is_held_at, is_open_now, is_pending_at, is_shut, is_spent, kept_requests, lingers, pins_at, request_at, request_in}
-use Rattle.mdb_pool.specs.Places.{is_done}
+use Rattle.mdb_pool.specs.Kept.{connection_at, first_unclaimed, given_of, held_connection, held_given, is_asked_at, is_open_now, is_pending_at, is_shut, is_spent, kept_requests, lingers, pins_at, request_at, request_in}
 use Rattle.mdb_pool.proofs.Answered.Item.{both-true}
 use Rattle.mdb_pool.proofs.Listed.Values.{entry_at-key}
 
@@ -17,15 +15,15 @@ empty (x ∷ xs) e = let n : length (x ∷ xs) ≡ 0 = grind (arith, nat_tests) 
 -- a value that is found and passes is counted
 counted : (p : Request → Bool) (r : ℕ) (q : Request) (qs : List Request) → request_in qs r ≡ Some q → p q ≡ true → (length (filter p qs) == 0) ≡ false
 counted p r q [] e f = cc
-counted p r q (x ∷ qs) e f = on (p x) (x.number == r) refl refl
+counted p r q (x ∷ qs) e f = on (p x) (x.number == r) refl refl (counted p r q qs)
   where
     some : (ys : List Request) → (length (x ∷ ys) == 0) ≡ false
     some ys = grind (arith, nat_tests)
 
-    on : (b d : Bool) → p x ≡ b → (x.number == r) ≡ d → (length (filter p (x ∷ qs)) == 0) ≡ false
-    on true d g h = rw g (some (filter p qs))
-    on false true g h = let at : request_in (x ∷ qs) r ≡ Some x = rw h refl in let same : Some x ≡ Some q = sym at ∙ e in let w : x ≡ q = cc in let k : p x ≡ true = ap p w ∙ f in cc
-    on false false g h = let at : request_in (x ∷ qs) r ≡ request_in qs r = rw h refl in rw g (counted p r q qs (sym at ∙ e) f)
+    on : (b d : Bool) → p x ≡ b → (x.number == r) ≡ d → (request_in qs r ≡ Some q → p q ≡ true → (length (filter p qs) == 0) ≡ false) → (length (filter p (x ∷ qs)) == 0) ≡ false
+    on true d g h more = rw g (some (filter p qs))
+    on false true g h more = let at : request_in (x ∷ qs) r ≡ Some x = rw h refl in let same : Some x ≡ Some q = sym at ∙ e in let w : x ≡ q = cc in let k : p x ≡ true = ap p w ∙ f in cc
+    on false false g h more = let at : request_in (x ∷ qs) r ≡ request_in qs r = rw h refl in rw g (more (sym at ∙ e) f)
 
 module _ (s : PoolCore) (spent : is_spent s ≡ true) where
   pub spent-shut : is_shut s.status ≡ true

@@ -81,9 +81,10 @@ fn note_party(known: &mut NumberSet, alone: bool, number: u32) -> Result<(), Out
     ensures base { known.new.base ≡ known.old.base }
     ensures capacity { known.new.capacity ≡ known.old.capacity }
 {
-    if alone {
-        known.insert(number)?;
+    if !alone {
+        return Ok(());
     }
+    known.insert(number)?;
     Ok(())
 }
 

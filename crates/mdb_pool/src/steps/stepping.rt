@@ -290,7 +290,6 @@ impl PoolCore {
     }
 
     /// One step of the pool, in place. Where there is no memory the pool and the log are as they were. A refused one takes memory for its entry alone.
-    #[tactic(auto, using(crate::proofs::Answered::NewParties::alone_tells))]
     pub fn step(
         &mut self,
         alloc: Global,

@@ -96,10 +96,20 @@ all-open n (b ∷ rest) (x ∷ pools) e o f (suc p) s at =
 pub open-unspent : (s : PoolCore) → is_shut s.status ≡ false → is_spent s ≡ false
 open-unspent s e = rw e refl
 
+same-test : (p n : ℕ) → nat_lt (suc p) (suc n) ≡ nat_lt p n
+same-test p n = on (nat_lt p n) refl
+  where
+    on : (b : Bool) → nat_lt p n ≡ b → nat_lt (suc p) (suc n) ≡ b
+    on true e = grind (arith, nat_tests)
+    on false e = grind (arith, nat_tests)
+
 pub lives-all : (pools : List PoolCore) → ((p : ℕ) (s : PoolCore) → slice_get pools p ≡ Some s → is_spent s ≡ false) → (p : ℕ) → nat_lt p (length pools) ≡ lives_at pools p
 lives-all [] f p = let none : nat_lt p 0 ≡ false = grind (arith, nat_tests) in none
-lives-all (x ∷ xs) f zero = let there : nat_lt 0 (1 + length xs) ≡ true = grind (arith, nat_tests) in rw (f 0 x refl) there
-lives-all (x ∷ xs) f (suc p) = lives-all xs (λ q s at. f (suc q) s at) p
+lives-all (x ∷ xs) f zero =
+    let there : nat_lt 0 (length (x ∷ xs)) ≡ true = grind (arith, nat_tests) in
+    let alive : lives_at (x ∷ xs) 0 ≡ true = rw (f 0 x refl) refl in
+    there ∙ sym alive
+lives-all (x ∷ xs) f (suc p) = same-test p (length xs) ∙ lives-all xs (λ q s at. f (suc q) s at) p
 
 -- a server that is known has one of the addresses
 pub known-listed : (a : ServerAddress) (xs : List ServerDescription) → is_known a xs ≡ is_listed (addresses_of xs) a

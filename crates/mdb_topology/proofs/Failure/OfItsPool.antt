@@ -151,7 +151,7 @@ module _ (s : PoolCore) (h : List Item) (fits : Fits s (of_pool s.pool h)) (serv
 
     pub fails-cleared : Fails s u m (clears ++ fails) ws
     fails-cleared = record {
-      same = record { pool = second.home.pool ∙ first.home.pool; address = second.home.address ∙ first.home.address; options = second.home.options ∙ first.home.options };
+      same = record { pool = second.home.pool ∙ first.home.pool; address = second.home.address ∙ first.home.address; options = second.home.options ∙ first.home.options; alone = second.home.alone ∙ first.home.alone };
       fits = g.fits;
       fair = g.fair;
       own = g.own;

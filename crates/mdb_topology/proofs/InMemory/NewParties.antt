@@ -1,19 +1,22 @@
 -- A pool that is asked by a party that no pool knows can tell so; and one whose connection fails lives.
-use Rattle.std.proofs.Common.{ℕ, ◌≡◌, Bool, true, false, not, ◌&&◌, ◌||◌, List, is_some, None, Some, refl, sym, ◌∙◌, ap, subst}
+use Rattle.std.proofs.Common.{ℕ, ◌≡◌, ◌==◌, Bool, true, false, not, ◌&&◌, ◌||◌, List, is_some, None, Some, refl, sym, ◌∙◌, ap, subst, arith}
 use Rattle.std.specs.Prelude.{nat_lt, slice_get}
+use Rattle.std.proofs.lemmas.Bool.Decides.{nat_tests}
 use Rattle.mdb_base.specs.declared.error.Error.{Error}
 use Rattle.mdb_log.specs.declared.step.Act.{Act}
 use Rattle.mdb_log.specs.declared.step.Act.TheVariants as Do
 use Rattle.mdb_log.specs.declared.step.Step.{Step}
-use Rattle.mdb_log.specs.declared.reply.Refused.TheVariants.{TimeBack}
+use Rattle.mdb_log.specs.declared.reply.Refused.TheVariants.{NotPending, TimeBack, WrongMode}
+use Rattle.mdb_log.specs.History.{service_in}
+use Rattle.mdb_log.specs.Requests.{names_party}
 use Rattle.mdb_pool.specs.Core.{PoolCore}
 use Rattle.mdb_pool.specs.Kept.{connection_at, is_pending_at, is_spent, request_at}
 use Rattle.mdb_pool.specs.Refusal.{first_row}
 use Rattle.mdb_pool.specs.Refusing.{can_tell, is_pending_here, refusal_now, rows_now, tells_new, NameNobody, TellsNew}
-use Rattle.mdb_pool.proofs.Answered.Item.{both-true, first-passes}
+use Rattle.mdb_pool.proofs.Answered.Item.{both-true, first-passes, not-false, two-pass}
 use Rattle.mdb_pool.proofs.KeptInLittle.NothingLives.{none-pending}
 use Rattle.mdb_topology.specs.Failing.{IsFailing}
-use Rattle.mdb_topology.specs.Finding.{names_known}
+use Rattle.mdb_topology.specs.Finding.{named_by, names_known}
 use Rattle.mdb_topology.specs.Standing.{knows}
 use Rattle.mdb_topology.proofs.General.OneElement.{any-none}
 
@@ -30,6 +33,26 @@ new-tells pools i s (Do.Warm r a) at e = can-new s r (any-none (λ u. is_some (r
 new-tells pools i s (Do.Take r q c) at e = can-new s r (any-none (λ u. is_some (request_at u r)) pools i s e at)
 new-tells pools i s _ at e = refl
 
+-- the party that an act names is the one that it names for the first time
+turned : (p q r : ℕ) → p ≡ q → (r == q) ≡ (p == r)
+turned p q r e = on (r == q) refl
+  where
+    on : (b : Bool) → (r == q) ≡ b → b ≡ (p == r)
+    on true f = let k : (p == r) ≡ true = grind (arith, nat_tests) in sym k
+    on false f = let k : (p == r) ≡ false = grind (arith, nat_tests) in sym k
+
+pub named-party : (act : Act) (q r : ℕ) → named_by act ≡ Some q → (r == q) ≡ names_party act r
+named-party (Do.Request p a) q r e = let same : p ≡ q = cc in turned p q r same
+named-party (Do.Warm p a) q r e = let same : p ≡ q = cc in turned p q r same
+named-party (Do.Take p n c) q r e = let same : p ≡ q = cc in turned p q r same
+named-party _ q r e = cc
+
+pub none-named : (act : Act) (r : ℕ) → named_by act ≡ None → names_party act r ≡ false
+none-named (Do.Request p a) r e = cc
+none-named (Do.Warm p a) r e = cc
+none-named (Do.Take p n c) r e = cc
+none-named _ r e = refl
+
 -- the connection that fails is there
 pub failing-lives : (s : PoolCore) (step : Step) (error : Error) → IsFailing s step error → is_spent s ≡ false
 failing-lives s step error f = on (is_spent s) refl
@@ -41,15 +64,11 @@ failing-lives s step error f = on (is_spent s) refl
     rows-of = subst (λ a. first_row (rows_now s a) ≡ None) f.act_is rows
 
     pending : is_pending_here s s.pool f.connection ≡ true
-    pending = back (is_pending_here s s.pool f.connection) (first-passes _ _ _ rows-of).0
-      where
-        back : (b : Bool) → not b ≡ false → b ≡ true
-        back true e = refl
-        back false e = cc
+    pending = not-false (is_pending_here s s.pool f.connection) (two-pass (not (is_pending_here s s.pool f.connection)) (not s.options.load_balanced && is_some (service_in f.at)) NotPending WrongMode rows-of).0
 
     on : (b : Bool) → is_spent s ≡ b → b ≡ false
     on true e =
-        let there : is_pending_at (connection_at s f.connection) ≡ true = (both-true _ _ pending).1 in
+        let there : is_pending_at (connection_at s f.connection) ≡ true = (both-true (s.pool == s.pool) (is_pending_at (connection_at s f.connection)) pending).1 in
         let none : is_pending_at (connection_at s f.connection) ≡ false = none-pending s e f.connection in
         cc
     on false e = refl

@@ -1,5 +1,5 @@
 -- A pool that is asked one step gives one answer.
-use Rattle.std.proofs.Common.{◌≡◌, true, List, [], ◌∷◌, ◌++◌, length, None, sym, ◌∙◌, ap, subst, arith, get_or}
+use Rattle.std.proofs.Common.{zero, suc, ◌≡◌, true, List, [], ◌∷◌, ◌++◌, length, None, sym, ◌∙◌, ap, subst, arith, get_or}
 use Rattle.std.specs.Prelude.{ℕ, All}
 use Rattle.mdb_log.specs.declared.step.Step.{Step}
 use Rattle.mdb_log.specs.declared.step.Act.{Act}

@@ -27,7 +27,7 @@ use Rattle.mdb_log.specs.Legal.{OnePlace, NoneLeftWaiting}
 use Rattle.mdb_log.specs.LegalLog.{IsFairAnswer, IsOrderly, IsLegal, OpensSeeds}
 use Rattle.mdb_log.specs.Beside.{AllFreshGrants, EntriesGrantFresh}
 use Rattle.mdb_log.proofs.Frame.{acts-facts}
-use Rattle.mdb_log.proofs.Later.{with_entries-append}
+use Rattle.mdb_log.proofs.Later.{with_answer-accepted, with_entries-append}
 use Rattle.mdb_pool.specs.Core.{PoolCore}
 use Rattle.mdb_pool.proofs.Histories.OnePlaceEach.{one-place}
 use Rattle.mdb_pool.proofs.Turns.NoMove.{served-settled}
@@ -93,8 +93,7 @@ as-many o pools monitors h z f = sym (length-map monitors (λ m. m.setting)) ∙
 
 -- the parties that are named once the step is accepted
 named-more : (reply : Reply) (step : Step) (facts : List Fact) (h : List Item) → IsAccepted reply → (r : ℕ) → some_act names_party (with_answer step reply facts h) r ≡ names_party step.act r || some_act names_party h r
-named-more (RefusedBy why) step facts h accepted r = absurd accepted
-named-more _ step facts h accepted r = acts-facts names_party step.moment r facts _
+named-more reply step facts h accepted r = ap (λ (k : List Item). some_act names_party k r) (with_answer-accepted step reply facts h accepted) ∙ acts-facts names_party step.moment r facts (did step reply ∷ h)
 
 -- the monitor of a pool in which something lives then is kept
 still-watched : (w v : TopologyCore) (step : Step) (h : List Item) (n : Transition) → StandsFor w h → IsTaken w v n step → (p : ℕ) → lives_at v.pools.cores.items p ≡ true → Lived w.pools.cores.items p
@@ -105,7 +104,8 @@ still-watched w v step h n z e p lives (inr new) many =
     let within : p < length v.pools.cores.items = lives-within v.pools.cores.items p lives in
     let from : nat_le (length w.monitors.items) p ≡ true = grind (arith, nat_tests) in
     let to : nat_lt p (length v.monitors.items) ≡ true = grind (arith, nat_tests) in
-    e.kept p lives (ap (λ b. has p w.monitors.kept || b) (rw (from, to) refl) ∙ or-true (has p w.monitors.kept))
+    let came : nat_le (length w.monitors.items) p && nat_lt p (length v.monitors.items) ≡ true = rw (from, to) refl in
+    e.kept p lives (ap (λ b. has p w.monitors.kept || b) came ∙ or-true (has p w.monitors.kept))
   where
     or-true : (b : Bool) → (b || true) ≡ true
     or-true true = refl

@@ -1,6 +1,6 @@
 //! Whether a clear would take the generation of a pool past its limit: told without memory, and before anything of the step is made.
 
-ghost use Rattle.std.specs.Prelude.{◌≡◌, ◌<◌, ◌&&◌, not, nat_le, is_some, length, slice_get, None, Some};
+ghost use Rattle.std.specs.Prelude.{◌≡◌, ◌&&◌, true, not, nat_le, is_some, slice_get, None, Some};
 ghost use Rattle.mdb_describe.specs.Descriptions.{failed};
 ghost use Rattle.mdb_describe.specs.Differences.{difference};
 ghost use Rattle.mdb_describe.specs.Same.{same, same_error, same_kind, same_option, same_version};

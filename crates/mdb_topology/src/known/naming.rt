@@ -1,6 +1,6 @@
 //! Whether hosts that are named would take the servers or the pools past their limits: told without memory, and before anything of the step is made.
 
-ghost use Rattle.std.specs.Prelude.{◌≡◌, ◌≤◌, true, length};
+ghost use Rattle.std.specs.Prelude.{◌≡◌, ◌≤◌, ◌+◌, true, length, nat_lt};
 ghost use Rattle.mdb_describe.specs.Servers.{is_known, is_listed};
 ghost use Rattle.mdb_describe.specs.Topology.{synced};
 ghost use Rattle.mdb_srv.specs.Polling.{is_polled};
@@ -42,6 +42,16 @@ fn count_new(servers: &[ServerDescription], hosts: &[ServerAddress]) -> usize
     count
 }
 
+/// The limit is below the sum.
+pub(crate) fn is_below_sum(limit: usize, opened: usize, more: usize) -> bool
+    ensures { result ≡ nat_lt limit (opened + more) }
+{
+    if limit < opened {
+        return true;
+    }
+    limit - opened < more
+}
+
 impl TopologyCore {
     ghost use Rattle.mdb_topology.specs.Changing.{change_past};
     ghost use Rattle.mdb_topology.specs.Standing.{StandsForSome};
@@ -55,7 +65,7 @@ impl TopologyCore {
             return false;
         }
         let limit = self.options.limit_pool.unwrap_or(u32::MAX) as usize;
-        limit < self.pools.cores.len() + (count - 1)
+        is_below_sum(limit, self.pools.cores.len(), count - 1)
     }
 
     /// What the driver would run out of, where the hosts become the servers.

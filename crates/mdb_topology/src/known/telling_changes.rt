@@ -7,6 +7,7 @@ ghost use Rattle.mdb_topology.specs.Monitors.{setting};
 ghost use Rattle.mdb_topology.specs.Planned.{opened_by};
 ghost use Rattle.mdb_topology.specs.declared.monitors.monitoring.Monitoring.TheVariants.{Same};
 
+use crate::known::naming::is_below_sum;
 use crate::monitors::monitoring::Monitoring;
 use crate::pools::pool_change::PoolChange;
 use crate::topology::TopologyCore;
@@ -138,6 +139,6 @@ impl TopologyCore {
             return false;
         }
         let limit = self.options.limit_pool.unwrap_or(u32::MAX) as usize;
-        limit < self.pools.cores.len() + (count - 1)
+        is_below_sum(limit, self.pools.cores.len(), count - 1)
     }
 }

@@ -51,8 +51,9 @@ impl Pools {
         ensures known { (r : ℕ) → is_within r self.new.known.spans ≡ names_party act.now r || is_within r self.old.known.spans }
         ensures others { self.new ≡ record self.old { known = self.new.known } }
     {
-        if let Some(party) = named_by(act) {
-            self.known.insert_ready(party);
+        match named_by(act) {
+            Some(party) => self.known.insert_ready(party),
+            None => {}
         }
     }
 

@@ -1,4 +1,4 @@
-use Rattle.std.proofs.Common.{◌≡◌, Option, Some, None, refl, subst}
+use Rattle.std.proofs.Common.{◌≡◌, true, false, Option, Some, None, refl, subst}
 use Rattle.mdb_slots.specs.Items.{records_of}
 use Rattle.mdb_slots.specs.Slots.{OpenSlots, listing}
 use Rattle.mdb_slots.specs.declared.records.Record.{Record}
@@ -19,6 +19,9 @@ returns-in-Some-clause-told c = λ h table z e.
 
 pub returns-in-Some-clause-missing : goal.returns-in-Some-clause-missing
 returns-in-Some-clause-missing c = λ h z e. let none : ◌≡◌ {A = Option (OpenSlots Record)} (Some c.available.result.now) None = e in cc
+
+pub returns-in-None-clause-opened : goal.returns-in-None-clause-opened
+returns-in-None-clause-opened c = λ h z e. let off : false ≡ true = e in cc
 
 pub returns-in-None-clause-missing : goal.returns-in-None-clause-missing
 returns-in-None-clause-missing c = λ h z e. c.in-None.ensures.missing h z refl

@@ -57,4 +57,6 @@ pub returns-in_err-answers-clause-wants : goal.returns-in_err-answers-clause-wan
 returns-in_err-answers-clause-wants c =
     let s = c.at.result.now in
     let n : refusal_now s c.args.step.now ≡ None = sym c.refusal_now.ensures.kept ∙ c.in_default.is in
-    after-any _ _ (λ u at. subst (λ (v : PoolCore). refusal_now v c.args.step.now ≡ None) (some-same s u (slice_get c.args.self.now.cores.items c.args.index) c.at.ensures at) n)
+    let all : (u : PoolCore) → slice_get c.args.self.now.cores.items c.args.index ≡ Some u → refusal_now u c.args.step.now ≡ None =
+    λ u at. subst (λ (v : PoolCore). refusal_now v c.args.step.now ≡ None) (some-same s u (slice_get c.args.self.now.cores.items c.args.index) c.at.ensures at) n in
+    after-any _ _ all

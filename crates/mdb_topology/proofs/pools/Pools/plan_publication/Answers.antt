@@ -44,7 +44,7 @@ returns-clause-planned c =
     let both : c.plan_all_closed.new.self ≡ c.args.self.now = c.in_ok-plan_all_closed.ensures.same ∙ first in
     let gone = c.as_slice-removed.result.now in
     let come = c.as_slice-added.result.now in
-    let count : c.len-count.result ≡ n = c.len-count.ensures ∙ (c.plan_all_closed.new.self.cores.ok.0 ∙ ap (λ (w : Pools). length w.cores.items) both) in
+    let count : c.len-count.result ≡ n = c.len-count.ensures ∙ ap (λ (w : Pools). length w.cores.items) both in
     let absent : are_absent pools come ≡ true = subst (λ xs. are_absent pools xs ≡ true) (sym c.as_slice-added.ensures) (added-absent pools t.servers d.added c.requires.open_for (added-new t u d c.requires.difference)) in
     let p : PlansMore o m pools n (readies u d.changed) (map (server_changed o m t u) d.changed) [] [] c0 c1 f0 f1 =
     subst (λ (xs : List ServerAddress). PlansMore o m pools n (readies u xs) (map (server_changed o m t u) xs) [] [] c0 c1 f0 f1) c.as_slice-changed.ensures c.in_ok-plan_all_changed.ensures.planned in

@@ -1,4 +1,4 @@
-use Rattle.std.proofs.Common.{◌≡◌, true, ◌||◌, Bool, [], ◌∷◌, ◌++◌, Some, refl, sym, ◌∙◌, ap, subst}
+use Rattle.std.proofs.Common.{◌≡◌, true, false, ◌||◌, Bool, [], ◌∷◌, ◌++◌, Some, refl, sym, ◌∙◌, ap, subst}
 use Rattle.std.specs.Prelude.{All, slice_get}
 use Rattle.mdb_log.specs.Acts.{IsPoolAct}
 use Rattle.mdb_log.specs.declared.step.Step.{Step}

@@ -3,10 +3,11 @@ use Rattle.std.specs.Prelude.{slice_get}
 use Rattle.std.proofs.lemmas.Option.{slice_get_read}
 use Rattle.mdb_log.specs.Opening.{pool_options}
 use Rattle.mdb_log.specs.declared.step.Act.TheVariants.{Failed, Unpin}
+use Rattle.mdb_log.specs.declared.reply.Refused.TheVariants.{NotPending}
 use Rattle.mdb_pool.specs.Core.{PoolCore}
 use Rattle.mdb_pool.specs.Refusing.{refusal_now, tells_new}
 use Rattle.mdb_topology.specs.Refusal.{refusal}
-use Rattle.mdb_topology.proofs.Failure.RefusedByItsPool.{failed-refused}
+use Rattle.mdb_topology.proofs.Failure.RefusedByItsPool.{failed-nowhere, failed-refused}
 use Rattle.mdb_topology.proofs.OnePool.FoundAt.{number-at, numbered-is, place-lives}
 use Rattle.mdb_topology.proofs.General.OnePosition.{some-same}
 use Rattle.mdb_topology.proofs.topology.TopologyCore.connection_failed.Goals as goal
@@ -52,3 +53,11 @@ fail_at-requires-clause-there c = place-lives c.args.self.now.pools.cores.items 
 -- a failure names nobody for the first time
 pub refusal_now-requires-clause-new : goal.refusal_now-requires-clause-new
 refusal_now-requires-clause-new c = subst (λ a. tells_new c.at.result.now a ≡ true) (sym c.requires.act) refl
+
+-- a pool in which nothing lives has no pending connection
+pub returns-in_default-clause-becomes : goal.returns-in_default-clause-becomes
+returns-in_default-clause-becomes c = λ h z.
+    let w = c.args.self.now in
+    let m = c.args.step.now.moment in
+    subst (λ a. refusal w.options h (record { moment = m; act = a }) ≡ Some NotPending) (sym c.requires.act)
+    (failed-nowhere w h z m c.requires.in_time c.args.number c.args.id c.args.at c.args.error.now (sym c.numbered.ensures ∙ c.in_default.is))

@@ -54,11 +54,11 @@ module _ (pools : List PoolCore) (r i : ℕ) (held : holder pools r ≡ Some i) 
 pub at-requires : goal.at-requires
 at-requires c = holder-lives c.args.self.now.pools.cores.items c.args.party c.in-Some.index (sym c.holder.ensures ∙ c.in-Some.is)
 
-pub at-2-requires : goal.at-2-requires
-at-2-requires c = holder-lives c.args.self.now.pools.cores.items c.args.party c.in-Some.index (sym c.holder.ensures ∙ c.in-Some.is)
+pub at-requires-2 : goal.at-requires-2
+at-requires-2 c = holder-lives c.args.self.now.pools.cores.items c.args.party c.in-Some.index (sym c.holder.ensures ∙ c.in-Some.is)
 
-pub at-then-self-requires : goal.at-then-self-requires
-at-then-self-requires c = holder-lives c.args.self.now.pools.cores.items c.args.party c.in-Some.index (sym c.holder.ensures ∙ c.in-Some.is)
+pub at-requires-then-self : goal.at-requires-then-self
+at-requires-then-self c = holder-lives c.args.self.now.pools.cores.items c.args.party c.in-Some.index (sym c.holder.ensures ∙ c.in-Some.is)
 
 pub clear_service-requires-clause-there : goal.clear_service-requires-clause-there
 clear_service-requires-clause-there c = holder-lives c.args.self.now.pools.cores.items c.args.party c.in-Some.index (sym c.holder.ensures ∙ c.in-Some.is)

@@ -1,10 +1,14 @@
-use Rattle.std.proofs.Common.{◌≡◌, true, false, slice_get, Some, get_or, sym, subst, ap, refl}
+use Rattle.std.proofs.Common.{◌≡◌, ◌<◌, true, false, length, slice_get, Some, get_or, sym, subst, ap, refl, arith}
 use Rattle.std.proofs.lemmas.Option.{slice_get-get_or}
 use Rattle.mdb_topology.specs.declared.transition.Transition.{Transition}
 use Rattle.mdb_topology.specs.declared.monitors.monitoring.Monitoring.TheVariants.{Checked}
 use Rattle.mdb_topology.specs.Checking.{Measures}
 use Rattle.mdb_topology.specs.Stepping.{is_here_among, Follows}
+use Rattle.mdb_topology.proofs.InMemory.LivingPools.{lives-within}
+use Rattle.mdb_topology.proofs.OfMonitors.CheckFailed.{here-at}
 use Rattle.mdb_topology.proofs.OfMonitors.RoundTrips.{follows-away, follows-sample}
+use Rattle.mdb_topology.proofs.OnePool.FoundAt.{open-lives}
+use Rattle.mdb_topology.proofs.WholeSteps.OneMoreEntry.{as-many}
 use Rattle.mdb_topology.specs.Refusal.{may_want}
 use Rattle.mdb_topology.proofs.Publications.WhichSteps.{passes-time}
 use Rattle.mdb_topology.proofs.WholeSteps.ComesBeforeMemory.{untroubled-wants}
@@ -35,9 +39,12 @@ returns-clause-becomes c h z =
     let e = c.of_reply-2.ensures in
     let n : Transition = record { reply = r.reply; facts = r.facts; changes = r.changes; description = r.description; monitors = r.monitors; monitoring = Checked i y w.fresh; stops = r.stops } in
     let there : is_here_among w.pools.cores.items a p ≡ true = sym c.in-Some.ensures.here in
-    let at_i : slice_get w.monitors.items i ≡ Some (get_or w.monitors.items i y) = slice_get-get_or w.monitors.items i y c.in-Some.ensures.within in
-    let x = get_or w.monitors.items i y in
     let own : i ≡ p = c.in-Some.ensures.index in
+    let opened = lives-within w.pools.cores.items i (open-lives w.pools.cores.items a i (here-at w a p i own there)) in
+    let many = as-many w.options w.pools.cores.items w.monitors.items h z.pools.fit z.monitors in
+    let within : i < length w.monitors.items = omega (arith, many, opened) in
+    let at_i : slice_get w.monitors.items i ≡ Some (get_or w.monitors.items i y) = slice_get-get_or w.monitors.items i y within in
+    let x = get_or w.monitors.items i y in
     let measures : Measures x y c.args.sample c.in_ok-monitor.average = c.in_ok-monitor.ensures x at_i in
     subst (λ v. Follows w n (record { moment = m; act = v }) h) (sym c.requires.act)
     (follows-sample w h z m c.requires.in_time a p c.args.sample c.if-self.false n e.changes e.monitors e.description e.stops e.facts there x y (subst (λ q. slice_get w.monitors.items q ≡ Some x) own at_i)

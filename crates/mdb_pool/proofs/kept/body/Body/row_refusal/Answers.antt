@@ -26,8 +26,8 @@ tells s e z = ap (tells_new s) (sym e) ∙ z
 pub request_refusal-requires : goal.request_refusal-requires
 request_refusal-requires c = tells (now_of c.args.self.now) c.in-Request.is c.requires
 
-pub request_refusal-2-requires : goal.request_refusal-2-requires
-request_refusal-2-requires c = tells (now_of c.args.self.now) c.in-Warm.is c.requires
+pub request_refusal-requires-in-Warm : goal.request_refusal-requires-in-Warm
+request_refusal-requires-in-Warm c = tells (now_of c.args.self.now) c.in-Warm.is c.requires
 
 pub take_refusal-requires : goal.take_refusal-requires
 take_refusal-requires c = tells (now_of c.args.self.now) c.in-Take.is c.requires

@@ -13,7 +13,7 @@ pub returns-then-not-request : goal.returns-then-not-request
 returns-then-not-request c =
     let p = c.self.inside.parts in
     let n = c.args.number in
-    let here = found-kept p.all.value p.settled.value p.kept.now p.told.now p.known.now c.self.invariant.0 n c.in-Some.request.now (sym c.get.ensures ∙ ap option_copied c.in-Some.is) in
+    let here = found-kept p.all.value p.settled.value p.kept.now p.told.now p.alone p.known.now c.self.invariant.0 n c.in-Some.request.now (sym c.get.ensures ∙ ap option_copied c.in-Some.is) in
     let there : is_gone p.settled.value (request_in p.all.value n) ≡ false = ap (is_gone p.settled.value) here.0 ∙ rw here.1 refl in
     let told : c.is_told-told.result ≡ has n p.settled.value = c.is_told-told.ensures there in
     rw (← c.self.view_is, told, here.0, c.if-not-request.true) refl
@@ -21,7 +21,7 @@ returns-then-not-request c =
 pub returns-else-not-request : goal.returns-else-not-request
 returns-else-not-request c =
     let p = c.self.inside.parts in
-    let here = found-kept p.all.value p.settled.value p.kept.now p.told.now p.known.now c.self.invariant.0 c.args.number c.in-Some.request.now (sym c.get.ensures ∙ ap option_copied c.in-Some.is) in
+    let here = found-kept p.all.value p.settled.value p.kept.now p.told.now p.alone p.known.now c.self.invariant.0 c.args.number c.in-Some.request.now (sym c.get.ensures ∙ ap option_copied c.in-Some.is) in
     rw (← c.self.view_is, here.0, c.if-not-request.false) refl
 
 pub returns-in-None : goal.returns-in-None

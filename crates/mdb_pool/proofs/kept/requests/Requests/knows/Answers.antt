@@ -1,4 +1,4 @@
-use Rattle.std.proofs.Common.{◌≡◌, true, not, ◌||◌, is_some, sym, ◌∙◌, ap}
+use Rattle.std.proofs.Common.{◌≡◌, true, not, ◌||◌, is_some, sym, ◌∙◌, subst}
 use Rattle.mdb_pool.specs.Asking.{OpenRequests}
 use Rattle.mdb_pool.specs.Kept.{request_in}
 use Rattle.mdb_pool.proofs.KeptInLittle.RequestsThatStay.{knows-not}
@@ -8,7 +8,7 @@ pub returns-then-not-alone : goal.returns-then-not-alone
 returns-then-not-alone c =
     let n = c.args.number in
     let parts = c.self.inside.parts in
-    let can : (parts.alone || not (is_some (request_in parts.all.value n))) ≡ true = rw (ap (λ (o : OpenRequests). o.base.alone) c.self.view_is, ap (λ (o : OpenRequests). o.now) c.self.view_is) c.requires in
+    let can : (parts.alone || not (is_some (request_in parts.all.value n))) ≡ true = subst (λ (o : OpenRequests). (o.base.alone || not (is_some (request_in o.now n))) ≡ true) (sym c.self.view_is) c.requires in
     rw (← c.self.view_is) (sym (knows-not parts.all.value parts.settled.value parts.kept.now parts.told.now parts.alone parts.known.now c.self.invariant.0 n c.if-not-alone.true can))
 
 pub returns : goal.returns

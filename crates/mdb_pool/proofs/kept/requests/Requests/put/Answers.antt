@@ -1,5 +1,6 @@
 use Rattle.std.proofs.Common.{sym, subst, ◌∙◌, ap}
 use Rattle.mdb_pool.specs.Asking.{BaseFits, OpenRequests}
+use Rattle.mdb_pool.specs.Inner.{Asked}
 use Rattle.mdb_pool.proofs.KeptInLittle.RequestsThatStay.{put-unsettled}
 use Rattle.mdb_pool.proofs.kept.requests.Requests.put.Goals as goal
 
@@ -17,6 +18,6 @@ invariant_of-self c = (c.in-Ok.ensures.fits, subst BaseFits (sym c.put.ensures.b
 
 pub invariant_of-self-in-Err : goal.invariant_of-self-in-Err
 invariant_of-self-in-Err c = (
-  rw (c.roll_back.ensures.all, c.roll_back.ensures.settled, c.roll_back.ensures.kept, c.roll_back.ensures.told, c.roll_back.ensures.known) (subst BaseFits (sym c.put.ensures.base) c.self.invariant.1),
+  rw (c.roll_back.ensures.all, c.roll_back.ensures.settled, c.roll_back.ensures.kept, c.roll_back.ensures.told, c.roll_back.ensures.known, ap (λ (b : Asked). b.alone) c.roll_back.ensures.base) (subst BaseFits (sym c.put.ensures.base) c.self.invariant.1),
   subst BaseFits (sym (c.roll_back.ensures.base ∙ c.put.ensures.base)) c.self.invariant.1,
 )

@@ -1,5 +1,6 @@
 use Rattle.std.proofs.Common.{sym, subst, ◌∙◌, ap}
-use Rattle.mdb_pool.specs.Asking.{BaseFits, OpenRequests}
+use Rattle.mdb_pool.specs.Asking.{BaseFits}
+use Rattle.mdb_pool.specs.Inner.{Asked}
 use Rattle.mdb_pool.proofs.kept.requests.Requests.replace.Goals as goal
 
 pub replace-requires-clause-fits : goal.replace-requires-clause-fits
@@ -13,6 +14,6 @@ invariant_of-self c = (c.in-Ok.ensures.fits, subst BaseFits (sym c.replace.ensur
 
 pub invariant_of-self-in-Err : goal.invariant_of-self-in-Err
 invariant_of-self-in-Err c = (
-  rw (c.roll_back.ensures.all, c.roll_back.ensures.settled, c.roll_back.ensures.kept, c.roll_back.ensures.told, c.roll_back.ensures.known) (subst BaseFits (sym c.replace.ensures.base) c.self.invariant.1),
+  rw (c.roll_back.ensures.all, c.roll_back.ensures.settled, c.roll_back.ensures.kept, c.roll_back.ensures.told, c.roll_back.ensures.known, ap (λ (b : Asked). b.alone) c.roll_back.ensures.base) (subst BaseFits (sym c.replace.ensures.base) c.self.invariant.1),
   subst BaseFits (sym (c.roll_back.ensures.base ∙ c.replace.ensures.base)) c.self.invariant.1,
 )

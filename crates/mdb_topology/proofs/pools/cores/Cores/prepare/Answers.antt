@@ -3,7 +3,7 @@ use Rattle.std.specs.Prelude.{All, slice_get}
 use Rattle.std.proofs.lemmas.Result.{IfOk-weaker}
 use Rattle.mdb_log.specs.Acts.{IsPoolAct}
 use Rattle.mdb_pool.specs.Core.{PoolCore}
-use Rattle.mdb_pool.specs.Planning.{IsPlanOf}
+use Rattle.mdb_pool.specs.Planning.{IsPlanOf, LeadsTo, Plans}
 use Rattle.mdb_pool.specs.Refusing.{TellsNew}
 use Rattle.mdb_topology.specs.declared.pools.placed.Placed.{Placed}
 use Rattle.mdb_topology.specs.Living.{index_in, living_from, PoolList}
@@ -42,3 +42,16 @@ returns-clause-plan c =
     let are : xs ≡ living_from 0 pools = c.self.invariant.0 ∙ ap (λ (v : PoolList). living_from 0 v.items) c.self.view_is in
     let same : (s : PoolCore) → slice_get pools c.args.place ≡ Some s → x.core ≡ s = λ s at. ap (λ (y : Placed). y.core) (read-there c.args.place pools s i xs at (alive-of pools c.args.place s c.requires.lives at) found are x c.index_mut.ensures.value) in
     IfOk-weaker c.prepare.result (λ made. IsPlanOf made.1 c.prepare.new.pool) (λ made. (s : PoolCore) → slice_get pools c.args.place ≡ Some s → IsPlanOf made.1 s) (λ made k s at. subst (λ u. IsPlanOf made.1 u) (c.prepare.ensures.same ∙ same s at) k) c.prepare.ensures.plan
+
+pub returns-clause-does : goal.returns-clause-does
+returns-clause-does c =
+    let pools = c.args.self.now.items in
+    let xs = c.self.inside.living.items in
+    let i = c.in-Some.index in
+    let x = c.index_mut.result.now in
+    let found : index_in pools c.args.place ≡ Some i = sym c.index_of.ensures ∙ c.in-Some.is in
+    let are : xs ≡ living_from 0 pools = c.self.invariant.0 ∙ ap (λ (v : PoolList). living_from 0 v.items) c.self.view_is in
+    let same : (s : PoolCore) → slice_get pools c.args.place ≡ Some s → x.core ≡ s = λ s at. ap (λ (y : Placed). y.core) (read-there c.args.place pools s i xs at (alive-of pools c.args.place s c.requires.lives at) found are x c.index_mut.ensures.value) in
+    IfOk-weaker c.prepare.result (λ made. (t : PoolCore) → Plans made.1 c.prepare.new.pool t → LeadsTo x.core t c.args.steps.now made.0.items)
+    (λ made. (s t : PoolCore) → slice_get pools c.args.place ≡ Some s → Plans made.1 s t → LeadsTo s t c.args.steps.now made.0.items)
+    (λ made k s t at p. subst (λ u. LeadsTo u t c.args.steps.now made.0.items) (same s at) (k t (subst (λ u. Plans made.1 u t) (sym (c.prepare.ensures.same ∙ same s at)) p))) c.prepare.ensures.does
