@@ -1,0 +1,5 @@
+use Rattle.mdb_checks_top.proofs.DriverCrossing.{drivers}
+use Rattle.mdb_checks_top.proofs.recording.recording.Goals as goal
+
+pub share-requires-send-C : goal.share-requires-send-C
+share-requires-send-C g c κs within = search drivers depth 20
