@@ -1,3 +1,4 @@
+pub mod Crossing
 pub mod Found
 pub mod InOrder
 pub mod Kept

@@ -5,3 +5,4 @@ pub mod Pins
 pub mod Frame
 pub mod Later
 pub mod Coming
+pub mod Crossing

@@ -18,6 +18,8 @@ pub enum LongError {
     Answer,
     #[error("no number is left for a request")]
     Number,
+    #[error("a thread was not started")]
+    Thread,
     #[error("a seat is missing")]
     Seat,
     #[error("entries are missing")]

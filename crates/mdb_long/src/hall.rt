@@ -1,19 +1,22 @@
 //! What the threads of one driver share beside it.
 
+use mdb_workers::StartBarrier;
 use std::sync::atomic::{AtomicU64, Ordering};
 
-/// The clients that have not left yet, the connections that were checked out and in, and the entries that were taken.
+/// The parts that are to begin, the clients that have not left yet, the connections that were checked out and in, and the entries that were taken.
 #[derive(Drop)]
 pub struct Hall {
+    pub start: StartBarrier,
     clients: AtomicU64,
     returned: AtomicU64,
     taken: AtomicU64,
 }
 
 impl Hall {
-    /// A hall for so many clients.
-    pub fn new(clients: u64) -> Hall {
+    /// A hall for so many parts, of which so many are clients.
+    pub fn new(parts: u32, clients: u64) -> Hall {
         Hall {
+            start: StartBarrier::new(parts),
             clients: AtomicU64::new(clients),
             returned: AtomicU64::new(0),
             taken: AtomicU64::new(0),

@@ -17,17 +17,18 @@ mod taking;
 
 use errors::LongError;
 use lasting::Lasting;
+use mdb_lines::command_words;
 use mdb_log::{Core, Log};
 use opening::open;
 use plan::{Plan, USAGE};
 use rounds::{Tally, greet, run};
 use sharing::{Shared, share};
 use std::alloc::{AllocError, Global};
-use std::io::ErrorKind;
+use std::io;
 use std::process::ExitCode;
+use std::rt::Clock;
 use std::sync::Wait;
 use std::thread::Threads;
-use std::{env, io};
 
 const FAILED: u8 = 1;
 
@@ -36,28 +37,10 @@ const WRONG_WORDS: u8 = 2;
 // So often it tells how far it is.
 const PARTS: u32 = 10;
 
-// The words of the command line; none where one of them is no text.
-fn words(rt: &HostRuntime) -> Result<Vec<String>, AllocError> {
-    let mut words = Vec::new(rt.alloc());
-    match env::args(rt) {
-        Ok(args) => {
-            for word in args.skip(1) {
-                words.push(word)?;
-            }
-        }
-        Err(e) => {
-            if e.kind() == ErrorKind::OutOfMemory {
-                return Err(AllocError);
-            }
-        }
-    }
-    Ok(words)
-}
-
 fn read_plan(rt: &HostRuntime) -> Result<Option<Plan>, AllocError>
     ensures { IfOk result (λ plan. IfSome plan (λ p. IfSome p.threads (λ n. n ≤ 32))) }
 {
-    let words = words(rt)?;
+    let words = command_words(rt)?;
     let plan = Plan::read(words.as_slice());
     drop(words);
     Ok(plan)
@@ -143,7 +126,7 @@ fn run_alone(rt: &HostRuntime, rounds: u32) -> io::Result<ExitCode> {
 }
 
 // Many threads at a shared driver.
-fn share_opened<R: Threads + Wait + Sync>(
+fn share_opened<R: Threads + Wait + Clock + Sync>(
     rt: &R,
     alloc: Global,
     threads: u32,

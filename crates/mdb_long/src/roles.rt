@@ -12,6 +12,7 @@ use mdb_log::{Core, Established, PooledConnection, Use};
 use mdb_shared::{Seat, SharedDriver};
 use mdb_workers::{Access, MemEstablisher, OpenGate, Unreturned, stop};
 use std::alloc::Global;
+use std::rt::Clock;
 use std::sync::Wait;
 
 /// What a thread does.
@@ -194,8 +195,8 @@ fn take_and_stop<C: Core, R: Wait>(
     Played { seat, done }
 }
 
-/// What a thread does.
-pub fn play<C: Core, R: Wait>(
+// What a thread does, once all have begun.
+fn play_part<C: Core, R: Wait>(
     driver: &SharedDriver<C>,
     rt: &R,
     alloc: Global,
@@ -209,4 +210,25 @@ pub fn play<C: Core, R: Wait>(
         Role::Taker => take_and_stop(driver, rt, alloc, part, hall),
         _ => play_by_handle(driver, rt, alloc, part, hall),
     }
+}
+
+/// What a thread does, where all can begin.
+pub fn play<C: Core, R: Wait + Clock>(
+    driver: &SharedDriver<C>,
+    rt: &R,
+    alloc: Global,
+    part: SeatedRole<C>,
+    hall: &Hall,
+) -> Played<C>
+    requires own { part.seat.driver ≡ driver.now.id }
+    ensures own { result.seat.driver ≡ part.seat.driver }
+{
+    if !hall.start.begin(rt) {
+        let SeatedRole { seat, role: _ } = part;
+        return Played {
+            seat,
+            done: Err(LongError::Thread),
+        };
+    }
+    play_part(driver, rt, alloc, part, hall)
 }

@@ -11,6 +11,7 @@ use mdb_journal::Journal;
 use mdb_log::{Core, Log, Step};
 use mdb_shared::{Seat, SharedDriver};
 use std::alloc::Global;
+use std::rt::Clock;
 use std::sync::Wait;
 use std::thread::{Threads, map_vec};
 
@@ -125,7 +126,7 @@ fn seats_of<C: Core>(
 }
 
 // Each part in a thread of its own; the seats come back.
-fn play_all<C: Core, R: Threads + Wait + Sync>(
+fn play_all<C: Core, R: Threads + Wait + Clock + Sync>(
     driver: &SharedDriver<C>,
     rt: &R,
     alloc: Global,
@@ -147,7 +148,7 @@ fn play_all<C: Core, R: Threads + Wait + Sync>(
 }
 
 // Each seat plays its role in a thread of its own; the seats come back.
-fn play_roles<C: Core, R: Threads + Wait + Sync>(
+fn play_roles<C: Core, R: Threads + Wait + Clock + Sync>(
     driver: &SharedDriver<C>,
     rt: &R,
     alloc: Global,
@@ -174,7 +175,7 @@ fn greet<C: Core, R: Wait>(me: &mut Handle<'_, C, R>, alloc: Global) -> Result<(
 }
 
 // The pools become ready by the last seat, and each other seat plays its role; all seats come back.
-fn use_seats<C: Core, R: Threads + Wait + Sync>(
+fn use_seats<C: Core, R: Threads + Wait + Clock + Sync>(
     driver: &SharedDriver<C>,
     rt: &R,
     alloc: Global,
@@ -233,7 +234,7 @@ fn closed<C: Core>(
 }
 
 // Each role is played, and the driver is closed.
-fn play_parts<C: Core, R: Threads + Wait + Sync>(
+fn play_parts<C: Core, R: Threads + Wait + Clock + Sync>(
     driver: SharedDriver<C>,
     rt: &R,
     alloc: Global,
@@ -253,7 +254,7 @@ fn play_parts<C: Core, R: Threads + Wait + Sync>(
 }
 
 /// So many threads do so many rounds each at a driver of this core, while another takes the entries.
-pub fn share<C: Core, R: Threads + Wait + Sync>(
+pub fn share<C: Core, R: Threads + Wait + Clock + Sync>(
     rt: &R,
     alloc: Global,
     core: C,
@@ -265,7 +266,7 @@ pub fn share<C: Core, R: Threads + Wait + Sync>(
     requires threads { threads ≤ 32 }
 {
     let (driver, seats) = SharedDriver::new(alloc, core, log, threads + 3)?;
-    let hall = Hall::new(threads as u64);
+    let hall = Hall::new(threads + 2, threads as u64);
     let shared = play_parts(driver, rt, alloc, seats, rounds, &hall);
     drop(hall);
     shared

@@ -189,7 +189,7 @@ pub fn play<C: Core, R: Wait + Clock>(
     ensures own { result.seat.driver ≡ part.seat.driver }
 {
     let SeatedRole { seat, role } = part;
-    if !hall.begin(rt) {
+    if !hall.start.begin(rt) {
         return Played {
             seat,
             done: Err(DemoError::Thread),

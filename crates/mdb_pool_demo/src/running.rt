@@ -205,7 +205,7 @@ fn hall_of(roles: &[Role]) -> Hall {
         .iter()
         .filter(|role| matches!(**role, Role::Client(_)))
         .count();
-    Hall::new(roles.len() as u64, clients as u64)
+    Hall::new(roles.len() as u32, clients as u64)
 }
 
 // What the log tells of a run of which nobody took an entry.

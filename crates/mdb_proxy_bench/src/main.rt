@@ -10,6 +10,7 @@ mod plan;
 mod rounds;
 
 use mdb_base::ServerAddress;
+use mdb_lines::command_words;
 use mdb_log::{Core, Log};
 use mdb_proxies::{Proxy, ShareError};
 use mdb_topology::TopologyCore;
@@ -17,36 +18,17 @@ use opening::{Opening, Unopened};
 use plan::{Plan, USAGE};
 use rounds::Bench;
 use std::alloc::{AllocError, Global};
-use std::io::ErrorKind;
+use std::io;
 use std::process::ExitCode;
-use std::{env, io};
 
 const FAILED: u8 = 1;
 
 const WRONG_WORDS: u8 = 2;
 
-// The words of the command line; none where one of them is no text.
-fn words(rt: &HostRuntime) -> Result<Vec<String>, AllocError> {
-    let mut words = Vec::new(rt.alloc());
-    match env::args(rt) {
-        Ok(args) => {
-            for word in args.skip(1) {
-                words.push(word)?;
-            }
-        }
-        Err(e) => {
-            if e.kind() == ErrorKind::OutOfMemory {
-                return Err(AllocError);
-            }
-        }
-    }
-    Ok(words)
-}
-
 fn read_plan(rt: &HostRuntime) -> Result<Option<Plan>, AllocError>
     ensures { IfOk result (λ plan. IfSome plan IsWithin) }
 {
-    let words = words(rt)?;
+    let words = command_words(rt)?;
     let plan = Plan::read(words.as_slice());
     drop(words);
     Ok(plan)

@@ -1,4 +1,3 @@
-pub mod DriverCrossing
 pub mod Answered
 pub mod Ending
 pub mod Complete

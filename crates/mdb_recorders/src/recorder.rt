@@ -1,8 +1,8 @@
 //! Who takes the entries of a shared driver and hands them on.
 
-ghost use Rattle.std.specs.Prelude.{◌≡◌, ◌+◌, ◌<◌, ◌^◌, ◌∷◌, ◌++◌, [], length, drop, OnOk, OnErr};
+ghost use Rattle.std.specs.Prelude.{◌≡◌, ◌+◌, ◌<◌, ◌^◌, ◌∷◌, ◌++◌, [], length, drop, OnOk, OnErr, IfErr};
 ghost use Rattle.mdb_turns.specs.Stepping.{OnlySaw};
-ghost use Rattle.mdb_recorders.specs.Recording.{Follows};
+ghost use Rattle.mdb_recorders.specs.Recording.{Follows, Misses};
 
 use crate::handling::EntryHandler;
 use mdb_journal::Taken;
@@ -91,6 +91,7 @@ impl Recorder {
         ensures saw { OnlySaw seat.old seat.new }
         ensures handed { OnOk result (H.took handler.old handler.new (drop self.old.done seat.new.seen)) }
         ensures done { OnOk result (self.new ≡ record { done = length seat.new.seen; held = [] }) }
+        ensures missing { IfErr result (λ e. Misses e self.new seat.new.seen) }
         ensures follows { Follows self.new seat.new.seen }
     {
         match self.hand_on(alloc, handler) {

@@ -8,4 +8,3 @@ pub mod Opened
 pub mod Endings
 pub mod Complete
 pub mod Programs
-pub mod DriverCrossing

@@ -8,3 +8,4 @@ pub mod Publications
 pub mod DriverOpened
 pub mod WholeSteps
 pub mod Worked
+pub mod Crossing

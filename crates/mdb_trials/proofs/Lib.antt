@@ -1,3 +1,2 @@
 mod TotalCrossing
-mod DriverCrossing
 mod WorkerCrossing

@@ -1,5 +1,5 @@
 //! What threads with a role do at their seat of a shared driver: they establish connections, keep time, fill pools, wait for news, or report what was left at
-//! lack of memory. Beside it single calls of a driver, with what each adds to the entries of its seat.
+//! lack of memory. Beside it single calls of a driver, with what each adds to the entries of its seat, and a barrier at which all threads begin, or none.
 #![tactic(auto)]
 
 mod access;
@@ -10,6 +10,7 @@ mod listening;
 mod memory_establisher;
 mod persisting;
 mod serving;
+mod start_barrier;
 mod steps;
 mod ticking;
 mod working;
@@ -22,6 +23,7 @@ pub use listening::{Jobs, Woken, next_job, next_news};
 pub use memory_establisher::MemEstablisher;
 pub use persisting::{Unreturned, abandon, hand_back, report_left, stop, tend};
 pub use serving::serve;
+pub use start_barrier::StartBarrier;
 pub use steps::{add, ask, give_back, glance, let_go, pause, rest};
 pub use ticking::{keep_time, tick};
 pub use working::work;

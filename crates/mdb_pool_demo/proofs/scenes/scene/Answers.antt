@@ -1,4 +1,4 @@
-use Rattle.mdb_pool_demo.proofs.DriverCrossing.{drivers}
+use Rattle.mdb_topology.proofs.Crossing.{drivers}
 use Rattle.mdb_pool_demo.proofs.scenes.scene.Goals as goal
 
 pub play_out-requires-send-C : goal.play_out-requires-send-C

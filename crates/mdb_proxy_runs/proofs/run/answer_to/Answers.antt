@@ -7,7 +7,7 @@ use Rattle.mdb_proxy_runs.specs.ProxyRuns.{Steps, Answers}
 use Rattle.mdb_proxy_runs.proofs.Ending.{if-ok}
 use denote.Param.Send.{sendable}
 use Rattle.std.proofs.Crossing.{crosses}
-use Rattle.mdb_proxy_runs.proofs.DriverCrossing.{driver_crosses}
+use Rattle.mdb_topology.proofs.Crossing.{driver_crosses}
 use Rattle.mdb_proxy_runs.proofs.Answered.{answered}
 use Rattle.mdb_proxy_runs.proofs.run.answer_to.Goals as goal
 

@@ -5,7 +5,7 @@ use Rattle.mdb_proxy_runs.specs.ProxyScripts.{OpensFor}
 use Rattle.mdb_proxy_runs.specs.ProxyRuns.{opened, opening_text}
 use denote.Param.Send.{sendable}
 use Rattle.std.proofs.Crossing.{crosses}
-use Rattle.mdb_proxy_runs.proofs.DriverCrossing.{driver_crosses}
+use Rattle.mdb_topology.proofs.Crossing.{driver_crosses}
 use Rattle.mdb_proxy_runs.proofs.run.begin.Goals as goal
 
 pub log-requires-send-C : goal.log-requires-send-C

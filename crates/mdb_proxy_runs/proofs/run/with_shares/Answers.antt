@@ -4,7 +4,7 @@ use Rattle.mdb_proxy_runs.proofs.Answered.{played}
 use Rattle.mdb_proxy_runs.proofs.Ending.{second-last, second-ends, later-ends}
 use denote.Param.Send.{sendable}
 use Rattle.std.proofs.Crossing.{crosses}
-use Rattle.mdb_proxy_runs.proofs.DriverCrossing.{driver_crosses}
+use Rattle.mdb_topology.proofs.Crossing.{driver_crosses}
 use Rattle.mdb_proxy_runs.proofs.run.with_shares.Goals as goal
 
 pub close-core-requires-send-C : goal.close-core-requires-send-C

@@ -1,6 +1,6 @@
 use denote.Param.Send.{sendable}
 use Rattle.std.proofs.Crossing.{crosses}
-use Rattle.mdb_shared_runs.proofs.DriverCrossing.{driver_crosses}
+use Rattle.mdb_topology.proofs.Crossing.{driver_crosses}
 use Rattle.std.proofs.Common.{List, ◌-◌, length, take, drop, All, subst}
 use Rattle.mdb_log.specs.declared.log.Entry.{Entry}
 use Rattle.mdb_lines.specs.Spelling.{HasSpelling}

@@ -1,4 +1,4 @@
-use Rattle.mdb_trials.proofs.DriverCrossing.{drivers}
+use Rattle.mdb_topology.proofs.Crossing.{drivers}
 use Rattle.mdb_trials.proofs.drivers.seats.driver_log.Goals as goal
 
 pub log_of-requires-send-C : goal.log_of-requires-send-C
