@@ -205,7 +205,8 @@ fn hall_of(roles: &[Role]) -> Hall {
         .iter()
         .filter(|role| matches!(**role, Role::Client(_)))
         .count();
-    Hall::new(roles.len() as u32, clients as u64)
+    let parts = u32::try_from(roles.len()).unwrap_or(u32::MAX);
+    Hall::new(parts, clients as u64)
 }
 
 // What the log tells of a run of which nobody took an entry.

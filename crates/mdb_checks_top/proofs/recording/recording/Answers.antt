@@ -1,4 +1,4 @@
-use Rattle.mdb_checks_top.proofs.DriverCrossing.{drivers}
+use Rattle.mdb_topology.proofs.Crossing.{drivers}
 use Rattle.mdb_checks_top.proofs.recording.recording.Goals as goal
 
 pub share-requires-send-C : goal.share-requires-send-C
