@@ -1,5 +1,5 @@
 -- How often a pool was cleared, where memory keeps one count for each service and each gap between the connections that live.
-use Rattle.std.specs.Prelude.{ℕ, ◌≡◌, ◌<◌, ◌≤◌, ◌+◌, Bool, true, false, not, ◌&&◌, if◌then◌else◌, nat_lt, is_some, find, count_by, List, [], ◌∷◌, Option, Some, None, slice_get, ◌⊎◌}
+use Rattle.std.specs.Prelude.{ℕ, ◌≡◌, ◌<◌, ◌≤◌, ◌+◌, Bool, true, not, ◌&&◌, if◌then◌else◌, nat_lt, is_some, find, count_by, List, [], ◌∷◌, Option, Some, None, slice_get, ◌⊎◌}
 use Rattle.std.specs.List.{AllByRecursion}
 use Rattle.mdb_base.specs.declared.object_id.ObjectId.{ObjectId}
 use Rattle.mdb_log.specs.History.{same_service}

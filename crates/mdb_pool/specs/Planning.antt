@@ -1,7 +1,8 @@
 -- What a step does in its two parts: the answers of the first, and the pool that the second leads to.
-use Rattle.std.specs.Prelude.{ℕ, ◌≡◌, List, [], ◌∷◌, Option, Some, None}
+use Rattle.std.specs.Prelude.{ℕ, ◌≡◌, List, [], ◌∷◌, ◌++◌, Option, Some, None}
 use Rattle.mdb_base.specs.declared.address.ServerAddress.{ServerAddress}
 use Rattle.mdb_events.specs.declared.fact.Fact.{Fact}
+use Rattle.mdb_log.specs.declared.log.Entry.{Entry}
 use Rattle.mdb_log.specs.declared.options.PoolOptions.{PoolOptions}
 use Rattle.mdb_log.specs.declared.step.Step.{Step}
 use Rattle.mdb_log.specs.declared.step.Act.{Act}
@@ -55,6 +56,11 @@ DoesAll s t (step ∷ steps) told = (a : Answered) × (rest : List Answered) × 
 -- steps one after another, after which the pool keeps what this one keeps
 abbrev pub LeadsTo : PoolCore → PoolCore → List Step → List Answered → Type 0
 LeadsTo s t steps told = (u : PoolCore) × SameKept u t × DoesAll s u steps told
+
+-- the step is done and logged: the log has one entry more, with its reply and its facts
+abbrev pub DoesLogged : PoolCore → PoolCore → List Entry → List Entry → ℕ → Step → Reply → Type 0
+DoesLogged s t before after seat step reply = (facts : List Fact) × IsDone s t step (record { reply = reply; facts = facts })
+    × (after ≡ before ++ record { seat = seat; step = step; reply = reply; facts = facts } ∷ [])
 
 -- the answers to steps after a history, each after those before it
 abbrev pub answered_as : Answer → Answered

@@ -17,3 +17,4 @@ pub use mdb_log::{
     PoolGeneration, PoolOptions, PoolStamp, PooledConnection, Refused, Reply, Step, Use, What,
 };
 pub use pool_core::PoolCore;
+pub use steps::entering::enter;

@@ -90,7 +90,7 @@ impl PoolCore {
         PoolCore::made(alloc, pool, address, options, true)
     }
 
-    /// The same for a pool among others, of which the driver keeps the numbers of all parties: it is to be asked only by parties that are new to it.
+    /// A pool that was just made and is one of a driver's: a load-balanced one is ready, a normal one new. The driver keeps the numbers of all parties, so the pool is to be asked only by parties that are new to it.
     pub fn new_in_driver(
         alloc: Global,
         pool: u32,

@@ -1,5 +1,5 @@
 -- Counts of clears, one for each service and each gap between the connections that live, tell what all clears tell.
-use Rattle.std.proofs.Common.{◌≡◌, ℕ, zero, suc, ◌+◌, ◌≤◌, ◌<◌, Bool, true, false, not, ◌==◌, ◌&&◌, ◌||◌, if◌then◌else◌, is_some, Option, Some, None, List, [], ◌∷◌, ◌++◌, drop, length, filter, find, inl, inr, refl, sym, ◌∙◌, ap, subst, arith, add-one, drop-cons}
+use Rattle.std.proofs.Common.{◌≡◌, ℕ, zero, suc, ◌+◌, ◌≤◌, ◌<◌, Bool, true, false, not, ◌==◌, ◌&&◌, if◌then◌else◌, is_some, Option, Some, None, List, [], ◌∷◌, ◌++◌, drop, length, filter, find, inl, inr, refl, sym, ◌∙◌, ap, subst, arith, add-one, drop-cons}
 use Rattle.std.specs.Prelude.{nat_lt, count_by, slice_get, slice_set, slice_index_or}
 use Rattle.std.specs.List.{AllByRecursion}
 use Rattle.std.proofs.lemmas.Bool.Decides.{nat_tests}
@@ -15,8 +15,7 @@ use Rattle.mdb_pool.specs.declared.kept.marks.Marks.{Marks}
 use Rattle.mdb_pool.specs.declared.kept.status.Clear.{Clear}
 use Rattle.mdb_pool.specs.Clearing.{counts_at, weigh, parts_at, IsAsked, JoinsAt, Grown, ClearsFit}
 use Rattle.mdb_pool.specs.Inner.{Cleared}
-use Rattle.mdb_pool.specs.Kept.{connection_in, clears_for, clears_before, timeouts_in}
-use Rattle.mdb_pool.specs.Places.{is_available, is_pending}
+use Rattle.mdb_pool.specs.Kept.{connection_in, clears_for, clears_before}
 use Rattle.mdb_pool.proofs.Told.OrderOfIds.{same-id}
 use Rattle.mdb_pool.proofs.Follows.WholePool.{clears_for-append, clears_before-append, timeouts-append}
 use Rattle.mdb_pool.proofs.Listed.Values.{entry_at-others, entry_at-put, entry_at-swap_any}

@@ -10,7 +10,7 @@ use Rattle.mdb_pool.specs.declared.planning.Answered.{Answered}
 use Rattle.mdb_pool.specs.Inner.{Inner}
 use Rattle.mdb_pool.specs.Core.{PoolCore, SameKept}
 use Rattle.mdb_pool.specs.Standing.{Fits, StandsFor, SameHome, Accepts, Answers, Logs}
-use Rattle.mdb_pool.specs.Planning.{IsDone, IsPrepared}
+use Rattle.mdb_pool.specs.Planning.{DoesLogged, IsDone, IsPrepared}
 
 module _ (i : Inner) where
   abbrev with_inner : PoolCore → PoolCore
@@ -79,6 +79,9 @@ logs_same r s t before after seat step h e z = record { entry = z.entry; stands 
 
 pub done_same : (r s t : PoolCore) (step : Step) (a : Answered) → SameKept s t → IsDone r s step a → IsDone r t step a
 done_same r s t step a e z = subst (λ u. IsDone r u step a) (sym e) (done-with t.inner r s step a z)
+
+pub logged_same : (r s t : PoolCore) (before after : List Entry) (seat : ℕ) (step : Step) (reply : Reply) → SameKept s t → DoesLogged r s before after seat step reply → DoesLogged r t before after seat step reply
+logged_same r s t before after seat step reply e z = (z.0, done_same r s t step _ e z.1, z.2)
 
 pub prepared_same : (r s t : PoolCore) (steps : List Step) (told : List Answered) (h : List Item) → SameKept s t → IsPrepared r s steps told h → IsPrepared r t steps told h
 prepared_same r s t steps told h e z = record { answers = z.answers; stands = stands_same s t _ e z.stands; none_left = z.none_left }

@@ -43,7 +43,7 @@ impl Model for ClaimsRedo {
     ghost view = { λ t. record { created = t.created; claimed = record { numbers = t.all.value; last = t.last } } };
 }
 
-// The same numbers.
+// What is told is the list of numbers that is given.
 struct Same;
 
 impl Tells<Past<u32>, u32> for Same {

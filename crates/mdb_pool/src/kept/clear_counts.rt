@@ -42,7 +42,7 @@ impl Model for ClearCountsRedo {
     ghost view = { λ t. record { all = t.all.value; marks = t.marks } };
 }
 
-// The same clears.
+// What is told is the list of clears that is given.
 struct Same;
 
 impl Tells<Past<Clear>, Clear> for Same {

@@ -33,14 +33,14 @@ pub struct RequestParts {
     pub settled_base: Past<u32>,
 }
 
-/// The same requests.
+/// What is told is the list of requests that is given.
 pub struct SameRequests;
 
 impl Tells<Past<Request>, Request> for SameRequests {
     ghost told = { λ p. p.value };
 }
 
-/// The same numbers.
+/// What is told is the list of numbers that is given.
 pub struct SameNumbers;
 
 impl Tells<Past<u32>, u32> for SameNumbers {

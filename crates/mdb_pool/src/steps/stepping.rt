@@ -11,7 +11,7 @@ use mdb_events::Fact;
 use std::alloc::{AllocError, Global};
 
 // How many facts the act makes as a rule.
-fn usual_facts(act: &Act) -> usize {
+pub(crate) fn usual_facts(act: &Act) -> usize {
     match act {
         Act::Request(_, _) => 3,
         Act::Established(_, _, _) => 2,

@@ -1,4 +1,4 @@
-use Rattle.std.proofs.Common.{◌≡◌, ◌&&◌, not, List, filter, find, length, sym, ◌∙◌, ap}
+use Rattle.std.proofs.Common.{not, List, filter, find, sym, ◌∙◌, ap}
 use Rattle.std.specs.Prelude.{option_copied}
 use Rattle.mdb_pool.specs.Places.{is_queued}
 use Rattle.mdb_pool.specs.declared.kept.request.Request.{Request}

@@ -1,4 +1,4 @@
-use Rattle.std.proofs.Common.{rules, ◌∙◌}
+use Rattle.std.proofs.Common.{◌∙◌}
 use Rattle.mdb_pool.proofs.kept.connections.Connections.generation.Goals as goal
 
 pub count-requires : goal.count-requires

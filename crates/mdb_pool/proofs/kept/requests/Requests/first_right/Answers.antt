@@ -1,4 +1,4 @@
-use Rattle.std.proofs.Common.{filter, find, sym, ◌∙◌, ap}
+use Rattle.std.proofs.Common.{filter, find, ◌∙◌, ap}
 use Rattle.mdb_pool.specs.declared.kept.request.Request.{Request}
 use Rattle.mdb_pool.specs.Places.{is_queued}
 use Rattle.mdb_pool.proofs.KeptInLittle.RequestsThatStay.{first-kept, queued-kept, queued-open}

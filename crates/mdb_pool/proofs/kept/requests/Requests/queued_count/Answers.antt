@@ -1,4 +1,4 @@
-use Rattle.std.proofs.Common.{◌&&◌, None, filter, length, sym, ◌∙◌, ap}
+use Rattle.std.proofs.Common.{filter, length, sym, ◌∙◌, ap}
 use Rattle.std.proofs.lemmas.List.Sums.{length-filter}
 use Rattle.mdb_pool.specs.declared.kept.request.Request.{Request}
 use Rattle.mdb_pool.specs.Places.{is_queued}
