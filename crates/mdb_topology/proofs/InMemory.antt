@@ -5,3 +5,4 @@ pub mod NewParties
 pub mod StillLives
 pub mod WatchedPools
 pub mod GonePools
+pub mod FoundLast

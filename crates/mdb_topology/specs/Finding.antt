@@ -1,5 +1,6 @@
 -- Which of the pools an act concerns, by what they keep, and why it is refused where it concerns none.
 use Rattle.std.specs.Prelude.{ℕ, Bool, true, false, if◌then◌else◌, is_some, List, position, Option, Some, None}
+use Rattle.mdb_base.specs.declared.address.ServerAddress.{ServerAddress}
 use Rattle.mdb_log.specs.declared.step.Act.{Act}
 use Rattle.mdb_log.specs.declared.step.Act.TheVariants.{Request, Warm, Maintain, Expire, Collect, Claim, GiveUp, Established, Return, Pin, Replicate, Take, Unpin}
 use Rattle.mdb_log.specs.declared.reply.Refused.{Refused}
@@ -7,7 +8,7 @@ use Rattle.mdb_log.specs.declared.reply.Refused.TheVariants.{UnknownServer, Requ
 use Rattle.mdb_pool.specs.Core.{PoolCore}
 use Rattle.mdb_pool.specs.Kept.{is_open_now, held_connection, first_unclaimed}
 use Rattle.mdb_topology.specs.Living.{lives_at}
-use Rattle.mdb_topology.specs.Standing.{at_address, knows}
+use Rattle.mdb_topology.specs.Standing.{at_address, is_open_at, knows}
 
 -- The acts of one pool that clear none.
 abbrev pub is_pool_act : Act → Bool
@@ -41,6 +42,21 @@ first_job pools = position (λ s. is_some (first_unclaimed s)) pools
 -- the pool with the number, where something lives in it
 abbrev pub numbered : List PoolCore → ℕ → Option ℕ
 numbered pools p = if lives_at pools p then Some p else None
+
+-- there is a pool, and the request is open in it
+abbrev pub asks_in : Option PoolCore → ℕ → Bool
+asks_in None r = false
+asks_in (Some s) r = is_open_now s r
+
+-- there is a pool, and the party holds a connection of it
+abbrev pub holds_in : Option PoolCore → ℕ → Bool
+holds_in None r = false
+holds_in (Some s) r = is_some (held_connection s r)
+
+-- there is a pool, and it is open at the address
+abbrev pub opens_in : Option PoolCore → ServerAddress → Bool
+opens_in None a = false
+opens_in (Some s) a = is_open_at a s
 
 -- the pool that the act concerns
 abbrev pub index_of : List PoolCore → Act → Option ℕ

@@ -27,6 +27,7 @@ pub mod Limits
 pub mod Naming
 pub mod Checking
 pub mod Stepping
+pub mod Entering
 pub mod Changing
 pub mod Marking
 pub mod Complaining

@@ -1,5 +1,5 @@
 -- The pools of a driver in which something lives: memory keeps those, and no others.
-use Rattle.std.specs.Prelude.{ℕ, suc, ◌==◌, Bool, true, false, not, if◌then◌else◌, List, [], ◌∷◌, position, remove, slice_get, Option, Some, None}
+use Rattle.std.specs.Prelude.{ℕ, suc, ◌==◌, Bool, false, not, if◌then◌else◌, List, [], ◌∷◌, position, remove, slice_get, Option, Some, None}
 use Rattle.mdb_pool.specs.Core.{PoolCore}
 use Rattle.mdb_pool.specs.Kept.{is_spent}
 use Rattle.mdb_topology.specs.declared.pools.placed.Placed.{Placed}
@@ -43,3 +43,8 @@ left_at xs i = on (slice_get xs i)
     on : Option Placed → List Placed
     on None = xs
     on (Some x) = if is_spent x.core then remove xs i else xs
+
+-- the one that was read, where its place is p
+abbrev pub if_at : ℕ → Option Placed → Option Placed
+if_at p None = None
+if_at p (Some x) = if x.place == p then Some x else None

@@ -1,10 +1,11 @@
 -- What becomes of a step of one pool.
-use Rattle.std.specs.Prelude.{ℕ, ◌≡◌, false, List, [], ◌∷◌, ◌++◌, set, slice_get, Some, ⊤}
+use Rattle.std.specs.Prelude.{ℕ, ◌≡◌, false, List, [], ◌∷◌, ◌++◌, set, slice_get, Option, Some, None, ⊤}
 use Rattle.mdb_base.specs.declared.options.Options.{Options}
 use Rattle.mdb_events.specs.declared.fact.Fact.{Fact}
 use Rattle.mdb_log.specs.declared.step.Step.{Step}
 use Rattle.mdb_log.specs.declared.reply.Reply.{Reply}
 use Rattle.mdb_log.specs.declared.reply.Reply.TheVariants.{NoJob}
+use Rattle.mdb_log.specs.declared.reply.Refused.{Refused as Why}
 use Rattle.mdb_log.specs.History.{Item, did, last_moment, with_answer}
 use Rattle.mdb_log.specs.LegalLog.{IsFairAnswer}
 use Rattle.mdb_log.specs.Own.{IsAccepted}
@@ -12,10 +13,11 @@ use Rattle.mdb_log.specs.Beside.{AllFreshGrants}
 use Rattle.mdb_log.specs.Opening.{pool_options}
 use Rattle.mdb_pool.specs.Core.{PoolCore}
 use Rattle.mdb_pool.specs.Kept.{is_spent}
-use Rattle.mdb_pool.specs.Planning.{Plans, IsPlanOf}
-use Rattle.mdb_pool.specs.Standing.{SameHome}
+use Rattle.mdb_pool.specs.Planning.{IsDone}
+use Rattle.mdb_pool.specs.Refusing.{refusal_now}
+use Rattle.mdb_pool.specs.declared.planning.Answered.{Answered}
 use Rattle.mdb_topology.specs.declared.pools.pool_decision.PoolDecision.{PoolDecision}
-use Rattle.mdb_topology.specs.declared.pools.pool_decision.PoolDecision.TheVariants.{Refused, Idle, Planned}
+use Rattle.mdb_topology.specs.declared.pools.pool_decision.PoolDecision.TheVariants.{Refused, Idle, Concerns}
 use Rattle.mdb_topology.specs.Answer.{answer}
 use Rattle.mdb_topology.specs.Refusal.{refusal}
 use Rattle.mdb_topology.specs.Standing.{PoolsStand}
@@ -37,13 +39,18 @@ pub record Rests (o : Options) (pools : List PoolCore) (step : Step) (h : List I
   pub stands : PoolsStand (pool_options o) pools (with_answer step NoJob [] h)
   pub fair : IsFairAnswer h step NoJob []
 
+-- why the step is refused, where it is
+abbrev pub cause_of : PoolDecision → Option Why
+cause_of (Refused why) = Some why
+cause_of _ = None
+
 -- What becomes of the step after the history: it is refused by its cause, or accepted as its answer says.
 abbrev pub Performs : Options → List PoolCore → Step → PoolDecision → List Item → Type 0
 Performs o pools step (Refused why) h = refusal o h step ≡ Some why
 Performs o pools step Idle h = Rests o pools step h
-Performs o pools step (Planned i plan told) h = (s t : PoolCore) → slice_get pools i ≡ Some s → Plans plan s t → Takes o pools i t [] told.facts step told.reply h
+Performs o pools step (Concerns i) h = (refusal o h step ≡ None) × ((s t : PoolCore) (told : Answered) → slice_get pools i ≡ Some s → IsDone s t step told → Takes o pools i t [] told.facts step told.reply h)
 
--- The plan is of the pool that is there now, in which something lives; the pool that it leads to stays at home, and its last moment is that of the step.
+-- The pool that the step concerns is there, something lives in it, and it does not refuse the step.
 abbrev pub IsReady : List PoolCore → Step → PoolDecision → Type 0
-IsReady pools step (Planned i plan told) = (s : PoolCore) × (slice_get pools i ≡ Some s) × IsPlanOf plan s × ((t : PoolCore) → Plans plan s t → SameHome s t × (t.last ≡ step.moment)) × (is_spent s ≡ false)
+IsReady pools step (Concerns i) = (s : PoolCore) × (slice_get pools i ≡ Some s) × (refusal_now s step ≡ None) × (is_spent s ≡ false)
 IsReady pools step outcome = ⊤

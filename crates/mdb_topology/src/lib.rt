@@ -3,6 +3,7 @@
 
 mod driver;
 mod driver_core;
+mod entering;
 mod errors;
 mod handshake;
 mod knowing;

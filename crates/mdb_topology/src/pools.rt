@@ -7,6 +7,7 @@ pub mod clearing;
 pub mod cores;
 pub mod failing_pools;
 pub mod finding;
+pub mod hints;
 pub mod placed;
 pub mod planning;
 pub mod pool_change;

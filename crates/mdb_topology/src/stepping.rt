@@ -4,44 +4,19 @@ ghost use Rattle.std.specs.Prelude.{◌≡◌, ◌≤◌, ◌+◌, ◌++◌, ◌
 ghost use Rattle.mdb_log.specs.Connections.{has, one_if};
 ghost use Rattle.mdb_topology.specs.Stepping.{is_driver_act};
 
+use crate::entering::refuse;
 use crate::monitors::monitor_list::Monitors;
 use crate::monitors::monitoring::Monitoring;
 use crate::pools::acting::is_pool_act;
 use crate::pools::pool_change::PoolChange;
-use crate::pools::pool_decision::PoolDecision;
 use crate::topology::TopologyCore;
 use crate::transition::{Decision, Transition};
 use mdb_base::{Moment, OutOfMemory};
 use mdb_describe::TopologyDescription;
-use mdb_events::Fact;
 use mdb_log::{Act, HelloResult, Log, Refused, Reply, Step};
 use mdb_monitor::MonitorCore;
-use std::alloc::{AllocError, Global};
-
-// The log gets one entry more, of a copy of the step. The answer is a copy of the reply.
-fn enter(
-    log: &mut Log,
-    seat: u32,
-    step: &Step,
-    reply: Reply,
-    facts: Vec<Fact>,
-) -> Result<Reply, AllocError>
-    ensures ok { OnOk result (log.new ≡ log.old ++ record { seat = seat; step = step.now; reply = reply; facts = facts.items } ∷ []) }
-    ensures reply { IfOk result (λ told. told ≡ reply) }
-    ensures err { OnErr result (log.new ≡ log.old) }
-{
-    match reply.clone() {
-        Ok(told) => {
-            log.enter(seat, step, reply, facts)?;
-            Ok(told)
-        }
-        Err(e) => {
-            drop(reply);
-            drop(facts);
-            Err(e)
-        }
-    }
-}
+use mdb_pool::enter;
+use std::alloc::Global;
 
 // More monitors, for which there is room.
 fn push_all(monitors: &mut Monitors, more: Vec<MonitorCore>)
@@ -164,8 +139,8 @@ impl TopologyCore {
         }
     }
 
-    // An accepted step is logged and done.
-    fn accept(
+    /// An accepted step is logged and done.
+    pub(crate) fn accept(
         &mut self,
         log: &mut Log,
         seat: u32,
@@ -247,41 +222,6 @@ impl TopologyCore {
         }
     }
 
-    // What becomes of an act of one pool.
-    fn pool_act(&mut self, alloc: Global, step: &Step) -> Result<Decision, OutOfMemory>
-        requires stands { StandsForSome self.old }
-        requires in_time { self.old.pools.last ≤ step.now.moment }
-        requires act { is_pool_act step.now.act ≡ true }
-        ensures same { self.new ≡ self.old }
-        ensures becomes { IfOk result (λ stepped. (h : List Item) → StandsFor self.old h → BecomesOf self.old step.now stepped h) }
-        ensures wants { OnErr result ((h : List Item) → StandsFor self.old h → MayWant self.old step.now h) }
-    {
-        match self.pools.act(alloc, step)? {
-            PoolDecision::Refused(why) => Ok(Decision::Refused(why)),
-            PoolDecision::Idle => Ok(Decision::Accepted(Transition::of_reply(alloc, Reply::NoJob))),
-            PoolDecision::Planned(index, plan, told) => {
-                Ok(Decision::Accepted(Transition::of_pool(alloc, index, plan, told)?))
-            }
-        }
-    }
-
-    // What becomes of the step, before any of it is done.
-    fn becomes(&mut self, alloc: Global, step: &Step) -> Result<Decision, OutOfMemory>
-        requires stands { StandsForSome self.old }
-        requires act { IsDriverAct step.now.act }
-        ensures same { self.new ≡ self.old }
-        ensures becomes { IfOk result (λ stepped. (h : List Item) → StandsFor self.old h → BecomesOf self.old step.now stepped h) }
-        ensures wants { OnErr result ((h : List Item) → StandsFor self.old h → MayWant self.old step.now h) }
-    {
-        if step.moment < self.pools.last {
-            return Ok(Decision::Refused(Refused::TimeBack(self.pools.last)));
-        }
-        if is_pool_act(&step.act) {
-            return self.pool_act(alloc, step);
-        }
-        self.topology_act(alloc, step)
-    }
-
     /// Why the driver would refuse the step, `None` where it would accept it. Nothing changes. The answer is `OutOfMemory` only where the step would not be refused, where by a reply more than 128 servers
     /// would be known or a pool would come whose number is past the limit (that shows only in what would be known then), or where a check begins over a connection whose number is. Any other refused step
     /// is lost for lack of memory for its entry in the log alone.
@@ -292,7 +232,13 @@ impl TopologyCore {
         ensures why { IfOk result (λ why. (h : List Item) → StandsFor self.old h → why ≡ refusal self.old.options h step.now) }
         ensures wants { OnErr result ((h : List Item) → StandsFor self.old h → may_want self.old.options h step.now ≡ true) }
     {
-        match self.becomes(alloc, step)? {
+        if step.moment < self.pools.last {
+            return Ok(Some(Refused::TimeBack(self.pools.last)));
+        }
+        if is_pool_act(&step.act) {
+            return Ok(self.pools.act(step).refusal());
+        }
+        match self.topology_act(alloc, step)? {
             Decision::Refused(why) => Ok(Some(why)),
             Decision::Accepted(next) => {
                 drop(next);
@@ -317,11 +263,15 @@ impl TopologyCore {
         ensures err_core { OnErr result (IsSame self.old self.new) }
         ensures err_log { OnErr result (log.new ≡ log.old) }
     {
-        match self.becomes(alloc, step)? {
-            Decision::Refused(why) => {
-                let reply = Reply::Refused(why);
-                Ok(enter(log, seat, step, reply, Vec::new(alloc))?)
-            }
+        if step.moment < self.pools.last {
+            let why = Refused::TimeBack(self.pools.last);
+            return Ok(refuse(alloc, log, seat, step, why)?);
+        }
+        if is_pool_act(&step.act) {
+            return self.enter_pool_step(alloc, log, seat, step);
+        }
+        match self.topology_act(alloc, step)? {
+            Decision::Refused(why) => Ok(refuse(alloc, log, seat, step, why)?),
             Decision::Accepted(next) => self.accept(log, seat, step, next),
         }
     }

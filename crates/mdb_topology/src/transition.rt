@@ -1,7 +1,6 @@
 //! What becomes of a step of a driver.
 
-ghost use Rattle.std.specs.Prelude.{◌≡◌, ◌∷◌, [], IfOk, false, None};
-ghost use Rattle.mdb_topology.specs.declared.pools.pool_change.PoolChange.TheVariants.{Alter};
+ghost use Rattle.std.specs.Prelude.{◌≡◌, [], IfOk, false, None};
 ghost use Rattle.mdb_topology.specs.declared.monitors.monitoring.Monitoring.TheVariants.{Same};
 
 use crate::known::sdam_facts::sdam_fact;
@@ -11,7 +10,6 @@ use mdb_describe::TopologyDescription;
 use mdb_events::{Fact, SdamEvent};
 use mdb_log::{Refused, Reply};
 use mdb_monitor::MonitorCore;
-use mdb_pool::planning::{Answered, Plan};
 use std::alloc::{AllocError, Global};
 
 /// What an accepted step makes of a driver, with all memory that it needs.
@@ -49,38 +47,6 @@ impl Transition {
             monitors: Vec::new(alloc),
             monitoring: Monitoring::Same,
             stops: false,
-        }
-    }
-}
-
-impl Transition {
-    /// What one pool answers, with the change of it.
-    pub(crate) fn of_pool(
-        alloc: Global,
-        index: usize,
-        plan: Plan,
-        told: Answered,
-    ) -> Result<Transition, AllocError>
-        ensures reply { IfOk result (λ next. next.reply ≡ told.reply) }
-        ensures facts { IfOk result (λ next. next.facts.items ≡ told.facts) }
-        ensures changes { IfOk result (λ next. next.changes.items ≡ Alter index plan ∷ []) }
-        ensures description { IfOk result (λ next. next.description ≡ None) }
-        ensures monitors { IfOk result (λ next. next.monitors.items ≡ []) }
-        ensures monitoring { IfOk result (λ next. next.monitoring ≡ Same) }
-        ensures stops { IfOk result (λ next. next.stops ≡ false) }
-    {
-        let mut changes = Vec::new(alloc);
-        match changes.push(PoolChange::Alter(index, plan)) {
-            Ok(()) => Ok(Transition {
-                facts: told.facts.into_inner(),
-                changes,
-                ..Transition::of_reply(alloc, told.reply)
-            }),
-            Err(e) => {
-                drop(told);
-                drop(changes);
-                Err(e.into())
-            }
         }
     }
 }

@@ -1,16 +1,15 @@
 -- The log of a script's driver is legal, and keeps what is said beside it.
-use Rattle.std.proofs.Common.{ℕ, ◌≡◌, true, false, List, [], ◌∷◌, ◌++◌, Option, Some, None, refl, sym, ◌∙◌, ap, subst}
+use Rattle.std.proofs.Common.{ℕ, ◌≡◌, true, List, [], ◌∷◌, ◌++◌, Option, Some, None, sym, ◌∙◌, ap, subst}
 use Rattle.mdb_base.specs.declared.options.Options.{Options}
 use Rattle.mdb_log.specs.declared.log.Entry.{Entry}
 use Rattle.mdb_log.specs.declared.step.Step.{Step}
-use Rattle.mdb_log.specs.declared.step.Act.{Act}
 use Rattle.mdb_log.specs.declared.step.Act.TheVariants as Do
 use Rattle.mdb_base.specs.OptionRules.{broken_rule}
 use Rattle.mdb_log.specs.Beside.{EntriesGrantFresh}
 use Rattle.mdb_log.specs.History.{Item, of_pool, history_of}
 use Rattle.mdb_log.specs.Limits.{WithinLimits}
 use Rattle.mdb_log.specs.LegalLog.{IsLegalLog, IsLegal, IsOrderly, OpensSeeds}
-use Rattle.mdb_log.specs.Opening.{is_opening, pool_options}
+use Rattle.mdb_log.specs.Opening.{pool_options}
 use Rattle.mdb_topology.specs.declared.topology.TopologyCore.{TopologyCore}
 use Rattle.mdb_topology.specs.Lines.{entry_after, options_in}
 use Rattle.mdb_topology.specs.Standing.{StandsFor, IsSame}

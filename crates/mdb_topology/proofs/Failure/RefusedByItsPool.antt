@@ -1,5 +1,5 @@
 -- Which pool a failure concerns, and why it is refused, is what that pool says.
-use Rattle.std.proofs.Common.{ℕ, ◌≡◌, ◌≢◌, ◌≤◌, ◌<◌, ◌==◌, ◌&&◌, Bool, true, false, not, List, [], ◌∷◌, length, Some, None, nat_lt, refl, ◌∙◌, ap, arith}
+use Rattle.std.proofs.Common.{ℕ, ◌≡◌, ◌≢◌, ◌≤◌, ◌==◌, ◌&&◌, Bool, true, false, not, List, [], ◌∷◌, Some, None, nat_lt, refl, ◌∙◌, arith}
 use Rattle.std.specs.Prelude.{slice_get}
 use Rattle.std.proofs.lemmas.Bool.Decides.{nat_tests}
 use Rattle.mdb_base.specs.declared.error.Error.{Error}
@@ -28,7 +28,6 @@ use Rattle.mdb_topology.proofs.OnePool.FoundAt.{number-at, placed-by-number}
 use Rattle.mdb_topology.proofs.OnePool.PlannedAct.{all-at}
 use Rattle.mdb_topology.proofs.OnePool.RefusedByItsRows.{no-pending, pending-here}
 use Rattle.mdb_topology.proofs.Publications.WhichSteps.{in-time}
-use Rattle.std.proofs.lemmas.Option.{slice_get_within}
 
 -- before the hello there is no service
 no-second : (p b : Bool) (x y : Refused) → first_row ((p, x) ∷ []) ≡ first_row ((p, x) ∷ (b && false, y) ∷ [])

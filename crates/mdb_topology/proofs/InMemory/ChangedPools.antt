@@ -1,5 +1,5 @@
 -- One pool changes, or one more comes: what memory has then.
-use Rattle.std.proofs.Common.{ℕ, zero, suc, ◌≡◌, ◌+◌, ◌<◌, ◌≤◌, ◌==◌, Bool, true, false, List, [], ◌∷◌, ◌++◌, length, map, set, position, Option, Some, None, refl, sym, ◌∙◌, ap, append-nil, get_or, subst, arith}
+use Rattle.std.proofs.Common.{ℕ, zero, suc, ◌≡◌, ◌+◌, ◌<◌, ◌≤◌, ◌==◌, Bool, true, false, List, [], ◌∷◌, ◌++◌, length, set, position, Option, Some, None, refl, sym, ◌∙◌, ap, append-nil, get_or, subst, arith}
 use Rattle.std.specs.Prelude.{option_map, remove, slice_get}
 use Rattle.std.proofs.lemmas.Bool.Decides.{nat_tests}
 use Rattle.std.proofs.lemmas.Option.{slice_get_read, slice_get_within}

@@ -1,5 +1,5 @@
 -- Of a pool that a driver does not hand out nothing lives.
-use Rattle.std.proofs.Common.{ℕ, ◌≡◌, ◌&&◌, Bool, true, false, not, List, [], ◌==◌, is_some, nat_lt, Option, Some, None, refl, sym, ◌∙◌, ap, subst, arith}
+use Rattle.std.proofs.Common.{ℕ, ◌≡◌, ◌&&◌, Bool, true, false, not, List, ◌==◌, Option, Some, None, refl, sym, ◌∙◌, ap, subst, arith}
 use Rattle.std.proofs.lemmas.Bool.Decides.{nat_tests}
 use Rattle.std.specs.Prelude.{slice_get}
 use Rattle.mdb_base.specs.declared.address.ServerAddress.{ServerAddress}
@@ -9,13 +9,13 @@ use Rattle.mdb_log.specs.History.{Item, of_pool, open_pool, has_asked}
 use Rattle.mdb_log.specs.Opening.{pool_options}
 use Rattle.mdb_log.specs.Requests.{is_open}
 use Rattle.mdb_pool.specs.Core.{PoolCore}
-use Rattle.mdb_pool.specs.Kept.{connection_at, is_asked_at, is_open_now, is_spent, request_at}
+use Rattle.mdb_pool.specs.Kept.{is_asked_at, is_spent, request_at}
 use Rattle.mdb_pool.specs.Standing.{Fits}
 use Rattle.mdb_pool.proofs.Answered.Act.{holding-is}
 use Rattle.mdb_pool.proofs.Follows.Fits.{asked-known}
 use Rattle.mdb_pool.proofs.KeptInLittle.NothingLives.{none-held, none-open, none-there}
 use Rattle.mdb_pool.proofs.Listed.FirstOrLast.{id_or}
-use Rattle.mdb_topology.specs.Living.{if_lives, lives_at, living_at}
+use Rattle.mdb_topology.specs.Living.{lives_at, living_at}
 use Rattle.mdb_topology.specs.Standing.{at_address, IsGone, PoolsFit}
 use Rattle.mdb_topology.specs.Stepping.{is_here_among}
 use Rattle.mdb_topology.proofs.OnePool.FoundAt.{fits-at, number-at, open-lives}

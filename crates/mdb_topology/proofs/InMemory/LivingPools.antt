@@ -1,16 +1,15 @@
 -- What is found among the pools in which something lives is what is found among all pools.
-use Rattle.std.proofs.Common.{ℕ, zero, suc, ◌≡◌, ◌+◌, ◌<◌, ◌==◌, ◌&&◌, Bool, true, false, not, List, [], ◌∷◌, length, find, position, nat_lt, is_some, Bor, Option, Some, None, refl, sym, ◌∙◌, ap, subst, arith}
-use Rattle.std.specs.Prelude.{cond, option_copied, option_map, slice_get}
+use Rattle.std.proofs.Common.{ℕ, zero, suc, ◌≡◌, ◌+◌, ◌<◌, ◌==◌, Bool, true, false, not, List, [], ◌∷◌, length, find, position, nat_lt, is_some, Bor, Option, Some, None, refl, sym, ◌∙◌, ap, arith}
+use Rattle.std.specs.Prelude.{option_copied, option_map, slice_get}
 use Rattle.std.specs.List.{position_or_len}
 use Rattle.std.proofs.lemmas.Bool.Decides.{nat_tests}
 use Rattle.std.proofs.lemmas.Option.{slice_get_within}
 use Rattle.mdb_base.specs.declared.address.ServerAddress.{ServerAddress}
-use Rattle.mdb_base.specs.Equality.{same_address}
 use Rattle.mdb_pool.specs.Core.{PoolCore}
-use Rattle.mdb_pool.specs.Kept.{first_unclaimed, held_connection, is_open_now, is_shut, is_spent}
+use Rattle.mdb_pool.specs.Kept.{first_unclaimed, held_connection, is_open_now, is_spent}
 use Rattle.mdb_pool.proofs.KeptInLittle.NothingLives.{spent-shut, none-held, none-open, none-unclaimed}
 use Rattle.mdb_topology.specs.declared.pools.placed.Placed.{Placed}
-use Rattle.mdb_topology.specs.Living.{if_lives, index_in, lives_at, lives_in, living_at, living_from}
+use Rattle.mdb_topology.specs.Living.{if_lives, lives_at, lives_in, living_at, living_from}
 use Rattle.mdb_topology.specs.Standing.{is_open_at}
 use Rattle.mdb_topology.proofs.General.OneElement.{position-at}
 

@@ -1,5 +1,5 @@
 -- A pool that is asked by a party that no pool knows can tell so; and one whose connection fails lives.
-use Rattle.std.proofs.Common.{ℕ, ◌≡◌, ◌==◌, Bool, true, false, not, ◌&&◌, ◌||◌, List, is_some, None, Some, refl, sym, ◌∙◌, ap, subst, arith}
+use Rattle.std.proofs.Common.{ℕ, ◌≡◌, ◌==◌, Bool, true, false, not, ◌&&◌, ◌||◌, List, is_some, None, Some, refl, sym, subst, arith}
 use Rattle.std.specs.Prelude.{nat_lt, slice_get}
 use Rattle.std.proofs.lemmas.Bool.Decides.{nat_tests}
 use Rattle.mdb_base.specs.declared.error.Error.{Error}
@@ -12,12 +12,11 @@ use Rattle.mdb_log.specs.Requests.{names_party}
 use Rattle.mdb_pool.specs.Core.{PoolCore}
 use Rattle.mdb_pool.specs.Kept.{connection_at, is_pending_at, is_spent, request_at}
 use Rattle.mdb_pool.specs.Refusal.{first_row}
-use Rattle.mdb_pool.specs.Refusing.{can_tell, is_pending_here, refusal_now, rows_now, tells_new, NameNobody, TellsNew}
+use Rattle.mdb_pool.specs.Refusing.{can_tell, is_pending_here, rows_now, tells_new}
 use Rattle.mdb_pool.proofs.Answered.Item.{both-true, first-passes, not-false, two-pass}
 use Rattle.mdb_pool.proofs.KeptInLittle.NothingLives.{none-pending}
 use Rattle.mdb_topology.specs.Failing.{IsFailing}
 use Rattle.mdb_topology.specs.Finding.{named_by, names_known}
-use Rattle.mdb_topology.specs.Standing.{knows}
 use Rattle.mdb_topology.proofs.General.OneElement.{any-none}
 
 can-new : (s : PoolCore) (r : ℕ) → is_some (request_at s r) ≡ false → can_tell s r ≡ true

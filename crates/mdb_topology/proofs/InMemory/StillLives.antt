@@ -1,5 +1,5 @@
 -- A pool in which something lives after a step is one in which something lived before, or one that came with the step.
-use Rattle.std.proofs.Common.{ℕ, zero, suc, ◌≡◌, ◌+◌, ◌≤◌, ◌<◌, Bool, true, false, List, [], ◌∷◌, ◌++◌, length, set, Option, Some, None, ◌⊎◌, inl, inr, refl, sym, ◌∙◌, ap, subst, arith, nat_lt}
+use Rattle.std.proofs.Common.{ℕ, zero, suc, ◌≡◌, ◌+◌, ◌≤◌, ◌<◌, Bool, true, false, List, [], ◌∷◌, ◌++◌, length, set, Some, ◌⊎◌, inl, inr, refl, sym, ◌∙◌, ap, subst, arith, nat_lt}
 use Rattle.std.specs.Prelude.{slice_get}
 use Rattle.std.proofs.lemmas.Bool.Decides.{nat_tests}
 use Rattle.std.proofs.lemmas.List.{length-set}
@@ -29,15 +29,17 @@ length-last (x ∷ xs) y = ap suc (length-last xs y) ∙ (let e : suc (length xs
 abbrev pub Lived : List PoolCore → ℕ → Type 0
 Lived pools p = (lives_at pools p ≡ true) ⊎ (length pools ≤ p)
 
+-- one pool changes at its place
+pub lived-before : (pools : List PoolCore) (i p : ℕ) (s t : PoolCore) → slice_get pools i ≡ Some s → is_spent s ≡ false → lives_at (set pools i t) p ≡ true → lives_at pools p ≡ true
+lived-before pools i p s t at lives after = on (place pools i s t at p)
+  where
+    on : Place pools i t p → lives_at pools p ≡ true
+    on (at_it w e) = subst (λ j. lives_at pools j ≡ true) w (lives-of pools i s at lives)
+    on (beside ne e) = ap lives_in (sym e) ∙ after
+
 one-change : (x : PoolChange) (pools between : List PoolCore) (p : ℕ) → Leads x pools between → Lived between p → Lived pools p
 one-change (Alter i plan) pools between p f (inl k) =
-    let s = f.0 in let t = f.1 in
-    let after : lives_at (set pools i t) p ≡ true = subst (λ (v : List PoolCore). lives_at v p ≡ true) f.4 k in
-    on s t f.2 f.5 after (place pools i s t f.2 p)
-  where
-    on : (s t : PoolCore) → slice_get pools i ≡ Some s → is_spent s ≡ false → lives_at (set pools i t) p ≡ true → Place pools i t p → Lived pools p
-    on s t at lives after (at_it w e) = inl (subst (λ j. lives_at pools j ≡ true) w (lives-of pools i s at lives))
-    on s t at lives after (beside ne e) = inl (ap lives_in (sym e) ∙ after)
+    inl (lived-before pools i p f.0 f.1 f.2 f.5 (subst (λ (v : List PoolCore). lives_at v p ≡ true) f.4 k))
 one-change (Alter i plan) pools between p f (inr l) = inr (let e : length between ≡ length pools = ap length f.4 ∙ length-set pools i f.1 in omega arith)
 one-change (Open core) pools between p f (inl k) = on (nat_lt p (length pools)) refl
   where

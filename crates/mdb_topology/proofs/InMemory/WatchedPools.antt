@@ -1,8 +1,7 @@
 -- The monitors that memory keeps, whatever is done to them.
-use Rattle.std.proofs.Common.{ℕ, zero, suc, ◌≡◌, ◌≢◌, ◌+◌, ◌<◌, ◌≤◌, ◌==◌, ◌&&◌, ◌||◌, Bool, true, false, not, if◌then◌else◌, List, [], ◌∷◌, ◌++◌, length, map, filter, find, nat_lt, set, position, is_some, Option, Some, None, refl, sym, ◌∙◌, ap, subst, arith}
+use Rattle.std.proofs.Common.{ℕ, suc, ◌≡◌, ◌≢◌, ◌+◌, ◌<◌, ◌≤◌, ◌==◌, ◌&&◌, ◌||◌, Bool, true, false, not, if◌then◌else◌, List, [], ◌∷◌, ◌++◌, length, filter, find, nat_lt, set, position, Option, Some, None, refl, sym, ◌∙◌, ap, subst, arith}
 use Rattle.std.specs.Prelude.{nat_le, option_map, slice_get}
 use Rattle.std.proofs.lemmas.Bool.Decides.{nat_tests}
-use Rattle.std.proofs.lemmas.Grind.{common_steps}
 use Rattle.std.proofs.lemmas.Option.{slice_get_within}
 use Rattle.mdb_log.specs.Connections.{has}
 use Rattle.mdb_monitor.specs.declared.monitor.MonitorCore.{MonitorCore}
@@ -10,7 +9,7 @@ use Rattle.mdb_topology.specs.declared.monitors.watched.Watched.{Watched}
 use Rattle.mdb_topology.specs.Watching.{are_apart, places, AreOf, IsWatched}
 use Rattle.mdb_topology.proofs.General.OneElement.{get-set_same, get-set_other}
 use Rattle.mdb_topology.proofs.InMemory.LivingPools.{position-hit, position-miss}
-use Rattle.mdb_topology.proofs.InMemory.StillLives.{get-before, get-last, length-last}
+use Rattle.mdb_topology.proofs.InMemory.StillLives.{get-before, get-last}
 
 abbrev watched : ℕ → MonitorCore → Watched
 watched p m = record { place = p; monitor = m }

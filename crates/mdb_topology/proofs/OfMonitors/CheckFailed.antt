@@ -9,7 +9,6 @@ use Rattle.mdb_describe.specs.Descriptions.{failed}
 use Rattle.mdb_describe.specs.Update.{updated}
 use Rattle.mdb_events.specs.declared.fact.Fact.{Fact}
 use Rattle.mdb_events.specs.declared.fact.Fact.TheVariants.{Sdam}
-use Rattle.mdb_events.specs.declared.sdam.SdamEvent.{SdamEvent}
 use Rattle.mdb_monitor.specs.declared.check.Finish.{Finish}
 use Rattle.mdb_monitor.specs.declared.monitor.MonitorCore.{MonitorCore}
 use Rattle.mdb_log.specs.declared.checked.BeatenResult.{BeatenResult}
@@ -22,7 +21,6 @@ use Rattle.mdb_log.specs.declared.step.Act.TheVariants.{Beaten}
 use Rattle.mdb_log.specs.declared.step.Step.{Step}
 use Rattle.mdb_log.specs.History.{Item, is_number, with_facts}
 use Rattle.mdb_topology.specs.declared.errors.marked.Asked.TheVariants.{Nothing}
-use Rattle.mdb_topology.specs.declared.monitors.monitoring.Monitoring.{Monitoring}
 use Rattle.mdb_topology.specs.declared.monitors.monitoring.Monitoring.TheVariants.{Checked}
 use Rattle.mdb_topology.specs.declared.transition.Transition.{Transition}
 use Rattle.mdb_topology.specs.declared.topology.TopologyCore.{TopologyCore}

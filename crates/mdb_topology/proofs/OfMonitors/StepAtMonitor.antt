@@ -1,7 +1,6 @@
 -- The monitor of a pool that is open at an address, and what a step at it comes to.
-use Rattle.std.proofs.Common.{ℕ, ◌≡◌, ◌≢◌, ◌<◌, ◌+◌, true, false, List, [], set, length, Option, Some, None, refl, sym, ◌∙◌, ap, subst, arith}
+use Rattle.std.proofs.Common.{ℕ, ◌≡◌, ◌≢◌, ◌+◌, true, false, List, [], set, Option, Some, None, refl, sym, ◌∙◌, ap, subst, arith}
 use Rattle.std.specs.Prelude.{slice_get, option_map}
-use Rattle.std.proofs.lemmas.List.{length-map}
 use Rattle.std.proofs.lemmas.Option.{slice_get-map}
 use Rattle.mdb_base.specs.declared.address.ServerAddress.{ServerAddress}
 use Rattle.mdb_base.specs.declared.options.Options.{Options}
@@ -19,7 +18,7 @@ use Rattle.mdb_topology.specs.declared.monitors.monitoring.Monitoring.TheVariant
 use Rattle.mdb_topology.specs.Homes.{is_here}
 use Rattle.mdb_topology.specs.Checking.{monitors_after}
 use Rattle.mdb_topology.specs.Monitors.{setting, monitor_items, connects, asking}
-use Rattle.mdb_topology.specs.Standing.{home, is_open_at, StandsFor}
+use Rattle.mdb_topology.specs.Standing.{home, StandsFor}
 use Rattle.mdb_topology.proofs.OnePool.OpenAtOneAddress.{at-address, found, is-there}
 use Rattle.mdb_topology.proofs.General.OneElement.{map-set}
 use Rattle.mdb_topology.proofs.OnePool.FoundAt.{open-lives}

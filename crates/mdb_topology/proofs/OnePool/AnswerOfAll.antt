@@ -18,7 +18,7 @@ use Rattle.mdb_pool.specs.Answer.{reply_of}
 use Rattle.mdb_pool.specs.Planning.{with_item}
 use Rattle.mdb_pool.specs.Refusal.{first_row, wrong_service}
 use Rattle.mdb_pool.specs.Refusing.{is_pending_here, is_pinned_here, rows_now}
-use Rattle.mdb_pool.specs.Kept.{is_open_now, request_at, connection_at, held_connection, given_of, is_pending_at, is_asked_at, pins_at}
+use Rattle.mdb_pool.specs.Kept.{is_open_now, request_at, connection_at, held_connection, given_of, is_pending_at, pins_at}
 use Rattle.mdb_pool.specs.Standing.{Fits}
 use Rattle.mdb_pool.proofs.Answered.Act.{held-known}
 use Rattle.mdb_pool.proofs.Histories.FactsGrantNothing.{IsBound}

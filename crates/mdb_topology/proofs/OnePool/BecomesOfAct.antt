@@ -10,19 +10,18 @@ use Rattle.mdb_log.specs.declared.step.Act.{Act}
 use Rattle.mdb_log.specs.declared.step.Act.TheVariants as Do
 use Rattle.mdb_log.specs.declared.reply.Refused.{Refused as Why}
 use Rattle.mdb_log.specs.declared.reply.Refused.TheVariants.{TimeBack, RequestKnown}
-use Rattle.mdb_log.specs.declared.reply.Reply.TheVariants.{Refused as RefusedBy}
+use Rattle.mdb_log.specs.declared.reply.Reply.TheVariants.{NoJob, Refused as RefusedBy}
 use Rattle.mdb_log.specs.History.{Item, of_pool, last_moment}
 use Rattle.mdb_log.specs.Own.{IsAccepted}
 use Rattle.mdb_log.specs.Opening.{pool_options}
 use Rattle.mdb_pool.specs.Core.{PoolCore}
 use Rattle.mdb_pool.specs.declared.planning.Answered.{Answered}
-use Rattle.mdb_pool.specs.Body.{PoolSteps as Plan}
-use Rattle.mdb_pool.specs.Planning.{with_item, IsDone, Plans}
+use Rattle.mdb_pool.specs.Planning.{with_item, IsDone}
 use Rattle.mdb_pool.specs.Refusal.{first_row}
 use Rattle.mdb_pool.specs.Refusing.{rows_now, refusal_now}
 use Rattle.mdb_pool.proofs.Answered.Act.{not-back}
 use Rattle.mdb_topology.specs.declared.pools.pool_decision.PoolDecision.{PoolDecision}
-use Rattle.mdb_topology.specs.declared.pools.pool_decision.PoolDecision.TheVariants.{Refused, Idle, Planned}
+use Rattle.mdb_topology.specs.declared.pools.pool_decision.PoolDecision.TheVariants.{Refused, Idle, Concerns as ConcernsPool}
 use Rattle.mdb_topology.specs.Answer.{answer, answered}
 use Rattle.mdb_topology.specs.Asking.{Lacks, Asked, IsAsked}
 use Rattle.mdb_topology.specs.Description.{description_of}
@@ -30,7 +29,7 @@ use Rattle.mdb_topology.specs.Finding.{is_pool_act, index_of, names_known, missi
 use Rattle.mdb_topology.specs.Refusal.{rows_of, first_refusal, refused_by, ran_out, exhausted, refusal}
 use Rattle.mdb_topology.specs.Facts.{step_facts}
 use Rattle.mdb_topology.specs.Standing.{PoolsStand}
-use Rattle.mdb_topology.specs.Taking.{Takes, Rests, IsReady, Performs}
+use Rattle.mdb_topology.specs.Taking.{cause_of, Takes, Rests, IsReady, Performs}
 use Rattle.mdb_topology.proofs.OnePool.AcceptedAct.{Concerns}
 use Rattle.mdb_topology.proofs.General.OnePosition.{some-same}
 use Rattle.mdb_topology.proofs.OnePool.FoundAt.{fits-at}
@@ -61,13 +60,13 @@ missing-claim pools _ k e = cc
 pub ready-lacking : (pools : List PoolCore) (step : Step) (outcome : PoolDecision) → Lacks pools step.act outcome → IsReady pools step outcome
 ready-lacking pools step (Refused why) a = tt
 ready-lacking pools step Idle a = tt
-ready-lacking pools step (Planned i plan told) a = absurd a
+ready-lacking pools step (ConcernsPool i) a = absurd a
 
--- a planned step is ready
+-- a step that its pool does not refuse is ready
 pub ready-asked : (pools : List PoolCore) (i : ℕ) (step : Step) (outcome : PoolDecision) → IsAsked pools i step outcome → IsReady pools step outcome
 ready-asked pools i step (Refused why) a = tt
 ready-asked pools i step Idle a = tt
-ready-asked pools i step (Planned j plan told) a = (a.0, ap (slice_get pools) a.2.0 ∙ a.1, a.2.2, λ t p. ((a.2.3 t p).home, (a.2.3 t p).last), a.3)
+ready-asked pools i step (ConcernsPool j) a = (a.0, ap (slice_get pools) a.2.0 ∙ a.1, a.2.1, a.3)
 
 module _ (o : Options) (pools : List PoolCore) (h : List Item) (z : PoolsStand (pool_options o) pools h) (last : ℕ) (last_is : last_moment h ≡ last)
     (few : length (description_of o h).servers ≤ 128) (step : Step) (k : is_pool_act step.act ≡ true) (l : last ≤ step.moment) where
@@ -86,7 +85,7 @@ module _ (o : Options) (pools : List PoolCore) (h : List Item) (z : PoolsStand (
   pub performs-lacking : (outcome : PoolDecision) → index_of pools step.act ≡ None → Lacks pools step.act outcome → Performs o pools step outcome h
   performs-lacking (Refused why) e f = row-refuses o h step why (by-rows ∙ (rows-missing o pools h z.fit step.act e k ∙ f))
   performs-lacking Idle e f = performs-idle e f
-  performs-lacking (Planned i plan told) e f = absurd f
+  performs-lacking (ConcernsPool i) e f = absurd f
 
   module _ (i : ℕ) (there : index_of pools step.act ≡ Some i) (early : All (λ (x : PoolCore). x.last ≤ last) pools) where
     -- the act uses up a number that is known
@@ -110,13 +109,11 @@ module _ (o : Options) (pools : List PoolCore) (h : List Item) (z : PoolsStand (
       performs-there : (outcome : PoolDecision) → Asked s i step outcome → Performs o pools step outcome h
       performs-there (Refused why) a = row-refuses o h step why (by-pool ∙ a)
       performs-there Idle a = absurd a
-      performs-there (Planned j plan told) a =
-          let P : ℕ → Type 0 = λ n. ((u t : PoolCore) → slice_get pools n ≡ Some u → Plans plan u t → Takes o pools n t [] told.facts step told.reply h) in
-          subst P (sym a.0) (λ u t at_u p. taken t told a.1 (a.3 t (subst (λ v. Plans plan v t) (some-same u s (slice_get pools i) at_u at_i) p)))
-
-    -- what the pool does not refuse is not refused
-    pub asked-spared : names_known pools step.act ≡ false → (s : PoolCore) → slice_get pools i ≡ Some s → refusal_now s step ≡ None → refusal o h step ≡ None
-    asked-spared new s at_i e = pool-refusal o h step k few ∙ (by-pool new s at_i ∙ e)
+      performs-there (ConcernsPool j) a =
+          let P : ℕ → Type 0 = λ n. ((u t : PoolCore) (told : Answered) → slice_get pools n ≡ Some u → IsDone u t step told → Takes o pools n t [] told.facts step told.reply h) in (
+            pool-refusal o h step k few ∙ (by-pool ∙ a.1),
+            subst P (sym a.0) (λ u t told at_u d. taken t told a.1 (subst (λ v. IsDone v t step told) (some-same u s (slice_get pools i) at_u at_i) d)),
+          )
 
     pub performs-asked : names_known pools step.act ≡ false → (outcome : PoolDecision) → IsAsked pools i step outcome → Performs o pools step outcome h
     performs-asked new outcome a = performs-there new a.0 a.1 outcome a.2
@@ -131,8 +128,8 @@ accepted-answer o h step reply facts e accepted = on (refusal o h step) refl
         let replied : reply ≡ RefusedBy why = ap (λ a. a.reply) (sym e) ∙ ap (λ x. (answered o h step x (step_facts o h step)).reply) f in
         absurd (subst IsAccepted replied accepted)
 
--- a step that was answered by a plan was not refused
-pub planned-accepted : (o : Options) (pools : List PoolCore) (step : Step) (i : ℕ) (plan : Plan) (told : Answered) (h : List Item) → IsReady pools step (Planned i plan told) → Performs o pools step (Planned i plan told) h → refusal o h step ≡ None
-planned-accepted o pools step i plan told h ready performs =
-    let T : Takes o pools i ready.2.0 [] told.facts step told.reply h = performs ready.0 ready.2.0 ready.1 ready.2.1 in
-    accepted-answer o h step told.reply T.facts T.answer_is T.accepted
+-- the cause that is decided is the one of the history
+pub cause-is : (o : Options) (pools : List PoolCore) (step : Step) (outcome : PoolDecision) (h : List Item) → Performs o pools step outcome h → cause_of outcome ≡ refusal o h step
+cause-is o pools step (Refused why) h p = sym p
+cause-is o pools step Idle h p = sym (accepted-answer o h step NoJob [] p.answer_is tt)
+cause-is o pools step (ConcernsPool i) h p = sym p.0

@@ -1,5 +1,5 @@
 -- Each pool is the one at its number, and a job that was told is there.
-use Rattle.std.proofs.Common.{ℕ, zero, suc, length, nat_lt, ◌≡◌, ◌==◌, ◌||◌, ◌<◌, Bool, true, false, List, [], ◌∷◌, find, Option, Some, None, is_some, refl, sym, ◌∙◌, ap, subst, arith}
+use Rattle.std.proofs.Common.{ℕ, zero, suc, length, nat_lt, ◌≡◌, ◌==◌, Bool, true, false, List, [], ◌∷◌, find, Option, Some, None, is_some, refl, sym, ◌∙◌, ap, subst, arith}
 use Rattle.std.specs.Prelude.{slice_get}
 use Rattle.std.proofs.lemmas.Bool.Decides.{nat_tests}
 use Rattle.mdb_base.specs.declared.options.Options.{Options}

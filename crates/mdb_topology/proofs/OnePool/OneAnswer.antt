@@ -29,9 +29,6 @@ takes-act p (Do.Take r q c) e = tt
 takes-act p (Do.Unpin q c) e = tt
 takes-act p _ e = cc
 
-pub one-takes : (p : ℕ) (step : Step) → is_pool_act step.act ≡ true → All (λ (x : Step). IsPoolAct p x.act) (step ∷ [])
-one-takes p step e j d l = let z : j ≡ 0 = omega arith in subst (λ (n : ℕ). IsPoolAct p (get_or (step ∷ []) n d).act) (sym z) (takes-act p step.act e)
-
 -- steps that a pool takes, one and two
 pub all-one-step : (p : ℕ) (step : Step) → IsPoolAct p step.act → All (λ (x : Step). IsPoolAct p x.act) (step ∷ [])
 all-one-step p step e j d l = let z : j ≡ 0 = omega arith in subst (λ (n : ℕ). IsPoolAct p (get_or (step ∷ []) n d).act) (sym z) e

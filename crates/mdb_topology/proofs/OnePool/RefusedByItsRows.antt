@@ -1,5 +1,5 @@
 -- An act is refused by the rows of all pools as by those of the pool that it concerns.
-use Rattle.std.proofs.Common.{ℕ, suc, ◌≡◌, ◌≤◌, ◌&&◌, ◌||◌, Bool, true, false, not, List, [], ◌∷◌, length, Option, Some, None, is_some, nat_lt, if◌then◌else◌, refl, sym, ◌∙◌, ap, subst, arith}
+use Rattle.std.proofs.Common.{ℕ, suc, ◌≡◌, ◌&&◌, ◌||◌, Bool, true, false, not, List, [], ◌∷◌, Option, Some, None, is_some, nat_lt, if◌then◌else◌, refl, sym, ◌∙◌, ap, subst}
 use Rattle.std.specs.Prelude.{slice_get, unwrap_or}
 use Rattle.std.specs.List.{list_any}
 use Rattle.mdb_base.specs.declared.address.ServerAddress.{ServerAddress}
@@ -14,7 +14,6 @@ use Rattle.mdb_log.specs.Requests.{is_open}
 use Rattle.mdb_log.specs.Opening.{pool_options}
 use Rattle.mdb_log.proofs.Numbers.{same-number}
 use Rattle.mdb_pool.specs.declared.kept.connection.Connection.{Connection}
-use Rattle.mdb_pool.specs.declared.kept.request.Request.{Request as Asker}
 use Rattle.mdb_pool.specs.Core.{PoolCore}
 use Rattle.mdb_pool.specs.Refusal.{first_row}
 use Rattle.mdb_pool.specs.Refusing.{is_here, is_pending_here, is_pinned_here, rows_now}

@@ -1,8 +1,7 @@
 -- What a warm request is given in its step is pending: warm requests get pending connections alone.
-use Rattle.std.proofs.Common.{ℕ, ◌≡◌, Bool, true, false, List, [], ◌∷◌, Option, Some, None, refl, sym, ◌∙◌, ap, subst}
+use Rattle.std.proofs.Common.{ℕ, ◌≡◌, true, List, [], ◌∷◌, Option, Some, None, refl, sym, ◌∙◌, ap, subst}
 use Rattle.std.specs.Prelude.{slice_get}
 use Rattle.mdb_base.specs.declared.address.ServerAddress.{ServerAddress}
-use Rattle.mdb_base.specs.declared.options.Options.{Options}
 use Rattle.mdb_events.specs.declared.fact.Fact.{Fact}
 use Rattle.mdb_log.specs.declared.options.PoolOptions.{PoolOptions}
 use Rattle.mdb_log.specs.declared.step.Step.{Step}
@@ -19,13 +18,13 @@ use Rattle.mdb_log.proofs.Later.{of_pool-with_facts, with_answer-accepted}
 use Rattle.mdb_log.proofs.Numbers.{same-number}
 use Rattle.mdb_pool.specs.declared.kept.connection.Connection.{Connection}
 use Rattle.mdb_pool.specs.Core.{PoolCore}
-use Rattle.mdb_pool.specs.Kept.{connection_at, request_at, given_of, holder_at, warm_of, is_pending_at}
+use Rattle.mdb_pool.specs.Kept.{connection_at, holder_at, is_pending_at}
 use Rattle.mdb_pool.specs.Standing.{Fits}
 use Rattle.mdb_pool.proofs.Answered.Act.{pending-is}
 use Rattle.mdb_pool.proofs.Turns.End.{warm-facts}
 use Rattle.mdb_pool.proofs.Listed.Values.{find-member}
 use Rattle.mdb_topology.specs.Homes.{concerns, home_of, begun}
-use Rattle.mdb_topology.specs.Standing.{PoolFits, PoolsFit}
+use Rattle.mdb_topology.specs.Standing.{PoolsFit}
 
 -- in a pool that keeps what its items say
 pub warm-pends : (s : PoolCore) (xs : List PoolItem) → Fits s xs → (r c : ℕ) → is_warm xs r ≡ true → given xs r ≡ Some c → has c (pending_list xs) ≡ true

@@ -1,5 +1,5 @@
 -- What hosts that are named would run out of is told by how many of them there are, and how many of them are new.
-use Rattle.std.proofs.Common.{ℕ, ◌≡◌, ◌+◌, ◌&&◌, Bool, true, false, if◌then◌else◌, List, [], ◌∷◌, length, nat_lt, Option, Some, None, is_some, refl, sym, ◌∙◌, ap, inl, inr}
+use Rattle.std.proofs.Common.{ℕ, ◌≡◌, ◌+◌, ◌&&◌, Bool, true, false, if◌then◌else◌, List, [], ◌∷◌, length, nat_lt, Some, None, is_some, refl, sym, ◌∙◌, ap, inl, inr}
 use Rattle.std.proofs.lemmas.Bool.{cases_Bool, and_parts}
 use Rattle.mdb_base.specs.declared.address.ServerAddress.{ServerAddress}
 use Rattle.mdb_base.specs.declared.options.Options.{Options}
@@ -12,7 +12,6 @@ use Rattle.mdb_describe.specs.declared.topology.TopologyDescription.{TopologyDes
 use Rattle.mdb_describe.specs.Differences.{changed, difference, is_empty, missing, unless_empty}
 use Rattle.mdb_describe.specs.Servers.{add_all, in_order, keep_listed}
 use Rattle.mdb_describe.specs.Topology.{synced, synced_by_type}
-use Rattle.mdb_log.specs.declared.reply.What.{What}
 use Rattle.mdb_log.specs.declared.reply.What.TheVariants.{Pool, Servers}
 use Rattle.mdb_topology.specs.declared.topology.TopologyCore.{TopologyCore}
 use Rattle.mdb_topology.specs.Changing.{change_past, passes_limit}

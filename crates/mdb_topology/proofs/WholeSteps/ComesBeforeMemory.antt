@@ -1,5 +1,5 @@
 -- A step that tells of no trouble is refused by its rows, or for the servers and the pools that would come.
-use Rattle.std.proofs.Common.{ℕ, ◌≡◌, ◌≤◌, ◌+◌, Bool, true, false, not, if◌then◌else◌, List, [], ◌∷◌, ◌++◌, length, Option, Some, None, nat_lt, refl, sym, ◌∙◌, ap, subst, append-nil, arith}
+use Rattle.std.proofs.Common.{ℕ, ◌≡◌, ◌≤◌, ◌+◌, Bool, true, false, not, List, [], ◌∷◌, length, Option, Some, None, nat_lt, refl, sym, ◌∙◌, ap, subst, append-nil, arith}
 use Rattle.std.specs.Prelude.{⊤}
 use Rattle.std.proofs.lemmas.Bool.Decides.{nat_tests}
 use Rattle.mdb_base.specs.declared.address.ServerAddress.{ServerAddress}
@@ -14,8 +14,6 @@ use Rattle.mdb_describe.specs.Topology.{stopped}
 use Rattle.mdb_events.specs.declared.fact.Fact.{Fact}
 use Rattle.mdb_log.specs.declared.checked.BeatenResult.TheVariants as Beaten
 use Rattle.mdb_log.specs.declared.checked.HelloResult.TheVariants as Hello
-use Rattle.mdb_log.specs.declared.reply.Refused.{Refused}
-use Rattle.mdb_log.specs.declared.reply.Refused.TheVariants.{Exhausted}
 use Rattle.mdb_log.specs.declared.reply.What.{What}
 use Rattle.mdb_log.specs.declared.reply.What.TheVariants.{Generation, Monitor, Pool, Servers}
 use Rattle.mdb_log.specs.declared.step.Act.{Act}
@@ -26,7 +24,7 @@ use Rattle.mdb_log.specs.Homes.{homes}
 use Rattle.mdb_topology.specs.declared.topology.TopologyCore.{TopologyCore}
 use Rattle.mdb_topology.specs.Description.{Rule, opens, updates, syncs, tells_time, stops, description_of, is_stopped, marking_rule, replied_rule, rule_after, rule_of, syncing_rule}
 use Rattle.mdb_topology.specs.Errors.{Trouble, marks, trouble_of}
-use Rattle.mdb_topology.specs.Facts.{asking, clear_by, clear_of, clearing, trouble}
+use Rattle.mdb_topology.specs.Facts.{trouble}
 use Rattle.mdb_topology.specs.Homes.{begun, is_here}
 use Rattle.mdb_topology.specs.Limits.{past_last, pool_limit}
 use Rattle.mdb_topology.specs.Marking.{spoken}

@@ -1,25 +1,21 @@
 -- A driver is a core of many pools: each step adds its entry to the log, and tells of it what every core tells.
-use Rattle.std.proofs.Common.{ℕ, ◌≡◌, ◌≤◌, true, false, List, [], ◌∷◌, ◌++◌, refl, sym, ◌∙◌, ap, subst}
+use Rattle.std.proofs.Common.{ℕ, ◌≡◌, ◌≤◌, true, List, [], ◌∷◌, ◌++◌, refl, sym, ◌∙◌, ap, subst}
 use Rattle.std.specs.Prelude.{Result, Ok, Err, IfOk, OnOk, OnErr}
 use Rattle.std.proofs.lemmas.List.{append-nil, append_cancel_left}
-use Rattle.mdb_base.specs.declared.options.Options.{Options}
-use Rattle.mdb_describe.specs.declared.topology.TopologyDescription.{TopologyDescription}
 use Rattle.mdb_log.specs.declared.log.Entry.{Entry}
 use Rattle.mdb_log.specs.declared.step.Step.{Step}
-use Rattle.mdb_log.specs.declared.step.Act.{Act}
 use Rattle.mdb_log.specs.declared.step.Act.TheVariants as Do
 use Rattle.mdb_log.specs.declared.reply.Reply.{Reply}
 use Rattle.mdb_log.specs.Acts.{IsDriverAct}
 use Rattle.mdb_log.specs.Driver.{IsEntry, is_reply_to, is_in_time, IsThere}
 use Rattle.mdb_log.specs.History.{Item, with_answer, history_of, last_moment}
-use Rattle.mdb_log.specs.Opening.{is_opening}
 use Rattle.mdb_log.proofs.Later.{with_entries-append}
 use Rattle.mdb_topology.specs.declared.topology.TopologyCore.{TopologyCore}
 use Rattle.mdb_topology.specs.Homes.{home_at}
 use Rattle.mdb_topology.specs.Answer.{answer}
 use Rattle.mdb_topology.specs.Description.{description_of, published}
 use Rattle.mdb_topology.specs.Jobs.{job_at, job_after}
-use Rattle.mdb_topology.specs.Lines.{options_of, entry_after, described, publications}
+use Rattle.mdb_topology.specs.Lines.{options_of, described, publications}
 use Rattle.mdb_topology.specs.Logging.{IsDriverOf}
 use Rattle.mdb_topology.specs.Standing.{StandsFor}
 use Rattle.mdb_topology.specs.Stepping.{Logs, IsLogged}

@@ -1,32 +1,29 @@
 -- A step in time is not refused for its time, and a claim and what watchers want not at all.
-use Rattle.std.proofs.Common.{ℕ, ◌≡◌, ◌≤◌, Bool, true, false, not, ◌&&◌, List, [], ◌∷◌, ◌++◌, Option, Some, None, nat_lt, refl, sym, ◌∙◌, ap, subst, arith}
+use Rattle.std.proofs.Common.{ℕ, ◌≡◌, ◌≤◌, Bool, true, false, List, [], ◌∷◌, ◌++◌, Option, Some, None, refl, sym, ◌∙◌, ap, subst}
 use Rattle.std.specs.Prelude.{⊤}
 use Rattle.mdb_base.specs.declared.options.Options.{Options}
-use Rattle.mdb_log.specs.declared.options.PoolOptions.{PoolOptions}
 use Rattle.mdb_log.specs.declared.step.Step.{Step}
 use Rattle.mdb_log.specs.declared.step.Act.{Act}
 use Rattle.mdb_log.specs.declared.step.Act.TheVariants as Do
 use Rattle.mdb_log.specs.declared.step.FailedAt.TheVariants.{Pre, Post}
 use Rattle.mdb_log.specs.declared.reply.What.{What}
 use Rattle.mdb_log.specs.declared.reply.Refused.{Refused as Why}
-use Rattle.mdb_log.specs.declared.reply.Refused.TheVariants.{TimeBack}
 use Rattle.mdb_log.specs.declared.reply.Reply.{Reply}
 use Rattle.mdb_log.specs.declared.reply.Reply.TheVariants.{Refused}
 use Rattle.mdb_log.specs.Driver.{answers, is_never_refused, is_time_back, is_in_time}
-use Rattle.mdb_log.specs.History.{Item, of_pool, last_moment, with_facts}
-use Rattle.mdb_log.specs.Homes.{Home, homes}
+use Rattle.mdb_log.specs.History.{Item, of_pool, with_facts}
+use Rattle.mdb_log.specs.Homes.{Home}
 use Rattle.mdb_log.specs.Opening.{pool_options}
-use Rattle.mdb_pool.specs.Core.{PoolCore}
 use Rattle.mdb_pool.specs.Refusal.{first_row}
 use Rattle.mdb_pool.specs.Serving.{serving}
 use Rattle.mdb_pool.proofs.Turns.NoMove.{served-serving}
 use Rattle.mdb_topology.specs.declared.topology.TopologyCore.{TopologyCore}
 use Rattle.mdb_topology.specs.Homes.{home_of, begun}
 use Rattle.mdb_topology.specs.Monitors.{heartbeat}
-use Rattle.mdb_topology.specs.Description.{rule_after, rule_of}
+use Rattle.mdb_topology.specs.Description.{rule_of}
 use Rattle.mdb_topology.specs.Facts.{trouble, own_facts, serve_all, step_facts}
 use Rattle.mdb_topology.specs.Refusal.{rows_of, first_refusal, refused_by, ran_out, exhausted, refusal}
-use Rattle.mdb_topology.specs.Standing.{home, PoolsStand, StandsFor}
+use Rattle.mdb_topology.specs.Standing.{home, StandsFor}
 use Rattle.mdb_topology.proofs.OnePool.NumbersWithinLimits.{take_numbers}
 use Rattle.mdb_topology.proofs.General.OneElement.{flat-none}
 use Rattle.mdb_topology.proofs.WholeSteps.RefusedByRows.{plain-refusal}

@@ -1,5 +1,5 @@
 -- The log of a driver, and one more step of it.
-use Rattle.std.proofs.Common.{ℕ, ◌≡◌, ◌≤◌, ◌<◌, ◌+◌, ◌^◌, ◌&&◌, ◌||◌, Bool, true, false, nat_lt, List, [], ◌∷◌, ◌++◌, length, map, Option, Some, None, is_some, refl, sym, ◌∙◌, ap, subst, arith, inl, inr, append_assoc}
+use Rattle.std.proofs.Common.{ℕ, ◌≡◌, ◌≤◌, ◌<◌, ◌+◌, ◌^◌, ◌&&◌, ◌||◌, Bool, true, false, nat_lt, List, [], ◌∷◌, ◌++◌, length, Option, Some, None, is_some, refl, sym, ◌∙◌, ap, subst, arith, inl, inr, append_assoc}
 use Rattle.std.specs.Prelude.{nat_le, slice_get, unwrap_or, All}
 use Rattle.std.proofs.lemmas.Bool.Decides.{nat_tests}
 use Rattle.std.proofs.lemmas.List.{append-nil, length-map}
@@ -92,7 +92,7 @@ pub as-many : (o : Options) (pools : List PoolCore) (monitors : List MonitorCore
 as-many o pools monitors h z f = sym (length-map monitors (λ m. m.setting)) ∙ (ap length f.settings ∙ (length-map (homes h) (λ x. setting o x.address) ∙ (ap length z.homes_are ∙ length-map pools home)))
 
 -- the parties that are named once the step is accepted
-named-more : (reply : Reply) (step : Step) (facts : List Fact) (h : List Item) → IsAccepted reply → (r : ℕ) → some_act names_party (with_answer step reply facts h) r ≡ names_party step.act r || some_act names_party h r
+pub named-more : (reply : Reply) (step : Step) (facts : List Fact) (h : List Item) → IsAccepted reply → (r : ℕ) → some_act names_party (with_answer step reply facts h) r ≡ names_party step.act r || some_act names_party h r
 named-more reply step facts h accepted r = ap (λ (k : List Item). some_act names_party k r) (with_answer-accepted step reply facts h accepted) ∙ acts-facts names_party step.moment r facts (did step reply ∷ h)
 
 -- the monitor of a pool in which something lives then is kept

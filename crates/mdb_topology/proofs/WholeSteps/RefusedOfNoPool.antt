@@ -1,5 +1,5 @@
 -- Why a step of no pool is refused: by its rows, and then by the limit that what it tells passes.
-use Rattle.std.proofs.Common.{ℕ, ◌≡◌, ◌≤◌, ◌||◌, false, List, [], ◌∷◌, ◌++◌, length, Option, Some, None, refl, ◌∙◌, ap}
+use Rattle.std.proofs.Common.{ℕ, ◌≡◌, ◌≤◌, false, List, [], ◌∷◌, ◌++◌, length, Option, None, refl, ◌∙◌, ap}
 use Rattle.std.specs.Prelude.{flat_map}
 use Rattle.mdb_base.specs.declared.options.Options.{Options}
 use Rattle.mdb_events.specs.declared.fact.Fact.{Fact}
@@ -11,7 +11,7 @@ use Rattle.mdb_log.specs.Homes.{Home, homes}
 use Rattle.mdb_log.specs.Opening.{pool_options}
 use Rattle.mdb_pool.specs.Serving.{serving}
 use Rattle.mdb_topology.specs.Description.{description_of}
-use Rattle.mdb_topology.specs.Facts.{own_facts, serve_all, step_facts}
+use Rattle.mdb_topology.specs.Facts.{own_facts, serve_all}
 use Rattle.mdb_topology.specs.Homes.{home_of, begun}
 use Rattle.mdb_topology.specs.Refusal.{first_past, first_refusal, ran_out, refusal, sooner}
 use Rattle.mdb_topology.specs.Turns.{in_turn}

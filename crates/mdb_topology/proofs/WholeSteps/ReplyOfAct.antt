@@ -1,7 +1,6 @@
 -- The reply to an accepted act is one of those that go with it.
-use Rattle.std.proofs.Common.{ℕ, ◌≡◌, ◌≢◌, Bool, true, false, List, [], ◌∷◌, Option, Some, None, is_some, nat_lt, refl, sym, ◌∙◌, ap, if◌then◌else◌}
-use Rattle.std.specs.Prelude.{slice_get, find, ⊤}
-use Rattle.mdb_base.specs.declared.address.ServerAddress.{ServerAddress}
+use Rattle.std.proofs.Common.{ℕ, ◌≡◌, ◌≢◌, Bool, true, false, List, [], ◌∷◌, Option, Some, None, is_some, nat_lt, refl, sym, ◌∙◌, if◌then◌else◌}
+use Rattle.std.specs.Prelude.{slice_get, ⊤}
 use Rattle.mdb_base.specs.declared.options.Options.{Options}
 use Rattle.mdb_events.specs.declared.end.End.{End}
 use Rattle.mdb_log.specs.declared.step.Step.{Step}

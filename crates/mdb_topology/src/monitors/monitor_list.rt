@@ -157,4 +157,15 @@ impl Monitors {
     {
         self.kept.retain(|watched| cores.lives(watched.place));
     }
+
+    /// After a step of the pool at the place: where nothing lives in it now, its monitor leaves memory.
+    pub(crate) fn let_go_at(&mut self, cores: &Cores, place: usize)
+        ensures items { self.new.items ≡ self.old.items }
+        ensures kept { (p : ℕ) → lives_at cores.now.items p ≡ true → has p self.new.kept ≡ has p self.old.kept }
+        ensures room { self.new.room ≡ self.old.room }
+    {
+        if !cores.lives(place) {
+            self.let_go(cores);
+        }
+    }
 }

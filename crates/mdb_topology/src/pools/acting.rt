@@ -1,15 +1,13 @@
 //! What becomes of an act of one pool.
 
-ghost use Rattle.std.specs.Prelude.{◌≡◌, ◌≤◌, ◌<◌, ◌||◌, ℕ, IfOk, OnErr, List, None, All, length, true};
+ghost use Rattle.std.specs.Prelude.{◌≡◌, ◌≤◌, ◌<◌, ◌||◌, ℕ, List, All, length, true};
 ghost use Rattle.mdb_intervals.specs.Spans.{has as is_within};
 ghost use Rattle.mdb_log.specs.Requests.{names_party};
 ghost use Rattle.mdb_topology.specs.Finding.{is_pool_act, named_by};
 
 use crate::pools::Pools;
 use crate::pools::pool_decision::PoolDecision;
-use mdb_base::OutOfMemory;
 use mdb_log::{Act, Refused, Step};
-use std::alloc::Global;
 
 /// The act is one of those of one pool that clear none.
 pub(crate) fn is_pool_act(act: &Act) -> bool
@@ -24,8 +22,8 @@ pub(crate) fn is_pool_act(act: &Act) -> bool
     }
 }
 
-// The party that the act names, of which there was none before.
-fn named_by(act: &Act) -> Option<u32>
+/// The party that the act names, of which there was none before.
+pub(crate) fn named_by(act: &Act) -> Option<u32>
     ensures { result ≡ named_by act.now }
 {
     match act {
@@ -41,8 +39,7 @@ impl Pools {
     ghost use Rattle.mdb_topology.specs.Asking.{Lacks};
     ghost use Rattle.mdb_topology.specs.Description.{description_of};
     ghost use Rattle.mdb_topology.specs.Finding.{is_pool_act, names_known};
-    ghost use Rattle.mdb_topology.specs.Refusal.{refusal};
-    ghost use Rattle.mdb_topology.specs.Standing.{KnowsAll, PoolsStand};
+    ghost use Rattle.mdb_topology.specs.Standing.{IsApart, IsSingle, KnowsAll, PoolsStand};
     ghost use Rattle.mdb_topology.specs.Taking.{IsReady, Performs};
 
     /// The party that an accepted act names is known from now on. It takes no memory.
@@ -86,23 +83,23 @@ impl Pools {
         })
     }
 
-    /// What becomes of an act of one pool, at or after the last moment. The pools stay as they are.
-    pub(crate) fn act(&mut self, alloc: Global, step: &Step) -> Result<PoolDecision, OutOfMemory>
+    /// What becomes of an act of one pool, at or after the last moment.
+    pub(crate) fn act(&self, step: &Step) -> PoolDecision
         requires act { is_pool_act step.now.act ≡ true }
-        requires known { KnowsAll self.old }
-        requires in_time { self.old.last ≤ step.now.moment }
-        requires early { All (λ s. s.last ≤ self.old.last) self.old.cores.items }
-        ensures same { self.new ≡ self.old }
-        ensures ready { IfOk result (λ outcome. IsReady self.old.cores.items step.now outcome) }
-        ensures performs { IfOk result (λ outcome. (o : Options) (h : List Item) → PoolsStand (pool_options o) self.old.cores.items h → last_moment h ≡ self.old.last → length (description_of o h).servers ≤ 128 → Performs o self.old.cores.items step.now outcome h) }
-        ensures wants { OnErr result ((o : Options) (h : List Item) → PoolsStand (pool_options o) self.old.cores.items h → last_moment h ≡ self.old.last → length (description_of o h).servers ≤ 128 → refusal o h step.now ≡ None) }
+        requires known { KnowsAll self.now }
+        requires in_time { self.now.last ≤ step.now.moment }
+        requires single { IsSingle self.now.cores.items }
+        requires apart { IsApart self.now.cores.items }
+        requires early { All (λ s. s.last ≤ self.now.last) self.now.cores.items }
+        ensures ready { IsReady self.now.cores.items step.now result }
+        ensures performs { (o : Options) (h : List Item) → PoolsStand (pool_options o) self.now.cores.items h → last_moment h ≡ self.now.last → length (description_of o h).servers ≤ 128 → Performs o self.now.cores.items step.now result h }
     {
-        let Some(index) = self.index_of(&step.act) else {
-            return Ok(self.without_pool(&step.act));
+        let Some(place) = self.index_of(&step.act) else {
+            return self.without_pool(&step.act);
         };
         if self.names_known(&step.act) {
-            return Ok(PoolDecision::Refused(Refused::RequestKnown));
+            return PoolDecision::Refused(Refused::RequestKnown);
         }
-        self.ask(alloc, index, step)
+        self.ask(place, step)
     }
 }

@@ -1,28 +1,36 @@
 //! All pools that a driver opened, of which memory keeps those in which something lives.
 
-ghost use Rattle.std.specs.Prelude.{◌≡◌, ◌==◌, ◌+◌, ◌≤◌, ◌<◌, ◌++◌, ◌∷◌, [], List, IfOk, OnOk, All, Some, true, is_some, find, length, option_copied, option_map, position, slice_get, vec_capacity};
+ghost use Rattle.std.specs.Prelude.{◌≡◌, ◌==◌, ◌+◌, ◌≤◌, ◌<◌, ◌++◌, ◌∷◌, [], List, IfOk, OnOk, OnErr, All, Some, None, true, is_some, find, length, option_copied, option_map, position, slice_get, vec_capacity};
 ghost use Rattle.mdb_log.specs.Acts.{IsPoolAct};
 ghost use Rattle.mdb_pool.specs.Core.{PoolCore as Core};
 ghost use Rattle.mdb_pool.specs.Kept.{first_unclaimed, held_connection, is_open_now};
 ghost use Rattle.mdb_pool.specs.Planning.{IsPlanOf, LeadsTo, Plans};
-ghost use Rattle.mdb_pool.specs.Refusing.{TellsNew};
-ghost use Rattle.mdb_topology.specs.Finding.{asked_by, first_job, holder};
-ghost use Rattle.mdb_topology.specs.Living.{index_in, left_at, lives_at, living_at, living_from};
-ghost use Rattle.mdb_topology.specs.Standing.{at_address, is_open_at};
+ghost use Rattle.mdb_pool.specs.Refusing.{refusal_now, TellsNew};
+ghost use Rattle.mdb_topology.specs.Asking.{DoesAt};
+ghost use Rattle.mdb_topology.specs.Finding.{asked_by, asks_in, first_job, holder, holds_in, opens_in};
+ghost use Rattle.mdb_topology.specs.Living.{if_at, index_in, left_at, lives_at, living_at, living_from};
+ghost use Rattle.mdb_topology.specs.Standing.{at_address, is_open_at, IsApart, IsSingle};
 
+use crate::pools::hints::{Hints, number_of};
 use crate::pools::placed::Placed;
 use mdb_base::{OutOfMemory, ServerAddress};
-use mdb_log::Step;
+use mdb_log::{Log, Reply, Step};
 use mdb_past::{Past, Tells};
 use mdb_pool::planning::{Answered, Plan, apply, prepare};
 use mdb_pool::{PoolCore, PoolState};
 use std::alloc::Global;
 use std::marker::Model;
 
+// Up to so many pools are walked over, and no guesses are kept.
+const FEW: usize = 8;
+
 /// All pools that a driver opened. Contracts see them all; memory keeps those in which something lives, in the order in which they were opened.
 #[derive(Drop)]
 pub struct Cores {
     living: Vec<Placed>,
+    // Where parties and addresses were last found.
+    parties: Hints,
+    addresses: Hints,
     // How many were opened.
     opened: usize,
     // How many there may be before memory is wanted.
@@ -140,6 +148,16 @@ fn let_go(living: &mut Vec<Placed>, index: usize)
     drop(gone);
 }
 
+// The one at the index, where its place is this one.
+fn guessed(living: &[Placed], index: usize, place: usize) -> Option<&Placed>
+    ensures { option_copied result ≡ if_at place (slice_get living.now index) }
+{
+    match living.get(index) {
+        Some(placed) if placed.place == place => Some(placed),
+        _ => None,
+    }
+}
+
 // The index of the one at the place.
 fn index_at(living: &[Placed], place: usize) -> Option<usize>
     ensures { result ≡ position (λ x. x.place == place) living.now }
@@ -157,6 +175,8 @@ impl Cores {
     {
         Cores {
             living: Vec::new(alloc),
+            parties: Hints::new(alloc),
+            addresses: Hints::new(alloc),
             opened: 0,
             room: 0,
             all: Past::none(),
@@ -170,18 +190,32 @@ impl Cores {
         self.opened
     }
 
+    // Where the pool at the place may stand in memory: of those that left, most stood before it.
+    fn guess(&self, place: usize) -> usize {
+        place.saturating_sub(self.opened.saturating_sub(self.living.len()))
+    }
+
     // Where memory keeps the pool at the place.
     fn index_of(&self, place: usize) -> Option<usize>
         ensures { result ≡ index_in self.now.items place }
     {
-        index_at(self.living.as_slice(), place)
+        let living = self.living.as_slice();
+        let guess = self.guess(place);
+        match guessed(living, guess, place) {
+            Some(_) => Some(guess),
+            None => index_at(living, place),
+        }
     }
 
     /// The pool at the place, where something lives in it.
     pub(crate) fn get(&self, place: usize) -> Option<&PoolCore>
         ensures { option_copied result ≡ living_at self.now.items place }
     {
-        match placed_at(self.living.as_slice(), place) {
+        let living = self.living.as_slice();
+        if let Some(guess) = guessed(living, self.guess(place), place) {
+            return Some(&guess.core);
+        }
+        match placed_at(living, place) {
             Some(placed) => Some(&placed.core),
             None => None,
         }
@@ -212,11 +246,80 @@ impl Cores {
         place_of(first_open(self.living.as_slice(), address))
     }
 
-    /// The place of the pool in which the request is open.
-    pub(crate) fn asked_by(&self, party: u32) -> Option<usize>
+    // The pool at the place is open at the address.
+    fn opens_at(&self, place: usize, address: &ServerAddress) -> bool
+        ensures { result ≡ opens_in (living_at self.now.items place) address.now }
+    {
+        match self.get(place) {
+            Some(core) => is_open_at(core, address),
+            None => false,
+        }
+    }
+
+    // In the pool at the place the request is open.
+    fn asks_at(&self, place: usize, party: u32) -> bool
+        ensures { result ≡ asks_in (living_at self.now.items place) party }
+    {
+        match self.get(place) {
+            Some(core) => core.is_open(party),
+            None => false,
+        }
+    }
+
+    // Of the pool at the place the party holds a connection.
+    fn holds_at(&self, place: usize, party: u32) -> bool
+        ensures { result ≡ holds_in (living_at self.now.items place) party }
+    {
+        match self.get(place) {
+            Some(core) => core.holds(party),
+            None => false,
+        }
+    }
+
+    /// The place of the pool that is open at the address: the one that was opened last for its number is looked at first.
+    pub(crate) fn found_open_at(&self, address: &ServerAddress) -> Option<usize>
+        requires { IsSingle self.now.items }
+        ensures { result ≡ at_address self.now.items address.now }
+    {
+        if self.living.len() <= FEW {
+            return self.open_at(address);
+        }
+        let place = self.addresses.at(number_of(address));
+        if self.opens_at(place, address) {
+            return Some(place);
+        }
+        self.open_at(address)
+    }
+
+    // The place of the first pool in which the request is open.
+    fn first_asked(&self, party: u32) -> Option<usize>
         ensures { result ≡ asked_by self.now.items party }
     {
         place_of(first_asked(self.living.as_slice(), party))
+    }
+
+    /// The place of the pool in which the request is open: the one that it came to is looked at first.
+    pub(crate) fn asked_by(&self, party: u32) -> Option<usize>
+        requires { IsApart self.now.items }
+        ensures { result ≡ asked_by self.now.items party }
+    {
+        let place = self.parties.at(party);
+        if self.asks_at(place, party) {
+            return Some(place);
+        }
+        self.first_asked(party)
+    }
+
+    /// The place of the pool of which the party holds a connection: the one that it came to is looked at first.
+    pub(crate) fn found_holder(&self, party: u32) -> Option<usize>
+        requires { IsApart self.now.items }
+        ensures { result ≡ holder self.now.items party }
+    {
+        let place = self.parties.at(party);
+        if self.holds_at(place, party) {
+            return Some(place);
+        }
+        self.holder(party)
     }
 
     /// The place of the pool of which the party holds a connection.
@@ -242,6 +345,10 @@ impl Cores {
             return Err(OutOfMemory);
         };
         self.living.reserve(more)?;
+        if FEW < self.living.len().saturating_add(more) {
+            self.parties.begin()?;
+            self.addresses.begin()?;
+        }
         if self.room < room {
             self.room = room;
         }
@@ -256,6 +363,7 @@ impl Cores {
     {
         let all = Past::of::<(&Past<PoolCore>, &PoolCore), OneMore>(&(&self.all, &core));
         let place = self.opened;
+        self.addresses.note(number_of(core.address()), place);
         keep(&mut self.living, place, core);
         self.opened += 1;
         self.all = all;
@@ -298,5 +406,36 @@ impl Cores {
         ));
         let_go(&mut self.living, index);
         self.all = all;
+    }
+
+    /// A step that the pool at the place does not refuse is done there, and logged. A pool in which nothing lives then leaves memory. Where there is no memory the pools and the log are as they were.
+    pub(crate) fn enter_step(
+        &mut self,
+        alloc: Global,
+        log: &mut Log,
+        seat: u32,
+        step: &Step,
+        place: usize,
+    ) -> Result<Reply, OutOfMemory>
+        requires lives { lives_at self.old.items place ≡ true }
+        requires act { (s : Core) → slice_get self.old.items place ≡ Some s → IsPoolAct s.pool step.now.act }
+        requires passes { (s : Core) → slice_get self.old.items place ≡ Some s → refusal_now s step.now ≡ None }
+        ensures does { IfOk result (λ reply. (s : Core) → slice_get self.old.items place ≡ Some s → DoesAt s self.old.items place self.new.items log.old log.new seat step.now reply) }
+        ensures err_items { OnErr result (self.new.items ≡ self.old.items) }
+        ensures err_log { OnErr result (log.new ≡ log.old) }
+        ensures room { self.new.room ≡ self.old.room }
+    {
+        let Some(index) = self.index_of(place) else {
+            unreachable!()
+        };
+        let reply = self.living[index].core.enter_step(alloc, log, seat, step)?;
+        let all = Past::of::<(&Past<PoolCore>, &Placed), Changed>(&(
+            &self.all,
+            &self.living[index],
+        ));
+        let_go(&mut self.living, index);
+        self.all = all;
+        self.parties.note_act(&step.act, place);
+        Ok(reply)
     }
 }

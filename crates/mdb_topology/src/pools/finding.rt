@@ -10,7 +10,7 @@ use mdb_pool::PoolCore;
 
 impl Pools {
     ghost use Rattle.mdb_topology.specs.Living.{living_at};
-    ghost use Rattle.mdb_topology.specs.Standing.{at_address, knows, IsSingle, KnowsAll};
+    ghost use Rattle.mdb_topology.specs.Standing.{at_address, knows, IsApart, IsSingle, KnowsAll};
     ghost use Rattle.mdb_topology.specs.Stepping.{is_here_among};
     ghost use Rattle.mdb_topology.specs.Finding.{asked_by, holder, first_job, numbered, index_of};
 
@@ -47,8 +47,17 @@ impl Pools {
         self.known.contains(party)
     }
 
+    // The pool that is open at the address: at most one is.
+    fn found_at(&self, address: &ServerAddress) -> Option<usize>
+        requires { IsSingle self.now.cores.items }
+        ensures { result ≡ at_address self.now.cores.items address.now }
+    {
+        self.cores.found_open_at(address)
+    }
+
     // The pool in which the request is open.
     fn asked_by(&self, party: u32) -> Option<usize>
+        requires { IsApart self.now.cores.items }
         ensures { result ≡ asked_by self.now.cores.items party }
     {
         self.cores.asked_by(party)
@@ -59,6 +68,14 @@ impl Pools {
         ensures { result ≡ holder self.now.cores.items party }
     {
         self.cores.holder(party)
+    }
+
+    // The pool of which the party holds a connection: at most one knows the party.
+    fn found_holder(&self, party: u32) -> Option<usize>
+        requires { IsApart self.now.cores.items }
+        ensures { result ≡ holder self.now.cores.items party }
+    {
+        self.cores.found_holder(party)
     }
 
     // The pool with the least number that has a job.
@@ -81,16 +98,17 @@ impl Pools {
 
     /// The pool that the act concerns.
     pub(crate) fn index_of(&self, act: &Act) -> Option<usize>
+        requires single { IsSingle self.now.cores.items }
+        requires apart { IsApart self.now.cores.items }
         ensures { result ≡ index_of self.now.cores.items act.now }
     {
         match act {
-            Act::Request(_, address) | Act::Warm(_, address) => self.at_address(address),
-            Act::Maintain(address) | Act::Expire(address) => self.at_address(address),
+            Act::Request(_, address) | Act::Warm(_, address) => self.found_at(address),
+            Act::Maintain(address) | Act::Expire(address) => self.found_at(address),
             Act::Collect(request) | Act::GiveUp(request) => self.asked_by(*request),
             Act::Claim => self.first_job(),
             Act::Established(number, _, _) => self.numbered(*number),
-            Act::Return(party, _) => self.holder(*party),
-            Act::Pin(party) => self.holder(*party),
+            Act::Return(party, _) | Act::Pin(party) => self.found_holder(*party),
             Act::Replicate(number, _) => self.numbered(*number),
             Act::Take(_, number, _) => self.numbered(*number),
             Act::Unpin(number, _) => self.numbered(*number),

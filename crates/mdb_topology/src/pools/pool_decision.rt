@@ -1,7 +1,8 @@
 //! What becomes of a step of one pool.
 
+ghost use Rattle.std.specs.Prelude.{◌≡◌};
+
 use mdb_log::Refused;
-use mdb_pool::planning::{Answered, Plan};
 
 /// What becomes of a step of one pool.
 #[derive(Drop)]
@@ -10,6 +11,20 @@ pub enum PoolDecision {
     Refused(Refused),
     /// The step is accepted and concerns no pool: a claim finds no job.
     Idle,
-    /// The step is accepted: the pool at the index changes as it was planned.
-    Planned(usize, Plan, Answered),
+    /// The step is accepted, and concerns the pool at the place alone.
+    Concerns(usize),
+}
+
+impl PoolDecision {
+    ghost use Rattle.mdb_topology.specs.Taking.{cause_of};
+
+    /// Why the step is refused, where it is.
+    pub(crate) fn refusal(self) -> Option<Refused>
+        ensures { result ≡ cause_of self }
+    {
+        match self {
+            PoolDecision::Refused(why) => Some(why),
+            PoolDecision::Idle | PoolDecision::Concerns(_) => None,
+        }
+    }
 }

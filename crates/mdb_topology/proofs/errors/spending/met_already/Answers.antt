@@ -1,5 +1,5 @@
-use Rattle.std.proofs.Common.{◌≡◌, ◌&&◌, not, false, true, Some, None, sym, ◌∙◌, ap}
-use Rattle.mdb_describe.specs.Fields.{error, is_known_type}
+use Rattle.std.proofs.Common.{◌&&◌, not, false, true, sym, ◌∙◌, ap}
+use Rattle.mdb_describe.specs.Fields.{error}
 use Rattle.mdb_describe.specs.Same.{same_error}
 use Rattle.mdb_topology.proofs.Marks.ChangesKnown.{same-failed, same-unfailed}
 use Rattle.mdb_topology.proofs.errors.spending.met_already.Goals as goal

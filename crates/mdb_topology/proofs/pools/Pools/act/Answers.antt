@@ -1,8 +1,6 @@
 use Rattle.std.proofs.Common.{sym, ◌∙◌}
-use Rattle.std.proofs.lemmas.Result.{IfOk-weaker, on_err_weaker}
-use Rattle.mdb_topology.proofs.OnePool.FoundAt.{place-lives, place-within}
-use Rattle.mdb_topology.proofs.OnePool.BecomesOfAct.{ready-lacking, ready-asked, performs-lacking, performs-known, performs-asked, asked-spared}
-use Rattle.mdb_topology.proofs.Marks.AtItsLimit.{some-of}
+use Rattle.mdb_topology.proofs.OnePool.FoundAt.{place-lives}
+use Rattle.mdb_topology.proofs.OnePool.BecomesOfAct.{ready-lacking, ready-asked, performs-lacking, performs-known, performs-asked}
 use Rattle.mdb_topology.proofs.pools.Pools.act.Goals as goal
 
 pub returns-in_default-clause-ready : goal.returns-in_default-clause-ready
@@ -12,26 +10,17 @@ pub returns-in_default-clause-performs : goal.returns-in_default-clause-performs
 returns-in_default-clause-performs c = λ o h z last few. performs-lacking o c.args.self.now.cores.items h z c.args.self.now.last last few c.args.step.now c.requires.act c.requires.in_time c.without_pool.result (sym c.index_of.ensures ∙ c.in_default.is) c.without_pool.ensures
 
 pub returns-then-names_known-clause-performs : goal.returns-then-names_known-clause-performs
-returns-then-names_known-clause-performs c = λ o h z last few. performs-known o c.args.self.now.cores.items h z c.args.self.now.last last few c.args.step.now c.requires.act c.requires.in_time c.in-Some.index (sym c.index_of.ensures ∙ c.in-Some.is) c.requires.early (sym c.names_known.ensures ∙ c.if-names_known.true)
+returns-then-names_known-clause-performs c = λ o h z last few. performs-known o c.args.self.now.cores.items h z c.args.self.now.last last few c.args.step.now c.requires.act c.requires.in_time c.in-Some.place (sym c.index_of.ensures ∙ c.in-Some.is) c.requires.early (sym c.names_known.ensures ∙ c.if-names_known.true)
 
 pub ask-requires-clause-new : goal.ask-requires-clause-new
 ask-requires-clause-new c = sym c.names_known.ensures ∙ c.if-names_known.false
 
 pub ask-requires-clause-there : goal.ask-requires-clause-there
-ask-requires-clause-there c = place-lives c.args.self.now.cores.items c.args.step.now.act c.in-Some.index (sym c.index_of.ensures ∙ c.in-Some.is)
+ask-requires-clause-there c = place-lives c.args.self.now.cores.items c.args.step.now.act c.in-Some.place (sym c.index_of.ensures ∙ c.in-Some.is)
 
 pub returns-clause-ready : goal.returns-clause-ready
-returns-clause-ready c = IfOk-weaker c.ask.result _ _ (λ outcome a. ready-asked c.args.self.now.cores.items c.in-Some.index c.args.step.now outcome a) c.ask.ensures.asked
+returns-clause-ready c = ready-asked c.args.self.now.cores.items c.in-Some.place c.args.step.now c.ask.result c.ask.ensures
 
 pub returns-clause-performs : goal.returns-clause-performs
-returns-clause-performs c = IfOk-weaker c.ask.result _ _ (λ outcome a o h z last few. performs-asked o c.args.self.now.cores.items h z c.args.self.now.last last few c.args.step.now c.requires.act c.requires.in_time c.in-Some.index (sym c.index_of.ensures ∙ c.in-Some.is) c.requires.early
-    (sym c.names_known.ensures ∙ c.if-names_known.false) outcome a) c.ask.ensures.asked
-
-pub returns-clause-wants : goal.returns-clause-wants
-returns-clause-wants c =
-    let pools = c.args.self.now.cores.items in
-    let i = c.in-Some.index in
-    let at = sym c.index_of.ensures ∙ c.in-Some.is in
-    let own = some-of pools i (place-within pools c.args.step.now.act i at) in
-    on_err_weaker c.ask.result (λ e o h z last few. asked-spared o pools h z c.args.self.now.last last few c.args.step.now c.requires.act c.requires.in_time i at c.requires.early
-    (sym c.names_known.ensures ∙ c.if-names_known.false) own.0 own.1 (e own.0 own.1)) c.ask.ensures.wants
+returns-clause-performs c = λ o h z last few. performs-asked o c.args.self.now.cores.items h z c.args.self.now.last last few c.args.step.now c.requires.act c.requires.in_time c.in-Some.place (sym c.index_of.ensures ∙ c.in-Some.is) c.requires.early
+    (sym c.names_known.ensures ∙ c.if-names_known.false) c.ask.result c.ask.ensures

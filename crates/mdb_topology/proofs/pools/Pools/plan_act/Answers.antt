@@ -1,5 +1,4 @@
-use Rattle.std.proofs.Common.{◌≡◌, ◌++◌, Some, ◌∙◌, ap}
-use Rattle.std.specs.Prelude.{slice_get}
+use Rattle.std.proofs.Common.{◌++◌, ◌∙◌, ap}
 use Rattle.mdb_topology.proofs.InMemory.LivingPools.{some-living}
 use Rattle.mdb_topology.proofs.pools.Pools.plan_act.Goals as goal
 

@@ -1,4 +1,4 @@
-use Rattle.std.proofs.Common.{[], sym, ◌∙◌, append-nil}
+use Rattle.std.proofs.Common.{sym, ◌∙◌, append-nil}
 use Rattle.mdb_topology.proofs.pools.cores.keep.Goals as goal
 
 pub returns-then-is_spent-clause-items : goal.returns-then-is_spent-clause-items

@@ -1,8 +1,7 @@
-use Rattle.std.proofs.Common.{◌≡◌, true, Some, ◌∙◌, refl, sym, subst}
-use Rattle.std.specs.Prelude.{All, slice_get}
+use Rattle.std.proofs.Common.{◌∙◌, sym, subst}
+use Rattle.std.specs.Prelude.{All}
 use Rattle.mdb_log.specs.Acts.{IsPoolAct}
 use Rattle.mdb_log.specs.declared.step.Step.{Step}
-use Rattle.mdb_pool.specs.Core.{PoolCore}
 use Rattle.mdb_pool.specs.Planning.{LeadsTo}
 use Rattle.mdb_pool.specs.Refusing.{TellsNew}
 use Rattle.mdb_pool.proofs.Answered.NewParties.{named_tells}

@@ -1,5 +1,4 @@
-use Rattle.std.proofs.Common.{◌≡◌, ◌∙◌, ◌+◌, not, nat_lt, length, slice_get, true, false, Some, sym, refl, ap, subst}
-use Rattle.std.proofs.lemmas.Option.{slice_get_read}
+use Rattle.std.proofs.Common.{◌≡◌, ◌∙◌, ◌+◌, not, nat_lt, slice_get, true, false, Some, sym, ap, subst}
 use Rattle.mdb_log.specs.declared.reply.Refused.TheVariants.{Exhausted}
 use Rattle.mdb_log.specs.declared.reply.What.TheVariants.{Monitor}
 use Rattle.mdb_log.specs.Connections.{one_if}

@@ -1,4 +1,4 @@
-use Rattle.std.proofs.Common.{List, ◌≡◌, [], true, false, not, Some, None, is_some, sym, ◌∙◌, ap, subst, refl}
+use Rattle.std.proofs.Common.{List, ◌≡◌, [], true, false, not, Some, is_some, sym, ◌∙◌, ap, subst, refl}
 use Rattle.mdb_log.specs.declared.reply.Reply.TheVariants.{Changed}
 use Rattle.mdb_pool.specs.Refusal.{wrong_service}
 use Rattle.mdb_topology.specs.Marking.{Clears, IsClearing}

@@ -1,6 +1,5 @@
-use Rattle.std.proofs.Common.{◌≡◌, true, length, Some, None, refl, sym, ◌∙◌, ap, subst}
+use Rattle.std.proofs.Common.{◌≡◌, true, Some, None, refl, sym, ◌∙◌, ap, subst}
 use Rattle.std.specs.Prelude.{slice_get}
-use Rattle.std.proofs.lemmas.Option.{slice_get_read}
 use Rattle.mdb_log.specs.Opening.{pool_options}
 use Rattle.mdb_log.specs.declared.step.Act.TheVariants.{Failed, Unpin}
 use Rattle.mdb_log.specs.declared.reply.Refused.TheVariants.{NotPending}

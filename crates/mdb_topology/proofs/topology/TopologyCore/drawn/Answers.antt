@@ -1,5 +1,4 @@
-use Rattle.std.proofs.Common.{◌≡◌, ◌+◌, length, true, false, refl, arith}
-use Rattle.std.proofs.lemmas.Option.{slice_get_read}
+use Rattle.std.proofs.Common.{◌≡◌, ◌+◌, true, false, arith}
 use Rattle.mdb_topology.proofs.OfMonitors.CheckBegins.{drawn-at}
 use Rattle.mdb_topology.proofs.topology.TopologyCore.drawn.Goals as goal
 

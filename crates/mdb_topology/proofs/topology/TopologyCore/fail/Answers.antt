@@ -1,5 +1,3 @@
-use Rattle.mdb_describe.specs.Descriptions.{failed}
-use Rattle.mdb_describe.specs.Update.{updated}
 use Rattle.mdb_topology.proofs.topology.TopologyCore.fail.Goals as goal
 
 pub returns-in_ok-with_check-in-Ok-clause-fails : goal.returns-in_ok-with_check-in-Ok-clause-fails

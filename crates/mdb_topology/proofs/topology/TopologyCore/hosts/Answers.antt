@@ -1,11 +1,11 @@
-use Rattle.std.proofs.Common.{◌∙◌, [], None, false, sym, subst, refl, ◌≡◌, true}
+use Rattle.std.proofs.Common.{◌∙◌, [], None, false, sym, subst, refl, true}
 use Rattle.std.proofs.lemmas.Result.{IfOk-weaker}
 use Rattle.mdb_log.specs.declared.reply.Reply.TheVariants.{Changed}
 use Rattle.mdb_describe.specs.Topology.{synced}
 use Rattle.mdb_topology.specs.Changing.{IsChanging, IsUpdating}
 use Rattle.mdb_topology.proofs.WholeSteps.Stops.{as-next}
 use Rattle.mdb_topology.proofs.OnePool.SameHistories.{IsPlain}
-use Rattle.mdb_topology.proofs.Publications.WhichSteps.{hosts-updating, hosts-resting, passes-time}
+use Rattle.mdb_topology.proofs.Publications.WhichSteps.{hosts-updating, hosts-resting}
 use Rattle.mdb_topology.proofs.WholeSteps.QuietStep.{follows-quiet}
 use Rattle.mdb_topology.proofs.Publications.BecomesKnown.{changes-become, spared-update}
 use Rattle.mdb_topology.proofs.Marks.AtItsLimit.{wants-after}

@@ -1,6 +1,5 @@
-use Rattle.std.proofs.Common.{◌≡◌, ◌&&◌, not, length, Some, refl, ◌∙◌, ap}
+use Rattle.std.proofs.Common.{◌≡◌, ◌&&◌, not, Some, ◌∙◌, ap}
 use Rattle.std.specs.Prelude.{nat_le, slice_get}
-use Rattle.std.proofs.lemmas.Option.{slice_get_read}
 use Rattle.mdb_pool.specs.Core.{PoolCore}
 use Rattle.mdb_pool.specs.Kept.{clears_for, exhausted_now, is_shut}
 use Rattle.mdb_topology.proofs.General.OnePosition.{some-same}

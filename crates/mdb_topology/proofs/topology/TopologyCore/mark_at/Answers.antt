@@ -1,4 +1,4 @@
-use Rattle.std.proofs.Common.{◌≡◌, Some, ap, subst}
+use Rattle.std.proofs.Common.{Some, ap, subst}
 use Rattle.mdb_topology.specs.Marking.{MarkTold}
 use Rattle.mdb_topology.proofs.topology.TopologyCore.mark_at.Goals as goal
 

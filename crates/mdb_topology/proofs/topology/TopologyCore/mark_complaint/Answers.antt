@@ -1,13 +1,12 @@
-use Rattle.std.proofs.Common.{◌≡◌, true, length, Some, refl, sym, ◌∙◌, ap, subst}
+use Rattle.std.proofs.Common.{◌≡◌, true, Some, sym, ◌∙◌, subst}
 use Rattle.std.specs.Prelude.{slice_get}
-use Rattle.std.proofs.lemmas.Option.{slice_get_read}
 use Rattle.std.proofs.lemmas.Result.{IfOk-weaker, on_err_weaker}
 use Rattle.mdb_describe.specs.Descriptions.{failed}
 use Rattle.mdb_describe.specs.Update.{updated}
 use Rattle.mdb_pool.specs.Core.{PoolCore}
 use Rattle.mdb_pool.specs.Kept.{connection_at}
 use Rattle.mdb_pool.proofs.Answered.Pin.{held-at}
-use Rattle.mdb_topology.specs.declared.errors.marked.Asked.TheVariants.{CheckNow, CancelIfCleared}
+use Rattle.mdb_topology.specs.declared.errors.marked.Asked.TheVariants.{CheckNow}
 use Rattle.mdb_topology.specs.Changing.{IsTelling}
 use Rattle.mdb_topology.specs.Complaining.{is_hard_now}
 use Rattle.mdb_topology.specs.Errors.{state_change, lost}

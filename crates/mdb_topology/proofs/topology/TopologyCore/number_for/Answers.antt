@@ -1,5 +1,4 @@
-use Rattle.std.proofs.Common.{length, true, false, refl}
-use Rattle.std.proofs.lemmas.Option.{slice_get_read}
+use Rattle.std.proofs.Common.{true, false}
 use Rattle.mdb_topology.proofs.OfMonitors.CheckBegins.{number-at}
 use Rattle.mdb_topology.proofs.topology.TopologyCore.number_for.Goals as goal
 

@@ -2,7 +2,6 @@ use Rattle.std.proofs.Common.{◌≡◌, ◌&&◌, true, is_some, sym, ◌∙◌
 use Rattle.mdb_describe.specs.Descriptions.{failed}
 use Rattle.mdb_describe.specs.Differences.{difference}
 use Rattle.mdb_describe.specs.Update.{updated}
-use Rattle.mdb_pool.specs.Core.{PoolCore}
 use Rattle.mdb_pool.specs.Kept.{exhausted_now}
 use Rattle.std.proofs.Common.{Bool, false, None}
 use Rattle.mdb_topology.proofs.General.Truth.{and-false, and-true}

@@ -1,4 +1,4 @@
-use Rattle.std.proofs.Common.{◌≡◌, true, ◌&&◌, ◌++◌, [], length, Some, None, is_some, sym, ◌∙◌, ap, subst}
+use Rattle.std.proofs.Common.{◌≡◌, true, ◌&&◌, ◌++◌, [], length, None, is_some, sym, ◌∙◌, ap, subst}
 use Rattle.mdb_describe.specs.Descriptions.{failed}
 use Rattle.mdb_describe.specs.Differences.{difference}
 use Rattle.mdb_describe.specs.Update.{updated}

@@ -1,4 +1,4 @@
-use Rattle.std.proofs.Common.{◌≡◌, ◌∙◌, length, sym, subst, ap, true, refl, false}
+use Rattle.std.proofs.Common.{◌≡◌, ◌∙◌, length, sym, subst, ap, true, refl}
 use Rattle.mdb_log.specs.declared.reply.Reply.TheVariants.{Count}
 use Rattle.mdb_monitor.specs.Asking.{unwanted}
 use Rattle.mdb_topology.specs.declared.transition.Transition.{Transition}

@@ -1,5 +1,4 @@
-use Rattle.std.proofs.Common.{◌≡◌, ◌∙◌, length, slice_get, Some, refl, subst}
-use Rattle.std.proofs.lemmas.Option.{slice_get_read}
+use Rattle.std.proofs.Common.{◌≡◌, ◌∙◌, slice_get, Some, subst}
 use Rattle.mdb_topology.specs.Checking.{Begins}
 use Rattle.mdb_topology.proofs.General.OnePosition.{some-same}
 use Rattle.mdb_topology.proofs.topology.TopologyCore.with_check.Goals as goal

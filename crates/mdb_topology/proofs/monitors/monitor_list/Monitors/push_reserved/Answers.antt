@@ -1,8 +1,8 @@
-use Rattle.std.proofs.Common.{◌≡◌, ◌+◌, ◌<◌, ◌++◌, ◌∷◌, [], length, sym, ◌∙◌, ap, arith}
+use Rattle.std.proofs.Common.{◌≡◌, ◌+◌, ◌<◌, ◌++◌, ◌∷◌, [], length, sym, ap, arith}
 use Rattle.mdb_topology.specs.declared.monitors.watched.Watched.{Watched}
 use Rattle.mdb_topology.specs.Watching.{MonitorList}
 use Rattle.mdb_topology.proofs.InMemory.StillLives.{length-last}
-use Rattle.mdb_topology.proofs.InMemory.WatchedPools.{more-watched, places-last}
+use Rattle.mdb_topology.proofs.InMemory.WatchedPools.{more-watched}
 use Rattle.mdb_topology.proofs.monitors.monitor_list.Monitors.push_reserved.Goals as goal
 
 pub invariant_of-self : goal.invariant_of-self

@@ -1,7 +1,6 @@
-use Rattle.std.proofs.Common.{◌≡◌, ◌+◌, ◌≤◌, List, length, set, Some, None, sym, ◌∙◌, ap, subst, arith}
-use Rattle.std.specs.Prelude.{slice_get, vec_capacity}
+use Rattle.std.proofs.Common.{◌≡◌, ◌≤◌, length, set, Some, sym, ◌∙◌, ap, subst, arith}
+use Rattle.std.specs.Prelude.{vec_capacity}
 use Rattle.std.proofs.lemmas.List.{length-set}
-use Rattle.mdb_pool.specs.Core.{PoolCore}
 use Rattle.mdb_pool.specs.Planning.{IsPlanOf, Plans}
 use Rattle.mdb_topology.specs.declared.pools.placed.Placed.{Placed}
 use Rattle.mdb_topology.specs.Living.{index_in, left_at, living_from, PoolList}

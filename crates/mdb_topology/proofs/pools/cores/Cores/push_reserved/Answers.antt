@@ -1,5 +1,4 @@
-use Rattle.std.proofs.Common.{◌≡◌, ◌+◌, ◌<◌, ◌≤◌, ◌++◌, ◌∷◌, [], length, sym, ◌∙◌, ap, subst, arith}
-use Rattle.std.specs.Prelude.{vec_capacity}
+use Rattle.std.proofs.Common.{◌≡◌, ◌+◌, ◌<◌, ◌≤◌, ◌++◌, ◌∷◌, [], length, sym, ap, arith}
 use Rattle.mdb_topology.specs.Living.{living_from, PoolList}
 use Rattle.mdb_topology.proofs.InMemory.ChangedPools.{one-at-most, opened-one}
 use Rattle.mdb_topology.proofs.InMemory.StillLives.{length-last}
