@@ -1,11 +1,12 @@
 //! Rounds of a driver that runs for long: connections out and in, clears, and a server that goes and comes, while the entries of its log are taken. It has no
-//! clock: `bench/endure.py` times it, and looks how much memory it keeps.
+//! clock: `bench/endure.py` times it and looks how much memory it keeps, and `bench/driver.py` times rounds alone.
 #![tactic(auto)]
 
 ghost use Rattle.std.specs.Prelude.{IfOk, IfSome, ◌≤◌};
 
 mod counter;
 mod errors;
+mod fleet;
 mod hall;
 mod lasting;
 mod opening;
@@ -16,13 +17,13 @@ mod sharing;
 mod taking;
 
 use errors::LongError;
-use lasting::Lasting;
+use fleet::Servers;
 use mdb_lines::command_words;
 use mdb_log::{Core, Log};
 use opening::open;
 use plan::{Plan, USAGE};
-use rounds::{Tally, greet, run};
-use sharing::{Shared, share};
+use rounds::{Course, Tally};
+use sharing::{Crew, Shared, share};
 use std::alloc::{AllocError, Global};
 use std::io;
 use std::process::ExitCode;
@@ -67,11 +68,10 @@ fn told(rt: &HostRuntime, entries: u64, tally: Tally) -> io::Result<()> {
 // All rounds by one thread. What times them reads a line after each part of them.
 fn alone<C: Core>(
     rt: &HostRuntime,
-    lasting: &mut Lasting<C>,
+    course: &mut Course<C>,
     rounds: u32,
 ) -> io::Result<Result<(), LongError>> {
-    let mut tally = Tally::new();
-    if let Err(why) = greet(lasting, rt.alloc()) {
+    if let Err(why) = course.begin(rt.alloc()) {
         return Ok(Err(why));
     }
     let part = rounds / PARTS;
@@ -82,22 +82,28 @@ fn alone<C: Core>(
         } else {
             from.saturating_add(part)
         };
-        if let Err(why) = run(lasting, rt.alloc(), from, to, &mut tally) {
+        if let Err(why) = course.run(rt.alloc(), from, to) {
             return Ok(Err(why));
         }
         from = to;
-        told(rt, lasting.len(), tally)?;
+        told(rt, course.entries(), course.tally)?;
     }
     Ok(Ok(()))
 }
 
 // The rounds of one thread at a driver of this core.
-fn tell_alone<C: Core>(rt: &HostRuntime, core: C, log: Log, rounds: u32) -> io::Result<ExitCode>
+fn tell_alone<C: Core>(
+    rt: &HostRuntime,
+    core: C,
+    log: Log,
+    servers: Servers,
+    plan: Plan,
+) -> io::Result<ExitCode>
     requires { C.stands core log }
 {
-    let mut lasting = Lasting::new(core, log);
-    let done = alone(rt, &mut lasting, rounds);
-    drop(lasting);
+    let mut course = Course::new(core, log, plan.fleet, servers);
+    let done = alone(rt, &mut course, plan.rounds);
+    drop(course);
     match done? {
         Ok(()) => Ok(ExitCode::SUCCESS),
         Err(why) => fail(rt, why),
@@ -118,10 +124,17 @@ fn tell_shared(rt: &HostRuntime, shared: Result<Shared, LongError>) -> io::Resul
 }
 
 // One thread at a driver of its own.
-fn run_alone(rt: &HostRuntime, rounds: u32) -> io::Result<ExitCode> {
-    match open(rt.alloc()) {
-        Ok((core, log)) => tell_alone(rt, core, log, rounds),
-        Err(why) => fail(rt, why),
+fn run_alone(rt: &HostRuntime, plan: Plan) -> io::Result<ExitCode> {
+    let servers = match Servers::new(rt.alloc(), plan.fleet.servers) {
+        Ok(servers) => servers,
+        Err(why) => return fail(rt, why),
+    };
+    match open(rt.alloc(), plan.fleet) {
+        Ok((core, log)) => tell_alone(rt, core, log, servers, plan),
+        Err(why) => {
+            drop(servers);
+            fail(rt, why)
+        }
     }
 }
 
@@ -129,13 +142,12 @@ fn run_alone(rt: &HostRuntime, rounds: u32) -> io::Result<ExitCode> {
 fn share_opened<R: Threads + Wait + Clock + Sync>(
     rt: &R,
     alloc: Global,
-    threads: u32,
-    rounds: u32,
+    crew: Crew,
 ) -> Result<Shared, LongError>
-    requires { threads ≤ 32 }
+    requires { crew.threads ≤ 32 }
 {
-    let (core, log) = open(alloc)?;
-    share(rt, alloc, core, log, threads, rounds)
+    let (core, log) = open(alloc, crew.fleet)?;
+    share(rt, alloc, core, log, crew)
 }
 
 fn main(rt: HostRuntime) -> io::Result<ExitCode> {
@@ -144,9 +156,14 @@ fn main(rt: HostRuntime) -> io::Result<ExitCode> {
         return Ok(ExitCode::from(WRONG_WORDS));
     };
     match plan.threads {
-        None => run_alone(&rt, plan.rounds),
+        None => run_alone(&rt, plan),
         Some(threads) => {
-            let shared = share_opened(&rt, rt.alloc(), threads, plan.rounds);
+            let crew = Crew {
+                threads,
+                rounds: plan.rounds,
+                fleet: plan.fleet,
+            };
+            let shared = share_opened(&rt, rt.alloc(), crew);
             tell_shared(&rt, shared)
         }
     }

@@ -1,74 +1,33 @@
-//! A driver of three routers.
+//! A driver of routers.
 
 ghost use Rattle.std.specs.Prelude.{IfOk};
 ghost use Rattle.mdb_log.specs.Acts.{IsDriverAct};
 ghost use Rattle.mdb_topology.specs.Logging.{IsDriverOf};
 
 use crate::errors::LongError;
-use mdb_base::{AddressError, Error, ErrorKind, Items, ObjectId, Options, ServerAddress, Text};
+use crate::fleet::{Fleet, Servers, addresses};
+use mdb_base::{Error, ErrorKind, Items, ObjectId, Options, ServerAddress, Text};
 use mdb_events::Boxed;
 use mdb_hello::HelloCommandResponse;
 use mdb_log::{Act, HelloResult, Log};
 use mdb_topology::TopologyCore;
 use std::alloc::Global;
 
-/// How many servers there are.
-pub const SERVERS: u32 = 3;
-
-// How many connections a pool has at most, and at least.
-const MOST: u32 = 4;
-
+// How many connections a pool has at least, where something goes wrong from time to time.
 const LEAST: u32 = 2;
 
 // How long a check takes, in nanoseconds.
 const CHECK: u64 = 5;
 
-fn name(server: u32) -> &'static str {
-    match server {
-        0 => "a:1",
-        1 => "b:1",
-        _ => "c:1",
-    }
-}
-
-/// The address of the server of this number.
-pub fn address(alloc: Global, server: u32) -> Result<ServerAddress, LongError> {
-    match ServerAddress::parse(alloc, name(server)) {
-        Ok(address) => Ok(address),
-        Err(AddressError::BadAddress) => Err(LongError::Address),
-        Err(AddressError::OutOfMemory) => Err(LongError::OutOfMemory),
-    }
-}
-
-fn add_address(
-    addresses: &mut Vec<ServerAddress>,
-    alloc: Global,
-    server: u32,
-) -> Result<(), LongError> {
-    let address = address(alloc, server)?;
-    match addresses.push(address) {
-        Ok(()) => Ok(()),
-        Err(_) => Err(LongError::OutOfMemory),
-    }
-}
-
-/// The addresses of the first so many servers.
-pub fn addresses(alloc: Global, servers: u32) -> Result<Vec<ServerAddress>, LongError> {
-    let mut addresses = Vec::new(alloc);
-    for server in 0..servers {
-        add_address(&mut addresses, alloc, server)?;
-    }
-    Ok(addresses)
-}
-
-fn options(seeds: Vec<ServerAddress>) -> Options {
+fn options(seeds: Vec<ServerAddress>, fleet: Fleet) -> Options {
+    let least = if fleet.is_calm { None } else { Some(LEAST) };
     Options {
         seeds: Items::new(seeds),
         set_name: None,
         direct: false,
         load_balanced: false,
-        max_pool_size: Some(MOST),
-        min_pool_size: Some(LEAST),
+        max_pool_size: Some(fleet.connections),
+        min_pool_size: least,
         max_connecting: None,
         max_idle_time: None,
         max_wait: None,
@@ -94,10 +53,10 @@ fn greeting(alloc: Global) -> Result<Boxed<HelloCommandResponse>, LongError> {
 }
 
 /// A router at the server greets, for this pool of it.
-pub fn hello(alloc: Global, server: u32, pool: u32) -> Result<Act, LongError>
+pub fn hello(alloc: Global, servers: &Servers, server: u32, pool: u32) -> Result<Act, LongError>
     ensures { IfOk result IsDriverAct }
 {
-    let address = address(alloc, server)?;
+    let address = servers.address(server)?;
     match greeting(alloc) {
         Ok(reply) => Ok(Act::Hello(address, pool, HelloResult::Ok(CHECK, reply))),
         Err(why) => {
@@ -121,10 +80,10 @@ pub fn network_error(alloc: Global, party: u32) -> Result<Act, LongError>
 }
 
 /// A driver of the servers, with its log.
-pub fn open(alloc: Global) -> Result<(TopologyCore, Log), LongError>
+pub fn open(alloc: Global, fleet: Fleet) -> Result<(TopologyCore, Log), LongError>
     ensures { IfOk result (λ opened. IsDriverOf opened.0 opened.1) }
 {
-    let options = options(addresses(alloc, SERVERS)?);
+    let options = options(addresses(alloc, fleet.servers)?, fleet);
     let is_broken = options.check().is_some();
     if is_broken {
         drop(options);

@@ -3,10 +3,10 @@
 ghost use Rattle.std.specs.Prelude.{◌≡◌};
 
 use crate::errors::LongError;
+use crate::fleet::{Fleet, Servers};
 use crate::hall::Hall;
-use crate::opening::{SERVERS, address};
 use crate::taking::take_all;
-use mdb_base::{Error, ErrorKind, Items, Text};
+use mdb_base::{Error, ErrorKind, Items, ServerAddress, Text};
 use mdb_handles::Handle;
 use mdb_log::{Core, Established, PooledConnection, Use};
 use mdb_shared::{Seat, SharedDriver};
@@ -18,8 +18,8 @@ use std::sync::Wait;
 /// What a thread does.
 #[derive(Clone, Copy, Debug)]
 pub enum Role {
-    /// Checks connections out and in, so many times.
-    Client(u32),
+    /// Checks connections out and in, so many times, at one of these servers after the other.
+    Client(u32, Fleet),
     /// Establishes connections.
     Worker,
     /// Takes the entries, and stops the driver once all clients have left.
@@ -40,18 +40,17 @@ pub struct Played<C: Core> {
     pub done: Result<(), LongError>,
 }
 
-// Checks a connection out, at one server after the other.
+// Checks a connection out at the address.
 fn take_out<C: Core, R: Wait>(
     me: &mut Handle<'_, C, R>,
-    alloc: Global,
-    at: u32,
+    address: ServerAddress,
 ) -> Result<PooledConnection, LongError>
     ensures own { me.new.seat.driver ≡ me.old.seat.driver }
 {
     let Some(request) = me.take_numbers(1) else {
+        drop(address);
         return Err(LongError::Number);
     };
-    let address = address(alloc, at % SERVERS)?;
     match me.check_out(request, address) {
         Ok(connection) => Ok(connection),
         Err(why) => {
@@ -85,29 +84,47 @@ fn bring_back<C: Core, R: Wait>(
 // One connection out and in.
 fn round<C: Core, R: Wait>(
     me: &mut Handle<'_, C, R>,
-    alloc: Global,
-    at: u32,
+    servers: &Servers,
+    server: u32,
 ) -> Result<(), LongError>
     ensures own { me.new.seat.driver ≡ me.old.seat.driver }
 {
-    let connection = take_out(me, alloc, at)?;
+    let address = servers.address(server)?;
+    let connection = take_out(me, address)?;
     bring_back(me, connection)
 }
 
-// So many rounds of a client.
-fn ask<C: Core, R: Wait>(
+// So many rounds of a client, at one server after the other.
+fn ask_all<C: Core, R: Wait>(
     me: &mut Handle<'_, C, R>,
-    alloc: Global,
+    servers: &Servers,
     rounds: u32,
+    fleet: Fleet,
     hall: &Hall,
 ) -> Result<(), LongError>
     ensures own { me.new.seat.driver ≡ me.old.seat.driver }
 {
     for at in 0..rounds {
-        round(me, alloc, at)?;
+        round(me, servers, fleet.server(at))?;
         hall.note_returned();
     }
     Ok(())
+}
+
+// The rounds of a client.
+fn ask<C: Core, R: Wait>(
+    me: &mut Handle<'_, C, R>,
+    alloc: Global,
+    rounds: u32,
+    fleet: Fleet,
+    hall: &Hall,
+) -> Result<(), LongError>
+    ensures own { me.new.seat.driver ≡ me.old.seat.driver }
+{
+    let servers = Servers::new(alloc, fleet.servers)?;
+    let asked = ask_all(me, &servers, rounds, fleet, hall);
+    drop(servers);
+    asked
 }
 
 // An establisher that always succeeds.
@@ -145,8 +162,8 @@ fn attend<C: Core, R: Wait>(
     ensures own { me.new.seat.driver ≡ me.old.seat.driver }
 {
     match role {
-        Role::Client(rounds) => {
-            let asked = ask(me, alloc, rounds, hall);
+        Role::Client(rounds, fleet) => {
+            let asked = ask(me, alloc, rounds, fleet, hall);
             hall.leave();
             asked
         }

@@ -3,8 +3,9 @@
 ghost use Rattle.std.specs.Prelude.{◌≡◌, ◌≤◌, All, IfOk};
 
 use crate::errors::LongError;
+use crate::fleet::{Fleet, Servers};
 use crate::hall::Hall;
-use crate::opening::{SERVERS, hello};
+use crate::opening::hello;
 use crate::roles::{Played, Role, SeatedRole, play};
 use mdb_handles::Handle;
 use mdb_journal::Journal;
@@ -27,11 +28,19 @@ pub struct Shared {
     pub taken_all: bool,
 }
 
-fn role(number: u32, rounds: u32) -> Role {
+/// How many threads check connections out, how often each, and of which servers.
+#[derive(Clone, Copy, Debug, PartialEq, Eq)]
+pub struct Crew {
+    pub threads: u32,
+    pub rounds: u32,
+    pub fleet: Fleet,
+}
+
+fn role(number: u32, crew: Crew) -> Role {
     match number {
         0 => Role::Worker,
         1 => Role::Taker,
-        _ => Role::Client(rounds),
+        _ => Role::Client(crew.rounds, crew.fleet),
     }
 }
 
@@ -57,7 +66,7 @@ fn parts<C: Core>(
     driver: &SharedDriver<C>,
     alloc: Global,
     seats: Vec<Seat<C>>,
-    rounds: u32,
+    crew: Crew,
 ) -> Result<Vec<SeatedRole<C>>, LongError>
     requires own { All (λ s. s.driver ≡ driver.now.id) seats.items }
     ensures own { IfOk result (λ parts. All (λ p. p.seat.driver ≡ driver.now.id) parts.items) }
@@ -66,7 +75,7 @@ fn parts<C: Core>(
     let mut all_added = Ok(());
     let mut number = 0u32;
     for seat in seats {
-        let added = add_part(driver, &mut parts, seat, role(number, rounds));
+        let added = add_part(driver, &mut parts, seat, role(number, crew));
         all_added = all_added.and(added);
         number = number.wrapping_add(1);
     }
@@ -153,25 +162,44 @@ fn play_roles<C: Core, R: Threads + Wait + Clock + Sync>(
     rt: &R,
     alloc: Global,
     seats: Vec<Seat<C>>,
-    rounds: u32,
+    crew: Crew,
     hall: &Hall,
 ) -> Result<Vec<Seat<C>>, LongError>
     requires own { All (λ s. s.driver ≡ driver.now.id) seats.items }
     ensures own { IfOk result (λ seats. All (λ s. s.driver ≡ driver.now.id) seats.items) }
 {
-    let parts = parts(driver, alloc, seats, rounds)?;
+    let parts = parts(driver, alloc, seats, crew)?;
     play_all(driver, rt, alloc, parts, hall)
 }
 
-// Each server greets.
-fn greet<C: Core, R: Wait>(me: &mut Handle<'_, C, R>, alloc: Global) -> Result<(), LongError>
+// Each of the servers greets.
+fn greet<C: Core, R: Wait>(
+    me: &mut Handle<'_, C, R>,
+    alloc: Global,
+    servers: &Servers,
+    fleet: Fleet,
+) -> Result<(), LongError>
     ensures own { me.new.seat.driver ≡ me.old.seat.driver }
 {
-    for server in 0..SERVERS {
-        let act = hello(alloc, server, server)?;
+    for server in 0..fleet.servers {
+        let act = hello(alloc, servers, server, server)?;
         drop(me.step(Step { moment: 0, act })?);
     }
     Ok(())
+}
+
+// All servers greet.
+fn greet_all<C: Core, R: Wait>(
+    me: &mut Handle<'_, C, R>,
+    alloc: Global,
+    fleet: Fleet,
+) -> Result<(), LongError>
+    ensures own { me.new.seat.driver ≡ me.old.seat.driver }
+{
+    let servers = Servers::new(alloc, fleet.servers)?;
+    let greeted = greet(me, alloc, &servers, fleet);
+    drop(servers);
+    greeted
 }
 
 // The pools become ready by the last seat, and each other seat plays its role; all seats come back.
@@ -180,7 +208,7 @@ fn use_seats<C: Core, R: Threads + Wait + Clock + Sync>(
     rt: &R,
     alloc: Global,
     mut seats: Vec<Seat<C>>,
-    rounds: u32,
+    crew: Crew,
     hall: &Hall,
 ) -> Result<Vec<Seat<C>>, LongError>
     requires own { All (λ s. s.driver ≡ driver.now.id) seats.items }
@@ -191,9 +219,9 @@ fn use_seats<C: Core, R: Threads + Wait + Clock + Sync>(
         return Err(LongError::Seat);
     };
     let mut me = Handle::new(driver, rt, alloc, last);
-    match greet(&mut me, alloc) {
+    match greet_all(&mut me, alloc, crew.fleet) {
         Ok(()) => {
-            let played = play_roles(driver, rt, alloc, seats, rounds, hall);
+            let played = play_roles(driver, rt, alloc, seats, crew, hall);
             with_seat(driver, played, me.into_seat())
         }
         Err(why) => {
@@ -239,12 +267,12 @@ fn play_parts<C: Core, R: Threads + Wait + Clock + Sync>(
     rt: &R,
     alloc: Global,
     seats: Vec<Seat<C>>,
-    rounds: u32,
+    crew: Crew,
     hall: &Hall,
 ) -> Result<Shared, LongError>
     requires own { All (λ s. s.driver ≡ driver.id) seats.items }
 {
-    match use_seats(&driver, rt, alloc, seats, rounds, hall) {
+    match use_seats(&driver, rt, alloc, seats, crew, hall) {
         Ok(seats) => closed(driver, seats, hall),
         Err(why) => {
             drop(driver);
@@ -253,21 +281,20 @@ fn play_parts<C: Core, R: Threads + Wait + Clock + Sync>(
     }
 }
 
-/// So many threads do so many rounds each at a driver of this core, while another takes the entries.
+/// The threads do their rounds at a driver of this core, while another takes the entries.
 pub fn share<C: Core, R: Threads + Wait + Clock + Sync>(
     rt: &R,
     alloc: Global,
     core: C,
     log: Log,
-    threads: u32,
-    rounds: u32,
+    crew: Crew,
 ) -> Result<Shared, LongError>
     requires stands { C.stands core log }
-    requires threads { threads ≤ 32 }
+    requires threads { crew.threads ≤ 32 }
 {
-    let (driver, seats) = SharedDriver::new(alloc, core, log, threads + 3)?;
-    let hall = Hall::new(threads + 2, threads as u64);
-    let shared = play_parts(driver, rt, alloc, seats, rounds, &hall);
+    let (driver, seats) = SharedDriver::new(alloc, core, log, crew.threads + 3)?;
+    let hall = Hall::new(crew.threads + 2, crew.threads as u64);
+    let shared = play_parts(driver, rt, alloc, seats, crew, &hall);
     drop(hall);
     shared
 }
