@@ -1,5 +1,5 @@
 -- A line that a step is spelled by is printable, and so is each text in it.
-use Rattle.std.proofs.Common.{ℕ, ◌≡◌, true, List, ◌++◌, codes, decimal, Option, Some, None, refl, sym, ◌∙◌, ap}
+use Rattle.std.proofs.Common.{ℕ, ◌≡◌, true, List, ◌++◌, codes, decimal, Option, Some, None, sym, ◌∙◌, ap}
 use Rattle.std.specs.Prelude.{if◌then◌else◌}
 use Rattle.std.specs.List.{list_all}
 use Rattle.std.proofs.lemmas.Bool.{and_parts}

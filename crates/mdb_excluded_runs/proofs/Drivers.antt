@@ -1,5 +1,5 @@
 -- The laws that a log keeps for which some driver stands.
-use Rattle.std.proofs.Common.{ℕ, List, [], ◌∷◌, sym, subst, arith}
+use Rattle.std.proofs.Common.{List, [], ◌∷◌, sym, subst, arith}
 use Rattle.mdb_base.specs.declared.options.Options.{Options}
 use Rattle.mdb_log.specs.declared.log.Entry.{Entry}
 use Rattle.mdb_log.specs.Opening.{pool_options}

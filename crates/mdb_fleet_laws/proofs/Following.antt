@@ -1,6 +1,6 @@
 -- After each event of a run the description follows the replies that were applied.
-use Rattle.std.proofs.Common.{◌≡◌, ℕ, suc, ◌+◌, ◌-◌, ◌<◌, ◌≤◌, ◌^◌, Bool, true, false, not, ◌&&◌, ◌⊎◌, inl, inr, List, [], ◌∷◌, ◌++◌, length, get_or, codes, Option, Some, None, refl, sym, ap, ◌∙◌, subst, arith, append_assoc, length-append}
-use Rattle.std.specs.Prelude.{slice_get, replicate, is_some, unwrap_or, if◌then◌else◌, nat_lt, IfSome}
+use Rattle.std.proofs.Common.{◌≡◌, ℕ, ◌+◌, ◌-◌, ◌<◌, ◌≤◌, ◌^◌, true, false, ◌&&◌, inl, inr, List, [], ◌∷◌, ◌++◌, length, get_or, Option, Some, None, refl, sym, ap, ◌∙◌, subst, arith, append_assoc, length-append}
+use Rattle.std.specs.Prelude.{slice_get, replicate, is_some, if◌then◌else◌, nat_lt}
 use Rattle.std.proofs.Math.ListN.{set}
 use Rattle.std.proofs.lemmas.Bool.{cases_Bool, cases_eq, ltb-true}
 use Rattle.std.proofs.lemmas.List.{append-nil, length-set, length-replicate, get_or-set_same, get_or-set_other}
@@ -10,15 +10,12 @@ use Rattle.mdb_hello.specs.declared.response.HelloCommandResponse.{HelloCommandR
 use Rattle.mdb_describe.specs.declared.description.ServerDescription.{ServerDescription}
 use Rattle.mdb_describe.specs.declared.topology.TopologyDescription.{TopologyDescription}
 use Rattle.mdb_describe.specs.Descriptions.{failed, from_reply}
-use Rattle.mdb_describe.specs.Servers.{addresses_of, is_known, is_listed}
+use Rattle.mdb_describe.specs.Servers.{addresses_of, is_known}
 use Rattle.mdb_describe.specs.Update.{updated, is_new}
 use Rattle.mdb_log.specs.History.{Item, history_of, open_pool, with_answer}
 use Rattle.mdb_log.specs.LegalLog.{OpensSeeds}
-use Rattle.mdb_log.specs.PlainLegal.{is_refused}
 use Rattle.mdb_log.specs.declared.checked.HelloResult.{HelloResult}
 use Rattle.mdb_log.specs.declared.checked.HelloResult.TheVariants as hello
-use Rattle.mdb_log.specs.declared.log.Entry.{Entry}
-use Rattle.mdb_log.specs.declared.step.Act.TheVariants.{Hello}
 use Rattle.mdb_log.specs.declared.step.Step.{Step}
 use Rattle.mdb_log.proofs.Later.{with_entries-append}
 use Rattle.mdb_topology.specs.Answer.{answer}
@@ -29,10 +26,10 @@ use Rattle.mdb_topology.specs.Monitors.{hello_reply}
 use Rattle.mdb_fleets.specs.declared.member.Member.{Member}
 use Rattle.mdb_fleets.specs.declared.member.Sent.{Sent}
 use Rattle.mdb_fleets.specs.Members.{new_member, is_primary, winner, greatest_version, stepped_down, reconfigured}
-use Rattle.mdb_fleets.specs.MemberReplies.{address_of, addresses_of as members_of, reply_of}
-use Rattle.mdb_fleets.specs.ReplicaSet.{ReplicaSet, new_set, member_at, elected, changed_primary, demoted, reconfigured_at, asked}
-use Rattle.mdb_failover.specs.Elections.{Pair, top}
-use Rattle.mdb_failover.specs.Followed.{Won, IsHonest, pair_of, with_pair, Follows}
+use Rattle.mdb_fleets.specs.MemberReplies.{address_of, reply_of}
+use Rattle.mdb_fleets.specs.ReplicaSet.{member_at, elected, demoted, reconfigured_at, asked}
+use Rattle.mdb_failover.specs.Elections.{Pair}
+use Rattle.mdb_failover.specs.Followed.{Won, IsHonest, pair_of, Follows}
 use Rattle.mdb_failover.specs.Says.{Says}
 use Rattle.mdb_failover.proofs.Growing.{honest-more, more-winners}
 use Rattle.mdb_failover.proofs.Lists.{known-address}
@@ -43,9 +40,9 @@ use Rattle.mdb_fleet_runs.specs.declared.event.Event.{Event}
 use Rattle.mdb_fleet_runs.specs.declared.event.FleetAct.{FleetAct}
 use Rattle.mdb_fleet_runs.specs.declared.event.FleetAct.TheVariants as act
 use Rattle.mdb_fleet_runs.specs.declared.answers.FleetAnswer.TheVariants as told
-use Rattle.mdb_fleet_runs.specs.Trials.{Trial, Outcome, fleet_options, opened, log_in, history_in, description_in, pool_of, hello_step, lost, refuses, with_set, steps, delivers, by_member, by_primary, happens, outcome, after, begun}
+use Rattle.mdb_fleet_runs.specs.Trials.{Trial, Outcome, fleet_options, opened, log_in, history_in, description_in, hello_step, lost, refuses, with_set, steps, delivers, by_member, by_primary, happens, outcome, after, begun}
 use Rattle.mdb_fleet_runs.specs.FleetRuns.{StoodFrom, StoodEach}
-use Rattle.mdb_fleet_laws.specs.Failover.{won_by, accepts, is_not_above, version_of, is_applied, applied_reply, applied_by, winners_from, pairs_from}
+use Rattle.mdb_fleet_laws.specs.Failover.{won_by, accepts, is_not_above, version_of, applied_reply, applied_by, winners_from, pairs_from}
 use Rattle.mdb_fleet_laws.proofs.Parts.{last-is, one-more, new-is}
 use Rattle.mdb_fleet_laws.proofs.Opened.{opening-taken}
 use Rattle.mdb_fleet_laws.proofs.Steps.{described-after, runs-on, reply-rule, error-rule}

@@ -1,14 +1,12 @@
 -- The opening of a driver with all members as seeds is taken.
-use Rattle.std.proofs.Common.{◌≡◌, ℕ, ◌<◌, ◌≤◌, Bool, true, false, List, [], ◌∷◌, length, Option, Some, None, refl, sym, ap, ◌∙◌, subst, arith}
+use Rattle.std.proofs.Common.{◌≡◌, ℕ, ◌≤◌, false, List, [], ◌∷◌, length, Option, Some, None, arith}
 use Rattle.std.specs.Prelude.{IsPermutation}
 use Rattle.std.proofs.lemmas.List.FromFn.{length-map-range_with_len}
 use Rattle.std.proofs.lemmas.List.Sorted.{length_permutation}
 use Rattle.mdb_base.specs.declared.address.ServerAddress.{ServerAddress}
 use Rattle.mdb_base.specs.declared.options.Options.{Options}
-use Rattle.mdb_events.specs.declared.fact.Fact.{Fact}
 use Rattle.mdb_describe.specs.Topology.{opened as opened_by}
-use Rattle.mdb_log.specs.History.{Item, did, history_of, with_answer}
-use Rattle.mdb_log.specs.Homes.{Home}
+use Rattle.mdb_log.specs.History.{did, history_of, with_answer}
 use Rattle.mdb_log.specs.LegalLog.{OpensSeeds, numbered}
 use Rattle.mdb_log.specs.declared.reply.Refused.{Refused}
 use Rattle.mdb_log.specs.declared.reply.Reply.TheVariants.{Done}
@@ -19,7 +17,7 @@ use Rattle.mdb_topology.specs.Description.{description_of, is_stopped}
 use Rattle.mdb_topology.specs.Facts.{step_facts}
 use Rattle.mdb_topology.specs.Logging.{opening_step}
 use Rattle.mdb_topology.specs.Refusal.{refusal}
-use Rattle.mdb_fleets.specs.MemberReplies.{address_of, addresses_of}
+use Rattle.mdb_fleets.specs.MemberReplies.{address_of}
 use Rattle.mdb_fleet_runs.specs.Trials.{fleet_options, opened}
 use Rattle.mdb_fleet_laws.proofs.Steps.{facts-described, facts-stopped}
 

@@ -1,6 +1,6 @@
 -- Parts of lists, and of what is known of a member.
-use Rattle.std.proofs.Common.{◌≡◌, ℕ, zero, suc, ◌+◌, ◌-◌, ◌<◌, ◌^◌, Bool, true, false, not, ◌&&◌, ◌⊎◌, inl, inr, List, [], ◌∷◌, ◌++◌, length, find, Option, Some, None, refl, sym, ap, ◌∙◌, subst, arith}
-use Rattle.std.specs.Prelude.{slice_get, is_some, pos, int_lt, option_and_then}
+use Rattle.std.proofs.Common.{◌≡◌, ℕ, zero, suc, ◌+◌, ◌-◌, ◌<◌, ◌^◌, Bool, true, false, not, ◌⊎◌, inl, inr, List, [], ◌∷◌, ◌++◌, length, find, Option, Some, None, refl, sym, ap, ◌∙◌, subst}
+use Rattle.std.specs.Prelude.{slice_get, is_some, pos, option_and_then}
 use Rattle.std.proofs.lemmas.Bool.{cases_Bool}
 use Rattle.mdb_base.specs.declared.object_id.ObjectId.{ObjectId}
 use Rattle.mdb_base.specs.declared.topology_version.TopologyVersion.{TopologyVersion}
@@ -14,7 +14,6 @@ use Rattle.mdb_describe.specs.Update.{is_new, is_not_older, is_older}
 use Rattle.mdb_describe.proofs.Found.{known_where_found}
 use Rattle.mdb_describe.proofs.Parsed.{own_bytes}
 use Rattle.mdb_fleets.specs.declared.member.Member.{Member}
-use Rattle.mdb_fleets.specs.declared.member.Sent.{Sent}
 use Rattle.mdb_fleets.specs.MemberReplies.{address_of, process_of}
 use Rattle.mdb_failover.specs.Followed.{Each, OwnProcess}
 use Rattle.mdb_failover.specs.Says.{Says}

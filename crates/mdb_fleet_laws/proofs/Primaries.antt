@@ -1,12 +1,11 @@
 -- A described primary is of the latest election that was applied.
-use Rattle.std.proofs.Common.{◌≡◌, ℕ, ◌<◌, ◌≤◌, ◌^◌, true, ◌⊎◌, inl, inr, List, [], ◌∷◌, ◌++◌, Option, Some, None, refl, sym, ap, ◌∙◌, subst, arith, append_assoc}
+use Rattle.std.proofs.Common.{◌≡◌, ℕ, ◌<◌, ◌≤◌, ◌^◌, inl, inr, List, [], ◌∷◌, ◌++◌, Option, Some, None, refl, sym, ap, ◌∙◌, subst, arith, append_assoc}
 use Rattle.mdb_base.specs.declared.object_id.ObjectId.{ObjectId}
 use Rattle.mdb_describe.specs.declared.description.ServerDescription.{ServerDescription}
 use Rattle.mdb_describe.specs.declared.topology.TopologyDescription.{TopologyDescription}
 use Rattle.mdb_describe.specs.Fields.{election_id}
-use Rattle.mdb_describe.specs.Servers.{is_primary_type}
 use Rattle.mdb_fleets.specs.MemberReplies.{election_id as id_of}
-use Rattle.mdb_failover.specs.Elections.{Pair, is_below, top, AllUpTo}
+use Rattle.mdb_failover.specs.Elections.{Pair, top, AllUpTo}
 use Rattle.mdb_failover.specs.Followed.{LeadsBy, LeadsIfPrimary, Each, Follows}
 use Rattle.mdb_failover.proofs.Falling.{UpTo, up-to, none-above}
 use Rattle.mdb_failover.proofs.Lists.{each-map}

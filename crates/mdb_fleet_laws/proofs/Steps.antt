@@ -1,6 +1,6 @@
 -- What one hello of a member's monitor makes of the description.
-use Rattle.std.proofs.Common.{◌≡◌, ℕ, ◌+◌, ◌<◌, ◌^◌, Bool, true, false, not, ◌&&◌, ◌||◌, ◌⊎◌, inl, inr, List, [], ◌∷◌, ◌++◌, Option, Some, None, refl, sym, ap, ◌∙◌, subst, arith}
-use Rattle.std.specs.Prelude.{is_some, unwrap_or, if◌then◌else◌, ◌==◌}
+use Rattle.std.proofs.Common.{◌≡◌, ℕ, true, false, not, List, [], ◌∷◌, Option, Some, None, refl, ◌∙◌, arith}
+use Rattle.std.specs.Prelude.{is_some, unwrap_or, if◌then◌else◌}
 use Rattle.mdb_base.specs.declared.address.ServerAddress.{ServerAddress}
 use Rattle.mdb_base.specs.declared.error.Error.{Error}
 use Rattle.mdb_base.specs.declared.options.Options.{Options}
@@ -14,13 +14,12 @@ use Rattle.mdb_log.specs.PlainLegal.{is_refused}
 use Rattle.mdb_log.specs.declared.checked.HelloResult.{HelloResult}
 use Rattle.mdb_log.specs.declared.checked.HelloResult.TheVariants as hello
 use Rattle.mdb_log.specs.declared.reply.Refused.{Refused}
-use Rattle.mdb_log.specs.declared.reply.Reply.{Reply}
-use Rattle.mdb_log.specs.declared.reply.Reply.TheVariants.{Refused as RefusedBy, Changed}
+use Rattle.mdb_log.specs.declared.reply.Reply.TheVariants.{Refused as RefusedBy}
 use Rattle.mdb_log.specs.declared.step.Act.TheVariants as act
 use Rattle.mdb_log.specs.declared.step.Step.{Step}
 use Rattle.mdb_log.specs.Answer.{Answer}
 use Rattle.mdb_topology.specs.Answer.{answer, answered, changed_reply}
-use Rattle.mdb_topology.specs.Description.{description_of, applied, step_rule, rule_of, is_stopped}
+use Rattle.mdb_topology.specs.Description.{description_of, applied, step_rule, is_stopped}
 use Rattle.mdb_topology.specs.Facts.{step_facts}
 use Rattle.mdb_topology.specs.Homes.{is_here, begun}
 use Rattle.mdb_topology.specs.Monitors.{hello_reply}

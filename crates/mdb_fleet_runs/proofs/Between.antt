@@ -1,6 +1,5 @@
 -- A run, line by line.
-use Rattle.std.proofs.Common.{◌≡◌, ℕ, suc, ◌+◌, ◌<◌, ◌≤◌, List, [], ◌∷◌, ◌++◌, length, take, map, codes, Option, Result, Ok, Err, refl, sym, ap, ◌∙◌, arith, append_assoc, inl, inr, ◌⊎◌, subst, length-append}
-use Rattle.std.specs.Prelude.{replicate}
+use Rattle.std.proofs.Common.{◌≡◌, ℕ, ◌+◌, ◌<◌, ◌≤◌, List, [], ◌∷◌, ◌++◌, length, take, map, codes, Option, Ok, Err, refl, sym, ap, ◌∙◌, arith, append_assoc, inl, inr, subst, length-append}
 use Rattle.std.proofs.lemmas.List.{append-nil, append_cancel_right}
 use Rattle.std.proofs.Math.Seq.{take-append-add, take-length}
 use Rattle.mdb_base.specs.AddressReading.{beyond}
@@ -13,15 +12,14 @@ use Rattle.mdb_topology.specs.Lines.{entry_after}
 use Rattle.mdb_lines.specs.declared.run_error.RunError.{RunError}
 use Rattle.mdb_lines.specs.declared.run_error.RunError.TheVariants as errors
 use Rattle.mdb_lines.specs.Script.{lines_of, max_input}
-use Rattle.mdb_lines.specs.Loops.{ReadsAll, ReadEnds, TookFront}
+use Rattle.mdb_lines.specs.Loops.{ReadsAll, ReadEnds}
 use Rattle.mdb_lines.proofs.Loops.{took_nothing, took_more, took_no_more, line_not_last}
-use Rattle.mdb_topology.specs.declared.topology.TopologyCore.{TopologyCore}
-use Rattle.mdb_topology.specs.Logging.{IsDriverOf, Stood, opening_step}
+use Rattle.mdb_topology.specs.Logging.{Stood, opening_step}
 use Rattle.mdb_fleets.specs.ReplicaSet.{ReplicaSet, new_set}
 use Rattle.mdb_fleet_runs.specs.declared.event.Event.{Event}
 use Rattle.mdb_fleet_runs.specs.declared.harness.Harness.{Harness}
 use Rattle.mdb_fleet_runs.specs.Events.{SpellsEvent, SpellsCount, event_text, count_text}
-use Rattle.mdb_fleet_runs.specs.FleetRuns.{line_of, AreEvents, Begins, text_of, StoodFrom, StoodEach, Played, Ran, IsBadCount, IsBad, LineRuns, OpenRuns, EventsEnd, FirstEnds, RunEnds, Seen, Ended}
+use Rattle.mdb_fleet_runs.specs.FleetRuns.{line_of, AreEvents, Begins, text_of, StoodFrom, StoodEach, Ran, IsBadCount, IsBad, LineRuns, OpenRuns, RunEnds, Seen, Ended}
 use Rattle.mdb_fleet_runs.specs.FleetText.{line_text, text_after}
 use Rattle.mdb_fleet_runs.specs.Harnesses.{trial_in, Watches, IsEarly}
 use Rattle.mdb_fleet_runs.specs.Trials.{Trial, fleet_options, opened, log_in, begun, outcome, after, trial_of}

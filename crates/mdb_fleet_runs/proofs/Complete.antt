@@ -3,14 +3,14 @@ use Rattle.std.proofs.Common.{◌≡◌, ℕ, ◌+◌, ◌≤◌, ◌<◌, ◌�
 use Rattle.std.specs.Io.KnownBytes.{Consumes, IsAtEnd}
 use Rattle.std.proofs.lemmas.Bool.{cases_order}
 use Rattle.std.proofs.lemmas.List.{append-nil, length-map, append_cancel_right}
-use Rattle.mdb_base.specs.Outside.{Rose, Held}
+use Rattle.mdb_base.specs.Outside.{Rose}
 use Rattle.mdb_log.specs.declared.log.Entry.{Entry}
 use Rattle.mdb_lines.specs.declared.run_error.RunError.{RunError}
 use Rattle.mdb_lines.specs.declared.run_error.RunError.TheVariants as errors
 use Rattle.mdb_lines.specs.Script.{lines_of, max_input}
 use Rattle.mdb_fleet_runs.specs.declared.event.Event.{Event}
 use Rattle.mdb_fleet_runs.specs.Events.{SpellsEvent, SpellsCount, event_text, count_text}
-use Rattle.mdb_fleet_runs.specs.FleetRuns.{line_of, AreEvents, Begins, Played, IsBadCount, IsBad, IsBadAt, RunEnds, Seen, Finished, Ended, EndsWith}
+use Rattle.mdb_fleet_runs.specs.FleetRuns.{line_of, AreEvents, Begins, IsBadCount, IsBad, IsBadAt, Seen, Finished, Ended, EndsWith}
 use Rattle.mdb_fleet_runs.specs.Trials.{log_in, trial_of}
 use Rattle.mdb_fleet_runs.proofs.Spelled.{one-event, one-count}
 

@@ -1,15 +1,14 @@
 -- The numbers of a replica set are below the number of the next line.
-use Rattle.std.proofs.Common.{◌≡◌, ℕ, zero, suc, ◌+◌, ◌-◌, ◌^◌, ◌<◌, ◌≤◌, Bool, true, false, ◌⊎◌, inl, inr, List, [], ◌∷◌, ◌++◌, length, get_or, max, Option, Some, None, refl, sym, ap, ◌∙◌, subst, arith, length-append}
+use Rattle.std.proofs.Common.{ℕ, suc, ◌+◌, ◌-◌, ◌<◌, ◌≤◌, inl, inr, List, [], ◌∷◌, length, get_or, max, Option, Some, None, arith, length-append}
 use Rattle.std.specs.Prelude.{nat_lt, slice_get, if◌then◌else◌}
 use Rattle.std.specs.List.{All, fold}
 use Rattle.std.proofs.Math.ListN.{set}
 use Rattle.std.proofs.lemmas.Bool.{cases_Bool, ltb-true}
 use Rattle.std.proofs.lemmas.List.Elements.{All-set, All-get_or, All-replicate}
-use Rattle.mdb_log.specs.declared.step.Step.{Step}
 use Rattle.mdb_fleets.specs.declared.member.Member.{Member}
 use Rattle.mdb_fleets.specs.declared.member.Sent.{Sent}
-use Rattle.mdb_fleets.specs.Members.{new_member, is_primary, greatest_version, winner, stepped_down, reconfigured, CanChange}
-use Rattle.mdb_fleets.specs.ReplicaSet.{ReplicaSet, new_set, member_at, elected, changed_primary, demoted, reconfigured_at, asked, HasRoom}
+use Rattle.mdb_fleets.specs.Members.{new_member, is_primary, greatest_version, winner, stepped_down, reconfigured}
+use Rattle.mdb_fleets.specs.ReplicaSet.{ReplicaSet, new_set, member_at, elected, demoted, reconfigured_at, asked, HasRoom}
 use Rattle.mdb_fleet_runs.specs.declared.event.Event.{Event}
 use Rattle.mdb_fleet_runs.specs.declared.event.FleetAct.{FleetAct}
 use Rattle.mdb_fleet_runs.specs.declared.event.FleetAct.TheVariants as act

@@ -1,5 +1,5 @@
 -- A line that spells an event is read as that event, and spells no other.
-use Rattle.std.proofs.Common.{◌≡◌, ℕ, ◌+◌, ◌<◌, ◌≤◌, ◌^◌, List, [], ◌∷◌, ◌++◌, drop, codes, Option, Some, Result, Ok, refl, sym, ap, ◌∙◌, arith, subst}
+use Rattle.std.proofs.Common.{◌≡◌, ℕ, ◌+◌, ◌<◌, ◌^◌, List, ◌++◌, drop, codes, Some, Result, refl, sym, ap, ◌∙◌, arith}
 use Rattle.std.specs.Prelude.{decimal}
 use Rattle.std.proofs.lemmas.Fmt.{decimal_injective}
 use Rattle.mdb_base.specs.AddressReading.{until, beyond}
@@ -13,7 +13,7 @@ use Rattle.mdb_fleet_runs.specs.declared.event.Event.{Event}
 use Rattle.mdb_fleet_runs.specs.declared.event.FleetAct.{FleetAct}
 use Rattle.mdb_fleet_runs.specs.declared.event.FleetAct.TheVariants as act
 use Rattle.mdb_fleet_runs.specs.EventForms.{act_of, ReadsEvent}
-use Rattle.mdb_fleet_runs.specs.Events.{word_of, number_of, event_text, count_text, SpellsEvent, SpellsCount}
+use Rattle.mdb_fleet_runs.specs.Events.{word_of, number_of, SpellsEvent, SpellsCount}
 
 word-until : (a : FleetAct) (rest : List ℕ) → until 32 (word_of a ++ (codes " " ++ rest)) ≡ word_of a
 unfolding until

@@ -1,13 +1,13 @@
 -- What the calls of a harness come to.
-use Rattle.std.proofs.Common.{◌≡◌, ℕ, suc, ◌+◌, ◌<◌, ◌≤◌, Bool, true, false, ◌⊎◌, inl, inr, List, [], ◌∷◌, ◌++◌, length, refl, sym, ap, ◌∙◌, subst, arith}
-use Rattle.std.specs.Prelude.{nat_lt, unwrap_or, if◌then◌else◌, Option, Some, Result, Ok, Err, IfOk}
+use Rattle.std.proofs.Common.{◌≡◌, ℕ, ◌+◌, ◌<◌, true, inl, inr, List, [], ◌∷◌, ◌++◌, length, refl, sym, ap, ◌∙◌, subst, arith}
+use Rattle.std.specs.Prelude.{nat_lt, unwrap_or, Option, Some, Result, Ok, Err, IfOk}
 use Rattle.mdb_hello.specs.declared.response.HelloCommandResponse.{HelloCommandResponse}
 use Rattle.mdb_base.specs.declared.address.ServerAddress.{ServerAddress}
 use Rattle.std.proofs.Math.ListN.{set}
 use Rattle.std.proofs.lemmas.Bool.{cases_Bool}
 use Rattle.std.proofs.lemmas.List.{length-set, length-replicate}
 use Rattle.mdb_base.specs.declared.options.Options.{Options}
-use Rattle.mdb_log.specs.History.{Item, history_of, open_pool}
+use Rattle.mdb_log.specs.History.{history_of, open_pool}
 use Rattle.mdb_log.specs.declared.checked.HelloResult.{HelloResult}
 use Rattle.mdb_log.specs.declared.checked.HelloResult.TheVariants as hello
 use Rattle.mdb_log.specs.declared.step.Act.TheVariants.{Hello}
@@ -27,7 +27,7 @@ use Rattle.mdb_fleets.specs.declared.member.Sent.{Sent}
 use Rattle.mdb_fleet_runs.specs.declared.event.FleetAct.{FleetAct}
 use Rattle.mdb_fleets.specs.MemberReplies.{address_of}
 use Rattle.mdb_fleets.specs.Members.{new_member, is_primary, winner, greatest_version}
-use Rattle.mdb_fleets.specs.ReplicaSet.{ReplicaSet, new_set, member_at, with_member, elected, changed_primary}
+use Rattle.mdb_fleets.specs.ReplicaSet.{ReplicaSet, new_set, member_at, elected, changed_primary}
 use Rattle.mdb_fleet_runs.specs.declared.answers.FleetAnswer.{FleetAnswer}
 use Rattle.mdb_fleet_runs.specs.declared.answers.FleetAnswer.TheVariants as answer
 use Rattle.mdb_fleet_runs.specs.declared.harness.Harness.{Harness}

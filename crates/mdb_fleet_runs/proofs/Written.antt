@@ -6,7 +6,7 @@ use Rattle.mdb_fleet_runs.specs.declared.answers.FleetAnswer.{FleetAnswer}
 use Rattle.mdb_fleet_runs.specs.declared.event.Event.{Event}
 use Rattle.mdb_fleet_runs.specs.declared.harness.Harness.{Harness}
 use Rattle.mdb_fleet_runs.specs.Events.{event_text}
-use Rattle.mdb_fleet_runs.specs.FleetText.{answer_text, shown, line_text}
+use Rattle.mdb_fleet_runs.specs.FleetText.{answer_text, shown}
 use Rattle.mdb_fleet_runs.specs.Harnesses.{trial_in, Watches, Comes, HasLine}
 use Rattle.mdb_fleet_runs.specs.Trials.{Trial, Outcome, description_in, outcome}
 

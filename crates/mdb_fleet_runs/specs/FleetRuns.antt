@@ -1,5 +1,5 @@
 -- What a run of a replica set reads, answers and writes.
-use Rattle.std.specs.Prelude.{◌≡◌, ℕ, ◌+◌, ◌<◌, ◌≤◌, List, [], ◌∷◌, ◌++◌, length, map, codes, Option, Result, Ok, Err, ◌⊎◌}
+use Rattle.std.specs.Prelude.{◌≡◌, ℕ, ◌+◌, ◌<◌, List, [], ◌∷◌, ◌++◌, length, map, codes, Option, Result, Ok, Err, ◌⊎◌}
 use Rattle.std.specs.Io.KnownBytes.{Consumes}
 use Rattle.mdb_base.specs.Outside.{Rose, Held, Took, IsFlushed}
 use Rattle.mdb_log.specs.declared.log.Entry.{Entry}
@@ -9,7 +9,6 @@ use Rattle.mdb_lines.specs.declared.run_error.RunError.{RunError}
 use Rattle.mdb_lines.specs.declared.run_error.RunError.TheVariants as errors
 use Rattle.mdb_lines.specs.Script.{lines_of, max_input}
 use Rattle.mdb_lines.specs.Loops.{TookFront, ReadsAll}
-use Rattle.mdb_topology.specs.Lines.{log_of, steps_of}
 use Rattle.mdb_topology.specs.Logging.{Stood}
 use Rattle.mdb_fleet_runs.specs.declared.event.Event.{Event}
 use Rattle.mdb_fleet_runs.specs.Events.{SpellsEvent, SpellsCount, event_text, count_text}

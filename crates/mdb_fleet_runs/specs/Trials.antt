@@ -1,5 +1,5 @@
 -- What events come to: a replica set, and the log of a driver that has all of its members for seeds.
-use Rattle.std.specs.Prelude.{ℕ, nat_lt, false, List, [], ◌∷◌, ◌++◌, codes, length, slice_get, replicate, Option, Some, None, unwrap_or, if◌then◌else◌}
+use Rattle.std.specs.Prelude.{ℕ, nat_lt, List, [], ◌∷◌, ◌++◌, codes, length, slice_get, replicate, Option, Some, None, unwrap_or, if◌then◌else◌}
 use Rattle.mdb_base.specs.declared.error.Error.{Error}
 use Rattle.mdb_base.specs.declared.error.ErrorKind.TheVariants.{Network}
 use Rattle.mdb_base.specs.declared.options.Options.{Options}

@@ -1,20 +1,18 @@
 -- The opening of a driver opens a pool for each seed, and does nothing else to pools.
 use Rattle.std.specs.Prelude.{not, ◌||◌, nat_lt, unwrap_or}
-use Rattle.std.proofs.Common.{ℕ, ◌≡◌, ◌==◌, ◌-◌, ◌&&◌, Bool, true, false, is_some, List, [], ◌∷◌, ◌++◌, length, Option, Some, None, refl, sym, ◌∙◌, ap, subst, arith, append-nil}
+use Rattle.std.proofs.Common.{◌≡◌, ◌==◌, ◌-◌, ◌&&◌, Bool, true, false, is_some, List, [], ◌∷◌, ◌++◌, length, None, refl, sym, ◌∙◌, ap, subst, arith, append-nil}
 use Rattle.mdb_base.specs.OptionRules.{are_seeds, is_size, first_broken, broken_rule}
 use Rattle.mdb_base.specs.declared.options.BadOption.{BadOption}
 use Rattle.mdb_base.specs.declared.options.BadOption.TheVariants as Bad
 use Rattle.mdb_base.specs.declared.address.ServerAddress.{ServerAddress}
 use Rattle.mdb_base.specs.declared.options.Options.{Options}
-use Rattle.mdb_describe.specs.declared.diff.Diff.{Diff}
 use Rattle.mdb_describe.specs.Differences.{difference}
 use Rattle.mdb_describe.specs.Servers.{in_order}
 use Rattle.mdb_describe.specs.Topology.{opened}
 use Rattle.mdb_describe.proofs.InOrder.{added_in_order}
 use Rattle.mdb_events.specs.declared.fact.Fact.{Fact}
-use Rattle.mdb_log.specs.declared.step.Step.{Step}
 use Rattle.mdb_log.specs.declared.step.Act.TheVariants.{Open}
-use Rattle.mdb_log.specs.History.{Item, open_pool, with_facts}
+use Rattle.mdb_log.specs.History.{Item, with_facts}
 use Rattle.mdb_log.proofs.Addresses.{own-address}
 use Rattle.mdb_topology.specs.Homes.{begun}
 use Rattle.mdb_topology.specs.Logging.{opening_step}
@@ -22,7 +20,7 @@ use Rattle.mdb_topology.specs.Turns.{in_turn}
 use Rattle.mdb_topology.specs.Description.{begins_with, unopened, description_of}
 use Rattle.mdb_topology.specs.Publishing.{publication, topology_opening, opening}
 use Rattle.mdb_topology.specs.Facts.{step_facts, serve_all}
-use Rattle.mdb_topology.proofs.WholeSteps.LeavesAsItIs.{turn-append, with-append}
+use Rattle.mdb_topology.proofs.WholeSteps.LeavesAsItIs.{turn-append}
 use Rattle.mdb_topology.proofs.WholeSteps.CheckThenRule.{told-first}
 use Rattle.mdb_laws.specs.Causes.{marks_of, changes, caused}
 use Rattle.mdb_laws.proofs.Marks.{marks-append, out-marks}

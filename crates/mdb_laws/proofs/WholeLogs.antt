@@ -1,8 +1,7 @@
 -- Every entry in the log of a driver has its causes, and no late error an effect.
-use Rattle.std.proofs.Common.{ℕ, ◌≡◌, Bool, true, false, List, [], ◌∷◌, ◌++◌, Option, Some, None, refl, sym, ◌∙◌, ap, subst}
+use Rattle.std.proofs.Common.{◌≡◌, List, [], ◌∷◌, ◌++◌, Option, Some, None, refl, sym, ap, subst}
 use Rattle.mdb_base.specs.OptionRules.{broken_rule}
 use Rattle.mdb_base.specs.declared.options.Options.{Options}
-use Rattle.mdb_events.specs.declared.fact.Fact.{Fact}
 use Rattle.mdb_log.specs.declared.log.Entry.{Entry}
 use Rattle.mdb_log.specs.declared.step.Step.{Step}
 use Rattle.mdb_log.specs.declared.reply.Refused.{Refused as Why}
@@ -22,7 +21,6 @@ use Rattle.mdb_topology.specs.Logging.{opening_step, Stood, AreDriven, IsDriverO
 use Rattle.mdb_topology.specs.Refusal.{refusal}
 use Rattle.mdb_topology.specs.Standing.{StandsFor}
 use Rattle.mdb_laws.specs.Causes.{TellsCauses, HasCauses}
-use Rattle.mdb_laws.specs.Stale.{is_stale_error, is_stale_failure}
 use Rattle.mdb_laws.specs.Logs.{TellsByReply, AnswerTells, EntriesTellCauses, TellsAllCauses}
 use Rattle.mdb_laws.proofs.Causes.{accepts, causes, has-causes}
 use Rattle.mdb_laws.proofs.Opening.{nothing-sound, opening-marks}

@@ -1,8 +1,7 @@
 -- Lines that were answered, one after another.
-use Rattle.std.proofs.Common.{◌≡◌, ℕ, ◌+◌, ◌<◌, ◌≤◌, true, false, List, [], ◌∷◌, ◌++◌, length, drop, map, codes, Option, Some, None, refl, sym, ap, ◌∙◌, subst, arith, append-nil, append_assoc, length-append, inl, inr}
-use Rattle.std.proofs.Math.Seq.{drop-append_seam, drop-length}
+use Rattle.std.proofs.Common.{◌≡◌, ℕ, ◌+◌, ◌<◌, ◌≤◌, List, [], ◌∷◌, ◌++◌, length, drop, map, Option, Some, None, refl, sym, ap, ◌∙◌, subst, arith, append-nil, append_assoc, length-append, inl, inr}
+use Rattle.std.proofs.Math.Seq.{drop-append_seam}
 use Rattle.mdb_base.specs.Outside.{Held, Took}
-use Rattle.mdb_base.specs.declared.options.Options.{Options}
 use Rattle.mdb_log.specs.declared.log.Entry.{Entry}
 use Rattle.mdb_log.specs.declared.step.Step.{Step}
 use Rattle.mdb_log.specs.LegalLog.{IsLegalLog}
@@ -12,13 +11,13 @@ use Rattle.mdb_proxies.specs.declared.asked.Asked.{Asked}
 use Rattle.mdb_proxies.specs.declared.step.ProxyStep.{ProxyStep}
 use Rattle.mdb_proxies.specs.declared.step.ProxyReply.{ProxyReply}
 use Rattle.mdb_proxies.specs.declared.step.ProxyRefused.{ProxyRefused}
-use Rattle.mdb_proxies.specs.Entries.{GoesOn, Enters}
-use Rattle.mdb_proxies.specs.Replies.{Replies, Performs, refusal_of}
+use Rattle.mdb_proxies.specs.Entries.{Enters}
+use Rattle.mdb_proxies.specs.Replies.{Replies, refusal_of}
 use Rattle.mdb_proxies.specs.View.{ProxyView}
 use Rattle.mdb_proxy_lines.specs.ProxyLines.{SpellsStep}
 use Rattle.mdb_proxy_lines.specs.ProxyText.{answer_text, line_text}
 use Rattle.mdb_proxy_runs.specs.ProxyScripts.{whole, IsLater, AreLater}
-use Rattle.mdb_proxy_runs.specs.ProxyRuns.{Steps, Answers, AnswersAll, Begins, LineRuns, LinesRun, Nothing, Played, RunsFrom, Ran, begun, opening_text}
+use Rattle.mdb_proxy_runs.specs.ProxyRuns.{Steps, Answers, AnswersAll, Begins, LineRuns, LinesRun, Nothing, Played, Ran, opening_text}
 
 -- ---- one step
 

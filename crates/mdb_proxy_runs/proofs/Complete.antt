@@ -11,7 +11,7 @@ use Rattle.mdb_lines.specs.declared.run_error.RunError.TheVariants as errors
 use Rattle.mdb_lines.specs.Script.{lines_of, max_input}
 use Rattle.mdb_proxies.specs.View.{ProxyView}
 use Rattle.mdb_proxy_runs.specs.ProxyScripts.{whole, IsFirst, IsSecond, IsLater, AreLater, AreLines, IsNext, IsBadAt}
-use Rattle.mdb_proxy_runs.specs.ProxyRuns.{Seen, AnswersAll, Nothing, Played, RunsFrom, Ran, Finished}
+use Rattle.mdb_proxy_runs.specs.ProxyRuns.{Seen, AnswersAll, Ran, Finished}
 use Rattle.mdb_proxy_runs.specs.ProxyEnds.{Ended, EndsWith}
 
 -- ---- the lines of an input that was run to its end

@@ -1,13 +1,11 @@
 -- How a run ends before its end.
-use Rattle.std.proofs.Common.{◌≡◌, ℕ, suc, ◌+◌, ◌<◌, ◌≤◌, ◌⊎◌, inl, inr, true, false, List, [], ◌∷◌, ◌++◌, length, map, codes, Option, Some, None, Result, Ok, Err, IfOk, IfErr, MatchResult, refl, sym, ap, ◌∙◌, subst, arith, length-append, append_assoc, eqb}
-use Rattle.std.specs.Prelude.{⊤, IsTrue, is_none}
-use Rattle.std.specs.Io.KnownBytes.{Consumes, IsAtEnd}
+use Rattle.std.proofs.Common.{◌≡◌, ℕ, ◌+◌, true, false, List, [], ◌∷◌, ◌++◌, length, map, codes, Option, Some, None, Result, Ok, Err, IfOk, IfErr, refl, sym, ap, ◌∙◌, subst, arith, eqb}
+use Rattle.std.specs.Prelude.{is_none}
 use Rattle.std.proofs.lemmas.Bool.{eqb-true, and_parts}
 use Rattle.std.proofs.lemmas.List.{append_cancel_right, length-map}
 use Rattle.mdb_base.specs.AddressReading.{beyond}
-use Rattle.mdb_base.specs.Outside.{Rose, Held, Took}
+use Rattle.mdb_base.specs.Outside.{Rose, Held}
 use Rattle.mdb_base.specs.declared.options.Options.{Options}
-use Rattle.mdb_log.specs.declared.log.Entry.{Entry}
 use Rattle.mdb_base.specs.OptionRules.{broken_rule}
 use Rattle.mdb_log.specs.declared.step.Step.{Step}
 use Rattle.mdb_log.specs.declared.step.Act.{Act}
@@ -24,9 +22,9 @@ use Rattle.mdb_proxies.specs.View.{ProxyView}
 use Rattle.mdb_proxies.specs.declared.step.ProxyStep.{ProxyStep}
 use Rattle.mdb_topology.specs.Logging.{opening_step}
 use Rattle.mdb_proxy_lines.specs.ProxyLines.{SpellsShares, SpellsStep}
-use Rattle.mdb_proxy_runs.specs.ProxyScripts.{whole, OpensFor, IsFirst, IsSecond, IsLater, AreLater, AreLines, IsNext, IsBadAt}
-use Rattle.mdb_proxy_runs.specs.ProxyRuns.{Seen, Ran, Finished}
-use Rattle.mdb_proxy_runs.specs.ProxyEnds.{cause_of, OptionsEnd, LineEnds, IsBadLater, LinesEnd, OpeningEnds, SecondEnds, IsBadBehind, NamesAlone, SharesEnd, RunEnds, Ended, EndsWith}
+use Rattle.mdb_proxy_runs.specs.ProxyScripts.{whole, OpensFor, IsFirst, IsSecond, IsLater}
+use Rattle.mdb_proxy_runs.specs.ProxyRuns.{Seen}
+use Rattle.mdb_proxy_runs.specs.ProxyEnds.{cause_of, OptionsEnd, LineEnds, LinesEnd, SecondEnds, NamesAlone, SharesEnd, RunEnds, Ended}
 use Rattle.mdb_proxy_runs.proofs.Answered.{Between}
 
 same-whole : (l k : List ℕ) → whole l ≡ whole k → l ≡ k

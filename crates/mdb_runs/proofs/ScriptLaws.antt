@@ -5,7 +5,7 @@ use Rattle.std.proofs.lemmas.List.Elements.{All-head, All-tail}
 use Rattle.std.specs.Io.KnownBytes.{Consumes, IsAtEnd}
 use Rattle.mdb_log.specs.declared.step.Step.{Step}
 use Rattle.mdb_lines.specs.Spelling.{spelling}
-use Rattle.mdb_lines.specs.Script.{Spells, lines_of, line_of, AreAllowed}
+use Rattle.mdb_lines.specs.Script.{Spells, line_of, AreAllowed}
 use Rattle.mdb_lines.proofs.Lines.{line_same}
 use Rattle.mdb_topology.specs.Stepping.{is_driver_act}
 use Rattle.mdb_runs.specs.Runs.{IsWithin, IsBad}

@@ -1,5 +1,5 @@
 -- The steps of a log that parts share are spelled, as those of their script are.
-use Rattle.std.proofs.Common.{◌≡◌, ℕ, ◌+◌, ◌==◌, ◌<◌, ◌^◌, ◌%◌, Bool, true, false, if◌then◌else◌, List, [], ◌∷◌, ◌++◌, map, All, refl, sym, ap, ◌∙◌, subst, arith, eq-eqb, ne_eqb}
+use Rattle.std.proofs.Common.{◌≡◌, ℕ, ◌+◌, ◌==◌, ◌<◌, ◌^◌, ◌%◌, Bool, true, false, if◌then◌else◌, List, [], ◌∷◌, ◌++◌, map, All, refl, sym, ◌∙◌, subst, arith, eq-eqb, ne_eqb}
 use Rattle.std.specs.List.{AllByRecursion}
 use Rattle.std.proofs.lemmas.List.Elements.{All-head, All-tail}
 use Rattle.mdb_log.specs.declared.log.Entry.{Entry}
@@ -11,7 +11,7 @@ use Rattle.mdb_topology.specs.Lines.{entry_after, steps_of}
 use Rattle.mdb_turns.specs.Turning.{own}
 use Rattle.mdb_turns.specs.Stepping.{raised, last_in}
 use Rattle.mdb_shared_runs.specs.Shares.{lines_of_player_from, lines_of_player, raised_along, IsShared}
-use Rattle.mdb_shared_runs.specs.Scripts.{SharesSteps, Shared}
+use Rattle.mdb_shared_runs.specs.Scripts.{Shared}
 use Rattle.mdb_verdicts.proofs.Raised.{raised-spells}
 
 -- a line after the first spells the step

@@ -1,5 +1,5 @@
 -- The log of a driver, by the plain sentences.
-use Rattle.std.proofs.Common.{◌≡◌, ◌<◌, Bool, true, false, List, [], ◌∷◌, length, Option, Some, None, refl, sym, subst, arith}
+use Rattle.std.proofs.Common.{◌≡◌, ◌<◌, Bool, true, false, List, length, Option, Some, None, refl, sym, subst, arith}
 use Rattle.std.proofs.lemmas.Bool.Decides.{nat_tests}
 use Rattle.mdb_base.specs.OptionRules.{are_seeds, broken_rule}
 use Rattle.mdb_base.specs.declared.options.Options.{Options}
@@ -8,12 +8,11 @@ use Rattle.mdb_log.specs.declared.log.Entry.{Entry}
 use Rattle.mdb_log.specs.LegalLog.{IsLegalLog}
 use Rattle.mdb_log.specs.PlainLegal.{LegalLog}
 use Rattle.mdb_topology.specs.declared.topology.TopologyCore.{TopologyCore}
-use Rattle.mdb_topology.specs.Lines.{entry_after}
 use Rattle.mdb_topology.specs.Driving.{Holds}
-use Rattle.mdb_topology.specs.Logging.{opening_step, IsDriverOf}
+use Rattle.mdb_topology.specs.Logging.{IsDriverOf}
 use Rattle.mdb_topology.proofs.DriverOpened.ScriptsLog.{legal-log}
 use Rattle.mdb_histories.proofs.Logs.{driver-sound}
-use Rattle.mdb_histories.specs.Opened.{BeginsAccepted, BeginsWithSeeds}
+use Rattle.mdb_histories.specs.Opened.{BeginsWithSeeds}
 use Rattle.mdb_histories.proofs.OfPlain.Accepted.{opening-accepted}
 use Rattle.mdb_histories.proofs.OfPlain.Legal.{plain-legal}
 

@@ -1,10 +1,10 @@
 -- What an accepted step says of the history before it.
-use Rattle.std.proofs.Common.{◌≡◌, Bool, true, false, List, [], ◌∷◌, ◌++◌, Option, Some, None, refl}
+use Rattle.std.proofs.Common.{◌≡◌, Bool, true, false, List, [], ◌∷◌, Option, Some, None, refl}
 use Rattle.mdb_base.specs.declared.options.Options.{Options}
 use Rattle.mdb_log.specs.declared.log.Entry.{Entry}
 use Rattle.mdb_log.specs.declared.reply.Refused.{Refused}
 use Rattle.mdb_log.specs.declared.step.Step.{Step}
-use Rattle.mdb_log.specs.History.{Item, history_of, last_moment}
+use Rattle.mdb_log.specs.History.{Item, history_of}
 use Rattle.mdb_pool.specs.Refusal.{first_row}
 use Rattle.mdb_topology.specs.Answer.{answer}
 use Rattle.mdb_topology.specs.Lines.{answer_after, options_in}

@@ -1,10 +1,10 @@
 -- The entries of a log of answers, one after the other.
-use Rattle.std.proofs.Common.{ℕ, ◌≡◌, ◌≤◌, List, [], ◌∷◌, ◌++◌, refl, sym, ◌∙◌, ap, subst, append_assoc, append-nil}
+use Rattle.std.proofs.Common.{ℕ, ◌≡◌, ◌≤◌, List, [], ◌∷◌, ◌++◌, refl, sym, subst, append_assoc, append-nil}
 use Rattle.mdb_base.specs.declared.options.Options.{Options}
 use Rattle.mdb_log.specs.declared.log.Entry.{Entry}
 use Rattle.mdb_log.specs.declared.step.Step.{Step}
 use Rattle.mdb_log.specs.Answer.{Answer}
-use Rattle.mdb_log.specs.History.{Item, with_answer, with_entries, history_of}
+use Rattle.mdb_log.specs.History.{Item, with_answer, history_of}
 use Rattle.mdb_log.specs.Requests.{told}
 use Rattle.mdb_topology.specs.declared.topology.TopologyCore.{TopologyCore}
 use Rattle.mdb_topology.specs.Answer.{answer}

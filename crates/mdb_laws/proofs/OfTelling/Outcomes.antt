@@ -1,5 +1,5 @@
 -- A reply to who asks how a request stands is its outcome.
-use Rattle.std.proofs.Common.{ℕ, ◌≡◌, ◌==◌, Bool, true, false, List, [], ◌∷◌, ◌++◌, Option, Some, None, refl, sym, ◌∙◌, ap, subst, arith}
+use Rattle.std.proofs.Common.{ℕ, ◌≡◌, true, List, [], ◌∷◌, Option, Some, None, refl, sym, ◌∙◌, ap, subst, arith}
 use Rattle.mdb_base.specs.declared.options.Options.{Options}
 use Rattle.mdb_events.specs.declared.fact.Fact.{Fact}
 use Rattle.mdb_log.specs.declared.log.Entry.{Entry}
@@ -8,10 +8,10 @@ use Rattle.mdb_log.specs.declared.step.Act.{Act}
 use Rattle.mdb_log.specs.declared.step.Act.TheVariants as Do
 use Rattle.mdb_log.specs.declared.reply.Refused.{Refused}
 use Rattle.mdb_log.specs.declared.reply.Reply.{Reply}
-use Rattle.mdb_log.specs.declared.reply.Reply.TheVariants.{Done, Refused as RefusedBy}
+use Rattle.mdb_log.specs.declared.reply.Reply.TheVariants.{Refused as RefusedBy}
 use Rattle.mdb_log.specs.Answer.{Answer}
 use Rattle.mdb_log.specs.Driver.{tells_outcome}
-use Rattle.mdb_log.specs.History.{Item, PoolItem, did, made, of_pool, history_of, after_fact, with_facts, with_answer}
+use Rattle.mdb_log.specs.History.{Item, PoolItem, made, of_pool, history_of, after_fact, with_facts, with_answer}
 use Rattle.mdb_log.specs.Homes.{Home}
 use Rattle.mdb_log.specs.Requests.{asks_how, outcome_of}
 use Rattle.mdb_topology.specs.Answer.{answer, answered, reply_to, pool_reply}

@@ -1,8 +1,8 @@
 use Rattle.std.proofs.Common.{refl}
 use Rattle.mdb_log.specs.History.{history_of}
 use Rattle.mdb_topology.specs.Lines.{log_of}
-use Rattle.mdb_excluded.specs.Entries.{usual, lost}
-use Rattle.mdb_excluded.specs.Steps.{normal, errs, harmless}
+use Rattle.mdb_excluded.specs.Entries.{usual}
+use Rattle.mdb_excluded.specs.Steps.{errs, harmless}
 use Rattle.mdb_excluded.specs.Scripts.{holding}
 use Rattle.mdb_excluded.proofs.Marks.{clears-told}
 use Rattle.mdb_excluded.proofs.steps.clears_always.Goals as goal

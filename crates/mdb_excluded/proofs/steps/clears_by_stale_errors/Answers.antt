@@ -2,7 +2,7 @@ use Rattle.std.proofs.Common.{refl}
 use Rattle.mdb_log.specs.History.{history_of}
 use Rattle.mdb_topology.specs.Lines.{log_of}
 use Rattle.mdb_excluded.specs.Entries.{usual, lost}
-use Rattle.mdb_excluded.specs.Steps.{normal, errs, harmless}
+use Rattle.mdb_excluded.specs.Steps.{errs}
 use Rattle.mdb_excluded.specs.Scripts.{cleared_once}
 use Rattle.mdb_excluded.proofs.Marks.{clears-told}
 use Rattle.mdb_excluded.proofs.steps.clears_by_stale_errors.Goals as goal

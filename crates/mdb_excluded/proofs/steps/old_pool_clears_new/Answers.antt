@@ -1,8 +1,8 @@
 use Rattle.std.proofs.Common.{refl}
 use Rattle.mdb_log.specs.History.{history_of}
 use Rattle.mdb_topology.specs.Lines.{log_of}
-use Rattle.mdb_excluded.specs.Entries.{usual, lost}
-use Rattle.mdb_excluded.specs.Steps.{normal, errs, harmless}
+use Rattle.mdb_excluded.specs.Entries.{lost}
+use Rattle.mdb_excluded.specs.Steps.{normal, errs}
 use Rattle.mdb_excluded.specs.Scripts.{reopened}
 use Rattle.mdb_excluded.proofs.Marks.{clears-told}
 use Rattle.mdb_excluded.proofs.steps.old_pool_clears_new.Goals as goal

@@ -1,6 +1,5 @@
 use Rattle.std.proofs.Common.{arith}
 use Rattle.mdb_fleet_runs.proofs.Early.{early-room}
-use Rattle.mdb_fleet_runs.proofs.Written.{line-so}
 use Rattle.mdb_fleet_runs.proofs.run.line_of.Goals as goal
 
 pub step-requires-clause-room : goal.step-requires-clause-room

@@ -1,4 +1,4 @@
-use Rattle.std.proofs.Common.{◌≡◌, ℕ, length, Some, [], ◌∷◌, arith}
+use Rattle.std.proofs.Common.{◌≡◌, length, Some, [], ◌∷◌, arith}
 use Rattle.std.proofs.lemmas.Grind.{common_steps}
 use Rattle.mdb_base.specs.AddressReading.{beyond}
 use Rattle.mdb_lines.specs.Script.{lines_of}

@@ -1,4 +1,4 @@
-use Rattle.std.proofs.Common.{ℕ, ◌≡◌, ◌&&◌, refl, sym, ap, subst}
+use Rattle.std.proofs.Common.{ℕ, ◌≡◌, ◌&&◌, refl, sym, subst}
 use Rattle.mdb_log.specs.History.{of_pool, has_asked}
 use Rattle.mdb_log.specs.Requests.{is_open}
 use Rattle.mdb_laws.proofs.handed.is_open_at.Goals as goal

@@ -1,10 +1,7 @@
-use Rattle.std.proofs.Common.{ap, ◌∙◌, subst}
+use Rattle.std.proofs.Common.{ap, ◌∙◌}
 use Rattle.std.specs.Prelude.{unwrap_or}
 use Rattle.mdb_log.specs.History.{history_of}
 use Rattle.mdb_log.specs.declared.checked.HelloResult.TheVariants as hello
-use Rattle.mdb_fleet_runs.specs.Harnesses.{trial_in, Comes}
-use Rattle.mdb_fleet_runs.specs.Trials.{hello_step, steps}
-use Rattle.mdb_fleet_runs.specs.declared.answers.FleetAnswer.TheVariants.{Told}
 use Rattle.mdb_fleet_runs.proofs.Watching.{hello-so}
 use Rattle.mdb_fleet_runs.proofs.harness.Harness.misses.Goals as goal
 
