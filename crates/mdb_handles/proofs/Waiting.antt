@@ -1,5 +1,5 @@
 -- How a wait for an outcome ends.
-use Rattle.std.proofs.Common.{◌≡◌, ℕ, suc, zero, ◌+◌, List, [], ◌∷◌, Option, Some, drop, refl, sym, ◌∙◌, subst}
+use Rattle.std.proofs.Common.{◌≡◌, ℕ, suc, zero, List, [], ◌∷◌, Some, drop, sym, subst}
 use Rattle.std.specs.Prelude.{slice_get}
 use Rattle.mdb_log.specs.declared.log.Entry.{Entry}
 use Rattle.mdb_handles.specs.Standing.{HasEnded, MayBe}

@@ -4,7 +4,6 @@ use Rattle.mdb_base.specs.declared.address.ServerAddress.{ServerAddress}
 use Rattle.mdb_log.specs.declared.log.Entry.{Entry}
 use Rattle.mdb_log.specs.declared.pooled.PooledConnection.{PooledConnection}
 use Rattle.mdb_log.specs.declared.step.Act.TheVariants.{Request, Collect, GiveUp}
-use Rattle.mdb_log.specs.declared.reply.Reply.{Reply}
 use Rattle.mdb_log.specs.declared.reply.Reply.TheVariants.{Pooled, Done, Ended as HasEnded, Refused as IsRefused}
 use Rattle.mdb_shared.specs.Checkout.{is_pending}
 use Rattle.mdb_turns.specs.Stepping.{SeatView}

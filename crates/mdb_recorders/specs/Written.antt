@@ -1,5 +1,5 @@
 -- Entries that are written in two parts are written.
-use Rattle.std.proofs.Common.{◌≡◌, ℕ, List, ◌++◌, ◌∙◌, inl, inr, sym, arith}
+use Rattle.std.proofs.Common.{ℕ, List, ◌++◌, ◌∙◌, inl, inr, sym, arith}
 use Rattle.std.proofs.lemmas.Grind.{flat_map-append}
 use Rattle.mdb_base.specs.Outside.{Rose}
 use Rattle.mdb_log.specs.declared.log.Entry.{Entry}

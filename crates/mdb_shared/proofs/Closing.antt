@@ -14,7 +14,7 @@ use Rattle.mdb_log.specs.Driver.{StartsWith}
 use Rattle.mdb_turns.specs.Turning.{own, seat_entries, Keeps, Slot, Settles}
 use Rattle.mdb_turns.specs.Stepping.{SeatView, seat_view, mine_of, IsReady}
 use Rattle.mdb_shared.specs.Seats.{AllOf, seat_entries_of, behind, Each, ByOne, Accounts}
-use Rattle.mdb_turns.proofs.Keeping.{turn_of, true_not_false}
+use Rattle.mdb_turns.proofs.Keeping.{true_not_false}
 
 -- ---- as many distinct numbers below n as n are all of them
 

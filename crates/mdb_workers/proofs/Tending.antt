@@ -1,5 +1,5 @@
 -- Each connection that a worker claimed is reported.
-use Rattle.std.proofs.Common.{◌≡◌, ℕ, List, [], ◌∷◌, ◌++◌, ◌⊎◌, inl, inr, refl, sym, subst, ◌∙◌, Bool, true, false, Option, Some, None, Result, Ok, Err, IfSome}
+use Rattle.std.proofs.Common.{◌≡◌, ℕ, List, [], ◌∷◌, ◌++◌, inl, inr, refl, sym, subst, ◌∙◌, Bool, true, false, Option, Some, None, Result, Ok, Err, IfSome}
 use Rattle.mdb_log.specs.Acts.{IsDriverAct}
 use Rattle.mdb_log.specs.declared.job.Job.{Job}
 use Rattle.mdb_log.specs.declared.log.Entry.{Entry}
@@ -17,7 +17,7 @@ use Rattle.mdb_workers.specs.declared.establishing.EstablishError.TheVariants.{R
 use Rattle.mdb_workers.specs.Establishing.{Reports}
 use Rattle.mdb_workers.specs.Making.{Made}
 use Rattle.mdb_workers.specs.Persisting.{TendedBy, LeftAct, IsTry, ReportsLeftIf}
-use Rattle.mdb_workers.specs.Working.{CalledOnce, Claims, IsReportOf, Tended, ReportsLeft}
+use Rattle.mdb_workers.specs.Working.{CalledOnce, IsReportOf, Tended, ReportsLeft}
 use Rattle.mdb_workers.proofs.Adding.{made_none, made_then, made_step}
 
 pub tended_then : (es fs : List Entry) → Tended es → Tended fs → Tended (es ++ fs)
