@@ -6,7 +6,7 @@ ghost use Rattle.mdb_events.specs.FactText.{fact_text};
 ghost use Rattle.mdb_events.specs.declared.fact.Fact.{Fact};
 ghost use Rattle.mdb_log.specs.History.{history_of, open_pool};
 ghost use Rattle.mdb_log.specs.declared.log.Entry.{Entry};
-ghost use Rattle.mdb_topology.specs.Lines.{last_of, publications};
+ghost use Rattle.mdb_driver_rules.specs.Lines.{last_of, publications};
 ghost use Rattle.mdb_session.specs.Facts.{fact_numbers};
 ghost use Rattle.mdb_session.specs.Sessions.{IsLast, IsLastFact, LacksFact};
 ghost use Rattle.mdb_session.specs.Texts.{IsAddressOf};

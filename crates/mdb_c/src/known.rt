@@ -3,7 +3,7 @@
 ghost use Rattle.std.specs.Prelude.{◌≡◌, ◌≢◌, ◌↔◌, ◌++◌, ◌<◌, ℕ, List, None, Some, length, drop};
 ghost use Rattle.mdb_base.specs.declared.address.ServerAddress.{ServerAddress as Address};
 ghost use Rattle.mdb_log.specs.declared.log.Entry.{Entry};
-ghost use Rattle.mdb_topology.specs.Lines.{described};
+ghost use Rattle.mdb_driver_rules.specs.Lines.{described};
 ghost use Rattle.mdb_session.specs.Sessions.{IsLast};
 ghost use Rattle.mdb_session.specs.Texts.{IsAddressOf};
 ghost use Rattle.mdb_known.specs.FactParts.{address_at, types_at};

@@ -1,9 +1,13 @@
+pub mod Addresses
 pub mod Crossing
 pub mod Found
 pub mod InOrder
 pub mod Kept
 pub mod Parsed
 pub mod Parts
+pub mod SameAsItself
 pub mod Selecting
+pub mod Stored
+pub mod StoredAlone
 pub mod Timeouts
 pub mod Walks

@@ -7,6 +7,7 @@ pub mod InfoText
 pub mod Joining
 pub mod Kept
 pub mod Listed
+pub mod Repeated
 pub mod Same
 pub mod Selection
 pub mod ServerInfo

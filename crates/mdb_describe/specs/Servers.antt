@@ -33,6 +33,10 @@ is_primary_type _ = false
 abbrev pub has_primary : List ServerDescription → Bool
 has_primary servers = list_any (λ s. is_primary_type s.server_type) servers
 
+-- some server is a primary, and not the one with this address
+abbrev pub has_other_primary : ServerAddress → List ServerDescription → Bool
+has_other_primary a servers = list_any (λ s. is_primary_type s.server_type && not (same_address s.address a)) servers
+
 -- the description takes the place of the first one of its address
 abbrev pub store : ServerDescription → List ServerDescription → List ServerDescription
 store d [] = []

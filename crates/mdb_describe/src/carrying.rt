@@ -34,7 +34,8 @@ pub fn carry_out(
     end(servers, change.fate, address);
 }
 
-fn put_in(servers: &mut Vec<ServerDescription>, server: ServerDescription)
+/// The description takes the place of the first one of its address.
+pub fn put_in(servers: &mut Vec<ServerDescription>, server: ServerDescription)
     ensures items { servers.new.items ≡ store server servers.old.items }
     ensures room { vec_capacity servers.new ≡ vec_capacity servers.old }
     ensures len { vec_len servers.new ≡ vec_len servers.old }

@@ -1,7 +1,7 @@
 //! Whether the driver can speak to a server.
 
 ghost use Rattle.std.specs.Prelude.{◌≡◌, IfOk, option_map, string_bytes, Some};
-ghost use Rattle.mdb_describe.specs.Compatibility.{incompatible, incompatibility, too_new, too_old, version_or_0};
+ghost use Rattle.mdb_describe.specs.Compatibility.{incompatible, incompatibility, too_new, too_old};
 
 use crate::description::ServerDescription;
 use mdb_base::{OutOfMemory, ServerAddress};

@@ -22,6 +22,7 @@ mod selection;
 mod server_info;
 mod servers;
 mod session_timeout;
+mod storing;
 mod topology;
 mod update;
 

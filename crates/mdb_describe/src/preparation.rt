@@ -1,11 +1,11 @@
 //! What a change needs of memory, which is taken before anything is changed.
 
-ghost use Rattle.std.specs.Prelude.{◌≡◌, ◌+◌, ◌≤◌, ◌++◌, ◌||◌, [], true, map, IfOk, OnOk, OnErr, if◌then◌else◌};
+ghost use Rattle.std.specs.Prelude.{◌≡◌, ◌+◌, ◌≤◌, ◌++◌, ◌||◌, [], true, map, IfOk, OnOk, OnErr};
 ghost use Rattle.std.specs.Vec.{vec_len, vec_capacity};
 ghost use Rattle.mdb_describe.specs.Descriptions.{unknown, texts_of};
 ghost use Rattle.mdb_describe.specs.Fields.{set_name};
 ghost use Rattle.mdb_describe.specs.Listed.{addresses, with_address};
-ghost use Rattle.mdb_describe.specs.Update.{listed, name_or};
+ghost use Rattle.mdb_describe.specs.Update.{listed};
 ghost use Rattle.mdb_describe.specs.Changes.{changed_servers};
 ghost use Rattle.mdb_describe.specs.Kept.{is_kept, standing, takes_place, reason_if};
 ghost use Rattle.mdb_describe.specs.Servers.{first_incompatible, in_order};

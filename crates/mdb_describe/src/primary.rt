@@ -1,7 +1,7 @@
 //! The rule for a server that says it is a primary (SDAM, "updateRSFromPrimary").
 
 ghost use Rattle.std.specs.Prelude.{◌≡◌, true, int_lt};
-ghost use Rattle.mdb_describe.specs.Update.{primary_rule, stored, with_compatibility, is_modern, id_is_below, is_below, pair_is_below, is_outdated, is_outdated_older, max_id, max_version};
+ghost use Rattle.mdb_describe.specs.Update.{primary_rule, stored, with_compatibility, is_modern, id_is_below, is_below, is_outdated, is_outdated_older, max_id, max_version};
 ghost use Rattle.mdb_describe.specs.Changes.{changed};
 
 use crate::change::{Change, Fate};

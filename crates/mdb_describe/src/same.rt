@@ -1,7 +1,6 @@
 //! When two descriptions of a server are the same.
 
 ghost use Rattle.std.specs.Prelude.{◌≡◌, option_copied};
-ghost use Rattle.std.specs.Ordering.{int_eq};
 ghost use Rattle.mdb_describe.specs.Same.{same, same_set, same_members, same_abilities, same_option, same_text, same_texts, same_tags, same_version, same_kind, same_error, same_type};
 
 use crate::description::ServerDescription;

@@ -6,7 +6,7 @@ ghost use Rattle.std.specs.Vec.{vec_len, vec_capacity};
 ghost use Rattle.mdb_base.specs.Equality.{same_address};
 ghost use Rattle.mdb_describe.specs.declared.description.ServerDescription.{ServerDescription};
 ghost use Rattle.mdb_describe.specs.Descriptions.{unknown};
-ghost use Rattle.mdb_describe.specs.Servers.{is_known, is_listed, is_primary_type, has_primary, store, remove, forget, forget_other_primaries, put, keep_listed};
+ghost use Rattle.mdb_describe.specs.Servers.{is_known, is_listed, is_primary_type, has_primary, has_other_primary, store, remove, forget, forget_other_primaries, put, keep_listed};
 ghost use Rattle.mdb_describe.specs.Joining.{join};
 ghost use Rattle.mdb_describe.specs.Topology.{server_at};
 
@@ -46,6 +46,15 @@ pub fn has_primary(servers: &[ServerDescription]) -> bool
     servers
         .iter()
         .any(|server| is_primary_type(server.server_type))
+}
+
+/// Some server is a primary, and not the one with this address.
+pub fn has_other_primary(servers: &[ServerDescription], address: &ServerAddress) -> bool
+    ensures { result ≡ has_other_primary address.now servers.now }
+{
+    servers
+        .iter()
+        .any(|server| server.is_other_primary(address))
 }
 
 pub fn is_primary_type(kind: ServerType) -> bool

@@ -1,7 +1,7 @@
 //! The session timeout of a topology.
 
 ghost use Rattle.std.specs.Prelude.{◌≡◌};
-ghost use Rattle.mdb_describe.specs.Topology.{lesser, session_timeout};
+ghost use Rattle.mdb_describe.specs.Topology.{session_timeout};
 ghost use Rattle.mdb_describe.specs.SoFar.{next_least, with_one, least_so_far, or_none};
 
 use crate::description::ServerDescription;

@@ -37,7 +37,7 @@ impl TopologyDescription {
     }
 
     // The server is known, and what is known of it is not newer.
-    fn is_new(&self, server: &ServerDescription) -> bool
+    pub(crate) fn is_new(&self, server: &ServerDescription) -> bool
         ensures { result ≡ is_new self.now server.now }
     {
         match self.server(&server.address) {
@@ -47,7 +47,7 @@ impl TopologyDescription {
     }
 
     // A server of a single topology with a set name that names another set or none.
-    fn is_misnamed(&self, server: &ServerDescription) -> bool
+    pub(crate) fn is_misnamed(&self, server: &ServerDescription) -> bool
         ensures { result ≡ is_misnamed self.now.topology_type self.now server.now }
     {
         matches!(self.topology_type, TopologyType::Single)

@@ -9,8 +9,8 @@ use Rattle.mdb_log.specs.declared.step.Step.{Step}
 use Rattle.mdb_log.specs.declared.step.Act.{Act}
 use Rattle.mdb_log.specs.declared.step.Act.TheVariants.{Open}
 use Rattle.mdb_log.specs.declared.log.Entry.{Entry}
-use Rattle.mdb_topology.specs.Lines.{log_of, steps_of}
-use Rattle.mdb_topology.specs.Stepping.{is_driver_act}
+use Rattle.mdb_driver_rules.specs.Lines.{log_of, steps_of}
+use Rattle.mdb_driver_rules.specs.Acts.{is_driver_act}
 
 -- the act opens a driver with options that keep their rules
 abbrev pub opens_rightly : Act → Bool

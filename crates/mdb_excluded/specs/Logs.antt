@@ -5,7 +5,7 @@ use Rattle.mdb_log.specs.declared.log.Entry.{Entry}
 use Rattle.mdb_log.specs.History.{history_of}
 use Rattle.mdb_log.specs.Opening.{pool_options}
 use Rattle.mdb_log.specs.Requests.{told}
-use Rattle.mdb_topology.specs.Lines.{options_of}
+use Rattle.mdb_driver_rules.specs.Lines.{options_of}
 use Rattle.mdb_laws.specs.CloseCauses.{EntriesCaused}
 use Rattle.mdb_laws.specs.Answers.{AreAnswers}
 use Rattle.mdb_excluded.specs.Entries.{usual}

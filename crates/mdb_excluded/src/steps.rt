@@ -10,7 +10,7 @@ ghost use Rattle.mdb_log.specs.History.{history_of, of_pool, open_pool};
 ghost use Rattle.mdb_log.specs.Connections.{holding as held_by};
 ghost use Rattle.mdb_log.specs.State.{is_ready, state_of};
 ghost use Rattle.mdb_log.specs.Opening.{pool_options};
-ghost use Rattle.mdb_topology.specs.Lines.{log_of, answer_after};
+ghost use Rattle.mdb_driver_rules.specs.Lines.{log_of, answer_after};
 ghost use Rattle.mdb_laws.specs.Logs.{TellsAllCauses};
 ghost use Rattle.mdb_excluded.specs.Entries.{home, lost};
 ghost use Rattle.mdb_excluded.specs.Steps.{normal, alone, greets, errs, harmless, answered};

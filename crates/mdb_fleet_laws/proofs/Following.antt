@@ -18,11 +18,11 @@ use Rattle.mdb_log.specs.declared.checked.HelloResult.{HelloResult}
 use Rattle.mdb_log.specs.declared.checked.HelloResult.TheVariants as hello
 use Rattle.mdb_log.specs.declared.step.Step.{Step}
 use Rattle.mdb_log.proofs.Later.{with_entries-append}
-use Rattle.mdb_topology.specs.Answer.{answer}
-use Rattle.mdb_topology.specs.Description.{description_of, is_stopped}
-use Rattle.mdb_topology.specs.Lines.{entry_after}
+use Rattle.mdb_driver_rules.specs.Answer.{answer}
+use Rattle.mdb_driver_rules.specs.Description.{description_of, is_stopped}
+use Rattle.mdb_driver_rules.specs.Lines.{entry_after}
 use Rattle.mdb_topology.specs.Logging.{Stood}
-use Rattle.mdb_topology.specs.Monitors.{hello_reply}
+use Rattle.mdb_driver_rules.specs.Monitors.{hello_reply}
 use Rattle.mdb_fleets.specs.declared.member.Member.{Member}
 use Rattle.mdb_fleets.specs.declared.member.Sent.{Sent}
 use Rattle.mdb_fleets.specs.Members.{new_member, is_primary, winner, greatest_version, stepped_down, reconfigured}

@@ -12,11 +12,11 @@ use Rattle.mdb_log.specs.declared.reply.Refused.{Refused}
 use Rattle.mdb_log.specs.declared.reply.Reply.TheVariants.{Done}
 use Rattle.mdb_log.specs.declared.step.Step.{Step}
 use Rattle.mdb_log.specs.Answer.{Answer}
-use Rattle.mdb_topology.specs.Answer.{answered}
-use Rattle.mdb_topology.specs.Description.{description_of, is_stopped}
-use Rattle.mdb_topology.specs.Facts.{step_facts}
+use Rattle.mdb_driver_rules.specs.Answer.{answered}
+use Rattle.mdb_driver_rules.specs.Description.{description_of, is_stopped}
+use Rattle.mdb_driver_rules.specs.Facts.{step_facts}
 use Rattle.mdb_topology.specs.Logging.{opening_step}
-use Rattle.mdb_topology.specs.Refusal.{refusal}
+use Rattle.mdb_driver_rules.specs.Refusal.{refusal}
 use Rattle.mdb_fleets.specs.MemberReplies.{address_of}
 use Rattle.mdb_fleet_runs.specs.Trials.{fleet_options, opened}
 use Rattle.mdb_fleet_laws.proofs.Steps.{facts-described, facts-stopped}

@@ -18,12 +18,12 @@ use Rattle.mdb_log.specs.declared.reply.Reply.TheVariants.{Refused as RefusedBy}
 use Rattle.mdb_log.specs.declared.step.Act.TheVariants as act
 use Rattle.mdb_log.specs.declared.step.Step.{Step}
 use Rattle.mdb_log.specs.Answer.{Answer}
-use Rattle.mdb_topology.specs.Answer.{answer, answered, changed_reply}
-use Rattle.mdb_topology.specs.Description.{description_of, applied, step_rule, is_stopped}
-use Rattle.mdb_topology.specs.Facts.{step_facts}
-use Rattle.mdb_topology.specs.Homes.{is_here, begun}
-use Rattle.mdb_topology.specs.Monitors.{hello_reply}
-use Rattle.mdb_topology.specs.Refusal.{refusal}
+use Rattle.mdb_driver_rules.specs.Answer.{answer, answered, changed_reply}
+use Rattle.mdb_driver_rules.specs.Description.{description_of, applied, step_rule, is_stopped}
+use Rattle.mdb_driver_rules.specs.Facts.{step_facts}
+use Rattle.mdb_driver_rules.specs.Homes.{is_here, begun}
+use Rattle.mdb_driver_rules.specs.Monitors.{hello_reply}
+use Rattle.mdb_driver_rules.specs.Refusal.{refusal}
 
 -- facts change neither what is described nor whether the driver was stopped
 

@@ -9,7 +9,7 @@ use Rattle.mdb_describe.specs.Topology.{server_at}
 use Rattle.mdb_log.specs.PlainLegal.{is_refused}
 use Rattle.mdb_log.specs.declared.checked.HelloResult.TheVariants as hello
 use Rattle.mdb_log.specs.declared.step.Step.{Step}
-use Rattle.mdb_topology.specs.Lines.{entry_after}
+use Rattle.mdb_driver_rules.specs.Lines.{entry_after}
 use Rattle.mdb_fleets.specs.declared.member.Member.{Member}
 use Rattle.mdb_fleets.specs.declared.member.Sent.{Sent}
 use Rattle.mdb_fleets.specs.MemberReplies.{address_of, election_id as id_of}

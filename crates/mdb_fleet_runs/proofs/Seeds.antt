@@ -9,7 +9,7 @@ use Rattle.std.proofs.lemmas.List.FromFn.{length-range_with_len}
 use Rattle.mdb_base.specs.declared.address.ServerAddress.{ServerAddress}
 use Rattle.mdb_base.specs.Equality.{same_address}
 use Rattle.mdb_base.specs.OptionRules.{all_different, broken_rule}
-use Rattle.mdb_log.proofs.Addresses.{same-address}
+use Rattle.mdb_describe.proofs.Addresses.{same-address}
 use Rattle.mdb_fleets.specs.MemberReplies.{address_of, addresses_of}
 use Rattle.mdb_fleet_runs.specs.Trials.{fleet_options}
 

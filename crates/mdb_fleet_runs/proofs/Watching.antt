@@ -15,12 +15,12 @@ use Rattle.mdb_log.specs.declared.log.Entry.{Entry}
 use Rattle.mdb_log.specs.declared.reply.Reply.{Reply}
 use Rattle.mdb_log.specs.declared.step.Step.{Step}
 use Rattle.mdb_topology.specs.declared.topology.TopologyCore.{TopologyCore}
-use Rattle.mdb_topology.specs.Answer.{answer as answer_of}
-use Rattle.mdb_topology.specs.Lines.{entry_after}
+use Rattle.mdb_driver_rules.specs.Answer.{answer as answer_of}
+use Rattle.mdb_driver_rules.specs.Lines.{entry_after}
 use Rattle.mdb_topology.specs.Logging.{opening_step, IsDriverOf}
 use Rattle.mdb_topology.specs.Stepping.{IsLogged}
 use Rattle.mdb_topology.specs.Driving.{IsTaken}
-use Rattle.mdb_topology.specs.Stepping.{is_driver_act}
+use Rattle.mdb_driver_rules.specs.Acts.{is_driver_act}
 use Rattle.mdb_topology.proofs.DriverOpened.ScriptsLog.{steps-opened}
 use Rattle.mdb_fleets.specs.declared.member.Member.{Member}
 use Rattle.mdb_fleets.specs.declared.member.Sent.{Sent}

@@ -10,8 +10,8 @@ use Rattle.mdb_log.specs.declared.log.Entry.{Entry}
 use Rattle.mdb_log.specs.declared.step.Act.TheVariants.{Hello}
 use Rattle.mdb_log.specs.declared.step.Step.{Step}
 use Rattle.mdb_log.specs.History.{Item, history_of, open_pool}
-use Rattle.mdb_topology.specs.Description.{description_of}
-use Rattle.mdb_topology.specs.Lines.{entry_after, no_options}
+use Rattle.mdb_driver_rules.specs.Description.{description_of}
+use Rattle.mdb_driver_rules.specs.Lines.{entry_after, no_options}
 use Rattle.mdb_topology.specs.Logging.{opening_step}
 use Rattle.mdb_fleets.specs.declared.member.Sent.{Sent}
 use Rattle.mdb_fleets.specs.MemberReplies.{address_of, addresses_of}

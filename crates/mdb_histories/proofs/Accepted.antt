@@ -11,12 +11,13 @@ use Rattle.mdb_log.specs.History.{Item, did, PoolItem, if_so, is_number, of_pool
 use Rattle.mdb_log.specs.Connections.{has, pending_list, holding, held, pins}
 use Rattle.mdb_log.specs.Requests.{some_act, names_party, was_asked, leaves, told, is_open}
 use Rattle.mdb_log.specs.Homes.{Home}
-use Rattle.mdb_pool.specs.Refusal.{first_row, wrong_service}
-use Rattle.mdb_pool.proofs.Answered.Item.{first-passes, one-passes, two-pass, three-pass, not-false, both-true}
+use Rattle.mdb_pool_rules.specs.Refusal.{first_row, wrong_service}
+use Rattle.mdb_pool_rules.proofs.FirstRow.{first-passes, one-passes, two-pass, three-pass}
+use Rattle.mdb_log.proofs.Bools.{not-false, both-true}
 use Rattle.mdb_sound.specs.Sound.{Sound}
 use Rattle.mdb_sound.proofs.Rested.{Rested}
-use Rattle.mdb_topology.specs.Homes.{concerns, home_of}
-use Rattle.mdb_topology.specs.Refusal.{rows_of, homeless, holds_pinned}
+use Rattle.mdb_driver_rules.specs.Homes.{concerns, home_of}
+use Rattle.mdb_driver_rules.specs.Refusal.{rows_of, homeless, holds_pinned}
 use Rattle.mdb_histories.specs.SoundHistory.{SoundHistory, MayCome, StepNames, HasOne, was_opened}
 use Rattle.mdb_histories.proofs.Parties.{each-sound, apart}
 use Rattle.mdb_histories.proofs.Opened.{unopened-empty}

@@ -9,8 +9,9 @@ use Rattle.mdb_log.specs.declared.reply.Refused.TheVariants.{UnknownServer, Requ
 use Rattle.mdb_log.specs.History.{Item, PoolItem, asked, warmed, gave_up, returned, pinned_by, established, failed, replicated, taken, unpinned, if_so, is_number, of_pool, open_pool, after_act, given, has_asked}
 use Rattle.mdb_log.specs.Connections.{has, pending_list, holding, held, pins}
 use Rattle.mdb_log.specs.Requests.{some_act, names_party, was_asked, leaves, told, is_open}
-use Rattle.mdb_pool.specs.Refusal.{first_row, wrong_service}
-use Rattle.mdb_pool.proofs.Answered.Item.{one-passes, two-pass, three-pass, not-false, both-true}
+use Rattle.mdb_pool_rules.specs.Refusal.{first_row, wrong_service}
+use Rattle.mdb_pool_rules.proofs.FirstRow.{one-passes, two-pass, three-pass}
+use Rattle.mdb_log.proofs.Bools.{not-false, both-true}
 use Rattle.mdb_sound.specs.Sound.{Sound, Holds, MayTake}
 use Rattle.mdb_sound.proofs.Acts.{Done, requests as asks, warms, gives_up, establishes, fails, returns, pins_one, replicates, takes, unpins, maintains, expires, readies, clears, shuts, tells}
 use Rattle.mdb_sound.proofs.Calm.{one-lives}
@@ -18,8 +19,8 @@ use Rattle.mdb_sound.proofs.Connections.{connection-laws}
 use Rattle.mdb_sound.proofs.Leaving.{stays-act}
 use Rattle.mdb_sound.proofs.Rested.{Rested}
 use Rattle.mdb_sound.proofs.Steady.{held-given}
-use Rattle.mdb_topology.specs.Homes.{concerns}
-use Rattle.mdb_topology.specs.Refusal.{rows_of}
+use Rattle.mdb_driver_rules.specs.Homes.{concerns}
+use Rattle.mdb_driver_rules.specs.Refusal.{rows_of}
 use Rattle.mdb_histories.specs.SoundHistory.{SoundHistory}
 use Rattle.mdb_histories.proofs.Parties.{each-sound, new-party}
 use Rattle.mdb_histories.proofs.Unshut.{open-unshut}

@@ -5,9 +5,9 @@ use Rattle.mdb_events.specs.declared.fact.Fact.{Fact}
 use Rattle.mdb_log.specs.History.{Item, PoolItem, of_pool, with_facts}
 use Rattle.mdb_log.specs.Opening.{pool_options}
 use Rattle.mdb_log.proofs.Later.{of_pool-with_facts}
-use Rattle.mdb_pool.specs.Facts.{clear_facts}
-use Rattle.mdb_topology.specs.Errors.{Clear, nothing, whole, only, Trouble}
-use Rattle.mdb_topology.specs.Facts.{clearing}
+use Rattle.mdb_pool_rules.specs.Facts.{clear_facts}
+use Rattle.mdb_driver_rules.specs.Errors.{Clear, nothing, whole, only, Trouble}
+use Rattle.mdb_driver_rules.specs.Facts.{clearing}
 use Rattle.mdb_histories.specs.SoundHistory.{SoundHistory}
 use Rattle.mdb_histories.proofs.Comes.{own-leave}
 use Rattle.mdb_histories.proofs.Failing.{Behind, behind-clear}

@@ -8,7 +8,7 @@ use Rattle.mdb_log.specs.History.{Item, made, PoolItem, if_so, of_pool, after_fa
 use Rattle.mdb_log.specs.Own.{IsOwn, AllOwn}
 use Rattle.mdb_log.proofs.Frame.{other-fact}
 use Rattle.mdb_sound.specs.Sound.{Sound}
-use Rattle.mdb_topology.proofs.OnePool.SameHistories.{IsCalm}
+use Rattle.mdb_driver_rules.proofs.SameHistories.{IsCalm}
 use Rattle.mdb_topology.proofs.OfMonitors.FactsOfCheck.{AreCalm}
 use Rattle.mdb_histories.specs.SoundHistory.{SoundHistory, MayCome, FactNames, was_opened}
 use Rattle.mdb_histories.proofs.Parties.{each-sound, apart}

@@ -19,18 +19,19 @@ use Rattle.mdb_log.specs.History.{Item, PoolItem, failed, service_in, of_pool, o
 use Rattle.mdb_log.specs.Connections.{has, pending_list}
 use Rattle.mdb_log.specs.Homes.{Home}
 use Rattle.mdb_log.specs.Opening.{pool_options}
-use Rattle.mdb_pool.specs.Refusal.{first_row}
-use Rattle.mdb_pool.proofs.Answered.Item.{first-passes, one-passes, not-false}
+use Rattle.mdb_pool_rules.specs.Refusal.{first_row}
+use Rattle.mdb_pool_rules.proofs.FirstRow.{first-passes, one-passes}
+use Rattle.mdb_log.proofs.Bools.{not-false}
 use Rattle.mdb_sound.specs.Sound.{Sound}
 use Rattle.mdb_sound.proofs.Rested.{Rested}
 use Rattle.mdb_sound.proofs.Served.{Fine}
-use Rattle.mdb_topology.specs.Description.{description_of, marking_rule, rule_after, is_stopped}
-use Rattle.mdb_topology.specs.Errors.{Trouble, marks}
-use Rattle.mdb_topology.specs.Facts.{trouble, clear_of, clearing, asking, own_facts, serve_all, step_facts}
-use Rattle.mdb_topology.specs.Homes.{concerns, home_of, begun}
-use Rattle.mdb_topology.specs.Publishing.{told_by}
-use Rattle.mdb_topology.specs.Refusal.{rows_of}
-use Rattle.mdb_topology.specs.Turns.{in_turn}
+use Rattle.mdb_driver_rules.specs.Description.{description_of, marking_rule, rule_after, is_stopped}
+use Rattle.mdb_driver_rules.specs.Errors.{Trouble, marks}
+use Rattle.mdb_driver_rules.specs.Facts.{trouble, clear_of, clearing, asking, own_facts, serve_all, step_facts}
+use Rattle.mdb_driver_rules.specs.Homes.{concerns, home_of, begun}
+use Rattle.mdb_driver_rules.specs.Publishing.{told_by}
+use Rattle.mdb_driver_rules.specs.Refusal.{rows_of}
+use Rattle.mdb_driver_rules.specs.Turns.{in_turn}
 use Rattle.mdb_topology.proofs.Failure.MarkOfNoPool.{Constant, constant-none, mark-constant}
 use Rattle.mdb_histories.specs.SoundHistory.{SoundHistory, was_opened}
 use Rattle.mdb_histories.proofs.Begins.{number-is}

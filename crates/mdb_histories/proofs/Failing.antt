@@ -19,7 +19,7 @@ use Rattle.mdb_log.specs.Own.{AllOwn}
 use Rattle.mdb_log.proofs.Frame.{asked-fact}
 use Rattle.mdb_log.proofs.Later.{after-append}
 use Rattle.mdb_log.proofs.Numbers.{same-number}
-use Rattle.mdb_pool.specs.Facts.{closed_fact, cleared_fact, end_facts, all_ends, clear_facts, fail_requester, act_facts}
+use Rattle.mdb_pool_rules.specs.Facts.{closed_fact, cleared_fact, end_facts, all_ends, clear_facts, fail_requester, act_facts}
 use Rattle.mdb_sound.specs.Sound.{Sound, just_failed, lost, MayClose}
 use Rattle.mdb_sound.proofs.Calm.{none-is, one-lives, calm-close}
 use Rattle.mdb_sound.proofs.Connections.{connection-laws}

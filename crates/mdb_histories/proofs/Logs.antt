@@ -7,8 +7,8 @@ use Rattle.mdb_log.specs.Answer.{Answer}
 use Rattle.mdb_log.specs.History.{Item, with_answer, history_of}
 use Rattle.mdb_log.proofs.Later.{with_entries-append}
 use Rattle.mdb_topology.specs.declared.topology.TopologyCore.{TopologyCore}
-use Rattle.mdb_topology.specs.Answer.{answer}
-use Rattle.mdb_topology.specs.Lines.{options_in, answer_after, entry_after}
+use Rattle.mdb_driver_rules.specs.Answer.{answer}
+use Rattle.mdb_driver_rules.specs.Lines.{options_in, answer_after, entry_after}
 use Rattle.mdb_topology.specs.Driving.{Holds}
 use Rattle.mdb_topology.specs.Logging.{opening_step, Stood, AreDriven, IsDriverOf}
 use Rattle.mdb_histories.specs.SoundHistory.{SoundHistory}

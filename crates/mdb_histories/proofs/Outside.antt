@@ -8,20 +8,20 @@ use Rattle.mdb_log.specs.declared.step.Act.{Act}
 use Rattle.mdb_log.specs.declared.step.Act.TheVariants as Do
 use Rattle.mdb_log.specs.History.{Item, of_pool, open_pool, after_act, with_facts}
 use Rattle.mdb_log.specs.Homes.{Home}
-use Rattle.mdb_pool.specs.Refusal.{first_row}
+use Rattle.mdb_pool_rules.specs.Refusal.{first_row}
 use Rattle.mdb_sound.proofs.Establishes.{calm-rested}
 use Rattle.mdb_sound.proofs.Rested.{Rested}
 use Rattle.mdb_sound.proofs.Served.{Fine}
-use Rattle.mdb_topology.specs.Description.{description_of, rule_after}
-use Rattle.mdb_topology.specs.Errors.{Trouble}
-use Rattle.mdb_topology.specs.Facts.{trouble, clear_of, clearing, asking, own_facts, serve_all, step_facts}
-use Rattle.mdb_topology.specs.Homes.{home_of, begun}
-use Rattle.mdb_topology.specs.Monitors.{heartbeat}
-use Rattle.mdb_topology.specs.Publishing.{told_by}
-use Rattle.mdb_topology.specs.Refusal.{rows_of}
-use Rattle.mdb_topology.specs.Turns.{in_turn}
+use Rattle.mdb_driver_rules.specs.Description.{description_of, rule_after}
+use Rattle.mdb_driver_rules.specs.Errors.{Trouble}
+use Rattle.mdb_driver_rules.specs.Facts.{trouble, clear_of, clearing, asking, own_facts, serve_all, step_facts}
+use Rattle.mdb_driver_rules.specs.Homes.{home_of, begun}
+use Rattle.mdb_driver_rules.specs.Monitors.{heartbeat}
+use Rattle.mdb_driver_rules.specs.Publishing.{told_by}
+use Rattle.mdb_driver_rules.specs.Refusal.{rows_of}
+use Rattle.mdb_driver_rules.specs.Turns.{in_turn}
 use Rattle.mdb_topology.proofs.OfMonitors.FactsOfCheck.{heartbeat-calm}
-use Rattle.mdb_topology.proofs.WholeSteps.LeavesAsItIs.{turn-append}
+use Rattle.mdb_driver_rules.proofs.LeavesAsItIs.{turn-append}
 use Rattle.mdb_histories.specs.SoundHistory.{SoundHistory, was_opened}
 use Rattle.mdb_histories.proofs.Comes.{AllMayCome, come-sound, come-both}
 use Rattle.mdb_histories.proofs.Parties.{each-sound}

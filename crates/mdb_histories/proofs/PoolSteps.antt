@@ -9,16 +9,16 @@ use Rattle.mdb_log.specs.Homes.{Home}
 use Rattle.mdb_log.specs.Opening.{pool_options}
 use Rattle.mdb_log.specs.Own.{AllOwn}
 use Rattle.mdb_log.proofs.Later.{of_pool-with_facts}
-use Rattle.mdb_pool.specs.Refusal.{first_row}
+use Rattle.mdb_pool_rules.specs.Refusal.{first_row}
 use Rattle.mdb_sound.proofs.Acts.{Done, act-fine}
 use Rattle.mdb_sound.proofs.Establishes.{calm-rested}
 use Rattle.mdb_sound.proofs.Rested.{Rested}
 use Rattle.mdb_sound.proofs.Served.{Fine}
-use Rattle.mdb_topology.specs.Homes.{concerns, home_of, begun}
-use Rattle.mdb_topology.specs.Refusal.{rows_of}
-use Rattle.mdb_topology.specs.Finding.{is_pool_act}
-use Rattle.mdb_topology.specs.Facts.{own_facts, serve_all, step_facts}
-use Rattle.mdb_topology.proofs.OnePool.TellsNoTopology.{plain-facts}
+use Rattle.mdb_driver_rules.specs.Homes.{concerns, home_of, begun}
+use Rattle.mdb_driver_rules.specs.Refusal.{rows_of}
+use Rattle.mdb_driver_rules.specs.Acts.{is_pool_act}
+use Rattle.mdb_driver_rules.specs.Facts.{own_facts, serve_all, step_facts}
+use Rattle.mdb_driver_pools.proofs.OnePool.TellsNoTopology.{plain-facts}
 use Rattle.mdb_histories.specs.SoundHistory.{SoundHistory, was_opened}
 use Rattle.mdb_histories.proofs.Accepted.{step-comes}
 use Rattle.mdb_histories.proofs.Begins.{home-done}

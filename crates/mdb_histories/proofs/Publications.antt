@@ -19,15 +19,15 @@ use Rattle.mdb_log.specs.Own.{shuts}
 use Rattle.mdb_log.specs.State.{State, is_new, is_ready, is_paused, is_closed, state_of}
 use Rattle.mdb_log.proofs.Frame.{other-number}
 use Rattle.mdb_log.proofs.Numbers.{same-number}
-use Rattle.mdb_pool.specs.Facts.{readied, close_facts}
+use Rattle.mdb_pool_rules.specs.Facts.{readied, close_facts}
 use Rattle.mdb_sound.specs.Sound.{Sound}
 use Rattle.mdb_sound.proofs.Closings.{closed-fine}
 use Rattle.mdb_sound.proofs.Maintains.{readied-fine}
 use Rattle.mdb_sound.proofs.Rested.{Rested}
 use Rattle.mdb_sound.proofs.Served.{Fine}
-use Rattle.mdb_topology.specs.Description.{Rule, opens, updates, syncs, tells_time, stops, begins_with, unopened}
-use Rattle.mdb_topology.specs.Publishing.{ready_pool, close_pool, description_changed, server_changed, server_closed, topology_changed, server_opened, telling, publication, topology_opening, topology_closed, told_by}
-use Rattle.mdb_topology.specs.Ready.{is_ready_type}
+use Rattle.mdb_driver_rules.specs.Description.{Rule, opens, updates, syncs, tells_time, stops, begins_with, unopened}
+use Rattle.mdb_driver_rules.specs.Publishing.{ready_pool, close_pool, description_changed, server_changed, server_closed, topology_changed, server_opened, telling, publication, topology_opening, topology_closed, told_by}
+use Rattle.mdb_driver_rules.specs.Ready.{is_ready_type}
 use Rattle.mdb_histories.specs.SoundHistory.{SoundHistory, MayCome}
 use Rattle.mdb_histories.proofs.Comes.{AllMayCome, calm-come}
 use Rattle.mdb_histories.proofs.Numbered.{next-unopened}

@@ -14,10 +14,10 @@ use Rattle.mdb_log.specs.History.{Item, did, made, is_number, of_pool, open_pool
 use Rattle.mdb_log.specs.Homes.{Home, homes}
 use Rattle.mdb_log.specs.Own.{IsAccepted}
 use Rattle.mdb_log.specs.Requests.{is_claimed}
-use Rattle.mdb_pool.proofs.Histories.LimitsAreKept.{reply-accepted}
+use Rattle.mdb_pool_rules.proofs.LimitsAreKept.{reply-accepted}
 use Rattle.mdb_sound.specs.Sound.{Sound}
-use Rattle.mdb_topology.specs.Answer.{pool_reply, reply_to}
-use Rattle.mdb_topology.specs.Homes.{home_of, is_here}
+use Rattle.mdb_driver_rules.specs.Answer.{pool_reply, reply_to}
+use Rattle.mdb_driver_rules.specs.Homes.{home_of, is_here}
 use Rattle.mdb_histories.specs.SoundHistory.{MayCome, FactNames, was_opened}
 use Rattle.mdb_histories.proofs.Comes.{AllMayCome}
 

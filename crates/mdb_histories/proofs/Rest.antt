@@ -4,7 +4,7 @@ use Rattle.std.specs.Prelude.{slice_get}
 use Rattle.mdb_log.specs.declared.options.PoolOptions.{PoolOptions}
 use Rattle.mdb_log.specs.History.{Item, of_pool}
 use Rattle.mdb_pool.specs.Core.{PoolCore}
-use Rattle.mdb_topology.specs.Standing.{PoolFits, PoolsFit}
+use Rattle.mdb_driver_pools.specs.Standing.{PoolFits, PoolsFit}
 use Rattle.mdb_sound.proofs.Rested.{Rested, rested}
 
 -- a pool of which nothing is said

@@ -12,8 +12,8 @@ use Rattle.mdb_log.specs.Requests.{requests, is_unserved}
 use Rattle.mdb_log.specs.Own.{shuts}
 use Rattle.mdb_log.specs.State.{State, is_new, is_ready, is_paused, is_closed, state_of}
 use Rattle.mdb_log.proofs.Pins.{pinned-again}
-use Rattle.mdb_pool.specs.Facts.{closed_fact, all_ends, pool_closed_fact, close_facts}
-use Rattle.mdb_pool.proofs.Turns.Fair.{shut-append}
+use Rattle.mdb_pool_rules.specs.Facts.{closed_fact, all_ends, pool_closed_fact, close_facts}
+use Rattle.mdb_pool_rules.proofs.Fair.{shut-append}
 use Rattle.mdb_sound.proofs.Rested.{Rested}
 use Rattle.mdb_sound.proofs.Served.{Fine}
 

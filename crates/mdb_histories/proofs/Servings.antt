@@ -9,10 +9,10 @@ use Rattle.mdb_log.specs.Homes.{Home, homes}
 use Rattle.mdb_log.specs.Opening.{pool_options}
 use Rattle.mdb_log.specs.Own.{AllOwn}
 use Rattle.mdb_log.proofs.Numbers.{same-number}
-use Rattle.mdb_pool.specs.Serving.{serving}
+use Rattle.mdb_pool_rules.specs.Serving.{serving}
 use Rattle.mdb_sound.specs.Sound.{Sound}
 use Rattle.mdb_sound.proofs.Served.{Fine, serving-sound}
-use Rattle.mdb_topology.specs.Facts.{serve_all}
+use Rattle.mdb_driver_rules.specs.Facts.{serve_all}
 use Rattle.mdb_histories.specs.SoundHistory.{SoundHistory, was_opened}
 use Rattle.mdb_histories.proofs.Comes.{AllMayCome, come-sound, come-both, own-come, own-leave}
 use Rattle.mdb_histories.proofs.Numbered.{AllApart, homes-apart}

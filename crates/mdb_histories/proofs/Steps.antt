@@ -8,7 +8,7 @@ use Rattle.mdb_log.specs.declared.step.FailedAt.TheVariants.{Pre, Post}
 use Rattle.mdb_log.specs.declared.reply.Reply.{Reply}
 use Rattle.mdb_log.specs.History.{Item, did, made, PoolItem, if_so, is_number, of_pool, open_pool, after_act, given, has_asked, has_party}
 use Rattle.mdb_log.specs.Connections.{has}
-use Rattle.mdb_log.specs.Requests.{some_act, was_asked}
+use Rattle.mdb_log.specs.Requests.{some_act, was_asked, queued, end_of}
 use Rattle.mdb_log.specs.Homes.{Home, homes}
 use Rattle.mdb_log.proofs.Frame.{asked-fact}
 use Rattle.mdb_log.proofs.Numbers.{same-number}
@@ -16,8 +16,7 @@ use Rattle.mdb_sound.specs.Sound.{Sound}
 use Rattle.mdb_sound.specs.Once.{Once}
 use Rattle.mdb_sound.specs.Counts.{askings, grantings, endings, was_granted}
 use Rattle.mdb_sound.proofs.Once.{once}
-use Rattle.mdb_log.specs.Requests.{queued, end_of}
-use Rattle.mdb_topology.specs.Homes.{concerns, home_of}
+use Rattle.mdb_driver_rules.specs.Homes.{concerns, home_of}
 use Rattle.mdb_histories.specs.SoundHistory.{SoundHistory, MayCome, StepNames, IsRequest}
 
 -- what is found passes the test

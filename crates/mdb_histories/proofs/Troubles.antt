@@ -14,16 +14,16 @@ use Rattle.mdb_log.specs.declared.checked.HelloResult.TheVariants as Hello
 use Rattle.mdb_log.specs.declared.checked.BeatenResult.TheVariants as Beaten
 use Rattle.mdb_log.specs.History.{Item, of_pool, open_pool, with_facts}
 use Rattle.mdb_log.specs.Opening.{pool_options}
-use Rattle.mdb_pool.specs.Facts.{clear_facts}
-use Rattle.mdb_pool.proofs.Answered.Item.{both-true}
+use Rattle.mdb_pool_rules.specs.Facts.{clear_facts}
+use Rattle.mdb_log.proofs.Bools.{both-true}
 use Rattle.mdb_sound.proofs.Maintains.{cleared-fine}
 use Rattle.mdb_sound.proofs.Served.{Fine}
-use Rattle.mdb_topology.specs.Current.{Complaint, complaint_of, is_current, may_tell, known_version, is_of_generation}
-use Rattle.mdb_topology.specs.Errors.{Case, monitored, state_change, lost, Clear, nothing, whole, only, Trouble, asks, case_of, current_trouble, monitor_trouble, complaint_trouble, trouble_of}
-use Rattle.mdb_topology.specs.Facts.{clearing, asking}
-use Rattle.mdb_topology.specs.Homes.{is_here}
+use Rattle.mdb_driver_rules.specs.Current.{Complaint, complaint_of, is_current, may_tell, known_version, is_of_generation}
+use Rattle.mdb_driver_rules.specs.Errors.{Case, monitored, state_change, lost, Clear, nothing, whole, only, Trouble, asks, case_of, current_trouble, monitor_trouble, complaint_trouble, trouble_of}
+use Rattle.mdb_driver_rules.specs.Facts.{clearing, asking}
+use Rattle.mdb_driver_rules.specs.Homes.{is_here}
 use Rattle.mdb_topology.proofs.OfMonitors.FactsOfCheck.{AreCalm}
-use Rattle.mdb_topology.proofs.WholeSteps.LeavesAsItIs.{with-append}
+use Rattle.mdb_driver_rules.proofs.LeavesAsItIs.{with-append}
 use Rattle.mdb_histories.specs.SoundHistory.{SoundHistory, was_opened}
 use Rattle.mdb_histories.proofs.Begins.{number-is}
 use Rattle.mdb_histories.proofs.Comes.{calm-come, come-both}

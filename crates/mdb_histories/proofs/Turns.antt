@@ -10,10 +10,10 @@ use Rattle.mdb_log.proofs.Frame.{open-facts}
 use Rattle.mdb_log.proofs.Later.{of_pool-with_facts}
 use Rattle.mdb_sound.proofs.Rested.{Rested}
 use Rattle.mdb_sound.proofs.Served.{Fine}
-use Rattle.mdb_topology.specs.Turns.{in_turn}
+use Rattle.mdb_driver_rules.specs.Turns.{in_turn}
 use Rattle.mdb_topology.proofs.OfMonitors.FactsOfCheck.{AreCalm}
-use Rattle.mdb_topology.proofs.WholeSteps.LeavesAsItIs.{with-append}
-use Rattle.mdb_topology.proofs.OnePool.SameHistories.{IsCalm}
+use Rattle.mdb_driver_rules.proofs.LeavesAsItIs.{with-append}
+use Rattle.mdb_driver_rules.proofs.SameHistories.{IsCalm}
 use Rattle.mdb_histories.specs.SoundHistory.{SoundHistory, was_opened}
 use Rattle.mdb_histories.proofs.Comes.{AllMayCome, calm-come, come-sound, come-both, own-leave}
 use Rattle.mdb_histories.proofs.PoolSteps.{ComeFine, own-fine}

@@ -10,7 +10,7 @@ use Rattle.mdb_log.specs.declared.log.Entry.{Entry}
 use Rattle.mdb_monitor.specs.declared.check.Action.{Action}
 use Rattle.mdb_monitor.specs.declared.check.Action.TheVariants.{Connect, Read, Hello}
 use Rattle.mdb_monitor.specs.declared.check.Begin.{Begin}
-use Rattle.mdb_topology.specs.Lines.{described}
+use Rattle.mdb_driver_rules.specs.Lines.{described}
 use Rattle.mdb_session.specs.Ahead.{check_after}
 use Rattle.mdb_known.specs.Types.{flag_number}
 use Rattle.mdb_known.specs.declared.check_numbers.CheckNumbers.{CheckNumbers}

@@ -3,7 +3,7 @@ use Rattle.std.specs.Prelude.{ℕ, List, Option, option_map}
 use Rattle.mdb_base.specs.Spelling.{address}
 use Rattle.mdb_log.specs.declared.job.Job.{Job}
 use Rattle.mdb_log.specs.declared.log.Entry.{Entry}
-use Rattle.mdb_topology.specs.Jobs.{job_after}
+use Rattle.mdb_driver_rules.specs.Jobs.{job_after}
 
 -- the text of the address of a job, if there is one
 abbrev pub address_of : Option Job → Option (List ℕ)

@@ -12,8 +12,8 @@ use Rattle.mdb_log.specs.declared.checked.BeatenResult.TheVariants as Beaten
 use Rattle.mdb_log.specs.declared.reply.Reply.TheVariants.{Changed}
 use Rattle.mdb_log.specs.History.{Item, did}
 use Rattle.mdb_log.specs.Opening.{pool_options}
-use Rattle.mdb_topology.specs.Homes.{begun}
-use Rattle.mdb_topology.specs.Description.{description_of, published, is_stopped, rule_of, step_rule, rule_after, changed}
+use Rattle.mdb_driver_rules.specs.Homes.{begun}
+use Rattle.mdb_driver_rules.specs.Description.{description_of, published, is_stopped, rule_of, step_rule, rule_after, changed}
 use Rattle.mdb_laws.specs.Alike.{ConnectionsAlike, PoolsAlike, RequestsAlike, ServersAlike, TellsAlike}
 
 module _ (o : Options) (h : List Item) (m r : ℕ) (e : Error) where

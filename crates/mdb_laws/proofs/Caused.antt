@@ -16,17 +16,18 @@ use Rattle.mdb_log.specs.State.{is_closed, state_of}
 use Rattle.mdb_log.specs.Opening.{pool_options}
 use Rattle.mdb_pool.specs.Core.{PoolCore}
 use Rattle.mdb_topology.specs.declared.topology.TopologyCore.{TopologyCore}
-use Rattle.mdb_topology.specs.Turns.{in_turn}
-use Rattle.mdb_topology.specs.Homes.{home_of, begun}
-use Rattle.mdb_topology.specs.Monitors.{heartbeat}
-use Rattle.mdb_topology.specs.Errors.{Trouble}
-use Rattle.mdb_topology.specs.Description.{description_of, is_stopped, rule_after}
-use Rattle.mdb_topology.specs.Facts.{trouble, clear_of, clearing, asking, own_facts, serve_all, step_facts}
-use Rattle.mdb_topology.specs.Publishing.{told_by}
-use Rattle.mdb_topology.specs.Standing.{PoolFits, PoolsFit, StandsFor}
-use Rattle.mdb_topology.proofs.OnePool.OpenAtOneAddress.{here-alone, open-unclosed, is-there}
-use Rattle.mdb_topology.proofs.OnePool.NumbersWithinLimits.{act-free}
-use Rattle.mdb_topology.proofs.WholeSteps.LeavesAsItIs.{with-append}
+use Rattle.mdb_driver_rules.specs.Turns.{in_turn}
+use Rattle.mdb_driver_rules.specs.Homes.{home_of, begun}
+use Rattle.mdb_driver_rules.specs.Monitors.{heartbeat}
+use Rattle.mdb_driver_rules.specs.Errors.{Trouble}
+use Rattle.mdb_driver_rules.specs.Description.{description_of, is_stopped, rule_after}
+use Rattle.mdb_driver_rules.specs.Facts.{trouble, clear_of, clearing, asking, own_facts, serve_all, step_facts}
+use Rattle.mdb_driver_rules.specs.Publishing.{told_by}
+use Rattle.mdb_topology.specs.Standing.{StandsFor}
+use Rattle.mdb_driver_pools.specs.Standing.{PoolFits, PoolsFit}
+use Rattle.mdb_driver_pools.proofs.OnePool.OpenAtOneAddress.{here-alone, open-unclosed, is-there}
+use Rattle.mdb_driver_rules.proofs.NumbersWithinLimits.{act-free}
+use Rattle.mdb_driver_rules.proofs.LeavesAsItIs.{with-append}
 use Rattle.mdb_topology.proofs.WholeSteps.CheckThenRule.{told-first}
 use Rattle.mdb_laws.specs.Causes.{marks_of, changes, clears, described_after, difference_by, caused}
 use Rattle.mdb_laws.proofs.Marks.{Seen, own-number, same-number, marks-append, out-marks, is_opened, touches, spared, below-facts, same-homes}

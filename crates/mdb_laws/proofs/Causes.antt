@@ -19,20 +19,20 @@ use Rattle.mdb_log.specs.Own.{IsAccepted}
 use Rattle.mdb_log.specs.Requests.{is_claimed}
 use Rattle.mdb_log.specs.State.{generation_of}
 use Rattle.mdb_log.proofs.Later.{with_answer-accepted}
-use Rattle.mdb_pool.proofs.Histories.LimitsAreKept.{reply-accepted}
+use Rattle.mdb_pool_rules.proofs.LimitsAreKept.{reply-accepted}
 use Rattle.mdb_topology.specs.declared.topology.TopologyCore.{TopologyCore}
-use Rattle.mdb_topology.specs.Homes.{is_here, begun}
-use Rattle.mdb_topology.specs.Description.{Rule, description_of, rule_after, applied, change_by}
-use Rattle.mdb_topology.specs.Facts.{trouble, clear_of, step_facts}
-use Rattle.mdb_topology.specs.Refusal.{refusal}
-use Rattle.mdb_topology.specs.Answer.{answer, answered, reply_to, pool_reply}
+use Rattle.mdb_driver_rules.specs.Homes.{is_here, begun}
+use Rattle.mdb_driver_rules.specs.Description.{Rule, description_of, rule_after, applied, change_by}
+use Rattle.mdb_driver_rules.specs.Facts.{trouble, clear_of, step_facts}
+use Rattle.mdb_driver_rules.specs.Refusal.{refusal}
+use Rattle.mdb_driver_rules.specs.Answer.{answer, answered, reply_to, pool_reply}
 use Rattle.mdb_topology.specs.Standing.{StandsFor}
 use Rattle.mdb_laws.specs.Stale.{after}
 use Rattle.mdb_laws.specs.Causes.{marks_of, changes, clears, described_after, difference_by, caused, gone, clears_among, HasCauses}
 use Rattle.mdb_laws.proofs.Gone.{open_after, open-marks, cleared-same}
 use Rattle.mdb_laws.proofs.OpenFor.{open-known}
 use Rattle.mdb_laws.proofs.Risen.{act-generation, raised_among, facts-generation}
-use Rattle.mdb_topology.proofs.WholeSteps.LeavesAsItIs.{description-facts}
+use Rattle.mdb_driver_rules.proofs.LeavesAsItIs.{description-facts}
 use Rattle.mdb_laws.proofs.Published.{IsSound, removed-known}
 use Rattle.mdb_laws.proofs.Caused.{sound-of, step-marks}
 

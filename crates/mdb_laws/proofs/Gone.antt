@@ -12,9 +12,9 @@ use Rattle.mdb_events.specs.declared.cmap.CmapEvent.TheVariants.{PoolCreated, Po
 use Rattle.mdb_log.specs.History.{Item, made, of_pool, open_pool, is_number, with_facts}
 use Rattle.mdb_log.specs.State.{state_of, ready}
 use Rattle.mdb_log.specs.Opening.{pool_options}
-use Rattle.mdb_log.proofs.Addresses.{same-address}
-use Rattle.mdb_topology.specs.Errors.{Clear, nothing, whole, only, Trouble}
-use Rattle.mdb_topology.specs.Touching.{is_ready_at}
+use Rattle.mdb_describe.proofs.Addresses.{same-address}
+use Rattle.mdb_driver_rules.specs.Errors.{Clear, nothing, whole, only, Trouble}
+use Rattle.mdb_driver_rules.specs.Touching.{is_ready_at}
 use Rattle.mdb_laws.specs.Causes.{Mark, opened, closed, told_cleared, marks_of, readied_at, closed_at, clears}
 use Rattle.mdb_laws.proofs.Marks.{own-number}
 

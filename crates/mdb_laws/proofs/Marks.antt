@@ -10,8 +10,8 @@ use Rattle.mdb_log.specs.declared.options.PoolOptions.{PoolOptions}
 use Rattle.mdb_log.specs.History.{Item, made, PoolItem, created, closed, checked_in, granted, ended, of_pool, open_pool, is_number, has_asked, if_so, after_fact, with_facts}
 use Rattle.mdb_log.specs.Homes.{homes}
 use Rattle.mdb_log.specs.State.{state_of}
-use Rattle.mdb_topology.specs.OfServers.{is_of_server}
-use Rattle.mdb_topology.proofs.OnePool.NumbersWithinLimits.{any_out}
+use Rattle.mdb_driver_rules.specs.OfServers.{is_of_server}
+use Rattle.mdb_driver_rules.proofs.NumbersWithinLimits.{any_out}
 use Rattle.mdb_laws.specs.Causes.{mark_of, marks_of}
 
 pub own-number : (p : ℕ) → (p == p) ≡ true

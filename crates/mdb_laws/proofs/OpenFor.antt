@@ -9,11 +9,10 @@ use Rattle.mdb_describe.specs.declared.diff.Diff.{Diff}
 use Rattle.mdb_describe.specs.Differences.{difference, changed, missing}
 use Rattle.mdb_describe.specs.Servers.{is_known, is_listed}
 use Rattle.mdb_log.specs.History.{Item, open_pool}
-use Rattle.mdb_log.proofs.Addresses.{own-address}
-use Rattle.mdb_topology.specs.Errors.{Clear, Trouble}
+use Rattle.mdb_describe.proofs.Addresses.{own-address}
+use Rattle.mdb_driver_rules.specs.Errors.{Clear, Trouble}
 use Rattle.mdb_topology.proofs.Publications.OfDifference.{nothing-differs}
-use Rattle.mdb_topology.proofs.Publications.ServersThen.{known-now}
-use Rattle.mdb_topology.proofs.Publications.PlannedWhole.{of-difference}
+use Rattle.mdb_driver_rules.proofs.ServersThen.{known-now, of-difference}
 use Rattle.mdb_laws.specs.Causes.{Mark, closed_at, readied_at, opened_from, changes, clears}
 use Rattle.mdb_laws.proofs.Gone.{open_after, after-append, all-readied, closed-none, closed-one, cleared-same}
 use Rattle.mdb_laws.proofs.Marks.{any-head, same-number}

@@ -13,14 +13,14 @@ use Rattle.mdb_describe.proofs.InOrder.{added_in_order}
 use Rattle.mdb_events.specs.declared.fact.Fact.{Fact}
 use Rattle.mdb_log.specs.declared.step.Act.TheVariants.{Open}
 use Rattle.mdb_log.specs.History.{Item, with_facts}
-use Rattle.mdb_log.proofs.Addresses.{own-address}
-use Rattle.mdb_topology.specs.Homes.{begun}
+use Rattle.mdb_describe.proofs.Addresses.{own-address}
+use Rattle.mdb_driver_rules.specs.Homes.{begun}
 use Rattle.mdb_topology.specs.Logging.{opening_step}
-use Rattle.mdb_topology.specs.Turns.{in_turn}
-use Rattle.mdb_topology.specs.Description.{begins_with, unopened, description_of}
-use Rattle.mdb_topology.specs.Publishing.{publication, topology_opening, opening}
-use Rattle.mdb_topology.specs.Facts.{step_facts, serve_all}
-use Rattle.mdb_topology.proofs.WholeSteps.LeavesAsItIs.{turn-append}
+use Rattle.mdb_driver_rules.specs.Turns.{in_turn}
+use Rattle.mdb_driver_rules.specs.Description.{begins_with, unopened, description_of}
+use Rattle.mdb_driver_rules.specs.Publishing.{publication, topology_opening, opening}
+use Rattle.mdb_driver_rules.specs.Facts.{step_facts, serve_all}
+use Rattle.mdb_driver_rules.proofs.LeavesAsItIs.{turn-append}
 use Rattle.mdb_topology.proofs.WholeSteps.CheckThenRule.{told-first}
 use Rattle.mdb_laws.specs.Causes.{marks_of, changes, caused}
 use Rattle.mdb_laws.proofs.Marks.{marks-append, out-marks}

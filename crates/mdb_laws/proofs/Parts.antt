@@ -19,13 +19,13 @@ use Rattle.mdb_log.specs.Connections.{available_list, pending_list, known_servic
 use Rattle.mdb_log.specs.Requests.{requests, is_unserved}
 use Rattle.mdb_log.specs.State.{State, is_new, is_ready, is_paused, is_closed, state_of}
 use Rattle.mdb_log.specs.Opening.{pool_options}
-use Rattle.mdb_pool.specs.Facts.{closed_fact, all_ends, pool_ready_fact, pool_closed_fact, readied, close_facts}
+use Rattle.mdb_pool_rules.specs.Facts.{closed_fact, all_ends, pool_ready_fact, pool_closed_fact, readied, close_facts}
 use Rattle.std.specs.Prelude.{filter}
-use Rattle.mdb_topology.specs.Ready.{is_ready_type}
-use Rattle.mdb_topology.specs.Touching.{is_ready_server, is_ready_at}
-use Rattle.mdb_topology.specs.Turns.{in_turn}
-use Rattle.mdb_topology.specs.Publishing.{ready_pool, close_pool, description_changed, server_changed, server_closed, server_opened, opened_at}
-use Rattle.mdb_topology.proofs.OnePool.NumbersWithinLimits.{any_out, out-append, all-ends-free}
+use Rattle.mdb_driver_rules.specs.Ready.{is_ready_type}
+use Rattle.mdb_driver_rules.specs.Touching.{is_ready_server, is_ready_at}
+use Rattle.mdb_driver_rules.specs.Turns.{in_turn}
+use Rattle.mdb_driver_rules.specs.Publishing.{ready_pool, close_pool, description_changed, server_changed, server_closed, server_opened, opened_at}
+use Rattle.mdb_driver_rules.proofs.NumbersWithinLimits.{any_out, out-append, all-ends-free}
 use Rattle.mdb_laws.specs.Causes.{opened, told_created, closed, marks_of, readied_at, closed_at, opened_from}
 use Rattle.mdb_laws.proofs.Marks.{any-append, marks-append, out-marks, is_opened, touches, out-untouched, out-unopened, Seen}
 use Rattle.mdb_laws.proofs.Runs.{IsOfAddress}

@@ -17,15 +17,14 @@ use Rattle.mdb_log.specs.History.{Item, of_pool, open_pool, with_facts}
 use Rattle.mdb_log.specs.Homes.{homes}
 use Rattle.mdb_log.specs.State.{is_closed, state_of}
 use Rattle.mdb_log.specs.Opening.{pool_options}
-use Rattle.mdb_log.proofs.Addresses.{same-address}
-use Rattle.mdb_pool.proofs.Answered.Item.{both-true}
-use Rattle.mdb_topology.specs.Turns.{in_turn}
-use Rattle.mdb_topology.specs.Publishing.{server_changed, server_closed, server_opened, topology_changed, publication, telling}
-use Rattle.mdb_topology.proofs.General.Truth.{not-back}
-use Rattle.mdb_topology.proofs.General.AddressesDiffer.{ordered-different}
-use Rattle.mdb_topology.proofs.Publications.ServersThen.{listed-missing}
-use Rattle.mdb_topology.proofs.WholeSteps.LeavesAsItIs.{turn-append, with-append}
-use Rattle.mdb_topology.proofs.Publications.PlannedWhole.{of-difference}
+use Rattle.mdb_describe.proofs.Addresses.{same-address}
+use Rattle.mdb_log.proofs.Bools.{both-true}
+use Rattle.mdb_driver_rules.specs.Turns.{in_turn}
+use Rattle.mdb_driver_rules.specs.Publishing.{server_changed, server_closed, server_opened, topology_changed, publication, telling}
+use Rattle.mdb_driver_rules.proofs.General.Truth.{not-back}
+use Rattle.mdb_driver_rules.proofs.General.AddressesDiffer.{ordered-different}
+use Rattle.mdb_driver_rules.proofs.ServersThen.{listed-missing, of-difference}
+use Rattle.mdb_driver_rules.proofs.LeavesAsItIs.{turn-append, with-append}
 use Rattle.mdb_laws.specs.Causes.{Mark, marks_of, readied_at, closed_at, opened_from, changes}
 use Rattle.mdb_laws.proofs.Marks.{marks-append, is_opened, Seen, Below, same-homes}
 use Rattle.mdb_laws.proofs.Runs.{IsAlone, none-made, runs-below, runs-keep, runs-say}

@@ -25,20 +25,20 @@ use Rattle.mdb_log.specs.declared.checked.BeatenResult.TheVariants as Beaten
 use Rattle.mdb_log.specs.Acts.{IsDriverAct}
 use Rattle.mdb_log.specs.History.{Item, of_pool, open_pool, with_facts}
 use Rattle.mdb_log.specs.Connections.{wire_of, service_of}
-use Rattle.mdb_log.proofs.Addresses.{own-address, same-address}
-use Rattle.mdb_pool.proofs.Answered.Item.{both-true}
-use Rattle.mdb_topology.specs.Turns.{in_turn}
-use Rattle.mdb_topology.specs.Homes.{is_here}
-use Rattle.mdb_topology.specs.Current.{Complaint, complaint_of, is_current}
-use Rattle.mdb_topology.specs.Errors.{Case, monitored, Trouble, marks, case_of, monitor_trouble, current_trouble, complaint_trouble, trouble_of}
-use Rattle.mdb_topology.specs.Description.{Rule, opens, updates, syncs, tells_time, stops, replied_rule, marking_rule, syncing_rule, rule_of, applied, change_by}
-use Rattle.mdb_topology.specs.Publishing.{server_changed, topology_changed, topology_closed, publication, telling, told_by}
-use Rattle.mdb_topology.proofs.WholeSteps.LeavesAsItIs.{turn-append}
-use Rattle.mdb_topology.proofs.General.OneElement.{any-position}
-use Rattle.mdb_topology.proofs.Marks.StaysKnown.{none-gone, none-come, untouched}
-use Rattle.mdb_topology.proofs.General.DescriptionIsItself.{filter-never, unchanged}
+use Rattle.mdb_describe.proofs.Addresses.{own-address, same-address}
+use Rattle.mdb_log.proofs.Bools.{both-true}
+use Rattle.mdb_driver_rules.specs.Turns.{in_turn}
+use Rattle.mdb_driver_rules.specs.Homes.{is_here}
+use Rattle.mdb_driver_rules.specs.Current.{Complaint, complaint_of, is_current}
+use Rattle.mdb_driver_rules.specs.Errors.{Case, monitored, Trouble, marks, case_of, monitor_trouble, current_trouble, complaint_trouble, trouble_of}
+use Rattle.mdb_driver_rules.specs.Description.{Rule, opens, updates, syncs, tells_time, stops, replied_rule, marking_rule, syncing_rule, rule_of, applied, change_by}
+use Rattle.mdb_driver_rules.specs.Publishing.{server_changed, topology_changed, topology_closed, publication, telling, told_by}
+use Rattle.mdb_driver_rules.proofs.LeavesAsItIs.{turn-append}
+use Rattle.mdb_driver_rules.proofs.General.OneElement.{any-position}
+use Rattle.mdb_driver_rules.proofs.StaysKnown.{none-gone, none-come, untouched}
+use Rattle.mdb_describe.proofs.SameAsItself.{filter-never, unchanged}
 use Rattle.mdb_log.specs.Opening.{pool_options}
-use Rattle.mdb_topology.specs.Touching.{is_ready_at}
+use Rattle.mdb_driver_rules.specs.Touching.{is_ready_at}
 use Rattle.mdb_laws.specs.Causes.{marks_of, changes}
 use Rattle.mdb_laws.proofs.Marks.{any-append, marks-append, touches}
 use Rattle.mdb_laws.proofs.Runs.{runs-spare}

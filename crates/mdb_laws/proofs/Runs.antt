@@ -9,11 +9,11 @@ use Rattle.mdb_describe.specs.Servers.{is_listed}
 use Rattle.mdb_events.specs.declared.fact.Fact.{Fact}
 use Rattle.mdb_log.specs.declared.options.PoolOptions.{PoolOptions}
 use Rattle.mdb_log.specs.History.{Item, open_pool, with_facts}
-use Rattle.mdb_log.proofs.Addresses.{own-address, same-address}
-use Rattle.mdb_pool.proofs.Answered.Item.{both-true}
-use Rattle.mdb_topology.specs.Turns.{in_turn}
-use Rattle.mdb_topology.proofs.General.Truth.{not-back, or-first, or-second}
-use Rattle.mdb_topology.proofs.WholeSteps.LeavesAsItIs.{with-append}
+use Rattle.mdb_describe.proofs.Addresses.{own-address, same-address}
+use Rattle.mdb_log.proofs.Bools.{both-true}
+use Rattle.mdb_driver_rules.specs.Turns.{in_turn}
+use Rattle.mdb_driver_rules.proofs.General.Truth.{not-back, or-first, or-second}
+use Rattle.mdb_driver_rules.proofs.LeavesAsItIs.{with-append}
 use Rattle.mdb_laws.specs.Causes.{Mark, marks_of}
 use Rattle.mdb_laws.proofs.Marks.{any-append, any-head, marks-append, is_opened, touches, Seen, spared, Below, below-facts}
 

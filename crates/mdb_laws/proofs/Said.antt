@@ -21,13 +21,13 @@ use Rattle.mdb_log.specs.Homes.{Home}
 use Rattle.mdb_log.specs.Requests.{queued}
 use Rattle.mdb_log.specs.State.{State, is_new, is_ready, is_paused, is_closed, state_of, ready}
 use Rattle.mdb_log.specs.Opening.{pool_options}
-use Rattle.mdb_pool.specs.Facts.{all_ends, clear_facts}
-use Rattle.mdb_pool.specs.Serving.{serving}
-use Rattle.mdb_topology.specs.Homes.{is_here}
-use Rattle.mdb_topology.specs.Monitors.{heartbeat}
-use Rattle.mdb_topology.specs.Errors.{Case, monitored, state_change, lost, Clear, nothing, whole, only, Trouble, asks}
-use Rattle.mdb_topology.specs.Facts.{clearing, asking}
-use Rattle.mdb_topology.proofs.OnePool.NumbersWithinLimits.{any_out, out-append, all-ends-free, serving-free, IsTame}
+use Rattle.mdb_pool_rules.specs.Facts.{all_ends, clear_facts}
+use Rattle.mdb_pool_rules.specs.Serving.{serving}
+use Rattle.mdb_driver_rules.specs.Homes.{is_here}
+use Rattle.mdb_driver_rules.specs.Monitors.{heartbeat}
+use Rattle.mdb_driver_rules.specs.Errors.{Case, monitored, state_change, lost, Clear, nothing, whole, only, Trouble, asks}
+use Rattle.mdb_driver_rules.specs.Facts.{clearing, asking}
+use Rattle.mdb_driver_rules.proofs.NumbersWithinLimits.{any_out, out-append, all-ends-free, serving-free, IsTame}
 use Rattle.mdb_laws.specs.Causes.{cleared, told_cleared, marks_of, clears}
 use Rattle.mdb_laws.proofs.Marks.{out-marks, if-so-state}
 

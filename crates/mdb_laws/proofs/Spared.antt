@@ -20,18 +20,18 @@ use Rattle.mdb_log.specs.History.{Item, did, made, PoolItem, created, closed, ch
 use Rattle.mdb_log.specs.State.{state_of, generation_of}
 use Rattle.mdb_log.specs.Homes.{Home, homes}
 use Rattle.mdb_log.specs.Opening.{pool_options}
-use Rattle.mdb_pool.specs.Serving.{serving}
+use Rattle.mdb_pool_rules.specs.Serving.{serving}
 use Rattle.mdb_topology.specs.declared.topology.TopologyCore.{TopologyCore}
-use Rattle.mdb_topology.specs.Homes.{home_of, begun}
-use Rattle.mdb_topology.specs.Current.{complaint_of}
-use Rattle.mdb_topology.specs.Description.{description_of, is_stopped, marking_rule, rule_after}
-use Rattle.mdb_topology.specs.Facts.{trouble, own_facts, serve_all, step_facts}
-use Rattle.mdb_topology.specs.OfServers.{is_of_server}
-use Rattle.mdb_topology.specs.Refusal.{refusal}
-use Rattle.mdb_topology.specs.Answer.{answer, answered, pool_reply}
+use Rattle.mdb_driver_rules.specs.Homes.{home_of, begun}
+use Rattle.mdb_driver_rules.specs.Current.{complaint_of}
+use Rattle.mdb_driver_rules.specs.Description.{description_of, is_stopped, marking_rule, rule_after}
+use Rattle.mdb_driver_rules.specs.Facts.{trouble, own_facts, serve_all, step_facts}
+use Rattle.mdb_driver_rules.specs.OfServers.{is_of_server}
+use Rattle.mdb_driver_rules.specs.Refusal.{refusal}
+use Rattle.mdb_driver_rules.specs.Answer.{answer, answered, pool_reply}
 use Rattle.mdb_topology.specs.Standing.{StandsFor}
-use Rattle.mdb_topology.proofs.OnePool.NumbersWithinLimits.{any_out, out-append, out-open, serving-free, act-free}
-use Rattle.mdb_topology.proofs.WholeSteps.TellsNothing.{plain-step}
+use Rattle.mdb_driver_rules.proofs.NumbersWithinLimits.{any_out, out-append, out-open, serving-free, act-free}
+use Rattle.mdb_driver_rules.proofs.TellsNothing.{plain-step}
 use Rattle.mdb_laws.specs.Stale.{is_stale_failure, after, SparesServer}
 use Rattle.mdb_laws.proofs.Stale.{outdated-none}
 

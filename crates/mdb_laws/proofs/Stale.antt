@@ -9,15 +9,15 @@ use Rattle.mdb_log.specs.declared.step.Act.TheVariants as Do
 use Rattle.mdb_log.specs.declared.reply.Reply.TheVariants.{Changed}
 use Rattle.mdb_log.specs.History.{Item}
 use Rattle.mdb_topology.specs.declared.topology.TopologyCore.{TopologyCore}
-use Rattle.mdb_topology.specs.Homes.{begun}
-use Rattle.mdb_topology.specs.Current.{Complaint, complaint_of, is_current}
-use Rattle.mdb_topology.specs.Errors.{complaint_trouble}
-use Rattle.mdb_topology.specs.Description.{description_of, is_stopped, marking_rule, rule_after}
-use Rattle.mdb_topology.specs.Facts.{trouble, step_facts}
-use Rattle.mdb_topology.specs.Refusal.{refusal}
-use Rattle.mdb_topology.specs.Answer.{answer, answered, changed_reply}
+use Rattle.mdb_driver_rules.specs.Homes.{begun}
+use Rattle.mdb_driver_rules.specs.Current.{Complaint, complaint_of, is_current}
+use Rattle.mdb_driver_rules.specs.Errors.{complaint_trouble}
+use Rattle.mdb_driver_rules.specs.Description.{description_of, is_stopped, marking_rule, rule_after}
+use Rattle.mdb_driver_rules.specs.Facts.{trouble, step_facts}
+use Rattle.mdb_driver_rules.specs.Refusal.{refusal}
+use Rattle.mdb_driver_rules.specs.Answer.{answer, answered, changed_reply}
 use Rattle.mdb_topology.specs.Standing.{StandsFor}
-use Rattle.mdb_topology.proofs.WholeSteps.TellsNothing.{stale-error}
+use Rattle.mdb_driver_rules.proofs.TellsNothing.{stale-error}
 use Rattle.mdb_topology.proofs.WholeSteps.CheckThenRule.{served-all}
 use Rattle.mdb_laws.specs.Alike.{IsWithoutEffect}
 use Rattle.mdb_laws.specs.Stale.{concerns_no_more, is_stale_error}

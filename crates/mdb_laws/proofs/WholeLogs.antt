@@ -13,12 +13,12 @@ use Rattle.mdb_log.specs.History.{Item, with_facts, with_answer, history_of}
 use Rattle.mdb_log.specs.Own.{IsAccepted}
 use Rattle.mdb_log.proofs.Later.{with_entries-append}
 use Rattle.mdb_topology.specs.declared.topology.TopologyCore.{TopologyCore}
-use Rattle.mdb_topology.specs.Answer.{answer, answered}
-use Rattle.mdb_topology.specs.Facts.{step_facts}
-use Rattle.mdb_topology.specs.Homes.{begun}
-use Rattle.mdb_topology.specs.Lines.{options_of, options_in, answer_after, entry_after}
+use Rattle.mdb_driver_rules.specs.Answer.{answer, answered}
+use Rattle.mdb_driver_rules.specs.Facts.{step_facts}
+use Rattle.mdb_driver_rules.specs.Homes.{begun}
+use Rattle.mdb_driver_rules.specs.Lines.{options_of, options_in, answer_after, entry_after}
 use Rattle.mdb_topology.specs.Logging.{opening_step, Stood, AreDriven, IsDriverOf}
-use Rattle.mdb_topology.specs.Refusal.{refusal}
+use Rattle.mdb_driver_rules.specs.Refusal.{refusal}
 use Rattle.mdb_topology.specs.Standing.{StandsFor}
 use Rattle.mdb_laws.specs.Causes.{TellsCauses, HasCauses}
 use Rattle.mdb_laws.specs.Logs.{TellsByReply, AnswerTells, EntriesTellCauses, TellsAllCauses}

@@ -13,10 +13,10 @@ use Rattle.mdb_log.specs.Requests.{queued, waiting, asked_at, outcome_of, some_a
 use Rattle.mdb_log.specs.State.{state_of, generation_of, generation_before, is_stale, is_idle, is_interrupted, could_be_granted}
 use Rattle.mdb_log.specs.Homes.{homes}
 use Rattle.mdb_log.specs.Opening.{pool_options}
-use Rattle.mdb_pool.specs.Facts.{close_reason, perished}
-use Rattle.mdb_topology.specs.Monitors.{monitor_items, fresh, watchers_of, average, check_count}
-use Rattle.mdb_topology.specs.Description.{description_of, published, is_stopped, changed}
-use Rattle.mdb_topology.specs.Answer.{answer}
+use Rattle.mdb_pool_rules.specs.Facts.{close_reason, perished}
+use Rattle.mdb_driver_rules.specs.Monitors.{monitor_items, fresh, watchers_of, average, check_count}
+use Rattle.mdb_driver_rules.specs.Description.{description_of, published, is_stopped, changed}
+use Rattle.mdb_driver_rules.specs.Answer.{answer}
 
 -- of each connection of each pool: that it lives, its four places, its service and wire version, what decides on its close, and the reason for one
 pub record ConnectionsAlike (o : PoolOptions) (h k : List Item) : Type 0 where

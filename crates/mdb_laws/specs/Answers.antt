@@ -4,8 +4,8 @@ use Rattle.mdb_log.specs.declared.log.Entry.{Entry}
 use Rattle.mdb_log.specs.History.{of_pool, history_of}
 use Rattle.mdb_log.specs.Homes.{Home}
 use Rattle.mdb_log.specs.Requests.{outcome_of}
-use Rattle.mdb_topology.specs.Homes.{home_of}
-use Rattle.mdb_topology.specs.Lines.{entry_after}
+use Rattle.mdb_driver_rules.specs.Homes.{home_of}
+use Rattle.mdb_driver_rules.specs.Lines.{entry_after}
 
 -- The entry is the answer to its step after the log, whichever seat made it.
 abbrev pub IsAnswer : List Entry → Entry → Type 0

@@ -17,11 +17,11 @@ use Rattle.mdb_log.specs.Connections.{one_if}
 use Rattle.mdb_log.specs.Homes.{homes}
 use Rattle.mdb_log.specs.State.{state_of, ready, generation_of}
 use Rattle.mdb_log.specs.Opening.{pool_options}
-use Rattle.mdb_topology.specs.Errors.{Clear, nothing, whole, only, Trouble}
-use Rattle.mdb_topology.specs.Description.{description_of, rule_after, applied, change_by}
-use Rattle.mdb_topology.specs.Facts.{trouble, clear_of}
-use Rattle.mdb_topology.specs.Touching.{is_ready_at}
-use Rattle.mdb_topology.specs.Answer.{answer}
+use Rattle.mdb_driver_rules.specs.Errors.{Clear, nothing, whole, only, Trouble}
+use Rattle.mdb_driver_rules.specs.Description.{description_of, rule_after, applied, change_by}
+use Rattle.mdb_driver_rules.specs.Facts.{trouble, clear_of}
+use Rattle.mdb_driver_rules.specs.Touching.{is_ready_at}
+use Rattle.mdb_driver_rules.specs.Answer.{answer}
 
 -- What becomes of a pool as a whole.
 pub data Mark : Type 0 where

@@ -17,7 +17,7 @@ use Rattle.mdb_log.specs.Connections.{has, pending_list, available_list, holding
 use Rattle.mdb_log.specs.Requests.{waiting}
 use Rattle.mdb_log.specs.Legal.{first}
 use Rattle.mdb_log.specs.State.{is_closed, state_of, ready, is_stale, is_idle}
-use Rattle.mdb_pool.specs.Serving.{last_of}
+use Rattle.mdb_pool_rules.specs.Serving.{last_of}
 use Rattle.mdb_sound.specs.Sound.{just_failed}
 
 -- the first of the reasons whose test holds

@@ -11,7 +11,7 @@ use Rattle.mdb_log.specs.History.{Item, PoolItem, granted, taken, returned, ende
 use Rattle.mdb_log.specs.Connections.{live, pending, available, held, pinned, created_total}
 use Rattle.mdb_log.specs.Requests.{queued, end_of}
 use Rattle.mdb_log.specs.State.{state_of, ready, generation_of}
-use Rattle.mdb_pool.specs.Facts.{clear_facts, readied}
+use Rattle.mdb_pool_rules.specs.Facts.{clear_facts, readied}
 use Rattle.mdb_sound.specs.Counts.{creations, closings, establishings, names, creates}
 use Rattle.mdb_sound.specs.Laws.{RequestLaws, InOrder}
 

@@ -8,7 +8,7 @@ use Rattle.mdb_log.specs.declared.step.Step.{Step}
 use Rattle.mdb_log.specs.Answer.{Answer}
 use Rattle.mdb_log.specs.History.{Item, with_answer}
 use Rattle.mdb_log.specs.Own.{IsAccepted}
-use Rattle.mdb_topology.specs.Lines.{options_of}
+use Rattle.mdb_driver_rules.specs.Lines.{options_of}
 use Rattle.mdb_laws.specs.Alike.{IsWithoutEffectBy}
 use Rattle.mdb_laws.specs.Causes.{TellsCauses}
 use Rattle.mdb_laws.specs.Stale.{is_stale_error, is_stale_failure, SparesServerBy}

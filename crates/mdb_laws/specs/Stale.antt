@@ -11,11 +11,11 @@ use Rattle.mdb_log.specs.Answer.{Answer}
 use Rattle.mdb_log.specs.History.{Item, of_pool, open_pool, with_answer}
 use Rattle.mdb_log.specs.State.{state_of, generation_of}
 use Rattle.mdb_log.specs.Opening.{pool_options}
-use Rattle.mdb_topology.specs.Homes.{begun}
-use Rattle.mdb_topology.specs.Current.{Complaint, complaint_of, is_current}
-use Rattle.mdb_topology.specs.Description.{description_of}
-use Rattle.mdb_topology.specs.OfServers.{is_of_server}
-use Rattle.mdb_topology.specs.Answer.{answer}
+use Rattle.mdb_driver_rules.specs.Homes.{begun}
+use Rattle.mdb_driver_rules.specs.Current.{Complaint, complaint_of, is_current}
+use Rattle.mdb_driver_rules.specs.Description.{description_of}
+use Rattle.mdb_driver_rules.specs.OfServers.{is_of_server}
+use Rattle.mdb_driver_rules.specs.Answer.{answer}
 
 -- there is a complaint, and it is not current
 abbrev pub concerns_no_more : Options → List Item → TopologyDescription → Option Complaint → Bool

@@ -4,7 +4,7 @@ ghost use Rattle.std.specs.Prelude.{◌≡◌, List, None, true};
 ghost use Rattle.mdb_log.specs.declared.step.Step.{Step};
 ghost use Rattle.mdb_log.specs.History.{Item};
 ghost use Rattle.mdb_topology.specs.declared.topology.TopologyCore.{TopologyCore};
-ghost use Rattle.mdb_topology.specs.Refusal.{refusal};
+ghost use Rattle.mdb_driver_rules.specs.Refusal.{refusal};
 ghost use Rattle.mdb_topology.specs.Standing.{StandsFor};
 ghost use Rattle.mdb_laws.specs.Alike.{IsWithoutEffect};
 ghost use Rattle.mdb_laws.specs.Stale.{is_stale_error, is_stale_failure, SparesServer};

@@ -11,8 +11,9 @@ ghost use Rattle.mdb_log.specs.Homes.{homes};
 ghost use Rattle.mdb_log.specs.Opening.{pool_options};
 ghost use Rattle.mdb_log.specs.Requests.{is_open};
 ghost use Rattle.mdb_log.specs.State.{generation_before};
-ghost use Rattle.mdb_pool.specs.Available.{available_records};
-ghost use Rattle.mdb_topology.specs.Standing.{IsGone, StandsFor};
+ghost use Rattle.mdb_pool_rules.specs.Available.{available_records};
+ghost use Rattle.mdb_topology.specs.Standing.{StandsFor};
+ghost use Rattle.mdb_driver_pools.specs.Standing.{IsGone};
 
 use mdb_pool::ConnectionGeneration;
 use mdb_slots::SlotTable;

@@ -6,7 +6,7 @@ ghost use Rattle.mdb_log.specs.declared.step.Step.{Step};
 ghost use Rattle.mdb_log.specs.Acts.{IsDriverAct};
 ghost use Rattle.mdb_log.specs.History.{Item};
 ghost use Rattle.mdb_topology.specs.declared.topology.TopologyCore.{TopologyCore};
-ghost use Rattle.mdb_topology.specs.Answer.{answer};
+ghost use Rattle.mdb_driver_rules.specs.Answer.{answer};
 ghost use Rattle.mdb_topology.specs.Logging.{IsDriverOf};
 ghost use Rattle.mdb_topology.specs.Standing.{StandsFor};
 ghost use Rattle.mdb_histories.specs.SoundHistory.{SoundHistory};

@@ -5,7 +5,7 @@ ghost use Rattle.mdb_log.specs.declared.step.Step.{Step};
 ghost use Rattle.mdb_log.specs.Acts.{IsDriverAct};
 ghost use Rattle.mdb_log.specs.History.{Item};
 ghost use Rattle.mdb_topology.specs.declared.topology.TopologyCore.{TopologyCore};
-ghost use Rattle.mdb_topology.specs.Refusal.{refusal};
+ghost use Rattle.mdb_driver_rules.specs.Refusal.{refusal};
 ghost use Rattle.mdb_topology.specs.Standing.{StandsFor};
 ghost use Rattle.mdb_laws.specs.Causes.{HasCauses};
 

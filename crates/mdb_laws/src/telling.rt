@@ -7,7 +7,7 @@ ghost use Rattle.mdb_log.specs.Driver.{tells_outcome};
 ghost use Rattle.mdb_log.specs.History.{history_of};
 ghost use Rattle.mdb_log.specs.Requests.{asks_how, told};
 ghost use Rattle.mdb_topology.specs.declared.topology.TopologyCore.{TopologyCore};
-ghost use Rattle.mdb_topology.specs.Lines.{log_of};
+ghost use Rattle.mdb_driver_rules.specs.Lines.{log_of};
 ghost use Rattle.mdb_topology.specs.Logging.{IsDriverOf};
 ghost use Rattle.mdb_laws.specs.Answers.{IsAnswer, AreAnswers, TellsOutcome};
 

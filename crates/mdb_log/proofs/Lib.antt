@@ -1,6 +1,5 @@
 pub mod Bools
 pub mod Numbers
-pub mod Addresses
 pub mod Pins
 pub mod Frame
 pub mod Later

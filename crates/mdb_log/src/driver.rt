@@ -1,6 +1,6 @@
 //! What a core of many pools is to those who step it.
 
-ghost use Rattle.std.specs.Prelude.{◌≡◌, ◌≤◌, ℕ, IsTrue, List, [], ◌∷◌, ◌++◌, Option, IfOk, OnOk, OnErr};
+ghost use Rattle.std.specs.Prelude.{◌≡◌, ◌≤◌, ℕ, IsTrue, List, [], ◌∷◌, ◌++◌, Option, IfOk, OnErr};
 ghost use Rattle.mdb_describe.specs.declared.topology.TopologyDescription.{TopologyDescription};
 ghost use Rattle.mdb_log.specs.declared.log.Entry.{Entry};
 ghost use Rattle.mdb_log.specs.declared.job.Job.{Job};

@@ -1,6 +1,6 @@
 //! Logs of steps.
 
-ghost use Rattle.std.specs.Prelude.{◌≡◌, ◌++◌, ◌∷◌, [], OnOk, OnErr};
+ghost use Rattle.std.specs.Prelude.{◌≡◌, ◌++◌, ◌∷◌, [], OnOk, OnErr, IfOk};
 
 use super::{Reply, Step};
 use mdb_base::Items;
@@ -90,6 +90,31 @@ impl Log {
                 reply,
                 facts: Items::new(facts),
             }),
+            Err(e) => {
+                drop(reply);
+                drop(facts);
+                Err(e)
+            }
+        }
+    }
+
+    /// One entry more, as by `enter`. The answer is a copy of the reply.
+    pub fn answer(
+        &mut self,
+        seat: u32,
+        step: &Step,
+        reply: Reply,
+        facts: Vec<Fact>,
+    ) -> Result<Reply, AllocError>
+        ensures entry { OnOk result (self.new ≡ self.old ++ record { seat = seat; step = step.now; reply = reply; facts = facts.items } ∷ []) }
+        ensures reply { IfOk result (λ told. told ≡ reply) }
+        ensures err { OnErr result (self.new ≡ self.old) }
+    {
+        match reply.clone() {
+            Ok(told) => {
+                self.enter(seat, step, reply, facts)?;
+                Ok(told)
+            }
             Err(e) => {
                 drop(reply);
                 drop(facts);

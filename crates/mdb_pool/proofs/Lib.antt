@@ -7,4 +7,3 @@ pub mod NothingServed
 pub mod Histories
 pub mod Told
 pub mod KeptInLittle
-pub mod Worked

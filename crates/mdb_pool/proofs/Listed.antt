@@ -1,8 +1,6 @@
 -- Lists of values that are named by a number, and walks along them.
-pub mod Values
 pub mod Beside
 pub mod FirstOrLast
-pub mod Last
 pub mod WalksForth
 pub mod WalkBack
 pub mod Noted

@@ -1,5 +1,3 @@
 -- Where nobody is queued there is nothing to serve.
-pub mod AfterClearOrClose
 pub mod NobodyQueued
 pub mod KeptByActs
-pub mod KeptByFacts

@@ -1,5 +1,4 @@
 -- What a pool tells of itself.
 pub mod OfItems
-pub mod OrderOfIds
 pub mod ServicesOfClears
 pub mod JobGenerations

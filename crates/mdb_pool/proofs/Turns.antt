@@ -1,7 +1,5 @@
 -- What is done one after another: serving, ends, closes, walks.
 pub mod Serve
-pub mod NoMove
-pub mod Fair
 pub mod CallsInOneStep
 pub mod End
 pub mod EndFacts

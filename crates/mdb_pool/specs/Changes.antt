@@ -6,7 +6,7 @@ use Rattle.mdb_base.specs.declared.error.Error.{Error}
 use Rattle.mdb_base.specs.Errors.{is_timeout}
 use Rattle.mdb_pool.specs.declared.kept.status.Status.{Status}
 use Rattle.mdb_pool.specs.declared.kept.status.Status.TheVariants.{New, Ready, Paused, Closed}
-use Rattle.mdb_pool.specs.Facts.{new_pool_error, checked_in_fact, checked_out_fact, checkout_failed_fact, failure_of, closed_fact, created_fact, pool_closed_fact, pool_ready_fact}
+use Rattle.mdb_pool_rules.specs.Facts.{new_pool_error, checked_in_fact, checked_out_fact, checkout_failed_fact, failure_of, closed_fact, created_fact, pool_closed_fact, pool_ready_fact}
 use Rattle.mdb_events.specs.declared.reasons.ConnectionClosedReason.{ConnectionClosedReason}
 use Rattle.mdb_events.specs.declared.reasons.ConnectionClosedReason.TheVariants.{PoolClosed as PoolClosedReason}
 use Rattle.mdb_events.specs.declared.end.End.{End}

@@ -11,11 +11,11 @@ use Rattle.mdb_log.specs.Legal.{AllFirstCome}
 use Rattle.mdb_log.specs.Limits.{WithinLimits}
 use Rattle.mdb_log.specs.Own.{AllOwn, shuts}
 use Rattle.mdb_pool.specs.Core.{PoolCore}
-use Rattle.mdb_pool.specs.Answer.{all_facts}
-use Rattle.mdb_pool.specs.Facts.{clear_facts}
+use Rattle.mdb_pool_rules.specs.Answer.{all_facts}
+use Rattle.mdb_pool_rules.specs.Facts.{clear_facts}
 use Rattle.mdb_pool.specs.Kept.{is_shut}
-use Rattle.mdb_pool.specs.Quiet.{IsQuiet}
-use Rattle.mdb_pool.specs.Serving.{IsServed}
+use Rattle.mdb_pool_rules.specs.Quiet.{IsQuiet}
+use Rattle.mdb_pool_rules.specs.Serving.{IsServed}
 use Rattle.mdb_pool.specs.Standing.{Fits, SameHome, Accepts}
 
 -- what the pool knows is ws: a clear made the facts of the first list and a failure those of the second, in this order, and the state fits the items behind them

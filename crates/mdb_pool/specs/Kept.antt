@@ -268,6 +268,10 @@ clears_for t ks = count_by (λ k. same_service k.service t) ks
 abbrev pub clears_before : ℕ → Option ObjectId → List Clear → ℕ
 clears_before c t ks = count_by (λ k. same_service k.service t && nat_lt k.after c) ks
 
+-- how often the pool was cleared so before the connection was created, 0 where it isn't live
+abbrev pub count_at : PoolCore → ℕ → Option ObjectId → ℕ
+count_at s c t = if is_some (connection_at s c) then clears_before c t s.clears else 0
+
 -- such a clear came after the connection was created
 abbrev pub cleared_since : ℕ → Option ObjectId → List Clear → Bool
 cleared_since c t ks = list_any (λ k. same_service k.service t && not (nat_lt k.after c)) ks

@@ -1,12 +1,7 @@
 pub mod Inner
 pub mod Core
-pub mod Refusal
-pub mod Facts
-pub mod Serving
-pub mod Answer
 pub mod Keyed
 pub mod Places
-pub mod Available
 pub mod Kept
 pub mod Asking
 pub mod Claiming
@@ -15,9 +10,7 @@ pub mod Connecting
 pub mod Refusing
 pub mod Changes
 pub mod Matching
-pub mod Jobs
 pub mod Standing
-pub mod Quiet
 pub mod Planning
 pub mod Composing
 pub mod Body

@@ -15,8 +15,8 @@ use Rattle.mdb_log.specs.Legal.{NoneLeftWaiting}
 use Rattle.mdb_pool.specs.Body.{PoolSteps, PoolFits, led}
 use Rattle.mdb_pool.specs.Core.{PoolCore, SameKept}
 use Rattle.mdb_pool.specs.declared.planning.Answered.{Answered}
-use Rattle.mdb_pool.specs.Answer.{answer}
-use Rattle.mdb_pool.specs.Refusal.{refusal_of}
+use Rattle.mdb_pool_rules.specs.Answer.{answer}
+use Rattle.mdb_pool_rules.specs.Refusal.{refusal_of}
 use Rattle.mdb_pool.specs.Refusing.{refusal_now}
 use Rattle.mdb_pool.specs.Standing.{Fits, SameHome, StandsFor, Accepts}
 

@@ -11,7 +11,7 @@ use Rattle.mdb_log.specs.declared.reply.Refused.TheVariants.{TimeBack, UnknownSe
 use Rattle.mdb_log.specs.History.{service_in}
 use Rattle.mdb_pool.specs.Core.{PoolCore}
 use Rattle.mdb_pool.specs.Kept.{request_at, connection_at, held_connection, is_open_now, is_pending_at, is_held_at, is_shut, pins_at, exhausted_now}
-use Rattle.mdb_pool.specs.Refusal.{first_row, wrong_service}
+use Rattle.mdb_pool_rules.specs.Refusal.{first_row, wrong_service}
 
 -- the pool is open, and this is its address
 abbrev pub is_here : PoolCore → ServerAddress → Bool

@@ -12,8 +12,8 @@ use Rattle.mdb_log.specs.History.{Item, PoolItem, open_pool, last_moment, has_pa
 use Rattle.mdb_log.specs.Connections.{available_list, has}
 use Rattle.mdb_log.specs.Requests.{queued, names_party, some_act, told, was_asked, leaves, is_open, is_claimed, requests, settles, is_job}
 use Rattle.mdb_log.specs.State.{min_size}
-use Rattle.mdb_pool.specs.Serving.{serving, IsServed}
-use Rattle.mdb_pool.specs.Answer.{reply_of, all_facts, answer, entries_for}
+use Rattle.mdb_pool_rules.specs.Serving.{serving, IsServed}
+use Rattle.mdb_pool_rules.specs.Answer.{reply_of, all_facts, answer, entries_for}
 use Rattle.mdb_log.specs.Legal.{NoneLeftWaiting, AllFirstCome, IsFairAnswer, IsLegal}
 use Rattle.mdb_log.specs.Own.{AllOwn, shuts, IsAccepted}
 use Rattle.mdb_log.specs.Limits.{WithinLimits}
@@ -24,7 +24,7 @@ use Rattle.mdb_base.specs.Equality.{same_address}
 use Rattle.mdb_base.specs.declared.error.Error.{Error}
 use Rattle.mdb_events.specs.declared.end.End.{End}
 use Rattle.mdb_events.specs.declared.end.End.TheVariants.{TimedOut}
-use Rattle.mdb_pool.specs.Facts.{all_ends, overdue, clear_facts, sweep, fill}
+use Rattle.mdb_pool_rules.specs.Facts.{all_ends, overdue, clear_facts, sweep, fill}
 
 -- The state of a pool is that of the pool's items.
 pub record Fits (s : PoolCore) (xs : List PoolItem) : Type 0 where

@@ -9,11 +9,11 @@ ghost use Rattle.mdb_log.specs.declared.step.Step.{Step};
 ghost use Rattle.mdb_log.specs.declared.step.Act.TheVariants.{Ready, Clear, Close};
 ghost use Rattle.mdb_log.specs.History.{Item, PoolItem, of_pool, opening, with_answer};
 ghost use Rattle.mdb_pool.specs.Core.{PoolCore};
-ghost use Rattle.mdb_pool.specs.Answer.{all_facts, answer};
+ghost use Rattle.mdb_pool_rules.specs.Answer.{all_facts, answer};
 ghost use Rattle.mdb_pool.specs.Composing.{ClearThenFailure};
-ghost use Rattle.mdb_pool.specs.Facts.{readied, clear_facts, close_facts};
-ghost use Rattle.mdb_pool.specs.Quiet.{IsQuiet};
-ghost use Rattle.mdb_pool.specs.Serving.{IsServed};
+ghost use Rattle.mdb_pool_rules.specs.Facts.{readied, clear_facts, close_facts};
+ghost use Rattle.mdb_pool_rules.specs.Quiet.{IsQuiet};
+ghost use Rattle.mdb_pool_rules.specs.Serving.{IsServed};
 ghost use Rattle.mdb_pool.specs.Standing.{StandsFor};
 
 /// A pool that is not ready has nobody queued: so it is when it is made, and after each answer. So the serving that follows a mark as ready, a clear or a

@@ -12,7 +12,8 @@ impl PoolCore {
     ghost use Rattle.std.specs.List.{list_any};
     ghost use Rattle.mdb_log.specs.Requests.{is_claimed};
     ghost use Rattle.mdb_pool.specs.Kept.{connection_at, first_unclaimed};
-    ghost use Rattle.mdb_pool.specs.Jobs.{count_at, items_before, generations, job_in};
+    ghost use Rattle.mdb_pool_rules.specs.Jobs.{items_before, generations, job_in};
+    ghost use Rattle.mdb_pool.specs.Kept.{count_at};
     ghost use Rattle.mdb_log.specs.History.{Item, PoolItem, of_pool};
     ghost use Rattle.mdb_log.specs.Connections.{has, pending_list};
     ghost use Rattle.mdb_pool.specs.Standing.{Fits, StandsFor, StandsIn};

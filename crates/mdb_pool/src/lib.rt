@@ -17,4 +17,3 @@ pub use mdb_log::{
     PoolGeneration, PoolOptions, PoolStamp, PooledConnection, Refused, Reply, Step, Use, What,
 };
 pub use pool_core::PoolCore;
-pub use steps::entering::enter;

@@ -1,6 +1,6 @@
 //! The core of one pool.
 
-ghost use Rattle.std.specs.Prelude.{◌≡◌, IfOk, true, false, is_some, nat_lt, option_copied, None, List, if◌then◌else◌, ◌&&◌};
+ghost use Rattle.std.specs.Prelude.{◌≡◌, true, false, is_some, nat_lt, option_copied, None, List, if◌then◌else◌, ◌&&◌};
 
 use crate::kept::body::Body;
 use crate::kept::connections::Connections;
@@ -39,7 +39,7 @@ impl PoolCore {
     ghost use Rattle.mdb_log.specs.Requests.{is_open};
     ghost use Rattle.mdb_log.specs.State.{state_of};
     ghost use Rattle.mdb_pool.specs.Standing.{Fits, StandsFor, StandsIn};
-    ghost use Rattle.mdb_pool.specs.Available.{available_records};
+    ghost use Rattle.mdb_pool_rules.specs.Available.{available_records};
     ghost use Rattle.mdb_slots.specs.Items.{records_of};
     ghost use Rattle.mdb_slots.specs.Slots.{listing};
     ghost use Rattle.mdb_log.specs.Legal.{NoneLeftWaiting};

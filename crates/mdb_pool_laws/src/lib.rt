@@ -4,22 +4,15 @@
 ghost use Rattle.std.specs.Prelude.{List};
 ghost use Rattle.mdb_log.specs.declared.step.Step.{Step};
 ghost use Rattle.mdb_log.specs.Fresh.{AllGrantFresh};
-ghost use Rattle.mdb_log.specs.History.{Item, of_pool, with_act, with_answer};
+ghost use Rattle.mdb_log.specs.History.{Item, of_pool, with_act};
 ghost use Rattle.mdb_log.specs.Legal.{OnePlace};
-ghost use Rattle.mdb_log.specs.Limits.{WithinLimits};
-ghost use Rattle.mdb_pool.specs.Answer.{answer};
+ghost use Rattle.mdb_pool_rules.specs.Answer.{answer};
 ghost use Rattle.mdb_pool.specs.Core.{PoolCore};
 ghost use Rattle.mdb_pool.specs.Standing.{StandsFor};
 
 /// Where a pool stands for a history, as it does after each of its calls, every connection is pending, available, held by one party or at one pin as often as it is live, which is at most once (CMAP, "Connection").
 pub fn pools_have_one_place()
     ensures { (s : PoolCore) (h : List Item) → StandsFor s h → OnePlace (of_pool s.pool h) }
-{}
-
-/// The answer to a step keeps a pool within its limits at every item: at most `max_connecting` connections are pending, and at most the greater of the two sizes live (CMAP, "Connection Pool Options").
-pub fn answers_keep_limits()
-    ensures { (s : PoolCore) (h : List Item) (step : Step) → WithinLimits s.options (of_pool s.pool h)
-        → WithinLimits s.options (of_pool s.pool (with_answer step (answer s.pool s.address s.options h step).reply (answer s.pool s.address s.options h step).facts h)) }
 {}
 
 /// No grant of an answer gives an available connection that is stale or idle (CMAP, "Checking Out a Connection").

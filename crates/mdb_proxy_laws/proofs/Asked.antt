@@ -13,7 +13,7 @@ use Rattle.mdb_log.specs.declared.step.Act.TheVariants as act
 use Rattle.mdb_log.specs.declared.reply.Reply.{Reply}
 use Rattle.mdb_log.specs.Driver.{is_refusal, IsEntry}
 use Rattle.mdb_log.specs.History.{history_of, last_moment}
-use Rattle.mdb_log.proofs.Addresses.{own-address}
+use Rattle.mdb_describe.proofs.Addresses.{own-address}
 use Rattle.mdb_proxies.specs.declared.asked.Asked.{Asked}
 use Rattle.mdb_proxies.specs.declared.step.ProxyAct.{ProxyAct}
 use Rattle.mdb_proxies.specs.declared.step.ProxyAct.TheVariants.{Ask, Collect, Finish, Pass}

@@ -23,10 +23,10 @@ use Rattle.mdb_log.specs.Opening.{pool_options}
 use Rattle.mdb_pool.specs.Core.{PoolCore}
 use Rattle.mdb_pool.specs.Kept.{is_shut}
 use Rattle.mdb_topology.specs.declared.topology.TopologyCore.{TopologyCore}
-use Rattle.mdb_topology.specs.Lines.{entry_after}
+use Rattle.mdb_driver_rules.specs.Lines.{entry_after}
 use Rattle.mdb_topology.specs.Logging.{opening_step, Stood, AreDriven, IsDriverOf}
-use Rattle.mdb_topology.specs.Standing.{home, is_open_at, at_address, PoolsFit}
-use Rattle.mdb_topology.proofs.General.OneElement.{position-at, position-within}
+use Rattle.mdb_driver_pools.specs.Standing.{home, is_open_at, at_address, PoolsFit}
+use Rattle.mdb_driver_rules.proofs.General.OneElement.{position-at, position-within}
 use Rattle.mdb_histories.proofs.OfPlain.Frames.{asks, asked-act}
 use Rattle.mdb_proxies.proofs.Bools.{left, right}
 use Rattle.mdb_proxies.proofs.Within.{same-address}

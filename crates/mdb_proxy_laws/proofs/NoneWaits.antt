@@ -1,6 +1,6 @@
 -- Over a driver nobody waits because of the connections of another.
 use Rattle.std.proofs.Common.{ℕ, ◌≡◌, ◌≢◌, ◌+◌, ◌≤◌, ◌<◌, ◌==◌, inl, inr, Bool, true, false, not, ◌&&◌, ◌||◌, List, [], ◌∷◌, ◌++◌, length, Option, Some, None, is_some, refl, sym, ◌∙◌, ap, subst, arith, nat_lt, nat_le}
-use Rattle.std.specs.Prelude.{sum, slice_get}
+use Rattle.std.specs.Prelude.{sum}
 use Rattle.std.specs.List.{list_any}
 use Rattle.std.proofs.lemmas.Bool.Decides.{Decides-eqb, Decides-ltb, nat_tests}
 use Rattle.mdb_base.specs.declared.address.ServerAddress.{ServerAddress}
@@ -9,7 +9,7 @@ use Rattle.mdb_log.specs.declared.options.PoolOptions.{PoolOptions}
 use Rattle.mdb_log.specs.declared.step.Act.{Act}
 use Rattle.mdb_log.specs.declared.step.Act.TheVariants as act
 use Rattle.mdb_log.specs.declared.reply.Reply.{Reply}
-use Rattle.mdb_log.specs.History.{Item, PoolItem, of_pool, given, has_asked, has_taken, is_number, history_of}
+use Rattle.mdb_log.specs.History.{PoolItem, of_pool, given, has_asked, has_taken, is_number, history_of}
 use Rattle.mdb_log.specs.Connections.{has, live_total, created_total, pending_list, available_list}
 use Rattle.mdb_log.specs.Requests.{queued, waiting, is_warm, end_of}
 use Rattle.mdb_log.specs.State.{ready, state_of, max_size, max_connecting, may_create, is_empty, could_be_granted}
@@ -27,10 +27,7 @@ use Rattle.mdb_sound.specs.Counts.{was_granted}
 use Rattle.mdb_sound.proofs.Once.{OnceEach, once}
 use Rattle.mdb_topology.specs.declared.topology.TopologyCore.{TopologyCore}
 use Rattle.mdb_topology.specs.Logging.{IsDriverOf}
-use Rattle.mdb_topology.specs.Standing.{PoolFits, PoolsStand}
-use Rattle.mdb_pool.specs.Core.{PoolCore}
-use Rattle.mdb_pool.proofs.Histories.OnePlaceEach.{one-place}
-use Rattle.mdb_pool.proofs.Turns.NoMove.{served-settled}
+use Rattle.mdb_driver_pools.proofs.Orderly.{orderly}
 use Rattle.mdb_histories.specs.SoundHistory.{SoundHistory}
 use Rattle.mdb_histories.proofs.Logs.{driver-sound}
 use Rattle.mdb_histories.proofs.Parties.{each-sound}
@@ -225,18 +222,6 @@ within-now o (y ∷ ys) w = w.0
 shares-fit : (shares : List ℕ) (max : ℕ) → are_shares shares max ≡ true → sum shares ≤ max
 shares-fit shares max e = let k : nat_le (sum shares) max ≡ true = right _ (nat_le (sum shares) max) e in grind (arith, nat_tests)
 
--- a pool that isn't there is in order
-nothing-placed : OnePlace []
-nothing-placed c = (refl, omega arith)
-
--- every pool is in order
-in-order : (o : PoolOptions) (pools : List PoolCore) (h : List Item) → PoolsStand o pools h → (p : ℕ) → OnePlace (of_pool p h) × NoneLeftWaiting o (of_pool p h)
-in-order o pools h z p = on (slice_get pools p) refl
-  where
-    on : (a : Option PoolCore) → slice_get pools p ≡ a → OnePlace (of_pool p h) × NoneLeftWaiting o (of_pool p h)
-    on None e = let k : of_pool p h ≡ [] = z.fit.rest p e in (subst OnePlace (sym k) nothing-placed, subst (NoneLeftWaiting o) (sym k) (inl refl))
-    on (Some s) e = let d : PoolFits o h p s = z.fit.each p s e in (one-place s (of_pool p h) d.fits.matches, served-settled o (of_pool p h) (z.served p) s.address)
-
 -- A proxy that keeps its shares, whose log is a driver's and asked for by its asks.
 kept-waits : (w : TopologyCore) (first : Entry) (later : List Entry) (xs : List Asked) (shares : List ℕ) → IsDriverOf w (first ∷ later) → EachAsked (first ∷ later) xs later → ((t : ℕ) (a : ServerAddress) → charge xs (first ∷ later) t a ≤ share_of shares t)
     → sum shares ≤ max_size (pool_options w.options) → WaitsForNone (pool_options w.options) (history_of (first ∷ later))
@@ -244,7 +229,7 @@ kept-waits w first later xs shares z each within fits p on-line ne =
     let o : PoolOptions = pool_options w.options in
     let ys : List PoolItem = of_pool p (history_of (first ∷ later)) in
     let caller = first-queued ys ne in
-    let order : OnePlace ys × NoneLeftWaiting o ys = in-order o w.pools.cores.items (history_of (first ∷ later)) z.stands.pools p in
+    let order : OnePlace ys × NoneLeftWaiting o ys = orderly o w.pools.cores.items (history_of (first ∷ later)) z.stands.pools p in
     let limits : IsWithin o ys = within-now o ys (z.stands.pools.within p) in
     elim order.1 [
       | inl none ↦ absurd (ne none)

@@ -15,14 +15,14 @@ use Rattle.mdb_log.specs.Requests.{queued, is_warm}
 use Rattle.mdb_log.specs.State.{state_of, ready, may_create}
 use Rattle.mdb_log.specs.Homes.{Home, homes}
 use Rattle.mdb_log.specs.Opening.{pool_options}
-use Rattle.mdb_pool.specs.Facts.{perished}
-use Rattle.mdb_pool.specs.Serving.{last_of, candidate, wants_connection, caller_move, meet, warm_move, move_for, next_move, serve, serving}
-use Rattle.mdb_topology.specs.Description.{description_of, rule_after}
-use Rattle.mdb_topology.specs.Facts.{trouble, clear_of, clearing, asking, own_facts, serve_all, parts, step_facts}
-use Rattle.mdb_topology.specs.Homes.{home_of, begun}
-use Rattle.mdb_topology.specs.Monitors.{heartbeat}
-use Rattle.mdb_topology.specs.Publishing.{told_by}
-use Rattle.mdb_topology.specs.Turns.{in_turn}
+use Rattle.mdb_pool_rules.specs.Facts.{perished}
+use Rattle.mdb_pool_rules.specs.Serving.{last_of, candidate, wants_connection, caller_move, meet, warm_move, move_for, next_move, serve, serving}
+use Rattle.mdb_driver_rules.specs.Description.{description_of, rule_after}
+use Rattle.mdb_driver_rules.specs.Facts.{trouble, clear_of, clearing, asking, own_facts, serve_all, parts, step_facts}
+use Rattle.mdb_driver_rules.specs.Homes.{home_of, begun}
+use Rattle.mdb_driver_rules.specs.Monitors.{heartbeat}
+use Rattle.mdb_driver_rules.specs.Publishing.{told_by}
+use Rattle.mdb_driver_rules.specs.Turns.{in_turn}
 use Rattle.mdb_topology.proofs.OfMonitors.FactsOfCheck.{heartbeat-calm}
 use Rattle.mdb_histories.proofs.Troubles.{asking-calm}
 use Rattle.mdb_proxy_laws.proofs.Uncreating.{IsUncreating, AreUncreating, is_maintaining, calm-uncreating, act-uncreating}

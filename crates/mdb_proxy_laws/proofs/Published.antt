@@ -14,11 +14,11 @@ use Rattle.mdb_events.specs.declared.fact.Fact.TheVariants.{Sdam}
 use Rattle.mdb_events.specs.declared.sdam.SdamEvent.TheVariants.{ServerDescriptionChanged}
 use Rattle.mdb_log.specs.History.{Item, of_pool, open_pool}
 use Rattle.mdb_log.specs.Opening.{pool_options}
-use Rattle.mdb_topology.specs.Description.{Rule, opens, updates, syncs, tells_time, stops, begins_with, unopened}
-use Rattle.mdb_topology.specs.Errors.{Clear, nothing, whole, only, Trouble}
-use Rattle.mdb_topology.specs.Facts.{clearing}
-use Rattle.mdb_topology.specs.Publishing.{ready_pool, close_pool, description_changed, server_changed, server_closed, topology_changed, server_opened, telling, publication, topology_closed, told_by}
-use Rattle.mdb_topology.specs.Ready.{is_ready_type}
+use Rattle.mdb_driver_rules.specs.Description.{Rule, opens, updates, syncs, tells_time, stops, begins_with, unopened}
+use Rattle.mdb_driver_rules.specs.Errors.{Clear, nothing, whole, only, Trouble}
+use Rattle.mdb_driver_rules.specs.Facts.{clearing}
+use Rattle.mdb_driver_rules.specs.Publishing.{ready_pool, close_pool, description_changed, server_changed, server_closed, topology_changed, server_opened, telling, publication, topology_closed, told_by}
+use Rattle.mdb_driver_rules.specs.Ready.{is_ready_type}
 use Rattle.mdb_proxy_laws.proofs.Uncreating.{AreUncreating, uncreating-both, readied-uncreating, close-uncreating, clear-uncreating}
 
 -- the part creates no connection after each history

@@ -15,12 +15,12 @@ use Rattle.mdb_log.specs.History.{Item, did, PoolItem, is_number, given, if_so, 
 use Rattle.mdb_log.proofs.Later.{of_pool-with_facts, with_answer-accepted, with_entries-append}
 use Rattle.mdb_sound.specs.Sound.{Sound}
 use Rattle.mdb_topology.specs.declared.topology.TopologyCore.{TopologyCore}
-use Rattle.mdb_topology.specs.Answer.{answer, reply_to}
-use Rattle.mdb_topology.specs.Facts.{step_facts}
-use Rattle.mdb_topology.specs.Homes.{begun}
-use Rattle.mdb_topology.specs.Lines.{options_in, answer_after, entry_after}
+use Rattle.mdb_driver_rules.specs.Answer.{answer, reply_to}
+use Rattle.mdb_driver_rules.specs.Facts.{step_facts}
+use Rattle.mdb_driver_rules.specs.Homes.{begun}
+use Rattle.mdb_driver_rules.specs.Lines.{options_in, answer_after, entry_after}
 use Rattle.mdb_topology.specs.Logging.{opening_step, Stood, AreDriven, IsDriverOf}
-use Rattle.mdb_topology.specs.Refusal.{refusal}
+use Rattle.mdb_driver_rules.specs.Refusal.{refusal}
 use Rattle.mdb_histories.specs.SoundHistory.{SoundHistory}
 use Rattle.mdb_histories.proofs.Answers.{keeps-sound, opening-sound}
 use Rattle.mdb_histories.proofs.Parties.{each-sound}

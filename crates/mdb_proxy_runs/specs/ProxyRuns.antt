@@ -14,7 +14,7 @@ use Rattle.mdb_proxies.specs.declared.step.ProxyStep.{ProxyStep}
 use Rattle.mdb_proxies.specs.declared.step.ProxyReply.{ProxyReply}
 use Rattle.mdb_proxies.specs.declared.step.ProxyReply.TheVariants.{Refused as IsRefused}
 use Rattle.mdb_proxies.specs.declared.step.ProxyRefused.{ProxyRefused}
-use Rattle.mdb_topology.specs.Lines.{entry_after}
+use Rattle.mdb_driver_rules.specs.Lines.{entry_after}
 use Rattle.mdb_topology.specs.Logging.{opening_step}
 use Rattle.mdb_proxy_lines.specs.ProxyLines.{SpellsShares, SpellsStep}
 use Rattle.mdb_proxy_lines.specs.ProxyText.{answer_text, line_text}

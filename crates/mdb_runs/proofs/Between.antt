@@ -14,10 +14,10 @@ use Rattle.mdb_lines.specs.Script.{Spells, lines_of, line_of, AreAllowed, max_in
 use Rattle.mdb_base.specs.AddressReading.{beyond}
 use Rattle.mdb_lines.specs.Loops.{ReadsAll, ReadEnds}
 use Rattle.mdb_lines.proofs.Loops.{took_nothing, took_more, took_no_more, line_not_last}
-use Rattle.mdb_topology.specs.Stepping.{is_driver_act}
+use Rattle.mdb_driver_rules.specs.Acts.{is_driver_act}
 use Rattle.mdb_topology.specs.declared.topology.TopologyCore.{TopologyCore}
 use Rattle.mdb_topology.specs.Driving.{may_come, Holds}
-use Rattle.mdb_topology.specs.Lines.{entry_after, log_of, log_after, steps_of}
+use Rattle.mdb_driver_rules.specs.Lines.{entry_after, log_of, log_after, steps_of}
 use Rattle.mdb_log.specs.LegalLog.{IsLegalLog}
 use Rattle.mdb_log.specs.History.{history_of}
 use Rattle.mdb_log.specs.PlainLegal.{LegalLog}

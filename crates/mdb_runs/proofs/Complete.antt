@@ -9,7 +9,7 @@ use Rattle.mdb_lines.specs.declared.run_error.RunError.{RunError}
 use Rattle.mdb_lines.specs.declared.run_error.RunError.TheVariants as errors
 use Rattle.mdb_lines.specs.Status.{Told, Tells, status, message}
 use Rattle.mdb_lines.specs.Script.{lines_of, line_of, max_input}
-use Rattle.mdb_topology.specs.Lines.{steps_of}
+use Rattle.mdb_driver_rules.specs.Lines.{steps_of}
 use Rattle.mdb_runs.specs.Runs.{IsBad, IsBadAt, IsScript, Seen, Finished, Ended, EndsWith}
 use Rattle.mdb_runs.specs.Tool.{ToolTells}
 use Rattle.mdb_runs.proofs.ScriptLaws.{all_same, bad_not, fewer_lines, one_place, told, no_longer}

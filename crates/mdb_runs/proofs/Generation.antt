@@ -4,7 +4,7 @@ use Rattle.std.proofs.lemmas.List.Elements.{All-nil, All-cons, All-append}
 use Rattle.mdb_log.specs.declared.step.Step.{Step}
 use Rattle.mdb_generator.specs.Generated.{requested, returned, replaced, rest, round, rounds, generated, script}
 use Rattle.mdb_generator.proofs.Scripts.{script_lines, generated_allowed}
-use Rattle.mdb_topology.specs.Stepping.{is_driver_act}
+use Rattle.mdb_driver_rules.specs.Acts.{is_driver_act}
 use Rattle.mdb_runs.specs.Runs.{IsScript}
 
 -- the step may come behind the first line

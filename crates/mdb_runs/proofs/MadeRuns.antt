@@ -6,7 +6,7 @@ use Rattle.mdb_log.specs.declared.step.Step.{Step}
 use Rattle.mdb_log.specs.declared.log.Entry.{Entry}
 use Rattle.mdb_lines.specs.Loops.{TookFront}
 use Rattle.mdb_lines.proofs.Loops.{took_no_more}
-use Rattle.mdb_topology.specs.Lines.{log_of, steps_of}
+use Rattle.mdb_driver_rules.specs.Lines.{log_of, steps_of}
 use Rattle.mdb_runs.specs.Runs.{Seen, Finished}
 use Rattle.mdb_runs.specs.Made.{summary_line}
 

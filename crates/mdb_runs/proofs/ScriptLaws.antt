@@ -7,7 +7,7 @@ use Rattle.mdb_log.specs.declared.step.Step.{Step}
 use Rattle.mdb_lines.specs.Spelling.{spelling}
 use Rattle.mdb_lines.specs.Script.{Spells, line_of, AreAllowed}
 use Rattle.mdb_lines.proofs.Lines.{line_same}
-use Rattle.mdb_topology.specs.Stepping.{is_driver_act}
+use Rattle.mdb_driver_rules.specs.Acts.{is_driver_act}
 use Rattle.mdb_runs.specs.Runs.{IsWithin, IsBad}
 
 some_same : {A : Type 0} (a b : A) → Some a ≡ Some b → a ≡ b

@@ -8,7 +8,7 @@ use Rattle.mdb_log.specs.declared.step.Act.{Act}
 use Rattle.mdb_log.specs.declared.step.Act.TheVariants as act
 use Rattle.mdb_lines.specs.Spelling.{is_spelled, HasSpelling}
 use Rattle.mdb_topology.specs.Driving.{IsTaken}
-use Rattle.mdb_topology.specs.Stepping.{is_driver_act}
+use Rattle.mdb_driver_rules.specs.Acts.{is_driver_act}
 
 built-spelled : (a : Act) → is_driver_act a ≡ true → IsTrue (is_spelled a)
 built-spelled (act.Ready p) e = absurd (cc)

@@ -5,7 +5,7 @@ use Rattle.mdb_log.specs.declared.step.Step.{Step}
 use Rattle.mdb_log.specs.declared.log.Entry.{Entry}
 use Rattle.mdb_lines.specs.declared.run_error.RunError.{RunError}
 use Rattle.mdb_lines.specs.declared.run_error.RunError.TheVariants as errors
-use Rattle.mdb_topology.specs.Lines.{steps_of}
+use Rattle.mdb_driver_rules.specs.Lines.{steps_of}
 use Rattle.mdb_runs.specs.Runs.{IsNextLine, StepRuns, LineRuns}
 
 pub line_runs : (n : ℕ) (s : Step) (line : List ℕ) (log new_log : List Entry) (held new_held : Option Held) (faults new_faults : ℕ) (r : Result (Unit {0}) RunError)

@@ -10,9 +10,8 @@ use Rattle.mdb_log.specs.declared.step.Act.TheVariants as act
 use Rattle.mdb_log.specs.declared.log.Entry.{Entry}
 use Rattle.mdb_lines.specs.Grammar.{is_act, are_options}
 use Rattle.mdb_lines.specs.Script.{Spells}
-use Rattle.mdb_topology.specs.Driving.{opens_seeds, may_come}
-use Rattle.mdb_topology.specs.Lines.{steps_of}
-use Rattle.mdb_topology.specs.Driving.{IsFirstStep, IsTaken}
+use Rattle.mdb_topology.specs.Driving.{opens_seeds, may_come, IsFirstStep, IsTaken}
+use Rattle.mdb_driver_rules.specs.Lines.{steps_of}
 use Rattle.mdb_topology.specs.Logging.{opening_step}
 
 no-rule : (x : Option BadOption) → is_none x ≡ true → x ≡ None

@@ -6,7 +6,7 @@ use Rattle.mdb_lines.specs.declared.run_error.RunError.TheVariants as errors
 use Rattle.mdb_lines.specs.Loops.{TookFront}
 use Rattle.mdb_generator.specs.Generated.{generated}
 use Rattle.mdb_generator.specs.Summaries.{summary_of, summary_text}
-use Rattle.mdb_topology.specs.Lines.{log_of}
+use Rattle.mdb_driver_rules.specs.Lines.{log_of}
 
 -- the summary of the log that the definitions give for the generated script of n rounds, with a newline
 unfoldable pub summary_line : ℕ → List ℕ

@@ -10,9 +10,9 @@ use Rattle.mdb_lines.specs.Spelling.{spelling}
 use Rattle.mdb_lines.specs.LogText.{text_of_entry, text_of}
 use Rattle.mdb_lines.specs.Script.{Spells, lines_of, line_of, AreAllowed, max_input}
 use Rattle.mdb_lines.specs.Loops.{TookFront, ReadsAll}
-use Rattle.mdb_topology.specs.Stepping.{is_driver_act}
+use Rattle.mdb_driver_rules.specs.Acts.{is_driver_act}
 use Rattle.mdb_topology.specs.Driving.{opens_seeds, may_come}
-use Rattle.mdb_topology.specs.Lines.{entry_after, log_of, steps_of}
+use Rattle.mdb_driver_rules.specs.Lines.{entry_after, log_of, steps_of}
 use Rattle.mdb_log.specs.LegalLog.{IsLegalLog}
 use Rattle.mdb_log.specs.History.{history_of}
 use Rattle.mdb_log.specs.PlainLegal.{LegalLog}

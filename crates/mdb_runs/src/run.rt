@@ -5,7 +5,7 @@ ghost use Rattle.mdb_log.specs.declared.step.Step.{Step};
 ghost use Rattle.mdb_base.specs.Outside.{Rose};
 ghost use Rattle.mdb_lines.specs.Loops.{ReadsFew};
 ghost use Rattle.mdb_lines.specs.declared.run_error.RunError.TheVariants.{OutOfMemory as NoMemory, Malformed, TooLong};
-ghost use Rattle.mdb_topology.specs.Lines.{steps_of};
+ghost use Rattle.mdb_driver_rules.specs.Lines.{steps_of};
 ghost use Rattle.mdb_topology.specs.Driving.{Stands, IsTaken};
 ghost use Rattle.mdb_runs.specs.Runs.{StepRuns, LineRuns, Ran, RunEnds, Finished, Ended, EndsWith, IsBadAt, IsScript};
 

@@ -7,9 +7,9 @@ use Rattle.mdb_log.specs.History.{Item}
 use Rattle.mdb_monitor.specs.declared.check.Begin.{Begin}
 use Rattle.mdb_monitor.specs.Beginnings.{begin_row}
 use Rattle.mdb_topology.specs.declared.topology.TopologyCore.{TopologyCore}
-use Rattle.mdb_topology.specs.Lines.{options_of}
+use Rattle.mdb_driver_rules.specs.Lines.{options_of}
 use Rattle.mdb_topology.specs.Logging.{IsDriverOf}
-use Rattle.mdb_topology.specs.Monitors.{recent, setting}
+use Rattle.mdb_driver_rules.specs.Monitors.{recent, setting}
 use Rattle.mdb_session.specs.Ahead.{check_of, next_number}
 
 -- the options of a driver are those of its log

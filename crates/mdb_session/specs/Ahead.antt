@@ -10,9 +10,9 @@ use Rattle.mdb_log.specs.History.{Item, history_of, open_pool}
 use Rattle.mdb_monitor.specs.declared.check.Begin.{Begin}
 use Rattle.mdb_monitor.specs.declared.check.Next.{Next}
 use Rattle.mdb_monitor.specs.Beginnings.{begin_row}
-use Rattle.mdb_topology.specs.Ahead.{next_after}
-use Rattle.mdb_topology.specs.Lines.{options_of}
-use Rattle.mdb_topology.specs.Monitors.{fresh, recent, setting}
+use Rattle.mdb_driver_rules.specs.Ahead.{next_after}
+use Rattle.mdb_driver_rules.specs.Lines.{options_of}
+use Rattle.mdb_driver_rules.specs.Monitors.{fresh, recent, setting}
 
 -- The number of the next connection of a monitor. A check that makes a connection past 32 bits is refused, and the greatest number stands for its.
 abbrev pub next_number : List Item → ℕ

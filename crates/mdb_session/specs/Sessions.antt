@@ -7,7 +7,7 @@ use Rattle.mdb_log.specs.declared.step.Step.{Step}
 use Rattle.mdb_lines.specs.Spelling.{HasSpelling}
 use Rattle.mdb_lines.specs.LogText.{text_of_entry}
 use Rattle.mdb_topology.specs.declared.topology.TopologyCore.{TopologyCore}
-use Rattle.mdb_topology.specs.Lines.{entry_after, answer_after}
+use Rattle.mdb_driver_rules.specs.Lines.{entry_after, answer_after}
 use Rattle.mdb_topology.specs.Logging.{IsDriverOf}
 use Rattle.mdb_session.specs.Numbers.{reply_numbers}
 use Rattle.mdb_session.specs.declared.at.At.{At}

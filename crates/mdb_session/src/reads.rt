@@ -4,8 +4,8 @@ ghost use Rattle.std.specs.Prelude.{◌≡◌, ◌++◌, ◌≤◌, ◌<◌, ℕ
 ghost use Rattle.mdb_events.specs.FactText.{fact_text};
 ghost use Rattle.mdb_events.specs.declared.fact.Fact.{Fact};
 ghost use Rattle.mdb_log.specs.History.{history_of, open_pool};
-ghost use Rattle.mdb_topology.specs.Jobs.{job_after};
-ghost use Rattle.mdb_topology.specs.Lines.{described, last_of, publications};
+ghost use Rattle.mdb_driver_rules.specs.Jobs.{job_after};
+ghost use Rattle.mdb_driver_rules.specs.Lines.{described, last_of, publications};
 ghost use Rattle.mdb_lines.specs.Spelling.{HasSpelling};
 ghost use Rattle.mdb_session.specs.Facts.{fact_numbers};
 ghost use Rattle.mdb_session.specs.Sessions.{IsLast, IsLastFact, LacksFact};

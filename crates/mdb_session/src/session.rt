@@ -5,7 +5,7 @@ ghost use Rattle.mdb_log.specs.declared.step.Step.{Step};
 ghost use Rattle.mdb_lines.specs.Grammar.{is_step, is_open};
 ghost use Rattle.mdb_lines.specs.Script.{Spells};
 ghost use Rattle.mdb_parts.specs.declared.line_error.LineError.TheVariants.{OutOfMemory as NoMemory};
-ghost use Rattle.mdb_topology.specs.Lines.{entry_after, answer_after};
+ghost use Rattle.mdb_driver_rules.specs.Lines.{entry_after, answer_after};
 
 use crate::past::Past;
 use crate::texts::copied;

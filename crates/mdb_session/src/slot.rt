@@ -3,7 +3,7 @@ ghost use Rattle.std.specs.Prelude.{◌≡◌, ◌≢◌, ◌++◌, ◌∷◌, �
 ghost use Rattle.mdb_log.specs.declared.log.Entry.{Entry};
 ghost use Rattle.mdb_log.specs.declared.step.Step.{Step};
 ghost use Rattle.mdb_lines.specs.Script.{Spells};
-ghost use Rattle.mdb_topology.specs.Lines.{entry_after};
+ghost use Rattle.mdb_driver_rules.specs.Lines.{entry_after};
 ghost use Rattle.mdb_session.specs.Sessions.{IsLastText, IsStepped};
 
 use crate::loose::Loose;

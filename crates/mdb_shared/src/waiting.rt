@@ -34,7 +34,7 @@ impl<C: Core> SharedDriver<C> {
         false
     }
 
-    // Some hundred nanoseconds pass. What is read seldom changes, so nobody is disturbed by it.
+    // Some hundred nanoseconds pass. `spin_loop` compiles to nothing here, so they pass by reads. What is read seldom changes, so nobody is disturbed by it.
     fn pause(&self) {
         for _ in 0..PAUSE {
             self.at_turn.load(Ordering::SeqCst);

@@ -9,7 +9,7 @@ use Rattle.mdb_lines.specs.Spelling.{spelling}
 use Rattle.mdb_lines.specs.Script.{Spells, lines_of, line_of, max_input}
 use Rattle.mdb_lines.proofs.Loops.{line_not_last}
 use Rattle.mdb_topology.specs.Driving.{opens_seeds, may_come}
-use Rattle.mdb_topology.specs.Stepping.{is_driver_act}
+use Rattle.mdb_driver_rules.specs.Acts.{is_driver_act}
 use Rattle.mdb_runs.specs.Runs.{Begins, IsBadAt, IsScript}
 use Rattle.mdb_runs.proofs.Between.{lines_push, allowed_push, within_push}
 use Rattle.mdb_shared_runs.specs.Reading.{may_stand, IsLine, NoLine, NoScript}

@@ -11,9 +11,9 @@ use Rattle.mdb_log.specs.Acts.{IsDriverAct}
 use Rattle.mdb_lines.specs.Spelling.{is_spelled, HasSpelling, spelling}
 use Rattle.mdb_lines.specs.Script.{AreAllowed}
 use Rattle.mdb_topology.specs.declared.topology.TopologyCore.{TopologyCore}
-use Rattle.mdb_topology.specs.Stepping.{is_driver_act}
+use Rattle.mdb_driver_rules.specs.Acts.{is_driver_act}
 use Rattle.mdb_topology.specs.Driving.{IsFirstStep}
-use Rattle.mdb_topology.specs.Lines.{entry_after}
+use Rattle.mdb_driver_rules.specs.Lines.{entry_after}
 use Rattle.mdb_topology.specs.Logging.{IsDriverOf, AreDriven, opening_step}
 use Rattle.mdb_topology.proofs.DriverOpened.ScriptsLog.{legal-log, kept-log}
 use Rattle.mdb_histories.proofs.Logs.{sound-log}

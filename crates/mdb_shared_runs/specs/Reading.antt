@@ -5,7 +5,7 @@ use Rattle.mdb_lines.specs.declared.run_error.RunError.{RunError}
 use Rattle.mdb_lines.specs.declared.run_error.RunError.TheVariants as errors
 use Rattle.mdb_lines.specs.Script.{Spells}
 use Rattle.mdb_topology.specs.Driving.{opens_seeds}
-use Rattle.mdb_topology.specs.Stepping.{is_driver_act}
+use Rattle.mdb_driver_rules.specs.Acts.{is_driver_act}
 use Rattle.mdb_runs.specs.Runs.{IsBadAt}
 
 -- the step may stand on the line of this number

@@ -5,7 +5,7 @@ use Rattle.mdb_log.specs.declared.step.Step.{Step}
 use Rattle.mdb_log.specs.History.{history_of}
 use Rattle.mdb_log.specs.LegalLog.{IsLegalLog}
 use Rattle.mdb_log.specs.PlainLegal.{LegalLog}
-use Rattle.mdb_topology.specs.Lines.{entry_after}
+use Rattle.mdb_driver_rules.specs.Lines.{entry_after}
 use Rattle.mdb_topology.specs.Logging.{IsKept}
 use Rattle.mdb_laws.specs.Answers.{AreAnswers}
 use Rattle.mdb_histories.specs.SoundHistory.{SoundHistory}

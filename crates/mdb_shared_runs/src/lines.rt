@@ -3,7 +3,7 @@
 ghost use Rattle.std.specs.Prelude.{◌≡◌, ◌≤◌, ◌++◌, ◌∷◌, [], ℕ, Bool, IfOk, IfErr, OnOk, length, if◌then◌else◌, ◌==◌};
 ghost use Rattle.mdb_log.specs.declared.step.Step.{Step};
 ghost use Rattle.mdb_topology.specs.Driving.{opens_seeds};
-ghost use Rattle.mdb_topology.specs.Stepping.{is_driver_act};
+ghost use Rattle.mdb_driver_rules.specs.Acts.{is_driver_act};
 ghost use Rattle.mdb_runs.specs.Runs.{IsScript};
 ghost use Rattle.mdb_shared_runs.specs.Reading.{may_stand, IsLine, NoLine, NoScript};
 

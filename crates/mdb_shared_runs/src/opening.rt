@@ -2,7 +2,7 @@
 
 ghost use Rattle.std.specs.Prelude.{◌≡◌, ◌∷◌, [], IfOk};
 ghost use Rattle.mdb_topology.specs.Driving.{IsFirstStep};
-ghost use Rattle.mdb_topology.specs.Lines.{entry_after};
+ghost use Rattle.mdb_driver_rules.specs.Lines.{entry_after};
 ghost use Rattle.mdb_topology.specs.Logging.{IsDriverOf};
 
 use mdb_base::OutOfMemory;

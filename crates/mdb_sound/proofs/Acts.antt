@@ -13,9 +13,9 @@ use Rattle.mdb_log.specs.declared.step.Established.{Established as Establishment
 use Rattle.mdb_log.specs.History.{PoolItem, asked, warmed, gave_up, returned, pinned_by, established, failed, replicated, taken, unpinned, closed, after_facts, if_so}
 use Rattle.mdb_log.specs.Connections.{has, pending_list, pins, granted_to}
 use Rattle.mdb_log.specs.Requests.{end_of}
-use Rattle.mdb_pool.specs.Facts.{act_facts, fail_requester}
-use Rattle.mdb_pool.specs.Serving.{serving}
-use Rattle.mdb_pool.specs.Answer.{all_facts}
+use Rattle.mdb_pool_rules.specs.Facts.{act_facts, fail_requester}
+use Rattle.mdb_pool_rules.specs.Serving.{serving}
+use Rattle.mdb_pool_rules.specs.Answer.{all_facts}
 use Rattle.mdb_log.proofs.Later.{after-append}
 use Rattle.mdb_log.proofs.Numbers.{same-number}
 use Rattle.mdb_sound.specs.Sound.{Sound, MayAsk, MayGiveUp, MayTake, Holds}

@@ -9,7 +9,7 @@ use Rattle.mdb_log.specs.History.{PoolItem, closed, checked_in, ended, after_fac
 use Rattle.mdb_log.specs.Connections.{has, is_live, pending_list, available_list, parties, pins}
 use Rattle.mdb_log.specs.Requests.{is_warm}
 use Rattle.mdb_log.specs.State.{State, is_new, is_ready, is_paused, is_closed, state_of}
-use Rattle.mdb_pool.specs.Facts.{check_in, close_reason}
+use Rattle.mdb_pool_rules.specs.Facts.{check_in, close_reason}
 use Rattle.mdb_log.proofs.Numbers.{same-number, has-without-is}
 use Rattle.mdb_sound.specs.Sound.{Sound, was_closed, in_use, just_failed, MayClose, MayCheckIn}
 use Rattle.mdb_sound.proofs.Steady.{has-again}

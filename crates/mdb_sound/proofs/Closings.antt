@@ -12,7 +12,7 @@ use Rattle.mdb_log.specs.History.{PoolItem, closed, ended, pool_closed, after_fa
 use Rattle.mdb_log.specs.Connections.{one_if, has, live, pending_list, available_list, parties, pins, known_service}
 use Rattle.mdb_log.specs.Requests.{requests, queued, is_warm, end_of, is_unserved}
 use Rattle.mdb_log.specs.State.{State, is_new, is_ready, is_paused, is_closed, state_of}
-use Rattle.mdb_pool.specs.Facts.{closed_fact, pool_closed_fact, end_facts, all_ends, close_facts}
+use Rattle.mdb_pool_rules.specs.Facts.{closed_fact, pool_closed_fact, end_facts, all_ends, close_facts}
 use Rattle.mdb_log.proofs.Later.{after-append}
 use Rattle.mdb_log.proofs.Numbers.{same-number, has-without-is}
 use Rattle.mdb_log.proofs.Pins.{queued-asked}

@@ -10,7 +10,7 @@ use Rattle.mdb_log.specs.History.{PoolItem, asked, warmed, ended, after_facts, h
 use Rattle.mdb_log.specs.Connections.{one_if, has}
 use Rattle.mdb_log.specs.Requests.{queued, waiting, is_warm, end_of}
 use Rattle.mdb_log.specs.State.{State, is_new, is_ready, is_paused, is_closed, state_of}
-use Rattle.mdb_pool.specs.Facts.{end_facts, all_ends, turned_away, new_pool_error}
+use Rattle.mdb_pool_rules.specs.Facts.{end_facts, all_ends, turned_away, new_pool_error}
 use Rattle.mdb_log.proofs.Later.{after-append}
 use Rattle.mdb_log.proofs.Numbers.{same-number, has-append, has-without-is}
 use Rattle.mdb_sound.specs.Sound.{Sound, MayAsk, MayEnd, lost}

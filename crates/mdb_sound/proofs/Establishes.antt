@@ -9,7 +9,7 @@ use Rattle.mdb_log.specs.declared.step.Established.{Established}
 use Rattle.mdb_log.specs.History.{PoolItem, established, closed, checked_in, after_facts, has_asked, given, without, is_number}
 use Rattle.mdb_log.specs.Connections.{has, pending_list, available_list, parties, pins, granted_to}
 use Rattle.mdb_log.specs.Requests.{is_warm, end_of}
-use Rattle.mdb_pool.specs.Facts.{check_in, hand_over}
+use Rattle.mdb_pool_rules.specs.Facts.{check_in, hand_over}
 use Rattle.mdb_log.proofs.Later.{after-append}
 use Rattle.mdb_log.proofs.Numbers.{same-number}
 use Rattle.mdb_sound.specs.Sound.{Sound}

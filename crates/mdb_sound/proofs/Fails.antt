@@ -8,7 +8,7 @@ use Rattle.mdb_log.specs.declared.options.PoolOptions.{PoolOptions}
 use Rattle.mdb_log.specs.History.{PoolItem, failed, closed, after_facts, given}
 use Rattle.mdb_log.specs.Connections.{has, live, pending_list, granted_to}
 use Rattle.mdb_log.specs.Requests.{end_of}
-use Rattle.mdb_pool.specs.Facts.{fail_requester}
+use Rattle.mdb_pool_rules.specs.Facts.{fail_requester}
 use Rattle.mdb_log.proofs.Numbers.{same-number}
 use Rattle.mdb_sound.specs.Sound.{Sound, MayClose, lost}
 use Rattle.mdb_sound.proofs.Connections.{connection-laws}

@@ -12,7 +12,7 @@ use Rattle.mdb_log.specs.History.{PoolItem, created, closed, raised, pool_ready,
 use Rattle.mdb_log.specs.Connections.{one_if, has, created_total, live_total, pending_list, available_list}
 use Rattle.mdb_log.specs.Requests.{queued, waiting, is_warm, asked_at}
 use Rattle.mdb_log.specs.State.{State, is_new, is_ready, is_paused, is_closed, state_of, ready, min_size, max_connecting}
-use Rattle.mdb_pool.specs.Facts.{closes, perished, sweep, fill, cleared_fact, clear_facts, all_ends, overdue, is_over, readied}
+use Rattle.mdb_pool_rules.specs.Facts.{closes, perished, sweep, fill, cleared_fact, clear_facts, all_ends, overdue, is_over, readied}
 use Rattle.mdb_log.proofs.Later.{after-append}
 use Rattle.mdb_log.proofs.Numbers.{same-number, has-without-is}
 use Rattle.mdb_log.proofs.Pins.{queued-asked}

@@ -7,7 +7,7 @@ use Rattle.mdb_log.specs.Connections.{one_if, has}
 use Rattle.mdb_log.specs.Requests.{requests, queued, waiting, is_warm, end_of}
 use Rattle.mdb_log.specs.Legal.{first}
 use Rattle.mdb_log.proofs.Numbers.{same-number, has-append, has-without-is}
-use Rattle.mdb_pool.proofs.Listed.Values.{without-absent}
+use Rattle.mdb_pool_rules.proofs.Listed.Values.{without-absent}
 use Rattle.mdb_sound.specs.Sound.{Sound, MayAsk, MayGrant}
 use Rattle.mdb_sound.specs.Counts.{askings, grantings, endings, was_granted, callers, served}
 use Rattle.mdb_sound.specs.Once.{Once}

@@ -5,7 +5,7 @@ use Rattle.mdb_log.specs.History.{PoolItem, asked, warmed, gave_up, returned, pi
 use Rattle.mdb_log.specs.Connections.{one_if, has, parties}
 use Rattle.mdb_log.specs.Requests.{queued, end_of}
 use Rattle.mdb_log.proofs.Numbers.{has-without-is}
-use Rattle.mdb_pool.proofs.Listed.Values.{length-without}
+use Rattle.mdb_pool_rules.proofs.Listed.Values.{length-without}
 use Rattle.mdb_sound.specs.Sound.{Sound, MayTake, MayGrant}
 use Rattle.mdb_sound.specs.Counts.{askings, grantings, endings, was_granted}
 use Rattle.mdb_sound.specs.Once.{Once}

@@ -22,11 +22,12 @@ use Rattle.mdb_pool.specs.Core.{PoolCore}
 use Rattle.mdb_pool.specs.declared.kept.status.Status.{Status}
 use Rattle.mdb_pool.specs.declared.kept.status.Status.TheVariants.{New, Ready as ReadyNow, Paused, Closed}
 use Rattle.mdb_pool.specs.Kept.{is_shut, state_in}
-use Rattle.mdb_pool.specs.Refusal.{first_row, rows_of, refusal_of, wrong_service}
+use Rattle.mdb_pool_rules.specs.Refusal.{first_row, rows_of, refusal_of, wrong_service}
 use Rattle.mdb_pool.specs.Standing.{StandsFor}
-use Rattle.mdb_pool.specs.Answer.{all_facts, answer, reply_of}
-use Rattle.mdb_pool.proofs.Answered.Item.{first-passes, one-passes, two-pass, three-pass, not-false, both-true}
-use Rattle.mdb_pool.proofs.Histories.LimitsAreKept.{reply-accepted}
+use Rattle.mdb_pool_rules.specs.Answer.{all_facts, answer, reply_of}
+use Rattle.mdb_pool_rules.proofs.FirstRow.{first-passes, one-passes, two-pass, three-pass}
+use Rattle.mdb_log.proofs.Bools.{not-false, both-true}
+use Rattle.mdb_pool_rules.proofs.LimitsAreKept.{reply-accepted}
 use Rattle.mdb_log.proofs.Later.{of_pool-with_facts, with_answer-accepted}
 use Rattle.mdb_log.proofs.Numbers.{same-number}
 use Rattle.mdb_sound.specs.Sound.{Sound, was_closed, MayTake, Holds}

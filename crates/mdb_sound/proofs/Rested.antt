@@ -13,7 +13,7 @@ use Rattle.mdb_log.specs.Requests.{is_warm, end_of}
 use Rattle.mdb_pool.specs.Matching.{Matches}
 use Rattle.mdb_pool.specs.Places.{is_pending, is_available, is_held, is_at_pin, stays}
 use Rattle.mdb_pool.specs.Kept.{connection_at, request_at, given_of, given_in, holder_at, end_at, end_in, is_ended_at, one_party, pins_at, is_pinned_at}
-use Rattle.mdb_pool.proofs.Listed.Values.{has-where, passes}
+use Rattle.mdb_pool_rules.proofs.Listed.Values.{has-where, passes}
 
 -- what the moments between the answers have in common
 pub record Rested (xs : List PoolItem) : Type 0 where

@@ -9,7 +9,7 @@ use Rattle.mdb_log.specs.declared.step.Use.{Use}
 use Rattle.mdb_log.specs.History.{PoolItem, asked, warmed, gave_up, returned, pinned_by, established, failed, replicated, taken, unpinned, created, closed, checked_in, granted, ended, raised, pool_created, pool_ready, pool_closed, after_facts, has_asked, given, without, if_so, is_number}
 use Rattle.mdb_log.specs.Connections.{has, pending_list, available_list, parties, pins, holding, is_pinned}
 use Rattle.mdb_log.specs.Requests.{queued, end_of}
-use Rattle.mdb_pool.specs.Facts.{check_in, come_back}
+use Rattle.mdb_pool_rules.specs.Facts.{check_in, come_back}
 use Rattle.mdb_log.proofs.Numbers.{same-number, has-append, has-without-is}
 use Rattle.mdb_log.proofs.Pins.{pinned-again}
 use Rattle.mdb_sound.specs.Sound.{Sound, was_closed, has_left, Holds, MayTake, MayGiveUp, MayEnd}

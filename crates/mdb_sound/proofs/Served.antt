@@ -11,13 +11,13 @@ use Rattle.mdb_log.specs.Connections.{has, created_total, available_list, partie
 use Rattle.mdb_log.specs.State.{is_stale, state_of, ready, may_create, is_idle}
 use Rattle.mdb_log.specs.Requests.{queued, is_warm, asked_at}
 use Rattle.mdb_log.specs.Legal.{IsNext}
-use Rattle.mdb_pool.specs.Serving.{last_of, candidate, next_move, serve, serving, creation, wants_connection}
-use Rattle.mdb_pool.specs.Facts.{closed_fact, checked_out_fact}
+use Rattle.mdb_pool_rules.specs.Serving.{last_of, candidate, next_move, serve, serving, creation, wants_connection}
+use Rattle.mdb_pool_rules.specs.Facts.{closed_fact, checked_out_fact}
 use Rattle.mdb_log.proofs.Later.{after-append}
 use Rattle.mdb_log.proofs.Numbers.{same-number}
 use Rattle.mdb_log.proofs.Pins.{queued-asked}
-use Rattle.mdb_pool.proofs.Listed.Last.{last_of-has}
-use Rattle.mdb_pool.proofs.Turns.Fair.{candidate-has, candidate-first}
+use Rattle.mdb_pool_rules.proofs.Listed.Last.{last_of-has}
+use Rattle.mdb_pool_rules.proofs.Fair.{candidate-has, candidate-first}
 use Rattle.mdb_sound.specs.Sound.{Sound, was_closed, just_created, MayCreate, MayGrant}
 use Rattle.mdb_sound.proofs.Calm.{Calm, open-ready, queued-unended, strangers, available-closes, calm-close, calm-end, calm-grant, calm-create}
 

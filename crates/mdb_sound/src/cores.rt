@@ -7,7 +7,7 @@ ghost use Rattle.mdb_log.specs.declared.step.Step.{Step};
 ghost use Rattle.mdb_log.specs.History.{Item, of_pool, opening, with_answer};
 ghost use Rattle.mdb_pool.specs.Core.{PoolCore};
 ghost use Rattle.mdb_pool.specs.Standing.{StandsFor};
-ghost use Rattle.mdb_pool.specs.Answer.{answer};
+ghost use Rattle.mdb_pool_rules.specs.Answer.{answer};
 ghost use Rattle.mdb_sound.specs.Sound.{Sound};
 
 /// The history of a pool that was just made is sound.

@@ -1,15 +1,11 @@
 -- A pending connection fails: its pool is cleared or not, and its server is marked or not.
 pub mod Answer
-pub mod AcceptedAfterClear
 pub mod Becomes
-pub mod OfItsPool
 pub mod FactsOf
-pub mod GrantsStayFresh
 pub mod MarkOfNoPool
 pub mod Means
 pub mod PastLimits
 pub mod Plan
-pub mod PoolsStand
 pub mod RefusedByItsPool
 pub mod DriverStands
 pub mod ClosesNoPool

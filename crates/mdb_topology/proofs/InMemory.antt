@@ -1,8 +1,2 @@
 -- Memory has the pools in which something lives, and their monitors: what is found, changed and opened there is what is found, changed and opened among all.
-pub mod LivingPools
-pub mod ChangedPools
-pub mod NewParties
-pub mod StillLives
 pub mod WatchedPools
-pub mod GonePools
-pub mod FoundLast

@@ -1,4 +1,3 @@
-pub mod General
 pub mod InMemory
 pub mod OnePool
 pub mod Failure
@@ -7,5 +6,4 @@ pub mod OfMonitors
 pub mod Publications
 pub mod DriverOpened
 pub mod WholeSteps
-pub mod Worked
 pub mod Crossing

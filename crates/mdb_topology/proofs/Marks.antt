@@ -7,10 +7,8 @@ pub mod Outdated
 pub mod WhichSteps
 pub mod BecomesOfStep
 pub mod ComesTo
-pub mod ChangesKnown
 pub mod PastLimits
 pub mod Tells
-pub mod StaysKnown
 pub mod ClearsPool
 pub mod AtItsLimit
 pub mod AtItsLimitByCheck

@@ -1,19 +1,12 @@
 -- Steps of a driver: what becomes of one, what it answers, and its log.
 pub mod Stops
-pub mod TwoKinds
 pub mod TopologyStep
 pub mod PoolStep
 pub mod QuietStep
-pub mod ReplyOfAct
 pub mod RefusedOfNoPool
-pub mod RefusedByRows
-pub mod FactsPastLimits
 pub mod InTime
 pub mod ComesBeforeMemory
-pub mod TellsNothing
-pub mod PartsInTurn
 pub mod CheckThenRule
-pub mod LeavesAsItIs
 pub mod OneMoreEntry
 pub mod CoreOfManyPools
 pub mod AnswersAsCore

@@ -3,6 +3,7 @@ use Rattle.std.specs.Prelude.{ℕ, ◌≡◌, ◌≤◌, ◌+◌, ◌^◌, Bool,
 use Rattle.mdb_base.specs.declared.address.ServerAddress.{ServerAddress}
 use Rattle.mdb_base.specs.declared.options.Options.{Options}
 use Rattle.mdb_describe.specs.declared.topology.TopologyDescription.{TopologyDescription}
+use Rattle.mdb_describe.specs.declared.description.ServerDescription.{ServerDescription}
 use Rattle.mdb_describe.specs.declared.diff.Diff.{Diff}
 use Rattle.mdb_describe.specs.Differences.{difference}
 use Rattle.mdb_describe.specs.Servers.{is_known, in_order}
@@ -12,9 +13,9 @@ use Rattle.mdb_log.specs.declared.reply.What.TheVariants.{Servers, Pool}
 use Rattle.mdb_log.specs.declared.reply.Refused.TheVariants.{Exhausted}
 use Rattle.mdb_topology.specs.declared.transition.Transition.{Transition}
 use Rattle.mdb_topology.specs.declared.transition.Decision.{Decision}
-use Rattle.mdb_topology.specs.declared.transition.Decision.TheVariants.{Refused, Accepted}
+use Rattle.mdb_topology.specs.declared.transition.Decision.TheVariants.{Refused, Accepted, Repeated}
 use Rattle.mdb_topology.specs.declared.monitors.monitoring.Monitoring.TheVariants.{Same}
-use Rattle.mdb_topology.specs.Monitors.{setting, hello_reply}
+use Rattle.mdb_driver_rules.specs.Monitors.{setting, hello_reply}
 use Rattle.mdb_topology.specs.declared.monitors.monitoring.Monitoring.{Monitoring}
 use Rattle.mdb_events.specs.declared.fact.Fact.TheVariants.{Sdam}
 use Rattle.mdb_events.specs.declared.sdam.SdamEvent.{SdamEvent}
@@ -32,18 +33,18 @@ use Rattle.mdb_log.specs.declared.reply.Reply.{Reply}
 use Rattle.mdb_log.specs.declared.reply.Reply.TheVariants.{Changed}
 use Rattle.mdb_log.specs.History.{Item}
 use Rattle.mdb_pool.specs.Core.{PoolCore}
-use Rattle.mdb_topology.specs.declared.pools.pool_change.PoolChange.{PoolChange}
+use Rattle.mdb_driver_pools.specs.declared.pool_change.PoolChange.{PoolChange}
 use Rattle.mdb_topology.specs.declared.topology.TopologyCore.{TopologyCore}
-use Rattle.mdb_topology.specs.Description.{rule_after, description_of, is_stop}
-use Rattle.mdb_topology.specs.Facts.{trouble}
-use Rattle.mdb_topology.specs.Publishing.{told_by, publication}
-use Rattle.mdb_topology.specs.Limits.{past_last}
-use Rattle.mdb_topology.specs.Refusal.{first_refusal}
-use Rattle.mdb_topology.specs.Answer.{reply_to}
-use Rattle.mdb_topology.specs.Planned.{IsPlanned, LeadsAll, CanTake, opened_by}
+use Rattle.mdb_driver_rules.specs.Description.{rule_after, description_of, is_stop, known_after}
+use Rattle.mdb_driver_rules.specs.Facts.{trouble}
+use Rattle.mdb_driver_rules.specs.Publishing.{told_by, publication}
+use Rattle.mdb_driver_rules.specs.Limits.{past_last}
+use Rattle.mdb_driver_rules.specs.Refusal.{first_refusal}
+use Rattle.mdb_driver_rules.specs.Answer.{reply_to}
+use Rattle.mdb_driver_pools.specs.Planned.{IsPlanned, LeadsAll, CanTake, opened_by}
 use Rattle.mdb_log.specs.Opening.{pool_options}
-use Rattle.mdb_topology.specs.Standing.{at_address, PoolsStand}
-use Rattle.mdb_topology.specs.Stepping.{known_after}
+use Rattle.mdb_driver_pools.specs.Standing.{at_address, PoolsStand}
+use Rattle.mdb_topology.specs.Stepping.{with_place}
 
 -- an act of the topology alone: no pool, monitor or watcher is concerned by itself
 abbrev pub IsTelling : Act → Type 0
@@ -109,6 +110,7 @@ pub record IsChanged (w : TopologyCore) (m : ℕ) (u : TopologyDescription) (n :
 abbrev pub ChangesTo : TopologyCore → ℕ → TopologyDescription → Decision → Type 0
 ChangesTo w m u (Refused why) = (what : What) × (why ≡ Exhausted what) × (change_past w u ≡ Some what)
 ChangesTo w m u (Accepted n) = IsChanged w m u n
+ChangesTo w m u (Repeated n s) = IsChanged w m u (with_place (Some s) w n)
 
 -- A step is another one with what it does at the monitors, and the event of its check before its facts.
 pub record IsWithCheck (y n : Transition) (monitoring : Monitoring) (event : SdamEvent) : Type 0 where
@@ -129,12 +131,18 @@ abbrev pub ChangesIf : TopologyCore → ℕ → Option TopologyDescription → D
 ChangesIf w m (Some u) stepped = ChangesTo w m u stepped
 ChangesIf w m None (Refused why) = ⊥
 ChangesIf w m None (Accepted n) = IsUnchanged n
+ChangesIf w m None (Repeated n s) = ⊥
 
 -- a check that did not fail tells of no trouble
 abbrev pub IsUntroubled : BeatenResult → Type 0
 IsUntroubled (Beaten.Ok r more) = ⊤
 IsUntroubled (Beaten.Err error) = ⊥
 IsUntroubled (Beaten.Cancelled error) = ⊤
+
+-- What is known with a description of a server, and nothing new where there is none.
+abbrev pub known_with : TopologyCore → Option ServerDescription → Option TopologyDescription
+known_with w None = None
+known_with w (Some s) = Some (updated w.description s)
 
 -- What the reply of a check makes known, where it has one and the driver was not stopped.
 abbrev pub reply_known : TopologyCore → ServerAddress → ℕ → BeatenResult → Report → Option TopologyDescription
@@ -145,5 +153,7 @@ reply_known w a m came report = None
 abbrev pub ConcludesAs : TopologyCore → ℕ → Monitoring → SdamEvent → Option TopologyDescription → Decision → Type 0
 ConcludesAs w m monitoring event None (Refused why) = ⊥
 ConcludesAs w m monitoring event None (Accepted n) = (y : Transition) × IsUnchanged y × IsWithCheck y n monitoring event
+ConcludesAs w m monitoring event None (Repeated n s) = ⊥
 ConcludesAs w m monitoring event (Some u) (Refused why) = ChangesTo w m u (Refused why)
 ConcludesAs w m monitoring event (Some u) (Accepted n) = (y : Transition) × IsChanged w m u y × IsWithCheck y n monitoring event
+ConcludesAs w m monitoring event (Some u) (Repeated n s) = (y : Transition) × IsChanged w m u y × IsWithCheck y (with_place (Some s) w n) monitoring event

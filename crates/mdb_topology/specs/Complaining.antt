@@ -8,10 +8,10 @@ use Rattle.mdb_pool.specs.declared.kept.connection.Connection.{Connection}
 use Rattle.mdb_pool.specs.Core.{PoolCore}
 use Rattle.mdb_pool.specs.Kept.{clears_before, clears_for, held_connection}
 use Rattle.mdb_topology.specs.declared.topology.TopologyCore.{TopologyCore}
-use Rattle.mdb_topology.specs.Current.{operating, known_version, may_tell}
-use Rattle.mdb_topology.specs.Errors.{case_of}
-use Rattle.mdb_topology.specs.Finding.{holder}
-use Rattle.mdb_topology.specs.Stepping.{is_here_among}
+use Rattle.mdb_driver_rules.specs.Current.{operating, known_version, may_tell}
+use Rattle.mdb_driver_rules.specs.Errors.{case_of}
+use Rattle.mdb_driver_pools.specs.Finding.{holder}
+use Rattle.mdb_driver_pools.specs.Standing.{is_here_among}
 
 -- the generation of a connection with the service is not the one that the pool has
 abbrev pub is_outdated : PoolCore → ℕ → Option ObjectId → Bool

@@ -8,8 +8,8 @@ use Rattle.mdb_log.specs.Connections.{has}
 use Rattle.mdb_log.specs.Requests.{names_party}
 use Rattle.mdb_pool.specs.Core.{PoolCore}
 use Rattle.mdb_topology.specs.declared.topology.TopologyCore.{TopologyCore}
-use Rattle.mdb_topology.specs.Asking.{DoesAt}
-use Rattle.mdb_topology.specs.Living.{lives_at}
+use Rattle.mdb_driver_pools.specs.Asking.{DoesAt}
+use Rattle.mdb_driver_pools.specs.Living.{lives_at}
 
 -- The pool s at the place i did the step and logged it; its moment is the last, its party is known, and all else stays.
 pub record Enters (s : PoolCore) (i : ℕ) (w v : TopologyCore) (before after : List Entry) (seat : ℕ) (step : Step) (reply : Reply) : Type 0 where

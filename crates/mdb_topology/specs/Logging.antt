@@ -11,7 +11,7 @@ use Rattle.mdb_log.specs.Opening.{is_opening, pool_options}
 use Rattle.mdb_log.specs.LegalLog.{IsOrderly, IsLegal, OpensSeeds}
 use Rattle.mdb_log.specs.Beside.{EntriesGrantFresh, KeepsLimits, GrantsAllFresh}
 use Rattle.mdb_topology.specs.declared.topology.TopologyCore.{TopologyCore}
-use Rattle.mdb_topology.specs.Lines.{entry_after}
+use Rattle.mdb_driver_rules.specs.Lines.{entry_after}
 use Rattle.mdb_topology.specs.Standing.{StandsFor}
 
 -- the step that opens a driver with these options

@@ -1,5 +1,5 @@
 -- Steps that tell of an error: what its rule tells, what is cleared, and what the monitor is asked.
-use Rattle.std.specs.Prelude.{ℕ, ◌≡◌, ◌&&◌, Bool, true, false, not, List, [], ◌∷◌, ◌++◌, length, slice_get, Option, Some, None, is_some}
+use Rattle.std.specs.Prelude.{ℕ, ◌≡◌, ◌&&◌, Bool, true, false, not, List, [], ◌∷◌, ◌++◌, length, Option, Some, None, is_some}
 use Rattle.mdb_base.specs.declared.address.ServerAddress.{ServerAddress}
 use Rattle.mdb_base.specs.declared.options.Options.{Options}
 use Rattle.mdb_base.specs.declared.error.Error.{Error}
@@ -9,10 +9,7 @@ use Rattle.mdb_describe.specs.Descriptions.{failed}
 use Rattle.mdb_describe.specs.Differences.{difference}
 use Rattle.mdb_describe.specs.Update.{updated}
 use Rattle.mdb_events.specs.declared.fact.Fact.{Fact}
-use Rattle.mdb_events.specs.declared.fact.Fact.TheVariants.{CheckNow as CheckNowFact, Cancel}
 use Rattle.mdb_log.specs.declared.step.Step.{Step}
-use Rattle.mdb_log.specs.declared.step.Act.{Act}
-use Rattle.mdb_log.specs.declared.step.Act.TheVariants.{Clear as ClearAct}
 use Rattle.mdb_log.specs.declared.checked.BeatenResult.{BeatenResult}
 use Rattle.mdb_log.specs.declared.checked.BeatenResult.TheVariants as Beaten
 use Rattle.mdb_log.specs.declared.reply.Refused.TheVariants.{Exhausted}
@@ -23,10 +20,8 @@ use Rattle.mdb_log.specs.declared.reply.Reply.TheVariants.{Changed}
 use Rattle.mdb_log.specs.History.{Item}
 use Rattle.mdb_pool.specs.Core.{PoolCore}
 use Rattle.mdb_pool.specs.Kept.{exhausted_now}
-use Rattle.mdb_pool.specs.Refusing.{refusal_now}
-use Rattle.mdb_topology.specs.declared.pools.pool_change.PoolChange.{PoolChange}
-use Rattle.mdb_topology.specs.declared.errors.marked.Asked.{Asked}
-use Rattle.mdb_topology.specs.declared.errors.marked.Asked.TheVariants.{Nothing, CheckNow, CancelIfCleared}
+use Rattle.mdb_driver_pools.specs.declared.pool_change.PoolChange.{PoolChange}
+use Rattle.mdb_driver_pools.specs.declared.trouble.Asked.{Asked}
 use Rattle.mdb_topology.specs.declared.monitors.monitoring.Monitoring.{Monitoring}
 use Rattle.mdb_topology.specs.declared.monitors.monitoring.Monitoring.TheVariants.{Same}
 use Rattle.mdb_topology.specs.declared.transition.Transition.{Transition}
@@ -35,18 +30,17 @@ use Rattle.mdb_topology.specs.declared.transition.Decision.TheVariants as Then
 use Rattle.mdb_topology.specs.declared.topology.TopologyCore.{TopologyCore}
 use Rattle.mdb_events.specs.declared.sdam.SdamEvent.{SdamEvent}
 use Rattle.mdb_log.specs.Opening.{pool_options}
-use Rattle.mdb_topology.specs.Acting.{step_of, PlansOne}
-use Rattle.mdb_topology.specs.Turns.{in_turn}
-use Rattle.mdb_topology.specs.Errors.{Trouble, Clear, whole, only, where_so, asks}
-use Rattle.mdb_topology.specs.Description.{rule_after, description_of, is_stop}
-use Rattle.mdb_topology.specs.Facts.{trouble, clear_by, clear_of, is_clear, clearing, asking}
-use Rattle.mdb_topology.specs.Publishing.{told_by, publication}
-use Rattle.mdb_topology.specs.Refusal.{first_refusal, first_past}
-use Rattle.mdb_topology.specs.Answer.{reply_to}
-use Rattle.mdb_topology.specs.Stepping.{known_after}
+use Rattle.mdb_driver_rules.specs.Turns.{in_turn}
+use Rattle.mdb_driver_rules.specs.Errors.{Trouble, Clear, whole, only, where_so, asks}
+use Rattle.mdb_driver_rules.specs.Description.{rule_after, description_of, is_stop, known_after}
+use Rattle.mdb_driver_rules.specs.Facts.{trouble, clear_by, clear_of, is_clear, clearing, asking}
+use Rattle.mdb_driver_rules.specs.Publishing.{told_by, publication}
+use Rattle.mdb_driver_rules.specs.Refusal.{first_refusal, first_past}
+use Rattle.mdb_driver_rules.specs.Answer.{reply_to}
 use Rattle.mdb_topology.specs.Changing.{IsTelling, IsTold, IsUnchanged, IsWithCheck}
-use Rattle.mdb_topology.specs.Standing.{PoolsStand}
-use Rattle.mdb_topology.specs.Planned.{opened_by}
+use Rattle.mdb_driver_pools.specs.Standing.{PoolsStand}
+use Rattle.mdb_driver_pools.specs.Planned.{opened_by}
+use Rattle.mdb_driver_pools.specs.Clearing.{asked_of}
 
 -- what an act that concerns no pool by itself tells
 abbrev pub spoken : Options → List Item → Step → List (List Item → List Fact)
@@ -72,27 +66,6 @@ IsMarkOf t u = (a : ServerAddress) × (e : Error) × (u ≡ updated t (failed a 
 abbrev pub clear_with : Option ObjectId → Clear
 clear_with None = whole
 clear_with (Some s) = only s
-
--- the act, by the number of the pool
-abbrev pub clear_act : Option ObjectId → Error → ℕ → Act
-clear_act service error p = ClearAct p service error
-
--- the pool at the index accepts the clear
-abbrev pub AcceptsClear : List PoolCore → ℕ → ℕ → Option ObjectId → Error → Type 0
-AcceptsClear pools i m service error = (s : PoolCore) → slice_get pools i ≡ Some s → refusal_now s (step_of m (clear_act service error) s.pool) ≡ None
-
--- The pool at the index is cleared, where that is wanted.
-abbrev pub Clears : Bool → List PoolCore → ℕ → ℕ → Option ObjectId → Error → List PoolChange → List PoolChange → List Fact → List Fact → Type 0
-Clears false pools i m service error earlier changes before after = (changes ≡ earlier) × (after ≡ before)
-Clears true pools i m service error earlier changes before after =
-    (d : PlansOne pools i m (clear_act service error) earlier changes before after) × (refusal_now d.pool (step_of m (clear_act service error) d.pool.pool) ≡ None)
-
--- what the monitor of the address is asked, by whether the pool was cleared
-abbrev pub asked_of : Asked → Bool → ServerAddress → List Fact
-asked_of Nothing cleared a = []
-asked_of CheckNow cleared a = CheckNowFact a ∷ []
-asked_of CancelIfCleared true a = Cancel a ∷ []
-asked_of CancelIfCleared false a = []
 
 -- The trouble is of the pool with the number at the address: where its server changes, the pool is cleared, if it clears.
 pub record IsOfPool (o : Options) (x : Trouble) (p : ℕ) (a : ServerAddress) (error : Error) (clears : Bool) (asked : Asked) : Type 0 where
@@ -147,6 +120,7 @@ pub record IsMarked (w : TopologyCore) (m : ℕ) (u : TopologyDescription) (x : 
 abbrev pub MarksTo : TopologyCore → ℕ → TopologyDescription → Trouble → Decision → Type 0
 MarksTo w m u x (Then.Refused why) = (why ≡ Exhausted Generation) × MarkPasses w m u x (Some Generation)
 MarksTo w m u x (Then.Accepted n) = IsMarked w m u x n
+MarksTo w m u x (Then.Repeated n s) = ⊥
 
 -- A failed check marks its server, and makes nothing known once the driver was stopped.
 abbrev pub FailsTo : TopologyCore → ℕ → TopologyDescription → Trouble → Bool → Transition → Type 0

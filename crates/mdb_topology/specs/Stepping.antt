@@ -1,13 +1,12 @@
 -- What an accepted step makes of a driver.
-use Rattle.std.specs.Prelude.{ℕ, ◌≡◌, ◌≤◌, ◌+◌, ◌^◌, ◌||◌, All, Bool, true, false, List, [], ◌∷◌, ◌++◌, length, Option, Some, None, is_some, unwrap_or}
-use Rattle.mdb_base.specs.declared.address.ServerAddress.{ServerAddress}
+use Rattle.std.specs.Prelude.{ℕ, ◌≡◌, ◌≤◌, ◌+◌, ◌^◌, ◌||◌, All, true, List, [], ◌∷◌, ◌++◌, length, Some, is_some, unwrap_or, Option, None}
+use Rattle.mdb_describe.specs.declared.description.ServerDescription.{ServerDescription}
 use Rattle.mdb_describe.specs.declared.topology.TopologyDescription.{TopologyDescription}
+use Rattle.mdb_describe.specs.Update.{stored}
 use Rattle.mdb_log.specs.declared.log.Entry.{Entry}
 use Rattle.mdb_log.specs.declared.step.Step.{Step}
-use Rattle.mdb_log.specs.declared.step.Act.{Act}
 use Rattle.mdb_log.specs.declared.step.Act.TheVariants as Do
-use Rattle.mdb_topology.specs.Finding.{is_pool_act}
-use Rattle.mdb_log.specs.History.{Item, did, is_number, with_answer}
+use Rattle.mdb_log.specs.History.{Item, did, with_answer}
 use Rattle.mdb_log.specs.LegalLog.{IsFairAnswer}
 use Rattle.mdb_log.specs.Beside.{AllFreshGrants}
 use Rattle.mdb_log.specs.Connections.{one_if}
@@ -17,41 +16,13 @@ use Rattle.mdb_pool.specs.Core.{PoolCore}
 use Rattle.mdb_topology.specs.declared.topology.TopologyCore.{TopologyCore}
 use Rattle.mdb_topology.specs.declared.transition.Transition.{Transition}
 use Rattle.mdb_topology.specs.declared.transition.Decision.{Decision}
-use Rattle.mdb_topology.specs.declared.transition.Decision.TheVariants.{Refused, Accepted}
-use Rattle.mdb_topology.specs.Answer.{answer}
-use Rattle.mdb_topology.specs.Refusal.{refusal, may_want}
-use Rattle.mdb_topology.specs.Description.{Rule, applied}
-use Rattle.mdb_topology.specs.Planned.{LeadsAll, opened_by}
+use Rattle.mdb_topology.specs.declared.transition.Decision.TheVariants.{Refused, Accepted, Repeated}
+use Rattle.mdb_driver_rules.specs.Answer.{answer}
+use Rattle.mdb_driver_rules.specs.Refusal.{refusal, may_want}
+use Rattle.mdb_driver_pools.specs.Planned.{LeadsAll, opened_by}
 use Rattle.mdb_topology.specs.Checking.{monitors_after, numbers_after, watchers_after, IsPlaced}
-use Rattle.mdb_topology.specs.Standing.{at_address, PoolsStand, MonitorsFit, Describes, Counts, StandsFor}
-
--- the pool with the number is the open one of the address
-abbrev pub is_here_among : List PoolCore → ServerAddress → ℕ → Bool
-is_here_among pools a p = is_number (at_address pools a) p
-
--- what is known after a rule, and nothing new where there is none
-abbrev pub known_after : Option Rule → TopologyDescription → Option TopologyDescription
-known_after None t = None
-known_after (Some rule) t = Some (applied (Some rule) t)
-
--- The acts of the topology.
-abbrev pub is_topology_act : Act → Bool
-is_topology_act (Do.Hello a p came) = true
-is_topology_act (Do.Hosts hosts) = true
-is_topology_act (Do.ClusterTime time) = true
-is_topology_act Do.Stop = true
-is_topology_act (Do.Want w) = true
-is_topology_act (Do.Unwant w) = true
-is_topology_act (Do.Rtt a p sample) = true
-is_topology_act (Do.Beat a p) = true
-is_topology_act (Do.Beaten a p duration came) = true
-is_topology_act (Do.Error r error) = true
-is_topology_act (Do.Failed q c at error) = true
-is_topology_act _ = false
-
--- The acts of a driver.
-abbrev pub is_driver_act : Act → Bool
-is_driver_act act = is_pool_act act || is_topology_act act
+use Rattle.mdb_topology.specs.Standing.{MonitorsFit, Describes, Counts, StandsFor}
+use Rattle.mdb_driver_pools.specs.Standing.{PoolsStand}
 
 -- An accepted step: its answer, and what each part of the driver then is, where its pools are those to which the changes lead.
 pub record Follows (w : TopologyCore) (n : Transition) (step : Step) (h : List Item) : Type 0 where
@@ -73,10 +44,21 @@ pub record Follows (w : TopologyCore) (n : Transition) (step : Step) (h : List I
 abbrev pub FollowsSome : TopologyCore → Transition → Step → Type 0
 FollowsSome w n step = (h : List Item) × StandsFor w h × Follows w n step h
 
+-- a description takes the place of the one of its server, where there is one
+abbrev pub placed : Option ServerDescription → TopologyDescription → TopologyDescription
+placed None t = t
+placed (Some s) t = stored t s
+
+-- the same step, where then a description takes its place
+abbrev pub with_place : Option ServerDescription → TopologyCore → Transition → Transition
+with_place None w n = n
+with_place (Some s) w n = record n { description = Some (stored (unwrap_or n.description w.description) s) }
+
 -- What becomes of a step after the history.
 abbrev pub BecomesOf : TopologyCore → Step → Decision → List Item → Type 0
 BecomesOf w step (Refused why) h = refusal w.options h step ≡ Some why
 BecomesOf w step (Accepted n) h = Follows w n step h
+BecomesOf w step (Repeated n s) h = Follows w (with_place (Some s) w n) step h
 
 -- Running out of memory may be the answer to the step after the history.
 abbrev pub MayWant : TopologyCore → Step → List Item → Type 0

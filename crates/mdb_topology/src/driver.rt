@@ -2,8 +2,8 @@
 
 ghost use Rattle.std.specs.Prelude.{◌≡◌, ◌++◌, ◌∷◌, [], OnOk, OnErr, List};
 ghost use Rattle.mdb_topology.specs.Driving.{opens_seeds, may_come};
-ghost use Rattle.mdb_topology.specs.Lines.{entry_after, steps_of};
-ghost use Rattle.mdb_topology.specs.Stepping.{is_driver_act};
+ghost use Rattle.mdb_driver_rules.specs.Lines.{entry_after, steps_of};
+ghost use Rattle.mdb_driver_rules.specs.Acts.{is_driver_act};
 
 use crate::stepping::is_driver_act;
 use crate::topology::TopologyCore;

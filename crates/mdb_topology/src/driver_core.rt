@@ -1,7 +1,7 @@
 //! The driver as a core of many pools: what it stands for is the log of its steps.
 
-ghost use Rattle.mdb_topology.specs.Jobs.{job_after as job_of};
-ghost use Rattle.mdb_topology.specs.Lines.{described as told_of, publications as published_in};
+ghost use Rattle.mdb_driver_rules.specs.Jobs.{job_after as job_of};
+ghost use Rattle.mdb_driver_rules.specs.Lines.{described as told_of, publications as published_in};
 ghost use Rattle.mdb_topology.specs.Logging.{IsDriverOf};
 
 use crate::topology::TopologyCore;
@@ -11,7 +11,7 @@ use mdb_log::{Core, Job, Log, Reply, Step};
 use std::alloc::Global;
 
 impl Core for TopologyCore {
-    ghost use Rattle.mdb_topology.specs.Growing.{publications-grow};
+    ghost use Rattle.mdb_driver_rules.specs.Growing.{publications-grow};
 
     ghost stands = { IsDriverOf };
 

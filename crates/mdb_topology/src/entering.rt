@@ -3,12 +3,11 @@
 ghost use Rattle.std.specs.Prelude.{◌≡◌, ◌≤◌, ◌++◌, ◌∷◌, [], OnOk, OnErr, IfOk, List, Some, slice_get, true};
 ghost use Rattle.mdb_log.specs.declared.reply.Reply.TheVariants.{Refused as RefusedBy};
 
-use crate::pools::pool_decision::PoolDecision;
 use crate::topology::TopologyCore;
 use crate::transition::Transition;
 use mdb_base::OutOfMemory;
+use mdb_driver_pools::PoolDecision;
 use mdb_log::{Log, Refused, Reply, Step};
-use mdb_pool::enter;
 use std::alloc::{AllocError, Global};
 
 /// The refused step gets its entry, and nothing else changes.
@@ -23,19 +22,19 @@ pub(crate) fn refuse(
     ensures reply { IfOk result (λ told. told ≡ RefusedBy why) }
     ensures err { OnErr result (log.new ≡ log.old) }
 {
-    enter(log, seat, step, Reply::Refused(why), Vec::new(alloc))
+    log.answer(seat, step, Reply::Refused(why), Vec::new(alloc))
 }
 
 impl TopologyCore {
     ghost use Rattle.mdb_log.specs.History.{Item};
     ghost use Rattle.mdb_pool.specs.Core.{PoolCore};
-    ghost use Rattle.mdb_topology.specs.declared.pools.pool_decision.PoolDecision.TheVariants.{Concerns};
-    ghost use Rattle.mdb_topology.specs.Answer.{answer};
+    ghost use Rattle.mdb_driver_pools.specs.declared.pool_decision.PoolDecision.TheVariants.{Concerns};
+    ghost use Rattle.mdb_driver_rules.specs.Answer.{answer};
     ghost use Rattle.mdb_topology.specs.Entering.{Enters};
-    ghost use Rattle.mdb_topology.specs.Finding.{is_pool_act};
+    ghost use Rattle.mdb_driver_rules.specs.Acts.{is_pool_act};
     ghost use Rattle.mdb_topology.specs.Standing.{IsSame, StandsFor, StandsForSome};
     ghost use Rattle.mdb_topology.specs.Stepping.{Logs};
-    ghost use Rattle.mdb_topology.specs.Taking.{IsReady};
+    ghost use Rattle.mdb_driver_pools.specs.Taking.{IsReady};
 
     // The step, which concerns the pool at the place alone, is done in it and logged.
     fn enter_at(
@@ -81,7 +80,8 @@ impl TopologyCore {
         match self.pools.act(step) {
             PoolDecision::Refused(why) => Ok(refuse(alloc, log, seat, step, why)?),
             PoolDecision::Idle => {
-                self.accept(log, seat, step, Transition::of_reply(alloc, Reply::NoJob))
+                let next = Transition::of_reply(alloc, Reply::NoJob);
+                self.accept(alloc, log, seat, step, next, None)
             }
             PoolDecision::Concerns(place) => {
                 let reply = self.enter_at(alloc, log, seat, step, place)?;

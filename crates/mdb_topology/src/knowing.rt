@@ -17,12 +17,13 @@ impl TopologyCore {
     ghost use Rattle.mdb_pool.specs.Core.{PoolCore as Core};
     ghost use Rattle.mdb_pool.specs.Kept.{is_spent};
     ghost use Rattle.mdb_pool.specs.Standing.{StandsIn};
-    ghost use Rattle.mdb_topology.specs.Description.{description_of, published};
-    ghost use Rattle.mdb_topology.specs.Jobs.{job_after};
-    ghost use Rattle.mdb_topology.specs.Living.{living_at};
+    ghost use Rattle.mdb_driver_rules.specs.Description.{description_of, published};
+    ghost use Rattle.mdb_driver_rules.specs.Jobs.{job_after};
+    ghost use Rattle.mdb_driver_pools.specs.Living.{living_at};
     ghost use Rattle.mdb_topology.specs.Logging.{IsDriverOf};
-    ghost use Rattle.mdb_topology.specs.Monitors.{check_count};
-    ghost use Rattle.mdb_topology.specs.Standing.{StandsFor, IsGone, PoolFits, home};
+    ghost use Rattle.mdb_driver_rules.specs.Monitors.{check_count};
+    ghost use Rattle.mdb_topology.specs.Standing.{StandsFor};
+    ghost use Rattle.mdb_driver_pools.specs.Standing.{IsGone, PoolFits, home};
 
     /// What is known of the topology.
     pub fn description(&self) -> &TopologyDescription

@@ -6,19 +6,17 @@ ghost use Rattle.mdb_monitor.specs.Standing.{StandsFor as MonitorStands};
 ghost use Rattle.mdb_events.specs.declared.fact.Fact.{Fact as FactRecord};
 ghost use Rattle.mdb_log.specs.declared.reply.Reply.TheVariants.{Done};
 ghost use Rattle.mdb_log.specs.Connections.{has};
-ghost use Rattle.mdb_topology.specs.Living.{lives_at};
+ghost use Rattle.mdb_driver_pools.specs.Living.{lives_at};
 ghost use Rattle.mdb_topology.specs.Logging.{opening_step};
-ghost use Rattle.mdb_topology.specs.Opening.{IsOpened};
-ghost use Rattle.mdb_topology.specs.Monitors.{setting};
+ghost use Rattle.mdb_driver_pools.specs.Opening.{IsOpened};
+ghost use Rattle.mdb_driver_rules.specs.Monitors.{setting};
 
 use crate::known::telling_changes::monitor_of;
 use crate::monitors::monitor_list::Monitors;
-use crate::opening::{Opening, open};
-use crate::pools::Pools;
-use crate::pools::cores::Cores;
 use crate::topology::TopologyCore;
 use mdb_base::{Items, Options, OutOfMemory};
 use mdb_describe::TopologyDescription;
+use mdb_driver_pools::{Cores, Opening, Pools, open};
 use mdb_events::{Boxed, Fact};
 use mdb_log::{Act, Entry, Log, Reply, Step};
 use mdb_monitor::CheckCount;
@@ -116,7 +114,7 @@ fn begin(alloc: Global, log: &mut Log, seat: u32, options: &Options) -> Result<B
 }
 
 impl TopologyCore {
-    ghost use Rattle.mdb_topology.specs.Lines.{entry_after};
+    ghost use Rattle.mdb_driver_rules.specs.Lines.{entry_after};
     ghost use Rattle.mdb_topology.specs.Logging.{IsDriverOf};
 
     /// Opens a driver, and begins its log with the entry of that, by the seat. `OutOfMemory` comes where there is no memory for it; the log then has no entry.

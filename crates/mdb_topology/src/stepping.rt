@@ -1,21 +1,19 @@
 //! The steps of a driver.
 
-ghost use Rattle.std.specs.Prelude.{◌≡◌, ◌≤◌, ◌+◌, ◌++◌, ◌∷◌, [], ◌&&◌, ◌||◌, ℕ, nat_le, nat_lt, OnOk, OnErr, IfOk, List, Option, is_some, unwrap_or, length, true};
+ghost use Rattle.std.specs.Prelude.{◌≡◌, ◌≤◌, ◌+◌, ◌++◌, ◌&&◌, ◌||◌, ℕ, nat_le, nat_lt, OnOk, OnErr, IfOk, List, Option, is_some, unwrap_or, length, true};
 ghost use Rattle.mdb_log.specs.Connections.{has, one_if};
-ghost use Rattle.mdb_topology.specs.Stepping.{is_driver_act};
+ghost use Rattle.mdb_driver_rules.specs.Acts.{is_driver_act};
 
 use crate::entering::refuse;
 use crate::monitors::monitor_list::Monitors;
 use crate::monitors::monitoring::Monitoring;
-use crate::pools::acting::is_pool_act;
-use crate::pools::pool_change::PoolChange;
 use crate::topology::TopologyCore;
 use crate::transition::{Decision, Transition};
 use mdb_base::{Moment, OutOfMemory};
-use mdb_describe::TopologyDescription;
+use mdb_describe::{ServerDescription, TopologyDescription};
+use mdb_driver_pools::{PoolChange, is_pool_act};
 use mdb_log::{Act, HelloResult, Log, Refused, Reply, Step};
 use mdb_monitor::MonitorCore;
-use mdb_pool::enter;
 use std::alloc::Global;
 
 // More monitors, for which there is room.
@@ -49,33 +47,33 @@ pub(crate) fn is_driver_act(act: &Act) -> bool
 }
 
 impl TopologyCore {
-    ghost use Rattle.mdb_describe.specs.declared.topology.TopologyDescription.{TopologyDescription as Description};
     ghost use Rattle.mdb_log.specs.Acts.{IsDriverAct};
     ghost use Rattle.mdb_log.specs.History.{Item};
     ghost use Rattle.mdb_pool.specs.Core.{PoolCore};
-    ghost use Rattle.mdb_topology.specs.Planned.{LeadsAll, opened_by};
+    ghost use Rattle.mdb_driver_pools.specs.Planned.{LeadsAll, opened_by};
     ghost use Rattle.mdb_topology.specs.Standing.{StandsFor, StandsForSome, IsSame};
-    ghost use Rattle.mdb_topology.specs.Answer.{answer};
+    ghost use Rattle.mdb_driver_rules.specs.Answer.{answer};
     ghost use Rattle.mdb_topology.specs.Checking.{monitors_after, numbers_after, watchers_after, IsPlaced};
-    ghost use Rattle.mdb_topology.specs.Finding.{is_pool_act};
-    ghost use Rattle.mdb_topology.specs.Living.{lives_at};
+    ghost use Rattle.mdb_driver_rules.specs.Acts.{is_pool_act};
+    ghost use Rattle.mdb_driver_pools.specs.Living.{lives_at};
     ghost use Rattle.mdb_topology.specs.Logging.{IsDriverOf};
-    ghost use Rattle.mdb_topology.specs.Refusal.{may_want, refusal};
-    ghost use Rattle.mdb_topology.specs.Stepping.{is_topology_act, BecomesOf, Follows, FollowsSome, Logs, MayWant};
+    ghost use Rattle.mdb_driver_rules.specs.Refusal.{may_want, refusal};
+    ghost use Rattle.mdb_topology.specs.Stepping.{placed, with_place, BecomesOf, Follows, FollowsSome, Logs, MayWant};
+    ghost use Rattle.mdb_driver_rules.specs.Acts.{is_topology_act};
 
-    // Room for the pools and monitors that come, and the number of publications afterwards.
-    fn make_room(&mut self, next: &Transition) -> Result<u64, OutOfMemory>
+    // Room for the pools and monitors that come, and the number of publications afterwards. One is added where a description takes its place.
+    fn make_room(&mut self, next: &Transition, places: bool) -> Result<u64, OutOfMemory>
         ensures same { IsSame self.old self.new }
         ensures pools { OnOk result (length self.new.pools.cores.items + length next.now.monitors.items ≤ self.new.pools.cores.room) }
         ensures monitors { OnOk result (length self.new.monitors.items + length next.now.monitors.items ≤ self.new.monitors.room) }
         ensures known { OnOk result (length self.new.pools.known.spans + 1 ≤ self.new.pools.known.capacity) }
-        ensures published { IfOk result (λ n. n ≡ self.old.published + one_if (is_some next.now.description)) }
+        ensures published { IfOk result (λ n. n ≡ self.old.published + one_if (places || is_some next.now.description)) }
     {
         let more = next.monitors.len();
         self.pools.known.reserve(1)?;
         self.pools.reserve(more)?;
         self.monitors.reserve(more)?;
-        if next.description.is_none() {
+        if !places && next.description.is_none() {
             return Ok(self.published);
         }
         match self.published.checked_add(1) {
@@ -139,25 +137,37 @@ impl TopologyCore {
         }
     }
 
-    /// An accepted step is logged and done.
+    // A description takes the place of the one of its server, where there is one. No memory is taken.
+    fn place(&mut self, alloc: Global, server: Option<ServerDescription>)
+        ensures { self.new ≡ record self.old { description = placed server self.old.description } }
+    {
+        if let Some(server) = server {
+            self.description.store(alloc, server);
+        }
+    }
+
+    /// An accepted step is logged and done. A description takes its place at the end, where there is one.
     pub(crate) fn accept(
         &mut self,
+        alloc: Global,
         log: &mut Log,
         seat: u32,
         step: &Step,
         next: Transition,
+        server: Option<ServerDescription>,
     ) -> Result<Reply, OutOfMemory>
-        requires follows { FollowsSome self.old next step.now }
+        requires follows { FollowsSome self.old (with_place server self.old next) step.now }
         ensures options { self.new.options ≡ self.old.options }
-        ensures logs { OnOk result ((h : List Item) → StandsFor self.old h → Follows self.old next step.now h → Logs self.old self.new log.old log.new seat step.now h) }
+        ensures logs { OnOk result ((h : List Item) → StandsFor self.old h → Follows self.old (with_place server self.old next) step.now h → Logs self.old self.new log.old log.new seat step.now h) }
         ensures reply { IfOk result (λ reply. reply ≡ next.reply) }
         ensures err_core { OnErr result (IsSame self.old self.new) }
         ensures err_log { OnErr result (log.new ≡ log.old) }
     {
-        let published = match self.make_room(&next) {
+        let published = match self.make_room(&next, server.is_some()) {
             Ok(published) => published,
             Err(e) => {
                 drop(next);
+                drop(server);
                 return Err(e);
             }
         };
@@ -170,12 +180,13 @@ impl TopologyCore {
             monitoring,
             stops,
         } = next;
-        match enter(log, seat, step, reply, facts) {
+        match log.answer(seat, step, reply, facts) {
             Ok(told) => {
                 self.take(step.moment, changes, description, monitors, monitoring);
                 self.pools.note(&step.act);
                 self.published = published;
                 self.stopped = is_stopped_then(stops, self.stopped);
+                self.place(alloc, server);
                 Ok(told)
             }
             Err(_) => {
@@ -183,6 +194,7 @@ impl TopologyCore {
                 drop(description);
                 drop(monitors);
                 drop(monitoring);
+                drop(server);
                 Err(OutOfMemory)
             }
         }
@@ -244,6 +256,11 @@ impl TopologyCore {
                 drop(next);
                 Ok(None)
             }
+            Decision::Repeated(next, server) => {
+                drop(next);
+                drop(server);
+                Ok(None)
+            }
         }
     }
 
@@ -272,7 +289,10 @@ impl TopologyCore {
         }
         match self.topology_act(alloc, step)? {
             Decision::Refused(why) => Ok(refuse(alloc, log, seat, step, why)?),
-            Decision::Accepted(next) => self.accept(log, seat, step, next),
+            Decision::Accepted(next) => self.accept(alloc, log, seat, step, next, None),
+            Decision::Repeated(next, server) => {
+                self.accept(alloc, log, seat, step, next, Some(server))
+            }
         }
     }
 

@@ -1,9 +1,9 @@
 //! The state of a driver.
 
 use crate::monitors::monitor_list::Monitors;
-use crate::pools::Pools;
 use mdb_base::Options;
 use mdb_describe::TopologyDescription;
+use mdb_driver_pools::Pools;
 use mdb_monitor::CheckCount;
 
 /// All pools of one driver with what is known of its servers. Each pool has a monitor, at the pool's number. Memory keeps the pools in which something lives, and their monitors: one that is open, or

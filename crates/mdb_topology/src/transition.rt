@@ -3,10 +3,9 @@
 ghost use Rattle.std.specs.Prelude.{◌≡◌, [], IfOk, false, None};
 ghost use Rattle.mdb_topology.specs.declared.monitors.monitoring.Monitoring.TheVariants.{Same};
 
-use crate::known::sdam_facts::sdam_fact;
 use crate::monitors::monitoring::Monitoring;
-use crate::pools::pool_change::PoolChange;
-use mdb_describe::TopologyDescription;
+use mdb_describe::{ServerDescription, TopologyDescription};
+use mdb_driver_pools::{PoolChange, sdam_fact};
 use mdb_events::{Fact, SdamEvent};
 use mdb_log::{Refused, Reply};
 use mdb_monitor::MonitorCore;
@@ -85,4 +84,6 @@ pub enum Decision {
     /// The step is refused, and nothing changes.
     Refused(Refused),
     Accepted(Transition),
+    /// The step is accepted, and a description that says again what is known of its server takes the place of the one before it.
+    Repeated(Transition, ServerDescription),
 }

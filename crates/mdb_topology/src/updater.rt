@@ -12,7 +12,7 @@ use mdb_log::{Act, HelloResult, Log, Reply, Step};
 use std::alloc::Global;
 
 impl TopologyCore {
-    ghost use Rattle.mdb_topology.specs.Answer.{answer};
+    ghost use Rattle.mdb_driver_rules.specs.Answer.{answer};
     ghost use Rattle.mdb_topology.specs.Logging.{IsDriverOf};
     ghost use Rattle.mdb_topology.specs.Standing.{StandsFor, StandsForSome, IsSame};
     ghost use Rattle.mdb_topology.specs.Stepping.{IsLogged};

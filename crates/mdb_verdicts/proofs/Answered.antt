@@ -9,7 +9,7 @@ use Rattle.mdb_log.specs.declared.reply.Reply.TheVariants as reply
 use Rattle.mdb_log.specs.declared.step.Step.{Step}
 use Rattle.mdb_log.specs.History.{Item, did, with_answer, with_entries, history_of}
 use Rattle.mdb_lines.specs.Script.{AreAllowed}
-use Rattle.mdb_topology.specs.Lines.{options_in, answer_after, steps_of}
+use Rattle.mdb_driver_rules.specs.Lines.{options_in, answer_after, steps_of}
 use Rattle.mdb_laws.specs.Answers.{IsAnswer, AreAnswers}
 use Rattle.mdb_entries.specs.Answers.{is_plain_reply, is_plain_fact, has_plain_answer, IsTyped, TextShows}
 use Rattle.mdb_entries.proofs.AnswerLemmas.{log_shows}

@@ -18,8 +18,8 @@ use Rattle.mdb_monitor.specs.Items.{MonitorItem, began, ended, measured, since, 
 use Rattle.mdb_monitor.specs.Beginnings.{connection_for}
 use Rattle.mdb_event_reading.specs.SdamTexts.{is_server_id}
 use Rattle.mdb_entries.specs.Answers.{is_plain_event, is_plain_error}
-use Rattle.mdb_topology.specs.Homes.{is_here}
-use Rattle.mdb_topology.specs.Monitors.{check_result, is_of, fresh_for, with_check, monitor_items, recent, begin_event, end_event, heartbeat}
+use Rattle.mdb_driver_rules.specs.Homes.{is_here}
+use Rattle.mdb_driver_rules.specs.Monitors.{check_result, is_of, fresh_for, with_check, monitor_items, recent, begin_event, end_event, heartbeat}
 use Rattle.mdb_verdicts.proofs.Plain.{IsPlainAddress, ArePlainFacts, IsPlainResponse, IsPlainBeaten, IsPlainAct, IsPlainHistory}
 use Rattle.mdb_verdicts.proofs.Lists.{IfAny}
 

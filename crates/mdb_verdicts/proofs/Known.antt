@@ -21,11 +21,11 @@ use Rattle.mdb_log.specs.declared.step.Act.{Act}
 use Rattle.mdb_log.specs.declared.step.Act.TheVariants as act
 use Rattle.mdb_log.specs.History.{Item, did, made}
 use Rattle.mdb_log.specs.Homes.{Home, homes}
-use Rattle.mdb_topology.specs.Homes.{begun, concerns, home_at, home_of, is_here}
-use Rattle.mdb_topology.specs.Monitors.{hello_reply, average}
-use Rattle.mdb_topology.specs.Current.{Complaint, in_operation, in_handshake, complaint_of, is_current}
-use Rattle.mdb_topology.specs.Errors.{Trouble, Case, case_of, monitor_trouble, current_trouble, complaint_trouble, trouble_of, marks}
-use Rattle.mdb_topology.specs.Description.{Rule, opens, updates, syncs, tells_time, stops, replied_rule, marking_rule, syncing_rule, rule_of, with_balancers, begins_with, applied, is_stopped, step_rule, description_of, rule_after}
+use Rattle.mdb_driver_rules.specs.Homes.{begun, concerns, home_at, home_of, is_here}
+use Rattle.mdb_driver_rules.specs.Monitors.{hello_reply, average}
+use Rattle.mdb_driver_rules.specs.Current.{Complaint, in_operation, in_handshake, complaint_of, is_current}
+use Rattle.mdb_driver_rules.specs.Errors.{Trouble, Case, case_of, monitor_trouble, current_trouble, complaint_trouble, trouble_of, marks}
+use Rattle.mdb_driver_rules.specs.Description.{Rule, opens, updates, syncs, tells_time, stops, replied_rule, marking_rule, syncing_rule, rule_of, with_balancers, begins_with, applied, is_stopped, step_rule, description_of, rule_after}
 use Rattle.mdb_verdicts.proofs.Plain.{IsPlainAddress, ArePlainAddresses, IsPlainError, IsPlainAct, IsPlainHistory, IsPlainServer}
 use Rattle.mdb_verdicts.proofs.Lists.{all-both, all-find, IfAny}
 use Rattle.mdb_verdicts.proofs.Servers.{IsPlainTopology, updated-plain, opened-plain, synced-plain, reply-server}

@@ -18,9 +18,9 @@ use Rattle.mdb_log.specs.History.{PoolItem, after_facts}
 use Rattle.mdb_log.specs.Connections.{created_total, pending_list, available_list, known_service, pins, is_pinned, holding, granted_to}
 use Rattle.mdb_log.specs.Requests.{requests, queued, is_warm, end_of, is_unserved}
 use Rattle.mdb_log.specs.State.{State, is_new, is_ready, is_paused, is_closed, state_of, min_size}
-use Rattle.mdb_pool.specs.Facts.{new_pool_error, created_fact, closed_fact, pool_closed_fact, closes, check_in, come_back, hand_over, fail_requester, sweep, fill, turned_away, readied, end_facts, all_ends, close_reason, perished, clear_facts, close_facts, overdue, act_facts}
-use Rattle.mdb_pool.specs.Serving.{next_move, serve, serving}
-use Rattle.mdb_pool.proofs.Turns.Fair.{Move, nothing, closing, granting, creating, warming, move-of}
+use Rattle.mdb_pool_rules.specs.Facts.{new_pool_error, created_fact, closed_fact, pool_closed_fact, closes, check_in, come_back, hand_over, fail_requester, sweep, fill, turned_away, readied, end_facts, all_ends, close_reason, perished, clear_facts, close_facts, overdue, act_facts}
+use Rattle.mdb_pool_rules.specs.Serving.{next_move, serve, serving}
+use Rattle.mdb_pool_rules.proofs.Fair.{Move, nothing, closing, granting, creating, warming, move-of}
 use Rattle.mdb_verdicts.proofs.Plain.{IsPlainAddress, IsPlainError, IsPlainEnd, IsPlainFact, ArePlainFacts, IsPlainAct, ArePlainParts}
 use Rattle.mdb_verdicts.proofs.Lists.{all-both}
 use Rattle.mdb_verdicts.proofs.PoolParts.{IsPlainState, state-plain}

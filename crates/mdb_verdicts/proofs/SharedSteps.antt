@@ -7,7 +7,7 @@ use Rattle.mdb_log.specs.declared.step.Step.{Step}
 use Rattle.mdb_lines.specs.Script.{Spells, AreAllowed}
 use Rattle.mdb_lines.specs.Spelling.{spelling}
 use Rattle.mdb_laws.specs.Answers.{AreAnswers}
-use Rattle.mdb_topology.specs.Lines.{entry_after, steps_of}
+use Rattle.mdb_driver_rules.specs.Lines.{entry_after, steps_of}
 use Rattle.mdb_turns.specs.Turning.{own}
 use Rattle.mdb_turns.specs.Stepping.{raised, last_in}
 use Rattle.mdb_shared_runs.specs.Shares.{lines_of_player_from, lines_of_player, raised_along, IsShared}

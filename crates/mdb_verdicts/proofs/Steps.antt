@@ -21,16 +21,16 @@ use Rattle.mdb_log.specs.History.{Item, PoolItem, of_pool, given, with_facts}
 use Rattle.mdb_log.specs.Homes.{Home, homes}
 use Rattle.mdb_log.specs.Opening.{pool_options}
 use Rattle.mdb_log.specs.Requests.{end_of, outcome_of, is_claimed}
-use Rattle.mdb_pool.specs.Answer.{first_job, reply_of}
-use Rattle.mdb_pool.specs.Serving.{serving}
-use Rattle.mdb_topology.specs.Answer.{pool_reply, reply_to, answered, answer}
-use Rattle.mdb_topology.specs.Description.{description_of, rule_after}
-use Rattle.mdb_topology.specs.Errors.{Clear, nothing, whole, only, Case, state_change, lost, asks, Trouble}
-use Rattle.mdb_topology.specs.Facts.{trouble, clear_of, clearing, asking, own_facts, serve_all, parts, step_facts}
-use Rattle.mdb_topology.specs.Homes.{begun, home_of, is_here}
-use Rattle.mdb_topology.specs.Monitors.{average}
-use Rattle.mdb_topology.specs.Publishing.{told_by}
-use Rattle.mdb_topology.specs.Refusal.{refusal}
+use Rattle.mdb_pool_rules.specs.Answer.{first_job, reply_of}
+use Rattle.mdb_pool_rules.specs.Serving.{serving}
+use Rattle.mdb_driver_rules.specs.Answer.{pool_reply, reply_to, answered, answer}
+use Rattle.mdb_driver_rules.specs.Description.{description_of, rule_after}
+use Rattle.mdb_driver_rules.specs.Errors.{Clear, nothing, whole, only, Case, state_change, lost, asks, Trouble}
+use Rattle.mdb_driver_rules.specs.Facts.{trouble, clear_of, clearing, asking, own_facts, serve_all, parts, step_facts}
+use Rattle.mdb_driver_rules.specs.Homes.{begun, home_of, is_here}
+use Rattle.mdb_driver_rules.specs.Monitors.{average}
+use Rattle.mdb_driver_rules.specs.Publishing.{told_by}
+use Rattle.mdb_driver_rules.specs.Refusal.{refusal}
 use Rattle.mdb_verdicts.proofs.Plain.{IsPlainAddress, IsPlainEnd, IsPlainReply, ArePlainFacts, IsPlainAct, IsPlainHistory, ArePlainParts}
 use Rattle.mdb_verdicts.proofs.Lists.{IfAny}
 use Rattle.mdb_verdicts.proofs.PoolParts.{parts-of, with-plain, end-plain}

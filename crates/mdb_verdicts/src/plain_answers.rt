@@ -4,7 +4,7 @@ ghost use Rattle.std.specs.Prelude.{◌≡◌, true, List, []};
 ghost use Rattle.std.specs.List.{list_all};
 ghost use Rattle.mdb_log.specs.declared.log.Entry.{Entry};
 ghost use Rattle.mdb_lines.specs.Script.{AreAllowed};
-ghost use Rattle.mdb_topology.specs.Lines.{steps_of};
+ghost use Rattle.mdb_driver_rules.specs.Lines.{steps_of};
 ghost use Rattle.mdb_laws.specs.Answers.{AreAnswers};
 ghost use Rattle.mdb_entries.specs.Answers.{has_plain_answer};
 

@@ -2,7 +2,7 @@
 
 ghost use Rattle.std.specs.Prelude.{[]};
 ghost use Rattle.mdb_lines.specs.Script.{AreAllowed};
-ghost use Rattle.mdb_topology.specs.Lines.{steps_of};
+ghost use Rattle.mdb_driver_rules.specs.Lines.{steps_of};
 ghost use Rattle.mdb_laws.specs.Answers.{AreAnswers};
 ghost use Rattle.mdb_entries.specs.Answers.{TextShows};
 

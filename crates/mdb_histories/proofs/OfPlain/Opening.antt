@@ -15,7 +15,7 @@ use Rattle.mdb_log.specs.Opening.{pool_options}
 use Rattle.mdb_log.specs.LegalLog.{numbered, OpensSeeds}
 use Rattle.mdb_log.specs.PlainState.{pools, is_ready_pool}
 use Rattle.mdb_log.specs.PlainLegal.{counts_from, is_ascending, has_address, opens_seeds}
-use Rattle.mdb_log.proofs.Addresses.{own-address}
+use Rattle.mdb_describe.proofs.Addresses.{own-address}
 use Rattle.mdb_log.proofs.Numbers.{same-number}
 use Rattle.mdb_histories.proofs.OfPlain.States.{ready-alike}
 

@@ -9,7 +9,7 @@ use Rattle.mdb_log.specs.Connections.{one_if, has, live, live_total, created_tot
 use Rattle.mdb_log.specs.State.{max_size, may_create, is_empty}
 use Rattle.mdb_log.specs.PlainConnections.{closings, connections, is_created, is_available, closed_total}
 use Rattle.mdb_log.specs.PlainState.{may_create as may_create_one}
-use Rattle.mdb_pool.proofs.Listed.Values.{without-absent}
+use Rattle.mdb_pool_rules.proofs.Listed.Values.{without-absent}
 use Rattle.mdb_sound.specs.Sound.{Sound, MayCreate, MayClose}
 use Rattle.mdb_sound.specs.Counts.{creations as made, closings as shut}
 use Rattle.mdb_sound.specs.Laws.{ConnectionLaws}

@@ -14,9 +14,9 @@ use Rattle.mdb_log.specs.Connections.{has, pending_list, known_service, granted_
 use Rattle.mdb_log.specs.Requests.{queued, end_of}
 use Rattle.mdb_log.specs.State.{State, is_new, is_ready, is_paused, is_closed, state_of}
 use Rattle.mdb_log.proofs.Numbers.{same-number}
-use Rattle.mdb_pool.specs.Facts.{new_pool_error, closed_fact, cleared_fact, clear_facts, readied, turned_away, overdue, fail_requester, act_facts}
-use Rattle.mdb_pool.specs.Serving.{serving}
-use Rattle.mdb_pool.specs.Answer.{all_facts}
+use Rattle.mdb_pool_rules.specs.Facts.{new_pool_error, closed_fact, cleared_fact, clear_facts, readied, turned_away, overdue, fail_requester, act_facts}
+use Rattle.mdb_pool_rules.specs.Serving.{serving}
+use Rattle.mdb_pool_rules.specs.Answer.{all_facts}
 use Rattle.mdb_sound.specs.Laws.{IsOver}
 use Rattle.mdb_sound.specs.Sound.{Sound, was_closed, just_failed}
 use Rattle.mdb_sound.proofs.Acts.{Done, requests as asks, warms, gives_up, establishes, fails, returns, pins_one, replicates, takes, unpins, maintains, expires, readies, clears, shuts, tells}

@@ -16,17 +16,17 @@ use Rattle.mdb_log.specs.Answer.{Answer}
 use Rattle.mdb_log.specs.History.{Item, of_pool, open_pool, last_moment, with_act, with_facts, with_answer, history_of}
 use Rattle.mdb_log.specs.Opening.{pool_options}
 use Rattle.mdb_log.proofs.Later.{with_entries-append}
-use Rattle.mdb_pool.specs.Refusal.{first_row}
-use Rattle.mdb_pool.proofs.Answered.Item.{first-passes}
+use Rattle.mdb_pool_rules.specs.Refusal.{first_row}
+use Rattle.mdb_pool_rules.proofs.FirstRow.{first-passes}
 use Rattle.mdb_sound.proofs.Rested.{Rested}
 use Rattle.mdb_topology.specs.declared.topology.TopologyCore.{TopologyCore}
-use Rattle.mdb_topology.specs.Answer.{answer, reply_to}
-use Rattle.mdb_topology.specs.Description.{description_of}
-use Rattle.mdb_topology.specs.Facts.{step_facts}
-use Rattle.mdb_topology.specs.Homes.{begun}
-use Rattle.mdb_topology.specs.Lines.{options_in, answer_after, entry_after}
+use Rattle.mdb_driver_rules.specs.Answer.{answer, reply_to}
+use Rattle.mdb_driver_rules.specs.Description.{description_of}
+use Rattle.mdb_driver_rules.specs.Facts.{step_facts}
+use Rattle.mdb_driver_rules.specs.Homes.{begun}
+use Rattle.mdb_driver_rules.specs.Lines.{options_in, answer_after, entry_after}
 use Rattle.mdb_topology.specs.Logging.{opening_step, Stood, AreDriven, IsDriverOf}
-use Rattle.mdb_topology.specs.Refusal.{rows_of, first_refusal, exhausted, ran_out, refused_by, refusal}
+use Rattle.mdb_driver_rules.specs.Refusal.{rows_of, first_refusal, exhausted, ran_out, refused_by, refusal}
 use Rattle.mdb_topology.specs.Standing.{StandsFor}
 use Rattle.mdb_histories.specs.SoundHistory.{SoundHistory}
 use Rattle.mdb_histories.proofs.Answers.{keeps-sound, opening-sound}

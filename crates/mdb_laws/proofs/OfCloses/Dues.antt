@@ -12,7 +12,7 @@ use Rattle.mdb_log.specs.Connections.{has, holding, pins, is_pinned}
 use Rattle.mdb_log.specs.Requests.{end_of}
 use Rattle.mdb_log.specs.State.{is_closed, state_of}
 use Rattle.mdb_log.proofs.Numbers.{same-number}
-use Rattle.mdb_pool.specs.Facts.{perished, closes, check_in, come_back, sweep, act_facts}
+use Rattle.mdb_pool_rules.specs.Facts.{perished, closes, check_in, come_back, sweep, act_facts}
 use Rattle.mdb_laws.specs.Dues.{Closes}
 
 pub closes-left : (p c : ℕ) (why : ConnectionClosedReason) (fs gs : List Fact) → Closes p c why fs → Closes p c why (fs ++ gs)

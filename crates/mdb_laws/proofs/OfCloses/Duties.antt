@@ -19,17 +19,18 @@ use Rattle.mdb_log.specs.Connections.{has, pending_list, available_list, holding
 use Rattle.mdb_log.specs.Homes.{Home, homes}
 use Rattle.mdb_log.specs.Opening.{pool_options}
 use Rattle.mdb_log.proofs.Numbers.{same-number}
-use Rattle.mdb_pool.specs.Refusal.{first_row}
-use Rattle.mdb_pool.specs.Facts.{sweep, act_facts}
-use Rattle.mdb_pool.proofs.Answered.Item.{first-passes, one-passes, not-false}
+use Rattle.mdb_pool_rules.specs.Refusal.{first_row}
+use Rattle.mdb_pool_rules.specs.Facts.{sweep, act_facts}
+use Rattle.mdb_pool_rules.proofs.FirstRow.{first-passes, one-passes}
+use Rattle.mdb_log.proofs.Bools.{not-false}
 use Rattle.mdb_sound.proofs.Rested.{Rested}
 use Rattle.mdb_sound.proofs.Steady.{held-given}
-use Rattle.mdb_topology.specs.Facts.{trouble, clear_of, clearing, asking, own_facts, serve_all, step_facts}
-use Rattle.mdb_topology.specs.Finding.{is_pool_act}
-use Rattle.mdb_topology.specs.Homes.{concerns, home_of, begun}
-use Rattle.mdb_topology.specs.Refusal.{rows_of}
-use Rattle.mdb_topology.specs.Turns.{in_turn}
-use Rattle.mdb_topology.proofs.OnePool.TellsNoTopology.{plain-facts}
+use Rattle.mdb_driver_rules.specs.Facts.{trouble, clear_of, clearing, asking, own_facts, serve_all, step_facts}
+use Rattle.mdb_driver_rules.specs.Acts.{is_pool_act}
+use Rattle.mdb_driver_rules.specs.Homes.{concerns, home_of, begun}
+use Rattle.mdb_driver_rules.specs.Refusal.{rows_of}
+use Rattle.mdb_driver_rules.specs.Turns.{in_turn}
+use Rattle.mdb_driver_pools.proofs.OnePool.TellsNoTopology.{plain-facts}
 use Rattle.mdb_histories.specs.SoundHistory.{SoundHistory, was_opened}
 use Rattle.mdb_histories.proofs.Begins.{number-is}
 use Rattle.mdb_histories.proofs.Beside.{find-none}

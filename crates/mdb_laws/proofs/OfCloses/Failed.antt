@@ -19,16 +19,16 @@ use Rattle.mdb_log.specs.Homes.{Home}
 use Rattle.mdb_log.specs.Opening.{pool_options}
 use Rattle.mdb_log.proofs.Later.{of_pool-with_facts}
 use Rattle.mdb_log.proofs.Numbers.{same-number}
-use Rattle.mdb_pool.specs.Refusal.{first_row}
+use Rattle.mdb_pool_rules.specs.Refusal.{first_row}
 use Rattle.mdb_sound.specs.Sound.{just_failed}
 use Rattle.mdb_sound.proofs.Rested.{Rested}
-use Rattle.mdb_topology.specs.Description.{description_of, marking_rule, rule_after, is_stopped}
-use Rattle.mdb_topology.specs.Errors.{Trouble, marks}
-use Rattle.mdb_topology.specs.Facts.{trouble, clear_of, clearing, asking, own_facts, step_facts}
-use Rattle.mdb_topology.specs.Homes.{home_of, begun}
-use Rattle.mdb_topology.specs.Publishing.{told_by}
-use Rattle.mdb_topology.specs.Refusal.{rows_of}
-use Rattle.mdb_topology.specs.Turns.{in_turn}
+use Rattle.mdb_driver_rules.specs.Description.{description_of, marking_rule, rule_after, is_stopped}
+use Rattle.mdb_driver_rules.specs.Errors.{Trouble, marks}
+use Rattle.mdb_driver_rules.specs.Facts.{trouble, clear_of, clearing, asking, own_facts, step_facts}
+use Rattle.mdb_driver_rules.specs.Homes.{home_of, begun}
+use Rattle.mdb_driver_rules.specs.Publishing.{told_by}
+use Rattle.mdb_driver_rules.specs.Refusal.{rows_of}
+use Rattle.mdb_driver_rules.specs.Turns.{in_turn}
 use Rattle.mdb_histories.specs.SoundHistory.{SoundHistory}
 use Rattle.mdb_histories.proofs.Begins.{number-is}
 use Rattle.mdb_histories.proofs.Comes.{AllMayCome, come-sound}

@@ -14,11 +14,11 @@ use Rattle.mdb_log.specs.Opening.{pool_options}
 use Rattle.mdb_log.specs.Own.{AllOwn}
 use Rattle.mdb_log.proofs.Later.{of_pool-with_facts}
 use Rattle.mdb_log.proofs.Numbers.{same-number}
-use Rattle.mdb_pool.specs.Serving.{serving}
-use Rattle.mdb_topology.specs.Facts.{serve_all}
+use Rattle.mdb_pool_rules.specs.Serving.{serving}
+use Rattle.mdb_driver_rules.specs.Facts.{serve_all}
 use Rattle.mdb_histories.specs.SoundHistory.{SoundHistory}
 use Rattle.mdb_histories.proofs.Comes.{AllMayCome, come-sound, own-leave}
-use Rattle.mdb_topology.proofs.OnePool.SameHistories.{IsCalm}
+use Rattle.mdb_driver_rules.proofs.SameHistories.{IsCalm}
 use Rattle.mdb_topology.proofs.OfMonitors.FactsOfCheck.{AreCalm}
 use Rattle.mdb_histories.proofs.Numbered.{AllApart, homes-apart}
 use Rattle.mdb_histories.proofs.Owns.{serving-own}

@@ -16,11 +16,11 @@ use Rattle.mdb_log.specs.declared.options.PoolOptions.{PoolOptions}
 use Rattle.mdb_log.specs.declared.step.Act.{Act}
 use Rattle.mdb_log.specs.History.{Item, of_pool, open_pool, with_facts}
 use Rattle.mdb_log.specs.Opening.{pool_options}
-use Rattle.mdb_pool.specs.Facts.{readied, close_facts}
-use Rattle.mdb_topology.specs.Description.{Rule, opens, updates, syncs, tells_time, stops, begins_with, unopened}
-use Rattle.mdb_topology.specs.Publishing.{ready_pool, close_pool, description_changed, server_changed, server_closed, topology_changed, server_opened, telling, publication, topology_closed, told_by}
-use Rattle.mdb_topology.specs.Ready.{is_ready_type}
-use Rattle.mdb_topology.specs.Turns.{in_turn}
+use Rattle.mdb_pool_rules.specs.Facts.{readied, close_facts}
+use Rattle.mdb_driver_rules.specs.Description.{Rule, opens, updates, syncs, tells_time, stops, begins_with, unopened}
+use Rattle.mdb_driver_rules.specs.Publishing.{ready_pool, close_pool, description_changed, server_changed, server_closed, topology_changed, server_opened, telling, publication, topology_closed, told_by}
+use Rattle.mdb_driver_rules.specs.Ready.{is_ready_type}
+use Rattle.mdb_driver_rules.specs.Turns.{in_turn}
 use Rattle.mdb_histories.proofs.Owns.{readied-own, close-own}
 use Rattle.mdb_histories.proofs.Parties.{each-sound}
 use Rattle.mdb_histories.proofs.Turns.{Turn, ComeTurn, AllGood}

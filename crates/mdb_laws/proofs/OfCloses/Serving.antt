@@ -8,9 +8,9 @@ use Rattle.mdb_log.specs.History.{PoolItem, after_facts}
 use Rattle.mdb_log.specs.Connections.{available_list}
 use Rattle.mdb_log.specs.Requests.{queued, is_warm}
 use Rattle.mdb_log.specs.State.{state_of, ready, may_create}
-use Rattle.mdb_pool.specs.Facts.{perished}
-use Rattle.mdb_pool.specs.Serving.{last_of, candidate, wants_connection, caller_move, meet, warm_move, move_for, next_move, serve, serving}
-use Rattle.mdb_pool.proofs.Turns.Fair.{candidate-first}
+use Rattle.mdb_pool_rules.specs.Facts.{perished}
+use Rattle.mdb_pool_rules.specs.Serving.{last_of, candidate, wants_connection, caller_move, meet, warm_move, move_for, next_move, serve, serving}
+use Rattle.mdb_pool_rules.proofs.Fair.{candidate-first}
 use Rattle.mdb_laws.specs.CloseCauses.{meeting, AllCaused}
 use Rattle.mdb_laws.proofs.OfCloses.Quiet.{caused-both}
 

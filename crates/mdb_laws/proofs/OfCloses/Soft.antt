@@ -15,10 +15,10 @@ use Rattle.mdb_log.specs.History.{Item, PoolItem, if_so, raised, ended, of_pool,
 use Rattle.mdb_log.specs.Opening.{pool_options}
 use Rattle.mdb_log.specs.Requests.{is_warm, queued}
 use Rattle.mdb_log.specs.State.{State, is_new, is_ready, is_paused, is_closed, state_of}
-use Rattle.mdb_pool.specs.Facts.{end_facts, all_ends, clear_facts}
+use Rattle.mdb_pool_rules.specs.Facts.{end_facts, all_ends, clear_facts}
 use Rattle.mdb_sound.specs.Sound.{just_failed}
-use Rattle.mdb_topology.specs.Errors.{Clear, nothing, whole, only, Trouble}
-use Rattle.mdb_topology.specs.Facts.{clearing}
+use Rattle.mdb_driver_rules.specs.Errors.{Clear, nothing, whole, only, Trouble}
+use Rattle.mdb_driver_rules.specs.Facts.{clearing}
 
 -- facts of clears and ends
 abbrev pub IsSoft : Fact → Type 0

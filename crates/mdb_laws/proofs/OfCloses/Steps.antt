@@ -10,21 +10,21 @@ use Rattle.mdb_log.specs.declared.step.Act.TheVariants as Do
 use Rattle.mdb_log.specs.History.{Item, of_pool, open_pool, is_number, after_act, with_facts}
 use Rattle.mdb_log.specs.Homes.{Home}
 use Rattle.mdb_log.specs.Opening.{pool_options}
-use Rattle.mdb_pool.specs.Refusal.{first_row}
-use Rattle.mdb_pool.specs.Facts.{clear_facts}
+use Rattle.mdb_pool_rules.specs.Refusal.{first_row}
+use Rattle.mdb_pool_rules.specs.Facts.{clear_facts}
 use Rattle.mdb_sound.proofs.Acts.{Done}
 use Rattle.mdb_sound.proofs.Establishes.{calm-rested}
 use Rattle.mdb_sound.proofs.Rested.{Rested}
 use Rattle.mdb_sound.proofs.Served.{Fine}
-use Rattle.mdb_topology.specs.Description.{description_of, rule_after}
-use Rattle.mdb_topology.specs.Errors.{Clear, nothing, whole, only, Trouble}
-use Rattle.mdb_topology.specs.Facts.{trouble, clear_of, clearing, asking, own_facts, serve_all, step_facts}
-use Rattle.mdb_topology.specs.Finding.{is_pool_act}
-use Rattle.mdb_topology.specs.Homes.{concerns, home_of, begun}
-use Rattle.mdb_topology.specs.Monitors.{heartbeat}
-use Rattle.mdb_topology.specs.Refusal.{rows_of}
-use Rattle.mdb_topology.specs.Turns.{in_turn}
-use Rattle.mdb_topology.proofs.OnePool.TellsNoTopology.{plain-facts}
+use Rattle.mdb_driver_rules.specs.Description.{description_of, rule_after}
+use Rattle.mdb_driver_rules.specs.Errors.{Clear, nothing, whole, only, Trouble}
+use Rattle.mdb_driver_rules.specs.Facts.{trouble, clear_of, clearing, asking, own_facts, serve_all, step_facts}
+use Rattle.mdb_driver_rules.specs.Acts.{is_pool_act}
+use Rattle.mdb_driver_rules.specs.Homes.{concerns, home_of, begun}
+use Rattle.mdb_driver_rules.specs.Monitors.{heartbeat}
+use Rattle.mdb_driver_rules.specs.Refusal.{rows_of}
+use Rattle.mdb_driver_rules.specs.Turns.{in_turn}
+use Rattle.mdb_driver_pools.proofs.OnePool.TellsNoTopology.{plain-facts}
 use Rattle.mdb_histories.specs.SoundHistory.{SoundHistory}
 use Rattle.mdb_histories.proofs.Begins.{home-done}
 use Rattle.mdb_histories.proofs.Comes.{AllMayCome, come-sound}

@@ -15,7 +15,7 @@ use Rattle.mdb_log.specs.Connections.{one_if, has, live_total, created_total, pe
 use Rattle.mdb_log.specs.Requests.{requests, is_unserved}
 use Rattle.mdb_log.specs.State.{State, is_new, is_ready, is_paused, is_closed, state_of, ready, min_size, max_connecting}
 use Rattle.mdb_log.proofs.Numbers.{same-number, has-without-is}
-use Rattle.mdb_pool.specs.Facts.{closes, closed_fact, created_fact, pool_closed_fact, perished, sweep, fill, all_ends, close_facts}
+use Rattle.mdb_pool_rules.specs.Facts.{closes, closed_fact, created_fact, pool_closed_fact, perished, sweep, fill, all_ends, close_facts}
 use Rattle.mdb_sound.specs.Sound.{Sound}
 use Rattle.mdb_sound.proofs.Order.{times, times-none}
 use Rattle.mdb_sound.proofs.Lists.{another, times-both, available-once, pending-once}

@@ -3,7 +3,7 @@ use Rattle.std.proofs.Common.{ℕ, ◌≡◌, ◌==◌, ◌||◌, Bool, true, fa
 use Rattle.mdb_log.specs.History.{PoolItem, asked, warmed, gave_up, returned, pinned_by, established, failed, replicated, taken, unpinned, created, closed, checked_in, granted, ended, raised, pool_created, pool_ready, pool_closed, without}
 use Rattle.mdb_log.specs.Connections.{has, parties}
 use Rattle.mdb_log.proofs.Numbers.{has-without-is}
-use Rattle.mdb_pool.proofs.Answered.Item.{both-true}
+use Rattle.mdb_log.proofs.Bools.{both-true}
 use Rattle.mdb_sound.specs.Sound.{Sound, MayGrant, MayTake}
 use Rattle.mdb_sound.proofs.Earlier.{earlier-sound}
 use Rattle.mdb_laws.specs.HistoryLaws.{hands, gives_back, HandsBack}

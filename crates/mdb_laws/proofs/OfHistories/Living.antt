@@ -1,5 +1,5 @@
 -- What each pool of a sound history says of connections, requests and generations.
-use Rattle.std.proofs.Common.{ℕ, zero, suc, ◌≡◌, ◌+◌, ◌≤◌, true, false, List, [], ◌∷◌, Option, Some, None, refl, sym, ◌∙◌, ap, subst, arith}
+use Rattle.std.proofs.Common.{ℕ, zero, suc, ◌≡◌, ◌+◌, ◌≤◌, true, false, List, [], ◌∷◌, Some, refl, sym, ◌∙◌, ap, subst, arith}
 use Rattle.mdb_base.specs.declared.object_id.ObjectId.{ObjectId}
 use Rattle.mdb_base.specs.declared.address.ServerAddress.{ServerAddress}
 use Rattle.mdb_base.specs.declared.error.Error.{Error}
@@ -11,11 +11,9 @@ use Rattle.mdb_log.specs.Opening.{pool_options}
 use Rattle.mdb_log.specs.Requests.{queued, end_of}
 use Rattle.mdb_log.specs.State.{State, is_new, is_ready, is_paused, is_closed, state_of, ready, generation_of}
 use Rattle.mdb_log.proofs.Numbers.{same-number}
-use Rattle.mdb_pool.specs.Facts.{clear_facts, readied}
-use Rattle.std.specs.Prelude.{slice_get}
+use Rattle.mdb_pool_rules.specs.Facts.{clear_facts, readied}
 use Rattle.std.specs.List.{list_any}
-use Rattle.mdb_pool.specs.Core.{PoolCore}
-use Rattle.mdb_pool.proofs.Histories.OnePlaceEach.{one-place}
+use Rattle.mdb_driver_pools.proofs.Orderly.{one-place-each}
 use Rattle.mdb_sound.specs.Counts.{creations, closings, establishings, failures, names, creates}
 use Rattle.mdb_sound.specs.Laws.{ConnectionLaws, NamingLaws}
 use Rattle.mdb_sound.specs.Sound.{Sound}
@@ -25,7 +23,7 @@ use Rattle.mdb_sound.proofs.Generations.{generation-laws}
 use Rattle.mdb_sound.proofs.Order.{in-order}
 use Rattle.mdb_sound.proofs.Parties.{request-laws}
 use Rattle.mdb_topology.specs.declared.topology.TopologyCore.{TopologyCore}
-use Rattle.mdb_topology.specs.Standing.{PoolFits, StandsFor}
+use Rattle.mdb_topology.specs.Standing.{StandsFor}
 use Rattle.mdb_laws.specs.HistoryLaws.{LivesOnce, ServesInOrder, total, IsCounted, is_end, cleared_for, ClearsOne, IsReadyOnce}
 use Rattle.mdb_histories.specs.SoundHistory.{SoundHistory}
 use Rattle.mdb_histories.proofs.Parties.{each-sound, apart}
@@ -72,14 +70,7 @@ places-counted xs s place = record {
 }
 
 pub each-counted : (w : TopologyCore) (h : List Item) → StandsFor w h → SoundHistory h → (p : ℕ) → IsCounted (of_pool p h)
-each-counted w h z s p = on (slice_get w.pools.cores.items p) refl
-  where
-    none : OnePlace []
-    none c = (refl, omega arith)
-
-    on : (x : Option PoolCore) → slice_get w.pools.cores.items p ≡ x → IsCounted (of_pool p h)
-    on None e = places-counted (of_pool p h) (each-sound h s p) (subst OnePlace (sym (z.pools.fit.rest p e)) none)
-    on (Some t) e = let d : PoolFits (pool_options w.options) h p t = z.pools.fit.each p t e in places-counted (of_pool p h) (each-sound h s p) (one-place t (of_pool p h) d.fits.matches)
+each-counted w h z s p = places-counted (of_pool p h) (each-sound h s p) (one-place-each (pool_options w.options) w.pools.cores.items h z.pools.fit p)
 
 -- a clear for a service says no more than that, and nothing where the pool is closed
 data ClearsSo (p : ℕ) (a : ServerAddress) (o : PoolOptions) (m : ℕ) (xs : List PoolItem) (s : ObjectId) (error : Error) : Type 0 where

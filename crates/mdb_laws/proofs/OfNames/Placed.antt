@@ -14,8 +14,8 @@ use Rattle.mdb_log.specs.Connections.{available_list}
 use Rattle.mdb_log.specs.Requests.{queued, end_of, is_warm}
 use Rattle.mdb_log.specs.State.{state_of, ready, may_create}
 use Rattle.mdb_log.proofs.Numbers.{same-number}
-use Rattle.mdb_pool.specs.Facts.{check_in, hand_over, perished}
-use Rattle.mdb_pool.specs.Serving.{last_of, candidate, wants_connection, caller_move, meet, warm_move, move_for, next_move, serve, serving}
+use Rattle.mdb_pool_rules.specs.Facts.{check_in, hand_over, perished}
+use Rattle.mdb_pool_rules.specs.Serving.{last_of, candidate, wants_connection, caller_move, meet, warm_move, move_for, next_move, serve, serving}
 use Rattle.mdb_laws.specs.Names.{just_given, IsReadyNow}
 use Rattle.mdb_laws.proofs.OfNames.Plain.{IsPlain, ArePlain, plain-both, check_in-plain}
 

@@ -18,8 +18,8 @@ use Rattle.mdb_log.specs.History.{PoolItem, after_facts}
 use Rattle.mdb_log.specs.Connections.{live_total, created_total, pending_list, available_list, known_service, holding, pins, is_pinned, granted_to}
 use Rattle.mdb_log.specs.Requests.{requests, queued, end_of, is_warm, is_unserved}
 use Rattle.mdb_log.specs.State.{State, is_new, is_ready, is_paused, is_closed, state_of, ready, min_size, max_connecting}
-use Rattle.mdb_pool.specs.Facts.{new_pool_error, close_reason, perished, closes, closed_fact, created_fact, pool_closed_fact, end_facts, all_ends, overdue, check_in, come_back, fail_requester, sweep, fill, clear_facts, close_facts, turned_away, readied, act_facts}
-use Rattle.mdb_topology.proofs.OnePool.SameHistories.{IsCalm}
+use Rattle.mdb_pool_rules.specs.Facts.{new_pool_error, close_reason, perished, closes, closed_fact, created_fact, pool_closed_fact, end_facts, all_ends, overdue, check_in, come_back, fail_requester, sweep, fill, clear_facts, close_facts, turned_away, readied, act_facts}
+use Rattle.mdb_driver_rules.proofs.SameHistories.{IsCalm}
 use Rattle.mdb_topology.proofs.OfMonitors.FactsOfCheck.{AreCalm}
 
 abbrev pub IsPlain : Fact → Type 0

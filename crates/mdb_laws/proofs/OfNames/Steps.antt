@@ -12,14 +12,14 @@ use Rattle.mdb_log.specs.Connections.{granted_to}
 use Rattle.mdb_log.specs.Homes.{Home, homes}
 use Rattle.mdb_log.specs.Opening.{pool_options}
 use Rattle.mdb_log.proofs.Numbers.{same-number}
-use Rattle.mdb_pool.specs.Serving.{serving}
-use Rattle.mdb_topology.specs.Description.{description_of, rule_after}
-use Rattle.mdb_topology.specs.Facts.{trouble, clear_of, clearing, asking, own_facts, serve_all, parts, step_facts}
-use Rattle.mdb_topology.specs.Homes.{concerns, home_of, begun}
-use Rattle.mdb_topology.specs.Monitors.{heartbeat}
-use Rattle.mdb_topology.specs.Publishing.{told_by}
-use Rattle.mdb_topology.specs.Turns.{in_turn}
-use Rattle.mdb_topology.proofs.OnePool.TellsNoTopology.{plain-facts}
+use Rattle.mdb_pool_rules.specs.Serving.{serving}
+use Rattle.mdb_driver_rules.specs.Description.{description_of, rule_after}
+use Rattle.mdb_driver_rules.specs.Facts.{trouble, clear_of, clearing, asking, own_facts, serve_all, parts, step_facts}
+use Rattle.mdb_driver_rules.specs.Homes.{concerns, home_of, begun}
+use Rattle.mdb_driver_rules.specs.Monitors.{heartbeat}
+use Rattle.mdb_driver_rules.specs.Publishing.{told_by}
+use Rattle.mdb_driver_rules.specs.Turns.{in_turn}
+use Rattle.mdb_driver_pools.proofs.OnePool.TellsNoTopology.{plain-facts}
 use Rattle.mdb_topology.proofs.OfMonitors.FactsOfCheck.{heartbeat-calm}
 use Rattle.mdb_histories.proofs.Steps.{home-concerned}
 use Rattle.mdb_histories.proofs.Troubles.{asking-calm}

@@ -5,10 +5,10 @@ use Rattle.mdb_log.specs.declared.log.Entry.{Entry}
 use Rattle.mdb_log.specs.declared.reply.Refused.{Refused}
 use Rattle.mdb_log.specs.declared.step.Step.{Step}
 use Rattle.mdb_log.specs.History.{Item, history_of}
-use Rattle.mdb_pool.specs.Refusal.{first_row}
-use Rattle.mdb_topology.specs.Answer.{answer}
-use Rattle.mdb_topology.specs.Lines.{answer_after, options_in}
-use Rattle.mdb_topology.specs.Refusal.{refusal, refused_by, first_refusal, rows_of}
+use Rattle.mdb_pool_rules.specs.Refusal.{first_row}
+use Rattle.mdb_driver_rules.specs.Answer.{answer}
+use Rattle.mdb_driver_rules.specs.Lines.{answer_after, options_in}
+use Rattle.mdb_driver_rules.specs.Refusal.{refusal, refused_by, first_refusal, rows_of}
 
 -- the answer after a log is that of a driver with some options
 pub answered-by : (log : List Entry) (step : Step) → (o : Options) × (answer_after log step ≡ answer o (history_of log) step)

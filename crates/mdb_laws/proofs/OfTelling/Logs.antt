@@ -7,9 +7,9 @@ use Rattle.mdb_log.specs.Answer.{Answer}
 use Rattle.mdb_log.specs.History.{Item, with_answer, history_of}
 use Rattle.mdb_log.specs.Requests.{told}
 use Rattle.mdb_topology.specs.declared.topology.TopologyCore.{TopologyCore}
-use Rattle.mdb_topology.specs.Answer.{answer}
-use Rattle.mdb_topology.specs.Growing.{with-entries}
-use Rattle.mdb_topology.specs.Lines.{answer_after, entry_after, log_after}
+use Rattle.mdb_driver_rules.specs.Answer.{answer}
+use Rattle.mdb_driver_rules.specs.Growing.{with-entries}
+use Rattle.mdb_driver_rules.specs.Lines.{answer_after, entry_after, log_after}
 use Rattle.mdb_topology.specs.Logging.{opening_step, AreDriven, IsDriverOf}
 use Rattle.mdb_laws.specs.Answers.{IsAnswer, AreAnswers}
 use Rattle.mdb_laws.proofs.OfTelling.Accepted.{answered-by}

@@ -11,10 +11,10 @@ use Rattle.mdb_log.specs.declared.reply.Reply.{Reply}
 use Rattle.mdb_log.specs.declared.reply.Reply.TheVariants.{Refused as RefusedBy}
 use Rattle.mdb_log.specs.History.{Item, did, made, open_pool, with_facts, with_answer}
 use Rattle.mdb_log.specs.Requests.{told, asks_how, is_outcome, is_open, some_act, was_asked, names_party, leaves}
-use Rattle.mdb_pool.specs.Refusal.{first_row}
-use Rattle.mdb_topology.specs.Answer.{answer, answered}
-use Rattle.mdb_topology.specs.Facts.{step_facts}
-use Rattle.mdb_topology.specs.Refusal.{refusal, rows_of}
+use Rattle.mdb_pool_rules.specs.Refusal.{first_row}
+use Rattle.mdb_driver_rules.specs.Answer.{answer, answered}
+use Rattle.mdb_driver_rules.specs.Facts.{step_facts}
+use Rattle.mdb_driver_rules.specs.Refusal.{refusal, rows_of}
 use Rattle.mdb_laws.proofs.OfTelling.Accepted.{row-fails, second-fails, passes-rows}
 
 -- The outcome of the request was told once at most, and never before its number was used.

@@ -14,10 +14,10 @@ use Rattle.mdb_log.specs.Driver.{tells_outcome}
 use Rattle.mdb_log.specs.History.{Item, PoolItem, made, of_pool, history_of, after_fact, with_facts, with_answer}
 use Rattle.mdb_log.specs.Homes.{Home}
 use Rattle.mdb_log.specs.Requests.{asks_how, outcome_of}
-use Rattle.mdb_topology.specs.Answer.{answer, answered, reply_to, pool_reply}
-use Rattle.mdb_topology.specs.Facts.{step_facts}
-use Rattle.mdb_topology.specs.Homes.{home_of, begun}
-use Rattle.mdb_topology.specs.Refusal.{refusal}
+use Rattle.mdb_driver_rules.specs.Answer.{answer, answered, reply_to, pool_reply}
+use Rattle.mdb_driver_rules.specs.Facts.{step_facts}
+use Rattle.mdb_driver_rules.specs.Homes.{home_of, begun}
+use Rattle.mdb_driver_rules.specs.Refusal.{refusal}
 use Rattle.mdb_laws.specs.Answers.{IsAnswer, TellsOutcome}
 use Rattle.mdb_laws.proofs.OfTelling.Accepted.{answered-by}
 use Rattle.mdb_laws.proofs.OfTelling.Logs.{one-more}

@@ -15,18 +15,19 @@ use Rattle.mdb_log.specs.declared.step.Use.{Use}
 use Rattle.mdb_log.specs.declared.reply.Refused.TheVariants.{TimeBack, UnknownServer, RequestKnown, UnknownRequest, NotHolder, NotPending, Unpinned, PinInUse, PinState, WrongMode}
 use Rattle.mdb_log.specs.declared.reply.Reply.{Reply}
 use Rattle.mdb_log.specs.History.{PoolItem, asked, warmed, gave_up, established, failed, returned, pinned_by, replicated, taken, unpinned, service_in}
-use Rattle.mdb_log.proofs.Addresses.{same-address}
+use Rattle.mdb_describe.proofs.Addresses.{same-address}
 use Rattle.mdb_log.proofs.Numbers.{same-number}
 use Rattle.mdb_base.specs.Equality.{same_address}
 use Rattle.mdb_pool.specs.Core.{PoolCore}
 use Rattle.mdb_pool.specs.Kept.{request_at, connection_at, held_connection, is_open_now, is_asked_at, is_pending_at, is_held_at, is_shut, pins_at}
-use Rattle.mdb_pool.specs.Refusal.{first_row, wrong_service}
+use Rattle.mdb_pool_rules.specs.Refusal.{first_row, wrong_service}
 use Rattle.mdb_pool.specs.Refusing.{rows_now, refusal_now, is_here, is_pending_here, is_pinned_here}
 use Rattle.mdb_pool.specs.Planning.{Does, with_item}
 use Rattle.mdb_pool.specs.Standing.{Fits, Accepts}
 use Rattle.mdb_pool.proofs.Answered.Act.{no-some, holds-given}
 use Rattle.mdb_pool.proofs.Answered.GiveUp.{open-known}
-use Rattle.mdb_pool.proofs.Answered.Item.{first-passes, one-passes, two-pass, three-pass, not-false, both-true}
+use Rattle.mdb_pool_rules.proofs.FirstRow.{first-passes, one-passes, two-pass, three-pass}
+use Rattle.mdb_log.proofs.Bools.{not-false, both-true}
 use Rattle.mdb_pool.proofs.Follows.Fits.{asked-known}
 
 -- what the calls want

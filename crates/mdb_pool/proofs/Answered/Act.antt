@@ -18,20 +18,20 @@ use Rattle.mdb_pool.specs.Core.{PoolCore}
 use Rattle.mdb_log.specs.History.{Item, did, PoolItem, has_party, of_pool, with_facts, with_answer, after_facts, given, has_asked, open_pool, with_act}
 use Rattle.mdb_log.specs.Connections.{has, pending_list, holding, known_service, last_use, is_errored, is_dropped, pins}
 use Rattle.mdb_log.specs.Requests.{outcome_of, names_party, is_claimed, asks_how, is_outcome, told, was_asked, leaves, some_act, settles, is_job}
-use Rattle.mdb_pool.specs.Refusal.{refusal_of}
-use Rattle.mdb_pool.specs.Facts.{act_facts}
-use Rattle.mdb_pool.specs.Answer.{all_facts, reply_of, answer, answered}
-use Rattle.mdb_pool.specs.Serving.{serving, IsServed}
+use Rattle.mdb_pool_rules.specs.Refusal.{refusal_of}
+use Rattle.mdb_pool_rules.specs.Facts.{act_facts}
+use Rattle.mdb_pool_rules.specs.Answer.{all_facts, reply_of, answer, answered}
+use Rattle.mdb_pool_rules.specs.Serving.{serving, IsServed}
 use Rattle.mdb_pool.specs.Standing.{Fits, StandsFor, Serves, Accepts, Answers, SameHome}
 use Rattle.mdb_pool.specs.Matching.{Matches}
 use Rattle.mdb_pool.specs.Kept.{connection_at, request_at, held_connection, outcome_now, is_pending_at, given_of, given_in, holder_at, if_held, end_at, is_shut, pins_at}
 use Rattle.mdb_log.specs.Legal.{IsFairAnswer, NoneLeftWaiting, AllFirstCome}
 use Rattle.mdb_log.specs.Own.{IsAccepted, AllOwn, shuts}
 use Rattle.mdb_pool.specs.Places.{is_pending, is_held, is_available, is_at_pin}
-use Rattle.mdb_pool.proofs.Listed.Values.{has-where, passes, entry_at-key}
+use Rattle.mdb_pool_rules.proofs.Listed.Values.{has-where, passes, entry_at-key}
 use Rattle.mdb_pool.proofs.Listed.FirstOrLast.{id_or}
-use Rattle.mdb_pool.proofs.Turns.Fair.{fair-append, serve-fair, own-append, serve-own, with-serve, size}
-use Rattle.mdb_pool.proofs.Turns.NoMove.{serving-serves, served-settled}
+use Rattle.mdb_pool_rules.proofs.Fair.{fair-append, serve-fair, own-append, serve-own, with-serve, size}
+use Rattle.mdb_pool_rules.proofs.NoMove.{serving-serves, served-settled}
 use Rattle.mdb_log.proofs.Later.{of_pool-with_facts, after-append, with_answer-accepted, opens-after, claimed-reply}
 use Rattle.mdb_log.proofs.Frame.{last-facts, acts-facts, open-facts, open-home, party-facts, asked-facts, told-facts, claimed-facts}
 use Rattle.mdb_base.specs.Equality.{same_address}

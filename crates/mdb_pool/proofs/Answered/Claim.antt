@@ -11,7 +11,7 @@ use Rattle.std.proofs.Math.Bool.{or_comm}
 use Rattle.mdb_pool.proofs.Listed.Noted.{has-marked}
 use Rattle.mdb_log.proofs.Numbers.{same-number}
 use Rattle.mdb_pool.proofs.Follows.Fits.{noted-fits}
-use Rattle.mdb_pool.specs.Answer.{first_job}
+use Rattle.mdb_pool_rules.specs.Answer.{first_job}
 use Rattle.mdb_pool.specs.Changes.{claiming}
 use Rattle.mdb_log.specs.Connections.{has}
 use Rattle.mdb_log.specs.History.{PoolItem}

@@ -17,8 +17,8 @@ use Rattle.mdb_log.specs.History.{PoolItem, raised, after_fact, after_facts, has
 use Rattle.mdb_log.specs.Connections.{has}
 use Rattle.mdb_log.specs.Requests.{queued, is_warm}
 use Rattle.mdb_log.specs.State.{State, is_new, is_ready, is_paused, is_closed, state_of}
-use Rattle.mdb_pool.specs.Facts.{end_facts, all_ends, clear_facts, cleared_fact}
-use Rattle.mdb_pool.specs.Refusal.{is_exhausted}
+use Rattle.mdb_pool_rules.specs.Facts.{end_facts, all_ends, clear_facts, cleared_fact}
+use Rattle.mdb_pool_rules.specs.Refusal.{is_exhausted}
 use Rattle.mdb_pool.specs.Kept.{state_in, is_shut, is_ready_now, exhausted_now}
 use Rattle.mdb_pool.specs.Changes.{raising}
 use Rattle.mdb_log.specs.Legal.{AllFirstCome}

@@ -7,7 +7,7 @@ use Rattle.mdb_log.specs.declared.reply.Reply.TheVariants.{Done}
 use Rattle.mdb_pool.specs.Core.{PoolCore}
 use Rattle.mdb_log.specs.History.{PoolItem, after_facts}
 use Rattle.mdb_log.specs.Connections.{has}
-use Rattle.mdb_pool.specs.Facts.{all_ends, overdue}
+use Rattle.mdb_pool_rules.specs.Facts.{all_ends, overdue}
 use Rattle.mdb_pool.specs.Kept.{is_shut}
 use Rattle.mdb_pool.specs.Standing.{Fits, Serves, Expires, Accepts, SameHome, SameNotes}
 use Rattle.mdb_pool.proofs.Answered.Act.{accepts}

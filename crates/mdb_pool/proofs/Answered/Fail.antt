@@ -12,12 +12,12 @@ use Rattle.mdb_pool.specs.declared.kept.connection.Place.TheVariants.{Pending}
 use Rattle.mdb_pool.specs.declared.kept.request.Request.{Request}
 use Rattle.mdb_pool.specs.Core.{PoolCore}
 use Rattle.mdb_log.specs.History.{PoolItem, failed, closed, ended, after_fact, after_facts, has_asked, service_in}
-use Rattle.mdb_pool.specs.Facts.{act_facts, closed_fact}
+use Rattle.mdb_pool_rules.specs.Facts.{act_facts, closed_fact}
 use Rattle.mdb_pool.specs.Standing.{Fits, Serves, Accepts, SameHome, SameNotes}
 use Rattle.mdb_pool.specs.Kept.{connection_at, request_at, given_of, holder_at, holder_request, is_shut}
 use Rattle.mdb_pool.specs.Changes.{failing, forgetting, over_facts}
 use Rattle.mdb_pool.proofs.Answered.Act.{accepts, live-service, given-open}
-use Rattle.mdb_pool.proofs.Listed.Values.{entry_at-key}
+use Rattle.mdb_pool_rules.proofs.Listed.Values.{entry_at-key}
 use Rattle.mdb_pool.proofs.Turns.EndFacts.{over-is, over-known, over-fair, over-own, over-open}
 use Rattle.mdb_log.proofs.Numbers.{same-number}
 use Rattle.mdb_pool.proofs.Follows.Fits.{fail-fits, forget-fits, asked-known}

@@ -18,7 +18,7 @@ use Rattle.mdb_pool.specs.Core.{PoolCore}
 use Rattle.mdb_log.specs.History.{PoolItem, given, has_asked, after_facts, gave_up, closed, checked_in, ended, after_fact}
 use Rattle.mdb_pool.specs.Kept.{connection_at, request_at, given_in, given_of, end_in, end_at, is_ended_at, held_connection, pending_connection, is_open_now, is_pending_at, outcome_now, is_shut, reason_now, used_as, is_asked_at}
 use Rattle.mdb_log.specs.Requests.{end_of, told}
-use Rattle.mdb_pool.specs.Facts.{act_facts}
+use Rattle.mdb_pool_rules.specs.Facts.{act_facts}
 use Rattle.mdb_pool.specs.Standing.{Fits, SameHome, SameNotes, Serves, Accepts}
 use Rattle.mdb_log.specs.Connections.{has, pending_list, held}
 use Rattle.mdb_pool.specs.Places.{is_pending}
@@ -29,7 +29,7 @@ use Rattle.mdb_pool.proofs.Answered.Return.{none-above, some-above}
 use Rattle.mdb_pool.proofs.Follows.PinsFit.{quit-pinned-fits}
 use Rattle.mdb_pool.proofs.Listed.FirstOrLast.{Holder, holder, pender, not-given}
 use Rattle.mdb_pool.proofs.Follows.Fits.{quit-fits, leave-fits, hand-fits, late-fits, lose-fits, asked-known}
-use Rattle.mdb_pool.proofs.Listed.Values.{entry_at-key}
+use Rattle.mdb_pool_rules.proofs.Listed.Values.{entry_at-key}
 use Rattle.std.proofs.Math.Bool.{or_comm}
 use Rattle.mdb_pool.proofs.Listed.Noted.{has-marked}
 use Rattle.mdb_pool.specs.Keyed.{marked}

@@ -1,50 +1,23 @@
 -- What a pool knows with an act that it accepts.
-use Rattle.std.proofs.Common.{ℕ, ◌≡◌, Bool, true, false, ◌&&◌, ◌||◌, ◌==◌, List, [], ◌∷◌, None, is_some, refl, ◌∙◌, not, nat_lt}
+use Rattle.std.proofs.Common.{ℕ, ◌≡◌, Bool, true, false, ◌||◌, ◌==◌, List, [], ◌∷◌, None, is_some, refl, ◌∙◌, not, nat_lt}
 use Rattle.std.proofs.Math.Bool.{or_assoc}
 use Rattle.mdb_base.specs.declared.address.ServerAddress.{ServerAddress}
 use Rattle.mdb_log.specs.declared.step.Act.{Act}
 use Rattle.mdb_log.specs.declared.step.Act.TheVariants.{Open, Request, Warm, Collect, Claim, GiveUp, Established, Failed, Return, Pin, Replicate, Take, Unpin, Error, Hello, Beat, Beaten, Rtt, Hosts, ClusterTime, Want, Unwant, Stop, Maintain, Expire, Ready, Clear, Close}
 use Rattle.mdb_log.specs.declared.step.FailedAt.TheVariants.{Pre, Post}
-use Rattle.mdb_log.specs.declared.reply.Refused.{Refused}
 use Rattle.mdb_log.specs.declared.reply.Refused.TheVariants.{RequestKnown, Unpinned, PinInUse, UnknownServer}
 use Rattle.mdb_log.specs.History.{Item, PoolItem, after_act, gave_up, given, failed, established, returned, pinned_by, replicated, taken, unpinned, has_asked, has_taken, has_party, if_so, is_number, of_pool, open_pool}
 use Rattle.mdb_log.specs.Requests.{names_party, was_asked}
 use Rattle.mdb_log.proofs.Numbers.{same-number}
 use Rattle.mdb_pool.specs.Core.{PoolCore}
 use Rattle.mdb_pool.specs.Kept.{request_at, connection_at, is_held_at, pins_at}
-use Rattle.mdb_pool.specs.Refusal.{first_row}
+use Rattle.mdb_pool_rules.specs.Refusal.{first_row}
 use Rattle.mdb_pool.specs.Refusing.{rows_now, is_here, is_pinned_here}
 use Rattle.mdb_pool.specs.Planning.{with_item}
 use Rattle.mdb_pool.specs.Standing.{StandsFor}
 use Rattle.mdb_pool.proofs.Answered.Refusal.{here-is}
-
--- where no row holds, the first does not, nor one of the others
-pub first-passes : (b : Bool) (why : Refused) (rows : List (Bool × Refused)) → first_row ((b, why) ∷ rows) ≡ None → (b ≡ false) × (first_row rows ≡ None)
-first-passes true why rows e = cc
-first-passes false why rows e = (refl, e)
-
-pub one-passes : (b : Bool) (why : Refused) → first_row ((b, why) ∷ []) ≡ None → b ≡ false
-one-passes b why e = (first-passes b why [] e).0
-
-pub two-pass : (b c : Bool) (why also : Refused) → first_row ((b, why) ∷ (c, also) ∷ []) ≡ None → (b ≡ false) × (c ≡ false)
-two-pass b c why also e =
-    let rest : (b ≡ false) × (first_row ((c, also) ∷ []) ≡ None) = first-passes b why ((c, also) ∷ []) e in
-    (rest.0, one-passes c also rest.1)
-
-pub three-pass : (b c d : Bool) (why also too : Refused) → first_row ((b, why) ∷ (c, also) ∷ (d, too) ∷ []) ≡ None → (b ≡ false) × (c ≡ false) × (d ≡ false)
-three-pass b c d why also too e =
-    let rest : (b ≡ false) × (first_row ((c, also) ∷ (d, too) ∷ []) ≡ None) = first-passes b why ((c, also) ∷ (d, too) ∷ []) e in
-    let both : (c ≡ false) × (d ≡ false) = two-pass c d also too rest.1 in
-    (rest.0, both.0, both.1)
-
-pub not-false : (b : Bool) → not b ≡ false → b ≡ true
-not-false true e = refl
-not-false false e = cc
-
-pub both-true : (a b : Bool) → a && b ≡ true → (a ≡ true) × (b ≡ true)
-both-true true true e = (refl, refl)
-both-true true false e = cc
-both-true false b e = cc
+use Rattle.mdb_log.proofs.Bools.{both-true, not-false}
+use Rattle.mdb_pool_rules.proofs.FirstRow.{three-pass, two-pass}
 
 or-swap : (a b d : Bool) → a || (b || d) ≡ b || (a || d)
 or-swap true true d = refl

@@ -8,7 +8,7 @@ use Rattle.mdb_pool.specs.declared.kept.status.Status.TheVariants.{New, Ready, P
 use Rattle.mdb_pool.specs.Core.{PoolCore}
 use Rattle.mdb_log.specs.History.{PoolItem, after_facts}
 use Rattle.mdb_log.specs.Connections.{has}
-use Rattle.mdb_pool.specs.Facts.{readied, pool_ready_fact}
+use Rattle.mdb_pool_rules.specs.Facts.{readied, pool_ready_fact}
 use Rattle.mdb_log.specs.State.{state_of}
 use Rattle.mdb_pool.specs.Kept.{state_in, is_shut, is_ready_now}
 use Rattle.mdb_pool.specs.Changes.{readied_to, readied_facts}

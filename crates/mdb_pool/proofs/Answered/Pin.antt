@@ -16,7 +16,7 @@ use Rattle.mdb_pool.specs.Places.{stays}
 use Rattle.mdb_pool.specs.Changes.{pinning}
 use Rattle.mdb_pool.proofs.Answered.Act.{accepts}
 use Rattle.mdb_pool.proofs.Listed.FirstOrLast.{Holder, holder}
-use Rattle.mdb_pool.proofs.Listed.Values.{entry_at-key}
+use Rattle.mdb_pool_rules.proofs.Listed.Values.{entry_at-key}
 use Rattle.mdb_pool.proofs.Follows.PinsFit.{pin-fits, replicate-fits}
 
 -- the connection that a party holds was given to it

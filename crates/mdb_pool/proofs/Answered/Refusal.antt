@@ -16,7 +16,7 @@ use Rattle.mdb_log.proofs.Numbers.{same-number}
 use Rattle.mdb_pool.specs.declared.kept.connection.Connection.{Connection}
 use Rattle.mdb_pool.specs.Core.{PoolCore}
 use Rattle.mdb_pool.specs.Kept.{request_at, held_connection, is_open_now, is_shut, pins_at}
-use Rattle.mdb_pool.specs.Refusal.{first_row, rows_of, refusal_of}
+use Rattle.mdb_pool_rules.specs.Refusal.{first_row, rows_of, refusal_of}
 use Rattle.mdb_pool.specs.Refusing.{is_here, rows_now, refusal_now}
 use Rattle.mdb_pool.specs.Standing.{StandsFor}
 use Rattle.mdb_pool.proofs.Answered.Act.{pending-is, holding-is, holds-is, live-pins}

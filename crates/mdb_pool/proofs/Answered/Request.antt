@@ -26,12 +26,12 @@ use Rattle.mdb_pool.specs.Keyed.{marked}
 use Rattle.mdb_log.proofs.Numbers.{same-number}
 use Rattle.mdb_pool.proofs.Follows.Fits.{ask-fits, noted-fits, end-fits}
 use Rattle.mdb_log.specs.Connections.{has}
-use Rattle.mdb_pool.specs.Facts.{turned_away, started_fact, checked_out_fact}
+use Rattle.mdb_pool_rules.specs.Facts.{turned_away, started_fact, checked_out_fact}
 use Rattle.mdb_log.specs.State.{state_of}
 use Rattle.mdb_log.specs.Legal.{AllFirstCome}
 use Rattle.mdb_log.specs.Own.{shuts, AllOwn}
 use Rattle.mdb_slots.specs.Keyed.{entry_at, put}
-use Rattle.mdb_pool.proofs.Listed.Values.{entry_at-put, entry_at-swap, swap-put, find-put, find-narrow}
+use Rattle.mdb_pool_rules.proofs.Listed.Values.{entry_at-put, entry_at-swap, swap-put, find-put, find-narrow}
 use Rattle.mdb_pool.proofs.Listed.FirstOrLast.{available-at}
 use Rattle.mdb_pool.proofs.Follows.Stale.{ready-status}
 use Rattle.mdb_pool.proofs.Turns.Serve.{starts, turn-meet-to, ends-empty}

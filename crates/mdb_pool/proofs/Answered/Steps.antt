@@ -12,14 +12,15 @@ use Rattle.mdb_log.specs.History.{Item, of_pool, with_answer}
 use Rattle.mdb_log.specs.Legal.{NoneLeftWaiting}
 use Rattle.mdb_pool.specs.Core.{PoolCore}
 use Rattle.mdb_pool.specs.declared.planning.Answered.{Answered}
-use Rattle.mdb_pool.specs.Answer.{answer}
-use Rattle.mdb_pool.specs.Refusal.{first_row}
+use Rattle.mdb_pool_rules.specs.Answer.{answer}
+use Rattle.mdb_pool_rules.specs.Refusal.{first_row}
 use Rattle.mdb_pool.specs.Refusing.{refusal_now, rows_now}
 use Rattle.mdb_log.specs.declared.log.Entry.{Entry}
 use Rattle.mdb_pool.specs.Standing.{StandsFor, SameHome, Answers, Logs}
 use Rattle.mdb_pool.specs.Planning.{Does, DoesOne, DoesAll, IsPrepared, Passes, answered_as, answers_for, with_steps}
 use Rattle.mdb_pool.proofs.Answered.Act.{own-answers, refuses}
-use Rattle.mdb_pool.proofs.Answered.Item.{first-passes, names-item, asks-item, item-is}
+use Rattle.mdb_pool.proofs.Answered.Item.{names-item, asks-item, item-is}
+use Rattle.mdb_pool_rules.proofs.FirstRow.{first-passes}
 use Rattle.mdb_pool.proofs.Answered.Refusal.{refused-now}
 
 -- what holds anyway holds where there is an error

@@ -9,7 +9,7 @@ use Rattle.mdb_pool.specs.declared.kept.connection.Connection.{Connection}
 use Rattle.mdb_pool.specs.declared.kept.connection.Place.TheVariants.{Pinned}
 use Rattle.mdb_pool.specs.Core.{PoolCore}
 use Rattle.mdb_log.specs.History.{PoolItem, unpinned, after_facts, closed, checked_in}
-use Rattle.mdb_pool.specs.Facts.{act_facts}
+use Rattle.mdb_pool_rules.specs.Facts.{act_facts}
 use Rattle.mdb_log.specs.Connections.{has, pins, is_pinned}
 use Rattle.mdb_pool.specs.Standing.{Fits, Serves, Accepts, SameHome, SameNotes}
 use Rattle.mdb_pool.specs.Kept.{connection_at, is_shut, pins_at, is_pinned_at, reason_now}

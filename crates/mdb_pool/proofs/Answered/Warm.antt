@@ -18,11 +18,11 @@ use Rattle.mdb_pool.proofs.Answered.Act.{accepts, outcome-is, outcome-accepted, 
 use Rattle.mdb_log.proofs.Numbers.{same-number}
 use Rattle.mdb_pool.proofs.Follows.Fits.{warm-fits, end-fits}
 use Rattle.mdb_log.specs.Connections.{has}
-use Rattle.mdb_pool.specs.Facts.{turned_away}
+use Rattle.mdb_pool_rules.specs.Facts.{turned_away}
 use Rattle.mdb_log.specs.State.{state_of}
 use Rattle.mdb_log.specs.Legal.{AllFirstCome}
 use Rattle.mdb_log.specs.Own.{shuts, AllOwn}
-use Rattle.mdb_pool.proofs.Listed.Values.{entry_at-put}
+use Rattle.mdb_pool_rules.proofs.Listed.Values.{entry_at-put}
 use Rattle.std.proofs.Math.Bool.{or-false}
 use Rattle.mdb_pool.proofs.Answered.Request.{telling-settled, telling-fits}
 

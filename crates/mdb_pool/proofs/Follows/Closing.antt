@@ -19,7 +19,7 @@ use Rattle.mdb_pool.specs.Matching.{Matches}
 use Rattle.mdb_slots.specs.Keyed.{entry_at}
 use Rattle.mdb_pool.specs.Places.{is_pending, is_available, is_queued, stays}
 use Rattle.mdb_pool.specs.Changes.{closing, ended_request, available_ones, pending_ones, unserved_ones}
-use Rattle.mdb_pool.proofs.Listed.Values.{named, passes, has-where, one_if-le}
+use Rattle.mdb_pool_rules.proofs.Listed.Values.{named, passes, has-where, one_if-le}
 use Rattle.mdb_log.proofs.Pins.{pinned-again}
 use Rattle.mdb_pool.proofs.Turns.CloseMany.{closings, endings, Still, still-both, leave, leave-all, leave-none, leave-one, live-closings, total-closings, pending-closings, available-closings, queued-closings, parties-closings, given-closings, end-closings, live-endings, total-endings, pending-endings, available-endings, queued-endings, parties-endings, given-endings, end-endings, entry_at-filter, named-filter, filter-none}
 

@@ -16,7 +16,7 @@ use Rattle.mdb_pool.specs.Places.{is_pending, is_available, is_queued, stays}
 use Rattle.mdb_pool.specs.Changes.{establishing, pooling, returning, dropping}
 use Rattle.mdb_pool.proofs.Follows.Serving.{parties-without, holder-given, pending-place}
 use Rattle.mdb_log.proofs.Pins.{pinned-again, holding-one, errored-return}
-use Rattle.mdb_pool.proofs.Listed.Values.{entry_at-others, map-filter-others, entry_at-put, where-put, named-others, named-put, length-others, length-put, passes, where-put_out, where-put_stay, entry_at-swap, named-swap, where-swap_stay}
+use Rattle.mdb_pool_rules.proofs.Listed.Values.{entry_at-others, map-filter-others, entry_at-put, where-put, named-others, named-put, length-others, length-put, passes, where-put_out, where-put_stay, entry_at-swap, named-swap, where-swap_stay}
 use Rattle.mdb_log.specs.declared.step.Established.{Established}
 
 abbrev id_of : Connection → ℕ

@@ -18,7 +18,7 @@ use Rattle.mdb_pool.specs.Places.{is_pending, is_available, is_queued}
 use Rattle.mdb_pool.specs.Changes.{forgetting, failing}
 use Rattle.mdb_pool.proofs.Follows.Serving.{parties-without, holder-given}
 use Rattle.mdb_log.proofs.Pins.{pinned-again}
-use Rattle.mdb_pool.proofs.Listed.Values.{without-absent, entry_at-others, map-filter-others, named-others, length-others, passes, has-where, entry_at-swap, named-swap, where-swap_stay}
+use Rattle.mdb_pool_rules.proofs.Listed.Values.{without-absent, entry_at-others, map-filter-others, named-others, length-others, passes, has-where, entry_at-swap, named-swap, where-swap_stay}
 
 abbrev id_of : Connection → ℕ
 id_of x = x.id

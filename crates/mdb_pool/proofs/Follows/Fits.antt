@@ -23,7 +23,7 @@ use Rattle.mdb_log.specs.Connections.{held}
 use Rattle.mdb_pool.proofs.Follows.Failing.{forget-matches, failed_request, fail-matches}
 use Rattle.mdb_pool.proofs.Follows.WholePool.{discard-matches, skip-check-in, late-end, late-end_closed, late-end_skipped, over_request, end-matches, ready-matches, later-matches, raise-matches}
 use Rattle.mdb_log.proofs.Numbers.{same-number}
-use Rattle.mdb_pool.proofs.Listed.Values.{entry_at-put, others-put, where-put_in, where-swap_same, passes, one_if-le}
+use Rattle.mdb_pool_rules.proofs.Listed.Values.{entry_at-put, others-put, where-put_in, where-swap_same, passes, one_if-le}
 use Rattle.mdb_log.specs.Requests.{requests}
 use Rattle.mdb_pool.specs.declared.kept.request.Phase.{Phase}
 use Rattle.mdb_slots.specs.Keyed.{put, swap}

@@ -18,7 +18,7 @@ use Rattle.mdb_pool.specs.Changes.{quitting, leaving, parting, handing}
 use Rattle.mdb_pool.proofs.Follows.Serving.{parties-without, holder-given, pending-place}
 use Rattle.mdb_log.proofs.Pins.{pinned-again, holding-none, holding-one, holding-pending}
 use Rattle.mdb_log.specs.declared.step.Use.TheVariants.{Ok}
-use Rattle.mdb_pool.proofs.Listed.Values.{without-absent, entry_at-put, where-put, named, named-put, length-put, passes, has-where, where-put_stay, entry_at-swap, named-swap, length-swap, where-swap_out, where-swap_stay, where-swap_same, one_if-le}
+use Rattle.mdb_pool_rules.proofs.Listed.Values.{without-absent, entry_at-put, where-put, named, named-put, length-put, passes, has-where, where-put_stay, entry_at-swap, named-swap, length-swap, where-swap_out, where-swap_stay, where-swap_same, one_if-le}
 
 abbrev id_of : Connection → ℕ
 id_of x = x.id

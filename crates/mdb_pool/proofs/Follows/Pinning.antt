@@ -18,7 +18,7 @@ use Rattle.mdb_pool.specs.Places.{is_pending, is_available, is_at_pin, is_queued
 use Rattle.mdb_pool.specs.Changes.{to_pin, pinning, taking, unpinned_once, unpinning, pin_ending}
 use Rattle.mdb_pool.proofs.Follows.Serving.{parties-without, holder-given, pending-place}
 use Rattle.mdb_log.proofs.Pins.{pinned-again, holding-one, errored-return}
-use Rattle.mdb_pool.proofs.Listed.Values.{without-absent, entry_at-put, where-put, named, named-put, length-put, passes, has-where, where-put_stay, entry_at-swap, named-swap, length-swap, where-swap_stay, where-swap_same, one_if-le}
+use Rattle.mdb_pool_rules.proofs.Listed.Values.{without-absent, entry_at-put, where-put, named, named-put, length-put, passes, has-where, where-put_stay, entry_at-swap, named-swap, length-swap, where-swap_stay, where-swap_same, one_if-le}
 
 abbrev id_of : Connection → ℕ
 id_of x = x.id

@@ -17,7 +17,7 @@ use Rattle.mdb_pool.specs.Changes.{to_pin, pinning, taking, unpinned_once, unpin
 use Rattle.mdb_pool.proofs.Follows.Pinning.{stand-matches, back_request, quit-pinned-matches, left_request, pin-matches, replicate-matches, take-matches, taken_q, taken_request, unpin-matches, pin-end-matches}
 use Rattle.mdb_pool.proofs.Follows.Fits.{order-stays, discard-fits}
 use Rattle.mdb_log.proofs.Numbers.{same-number}
-use Rattle.mdb_pool.proofs.Listed.Values.{entry_at-put, others-put, where-put_stay, passes}
+use Rattle.mdb_pool_rules.proofs.Listed.Values.{entry_at-put, others-put, where-put_stay, passes}
 
 module _ (s : PoolCore) (xs : List PoolItem) (z : Fits s xs) (n : ℕ) where
   pub stand-fits : (x : Connection) (q : Request) → connection_at s x.id ≡ Some x → x.place ≡ Held → request_at s q.number ≡ Some q → q.phase ≡ Given x.id → nat_lt 0 x.pins ≡ true → (used : Use) → Fits (to_pin s n (used_as x used) q Over) (returned q.number used ∷ xs)

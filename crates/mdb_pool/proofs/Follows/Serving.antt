@@ -15,7 +15,7 @@ use Rattle.mdb_pool.specs.Places.{is_pending, is_available, is_queued}
 use Rattle.mdb_log.specs.declared.step.Use.TheVariants.{Ok}
 use Rattle.mdb_log.proofs.Pins.{pinned-again, queued-asked}
 use Rattle.mdb_pool.specs.Changes.{asking, creating, granting, spawning}
-use Rattle.mdb_pool.proofs.Listed.Values.{entry_at-put, named, named-put, length-put, passes, has-where, where-put_out, where-put_stay, where-put_in, entry_at-swap, named-swap, length-swap, where-swap_out, where-swap_stay}
+use Rattle.mdb_pool_rules.proofs.Listed.Values.{entry_at-put, named, named-put, length-put, passes, has-where, where-put_out, where-put_stay, where-put_in, entry_at-swap, named-swap, length-swap, where-swap_out, where-swap_stay}
 
 without-one : (o : Option ℕ) (r : ℕ) → without r (one_party o) ≡ if is_number o r then [] else one_party o
 without-one None r = refl

@@ -24,7 +24,7 @@ use Rattle.mdb_pool.specs.Changes.{ending, discarding, cleared_status, raising}
 use Rattle.mdb_pool.proofs.Follows.Serving.{parties-without, holder-given}
 use Rattle.mdb_log.proofs.Pins.{pinned-again}
 use Rattle.std.proofs.Math.Bool.{and-false, and-true}
-use Rattle.mdb_pool.proofs.Listed.Values.{passes, has-where, entry_at-others, map-filter-others, named-others, length-others, entry_at-swap, named-swap, where-swap_out}
+use Rattle.mdb_pool_rules.proofs.Listed.Values.{passes, has-where, entry_at-others, map-filter-others, named-others, length-others, entry_at-swap, named-swap, where-swap_out}
 use Rattle.mdb_pool.proofs.Follows.ComingBack.{without-again}
 
 abbrev id_of : Connection → ℕ

@@ -24,19 +24,19 @@ use Rattle.mdb_log.specs.History.{Item, PoolItem, asked, warmed, gave_up, return
 use Rattle.mdb_log.specs.Connections.{has, created_total, pending_list, available_list, holding, pins, granted_to}
 use Rattle.mdb_log.specs.Requests.{queued, is_warm}
 use Rattle.mdb_log.specs.State.{state_of, ready, is_stale, is_idle, may_create}
-use Rattle.mdb_pool.specs.Facts.{act_facts, perished}
-use Rattle.mdb_pool.specs.Serving.{last_of, candidate, next_move, serve, creation, wants_connection}
-use Rattle.mdb_pool.specs.Refusal.{refusal_of, first_row, rows_of, wrong_service}
-use Rattle.mdb_pool.specs.Answer.{all_facts, answer}
+use Rattle.mdb_pool_rules.specs.Facts.{act_facts, perished}
+use Rattle.mdb_pool_rules.specs.Serving.{last_of, candidate, next_move, serve, creation, wants_connection}
+use Rattle.mdb_pool_rules.specs.Refusal.{refusal_of, first_row, rows_of, wrong_service}
+use Rattle.mdb_pool_rules.specs.Answer.{all_facts, answer}
 use Rattle.mdb_log.specs.Fresh.{IsFresh, GrantsFresh, AllGrantFresh}
 use Rattle.mdb_pool.specs.Standing.{StandsFor}
 use Rattle.mdb_pool.specs.Matching.{Matches}
 use Rattle.mdb_pool.specs.Kept.{connection_at, holder_at, pins_at}
 use Rattle.mdb_pool.specs.Places.{is_pending, is_available}
-use Rattle.mdb_pool.proofs.Listed.Values.{has-where}
+use Rattle.mdb_pool_rules.proofs.Listed.Values.{has-where}
 use Rattle.mdb_log.proofs.Numbers.{has-append, same-number}
 use Rattle.mdb_pool.proofs.Follows.Stale.{live-created}
-use Rattle.mdb_pool.proofs.Histories.FactsGrantNothing.{IsCalm, AreCalm, IsBound, act-calm}
+use Rattle.mdb_pool_rules.proofs.FactsGrantNothing.{IsCalm, AreCalm, IsBound, act-calm}
 
 -- no connection is available that was not created
 record AllCreated (xs : List PoolItem) : Type 0 where

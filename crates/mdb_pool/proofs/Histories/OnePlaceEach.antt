@@ -10,7 +10,7 @@ use Rattle.mdb_pool.specs.Matching.{Matches}
 use Rattle.mdb_pool.specs.Kept.{connection_at, is_pinned_at}
 use Rattle.mdb_log.specs.Legal.{OnePlace}
 use Rattle.mdb_pool.specs.Places.{is_pending, is_available, is_held, is_at_pin}
-use Rattle.mdb_pool.proofs.Listed.Values.{has-where, passes}
+use Rattle.mdb_pool_rules.proofs.Listed.Values.{has-where, passes}
 
 pub one-place : (s : PoolCore) (xs : List PoolItem) → Matches s xs → OnePlace xs
 one-place s xs m c = on (connection_at s c) refl

@@ -6,13 +6,13 @@ use Rattle.mdb_log.specs.declared.step.Step.{Step}
 use Rattle.mdb_log.specs.declared.log.Entry.{Entry}
 use Rattle.mdb_pool.specs.Core.{PoolCore}
 use Rattle.mdb_log.specs.History.{Item, of_pool, with_answer, with_entries, with_act}
-use Rattle.mdb_pool.specs.Answer.{answer, entry_for, entries_for}
+use Rattle.mdb_pool_rules.specs.Answer.{answer, entry_for, entries_for}
 use Rattle.mdb_log.specs.Legal.{OnePlace, NoneLeftWaiting, IsFairAnswer, IsLegal}
 use Rattle.mdb_pool.specs.Standing.{StandsFor, SameHome, Logs, Runs}
 use Rattle.mdb_log.specs.Limits.{WithinLimits}
 use Rattle.mdb_log.specs.Fresh.{AllGrantFresh, EntriesGrantFresh}
 use Rattle.mdb_log.proofs.Later.{with_entries-append}
-use Rattle.mdb_pool.proofs.Histories.LimitsAreKept.{answer-within}
+use Rattle.mdb_pool_rules.proofs.LimitsAreKept.{answer-within}
 use Rattle.mdb_pool.proofs.Histories.GrantsAreFresh.{answer-fresh}
 use Rattle.mdb_pool.proofs.Histories.OnePlaceEach.{one-place}
 

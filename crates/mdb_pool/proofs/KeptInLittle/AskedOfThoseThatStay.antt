@@ -20,7 +20,7 @@ use Rattle.mdb_pool.specs.Kept.{candidate_now, blocked_now, connection_at, first
 use Rattle.mdb_pool.specs.Places.{is_done, is_queued}
 use Rattle.mdb_pool.specs.Standing.{Fits}
 use Rattle.mdb_pool.proofs.KeptInLittle.RequestsThatStay.{number-of, queued-kept}
-use Rattle.mdb_pool.proofs.Listed.Values.{In, here, there, entry_at-key, entry_at-put, entry_at-swap_any, find-member}
+use Rattle.mdb_pool_rules.proofs.Listed.Values.{In, here, there, entry_at-key, entry_at-put, entry_at-swap_any, find-member}
 
 -- what left was given nothing
 pub given_kept : (ks : List ℕ) (o : Option Request) → given_of (if_lingers ks o) ≡ given_of o

@@ -17,7 +17,7 @@ use Rattle.mdb_pool.specs.Inner.{Claimed}
 use Rattle.mdb_pool.specs.Kept.{ids_where, first_unclaimed}
 use Rattle.mdb_pool.specs.Places.{is_available, is_pending}
 use Rattle.mdb_pool.proofs.Listed.Beside.{find_among}
-use Rattle.mdb_pool.proofs.Listed.Values.{In, here, there, find-member}
+use Rattle.mdb_pool_rules.proofs.Listed.Values.{In, here, there, find-member}
 
 -- numbers that ascend
 weaker : (m n : ℕ) (cs : List ℕ) → m ≤ n → Ascends n cs → Ascends m cs

@@ -7,7 +7,7 @@ use Rattle.mdb_pool.specs.Core.{PoolCore}
 use Rattle.mdb_pool.specs.Kept.{connection_in, connection_at, first_perished, held_connection, held_given, given_of, if_held, is_pending_at, last_available, perished_now, request_at}
 use Rattle.mdb_pool.specs.Places.{is_available, is_held}
 use Rattle.mdb_pool.proofs.Listed.FirstOrLast.{last-member}
-use Rattle.mdb_pool.proofs.Listed.Values.{In, here, there, entry_at-key, find-member}
+use Rattle.mdb_pool_rules.proofs.Listed.Values.{In, here, there, entry_at-key, find-member}
 
 abbrev id-of : Connection → ℕ
 id-of x = x.id

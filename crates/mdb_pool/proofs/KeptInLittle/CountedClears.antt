@@ -16,9 +16,9 @@ use Rattle.mdb_pool.specs.declared.kept.status.Clear.{Clear}
 use Rattle.mdb_pool.specs.Clearing.{counts_at, weigh, parts_at, IsAsked, JoinsAt, Grown, ClearsFit}
 use Rattle.mdb_pool.specs.Inner.{Cleared}
 use Rattle.mdb_pool.specs.Kept.{connection_in, clears_for, clears_before}
-use Rattle.mdb_pool.proofs.Told.OrderOfIds.{same-id}
+use Rattle.mdb_pool_rules.proofs.OrderOfIds.{same-id}
 use Rattle.mdb_pool.proofs.Follows.WholePool.{clears_for-append, clears_before-append, timeouts-append}
-use Rattle.mdb_pool.proofs.Listed.Values.{entry_at-others, entry_at-put, entry_at-swap_any}
+use Rattle.mdb_pool_rules.proofs.Listed.Values.{entry_at-others, entry_at-put, entry_at-swap_any}
 
 -- what a mark adds
 abbrev part : (Mark → Bool) → Mark → ℕ

@@ -5,8 +5,8 @@ use Rattle.mdb_log.specs.Connections.{has}
 use Rattle.mdb_pool.specs.declared.kept.request.Request.{Request}
 use Rattle.mdb_pool.specs.Core.{PoolCore}
 use Rattle.mdb_pool.specs.Kept.{connection_at, first_unclaimed, given_of, held_connection, held_given, is_asked_at, is_open_now, is_pending_at, is_shut, is_spent, kept_requests, lingers, pins_at, request_at, request_in}
-use Rattle.mdb_pool.proofs.Answered.Item.{both-true}
-use Rattle.mdb_pool.proofs.Listed.Values.{entry_at-key}
+use Rattle.mdb_log.proofs.Bools.{both-true}
+use Rattle.mdb_pool_rules.proofs.Listed.Values.{entry_at-key}
 
 empty : {T : Type 0} (xs : List T) → (length xs == 0) ≡ true → xs ≡ []
 empty [] e = refl

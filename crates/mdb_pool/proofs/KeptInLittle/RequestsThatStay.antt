@@ -16,7 +16,7 @@ use Rattle.mdb_pool.specs.Keyed.{marked}
 use Rattle.mdb_pool.specs.Kept.{if_lingers, is_asked_at, is_gone, lingers, request_in}
 use Rattle.mdb_pool.specs.Places.{is_done, is_queued}
 use Rattle.mdb_pool.proofs.Listed.Noted.{has-marked, marked-again}
-use Rattle.mdb_pool.proofs.Listed.Values.{entry_at-key, entry_at-others, entry_at-put, entry_at-swap_any}
+use Rattle.mdb_pool_rules.proofs.Listed.Values.{entry_at-key, entry_at-others, entry_at-put, entry_at-swap_any}
 
 abbrev pub number-of : Request → ℕ
 number-of q = q.number

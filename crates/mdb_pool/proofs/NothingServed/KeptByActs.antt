@@ -20,14 +20,14 @@ use Rattle.mdb_log.specs.History.{Item, did, PoolItem, gave_up, returned, pinned
 use Rattle.mdb_log.specs.Connections.{available_list, holding, pins, is_pinned, granted_to}
 use Rattle.mdb_log.specs.Requests.{queued, end_of}
 use Rattle.mdb_log.specs.State.{State, is_closed, state_of, min_size}
-use Rattle.mdb_pool.specs.Facts.{check_in, come_back, overdue, sweep, fill, act_facts}
-use Rattle.mdb_pool.specs.Serving.{serving}
-use Rattle.mdb_pool.specs.Refusal.{refusal_of}
-use Rattle.mdb_pool.specs.Answer.{all_facts, answer, answered}
+use Rattle.mdb_pool_rules.specs.Facts.{check_in, come_back, overdue, sweep, fill, act_facts}
+use Rattle.mdb_pool_rules.specs.Serving.{serving}
+use Rattle.mdb_pool_rules.specs.Refusal.{refusal_of}
+use Rattle.mdb_pool_rules.specs.Answer.{all_facts, answer, answered}
 use Rattle.mdb_pool.specs.Kept.{state_in}
 use Rattle.mdb_pool.specs.Standing.{StandsFor}
-use Rattle.mdb_pool.specs.Quiet.{IsQuiet}
-use Rattle.mdb_pool.proofs.NothingServed.KeptByFacts.{AreGentle, quiet-if, quiet-facts, gentle-append, gentle-if, check_in-gentle, come_back-gentle, hand-gentle, fail-gentle, ends-gentle, sweep-gentle, fill-gentle, readied-gentle, serve-gentle}
+use Rattle.mdb_pool_rules.specs.Quiet.{IsQuiet}
+use Rattle.mdb_pool_rules.proofs.KeptByFacts.{AreGentle, quiet-if, quiet-facts, gentle-append, gentle-if, check_in-gentle, come_back-gentle, hand-gentle, fail-gentle, ends-gentle, sweep-gentle, fill-gentle, readied-gentle, serve-gentle}
 use Rattle.mdb_pool.proofs.NothingServed.NobodyQueued.{clear-quiet, close-quiet, asked-quiet, warmed-quiet}
 use Rattle.mdb_log.proofs.Later.{of_pool-with_facts, after-append}
 use Rattle.mdb_log.proofs.Numbers.{same-number}

@@ -18,24 +18,24 @@ use Rattle.mdb_log.specs.State.{State, is_ready, is_closed, state_of}
 use Rattle.mdb_log.specs.Legal.{AllFirstCome}
 use Rattle.mdb_log.specs.Own.{AllOwn, shuts}
 use Rattle.mdb_log.specs.Limits.{WithinLimits}
-use Rattle.mdb_pool.specs.Facts.{end_facts, all_ends, clear_facts, act_facts}
+use Rattle.mdb_pool_rules.specs.Facts.{end_facts, all_ends, clear_facts, act_facts}
 use Rattle.mdb_pool.specs.Kept.{is_shut}
-use Rattle.mdb_pool.specs.Quiet.{IsQuiet}
-use Rattle.mdb_pool.specs.Serving.{serving, IsServed}
-use Rattle.mdb_pool.specs.Answer.{all_facts}
+use Rattle.mdb_pool_rules.specs.Quiet.{IsQuiet}
+use Rattle.mdb_pool_rules.specs.Serving.{serving, IsServed}
+use Rattle.mdb_pool_rules.specs.Answer.{all_facts}
 use Rattle.mdb_pool.specs.Standing.{Fits, SameHome, Accepts}
-use Rattle.mdb_pool.proofs.SameAnswers.Queries.{Alike}
-use Rattle.mdb_pool.proofs.SameAnswers.FactsOf.{alike-facts, failed-alike, all-own-alike}
-use Rattle.mdb_pool.proofs.SameAnswers.ServingOf.{serving-alike, served-alike, all-first-alike}
+use Rattle.mdb_pool_rules.proofs.SameAnswers.Queries.{Alike}
+use Rattle.mdb_pool_rules.proofs.SameAnswers.FactsOf.{alike-facts, failed-alike, all-own-alike}
+use Rattle.mdb_pool_rules.proofs.SameAnswers.ServingOf.{serving-alike, served-alike, all-first-alike}
 use Rattle.mdb_pool.proofs.SameAnswers.State.{fits-alike}
-use Rattle.mdb_pool.proofs.NothingServed.AfterClearOrClose.{clear-alone}
+use Rattle.mdb_pool_rules.proofs.AfterClearOrClose.{clear-alone}
 use Rattle.mdb_pool.proofs.Answered.Clear.{clear-fair, clear-all-own}
-use Rattle.mdb_pool.proofs.NothingServed.KeptByFacts.{AreGentle, quiet-facts, gentle-append, fail-gentle, serve-gentle}
+use Rattle.mdb_pool_rules.proofs.KeptByFacts.{AreGentle, quiet-facts, gentle-append, fail-gentle, serve-gentle}
 use Rattle.mdb_pool.proofs.NothingServed.NobodyQueued.{clear-quiet}
-use Rattle.mdb_pool.proofs.SameAnswers.FailureAndClear.{failed-facts, clear-of-clear, of-clear-within}
+use Rattle.mdb_pool_rules.proofs.SameAnswers.FailureAndClear.{failed-facts, clear-of-clear, of-clear-within}
 use Rattle.mdb_pool.specs.Composing.{FailsCleared}
-use Rattle.mdb_pool.proofs.Turns.Fair.{fair-append, own-append, shut-append}
-use Rattle.mdb_pool.proofs.Histories.LimitsAreKept.{accepted-within}
+use Rattle.mdb_pool_rules.proofs.Fair.{fair-append, own-append, shut-append}
+use Rattle.mdb_pool_rules.proofs.LimitsAreKept.{accepted-within}
 use Rattle.mdb_log.proofs.Later.{after-append}
 
 or-swap : (a b c : Bool) → a || (b || c) ≡ (b || a) || c

@@ -6,7 +6,7 @@ use Rattle.mdb_log.specs.Connections.{is_dropped}
 use Rattle.mdb_pool.specs.Kept.{lasts_in}
 use Rattle.mdb_pool.specs.Matching.{Matches}
 use Rattle.mdb_pool.specs.Standing.{Fits}
-use Rattle.mdb_pool.proofs.SameAnswers.Queries.{Alike}
+use Rattle.mdb_pool_rules.proofs.SameAnswers.Queries.{Alike}
 
 module _ (s : PoolCore) (xs ys : List PoolItem) (k : Alike xs ys) where
   matches-alike : Matches s xs → Matches s ys

@@ -10,12 +10,12 @@ use Rattle.mdb_log.specs.Connections.{one_if, has, pending_list}
 use Rattle.mdb_log.specs.State.{generation_of, generation_before}
 use Rattle.mdb_pool.specs.declared.kept.connection.Connection.{Connection}
 use Rattle.mdb_pool.specs.Core.{PoolCore}
-use Rattle.mdb_pool.specs.Kept.{connection_at, is_pending_at, clears_before}
+use Rattle.mdb_pool.specs.Kept.{connection_at, is_pending_at, clears_before, count_at}
 use Rattle.mdb_pool.specs.Standing.{Fits}
-use Rattle.mdb_pool.specs.Jobs.{items_before, cleared_services, generations, has_id, count_at}
+use Rattle.mdb_pool_rules.specs.Jobs.{items_before, cleared_services, generations, has_id}
 use Rattle.mdb_pool.proofs.Answered.Act.{pending-is}
 use Rattle.mdb_pool.proofs.Follows.Stale.{live-created}
-use Rattle.mdb_pool.proofs.Told.OrderOfIds.{Ascends, same-back, ascends-put, has-put, one-ascent}
+use Rattle.mdb_pool_rules.proofs.OrderOfIds.{Ascends, same-back, ascends-put, has-put, one-ascent}
 use Rattle.mdb_pool.proofs.Told.ServicesOfClears.{AreNamed}
 
 before-items : (xs : List PoolItem) (c : ℕ) (t : Option ObjectId) → generation_of (items_before xs c) t ≡ generation_before xs c t

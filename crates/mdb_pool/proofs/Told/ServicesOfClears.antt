@@ -18,8 +18,8 @@ use Rattle.mdb_pool.specs.declared.kept.marks.Mark.{Mark}
 use Rattle.mdb_pool.specs.declared.kept.status.Clear.{Clear}
 use Rattle.mdb_pool.specs.Clearing.{AreMarked}
 use Rattle.mdb_pool.specs.Kept.{clears_before}
-use Rattle.mdb_pool.specs.Jobs.{id_order, has_id}
-use Rattle.mdb_pool.proofs.Told.OrderOfIds.{Ascends, id-total, same-by-order, same-id, same-back, own-id}
+use Rattle.mdb_pool_rules.specs.Jobs.{id_order, has_id}
+use Rattle.mdb_pool_rules.proofs.OrderOfIds.{Ascends, id-total, same-by-order, same-id, same-back, own-id}
 
 -- the ids are the services of the clears before the connection was created
 abbrev pub AreNamed : ℕ → List Clear → List ObjectId → Type 0

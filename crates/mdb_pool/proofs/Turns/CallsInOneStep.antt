@@ -3,7 +3,7 @@ use Rattle.std.proofs.Common.{ℕ, ◌≡◌, List, ◌++◌, sym, ◌∙◌, ap
 use Rattle.mdb_events.specs.declared.fact.Fact.{Fact}
 use Rattle.mdb_pool.specs.Core.{PoolCore}
 use Rattle.mdb_log.specs.History.{PoolItem, after_facts}
-use Rattle.mdb_pool.specs.Serving.{serving}
+use Rattle.mdb_pool_rules.specs.Serving.{serving}
 use Rattle.mdb_pool.specs.Standing.{Fits, SameHome, Serves}
 use Rattle.mdb_log.proofs.Later.{after-append}
 

@@ -15,7 +15,7 @@ use Rattle.mdb_pool.specs.Core.{PoolCore}
 use Rattle.mdb_pool.specs.Changes.{over_facts, off_facts}
 use Rattle.mdb_pool.specs.Kept.{unserved_in}
 use Rattle.std.proofs.lemmas.List.{take_more}
-use Rattle.mdb_pool.proofs.Listed.Values.{named, passes}
+use Rattle.mdb_pool_rules.proofs.Listed.Values.{named, passes}
 use Rattle.mdb_log.proofs.Pins.{pinned-again}
 use Rattle.mdb_log.proofs.Numbers.{same-number, has-without-is}
 use Rattle.std.proofs.Math.Bool.{and-true}

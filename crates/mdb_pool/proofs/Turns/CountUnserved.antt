@@ -19,7 +19,7 @@ use Rattle.mdb_pool.specs.Changes.{pending_ones, unserved_ones}
 use Rattle.mdb_pool.specs.Matching.{Matches}
 use Rattle.mdb_pool.specs.Standing.{Fits}
 use Rattle.mdb_pool.proofs.Listed.WalkBack.{count-more, count-yes, count-no}
-use Rattle.mdb_pool.proofs.Listed.Values.{named, passes, has-where, has-none, one_if-le, member-has, find-member, length-without_has}
+use Rattle.mdb_pool_rules.proofs.Listed.Values.{named, passes, has-where, has-none, one_if-le, member-has, find-member, length-without_has}
 
 -- values with numbers of their own are no more than the numbers of a list that has all of theirs
 module _ {T : Type 0} (key : T → ℕ) (test : T → Bool) where

@@ -13,12 +13,12 @@ use Rattle.mdb_pool.specs.Core.{PoolCore}
 use Rattle.mdb_log.specs.History.{PoolItem, ended, after_fact, after_facts, without, has_asked}
 use Rattle.mdb_log.specs.Connections.{has}
 use Rattle.mdb_log.specs.Requests.{queued, asked_at, is_warm}
-use Rattle.mdb_pool.specs.Facts.{end_facts, all_ends}
+use Rattle.mdb_pool_rules.specs.Facts.{end_facts, all_ends}
 use Rattle.mdb_pool.specs.Kept.{request_at, first_queued, numbers_where, given_in, asked_at_of, warm_of}
 use Rattle.mdb_pool.specs.Places.{is_queued}
 use Rattle.mdb_pool.specs.Changes.{ending, over_facts}
 use Rattle.mdb_pool.specs.Standing.{Fits, SameHome, EndsQueue}
-use Rattle.mdb_pool.proofs.Listed.Values.{named, where-swap_out, length-without, one_if-le}
+use Rattle.mdb_pool_rules.proofs.Listed.Values.{named, where-swap_out, length-without, one_if-le}
 use Rattle.mdb_pool.proofs.Turns.EndFacts.{over-known}
 use Rattle.mdb_pool.proofs.Listed.FirstOrLast.{queued-at, queue-head, queue-empty}
 use Rattle.mdb_log.proofs.Numbers.{same-number}

@@ -4,7 +4,7 @@ use Rattle.mdb_events.specs.declared.end.End.{End}
 use Rattle.mdb_pool.specs.declared.kept.request.Request.{Request}
 use Rattle.mdb_pool.specs.Core.{PoolCore}
 use Rattle.mdb_log.specs.History.{PoolItem, ended, after_facts, has_asked}
-use Rattle.mdb_pool.specs.Facts.{end_facts}
+use Rattle.mdb_pool_rules.specs.Facts.{end_facts}
 use Rattle.mdb_pool.specs.Kept.{request_at, asked_at_of, warm_of}
 use Rattle.mdb_pool.specs.Changes.{over_facts}
 use Rattle.mdb_log.specs.Legal.{AllFirstCome}

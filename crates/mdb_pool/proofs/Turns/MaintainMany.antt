@@ -12,14 +12,14 @@ use Rattle.mdb_pool.specs.Core.{PoolCore}
 use Rattle.mdb_log.specs.History.{PoolItem, created, closed, without, after_facts}
 use Rattle.mdb_log.specs.Connections.{live_total, created_total, pending_list, available_list, known_service}
 use Rattle.mdb_log.specs.State.{state_of, ready, min_size, max_connecting}
-use Rattle.mdb_pool.specs.Facts.{created_fact, closes, perished, sweep, fill, closed_fact}
+use Rattle.mdb_pool_rules.specs.Facts.{created_fact, closes, perished, sweep, fill, closed_fact}
 use Rattle.mdb_pool.specs.Kept.{connection_at, ids_where, perished_now, first_perished, fills_now, pending_count, is_ready_now}
 use Rattle.mdb_pool.specs.Changes.{discarding, spawning}
 use Rattle.mdb_pool.specs.Places.{is_available, is_pending}
 use Rattle.mdb_log.specs.Legal.{AllFirstCome}
 use Rattle.mdb_log.specs.Own.{AllOwn, shuts}
 use Rattle.mdb_pool.specs.Standing.{Fits, SameHome, Sweeps, Fills}
-use Rattle.mdb_pool.proofs.Listed.Values.{In, here, there, named, member-at, member-has, find-member, one_if-le, has-none, without-absent, length-without_has, map-filter-others, length-where}
+use Rattle.mdb_pool_rules.proofs.Listed.Values.{In, here, there, named, member-at, member-has, find-member, one_if-le, has-none, without-absent, length-without_has, map-filter-others, length-where}
 use Rattle.mdb_pool.proofs.Listed.FirstOrLast.{is-available, perished-at}
 use Rattle.mdb_pool.proofs.Follows.Stale.{ready-is}
 use Rattle.mdb_pool.proofs.Follows.Fits.{discard-fits, spawn-fits}

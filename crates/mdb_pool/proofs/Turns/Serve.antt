@@ -1,10 +1,8 @@
 -- The turns of the serving are its moves.
 use Rattle.std.proofs.Common.{ℕ, zero, suc, ◌≡◌, ◌+◌, ◌-◌, ◌<◌, ◌≤◌, Bool, true, false, not, ◌&&◌, List, [], ◌∷◌, ◌++◌, length, find, Option, Some, None, is_some, if◌then◌else◌, refl, sym, ◌∙◌, ap, subst, arith, append_assoc, append-nil}
-use Rattle.mdb_base.specs.declared.address.ServerAddress.{ServerAddress}
 use Rattle.mdb_events.specs.declared.fact.Fact.{Fact}
 use Rattle.mdb_events.specs.declared.fact.Fact.TheVariants.{Granted, Ended}
 use Rattle.mdb_events.specs.declared.end.End.TheVariants.{Warmed}
-use Rattle.mdb_log.specs.declared.options.PoolOptions.{PoolOptions}
 use Rattle.mdb_pool.specs.declared.kept.connection.Connection.{Connection}
 use Rattle.mdb_pool.specs.declared.kept.connection.Place.TheVariants.{Pending, Available}
 use Rattle.mdb_pool.specs.declared.kept.status.Status.TheVariants.{Ready}
@@ -17,23 +15,24 @@ use Rattle.mdb_log.specs.History.{PoolItem, granted, created, ended, has_asked, 
 use Rattle.mdb_log.specs.State.{may_create, is_idle}
 use Rattle.mdb_log.specs.Requests.{queued, is_warm, asked_at}
 use Rattle.mdb_log.specs.Connections.{pending_list, available_list, since, has, known_service}
-use Rattle.mdb_pool.specs.Serving.{last_of, wants_connection, is_blocked, candidate, warm_move, caller_move, move_for, next_move, serve, serving}
-use Rattle.mdb_pool.specs.Facts.{created_fact, checked_out_fact, perished, closed_fact}
+use Rattle.mdb_pool_rules.specs.Serving.{last_of, wants_connection, is_blocked, candidate, warm_move, caller_move, move_for, next_move, serve, serving}
+use Rattle.mdb_pool_rules.specs.Facts.{created_fact, checked_out_fact, perished, closed_fact}
 use Rattle.mdb_pool.specs.Standing.{Fits, SameHome, SameNotes, Serves}
 use Rattle.mdb_pool.specs.Kept.{connection_at, request_at, ids_where, numbers_where, pending_count, candidate_now, blocked_now, wants_now, last_available, has_room, given_in, asked_at_of, warm_of, timeouts_in, is_ready_now, idle_since, perished_now}
 use Rattle.mdb_pool.specs.Changes.{creating, handed, granting, ending, warming, warming_facts, discarding, meeting, meeting_facts}
 use Rattle.mdb_log.specs.declared.step.Use.TheVariants.{Ok}
 use Rattle.mdb_pool.specs.Places.{is_pending, is_available, is_queued}
-use Rattle.mdb_pool.proofs.Listed.Values.{In, member-has, here as head_in, there, find-member, member-at, one_if-le, length-without, length-where, where-put_out, map-filter-others, passes, has-where, where-swap_out, length-without_has}
+use Rattle.mdb_pool_rules.proofs.Listed.Values.{In, member-has, here as head_in, there, find-member, member-at, one_if-le, length-without, length-where, where-put_out, map-filter-others, passes, has-where, where-swap_out, length-without_has}
 use Rattle.mdb_slots.specs.Keyed.{put, swap}
 use Rattle.mdb_log.proofs.Bools.{both-left}
 use Rattle.mdb_log.proofs.Numbers.{same-number}
-use Rattle.mdb_pool.proofs.Listed.Last.{last_of-has}
+use Rattle.mdb_pool_rules.proofs.Listed.Last.{last_of-has}
 use Rattle.mdb_log.proofs.Later.{after-append}
 use Rattle.mdb_pool.proofs.Listed.FirstOrLast.{candidate-at, available-at, last-id, id_or, or_else}
 use Rattle.mdb_pool.proofs.Follows.Serving.{queued-asked_at}
 use Rattle.mdb_pool.proofs.Follows.Fits.{grant-fits, create-fits, discard-fits, end-fits}
 use Rattle.mdb_pool.proofs.Follows.Stale.{ready-is, ready-status, stale-at}
+use Rattle.mdb_pool_rules.proofs.Fair.{serve-nothing}
 
 or_else-none : (o : Option ℕ) → or_else o None ≡ o
 or_else-none None = refl
@@ -120,10 +119,6 @@ module _ (s : PoolCore) (xs : List PoolItem) (z : Fits s xs) (n : ℕ) where
       caller-for q t e cold ∙ rw (g, room, r) refl
 
 -- where there is no move there is no serving
-pub serve-nothing : (p : ℕ) (a : ServerAddress) (o : PoolOptions) (n left : ℕ) (xs : List PoolItem) → next_move p a o n xs ≡ [] → serve p a o n left xs ≡ []
-serve-nothing p a o n zero xs e = refl
-serve-nothing p a o n (suc left) xs e = rw e (serve-nothing p a o n left xs e)
-
 -- how far the serving is: the facts so far, and how many moves may follow
 pub record Progress (s t : PoolCore) (n : ℕ) (before after : List Fact) (xs : List PoolItem) : Type 0 where
   pub done : List Fact

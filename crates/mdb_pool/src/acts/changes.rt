@@ -1,6 +1,6 @@
 //! The single changes of a pool, each with its facts.
 
-ghost use Rattle.mdb_pool.specs.Facts.{new_pool_error, checked_out_fact, closed_fact, created_fact, started_fact, ready_fact};
+ghost use Rattle.mdb_pool_rules.specs.Facts.{new_pool_error, checked_out_fact, closed_fact, created_fact, started_fact, ready_fact};
 ghost use Rattle.std.specs.Prelude.{false, ◌≡◌, ◌++◌, ◌∷◌, ◌+◌, ◌-◌, ◌<◌, [], OnOk, IfOk, is_some, true, None};
 
 use crate::kept::connection::{Connection, Place};

@@ -15,12 +15,12 @@ impl Draft {
     ghost use Rattle.mdb_pool.specs.Changes.{ending, raising, over_facts};
     ghost use Rattle.mdb_pool.specs.Standing.{SameHome, SameNotes, Fits, EndsQueue, Clears, Accepts, StandsFor, Answers};
     ghost use Rattle.mdb_log.specs.History.{Item, PoolItem};
-    ghost use Rattle.mdb_pool.specs.Kept.{is_gone, request_at, is_ready_now, is_shut, exhausted_now};
+    ghost use Rattle.mdb_pool.specs.Kept.{is_gone, request_at, is_ready_now, is_shut};
     ghost use Rattle.std.specs.Prelude.{true, None};
     ghost use Rattle.mdb_log.specs.declared.step.Act.TheVariants.{Clear as ClearAct};
     ghost use Rattle.mdb_events.specs.declared.fact.Fact.TheVariants.{Raised};
     ghost use Rattle.mdb_events.specs.declared.end.End.TheVariants.{Cleared};
-    ghost use Rattle.mdb_pool.specs.Facts.{cleared_fact};
+    ghost use Rattle.mdb_pool_rules.specs.Facts.{cleared_fact};
 
     // A queued request ends.
     fn end_cleared(
@@ -192,12 +192,12 @@ impl PoolCore {
     ghost use Rattle.mdb_pool.specs.Standing.{SameHome, SameNotes, Fits, EndsQueue, Clears, Accepts, StandsFor, Answers};
     ghost use Rattle.mdb_pool.specs.Planning.{Passes};
     ghost use Rattle.mdb_log.specs.History.{Item, PoolItem};
-    ghost use Rattle.mdb_pool.specs.Kept.{is_ready_now, is_shut, exhausted_now};
+    ghost use Rattle.mdb_pool.specs.Kept.{is_ready_now, is_shut};
     ghost use Rattle.std.specs.Prelude.{true, None};
     ghost use Rattle.mdb_log.specs.declared.step.Act.TheVariants.{Clear as ClearAct};
     ghost use Rattle.mdb_events.specs.declared.fact.Fact.TheVariants.{Raised};
     ghost use Rattle.mdb_events.specs.declared.end.End.TheVariants.{Cleared};
-    ghost use Rattle.mdb_pool.specs.Facts.{cleared_fact};
+    ghost use Rattle.mdb_pool_rules.specs.Facts.{cleared_fact};
 
     /// The connections of the pool, or those of a service where it is load balanced, become stale; a normal pool is paused, and its queued requests
     /// end with the cause (CMAP, "Clearing a Connection Pool"). A closed pool stays as it is. Refused as `TimeBack`, as `WrongMode` where a normal

@@ -1,6 +1,6 @@
 //! A pool is closed.
 
-ghost use Rattle.std.specs.Prelude.{◌≡◌, ◌++◌, ◌∷◌, [], not, OnOk, IfOk, List, map, filter, OnErr};
+ghost use Rattle.std.specs.Prelude.{◌≡◌, ◌++◌, ◌∷◌, [], not, OnOk, IfOk, List, filter, OnErr};
 ghost use Rattle.std.specs.List.{filter_map};
 ghost use Rattle.mdb_pool.specs.Places.{is_available, is_pending};
 
@@ -20,7 +20,7 @@ impl Draft {
     ghost use Rattle.mdb_log.specs.History.{PoolItem};
     ghost use Rattle.mdb_pool.specs.Kept.{request_at, unserved_in};
     ghost use Rattle.mdb_log.specs.declared.step.Act.TheVariants.{Close};
-    ghost use Rattle.mdb_pool.specs.Facts.{pool_closed_fact};
+    ghost use Rattle.mdb_pool_rules.specs.Facts.{pool_closed_fact};
 
     // The available connections are closed.
     fn push_available(&self, facts: &mut Vec<Fact>) -> Result<(), OutOfMemory>
@@ -206,13 +206,13 @@ impl Draft {
 }
 
 impl PoolCore {
-    ghost use Rattle.mdb_pool.specs.Changes.{closing, shut_facts, off_facts, ended_request, available_ones, pending_ones, unserved_ones};
+    ghost use Rattle.mdb_pool.specs.Changes.{closing, shut_facts, off_facts, available_ones, pending_ones, unserved_ones};
     ghost use Rattle.mdb_pool.specs.Standing.{SameHome, Fits, Accepts, StandsFor, Answers};
     ghost use Rattle.mdb_pool.specs.Planning.{Passes};
     ghost use Rattle.mdb_log.specs.History.{Item, PoolItem};
     ghost use Rattle.mdb_pool.specs.Kept.{unserved_in};
     ghost use Rattle.mdb_log.specs.declared.step.Act.TheVariants.{Close};
-    ghost use Rattle.mdb_pool.specs.Facts.{pool_closed_fact};
+    ghost use Rattle.mdb_pool_rules.specs.Facts.{pool_closed_fact};
 
     /// The pool is closed for good: its available and pending connections are closed, its held ones as they come back, and the requests end that
     /// nothing was handed to (CMAP, "Closing a Connection Pool"). A closed pool stays as it is. Refused as `TimeBack`.

@@ -1,6 +1,6 @@
 //! The caller of a request asks a pool how it stands.
 
-ghost use Rattle.std.specs.Prelude.{◌≡◌, OnOk, OnErr, IfOk, List, true, false};
+ghost use Rattle.std.specs.Prelude.{◌≡◌, OnOk, OnErr, IfOk, List, false};
 
 use crate::kept::draft::Draft;
 use crate::pool_core::PoolCore;
@@ -11,7 +11,6 @@ use std::alloc::Global;
 
 impl Draft {
     ghost use Rattle.mdb_log.specs.Connections.{has};
-    ghost use Rattle.mdb_pool.specs.Kept.{is_open_now};
     ghost use Rattle.mdb_pool.specs.Standing.{SameHome, Fits, Accepts, StandsFor, Answers};
     ghost use Rattle.mdb_log.specs.History.{Item, PoolItem};
     ghost use Rattle.mdb_log.specs.declared.step.Act.TheVariants.{Collect};
@@ -38,7 +37,6 @@ impl Draft {
 }
 
 impl PoolCore {
-    ghost use Rattle.mdb_pool.specs.Kept.{is_open_now};
     ghost use Rattle.mdb_pool.specs.Standing.{SameHome, Fits, Accepts, StandsFor, Answers};
     ghost use Rattle.mdb_pool.specs.Planning.{Passes};
     ghost use Rattle.mdb_log.specs.History.{Item, PoolItem};

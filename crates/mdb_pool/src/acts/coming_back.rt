@@ -30,7 +30,7 @@ impl Draft {
     ghost use Rattle.mdb_pool.specs.declared.kept.request.Phase.TheVariants.{Ended as EndedPhase};
     ghost use Rattle.mdb_events.specs.declared.fact.Fact.TheVariants.{Ended};
     ghost use Rattle.mdb_events.specs.declared.end.End.TheVariants.{GaveUp, Filled};
-    ghost use Rattle.mdb_pool.specs.Facts.{checked_in_fact, closed_fact, ready_fact};
+    ghost use Rattle.mdb_pool_rules.specs.Facts.{checked_in_fact, closed_fact, ready_fact};
 
     fn push_check_in(&self, facts: &mut Vec<Fact>, id: u32) -> Result<(), OutOfMemory>
         ensures { OnOk result (facts.new.items ≡ facts.old.items ++ checked_in_fact self.now.pool self.now.address id ∷ []) }

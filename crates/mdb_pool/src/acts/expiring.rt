@@ -1,6 +1,6 @@
 //! Callers that waited in the queue for too long.
 
-ghost use Rattle.std.specs.Prelude.{◌≡◌, ◌++◌, ◌-◌, OnOk, OnErr, IfOk, List, option_copied, false};
+ghost use Rattle.std.specs.Prelude.{◌≡◌, ◌++◌, ◌-◌, OnOk, OnErr, IfOk, List, false};
 
 use crate::kept::draft::Draft;
 use crate::kept::request::{Phase, Request};
@@ -11,7 +11,7 @@ use mdb_events::{End, Fact};
 use std::alloc::Global;
 
 impl Draft {
-    ghost use Rattle.mdb_pool.specs.Kept.{is_gone, request_at, overdue_since, overdue_now, first_overdue};
+    ghost use Rattle.mdb_pool.specs.Kept.{is_gone, request_at, first_overdue};
     ghost use Rattle.mdb_pool.specs.Changes.{ending, over_facts};
     ghost use Rattle.mdb_pool.specs.Standing.{SameHome, SameNotes, Fits, Expires, Accepts, StandsFor, Answers};
     ghost use Rattle.mdb_log.specs.History.{Item, PoolItem};
@@ -80,7 +80,7 @@ impl Draft {
 }
 
 impl PoolCore {
-    ghost use Rattle.mdb_pool.specs.Kept.{overdue_since, overdue_now, first_overdue};
+    ghost use Rattle.mdb_pool.specs.Kept.{first_overdue};
     ghost use Rattle.mdb_pool.specs.Changes.{ending, over_facts};
     ghost use Rattle.mdb_pool.specs.Standing.{SameHome, SameNotes, Fits, Expires, Accepts, StandsFor, Answers};
     ghost use Rattle.mdb_pool.specs.Planning.{Passes};

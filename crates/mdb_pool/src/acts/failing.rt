@@ -1,7 +1,7 @@
 //! A pending connection of a pool failed.
 
-ghost use Rattle.std.specs.Prelude.{◌≡◌, ◌++◌, ◌∷◌, ◌-◌, ◌&&◌, [], OnOk, OnErr, IfOk, List, true, not, is_some, false};
-ghost use Rattle.mdb_pool.specs.Facts.{failure_of};
+ghost use Rattle.std.specs.Prelude.{◌≡◌, ◌++◌, ◌∷◌, ◌-◌, [], OnOk, OnErr, IfOk, List, true, false};
+ghost use Rattle.mdb_pool_rules.specs.Facts.{failure_of};
 
 use crate::kept::connection::Connection;
 use crate::kept::draft::Draft;
@@ -34,7 +34,7 @@ impl Draft {
     ghost use Rattle.mdb_log.specs.declared.step.Act.TheVariants.{Failed as FailedAct};
     ghost use Rattle.mdb_events.specs.declared.end.End.TheVariants.{Failed as FailedEnd};
     ghost use Rattle.mdb_events.specs.declared.reasons.ConnectionClosedReason.TheVariants.{Error as ErrorReason};
-    ghost use Rattle.mdb_pool.specs.Facts.{closed_fact};
+    ghost use Rattle.mdb_pool_rules.specs.Facts.{closed_fact};
 
     // A request ends without a connection; of a caller, its checkout fails.
     pub(crate) fn push_end(
@@ -150,7 +150,7 @@ impl PoolCore {
     ghost use Rattle.mdb_log.specs.declared.step.Act.TheVariants.{Failed as FailedAct};
     ghost use Rattle.mdb_events.specs.declared.end.End.TheVariants.{Failed as FailedEnd};
     ghost use Rattle.mdb_events.specs.declared.reasons.ConnectionClosedReason.TheVariants.{Error as ErrorReason};
-    ghost use Rattle.mdb_pool.specs.Facts.{closed_fact};
+    ghost use Rattle.mdb_pool_rules.specs.Facts.{closed_fact};
 
     /// A pending connection failed: it is closed, and its caller's request ends (CMAP, "Checking Out a Connection"). Refused as `TimeBack`,
     /// `NotPending`, or `WrongMode` where a normal pool is given a service.

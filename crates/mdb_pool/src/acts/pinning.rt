@@ -88,7 +88,7 @@ impl PoolCore {
     ghost use Rattle.mdb_pool.specs.Standing.{SameHome, Fits, Accepts, StandsFor, Answers};
     ghost use Rattle.mdb_pool.specs.Planning.{Passes};
     ghost use Rattle.mdb_log.specs.Connections.{pins};
-    ghost use Rattle.mdb_log.specs.History.{Item, PoolItem, of_pool, pinned_by, replicated};
+    ghost use Rattle.mdb_log.specs.History.{Item, PoolItem, pinned_by, replicated};
     ghost use Rattle.mdb_log.specs.declared.step.Act.TheVariants.{Pin, Replicate};
 
     /// A party pins its connection: while a pin stands, a return puts the connection at its pin. Refused as `TimeBack`, as `NotHolder` where the

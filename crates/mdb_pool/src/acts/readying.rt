@@ -1,6 +1,6 @@
 //! A pool is marked ready.
 
-ghost use Rattle.std.specs.Prelude.{◌≡◌, ◌++◌, ◌∷◌, [], OnOk, OnErr, IfOk, List};
+ghost use Rattle.std.specs.Prelude.{◌≡◌, ◌++◌, OnOk, OnErr, IfOk, List};
 
 use crate::kept::draft::Draft;
 use crate::kept::status::Status;

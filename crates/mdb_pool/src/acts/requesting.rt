@@ -13,7 +13,7 @@ use std::alloc::Global;
 
 impl Draft {
     ghost use Rattle.mdb_pool.specs.Changes.{granting_at_once};
-    ghost use Rattle.mdb_pool.specs.Facts.{started_fact, checked_out_fact};
+    ghost use Rattle.mdb_pool_rules.specs.Facts.{started_fact, checked_out_fact};
     ghost use Rattle.mdb_pool.specs.Kept.{request_at, ready_connection};
     ghost use Rattle.mdb_events.specs.declared.fact.Fact.TheVariants.{Granted};
     ghost use Rattle.mdb_log.specs.declared.reply.Reply.TheVariants.{Pooled};

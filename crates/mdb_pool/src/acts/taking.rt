@@ -15,8 +15,7 @@ impl Draft {
     ghost use Rattle.mdb_pool.specs.Changes.{taking};
     ghost use Rattle.mdb_pool.specs.Kept.{connection_at, request_at, pins_at, is_held_at};
     ghost use Rattle.mdb_pool.specs.Standing.{SameHome, Fits, Accepts, StandsFor, Answers};
-    ghost use Rattle.mdb_log.specs.Connections.{held};
-    ghost use Rattle.mdb_log.specs.History.{Item, PoolItem, of_pool, taken};
+    ghost use Rattle.mdb_log.specs.History.{Item, PoolItem, taken};
     ghost use Rattle.mdb_log.specs.declared.step.Act.TheVariants.{Take};
 
     // The party gets the connection from its pin.
@@ -87,8 +86,7 @@ impl PoolCore {
     ghost use Rattle.mdb_pool.specs.Kept.{connection_at, request_at, pins_at, is_held_at};
     ghost use Rattle.mdb_pool.specs.Standing.{SameHome, Fits, Accepts, StandsFor, Answers};
     ghost use Rattle.mdb_pool.specs.Planning.{Passes};
-    ghost use Rattle.mdb_log.specs.Connections.{held};
-    ghost use Rattle.mdb_log.specs.History.{Item, PoolItem, of_pool, taken};
+    ghost use Rattle.mdb_log.specs.History.{Item, PoolItem, taken};
     ghost use Rattle.mdb_log.specs.declared.step.Act.TheVariants.{Take};
 
     /// A new party takes a connection that is at its pin. Refused as `TimeBack`, as `RequestKnown` where the number was used, as `Unpinned` where no

@@ -2,7 +2,7 @@
 
 ghost use Rattle.std.specs.Prelude.{◌≡◌};
 ghost use Rattle.mdb_pool.specs.Core.{SameKept};
-ghost use Rattle.mdb_pool.specs.Body.{now_of, inner_of, inner_after, pool_of, led, PoolFits};
+ghost use Rattle.mdb_pool.specs.Body.{now_of, inner_of, pool_of, led, PoolFits};
 
 use crate::PoolOptions;
 use crate::kept::connections::{Connections, ConnectionsRedo};

@@ -12,7 +12,7 @@ ghost use Rattle.std.specs.List.Sorted.{IsStrictlySortedBy};
 ghost use Rattle.mdb_base.specs.declared.object_id.ObjectId.{ObjectId};
 ghost use Rattle.mdb_pool.specs.Claiming.{claimed_after, no_claims, ClaimsFit};
 ghost use Rattle.mdb_pool.specs.Clearing.{cleared_after, ClearsFit};
-ghost use Rattle.mdb_pool.specs.Jobs.{has_id, id_order};
+ghost use Rattle.mdb_pool_rules.specs.Jobs.{has_id, id_order};
 ghost use Rattle.mdb_pool.specs.Kept.{clears_before, clears_for, timeouts_in};
 ghost use Rattle.mdb_pool.specs.Places.{is_available, is_pending};
 

@@ -1,10 +1,10 @@
 //! How often a pool was cleared, by few counts: clears that no connection that lives tells apart are counted together.
 
-ghost use Rattle.std.specs.Prelude.{◌≡◌, ◌<◌, ◌+◌, ◌^◌, ◌≤◌, true, not, find, is_some, if◌then◌else◌, nat_lt, slice_get, Some, None, IfOk, IfSome, OnOk};
+ghost use Rattle.std.specs.Prelude.{◌≡◌, ◌<◌, ◌+◌, ◌≤◌, true, find, is_some, if◌then◌else◌, Some, None, IfOk, IfSome, OnOk};
 ghost use Rattle.mdb_log.specs.History.{same_service};
 ghost use Rattle.std.specs.List.Sorted.{IsStrictlySortedBy};
 ghost use Rattle.mdb_pool.specs.Clearing.{counts_at, parts_at, weigh, AreMarked, JoinsAt, Grown};
-ghost use Rattle.mdb_pool.specs.Jobs.{id_order};
+ghost use Rattle.mdb_pool_rules.specs.Jobs.{id_order};
 
 use crate::kept::clears::same_service;
 use crate::kept::connection::Connection;

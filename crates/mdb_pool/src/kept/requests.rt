@@ -2,7 +2,7 @@
 
 ghost use Rattle.std.specs.Prelude.{◌≡◌, ◌&&◌, ◌||◌, [], true, false, not, is_some, filter, find, map, length, count_by, None, OnOk, option_copied};
 ghost use Rattle.mdb_log.specs.Connections.{has};
-ghost use Rattle.mdb_slots.specs.Keyed.{after_key, entry_at, entry_before, last_of, put, rest_of, swap};
+ghost use Rattle.mdb_slots.specs.Keyed.{after_key, entry_before, last_of, put, rest_of, swap};
 ghost use Rattle.mdb_slots.specs.Lists.{apart};
 ghost use Rattle.mdb_pool.specs.Asking.{asked_after, asked_room_after, AskedFits};
 ghost use Rattle.mdb_pool.specs.Keyed.{marked};

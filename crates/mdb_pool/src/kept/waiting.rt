@@ -10,7 +10,6 @@ use std::alloc::Global;
 impl Draft {
     ghost use Rattle.mdb_log.specs.History.{PoolItem};
     ghost use Rattle.mdb_pool.specs.Standing.{Fits};
-    ghost use Rattle.mdb_pool.specs.Places.{is_queued};
     ghost use Rattle.mdb_pool.specs.Kept.{unserved_in};
     ghost use Rattle.mdb_pool.specs.Changes.{pending_ones, unserved_ones};
 

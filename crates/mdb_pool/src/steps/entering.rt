@@ -1,39 +1,13 @@
 //! A step that is not refused is done and logged, and its reply is answered beside.
 
-ghost use Rattle.std.specs.Prelude.{◌≡◌, ◌++◌, ◌∷◌, [], OnOk, OnErr, IfOk, None};
+ghost use Rattle.std.specs.Prelude.{◌≡◌, OnErr, IfOk, None};
 
 use crate::kept::draft::Draft;
 use crate::pool_core::PoolCore;
 use crate::steps::stepping::usual_facts;
 use crate::{Log, Reply, Step};
 use mdb_base::OutOfMemory;
-use mdb_events::Fact;
-use std::alloc::{AllocError, Global};
-
-/// The log gets one entry more, of a copy of the step. The answer is a copy of the reply.
-pub fn enter(
-    log: &mut Log,
-    seat: u32,
-    step: &Step,
-    reply: Reply,
-    facts: Vec<Fact>,
-) -> Result<Reply, AllocError>
-    ensures ok { OnOk result (log.new ≡ log.old ++ record { seat = seat; step = step.now; reply = reply; facts = facts.items } ∷ []) }
-    ensures reply { IfOk result (λ told. told ≡ reply) }
-    ensures err { OnErr result (log.new ≡ log.old) }
-{
-    match reply.clone() {
-        Ok(told) => {
-            log.enter(seat, step, reply, facts)?;
-            Ok(told)
-        }
-        Err(e) => {
-            drop(reply);
-            drop(facts);
-            Err(e)
-        }
-    }
-}
+use std::alloc::Global;
 
 impl Draft {
     ghost use Rattle.mdb_log.specs.Acts.{IsPoolAct};
@@ -56,7 +30,7 @@ impl Draft {
     {
         let mut facts = Vec::with_capacity(alloc, usual_facts(&step.act))?;
         let reply = self.accept(alloc, &mut facts, step)?;
-        let told = enter(log, seat, step, reply, facts)?;
+        let told = log.answer(seat, step, reply, facts)?;
         Ok(told)
     }
 }

@@ -9,7 +9,7 @@ use crate::{Act, Established, FailedAt, Refused, Step, What};
 use mdb_base::{Moment, ObjectId, ServerAddress};
 
 impl Body {
-    ghost use Rattle.mdb_pool.specs.Refusal.{first_row, wrong_service};
+    ghost use Rattle.mdb_pool_rules.specs.Refusal.{first_row, wrong_service};
     ghost use Rattle.mdb_pool.specs.Refusing.{can_tell, is_here, is_pending_here, is_pinned_here, rows_now, refusal_now, tells_new};
     ghost use Rattle.mdb_log.specs.Acts.{IsPoolAct};
     ghost use Rattle.mdb_base.specs.declared.error.Error.{Error};
@@ -242,7 +242,7 @@ impl Body {
 impl PoolCore {
     ghost use Rattle.mdb_log.specs.Acts.{IsPoolAct};
     ghost use Rattle.mdb_log.specs.History.{Item};
-    ghost use Rattle.mdb_pool.specs.Refusal.{refusal_of};
+    ghost use Rattle.mdb_pool_rules.specs.Refusal.{refusal_of};
     ghost use Rattle.mdb_pool.specs.Refusing.{refusal_now, tells_new};
     ghost use Rattle.mdb_pool.specs.Standing.{StandsFor};
 

@@ -1,6 +1,6 @@
 //! The steps of a pool.
 
-ghost use Rattle.std.specs.Prelude.{◌≡◌, ◌++◌, ◌∷◌, [], OnOk, OnErr, IfOk, All, List, Some, None, true};
+ghost use Rattle.std.specs.Prelude.{◌≡◌, [], OnOk, OnErr, IfOk, All, List, Some, None, true};
 
 use crate::kept::draft::Draft;
 use crate::planning::Answered;

@@ -18,17 +18,17 @@ use Rattle.mdb_log.specs.LegalLog.{OpensSeeds, IsOrderly}
 use Rattle.mdb_log.specs.Opening.{is_opening, pool_options}
 use Rattle.mdb_pool.specs.Core.{PoolCore}
 use Rattle.mdb_topology.specs.declared.topology.TopologyCore.{TopologyCore}
-use Rattle.mdb_topology.specs.Description.{begins_with}
-use Rattle.mdb_topology.specs.Lines.{entry_after}
+use Rattle.mdb_driver_rules.specs.Description.{begins_with}
+use Rattle.mdb_driver_rules.specs.Lines.{entry_after}
 use Rattle.mdb_topology.specs.Logging.{opening_step, Stood, IsDriverOf}
 use Rattle.mdb_log.specs.Connections.{has}
-use Rattle.mdb_topology.specs.Living.{lives_at}
-use Rattle.mdb_topology.specs.Monitors.{setting}
-use Rattle.mdb_topology.specs.Opening.{IsOpened}
+use Rattle.mdb_driver_pools.specs.Living.{lives_at}
+use Rattle.mdb_driver_rules.specs.Monitors.{setting}
+use Rattle.mdb_driver_pools.specs.Opening.{IsOpened}
 use Rattle.mdb_topology.specs.Standing.{StandsFor}
-use Rattle.mdb_topology.proofs.WholeSteps.OneMoreEntry.{orderly}
+use Rattle.mdb_driver_pools.proofs.Orderly.{orderly}
 use Rattle.mdb_topology.proofs.DriverOpened.StandsForIt.{answer-opened, stands-opened, core-stands, opens-seeds}
-use Rattle.mdb_topology.proofs.DriverOpened.PoolsThatOpen.{begun-addresses}
+use Rattle.mdb_driver_rules.proofs.PoolsThatOpen.{begun-addresses}
 
 begun-ordered : (o : Options) → in_order (begins_with o).servers ≡ true
 begun-ordered o = ap are_in_order (begun-addresses o) ∙ added_in_order o.seeds [] refl

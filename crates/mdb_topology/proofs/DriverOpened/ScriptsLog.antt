@@ -11,12 +11,13 @@ use Rattle.mdb_log.specs.Limits.{WithinLimits}
 use Rattle.mdb_log.specs.LegalLog.{IsLegalLog, IsLegal, IsOrderly, OpensSeeds}
 use Rattle.mdb_log.specs.Opening.{pool_options}
 use Rattle.mdb_topology.specs.declared.topology.TopologyCore.{TopologyCore}
-use Rattle.mdb_topology.specs.Lines.{entry_after, options_in}
+use Rattle.mdb_driver_rules.specs.Lines.{entry_after, options_in}
 use Rattle.mdb_topology.specs.Standing.{StandsFor, IsSame}
-use Rattle.mdb_topology.specs.Stepping.{is_driver_act, Logs}
+use Rattle.mdb_topology.specs.Stepping.{Logs}
+use Rattle.mdb_driver_rules.specs.Acts.{is_driver_act}
 use Rattle.mdb_topology.specs.Logging.{opening_step, Stood, AreDriven, IsDriverOf, IsKept}
 use Rattle.mdb_topology.specs.Driving.{IsTaken, IsFirstStep, Holds}
-use Rattle.mdb_topology.proofs.WholeSteps.TwoKinds.{driver-act}
+use Rattle.mdb_driver_rules.proofs.TwoKinds.{driver-act}
 use Rattle.mdb_topology.proofs.WholeSteps.OneMoreEntry.{same-stands, adds}
 
 legal-opened : (w : TopologyCore) (log : List Entry) → IsDriverOf w log → IsLegalLog log

@@ -26,37 +26,38 @@ use Rattle.mdb_log.specs.Homes.{Home, homes}
 use Rattle.mdb_log.specs.LegalLog.{numbered, OpensSeeds}
 use Rattle.mdb_log.specs.Opening.{pool_options}
 use Rattle.mdb_log.specs.State.{is_ready, state_of}
-use Rattle.mdb_log.proofs.Addresses.{own-address}
+use Rattle.mdb_describe.proofs.Addresses.{own-address}
 use Rattle.mdb_intervals.specs.Spans.{has as is_within}
 use Rattle.mdb_log.specs.Connections.{has}
 use Rattle.mdb_log.specs.Requests.{names_party}
 use Rattle.mdb_log.proofs.Frame.{acts-facts, last-facts}
-use Rattle.mdb_topology.specs.Living.{lives_at}
+use Rattle.mdb_driver_pools.specs.Living.{lives_at}
 use Rattle.mdb_pool.specs.Core.{PoolCore}
 use Rattle.mdb_topology.specs.declared.topology.TopologyCore.{TopologyCore}
-use Rattle.mdb_topology.specs.Answer.{answer, answered}
-use Rattle.mdb_topology.specs.Description.{unopened, begins_with}
-use Rattle.mdb_topology.specs.Facts.{step_facts}
-use Rattle.mdb_topology.specs.Homes.{begun}
-use Rattle.mdb_topology.specs.Limits.{past_last}
+use Rattle.mdb_driver_rules.specs.Answer.{answer, answered}
+use Rattle.mdb_driver_rules.specs.Description.{unopened, begins_with}
+use Rattle.mdb_driver_rules.specs.Facts.{step_facts}
+use Rattle.mdb_driver_rules.specs.Homes.{begun}
+use Rattle.mdb_driver_rules.specs.Limits.{past_last}
 use Rattle.mdb_topology.specs.Logging.{opening_step}
-use Rattle.mdb_topology.specs.Monitors.{setting, monitor_items}
-use Rattle.mdb_topology.specs.Opening.{IsOpened}
-use Rattle.mdb_topology.specs.Publishing.{telling, publication, topology_opening, opening}
-use Rattle.mdb_topology.specs.Refusal.{first_past, exhausted, ran_out, refused_by, refusal}
-use Rattle.mdb_topology.specs.Standing.{at_address, home, PoolsStand, MonitorsFit, StandsFor}
-use Rattle.mdb_topology.specs.Telling.{Comes}
-use Rattle.mdb_topology.specs.Turns.{in_turn}
-use Rattle.mdb_topology.proofs.WholeSteps.LeavesAsItIs.{with-append, turn-append, description-facts, published-facts, stopped-facts, monitor-facts, fresh-facts, watchers-facts}
+use Rattle.mdb_driver_rules.specs.Monitors.{setting, monitor_items}
+use Rattle.mdb_driver_pools.specs.Opening.{IsOpened}
+use Rattle.mdb_driver_rules.specs.Publishing.{telling, publication, topology_opening, opening}
+use Rattle.mdb_driver_rules.specs.Refusal.{first_past, exhausted, ran_out, refused_by, refusal}
+use Rattle.mdb_topology.specs.Standing.{MonitorsFit, StandsFor}
+use Rattle.mdb_driver_pools.specs.Standing.{at_address, home, PoolsStand}
+use Rattle.mdb_driver_pools.specs.Telling.{Comes}
+use Rattle.mdb_driver_rules.specs.Turns.{in_turn}
+use Rattle.mdb_driver_rules.proofs.LeavesAsItIs.{with-append, turn-append, description-facts, published-facts, stopped-facts, monitor-facts, fresh-facts, watchers-facts}
 use Rattle.mdb_topology.proofs.Publications.OfDifference.{nothing-differs}
-use Rattle.mdb_topology.proofs.WholeSteps.FactsPastLimits.{past-append}
-use Rattle.mdb_topology.proofs.DriverOpened.OpenedDriver.{few-seeds, opened-comes}
-use Rattle.mdb_topology.proofs.DriverOpened.OpenFromTheStart.{all-open, known-listed, lives-all, open-unspent}
-use Rattle.mdb_topology.proofs.DriverOpened.PoolsThatOpen.{telling-homes, begun-addresses, same-missing, opened-missing}
-use Rattle.mdb_topology.proofs.Publications.PastLimits.{telling-past}
-use Rattle.mdb_topology.proofs.Publications.PlannedWhole.{of-difference}
-use Rattle.mdb_topology.proofs.DriverOpened.KnownBalancers.{few-opened}
-use Rattle.mdb_topology.proofs.DriverOpened.SeedsOnce.{seeds-same}
+use Rattle.mdb_driver_rules.proofs.FactsPastLimits.{past-append}
+use Rattle.mdb_driver_pools.proofs.DriverOpened.OpenedDriver.{few-seeds, opened-comes}
+use Rattle.mdb_driver_pools.proofs.DriverOpened.OpenFromTheStart.{all-open, known-listed, lives-all, open-unspent}
+use Rattle.mdb_driver_rules.proofs.PoolsThatOpen.{telling-homes, begun-addresses, same-missing, opened-missing}
+use Rattle.mdb_driver_rules.proofs.PoolsPastLimits.{telling-past}
+use Rattle.mdb_driver_rules.proofs.ServersThen.{of-difference}
+use Rattle.mdb_driver_rules.proofs.KnownBalancers.{few-opened}
+use Rattle.mdb_driver_pools.proofs.DriverOpened.SeedsOnce.{seeds-same}
 use Rattle.mdb_describe.proofs.InOrder.{added_in_order}
 use Rattle.mdb_topology.proofs.OfMonitors.LeftAlone.{in-all}
 use Rattle.mdb_topology.proofs.WholeSteps.CheckThenRule.{told-first, served-all}

@@ -23,34 +23,36 @@ use Rattle.mdb_pool.specs.declared.kept.connection.Connection.{Connection}
 use Rattle.mdb_pool.specs.Core.{PoolCore}
 use Rattle.mdb_pool.specs.Kept.{connection_at, exhausted_now, is_pending_at}
 use Rattle.mdb_pool.specs.Refusing.{refusal_now}
-use Rattle.mdb_pool.specs.Serving.{IsServed}
-use Rattle.mdb_topology.specs.declared.pools.pool_change.PoolChange.{PoolChange}
-use Rattle.mdb_topology.specs.declared.errors.marked.Asked.{Asked}
-use Rattle.mdb_topology.specs.declared.errors.marked.Asked.TheVariants.{Nothing}
+use Rattle.mdb_pool_rules.specs.Serving.{IsServed}
+use Rattle.mdb_driver_pools.specs.declared.pool_change.PoolChange.{PoolChange}
+use Rattle.mdb_driver_pools.specs.declared.trouble.Asked.{Asked}
+use Rattle.mdb_driver_pools.specs.declared.trouble.Asked.TheVariants.{Nothing}
 use Rattle.mdb_topology.specs.declared.monitors.monitoring.Monitoring.TheVariants.{Same}
 use Rattle.mdb_topology.specs.declared.transition.Transition.{Transition}
 use Rattle.mdb_topology.specs.declared.topology.TopologyCore.{TopologyCore}
-use Rattle.mdb_topology.specs.Current.{establishing}
-use Rattle.mdb_topology.specs.Description.{Rule, updates}
-use Rattle.mdb_topology.specs.Errors.{case_of}
-use Rattle.mdb_topology.specs.Failing.{regards_now, clears_after, service_after, asked_after, IsFailing, StillFails, Fails, TellsFailure, IsToldOf}
-use Rattle.mdb_topology.specs.Planned.{CanTake, LeadsAll, PlansMore}
-use Rattle.mdb_topology.specs.Publishing.{telling, told_by}
-use Rattle.mdb_topology.specs.Refusal.{ran_out, refusal}
-use Rattle.mdb_topology.specs.Standing.{at_address, StandsFor, StandsForSome}
+use Rattle.mdb_driver_rules.specs.Current.{establishing}
+use Rattle.mdb_driver_rules.specs.Description.{Rule, updates}
+use Rattle.mdb_driver_rules.specs.Errors.{case_of}
+use Rattle.mdb_topology.specs.Failing.{regards_now, clears_after, service_after, asked_after, TellsFailure, IsToldOf}
+use Rattle.mdb_driver_pools.specs.Failing.{IsFailing, StillFails, Fails}
+use Rattle.mdb_driver_pools.specs.Planned.{CanTake, LeadsAll, PlansMore}
+use Rattle.mdb_driver_rules.specs.Publishing.{telling, told_by}
+use Rattle.mdb_driver_rules.specs.Refusal.{ran_out, refusal}
+use Rattle.mdb_topology.specs.Standing.{StandsFor, StandsForSome}
+use Rattle.mdb_driver_pools.specs.Standing.{at_address}
 use Rattle.mdb_topology.specs.Stepping.{Follows}
-use Rattle.mdb_topology.specs.Telling.{Comes}
-use Rattle.mdb_topology.specs.Turns.{in_turn}
+use Rattle.mdb_driver_pools.specs.Telling.{Comes}
+use Rattle.mdb_driver_rules.specs.Turns.{in_turn}
 use Rattle.mdb_topology.proofs.Publications.OfDifference.{open-known}
-use Rattle.mdb_topology.proofs.Failure.AcceptedAfterClear.{pending-now, still-fails}
+use Rattle.mdb_driver_pools.proofs.Failure.AcceptedAfterClear.{pending-now, still-fails}
 use Rattle.mdb_topology.proofs.Failure.Becomes.{failure-refusal, failure-follows}
 use Rattle.mdb_topology.proofs.Failure.MarkOfNoPool.{Constant, mark-constant}
 use Rattle.mdb_topology.proofs.Failure.Means.{means-nothing, means-service, means-mark}
-use Rattle.mdb_topology.proofs.Failure.PoolsStand.{failing}
+use Rattle.mdb_driver_pools.proofs.Failure.PoolsStand.{failing}
 use Rattle.mdb_topology.proofs.Failure.Trouble.{failed-place}
 use Rattle.mdb_topology.proofs.WholeSteps.TopologyStep.{early-later}
-use Rattle.mdb_topology.proofs.Marks.StaysKnown.{marked-known, marked-length, marked-ordered}
-use Rattle.mdb_topology.proofs.OnePool.FoundAt.{fits-at, number-at}
+use Rattle.mdb_driver_rules.proofs.StaysKnown.{marked-known, marked-length, marked-ordered}
+use Rattle.mdb_driver_pools.proofs.OnePool.FoundAt.{fits-at, number-at}
 
 -- the step is one of the failure
 abbrev step-is : (s : PoolCore) (step : Step) (error : Error) (d : IsFailing s step error) → step ≡ failing step.moment s.pool d.connection d.at error

@@ -19,47 +19,49 @@ use Rattle.mdb_log.specs.History.{Item, PoolItem, failed, service_in, of_pool, a
 use Rattle.mdb_log.specs.Homes.{homes}
 use Rattle.mdb_log.specs.Opening.{pool_options}
 use Rattle.mdb_pool.specs.Core.{PoolCore}
-use Rattle.mdb_pool.specs.Facts.{act_facts}
+use Rattle.mdb_pool_rules.specs.Facts.{act_facts}
 use Rattle.mdb_pool.specs.Kept.{exhausted_now}
-use Rattle.mdb_pool.specs.Quiet.{IsQuiet}
-use Rattle.mdb_pool.specs.Refusal.{is_exhausted, wrong_service}
+use Rattle.mdb_pool_rules.specs.Quiet.{IsQuiet}
+use Rattle.mdb_pool_rules.specs.Refusal.{is_exhausted, wrong_service}
 use Rattle.mdb_pool.specs.Refusing.{refusal_now}
-use Rattle.mdb_pool.specs.Serving.{IsServed}
+use Rattle.mdb_pool_rules.specs.Serving.{IsServed}
 use Rattle.mdb_pool.specs.Standing.{Fits}
 use Rattle.mdb_pool.proofs.Answered.Clear.{exhausted-is}
 use Rattle.mdb_log.specs.Limits.{WithinLimits}
-use Rattle.mdb_topology.specs.declared.errors.marked.Asked.{Asked}
-use Rattle.mdb_topology.specs.declared.errors.marked.Asked.TheVariants.{Nothing, CheckNow, CancelIfCleared}
+use Rattle.mdb_driver_pools.specs.declared.trouble.Asked.{Asked}
+use Rattle.mdb_driver_pools.specs.declared.trouble.Asked.TheVariants.{Nothing, CheckNow, CancelIfCleared}
 use Rattle.mdb_topology.specs.declared.monitors.monitoring.Monitoring.TheVariants.{Same}
 use Rattle.mdb_topology.specs.declared.transition.Transition.{Transition}
 use Rattle.mdb_topology.specs.declared.topology.TopologyCore.{TopologyCore}
-use Rattle.mdb_topology.specs.Acting.{step_of}
-use Rattle.mdb_topology.specs.Description.{Rule, rule_after, description_of, applied}
-use Rattle.mdb_topology.specs.Facts.{trouble, clear_of, clearing, asking, own_facts, serve_all, step_facts}
-use Rattle.mdb_topology.specs.Failing.{Fails as FailsBy, TellsFailure, cleared_facts}
-use Rattle.mdb_topology.specs.Homes.{home_of, begun}
-use Rattle.mdb_topology.specs.Marking.{asked_of, clear_act}
-use Rattle.mdb_topology.specs.Publishing.{told_by}
-use Rattle.mdb_topology.specs.Refusal.{first_past, first_refusal, ran_out, refusal, sooner}
-use Rattle.mdb_topology.specs.Standing.{home, PoolFits, StandsFor}
-use Rattle.mdb_topology.specs.Stepping.{known_after, Follows}
-use Rattle.mdb_topology.specs.Turns.{in_turn}
+use Rattle.mdb_driver_pools.specs.Acting.{step_of}
+use Rattle.mdb_driver_rules.specs.Description.{Rule, rule_after, description_of, applied, known_after}
+use Rattle.mdb_driver_rules.specs.Facts.{trouble, clear_of, clearing, asking, own_facts, serve_all, step_facts}
+use Rattle.mdb_topology.specs.Failing.{TellsFailure, cleared_facts}
+use Rattle.mdb_driver_pools.specs.Failing.{Fails as FailsBy}
+use Rattle.mdb_driver_rules.specs.Homes.{home_of, begun}
+use Rattle.mdb_driver_pools.specs.Clearing.{asked_of, clear_act}
+use Rattle.mdb_driver_rules.specs.Publishing.{told_by}
+use Rattle.mdb_driver_rules.specs.Refusal.{first_past, first_refusal, ran_out, refusal, sooner}
+use Rattle.mdb_topology.specs.Standing.{StandsFor}
+use Rattle.mdb_driver_pools.specs.Standing.{home, PoolFits}
+use Rattle.mdb_topology.specs.Stepping.{Follows}
+use Rattle.mdb_driver_rules.specs.Turns.{in_turn}
 use Rattle.mdb_topology.proofs.Marks.ClearsPool.{past-clear}
 use Rattle.mdb_topology.proofs.Failure.FactsOf.{known-1, failed-step}
 use Rattle.mdb_topology.proofs.Failure.MarkOfNoPool.{Constant}
 use Rattle.mdb_topology.proofs.Failure.PastLimits.{fails-free, failed-past, refused-past, sooner-none}
 use Rattle.mdb_topology.proofs.Failure.Plan.{clears, fails, Doing, planned-done}
-use Rattle.mdb_topology.proofs.Failure.PoolsStand.{failing}
+use Rattle.mdb_driver_pools.proofs.Failure.PoolsStand.{failing}
 use Rattle.mdb_topology.proofs.Failure.RefusedByItsPool.{home-failed, not-late, failed-rows}
 use Rattle.mdb_topology.proofs.Failure.Follows.{follows-failed}
-use Rattle.mdb_topology.proofs.InMemory.NewParties.{failing-lives}
-use Rattle.mdb_topology.proofs.OnePool.NumbersWithinLimits.{take_numbers, act-free, first-free, free-append, out-free}
+use Rattle.mdb_driver_pools.proofs.InMemory.NewParties.{failing-lives}
+use Rattle.mdb_driver_rules.proofs.NumbersWithinLimits.{take_numbers, act-free, first-free, free-append, out-free}
 use Rattle.mdb_topology.proofs.OfMonitors.FactsOfCheck.{AreCalm}
-use Rattle.mdb_topology.proofs.WholeSteps.LeavesAsItIs.{turn-append}
-use Rattle.mdb_topology.proofs.WholeSteps.FactsPastLimits.{past-append}
+use Rattle.mdb_driver_rules.proofs.LeavesAsItIs.{turn-append}
+use Rattle.mdb_driver_rules.proofs.FactsPastLimits.{past-append}
 use Rattle.mdb_topology.proofs.Marks.ComesTo.{not-exhausted}
-use Rattle.mdb_topology.proofs.OnePool.FoundAt.{fits-at}
-use Rattle.mdb_topology.proofs.General.OnePosition.{some-same}
+use Rattle.mdb_driver_pools.proofs.OnePool.FoundAt.{fits-at}
+use Rattle.mdb_driver_rules.proofs.General.OnePosition.{some-same}
 use Rattle.mdb_topology.proofs.WholeSteps.RefusedOfNoPool.{serving-none}
 
 -- what a monitor is asked is of no pool, and takes no number

@@ -12,15 +12,15 @@ use Rattle.mdb_log.specs.declared.step.FailedAt.{FailedAt}
 use Rattle.mdb_log.specs.History.{PoolItem, after_facts}
 use Rattle.mdb_log.specs.Own.{is_closing, shuts}
 use Rattle.mdb_pool.specs.Core.{PoolCore}
-use Rattle.mdb_pool.specs.Answer.{all_facts}
-use Rattle.mdb_pool.specs.Facts.{act_facts, clear_facts}
+use Rattle.mdb_pool_rules.specs.Answer.{all_facts}
+use Rattle.mdb_pool_rules.specs.Facts.{act_facts, clear_facts}
 use Rattle.mdb_pool.specs.Kept.{is_shut}
-use Rattle.mdb_pool.specs.Serving.{serving}
-use Rattle.mdb_pool.proofs.Turns.Fair.{shut-append}
+use Rattle.mdb_pool_rules.specs.Serving.{serving}
+use Rattle.mdb_pool_rules.proofs.Fair.{shut-append}
 use Rattle.mdb_topology.proofs.Marks.ClearsPool.{cleared-open}
-use Rattle.mdb_topology.proofs.Failure.PoolsStand.{Fails}
-use Rattle.mdb_topology.specs.OfServers.{is_of_server}
-use Rattle.mdb_topology.proofs.OnePool.NumbersWithinLimits.{any_out, out-append, serving-free, act-free}
+use Rattle.mdb_driver_pools.proofs.Failure.PoolsStand.{Fails}
+use Rattle.mdb_driver_rules.specs.OfServers.{is_of_server}
+use Rattle.mdb_driver_rules.proofs.NumbersWithinLimits.{any_out, out-append, serving-free, act-free}
 
 -- facts of which none is of a server close no pool
 out-shuts : (fs : List Fact) → any_out fs ≡ false → shuts fs ≡ false

@@ -11,15 +11,15 @@ use Rattle.mdb_log.specs.Opening.{pool_options}
 use Rattle.mdb_log.specs.LegalLog.{AllFirstCome}
 use Rattle.mdb_log.specs.Beside.{AllFreshGrants}
 use Rattle.mdb_pool.specs.Core.{PoolCore}
-use Rattle.mdb_topology.specs.Homes.{begun}
-use Rattle.mdb_topology.specs.Standing.{PoolsStand}
+use Rattle.mdb_driver_rules.specs.Homes.{begun}
+use Rattle.mdb_driver_pools.specs.Standing.{PoolsStand}
 use Rattle.mdb_topology.proofs.Failure.FactsOf.{calm-same}
-use Rattle.mdb_topology.proofs.Failure.PoolsStand.{Fails, failing, failed-acted}
+use Rattle.mdb_driver_pools.proofs.Failure.PoolsStand.{Fails, failing, failed-acted}
 use Rattle.mdb_topology.proofs.OfMonitors.FactsOfCheck.{AreCalm}
-use Rattle.mdb_topology.proofs.OnePool.DriversOwnAct.{Acted}
-use Rattle.mdb_topology.proofs.WholeSteps.LeavesAsItIs.{with-append}
-use Rattle.mdb_topology.proofs.OnePool.SameHistories.{SameFor, same-facts}
-use Rattle.mdb_topology.proofs.WholeSteps.PartsInTurn.{same-stand, fair-both, fresh-both, calm-fair, calm-fresh}
+use Rattle.mdb_driver_pools.proofs.OnePool.DriversOwnAct.{Acted}
+use Rattle.mdb_driver_rules.proofs.LeavesAsItIs.{with-append}
+use Rattle.mdb_driver_rules.proofs.SameHistories.{SameFor, same-facts}
+use Rattle.mdb_driver_pools.proofs.PartsInTurn.{same-stand, fair-both, fresh-both, calm-fair, calm-fresh}
 use Rattle.mdb_topology.proofs.WholeSteps.CheckThenRule.{same-fair, same-fresh}
 
 -- facts of no pool grant nothing

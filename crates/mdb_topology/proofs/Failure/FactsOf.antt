@@ -16,22 +16,22 @@ use Rattle.mdb_log.specs.Own.{AllOwn}
 use Rattle.mdb_log.proofs.Frame.{other-facts}
 use Rattle.mdb_log.proofs.Later.{of_pool-with_facts, own-prefix}
 use Rattle.mdb_pool.specs.Core.{PoolCore}
-use Rattle.mdb_pool.specs.Facts.{act_facts}
-use Rattle.mdb_pool.specs.Serving.{serving}
-use Rattle.mdb_pool.proofs.Turns.NoMove.{served-serving}
-use Rattle.mdb_topology.specs.Description.{rule_after, description_of}
-use Rattle.mdb_topology.specs.Facts.{trouble, clear_of, clearing, asking, own_facts, serve_all, step_facts}
-use Rattle.mdb_topology.specs.Homes.{home_of, begun}
-use Rattle.mdb_topology.specs.Publishing.{told_by}
-use Rattle.mdb_topology.specs.Standing.{home, PoolFits, PoolsStand}
-use Rattle.mdb_topology.specs.Turns.{in_turn}
-use Rattle.mdb_topology.proofs.OnePool.FactsLeaveOthers.{homes-facts, apart-items}
+use Rattle.mdb_pool_rules.specs.Facts.{act_facts}
+use Rattle.mdb_pool_rules.specs.Serving.{serving}
+use Rattle.mdb_pool_rules.proofs.NoMove.{served-serving}
+use Rattle.mdb_driver_rules.specs.Description.{rule_after, description_of}
+use Rattle.mdb_driver_rules.specs.Facts.{trouble, clear_of, clearing, asking, own_facts, serve_all, step_facts}
+use Rattle.mdb_driver_rules.specs.Homes.{home_of, begun}
+use Rattle.mdb_driver_rules.specs.Publishing.{told_by}
+use Rattle.mdb_driver_pools.specs.Standing.{home, PoolFits, PoolsStand}
+use Rattle.mdb_driver_rules.specs.Turns.{in_turn}
+use Rattle.mdb_driver_pools.proofs.OnePool.FactsLeaveOthers.{homes-facts, apart-items}
 use Rattle.mdb_topology.proofs.Failure.MarkOfNoPool.{Constant}
-use Rattle.mdb_topology.proofs.Failure.PoolsStand.{failing, failed-here, failed-there}
+use Rattle.mdb_driver_pools.proofs.Failure.PoolsStand.{failing, failed-here, failed-there}
 use Rattle.mdb_topology.proofs.OfMonitors.FactsOfCheck.{AreCalm}
-use Rattle.mdb_topology.proofs.WholeSteps.LeavesAsItIs.{turn-append, with-append}
-use Rattle.mdb_topology.proofs.General.OneElement.{flat-one}
-use Rattle.mdb_topology.proofs.OnePool.SameHistories.{SameFor, calm, same-facts, same-trans}
+use Rattle.mdb_driver_rules.proofs.LeavesAsItIs.{turn-append, with-append}
+use Rattle.mdb_driver_rules.proofs.General.OneElement.{flat-one}
+use Rattle.mdb_driver_rules.proofs.SameHistories.{SameFor, calm, same-facts, same-trans}
 
 -- calm facts leave what the pools know
 pub calm-same : (m : ℕ) (fs : List Fact) (h k : List Item) → AreCalm fs → SameFor h k → SameFor h (with_facts m fs k)

@@ -26,24 +26,25 @@ use Rattle.mdb_pool.specs.Body.{PoolSteps as Plan}
 use Rattle.mdb_pool.specs.Kept.{is_shut, is_spent}
 use Rattle.mdb_pool.specs.Planning.{Plans, IsPlanOf}
 use Rattle.mdb_pool.specs.Standing.{SameHome}
-use Rattle.mdb_topology.specs.declared.pools.pool_change.PoolChange.TheVariants.{Alter}
+use Rattle.mdb_driver_pools.specs.declared.pool_change.PoolChange.TheVariants.{Alter}
 use Rattle.mdb_topology.specs.declared.topology.TopologyCore.{TopologyCore}
 use Rattle.mdb_topology.specs.declared.transition.Transition.{Transition}
 use Rattle.mdb_topology.specs.declared.monitors.monitoring.Monitoring.TheVariants.{Same}
-use Rattle.mdb_topology.specs.Answer.{answered, answer, pool_reply}
-use Rattle.mdb_topology.specs.Description.{rule_after}
-use Rattle.mdb_topology.specs.Facts.{step_facts}
-use Rattle.mdb_topology.specs.Homes.{home_of, begun}
-use Rattle.mdb_topology.specs.Planned.{LeadsAll}
-use Rattle.mdb_topology.specs.Refusal.{refusal}
-use Rattle.mdb_topology.specs.Standing.{home, is_open_at, PoolsStand, MonitorsFit, Describes, Counts, StandsFor}
-use Rattle.mdb_topology.specs.Stepping.{known_after, Follows}
-use Rattle.mdb_topology.proofs.Failure.PoolsStand.{Fails, failing}
+use Rattle.mdb_driver_rules.specs.Answer.{answered, answer, pool_reply}
+use Rattle.mdb_driver_rules.specs.Description.{rule_after, known_after}
+use Rattle.mdb_driver_rules.specs.Facts.{step_facts}
+use Rattle.mdb_driver_rules.specs.Homes.{home_of, begun}
+use Rattle.mdb_driver_pools.specs.Planned.{LeadsAll}
+use Rattle.mdb_driver_rules.specs.Refusal.{refusal}
+use Rattle.mdb_topology.specs.Standing.{MonitorsFit, Describes, Counts, StandsFor}
+use Rattle.mdb_driver_pools.specs.Standing.{home, is_open_at, PoolsStand}
+use Rattle.mdb_topology.specs.Stepping.{Follows}
+use Rattle.mdb_driver_pools.proofs.Failure.PoolsStand.{Fails, failing}
 use Rattle.mdb_topology.proofs.Failure.DriverStands.{failed-stand, failed-fair, failed-fresh}
 use Rattle.mdb_topology.proofs.WholeSteps.TopologyStep.{early-later, known-some}
 use Rattle.mdb_topology.proofs.OfMonitors.FactsOfCheck.{AreCalm}
-use Rattle.mdb_topology.proofs.General.OneElement.{map-set, position-set}
-use Rattle.mdb_topology.proofs.General.OnePosition.{some-same}
+use Rattle.mdb_driver_rules.proofs.General.OneElement.{map-set, position-set}
+use Rattle.mdb_driver_rules.proofs.General.OnePosition.{some-same}
 use Rattle.mdb_topology.proofs.OfMonitors.LeftAlone.{known-then, counts-still, monitors-still}
 
 module _ (w : TopologyCore) (h : List Item) (z : StandsFor w h) (i : ℕ) (s : PoolCore) (at_i : slice_get w.pools.cores.items i ≡ Some s) (lives : is_spent s ≡ false) (m c : ℕ) (at : FailedAt) (error : Error) (l : w.pools.last ≤ m)

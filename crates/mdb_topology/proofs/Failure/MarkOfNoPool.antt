@@ -15,15 +15,15 @@ use Rattle.mdb_describe.specs.Topology.{server_at}
 use Rattle.mdb_describe.specs.Update.{is_new, updated}
 use Rattle.mdb_events.specs.declared.fact.Fact.{Fact}
 use Rattle.mdb_log.specs.History.{Item, with_facts}
-use Rattle.mdb_topology.specs.Publishing.{description_changed, server_changed, topology_changed, telling}
-use Rattle.mdb_topology.specs.Ready.{is_ready_type}
-use Rattle.mdb_topology.specs.Touching.{is_ready_server, is_ready_at}
-use Rattle.mdb_topology.specs.Turns.{in_turn}
-use Rattle.mdb_topology.proofs.OnePool.NumbersWithinLimits.{take_numbers, free-append}
+use Rattle.mdb_driver_rules.specs.Publishing.{description_changed, server_changed, topology_changed, telling}
+use Rattle.mdb_driver_rules.specs.Ready.{is_ready_type}
+use Rattle.mdb_driver_rules.specs.Touching.{is_ready_server, is_ready_at}
+use Rattle.mdb_driver_rules.specs.Turns.{in_turn}
+use Rattle.mdb_driver_rules.proofs.NumbersWithinLimits.{take_numbers, free-append}
 use Rattle.mdb_topology.proofs.OfMonitors.FactsOfCheck.{AreCalm}
-use Rattle.mdb_topology.proofs.Publications.PlannedWhole.{of-difference}
-use Rattle.mdb_topology.proofs.General.DescriptionIsItself.{unchanged}
-use Rattle.mdb_topology.proofs.Marks.StaysKnown.{none-come, none-gone, unready, new-servers, same-topology}
+use Rattle.mdb_driver_rules.proofs.ServersThen.{of-difference}
+use Rattle.mdb_describe.proofs.SameAsItself.{unchanged}
+use Rattle.mdb_driver_rules.proofs.StaysKnown.{none-come, none-gone, unready, new-servers, same-topology}
 
 -- parts that tell the same calm facts after every history
 pub record Constant (m : ℕ) (parts : List (List Item → List Fact)) : Type 0 where

@@ -17,21 +17,22 @@ use Rattle.mdb_log.specs.History.{Item, service_in, of_pool}
 use Rattle.mdb_pool.specs.declared.kept.connection.Connection.{Connection}
 use Rattle.mdb_pool.specs.Core.{PoolCore}
 use Rattle.mdb_pool.specs.Kept.{connection_at}
-use Rattle.mdb_pool.specs.Refusal.{wrong_service}
+use Rattle.mdb_pool_rules.specs.Refusal.{wrong_service}
 use Rattle.mdb_pool.specs.Refusing.{refusal_now}
-use Rattle.mdb_topology.specs.declared.errors.marked.Asked.TheVariants.{Nothing}
+use Rattle.mdb_driver_pools.specs.declared.trouble.Asked.TheVariants.{Nothing}
 use Rattle.mdb_topology.specs.declared.topology.TopologyCore.{TopologyCore}
 use Rattle.mdb_topology.specs.Complaining.{is_hard_now}
-use Rattle.mdb_topology.specs.Current.{establishing}
-use Rattle.mdb_topology.specs.Description.{Rule, updates, rule_after, marking_rule, description_of, change_by}
-use Rattle.mdb_topology.specs.Errors.{Case, state_change, lost, Trouble, Clear, nothing, whole, case_of, where_so, for_service, marks, asks, trouble_of}
-use Rattle.mdb_topology.specs.Facts.{trouble, clear_by, clear_of, clearing, asking}
-use Rattle.mdb_topology.specs.Failing.{regards_now, clears_after, service_after, asked_after, cleared_facts, IsFailing, TellsFailure}
-use Rattle.mdb_topology.specs.Homes.{begun}
-use Rattle.mdb_topology.specs.Marking.{asked_of}
+use Rattle.mdb_driver_rules.specs.Current.{establishing}
+use Rattle.mdb_driver_rules.specs.Description.{Rule, updates, rule_after, marking_rule, description_of, change_by}
+use Rattle.mdb_driver_rules.specs.Errors.{Case, state_change, lost, Trouble, Clear, nothing, whole, case_of, where_so, for_service, marks, asks, trouble_of}
+use Rattle.mdb_driver_rules.specs.Facts.{trouble, clear_by, clear_of, clearing, asking}
+use Rattle.mdb_topology.specs.Failing.{regards_now, clears_after, service_after, asked_after, cleared_facts, TellsFailure}
+use Rattle.mdb_driver_pools.specs.Failing.{IsFailing}
+use Rattle.mdb_driver_rules.specs.Homes.{begun}
+use Rattle.mdb_driver_pools.specs.Clearing.{asked_of}
 use Rattle.mdb_topology.specs.Standing.{StandsFor}
 use Rattle.mdb_topology.proofs.Marks.OfOperations.{open-unstopped}
-use Rattle.mdb_topology.proofs.Failure.PoolsStand.{failing}
+use Rattle.mdb_driver_pools.proofs.Failure.PoolsStand.{failing}
 use Rattle.mdb_topology.proofs.Failure.Trouble.{met, failed-told, failed-none, failed-place, Row, changes, loses, row-of}
 use Rattle.mdb_topology.proofs.Publications.WhichSteps.{rule-unstopped, rule-stopped}
 

@@ -14,17 +14,17 @@ use Rattle.mdb_log.specs.declared.reply.What.{What}
 use Rattle.mdb_log.specs.declared.reply.What.TheVariants.{Generation, Servers}
 use Rattle.mdb_log.specs.History.{Item, PoolItem, of_pool, after_facts, with_facts}
 use Rattle.mdb_log.specs.Opening.{pool_options}
-use Rattle.mdb_pool.specs.Answer.{all_facts}
-use Rattle.mdb_pool.specs.Facts.{act_facts, clear_facts}
-use Rattle.mdb_pool.specs.Refusal.{is_exhausted}
-use Rattle.mdb_pool.specs.Serving.{serving}
-use Rattle.mdb_topology.specs.Description.{description_of}
-use Rattle.mdb_topology.specs.Facts.{step_facts}
-use Rattle.mdb_topology.specs.Homes.{begun}
-use Rattle.mdb_topology.specs.Refusal.{first_past, sooner, first_refusal, refused_by, ran_out, exhausted, refusal}
+use Rattle.mdb_pool_rules.specs.Answer.{all_facts}
+use Rattle.mdb_pool_rules.specs.Facts.{act_facts, clear_facts}
+use Rattle.mdb_pool_rules.specs.Refusal.{is_exhausted}
+use Rattle.mdb_pool_rules.specs.Serving.{serving}
+use Rattle.mdb_driver_rules.specs.Description.{description_of}
+use Rattle.mdb_driver_rules.specs.Facts.{step_facts}
+use Rattle.mdb_driver_rules.specs.Homes.{begun}
+use Rattle.mdb_driver_rules.specs.Refusal.{first_past, sooner, first_refusal, refused_by, ran_out, exhausted, refusal}
 use Rattle.mdb_topology.proofs.Marks.ClearsPool.{past-clear}
-use Rattle.mdb_topology.proofs.OnePool.NumbersWithinLimits.{take_numbers, first-free, free-append, out-append, out-free, serving-free, act-free}
-use Rattle.mdb_topology.proofs.WholeSteps.FactsPastLimits.{past-append}
+use Rattle.mdb_driver_rules.proofs.NumbersWithinLimits.{take_numbers, first-free, free-append, out-append, out-free, serving-free, act-free}
+use Rattle.mdb_driver_rules.proofs.FactsPastLimits.{past-append}
 
 pub sooner-none : (x : Option What) → sooner x None ≡ x
 sooner-none None = refl

@@ -17,23 +17,24 @@ use Rattle.mdb_log.specs.Opening.{pool_options}
 use Rattle.mdb_log.specs.Own.{shuts}
 use Rattle.mdb_pool.specs.Core.{PoolCore}
 use Rattle.mdb_pool.specs.Body.{PoolSteps as Plan}
-use Rattle.mdb_pool.specs.Answer.{all_facts}
-use Rattle.mdb_pool.specs.Facts.{clear_facts}
+use Rattle.mdb_pool_rules.specs.Answer.{all_facts}
+use Rattle.mdb_pool_rules.specs.Facts.{clear_facts}
 use Rattle.mdb_pool.specs.Kept.{is_shut}
 use Rattle.mdb_pool.specs.Planning.{Plans, IsPlanOf, IsDone}
-use Rattle.mdb_pool.specs.Quiet.{IsQuiet}
-use Rattle.mdb_pool.specs.Serving.{IsServed}
+use Rattle.mdb_pool_rules.specs.Quiet.{IsQuiet}
+use Rattle.mdb_pool_rules.specs.Serving.{IsServed}
 use Rattle.mdb_pool.specs.Standing.{Fits}
-use Rattle.mdb_topology.specs.declared.pools.pool_change.PoolChange.{PoolChange}
-use Rattle.mdb_topology.specs.declared.pools.pool_change.PoolChange.TheVariants.{Alter}
-use Rattle.mdb_topology.specs.declared.errors.marked.Asked.{Asked}
-use Rattle.mdb_topology.specs.Acting.{step_of, PlansOne}
-use Rattle.mdb_topology.specs.Failing.{DoesBoth, PlansTwo, Fails as FailsBy, cleared_facts}
-use Rattle.mdb_topology.specs.Marking.{asked_of, clear_act}
-use Rattle.mdb_topology.proofs.Failure.OfItsPool.{alone-facts, fails-alone, clears-are, fails-are, fails-cleared}
-use Rattle.mdb_topology.proofs.Failure.PoolsStand.{Fails, failing}
+use Rattle.mdb_driver_pools.specs.declared.pool_change.PoolChange.{PoolChange}
+use Rattle.mdb_driver_pools.specs.declared.pool_change.PoolChange.TheVariants.{Alter}
+use Rattle.mdb_driver_pools.specs.declared.trouble.Asked.{Asked}
+use Rattle.mdb_driver_pools.specs.Acting.{step_of, PlansOne}
+use Rattle.mdb_topology.specs.Failing.{cleared_facts}
+use Rattle.mdb_driver_pools.specs.Failing.{DoesBoth, PlansTwo, Fails as FailsBy}
+use Rattle.mdb_driver_pools.specs.Clearing.{asked_of, clear_act}
+use Rattle.mdb_driver_pools.proofs.Failure.OfItsPool.{alone-facts, fails-alone, clears-are, fails-are, fails-cleared}
+use Rattle.mdb_driver_pools.proofs.Failure.PoolsStand.{Fails, failing}
 use Rattle.mdb_topology.proofs.Failure.ClosesNoPool.{shut-before, fails-open, both-open}
-use Rattle.mdb_topology.proofs.General.OnePosition.{some-same}
+use Rattle.mdb_driver_rules.proofs.General.OnePosition.{some-same}
 
 module _ (o : Options) (h : List Item) (s : PoolCore) (fits : Fits s (of_pool s.pool h)) (served : IsServed s.options (of_pool s.pool h)) (quiet : IsQuiet s.options (of_pool s.pool h)) (within : WithinLimits s.options (of_pool s.pool h))
     (options : s.options ≡ pool_options o) (m c : ℕ) (at : FailedAt) (error : Error) (service : Option ObjectId) where

@@ -14,19 +14,20 @@ use Rattle.mdb_log.specs.Opening.{pool_options}
 use Rattle.mdb_log.proofs.Numbers.{same-number}
 use Rattle.mdb_log.proofs.Frame.{other-number}
 use Rattle.mdb_pool.specs.Core.{PoolCore}
-use Rattle.mdb_pool.specs.Refusal.{first_row}
+use Rattle.mdb_pool_rules.specs.Refusal.{first_row}
 use Rattle.mdb_pool.specs.Refusing.{is_pending_here, rows_now, refusal_now}
 use Rattle.mdb_topology.specs.declared.topology.TopologyCore.{TopologyCore}
-use Rattle.mdb_topology.specs.Finding.{numbered}
-use Rattle.mdb_topology.specs.Homes.{home_at, home_of}
-use Rattle.mdb_topology.specs.Refusal.{rows_of, first_refusal, refusal}
-use Rattle.mdb_topology.specs.Standing.{home, PoolsFit, StandsFor}
-use Rattle.mdb_topology.proofs.Failure.PoolsStand.{failing}
+use Rattle.mdb_driver_pools.specs.Finding.{numbered}
+use Rattle.mdb_driver_rules.specs.Homes.{home_at, home_of}
+use Rattle.mdb_driver_rules.specs.Refusal.{rows_of, first_refusal, refusal}
+use Rattle.mdb_topology.specs.Standing.{StandsFor}
+use Rattle.mdb_driver_pools.specs.Standing.{home, PoolsFit}
+use Rattle.mdb_driver_pools.proofs.Failure.PoolsStand.{failing}
 use Rattle.mdb_topology.proofs.WholeSteps.TopologyStep.{early-later}
-use Rattle.mdb_topology.proofs.General.OneElement.{find-at}
-use Rattle.mdb_topology.proofs.OnePool.FoundAt.{number-at, placed-by-number}
-use Rattle.mdb_topology.proofs.OnePool.PlannedAct.{all-at}
-use Rattle.mdb_topology.proofs.OnePool.RefusedByItsRows.{no-pending, pending-here}
+use Rattle.mdb_driver_rules.proofs.General.OneElement.{find-at}
+use Rattle.mdb_driver_pools.proofs.OnePool.FoundAt.{number-at, placed-by-number}
+use Rattle.mdb_driver_pools.proofs.OnePool.PlannedAct.{all-at}
+use Rattle.mdb_driver_pools.proofs.OnePool.RefusedByItsRows.{no-pending, pending-here}
 use Rattle.mdb_topology.proofs.Publications.WhichSteps.{in-time}
 
 -- before the hello there is no service

@@ -20,19 +20,19 @@ use Rattle.mdb_pool.specs.declared.kept.connection.Connection.{Connection}
 use Rattle.mdb_pool.specs.Core.{PoolCore}
 use Rattle.mdb_pool.specs.Kept.{connection_at, clears_before, clears_for}
 use Rattle.mdb_pool.specs.Standing.{Fits}
-use Rattle.mdb_pool.proofs.Answered.Item.{both-true}
+use Rattle.mdb_log.proofs.Bools.{both-true}
 use Rattle.mdb_pool.proofs.Follows.Stale.{live-created}
 use Rattle.mdb_topology.specs.declared.topology.TopologyCore.{TopologyCore}
-use Rattle.mdb_topology.specs.Current.{Complaint, establishing, known_version, may_tell, is_of_generation, is_current, in_handshake, complaint_of}
-use Rattle.mdb_topology.specs.Errors.{Case, state_change, lost, Trouble, is_loss, case_of, current_trouble, complaint_trouble, trouble_of}
+use Rattle.mdb_driver_rules.specs.Current.{Complaint, establishing, known_version, may_tell, is_of_generation, is_current, in_handshake, complaint_of}
+use Rattle.mdb_driver_rules.specs.Errors.{Case, state_change, lost, Trouble, is_loss, case_of, current_trouble, complaint_trouble, trouble_of}
 use Rattle.mdb_topology.specs.Failing.{is_uncleared, is_timely, regards_now}
-use Rattle.mdb_topology.specs.Homes.{begun}
-use Rattle.mdb_topology.specs.Standing.{at_address, StandsFor}
-use Rattle.mdb_topology.specs.Stepping.{is_here_among}
+use Rattle.mdb_driver_rules.specs.Homes.{begun}
+use Rattle.mdb_topology.specs.Standing.{StandsFor}
+use Rattle.mdb_driver_pools.specs.Standing.{at_address, is_here_among}
 use Rattle.mdb_topology.proofs.Marks.CurrentErrors.{live-wired}
-use Rattle.mdb_topology.proofs.Failure.PoolsStand.{failing, failed-here}
+use Rattle.mdb_driver_pools.proofs.Failure.PoolsStand.{failing, failed-here}
 use Rattle.mdb_topology.proofs.Failure.RefusedByItsPool.{home-numbered}
-use Rattle.mdb_topology.proofs.OnePool.FoundAt.{fits-at, number-at}
+use Rattle.mdb_driver_pools.proofs.OnePool.FoundAt.{fits-at, number-at}
 
 not-not : (b : Bool) → not (not b) ≡ b
 not-not true = refl

@@ -7,9 +7,9 @@ use Rattle.mdb_log.specs.Connections.{has}
 use Rattle.mdb_monitor.specs.declared.monitor.MonitorCore.{MonitorCore}
 use Rattle.mdb_topology.specs.declared.monitors.watched.Watched.{Watched}
 use Rattle.mdb_topology.specs.Watching.{are_apart, places, AreOf, IsWatched}
-use Rattle.mdb_topology.proofs.General.OneElement.{get-set_same, get-set_other}
-use Rattle.mdb_topology.proofs.InMemory.LivingPools.{position-hit, position-miss}
-use Rattle.mdb_topology.proofs.InMemory.StillLives.{get-before, get-last}
+use Rattle.mdb_driver_rules.proofs.General.OneElement.{get-set_same, get-set_other}
+use Rattle.mdb_driver_pools.proofs.InMemory.LivingPools.{position-hit, position-miss}
+use Rattle.mdb_driver_pools.proofs.InMemory.StillLives.{get-before, get-last}
 
 abbrev watched : ℕ → MonitorCore → Watched
 watched p m = record { place = p; monitor = m }

@@ -14,20 +14,22 @@ use Rattle.mdb_log.specs.declared.reply.Refused.TheVariants.{Exhausted}
 use Rattle.mdb_log.specs.declared.reply.What.TheVariants.{Generation}
 use Rattle.mdb_log.specs.declared.step.Step.{Step}
 use Rattle.mdb_log.specs.History.{Item}
-use Rattle.mdb_log.proofs.Addresses.{same-address}
+use Rattle.mdb_describe.proofs.Addresses.{same-address}
 use Rattle.mdb_pool.specs.Core.{PoolCore}
 use Rattle.mdb_pool.specs.Kept.{clears_for, exhausted_now, is_shut}
-use Rattle.mdb_pool.specs.Refusal.{wrong_service}
+use Rattle.mdb_pool_rules.specs.Refusal.{wrong_service}
 use Rattle.mdb_pool.specs.Refusing.{refusal_now}
 use Rattle.mdb_topology.specs.declared.topology.TopologyCore.{TopologyCore}
-use Rattle.mdb_topology.specs.Acting.{step_of}
+use Rattle.mdb_driver_pools.specs.Acting.{step_of}
 use Rattle.mdb_topology.specs.Changing.{IsUntroubled}
-use Rattle.mdb_topology.specs.Marking.{check_spends, clear_act}
-use Rattle.mdb_topology.specs.Standing.{is_open_at, at_address, StandsFor, StandsForSome}
+use Rattle.mdb_topology.specs.Marking.{check_spends}
+use Rattle.mdb_driver_pools.specs.Clearing.{clear_act}
+use Rattle.mdb_topology.specs.Standing.{StandsFor, StandsForSome}
+use Rattle.mdb_driver_pools.specs.Standing.{is_open_at, at_address}
 use Rattle.mdb_topology.specs.Stepping.{MayWant}
 use Rattle.mdb_topology.proofs.WholeSteps.TopologyStep.{early-later}
-use Rattle.mdb_topology.proofs.General.OneElement.{at-place, position-at, position-within}
-use Rattle.mdb_topology.proofs.OnePool.PlannedAct.{all-at}
+use Rattle.mdb_driver_rules.proofs.General.OneElement.{at-place, position-at, position-within}
+use Rattle.mdb_driver_pools.proofs.OnePool.PlannedAct.{all-at}
 
 -- what holds whatever a call answers
 pub after-any : {T E : Type 0} (r : Result T E) (P : Type 0) → P → OnErr r P

@@ -14,13 +14,13 @@ use Rattle.mdb_log.specs.declared.step.Act.TheVariants.{Beaten}
 use Rattle.mdb_log.specs.History.{Item}
 use Rattle.mdb_pool.specs.Core.{PoolCore}
 use Rattle.mdb_pool.specs.Kept.{exhausted_now}
-use Rattle.mdb_topology.specs.declared.errors.marked.Asked.TheVariants.{Nothing}
+use Rattle.mdb_driver_pools.specs.declared.trouble.Asked.TheVariants.{Nothing}
 use Rattle.mdb_topology.specs.declared.topology.TopologyCore.{TopologyCore}
 use Rattle.mdb_topology.specs.Marking.{check_spends, MarkPasses}
-use Rattle.mdb_topology.specs.Monitors.{runs}
-use Rattle.mdb_topology.specs.Refusal.{may_want, refusal}
+use Rattle.mdb_driver_rules.specs.Monitors.{runs}
+use Rattle.mdb_driver_rules.specs.Refusal.{may_want, refusal}
 use Rattle.mdb_topology.specs.Standing.{StandsFor}
-use Rattle.mdb_topology.specs.Stepping.{is_here_among}
+use Rattle.mdb_driver_pools.specs.Standing.{is_here_among}
 use Rattle.mdb_topology.proofs.OfMonitors.CheckEnds.{ended-wants}
 use Rattle.mdb_topology.proofs.OfMonitors.CheckFailed.{here-at, failure-of-pool, failure-spared, failure-spent, its_trouble}
 use Rattle.mdb_topology.proofs.Marks.ComesTo.{mark-passes}

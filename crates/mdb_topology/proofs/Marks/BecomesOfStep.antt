@@ -22,28 +22,29 @@ use Rattle.mdb_log.specs.Opening.{pool_options}
 use Rattle.mdb_pool.specs.Core.{PoolCore}
 use Rattle.mdb_topology.specs.declared.transition.Transition.{Transition}
 use Rattle.mdb_topology.specs.declared.transition.Decision.{Decision}
-use Rattle.mdb_topology.specs.declared.transition.Decision.TheVariants.{Refused, Accepted}
+use Rattle.mdb_topology.specs.declared.transition.Decision.TheVariants.{Refused, Accepted, Repeated}
 use Rattle.mdb_topology.specs.declared.topology.TopologyCore.{TopologyCore}
 use Rattle.mdb_topology.specs.Changing.{IsTelling, IsTold}
-use Rattle.mdb_topology.specs.Description.{description_of, applied, rule_after}
-use Rattle.mdb_topology.specs.Errors.{Trouble}
-use Rattle.mdb_topology.specs.Homes.{begun}
+use Rattle.mdb_driver_rules.specs.Description.{description_of, applied, rule_after}
+use Rattle.mdb_driver_rules.specs.Errors.{Trouble}
+use Rattle.mdb_driver_rules.specs.Homes.{begun}
 use Rattle.mdb_topology.specs.Marking.{mark_parts, IsMarking, MarkPasses, IsMarked, MarksTo}
-use Rattle.mdb_topology.specs.Monitors.{heartbeat}
-use Rattle.mdb_topology.specs.Planned.{opened_by}
-use Rattle.mdb_topology.specs.Refusal.{first_past, refusal, sooner}
-use Rattle.mdb_topology.specs.Standing.{PoolsStand, StandsFor}
+use Rattle.mdb_driver_rules.specs.Monitors.{heartbeat}
+use Rattle.mdb_driver_pools.specs.Planned.{opened_by}
+use Rattle.mdb_driver_rules.specs.Refusal.{first_past, refusal, sooner}
+use Rattle.mdb_topology.specs.Standing.{StandsFor}
+use Rattle.mdb_driver_pools.specs.Standing.{PoolsStand}
 use Rattle.mdb_topology.specs.Stepping.{BecomesOf, Follows}
-use Rattle.mdb_topology.specs.Turns.{in_turn}
+use Rattle.mdb_driver_rules.specs.Turns.{in_turn}
 use Rattle.mdb_topology.proofs.WholeSteps.TopologyStep.{known-applied, telling-outside, telling-quiet, follows-said}
-use Rattle.mdb_topology.proofs.OnePool.NumbersWithinLimits.{take_numbers, first-free}
+use Rattle.mdb_driver_rules.proofs.NumbersWithinLimits.{take_numbers, first-free}
 use Rattle.mdb_topology.proofs.OfMonitors.FactsOfCheck.{heartbeat-calm, beats-stand, told-front, told-as}
-use Rattle.mdb_topology.proofs.WholeSteps.FactsPastLimits.{past-append}
+use Rattle.mdb_driver_rules.proofs.FactsPastLimits.{past-append}
 use Rattle.mdb_topology.proofs.Publications.BecomesKnown.{telling-watches}
-use Rattle.mdb_topology.proofs.Marks.StaysKnown.{marked-length, marked-ordered}
+use Rattle.mdb_driver_rules.proofs.StaysKnown.{marked-length, marked-ordered}
 use Rattle.mdb_topology.proofs.WholeSteps.RefusedOfNoPool.{outside-refusal}
-use Rattle.mdb_topology.proofs.OnePool.SameHistories.{IsOutside, IsPlain, outside}
-use Rattle.mdb_topology.proofs.WholeSteps.PartsInTurn.{same-stand}
+use Rattle.mdb_driver_rules.proofs.SameHistories.{IsOutside, IsPlain, outside}
+use Rattle.mdb_driver_pools.proofs.PartsInTurn.{same-stand}
 use Rattle.mdb_topology.proofs.WholeSteps.CheckThenRule.{said, refused-said}
 use Rattle.mdb_topology.proofs.OfMonitors.ChangesNoPool.{Watches, watched-fit, watched-counts}
 
@@ -133,3 +134,4 @@ module _ (w : TopologyCore) (h : List Item) (z : StandsFor w h) (step : Step) (l
   marks-become c telling (Accepted n) r =
       mark-follows c (telling-outside step.act telling) (ap take_numbers (telling-quiet o h step.act telling)) n n r refl refl refl refl refl
       (ap (λ fs. fs ++ n.facts.items) (sym (telling-quiet o h step.act telling))) (telling-watches w h z step telling n r.nothing)
+  marks-become c telling (Repeated n s) r = absurd r

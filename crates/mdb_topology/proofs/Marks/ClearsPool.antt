@@ -21,29 +21,30 @@ use Rattle.mdb_log.specs.Own.{shuts}
 use Rattle.mdb_log.specs.Requests.{is_warm, queued}
 use Rattle.mdb_log.specs.State.{State, is_new, is_ready, is_paused, is_closed, state_of, generation_of}
 use Rattle.mdb_pool.specs.Core.{PoolCore}
-use Rattle.mdb_pool.specs.Answer.{all_facts}
-use Rattle.mdb_pool.specs.Facts.{all_ends, cleared_fact, clear_facts}
+use Rattle.mdb_pool_rules.specs.Answer.{all_facts}
+use Rattle.mdb_pool_rules.specs.Facts.{all_ends, cleared_fact, clear_facts}
 use Rattle.mdb_pool.specs.Kept.{is_shut}
 use Rattle.mdb_pool.specs.Planning.{Does}
-use Rattle.mdb_pool.specs.Refusal.{is_exhausted}
-use Rattle.mdb_pool.specs.Serving.{IsServed}
+use Rattle.mdb_pool_rules.specs.Refusal.{is_exhausted}
+use Rattle.mdb_pool_rules.specs.Serving.{IsServed}
 use Rattle.mdb_pool.specs.Standing.{Fits, Accepts, SameHome}
-use Rattle.mdb_pool.proofs.NothingServed.AfterClearOrClose.{clear-alone}
-use Rattle.mdb_topology.specs.declared.pools.pool_change.PoolChange.{PoolChange}
-use Rattle.mdb_topology.specs.Acting.{PlansOne}
-use Rattle.mdb_topology.specs.Errors.{Trouble}
-use Rattle.mdb_topology.specs.Facts.{clearing}
-use Rattle.mdb_topology.specs.Marking.{clear_with, clear_act}
-use Rattle.mdb_topology.specs.Planned.{PlansMore}
-use Rattle.mdb_topology.specs.Refusal.{first_past, sooner}
-use Rattle.mdb_topology.specs.Standing.{is_open_at, at_address, PoolFits, PoolsStand}
-use Rattle.mdb_topology.specs.Telling.{Makes}
-use Rattle.mdb_topology.proofs.OnePool.NumbersWithinLimits.{take_numbers, first-free, out-free, all-ends-free}
-use Rattle.mdb_topology.proofs.General.OneElement.{position-set}
-use Rattle.mdb_topology.proofs.General.Truth.{and-or-same}
-use Rattle.mdb_topology.proofs.Publications.AtOpenPool.{Gives, of_open, inner-made}
-use Rattle.mdb_topology.proofs.Publications.PlannedOfServer.{plans-alter}
-use Rattle.mdb_topology.proofs.WholeSteps.PartsInTurn.{comes-as}
+use Rattle.mdb_pool_rules.proofs.AfterClearOrClose.{clear-alone}
+use Rattle.mdb_driver_pools.specs.declared.pool_change.PoolChange.{PoolChange}
+use Rattle.mdb_driver_pools.specs.Acting.{PlansOne}
+use Rattle.mdb_driver_rules.specs.Errors.{Trouble}
+use Rattle.mdb_driver_rules.specs.Facts.{clearing}
+use Rattle.mdb_topology.specs.Marking.{clear_with}
+use Rattle.mdb_driver_pools.specs.Clearing.{clear_act}
+use Rattle.mdb_driver_pools.specs.Planned.{PlansMore}
+use Rattle.mdb_driver_rules.specs.Refusal.{first_past, sooner}
+use Rattle.mdb_driver_pools.specs.Standing.{is_open_at, at_address, PoolFits, PoolsStand}
+use Rattle.mdb_driver_pools.specs.Telling.{Makes}
+use Rattle.mdb_driver_rules.proofs.NumbersWithinLimits.{take_numbers, first-free, out-free, all-ends-free}
+use Rattle.mdb_driver_rules.proofs.General.OneElement.{position-set}
+use Rattle.mdb_driver_rules.proofs.General.Truth.{and-or-same}
+use Rattle.mdb_driver_pools.proofs.Publications.AtOpenPool.{Gives, of_open, inner-made}
+use Rattle.mdb_driver_pools.proofs.Publications.PlannedOfServer.{plans-alter}
+use Rattle.mdb_driver_pools.proofs.PartsInTurn.{comes-as}
 
 -- one number past the limit or none
 past-or : (b : Bool) → sooner (if b then Some Generation else None) None ≡ (if b then Some Generation else None)

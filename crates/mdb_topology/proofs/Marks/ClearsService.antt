@@ -15,15 +15,14 @@ use Rattle.mdb_pool.specs.Core.{PoolCore}
 use Rattle.mdb_pool.specs.Kept.{held_connection}
 use Rattle.mdb_topology.specs.declared.topology.TopologyCore.{TopologyCore}
 use Rattle.mdb_topology.specs.Complaining.{is_hard_now, service_cleared, concerns_now}
-use Rattle.mdb_topology.specs.Current.{operating}
-use Rattle.mdb_topology.specs.Description.{rule_after, marking_rule, description_of, change_by}
-use Rattle.mdb_topology.specs.Errors.{Case, state_change, lost, Trouble, Clear, case_of, is_loss, marks, asks, where_so, for_service}
-use Rattle.mdb_topology.specs.Facts.{trouble, clear_by, is_clear, clearing, asking}
-use Rattle.mdb_topology.specs.Finding.{holder}
+use Rattle.mdb_driver_rules.specs.Current.{operating}
+use Rattle.mdb_driver_rules.specs.Description.{rule_after, marking_rule, description_of, change_by, known_after}
+use Rattle.mdb_driver_rules.specs.Errors.{Case, state_change, lost, Trouble, Clear, case_of, is_loss, marks, asks, where_so, for_service}
+use Rattle.mdb_driver_rules.specs.Facts.{trouble, clear_by, is_clear, clearing, asking}
+use Rattle.mdb_driver_pools.specs.Finding.{holder}
 use Rattle.mdb_topology.specs.Marking.{IsClearing}
 use Rattle.mdb_topology.specs.Standing.{StandsFor}
-use Rattle.mdb_topology.specs.Stepping.{known_after}
-use Rattle.mdb_topology.specs.Turns.{in_turn}
+use Rattle.mdb_driver_rules.specs.Turns.{in_turn}
 use Rattle.mdb_topology.proofs.Marks.OfOperations.{open-unstopped, complaint-here, row_trouble, complaint-trouble}
 use Rattle.mdb_topology.proofs.Marks.CurrentErrors.{complaint-passes, trouble-told}
 use Rattle.mdb_topology.proofs.Marks.WhichSteps.{all_parts}

@@ -18,18 +18,20 @@ use Rattle.mdb_log.specs.declared.step.Step.{Step}
 use Rattle.mdb_log.specs.History.{Item}
 use Rattle.mdb_pool.specs.Core.{PoolCore}
 use Rattle.mdb_pool.specs.Kept.{exhausted_now}
-use Rattle.mdb_pool.specs.Refusal.{wrong_service}
-use Rattle.mdb_topology.specs.declared.pools.pool_change.PoolChange.{PoolChange}
-use Rattle.mdb_topology.specs.declared.errors.marked.Asked.{Asked}
+use Rattle.mdb_pool_rules.specs.Refusal.{wrong_service}
+use Rattle.mdb_driver_pools.specs.declared.pool_change.PoolChange.{PoolChange}
+use Rattle.mdb_driver_pools.specs.declared.trouble.Asked.{Asked}
 use Rattle.mdb_topology.specs.declared.topology.TopologyCore.{TopologyCore}
-use Rattle.mdb_topology.specs.Errors.{Trouble}
-use Rattle.mdb_topology.specs.Marking.{Clears, asked_of, IsOfPool, HasParts, MarkPasses, MarkTold}
-use Rattle.mdb_topology.specs.Planned.{PlansMore}
-use Rattle.mdb_topology.specs.Publishing.{telling}
-use Rattle.mdb_topology.specs.Refusal.{first_past}
-use Rattle.mdb_topology.specs.Standing.{at_address, StandsForSome}
-use Rattle.mdb_topology.specs.Touching.{touched_by}
-use Rattle.mdb_topology.specs.Turns.{in_turn}
+use Rattle.mdb_driver_rules.specs.Errors.{Trouble}
+use Rattle.mdb_topology.specs.Marking.{IsOfPool, HasParts, MarkPasses, MarkTold}
+use Rattle.mdb_driver_pools.specs.Clearing.{Clears, asked_of}
+use Rattle.mdb_driver_pools.specs.Planned.{PlansMore}
+use Rattle.mdb_driver_rules.specs.Publishing.{telling}
+use Rattle.mdb_driver_rules.specs.Refusal.{first_past}
+use Rattle.mdb_topology.specs.Standing.{StandsForSome}
+use Rattle.mdb_driver_pools.specs.Standing.{at_address}
+use Rattle.mdb_driver_rules.specs.Touching.{touched_by}
+use Rattle.mdb_driver_rules.specs.Turns.{in_turn}
 use Rattle.mdb_topology.proofs.Marks.PastLimits.{past-mark}
 use Rattle.mdb_topology.proofs.Marks.Tells.{parts-are, opens-none, mark-told}
 use Rattle.mdb_topology.proofs.Marks.AtItsLimit.{clear-refused, some-place}

@@ -23,14 +23,15 @@ use Rattle.mdb_pool.proofs.Answered.Pin.{held-at}
 use Rattle.mdb_pool.proofs.Follows.Stale.{live-created, live-served}
 use Rattle.mdb_topology.specs.declared.topology.TopologyCore.{TopologyCore}
 use Rattle.mdb_topology.specs.Complaining.{is_outdated, concerns_now}
-use Rattle.mdb_topology.specs.Current.{Complaint, operating, in_operation, complaint_of, is_current}
-use Rattle.mdb_topology.specs.Errors.{Case, Trouble, case_of, current_trouble, complaint_trouble, trouble_of}
-use Rattle.mdb_topology.specs.Finding.{holder}
-use Rattle.mdb_topology.specs.Homes.{home_of, begun}
-use Rattle.mdb_topology.specs.Refusal.{first_refusal, refusal}
-use Rattle.mdb_topology.specs.Standing.{home, PoolFits, StandsFor}
-use Rattle.mdb_topology.proofs.General.OneElement.{position-at, position-within, at-place}
-use Rattle.mdb_topology.proofs.OnePool.FoundAt.{home-placed, home-missing}
+use Rattle.mdb_driver_rules.specs.Current.{Complaint, operating, in_operation, complaint_of, is_current}
+use Rattle.mdb_driver_rules.specs.Errors.{Case, Trouble, case_of, current_trouble, complaint_trouble, trouble_of}
+use Rattle.mdb_driver_pools.specs.Finding.{holder}
+use Rattle.mdb_driver_rules.specs.Homes.{home_of, begun}
+use Rattle.mdb_driver_rules.specs.Refusal.{first_refusal, refusal}
+use Rattle.mdb_topology.specs.Standing.{StandsFor}
+use Rattle.mdb_driver_pools.specs.Standing.{home, PoolFits}
+use Rattle.mdb_driver_rules.proofs.General.OneElement.{position-at, position-within, at-place}
+use Rattle.mdb_driver_pools.proofs.OnePool.FoundAt.{home-placed, home-missing}
 use Rattle.mdb_topology.proofs.Publications.WhichSteps.{at_m, in-time, passes-time}
 
 -- the wire version of a live connection

@@ -19,20 +19,21 @@ use Rattle.mdb_log.specs.History.{Item, did, made}
 use Rattle.mdb_pool.specs.declared.kept.connection.Connection.{Connection}
 use Rattle.mdb_pool.specs.Core.{PoolCore}
 use Rattle.mdb_pool.specs.Kept.{held_connection}
-use Rattle.mdb_pool.proofs.Answered.Item.{both-true}
-use Rattle.mdb_topology.specs.declared.errors.marked.Asked.TheVariants.{CheckNow, CancelIfCleared}
+use Rattle.mdb_log.proofs.Bools.{both-true}
+use Rattle.mdb_driver_pools.specs.declared.trouble.Asked.TheVariants.{CheckNow, CancelIfCleared}
 use Rattle.mdb_topology.specs.declared.topology.TopologyCore.{TopologyCore}
 use Rattle.mdb_topology.specs.Changing.{IsChanging}
 use Rattle.mdb_topology.specs.Complaining.{is_outdated, is_hard_now, concerns_now}
-use Rattle.mdb_topology.specs.Current.{operating, known_version, may_tell}
-use Rattle.mdb_topology.specs.Description.{updates, rule_of, rule_after, marking_rule, applied, is_stop, is_stopped, description_of}
-use Rattle.mdb_topology.specs.Errors.{Case, monitored, state_change, lost, Trouble, case_of, is_loss, marks, asks, whole, where_so, trouble_of}
-use Rattle.mdb_topology.specs.Facts.{trouble}
-use Rattle.mdb_topology.specs.Finding.{holder}
-use Rattle.mdb_topology.specs.Homes.{begun}
-use Rattle.mdb_topology.specs.Marking.{asked_of, IsOfPool, IsMarking}
-use Rattle.mdb_topology.specs.Standing.{at_address, StandsFor}
-use Rattle.mdb_topology.specs.Stepping.{is_here_among}
+use Rattle.mdb_driver_rules.specs.Current.{operating, known_version, may_tell}
+use Rattle.mdb_driver_rules.specs.Description.{updates, rule_of, rule_after, marking_rule, applied, is_stop, is_stopped, description_of}
+use Rattle.mdb_driver_rules.specs.Errors.{Case, monitored, state_change, lost, Trouble, case_of, is_loss, marks, asks, whole, where_so, trouble_of}
+use Rattle.mdb_driver_rules.specs.Facts.{trouble}
+use Rattle.mdb_driver_pools.specs.Finding.{holder}
+use Rattle.mdb_driver_rules.specs.Homes.{begun}
+use Rattle.mdb_topology.specs.Marking.{IsOfPool, IsMarking}
+use Rattle.mdb_driver_pools.specs.Clearing.{asked_of}
+use Rattle.mdb_topology.specs.Standing.{StandsFor}
+use Rattle.mdb_driver_pools.specs.Standing.{at_address, is_here_among}
 use Rattle.mdb_topology.proofs.Marks.CurrentErrors.{complained, complaint-passes, number-is, trouble-told, trouble-none}
 use Rattle.mdb_topology.proofs.Publications.OfDifference.{open-known}
 use Rattle.mdb_topology.proofs.Marks.WhichSteps.{and-always, marking-by}

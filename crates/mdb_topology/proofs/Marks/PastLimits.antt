@@ -15,28 +15,30 @@ use Rattle.mdb_log.specs.declared.reply.What.TheVariants.{Generation}
 use Rattle.mdb_log.specs.History.{Item, of_pool, with_facts}
 use Rattle.mdb_log.specs.Opening.{pool_options}
 use Rattle.mdb_pool.specs.Core.{PoolCore}
-use Rattle.mdb_pool.specs.Facts.{clear_facts}
+use Rattle.mdb_pool_rules.specs.Facts.{clear_facts}
 use Rattle.mdb_pool.specs.Kept.{exhausted_now}
-use Rattle.mdb_pool.specs.Refusal.{is_exhausted}
+use Rattle.mdb_pool_rules.specs.Refusal.{is_exhausted}
 use Rattle.mdb_pool.specs.Standing.{Fits}
 use Rattle.mdb_pool.proofs.Answered.Clear.{exhausted-is}
-use Rattle.mdb_topology.specs.declared.errors.marked.Asked.{Asked}
-use Rattle.mdb_topology.specs.declared.errors.marked.Asked.TheVariants.{Nothing, CheckNow, CancelIfCleared}
+use Rattle.mdb_driver_pools.specs.declared.trouble.Asked.{Asked}
+use Rattle.mdb_driver_pools.specs.declared.trouble.Asked.TheVariants.{Nothing, CheckNow, CancelIfCleared}
 use Rattle.mdb_topology.specs.declared.topology.TopologyCore.{TopologyCore}
-use Rattle.mdb_topology.specs.Errors.{Trouble, whole, where_so}
-use Rattle.mdb_topology.specs.Facts.{clearing, asking}
-use Rattle.mdb_topology.specs.Marking.{asked_of, IsOfPool}
-use Rattle.mdb_topology.specs.Publishing.{telling}
-use Rattle.mdb_topology.specs.Refusal.{first_past, sooner}
-use Rattle.mdb_topology.specs.Standing.{at_address, PoolFits, PoolsStand, StandsForSome}
-use Rattle.mdb_topology.specs.Turns.{in_turn}
+use Rattle.mdb_driver_rules.specs.Errors.{Trouble, whole, where_so}
+use Rattle.mdb_driver_rules.specs.Facts.{clearing, asking}
+use Rattle.mdb_topology.specs.Marking.{IsOfPool}
+use Rattle.mdb_driver_pools.specs.Clearing.{asked_of}
+use Rattle.mdb_driver_rules.specs.Publishing.{telling}
+use Rattle.mdb_driver_rules.specs.Refusal.{first_past, sooner}
+use Rattle.mdb_topology.specs.Standing.{StandsForSome}
+use Rattle.mdb_driver_pools.specs.Standing.{at_address, PoolFits, PoolsStand}
+use Rattle.mdb_driver_rules.specs.Turns.{in_turn}
 use Rattle.mdb_topology.proofs.Marks.ClearsPool.{past-clear}
 use Rattle.mdb_topology.proofs.Publications.OfDifference.{open-known}
 use Rattle.mdb_topology.proofs.Failure.FactsOf.{calm-same}
 use Rattle.mdb_topology.proofs.Failure.MarkOfNoPool.{Constant, mark-constant}
-use Rattle.mdb_topology.proofs.OnePool.NumbersWithinLimits.{take_numbers, first-free}
-use Rattle.mdb_topology.proofs.WholeSteps.LeavesAsItIs.{turn-append}
-use Rattle.mdb_topology.proofs.WholeSteps.FactsPastLimits.{past-append}
+use Rattle.mdb_driver_rules.proofs.NumbersWithinLimits.{take_numbers, first-free}
+use Rattle.mdb_driver_rules.proofs.LeavesAsItIs.{turn-append}
+use Rattle.mdb_driver_rules.proofs.FactsPastLimits.{past-append}
 
 -- what a monitor is asked takes no number
 asked-free : (asked : Asked) (b : Bool) (a : ServerAddress) → take_numbers (asked_of asked b a ++ []) ≡ false

@@ -15,41 +15,43 @@ use Rattle.mdb_log.specs.declared.step.Step.{Step}
 use Rattle.mdb_log.specs.History.{Item, of_pool}
 use Rattle.mdb_log.specs.Opening.{pool_options}
 use Rattle.mdb_pool.specs.Core.{PoolCore}
-use Rattle.mdb_pool.specs.Facts.{clear_facts}
+use Rattle.mdb_pool_rules.specs.Facts.{clear_facts}
 use Rattle.mdb_pool.specs.Kept.{exhausted_now}
-use Rattle.mdb_pool.specs.Refusal.{is_exhausted, wrong_service}
+use Rattle.mdb_pool_rules.specs.Refusal.{is_exhausted, wrong_service}
 use Rattle.mdb_pool.specs.Refusing.{refusal_now}
 use Rattle.mdb_pool.specs.Standing.{Fits}
 use Rattle.mdb_pool.proofs.Answered.Clear.{exhausted-is}
-use Rattle.mdb_topology.specs.declared.pools.pool_change.PoolChange.{PoolChange}
+use Rattle.mdb_driver_pools.specs.declared.pool_change.PoolChange.{PoolChange}
 use Rattle.mdb_topology.specs.declared.transition.Transition.{Transition}
 use Rattle.mdb_topology.specs.declared.monitors.monitoring.Monitoring.TheVariants.{Same}
 use Rattle.mdb_topology.specs.declared.topology.TopologyCore.{TopologyCore}
-use Rattle.mdb_topology.specs.Acting.{step_of}
+use Rattle.mdb_driver_pools.specs.Acting.{step_of}
 use Rattle.mdb_topology.specs.Changing.{IsTold}
-use Rattle.mdb_topology.specs.Description.{description_of, applied, rule_after}
-use Rattle.mdb_topology.specs.Errors.{Trouble, for_service}
-use Rattle.mdb_topology.specs.Facts.{is_clear, clearing}
-use Rattle.mdb_topology.specs.Homes.{begun}
-use Rattle.mdb_topology.specs.Marking.{Clears, clear_act, spoken, HasParts, IsClearing}
-use Rattle.mdb_topology.specs.Planned.{IsPlanned, LeadsAll, PlansMore, opened_by}
-use Rattle.mdb_topology.specs.Refusal.{first_past, ran_out, refusal}
-use Rattle.mdb_topology.specs.Standing.{at_address, PoolFits, PoolsStand, StandsFor}
+use Rattle.mdb_driver_rules.specs.Description.{description_of, applied, rule_after}
+use Rattle.mdb_driver_rules.specs.Errors.{Trouble, for_service}
+use Rattle.mdb_driver_rules.specs.Facts.{is_clear, clearing}
+use Rattle.mdb_driver_rules.specs.Homes.{begun}
+use Rattle.mdb_topology.specs.Marking.{spoken, HasParts, IsClearing}
+use Rattle.mdb_driver_pools.specs.Clearing.{Clears, clear_act}
+use Rattle.mdb_driver_pools.specs.Planned.{IsPlanned, LeadsAll, PlansMore, opened_by}
+use Rattle.mdb_driver_rules.specs.Refusal.{first_past, ran_out, refusal}
+use Rattle.mdb_topology.specs.Standing.{StandsFor}
+use Rattle.mdb_driver_pools.specs.Standing.{at_address, PoolFits, PoolsStand}
 use Rattle.mdb_topology.specs.Stepping.{Follows}
-use Rattle.mdb_topology.specs.Telling.{Comes}
-use Rattle.mdb_topology.specs.Turns.{in_turn}
-use Rattle.mdb_topology.proofs.General.Truth.{and-or-same}
+use Rattle.mdb_driver_pools.specs.Telling.{Comes}
+use Rattle.mdb_driver_rules.specs.Turns.{in_turn}
+use Rattle.mdb_driver_rules.proofs.General.Truth.{and-or-same}
 use Rattle.mdb_topology.proofs.Marks.ClearsPool.{plans-clear, past-clear}
 use Rattle.mdb_topology.proofs.Publications.OfDifference.{open-known}
 use Rattle.mdb_topology.proofs.WholeSteps.TopologyStep.{known-applied, telling-outside, telling-quiet, follows-parts}
 use Rattle.mdb_topology.proofs.Marks.ComesTo.{as-parts, not-exhausted}
 use Rattle.mdb_topology.proofs.Marks.Tells.{no-address}
-use Rattle.mdb_topology.proofs.General.OnePosition.{some-same}
-use Rattle.mdb_topology.proofs.Publications.PlannedPart.{leaves-still}
-use Rattle.mdb_topology.proofs.Publications.PlannedOfServer.{plans-still}
+use Rattle.mdb_driver_rules.proofs.General.OnePosition.{some-same}
+use Rattle.mdb_driver_pools.proofs.Publications.PlannedPart.{leaves-still}
+use Rattle.mdb_driver_pools.proofs.Publications.PlannedOfServer.{plans-still}
 use Rattle.mdb_topology.proofs.WholeSteps.RefusedOfNoPool.{outside-refusal}
-use Rattle.mdb_topology.proofs.OnePool.SameHistories.{IsPlain, outside}
-use Rattle.mdb_topology.proofs.WholeSteps.PartsInTurn.{comes-none, same-stand}
+use Rattle.mdb_driver_rules.proofs.SameHistories.{IsPlain, outside}
+use Rattle.mdb_driver_pools.proofs.PartsInTurn.{comes-none, same-stand}
 use Rattle.mdb_topology.proofs.Marks.AtItsLimit.{clear-refused}
 
 module _ (w : TopologyCore) (h : List Item) (z : StandsFor w h) (step : Step) (l : w.pools.last ≤ step.moment) (balanced : w.options.load_balanced ≡ true) (i : ℕ) (s : PoolCore) (there : slice_get w.pools.cores.items i ≡ Some s)

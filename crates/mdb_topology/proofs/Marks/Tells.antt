@@ -15,29 +15,31 @@ use Rattle.mdb_events.specs.declared.fact.Fact.{Fact}
 use Rattle.mdb_log.specs.History.{Item}
 use Rattle.mdb_log.specs.Homes.{Home}
 use Rattle.mdb_log.specs.Opening.{pool_options}
-use Rattle.mdb_log.proofs.Addresses.{same-address}
+use Rattle.mdb_describe.proofs.Addresses.{same-address}
 use Rattle.mdb_pool.specs.Core.{PoolCore}
-use Rattle.mdb_topology.specs.declared.pools.pool_change.PoolChange.{PoolChange}
-use Rattle.mdb_topology.specs.declared.errors.marked.Asked.{Asked}
-use Rattle.mdb_topology.specs.declared.errors.marked.Asked.TheVariants.{Nothing, CheckNow, CancelIfCleared}
+use Rattle.mdb_driver_pools.specs.declared.pool_change.PoolChange.{PoolChange}
+use Rattle.mdb_driver_pools.specs.declared.trouble.Asked.{Asked}
+use Rattle.mdb_driver_pools.specs.declared.trouble.Asked.TheVariants.{Nothing, CheckNow, CancelIfCleared}
 use Rattle.mdb_topology.specs.declared.topology.TopologyCore.{TopologyCore}
 use Rattle.mdb_topology.specs.Changing.{IsTold}
-use Rattle.mdb_topology.specs.Errors.{Trouble, Clear, nothing, whole, where_so}
-use Rattle.mdb_topology.specs.Facts.{clear_by, clearing, asking}
-use Rattle.mdb_topology.specs.Marking.{Clears, asked_of, IsOfPool, after_trouble}
-use Rattle.mdb_topology.specs.Planned.{LeadsAll, PlansMore, IsPlanned, opened_by}
-use Rattle.mdb_topology.specs.Publishing.{telling, publication}
-use Rattle.mdb_topology.specs.Standing.{at_address, PoolsStand, StandsForSome}
-use Rattle.mdb_topology.specs.Telling.{Comes}
-use Rattle.mdb_topology.specs.Touching.{touches, touched_by}
+use Rattle.mdb_driver_rules.specs.Errors.{Trouble, Clear, nothing, whole, where_so}
+use Rattle.mdb_driver_rules.specs.Facts.{clear_by, clearing, asking}
+use Rattle.mdb_topology.specs.Marking.{IsOfPool, after_trouble}
+use Rattle.mdb_driver_pools.specs.Clearing.{Clears, asked_of}
+use Rattle.mdb_driver_pools.specs.Planned.{LeadsAll, PlansMore, IsPlanned, opened_by}
+use Rattle.mdb_driver_rules.specs.Publishing.{telling, publication}
+use Rattle.mdb_topology.specs.Standing.{StandsForSome}
+use Rattle.mdb_driver_pools.specs.Standing.{at_address, PoolsStand}
+use Rattle.mdb_driver_pools.specs.Telling.{Comes}
+use Rattle.mdb_driver_rules.specs.Touching.{touches, touched_by}
 use Rattle.mdb_topology.proofs.Marks.ClearsPool.{plans-clear}
 use Rattle.mdb_topology.proofs.Publications.OfDifference.{open-known}
-use Rattle.mdb_topology.proofs.Marks.StaysKnown.{marked-known, none-gone, none-come, untouched}
-use Rattle.mdb_topology.proofs.General.Truth.{and-or-same}
-use Rattle.mdb_topology.proofs.Publications.PlannedInTurn.{plans-then}
-use Rattle.mdb_topology.proofs.Publications.PlannedPart.{leaves-still}
-use Rattle.mdb_topology.proofs.Publications.PlannedOfServer.{plans-still}
-use Rattle.mdb_topology.proofs.WholeSteps.PartsInTurn.{comes-as, comes-none, comes-calm}
+use Rattle.mdb_driver_rules.proofs.StaysKnown.{marked-known, none-gone, none-come, untouched}
+use Rattle.mdb_driver_rules.proofs.General.Truth.{and-or-same}
+use Rattle.mdb_driver_pools.proofs.Publications.PlannedInTurn.{plans-then}
+use Rattle.mdb_driver_pools.proofs.Publications.PlannedPart.{leaves-still}
+use Rattle.mdb_driver_pools.proofs.Publications.PlannedOfServer.{plans-still}
+use Rattle.mdb_driver_pools.proofs.PartsInTurn.{comes-as, comes-none, comes-calm}
 
 pub no-address : (xs : List Home) → map (λ (x : Home). x.address) xs ≡ [] → xs ≡ []
 no-address [] e = refl

@@ -15,20 +15,20 @@ use Rattle.mdb_log.specs.declared.step.Act.TheVariants as Do
 use Rattle.mdb_log.specs.declared.reply.Refused.TheVariants.{WrongMode}
 use Rattle.mdb_log.specs.declared.reply.Reply.TheVariants.{Changed}
 use Rattle.mdb_log.specs.History.{Item, is_number}
-use Rattle.mdb_topology.specs.declared.errors.marked.Asked.{Asked}
-use Rattle.mdb_topology.specs.declared.errors.marked.Asked.TheVariants.{Nothing}
+use Rattle.mdb_driver_pools.specs.declared.trouble.Asked.{Asked}
+use Rattle.mdb_driver_pools.specs.declared.trouble.Asked.TheVariants.{Nothing}
 use Rattle.mdb_topology.specs.declared.topology.TopologyCore.{TopologyCore}
-use Rattle.mdb_topology.specs.Answer.{reply_to}
-use Rattle.mdb_topology.specs.Description.{Rule, updates, rule_after, description_of, change_by, changed, is_stop}
-use Rattle.mdb_topology.specs.Errors.{Trouble, monitored, whole, where_so}
-use Rattle.mdb_topology.specs.Facts.{trouble, clear_by, clear_of, is_clear, clearing, asking}
-use Rattle.mdb_topology.specs.Homes.{is_here, begun}
+use Rattle.mdb_driver_rules.specs.Answer.{reply_to}
+use Rattle.mdb_driver_rules.specs.Description.{Rule, updates, rule_after, description_of, change_by, changed, is_stop, known_after}
+use Rattle.mdb_driver_rules.specs.Errors.{Trouble, monitored, whole, where_so}
+use Rattle.mdb_driver_rules.specs.Facts.{trouble, clear_by, clear_of, is_clear, clearing, asking}
+use Rattle.mdb_driver_rules.specs.Homes.{is_here, begun}
 use Rattle.mdb_topology.specs.Marking.{spoken, IsOfPool, HasParts, IsMarking}
-use Rattle.mdb_topology.specs.Publishing.{told_by}
-use Rattle.mdb_topology.specs.Refusal.{first_refusal, refusal}
+use Rattle.mdb_driver_rules.specs.Publishing.{told_by}
+use Rattle.mdb_driver_rules.specs.Refusal.{first_refusal, refusal}
 use Rattle.mdb_topology.specs.Standing.{StandsFor}
-use Rattle.mdb_topology.specs.Stepping.{known_after, is_here_among}
-use Rattle.mdb_topology.specs.Turns.{in_turn}
+use Rattle.mdb_driver_pools.specs.Standing.{is_here_among}
+use Rattle.mdb_driver_rules.specs.Turns.{in_turn}
 use Rattle.mdb_topology.proofs.Publications.WhichSteps.{or-not, at_m, in-time, rule-unstopped, rule-stopped, passes-time}
 
 -- a pool is cleared only where something changed

@@ -1,7 +1,6 @@
 -- A step at the monitors, or of a watcher, that changes no pool and makes nothing known.
-use Rattle.std.proofs.Common.{ℕ, ◌≡◌, ◌≤◌, ◌+◌, ◌||◌, true, false, List, [], ◌∷◌, ◌++◌, map, length, Some, None, is_some, refl, sym, ◌∙◌, ap, subst}
+use Rattle.std.proofs.Common.{ℕ, ◌≡◌, ◌≤◌, ◌+◌, ◌||◌, true, false, List, [], ◌∷◌, ◌++◌, map, length, Some, None, is_some, refl, sym, ◌∙◌, ap, subst, append-nil}
 use Rattle.std.specs.Prelude.{slice_get, unwrap_or, All}
-use Rattle.std.proofs.Common.{append-nil}
 use Rattle.std.proofs.lemmas.List.Elements.{All-nil}
 use Rattle.mdb_base.specs.declared.options.Options.{Options}
 use Rattle.mdb_describe.specs.Servers.{in_order}
@@ -16,25 +15,25 @@ use Rattle.mdb_log.specs.Homes.{homes}
 use Rattle.mdb_pool.specs.Core.{PoolCore}
 use Rattle.mdb_topology.specs.declared.topology.TopologyCore.{TopologyCore}
 use Rattle.mdb_topology.specs.declared.transition.Transition.{Transition}
-use Rattle.mdb_topology.specs.Homes.{begun}
-use Rattle.mdb_topology.specs.Monitors.{setting, heartbeat, is_of, fresh_for, with_check, monitor_items, connects, asking}
-use Rattle.mdb_topology.specs.Description.{rule_after, description_of, change_by, is_stop}
-use Rattle.mdb_topology.specs.Facts.{trouble}
+use Rattle.mdb_driver_rules.specs.Homes.{begun}
+use Rattle.mdb_driver_rules.specs.Monitors.{setting, heartbeat, is_of, fresh_for, with_check, monitor_items, connects, asking}
+use Rattle.mdb_driver_rules.specs.Description.{rule_after, description_of, change_by, is_stop, known_after}
+use Rattle.mdb_driver_rules.specs.Facts.{trouble}
 use Rattle.mdb_topology.specs.Marking.{spoken}
-use Rattle.mdb_topology.specs.Refusal.{first_refusal, first_past}
-use Rattle.mdb_topology.specs.Answer.{reply_to}
-use Rattle.mdb_topology.specs.Turns.{in_turn}
-use Rattle.mdb_topology.specs.Planned.{opened_by}
+use Rattle.mdb_driver_rules.specs.Refusal.{first_refusal, first_past}
+use Rattle.mdb_driver_rules.specs.Answer.{reply_to}
+use Rattle.mdb_driver_rules.specs.Turns.{in_turn}
+use Rattle.mdb_driver_pools.specs.Planned.{opened_by}
 use Rattle.mdb_topology.specs.Checking.{monitors_after, numbers_after, watchers_after, IsPlaced}
 use Rattle.mdb_topology.specs.Standing.{MonitorsFit, Counts, StandsFor}
-use Rattle.mdb_topology.specs.Stepping.{known_after, Follows}
+use Rattle.mdb_topology.specs.Stepping.{Follows}
 use Rattle.mdb_topology.specs.Changing.{IsTold}
 use Rattle.mdb_topology.proofs.Marks.WhichSteps.{all_parts}
 use Rattle.mdb_topology.proofs.WholeSteps.TopologyStep.{follows-said}
 use Rattle.mdb_topology.proofs.WholeSteps.QuietStep.{told-nothing}
 use Rattle.mdb_topology.proofs.OfMonitors.FactsOfCheck.{heartbeat-calm, told-front, told-as}
-use Rattle.mdb_topology.proofs.WholeSteps.LeavesAsItIs.{monitor-facts}
-use Rattle.mdb_topology.proofs.OnePool.SameHistories.{IsOutside, IsPlain}
+use Rattle.mdb_driver_rules.proofs.LeavesAsItIs.{monitor-facts}
+use Rattle.mdb_driver_rules.proofs.SameHistories.{IsOutside, IsPlain}
 use Rattle.mdb_topology.proofs.WholeSteps.CheckThenRule.{said}
 use Rattle.mdb_topology.proofs.OfMonitors.LeftAlone.{counts-then, monitors-then}
 

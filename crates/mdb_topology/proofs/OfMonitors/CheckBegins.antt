@@ -22,21 +22,22 @@ use Rattle.mdb_log.specs.Homes.{homes}
 use Rattle.mdb_topology.specs.declared.topology.TopologyCore.{TopologyCore}
 use Rattle.mdb_topology.specs.declared.transition.Transition.{Transition}
 use Rattle.mdb_topology.specs.declared.monitors.monitoring.Monitoring.TheVariants.{Checked}
-use Rattle.mdb_topology.specs.Homes.{is_here, begun}
-use Rattle.mdb_topology.specs.Monitors.{setting, recent, runs, heartbeat, fresh_for, is_connected, monitor_items}
-use Rattle.mdb_topology.specs.Description.{rule_after, applied, description_of}
-use Rattle.mdb_topology.specs.Publishing.{told_by}
-use Rattle.mdb_topology.specs.Refusal.{first_refusal, first_past, refusal, may_want, may_yield, ran_out}
-use Rattle.mdb_topology.specs.Answer.{pool_reply}
-use Rattle.mdb_topology.specs.Turns.{in_turn}
+use Rattle.mdb_driver_rules.specs.Homes.{is_here, begun}
+use Rattle.mdb_driver_rules.specs.Monitors.{setting, recent, runs, heartbeat, fresh_for, is_connected, monitor_items}
+use Rattle.mdb_driver_rules.specs.Description.{rule_after, applied, description_of}
+use Rattle.mdb_driver_rules.specs.Publishing.{told_by}
+use Rattle.mdb_driver_rules.specs.Refusal.{first_refusal, first_past, refusal, may_want, may_yield, ran_out}
+use Rattle.mdb_driver_rules.specs.Answer.{pool_reply}
+use Rattle.mdb_driver_rules.specs.Turns.{in_turn}
 use Rattle.mdb_topology.specs.Checking.{Begins, number_limit}
 use Rattle.mdb_topology.specs.Standing.{StandsFor}
-use Rattle.mdb_topology.specs.Stepping.{is_here_among, Follows}
+use Rattle.mdb_topology.specs.Stepping.{Follows}
+use Rattle.mdb_driver_pools.specs.Standing.{is_here_among}
 use Rattle.mdb_topology.proofs.OfMonitors.StepAtMonitor.{checked-watches, monitor-kept, monitor-setting}
-use Rattle.mdb_topology.proofs.OfMonitors.WhatItAdds.{beat-items, beat-others}
-use Rattle.mdb_topology.proofs.OfMonitors.HasConnection.{connected-is}
+use Rattle.mdb_driver_rules.proofs.WhatItAdds.{beat-items, beat-others}
+use Rattle.mdb_driver_rules.proofs.HasConnection.{connected-is}
 use Rattle.mdb_topology.proofs.WholeSteps.RefusedOfNoPool.{outside-refusal}
-use Rattle.mdb_topology.proofs.OnePool.SameHistories.{IsPlain}
+use Rattle.mdb_driver_rules.proofs.SameHistories.{IsPlain}
 use Rattle.mdb_topology.proofs.WholeSteps.CheckThenRule.{refused-told}
 use Rattle.mdb_topology.proofs.Publications.WhichSteps.{in-time, passes-time, unruled, find-never}
 use Rattle.mdb_topology.proofs.OfMonitors.ChangesNoPool.{silent-calm, follows-watch}

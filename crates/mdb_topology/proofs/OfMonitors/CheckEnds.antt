@@ -18,7 +18,7 @@ use Rattle.mdb_monitor.specs.Endings.{finish_row, report_of}
 use Rattle.mdb_monitor.specs.declared.check.Report.{Report}
 use Rattle.mdb_describe.specs.declared.description.ServerDescription.{ServerDescription}
 use Rattle.mdb_topology.specs.declared.transition.Decision.{Decision}
-use Rattle.mdb_topology.specs.declared.transition.Decision.TheVariants.{Refused, Accepted}
+use Rattle.mdb_topology.specs.declared.transition.Decision.TheVariants.{Refused, Accepted, Repeated}
 use Rattle.mdb_monitor.specs.Items.{ended, samples}
 use Rattle.mdb_monitor.specs.Standing.{StandsFor as MonitorStands}
 use Rattle.mdb_log.specs.declared.checked.BeatenResult.{BeatenResult}
@@ -35,21 +35,22 @@ use Rattle.mdb_topology.specs.declared.transition.Transition.{Transition}
 use Rattle.mdb_topology.specs.declared.monitors.monitoring.Monitoring.{Monitoring}
 use Rattle.mdb_topology.specs.declared.monitors.monitoring.Monitoring.TheVariants.{Same, Checked}
 use Rattle.mdb_events.specs.declared.sdam.SdamEvent.{SdamEvent}
-use Rattle.mdb_topology.specs.Homes.{is_here, begun}
-use Rattle.mdb_topology.specs.Monitors.{hello_reply, check_result, setting, streams, recent, average, runs, heartbeat, end_event, monitor_items}
-use Rattle.mdb_topology.specs.Description.{updates, replied_rule, rule_after, description_of, change_by, changed}
-use Rattle.mdb_topology.specs.Facts.{trouble, clear_of, is_clear}
-use Rattle.mdb_topology.specs.Publishing.{told_by, publication}
-use Rattle.mdb_topology.specs.Refusal.{first_refusal, refusal, may_want}
+use Rattle.mdb_driver_rules.specs.Homes.{is_here, begun}
+use Rattle.mdb_driver_rules.specs.Monitors.{hello_reply, check_result, setting, streams, recent, average, runs, heartbeat, end_event, monitor_items}
+use Rattle.mdb_driver_rules.specs.Description.{updates, replied_rule, rule_after, description_of, change_by, changed, known_after}
+use Rattle.mdb_driver_rules.specs.Facts.{trouble, clear_of, is_clear}
+use Rattle.mdb_driver_rules.specs.Publishing.{told_by, publication}
+use Rattle.mdb_driver_rules.specs.Refusal.{first_refusal, refusal, may_want}
 use Rattle.mdb_topology.specs.Checking.{Ends}
 use Rattle.mdb_topology.specs.Changing.{IsChanged, change_past, reply_known, ChangesIf, ConcludesAs, IsWithCheck, IsUntroubled}
 use Rattle.mdb_topology.specs.Standing.{StandsFor}
-use Rattle.mdb_topology.specs.Stepping.{is_here_among, known_after, Follows, BecomesOf}
+use Rattle.mdb_topology.specs.Stepping.{with_place, Follows, BecomesOf}
+use Rattle.mdb_driver_pools.specs.Standing.{is_here_among}
 use Rattle.mdb_topology.proofs.OfMonitors.StepAtMonitor.{same-watches, checked-watches, monitor-kept, monitor-setting}
-use Rattle.mdb_topology.proofs.OfMonitors.WhatItAdds.{beaten-items, beaten-others, reply-average}
-use Rattle.mdb_topology.proofs.OnePool.NumbersWithinLimits.{take_numbers, first-free}
+use Rattle.mdb_driver_rules.proofs.WhatItAdds.{beaten-items, beaten-others, reply-average}
+use Rattle.mdb_driver_rules.proofs.NumbersWithinLimits.{take_numbers, first-free}
 use Rattle.mdb_topology.proofs.Publications.BecomesKnown.{MakesKnown, refused-change, follows-change}
-use Rattle.mdb_topology.proofs.OnePool.SameHistories.{IsPlain}
+use Rattle.mdb_driver_rules.proofs.SameHistories.{IsPlain}
 use Rattle.mdb_topology.proofs.Publications.WhichSteps.{in-time, passes-time, unruled, unchanged, rule-stopped, rule-unstopped}
 use Rattle.mdb_topology.proofs.WholeSteps.ComesBeforeMemory.{untroubled-wants}
 use Rattle.mdb_topology.proofs.OfMonitors.ChangesNoPool.{Watches, silent-calm, follows-watch}
@@ -65,6 +66,10 @@ or-none false = refl
 pub with-check-concludes : (w : TopologyCore) (m : ℕ) (monitoring : Monitoring) (event : SdamEvent) (later : Option TopologyDescription) (y n : Transition) → ChangesIf w m later (Accepted y) → IsWithCheck y n monitoring event → ConcludesAs w m monitoring event later (Accepted n)
 with-check-concludes w m monitoring event None y n r e = (y, r, e)
 with-check-concludes w m monitoring event (Some u) y n r e = (y, r, e)
+
+pub with-check-repeats : (w : TopologyCore) (m : ℕ) (monitoring : Monitoring) (event : SdamEvent) (later : Option TopologyDescription) (y n : Transition) (s : ServerDescription) → ChangesIf w m later (Repeated y s) → IsWithCheck y n monitoring event → ConcludesAs w m monitoring event later (Repeated n s)
+with-check-repeats w m monitoring event None y n s r e = absurd r
+with-check-repeats w m monitoring event (Some u) y n s r e = (with_place (Some s) w y, r, record { others = ap (with_place (Some s) w) e.others; facts = e.facts })
 
 module _ (w : TopologyCore) (h : List Item) (z : StandsFor w h) (m : ℕ) (l : w.pools.last ≤ m) (a : ServerAddress) (p d : ℕ) where
   abbrev o : Options
@@ -218,6 +223,12 @@ module _ (w : TopologyCore) (h : List Item) (z : StandsFor w h) (m : ℕ) (l : w
         ruled-some (Err error) c pass u e = absurd c
         ruled-some (Cancelled error) c pass u e = some-none (sym e)
 
+        replied-follows : IsUntroubled came → (u : TopologyDescription) → Some u ≡ reply_known w a m came f.report → (n y0 : Transition) → IsChanged w m u y0 → IsWithCheck y0 n (Checked p y w.fresh) f.event → Follows w n (step-of came) h
+        replied-follows untroubled u e n y0 r k =
+            let some : reply_known w a m came (reported came) ≡ Some u = ap (reply_known w a m came) (sym report-is) ∙ sym e in
+            let v = k.others in
+            follows-replied u (ruled-some came untroubled (passes mode) u some) y0 n r (ap (λ x. x.reply) v) (ap (λ x. x.changes) v) (ap (λ x. x.description) v) (ap (λ x. x.monitors) v) (ap (λ x. x.stops) v) k.facts (ap (λ x. x.monitoring) v)
+
         -- what becomes of it
         pub concluded : IsUntroubled came → (later : Option TopologyDescription) → later ≡ reply_known w a m came f.report → (stepped : Decision) → ConcludesAs w m (Checked p y w.fresh) f.event later stepped → BecomesOf w (step-of came) stepped h
         concluded untroubled None e (Refused why) r = absurd r
@@ -229,7 +240,6 @@ module _ (w : TopologyCore) (h : List Item) (z : StandsFor w h) (m : ℕ) (l : w
         concluded untroubled (Some u) e (Refused why) r =
             let some : reply_known w a m came (reported came) ≡ Some u = ap (reply_known w a m came) (sym report-is) ∙ sym e in
             refused-replied u (ruled-some came untroubled (passes mode) u some) r.0 r.2 ∙ ap (λ x. Some x) (sym r.1)
-        concluded untroubled (Some u) e (Accepted n) r =
-            let some : reply_known w a m came (reported came) ≡ Some u = ap (reply_known w a m came) (sym report-is) ∙ sym e in
-            let v = r.2.others in
-            follows-replied u (ruled-some came untroubled (passes mode) u some) r.0 n r.1 (ap (λ x. x.reply) v) (ap (λ x. x.changes) v) (ap (λ x. x.description) v) (ap (λ x. x.monitors) v) (ap (λ x. x.stops) v) r.2.facts (ap (λ x. x.monitoring) v)
+        concluded untroubled (Some u) e (Accepted n) r = replied-follows untroubled u e n r.0 r.1 r.2
+        concluded untroubled None e (Repeated n s) r = absurd r
+        concluded untroubled (Some u) e (Repeated n s) r = replied-follows untroubled u e (with_place (Some s) w n) r.0 r.1 r.2

@@ -20,30 +20,31 @@ use Rattle.mdb_log.specs.declared.step.Act.{Act}
 use Rattle.mdb_log.specs.declared.step.Act.TheVariants.{Beaten}
 use Rattle.mdb_log.specs.declared.step.Step.{Step}
 use Rattle.mdb_log.specs.History.{Item, is_number, with_facts}
-use Rattle.mdb_topology.specs.declared.errors.marked.Asked.TheVariants.{Nothing}
+use Rattle.mdb_driver_pools.specs.declared.trouble.Asked.TheVariants.{Nothing}
 use Rattle.mdb_topology.specs.declared.monitors.monitoring.Monitoring.TheVariants.{Checked}
 use Rattle.mdb_topology.specs.declared.transition.Transition.{Transition}
 use Rattle.mdb_topology.specs.declared.topology.TopologyCore.{TopologyCore}
-use Rattle.mdb_topology.specs.Answer.{reply_to}
+use Rattle.mdb_driver_rules.specs.Answer.{reply_to}
 use Rattle.mdb_topology.specs.Changing.{IsUnchanged, IsWithCheck, IsUntroubled}
 use Rattle.mdb_topology.specs.Checking.{Ends}
-use Rattle.mdb_topology.specs.Description.{applied, rule_after, description_of, change_by}
-use Rattle.mdb_topology.specs.Errors.{Trouble}
-use Rattle.mdb_topology.specs.Facts.{trouble, clear_by, is_clear}
-use Rattle.mdb_topology.specs.Homes.{is_here, begun}
+use Rattle.mdb_driver_rules.specs.Description.{applied, rule_after, description_of, change_by}
+use Rattle.mdb_driver_rules.specs.Errors.{Trouble}
+use Rattle.mdb_driver_rules.specs.Facts.{trouble, clear_by, is_clear}
+use Rattle.mdb_driver_rules.specs.Homes.{is_here, begun}
 use Rattle.mdb_topology.specs.Marking.{spoken, IsOfPool, IsMarking, MarkPasses, FailsTo, FailsAs}
-use Rattle.mdb_topology.specs.Monitors.{check_result, runs, heartbeat}
-use Rattle.mdb_topology.specs.Refusal.{first_past, first_refusal, refusal}
-use Rattle.mdb_topology.specs.Standing.{at_address, StandsFor}
-use Rattle.mdb_topology.specs.Stepping.{is_here_among, Follows}
-use Rattle.mdb_topology.specs.Turns.{in_turn}
+use Rattle.mdb_driver_rules.specs.Monitors.{check_result, runs, heartbeat}
+use Rattle.mdb_driver_rules.specs.Refusal.{first_past, first_refusal, refusal}
+use Rattle.mdb_topology.specs.Standing.{StandsFor}
+use Rattle.mdb_driver_pools.specs.Standing.{at_address, is_here_among}
+use Rattle.mdb_topology.specs.Stepping.{Follows}
+use Rattle.mdb_driver_rules.specs.Turns.{in_turn}
 use Rattle.mdb_topology.proofs.OfMonitors.StepAtMonitor.{number-is}
 use Rattle.mdb_topology.proofs.OfMonitors.CheckEnds.{passes, beats-are, free, watches}
 use Rattle.mdb_topology.proofs.Marks.WhichSteps.{all_parts, met, met-of-pool, marking-by}
-use Rattle.mdb_topology.proofs.OnePool.NumbersWithinLimits.{take_numbers, first-free}
+use Rattle.mdb_driver_rules.proofs.NumbersWithinLimits.{take_numbers, first-free}
 use Rattle.mdb_topology.proofs.Marks.BecomesOfStep.{mark-exhausts, mark-follows, mark-spares}
 use Rattle.mdb_topology.proofs.WholeSteps.RefusedOfNoPool.{outside-refusal}
-use Rattle.mdb_topology.proofs.OnePool.SameHistories.{IsPlain}
+use Rattle.mdb_driver_rules.proofs.SameHistories.{IsPlain}
 use Rattle.mdb_topology.proofs.Publications.WhichSteps.{rule-stopped, rule-unstopped}
 use Rattle.mdb_topology.proofs.OfMonitors.ChangesNoPool.{Watches, follows-watch}
 

@@ -10,15 +10,15 @@ use Rattle.mdb_log.specs.declared.step.Act.TheVariants as Do
 use Rattle.mdb_log.specs.History.{Item, with_facts}
 use Rattle.mdb_log.specs.Opening.{pool_options}
 use Rattle.mdb_pool.specs.Core.{PoolCore}
-use Rattle.mdb_topology.specs.declared.pools.pool_change.PoolChange.{PoolChange}
-use Rattle.mdb_topology.specs.Homes.{is_here}
-use Rattle.mdb_topology.specs.Monitors.{heartbeat}
+use Rattle.mdb_driver_pools.specs.declared.pool_change.PoolChange.{PoolChange}
+use Rattle.mdb_driver_rules.specs.Homes.{is_here}
+use Rattle.mdb_driver_rules.specs.Monitors.{heartbeat}
 use Rattle.mdb_topology.specs.Changing.{IsTold}
-use Rattle.mdb_topology.specs.Standing.{PoolsStand}
-use Rattle.mdb_topology.specs.Telling.{Comes, Tells}
-use Rattle.mdb_topology.specs.Turns.{in_turn}
-use Rattle.mdb_topology.proofs.OnePool.SameHistories.{IsCalm}
-use Rattle.mdb_topology.proofs.WholeSteps.PartsInTurn.{comes-as, comes-calm, comes-more}
+use Rattle.mdb_driver_pools.specs.Standing.{PoolsStand}
+use Rattle.mdb_driver_pools.specs.Telling.{Comes, Tells}
+use Rattle.mdb_driver_rules.specs.Turns.{in_turn}
+use Rattle.mdb_driver_rules.proofs.SameHistories.{IsCalm}
+use Rattle.mdb_driver_pools.proofs.PartsInTurn.{comes-as, comes-calm, comes-more}
 
 -- facts of no pool
 abbrev pub AreCalm : List Fact → Type 0

@@ -1,9 +1,8 @@
 -- A step that does nothing at the monitors and asks for no check leaves what is kept of them as it is.
-use Rattle.std.proofs.Common.{ℕ, zero, suc, ◌≡◌, ◌+◌, ◌||◌, Bool, false, List, [], ◌∷◌, ◌++◌, map, Option, Some, None, is_some, refl, sym, ◌∙◌, ap, subst, arith}
-use Rattle.std.specs.Prelude.{slice_get, unwrap_or, All, ⊤}
+use Rattle.std.proofs.Common.{ℕ, zero, suc, ◌≡◌, ◌+◌, ◌||◌, Bool, List, [], ◌∷◌, ◌++◌, map, Option, Some, None, is_some, refl, sym, ◌∙◌, ap, subst, arith}
+use Rattle.std.specs.Prelude.{slice_get, unwrap_or, All}
 use Rattle.std.proofs.lemmas.List.{map-append}
 use Rattle.std.proofs.lemmas.List.Elements.{All-head, All-tail}
-use Rattle.mdb_base.specs.declared.address.ServerAddress.{ServerAddress}
 use Rattle.mdb_base.specs.declared.options.Options.{Options}
 use Rattle.mdb_describe.specs.declared.topology.TopologyDescription.{TopologyDescription}
 use Rattle.mdb_events.specs.declared.fact.Fact.{Fact}
@@ -17,35 +16,11 @@ use Rattle.mdb_log.specs.History.{Item, did, with_facts}
 use Rattle.mdb_log.specs.Connections.{one_if}
 use Rattle.mdb_log.specs.Homes.{Home, homes}
 use Rattle.mdb_log.proofs.Frame.{last-facts}
-use Rattle.mdb_topology.specs.Monitors.{setting, connects, asking, with_check, monitor_items}
-use Rattle.mdb_topology.specs.Description.{Rule, rule_after, applied, is_stop, description_of}
+use Rattle.mdb_driver_rules.specs.Monitors.{setting, connects, asking, monitor_items}
+use Rattle.mdb_driver_rules.specs.Description.{Rule, rule_after, applied, is_stop, description_of, known_after}
 use Rattle.mdb_topology.specs.Standing.{MonitorsFit, Counts}
-use Rattle.mdb_topology.specs.Stepping.{known_after}
-use Rattle.mdb_topology.proofs.WholeSteps.LeavesAsItIs.{description-facts, published-facts, stopped-facts, monitor-facts, fresh-facts, watchers-facts}
-
--- an act that does nothing at the monitors and asks for no check
-abbrev pub IsStill : Act → Type 0
-IsStill (Do.Beat a p) = ⊥
-IsStill (Do.Beaten a p d came) = ⊥
-IsStill (Do.Rtt a p d) = ⊥
-IsStill (Do.Want w) = ⊥
-IsStill (Do.Unwant w) = ⊥
-IsStill _ = ⊤
-
-pub still-check : (act : Act) → IsStill act → (own : ServerAddress → ℕ → Bool) (n : ℕ) (xs : List _) → with_check own n act xs ≡ xs
-still-check (Do.Beat a p) c own n xs = absurd c
-still-check (Do.Beaten a p d came) c own n xs = absurd c
-still-check (Do.Rtt a p d) c own n xs = absurd c
-still-check _ c own n xs = refl
-
-pub still-connects : (act : Act) → IsStill act → (h : List Item) → connects h act ≡ false
-still-connects (Do.Beat a p) c h = absurd c
-still-connects _ c h = refl
-
-pub still-asking : (act : Act) → IsStill act → (ws : List ℕ) → asking act ws ≡ ws
-still-asking (Do.Want w) c ws = absurd c
-still-asking (Do.Unwant w) c ws = absurd c
-still-asking _ c ws = refl
+use Rattle.mdb_driver_rules.proofs.LeavesAsItIs.{description-facts, published-facts, stopped-facts, monitor-facts, fresh-facts, watchers-facts}
+use Rattle.mdb_driver_rules.proofs.Still.{IsStill, still-check, still-connects, still-asking}
 
 module _ {T : Type 0} where
   pub in-all : (Q : T → Type 0) (ys : List T) (p : ℕ) (x : T) → slice_get ys p ≡ Some x → All Q ys → Q x

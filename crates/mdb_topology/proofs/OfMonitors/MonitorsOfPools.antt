@@ -5,11 +5,11 @@ use Rattle.std.proofs.lemmas.List.{map-append}
 use Rattle.mdb_base.specs.declared.options.Options.{Options}
 use Rattle.mdb_monitor.specs.declared.monitor.Setting.{Setting}
 use Rattle.mdb_pool.specs.Core.{PoolCore}
-use Rattle.mdb_topology.specs.declared.pools.pool_change.PoolChange.{PoolChange}
-use Rattle.mdb_topology.specs.declared.pools.pool_change.PoolChange.TheVariants.{Alter, Open}
-use Rattle.mdb_topology.specs.Monitors.{setting}
-use Rattle.mdb_topology.specs.Planned.{opened_by}
-use Rattle.mdb_topology.specs.Standing.{home}
+use Rattle.mdb_driver_pools.specs.declared.pool_change.PoolChange.{PoolChange}
+use Rattle.mdb_driver_pools.specs.declared.pool_change.PoolChange.TheVariants.{Alter, Open}
+use Rattle.mdb_driver_rules.specs.Monitors.{setting}
+use Rattle.mdb_driver_pools.specs.Planned.{opened_by}
+use Rattle.mdb_driver_pools.specs.Standing.{home}
 
 opened-both : (xs ys : List PoolChange) → opened_by (xs ++ ys) ≡ opened_by xs ++ opened_by ys
 opened-both [] ys = refl

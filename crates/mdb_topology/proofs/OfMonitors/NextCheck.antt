@@ -13,12 +13,13 @@ use Rattle.mdb_log.specs.Connections.{has}
 use Rattle.mdb_log.specs.History.{Item, open_pool}
 use Rattle.mdb_describe.specs.Topology.{server_at}
 use Rattle.mdb_topology.specs.declared.topology.TopologyCore.{TopologyCore}
-use Rattle.mdb_topology.specs.Ahead.{is_available, next_after}
-use Rattle.mdb_topology.specs.Homes.{is_here}
-use Rattle.mdb_topology.specs.Monitors.{check_result, monitor_items, setting}
-use Rattle.mdb_topology.specs.Standing.{at_address, StandsFor}
-use Rattle.mdb_topology.proofs.InMemory.LivingPools.{lives-within}
-use Rattle.mdb_topology.proofs.OnePool.FoundAt.{open-lives}
+use Rattle.mdb_driver_rules.specs.Ahead.{is_available, next_after}
+use Rattle.mdb_driver_rules.specs.Homes.{is_here}
+use Rattle.mdb_driver_rules.specs.Monitors.{check_result, monitor_items, setting}
+use Rattle.mdb_topology.specs.Standing.{StandsFor}
+use Rattle.mdb_driver_pools.specs.Standing.{at_address}
+use Rattle.mdb_driver_pools.proofs.InMemory.LivingPools.{lives-within}
+use Rattle.mdb_driver_pools.proofs.OnePool.FoundAt.{open-lives}
 use Rattle.mdb_topology.proofs.OnePool.JobsAreThere.{some-place}
 use Rattle.mdb_topology.proofs.OfMonitors.StepAtMonitor.{monitor-setting}
 use Rattle.mdb_topology.proofs.WholeSteps.OneMoreEntry.{as-many}

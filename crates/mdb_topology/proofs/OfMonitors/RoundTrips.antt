@@ -16,17 +16,18 @@ use Rattle.mdb_log.specs.History.{Item, is_number, with_facts}
 use Rattle.mdb_topology.specs.declared.topology.TopologyCore.{TopologyCore}
 use Rattle.mdb_topology.specs.declared.transition.Transition.{Transition}
 use Rattle.mdb_topology.specs.declared.monitors.monitoring.Monitoring.TheVariants.{Same, Checked}
-use Rattle.mdb_topology.specs.Homes.{is_here, begun}
-use Rattle.mdb_topology.specs.Monitors.{streams, monitor_items}
+use Rattle.mdb_driver_rules.specs.Homes.{is_here, begun}
+use Rattle.mdb_driver_rules.specs.Monitors.{streams, monitor_items}
 use Rattle.mdb_topology.specs.Checking.{Measures}
-use Rattle.mdb_topology.specs.Refusal.{refusal}
-use Rattle.mdb_topology.specs.Answer.{reply_to}
+use Rattle.mdb_driver_rules.specs.Refusal.{refusal}
+use Rattle.mdb_driver_rules.specs.Answer.{reply_to}
 use Rattle.mdb_topology.specs.Standing.{StandsFor}
-use Rattle.mdb_topology.specs.Stepping.{is_here_among, Follows}
+use Rattle.mdb_topology.specs.Stepping.{Follows}
+use Rattle.mdb_driver_pools.specs.Standing.{is_here_among}
 use Rattle.mdb_topology.proofs.OfMonitors.StepAtMonitor.{same-watches, checked-watches, monitor-kept, monitor-setting}
-use Rattle.mdb_topology.proofs.OfMonitors.WhatItAdds.{rtt-items, rtt-others}
-use Rattle.mdb_topology.proofs.WholeSteps.LeavesAsItIs.{monitor-facts}
-use Rattle.mdb_topology.proofs.OnePool.SameHistories.{IsPlain}
+use Rattle.mdb_driver_rules.proofs.WhatItAdds.{rtt-items, rtt-others}
+use Rattle.mdb_driver_rules.proofs.LeavesAsItIs.{monitor-facts}
+use Rattle.mdb_driver_rules.proofs.SameHistories.{IsPlain}
 use Rattle.mdb_topology.proofs.Publications.WhichSteps.{in-time, passes-time, unruled}
 use Rattle.mdb_topology.proofs.OfMonitors.ChangesNoPool.{silent-calm, follows-watch}
 

@@ -15,14 +15,15 @@ use Rattle.mdb_pool.specs.Core.{PoolCore}
 use Rattle.mdb_topology.specs.declared.topology.TopologyCore.{TopologyCore}
 use Rattle.mdb_topology.specs.declared.transition.Transition.{Transition}
 use Rattle.mdb_topology.specs.declared.monitors.monitoring.Monitoring.TheVariants.{Same, Checked, Asked}
-use Rattle.mdb_topology.specs.Homes.{is_here}
+use Rattle.mdb_driver_rules.specs.Homes.{is_here}
 use Rattle.mdb_topology.specs.Checking.{monitors_after}
-use Rattle.mdb_topology.specs.Monitors.{setting, monitor_items, connects, asking}
-use Rattle.mdb_topology.specs.Standing.{home, StandsFor}
-use Rattle.mdb_topology.proofs.OnePool.OpenAtOneAddress.{at-address, found, is-there}
-use Rattle.mdb_topology.proofs.General.OneElement.{map-set}
-use Rattle.mdb_topology.proofs.OnePool.FoundAt.{open-lives}
-use Rattle.mdb_topology.proofs.General.OnePosition.{Place, at_it, beside, place, some-same}
+use Rattle.mdb_driver_rules.specs.Monitors.{setting, monitor_items, connects, asking}
+use Rattle.mdb_topology.specs.Standing.{StandsFor}
+use Rattle.mdb_driver_pools.specs.Standing.{home}
+use Rattle.mdb_driver_pools.proofs.OnePool.OpenAtOneAddress.{at-address, found, is-there}
+use Rattle.mdb_driver_rules.proofs.General.OneElement.{map-set}
+use Rattle.mdb_driver_pools.proofs.OnePool.FoundAt.{open-lives}
+use Rattle.mdb_driver_rules.proofs.General.OnePosition.{Place, at_it, beside, place, some-same}
 use Rattle.mdb_topology.proofs.OfMonitors.ChangesNoPool.{Watches, items_with}
 
 pub number-is : (x : Option ℕ) (p : ℕ) → is_number x p ≡ true → x ≡ Some p

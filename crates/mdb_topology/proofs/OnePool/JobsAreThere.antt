@@ -18,22 +18,22 @@ use Rattle.mdb_log.specs.Opening.{pool_options}
 use Rattle.mdb_log.proofs.Frame.{other-number}
 use Rattle.mdb_log.proofs.Numbers.{same-number}
 use Rattle.mdb_pool.specs.Core.{PoolCore}
-use Rattle.mdb_pool.specs.Answer.{first_job}
-use Rattle.mdb_pool.specs.Jobs.{job_in}
+use Rattle.mdb_pool_rules.specs.Answer.{first_job}
+use Rattle.mdb_pool_rules.specs.Jobs.{job_in}
 use Rattle.mdb_pool.specs.Kept.{is_spent}
 use Rattle.mdb_pool.proofs.Answered.Act.{pending-is}
 use Rattle.mdb_pool.proofs.KeptInLittle.NothingLives.{none-pending}
-use Rattle.mdb_pool.proofs.Listed.Values.{find-member}
+use Rattle.mdb_pool_rules.proofs.Listed.Values.{find-member}
 use Rattle.mdb_topology.specs.declared.topology.TopologyCore.{TopologyCore}
-use Rattle.mdb_topology.specs.Homes.{concerns, home_of, home_at}
-use Rattle.mdb_topology.specs.Answer.{pool_reply}
-use Rattle.mdb_topology.specs.Jobs.{job_at, job_after}
-use Rattle.mdb_topology.specs.Lines.{options_of}
+use Rattle.mdb_driver_rules.specs.Homes.{concerns, home_of, home_at}
+use Rattle.mdb_driver_rules.specs.Answer.{pool_reply}
+use Rattle.mdb_driver_rules.specs.Jobs.{job_at, job_after}
+use Rattle.mdb_driver_rules.specs.Lines.{options_of}
 use Rattle.mdb_topology.specs.Logging.{IsDriverOf}
-use Rattle.mdb_topology.specs.Standing.{home, PoolFits, PoolsFit}
-use Rattle.mdb_topology.proofs.General.OneElement.{find-at, find-none}
-use Rattle.mdb_topology.specs.Living.{living_at}
-use Rattle.mdb_topology.proofs.OnePool.FoundAt.{fits-at, number-at}
+use Rattle.mdb_driver_pools.specs.Standing.{home, PoolFits, PoolsFit}
+use Rattle.mdb_driver_rules.proofs.General.OneElement.{find-at, find-none}
+use Rattle.mdb_driver_pools.specs.Living.{living_at}
+use Rattle.mdb_driver_pools.proofs.OnePool.FoundAt.{fits-at, number-at}
 
 -- there is something at each place below the length
 pub some-place : {T : Type 0} (xs : List T) (p : ℕ) → is_some (slice_get xs p) ≡ nat_lt p (length xs)

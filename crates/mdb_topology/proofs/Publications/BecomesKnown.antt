@@ -14,48 +14,41 @@ use Rattle.mdb_log.specs.declared.reply.Reply.TheVariants.{Changed}
 use Rattle.mdb_log.specs.declared.reply.Refused.TheVariants.{Exhausted}
 use Rattle.mdb_log.specs.declared.reply.What.{What}
 use Rattle.mdb_log.specs.declared.reply.What.TheVariants.{Servers, Pool}
-use Rattle.mdb_log.specs.History.{Item}
+use Rattle.mdb_log.specs.History.{Item, with_facts}
 use Rattle.mdb_log.specs.Homes.{homes}
 use Rattle.mdb_pool.specs.Core.{PoolCore}
 use Rattle.mdb_topology.specs.declared.topology.TopologyCore.{TopologyCore}
 use Rattle.mdb_topology.specs.declared.transition.Transition.{Transition}
 use Rattle.mdb_topology.specs.declared.monitors.monitoring.Monitoring.TheVariants.{Same}
-use Rattle.mdb_topology.specs.Homes.{begun}
-use Rattle.mdb_topology.specs.Description.{rule_after, applied, description_of}
-use Rattle.mdb_topology.specs.Limits.{past_last}
-use Rattle.mdb_topology.specs.Monitors.{setting, heartbeat}
-use Rattle.mdb_topology.specs.Planned.{opened_by}
-use Rattle.mdb_topology.specs.Publishing.{told_by, telling, publication}
-use Rattle.mdb_topology.specs.Refusal.{first_past, sooner, refusal}
-use Rattle.mdb_topology.specs.Turns.{in_turn}
-use Rattle.mdb_topology.specs.Standing.{home, StandsFor}
-use Rattle.mdb_topology.specs.Stepping.{known_after, Follows}
-use Rattle.mdb_topology.specs.Changing.{IsUpdating, IsTold, passes_limit}
-use Rattle.mdb_topology.proofs.WholeSteps.TopologyStep.{telling-quiet, known-applied}
-use Rattle.mdb_topology.proofs.WholeSteps.LeavesAsItIs.{turn-append}
-use Rattle.mdb_topology.proofs.WholeSteps.FactsPastLimits.{past-append}
-use Rattle.mdb_topology.proofs.Publications.PastLimits.{telling-past}
+use Rattle.mdb_driver_rules.specs.Homes.{begun}
+use Rattle.mdb_driver_rules.specs.Description.{rule_after, applied, description_of, known_after, is_stop}
+use Rattle.mdb_driver_rules.specs.Limits.{past_last}
+use Rattle.mdb_driver_rules.specs.Monitors.{setting, heartbeat}
+use Rattle.mdb_driver_pools.specs.Planned.{opened_by}
+use Rattle.mdb_driver_rules.specs.Publishing.{told_by, telling, publication}
+use Rattle.mdb_driver_rules.specs.Refusal.{first_past, sooner, refusal, first_refusal}
+use Rattle.mdb_driver_rules.specs.Turns.{in_turn}
+use Rattle.mdb_topology.specs.Standing.{StandsFor}
+use Rattle.mdb_driver_pools.specs.Standing.{home}
+use Rattle.mdb_topology.specs.Stepping.{with_place, Follows, BecomesOf}
+use Rattle.mdb_topology.specs.Changing.{IsUpdating, IsTold, passes_limit, IsTelling, IsChanged, ChangesTo, change_past}
+use Rattle.mdb_topology.proofs.WholeSteps.TopologyStep.{telling-quiet, known-applied, follows-told, telling-outside, telling-still}
+use Rattle.mdb_driver_rules.proofs.LeavesAsItIs.{turn-append}
+use Rattle.mdb_driver_rules.proofs.FactsPastLimits.{past-append}
+use Rattle.mdb_driver_rules.proofs.PoolsPastLimits.{telling-past, free-homes}
 use Rattle.mdb_topology.proofs.WholeSteps.RefusedOfNoPool.{outside-refusal}
-use Rattle.mdb_topology.proofs.OnePool.SameHistories.{IsPlain}
+use Rattle.mdb_driver_rules.proofs.SameHistories.{IsPlain, IsOutside}
 use Rattle.mdb_topology.proofs.WholeSteps.CheckThenRule.{refused-told, refused-servers, said}
 use Rattle.std.proofs.lemmas.List.{length-map}
 use Rattle.std.proofs.lemmas.Bool.Decides.{nat_tests}
-use Rattle.mdb_log.specs.History.{with_facts}
-use Rattle.mdb_topology.specs.Answer.{reply_to}
-use Rattle.mdb_topology.specs.Changing.{IsTelling, IsChanged, ChangesTo, change_past}
-use Rattle.mdb_topology.specs.Description.{is_stop}
-use Rattle.mdb_topology.specs.Facts.{trouble}
-use Rattle.mdb_topology.specs.Refusal.{first_refusal}
-use Rattle.mdb_topology.specs.Stepping.{BecomesOf}
+use Rattle.mdb_driver_rules.specs.Answer.{reply_to}
+use Rattle.mdb_driver_rules.specs.Facts.{trouble}
 use Rattle.mdb_topology.specs.declared.transition.Decision.{Decision}
-use Rattle.mdb_topology.specs.declared.transition.Decision.TheVariants.{Refused, Accepted}
+use Rattle.mdb_topology.specs.declared.transition.Decision.TheVariants.{Refused, Accepted, Repeated}
 use Rattle.mdb_topology.proofs.OfMonitors.StepAtMonitor.{same-watches}
-use Rattle.mdb_topology.proofs.WholeSteps.TopologyStep.{follows-told, telling-outside, telling-still}
-use Rattle.mdb_topology.proofs.OnePool.NumbersWithinLimits.{take_numbers, first-free}
+use Rattle.mdb_driver_rules.proofs.NumbersWithinLimits.{take_numbers, first-free}
 use Rattle.mdb_topology.proofs.OfMonitors.FactsOfCheck.{heartbeat-calm, told-front}
-use Rattle.mdb_topology.proofs.Publications.PastLimits.{free-homes}
-use Rattle.mdb_topology.proofs.OnePool.SameHistories.{IsOutside}
-use Rattle.mdb_topology.proofs.OfMonitors.LeftAlone.{still-check, still-connects, still-asking}
+use Rattle.mdb_driver_rules.proofs.Still.{still-check, still-connects, still-asking}
 use Rattle.mdb_topology.proofs.OfMonitors.ChangesNoPool.{Watches, watched-fit, watched-counts}
 
 -- where a number is past the limit, it is one of a pool
@@ -236,6 +229,10 @@ module _ (w : TopologyCore) (h : List Item) (z : StandsFor w h) (step : Step) (l
   pub spared-update : change_past w u ≡ None → refusal w.options h step ≡ None
   spared-update e = spared-change w h z step u makes-known e
 
+  accepted-change : (n : Transition) → IsChanged w step.moment u n → Follows w n step h
+  accepted-change n r = follows-change w h z step u makes-known l n n r refl refl refl refl refl (ap (λ fs. fs ++ n.facts.items) (sym (telling-quiet w.options h step.act c.act))) (telling-watches w h z step c.act n r.nothing)
+
   pub changes-become : (stepped : Decision) → ChangesTo w step.moment u stepped → BecomesOf w step stepped h
   changes-become (Refused why) e = refused-change w h z step u makes-known e.0 e.2 ∙ ap (λ x. Some x) (sym e.1)
-  changes-become (Accepted n) r = follows-change w h z step u makes-known l n n r refl refl refl refl refl (ap (λ fs. fs ++ n.facts.items) (sym (telling-quiet w.options h step.act c.act))) (telling-watches w h z step c.act n r.nothing)
+  changes-become (Accepted n) r = accepted-change n r
+  changes-become (Repeated n s) r = accepted-change (with_place (Some s) w n) r

@@ -15,9 +15,9 @@ use Rattle.mdb_describe.specs.Topology.{synced, synced_by_type}
 use Rattle.mdb_log.specs.declared.reply.What.TheVariants.{Pool, Servers}
 use Rattle.mdb_topology.specs.declared.topology.TopologyCore.{TopologyCore}
 use Rattle.mdb_topology.specs.Changing.{change_past, passes_limit}
-use Rattle.mdb_topology.specs.Limits.{past_last, pool_limit}
-use Rattle.mdb_topology.specs.Naming.{is_past, new_hosts}
-use Rattle.mdb_topology.proofs.Publications.CountedHosts.{all-named, new-named}
+use Rattle.mdb_driver_rules.specs.Limits.{past_last, pool_limit}
+use Rattle.mdb_driver_rules.specs.Naming.{is_past, new_hosts}
+use Rattle.mdb_driver_rules.proofs.CountedHosts.{all-named, new-named}
 
 some-if : (b : Bool) → is_some (if b then Some Pool else None) ≡ b
 some-if true = refl

@@ -11,17 +11,17 @@ use Rattle.mdb_events.specs.declared.fact.Fact.{Fact}
 use Rattle.mdb_log.specs.History.{Item}
 use Rattle.mdb_log.specs.Homes.{Home}
 use Rattle.mdb_pool.specs.Core.{PoolCore}
-use Rattle.mdb_topology.specs.declared.pools.pool_change.PoolChange.{PoolChange}
+use Rattle.mdb_driver_pools.specs.declared.pool_change.PoolChange.{PoolChange}
 use Rattle.mdb_topology.specs.declared.topology.TopologyCore.{TopologyCore}
-use Rattle.mdb_topology.specs.Planned.{IsPlanned, PlansMore, LeadsAll, opened_by}
-use Rattle.mdb_topology.specs.Publishing.{telling, publication, topology_closed_fact, topology_closed}
-use Rattle.mdb_topology.specs.Standing.{at_address, StandsForSome}
-use Rattle.mdb_topology.specs.Touching.{touches}
+use Rattle.mdb_driver_pools.specs.Planned.{IsPlanned, PlansMore, LeadsAll, opened_by}
+use Rattle.mdb_driver_rules.specs.Publishing.{telling, publication, topology_closed_fact, topology_closed}
+use Rattle.mdb_topology.specs.Standing.{StandsForSome}
+use Rattle.mdb_driver_pools.specs.Standing.{at_address}
+use Rattle.mdb_driver_rules.specs.Touching.{touches}
 use Rattle.mdb_topology.specs.Changing.{IsTold}
-use Rattle.mdb_topology.proofs.Publications.ServersThen.{known-now}
-use Rattle.mdb_topology.proofs.Publications.PlannedWhole.{of-difference}
-use Rattle.mdb_topology.proofs.Publications.PlannedPart.{planned-still}
-use Rattle.mdb_topology.proofs.WholeSteps.PartsInTurn.{tells-none, tells-push, comes-calm}
+use Rattle.mdb_driver_rules.proofs.ServersThen.{known-now, of-difference}
+use Rattle.mdb_driver_pools.proofs.Publications.PlannedPart.{planned-still}
+use Rattle.mdb_driver_pools.proofs.PartsInTurn.{tells-none, tells-push, comes-calm}
 
 -- a driver has an open pool for each server that it knows
 pub open-known : (w : TopologyCore) (s : StandsForSome w) (a : ServerAddress) → is_some (at_address w.pools.cores.items a) ≡ is_known a w.description.servers

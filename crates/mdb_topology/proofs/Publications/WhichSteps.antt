@@ -23,17 +23,17 @@ use Rattle.mdb_log.specs.declared.reply.Reply.{Reply}
 use Rattle.mdb_log.specs.declared.reply.Reply.TheVariants.{Changed, Done}
 use Rattle.mdb_log.specs.History.{Item, last_moment, is_number}
 use Rattle.mdb_log.specs.Homes.{homes}
-use Rattle.mdb_pool.specs.Refusal.{first_row}
+use Rattle.mdb_pool_rules.specs.Refusal.{first_row}
 use Rattle.mdb_topology.specs.declared.topology.TopologyCore.{TopologyCore}
-use Rattle.mdb_topology.specs.Homes.{begun, is_here}
-use Rattle.mdb_topology.specs.Monitors.{hello_reply}
-use Rattle.mdb_topology.specs.Description.{Rule, updates, syncs, tells_time, stops, syncing_rule, rule_of, applied, rule_after, description_of, change_by, changed, is_stop}
-use Rattle.mdb_topology.specs.Facts.{trouble, clear_of, is_clear}
-use Rattle.mdb_topology.specs.Publishing.{told_by, publication, topology_closed}
-use Rattle.mdb_topology.specs.Refusal.{rows_of, first_refusal, refusal}
-use Rattle.mdb_topology.specs.Answer.{reply_to, pool_reply}
+use Rattle.mdb_driver_rules.specs.Homes.{begun, is_here}
+use Rattle.mdb_driver_rules.specs.Monitors.{hello_reply}
+use Rattle.mdb_driver_rules.specs.Description.{Rule, updates, syncs, tells_time, stops, syncing_rule, rule_of, applied, rule_after, description_of, change_by, changed, is_stop, known_after}
+use Rattle.mdb_driver_rules.specs.Facts.{trouble, clear_of, is_clear}
+use Rattle.mdb_driver_rules.specs.Publishing.{told_by, publication, topology_closed}
+use Rattle.mdb_driver_rules.specs.Refusal.{rows_of, first_refusal, refusal}
+use Rattle.mdb_driver_rules.specs.Answer.{reply_to, pool_reply}
 use Rattle.mdb_topology.specs.Standing.{StandsFor}
-use Rattle.mdb_topology.specs.Stepping.{is_here_among, known_after}
+use Rattle.mdb_driver_pools.specs.Standing.{is_here_among}
 use Rattle.mdb_topology.specs.Changing.{IsTelling, IsChanging, IsUpdating}
 
 pub or-not : (b c : Bool) → b || not c ≡ false → (b ≡ false) × (c ≡ true)

@@ -17,18 +17,18 @@ use Rattle.mdb_log.specs.Driver.{tells_outcome, answers, is_reply_to, is_in_time
 use Rattle.mdb_log.specs.History.{Item, of_pool, with_facts, with_answer, last_moment}
 use Rattle.mdb_log.specs.Opening.{pool_options}
 use Rattle.mdb_pool.specs.Core.{PoolCore}
-use Rattle.mdb_pool.specs.Refusal.{first_row}
+use Rattle.mdb_pool_rules.specs.Refusal.{first_row}
 use Rattle.mdb_topology.specs.declared.topology.TopologyCore.{TopologyCore}
-use Rattle.mdb_topology.specs.Homes.{home_of, home_at, begun}
-use Rattle.mdb_topology.specs.Answer.{pool_reply, reply_to, answer, answered}
-use Rattle.mdb_topology.specs.Facts.{step_facts}
-use Rattle.mdb_topology.specs.Jobs.{job_at}
-use Rattle.mdb_topology.specs.Refusal.{rows_of, first_refusal, ran_out, exhausted, refusal}
+use Rattle.mdb_driver_rules.specs.Homes.{home_of, home_at, begun}
+use Rattle.mdb_driver_rules.specs.Answer.{pool_reply, reply_to, answer, answered}
+use Rattle.mdb_driver_rules.specs.Facts.{step_facts}
+use Rattle.mdb_driver_rules.specs.Jobs.{job_at}
+use Rattle.mdb_driver_rules.specs.Refusal.{rows_of, first_refusal, ran_out, exhausted, refusal}
 use Rattle.mdb_topology.specs.Standing.{StandsFor}
 use Rattle.mdb_topology.proofs.OnePool.JobsAreThere.{told-there}
-use Rattle.mdb_topology.proofs.WholeSteps.ReplyOfAct.{WarmPends, accepted-kind, tells-how, not-refused}
+use Rattle.mdb_driver_pools.proofs.ReplyOfAct.{WarmPends, accepted-kind, tells-how, not-refused}
 use Rattle.mdb_topology.proofs.WholeSteps.InTime.{answer-in-time, refused-in-time, claim-facts}
-use Rattle.mdb_topology.proofs.OnePool.WarmGetsPending.{warm-step}
+use Rattle.mdb_driver_pools.proofs.OnePool.WarmGetsPending.{warm-step}
 
 or-right : (a b : Bool) → b ≡ true → a || b ≡ true
 or-right true b e = refl

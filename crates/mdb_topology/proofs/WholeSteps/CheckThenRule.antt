@@ -1,7 +1,6 @@
 -- A step that does nothing in a pool by itself: its facts are that of a check, and those of its rule.
-use Rattle.std.proofs.Common.{ℕ, ◌≡◌, ◌≤◌, true, false, if◌then◌else◌, List, [], ◌∷◌, ◌++◌, length, Option, Some, None, nat_lt, refl, sym, ◌∙◌, ap, subst, arith}
+use Rattle.std.proofs.Common.{ℕ, ◌≡◌, ◌≤◌, true, false, if◌then◌else◌, List, [], ◌∷◌, ◌++◌, length, Option, Some, None, nat_lt, refl, sym, ◌∙◌, ap, subst, arith, append-nil}
 use Rattle.std.specs.Prelude.{flat_map}
-use Rattle.std.proofs.Common.{append-nil}
 use Rattle.std.proofs.lemmas.List.{append_assoc}
 use Rattle.std.proofs.lemmas.Bool.Decides.{nat_tests}
 use Rattle.mdb_base.specs.declared.options.Options.{Options}
@@ -26,24 +25,24 @@ use Rattle.mdb_log.specs.Opening.{pool_options}
 use Rattle.mdb_log.specs.Own.{IsAccepted}
 use Rattle.mdb_log.proofs.Later.{with_answer-accepted}
 use Rattle.mdb_pool.specs.Core.{PoolCore}
-use Rattle.mdb_pool.specs.Serving.{serving}
-use Rattle.mdb_pool.proofs.Turns.NoMove.{served-serving}
-use Rattle.mdb_topology.specs.Homes.{home_of, begun}
-use Rattle.mdb_topology.specs.Turns.{in_turn}
-use Rattle.mdb_topology.specs.Monitors.{heartbeat}
-use Rattle.mdb_topology.specs.Description.{rule_after, description_of}
-use Rattle.mdb_topology.specs.Publishing.{told_by}
-use Rattle.mdb_topology.specs.Facts.{trouble, clear_of, clearing, asking, own_facts, serve_all, step_facts}
-use Rattle.mdb_topology.specs.Refusal.{first_refusal, first_past, sooner, exhausted, ran_out, refused_by, refusal}
-use Rattle.mdb_topology.specs.Answer.{reply_to, answered, answer}
-use Rattle.mdb_topology.specs.Standing.{home, PoolsStand}
-use Rattle.mdb_topology.specs.Telling.{Comes, Tells}
+use Rattle.mdb_pool_rules.specs.Serving.{serving}
+use Rattle.mdb_pool_rules.proofs.NoMove.{served-serving}
+use Rattle.mdb_driver_rules.specs.Homes.{home_of, begun}
+use Rattle.mdb_driver_rules.specs.Turns.{in_turn}
+use Rattle.mdb_driver_rules.specs.Monitors.{heartbeat}
+use Rattle.mdb_driver_rules.specs.Description.{rule_after, description_of}
+use Rattle.mdb_driver_rules.specs.Publishing.{told_by}
+use Rattle.mdb_driver_rules.specs.Facts.{trouble, clear_of, clearing, asking, own_facts, serve_all, step_facts}
+use Rattle.mdb_driver_rules.specs.Refusal.{first_refusal, first_past, sooner, exhausted, ran_out, refused_by, refusal}
+use Rattle.mdb_driver_rules.specs.Answer.{reply_to, answered, answer}
+use Rattle.mdb_driver_pools.specs.Standing.{home, PoolsStand}
+use Rattle.mdb_driver_pools.specs.Telling.{Comes, Tells}
 use Rattle.mdb_topology.specs.Marking.{spoken}
-use Rattle.mdb_topology.proofs.WholeSteps.LeavesAsItIs.{turn-append}
-use Rattle.mdb_topology.proofs.WholeSteps.FactsPastLimits.{past-append}
-use Rattle.mdb_topology.proofs.General.OneElement.{flat-none}
-use Rattle.mdb_topology.proofs.OnePool.SameHistories.{SameFor, IsOutside, IsPlain, outside, same-fact, same-trans, same-sym, same-reply}
-use Rattle.mdb_topology.proofs.WholeSteps.PartsInTurn.{same-stand}
+use Rattle.mdb_driver_rules.proofs.LeavesAsItIs.{turn-append}
+use Rattle.mdb_driver_rules.proofs.FactsPastLimits.{past-append}
+use Rattle.mdb_driver_rules.proofs.General.OneElement.{flat-none}
+use Rattle.mdb_driver_rules.proofs.SameHistories.{SameFor, IsOutside, IsPlain, outside, same-fact, same-trans, same-sym, same-reply}
+use Rattle.mdb_driver_pools.proofs.PartsInTurn.{same-stand}
 
 -- grants are as fair, and of connections as fresh, where the pools know the same
 pub same-fair : (m : ℕ) (fs : List Fact) (h k : List Item) → SameFor h k → AllFirstCome m h fs → AllFirstCome m k fs

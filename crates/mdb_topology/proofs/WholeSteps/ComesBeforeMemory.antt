@@ -22,23 +22,23 @@ use Rattle.mdb_log.specs.declared.step.Step.{Step}
 use Rattle.mdb_log.specs.History.{Item, with_facts}
 use Rattle.mdb_log.specs.Homes.{homes}
 use Rattle.mdb_topology.specs.declared.topology.TopologyCore.{TopologyCore}
-use Rattle.mdb_topology.specs.Description.{Rule, opens, updates, syncs, tells_time, stops, description_of, is_stopped, marking_rule, replied_rule, rule_after, rule_of, syncing_rule}
-use Rattle.mdb_topology.specs.Errors.{Trouble, marks, trouble_of}
-use Rattle.mdb_topology.specs.Facts.{trouble}
-use Rattle.mdb_topology.specs.Homes.{begun, is_here}
-use Rattle.mdb_topology.specs.Limits.{past_last, pool_limit}
+use Rattle.mdb_driver_rules.specs.Description.{Rule, opens, updates, syncs, tells_time, stops, description_of, is_stopped, marking_rule, replied_rule, rule_after, rule_of, syncing_rule}
+use Rattle.mdb_driver_rules.specs.Errors.{Trouble, marks, trouble_of}
+use Rattle.mdb_driver_rules.specs.Facts.{trouble}
+use Rattle.mdb_driver_rules.specs.Homes.{begun, is_here}
+use Rattle.mdb_driver_rules.specs.Limits.{past_last, pool_limit}
 use Rattle.mdb_topology.specs.Marking.{spoken}
-use Rattle.mdb_topology.specs.Monitors.{heartbeat}
-use Rattle.mdb_topology.specs.Publishing.{publication, telling, told_by, topology_closed}
-use Rattle.mdb_topology.specs.Refusal.{first_past, first_refusal, is_over_connection, may_want, may_yield, names_hosts, ran_out, refusal, sooner}
+use Rattle.mdb_driver_rules.specs.Monitors.{heartbeat}
+use Rattle.mdb_driver_rules.specs.Publishing.{publication, telling, told_by, topology_closed}
+use Rattle.mdb_driver_rules.specs.Refusal.{first_past, first_refusal, is_over_connection, may_want, may_yield, names_hosts, ran_out, refusal, sooner}
 use Rattle.mdb_topology.specs.Standing.{StandsFor}
-use Rattle.mdb_topology.specs.Turns.{in_turn}
-use Rattle.mdb_topology.proofs.OnePool.NumbersWithinLimits.{take_numbers, first-free}
-use Rattle.mdb_topology.proofs.WholeSteps.LeavesAsItIs.{turn-append}
-use Rattle.mdb_topology.proofs.WholeSteps.FactsPastLimits.{past-append}
-use Rattle.mdb_topology.proofs.Publications.PastLimits.{telling-past}
+use Rattle.mdb_driver_rules.specs.Turns.{in_turn}
+use Rattle.mdb_driver_rules.proofs.NumbersWithinLimits.{take_numbers, first-free}
+use Rattle.mdb_driver_rules.proofs.LeavesAsItIs.{turn-append}
+use Rattle.mdb_driver_rules.proofs.FactsPastLimits.{past-append}
+use Rattle.mdb_driver_rules.proofs.PoolsPastLimits.{telling-past}
 use Rattle.mdb_topology.proofs.WholeSteps.RefusedOfNoPool.{outside-refusal}
-use Rattle.mdb_topology.proofs.OnePool.SameHistories.{IsOutside}
+use Rattle.mdb_driver_rules.proofs.SameHistories.{IsOutside}
 use Rattle.mdb_topology.proofs.WholeSteps.CheckThenRule.{G, refused-servers}
 
 -- nothing, or the number of a pool that would come

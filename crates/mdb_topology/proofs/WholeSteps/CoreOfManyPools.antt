@@ -11,11 +11,11 @@ use Rattle.mdb_log.specs.Driver.{IsEntry, is_reply_to, is_in_time, IsThere}
 use Rattle.mdb_log.specs.History.{Item, with_answer, history_of, last_moment}
 use Rattle.mdb_log.proofs.Later.{with_entries-append}
 use Rattle.mdb_topology.specs.declared.topology.TopologyCore.{TopologyCore}
-use Rattle.mdb_topology.specs.Homes.{home_at}
-use Rattle.mdb_topology.specs.Answer.{answer}
-use Rattle.mdb_topology.specs.Description.{description_of, published}
-use Rattle.mdb_topology.specs.Jobs.{job_at, job_after}
-use Rattle.mdb_topology.specs.Lines.{options_of, described, publications}
+use Rattle.mdb_driver_rules.specs.Homes.{home_at}
+use Rattle.mdb_driver_rules.specs.Answer.{answer}
+use Rattle.mdb_driver_rules.specs.Description.{description_of, published}
+use Rattle.mdb_driver_rules.specs.Jobs.{job_at, job_after}
+use Rattle.mdb_driver_rules.specs.Lines.{options_of, described, publications}
 use Rattle.mdb_topology.specs.Logging.{IsDriverOf}
 use Rattle.mdb_topology.specs.Standing.{StandsFor}
 use Rattle.mdb_topology.specs.Stepping.{Logs, IsLogged}

@@ -14,20 +14,21 @@ use Rattle.mdb_log.specs.Driver.{answers, is_never_refused, is_time_back, is_in_
 use Rattle.mdb_log.specs.History.{Item, of_pool, with_facts}
 use Rattle.mdb_log.specs.Homes.{Home}
 use Rattle.mdb_log.specs.Opening.{pool_options}
-use Rattle.mdb_pool.specs.Refusal.{first_row}
-use Rattle.mdb_pool.specs.Serving.{serving}
-use Rattle.mdb_pool.proofs.Turns.NoMove.{served-serving}
+use Rattle.mdb_pool_rules.specs.Refusal.{first_row}
+use Rattle.mdb_pool_rules.specs.Serving.{serving}
+use Rattle.mdb_pool_rules.proofs.NoMove.{served-serving}
 use Rattle.mdb_topology.specs.declared.topology.TopologyCore.{TopologyCore}
-use Rattle.mdb_topology.specs.Homes.{home_of, begun}
-use Rattle.mdb_topology.specs.Monitors.{heartbeat}
-use Rattle.mdb_topology.specs.Description.{rule_of}
-use Rattle.mdb_topology.specs.Facts.{trouble, own_facts, serve_all, step_facts}
-use Rattle.mdb_topology.specs.Refusal.{rows_of, first_refusal, refused_by, ran_out, exhausted, refusal}
-use Rattle.mdb_topology.specs.Standing.{home, StandsFor}
-use Rattle.mdb_topology.proofs.OnePool.NumbersWithinLimits.{take_numbers}
-use Rattle.mdb_topology.proofs.General.OneElement.{flat-none}
-use Rattle.mdb_topology.proofs.WholeSteps.RefusedByRows.{plain-refusal}
-use Rattle.mdb_topology.proofs.WholeSteps.TellsNothing.{plain-step}
+use Rattle.mdb_driver_rules.specs.Homes.{home_of, begun}
+use Rattle.mdb_driver_rules.specs.Monitors.{heartbeat}
+use Rattle.mdb_driver_rules.specs.Description.{rule_of}
+use Rattle.mdb_driver_rules.specs.Facts.{trouble, own_facts, serve_all, step_facts}
+use Rattle.mdb_driver_rules.specs.Refusal.{rows_of, first_refusal, refused_by, ran_out, exhausted, refusal}
+use Rattle.mdb_topology.specs.Standing.{StandsFor}
+use Rattle.mdb_driver_pools.specs.Standing.{home}
+use Rattle.mdb_driver_rules.proofs.NumbersWithinLimits.{take_numbers}
+use Rattle.mdb_driver_rules.proofs.General.OneElement.{flat-none}
+use Rattle.mdb_driver_rules.proofs.RefusedByRows.{plain-refusal}
+use Rattle.mdb_driver_rules.proofs.TellsNothing.{plain-step}
 use Rattle.mdb_topology.proofs.Publications.WhichSteps.{in-time, unruled}
 
 -- No row but the first is of the time.

@@ -1,6 +1,6 @@
 -- The log of a driver, and one more step of it.
-use Rattle.std.proofs.Common.{ℕ, ◌≡◌, ◌≤◌, ◌<◌, ◌+◌, ◌^◌, ◌&&◌, ◌||◌, Bool, true, false, nat_lt, List, [], ◌∷◌, ◌++◌, length, Option, Some, None, is_some, refl, sym, ◌∙◌, ap, subst, arith, inl, inr, append_assoc}
-use Rattle.std.specs.Prelude.{nat_le, slice_get, unwrap_or, All}
+use Rattle.std.proofs.Common.{ℕ, ◌≡◌, ◌≤◌, ◌<◌, ◌+◌, ◌^◌, ◌&&◌, ◌||◌, Bool, true, false, nat_lt, List, [], ◌∷◌, ◌++◌, length, Some, None, is_some, refl, sym, ◌∙◌, ap, subst, arith, inl, inr, append_assoc}
+use Rattle.std.specs.Prelude.{nat_le, unwrap_or, All}
 use Rattle.std.proofs.lemmas.Bool.Decides.{nat_tests}
 use Rattle.std.proofs.lemmas.List.{append-nil, length-map}
 use Rattle.std.proofs.lemmas.List.Elements.{All-push}
@@ -21,30 +21,29 @@ use Rattle.mdb_log.specs.Connections.{has, one_if}
 use Rattle.mdb_log.specs.Homes.{homes}
 use Rattle.mdb_log.specs.Own.{IsAccepted}
 use Rattle.mdb_log.specs.Requests.{names_party, some_act}
-use Rattle.mdb_log.specs.History.{Item, did, of_pool, with_answer, with_entries, history_of}
+use Rattle.mdb_log.specs.History.{Item, did, with_answer, with_entries, history_of}
 use Rattle.mdb_log.specs.Opening.{is_opening, pool_options}
-use Rattle.mdb_log.specs.Legal.{OnePlace, NoneLeftWaiting}
 use Rattle.mdb_log.specs.LegalLog.{IsFairAnswer, IsOrderly, IsLegal, OpensSeeds}
 use Rattle.mdb_log.specs.Beside.{AllFreshGrants, EntriesGrantFresh}
 use Rattle.mdb_log.proofs.Frame.{acts-facts}
 use Rattle.mdb_log.proofs.Later.{with_answer-accepted, with_entries-append}
 use Rattle.mdb_pool.specs.Core.{PoolCore}
-use Rattle.mdb_pool.proofs.Histories.OnePlaceEach.{one-place}
-use Rattle.mdb_pool.proofs.Turns.NoMove.{served-settled}
 use Rattle.mdb_topology.specs.declared.topology.TopologyCore.{TopologyCore}
 use Rattle.mdb_topology.specs.declared.transition.Transition.{Transition}
-use Rattle.mdb_topology.specs.Answer.{answer, answered}
-use Rattle.mdb_topology.specs.Refusal.{refusal}
-use Rattle.mdb_topology.specs.Facts.{step_facts}
-use Rattle.mdb_topology.specs.Lines.{answer_after, entry_after}
+use Rattle.mdb_driver_rules.specs.Answer.{answer, answered}
+use Rattle.mdb_driver_rules.specs.Refusal.{refusal}
+use Rattle.mdb_driver_rules.specs.Facts.{step_facts}
+use Rattle.mdb_driver_rules.specs.Lines.{answer_after, entry_after}
 use Rattle.mdb_topology.specs.Checking.{monitors_after, numbers_after, watchers_after}
 use Rattle.mdb_monitor.specs.declared.monitor.MonitorCore.{MonitorCore}
-use Rattle.mdb_topology.specs.Living.{lives_at}
-use Rattle.mdb_topology.specs.Monitors.{setting}
-use Rattle.mdb_topology.specs.Planned.{LeadsAll}
-use Rattle.mdb_topology.specs.Standing.{home, MonitorsFit, PoolFits, PoolsFit, PoolsStand, StandsFor, IsSame}
-use Rattle.mdb_topology.proofs.InMemory.LivingPools.{lives-within}
-use Rattle.mdb_topology.proofs.InMemory.StillLives.{Lived, still-lives}
+use Rattle.mdb_driver_pools.proofs.Orderly.{orderly}
+use Rattle.mdb_driver_pools.specs.Living.{lives_at}
+use Rattle.mdb_driver_rules.specs.Monitors.{setting}
+use Rattle.mdb_driver_pools.specs.Planned.{LeadsAll}
+use Rattle.mdb_topology.specs.Standing.{MonitorsFit, StandsFor, IsSame}
+use Rattle.mdb_driver_pools.specs.Standing.{home, PoolsFit, PoolsStand}
+use Rattle.mdb_driver_pools.proofs.InMemory.LivingPools.{lives-within}
+use Rattle.mdb_driver_pools.proofs.InMemory.StillLives.{Lived, still-lives}
 use Rattle.mdb_topology.specs.Stepping.{Follows, Logs}
 use Rattle.mdb_topology.specs.Logging.{opening_step, Stood, IsDriven, AreDriven, IsDriverOf}
 
@@ -137,24 +136,6 @@ taken-logs w v log after seat step h n z e f entered =
       fair = subst (λ a. IsFairAnswer h step a.reply a.facts) (sym f.answer_is) f.fair;
       fresh = subst (λ a. AllFreshGrants (pool_options w.options) step.moment (did step a.reply ∷ h) a.facts) (sym f.answer_is) f.fresh;
     }
-
--- a pool that isn't there is in order
-nothing-placed : OnePlace []
-nothing-placed c = (refl, omega arith)
-
-nothing-waits : (o : PoolOptions) → NoneLeftWaiting o []
-nothing-waits o = inl refl
-
-pub orderly : (o : PoolOptions) (pools : List PoolCore) (h : List Item) → PoolsStand o pools h → IsOrderly o h
-orderly o pools h z p = on (slice_get pools p) refl
-  where
-    on : (a : Option PoolCore) → slice_get pools p ≡ a → OnePlace (of_pool p h) × NoneLeftWaiting o (of_pool p h)
-    on None e =
-        let k : of_pool p h ≡ [] = z.fit.rest p e in
-        (subst OnePlace (sym k) nothing-placed, subst (NoneLeftWaiting o) (sym k) (nothing-waits o))
-    on (Some s) e =
-        let d : PoolFits o h p s = z.fit.each p s e in
-        (one-place s (of_pool p h) d.fits.matches, served-settled o (of_pool p h) (z.served p) s.address)
 
 -- one more legal entry
 legal-append : (o : PoolOptions) (es : List Entry) (e : Entry) (h : List Item) → IsLegal o h es → IsFairAnswer (with_entries es h) e.step e.reply e.facts

@@ -1,7 +1,6 @@
 -- A step of one pool that is done in place: its answer, and what each part of the driver then is.
-use Rattle.std.proofs.Common.{ℕ, ◌≡◌, ◌≤◌, ◌+◌, ◌^◌, ◌||◌, true, false, List, [], ◌∷◌, ◌++◌, map, set, length, Some, is_some, refl, sym, ◌∙◌, ap, subst, arith}
+use Rattle.std.proofs.Common.{ℕ, ◌≡◌, ◌≤◌, ◌+◌, ◌^◌, ◌||◌, true, false, List, [], ◌∷◌, ◌++◌, map, set, length, Some, is_some, refl, sym, ◌∙◌, ap, subst, arith, append-nil}
 use Rattle.std.specs.Prelude.{slice_get, unwrap_or, All}
-use Rattle.std.proofs.Common.{append-nil}
 use Rattle.std.proofs.lemmas.List.{length-set}
 use Rattle.std.proofs.lemmas.List.Elements.{All-set, All-nil}
 use Rattle.mdb_base.specs.declared.address.ServerAddress.{ServerAddress}
@@ -25,20 +24,22 @@ use Rattle.mdb_pool.specs.Kept.{is_spent}
 use Rattle.mdb_pool.specs.Planning.{IsDone}
 use Rattle.mdb_pool.specs.Standing.{SameHome}
 use Rattle.mdb_topology.specs.declared.topology.TopologyCore.{TopologyCore}
-use Rattle.mdb_topology.specs.declared.pools.pool_decision.PoolDecision.TheVariants.{Concerns}
-use Rattle.mdb_topology.specs.Answer.{answer}
-use Rattle.mdb_topology.specs.Description.{description_of, is_stop}
+use Rattle.mdb_driver_pools.specs.declared.pool_decision.PoolDecision.TheVariants.{Concerns}
+use Rattle.mdb_driver_rules.specs.Answer.{answer}
+use Rattle.mdb_driver_rules.specs.Description.{description_of, is_stop, known_after}
 use Rattle.mdb_topology.specs.Entering.{Enters}
-use Rattle.mdb_topology.specs.Finding.{is_pool_act}
-use Rattle.mdb_topology.specs.Living.{lives_at}
-use Rattle.mdb_topology.specs.Standing.{home, PoolsStand, MonitorsFit, Describes, Counts, StandsFor}
-use Rattle.mdb_topology.specs.Stepping.{known_after, Logs}
-use Rattle.mdb_topology.specs.Taking.{Takes, Performs}
-use Rattle.mdb_topology.proofs.General.OneElement.{map-set}
-use Rattle.mdb_topology.proofs.InMemory.StillLives.{lived-before}
-use Rattle.mdb_topology.proofs.OfMonitors.LeftAlone.{IsStill, known-then, counts-still, monitors-still}
-use Rattle.mdb_topology.proofs.OnePool.NumbersWithinLimits.{any_out, out-open}
-use Rattle.mdb_topology.proofs.OnePool.TellsNoTopology.{no-rule, facts-out, pool-still, pool-goes-on}
+use Rattle.mdb_driver_rules.specs.Acts.{is_pool_act}
+use Rattle.mdb_driver_pools.specs.Living.{lives_at}
+use Rattle.mdb_topology.specs.Standing.{MonitorsFit, Describes, Counts, StandsFor}
+use Rattle.mdb_driver_pools.specs.Standing.{home, PoolsStand}
+use Rattle.mdb_topology.specs.Stepping.{Logs}
+use Rattle.mdb_driver_pools.specs.Taking.{Takes, Performs}
+use Rattle.mdb_driver_rules.proofs.General.OneElement.{map-set}
+use Rattle.mdb_driver_pools.proofs.InMemory.StillLives.{lived-before}
+use Rattle.mdb_topology.proofs.OfMonitors.LeftAlone.{known-then, counts-still, monitors-still}
+use Rattle.mdb_driver_rules.proofs.Still.{IsStill}
+use Rattle.mdb_driver_rules.proofs.NumbersWithinLimits.{any_out, out-open}
+use Rattle.mdb_driver_pools.proofs.OnePool.TellsNoTopology.{no-rule, facts-out, pool-still, pool-goes-on}
 use Rattle.mdb_topology.proofs.WholeSteps.OneMoreEntry.{named-more}
 use Rattle.mdb_topology.proofs.WholeSteps.TopologyStep.{early-later}
 

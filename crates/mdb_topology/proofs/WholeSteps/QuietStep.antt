@@ -1,7 +1,6 @@
 -- Accepted steps that change no pool.
-use Rattle.std.proofs.Common.{ℕ, ◌≡◌, ◌≤◌, ◌+◌, ◌^◌, ◌||◌, true, false, List, [], ◌∷◌, ◌++◌, length, None, is_some, refl, sym, ◌∙◌, ap, subst, arith}
+use Rattle.std.proofs.Common.{ℕ, ◌≡◌, ◌≤◌, ◌+◌, ◌^◌, ◌||◌, true, false, List, [], ◌∷◌, ◌++◌, length, None, is_some, refl, sym, ◌∙◌, ap, subst, arith, append-nil}
 use Rattle.std.specs.Prelude.{unwrap_or, All}
-use Rattle.std.proofs.Common.{append-nil}
 use Rattle.std.proofs.lemmas.List.Elements.{All-nil}
 use Rattle.mdb_base.specs.declared.options.Options.{Options}
 use Rattle.mdb_describe.specs.declared.topology.TopologyDescription.{TopologyDescription}
@@ -18,21 +17,23 @@ use Rattle.mdb_pool.specs.Core.{PoolCore}
 use Rattle.mdb_topology.specs.declared.topology.TopologyCore.{TopologyCore}
 use Rattle.mdb_topology.specs.declared.transition.Transition.{Transition}
 use Rattle.mdb_topology.specs.declared.monitors.monitoring.Monitoring.TheVariants.{Same}
-use Rattle.mdb_topology.specs.Description.{is_stop}
-use Rattle.mdb_topology.specs.Finding.{is_pool_act}
-use Rattle.mdb_topology.specs.Planned.{LeadsAll}
-use Rattle.mdb_topology.specs.Standing.{at_address, PoolsStand, MonitorsFit, Describes, Counts, StandsFor}
-use Rattle.mdb_topology.specs.Stepping.{known_after, Follows}
-use Rattle.mdb_topology.specs.Taking.{Rests}
+use Rattle.mdb_driver_rules.specs.Description.{is_stop, known_after}
+use Rattle.mdb_driver_rules.specs.Acts.{is_pool_act}
+use Rattle.mdb_driver_pools.specs.Planned.{LeadsAll}
+use Rattle.mdb_topology.specs.Standing.{MonitorsFit, Describes, Counts, StandsFor}
+use Rattle.mdb_driver_pools.specs.Standing.{at_address, PoolsStand}
+use Rattle.mdb_topology.specs.Stepping.{Follows}
+use Rattle.mdb_driver_pools.specs.Taking.{Rests}
 use Rattle.mdb_topology.specs.Marking.{HasParts}
 use Rattle.mdb_topology.specs.Changing.{IsTelling, IsChanging, IsTold}
 use Rattle.mdb_topology.proofs.Publications.OfDifference.{open-known}
 use Rattle.mdb_topology.proofs.WholeSteps.TopologyStep.{early-later, changing-parts, follows-parts}
-use Rattle.mdb_topology.proofs.Publications.PlannedPart.{planned-still}
-use Rattle.mdb_topology.proofs.OnePool.SameHistories.{IsPlain}
-use Rattle.mdb_topology.proofs.OfMonitors.LeftAlone.{IsStill, known-then, counts-still, monitors-still}
-use Rattle.mdb_topology.proofs.OnePool.TellsNoTopology.{no-rule, pool-still, pool-goes-on}
-use Rattle.mdb_topology.proofs.WholeSteps.PartsInTurn.{tells-none}
+use Rattle.mdb_driver_pools.proofs.Publications.PlannedPart.{planned-still}
+use Rattle.mdb_driver_rules.proofs.SameHistories.{IsPlain}
+use Rattle.mdb_topology.proofs.OfMonitors.LeftAlone.{known-then, counts-still, monitors-still}
+use Rattle.mdb_driver_rules.proofs.Still.{IsStill}
+use Rattle.mdb_driver_pools.proofs.OnePool.TellsNoTopology.{no-rule, pool-still, pool-goes-on}
+use Rattle.mdb_driver_pools.proofs.PartsInTurn.{tells-none}
 
 -- a step that tells nothing, and leaves the servers as they are
 pub told-nothing : (w : TopologyCore) (h : List Item) → StandsFor w h → (m : ℕ) (u : TopologyDescription) → u.servers ≡ w.description.servers

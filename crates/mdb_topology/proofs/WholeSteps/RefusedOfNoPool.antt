@@ -9,16 +9,16 @@ use Rattle.mdb_log.specs.declared.step.Step.{Step}
 use Rattle.mdb_log.specs.History.{Item, of_pool, with_facts}
 use Rattle.mdb_log.specs.Homes.{Home, homes}
 use Rattle.mdb_log.specs.Opening.{pool_options}
-use Rattle.mdb_pool.specs.Serving.{serving}
-use Rattle.mdb_topology.specs.Description.{description_of}
-use Rattle.mdb_topology.specs.Facts.{own_facts, serve_all}
-use Rattle.mdb_topology.specs.Homes.{home_of, begun}
-use Rattle.mdb_topology.specs.Refusal.{first_past, first_refusal, ran_out, refusal, sooner}
-use Rattle.mdb_topology.specs.Turns.{in_turn}
+use Rattle.mdb_pool_rules.specs.Serving.{serving}
+use Rattle.mdb_driver_rules.specs.Description.{description_of}
+use Rattle.mdb_driver_rules.specs.Facts.{own_facts, serve_all}
+use Rattle.mdb_driver_rules.specs.Homes.{home_of, begun}
+use Rattle.mdb_driver_rules.specs.Refusal.{first_past, first_refusal, ran_out, refusal, sooner}
+use Rattle.mdb_driver_rules.specs.Turns.{in_turn}
 use Rattle.mdb_topology.proofs.Failure.PastLimits.{refused-past, sooner-none}
-use Rattle.mdb_topology.proofs.OnePool.NumbersWithinLimits.{take_numbers, first-free, free-append, out-free, serving-free}
-use Rattle.mdb_topology.proofs.WholeSteps.FactsPastLimits.{past-append}
-use Rattle.mdb_topology.proofs.OnePool.SameHistories.{IsOutside}
+use Rattle.mdb_driver_rules.proofs.NumbersWithinLimits.{take_numbers, first-free, free-append, out-free, serving-free}
+use Rattle.mdb_driver_rules.proofs.FactsPastLimits.{past-append}
+use Rattle.mdb_driver_rules.proofs.SameHistories.{IsOutside}
 use Rattle.mdb_topology.proofs.WholeSteps.CheckThenRule.{G, no-own, own_then_served, said-first}
 
 -- the serving of the pools takes no number

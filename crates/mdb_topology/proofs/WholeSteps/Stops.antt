@@ -16,27 +16,27 @@ use Rattle.mdb_log.specs.declared.step.Act.TheVariants.{Stop}
 use Rattle.mdb_log.specs.History.{Item}
 use Rattle.mdb_log.specs.Homes.{homes}
 use Rattle.mdb_topology.specs.declared.topology.TopologyCore.{TopologyCore}
-use Rattle.mdb_topology.specs.declared.pools.pool_change.PoolChange.{PoolChange}
+use Rattle.mdb_driver_pools.specs.declared.pool_change.PoolChange.{PoolChange}
 use Rattle.mdb_topology.specs.declared.transition.Transition.{Transition}
 use Rattle.mdb_topology.specs.declared.monitors.monitoring.Monitoring.TheVariants.{Same}
-use Rattle.mdb_topology.specs.Homes.{begun}
-use Rattle.mdb_topology.specs.Limits.{past_last}
-use Rattle.mdb_topology.specs.Monitors.{setting}
-use Rattle.mdb_topology.specs.Planned.{opened_by}
-use Rattle.mdb_topology.specs.Publishing.{telling, publication, topology_closed, topology_closed_fact}
-use Rattle.mdb_topology.specs.Refusal.{first_past, sooner}
-use Rattle.mdb_topology.specs.Turns.{in_turn}
+use Rattle.mdb_driver_rules.specs.Homes.{begun}
+use Rattle.mdb_driver_rules.specs.Limits.{past_last}
+use Rattle.mdb_driver_rules.specs.Monitors.{setting}
+use Rattle.mdb_driver_pools.specs.Planned.{opened_by}
+use Rattle.mdb_driver_rules.specs.Publishing.{telling, publication, topology_closed, topology_closed_fact}
+use Rattle.mdb_driver_rules.specs.Refusal.{first_past, sooner}
+use Rattle.mdb_driver_rules.specs.Turns.{in_turn}
 use Rattle.mdb_topology.specs.Standing.{StandsFor}
 use Rattle.mdb_topology.specs.Stepping.{Follows}
 use Rattle.mdb_topology.specs.Changing.{IsChanging, IsTold}
 use Rattle.mdb_topology.proofs.WholeSteps.TopologyStep.{follows}
 use Rattle.mdb_topology.proofs.Publications.OfDifference.{closed-told}
-use Rattle.mdb_topology.proofs.WholeSteps.LeavesAsItIs.{turn-append}
-use Rattle.mdb_topology.proofs.WholeSteps.FactsPastLimits.{past-append}
-use Rattle.mdb_topology.proofs.Publications.PastLimits.{telling-past}
-use Rattle.mdb_topology.proofs.Publications.PlannedWhole.{of-difference}
+use Rattle.mdb_driver_rules.proofs.LeavesAsItIs.{turn-append}
+use Rattle.mdb_driver_rules.proofs.FactsPastLimits.{past-append}
+use Rattle.mdb_driver_rules.proofs.PoolsPastLimits.{telling-past}
+use Rattle.mdb_driver_rules.proofs.ServersThen.{of-difference}
 use Rattle.mdb_topology.proofs.Publications.WhichSteps.{stop-changing}
-use Rattle.mdb_topology.proofs.OnePool.SameHistories.{IsPlain}
+use Rattle.mdb_driver_rules.proofs.SameHistories.{IsPlain}
 
 -- the same change with an equal next
 pub as-next : {o : Options} {h : List Item} {t : TopologyDescription} {next later : Option TopologyDescription} {step : Step} {reply told : Reply} {stops ends : Bool} {parts : List (List Item → List Fact)}

@@ -20,27 +20,28 @@ use Rattle.mdb_log.proofs.Later.{with_answer-accepted}
 use Rattle.mdb_pool.specs.Core.{PoolCore}
 use Rattle.mdb_topology.specs.declared.topology.TopologyCore.{TopologyCore}
 use Rattle.mdb_topology.specs.declared.transition.Transition.{Transition}
-use Rattle.mdb_topology.specs.Homes.{begun}
-use Rattle.mdb_topology.specs.Monitors.{setting, heartbeat}
-use Rattle.mdb_topology.specs.Description.{Rule, rule_after, applied, description_of}
-use Rattle.mdb_topology.specs.Publishing.{told_by}
-use Rattle.mdb_topology.specs.Refusal.{first_past}
-use Rattle.mdb_topology.specs.Turns.{in_turn}
-use Rattle.mdb_topology.specs.Telling.{Tells}
+use Rattle.mdb_driver_rules.specs.Homes.{begun}
+use Rattle.mdb_driver_rules.specs.Monitors.{setting, heartbeat}
+use Rattle.mdb_driver_rules.specs.Description.{Rule, rule_after, applied, description_of, known_after}
+use Rattle.mdb_driver_rules.specs.Publishing.{told_by}
+use Rattle.mdb_driver_rules.specs.Refusal.{first_past, first_refusal}
+use Rattle.mdb_driver_rules.specs.Turns.{in_turn}
+use Rattle.mdb_driver_pools.specs.Telling.{Tells}
 use Rattle.mdb_topology.specs.Marking.{spoken, HasParts}
-use Rattle.mdb_topology.specs.Planned.{CanTake, LeadsAll, opened_by}
+use Rattle.mdb_driver_pools.specs.Planned.{CanTake, LeadsAll, opened_by}
 use Rattle.mdb_topology.specs.declared.monitors.monitoring.Monitoring.TheVariants.{Same}
 use Rattle.mdb_topology.specs.Checking.{monitors_after, numbers_after, watchers_after, IsPlaced}
-use Rattle.mdb_topology.specs.Facts.{trouble}
-use Rattle.mdb_topology.specs.Refusal.{first_refusal}
-use Rattle.mdb_topology.specs.Answer.{reply_to}
-use Rattle.mdb_topology.specs.Standing.{home, PoolsStand, MonitorsFit, Describes, Counts, StandsFor}
-use Rattle.mdb_topology.specs.Stepping.{known_after, Follows}
+use Rattle.mdb_driver_rules.specs.Facts.{trouble}
+use Rattle.mdb_driver_rules.specs.Answer.{reply_to}
+use Rattle.mdb_topology.specs.Standing.{MonitorsFit, Describes, Counts, StandsFor}
+use Rattle.mdb_driver_pools.specs.Standing.{home, PoolsStand}
+use Rattle.mdb_topology.specs.Stepping.{Follows}
 use Rattle.mdb_topology.specs.Changing.{IsTelling, IsChanging, IsTold}
-use Rattle.mdb_topology.proofs.WholeSteps.LeavesAsItIs.{turn-append}
-use Rattle.mdb_topology.proofs.OnePool.SameHistories.{IsOutside, IsPlain}
+use Rattle.mdb_driver_rules.proofs.LeavesAsItIs.{turn-append}
+use Rattle.mdb_driver_rules.proofs.SameHistories.{IsOutside, IsPlain}
 use Rattle.mdb_topology.proofs.OfMonitors.FactsOfCheck.{told-as}
-use Rattle.mdb_topology.proofs.OfMonitors.LeftAlone.{IsStill, counts-still, known-then, monitors-still}
+use Rattle.mdb_topology.proofs.OfMonitors.LeftAlone.{counts-still, known-then, monitors-still}
+use Rattle.mdb_driver_rules.proofs.Still.{IsStill}
 use Rattle.mdb_topology.proofs.WholeSteps.CheckThenRule.{G, said, answer-told, stands-told, fair-told, fresh-told, accepted-plain}
 
 pub telling-outside : (act : Act) → IsTelling act → IsOutside act

@@ -4,8 +4,8 @@ ghost use Rattle.std.specs.Prelude.{◌≡◌, Some, is_some, unwrap_or, pos, in
 ghost use Rattle.mdb_pool.specs.declared.kept.connection.Connection.{Connection};
 ghost use Rattle.mdb_pool.specs.Kept.{connection_at};
 ghost use Rattle.mdb_topology.specs.Complaining.{is_outdated, is_hard_now, service_cleared};
-ghost use Rattle.mdb_topology.specs.Current.{operating};
-ghost use Rattle.mdb_topology.specs.Errors.{case_of};
+ghost use Rattle.mdb_driver_rules.specs.Current.{operating};
+ghost use Rattle.mdb_driver_rules.specs.Errors.{case_of};
 
 use crate::topology::TopologyCore;
 use mdb_base::{Error, ObjectId, ServerAddress};
@@ -74,7 +74,7 @@ pub(crate) fn service_cleared(pool: &PoolCore, id: u32, error: &Error) -> Option
 impl TopologyCore {
     ghost use Rattle.mdb_describe.specs.Topology.{server_at};
     ghost use Rattle.mdb_topology.specs.Complaining.{concerns_now};
-    ghost use Rattle.mdb_topology.specs.Current.{known_version, may_tell};
+    ghost use Rattle.mdb_driver_rules.specs.Current.{known_version, may_tell};
     ghost use Rattle.mdb_topology.specs.Standing.{StandsForSome};
 
     /// What the error tells of the server is more recent than what is known, or one of them has no version.

@@ -1,20 +1,20 @@
 //! Steps that tell of an error.
 
-ghost use Rattle.std.specs.Prelude.{◌≡◌, ◌≤◌, ◌<◌, ◌&&◌, IfOk, OnErr, List, Some, is_some, length, not, slice_get, true, false};
+ghost use Rattle.std.specs.Prelude.{◌≡◌, ◌≤◌, ◌<◌, ◌&&◌, IfOk, OnErr, List, Some, is_some, not, slice_get, true, false};
 ghost use Rattle.mdb_log.specs.declared.step.Act.TheVariants.{Hello as HelloAct, Error as ErrorAct};
 ghost use Rattle.mdb_log.specs.declared.checked.HelloResult.TheVariants.{Err as Erred};
 ghost use Rattle.mdb_pool.specs.declared.kept.connection.Connection.{Connection};
 ghost use Rattle.mdb_pool.specs.Core.{PoolCore as Core};
 ghost use Rattle.mdb_pool.specs.Kept.{connection_at};
-ghost use Rattle.mdb_topology.specs.Current.{operating};
-ghost use Rattle.mdb_topology.specs.Errors.{case_of, for_service};
-ghost use Rattle.mdb_topology.specs.Living.{lives_at};
+ghost use Rattle.mdb_driver_rules.specs.Current.{operating};
+ghost use Rattle.mdb_driver_rules.specs.Errors.{case_of, for_service};
+ghost use Rattle.mdb_driver_pools.specs.Living.{lives_at};
 
 use crate::errors::complaining::{has_row, is_hard, service_cleared};
-use crate::errors::marked::{Asked, PoolTrouble};
 use crate::topology::TopologyCore;
 use crate::transition::{Decision, Transition};
 use mdb_base::{Error, ObjectId, OutOfMemory, ServerAddress};
+use mdb_driver_pools::{Asked, PoolTrouble};
 use mdb_log::{Refused, Reply, Step, What};
 use mdb_pool::PoolCore;
 use std::alloc::Global;
@@ -22,9 +22,10 @@ use std::alloc::Global;
 impl TopologyCore {
     ghost use Rattle.mdb_log.specs.History.{Item};
     ghost use Rattle.mdb_topology.specs.Complaining.{concerns_now, Complains};
-    ghost use Rattle.mdb_topology.specs.Errors.{Trouble};
+    ghost use Rattle.mdb_driver_rules.specs.Errors.{Trouble};
     ghost use Rattle.mdb_topology.specs.Marking.{IsClearing};
-    ghost use Rattle.mdb_topology.specs.Standing.{at_address, StandsFor, StandsForSome};
+    ghost use Rattle.mdb_topology.specs.Standing.{StandsFor, StandsForSome};
+    ghost use Rattle.mdb_driver_pools.specs.Standing.{at_address};
     ghost use Rattle.mdb_topology.specs.Stepping.{BecomesOf, MayWant};
 
     // The hello of a server failed (SDAM, "Network error during server check").

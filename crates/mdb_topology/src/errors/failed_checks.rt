@@ -5,19 +5,21 @@ ghost use Rattle.mdb_describe.specs.Descriptions.{failed};
 ghost use Rattle.mdb_describe.specs.Differences.{difference};
 ghost use Rattle.mdb_describe.specs.Update.{updated};
 
-use crate::errors::marked::PoolTrouble;
 use crate::monitors::monitoring::Monitoring;
 use crate::topology::TopologyCore;
 use crate::transition::Transition;
 use mdb_base::{OutOfMemory, ServerAddress};
+use mdb_driver_pools::PoolTrouble;
 use mdb_events::SdamEvent;
 use mdb_log::{Reply, Step};
 use std::alloc::Global;
 
 impl TopologyCore {
-    ghost use Rattle.mdb_topology.specs.Errors.{Trouble};
-    ghost use Rattle.mdb_topology.specs.Marking.{AcceptsClear, IsOfPool, FailsTo, FailsAs};
-    ghost use Rattle.mdb_topology.specs.Standing.{at_address, StandsForSome};
+    ghost use Rattle.mdb_driver_rules.specs.Errors.{Trouble};
+    ghost use Rattle.mdb_topology.specs.Marking.{IsOfPool, FailsTo, FailsAs};
+    ghost use Rattle.mdb_driver_pools.specs.Clearing.{AcceptsClear};
+    ghost use Rattle.mdb_topology.specs.Standing.{StandsForSome};
+    ghost use Rattle.mdb_driver_pools.specs.Standing.{at_address};
 
     // The server whose check failed is marked Unknown, unless the driver was stopped.
     fn mark_failed(

@@ -1,6 +1,6 @@
 //! Steps by which a pending connection failed to be established.
 
-ghost use Rattle.std.specs.Prelude.{◌≡◌, ◌≤◌, ◌<◌, ◌&&◌, nat_le, IfOk, OnErr, List, Some, None, is_some, length, not, slice_get, true, false};
+ghost use Rattle.std.specs.Prelude.{◌≡◌, ◌≤◌, ◌<◌, ◌&&◌, nat_le, IfOk, OnErr, List, Some, None, is_some, not, slice_get, true, false};
 ghost use Rattle.mdb_describe.specs.Descriptions.{failed};
 ghost use Rattle.mdb_describe.specs.Differences.{difference};
 ghost use Rattle.mdb_describe.specs.Update.{updated};
@@ -10,18 +10,17 @@ ghost use Rattle.mdb_log.specs.declared.step.FailedAt.TheVariants.{Post as PostA
 ghost use Rattle.mdb_pool.specs.declared.kept.connection.Connection.{Connection};
 ghost use Rattle.mdb_pool.specs.Core.{PoolCore as Core};
 ghost use Rattle.mdb_pool.specs.Kept.{clears_before, clears_for, connection_at};
-ghost use Rattle.mdb_topology.specs.Current.{establishing};
-ghost use Rattle.mdb_topology.specs.Errors.{case_of};
+ghost use Rattle.mdb_driver_rules.specs.Current.{establishing};
+ghost use Rattle.mdb_driver_rules.specs.Errors.{case_of};
 ghost use Rattle.mdb_topology.specs.Failing.{is_timely, is_uncleared, clears_after, service_after, asked_after};
-ghost use Rattle.mdb_topology.specs.Living.{lives_at};
+ghost use Rattle.mdb_driver_pools.specs.Living.{lives_at};
 
 use crate::errors::complaining::is_hard;
-use crate::errors::marked::{Asked, PoolTrouble};
-use crate::pools::pool_change::PoolChange;
 use crate::topology::TopologyCore;
 use crate::transition::{Decision, Transition};
 use mdb_base::{Error, ObjectId, OutOfMemory, ServerAddress};
 use mdb_describe::TopologyDescription;
+use mdb_driver_pools::{Asked, PoolChange, PoolTrouble};
 use mdb_events::Fact;
 use mdb_log::{FailedAt, Refused, Reply, Step, What};
 use mdb_pool::PoolCore;
@@ -97,11 +96,13 @@ fn is_not_below(pool: &PoolCore, id: u32) -> bool
 
 impl TopologyCore {
     ghost use Rattle.mdb_log.specs.History.{Item};
-    ghost use Rattle.mdb_topology.specs.Description.{updates};
-    ghost use Rattle.mdb_topology.specs.Failing.{is_timely, regards_now, TellsFailure, FailureTold, IsFailing};
-    ghost use Rattle.mdb_topology.specs.Marking.{asked_of, AcceptsClear};
-    ghost use Rattle.mdb_topology.specs.declared.errors.marked.Asked.TheVariants.{Nothing};
-    ghost use Rattle.mdb_topology.specs.Standing.{at_address, StandsFor, StandsForSome};
+    ghost use Rattle.mdb_driver_rules.specs.Description.{updates};
+    ghost use Rattle.mdb_topology.specs.Failing.{is_timely, regards_now, TellsFailure, FailureTold};
+    ghost use Rattle.mdb_driver_pools.specs.Failing.{IsFailing};
+    ghost use Rattle.mdb_driver_pools.specs.Clearing.{AcceptsClear};
+    ghost use Rattle.mdb_driver_pools.specs.declared.trouble.Asked.TheVariants.{Nothing};
+    ghost use Rattle.mdb_topology.specs.Standing.{StandsFor, StandsForSome};
+    ghost use Rattle.mdb_driver_pools.specs.Standing.{at_address};
     ghost use Rattle.mdb_topology.specs.Stepping.{BecomesOf, MayWant};
 
     // The connection is of the generation that its pool has.

@@ -1,48 +1,31 @@
 //! An error marks a server Unknown, clears its pool, and asks something of its monitor.
 
-ghost use Rattle.std.specs.Prelude.{◌≡◌, ◌≤◌, ◌<◌, ◌++◌, ◌&&◌, [], IfOk, IfSome, OnOk, OnErr, List, None, Some, is_some, length, slice_get, true, false};
+ghost use Rattle.std.specs.Prelude.{◌≡◌, ◌≤◌, ◌<◌, ◌&&◌, [], IfOk, IfSome, OnErr, None, Some, is_some, length, slice_get, true, false};
 ghost use Rattle.mdb_describe.specs.Descriptions.{failed};
 ghost use Rattle.mdb_describe.specs.Differences.{difference, AreInOrder, are_in_both};
 ghost use Rattle.mdb_describe.specs.Update.{updated};
 ghost use Rattle.mdb_pool.specs.Core.{PoolCore as Core};
-ghost use Rattle.mdb_topology.specs.Marking.{asked_of};
-ghost use Rattle.mdb_topology.specs.Publishing.{telling};
-ghost use Rattle.mdb_topology.specs.Touching.{touched_by};
-ghost use Rattle.mdb_topology.specs.Living.{lives_at};
+ghost use Rattle.mdb_driver_rules.specs.Publishing.{telling};
+ghost use Rattle.mdb_driver_rules.specs.Touching.{touched_by};
+ghost use Rattle.mdb_driver_pools.specs.Living.{lives_at};
 
-use crate::errors::marked::{Asked, Marked, PoolTrouble};
-use crate::known::topology_change::TopologyChange;
-use crate::pools::pool_change::PoolChange;
+use crate::errors::marked::Marked;
 use crate::topology::TopologyCore;
 use crate::transition::{Decision, Transition};
 use mdb_base::{Error, Moment, OutOfMemory, ServerAddress};
 use mdb_describe::{Diff, TopologyDescription};
+use mdb_driver_pools::{Asked, PoolChange, PoolTrouble, TopologyChange, ask};
 use mdb_events::Fact;
 use mdb_log::{Refused, Reply, Step, What};
 use std::alloc::{AllocError, Global};
 
-/// The monitor of the address is asked.
-pub(crate) fn ask(
-    facts: &mut Vec<Fact>,
-    asked: Asked,
-    cleared: bool,
-    address: &ServerAddress,
-) -> Result<(), AllocError>
-    ensures { OnOk result (facts.new.items ≡ facts.old.items ++ asked_of asked cleared address.now) }
-{
-    match asked {
-        Asked::CheckNow => facts.push(Fact::CheckNow(address.clone()?))?,
-        Asked::CancelIfCleared if cleared => facts.push(Fact::Cancel(address.clone()?))?,
-        _ => {}
-    }
-    Ok(())
-}
-
 impl TopologyCore {
-    ghost use Rattle.mdb_topology.specs.Errors.{Trouble};
-    ghost use Rattle.mdb_topology.specs.Marking.{AcceptsClear, IsMarked, IsMarkOf, IsOfPool, MarkPasses, MarkTold, MarksTo};
-    ghost use Rattle.mdb_topology.specs.Planned.{PlansMore};
-    ghost use Rattle.mdb_topology.specs.Standing.{at_address, StandsForSome};
+    ghost use Rattle.mdb_driver_rules.specs.Errors.{Trouble};
+    ghost use Rattle.mdb_topology.specs.Marking.{IsMarked, IsMarkOf, IsOfPool, MarkPasses, MarkTold, MarksTo};
+    ghost use Rattle.mdb_driver_pools.specs.Clearing.{AcceptsClear};
+    ghost use Rattle.mdb_driver_pools.specs.Planned.{PlansMore};
+    ghost use Rattle.mdb_topology.specs.Standing.{StandsForSome};
+    ghost use Rattle.mdb_driver_pools.specs.Standing.{at_address};
 
     /// The mark is told, and the changes of pools are planned.
     pub(crate) fn publish_mark(

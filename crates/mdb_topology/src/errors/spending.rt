@@ -7,7 +7,7 @@ ghost use Rattle.mdb_describe.specs.Same.{same, same_error, same_kind, same_opti
 ghost use Rattle.mdb_describe.specs.Update.{is_older, updated};
 ghost use Rattle.mdb_pool.specs.Core.{PoolCore as Core};
 ghost use Rattle.mdb_pool.specs.Kept.{clears_for, exhausted_now, is_shut};
-ghost use Rattle.mdb_topology.specs.Living.{lives_at};
+ghost use Rattle.mdb_driver_pools.specs.Living.{lives_at};
 
 use crate::topology::TopologyCore;
 use mdb_base::{Error, ErrorKind, ObjectId, ServerAddress, TopologyVersion};

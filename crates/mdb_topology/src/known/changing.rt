@@ -1,16 +1,16 @@
 //! Steps that change what is known of the topology.
 
-ghost use Rattle.std.specs.Prelude.{◌≡◌, ◌≤◌, ◌+◌, ◌^◌, [], IfOk, IfSome, List, length, map, All, Some, true, false};
+ghost use Rattle.std.specs.Prelude.{◌≡◌, ◌≤◌, ◌+◌, ◌^◌, [], IfOk, IfSome, length, map, All, Some, true, false};
 ghost use Rattle.mdb_describe.specs.Differences.{difference, AreInOrder, are_in_both};
 ghost use Rattle.mdb_describe.specs.Servers.{in_order};
-ghost use Rattle.mdb_topology.specs.Publishing.{telling};
+ghost use Rattle.mdb_driver_rules.specs.Publishing.{telling};
 
 use crate::known::telling_changes::{Publication, new_monitors};
-use crate::known::topology_change::TopologyChange;
 use crate::topology::TopologyCore;
 use crate::transition::{Decision, Transition};
 use mdb_base::{Moment, OutOfMemory};
 use mdb_describe::{Diff, TopologyDescription};
+use mdb_driver_pools::TopologyChange;
 use mdb_log::{Refused, Reply, Step, What};
 use std::alloc::Global;
 
@@ -19,8 +19,8 @@ pub const MAX_SERVERS: usize = 128;
 
 impl TopologyCore {
     ghost use Rattle.mdb_monitor.specs.Standing.{StandsFor as MonitorStands};
-    ghost use Rattle.mdb_topology.specs.Monitors.{setting};
-    ghost use Rattle.mdb_topology.specs.Planned.{opened_by};
+    ghost use Rattle.mdb_driver_rules.specs.Monitors.{setting};
+    ghost use Rattle.mdb_driver_pools.specs.Planned.{opened_by};
     ghost use Rattle.mdb_topology.specs.Standing.{StandsForSome};
     ghost use Rattle.mdb_topology.specs.Changing.{IsTold, ChangesTo, AreFew, passes_limit};
 

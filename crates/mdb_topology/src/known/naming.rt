@@ -4,7 +4,7 @@ ghost use Rattle.std.specs.Prelude.{◌≡◌, ◌≤◌, ◌+◌, true, length,
 ghost use Rattle.mdb_describe.specs.Servers.{is_known, is_listed};
 ghost use Rattle.mdb_describe.specs.Topology.{synced};
 ghost use Rattle.mdb_srv.specs.Polling.{is_polled};
-ghost use Rattle.mdb_topology.specs.Naming.{is_past, new_hosts};
+ghost use Rattle.mdb_driver_rules.specs.Naming.{is_past, new_hosts};
 
 use crate::known::changing::MAX_SERVERS;
 use crate::topology::TopologyCore;

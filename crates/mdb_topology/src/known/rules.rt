@@ -1,7 +1,8 @@
 //! What a step makes known of the topology (SDAM, "Updating the TopologyDescription").
 
 ghost use Rattle.std.specs.Prelude.{◌≡◌, IfOk};
-ghost use Rattle.mdb_topology.specs.Monitors.{hello_reply};
+ghost use Rattle.mdb_describe.specs.Descriptions.{from_reply};
+ghost use Rattle.mdb_driver_rules.specs.Monitors.{hello_reply};
 
 use crate::topology::TopologyCore;
 use mdb_base::{ClusterTime, Doc, Document, Error, Moment, Nanos, OutOfMemory, ServerAddress};
@@ -30,13 +31,28 @@ pub(crate) fn hello_reply(
     })
 }
 
+// A server as the reply of a step describes it.
+pub(crate) fn described(
+    alloc: Global,
+    address: &ServerAddress,
+    rtt: Nanos,
+    reply: &HelloCommandResponse,
+    at: Moment,
+) -> Result<ServerDescription, OutOfMemory>
+    ensures { IfOk result (λ server. server ≡ from_reply address.now (hello_reply address.now reply.now) rtt at) }
+{
+    let copy = address.clone()?;
+    let reply = hello_reply(alloc, address, reply)?;
+    ServerDescription::new_from_hello_reply(alloc, copy, reply, rtt, at)
+}
+
 impl TopologyCore {
-    ghost use Rattle.mdb_describe.specs.Descriptions.{from_reply, failed};
+    ghost use Rattle.mdb_describe.specs.Descriptions.{failed};
     ghost use Rattle.mdb_describe.specs.Topology.{synced, stopped, later_time};
     ghost use Rattle.mdb_describe.specs.Update.{updated};
 
     // What is known after a new description of a server.
-    fn updated(
+    pub(crate) fn updated(
         &self,
         alloc: Global,
         server: ServerDescription,
@@ -56,23 +72,6 @@ impl TopologyCore {
                 Err(OutOfMemory)
             }
         }
-    }
-
-    // What is known after the reply of a server.
-    pub(crate) fn after_reply(
-        &self,
-        alloc: Global,
-        address: &ServerAddress,
-        rtt: Nanos,
-        reply: &HelloCommandResponse,
-        at: Moment,
-    ) -> Result<TopologyDescription, OutOfMemory>
-        ensures { IfOk result (λ next. next ≡ updated self.now.description (from_reply address.now (hello_reply address.now reply.now) rtt at)) }
-    {
-        let copy = address.clone()?;
-        let reply = hello_reply(alloc, address, reply)?;
-        let server = ServerDescription::new_from_hello_reply(alloc, copy, reply, rtt, at)?;
-        self.updated(alloc, server)
     }
 
     // What is known after an error about a server.

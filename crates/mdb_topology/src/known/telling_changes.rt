@@ -2,18 +2,18 @@
 
 ghost use Rattle.std.specs.Prelude.{◌≡◌, ◌≤◌, ◌+◌, ◌^◌, ◌++◌, ◌∷◌, IfOk, OnOk, All, [], length, map, is_some, Some, false};
 ghost use Rattle.mdb_monitor.specs.Standing.{StandsFor as MonitorStands};
-ghost use Rattle.mdb_topology.specs.Limits.{past_last};
-ghost use Rattle.mdb_topology.specs.Monitors.{setting};
-ghost use Rattle.mdb_topology.specs.Planned.{opened_by};
+ghost use Rattle.mdb_driver_rules.specs.Limits.{past_last};
+ghost use Rattle.mdb_driver_rules.specs.Monitors.{setting};
+ghost use Rattle.mdb_driver_pools.specs.Planned.{opened_by};
 ghost use Rattle.mdb_topology.specs.declared.monitors.monitoring.Monitoring.TheVariants.{Same};
 
 use crate::known::naming::is_below_sum;
 use crate::monitors::monitoring::Monitoring;
-use crate::pools::pool_change::PoolChange;
 use crate::topology::TopologyCore;
 use crate::transition::Transition;
 use mdb_base::{Options, ServerAddress};
 use mdb_describe::TopologyDescription;
+use mdb_driver_pools::PoolChange;
 use mdb_events::Fact;
 use mdb_log::Reply;
 use mdb_monitor::{DEFAULT_HEARTBEAT_FREQUENCY, MonitorCore};

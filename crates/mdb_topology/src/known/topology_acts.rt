@@ -1,14 +1,15 @@
 //! The acts that concern the topology as a whole.
 
 ghost use Rattle.std.specs.Prelude.{◌≡◌, ◌≤◌, ◌++◌, ◌∷◌, ◌||◌, not, [], IfOk, OnOk, OnErr, List};
-ghost use Rattle.mdb_topology.specs.Publishing.{topology_closed_fact};
+ghost use Rattle.mdb_driver_rules.specs.Publishing.{topology_closed_fact};
 ghost use Rattle.mdb_log.specs.declared.step.Act.TheVariants.{Hello as HelloAct, Hosts as HostsAct, ClusterTime as TimeAct, Stop as StopAct};
 ghost use Rattle.mdb_log.specs.declared.checked.HelloResult.TheVariants.{Ok as Replied};
 
-use crate::known::sdam_facts::tell_event;
+use crate::known::rules::described;
 use crate::topology::TopologyCore;
 use crate::transition::{Decision, Transition};
 use mdb_base::{ClusterTime, Nanos, OutOfMemory, ServerAddress};
+use mdb_driver_pools::tell_event;
 use mdb_events::{Fact, SdamEvent, TopologyClosedEvent};
 use mdb_hello::HelloCommandResponse;
 use mdb_log::{Refused, Reply, Step};
@@ -19,7 +20,8 @@ impl TopologyCore {
     ghost use Rattle.mdb_log.specs.History.{Item};
     ghost use Rattle.mdb_topology.specs.Standing.{StandsFor, StandsForSome};
     ghost use Rattle.mdb_srv.specs.Polling.{is_polled};
-    ghost use Rattle.mdb_topology.specs.Stepping.{is_here_among, BecomesOf, MayWant};
+    ghost use Rattle.mdb_topology.specs.Stepping.{BecomesOf, MayWant};
+    ghost use Rattle.mdb_driver_pools.specs.Standing.{is_here_among};
 
     // A reply for the pool makes nothing known: the driver was stopped, or the pool is not the open one of the address.
     pub(crate) fn leaves_reply(&self, address: &ServerAddress, pool: u32) -> bool
@@ -60,8 +62,8 @@ impl TopologyCore {
             let reply = Reply::Changed(false);
             return Ok(Decision::Accepted(Transition::of_reply(alloc, reply)));
         }
-        let later = self.after_reply(alloc, address, rtt, reply, step.moment)?;
-        self.change(alloc, step, later)
+        let server = described(alloc, address, rtt, reply, step.moment)?;
+        self.change_server(alloc, step, server)
     }
 
     // SRV records named these hosts ("Polling SRV Records").

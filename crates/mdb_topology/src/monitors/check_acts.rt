@@ -6,11 +6,11 @@ ghost use Rattle.mdb_events.specs.declared.fact.Fact.TheVariants.{Sdam};
 ghost use Rattle.mdb_log.specs.Connections.{has, one_if};
 ghost use Rattle.mdb_topology.specs.Checking.{number_limit};
 
-use crate::known::sdam_facts::sdam_fact;
 use crate::monitors::monitoring::Monitoring;
 use crate::topology::TopologyCore;
 use crate::transition::{Decision, Transition};
 use mdb_base::{OutOfMemory, ServerAddress};
+use mdb_driver_pools::sdam_fact;
 use mdb_events::{Fact, SdamEvent};
 use mdb_log::{Refused, Reply, Step, What};
 use mdb_monitor::{Begin, MonitorCore};
@@ -31,7 +31,7 @@ impl TopologyCore {
     ghost use Rattle.mdb_log.specs.History.{Item};
     ghost use Rattle.mdb_monitor.specs.declared.monitor.MonitorCore.{MonitorCore};
     ghost use Rattle.mdb_monitor.specs.Standing.{runs};
-    ghost use Rattle.mdb_topology.specs.Monitors.{fresh_for, is_connected};
+    ghost use Rattle.mdb_driver_rules.specs.Monitors.{fresh_for, is_connected};
     ghost use Rattle.mdb_topology.specs.Standing.{StandsFor, StandsForSome};
     ghost use Rattle.mdb_topology.specs.Stepping.{BecomesOf, MayWant};
     ghost use Rattle.mdb_topology.specs.Checking.{Begins};

@@ -15,8 +15,8 @@ impl TopologyCore {
     ghost use Rattle.mdb_log.specs.History.{Item, open_pool};
     ghost use Rattle.mdb_monitor.specs.declared.monitor.MonitorCore.{MonitorCore as Monitor};
     ghost use Rattle.mdb_monitor.specs.Standing.{StandsFor as MonitorStands, setting_of};
-    ghost use Rattle.mdb_topology.specs.Ahead.{is_available, next_after};
-    ghost use Rattle.mdb_topology.specs.Monitors.{fresh, monitor_items, setting};
+    ghost use Rattle.mdb_driver_rules.specs.Ahead.{is_available, next_after};
+    ghost use Rattle.mdb_driver_rules.specs.Monitors.{fresh, monitor_items, setting};
     ghost use Rattle.mdb_topology.specs.Standing.{StandsFor};
 
     // The monitor at the index, where memory keeps it.

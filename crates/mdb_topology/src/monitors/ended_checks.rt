@@ -1,17 +1,17 @@
 //! A check of a monitor ends.
 
-ghost use Rattle.std.specs.Prelude.{◌≡◌, ◌≤◌, ◌∷◌, ◌++◌, IfOk, OnErr, List, slice_get, Some, true};
+ghost use Rattle.std.specs.Prelude.{◌≡◌, ◌≤◌, IfOk, OnErr, List, slice_get, Some, true};
 ghost use Rattle.mdb_log.specs.declared.step.Act.TheVariants.{Beaten as BeatenAct};
-ghost use Rattle.mdb_topology.specs.Monitors.{check_result};
+ghost use Rattle.mdb_driver_rules.specs.Monitors.{check_result};
 ghost use Rattle.mdb_log.specs.Connections.{has};
 
-use crate::errors::marked::{Asked, PoolTrouble};
-use crate::known::rules::hello_reply;
+use crate::known::rules::{described, hello_reply};
 use crate::monitors::monitoring::Monitoring;
 use crate::topology::TopologyCore;
 use crate::transition::{Decision, Transition};
 use mdb_base::{Moment, Nanos, OutOfMemory, ServerAddress};
-use mdb_describe::TopologyDescription;
+use mdb_describe::ServerDescription;
+use mdb_driver_pools::{Asked, PoolTrouble};
 use mdb_events::SdamEvent;
 use mdb_log::{BeatenResult, Refused, Reply, Step, What};
 use mdb_monitor::{CheckResult, Finish, MonitorCore, Report};
@@ -40,7 +40,7 @@ impl TopologyCore {
     ghost use Rattle.mdb_topology.specs.Standing.{StandsFor, StandsForSome};
     ghost use Rattle.mdb_topology.specs.Stepping.{BecomesOf, MayWant};
     ghost use Rattle.mdb_topology.specs.Checking.{Ends};
-    ghost use Rattle.mdb_topology.specs.Changing.{reply_known, ChangesIf, ConcludesAs};
+    ghost use Rattle.mdb_topology.specs.Changing.{known_with, reply_known, ChangesIf, ConcludesAs};
     ghost use Rattle.mdb_monitor.specs.declared.monitor.MonitorCore.{MonitorCore};
 
     // The monitor at the index with the end of its check, and what follows from it.
@@ -72,7 +72,7 @@ impl TopologyCore {
         }
     }
 
-    // What is known after a check, where it has a reply and the driver was not stopped.
+    // The server as a check describes it, where it has a reply and the driver was not stopped.
     fn after_check(
         &self,
         alloc: Global,
@@ -80,8 +80,8 @@ impl TopologyCore {
         came: &BeatenResult,
         report: &Report,
         at: Moment,
-    ) -> Result<Option<TopologyDescription>, OutOfMemory>
-        ensures { IfOk result (λ later. later ≡ reply_known self.now address.now at came.now report.now) }
+    ) -> Result<Option<ServerDescription>, OutOfMemory>
+        ensures { IfOk result (λ server. known_with self.now server ≡ reply_known self.now address.now at came.now report.now) }
     {
         let BeatenResult::Ok(reply, _) = came else {
             return Ok(None);
@@ -92,23 +92,23 @@ impl TopologyCore {
         if self.stopped {
             return Ok(None);
         }
-        Ok(Some(self.after_reply(alloc, address, *average, reply.get(), at)?))
+        Ok(Some(described(alloc, address, *average, reply.get(), at)?))
     }
 
-    // A change, or none.
+    // The change that a description makes, or none.
     fn change_to(
         &mut self,
         alloc: Global,
         step: &Step,
-        later: Option<TopologyDescription>,
+        server: Option<ServerDescription>,
     ) -> Result<Decision, OutOfMemory>
         requires stands { StandsForSome self.old }
         requires in_time { self.old.pools.last ≤ step.now.moment }
         ensures same { self.new ≡ self.old }
-        ensures changes { IfOk result (λ stepped. ChangesIf self.old step.now.moment later stepped) }
+        ensures changes { IfOk result (λ stepped. ChangesIf self.old step.now.moment (known_with self.old server) stepped) }
     {
-        match later {
-            Some(later) => self.change(alloc, step, later),
+        match server {
+            Some(server) => self.change_server(alloc, step, server),
             None => {
                 let reply = Reply::Changed(false);
                 Ok(Decision::Accepted(Transition::of_reply(alloc, reply)))
@@ -123,16 +123,20 @@ impl TopologyCore {
         step: &Step,
         monitoring: Monitoring,
         event: SdamEvent,
-        later: Option<TopologyDescription>,
+        server: Option<ServerDescription>,
     ) -> Result<Decision, OutOfMemory>
         requires stands { StandsForSome self.old }
         requires in_time { self.old.pools.last ≤ step.now.moment }
         ensures same { self.new ≡ self.old }
-        ensures concludes { IfOk result (λ stepped. ConcludesAs self.old step.now.moment monitoring event later stepped) }
+        ensures concludes { IfOk result (λ stepped. ConcludesAs self.old step.now.moment monitoring event (known_with self.old server) stepped) }
     {
-        match self.change_to(alloc, step, later) {
+        match self.change_to(alloc, step, server) {
             Ok(Decision::Accepted(next)) => {
                 Ok(Decision::Accepted(next.with_check(alloc, monitoring, event)?))
+            }
+            Ok(Decision::Repeated(next, server)) => {
+                let next = next.with_check(alloc, monitoring, event)?;
+                Ok(Decision::Repeated(next, server))
             }
             Ok(Decision::Refused(why)) => {
                 drop(monitoring);
@@ -194,7 +198,7 @@ impl TopologyCore {
             return Ok(Decision::Accepted(next));
         }
         match self.after_check(alloc, address, came, &finish.report, step.moment) {
-            Ok(later) => self.conclude(alloc, step, monitoring, finish.event, later),
+            Ok(server) => self.conclude(alloc, step, monitoring, finish.event, server),
             Err(e) => {
                 drop(monitoring);
                 drop(finish);

@@ -17,7 +17,8 @@ impl TopologyCore {
     ghost use Rattle.mdb_log.specs.History.{Item};
     ghost use Rattle.mdb_monitor.specs.declared.monitor.MonitorCore.{MonitorCore};
     ghost use Rattle.mdb_topology.specs.Standing.{StandsFor, StandsForSome};
-    ghost use Rattle.mdb_topology.specs.Stepping.{is_here_among, BecomesOf, MayWant};
+    ghost use Rattle.mdb_topology.specs.Stepping.{BecomesOf, MayWant};
+    ghost use Rattle.mdb_driver_pools.specs.Standing.{is_here_among};
     ghost use Rattle.mdb_topology.specs.Checking.{Measures};
 
     // The index of the monitor of the pool, where that is the open one of the address.

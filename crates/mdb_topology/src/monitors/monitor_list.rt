@@ -2,11 +2,11 @@
 
 ghost use Rattle.std.specs.Prelude.{◌≡◌, ◌==◌, ◌+◌, ◌≤◌, ◌<◌, ◌++◌, ◌∷◌, [], ℕ, OnOk, Some, None, true, false, if◌then◌else◌, find, length, option_copied, position, set, slice_get};
 ghost use Rattle.mdb_log.specs.Connections.{has};
-ghost use Rattle.mdb_topology.specs.Living.{lives_at};
+ghost use Rattle.mdb_driver_pools.specs.Living.{lives_at};
 
 use crate::monitors::watched::Watched;
-use crate::pools::cores::Cores;
 use mdb_base::OutOfMemory;
+use mdb_driver_pools::Cores;
 use mdb_monitor::MonitorCore;
 use mdb_past::{Past, Tells};
 use std::alloc::Global;

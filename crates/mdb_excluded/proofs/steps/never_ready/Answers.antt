@@ -1,6 +1,6 @@
 use Rattle.std.proofs.Common.{refl}
 use Rattle.mdb_log.specs.History.{history_of}
-use Rattle.mdb_topology.specs.Lines.{log_of}
+use Rattle.mdb_driver_rules.specs.Lines.{log_of}
 use Rattle.mdb_excluded.specs.Steps.{normal, alone, greets}
 use Rattle.mdb_excluded.specs.Scripts.{begun}
 use Rattle.mdb_excluded.proofs.Marks.{ready-told}

@@ -1,7 +1,7 @@
 use Rattle.std.proofs.Common.{◌≡◌, ◌∙◌, Some, ap}
 use Rattle.std.specs.Prelude.{option_map}
 use Rattle.mdb_describe.specs.Topology.{server_at}
-use Rattle.mdb_topology.specs.Lines.{described}
+use Rattle.mdb_driver_rules.specs.Lines.{described}
 use Rattle.mdb_session.specs.Ahead.{check_after}
 use Rattle.mdb_known.specs.Checks.{check_with}
 use Rattle.mdb_known.proofs.checks.check_at.Goals as goal

@@ -3,7 +3,7 @@ use Rattle.mdb_slots.specs.Items.{records_of}
 use Rattle.mdb_slots.specs.Slots.{OpenSlots, listing}
 use Rattle.mdb_slots.specs.declared.records.Record.{Record}
 use Rattle.mdb_log.specs.History.{of_pool}
-use Rattle.mdb_pool.specs.Available.{available_records}
+use Rattle.mdb_pool_rules.specs.Available.{available_records}
 use Rattle.mdb_laws.proofs.handed.available_at.Goals as goal
 
 pub returns-in-Some-clause-opened : goal.returns-in-Some-clause-opened

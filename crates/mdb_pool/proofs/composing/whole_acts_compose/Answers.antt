@@ -1,4 +1,4 @@
-use Rattle.mdb_pool.proofs.NothingServed.AfterClearOrClose.{ready-alone, clear-alone, close-alone}
+use Rattle.mdb_pool_rules.proofs.AfterClearOrClose.{ready-alone, clear-alone, close-alone}
 use Rattle.mdb_pool.proofs.SameAnswers.FailureAfterClear.{failed-after-clear}
 use Rattle.mdb_pool.proofs.NothingServed.KeptByActs.{opening-quiet, answer-quiet}
 use Rattle.mdb_pool.proofs.composing.whole_acts_compose.Goals as goal

@@ -5,7 +5,7 @@ use Rattle.mdb_generator.specs.Generated.{generated, script}
 use Rattle.mdb_generator.specs.Summaries.{summary_of, summary_text}
 use Rattle.mdb_generator.specs.declared.summary.Summary.{Summary}
 use Rattle.mdb_generator.proofs.Scripts.{script_short}
-use Rattle.mdb_topology.specs.Lines.{log_of}
+use Rattle.mdb_driver_rules.specs.Lines.{log_of}
 use Rattle.mdb_runs.specs.Made.{summary_line}
 use Rattle.mdb_runs.proofs.MadeRuns.{made_log, never_rose}
 use Rattle.mdb_runs.proofs.Generation.{generated_script}

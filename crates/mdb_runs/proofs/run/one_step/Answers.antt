@@ -1,5 +1,5 @@
 use Rattle.std.proofs.Common.{◌∙◌, ap, length, slice_get, ◌-◌}
-use Rattle.mdb_topology.specs.Lines.{entry_after}
+use Rattle.mdb_driver_rules.specs.Lines.{entry_after}
 use Rattle.mdb_runs.proofs.Spelled.{last-spelled}
 use Rattle.mdb_runs.proofs.run.one_step.Goals as goal
 

@@ -1,5 +1,5 @@
 use Rattle.std.proofs.Common.{◌∙◌, ap, ◌∷◌, []}
-use Rattle.mdb_topology.specs.Lines.{entry_after}
+use Rattle.mdb_driver_rules.specs.Lines.{entry_after}
 use Rattle.mdb_topology.proofs.DriverOpened.ScriptsLog.{first-step-is}
 use Rattle.mdb_shared_runs.proofs.opening.open.Goals as goal
 

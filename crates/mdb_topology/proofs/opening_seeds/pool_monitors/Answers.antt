@@ -8,8 +8,8 @@ use Rattle.mdb_monitor.specs.declared.monitor.MonitorCore.{MonitorCore}
 use Rattle.mdb_monitor.specs.declared.monitor.Setting.{Setting}
 use Rattle.mdb_monitor.specs.Standing.{StandsFor as MonitorStands}
 use Rattle.mdb_pool.specs.Core.{PoolCore}
-use Rattle.mdb_topology.specs.Monitors.{setting}
-use Rattle.mdb_topology.proofs.InMemory.LivingPools.{lives-within}
+use Rattle.mdb_driver_rules.specs.Monitors.{setting}
+use Rattle.mdb_driver_pools.proofs.InMemory.LivingPools.{lives-within}
 use Rattle.mdb_topology.proofs.InMemory.WatchedPools.{has-more}
 use Rattle.mdb_topology.proofs.OfMonitors.MonitorsOfPools.{pools-more}
 use Rattle.mdb_topology.proofs.opening_seeds.pool_monitors.Goals as goal

@@ -1,7 +1,7 @@
 use Rattle.std.proofs.Common.{ℕ, take, ◌≡◌, ◌<◌, ◌≤◌, ◌-◌, [], All, true, length, map}
 use Rattle.mdb_log.specs.Connections.{has}
 use Rattle.mdb_monitor.specs.Standing.{StandsFor as MonitorStands}
-use Rattle.mdb_topology.specs.Monitors.{setting}
+use Rattle.mdb_driver_rules.specs.Monitors.{setting}
 use Rattle.mdb_topology.proofs.opening_seeds.pool_monitors.Given as goal
 
 -- so many monitors came, and the places are as many as the pools

@@ -1,7 +1,7 @@
 use Rattle.std.proofs.Common.{[], length, sym, subst}
 use Rattle.mdb_audit.specs.declared.verdict.Verdict.TheVariants.{Legal}
 use Rattle.mdb_lines.specs.LogText.{text_of}
-use Rattle.mdb_topology.specs.Lines.{steps_of}
+use Rattle.mdb_driver_rules.specs.Lines.{steps_of}
 use Rattle.mdb_laws.specs.Answers.{AreAnswers}
 use Rattle.mdb_laws.proofs.OfTelling.Logs.{steps-answered}
 use Rattle.mdb_audit.proofs.LegalTexts.{legal-text}

@@ -2,7 +2,7 @@ use Rattle.std.proofs.Common.{List, ap, ◌∙◌}
 use Rattle.mdb_base.specs.declared.options.Options.{Options}
 use Rattle.mdb_log.specs.History.{history_of}
 use Rattle.mdb_log.specs.declared.log.Entry.{Entry}
-use Rattle.mdb_topology.specs.Description.{description_of}
+use Rattle.mdb_driver_rules.specs.Description.{description_of}
 use Rattle.mdb_fleet_runs.specs.Trials.{fleet_options}
 use Rattle.mdb_fleet_runs.proofs.harness.Harness.description.Goals as goal
 

@@ -3,7 +3,7 @@ use Rattle.mdb_log.specs.declared.generation.PoolGeneration.TheVariants.{Normal,
 use Rattle.mdb_log.specs.declared.options.PoolOptions.{PoolOptions}
 use Rattle.mdb_pool.specs.Core.{PoolCore}
 use Rattle.mdb_pool.specs.declared.pool_core.PoolCore.TheInside.{Inside}
-use Rattle.mdb_pool.specs.Jobs.{count_at}
+use Rattle.mdb_pool.specs.Kept.{count_at}
 use Rattle.mdb_pool.proofs.Told.ServicesOfClears.{AreNamed}
 use Rattle.mdb_pool.proofs.Told.JobGenerations.{normal-generation, balanced-generation}
 use Rattle.mdb_pool.proofs.pool_core.PoolCore.generations_before.Goals as goal

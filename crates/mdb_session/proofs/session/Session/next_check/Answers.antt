@@ -2,9 +2,9 @@ use Rattle.std.proofs.Common.{◌≡◌, ◌^◌, ◌-◌, ◌∙◌, min, List,
 use Rattle.mdb_log.specs.History.{Item, history_of, open_pool}
 use Rattle.mdb_monitor.specs.declared.monitor.Setting.{Setting}
 use Rattle.mdb_monitor.specs.Beginnings.{begin_row}
-use Rattle.mdb_topology.specs.Lines.{options_of}
+use Rattle.mdb_driver_rules.specs.Lines.{options_of}
 use Rattle.mdb_topology.specs.Logging.{IsDriverOf}
-use Rattle.mdb_topology.specs.Monitors.{monitor_items, recent, setting}
+use Rattle.mdb_driver_rules.specs.Monitors.{monitor_items, recent, setting}
 use Rattle.mdb_topology.specs.Standing.{StandsFor}
 use Rattle.mdb_session.specs.Ahead.{next_number}
 use Rattle.mdb_session.proofs.Beforehand.{one_check, own_options}

@@ -1,5 +1,5 @@
 use Rattle.std.proofs.Common.{◌∙◌, ap, ◌∷◌, []}
-use Rattle.mdb_topology.specs.Lines.{entry_after}
+use Rattle.mdb_driver_rules.specs.Lines.{entry_after}
 use Rattle.mdb_topology.proofs.driver.Driver.open.Goals as goal
 use Rattle.mdb_topology.proofs.DriverOpened.ScriptsLog.{first-step-is}
 

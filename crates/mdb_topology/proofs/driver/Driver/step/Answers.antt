@@ -2,7 +2,7 @@ use Rattle.std.proofs.Common.{sym, subst}
 use Rattle.mdb_topology.proofs.driver.Driver.step.Goals as goal
 use Rattle.mdb_topology.specs.Logging.{IsDriverOf}
 use Rattle.mdb_topology.proofs.DriverOpened.ScriptsLog.{opened-of, still-opened, steps-opened, taken-act}
-use Rattle.mdb_topology.proofs.WholeSteps.TwoKinds.{driver-act}
+use Rattle.mdb_driver_rules.proofs.TwoKinds.{driver-act}
 
 pub returns-in_err-reply-in-Some-clause-stands : goal.returns-in_err-reply-in-Some-clause-stands
 returns-in_err-reply-in-Some-clause-stands c =

@@ -1,7 +1,7 @@
 use Rattle.std.proofs.Common.{◌&&◌, not, false, true, sym, ◌∙◌, ap}
 use Rattle.mdb_describe.specs.Fields.{error}
 use Rattle.mdb_describe.specs.Same.{same_error}
-use Rattle.mdb_topology.proofs.Marks.ChangesKnown.{same-failed, same-unfailed}
+use Rattle.mdb_driver_rules.proofs.ChangesKnown.{same-failed, same-unfailed}
 use Rattle.mdb_topology.proofs.errors.spending.met_already.Goals as goal
 
 pub returns-in-None : goal.returns-in-None

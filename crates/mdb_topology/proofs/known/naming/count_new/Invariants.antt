@@ -1,5 +1,5 @@
 use Rattle.std.proofs.Common.{◌≡◌, ◌≤◌, ◌+◌, length}
-use Rattle.mdb_topology.specs.Naming.{new_hosts}
+use Rattle.mdb_driver_rules.specs.Naming.{new_hosts}
 use Rattle.mdb_topology.proofs.known.naming.count_new.Given as goal
 
 abbrev pub invariant-loop-rest : goal.invariant-loop-rest

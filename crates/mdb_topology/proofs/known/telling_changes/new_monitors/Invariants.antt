@@ -1,7 +1,7 @@
 use Rattle.std.proofs.Common.{◌≡◌, All, [], take, map}
 use Rattle.mdb_monitor.specs.Standing.{StandsFor as MonitorStands}
-use Rattle.mdb_topology.specs.Monitors.{setting}
-use Rattle.mdb_topology.specs.Planned.{opened_by}
+use Rattle.mdb_driver_rules.specs.Monitors.{setting}
+use Rattle.mdb_driver_pools.specs.Planned.{opened_by}
 use Rattle.mdb_topology.proofs.known.telling_changes.new_monitors.Given as goal
 
 abbrev pub invariant-loop-change : goal.invariant-loop-change

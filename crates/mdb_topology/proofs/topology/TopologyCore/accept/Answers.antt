@@ -1,18 +1,23 @@
-use Rattle.std.proofs.Common.{ℕ, ◌≡◌, ◌<◌, ◌+◌, ◌&&◌, ◌||◌, ◌++◌, Bool, true, nat_lt, List, length, is_some, sym, ◌∙◌, ap, subst, arith}
+use Rattle.std.proofs.Common.{ℕ, ◌≡◌, ◌<◌, ◌+◌, ◌&&◌, ◌||◌, ◌++◌, Bool, true, nat_lt, List, [], ◌∷◌, length, Option, Some, None, is_some, refl, sym, ◌∙◌, ap, subst, arith}
 use Rattle.std.specs.Prelude.{nat_le, unwrap_or}
 use Rattle.mdb_intervals.specs.Spans.{SpanSet, has as is_within}
+use Rattle.mdb_describe.specs.declared.description.ServerDescription.{ServerDescription}
+use Rattle.mdb_describe.specs.declared.topology.TopologyDescription.{TopologyDescription}
+use Rattle.mdb_describe.specs.Update.{stored}
+use Rattle.mdb_log.specs.declared.log.Entry.{Entry}
 use Rattle.mdb_log.specs.declared.step.Step.{Step}
 use Rattle.mdb_log.specs.Connections.{has, one_if}
 use Rattle.mdb_log.specs.Requests.{names_party}
 use Rattle.mdb_monitor.specs.declared.monitor.MonitorCore.{MonitorCore}
 use Rattle.mdb_pool.specs.Core.{PoolCore}
-use Rattle.mdb_topology.specs.declared.pools.Pools.{Pools}
+use Rattle.mdb_driver_pools.specs.declared.pools.Pools.{Pools}
 use Rattle.mdb_topology.specs.declared.topology.TopologyCore.{TopologyCore}
 use Rattle.mdb_topology.specs.declared.transition.Transition.{Transition}
 use Rattle.mdb_topology.specs.Checking.{monitors_after, numbers_after, watchers_after}
-use Rattle.mdb_topology.specs.Living.{lives_at}
-use Rattle.mdb_topology.specs.Planned.{LeadsAll}
+use Rattle.mdb_driver_pools.specs.Living.{lives_at}
+use Rattle.mdb_driver_pools.specs.Planned.{LeadsAll}
 use Rattle.mdb_topology.specs.Standing.{IsSame}
+use Rattle.mdb_topology.specs.Stepping.{placed, with_place}
 use Rattle.mdb_topology.proofs.WholeSteps.OneMoreEntry.{IsTaken, taken-logs}
 use Rattle.mdb_topology.proofs.topology.TopologyCore.accept.Goals as goal
 
@@ -52,16 +57,58 @@ module _ (w r t : TopologyCore) (n : Transition) (step : Step) (noted : Pools) (
         (subst (λ (ms : List MonitorCore). has p w.monitors.kept || (nat_le (length ms) p && nat_lt p (length t.monitors.items)) ≡ true) (sym same.monitors) cond));
   }
 
+-- and then a description takes its place
+with-placed : (server : Option ServerDescription) (w v : TopologyCore) (n : Transition) (step : Step) (count : ℕ) → IsTaken w v n step → count ≡ w.published + one_if (is_some server || is_some n.description)
+    → IsTaken w (record v { published = count; description = placed server v.description }) (with_place server w n) step
+with-placed None w v n step count e many = record {
+  options = e.options;
+  led = e.led;
+  last = e.last;
+  monitors = e.monitors;
+  description = e.description;
+  published = many;
+  stopped = e.stopped;
+  fresh = e.fresh;
+  watchers = e.watchers;
+  known = e.known;
+  kept = e.kept;
+}
+with-placed (Some s) w v n step count e many = record {
+  options = e.options;
+  led = e.led;
+  last = e.last;
+  monitors = e.monitors;
+  description = ap (λ (t : TopologyDescription). stored t s) e.description;
+  published = many;
+  stopped = e.stopped;
+  fresh = e.fresh;
+  watchers = e.watchers;
+  known = e.known;
+  kept = e.kept;
+}
+
+-- its reply and its facts stay
+entered-same : (server : Option ServerDescription) (w : TopologyCore) (n : Transition) (step : Step) (seat : ℕ) (log after : List Entry) → after ≡ log ++ record { seat = seat; step = step; reply = n.reply; facts = n.facts.items } ∷ []
+    → after ≡ log ++ record { seat = seat; step = step; reply = (with_place server w n).reply; facts = (with_place server w n).facts.items } ∷ []
+entered-same None w n step seat log after e = e
+entered-same (Some s) w n step seat log after e = e
+
 pub note-requires : goal.note-requires
 note-requires c =
     let k = c.in-Ok.ensures.known in
     subst (λ (m : SpanSet). length m.spans < m.capacity) (sym c.take.ensures.known) (omega (arith, k))
 
-pub returns-in-Ok-enter-clause-logs : goal.returns-in-Ok-enter-clause-logs
-returns-in-Ok-enter-clause-logs c = λ h z f.
+pub returns-in-Ok-answer-clause-logs : goal.returns-in-Ok-answer-clause-logs
+returns-in-Ok-answer-clause-logs c = λ h z f.
     let w = c.args.self.now in
+    let n = c.args.next in
+    let step = c.args.step.now in
     let t = c.take.ensures in
-    let is =
-    taken w c.make_room.new.self c.take.new.self c.args.next c.args.step.now c.note.new.self c.in-Ok.published c.is_stopped_then-self.result c.in-Ok.ensures.same t.led t.known t.kept t.last t.monitors t.fresh t.watchers t.description t.others
-    c.note.ensures.known c.note.ensures.others c.in-Ok.ensures.published c.is_stopped_then-self.ensures in
-    taken-logs w _ c.args.log.now c.enter.new.log c.args.seat c.args.step.now h c.args.next z is f c.in-Ok-enter.ensures.ok
+    let count : ℕ = w.published + one_if (is_some n.description) in
+    let v : TopologyCore = record c.take.new.self { pools = c.note.new.self; published = count; stopped = c.is_stopped_then-self.result } in
+    let is : IsTaken w v n step =
+    taken w c.make_room.new.self c.take.new.self n step c.note.new.self count c.is_stopped_then-self.result c.in-Ok.ensures.same t.led t.known t.kept t.last t.monitors t.fresh t.watchers t.description t.others
+    c.note.ensures.known c.note.ensures.others refl c.is_stopped_then-self.ensures in
+    let many : c.in-Ok.published ≡ w.published + one_if (is_some c.args.server || is_some n.description) = c.in-Ok.ensures.published ∙ ap (λ (b : Bool). w.published + one_if (b || is_some n.description)) c.is_some.ensures in
+    let then-placed = subst (λ (x : TopologyCore). IsTaken w x (with_place c.args.server w n) step) (sym c.place.ensures) (with-placed c.args.server w v n step c.in-Ok.published is many) in
+    taken-logs w _ c.args.log.now c.answer.new.self c.args.seat step h (with_place c.args.server w n) z then-placed f (entered-same c.args.server w n step c.args.seat c.args.log.now c.answer.new.self c.in-Ok-answer.ensures.entry)

@@ -6,11 +6,11 @@ use Rattle.mdb_monitor.specs.Standing.{runs}
 use Rattle.mdb_topology.specs.declared.transition.Transition.{Transition}
 use Rattle.mdb_topology.specs.declared.monitors.monitoring.Monitoring.TheVariants.{Checked}
 use Rattle.mdb_topology.specs.Checking.{Begins, number_limit}
-use Rattle.mdb_topology.specs.Monitors.{runs as runs_at, fresh_for, is_connected, monitor_items}
-use Rattle.mdb_topology.specs.Refusal.{may_want, refusal}
+use Rattle.mdb_driver_rules.specs.Monitors.{runs as runs_at, fresh_for, is_connected, monitor_items}
+use Rattle.mdb_driver_rules.specs.Refusal.{may_want, refusal}
 use Rattle.mdb_topology.specs.Stepping.{Follows}
 use Rattle.mdb_topology.proofs.OfMonitors.CheckBegins.{beat-fresh, beat-past, beat-wants, follows-beat}
-use Rattle.mdb_topology.proofs.General.OnePosition.{some-same}
+use Rattle.mdb_driver_rules.proofs.General.OnePosition.{some-same}
 use Rattle.mdb_topology.proofs.Marks.AtItsLimit.{wants-after}
 use Rattle.mdb_topology.proofs.topology.TopologyCore.beat.Goals as goal
 

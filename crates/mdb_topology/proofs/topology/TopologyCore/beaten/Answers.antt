@@ -5,25 +5,26 @@ use Rattle.mdb_describe.specs.Differences.{difference}
 use Rattle.mdb_describe.specs.Update.{updated}
 use Rattle.mdb_log.specs.declared.checked.BeatenResult.TheVariants.{Err}
 use Rattle.mdb_log.specs.declared.step.Act.TheVariants.{Beaten}
-use Rattle.mdb_topology.specs.declared.errors.marked.Asked.TheVariants.{Nothing}
+use Rattle.mdb_driver_pools.specs.declared.trouble.Asked.TheVariants.{Nothing}
 use Rattle.mdb_log.specs.declared.reply.Refused.TheVariants.{NotChecking, WrongMode, Exhausted}
 use Rattle.mdb_log.specs.declared.reply.What.TheVariants.{Generation}
 use Rattle.mdb_monitor.specs.Standing.{runs}
 use Rattle.mdb_topology.specs.declared.monitors.monitoring.Monitoring.TheVariants.{Checked}
-use Rattle.mdb_topology.specs.Changing.{ConcludesAs}
+use Rattle.mdb_topology.specs.Changing.{known_with, ConcludesAs}
 use Rattle.mdb_topology.specs.Marking.{check_spends, IsOfPool, FailsAs}
 use Rattle.mdb_topology.specs.Checking.{Ends}
-use Rattle.mdb_topology.specs.Monitors.{runs as runs_at, check_result, monitor_items}
-use Rattle.mdb_topology.specs.Refusal.{may_want, refusal}
+use Rattle.mdb_driver_rules.specs.Monitors.{runs as runs_at, check_result, monitor_items}
+use Rattle.mdb_driver_rules.specs.Refusal.{may_want, refusal}
 use Rattle.mdb_pool.specs.Kept.{exhausted_now}
-use Rattle.mdb_pool.specs.Refusal.{wrong_service}
-use Rattle.mdb_topology.specs.Stepping.{is_here_among, BecomesOf, Follows}
+use Rattle.mdb_pool_rules.specs.Refusal.{wrong_service}
+use Rattle.mdb_topology.specs.Stepping.{BecomesOf, Follows}
+use Rattle.mdb_driver_pools.specs.Standing.{is_here_among}
 use Rattle.mdb_topology.proofs.OfMonitors.CheckEnds.{follows-beaten-away, beaten-idle, beaten-mode, concluded}
 use Rattle.mdb_topology.proofs.OfMonitors.CheckFailed.{here-at, untroubled-else, its_trouble, failure-of-pool, failure-told}
 use Rattle.mdb_topology.proofs.Marks.AtItsLimitByCheck.{check-spent, check-wants}
-use Rattle.mdb_topology.proofs.OnePool.FoundAt.{open-lives}
+use Rattle.mdb_driver_pools.proofs.OnePool.FoundAt.{open-lives}
 use Rattle.mdb_topology.proofs.Marks.AtItsLimit.{wants-after, clear-accepted, not-both, some-place}
-use Rattle.mdb_topology.proofs.General.OnePosition.{some-same}
+use Rattle.mdb_driver_rules.proofs.General.OnePosition.{some-same}
 use Rattle.mdb_topology.proofs.topology.TopologyCore.beaten.Goals as goal
 
 pub returns-in_default-clause-becomes : goal.returns-in_default-clause-becomes
@@ -130,8 +131,8 @@ returns-in-Ok-clause-becomes c =
     IfOk-weaker c.conclude.result _ _ (λ stepped r h z.
     let running : runs_at h p ≡ true = sym (c.if-not-running.ensures.items (monitor_items h p) (z.monitors.each p x at_p)) in
     subst (λ v. BecomesOf w (record { moment = m; act = v }) stepped h) (sym c.requires.act)
-    (concluded w h z m c.requires.in_time a p c.args.duration (sym c.in-Some.ensures.here) c.args.came.now running c.if-self-2.false x y f at_p ends (untroubled-else c.args.came.now c.in_default-came.not-Err) c.in-Ok.later c.in-Ok.ensures stepped
-    (subst (λ q. ConcludesAs w m (Checked q y w.fresh) f.event c.in-Ok.later stepped) own r))) c.conclude.ensures.concludes
+    (concluded w h z m c.requires.in_time a p c.args.duration (sym c.in-Some.ensures.here) c.args.came.now running c.if-self-2.false x y f at_p ends (untroubled-else c.args.came.now c.in_default-came.not-Err) (known_with w c.in-Ok.server) c.in-Ok.ensures stepped
+    (subst (λ q. ConcludesAs w m (Checked q y w.fresh) f.event (known_with w c.in-Ok.server) stepped) own r))) c.conclude.ensures.concludes
 
 pub returns-in-Ok-clause-wants : goal.returns-in-Ok-clause-wants
 returns-in-Ok-clause-wants c = wants-after c.args.self.now c.args.step.now _ (λ h z.

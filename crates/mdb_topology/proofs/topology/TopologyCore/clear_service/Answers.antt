@@ -1,15 +1,17 @@
 use Rattle.std.proofs.Common.{List, ◌≡◌, [], true, false, not, Some, is_some, sym, ◌∙◌, ap, subst, refl}
 use Rattle.mdb_log.specs.declared.reply.Reply.TheVariants.{Changed}
-use Rattle.mdb_pool.specs.Refusal.{wrong_service}
-use Rattle.mdb_topology.specs.Marking.{Clears, IsClearing}
+use Rattle.mdb_pool_rules.specs.Refusal.{wrong_service}
+use Rattle.mdb_topology.specs.Marking.{IsClearing}
+use Rattle.mdb_driver_pools.specs.Clearing.{Clears}
 use Rattle.mdb_topology.proofs.Marks.ServiceOfConnection.{service-refusal, service-follows}
 use Rattle.mdb_topology.proofs.Marks.AtItsLimit.{after-any, clear-accepted, not-both}
 use Rattle.mdb_topology.proofs.WholeSteps.ComesBeforeMemory.{none-wants}
 use Rattle.std.specs.Prelude.{slice_get}
 use Rattle.mdb_log.specs.History.{Item}
 use Rattle.mdb_pool.specs.Core.{PoolCore}
-use Rattle.mdb_topology.specs.Errors.{Trouble, for_service}
-use Rattle.mdb_topology.specs.Standing.{at_address, StandsFor}
+use Rattle.mdb_driver_rules.specs.Errors.{Trouble, for_service}
+use Rattle.mdb_topology.specs.Standing.{StandsFor}
+use Rattle.mdb_driver_pools.specs.Standing.{at_address}
 use Rattle.mdb_topology.specs.Stepping.{MayWant}
 use Rattle.mdb_topology.proofs.topology.TopologyCore.clear_service.Goals as goal
 

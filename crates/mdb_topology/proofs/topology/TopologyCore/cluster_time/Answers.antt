@@ -4,10 +4,10 @@ use Rattle.mdb_log.specs.declared.reply.Reply.TheVariants.{Done}
 use Rattle.mdb_topology.specs.declared.transition.Transition.{Transition}
 use Rattle.mdb_topology.specs.Changing.{IsChanging}
 use Rattle.mdb_topology.proofs.WholeSteps.Stops.{as-next}
-use Rattle.mdb_topology.proofs.OnePool.SameHistories.{IsPlain}
+use Rattle.mdb_driver_rules.proofs.SameHistories.{IsPlain}
 use Rattle.mdb_topology.proofs.Publications.WhichSteps.{time-changing, time-resting, passes-time}
 use Rattle.mdb_topology.proofs.WholeSteps.QuietStep.{follows-quiet}
-use Rattle.mdb_topology.specs.Refusal.{may_want}
+use Rattle.mdb_driver_rules.specs.Refusal.{may_want}
 use Rattle.mdb_topology.proofs.WholeSteps.ComesBeforeMemory.{untroubled-wants}
 use Rattle.mdb_log.specs.declared.step.Act.TheVariants as Do
 use Rattle.mdb_topology.proofs.Marks.AtItsLimit.{wants-after}

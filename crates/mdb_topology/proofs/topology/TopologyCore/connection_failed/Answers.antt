@@ -5,10 +5,10 @@ use Rattle.mdb_log.specs.declared.step.Act.TheVariants.{Failed, Unpin}
 use Rattle.mdb_log.specs.declared.reply.Refused.TheVariants.{NotPending}
 use Rattle.mdb_pool.specs.Core.{PoolCore}
 use Rattle.mdb_pool.specs.Refusing.{refusal_now, tells_new}
-use Rattle.mdb_topology.specs.Refusal.{refusal}
+use Rattle.mdb_driver_rules.specs.Refusal.{refusal}
 use Rattle.mdb_topology.proofs.Failure.RefusedByItsPool.{failed-nowhere, failed-refused}
-use Rattle.mdb_topology.proofs.OnePool.FoundAt.{number-at, numbered-is, place-lives}
-use Rattle.mdb_topology.proofs.General.OnePosition.{some-same}
+use Rattle.mdb_driver_pools.proofs.OnePool.FoundAt.{number-at, numbered-is, place-lives}
+use Rattle.mdb_driver_rules.proofs.General.OnePosition.{some-same}
 use Rattle.mdb_topology.proofs.topology.TopologyCore.connection_failed.Goals as goal
 
 pub returns-in-Some-refusal_now-clause-becomes : goal.returns-in-Some-refusal_now-clause-becomes

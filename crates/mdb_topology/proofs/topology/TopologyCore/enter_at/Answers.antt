@@ -4,11 +4,11 @@ use Rattle.mdb_intervals.specs.Spans.{has as is_within}
 use Rattle.mdb_log.specs.Requests.{names_party}
 use Rattle.mdb_pool.specs.Core.{PoolCore}
 use Rattle.mdb_pool.specs.Refusing.{refusal_now}
-use Rattle.mdb_topology.specs.declared.pools.Pools.{Pools}
-use Rattle.mdb_topology.specs.Asking.{DoesAt}
-use Rattle.mdb_topology.proofs.General.OnePosition.{some-same}
-use Rattle.mdb_topology.proofs.InMemory.LivingPools.{lives-of}
-use Rattle.mdb_topology.proofs.OnePool.OneAnswer.{takes-act}
+use Rattle.mdb_driver_pools.specs.declared.pools.Pools.{Pools}
+use Rattle.mdb_driver_pools.specs.Asking.{DoesAt}
+use Rattle.mdb_driver_rules.proofs.General.OnePosition.{some-same}
+use Rattle.mdb_driver_pools.proofs.InMemory.LivingPools.{lives-of}
+use Rattle.mdb_driver_pools.proofs.OnePool.OneAnswer.{takes-act}
 use Rattle.mdb_topology.proofs.topology.TopologyCore.enter_at.Goals as goal
 
 pub enter_step-requires-clause-lives : goal.enter_step-requires-clause-lives

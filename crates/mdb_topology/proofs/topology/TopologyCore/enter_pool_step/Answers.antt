@@ -2,9 +2,9 @@ use Rattle.std.proofs.Common.{◌≤◌, List, length, sym, ◌∙◌, subst}
 use Rattle.std.proofs.lemmas.Result.{on_ok_weaker}
 use Rattle.mdb_log.specs.History.{Item}
 use Rattle.mdb_topology.specs.declared.topology.TopologyCore.{TopologyCore}
-use Rattle.mdb_topology.specs.Description.{description_of}
+use Rattle.mdb_driver_rules.specs.Description.{description_of}
 use Rattle.mdb_topology.specs.Standing.{StandsFor}
-use Rattle.mdb_topology.specs.Taking.{IsReady, Performs}
+use Rattle.mdb_driver_pools.specs.Taking.{IsReady, Performs}
 use Rattle.mdb_topology.proofs.WholeSteps.PoolStep.{pool-logs, pool-reply}
 use Rattle.mdb_topology.proofs.WholeSteps.QuietStep.{follows-idle}
 use Rattle.mdb_topology.proofs.topology.TopologyCore.enter_pool_step.Goals as goal
@@ -20,17 +20,17 @@ accept-requires c =
     let w = c.args.self.now in
     let h = c.requires.stands.0 in
     let z = c.requires.stands.1 in
-    let e = c.of_reply.ensures in
+    let e = c.of_reply-next.ensures in
     let rests = subst (λ x. Performs w.options w.pools.cores.items c.args.step.now x h) c.in-Idle.is (c.act.ensures.performs w.options h z.pools z.counts.last_is (few w h z)) in
-    record { follows = (h, z, follows-idle w h z c.args.step.now c.requires.in_time c.of_reply.result e.changes e.facts e.monitors e.monitoring c.requires.act e.reply e.description e.stops rests) }
+    record { follows = (h, z, follows-idle w h z c.args.step.now c.requires.in_time c.of_reply-next.result e.changes e.facts e.monitors e.monitoring c.requires.act e.reply e.description e.stops rests) }
 
 pub returns-in-Idle-clause-logs : goal.returns-in-Idle-clause-logs
 returns-in-Idle-clause-logs c =
     let w = c.args.self.now in
-    let e = c.of_reply.ensures in
+    let e = c.of_reply-next.ensures in
     on_ok_weaker c.accept.result (λ f h z.
     let rests = subst (λ x. Performs w.options w.pools.cores.items c.args.step.now x h) c.in-Idle.is (c.act.ensures.performs w.options h z.pools z.counts.last_is (few w h z)) in
-    f h z (follows-idle w h z c.args.step.now c.requires.in_time c.of_reply.result e.changes e.facts e.monitors e.monitoring c.requires.act e.reply e.description e.stops rests)) c.accept.ensures.logs
+    f h z (follows-idle w h z c.args.step.now c.requires.in_time c.of_reply-next.result e.changes e.facts e.monitors e.monitoring c.requires.act e.reply e.description e.stops rests)) c.accept.ensures.logs
 
 pub returns-in_ok-reply-in-Concerns-clause-logs : goal.returns-in_ok-reply-in-Concerns-clause-logs
 returns-in_ok-reply-in-Concerns-clause-logs c = λ h z.

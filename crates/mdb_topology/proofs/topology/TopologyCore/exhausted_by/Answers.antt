@@ -1,6 +1,6 @@
 use Rattle.std.proofs.Common.{◌≡◌, [], true, false, nat_lt, sym, ◌∙◌, arith}
 use Rattle.std.proofs.lemmas.Bool.Decides.{nat_tests}
-use Rattle.mdb_topology.specs.Naming.{new_hosts}
+use Rattle.mdb_driver_rules.specs.Naming.{new_hosts}
 use Rattle.mdb_topology.proofs.Publications.HostsPastLimits.{past-none, past-pools, past-servers}
 use Rattle.mdb_topology.proofs.topology.TopologyCore.exhausted_by.Goals as goal
 

@@ -3,17 +3,17 @@ use Rattle.std.specs.Prelude.{slice_get}
 use Rattle.std.proofs.lemmas.Result.{IfOk-weaker, on_err_weaker}
 use Rattle.mdb_pool.specs.Core.{PoolCore}
 use Rattle.mdb_pool.specs.Kept.{connection_at}
-use Rattle.mdb_pool.proofs.Answered.Item.{both-true}
-use Rattle.mdb_topology.specs.declared.errors.marked.Asked.TheVariants.{Nothing}
+use Rattle.mdb_log.proofs.Bools.{both-true}
+use Rattle.mdb_driver_pools.specs.declared.trouble.Asked.TheVariants.{Nothing}
 use Rattle.mdb_describe.specs.Descriptions.{failed}
 use Rattle.mdb_describe.specs.Differences.{difference}
 use Rattle.mdb_describe.specs.Update.{updated}
-use Rattle.mdb_topology.specs.Description.{updates}
-use Rattle.mdb_topology.specs.Standing.{at_address}
+use Rattle.mdb_driver_rules.specs.Description.{updates}
+use Rattle.mdb_driver_pools.specs.Standing.{at_address}
 use Rattle.mdb_topology.specs.Failing.{clears_after, service_after, asked_after, TellsFailure}
-use Rattle.mdb_topology.proofs.General.Truth.{not-back, not-front}
+use Rattle.mdb_driver_rules.proofs.General.Truth.{not-back, not-front}
 use Rattle.mdb_topology.proofs.Failure.Answer.{live-at, at-nothing, at-service, at-mark, at-place}
-use Rattle.mdb_topology.proofs.General.OnePosition.{some-same}
+use Rattle.mdb_driver_rules.proofs.General.OnePosition.{some-same}
 use Rattle.mdb_topology.proofs.topology.TopologyCore.fail_at.Goals as goal
 
 pub returns-then-leaves_failure-clause-becomes : goal.returns-then-leaves_failure-clause-becomes

@@ -5,15 +5,16 @@ use Rattle.mdb_describe.specs.Differences.{difference}
 use Rattle.mdb_describe.specs.Update.{updated}
 use Rattle.mdb_pool.specs.Core.{PoolCore}
 use Rattle.mdb_pool.specs.Kept.{exhausted_now}
-use Rattle.mdb_pool.specs.Refusal.{wrong_service}
+use Rattle.mdb_pool_rules.specs.Refusal.{wrong_service}
 use Rattle.mdb_topology.specs.Failing.{asked_after, FailureTold, TellsFailure}
-use Rattle.mdb_topology.specs.Standing.{at_address, StandsFor}
+use Rattle.mdb_topology.specs.Standing.{StandsFor}
+use Rattle.mdb_driver_pools.specs.Standing.{at_address}
 use Rattle.mdb_topology.proofs.Failure.Answer.{marked-refusal, marked-follows}
-use Rattle.mdb_topology.proofs.General.OnePosition.{some-same}
+use Rattle.mdb_driver_rules.proofs.General.OnePosition.{some-same}
 use Rattle.mdb_topology.proofs.Marks.AtItsLimit.{after-any, clear-accepted, not-both}
 use Rattle.mdb_topology.proofs.WholeSteps.ComesBeforeMemory.{none-wants}
 use Rattle.mdb_log.specs.History.{Item}
-use Rattle.mdb_topology.specs.Description.{updates}
+use Rattle.mdb_driver_rules.specs.Description.{updates}
 use Rattle.mdb_topology.specs.Stepping.{MayWant}
 use Rattle.mdb_topology.proofs.topology.TopologyCore.fail_marked.Goals as goal
 

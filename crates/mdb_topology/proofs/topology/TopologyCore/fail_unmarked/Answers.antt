@@ -1,7 +1,8 @@
 use Rattle.std.proofs.Common.{List, ◌≡◌, [], true, false, not, Some, None, is_some, sym, ◌∙◌, ap, subst}
-use Rattle.mdb_pool.specs.Refusal.{wrong_service}
-use Rattle.mdb_topology.specs.declared.errors.marked.Asked.TheVariants.{Nothing}
-use Rattle.mdb_topology.specs.Failing.{Fails, TellsFailure}
+use Rattle.mdb_pool_rules.specs.Refusal.{wrong_service}
+use Rattle.mdb_driver_pools.specs.declared.trouble.Asked.TheVariants.{Nothing}
+use Rattle.mdb_topology.specs.Failing.{TellsFailure}
+use Rattle.mdb_driver_pools.specs.Failing.{Fails}
 use Rattle.mdb_topology.proofs.Failure.Answer.{still-at, unmarked-refusal, unmarked-follows}
 use Rattle.mdb_topology.proofs.Marks.AtItsLimit.{after-any, clear-accepted, not-both}
 use Rattle.mdb_topology.proofs.WholeSteps.ComesBeforeMemory.{none-wants}

@@ -2,7 +2,7 @@ use Rattle.std.proofs.Common.{◌≡◌, IfOk, List, subst}
 use Rattle.mdb_log.specs.declared.step.Act.TheVariants as act
 use Rattle.mdb_log.specs.declared.checked.HelloResult.TheVariants as hello
 use Rattle.mdb_log.specs.History.{Item}
-use Rattle.mdb_topology.specs.Answer.{answer}
+use Rattle.mdb_driver_rules.specs.Answer.{answer}
 use Rattle.mdb_topology.specs.Standing.{StandsFor}
 use Rattle.mdb_topology.proofs.topology.TopologyCore.handle_monitor_error.Goals as goal
 

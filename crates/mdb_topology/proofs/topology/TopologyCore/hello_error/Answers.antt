@@ -6,10 +6,10 @@ use Rattle.mdb_describe.specs.Update.{updated}
 use Rattle.mdb_topology.specs.Changing.{IsTelling}
 use Rattle.mdb_topology.specs.Marking.{HasParts, IsMarking, IsOfPool, MarkPasses, MarksTo}
 use Rattle.mdb_topology.proofs.Marks.ComesTo.{as-parts}
-use Rattle.mdb_topology.proofs.OnePool.SameHistories.{IsPlain}
-use Rattle.mdb_topology.specs.declared.errors.marked.Asked.TheVariants.{Nothing}
+use Rattle.mdb_driver_rules.proofs.SameHistories.{IsPlain}
+use Rattle.mdb_driver_pools.specs.declared.trouble.Asked.TheVariants.{Nothing}
 use Rattle.mdb_topology.proofs.OfMonitors.CheckFailed.{here-at}
-use Rattle.mdb_topology.proofs.OnePool.FoundAt.{open-lives}
+use Rattle.mdb_driver_pools.proofs.OnePool.FoundAt.{open-lives}
 use Rattle.mdb_topology.proofs.Marks.AtItsLimit.{own-place, place-own, some-place}
 use Rattle.mdb_topology.proofs.Publications.WhichSteps.{or-not}
 use Rattle.mdb_topology.proofs.WholeSteps.ComesBeforeMemory.{none-wants}

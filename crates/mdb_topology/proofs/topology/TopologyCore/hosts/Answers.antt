@@ -4,7 +4,7 @@ use Rattle.mdb_log.specs.declared.reply.Reply.TheVariants.{Changed}
 use Rattle.mdb_describe.specs.Topology.{synced}
 use Rattle.mdb_topology.specs.Changing.{IsChanging, IsUpdating}
 use Rattle.mdb_topology.proofs.WholeSteps.Stops.{as-next}
-use Rattle.mdb_topology.proofs.OnePool.SameHistories.{IsPlain}
+use Rattle.mdb_driver_rules.proofs.SameHistories.{IsPlain}
 use Rattle.mdb_topology.proofs.Publications.WhichSteps.{hosts-updating, hosts-resting}
 use Rattle.mdb_topology.proofs.WholeSteps.QuietStep.{follows-quiet}
 use Rattle.mdb_topology.proofs.Publications.BecomesKnown.{changes-become, spared-update}

@@ -4,7 +4,7 @@ use Rattle.mdb_describe.specs.Fields.{topology_version}
 use Rattle.mdb_describe.specs.Same.{same}
 use Rattle.mdb_describe.specs.Topology.{server_at}
 use Rattle.mdb_describe.specs.Update.{is_older}
-use Rattle.mdb_topology.proofs.Marks.ChangesKnown.{found-is, known-differs, unknown-same}
+use Rattle.mdb_driver_rules.proofs.ChangesKnown.{found-is, known-differs, unknown-same}
 use Rattle.mdb_topology.proofs.topology.TopologyCore.is_changed_by.Goals as goal
 
 pub returns-in-None : goal.returns-in-None

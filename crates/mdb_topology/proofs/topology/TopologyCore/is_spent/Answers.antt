@@ -2,7 +2,7 @@ use Rattle.std.proofs.Common.{◌≡◌, ◌&&◌, not, Some, ◌∙◌, ap}
 use Rattle.std.specs.Prelude.{nat_le, slice_get}
 use Rattle.mdb_pool.specs.Core.{PoolCore}
 use Rattle.mdb_pool.specs.Kept.{clears_for, exhausted_now, is_shut}
-use Rattle.mdb_topology.proofs.General.OnePosition.{some-same}
+use Rattle.mdb_driver_rules.proofs.General.OnePosition.{some-same}
 use Rattle.mdb_topology.proofs.Marks.AtItsLimit.{limit-is}
 use Rattle.mdb_topology.proofs.topology.TopologyCore.is_spent.Goals as goal
 

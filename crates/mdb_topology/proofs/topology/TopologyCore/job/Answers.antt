@@ -2,9 +2,9 @@ use Rattle.std.proofs.Common.{◌∙◌, sym}
 use Rattle.mdb_log.specs.History.{of_pool, history_of}
 use Rattle.mdb_log.specs.Opening.{pool_options}
 use Rattle.mdb_topology.proofs.WholeSteps.CoreOfManyPools.{if-ok}
-use Rattle.mdb_topology.proofs.InMemory.LivingPools.{living-there}
+use Rattle.mdb_driver_pools.proofs.InMemory.LivingPools.{living-there}
 use Rattle.mdb_topology.proofs.OnePool.JobsAreThere.{job-known, job-unknown}
-use Rattle.mdb_topology.proofs.OnePool.FoundAt.{fits-at}
+use Rattle.mdb_driver_pools.proofs.OnePool.FoundAt.{fits-at}
 use Rattle.mdb_topology.proofs.topology.TopologyCore.job.Goals as goal
 
 pub returns-in-Some : goal.returns-in-Some

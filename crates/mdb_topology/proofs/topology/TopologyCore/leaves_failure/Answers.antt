@@ -1,6 +1,6 @@
 use Rattle.std.proofs.Common.{◌≡◌, ◌&&◌, Bool, not, is_some, sym, ◌∙◌, ap}
-use Rattle.mdb_topology.specs.Current.{establishing}
-use Rattle.mdb_topology.specs.Errors.{case_of}
+use Rattle.mdb_driver_rules.specs.Current.{establishing}
+use Rattle.mdb_driver_rules.specs.Errors.{case_of}
 use Rattle.mdb_topology.specs.Failing.{regards_now}
 use Rattle.mdb_topology.proofs.topology.TopologyCore.leaves_failure.Goals.{then-regards, else-regards}
 use Rattle.mdb_topology.proofs.topology.TopologyCore.leaves_failure.Goals as goal

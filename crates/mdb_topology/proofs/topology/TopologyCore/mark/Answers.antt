@@ -6,12 +6,12 @@ use Rattle.mdb_describe.specs.Differences.{difference}
 use Rattle.mdb_describe.specs.Update.{updated}
 use Rattle.mdb_pool.specs.Core.{PoolCore}
 use Rattle.mdb_pool.specs.Kept.{exhausted_now}
-use Rattle.mdb_pool.specs.Refusal.{wrong_service}
-use Rattle.mdb_topology.specs.Errors.{Trouble}
+use Rattle.mdb_pool_rules.specs.Refusal.{wrong_service}
+use Rattle.mdb_driver_rules.specs.Errors.{Trouble}
 use Rattle.mdb_topology.specs.Marking.{IsMarked, IsOfPool, MarkPasses}
-use Rattle.mdb_topology.specs.Standing.{at_address}
+use Rattle.mdb_driver_pools.specs.Standing.{at_address}
 use Rattle.mdb_topology.proofs.Marks.ComesTo.{mark-passes}
-use Rattle.mdb_topology.proofs.General.OnePosition.{some-same}
+use Rattle.mdb_driver_rules.proofs.General.OnePosition.{some-same}
 use Rattle.mdb_topology.proofs.Marks.AtItsLimit.{after-any, clear-accepted, not-both}
 use Rattle.mdb_topology.proofs.topology.TopologyCore.mark.Goals as goal
 

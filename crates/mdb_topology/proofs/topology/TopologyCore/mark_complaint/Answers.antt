@@ -6,15 +6,15 @@ use Rattle.mdb_describe.specs.Update.{updated}
 use Rattle.mdb_pool.specs.Core.{PoolCore}
 use Rattle.mdb_pool.specs.Kept.{connection_at}
 use Rattle.mdb_pool.proofs.Answered.Pin.{held-at}
-use Rattle.mdb_topology.specs.declared.errors.marked.Asked.TheVariants.{CheckNow}
+use Rattle.mdb_driver_pools.specs.declared.trouble.Asked.TheVariants.{CheckNow}
 use Rattle.mdb_topology.specs.Changing.{IsTelling}
 use Rattle.mdb_topology.specs.Complaining.{is_hard_now}
-use Rattle.mdb_topology.specs.Errors.{state_change, lost}
+use Rattle.mdb_driver_rules.specs.Errors.{state_change, lost}
 use Rattle.mdb_topology.specs.Marking.{IsOfPool, IsMarking}
-use Rattle.mdb_topology.specs.Standing.{at_address}
+use Rattle.mdb_driver_pools.specs.Standing.{at_address}
 use Rattle.mdb_topology.proofs.Marks.OfOperations.{complaint-here, row_trouble, changed-of-pool, changed-marking, lost-of-pool, lost-marking, changed-case, lost-case}
 use Rattle.mdb_topology.proofs.Marks.BecomesOfStep.{marks-become, marks-spare}
-use Rattle.mdb_topology.proofs.General.OnePosition.{some-same}
+use Rattle.mdb_driver_rules.proofs.General.OnePosition.{some-same}
 use Rattle.mdb_topology.proofs.WholeSteps.ComesBeforeMemory.{none-wants}
 use Rattle.mdb_topology.proofs.topology.TopologyCore.mark_complaint.Goals as goal
 

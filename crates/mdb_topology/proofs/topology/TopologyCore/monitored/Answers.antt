@@ -1,6 +1,6 @@
 use Rattle.std.proofs.Common.{refl, sym, ◌∙◌}
 use Rattle.mdb_topology.proofs.OfMonitors.CheckFailed.{here-at}
-use Rattle.mdb_topology.proofs.OnePool.FoundAt.{open-lives}
+use Rattle.mdb_driver_pools.proofs.OnePool.FoundAt.{open-lives}
 use Rattle.mdb_topology.proofs.topology.TopologyCore.monitored.Goals as goal
 
 pub returns-then-is_here-clause-kept : goal.returns-then-is_here-clause-kept

@@ -5,24 +5,24 @@ use Rattle.mdb_log.specs.declared.reply.Refused.TheVariants.{NotHolder}
 use Rattle.mdb_log.specs.declared.reply.Reply.TheVariants.{Changed}
 use Rattle.mdb_pool.specs.Core.{PoolCore}
 use Rattle.mdb_pool.specs.Kept.{connection_at, held_connection, id_at}
-use Rattle.mdb_pool.proofs.Answered.Item.{both-true}
+use Rattle.mdb_log.proofs.Bools.{both-true}
 use Rattle.mdb_pool.proofs.Answered.Pin.{held-at}
 use Rattle.mdb_topology.specs.Complaining.{concerns_now, service_cleared}
-use Rattle.mdb_topology.specs.Current.{operating}
-use Rattle.mdb_topology.specs.Errors.{case_of, for_service}
-use Rattle.mdb_topology.specs.Finding.{holder}
+use Rattle.mdb_driver_rules.specs.Current.{operating}
+use Rattle.mdb_driver_rules.specs.Errors.{case_of, for_service}
+use Rattle.mdb_driver_pools.specs.Finding.{holder}
 use Rattle.mdb_topology.specs.Marking.{IsClearing}
 use Rattle.mdb_topology.proofs.Marks.ClearsService.{balanced-clearing}
-use Rattle.mdb_topology.proofs.General.Truth.{not-back}
-use Rattle.mdb_topology.proofs.OnePool.FoundAt.{holder-lives}
-use Rattle.mdb_topology.proofs.General.OnePosition.{some-same}
+use Rattle.mdb_driver_rules.proofs.General.Truth.{not-back}
+use Rattle.mdb_driver_pools.proofs.OnePool.FoundAt.{holder-lives}
+use Rattle.mdb_driver_rules.proofs.General.OnePosition.{some-same}
 use Rattle.mdb_topology.specs.Changing.{IsChanging}
-use Rattle.mdb_topology.specs.Refusal.{refusal}
+use Rattle.mdb_driver_rules.specs.Refusal.{refusal}
 use Rattle.mdb_topology.proofs.WholeSteps.Stops.{as-next}
 use Rattle.mdb_topology.proofs.Marks.CurrentErrors.{Held, held-there, complaint-homeless}
 use Rattle.mdb_topology.proofs.Marks.OfOperations.{complaint-here, row_trouble, complaint-resting}
 use Rattle.mdb_topology.proofs.WholeSteps.QuietStep.{follows-quiet}
-use Rattle.mdb_topology.proofs.OnePool.SameHistories.{IsPlain}
+use Rattle.mdb_driver_rules.proofs.SameHistories.{IsPlain}
 use Rattle.mdb_topology.proofs.topology.TopologyCore.operation_error.Goals as goal
 
 pub returns-in_default-clause-becomes : goal.returns-in_default-clause-becomes

@@ -1,10 +1,9 @@
-use Rattle.std.proofs.Common.{◌≡◌, ◌&&◌, true, is_some, sym, ◌∙◌, ap}
+use Rattle.std.proofs.Common.{◌≡◌, ◌&&◌, true, is_some, sym, ◌∙◌, ap, Bool, false, None}
 use Rattle.mdb_describe.specs.Descriptions.{failed}
 use Rattle.mdb_describe.specs.Differences.{difference}
 use Rattle.mdb_describe.specs.Update.{updated}
 use Rattle.mdb_pool.specs.Kept.{exhausted_now}
-use Rattle.std.proofs.Common.{Bool, false, None}
-use Rattle.mdb_topology.proofs.General.Truth.{and-false, and-true}
+use Rattle.mdb_driver_rules.proofs.General.Truth.{and-false, and-true}
 use Rattle.mdb_topology.proofs.topology.TopologyCore.overspends.Goals as goal
 
 pub returns-then-not-clears : goal.returns-then-not-clears

@@ -1,7 +1,7 @@
 use Rattle.std.proofs.Common.{◌∙◌, sym, ap, length, is_some, nat_lt}
-use Rattle.mdb_topology.proofs.InMemory.GonePools.{is-gone}
-use Rattle.mdb_topology.proofs.InMemory.LivingPools.{living-there}
-use Rattle.mdb_topology.proofs.OnePool.HandedOut.{opened-number, spent-not, stands-in, home-is}
+use Rattle.mdb_driver_pools.proofs.InMemory.GonePools.{is-gone}
+use Rattle.mdb_driver_pools.proofs.InMemory.LivingPools.{living-there}
+use Rattle.mdb_driver_pools.proofs.OnePool.HandedOut.{opened-number, spent-not, stands-in, home-is}
 use Rattle.mdb_topology.proofs.topology.TopologyCore.pool.Goals as goal
 
 pub returns-clause-opened : goal.returns-clause-opened

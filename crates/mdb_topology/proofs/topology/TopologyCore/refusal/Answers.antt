@@ -1,8 +1,8 @@
 use Rattle.std.proofs.Common.{◌≤◌, length, sym, ◌∙◌, subst}
-use Rattle.mdb_topology.specs.Description.{description_of}
+use Rattle.mdb_driver_rules.specs.Description.{description_of}
 use Rattle.mdb_topology.specs.Stepping.{BecomesOf}
-use Rattle.mdb_topology.proofs.OnePool.BecomesOfAct.{accepted-answer, cause-is}
-use Rattle.mdb_topology.proofs.WholeSteps.TwoKinds.{topology-rest}
+use Rattle.mdb_driver_pools.proofs.OnePool.BecomesOfAct.{accepted-answer, cause-is}
+use Rattle.mdb_driver_rules.proofs.TwoKinds.{topology-rest}
 use Rattle.mdb_topology.proofs.topology.TopologyCore.refusal.Goals as goal
 
 pub act-requires-clause-known : goal.act-requires-clause-known
@@ -25,3 +25,8 @@ pub returns-in-Accepted-clause-why : goal.returns-in-Accepted-clause-why
 returns-in-Accepted-clause-why c h z =
     let f = subst (λ x. BecomesOf c.args.self.now c.args.step.now x h) c.in-Accepted.is (c.in_ok-why.ensures.becomes h z) in
     sym (accepted-answer c.args.self.now.options h c.args.step.now c.in-Accepted.next.reply c.in-Accepted.next.facts.items f.answer_is f.accepted)
+
+pub returns-in-Repeated-clause-why : goal.returns-in-Repeated-clause-why
+returns-in-Repeated-clause-why c h z =
+    let f = subst (λ x. BecomesOf c.args.self.now c.args.step.now x h) c.in-Repeated.is (c.in_ok-why.ensures.becomes h z) in
+    sym (accepted-answer c.args.self.now.options h c.args.step.now c.in-Repeated.next.reply c.in-Repeated.next.facts.items f.answer_is f.accepted)

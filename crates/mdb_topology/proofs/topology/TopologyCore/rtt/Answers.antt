@@ -3,13 +3,14 @@ use Rattle.std.proofs.lemmas.Option.{slice_get-get_or}
 use Rattle.mdb_topology.specs.declared.transition.Transition.{Transition}
 use Rattle.mdb_topology.specs.declared.monitors.monitoring.Monitoring.TheVariants.{Checked}
 use Rattle.mdb_topology.specs.Checking.{Measures}
-use Rattle.mdb_topology.specs.Stepping.{is_here_among, Follows}
-use Rattle.mdb_topology.proofs.InMemory.LivingPools.{lives-within}
+use Rattle.mdb_topology.specs.Stepping.{Follows}
+use Rattle.mdb_driver_pools.specs.Standing.{is_here_among}
+use Rattle.mdb_driver_pools.proofs.InMemory.LivingPools.{lives-within}
 use Rattle.mdb_topology.proofs.OfMonitors.CheckFailed.{here-at}
 use Rattle.mdb_topology.proofs.OfMonitors.RoundTrips.{follows-away, follows-sample}
-use Rattle.mdb_topology.proofs.OnePool.FoundAt.{open-lives}
+use Rattle.mdb_driver_pools.proofs.OnePool.FoundAt.{open-lives}
 use Rattle.mdb_topology.proofs.WholeSteps.OneMoreEntry.{as-many}
-use Rattle.mdb_topology.specs.Refusal.{may_want}
+use Rattle.mdb_driver_rules.specs.Refusal.{may_want}
 use Rattle.mdb_topology.proofs.Publications.WhichSteps.{passes-time}
 use Rattle.mdb_topology.proofs.WholeSteps.ComesBeforeMemory.{untroubled-wants}
 use Rattle.mdb_log.specs.declared.step.Act.TheVariants as Do

@@ -2,14 +2,14 @@ use Rattle.std.proofs.Common.{◌≡◌, ◌∙◌, ◌++◌, ◌∷◌, [], Non
 use Rattle.mdb_log.specs.declared.reply.Reply.TheVariants.{Done}
 use Rattle.mdb_topology.specs.declared.topology.TopologyCore.{TopologyCore}
 use Rattle.mdb_describe.specs.Servers.{in_order}
-use Rattle.mdb_topology.specs.Publishing.{topology_closed_fact}
+use Rattle.mdb_driver_rules.specs.Publishing.{topology_closed_fact}
 use Rattle.mdb_topology.specs.declared.transition.Transition.{Transition}
 use Rattle.mdb_topology.specs.Changing.{IsChanging}
 use Rattle.mdb_topology.proofs.WholeSteps.Stops.{as-next, stops-next}
-use Rattle.mdb_topology.proofs.OnePool.SameHistories.{IsPlain}
+use Rattle.mdb_driver_rules.proofs.SameHistories.{IsPlain}
 use Rattle.mdb_topology.proofs.Publications.WhichSteps.{stop-resting, passes-time}
 use Rattle.mdb_topology.proofs.WholeSteps.QuietStep.{follows-quiet}
-use Rattle.mdb_topology.specs.Refusal.{may_want}
+use Rattle.mdb_driver_rules.specs.Refusal.{may_want}
 use Rattle.mdb_topology.proofs.WholeSteps.ComesBeforeMemory.{untroubled-wants}
 use Rattle.mdb_log.specs.declared.step.Act.TheVariants as Do
 use Rattle.mdb_topology.proofs.Marks.AtItsLimit.{wants-after}

@@ -1,7 +1,7 @@
 use Rattle.std.proofs.Common.{◌≡◌, IfOk, OnOk, List, subst}
 use Rattle.mdb_log.specs.declared.step.Act.TheVariants as act
 use Rattle.mdb_log.specs.History.{Item}
-use Rattle.mdb_topology.specs.Answer.{answer}
+use Rattle.mdb_driver_rules.specs.Answer.{answer}
 use Rattle.mdb_topology.specs.Standing.{StandsFor}
 use Rattle.mdb_topology.specs.Stepping.{IsLogged}
 use Rattle.mdb_topology.proofs.topology.TopologyCore.sync_hosts.Goals as goal

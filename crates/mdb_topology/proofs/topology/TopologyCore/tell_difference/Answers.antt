@@ -1,7 +1,7 @@
 use Rattle.std.proofs.Common.{[], length, subst}
-use Rattle.mdb_topology.specs.Planned.{PlansMore}
-use Rattle.mdb_topology.specs.Publishing.{publication}
-use Rattle.mdb_topology.specs.Touching.{touches}
+use Rattle.mdb_driver_pools.specs.Planned.{PlansMore}
+use Rattle.mdb_driver_rules.specs.Publishing.{publication}
+use Rattle.mdb_driver_rules.specs.Touching.{touches}
 use Rattle.mdb_topology.proofs.Publications.OfDifference.{open-known, difference-told}
 use Rattle.mdb_topology.proofs.topology.TopologyCore.tell_difference.Goals as goal
 

@@ -1,11 +1,12 @@
 use Rattle.std.proofs.Common.{◌≡◌, ◌&&◌, [], length, Some, None, is_some, sym, ◌∙◌, ap, subst}
 use Rattle.std.specs.Prelude.{slice_get}
 use Rattle.mdb_describe.specs.Differences.{difference}
-use Rattle.mdb_topology.specs.Failing.{Fails, IsToldOf}
-use Rattle.mdb_topology.specs.Marking.{AcceptsClear}
-use Rattle.mdb_topology.specs.Planned.{PlansMore}
-use Rattle.mdb_topology.specs.Publishing.{telling}
-use Rattle.mdb_topology.specs.Touching.{touched_by}
+use Rattle.mdb_topology.specs.Failing.{IsToldOf}
+use Rattle.mdb_driver_pools.specs.Failing.{Fails}
+use Rattle.mdb_driver_pools.specs.Clearing.{AcceptsClear}
+use Rattle.mdb_driver_pools.specs.Planned.{PlansMore}
+use Rattle.mdb_driver_rules.specs.Publishing.{telling}
+use Rattle.mdb_driver_rules.specs.Touching.{touched_by}
 use Rattle.mdb_topology.proofs.Failure.Answer.{still-at, told-of}
 use Rattle.mdb_topology.proofs.topology.TopologyCore.tell_failure.Goals.{then-changed, else-changed}
 use Rattle.mdb_topology.proofs.topology.TopologyCore.tell_failure.Goals as goal

@@ -2,14 +2,15 @@ use Rattle.std.proofs.Common.{◌≡◌, true, ◌&&◌, ◌++◌, [], length, N
 use Rattle.mdb_describe.specs.Descriptions.{failed}
 use Rattle.mdb_describe.specs.Differences.{difference}
 use Rattle.mdb_describe.specs.Update.{updated}
-use Rattle.mdb_topology.specs.Living.{lives_at}
-use Rattle.mdb_topology.specs.Marking.{AcceptsClear, Clears, MarkTold, asked_of}
-use Rattle.mdb_topology.specs.Planned.{PlansMore}
-use Rattle.mdb_topology.specs.Publishing.{telling}
-use Rattle.mdb_topology.specs.Touching.{touched_by}
+use Rattle.mdb_driver_pools.specs.Living.{lives_at}
+use Rattle.mdb_topology.specs.Marking.{MarkTold}
+use Rattle.mdb_driver_pools.specs.Clearing.{AcceptsClear, Clears, asked_of}
+use Rattle.mdb_driver_pools.specs.Planned.{PlansMore}
+use Rattle.mdb_driver_rules.specs.Publishing.{telling}
+use Rattle.mdb_driver_rules.specs.Touching.{touched_by}
 use Rattle.mdb_topology.proofs.Marks.ComesTo.{mark-comes}
 use Rattle.mdb_topology.proofs.topology.TopologyCore.tell_mark.Goals.{then-changed, else-changed}
-use Rattle.mdb_topology.proofs.OnePool.FoundAt.{open-lives}
+use Rattle.mdb_driver_pools.proofs.OnePool.FoundAt.{open-lives}
 use Rattle.mdb_topology.proofs.topology.TopologyCore.tell_mark.Goals as goal
 
 pub publish_mark-requires-clause-marked : goal.publish_mark-requires-clause-marked

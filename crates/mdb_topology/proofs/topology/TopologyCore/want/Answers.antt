@@ -5,7 +5,7 @@ use Rattle.mdb_topology.specs.declared.transition.Transition.{Transition}
 use Rattle.mdb_topology.specs.declared.monitors.monitoring.Monitoring.TheVariants.{Asked}
 use Rattle.mdb_topology.specs.Stepping.{Follows}
 use Rattle.mdb_topology.proofs.OfMonitors.Watchers.{follows-want}
-use Rattle.mdb_topology.specs.Refusal.{may_want}
+use Rattle.mdb_driver_rules.specs.Refusal.{may_want}
 use Rattle.mdb_topology.proofs.Publications.WhichSteps.{passes-time}
 use Rattle.mdb_topology.proofs.WholeSteps.ComesBeforeMemory.{untroubled-wants}
 use Rattle.mdb_log.specs.declared.step.Act.TheVariants as Do

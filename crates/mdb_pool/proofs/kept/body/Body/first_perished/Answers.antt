@@ -7,7 +7,7 @@ use Rattle.mdb_slots.specs.Keyed.{rest_of}
 use Rattle.mdb_pool.specs.declared.kept.connection.Connection.{Connection}
 use Rattle.mdb_pool.proofs.Listed.Beside.{find_among}
 use Rattle.mdb_pool.proofs.KeptInLittle.ConnectionsThatLive.{member_lives, walked}
-use Rattle.mdb_pool.proofs.Listed.Values.{find-member}
+use Rattle.mdb_pool_rules.proofs.Listed.Values.{find-member}
 use Rattle.mdb_pool.proofs.Listed.WalksForth.{walk-shorter, walk-miss, walk-hit, walk-none}
 use Rattle.mdb_pool.proofs.kept.body.Body.first_perished.Goals as goal
 

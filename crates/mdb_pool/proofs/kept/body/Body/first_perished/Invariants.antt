@@ -5,7 +5,7 @@ use Rattle.mdb_pool.specs.Body.{now_of}
 use Rattle.mdb_pool.specs.Places.{is_available}
 use Rattle.mdb_pool.specs.declared.kept.connection.Connection.{Connection}
 use Rattle.mdb_pool.specs.Kept.{perished_now}
-use Rattle.mdb_pool.proofs.Listed.Values.{In}
+use Rattle.mdb_pool_rules.proofs.Listed.Values.{In}
 use Rattle.mdb_pool.proofs.kept.body.Body.first_perished.Given as goal
 
 -- the walk is at one of the connections, and what is left of it decides

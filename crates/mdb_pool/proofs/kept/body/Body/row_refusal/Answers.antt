@@ -2,7 +2,7 @@ use Rattle.std.proofs.Common.{◌≡◌, true, ◌∙◌, sym, ap}
 use Rattle.mdb_log.specs.declared.step.Act.{Act}
 use Rattle.mdb_pool.specs.Body.{now_of}
 use Rattle.mdb_pool.specs.Core.{PoolCore}
-use Rattle.mdb_pool.specs.Refusal.{first_row}
+use Rattle.mdb_pool_rules.specs.Refusal.{first_row}
 use Rattle.mdb_pool.specs.Refusing.{rows_now, tells_new}
 use Rattle.mdb_pool.proofs.kept.body.Body.row_refusal.Goals as goal
 

@@ -7,7 +7,7 @@ use Rattle.mdb_log.specs.History.{PoolItem, gave_up}
 use Rattle.mdb_pool.specs.Kept.{held_connection, kept_request, request_at, is_ended_at, is_asked_at}
 use Rattle.mdb_pool.specs.Standing.{Fits, Accepts}
 use Rattle.mdb_pool.proofs.KeptInLittle.AskedOfThoseThatStay.{kept-is, kept-there, kept-came, open-asked, open_unsettled, unsettled_kept}
-use Rattle.mdb_pool.proofs.Listed.Values.{entry_at-key}
+use Rattle.mdb_pool_rules.proofs.Listed.Values.{entry_at-key}
 use Rattle.mdb_pool.proofs.Answered.GiveUp.{leave-of, quit-of}
 use Rattle.mdb_pool.proofs.kept.draft.Draft.accept_give_up.Goals as goal
 

@@ -3,7 +3,7 @@ use Rattle.std.specs.Prelude.{vec_capacity}
 use Rattle.std.proofs.lemmas.Fn.{filter_same}
 use Rattle.mdb_log.specs.Connections.{has}
 use Rattle.mdb_topology.specs.declared.monitors.watched.Watched.{Watched}
-use Rattle.mdb_topology.specs.Living.{lives_at}
+use Rattle.mdb_driver_pools.specs.Living.{lives_at}
 use Rattle.mdb_topology.specs.Watching.{places, IsWatched, MonitorList}
 use Rattle.mdb_topology.proofs.InMemory.WatchedPools.{fewer-many, fewer-watched, gone-has, kept-has}
 use Rattle.mdb_topology.proofs.monitors.monitor_list.Monitors.let_go.Goals as goal

@@ -1,7 +1,7 @@
 use Rattle.std.proofs.Common.{◌≡◌, ◌+◌, ◌<◌, ◌++◌, ◌∷◌, [], length, sym, ap, arith}
 use Rattle.mdb_topology.specs.declared.monitors.watched.Watched.{Watched}
 use Rattle.mdb_topology.specs.Watching.{MonitorList}
-use Rattle.mdb_topology.proofs.InMemory.StillLives.{length-last}
+use Rattle.mdb_driver_pools.proofs.InMemory.StillLives.{length-last}
 use Rattle.mdb_topology.proofs.InMemory.WatchedPools.{more-watched}
 use Rattle.mdb_topology.proofs.monitors.monitor_list.Monitors.push_reserved.Goals as goal
 

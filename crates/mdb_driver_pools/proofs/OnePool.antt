@@ -1,0 +1,22 @@
+-- An act of one pool: where it is found, asked, planned and done, and what it leaves.
+pub mod AcceptedAct
+pub mod AnswerOfAll
+pub mod BecomesOfAct
+pub mod ChangesInOrder
+pub mod DriversOwnAct
+pub mod FactsLeaveOthers
+pub mod FactsWithoutAct
+pub mod FoundAt
+pub mod HandedOut
+pub mod NoJobLeavesAll
+pub mod OneAnswer
+pub mod OpenAtOneAddress
+pub mod OpenedWhereNone
+pub mod OthersStay
+pub mod PlannedAct
+pub mod RefusedByItsRows
+pub mod SameKnowledge
+pub mod StandsAfter
+pub mod TellsNoTopology
+pub mod TwoSteps
+pub mod WarmGetsPending

@@ -1,0 +1,42 @@
+use Rattle.std.proofs.Common.{◌≡◌, ◌+◌, List, [], ◌∷◌, ◌++◌, length, map, take, false, Some, refl, sym, ◌∙◌, ap, subst, arith}
+use Rattle.std.specs.Prelude.{slice_get}
+use Rattle.std.proofs.lemmas.Grind.{common_steps}
+use Rattle.mdb_base.specs.declared.address.ServerAddress.{ServerAddress}
+use Rattle.mdb_describe.specs.Servers.{is_listed}
+use Rattle.mdb_pool.specs.Core.{PoolCore}
+use Rattle.mdb_driver_pools.specs.declared.pools.Pools.{Pools}
+use Rattle.mdb_driver_pools.specs.Planned.{PlansMore}
+use Rattle.mdb_driver_rules.specs.Publishing.{server_changed}
+use Rattle.mdb_driver_rules.specs.Touching.{readies, readies_one}
+use Rattle.mdb_driver_rules.proofs.General.OneElement.{at-index}
+use Rattle.mdb_driver_pools.proofs.Publications.PlannedOfMany.{different-take, changed-more}
+use Rattle.mdb_driver_pools.proofs.Publications.PlannedOfServer.{plans-none}
+use Rattle.mdb_driver_pools.proofs.pools.Pools.plan_all_changed.Goals as goal
+
+pub loop-address-init : goal.loop-address-init
+loop-address-init c =
+    let pools = c.args.self.now.cores.items in
+    record { same = refl; planned = plans-none c.args.change.now.options.now c.args.change.now.moment pools (length pools) (readies c.args.change.now.later.now []) c.args.changes.now.items c.args.facts.now.items }
+
+pub loop-address-preserved : goal.loop-address-preserved
+loop-address-preserved c =
+    let l = c.loop-address in
+    let o = c.args.change.now.options.now in
+    let m = c.args.change.now.moment in
+    let pools = c.args.self.now.cores.items in
+    let xs = c.args.addresses.now in
+    let x = c.address-item.result in
+    let done = take l.address-index xs in
+    let call = c.plan_changed.new in
+    let at : slice_get xs l.address-index ≡ Some x = at-index xs l.address-index x x c.loop-address-test.true c.address-item.is refl in
+    let more : take (l.address-index + 1) xs ≡ done ++ x ∷ [] = grind (arith, common_steps) in
+    let new : is_listed done x ≡ false = different-take xs l.address-index x c.requires.different at in
+    let one : PlansMore o m pools (length pools) (readies_one c.args.change.now.later.now x) (server_changed o m c.args.change.now.earlier.now c.args.change.now.later.now x ∷ []) [] [] l.changes.items call.changes.items l.facts.items call.facts.items =
+    subst (λ (w : List PoolCore). PlansMore o m w (length w) (readies_one c.args.change.now.later.now x) (server_changed o m c.args.change.now.earlier.now c.args.change.now.later.now x ∷ []) [] [] l.changes.items call.changes.items l.facts.items call.facts.items)
+    (ap (λ (p : Pools). p.cores.items) l.invariant.same) c.in_ok-plan_changed.ensures.planned in
+    record {
+      same = c.in_ok-plan_changed.ensures.same ∙ l.invariant.same;
+      planned =
+          subst (λ (list : List ServerAddress). PlansMore o m pools (length pools) (readies c.args.change.now.later.now list) (map (server_changed o m c.args.change.now.earlier.now c.args.change.now.later.now) list) [] [] c.args.changes.now.items call.changes.items c.args.facts.now.items call.facts.items) (sym more)
+          (changed-more o m pools (length pools) done x new c.args.changes.now.items l.changes.items call.changes.items c.args.facts.now.items l.facts.items call.facts.items c.args.change.now.earlier.now c.args.change.now.later.now l.invariant.planned one);
+    }

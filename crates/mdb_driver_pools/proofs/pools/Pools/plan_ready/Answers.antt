@@ -1,0 +1,29 @@
+use Rattle.std.proofs.Common.{◌≡◌, Some, None, sym, ◌∙◌, ap, subst, if◌then◌else◌}
+use Rattle.std.specs.Prelude.{slice_get}
+use Rattle.std.proofs.lemmas.Result.{on_ok_weaker}
+use Rattle.mdb_log.specs.declared.step.Act.{Act}
+use Rattle.mdb_log.specs.declared.step.Act.TheVariants.{Ready as ReadyAct}
+use Rattle.mdb_pool.specs.Core.{PoolCore}
+use Rattle.mdb_driver_pools.specs.Acting.{PlansAt, readying}
+use Rattle.mdb_driver_pools.specs.Standing.{at_address}
+use Rattle.mdb_driver_rules.proofs.General.OnePosition.{some-same}
+use Rattle.mdb_driver_pools.proofs.OnePool.FoundAt.{open-lives}
+use Rattle.mdb_driver_pools.proofs.OnePool.PlannedAct.{planned-as}
+use Rattle.mdb_driver_pools.proofs.pools.Pools.plan_ready.Goals as goal
+
+pub returns-clause-planned : goal.returns-clause-planned
+returns-clause-planned c =
+    let pools = c.args.self.now.cores.items in let m = c.args.moment in let i = c.in-Some.index in let s = c.at.result.now in
+    let earlier = c.args.changes.now.items in let later = c.plan_act.new.changes.items in let before = c.args.facts.now.items in let after = c.plan_act.new.facts.items in
+    let at : at_address pools c.args.address.now ≡ Some i = sym c.at_address.ensures ∙ c.in-Some.is in
+    let at_i : slice_get pools i ≡ Some s = c.at.ensures in
+    let one : Act = ReadyAct c.number.result in
+    on_ok_weaker c.plan_act.result (λ d. subst (λ b. PlansAt pools (if b then at_address pools c.args.address.now else None) m readying earlier later before after) (sym c.if-not-wanted.false)
+    (subst (λ o. PlansAt pools o m readying earlier later before after) (sym at)
+    (planned-as pools i m one readying earlier later before after (λ x get. ap (λ p. ReadyAct p) c.number.ensures ∙ ap (λ (y : PoolCore). ReadyAct y.pool) (some-same s x (slice_get pools i) at_i get)) d))) c.plan_act.ensures.planned
+
+pub at-requires : goal.at-requires
+at-requires c = open-lives c.args.self.now.cores.items c.args.address.now c.in-Some.index (sym c.at_address.ensures ∙ c.in-Some.is)
+
+pub plan_act-requires-clause-there : goal.plan_act-requires-clause-there
+plan_act-requires-clause-there c = open-lives c.args.self.now.cores.items c.args.address.now c.in-Some.index (sym c.at_address.ensures ∙ c.in-Some.is)

@@ -1,0 +1,11 @@
+pub mod Acting
+pub mod Asking
+pub mod Clearing
+pub mod Failing
+pub mod Finding
+pub mod Living
+pub mod Opening
+pub mod Planned
+pub mod Standing
+pub mod Taking
+pub mod Telling

@@ -1,3 +1,0 @@
--- Worked examples, computed.
-pub mod Pools
-pub mod Jobs

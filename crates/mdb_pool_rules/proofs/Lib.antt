@@ -1,0 +1,11 @@
+pub mod AfterClearOrClose
+pub mod FactsGrantNothing
+pub mod Fair
+pub mod FirstRow
+pub mod KeptByFacts
+pub mod LimitsAreKept
+pub mod Listed
+pub mod NoMove
+pub mod OrderOfIds
+pub mod SameAnswers
+pub mod Worked

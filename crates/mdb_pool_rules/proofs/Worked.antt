@@ -1,0 +1,3 @@
+-- Worked examples, computed.
+pub mod Jobs
+pub mod Pools

@@ -1,0 +1,7 @@
+pub mod Answer
+pub mod Available
+pub mod Facts
+pub mod Jobs
+pub mod Quiet
+pub mod Refusal
+pub mod Serving

@@ -1,6 +1,0 @@
-use Rattle.std.proofs.Common.{◌≡◌, drop}
-use Rattle.mdb_topology.specs.Description.{with_balancers}
-use Rattle.mdb_topology.proofs.opening.add_balancers.Given as goal
-
-abbrev pub invariant-loop-seed : goal.invariant-loop-seed
-invariant-loop-seed l = with_balancers (drop l.seed-index l.seeds) l.description ≡ with_balancers l.seeds l.initial.description
