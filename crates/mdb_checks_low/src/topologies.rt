@@ -3,7 +3,9 @@
 use crate::servers::server;
 use mdb_base::{ClusterTime, Items, TagSet, Text};
 use mdb_cases::{Page, made_options, named, number, parted, tell_server, tell_topology};
-use mdb_describe::{Diff, Mode, ReadPreference, SelectionCriteria, TopologyDescription};
+use mdb_describe::{
+    Diff, Mode, ReadPreference, SelectionCriteria, ServerDescription, TopologyDescription,
+};
 use std::mem;
 
 /// A topology as it was opened, and as it is.
@@ -109,6 +111,31 @@ fn update(page: &mut Page, topology: &mut TopologyDescription, given: &str) {
     tell_topology(page, topology);
 }
 
+// A description that says again what is known takes its place; of another one nothing is kept.
+fn keep(page: &mut Page, topology: &mut TopologyDescription, server: ServerDescription) {
+    match topology.is_repeated(page.alloc, &server) {
+        Ok(true) => {
+            page.put("again ");
+            topology.store(page.alloc, server);
+        }
+        Ok(false) => {
+            page.put("new ");
+            drop(server);
+        }
+        Err(_) => {
+            page.fail();
+            drop(server);
+        }
+    }
+}
+
+fn store(page: &mut Page, topology: &mut TopologyDescription, given: &str) {
+    if let Some(server) = server(page, given) {
+        keep(page, topology, server);
+    }
+    tell_topology(page, topology);
+}
+
 fn sync(page: &mut Page, topology: &mut TopologyDescription, given: &str) {
     let hosts = page.addresses(given);
     if topology.sync_hosts(page.alloc, &hosts).is_err() {
@@ -150,6 +177,7 @@ fn copy(page: &mut Page, topology: &TopologyDescription) {
 fn step(page: &mut Page, topology: &mut Topology, kind: &str, given: &str) {
     match kind {
         "update" => update(page, &mut topology.now, given),
+        "store" => store(page, &mut topology.now, given),
         "sync" => sync(page, &mut topology.now, given),
         "stop" => stop(page, &mut topology.now),
         "maxima" => maxima(page, &topology.now),
@@ -167,8 +195,8 @@ fn step(page: &mut Page, topology: &mut Topology, kind: &str, given: &str) {
 }
 
 /// `open a:1 set=foo`, and of the topology that it opened `update a:1 mongos`, `sync a:1,b:1`, `stop`: the topology
-/// after it; and what it answers to `maxima`, `writable`, `readable Primary`, `diff`, `timeout`,
-/// `error`, `server a:1` and `advance 7`.
+/// after it, `store a:1 mongos` with `again` or `new` first; and what it answers to `maxima`, `writable`,
+/// `readable Primary`, `diff`, `timeout`, `error`, `server a:1` and `advance 7`.
 pub fn follow(page: &mut Page, topology: &mut Option<Topology>, given: &str) {
     let (kind, given) = parted(given);
     if kind == "open" {
