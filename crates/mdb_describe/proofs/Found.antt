@@ -1,9 +1,7 @@
 -- What an ordered list of servers finds, and what a difference of two of them lists.
-use Rattle.std.proofs.Common.{◌≡◌, ℕ, zero, suc, Bool, true, false, not, ◌&&◌, ◌||◌, List, [], ◌∷◌, nat_eq, Option, Some, None, is_some, refl, sym, ap, ◌∙◌, inl, inr, arith}
+use Rattle.std.proofs.Common.{◌≡◌, ℕ, zero, suc, Bool, true, false, not, ◌&&◌, ◌||◌, List, [], ◌∷◌, Option, Some, None, is_some, refl, sym, ap, ◌∙◌, inl, inr}
 use Rattle.std.specs.List.{list_all, slice_get}
-use Rattle.std.specs.Cmp.Lexicographic.{pointwise}
-use Rattle.std.proofs.lemmas.Bool.{cases_Bool, and_parts, and_from}
-use Rattle.std.proofs.lemmas.Bool.Decides.{nat_tests}
+use Rattle.std.proofs.lemmas.Bool.{cases_Bool, and_parts, and_from, or_right}
 use Rattle.std.proofs.lemmas.Option.{same_Some}
 use Rattle.mdb_base.specs.declared.address.ServerAddress.{ServerAddress}
 use Rattle.mdb_base.specs.AddressOrder.{is_before, in_order as are_in_order}
@@ -14,18 +12,8 @@ use Rattle.mdb_describe.specs.declared.diff.Diff.{Diff}
 use Rattle.mdb_describe.specs.Servers.{is_known, in_order}
 use Rattle.mdb_describe.specs.Topology.{server_at}
 use Rattle.mdb_describe.specs.Differences.{is_other, differs_from, changed, missing, difference, unless_empty, is_empty, AreInOrder, are_in_both}
+use Rattle.mdb_describe.proofs.Addresses.{own-address}
 use Rattle.mdb_describe.proofs.InOrder.{kept_in_order}
-
-same_text : (xs : List ℕ) → pointwise nat_eq xs xs ≡ true
-same_text [] = refl
-same_text (x ∷ xs) =
-    let e : nat_eq x x ≡ true = grind (arith, nat_tests) in
-    rw e (same_text xs)
-
-same_itself : (a : ServerAddress) → same_address a a ≡ true
-same_itself a =
-    let e : nat_eq a.port a.port ≡ true = grind (arith, nat_tests) in
-    and_from (pointwise nat_eq a.host a.host) (nat_eq a.port a.port) (same_text a.host) e
 
 before_not_same : (a b : ServerAddress) → is_before a b ≡ true → same_address a b ≡ false
 before_not_same a b h = elim (cases_Bool (same_address a b)) [
@@ -51,7 +39,7 @@ rest_in_order x (y ∷ ys) h = (and_parts (is_before x.address y.address) (in_or
 pub found_at_own : (xs : List ServerDescription) (i : ℕ) (s : ServerDescription) → in_order xs ≡ true → slice_get xs i ≡ Some s → server_at s.address xs ≡ Some s
 found_at_own [] i s h at = absurd (cc)
 found_at_own (x ∷ xs) zero s h at =
-    let e : same_address x.address s.address ≡ true = sym (ap (λ (t : ServerDescription). same_address x.address t.address) (same_Some x s at)) ∙ same_itself x.address in
+    let e : same_address x.address s.address ≡ true = sym (ap (λ (t : ServerDescription). same_address x.address t.address) (same_Some x s at)) ∙ own-address x.address in
     rw e at
 found_at_own (x ∷ xs) (suc i) s h at =
     let e : same_address x.address s.address ≡ false = before_not_same x.address s.address (before_later x xs i s h at) in
@@ -87,10 +75,6 @@ other_found : (o : Option ServerDescription) (s : ServerDescription) → is_othe
 other_found (Some old) s h = refl
 other_found None s h = absurd (cc)
 
-or_right : (x y : Bool) → y ≡ true → (x || y) ≡ true
-or_right true y h = refl
-or_right false y h = h
-
 both_within : (earlier whole xs : List ServerDescription) → ((a : ServerAddress) → is_known a xs ≡ true → is_known a whole ≡ true) → are_in_both earlier whole (changed earlier xs) ≡ true
 both_within earlier whole [] h = refl
 both_within earlier whole (x ∷ xs) h =
@@ -98,7 +82,7 @@ both_within earlier whole (x ∷ xs) h =
     elim (cases_Bool (differs_from earlier x)) [
       | inl differs ↦
           let before : is_known x.address earlier ≡ true = sym (known_where_found x.address earlier) ∙ other_found (server_at x.address earlier) x differs in
-          let now : is_known x.address whole ≡ true = h x.address (ap (λ (b : Bool). b || is_known x.address xs) (same_itself x.address)) in
+          let now : is_known x.address whole ≡ true = h x.address (ap (λ (b : Bool). b || is_known x.address xs) (own-address x.address)) in
           rw differs (and_from (is_known x.address earlier && is_known x.address whole) (are_in_both earlier whole (changed earlier xs)) (and_from (is_known x.address earlier) (is_known x.address whole) before now) rest)
       | inr same ↦ rw same rest
     ]
@@ -113,7 +97,7 @@ apart_within whole others (x ∷ xs) h =
     let rest = apart_within whole others xs (λ a k. h a (or_right (same_address x.address a) (is_known a xs) k)) in
     elim (cases_Bool (not (is_known x.address others))) [
       | inl gone ↦
-          let here : is_known x.address whole ≡ true = h x.address (ap (λ (b : Bool). b || is_known x.address xs) (same_itself x.address)) in
+          let here : is_known x.address whole ≡ true = h x.address (ap (λ (b : Bool). b || is_known x.address xs) (own-address x.address)) in
           rw gone (and_from (is_known x.address whole && not (is_known x.address others)) (list_all (λ a. is_known a whole && not (is_known a others)) (missing xs others)) (and_from (is_known x.address whole) (not (is_known x.address others)) here gone) rest)
       | inr there ↦ rw there rest
     ]

@@ -4,7 +4,7 @@ use Rattle.std.specs.Cmp.Lexicographic.{pointwise}
 use Rattle.std.specs.Bool.{Decides}
 use Rattle.std.proofs.lemmas.Slice.Eq.{slice_eq-Decides}
 use Rattle.std.proofs.lemmas.Bool.Decides.{Decides-eqb}
-use Rattle.std.proofs.lemmas.Bool.{and_parts, and_from, or_cases, cases_Bool, eqb-true, eq-eqb}
+use Rattle.std.proofs.lemmas.Bool.{and_parts, and_from, or_cases, or_left, or_right, cases_Bool, eqb-true, eq-eqb}
 use Rattle.std.proofs.lemmas.Option.{same_Some}
 use Rattle.mdb_base.specs.declared.address.ServerAddress.{ServerAddress}
 use Rattle.mdb_base.specs.declared.address_parse.AddressError.{AddressError}
@@ -29,14 +29,6 @@ differ OutOfMemory = false
 read_as : (text : List ℕ) (a : ServerAddress) (o : Option ServerAddress) → address_of text ≡ o → IsSpelledAddress text a → o ≡ Some a
 read_as text a (Some x) e h = ap Some (spelled_again text a (Ok x) e h)
 read_as text a None e h = absurd (let bad : BadAddress ≡ OutOfMemory = spelled_again text a (Err BadAddress) e h in let no : true ≡ false = ap differ bad in cc)
-
-or_left : (p q : Bool) → p ≡ true → p || q ≡ true
-or_left true q h = refl
-or_left false q h = absurd (cc)
-
-or_right : (p q : Bool) → q ≡ true → p || q ≡ true
-or_right true q h = refl
-or_right false q h = h
 
 to_spells : (text : List ℕ) (a : ServerAddress) → IsSpelledAddress text a → spells text a ≡ true
 to_spells text a h = and_from (is_address a) _ h.rule (by h.spelled)

@@ -1,5 +1,6 @@
 -- A description takes the place of the one of its address, among servers that stay the same but for it.
 use Rattle.std.proofs.Common.{suc, ◌≡◌, ◌||◌, Bool, true, false, List, [], ◌∷◌, length, map, filter, Some, None, refl, sym, ◌∙◌, ap}
+use Rattle.std.proofs.lemmas.Bool.{or_right}
 use Rattle.mdb_base.specs.declared.address.ServerAddress.{ServerAddress}
 use Rattle.mdb_base.specs.Equality.{same_address}
 use Rattle.mdb_describe.specs.declared.description.ServerDescription.{ServerDescription}
@@ -10,16 +11,12 @@ use Rattle.mdb_describe.specs.Topology.{server_at}
 use Rattle.mdb_describe.proofs.Addresses.{own-address, same-address}
 use Rattle.mdb_describe.proofs.SameAsItself.{none-differs}
 
-or-second : (p q : Bool) → q ≡ true → p || q ≡ true
-or-second true q e = refl
-or-second false q e = e
-
 -- nothing is missing where each server is known
 pub none-missing : (xs others : List ServerDescription) → ((a : ServerAddress) → is_known a xs ≡ true → is_known a others ≡ true) → missing xs others ≡ []
 none-missing [] others within = refl
 none-missing (x ∷ xs) others within =
     let here : is_known x.address others ≡ true = within x.address (rw (own-address x.address) refl) in
-    rw here (none-missing xs others (λ a k. within a (or-second (same_address x.address a) (is_known a xs) k)))
+    rw here (none-missing xs others (λ a k. within a (or_right (same_address x.address a) (is_known a xs) k)))
 
 module _ (s : ServerDescription) where
   pub store-known : (b : ServerAddress) (xs : List ServerDescription) → is_known b (store s xs) ≡ is_known b xs

@@ -1,5 +1,6 @@
 -- Where an update does no more than store the description.
-use Rattle.std.proofs.Common.{◌≡◌, Bool, true, false, ◌||◌, ℕ, List, [], ◌∷◌, Option, None, if◌then◌else◌, refl, sym, ap, ◌∙◌}
+use Rattle.std.proofs.Common.{◌≡◌, Bool, true, false, ℕ, List, [], ◌∷◌, Option, None, if◌then◌else◌, refl, sym, ap, ◌∙◌}
+use Rattle.std.proofs.lemmas.Bool.{or_right}
 use Rattle.mdb_base.specs.declared.address.ServerAddress.{ServerAddress}
 use Rattle.mdb_base.specs.Equality.{same_address}
 use Rattle.mdb_srv.specs.declared.topology_type.TopologyType.{TopologyType}
@@ -8,10 +9,6 @@ use Rattle.mdb_describe.specs.declared.description.ServerDescription.{ServerDesc
 use Rattle.mdb_describe.specs.declared.topology.TopologyDescription.{TopologyDescription}
 use Rattle.mdb_describe.specs.Servers.{first_incompatible, has_other_primary, has_primary, is_primary_type, store}
 use Rattle.mdb_describe.specs.Update.{check, decided, is_misnamed, is_new, of_type, stored, table, updated, with_compatibility}
-
-or-second : (p q : Bool) → q ≡ true → p || q ≡ true
-or-second true q e = refl
-or-second false q e = e
 
 other-is-one : (a : ServerAddress) (xs : List ServerDescription) → has_other_primary a xs ≡ true → has_primary xs ≡ true
 other-is-one a [] h = h
@@ -27,7 +24,7 @@ primary-stays d [] h = h
 primary-stays d (s ∷ xs) h = on (same_address s.address d.address) (is_primary_type s.server_type) refl refl (λ g. primary-stays d xs g)
   where
     behind : has_other_primary d.address xs ≡ true → has_primary (d ∷ xs) ≡ true
-    behind g = or-second (is_primary_type d.server_type) (has_primary xs) (other-is-one d.address xs g)
+    behind g = or_right (is_primary_type d.server_type) (has_primary xs) (other-is-one d.address xs g)
 
     on : (b c : Bool) → same_address s.address d.address ≡ b → is_primary_type s.server_type ≡ c → (has_other_primary d.address xs ≡ true → has_primary (store d xs) ≡ true) → has_primary (store d (s ∷ xs)) ≡ true
     on true true e f deeper = let w : has_other_primary d.address (s ∷ xs) ≡ has_other_primary d.address xs = rw (f, e) refl in rw e (behind (sym w ∙ h))

@@ -22,7 +22,7 @@ one-place-each o pools h z p = on (slice_get pools p) refl
   where
     on : (a : Option PoolCore) → slice_get pools p ≡ a → OnePlace (of_pool p h)
     on None e = subst OnePlace (sym (z.rest p e)) nothing-placed
-    on (Some s) e = let d : PoolFits o h p s = z.each p s e in one-place s (of_pool p h) d.fits.matches
+    on (Some s) e = let d : PoolFits o h p s = z.each p s e in one-place s (of_pool p h) d.fits
 
 nobody-waits : (o : PoolOptions) (pools : List PoolCore) (h : List Item) → PoolsStand o pools h → (p : ℕ) → NoneLeftWaiting o (of_pool p h)
 nobody-waits o pools h z p = on (slice_get pools p) refl

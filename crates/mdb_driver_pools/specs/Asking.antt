@@ -5,7 +5,7 @@ use Rattle.mdb_log.specs.declared.reply.Reply.{Reply}
 use Rattle.mdb_log.specs.declared.step.Step.{Step}
 use Rattle.mdb_log.specs.declared.step.Act.{Act}
 use Rattle.mdb_pool.specs.Core.{PoolCore}
-use Rattle.mdb_pool.specs.Kept.{is_spent}
+use Rattle.mdb_pool.specs.Now.{is_spent}
 use Rattle.mdb_pool.specs.Planning.{DoesLogged}
 use Rattle.mdb_pool.specs.Refusing.{refusal_now}
 use Rattle.mdb_driver_pools.specs.declared.pool_decision.PoolDecision.{PoolDecision}

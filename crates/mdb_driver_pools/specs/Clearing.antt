@@ -7,7 +7,6 @@ use Rattle.mdb_events.specs.declared.fact.Fact.{Fact}
 use Rattle.mdb_events.specs.declared.fact.Fact.TheVariants.{CheckNow as CheckNowFact, Cancel}
 use Rattle.mdb_log.specs.declared.step.Act.{Act}
 use Rattle.mdb_log.specs.declared.step.Act.TheVariants.{Clear as ClearAct}
-use Rattle.mdb_log.specs.declared.checked.BeatenResult.TheVariants as Beaten
 use Rattle.mdb_pool.specs.Core.{PoolCore}
 use Rattle.mdb_pool.specs.Refusing.{refusal_now}
 use Rattle.mdb_driver_pools.specs.declared.pool_change.PoolChange.{PoolChange}

@@ -9,8 +9,7 @@ use Rattle.mdb_log.specs.declared.step.Act.{Act}
 use Rattle.mdb_log.specs.declared.step.Act.TheVariants.{Failed}
 use Rattle.mdb_pool.specs.Core.{PoolCore}
 use Rattle.mdb_pool.specs.declared.planning.Answered.{Answered}
-use Rattle.mdb_pool.specs.Body.{PoolSteps as Plan}
-use Rattle.mdb_pool.specs.Planning.{Plans, IsPlanOf, IsDone}
+use Rattle.mdb_pool.specs.Planning.{Plan, Plans, IsPlanOf, IsDone}
 use Rattle.mdb_pool.specs.Refusing.{refusal_now}
 use Rattle.mdb_driver_pools.specs.declared.pool_change.PoolChange.{PoolChange}
 use Rattle.mdb_driver_pools.specs.declared.pool_change.PoolChange.TheVariants.{Alter}

@@ -1,12 +1,12 @@
 -- Which of the pools an act concerns, by what they keep, and why it is refused where it concerns none.
-use Rattle.std.specs.Prelude.{ℕ, Bool, false, if◌then◌else◌, is_some, List, position, Option, Some, None}
+use Rattle.std.specs.Prelude.{ℕ, Bool, false, if◌then◌else◌, List, position, Option, Some, None}
 use Rattle.mdb_base.specs.declared.address.ServerAddress.{ServerAddress}
 use Rattle.mdb_log.specs.declared.step.Act.{Act}
 use Rattle.mdb_log.specs.declared.step.Act.TheVariants.{Request, Warm, Maintain, Expire, Collect, Claim, GiveUp, Established, Return, Pin, Replicate, Take, Unpin}
 use Rattle.mdb_log.specs.declared.reply.Refused.{Refused}
 use Rattle.mdb_log.specs.declared.reply.Refused.TheVariants.{UnknownServer, RequestKnown, UnknownRequest, NotHolder, NotPending, Unpinned}
 use Rattle.mdb_pool.specs.Core.{PoolCore}
-use Rattle.mdb_pool.specs.Kept.{is_open_now, held_connection, first_unclaimed}
+use Rattle.mdb_pool.specs.Now.{has_job_now, holds_now, is_open_now}
 use Rattle.mdb_driver_pools.specs.Living.{lives_at}
 use Rattle.mdb_driver_pools.specs.Standing.{at_address, is_open_at, knows}
 
@@ -16,11 +16,11 @@ asked_by pools r = position (λ s. is_open_now s r) pools
 
 -- the first pool of which the party holds a connection
 abbrev pub holder : List PoolCore → ℕ → Option ℕ
-holder pools r = position (λ s. is_some (held_connection s r)) pools
+holder pools r = position (λ s. holds_now s r) pools
 
 -- the first pool that has a job
 abbrev pub first_job : List PoolCore → Option ℕ
-first_job pools = position (λ s. is_some (first_unclaimed s)) pools
+first_job pools = position (λ s. has_job_now s) pools
 
 -- the pool with the number, where something lives in it
 abbrev pub numbered : List PoolCore → ℕ → Option ℕ
@@ -34,7 +34,7 @@ asks_in (Some s) r = is_open_now s r
 -- there is a pool, and the party holds a connection of it
 abbrev pub holds_in : Option PoolCore → ℕ → Bool
 holds_in None r = false
-holds_in (Some s) r = is_some (held_connection s r)
+holds_in (Some s) r = holds_now s r
 
 -- there is a pool, and it is open at the address
 abbrev pub opens_in : Option PoolCore → ServerAddress → Bool

@@ -1,7 +1,7 @@
 -- The pools of a driver in which something lives: memory keeps those, and no others.
 use Rattle.std.specs.Prelude.{ℕ, suc, ◌==◌, Bool, false, not, if◌then◌else◌, List, [], ◌∷◌, position, remove, slice_get, Option, Some, None}
 use Rattle.mdb_pool.specs.Core.{PoolCore}
-use Rattle.mdb_pool.specs.Kept.{is_spent}
+use Rattle.mdb_pool.specs.Now.{is_spent}
 use Rattle.mdb_driver_pools.specs.declared.placed.Placed.{Placed}
 
 -- the pools that were opened, by number, and how many there may be before memory is wanted

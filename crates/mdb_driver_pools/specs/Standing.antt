@@ -7,9 +7,9 @@ use Rattle.mdb_base.specs.declared.address.ServerAddress.{ServerAddress}
 use Rattle.mdb_log.specs.declared.options.PoolOptions.{PoolOptions}
 use Rattle.mdb_pool.specs.Core.{PoolCore}
 use Rattle.mdb_log.specs.History.{is_number, Item, has_asked, of_pool, open_pool}
-use Rattle.mdb_log.specs.Connections.{has, holding, is_live}
+use Rattle.mdb_log.specs.Connections.{holding, is_live}
 use Rattle.mdb_log.specs.Requests.{some_act, names_party, was_asked, leaves, told, is_claimed, is_open}
-use Rattle.mdb_pool.specs.Kept.{request_at, is_asked_at, is_shut}
+use Rattle.mdb_pool.specs.Now.{asked_now, claimed_now, is_closed_now, knows_now, settled_now}
 use Rattle.mdb_pool_rules.specs.Serving.{IsServed}
 use Rattle.mdb_pool_rules.specs.Quiet.{IsQuiet}
 use Rattle.mdb_log.specs.Limits.{WithinLimits}
@@ -22,7 +22,7 @@ home s = record { number = s.pool; address = s.address }
 
 -- the pool is open, and at the address
 abbrev pub is_open_at : ServerAddress → PoolCore → Bool
-is_open_at a s = not (is_shut s.status) && same_address s.address a
+is_open_at a s = not (is_closed_now s) && same_address s.address a
 
 -- the pool that is open at the address
 abbrev pub at_address : List PoolCore → ServerAddress → Option ℕ
@@ -43,15 +43,15 @@ HasOpened pools a later = (b : ServerAddress) → at_address later b ≡ (if sam
 
 -- some pool knows the party: it asked, or took a pinned connection
 abbrev pub knows : List PoolCore → ℕ → Bool
-knows pools r = list_any (λ s. is_some (request_at s r)) pools
+knows pools r = list_any (λ s. knows_now s r) pools
 
 -- some pool was asked by the party
 abbrev pub requested : List PoolCore → ℕ → Bool
-requested pools r = list_any (λ s. is_asked_at (request_at s r)) pools
+requested pools r = list_any (λ s. asked_now s r) pools
 
 -- some pool keeps that the request is settled
 abbrev pub settled : List PoolCore → ℕ → Bool
-settled pools r = list_any (λ s. has r s.settled) pools
+settled pools r = list_any (λ s. settled_now s r) pools
 
 -- the pool with the number p
 pub record PoolFits (o : PoolOptions) (h : List Item) (p : ℕ) (s : PoolCore) : Type 0 where
@@ -72,7 +72,7 @@ pub record IsGone (h : List Item) (p : ℕ) : Type 0 where
 
 -- no party is known to two pools
 abbrev pub IsApart : List PoolCore → Type 0
-IsApart pools = (r p q : ℕ) (s t : PoolCore) → slice_get pools p ≡ Some s → slice_get pools q ≡ Some t → is_some (request_at s r) ≡ true → is_some (request_at t r) ≡ true → p ≡ q
+IsApart pools = (r p q : ℕ) (s t : PoolCore) → slice_get pools p ≡ Some s → slice_get pools q ≡ Some t → knows_now s r ≡ true → knows_now t r ≡ true → p ≡ q
 
 -- at most one pool is open at an address
 abbrev pub IsSingle : List PoolCore → Type 0
@@ -90,8 +90,8 @@ pub record PoolsFit (o : PoolOptions) (pools : List PoolCore) (h : List Item) : 
   -- what was told and claimed
   pub requested : (r : ℕ) → some_act was_asked h r ≡ requested pools r
   pub opens : (r : ℕ) → (told h r == 0) && not (some_act leaves h r) ≡ not (settled pools r)
-  pub noted : (p : ℕ) (s : PoolCore) (r : ℕ) → slice_get pools p ≡ Some s → has r s.settled ≡ true → is_some (request_at s r) ≡ true
-  pub claims : (p : ℕ) (s : PoolCore) (c : ℕ) → slice_get pools p ≡ Some s → is_claimed h p c ≡ has c s.claimed
+  pub noted : (p : ℕ) (s : PoolCore) (r : ℕ) → slice_get pools p ≡ Some s → settled_now s r ≡ true → knows_now s r ≡ true
+  pub claims : (p : ℕ) (s : PoolCore) (c : ℕ) → slice_get pools p ≡ Some s → is_claimed h p c ≡ claimed_now s c
   pub unclaimed : (p c : ℕ) → slice_get pools p ≡ None → is_claimed h p c ≡ false
 
 -- Between two steps each pool is served, has nobody queued in vain, and keeps its limits.

@@ -12,7 +12,7 @@ use Rattle.mdb_log.specs.Own.{IsAccepted}
 use Rattle.mdb_log.specs.Beside.{AllFreshGrants}
 use Rattle.mdb_log.specs.Opening.{pool_options}
 use Rattle.mdb_pool.specs.Core.{PoolCore}
-use Rattle.mdb_pool.specs.Kept.{is_spent}
+use Rattle.mdb_pool.specs.Now.{is_spent}
 use Rattle.mdb_pool.specs.Planning.{IsDone}
 use Rattle.mdb_pool.specs.Refusing.{refusal_now}
 use Rattle.mdb_pool.specs.declared.planning.Answered.{Answered}

@@ -1,9 +1,9 @@
 //! All pools that a driver opened, of which memory keeps those in which something lives.
 
-ghost use Rattle.std.specs.Prelude.{◌≡◌, ◌==◌, ◌+◌, ◌≤◌, ◌<◌, ◌++◌, ◌∷◌, [], List, IfOk, OnOk, OnErr, All, Some, None, true, is_some, find, length, option_copied, option_map, position, slice_get, vec_capacity};
+ghost use Rattle.std.specs.Prelude.{◌≡◌, ◌==◌, ◌+◌, ◌≤◌, ◌<◌, ◌++◌, ◌∷◌, [], List, IfOk, OnOk, OnErr, All, Some, None, true, find, length, option_copied, option_map, position, slice_get, vec_capacity};
 ghost use Rattle.mdb_log.specs.Acts.{IsPoolAct};
 ghost use Rattle.mdb_pool.specs.Core.{PoolCore as Core};
-ghost use Rattle.mdb_pool.specs.Kept.{first_unclaimed, held_connection, is_open_now};
+ghost use Rattle.mdb_pool.specs.Now.{has_job_now, holds_now, is_open_now};
 ghost use Rattle.mdb_pool.specs.Planning.{IsPlanOf, LeadsTo, Plans};
 ghost use Rattle.mdb_pool.specs.Refusing.{refusal_now, TellsNew};
 ghost use Rattle.mdb_driver_pools.specs.Asking.{DoesAt};
@@ -93,14 +93,14 @@ fn first_asked(living: &[Placed], party: u32) -> Option<&Placed>
 
 // The first of which the party holds a connection.
 fn first_held(living: &[Placed], party: u32) -> Option<&Placed>
-    ensures { option_copied result ≡ find (λ x. is_some (held_connection x.core party)) living.now }
+    ensures { option_copied result ≡ find (λ x. holds_now x.core party) living.now }
 {
     living.iter().find(|placed| placed.core.holds(party))
 }
 
 // The first that has a job.
 fn first_with_job(living: &[Placed]) -> Option<&Placed>
-    ensures { option_copied result ≡ find (λ x. is_some (first_unclaimed x.core)) living.now }
+    ensures { option_copied result ≡ find (λ x. has_job_now x.core) living.now }
 {
     living.iter().find(|placed| placed.core.has_job())
 }

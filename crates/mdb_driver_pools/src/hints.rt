@@ -25,14 +25,14 @@ pub(crate) fn number_of(address: &ServerAddress) -> u32 {
 
 impl Hints {
     /// None is kept, and no memory is taken before `begin`.
-    pub fn new(alloc: Global) -> Hints {
+    pub(crate) fn new(alloc: Global) -> Hints {
         Hints {
             places: Vec::new(alloc),
         }
     }
 
     /// From now on guesses are kept.
-    pub fn begin(&mut self) -> Result<(), AllocError> {
+    pub(crate) fn begin(&mut self) -> Result<(), AllocError> {
         for _ in self.places.len()..GUESSES {
             self.places.push(0)?;
         }
@@ -40,7 +40,7 @@ impl Hints {
     }
 
     /// The place that is guessed for the number.
-    pub fn at(&self, number: u32) -> usize {
+    pub(crate) fn at(&self, number: u32) -> usize {
         match self.places.get(number as usize % GUESSES) {
             Some(place) => *place as usize,
             None => 0,
@@ -48,7 +48,7 @@ impl Hints {
     }
 
     /// The place is the guess for the number from now on, where guesses are kept.
-    pub fn note(&mut self, number: u32, place: usize) {
+    pub(crate) fn note(&mut self, number: u32, place: usize) {
         let Ok(place) = u32::try_from(place) else {
             return;
         };

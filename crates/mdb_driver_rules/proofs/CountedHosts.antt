@@ -1,6 +1,6 @@
 -- How many servers there are after hosts are named, and how many of them are new.
 use Rattle.std.proofs.Common.{ℕ, suc, ◌≡◌, ◌+◌, Bool, true, false, not, ◌&&◌, ◌||◌, List, [], ◌∷◌, filter, length, if◌then◌else◌, refl, sym, ◌∙◌, ap, subst, arith, inl, inr}
-use Rattle.std.proofs.lemmas.Bool.{cases_Bool, and_parts, and_from}
+use Rattle.std.proofs.lemmas.Bool.{cases_Bool, and_parts, and_from, or_right}
 use Rattle.std.proofs.lemmas.List.{length-map}
 use Rattle.mdb_base.specs.declared.address.ServerAddress.{ServerAddress}
 use Rattle.mdb_base.specs.AddressOrder.{is_before}
@@ -17,10 +17,6 @@ use Rattle.mdb_driver_rules.specs.Naming.{new_hosts}
 
 abbrev Test : Type 0
 Test = ServerDescription → Bool
-
-or-right : (b c : Bool) → c ≡ true → b || c ≡ true
-or-right true c e = refl
-or-right false c e = e
 
 or-known : (b c : Bool) → c ≡ true → (b || c) ≡ c
 or-known true c e = sym e
@@ -117,7 +113,7 @@ one-more p q a (s ∷ xs) o k e f g = elim (cases_Bool (same_address s.address a
 known-put : (a : ServerAddress) (d : ServerDescription) (xs : List ServerDescription) → is_known a xs ≡ true → is_known a (put d xs) ≡ true
 known-put a d [] k = cc
 known-put a d (s ∷ xs) k = elim (cases_Bool (is_before d.address s.address)) [
-  | inl e ↦ rw e (or-right (same_address d.address a) (is_known a (s ∷ xs)) k)
+  | inl e ↦ rw e (or_right (same_address d.address a) (is_known a (s ∷ xs)) k)
   | inr e ↦ elim (cases_Bool (same_address s.address a)) [
     | inl f ↦ rw (e, f) refl
     | inr f ↦ let there : is_known a xs ≡ true = rw f at k in rw (e, f) (known-put a d xs there)
@@ -128,7 +124,7 @@ own-put : (d : ServerDescription) (xs : List ServerDescription) → is_known d.a
 own-put d [] = rw (own-address d.address) refl
 own-put d (s ∷ xs) = elim (cases_Bool (is_before d.address s.address)) [
   | inl e ↦ rw (e, own-address d.address) refl
-  | inr e ↦ rw e (or-right (same_address s.address d.address) (is_known d.address (put d xs)) (own-put d xs))
+  | inr e ↦ rw e (or_right (same_address s.address d.address) (is_known d.address (put d xs)) (own-put d xs))
 ]
 
 known-add : (a b : ServerAddress) (xs : List ServerDescription) → is_known a xs ≡ true → is_known a (add b xs) ≡ true
@@ -206,7 +202,7 @@ module _ (others : List ServerDescription) where
 
   count : (hosts : List ServerAddress) (xs : List ServerDescription) → in_order xs ≡ true → ((a : ServerAddress) → is_listed hosts a ≡ true → is_known a xs ≡ true) → length (filter (counted hosts) xs) ≡ new_hosts others hosts
   count [] xs o all = none-counted xs
-  count (a ∷ more) xs o all = count-on a more xs o (all a (rw (own-address a) refl)) (count more xs o (λ b e. all b (or-right (same_address a b) (is_listed more b) e)))
+  count (a ∷ more) xs o all = count-on a more xs o (all a (rw (own-address a) refl)) (count more xs o (λ b e. all b (or_right (same_address a b) (is_listed more b) e)))
 
 module _ (hosts : List ServerAddress) (xs : List ServerDescription) (o : in_order xs ≡ true) where
   abbrev ys : List ServerDescription

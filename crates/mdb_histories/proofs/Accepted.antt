@@ -1,5 +1,6 @@
 -- An accepted step may come after a sound history.
 use Rattle.std.proofs.Common.{ℕ, ◌≡◌, ◌≢◌, ◌==◌, ◌&&◌, Bool, true, false, not, List, [], ◌∷◌, Option, Some, None, is_some, nat_lt, refl, sym, ◌∙◌, ap, subst, arith}
+use Rattle.std.proofs.lemmas.Bool.{not-false}
 use Rattle.mdb_base.specs.declared.options.Options.{Options}
 use Rattle.mdb_log.specs.declared.step.Step.{Step}
 use Rattle.mdb_log.specs.declared.step.Act.{Act}
@@ -13,9 +14,9 @@ use Rattle.mdb_log.specs.Requests.{some_act, names_party, was_asked, leaves, tol
 use Rattle.mdb_log.specs.Homes.{Home}
 use Rattle.mdb_pool_rules.specs.Refusal.{first_row, wrong_service}
 use Rattle.mdb_pool_rules.proofs.FirstRow.{first-passes, one-passes, two-pass, three-pass}
-use Rattle.mdb_log.proofs.Bools.{not-false, both-true}
+use Rattle.mdb_log.proofs.Bools.{both-true}
 use Rattle.mdb_sound.specs.Sound.{Sound}
-use Rattle.mdb_sound.proofs.Rested.{Rested}
+use Rattle.mdb_pool_rules.specs.Rested.{Rested}
 use Rattle.mdb_driver_rules.specs.Homes.{concerns, home_of}
 use Rattle.mdb_driver_rules.specs.Refusal.{rows_of, homeless, holds_pinned}
 use Rattle.mdb_histories.specs.SoundHistory.{SoundHistory, MayCome, StepNames, HasOne, was_opened}

@@ -18,7 +18,7 @@ use Rattle.mdb_log.specs.Opening.{pool_options}
 use Rattle.mdb_log.proofs.Later.{with_answer-accepted}
 use Rattle.mdb_pool_rules.specs.Refusal.{first_row}
 use Rattle.mdb_pool_rules.proofs.FirstRow.{first-passes}
-use Rattle.mdb_sound.proofs.Rested.{Rested}
+use Rattle.mdb_pool_rules.specs.Rested.{Rested}
 use Rattle.mdb_topology.specs.declared.topology.TopologyCore.{TopologyCore}
 use Rattle.mdb_driver_rules.specs.Answer.{answer, reply_to}
 use Rattle.mdb_driver_rules.specs.Description.{description_of}

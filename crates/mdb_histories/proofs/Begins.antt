@@ -1,6 +1,7 @@
 -- An accepted step may come after a sound history.
 use Rattle.std.proofs.Common.{ℕ, ◌≡◌, ◌<◌, ◌==◌, ◌&&◌, Bool, true, false, not, List, ◌∷◌, Option, Some, None, is_some, nat_lt, refl, sym, ap, subst, arith}
 use Rattle.std.proofs.lemmas.Bool.Decides.{nat_tests}
+use Rattle.std.proofs.lemmas.Bool.{not-true, not-false}
 use Rattle.mdb_base.specs.declared.options.Options.{Options}
 use Rattle.mdb_log.specs.declared.step.Act.{Act}
 use Rattle.mdb_log.specs.declared.step.Act.TheVariants as Do
@@ -11,13 +12,13 @@ use Rattle.mdb_log.specs.Connections.{has, pending_list, holding, held, pins}
 use Rattle.mdb_log.specs.Requests.{some_act, names_party, was_asked, leaves, told, is_open}
 use Rattle.mdb_pool_rules.specs.Refusal.{first_row, wrong_service}
 use Rattle.mdb_pool_rules.proofs.FirstRow.{one-passes, two-pass, three-pass}
-use Rattle.mdb_log.proofs.Bools.{not-false, both-true}
+use Rattle.mdb_log.proofs.Bools.{both-true}
 use Rattle.mdb_sound.specs.Sound.{Sound, Holds, MayTake}
 use Rattle.mdb_sound.proofs.Acts.{Done, requests as asks, warms, gives_up, establishes, fails, returns, pins_one, replicates, takes, unpins, maintains, expires, readies, clears, shuts, tells}
 use Rattle.mdb_sound.proofs.Calm.{one-lives}
 use Rattle.mdb_sound.proofs.Connections.{connection-laws}
 use Rattle.mdb_sound.proofs.Leaving.{stays-act}
-use Rattle.mdb_sound.proofs.Rested.{Rested}
+use Rattle.mdb_pool_rules.specs.Rested.{Rested}
 use Rattle.mdb_sound.proofs.Steady.{held-given}
 use Rattle.mdb_driver_rules.specs.Homes.{concerns}
 use Rattle.mdb_driver_rules.specs.Refusal.{rows_of}
@@ -34,10 +35,6 @@ above n e = grind (arith, nat_tests)
 
 none-above : (n : ℕ) → nat_lt 0 n ≡ false → n ≡ 0
 none-above n e = grind (arith, nat_tests)
-
-not-true : (b : Bool) → not b ≡ true → b ≡ false
-not-true true e = cc
-not-true false e = refl
 
 some-is : (x : Option ℕ) → is_some x ≡ true → (c : ℕ) × (x ≡ Some c)
 some-is None e = cc

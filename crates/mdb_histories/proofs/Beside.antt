@@ -15,7 +15,7 @@ use Rattle.mdb_log.specs.Homes.{Home, homes}
 use Rattle.mdb_log.proofs.Frame.{asked-party, no-party-asked}
 use Rattle.mdb_pool_rules.specs.Refusal.{first_row}
 use Rattle.mdb_pool_rules.proofs.FirstRow.{first-passes, one-passes}
-use Rattle.mdb_sound.proofs.Rested.{Rested}
+use Rattle.mdb_pool_rules.specs.Rested.{Rested}
 use Rattle.mdb_driver_rules.specs.Homes.{concerns, home_of}
 use Rattle.mdb_driver_rules.specs.Refusal.{rows_of, homeless, holds_pinned}
 use Rattle.mdb_histories.specs.SoundHistory.{SoundHistory, MayCome, was_opened}

@@ -1,5 +1,6 @@
 -- The answer to an accepted failure of a connection may come after a sound history.
 use Rattle.std.proofs.Common.{ℕ, ◌≡◌, ◌≢◌, ◌==◌, ◌&&◌, Bool, true, false, not, List, [], ◌∷◌, ◌++◌, Option, Some, None, is_some, refl, sym, ◌∙◌, ap, subst, arith, append-nil}
+use Rattle.std.proofs.lemmas.Bool.{not-false}
 use Rattle.mdb_base.specs.declared.address.ServerAddress.{ServerAddress}
 use Rattle.mdb_base.specs.declared.error.Error.{Error}
 use Rattle.mdb_base.specs.declared.options.Options.{Options}
@@ -21,9 +22,8 @@ use Rattle.mdb_log.specs.Homes.{Home}
 use Rattle.mdb_log.specs.Opening.{pool_options}
 use Rattle.mdb_pool_rules.specs.Refusal.{first_row}
 use Rattle.mdb_pool_rules.proofs.FirstRow.{first-passes, one-passes}
-use Rattle.mdb_log.proofs.Bools.{not-false}
 use Rattle.mdb_sound.specs.Sound.{Sound}
-use Rattle.mdb_sound.proofs.Rested.{Rested}
+use Rattle.mdb_pool_rules.specs.Rested.{Rested}
 use Rattle.mdb_sound.proofs.Served.{Fine}
 use Rattle.mdb_driver_rules.specs.Description.{description_of, marking_rule, rule_after, is_stopped}
 use Rattle.mdb_driver_rules.specs.Errors.{Trouble, marks}

@@ -24,7 +24,7 @@ use Rattle.mdb_sound.specs.Sound.{Sound, just_failed, lost, MayClose}
 use Rattle.mdb_sound.proofs.Calm.{none-is, one-lives, calm-close}
 use Rattle.mdb_sound.proofs.Connections.{connection-laws}
 use Rattle.mdb_sound.proofs.Ends.{ends-fine}
-use Rattle.mdb_sound.proofs.Rested.{Rested}
+use Rattle.mdb_pool_rules.specs.Rested.{Rested}
 use Rattle.mdb_sound.proofs.Served.{Fine}
 use Rattle.mdb_histories.proofs.Owns.{fail-own}
 

@@ -10,7 +10,7 @@ use Rattle.mdb_log.specs.History.{Item, of_pool, open_pool, after_act, with_fact
 use Rattle.mdb_log.specs.Homes.{Home}
 use Rattle.mdb_pool_rules.specs.Refusal.{first_row}
 use Rattle.mdb_sound.proofs.Establishes.{calm-rested}
-use Rattle.mdb_sound.proofs.Rested.{Rested}
+use Rattle.mdb_pool_rules.specs.Rested.{Rested}
 use Rattle.mdb_sound.proofs.Served.{Fine}
 use Rattle.mdb_driver_rules.specs.Description.{description_of, rule_after}
 use Rattle.mdb_driver_rules.specs.Errors.{Trouble}

@@ -22,12 +22,12 @@ use Rattle.mdb_log.proofs.Numbers.{same-number}
 use Rattle.mdb_log.proofs.Pins.{queued-asked}
 use Rattle.mdb_pool_rules.specs.Facts.{new_pool_error, closed_fact, pool_closed_fact, close_reason, end_facts, all_ends, check_in, come_back, hand_over, fail_requester, sweep, fill, clear_facts, close_facts, readied, turned_away, overdue, is_over, act_facts}
 use Rattle.mdb_pool_rules.specs.Serving.{serving}
-use Rattle.mdb_pool.proofs.Answered.Clear.{ends-own, clear-all-own}
+use Rattle.mdb_pool_rules.proofs.ClearFacts.{ends-own, clear-all-own}
 use Rattle.mdb_pool_rules.proofs.Fair.{own-append, serve-own}
-use Rattle.mdb_pool.proofs.Turns.MaintainMany.{sweep-own, fill-own}
+use Rattle.mdb_pool_rules.proofs.SweepAndFill.{sweep-own, fill-own}
 use Rattle.mdb_sound.proofs.Acts.{Done, requests as asks, warms, gives_up, establishes, fails, returns, pins_one, replicates, takes, unpins, maintains, expires, readies, clears, shuts, tells}
 use Rattle.mdb_sound.proofs.Order.{has-filter, requests-asked}
-use Rattle.mdb_sound.proofs.Rested.{Rested}
+use Rattle.mdb_pool_rules.specs.Rested.{Rested}
 
 module _ (p : ℕ) (a : ServerAddress) (m : ℕ) where
   end-own : (ws ys : List PoolItem) (r : ℕ) (end : End) → has_asked ys r ≡ true → AllOwn p m ys (end_facts p a m ws r end)

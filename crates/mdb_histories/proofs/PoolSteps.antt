@@ -12,7 +12,7 @@ use Rattle.mdb_log.proofs.Later.{of_pool-with_facts}
 use Rattle.mdb_pool_rules.specs.Refusal.{first_row}
 use Rattle.mdb_sound.proofs.Acts.{Done, act-fine}
 use Rattle.mdb_sound.proofs.Establishes.{calm-rested}
-use Rattle.mdb_sound.proofs.Rested.{Rested}
+use Rattle.mdb_pool_rules.specs.Rested.{Rested}
 use Rattle.mdb_sound.proofs.Served.{Fine}
 use Rattle.mdb_driver_rules.specs.Homes.{concerns, home_of, begun}
 use Rattle.mdb_driver_rules.specs.Refusal.{rows_of}

@@ -23,7 +23,7 @@ use Rattle.mdb_pool_rules.specs.Facts.{readied, close_facts}
 use Rattle.mdb_sound.specs.Sound.{Sound}
 use Rattle.mdb_sound.proofs.Closings.{closed-fine}
 use Rattle.mdb_sound.proofs.Maintains.{readied-fine}
-use Rattle.mdb_sound.proofs.Rested.{Rested}
+use Rattle.mdb_pool_rules.specs.Rested.{Rested}
 use Rattle.mdb_sound.proofs.Served.{Fine}
 use Rattle.mdb_driver_rules.specs.Description.{Rule, opens, updates, syncs, tells_time, stops, begins_with, unopened}
 use Rattle.mdb_driver_rules.specs.Publishing.{ready_pool, close_pool, description_changed, server_changed, server_closed, topology_changed, server_opened, telling, publication, topology_opening, topology_closed, told_by}

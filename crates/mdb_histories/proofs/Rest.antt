@@ -5,7 +5,8 @@ use Rattle.mdb_log.specs.declared.options.PoolOptions.{PoolOptions}
 use Rattle.mdb_log.specs.History.{Item, of_pool}
 use Rattle.mdb_pool.specs.Core.{PoolCore}
 use Rattle.mdb_driver_pools.specs.Standing.{PoolFits, PoolsFit}
-use Rattle.mdb_sound.proofs.Rested.{Rested, rested}
+use Rattle.mdb_pool_rules.specs.Rested.{Rested}
+use Rattle.mdb_pool.proofs.Histories.Resting.{rested}
 
 -- a pool of which nothing is said
 pub rested-none : Rested []
@@ -31,4 +32,4 @@ each-rested o pools h z p = on (slice_get pools p) refl
   where
     on : (x : Option PoolCore) → slice_get pools p ≡ x → Rested (of_pool p h)
     on None e = subst Rested (sym (z.rest p e)) rested-none
-    on (Some s) e = let d : PoolFits o h p s = z.each p s e in rested s (of_pool p h) d.fits.matches
+    on (Some s) e = let d : PoolFits o h p s = z.each p s e in rested s (of_pool p h) d.fits

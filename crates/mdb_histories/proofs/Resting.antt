@@ -14,7 +14,7 @@ use Rattle.mdb_log.specs.State.{State, is_new, is_ready, is_paused, is_closed, s
 use Rattle.mdb_log.proofs.Pins.{pinned-again}
 use Rattle.mdb_pool_rules.specs.Facts.{closed_fact, all_ends, pool_closed_fact, close_facts}
 use Rattle.mdb_pool_rules.proofs.Fair.{shut-append}
-use Rattle.mdb_sound.proofs.Rested.{Rested}
+use Rattle.mdb_pool_rules.specs.Rested.{Rested}
 use Rattle.mdb_sound.proofs.Served.{Fine}
 
 -- a pool that was marked ready or created is at rest as it was

@@ -8,7 +8,7 @@ use Rattle.mdb_log.specs.History.{Item, made, is_number, of_pool, open_pool, wit
 use Rattle.mdb_log.specs.Own.{AllOwn, shuts}
 use Rattle.mdb_log.proofs.Frame.{open-facts}
 use Rattle.mdb_log.proofs.Later.{of_pool-with_facts}
-use Rattle.mdb_sound.proofs.Rested.{Rested}
+use Rattle.mdb_pool_rules.specs.Rested.{Rested}
 use Rattle.mdb_sound.proofs.Served.{Fine}
 use Rattle.mdb_driver_rules.specs.Turns.{in_turn}
 use Rattle.mdb_topology.proofs.OfMonitors.FactsOfCheck.{AreCalm}

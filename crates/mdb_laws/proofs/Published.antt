@@ -1,6 +1,7 @@
 -- What a publication says of whole pools: those of the servers that changed, of those that go, and of those that come.
 use Rattle.std.proofs.Common.{ℕ, ◌≡◌, ◌≢◌, ◌&&◌, Bool, true, false, not, List, [], ◌∷◌, ◌++◌, length, map, Option, Some, None, is_some, refl, sym, ◌∙◌, ap}
 use Rattle.std.specs.Prelude.{flat_map}
+use Rattle.std.proofs.lemmas.Bool.{not-true}
 use Rattle.mdb_base.specs.Equality.{same_address}
 use Rattle.mdb_base.specs.declared.address.ServerAddress.{ServerAddress}
 use Rattle.mdb_base.specs.declared.options.Options.{Options}
@@ -21,7 +22,6 @@ use Rattle.mdb_describe.proofs.Addresses.{same-address}
 use Rattle.mdb_log.proofs.Bools.{both-true}
 use Rattle.mdb_driver_rules.specs.Turns.{in_turn}
 use Rattle.mdb_driver_rules.specs.Publishing.{server_changed, server_closed, server_opened, topology_changed, publication, telling}
-use Rattle.mdb_driver_rules.proofs.General.Truth.{not-back}
 use Rattle.mdb_driver_rules.proofs.General.AddressesDiffer.{ordered-different}
 use Rattle.mdb_driver_rules.proofs.ServersThen.{listed-missing, of-difference}
 use Rattle.mdb_driver_rules.proofs.LeavesAsItIs.{turn-append, with-append}
@@ -47,7 +47,7 @@ removed-known earlier later d different a e =
     let whole : Diff = record { changed = changed earlier later; removed = missing earlier later; added = missing later earlier } in
     let w : is_known a earlier && not (is_known a later) ≡ true = sym (listed-missing a later earlier) ∙ (ap (λ (x : Diff). is_listed x.removed a) (of-difference whole d different) ∙ e) in
     let both : (is_known a earlier ≡ true) × (not (is_known a later) ≡ true) = both-true (is_known a earlier) (not (is_known a later)) w in
-    (both.0, not-back (is_known a later) both.1)
+    (both.0, not-true (is_known a later) both.1)
 
 known-some : {T : Type 0} (x : Option T) → is_some x ≡ true → (y : T) × (x ≡ Some y)
 known-some None e = cc

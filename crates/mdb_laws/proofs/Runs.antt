@@ -2,6 +2,7 @@
 use Rattle.std.proofs.Common.{ℕ, ◌≡◌, ◌==◌, Bool, true, false, not, List, [], ◌∷◌, ◌++◌, map, Some, refl, sym, ◌∙◌, ap, arith}
 use Rattle.std.specs.Prelude.{flat_map}
 use Rattle.std.specs.List.{list_any}
+use Rattle.std.proofs.lemmas.Bool.{or_left, or_right, not-true}
 use Rattle.mdb_base.specs.Equality.{same_address}
 use Rattle.mdb_base.specs.OptionRules.{all_different}
 use Rattle.mdb_base.specs.declared.address.ServerAddress.{ServerAddress}
@@ -12,7 +13,6 @@ use Rattle.mdb_log.specs.History.{Item, open_pool, with_facts}
 use Rattle.mdb_describe.proofs.Addresses.{own-address, same-address}
 use Rattle.mdb_log.proofs.Bools.{both-true}
 use Rattle.mdb_driver_rules.specs.Turns.{in_turn}
-use Rattle.mdb_driver_rules.proofs.General.Truth.{not-back, or-first, or-second}
 use Rattle.mdb_driver_rules.proofs.LeavesAsItIs.{with-append}
 use Rattle.mdb_laws.specs.Causes.{Mark, marks_of}
 use Rattle.mdb_laws.proofs.Marks.{any-append, any-head, marks-append, is_opened, touches, Seen, spared, Below, below-facts}
@@ -73,9 +73,9 @@ module _ (o : PoolOptions) (m : ℕ) (h : List Item) (alone : IsAlone h) (part :
       → ((a : ServerAddress) (j : List Item) → is_listed xs a ≡ true → same_address a b ≡ true → list_any (touches p) (part a j) ≡ false) → list_any (touches p) (in_turn m (map part xs) k) ≡ false
   runs-spare [] b p k below there own = refl
   runs-spare (a ∷ xs) b p k below there own =
-      let mine : is_listed (a ∷ xs) a ≡ true = or-first (same_address a a) (is_listed xs a) (own-address a) in
+      let mine : is_listed (a ∷ xs) a ≡ true = or_left (same_address a a) (is_listed xs a) (own-address a) in
       let rest : list_any (touches p) (in_turn m (map part xs) (with_facts m (part a k) k)) ≡ false =
-      runs-spare xs b p (with_facts m (part a k) k) (below-facts m h (part a k) k (is.quiet a k) below) there (λ c j e. own c j (or-second (same_address a c) (is_listed xs c) e)) in
+      runs-spare xs b p (with_facts m (part a k) k) (below-facts m h (part a k) k (is.quiet a k) below) there (λ c j e. own c j (or_right (same_address a c) (is_listed xs c) e)) in
       any-append (touches p) (part a k) (in_turn m (map part xs) (with_facts m (part a k) k)) (on (same_address a b) (own a k mine) refl) rest
     where
       on : (c : Bool) → (same_address a b ≡ true → list_any (touches p) (part a k) ≡ false) → same_address a b ≡ c → list_any (touches p) (part a k) ≡ false
@@ -92,12 +92,12 @@ module _ (o : PoolOptions) (m : ℕ) (h : List Item) (alone : IsAlone h) (part :
     runs-say [] e k below pools seen says = refl
     runs-say (a ∷ xs) e k below pools seen says =
         let both : (not (list_any (λ b. same_address b a) xs) ≡ true) × (all_different xs ≡ true) = both-true (not (list_any (λ b. same_address b a) xs)) (all_different xs) e in
-        let fresh : is_listed xs a ≡ false = not-back (list_any (λ b. same_address b a) xs) both.0 in
-        let mine : is_listed (a ∷ xs) a ≡ true = or-first (same_address a a) (is_listed xs a) (own-address a) in
+        let fresh : is_listed xs a ≡ false = not-true (list_any (λ b. same_address b a) xs) both.0 in
+        let mine : is_listed (a ∷ xs) a ≡ true = or_left (same_address a a) (is_listed xs a) (own-address a) in
         let j : List Item = with_facts m (part a k) k in
         let x : (p : ℕ) × (open_pool h a ≡ Some p) = pools a mine in
         let first : marks_of (part a k) ≡ value a = says a x.0 k mine x.1 (seen a x.0 mine x.1) in
-        let later : (b : ServerAddress) → is_listed xs b ≡ true → is_listed (a ∷ xs) b ≡ true = λ b g. or-second (same_address a b) (is_listed xs b) g in
+        let later : (b : ServerAddress) → is_listed xs b ≡ true → is_listed (a ∷ xs) b ≡ true = λ b g. or_right (same_address a b) (is_listed xs b) g in
         let rest : marks_of (in_turn m (map part xs) j) ≡ flat_map value xs = runs-say xs both.1 j (below-facts m h (part a k) k (is.quiet a k) below)
         (λ b g. pools b (later b g))
         (λ b p g there. one-keeps a b p k below there (other b fresh g) (seen b p (later b g) there))

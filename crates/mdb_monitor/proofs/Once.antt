@@ -1,6 +1,6 @@
 -- A list in which nobody stands twice stays so.
 use Rattle.std.proofs.Common.{◌≡◌, ℕ, ◌==◌, Bool, true, false, not, ◌||◌, List, [], ◌∷◌, ◌++◌, filter, refl, ap, inl, inr, arith}
-use Rattle.std.proofs.lemmas.Bool.{cases_Bool, and_parts, and_from}
+use Rattle.std.proofs.lemmas.Bool.{cases_Bool, and_parts, and_from, not-true}
 use Rattle.std.proofs.lemmas.Bool.Decides.{nat_tests}
 use Rattle.mdb_monitor.specs.Asking.{stands, each_once}
 
@@ -11,10 +11,6 @@ neither false y h = (refl, h)
 both_not : (x y : Bool) → x ≡ false → y ≡ false → (x || y) ≡ false
 both_not true y h g = absurd (cc)
 both_not false y h g = g
-
-not_false : (x : Bool) → not x ≡ true → x ≡ false
-not_false true h = absurd (cc)
-not_false false h = refl
 
 other_way : (v w : ℕ) → (v == w) ≡ false → (w == v) ≡ false
 other_way v w h = grind (arith, nat_tests, h)
@@ -40,7 +36,7 @@ once_pushed w (x ∷ xs) h g =
     let q = and_parts (not (stands x xs)) (each_once xs) h in
     let n = neither (x == w) (stands w xs) g in
     and_from (not (stands x (xs ++ (w ∷ [])))) (each_once (xs ++ (w ∷ [])))
-    (ap not (absent_pushed x w xs (other_way x w n.0) (not_false (stands x xs) q.0)))
+    (ap not (absent_pushed x w xs (other_way x w n.0) (not-true (stands x xs) q.0)))
     (once_pushed w xs q.1 n.1)
 
 pub once_left : (p : ℕ → Bool) (xs : List ℕ) → each_once xs ≡ true → each_once (filter p xs) ≡ true
@@ -48,6 +44,6 @@ once_left p [] h = refl
 once_left p (x ∷ xs) h =
     let q = and_parts (not (stands x xs)) (each_once xs) h in
     elim (cases_Bool (p x)) [
-      | inl passes ↦ rw passes (and_from (not (stands x (filter p xs))) (each_once (filter p xs)) (ap not (absent_left p x xs (not_false (stands x xs) q.0))) (once_left p xs q.1))
+      | inl passes ↦ rw passes (and_from (not (stands x (filter p xs))) (each_once (filter p xs)) (ap not (absent_left p x xs (not-true (stands x xs) q.0))) (once_left p xs q.1))
       | inr fails ↦ rw fails (once_left p xs q.1)
     ]

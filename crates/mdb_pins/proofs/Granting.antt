@@ -1,5 +1,6 @@
 -- The lists of grants after a change have each connection that a party was granted, once.
 use Rattle.std.proofs.Common.{ℕ, ◌≡◌, ◌<◌, ◌==◌, Bool, true, false, not, ◌&&◌, ◌||◌, if◌then◌else◌, refl, sym, ap, subst, ◌∙◌}
+use Rattle.std.proofs.lemmas.Bool.{not-true, not-false}
 use Rattle.mdb_tallies.specs.declared.occurrence.Occurrence.{Occurrence}
 use Rattle.mdb_tallies.specs.declared.occurrence.Occurrence.TheVariants as change
 use Rattle.mdb_tallies.specs.declared.connection.Place.{Place}
@@ -26,14 +27,6 @@ granted-bit false x = refl
 taken-bit : (b : Bool) (x : Gift) → (if b then record x { is_taken = true } else x).is_granted ≡ x.is_granted
 taken-bit true x = refl
 taken-bit false x = refl
-
-none-or : (b : Bool) → not b ≡ true → b ≡ false
-none-or true e = cc
-none-or false e = refl
-
-true-or : (b : Bool) → not b ≡ false → b ≡ true
-true-or true e = refl
-true-or false e = cc
 
 -- one grant more
 more : (g : ℕ → ℕ → ℕ → Gift) (r p c : ℕ) (old new : Lists Place) → (g r p c).is_granted ≡ false → Pushes r (record { pool = p; id = c }) old new → Have g old → Have (λ q x y. gift_after (change.Granted r p c) q x y (g q x y)) new
@@ -75,7 +68,7 @@ pub grants-next : (ch : Occurrence) (t : Tables) (old new : Lists Place) (g : �
 grants-next (change.Granted r p c) t old new g is has f = by (not (at t.gifts r p c).is_granted) refl f
   where
     by : (b : Bool) → not (at t.gifts r p c).is_granted ≡ b → PushesIf b r (record { pool = p; id = c }) old new → Have (λ q x y. gift_after (change.Granted r p c) q x y (g q x y)) new
-    by true u push = more g r p c old new (ap (λ x. x.is_granted) (sym (is r p c)) ∙ none-or (at t.gifts r p c).is_granted u) push has
-    by false u push = subst (Have (λ q x y. gift_after (change.Granted r p c) q x y (g q x y))) (sym push) (again g r p c old (ap (λ x. x.is_granted) (sym (is r p c)) ∙ true-or (at t.gifts r p c).is_granted u) has)
+    by true u push = more g r p c old new (ap (λ x. x.is_granted) (sym (is r p c)) ∙ not-true (at t.gifts r p c).is_granted u) push has
+    by false u push = subst (Have (λ q x y. gift_after (change.Granted r p c) q x y (g q x y))) (sym push) (again g r p c old (ap (λ x. x.is_granted) (sym (is r p c)) ∙ not-false (at t.gifts r p c).is_granted u) has)
 grants-next (change.Taken r p c) t old new g is has f = still g (λ q x y. gift_after (change.Taken r p c) q x y (g q x y)) old new f (λ q x y. taken-bit (((r == q) && (p == x)) && (c == y)) (g q x y)) has
 grants-next ch t old new g is has f = still g (λ q x y. gift_after ch q x y (g q x y)) old new f (λ q x y. refl) has

@@ -1,4 +1,5 @@
 -- What a pool tells of itself.
 pub mod OfItems
+pub mod OfQueries
 pub mod ServicesOfClears
 pub mod JobGenerations

@@ -13,7 +13,7 @@ use Rattle.mdb_log.specs.Own.{AllOwn, shuts}
 use Rattle.mdb_pool.specs.Core.{PoolCore}
 use Rattle.mdb_pool_rules.specs.Answer.{all_facts}
 use Rattle.mdb_pool_rules.specs.Facts.{clear_facts}
-use Rattle.mdb_pool.specs.Kept.{is_shut}
+use Rattle.mdb_pool.specs.Now.{is_closed_now}
 use Rattle.mdb_pool_rules.specs.Quiet.{IsQuiet}
 use Rattle.mdb_pool_rules.specs.Serving.{IsServed}
 use Rattle.mdb_pool.specs.Standing.{Fits, SameHome, Accepts}
@@ -26,7 +26,7 @@ pub record FailsCleared (s u : PoolCore) (m : ℕ) (before middle start after cl
   pub fair : AllFirstCome s.pool m ws (clears ++ fails)
   pub own : AllOwn s.pool m ws (clears ++ fails)
   pub served : IsServed s.options (after_facts s.pool m (clears ++ fails) ws)
-  pub shut : is_shut u.status ≡ shuts (clears ++ fails) || is_shut s.status
+  pub shut : is_closed_now u ≡ shuts (clears ++ fails) || is_closed_now s
   pub within : WithinLimits s.options ws → WithinLimits s.options (after_facts s.pool m (clears ++ fails) ws)
   pub quiet : IsQuiet s.options ws → IsQuiet s.options (after_facts s.pool m (clears ++ fails) ws)
 

@@ -6,7 +6,7 @@ use Rattle.mdb_pool.specs.declared.kept.connection.Connection.{Connection}
 use Rattle.mdb_pool.specs.declared.kept.request.Request.{Request}
 use Rattle.mdb_pool.specs.declared.kept.status.Status.{Status}
 use Rattle.mdb_pool.specs.declared.kept.status.Clear.{Clear}
-use Rattle.mdb_pool.specs.Inner.{Inner}
+use Rattle.mdb_pool.specs.Kept.Inner.{Inner}
 
 -- a pool: the moment of its last step, how many connections it created, its connections and requests in the order in which they were put, its state
 -- and its clears, the requests whose outcome was told or that gave up or came back, the connections that a claim was told to establish, whether it stands alone, and so keeps the numbers of all

@@ -12,7 +12,7 @@ use Rattle.mdb_log.specs.declared.reply.Refused.{Refused}
 use Rattle.mdb_log.specs.Answer.{Answer}
 use Rattle.mdb_log.specs.History.{Item, PoolItem, after_act, after_facts, of_pool, with_answer}
 use Rattle.mdb_log.specs.Legal.{NoneLeftWaiting}
-use Rattle.mdb_pool.specs.Body.{PoolSteps, PoolFits, led}
+use Rattle.mdb_pool.specs.Kept.Body.{PoolSteps, PoolFits, led}
 use Rattle.mdb_pool.specs.Core.{PoolCore, SameKept}
 use Rattle.mdb_pool.specs.declared.planning.Answered.{Answered}
 use Rattle.mdb_pool_rules.specs.Answer.{answer}
@@ -81,10 +81,14 @@ pub record IsPrepared (s t : PoolCore) (steps : List Step) (told : List Answered
   pub stands : StandsFor t (with_steps s.pool s.address s.options h steps)
   pub none_left : NoneLeftWaiting s.options (of_pool s.pool h) → NoneLeftWaiting s.options (of_pool s.pool (with_steps s.pool s.address s.options h steps))
 
+-- what a plan is to its callers: nothing but a change of its pool
+abbrev pub Plan : Type 0
+Plan = PoolSteps
+
 -- the plan leads the pool to this one
-abbrev pub Plans : PoolSteps → PoolCore → PoolCore → Type 0
+abbrev pub Plans : Plan → PoolCore → PoolCore → Type 0
 Plans plan s t = PoolFits plan s.inner × (led plan s ≡ t)
 
 -- the plan was made on the pool, which no call changed since
-abbrev pub IsPlanOf : PoolSteps → PoolCore → Type 0
+abbrev pub IsPlanOf : Plan → PoolCore → Type 0
 IsPlanOf plan s = (t : PoolCore) × Plans plan s t

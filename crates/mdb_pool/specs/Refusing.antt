@@ -10,33 +10,33 @@ use Rattle.mdb_log.specs.declared.reply.Refused.{Refused}
 use Rattle.mdb_log.specs.declared.reply.Refused.TheVariants.{TimeBack, UnknownServer, RequestKnown, UnknownRequest, NotHolder, NotPending, Unpinned, PinInUse, PinState, WrongMode, Exhausted}
 use Rattle.mdb_log.specs.History.{service_in}
 use Rattle.mdb_pool.specs.Core.{PoolCore}
-use Rattle.mdb_pool.specs.Kept.{request_at, connection_at, held_connection, is_open_now, is_pending_at, is_held_at, is_shut, pins_at, exhausted_now}
+use Rattle.mdb_pool.specs.Now.{exhausted_now, holds_now, is_closed_now, is_held_now, is_open_now, is_pending_now, is_pinned_now, knows_now, pins_now}
 use Rattle.mdb_pool_rules.specs.Refusal.{first_row, wrong_service}
 
 -- the pool is open, and this is its address
 abbrev pub is_here : PoolCore → ServerAddress → Bool
-is_here s a = same_address s.address a && not (is_shut s.status)
+is_here s a = same_address s.address a && not (is_closed_now s)
 
 -- the connection is one of this pool, and pending
 abbrev pub is_pending_here : PoolCore → ℕ → ℕ → Bool
-is_pending_here s q c = (q == s.pool) && is_pending_at (connection_at s c)
+is_pending_here s q c = (q == s.pool) && is_pending_now s c
 
 -- the connection is one of this pool, and has a pin
 abbrev pub is_pinned_here : PoolCore → ℕ → ℕ → Bool
-is_pinned_here s q c = (q == s.pool) && nat_lt 0 (pins_at (connection_at s c))
+is_pinned_here s q c = (q == s.pool) && nat_lt 0 (pins_now s c)
 
 -- the rows of each act
 abbrev pub rows_now : PoolCore → Act → List (Bool × Refused)
-rows_now s (Request r a) = (not (is_here s a), UnknownServer) ∷ (is_some (request_at s r), RequestKnown) ∷ []
-rows_now s (Warm r a) = (not (is_here s a), UnknownServer) ∷ (is_some (request_at s r), RequestKnown) ∷ []
+rows_now s (Request r a) = (not (is_here s a), UnknownServer) ∷ (knows_now s r, RequestKnown) ∷ []
+rows_now s (Warm r a) = (not (is_here s a), UnknownServer) ∷ (knows_now s r, RequestKnown) ∷ []
 rows_now s (Collect r) = (not (is_open_now s r), UnknownRequest) ∷ []
 rows_now s (GiveUp r) = (not (is_open_now s r), UnknownRequest) ∷ []
 rows_now s (Established q c how) = (not (is_pending_here s q c), NotPending) ∷ (wrong_service s.options.load_balanced how.service_id, WrongMode) ∷ []
 rows_now s (Failed q c at error) = (not (is_pending_here s q c), NotPending) ∷ (not s.options.load_balanced && is_some (service_in at), WrongMode) ∷ []
-rows_now s (Return r used) = (not (is_some (held_connection s r)), NotHolder) ∷ []
-rows_now s (Pin r) = (not (is_some (held_connection s r)), NotHolder) ∷ (nat_lt 0 (pins_at (held_connection s r)), PinState) ∷ []
+rows_now s (Return r used) = (not (holds_now s r), NotHolder) ∷ []
+rows_now s (Pin r) = (not (holds_now s r), NotHolder) ∷ (is_pinned_now s r, PinState) ∷ []
 rows_now s (Replicate q c) = (not (is_pinned_here s q c), Unpinned) ∷ []
-rows_now s (Take r q c) = (is_some (request_at s r), RequestKnown) ∷ (not (is_pinned_here s q c), Unpinned) ∷ (is_held_at (connection_at s c), PinInUse) ∷ []
+rows_now s (Take r q c) = (knows_now s r, RequestKnown) ∷ (not (is_pinned_here s q c), Unpinned) ∷ (is_held_now s c, PinInUse) ∷ []
 rows_now s (Unpin q c) = (not (is_pinned_here s q c), Unpinned) ∷ []
 rows_now s (Maintain a) = (not (is_here s a), UnknownServer) ∷ []
 rows_now s (Expire a) = (not (is_here s a), UnknownServer) ∷ []
@@ -49,7 +49,7 @@ refusal_now s step = first_row ((nat_lt step.moment s.last, TimeBack s.last) ∷
 
 -- the pool can tell whether the party is new: it stands alone, and keeps all numbers, or the party is new
 abbrev pub can_tell : PoolCore → ℕ → Bool
-can_tell s r = s.alone || not (is_some (request_at s r))
+can_tell s r = s.alone || not (knows_now s r)
 
 -- it can tell so of the party that the act names for the first time, where it names one
 abbrev pub tells_new : PoolCore → Act → Bool

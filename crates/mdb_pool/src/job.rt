@@ -8,15 +8,15 @@ use mdb_base::{Items, ObjectId, OutOfMemory};
 use std::alloc::{AllocError, Global};
 
 impl PoolCore {
-    ghost use Rattle.std.specs.Prelude.{map, List, true, not, is_some};
+    ghost use Rattle.std.specs.Prelude.{map, List, true, not};
     ghost use Rattle.std.specs.List.{list_any};
     ghost use Rattle.mdb_log.specs.Requests.{is_claimed};
-    ghost use Rattle.mdb_pool.specs.Kept.{connection_at, first_unclaimed};
+    ghost use Rattle.mdb_pool.specs.Now.{has_job_now, is_live_now};
     ghost use Rattle.mdb_pool_rules.specs.Jobs.{items_before, generations, job_in};
-    ghost use Rattle.mdb_pool.specs.Kept.{count_at};
+    ghost use Rattle.mdb_pool.specs.Kept.Values.{count_at};
     ghost use Rattle.mdb_log.specs.History.{Item, PoolItem, of_pool};
     ghost use Rattle.mdb_log.specs.Connections.{has, pending_list};
-    ghost use Rattle.mdb_pool.specs.Standing.{Fits, StandsFor, StandsIn};
+    ghost use Rattle.mdb_pool.specs.Standing.{Fits, StandsIn};
 
     // How often the pool was cleared so before the connection was created, 0 where it isn't live.
     fn count_at(&self, id: u32, service: Option<ObjectId>) -> u64
@@ -43,7 +43,7 @@ impl PoolCore {
 
     // The generation of the pool before the connection, which lives, was created.
     fn generations_before(&self, alloc: Global, id: u32) -> Result<PoolGeneration, AllocError>
-        requires { is_some (connection_at self.now id) ≡ true }
+        requires { is_live_now self.now id ≡ true }
         ensures { IfOk result (λ before. (xs : List PoolItem) → Fits self.now xs → has id (pending_list xs) ≡ true → before ≡ generations self.now.options.load_balanced (items_before xs id)) }
     {
         if !self.draft.options().load_balanced {
@@ -77,9 +77,8 @@ impl PoolCore {
 
     /// Some pending connection was told by no claim: the next claim is told a job.
     pub fn has_job(&self) -> bool
-        ensures kept { result ≡ is_some (first_unclaimed self.now) }
-        ensures among { (h : List Item) → StandsIn self.now h → result ≡ list_any (λ c. not (is_claimed h self.now.pool c)) (pending_list (of_pool self.now.pool h)) }
-        ensures history { (h : List Item) → StandsFor self.now h → result ≡ list_any (λ c. not (is_claimed h self.now.pool c)) (pending_list (of_pool self.now.pool h)) }
+        ensures now { result ≡ has_job_now self.now }
+        ensures history { (h : List Item) → StandsIn self.now h → result ≡ list_any (λ c. not (is_claimed h self.now.pool c)) (pending_list (of_pool self.now.pool h)) }
     {
         self.draft.body.first_unclaimed().is_some()
     }

@@ -3,7 +3,7 @@
 ghost use Rattle.std.specs.Prelude.{◌≡◌, IfOk, All, List};
 ghost use Rattle.mdb_log.specs.Acts.{IsPoolAct};
 ghost use Rattle.mdb_log.specs.History.{Item};
-ghost use Rattle.mdb_pool.specs.Body.{led, pool_of, PoolFits};
+ghost use Rattle.mdb_pool.specs.Kept.Body.{led, pool_of, PoolFits};
 ghost use Rattle.mdb_pool.specs.Core.{PoolCore as Core};
 ghost use Rattle.mdb_pool.specs.Refusing.{TellsNew};
 ghost use Rattle.mdb_pool.specs.Standing.{StandsFor};
@@ -32,7 +32,7 @@ pub struct Plan {
 }
 
 impl Model for Plan {
-    ghost use Rattle.mdb_pool.specs.Body.{PoolSteps};
+    ghost use Rattle.mdb_pool.specs.Kept.Body.{PoolSteps};
 
     ghost Value = { PoolSteps };
 

@@ -22,7 +22,7 @@ pub struct PoolCore {
 
 impl Model for PoolCore {
     ghost use Rattle.std.specs.Prelude.{◌≡◌};
-    ghost use Rattle.mdb_pool.specs.Body.{pool_of};
+    ghost use Rattle.mdb_pool.specs.Kept.Body.{pool_of};
     ghost use Rattle.mdb_pool.specs.Core.{PoolCore};
 
     ghost Value = { PoolCore };
@@ -33,7 +33,7 @@ impl Model for PoolCore {
 }
 
 impl PoolCore {
-    ghost use Rattle.mdb_pool.specs.Kept.{held_connection, request_at, connection_at, is_open_now, is_spent, id_at, wire_at, name_of, cause_of, state_in};
+    ghost use Rattle.mdb_pool.specs.Now.{cause_of, held_now, holds_now, is_open_now, is_spent, name_of, state_now, wire_now};
     ghost use Rattle.mdb_pool.specs.Refusing.{can_tell};
     ghost use Rattle.mdb_log.specs.Connections.{has, held, pins, is_live, pending_list, holding, wire_of};
     ghost use Rattle.mdb_log.specs.Requests.{is_open};
@@ -131,7 +131,7 @@ impl PoolCore {
 
     /// Whether the pool may be used.
     pub fn state(&self) -> PoolState
-        ensures kept { result ≡ name_of (state_in self.now.status) }
+        ensures now { result ≡ name_of (state_now self.now) }
         ensures items { (xs : List PoolItem) → Fits self.now xs → result ≡ name_of (state_of self.now.options xs) }
     {
         match self.draft.body.status.get() {
@@ -154,7 +154,7 @@ impl PoolCore {
 
     /// The connection that the party holds.
     pub fn held_by(&self, party: u32) -> Option<u32>
-        ensures kept { result ≡ id_at (held_connection self.now party) }
+        ensures now { result ≡ held_now self.now party }
         ensures items { (xs : List PoolItem) → Fits self.now xs → result ≡ holding xs party }
     {
         match self.draft.body.held_connection(party) {
@@ -166,15 +166,14 @@ impl PoolCore {
     /// The party asked this pool, or took a pinned connection of it. A pool that stands alone can tell; one of a driver keeps no numbers.
     pub fn knows(&self, party: u32) -> bool
         requires { can_tell self.now party ≡ true }
-        ensures kept { result ≡ is_some (request_at self.now party) }
-        ensures items { (xs : List PoolItem) → Fits self.now xs → result ≡ has_party xs party }
+        ensures { (xs : List PoolItem) → Fits self.now xs → result ≡ has_party xs party }
     {
         self.draft.body.knows(party)
     }
 
     /// The party holds a connection of this pool.
     pub fn holds(&self, party: u32) -> bool
-        ensures kept { result ≡ is_some (held_connection self.now party) }
+        ensures now { result ≡ holds_now self.now party }
         ensures items { (xs : List PoolItem) → Fits self.now xs → result ≡ is_some (holding xs party) }
     {
         self.draft.body.holds(party)
@@ -189,9 +188,8 @@ impl PoolCore {
 
     /// The request was made at this pool, its outcome was not told yet, and its caller neither gave up nor returned the connection.
     pub fn is_open(&self, request: u32) -> bool
-        ensures kept { result ≡ is_open_now self.now request }
-        ensures among { (h : List Item) → StandsIn self.now h → result ≡ has_asked (of_pool self.now.pool h) request && is_open h request }
-        ensures history { (h : List Item) → StandsFor self.now h → result ≡ is_open h request }
+        ensures now { result ≡ is_open_now self.now request }
+        ensures history { (h : List Item) → StandsIn self.now h → result ≡ has_asked (of_pool self.now.pool h) request && is_open h request }
     {
         self.draft.body.is_open(request)
     }
@@ -226,7 +224,7 @@ impl PoolCore {
 
     /// The wire version that the connection was established with, `None` where it was not, or isn't live.
     pub fn wire_version(&self, id: u32) -> Option<i32>
-        ensures kept { result ≡ wire_at (connection_at self.now id) }
+        ensures now { result ≡ wire_now self.now id }
         ensures items { (xs : List PoolItem) → Fits self.now xs → result ≡ if is_live xs id then wire_of xs id else None }
     {
         match self.draft.body.connections.get(id) {

@@ -2,14 +2,15 @@
 
 ghost use Rattle.std.specs.Prelude.{◌≡◌, is_some, nat_lt, true, false};
 ghost use Rattle.mdb_log.specs.Connections.{has};
-ghost use Rattle.mdb_pool.specs.Body.{now_of};
+ghost use Rattle.mdb_pool.specs.Kept.Body.{now_of};
 
 use crate::kept::body::Body;
 use crate::kept::request::Phase;
 use mdb_base::ObjectId;
 
 impl Body {
-    ghost use Rattle.mdb_pool.specs.Kept.{held_connection, request_at, connection_at, is_pending_at, is_held_at, is_open_now, is_ended_at, is_spent, pins_at, clears_for, exhausted_now};
+    ghost use Rattle.mdb_pool.specs.Kept.Values.{held_connection, request_at, connection_at, is_pending_at, is_held_at, is_ended_at, pins_at, clears_for};
+    ghost use Rattle.mdb_pool.specs.Now.{is_open_now, is_spent, exhausted_now};
     ghost use Rattle.mdb_pool.specs.Refusing.{can_tell};
 
     // The party asked this pool, or took a pinned connection of it.

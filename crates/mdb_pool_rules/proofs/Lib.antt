@@ -1,11 +1,16 @@
 pub mod AfterClearOrClose
+pub mod ClearFacts
 pub mod FactsGrantNothing
 pub mod Fair
 pub mod FirstRow
+pub mod FreshGrants
 pub mod KeptByFacts
 pub mod LimitsAreKept
 pub mod Listed
+pub mod ManyClosed
+pub mod ManyEnded
 pub mod NoMove
 pub mod OrderOfIds
 pub mod SameAnswers
+pub mod SweepAndFill
 pub mod Worked

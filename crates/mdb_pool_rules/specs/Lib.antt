@@ -4,4 +4,5 @@ pub mod Facts
 pub mod Jobs
 pub mod Quiet
 pub mod Refusal
+pub mod Rested
 pub mod Serving

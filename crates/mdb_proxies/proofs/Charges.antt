@@ -2,6 +2,7 @@
 use Rattle.std.proofs.Common.{◌≡◌, ◌≢◌, ℕ, ◌+◌, ◌≤◌, ◌<◌, Bool, true, false, not, ◌&&◌, ◌||◌, ◌==◌, nat_lt, List, [], ◌∷◌, Option, Some, None, is_some, option_map, refl, sym, ap, ◌∙◌, subst, arith}
 use Rattle.std.specs.List.{list_any}
 use Rattle.std.proofs.lemmas.Bool.Decides.{Decides-eqb, Decides-ltb, nat_tests}
+use Rattle.std.proofs.lemmas.Bool.{not-true}
 use Rattle.mdb_base.specs.Equality.{same_address}
 use Rattle.mdb_base.specs.declared.address.ServerAddress.{ServerAddress}
 use Rattle.mdb_log.specs.declared.log.Entry.{Entry}
@@ -17,7 +18,7 @@ use Rattle.mdb_proxies.specs.Passing.{is_passed}
 use Rattle.mdb_proxies.specs.View.{KeepsShares}
 use Rattle.mdb_proxies.specs.Tables.{charge_in, may_go, some_may_go, standing_if, standings, is_fresh, place_of, Sound}
 use Rattle.mdb_proxies.proofs.AfterEntry.{charge-is}
-use Rattle.mdb_proxies.proofs.Bools.{left, right, first, rest, other, not-true}
+use Rattle.mdb_proxies.proofs.Bools.{left, right, first, rest, other}
 use Rattle.mdb_proxies.proofs.Within.{same-address}
 
 one-lag : (shares : List ℕ) (os ps : List Standing) (h c : Bool) (x : Asked) (n : ℕ) → charge_in os x.tenant x.address ≡ n

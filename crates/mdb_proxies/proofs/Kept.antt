@@ -2,12 +2,13 @@
 use Rattle.std.proofs.Common.{◌≡◌, ℕ, ◌+◌, ◌≤◌, Bool, true, false, not, if◌then◌else◌, ◌==◌, List, [], ◌∷◌, ◌++◌, length, drop, Option, Some, None, option_map, refl, sym, ap, ◌∙◌, subst, arith, length-append, add-one}
 use Rattle.std.proofs.Math.Seq.{drop-length}
 use Rattle.std.proofs.lemmas.Bool.Decides.{Decides-eqb}
+use Rattle.std.proofs.lemmas.Bool.{not-true}
 use Rattle.mdb_log.specs.declared.log.Entry.{Entry}
 use Rattle.mdb_proxies.specs.declared.asked.Asked.{Asked}
 use Rattle.mdb_proxies.specs.declared.asked.Standing.{Standing}
 use Rattle.mdb_proxies.specs.Charge.{is_held, counts, is_requested, is_charged}
 use Rattle.mdb_proxies.specs.Tables.{after_entry, standing_of, standing_if, standings, is_fresh, place_of, AreSingle, AreMade, Keeps}
-use Rattle.mdb_proxies.proofs.Bools.{not-true, left, right, both, swapped}
+use Rattle.mdb_proxies.proofs.Bools.{left, right, both, swapped}
 use Rattle.mdb_proxies.proofs.AfterEntry.{after_entry-is}
 
 pub made-later : (m n : ℕ) (xs : List Asked) → m ≤ n → AreMade m xs → AreMade n xs

@@ -3,6 +3,7 @@ use Rattle.std.proofs.Common.{◌≡◌, ℕ, ◌+◌, ◌≤◌, ◌<◌, Bool,
 use Rattle.std.proofs.Math.ListN.{set}
 use Rattle.std.proofs.Math.Seq.{drop-length}
 use Rattle.std.proofs.lemmas.Bool.Decides.{Decides-eqb}
+use Rattle.std.proofs.lemmas.Bool.{not-true}
 use Rattle.mdb_log.specs.declared.step.Act.{Act}
 use Rattle.mdb_log.specs.declared.step.Act.TheVariants.{Request, Return}
 use Rattle.mdb_log.specs.declared.log.Entry.{Entry}
@@ -13,7 +14,7 @@ use Rattle.mdb_proxies.specs.Charge.{requests, returns, since}
 use Rattle.mdb_proxies.specs.Recording.{SameAsks}
 use Rattle.mdb_proxies.specs.Telling.{takes_back, is_returned}
 use Rattle.mdb_proxies.specs.Tables.{blank, place_from, note_of, notes_of, handed_at, taken_back, map_at, noted_at, noted_by, noted, is_fresh, place_of, AreSingle, AreMade}
-use Rattle.mdb_proxies.proofs.Bools.{left, right, not-true}
+use Rattle.mdb_proxies.proofs.Bools.{left, right}
 use Rattle.mdb_proxies.proofs.Logged.{since-more, or-assoc, or-none}
 
 place-more : (r n m : ℕ) (es : List Entry) (e : Entry) → m ≡ n + length es

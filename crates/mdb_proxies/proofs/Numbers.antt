@@ -1,6 +1,7 @@
 -- Asks have numbers of their own.
 use Rattle.std.proofs.Common.{◌≡◌, ℕ, ◌+◌, ◌<◌, Bool, true, false, not, ◌==◌, List, [], ◌∷◌, ◌++◌, length, get_or, take, drop, refl, sym, ap, ◌∙◌, add-one, drop-cons, suc}
 use Rattle.std.proofs.lemmas.List.{take-append-drop}
+use Rattle.std.proofs.lemmas.Bool.{not-true}
 use Rattle.mdb_base.specs.declared.address.ServerAddress.{ServerAddress}
 use Rattle.mdb_log.specs.declared.log.Entry.{Entry}
 use Rattle.mdb_log.specs.declared.step.Act.TheVariants.{Request}
@@ -8,7 +9,7 @@ use Rattle.mdb_proxies.specs.declared.asked.Asked.{Asked}
 use Rattle.mdb_proxies.specs.declared.asked.Standing.{Standing}
 use Rattle.mdb_proxies.specs.Charge.{requests, is_held, counts}
 use Rattle.mdb_proxies.specs.Tables.{standing_if, standings, is_fresh, AreSingle}
-use Rattle.mdb_proxies.proofs.Bools.{not-true, left, right, both, swapped}
+use Rattle.mdb_proxies.proofs.Bools.{left, right, both, swapped}
 use Rattle.mdb_proxies.proofs.Within.{NoneRequested, is_free, SingleStandings}
 
 -- a request of a number that none has is the request of none

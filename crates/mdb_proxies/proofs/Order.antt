@@ -25,10 +25,11 @@ use Rattle.mdb_proxies.specs.Replies.{Replies, Performs, tell_if, with_ask, new_
 use Rattle.mdb_proxies.specs.Telling.{tells, tell, told_if, ask_of}
 use Rattle.mdb_proxies.proofs.Telling.{same_asks}
 use Rattle.std.proofs.Math.Seq.{drop-length}
+use Rattle.std.proofs.lemmas.Bool.{not-true}
 use Rattle.mdb_proxies.specs.Entries.{request_at, next_request, AreHandedOn, GoesOn, Enters}
 use Rattle.mdb_proxies.specs.Order.{handed_place, IsSooner, IsSoonerThan, IsFirstCome}
 use Rattle.mdb_proxies.specs.Tables.{place_from, is_fresh, AreSingle, AreMade}
-use Rattle.mdb_proxies.proofs.Bools.{left, right, first, rest, other, not-true, both, swapped}
+use Rattle.mdb_proxies.proofs.Bools.{left, right, first, rest, other, both, swapped}
 use Rattle.mdb_proxies.proofs.Charges.{at-is, passed-own}
 use Rattle.mdb_proxies.proofs.Kept.{made-later, made-append, single-append}
 use Rattle.mdb_proxies.proofs.Noted.{note-more}

@@ -4,6 +4,7 @@ use Rattle.std.specs.List.{list_any}
 use Rattle.std.proofs.Math.Seq.{drop-length}
 use Rattle.std.proofs.lemmas.List.{drop-append-le}
 use Rattle.std.proofs.lemmas.Bool.Decides.{Decides-eqb}
+use Rattle.std.proofs.lemmas.Bool.{or_left, or_right, not-true}
 use Rattle.mdb_base.specs.Equality.{same_address}
 use Rattle.mdb_base.specs.declared.address.ServerAddress.{ServerAddress}
 use Rattle.mdb_log.specs.declared.log.Entry.{Entry}
@@ -29,7 +30,7 @@ use Rattle.mdb_proxies.specs.Replies.{Replies, Performs, refusal_of, refusal_by,
 use Rattle.mdb_proxies.specs.Tables.{AreMade}
 use Rattle.mdb_proxies.specs.Telling.{tells, told_if, tell, ask_of}
 use Rattle.mdb_proxies.specs.View.{ProxyView}
-use Rattle.mdb_proxies.proofs.Bools.{left, right, both, not-true}
+use Rattle.mdb_proxies.proofs.Bools.{left, right, both}
 use Rattle.mdb_proxies.proofs.Kept.{made-later, made-append}
 use Rattle.mdb_proxies.proofs.Order.{Next, next-first}
 use Rattle.mdb_proxy_laws.specs.Asks.{is_taken, is_ask_of, IsAsked, EachAsked, AreAsked}
@@ -64,13 +65,6 @@ since-more log more x h = drop-append-le x.entries log more h
 abbrev Covers : List Entry → List Asked → List Entry → List Asked → Type 0
 Covers log xs more ys = (r : ℕ) (a : ServerAddress) → list_any (is_ask_of log r a) xs ≡ true → list_any (is_ask_of more r a) ys ≡ true
 
-or-left : (a b : Bool) → a ≡ true → (a || b) ≡ true
-or-left a b h = rw h refl
-
-or-right : (a b : Bool) → b ≡ true → (a || b) ≡ true
-or-right true b h = refl
-or-right false b h = h
-
 more-one : (log more : List Entry) (r : ℕ) (a : ServerAddress) (x : Asked) → x.entries ≤ length log → is_ask_of log r a x ≡ true → is_ask_of (log ++ more) r a x ≡ true
 more-one log more r a x m h =
     let k : (same_address x.address a && is_taken r (since log x)) ≡ true = right (r == x.request) (same_address x.address a && is_taken r (since log x)) h in
@@ -83,8 +77,8 @@ covers-more log more [] m r a h = absurd (let k : false ≡ true = h in cc)
 covers-more log more (x ∷ xs) m r a h = go (is_ask_of log r a x) refl h (covers-more log more xs m.1 r a)
   where
     go : (b : Bool) → is_ask_of log r a x ≡ b → (b || list_any (is_ask_of log r a) xs) ≡ true → (list_any (is_ask_of log r a) xs ≡ true → list_any (is_ask_of (log ++ more) r a) xs ≡ true) → (is_ask_of (log ++ more) r a x || list_any (is_ask_of (log ++ more) r a) xs) ≡ true
-    go true i h deeper = or-left (is_ask_of (log ++ more) r a x) (list_any (is_ask_of (log ++ more) r a) xs) (more-one log more r a x m.0 i)
-    go false i h deeper = or-right (is_ask_of (log ++ more) r a x) (list_any (is_ask_of (log ++ more) r a) xs) (deeper h)
+    go true i h deeper = or_left (is_ask_of (log ++ more) r a x) (list_any (is_ask_of (log ++ more) r a) xs) (more-one log more r a x m.0 i)
+    go false i h deeper = or_right (is_ask_of (log ++ more) r a x) (list_any (is_ask_of (log ++ more) r a) xs) (deeper h)
 
 -- more asks
 covers-append : (log : List Entry) (xs : List Asked) (y : Asked) → Covers log xs log (xs ++ y ∷ [])
@@ -163,7 +157,7 @@ fits-entry first log xs e f h = record {
 
 any-there : (p : Asked → Bool) (front back : List Asked) (x : Asked) → p x ≡ true → list_any p (front ++ x ∷ back) ≡ true
 any-there p [] back x h = rw h refl
-any-there p (y ∷ front) back x h = or-right (p y) (list_any p (front ++ x ∷ back)) (any-there p front back x h)
+any-there p (y ∷ front) back x h = or_right (p y) (list_any p (front ++ x ∷ back)) (any-there p front back x h)
 
 made-there : (n : ℕ) (front back : List Asked) (x : Asked) → AreMade n (front ++ x ∷ back) → x.entries ≤ n
 made-there n [] back x m = m.0

@@ -21,7 +21,7 @@ use Rattle.mdb_log.proofs.Frame.{asked-fact}
 use Rattle.mdb_log.specs.declared.options.PoolOptions.{PoolOptions}
 use Rattle.mdb_log.specs.Opening.{pool_options}
 use Rattle.mdb_pool.specs.Core.{PoolCore}
-use Rattle.mdb_pool.specs.Kept.{is_shut}
+use Rattle.mdb_pool.specs.Now.{is_closed_now}
 use Rattle.mdb_topology.specs.declared.topology.TopologyCore.{TopologyCore}
 use Rattle.mdb_driver_rules.specs.Lines.{entry_after}
 use Rattle.mdb_topology.specs.Logging.{opening_step, Stood, AreDriven, IsDriverOf}
@@ -121,7 +121,7 @@ open-home o pools h a p z e =
     let at : at_address pools a ≡ Some p = sym (z.open_are a) ∙ e in
     let found = get-within pools p (position-within (is_open_at a) pools p at) in
     let opened : is_open_at a found.0 ≡ true = (position-at (is_open_at a) pools p found.0 at found.1).0 in
-    let here : found.0.address ≡ a = same-address found.0.address a (right (not (is_shut found.0.status)) (same_address found.0.address a) opened) in
+    let here : found.0.address ≡ a = same-address found.0.address a (right (not (is_closed_now found.0)) (same_address found.0.address a) opened) in
     record { home = home found.0; at = ap (λ (l : List Home). slice_get l p) z.homes_are ∙ get-map home pools p found.0 found.1; is = here }
 
 -- ---- one more entry

@@ -2,6 +2,7 @@
 use Rattle.std.proofs.Common.{◌≡◌, ℕ, ◌≤◌, ◌+◌, Bool, true, false, not, ◌&&◌, ◌||◌, if◌then◌else◌, ◌==◌, nat_lt, nat_le, List, [], ◌∷◌, ◌++◌, length, Option, Some, None, option_map, refl, sym, ap, ◌∙◌, subst, arith, length-append, append-nil, append_assoc, drop}
 use Rattle.std.specs.Prelude.{⊤}
 use Rattle.std.proofs.Math.Seq.{drop-length}
+use Rattle.std.proofs.lemmas.Bool.{not-true}
 use Rattle.mdb_log.specs.declared.log.Entry.{Entry}
 use Rattle.mdb_log.specs.declared.step.Step.{Step}
 use Rattle.mdb_log.specs.declared.step.Act.TheVariants.{Request}
@@ -24,7 +25,7 @@ use Rattle.mdb_proxies.specs.Replies.{Replies, Performs, refusal_of, refusal_by,
 use Rattle.mdb_proxies.specs.Tables.{AreMade, AreSingle, is_fresh}
 use Rattle.mdb_proxies.specs.Telling.{tells, told_if, tell, ask_of}
 use Rattle.mdb_proxies.specs.View.{ProxyView}
-use Rattle.mdb_proxies.proofs.Bools.{left, right, not-true, swapped}
+use Rattle.mdb_proxies.proofs.Bools.{left, right, swapped}
 use Rattle.mdb_proxies.proofs.Charges.{passed-own}
 use Rattle.mdb_proxies.proofs.Kept.{made-later, made-append, single-append}
 use Rattle.mdb_proxies.proofs.Order.{Next, next-first}

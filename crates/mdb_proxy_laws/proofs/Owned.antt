@@ -2,6 +2,7 @@
 use Rattle.std.proofs.Common.{ℕ, ◌≡◌, ◌==◌, ◌⊎◌, inl, inr, Bool, true, false, not, ◌&&◌, ◌||◌, List, [], ◌∷◌, ◌++◌, Option, Some, None, is_some, refl, sym, ◌∙◌, ap, subst, arith, if◌then◌else◌, filter, nat_lt}
 use Rattle.std.specs.List.{list_all}
 use Rattle.std.proofs.lemmas.Bool.Decides.{Decides-eqb}
+use Rattle.std.proofs.lemmas.Bool.{or_right}
 use Rattle.mdb_events.specs.declared.cmap.CmapEvent.TheVariants.{PoolCreated, PoolReady, PoolClosed, ConnectionCreated, ConnectionClosed, ConnectionCheckedIn}
 use Rattle.mdb_events.specs.declared.end.End.{End}
 use Rattle.mdb_events.specs.declared.end.End.TheVariants.{Cleared, Closed, Failed as FailedEnd, Filled, GaveUp, TimedOut, Warmed}
@@ -51,10 +52,6 @@ right : (a b : Bool) → (a && b) ≡ true → b ≡ true
 right true b h = h
 right false b h = absurd (let k : false ≡ true = h in cc)
 
-or-right : (a b : Bool) → b ≡ true → (a || b) ≡ true
-or-right true b h = refl
-or-right false b h = h
-
 pub filtered : (test : ℕ → Bool) (r : ℕ) (ks : List ℕ) → has r (filter test ks) ≡ true → has r ks ≡ true
 filtered test r [] h = h
 filtered test r (k ∷ ks) h = go (test k) h (filtered test r ks)
@@ -65,7 +62,7 @@ filtered test r (k ∷ ks) h = go (test k) h (filtered test r ks)
         on : (b : Bool) → (b || has r (filter test ks)) ≡ true → (b || has r ks) ≡ true
         on true h = refl
         on false h = deeper h
-    go false h deeper = or-right (k == r) (has r ks) (deeper h)
+    go false h deeper = or_right (k == r) (has r ks) (deeper h)
 
 either : (a b : Bool) → (a || b) ≡ true → (a ≡ true → ⊥) → (b ≡ true → ⊥) → ⊥
 either true b h f g = f refl
@@ -182,7 +179,7 @@ module _ (xs : List PoolItem) (w : IsOwned xs) where
   gains r d = record { simple = w.simple; each = λ c h. (let o = w.each c h in (o.0, go c o.0 (d == c) o.1)) }
     where
       go : (c k : ℕ) (b : Bool) → has k (parties xs c) ≡ true → has k (if b then r ∷ parties xs c else parties xs c) ≡ true
-      go c k true h = or-right (r == k) (has k (parties xs c)) h
+      go c k true h = or_right (r == k) (has k (parties xs c)) h
       go c k false h = h
 
 -- any item but a creation

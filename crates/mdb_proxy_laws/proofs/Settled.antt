@@ -2,6 +2,7 @@
 use Rattle.std.proofs.Common.{ℕ, ◌≡◌, ◌==◌, Bool, true, false, not, ◌&&◌, ◌||◌, if◌then◌else◌, List, [], ◌∷◌, drop, zero, suc, refl, sym, ◌∙◌, subst}
 use Rattle.std.specs.List.{list_any}
 use Rattle.std.proofs.lemmas.Bool.Decides.{Decides-eqb}
+use Rattle.std.proofs.lemmas.Bool.{or_left, or_right, not-true}
 use Rattle.mdb_base.specs.Equality.{same_address}
 use Rattle.mdb_base.specs.declared.address.ServerAddress.{ServerAddress}
 use Rattle.mdb_events.specs.declared.fact.Fact.{Fact}
@@ -24,34 +25,27 @@ use Rattle.mdb_proxy_laws.proofs.Counting.{is_charged_number}
 
 -- ---- the history
 
--- the request ended or its connection came back
+-- the request ended or its connection came not-true
 abbrev pub is_over : List Item → ℕ → Bool
 is_over h r = is_ended h r || has_returned h r
 
-or-left : (a b : Bool) → a ≡ true → (a || b) ≡ true
-or-left a b h = rw h refl
-
-or-right : (a b : Bool) → b ≡ true → (a || b) ≡ true
-or-right true b h = refl
-or-right false b h = h
-
 ended-fact : (m : ℕ) (f : Fact) (h : List Item) (r : ℕ) → is_ended h r ≡ true → is_ended (made m f ∷ h) r ≡ true
-ended-fact m (Ended q end) h r e = or-right (q == r) (is_ended h r) e
+ended-fact m (Ended q end) h r e = or_right (q == r) (is_ended h r) e
 ended-fact m _ h r e = e
 
 over-fact : (m : ℕ) (f : Fact) (h : List Item) (r : ℕ) → is_over h r ≡ true → is_over (made m f ∷ h) r ≡ true
 over-fact m f h r e = go (is_ended h r) refl e
   where
     go : (b : Bool) → is_ended h r ≡ b → (b || has_returned h r) ≡ true → (is_ended (made m f ∷ h) r || has_returned h r) ≡ true
-    go true i e = or-left (is_ended (made m f ∷ h) r) (has_returned h r) (ended-fact m f h r i)
-    go false i e = or-right (is_ended (made m f ∷ h) r) (has_returned h r) e
+    go true i e = or_left (is_ended (made m f ∷ h) r) (has_returned h r) (ended-fact m f h r i)
+    go false i e = or_right (is_ended (made m f ∷ h) r) (has_returned h r) e
 
 over-facts : (m : ℕ) (fs : List Fact) (h : List Item) (r : ℕ) → is_over h r ≡ true → is_over (with_facts m fs h) r ≡ true
 over-facts m [] h r e = e
 over-facts m (f ∷ fs) h r e = over-facts m fs (made m f ∷ h) r (over-fact m f h r e)
 
 end-over : (m : ℕ) (f : Fact) (h : List Item) (r : ℕ) → is_end r f ≡ true → is_over (made m f ∷ h) r ≡ true
-end-over m (Ended q end) h r e = or-left ((q == r) || is_ended h r) (has_returned h r) (or-left (q == r) (is_ended h r) e)
+end-over m (Ended q end) h r e = or_left ((q == r) || is_ended h r) (has_returned h r) (or_left (q == r) (is_ended h r) e)
 end-over m _ h r e = absurd (let k : false ≡ true = e in cc)
 
 -- one of the facts ends it
@@ -64,10 +58,10 @@ ends-over m (f ∷ fs) h r e = go (is_end r f) refl e (ends-over m fs (made m f 
     go false i e deeper = deeper e
 
 return-over : (step : Step) (reply : Reply) (h : List Item) (r : ℕ) → returns r step.act ≡ true → is_over (did step reply ∷ h) r ≡ true
-return-over step reply h r e = or-right (is_ended h r) (has_returned (did step reply ∷ h) r) (go step.act e)
+return-over step reply h r e = or_right (is_ended h r) (has_returned (did step reply ∷ h) r) (go step.act e)
   where
     go : (a : Act) → returns r a ≡ true → has_returned (did (record { moment = step.moment; act = a }) reply ∷ h) r ≡ true
-    go (Return q used) e = or-left (q == r) (has_returned h r) e
+    go (Return q used) e = or_left (q == r) (has_returned h r) e
     go _ e = absurd (let k : false ≡ true = e in cc)
 
 over-step : (step : Step) (reply : Reply) (h : List Item) (r : ℕ) → is_over h r ≡ true → is_over (did step reply ∷ h) r ≡ true
@@ -75,7 +69,7 @@ over-step step reply h r e = go (is_ended h r) e
   where
     go : (b : Bool) → (b || has_returned h r) ≡ true → (b || has_returned (did step reply ∷ h) r) ≡ true
     go true e = refl
-    go false e = or-right _ (has_returned h r) e
+    go false e = or_right _ (has_returned h r) e
 
 over-answer : (step : Step) (reply : Reply) (fs : List Fact) (h : List Item) (r : ℕ) → is_over h r ≡ true → is_over (with_answer step reply fs h) r ≡ true
 over-answer step (Refused why) fs h r e = e
@@ -94,10 +88,6 @@ settle-answer step reply fs h r n e = go (returns r step.act) refl e
     go true i e = over-facts step.moment fs (did step reply ∷ h) r (return-over step reply h r i)
     go false i e = ends-over step.moment fs (did step reply ∷ h) r e
 
-back : (b : Bool) → not b ≡ true → b ≡ false
-back true e = absurd (let k : false ≡ true = e in cc)
-back false e = refl
-
 settled-over : (es : List Entry) (h : List Item) (r : ℕ) → is_settled r es ≡ true → is_over (with_entries es h) r ≡ true
 settled-over [] h r e = absurd (let k : false ≡ true = e in cc)
 settled-over (x ∷ es) h r e = go (settles r x) refl e (settled-over es (with_answer x.step x.reply x.facts h) r)
@@ -105,7 +95,7 @@ settled-over (x ∷ es) h r e = go (settles r x) refl e (settled-over es (with_a
     go : (b : Bool) → settles r x ≡ b → (b || is_settled r es) ≡ true → (is_settled r es ≡ true → is_over (with_entries es (with_answer x.step x.reply x.facts h)) r ≡ true) → is_over (with_entries es (with_answer x.step x.reply x.facts h)) r ≡ true
     go true i e deeper =
         over-entries es (with_answer x.step x.reply x.facts h) r
-        (settle-answer x.step x.reply x.facts h r (back (is_refusal x.reply) (left (not (is_refusal x.reply)) (returns r x.step.act || ends r x.facts) i)) (right (not (is_refusal x.reply)) (returns r x.step.act || ends r x.facts) i))
+        (settle-answer x.step x.reply x.facts h r (not-true (is_refusal x.reply) (left (not (is_refusal x.reply)) (returns r x.step.act || ends r x.facts) i)) (right (not (is_refusal x.reply)) (returns r x.step.act || ends r x.facts) i))
     go false i e deeper = deeper e
 
 -- What its history does not tell as over no entry of a log settled.
@@ -146,5 +136,5 @@ asked-charged log r a [] s h = h
 asked-charged log r a (x ∷ xs) s h = go (is_ask_of log r a x) refl h (asked-charged log r a xs s)
   where
     go : (b : Bool) → is_ask_of log r a x ≡ b → (b || list_any (is_ask_of log r a) xs) ≡ true → (list_any (is_ask_of log r a) xs ≡ true → list_any (is_charged_number log a r) xs ≡ true) → (is_charged_number log a r x || list_any (is_charged_number log a r) xs) ≡ true
-    go true i h deeper = or-left (is_charged_number log a r x) (list_any (is_charged_number log a r) xs) (charged-one log r a x s i)
-    go false i h deeper = or-right (is_charged_number log a r x) (list_any (is_charged_number log a r) xs) (deeper h)
+    go true i h deeper = or_left (is_charged_number log a r x) (list_any (is_charged_number log a r) xs) (charged-one log r a x s i)
+    go false i h deeper = or_right (is_charged_number log a r x) (list_any (is_charged_number log a r) xs) (deeper h)

@@ -19,7 +19,7 @@ use Rattle.mdb_pool_rules.specs.Answer.{all_facts}
 use Rattle.mdb_log.proofs.Later.{after-append}
 use Rattle.mdb_log.proofs.Numbers.{same-number}
 use Rattle.mdb_sound.specs.Sound.{Sound, MayAsk, MayGiveUp, MayTake, Holds}
-use Rattle.mdb_sound.proofs.Rested.{Rested}
+use Rattle.mdb_pool_rules.specs.Rested.{Rested}
 use Rattle.mdb_sound.proofs.Served.{Fine, serving-sound}
 use Rattle.mdb_sound.proofs.Ends.{asked-fine, warmed-fine}
 use Rattle.mdb_sound.proofs.Establishes.{calm-rested, established-fine}

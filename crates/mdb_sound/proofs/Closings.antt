@@ -19,7 +19,7 @@ use Rattle.mdb_log.proofs.Pins.{queued-asked}
 use Rattle.mdb_sound.specs.Sound.{Sound, was_closed, in_use, lost, MayClose, MayEnd, MayShut}
 use Rattle.mdb_sound.proofs.Connections.{connection-laws}
 use Rattle.mdb_sound.proofs.Order.{times, times-filter, has-filter, times-none, requests-asked}
-use Rattle.mdb_sound.proofs.Rested.{Rested}
+use Rattle.mdb_pool_rules.specs.Rested.{Rested}
 use Rattle.mdb_sound.proofs.Calm.{one-lives, queued-unended, none-is, calm-close}
 use Rattle.mdb_sound.proofs.Served.{Fine}
 use Rattle.mdb_sound.proofs.Backs.{unshut-state, idle-unused}

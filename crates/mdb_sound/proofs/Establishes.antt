@@ -16,7 +16,7 @@ use Rattle.mdb_sound.specs.Sound.{Sound}
 use Rattle.mdb_sound.proofs.Steady.{available-then}
 use Rattle.mdb_sound.proofs.Connections.{connection-laws}
 use Rattle.mdb_sound.proofs.Parties.{one-connection, one-party}
-use Rattle.mdb_sound.proofs.Rested.{Rested}
+use Rattle.mdb_pool_rules.specs.Rested.{Rested}
 use Rattle.mdb_sound.proofs.Calm.{Calm, none-is, one-lives, calm-close, calm-end}
 use Rattle.mdb_sound.proofs.Served.{Fine}
 use Rattle.mdb_sound.proofs.Backs.{IsBack, Back, shut, kept, gone, back-of, back-fine, out, calm-gone, calm-left, shut-sound, kept-sound, gone-sound}

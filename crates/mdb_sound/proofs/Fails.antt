@@ -12,7 +12,7 @@ use Rattle.mdb_pool_rules.specs.Facts.{fail_requester}
 use Rattle.mdb_log.proofs.Numbers.{same-number}
 use Rattle.mdb_sound.specs.Sound.{Sound, MayClose, lost}
 use Rattle.mdb_sound.proofs.Connections.{connection-laws}
-use Rattle.mdb_sound.proofs.Rested.{Rested}
+use Rattle.mdb_pool_rules.specs.Rested.{Rested}
 use Rattle.mdb_sound.proofs.Calm.{none-is, one-lives, calm-close}
 use Rattle.mdb_sound.proofs.Served.{Fine}
 use Rattle.mdb_sound.proofs.Ends.{ends-fine}

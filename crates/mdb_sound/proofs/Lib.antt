@@ -4,7 +4,6 @@ pub mod Once
 pub mod Parties
 pub mod Order
 pub mod Generations
-pub mod Rested
 pub mod Calm
 pub mod Served
 pub mod Ends

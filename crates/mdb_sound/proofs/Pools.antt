@@ -2,6 +2,7 @@
 use Rattle.std.proofs.Common.{ℕ, ◌≡◌, ◌<◌, ◌==◌, Bool, true, false, not, ◌&&◌, if◌then◌else◌, List, [], ◌∷◌, Option, Some, None, is_some, refl, sym, ◌∙◌, ap, subst, arith, nat_lt}
 use Rattle.std.proofs.lemmas.Bool.Decides.{nat_tests}
 use Rattle.std.specs.Option.{unwrap_or}
+use Rattle.std.proofs.lemmas.Bool.{not-true, not-false}
 use Rattle.mdb_base.specs.Equality.{same_address}
 use Rattle.mdb_base.specs.declared.address.ServerAddress.{ServerAddress}
 use Rattle.mdb_events.specs.declared.fact.Fact.{Fact}
@@ -16,17 +17,15 @@ use Rattle.mdb_log.specs.declared.reply.Refused.TheVariants.{TimeBack, UnknownSe
 use Rattle.mdb_log.specs.History.{Item, did, PoolItem, asked, warmed, gave_up, returned, pinned_by, established, failed, replicated, taken, unpinned, is_number, open_pool, last_moment, of_pool, after_act, after_facts, with_act, with_answer, opening, if_so, given, has_asked, has_party}
 use Rattle.mdb_log.specs.Connections.{has, pending_list, holding, held, pins, is_pinned}
 use Rattle.mdb_log.specs.Requests.{some_act, names_party, was_asked, leaves, told, is_open, is_claimed}
-use Rattle.mdb_log.specs.State.{is_closed}
 use Rattle.mdb_log.specs.Own.{IsAccepted}
 use Rattle.mdb_pool.specs.Core.{PoolCore}
-use Rattle.mdb_pool.specs.declared.kept.status.Status.{Status}
-use Rattle.mdb_pool.specs.declared.kept.status.Status.TheVariants.{New, Ready as ReadyNow, Paused, Closed}
-use Rattle.mdb_pool.specs.Kept.{is_shut, state_in}
+use Rattle.mdb_pool.specs.Now.{is_closed_now}
+use Rattle.mdb_pool.proofs.Told.OfQueries.{closed-is}
 use Rattle.mdb_pool_rules.specs.Refusal.{first_row, rows_of, refusal_of, wrong_service}
 use Rattle.mdb_pool.specs.Standing.{StandsFor}
 use Rattle.mdb_pool_rules.specs.Answer.{all_facts, answer, reply_of}
 use Rattle.mdb_pool_rules.proofs.FirstRow.{first-passes, one-passes, two-pass, three-pass}
-use Rattle.mdb_log.proofs.Bools.{not-false, both-true}
+use Rattle.mdb_log.proofs.Bools.{both-true}
 use Rattle.mdb_pool_rules.proofs.LimitsAreKept.{reply-accepted}
 use Rattle.mdb_log.proofs.Later.{of_pool-with_facts, with_answer-accepted}
 use Rattle.mdb_log.proofs.Numbers.{same-number}
@@ -34,7 +33,8 @@ use Rattle.mdb_sound.specs.Sound.{Sound, was_closed, MayTake, Holds}
 use Rattle.mdb_sound.proofs.Steady.{held-given}
 use Rattle.mdb_sound.proofs.Connections.{connection-laws}
 use Rattle.mdb_sound.proofs.Generations.{closed-for-good}
-use Rattle.mdb_sound.proofs.Rested.{Rested, rested}
+use Rattle.mdb_pool_rules.specs.Rested.{Rested}
+use Rattle.mdb_pool.proofs.Histories.Resting.{rested}
 use Rattle.mdb_sound.proofs.Calm.{one-lives}
 use Rattle.mdb_sound.proofs.Leaving.{stays-act}
 use Rattle.mdb_sound.proofs.Acts.{Done, requests, warms, gives_up, establishes, fails, returns, pins_one, replicates, takes, unpins, maintains, expires, readies, clears, shuts, tells, all-sound}
@@ -53,10 +53,6 @@ none-above n e = grind (arith, nat_tests)
 -- one item more where the test holds
 one-more : (m : ℕ) (act : Act) (xs : List PoolItem) (b : Bool) (x : PoolItem) → b ≡ true → Done m xs act (x ∷ xs) → Done m xs act (if_so b x xs)
 one-more m act xs b x e d = subst (λ k. Done m xs act (if_so k x xs)) (sym e) d
-
-not-true : (b : Bool) → not b ≡ true → b ≡ false
-not-true true e = cc
-not-true false e = refl
 
 some-is : (o : Option ℕ) → is_some o ≡ true → (c : ℕ) × (o ≡ Some c)
 some-is None e = cc
@@ -144,13 +140,6 @@ module _ (p : ℕ) (o : PoolOptions) (h : List Item) (m : ℕ) (know : Knows p h
   done-of (Unwant w) mine e = tells (Unwant w) (λ p a o. refl)
   done-of Stop mine e = tells Stop (λ p a o. refl)
 
--- a pool that is not shut was not closed
-state-shut : (t : Status) → state_in t ≡ is_closed → is_shut t ≡ true
-state-shut New e = cc
-state-shut ReadyNow e = cc
-state-shut (Paused error) e = cc
-state-shut Closed e = refl
-
 module _ (s : PoolCore) (h : List Item) (z : StandsFor s h) (sound : Sound (of_pool s.pool h)) where
   open-here : (a : ServerAddress) → is_number (open_pool h a) s.pool ≡ true → was_closed (of_pool s.pool h) ≡ false
   open-here a e = on (was_closed (of_pool s.pool h)) refl
@@ -158,8 +147,7 @@ module _ (s : PoolCore) (h : List Item) (z : StandsFor s h) (sound : Sound (of_p
       on : (b : Bool) → was_closed (of_pool s.pool h) ≡ b → was_closed (of_pool s.pool h) ≡ false
       on false f = f
       on true f =
-          let t : state_in s.status ≡ is_closed = sym z.fits.matches.clearing.status ∙ (closed-for-good s.options (of_pool s.pool h) sound f).stays_closed in
-          let k : is_shut s.status ≡ true = state-shut s.status t in
+          let k : is_closed_now s ≡ true = closed-is s (of_pool s.pool h) z.fits (closed-for-good s.options (of_pool s.pool h) sound f).stays_closed in
           let none : open_pool h a ≡ None = z.open_here a ∙ rw k (shut-none (same_address s.address a)) in
           let g : is_number (open_pool h a) s.pool ≡ false = rw none refl in
           cc
@@ -184,7 +172,7 @@ module _ (s : PoolCore) (h : List Item) (z : StandsFor s h) (sound : Sound (of_p
       accepted : (facts : List Fact) (says : Reply) → facts ≡ all_facts s.pool s.address s.options step.moment (of_pool s.pool h) (with_act s.pool h step) step.act → IsAccepted says → refusal_of s.pool s.options h step ≡ None → Sound (of_pool s.pool (with_answer step says facts h))
       accepted facts says e k none =
           let rows : first_row (rows_of s.pool s.options h (of_pool s.pool h) step.act) ≡ None = (first-passes (nat_lt step.moment (last_moment h)) (TimeBack (last_moment h)) (rows_of s.pool s.options h (of_pool s.pool h) step.act) none).1 in
-          let rest : Rested (of_pool s.pool h) = rested s (of_pool s.pool h) z.fits.matches in
+          let rest : Rested (of_pool s.pool h) = rested s (of_pool s.pool h) z.fits in
           let done : Done step.moment (of_pool s.pool h) step.act (with_act s.pool h step) = done-of s.pool s.options h step.moment knows sound rest step.act (mine step.act rows) rows in
           let all : Sound (after_facts s.pool step.moment (all_facts s.pool s.address s.options step.moment (of_pool s.pool h) (with_act s.pool h step) step.act) (with_act s.pool h step)) = all-sound s.pool s.address s.options step.moment (of_pool s.pool h) sound rest step.act (with_act s.pool h step) done in
           let same : of_pool s.pool (with_answer step says facts h) ≡ after_facts s.pool step.moment facts (with_act s.pool h step) = ap (of_pool s.pool) (with_answer-accepted step says facts h k) ∙ of_pool-with_facts s.pool step.moment facts (did step says ∷ h) in

@@ -16,7 +16,7 @@ use Rattle.mdb_sound.specs.Sound.{Sound, was_closed, has_left, Holds, MayTake, M
 use Rattle.mdb_sound.proofs.Steady.{held-given}
 use Rattle.mdb_sound.proofs.Connections.{connection-laws}
 use Rattle.mdb_sound.proofs.Parties.{one-connection}
-use Rattle.mdb_sound.proofs.Rested.{Rested}
+use Rattle.mdb_pool_rules.specs.Rested.{Rested}
 use Rattle.mdb_sound.proofs.Calm.{Calm, none-is, one-lives, calm-end}
 use Rattle.mdb_sound.proofs.Served.{Fine}
 use Rattle.mdb_sound.proofs.Backs.{IsBack, back-fine}

@@ -1,6 +1,7 @@
 -- The lists of places after one was given.
 use Rattle.std.proofs.Common.{ℕ, zero, suc, ◌+◌, ◌≡◌, ◌<◌, ◌≤◌, ◌==◌, Bool, true, false, not, ◌&&◌, ◌||◌, if◌then◌else◌, refl, sym, ap, subst, ◌∙◌, arith, add-one}
 use Rattle.std.proofs.lemmas.Grind.{common_steps}
+use Rattle.std.proofs.lemmas.Bool.{not-true, not-false}
 use Rattle.mdb_log.proofs.Numbers.{same-number}
 use Rattle.mdb_log.proofs.Bools.{both-left, both-right}
 use Rattle.mdb_tallies.specs.declared.connection.Place.{Place}
@@ -35,14 +36,6 @@ once-pushed r v old new e once fresh i below = by (i == len old r) refl
 
 pub listed-pushed : (r : ℕ) (v : Place) (old new : Lists Place) → Pushes r v old new → (p c : ℕ) → listed (len new r) (nth new r) p c ≡ is_place v p c || listed (len old r) (nth old r) p c
 listed-pushed r v old new e p c = rw (pushed-len r v old new e, add-one (len old r), pushed-last r v old new e) (ap (λ b. is_place v p c || b) (listed-same (len old r) (nth new r) (nth old r) p c (λ j m. pushed-below r v old new e j m)))
-
-true-or : (b : Bool) → not b ≡ false → b ≡ true
-true-or true e = refl
-true-or false e = cc
-
-none-or : (b : Bool) → not b ≡ true → b ≡ false
-none-or true e = cc
-none-or false e = refl
 
 abbrev any_way : Gift → Bool
 any_way g = g.is_granted || g.is_taken
@@ -90,5 +83,5 @@ pub gives : (old : Tables) (r p c : ℕ) (g : Gift) (lists : Lists Place) (t : D
 gives old r p c g lists t way push there = record { gifts = there; connections = refl; parties = refl; pools = refl; lists = λ covers. by covers (not (any_way (at old.gifts r p c))) refl push }
   where
     by : Covers old → (b : Bool) → not (any_way (at old.gifts r p c)) ≡ b → PushesIf b r (record { pool = p; id = c }) old.places lists → Covers (record old { gifts = t; places = lists })
-    by covers true e push = covers-more old r p c g lists t way (none-or (any_way (at old.gifts r p c)) e) push there covers
-    by covers false e push = subst (λ l. Covers (record old { gifts = t; places = l })) (sym push) (covers-again old r p c g t way (true-or (any_way (at old.gifts r p c)) e) there covers)
+    by covers true e push = covers-more old r p c g lists t way (not-true (any_way (at old.gifts r p c)) e) push there covers
+    by covers false e push = subst (λ l. Covers (record old { gifts = t; places = l })) (sym push) (covers-again old r p c g t way (not-false (any_way (at old.gifts r p c)) e) there covers)

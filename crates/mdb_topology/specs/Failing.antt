@@ -13,10 +13,9 @@ use Rattle.mdb_log.specs.declared.step.FailedAt.{FailedAt}
 use Rattle.mdb_log.specs.declared.step.FailedAt.TheVariants.{Pre, Post}
 use Rattle.mdb_log.specs.History.{Item, PoolItem, of_pool, service_in}
 use Rattle.mdb_log.specs.Opening.{pool_options}
-use Rattle.mdb_pool.specs.declared.kept.connection.Connection.{Connection}
 use Rattle.mdb_pool.specs.Core.{PoolCore}
 use Rattle.mdb_pool_rules.specs.Facts.{clear_facts}
-use Rattle.mdb_pool.specs.Kept.{clears_before, clears_for}
+use Rattle.mdb_pool.specs.Now.{clears_before_now, clears_now}
 use Rattle.mdb_pool_rules.specs.Refusal.{wrong_service}
 use Rattle.mdb_driver_pools.specs.declared.pool_change.PoolChange.{PoolChange}
 use Rattle.mdb_driver_pools.specs.declared.trouble.Asked.{Asked}
@@ -34,11 +33,11 @@ use Rattle.mdb_driver_pools.specs.Failing.{IsFailing, Fails}
 
 -- the pool was not cleared, or not for the service, since the connection was created
 abbrev pub is_uncleared : PoolCore → ℕ → Option ObjectId → Bool
-is_uncleared s c t = clears_before c t s.clears == clears_for t s.clears
+is_uncleared s c t = clears_before_now s c t == clears_now s t
 
 -- The connection is of the generation that its pool has, without and with load balancing.
 abbrev pub is_timely : Bool → PoolCore → ℕ → FailedAt → Bool
-is_timely false s c Pre = nat_le (clears_for None s.clears) (clears_before c None s.clears)
+is_timely false s c Pre = nat_le (clears_now s None) (clears_before_now s c None)
 is_timely false s c (Post service) = is_uncleared s c None
 is_timely true s c Pre = false
 is_timely true s c (Post None) = true
@@ -53,12 +52,12 @@ regards_now w s c at e =
     && is_timely w.options.load_balanced s c at))
 
 -- what is cleared after the error, where its server changed or the connection has a service
-abbrev pub clears_after : Connection → Error → Bool
-clears_after x e = not (is_state_change e.kind) || is_hard_now x e
+abbrev pub clears_after : PoolCore → ℕ → Error → Bool
+clears_after s c e = not (is_state_change e.kind) || is_hard_now s c e
 
 -- the service that is cleared after it
-abbrev pub service_after : Connection → FailedAt → Error → Option ObjectId
-service_after x at e = if clears_after x e then service_in at else None
+abbrev pub service_after : PoolCore → ℕ → FailedAt → Error → Option ObjectId
+service_after s c at e = if clears_after s c e then service_in at else None
 
 -- what the monitor is asked after it
 abbrev pub asked_after : Error → Asked

@@ -19,7 +19,7 @@ use Rattle.mdb_log.specs.declared.reply.Reply.{Reply}
 use Rattle.mdb_log.specs.declared.reply.Reply.TheVariants.{Changed}
 use Rattle.mdb_log.specs.History.{Item}
 use Rattle.mdb_pool.specs.Core.{PoolCore}
-use Rattle.mdb_pool.specs.Kept.{exhausted_now}
+use Rattle.mdb_pool.specs.Now.{exhausted_now}
 use Rattle.mdb_driver_pools.specs.declared.pool_change.PoolChange.{PoolChange}
 use Rattle.mdb_driver_pools.specs.declared.trouble.Asked.{Asked}
 use Rattle.mdb_topology.specs.declared.monitors.monitoring.Monitoring.{Monitoring}

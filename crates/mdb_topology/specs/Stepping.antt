@@ -5,7 +5,6 @@ use Rattle.mdb_describe.specs.declared.topology.TopologyDescription.{TopologyDes
 use Rattle.mdb_describe.specs.Update.{stored}
 use Rattle.mdb_log.specs.declared.log.Entry.{Entry}
 use Rattle.mdb_log.specs.declared.step.Step.{Step}
-use Rattle.mdb_log.specs.declared.step.Act.TheVariants as Do
 use Rattle.mdb_log.specs.History.{Item, did, with_answer}
 use Rattle.mdb_log.specs.LegalLog.{IsFairAnswer}
 use Rattle.mdb_log.specs.Beside.{AllFreshGrants}

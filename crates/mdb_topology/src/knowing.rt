@@ -15,7 +15,7 @@ impl TopologyCore {
     ghost use Rattle.mdb_log.specs.Homes.{homes};
     ghost use Rattle.mdb_log.specs.Opening.{pool_options};
     ghost use Rattle.mdb_pool.specs.Core.{PoolCore as Core};
-    ghost use Rattle.mdb_pool.specs.Kept.{is_spent};
+    ghost use Rattle.mdb_pool.specs.Now.{is_spent};
     ghost use Rattle.mdb_pool.specs.Standing.{StandsIn};
     ghost use Rattle.mdb_driver_rules.specs.Description.{description_of, published};
     ghost use Rattle.mdb_driver_rules.specs.Jobs.{job_after};

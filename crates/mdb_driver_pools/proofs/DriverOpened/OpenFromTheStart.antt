@@ -1,7 +1,8 @@
 -- A driver that was just opened has a pool open at each of its servers, and so each of its pools is open.
-use Rattle.std.proofs.Common.{ℕ, zero, suc, ◌≡◌, ◌+◌, ◌&&◌, ◌||◌, Bool, true, false, not, List, [], ◌∷◌, map, position, length, is_some, nat_lt, Option, Some, None, refl, sym, ◌∙◌, ap, subst, arith}
+use Rattle.std.proofs.Common.{ℕ, zero, suc, ◌≡◌, ◌+◌, ◌&&◌, ◌||◌, Bool, true, false, not, List, [], ◌∷◌, map, length, is_some, nat_lt, Option, Some, None, refl, sym, ◌∙◌, ap, subst, arith}
 use Rattle.std.specs.Prelude.{option_map, slice_get}
 use Rattle.std.proofs.lemmas.Bool.Decides.{nat_tests}
+use Rattle.std.proofs.lemmas.Bool.{or_right}
 use Rattle.mdb_base.specs.declared.address.ServerAddress.{ServerAddress}
 use Rattle.mdb_base.specs.AddressOrder.{is_before_first, in_order as are_in_order}
 use Rattle.mdb_base.specs.Equality.{same_address}
@@ -11,7 +12,7 @@ use Rattle.mdb_log.specs.Homes.{Home}
 use Rattle.mdb_log.specs.LegalLog.{numbered}
 use Rattle.mdb_describe.proofs.Addresses.{own-address, same-address}
 use Rattle.mdb_pool.specs.Core.{PoolCore}
-use Rattle.mdb_pool.specs.Kept.{is_shut, is_spent}
+use Rattle.mdb_pool.specs.Now.{is_closed_now, is_spent}
 use Rattle.mdb_log.proofs.Bools.{both-true}
 use Rattle.mdb_driver_pools.specs.Living.{lives_at}
 use Rattle.mdb_driver_pools.specs.Standing.{at_address, home, is_open_at}
@@ -25,10 +26,6 @@ some-later (Some i) = refl
 neither : (x y : Bool) → (x || y) ≡ false → (x ≡ false) × (y ≡ false)
 neither true y e = cc
 neither false y e = (refl, e)
-
-or-right : (x y : Bool) → y ≡ true → (x || y) ≡ true
-or-right true y e = refl
-or-right false y e = e
 
 and-off : (x y : Bool) → y ≡ false → (x && y) ≡ false
 and-off true y e = e
@@ -48,7 +45,7 @@ none-at a n [] (x ∷ pools) e f = cc
 none-at a n (b ∷ rest) (x ∷ pools) e f =
     let those = heads n b rest x pools e in
     let parts = neither (same_address b a) (is_listed rest a) f in
-    let off : is_open_at a x ≡ false = and-off (not (is_shut x.status)) (same_address x.address a) (ap (λ c. same_address c a) those.0 ∙ parts.0) in
+    let off : is_open_at a x ≡ false = and-off (not (is_closed_now x)) (same_address x.address a) (ap (λ c. same_address c a) those.0 ∙ parts.0) in
     ap is_some (position-miss (is_open_at a) x pools off) ∙ (some-later (at_address pools a) ∙ none-at a (n + 1) rest pools those.1 parts.1)
 
 module _ (n : ℕ) (b : ServerAddress) (rest : List ServerAddress) (x : PoolCore) (pools : List PoolCore) (e : map home (x ∷ pools) ≡ numbered n (b ∷ rest)) (o : are_in_order (b ∷ rest) ≡ true)
@@ -62,10 +59,10 @@ module _ (n : ℕ) (b : ServerAddress) (rest : List ServerAddress) (x : PoolCore
   apart : is_listed rest b ≡ false
   apart = none-same b rest order.0 order.1
 
-  first-open : is_shut x.status ≡ false
-  first-open = on (is_shut x.status) refl
+  first-open : is_closed_now x ≡ false
+  first-open = on (is_closed_now x) refl
     where
-      on : (k : Bool) → is_shut x.status ≡ k → k ≡ false
+      on : (k : Bool) → is_closed_now x ≡ k → k ≡ false
       on false g = refl
       on true g =
           let off : is_open_at b x ≡ false = rw g refl in
@@ -78,22 +75,22 @@ module _ (n : ℕ) (b : ServerAddress) (rest : List ServerAddress) (x : PoolCore
     where
       on : (k : Bool) → is_open_at a x ≡ k → is_some (at_address pools a) ≡ true
       on true g =
-          let there : same_address x.address a ≡ true = (both-true (not (is_shut x.status)) (same_address x.address a) g).1 in
+          let there : same_address x.address a ≡ true = (both-true (not (is_closed_now x)) (same_address x.address a) g).1 in
           let same : b ≡ a = sym those.0 ∙ same-address x.address a there in
           let none : is_listed rest a ≡ false = subst (λ c. is_listed rest c ≡ false) same apart in
           cc
-      on false g = sym (ap is_some (position-miss (is_open_at a) x pools g) ∙ some-later (at_address pools a)) ∙ f a (or-right (same_address b a) (is_listed rest a) l)
+      on false g = sym (ap is_some (position-miss (is_open_at a) x pools g) ∙ some-later (at_address pools a)) ∙ f a (or_right (same_address b a) (is_listed rest a) l)
 
 pub all-open : (n : ℕ) (list : List ServerAddress) (pools : List PoolCore) → map home pools ≡ numbered n list → are_in_order list ≡ true
-    → ((a : ServerAddress) → is_listed list a ≡ true → is_some (at_address pools a) ≡ true) → (p : ℕ) (s : PoolCore) → slice_get pools p ≡ Some s → is_shut s.status ≡ false
+    → ((a : ServerAddress) → is_listed list a ≡ true → is_some (at_address pools a) ≡ true) → (p : ℕ) (s : PoolCore) → slice_get pools p ≡ Some s → is_closed_now s ≡ false
 all-open n list [] e o f p s at = cc
 all-open n [] (x ∷ pools) e o f p s at = cc
-all-open n (b ∷ rest) (x ∷ pools) e o f zero s at = let same : x ≡ s = cc in subst (λ (u : PoolCore). is_shut u.status ≡ false) same (first-open n b rest x pools e o f)
+all-open n (b ∷ rest) (x ∷ pools) e o f zero s at = let same : x ≡ s = cc in subst (λ (u : PoolCore). is_closed_now u ≡ false) same (first-open n b rest x pools e o f)
 all-open n (b ∷ rest) (x ∷ pools) e o f (suc p) s at =
     all-open (n + 1) rest pools (those n b rest x pools e o f).1 (order n b rest x pools e o f).1 (others-there n b rest x pools e o f) p s at
 
 -- something lives in an open pool
-pub open-unspent : (s : PoolCore) → is_shut s.status ≡ false → is_spent s ≡ false
+pub open-unspent : (s : PoolCore) → is_closed_now s ≡ false → is_spent s ≡ false
 open-unspent s e = rw e refl
 
 same-test : (p n : ℕ) → nat_lt (suc p) (suc n) ≡ nat_lt p n

@@ -1,6 +1,7 @@
 -- After a clear the pool still accepts a failure that it accepted before.
 use Rattle.std.proofs.Common.{ℕ, ◌≡◌, ◌==◌, ◌&&◌, Bool, true, false, not, List, [], ◌∷◌, Option, None, is_some, nat_lt, refl, sym, ◌∙◌, ap, arith}
 use Rattle.std.proofs.lemmas.Bool.Decides.{nat_tests}
+use Rattle.std.proofs.lemmas.Bool.{not-false}
 use Rattle.mdb_base.specs.declared.object_id.ObjectId.{ObjectId}
 use Rattle.mdb_base.specs.declared.error.Error.{Error}
 use Rattle.mdb_events.specs.declared.cmap.CmapEvent.TheVariants as event
@@ -15,12 +16,12 @@ use Rattle.mdb_log.specs.Connections.{has, pending_list}
 use Rattle.mdb_log.proofs.Numbers.{same-number}
 use Rattle.mdb_pool.specs.Core.{PoolCore}
 use Rattle.mdb_pool_rules.specs.Answer.{all_facts}
-use Rattle.mdb_pool.specs.Kept.{connection_at, is_pending_at}
+use Rattle.mdb_pool.specs.Now.{is_pending_now}
 use Rattle.mdb_pool_rules.specs.Refusal.{first_row}
 use Rattle.mdb_pool.specs.Refusing.{is_pending_here, refusal_now}
 use Rattle.mdb_pool_rules.specs.Serving.{IsServed}
 use Rattle.mdb_pool.specs.Standing.{Fits, Accepts}
-use Rattle.mdb_pool.proofs.Answered.Act.{pending-is}
+use Rattle.mdb_pool.proofs.Told.OfQueries.{pending-is}
 use Rattle.mdb_pool_rules.proofs.AfterClearOrClose.{clear-alone}
 use Rattle.mdb_pool_rules.proofs.SameAnswers.FailureAndClear.{IsOfClear, AreOfClear, clear-of-clear}
 use Rattle.mdb_driver_pools.specs.Failing.{IsFailing, StillFails}
@@ -53,10 +54,6 @@ two-rows false x true q y v e = cc
 two-rows false x false true y v e = cc
 two-rows false x false false y v e = (refl, refl, refl)
 
-not-false : (b : Bool) → not b ≡ false → b ≡ true
-not-false true e = refl
-not-false false e = cc
-
 module _ (s : PoolCore) (xs : List PoolItem) (fits : Fits s xs) (served : IsServed s.options xs) (step : Step) (error : Error) (d : IsFailing s step error) where
   abbrev m : ℕ
   m = step.moment
@@ -71,8 +68,8 @@ module _ (s : PoolCore) (xs : List PoolItem) (fits : Fits s xs) (served : IsServ
       two-rows (nat_lt step.moment s.last) (TimeBack s.last) (not (is_pending_here s s.pool d.connection)) (not s.options.load_balanced && is_some (service_in d.at)) _ _
       (ap (λ a. refusal_now s (record { moment = step.moment; act = a })) (sym d.act_is) ∙ d.accepted)
 
-  pub pending-now : is_pending_at (connection_at s d.connection) ≡ true
-  pending-now = sym (ap (λ b. b && is_pending_at (connection_at s d.connection)) (same-number s.pool)) ∙ not-false (is_pending_here s s.pool d.connection) rows.1
+  pub pending-now : is_pending_now s d.connection ≡ true
+  pending-now = sym (ap (λ b. b && is_pending_now s d.connection) (same-number s.pool)) ∙ not-false (is_pending_here s s.pool d.connection) rows.1
 
   pub still-fails : (service : Option ObjectId) → StillFails s step service error
   still-fails service t a done = ap (λ x. refusal_now t (record { moment = m; act = x })) d.act_is ∙ rw (late, pending-then, fitting) refl
@@ -88,9 +85,9 @@ module _ (s : PoolCore) (xs : List PoolItem) (fits : Fits s xs) (served : IsServ
           let kept : pending_list (after_facts s.pool m (whole service) xs) ≡ pending_list xs =
           ap (λ fs. pending_list (after_facts s.pool m fs xs)) (clear-alone s.pool s.address s.options m xs s.pool service error served)
           ∙ pending-facts s.pool m _ xs (clear-of-clear s.pool s.address s.options m xs service error) in
-          let pending : is_pending_at (connection_at t d.connection) ≡ true =
+          let pending : is_pending_now t d.connection ≡ true =
           sym (pending-is t (after_facts s.pool m (whole service) xs) v.fits d.connection) ∙ (ap (has d.connection) kept ∙ (pending-is s xs fits d.connection ∙ pending-now)) in
-          ap (λ p. (s.pool == p) && is_pending_at (connection_at t d.connection)) done.home.pool ∙ rw (same-number s.pool, pending) refl
+          ap (λ p. (s.pool == p) && is_pending_now t d.connection) done.home.pool ∙ rw (same-number s.pool, pending) refl
 
       fitting : not t.options.load_balanced && is_some (service_in d.at) ≡ false
       fitting = ap (λ o. not o.load_balanced && is_some (service_in d.at)) done.home.options ∙ rows.2

@@ -10,18 +10,17 @@ use Rattle.mdb_log.specs.declared.step.FailedAt.{FailedAt}
 use Rattle.mdb_log.specs.declared.step.FailedAt.TheVariants.{Pre, Post}
 use Rattle.mdb_log.specs.declared.reply.Reply.TheVariants.{Done}
 use Rattle.mdb_log.specs.History.{Item, PoolItem, failed, service_in, of_pool, after_act, after_facts, with_facts, open_pool}
-use Rattle.mdb_log.specs.Connections.{has}
 use Rattle.mdb_log.specs.Requests.{is_job}
 use Rattle.mdb_log.specs.Limits.{WithinLimits}
 use Rattle.mdb_log.specs.Fresh.{AllGrantFresh}
 use Rattle.mdb_log.proofs.Numbers.{same-number}
 use Rattle.mdb_log.proofs.Later.{of_pool-with_facts}
 use Rattle.mdb_pool.specs.Core.{PoolCore}
+use Rattle.mdb_pool.specs.Now.{claimed_now}
 use Rattle.mdb_pool.specs.declared.planning.Answered.{Answered}
 use Rattle.mdb_pool_rules.specs.Answer.{all_facts}
 use Rattle.mdb_pool.specs.Composing.{FailsCleared}
 use Rattle.mdb_pool_rules.specs.Facts.{clear_facts}
-use Rattle.mdb_pool.specs.Matching.{Matches}
 use Rattle.mdb_pool.specs.Planning.{IsDone}
 use Rattle.mdb_pool_rules.specs.Quiet.{IsQuiet}
 use Rattle.mdb_pool_rules.specs.Serving.{IsServed}
@@ -41,11 +40,11 @@ item-at p q m c here Pre error xs e = rw (e, same-number p) refl
 item-at p q m c here (Post service) error xs e = rw (e, same-number p) refl
 
 -- the grants of a failure alone are of fresh connections
-alone-fresh : (t : PoolCore) (h : List Item) (m p c : ℕ) (at : FailedAt) (error : Error) → t.pool ≡ p → Matches t (of_pool t.pool h)
+alone-fresh : (t : PoolCore) (h : List Item) (m p c : ℕ) (at : FailedAt) (error : Error) → t.pool ≡ p → Fits t (of_pool t.pool h)
     → AllGrantFresh t.pool t.options m (failed c (service_in at) ∷ of_pool t.pool h) (all_facts t.pool t.address t.options m (of_pool t.pool h) (failed c (service_in at) ∷ of_pool t.pool h) (Failed p c at error))
-alone-fresh t h m p c at error e matches =
+alone-fresh t h m p c at error e fits =
     subst (λ ys. AllGrantFresh t.pool t.options m ys (all_facts t.pool t.address t.options m (of_pool t.pool h) ys (Failed p c at error)))
-    (item-at p t.pool m c (open_pool h) at error (of_pool t.pool h) e) (accepted-fresh t h (failing m p c at error) matches tt)
+    (item-at p t.pool m c (open_pool h) at error (of_pool t.pool h) e) (accepted-fresh t h (failing m p c at error) fits tt)
 
 module _ (s : PoolCore) (h : List Item) (fits : Fits s (of_pool s.pool h)) (served : IsServed s.options (of_pool s.pool h)) (quiet : IsQuiet s.options (of_pool s.pool h)) (within : WithinLimits s.options (of_pool s.pool h))
     (m c : ℕ) (at : FailedAt) (error : Error) where
@@ -70,7 +69,7 @@ module _ (s : PoolCore) (h : List Item) (fits : Fits s (of_pool s.pool h)) (serv
     accepts = subst (Accepts s u [] b.facts m act b.reply xs) (item-at s.pool s.pool m c (λ a. Some s.pool) at error xs refl) (done.does xs fits)
 
     pub alone-done : b.reply ≡ Done
-    alone-done = accepts.reply_is (λ d. has d s.claimed) (λ d. refl)
+    alone-done = accepts.reply_is (λ d. claimed_now s d) (λ d. refl)
 
     pub alone-facts : b.facts ≡ alone
     alone-facts = accepts.facts_are
@@ -81,14 +80,14 @@ module _ (s : PoolCore) (h : List Item) (fits : Fits s (of_pool s.pool h)) (serv
       fits = accepts.fits;
       fair = accepts.fair;
       own = accepts.own;
-      fresh = alone-fresh s h m s.pool c at error refl fits.matches;
+      fresh = alone-fresh s h m s.pool c at error refl fits;
       served = accepts.served;
       quiet = subst (λ ys. IsQuiet s.options (after_facts s.pool m (all_facts s.pool s.address s.options m xs ys act) ys)) (item-at s.pool s.pool m c (λ a. None) at error xs refl)
           (act-quiet s.pool s.address s.options m (λ a. None) xs (λ b e f. cc) quiet act);
       within = accepted-within s.pool s.address s.options m xs ws act within-ws;
       shut = accepts.shut;
       settled = accepts.settled;
-      claimed = λ d. accepts.claimed d ∙ ap (λ r. is_job s.pool r d || has d s.claimed) alone-done;
+      claimed = λ d. accepts.claimed d ∙ ap (λ r. is_job s.pool r d || claimed_now s d) alone-done;
     }
 
   -- the pool is cleared, and then fails
@@ -125,10 +124,10 @@ module _ (s : PoolCore) (h : List Item) (fits : Fits s (of_pool s.pool h)) (serv
     fails-are = g.fails_are
 
     cleared-done : a.reply ≡ Done
-    cleared-done = v.reply_is (λ d. has d s.claimed) (λ d. refl)
+    cleared-done = v.reply_is (λ d. claimed_now s d) (λ d. refl)
 
     pub failed-done : b.reply ≡ Done
-    failed-done = w.reply_is (λ d. has d t.claimed) (λ d. refl)
+    failed-done = w.reply_is (λ d. claimed_now t d) (λ d. refl)
 
     alike : Alike (failed c (service_in at) ∷ zs) ns
     alike = subst (λ fs. Alike (failed c (service_in at) ∷ after_facts s.pool m fs xs) ns) (sym g.clears_are ∙ v.facts_are) (failed-facts c (service_in at) s.pool m clears xs (clear-of-clear s.pool s.address s.options m ws service cause))
@@ -140,7 +139,7 @@ module _ (s : PoolCore) (h : List Item) (fits : Fits s (of_pool s.pool h)) (serv
     at-t : AllGrantFresh t.pool t.options m (failed c (service_in at) ∷ zs) (all_facts t.pool t.address t.options m zs (failed c (service_in at) ∷ zs) act)
     at-t =
         subst (λ ys. AllGrantFresh t.pool t.options m (failed c (service_in at) ∷ ys) (all_facts t.pool t.address t.options m ys (failed c (service_in at) ∷ ys) act)) known
-        (alone-fresh t (with_facts m whole h) m s.pool c at error first.home.pool (subst (Matches t) (sym known) v.fits.matches))
+        (alone-fresh t (with_facts m whole h) m s.pool c at error first.home.pool (subst (Fits t) (sym known) v.fits))
 
     fails-fresh : AllGrantFresh s.pool s.options m ns fails
     fails-fresh =
@@ -161,5 +160,5 @@ module _ (s : PoolCore) (h : List Item) (fits : Fits s (of_pool s.pool h)) (serv
       within = g.within within-ws;
       shut = g.shut;
       settled = λ r. w.settled r ∙ v.settled r;
-      claimed = λ d. w.claimed d ∙ (ap (λ r. is_job t.pool r d || has d t.claimed) failed-done ∙ (v.claimed d ∙ ap (λ r. is_job s.pool r d || has d s.claimed) cleared-done));
+      claimed = λ d. w.claimed d ∙ (ap (λ r. is_job t.pool r d || claimed_now t d) failed-done ∙ (v.claimed d ∙ ap (λ r. is_job s.pool r d || claimed_now s d) cleared-done));
     }

@@ -10,7 +10,6 @@ use Rattle.mdb_log.specs.declared.step.FailedAt.{FailedAt}
 use Rattle.mdb_log.specs.declared.step.FailedAt.TheVariants.{Pre, Post}
 use Rattle.mdb_log.specs.declared.reply.Reply.TheVariants.{Done}
 use Rattle.mdb_log.specs.History.{Item, did, PoolItem, failed, service_in, of_pool, after_facts, with_facts}
-use Rattle.mdb_log.specs.Connections.{has}
 use Rattle.mdb_log.specs.Requests.{names_party, was_asked, leaves}
 use Rattle.mdb_log.specs.Limits.{WithinLimits}
 use Rattle.mdb_log.specs.Legal.{AllFirstCome}
@@ -20,7 +19,7 @@ use Rattle.mdb_log.proofs.Numbers.{same-number}
 use Rattle.mdb_log.proofs.Later.{of_pool-with_facts}
 use Rattle.mdb_log.proofs.Frame.{party-facts, asked-facts, acts-facts, open-facts, told-facts, claimed-facts, other-facts, other-number}
 use Rattle.mdb_pool.specs.Core.{PoolCore}
-use Rattle.mdb_pool.specs.Kept.{is_shut}
+use Rattle.mdb_pool.specs.Now.{claimed_now, is_closed_now, settled_now}
 use Rattle.mdb_pool_rules.specs.Serving.{IsServed}
 use Rattle.mdb_pool_rules.specs.Quiet.{IsQuiet}
 use Rattle.mdb_pool.specs.Standing.{Fits, SameHome}
@@ -39,9 +38,9 @@ pub record Fails (s u : PoolCore) (m : ℕ) (fs : List Fact) (ws : List PoolItem
   pub served : IsServed s.options (after_facts s.pool m fs ws)
   pub quiet : IsQuiet s.options (after_facts s.pool m fs ws)
   pub within : WithinLimits s.options (after_facts s.pool m fs ws)
-  pub shut : is_shut u.status ≡ shuts fs || is_shut s.status
-  pub settled : (r : ℕ) → has r u.settled ≡ has r s.settled
-  pub claimed : (c : ℕ) → has c u.claimed ≡ has c s.claimed
+  pub shut : is_closed_now u ≡ shuts fs || is_closed_now s
+  pub settled : (r : ℕ) → settled_now u r ≡ settled_now s r
+  pub claimed : (c : ℕ) → claimed_now u c ≡ claimed_now s c
 
 -- the step of a failure
 abbrev pub failing : ℕ → ℕ → ℕ → FailedAt → Error → Step

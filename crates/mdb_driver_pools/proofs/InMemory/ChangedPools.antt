@@ -4,7 +4,7 @@ use Rattle.std.specs.Prelude.{option_map, remove, slice_get}
 use Rattle.std.proofs.lemmas.Bool.Decides.{nat_tests}
 use Rattle.std.proofs.lemmas.Option.{slice_get_read, slice_get_within}
 use Rattle.mdb_pool.specs.Core.{PoolCore}
-use Rattle.mdb_pool.specs.Kept.{is_spent}
+use Rattle.mdb_pool.specs.Now.{is_spent}
 use Rattle.mdb_driver_pools.specs.declared.placed.Placed.{Placed}
 use Rattle.mdb_driver_pools.specs.Living.{index_in, left_at, living_from}
 use Rattle.mdb_driver_rules.proofs.General.OneElement.{get-set_same}

@@ -1,11 +1,11 @@
 -- A guess that is tested finds what a walk over the pools finds.
-use Rattle.std.proofs.Common.{ℕ, zero, suc, ◌≡◌, ◌+◌, ◌≤◌, ◌==◌, Bool, true, false, List, [], ◌∷◌, position, is_some, Option, Some, None, refl, sym, ◌∙◌, ap, arith}
+use Rattle.std.proofs.Common.{ℕ, zero, suc, ◌≡◌, ◌+◌, ◌≤◌, ◌==◌, Bool, true, false, List, [], ◌∷◌, position, Option, Some, None, refl, sym, ◌∙◌, ap, arith}
 use Rattle.std.specs.Prelude.{option_map, slice_get}
 use Rattle.std.proofs.lemmas.Bool.Decides.{nat_tests}
 use Rattle.mdb_base.specs.declared.address.ServerAddress.{ServerAddress}
-use Rattle.mdb_pool.specs.declared.kept.request.Request.{Request}
 use Rattle.mdb_pool.specs.Core.{PoolCore}
-use Rattle.mdb_pool.specs.Kept.{held_connection, is_open_now, is_spent, request_at}
+use Rattle.mdb_pool.specs.Now.{holds_now, is_open_now, is_spent}
+use Rattle.mdb_pool.proofs.Told.OfQueries.{holds-knows, open-knows}
 use Rattle.mdb_driver_pools.specs.declared.placed.Placed.{Placed}
 use Rattle.mdb_driver_pools.specs.Finding.{asked_by, asks_in, holder, holds_in, opens_in}
 use Rattle.mdb_driver_pools.specs.Living.{if_at, if_lives, index_in, living_at, living_from}
@@ -111,21 +111,6 @@ only-one test (x ∷ xs) p s at ok one = on (test x) refl p at one (λ q. only-o
     on false f zero there single deeper = let same : x ≡ s = cc in let k : test s ≡ false = ap test (sym same) ∙ f in cc
     on false f (suc q) there single deeper = position-miss test x xs f ∙ ap (option_map suc) (deeper q there ok (λ m u there_u t. let w : suc m ≡ suc q = single (suc m) u there_u t in omega (arith, w)))
 
--- a party whose request is open, or that holds a connection, is known
-open-known : (s : PoolCore) (r : ℕ) → is_open_now s r ≡ true → is_some (request_at s r) ≡ true
-open-known s r e = on (request_at s r) refl
-  where
-    on : (o : Option Request) → request_at s r ≡ o → is_some (request_at s r) ≡ true
-    on None f = let k : is_open_now s r ≡ false = rw f refl in cc
-    on (Some q) f = ap is_some f
-
-held-known : (s : PoolCore) (r : ℕ) → is_some (held_connection s r) ≡ true → is_some (request_at s r) ≡ true
-held-known s r e = on (request_at s r) refl
-  where
-    on : (o : Option Request) → request_at s r ≡ o → is_some (request_at s r) ≡ true
-    on None f = let k : is_some (held_connection s r) ≡ false = rw f refl in cc
-    on (Some q) f = ap is_some f
-
 -- the pool at the place is the one that is looked for
 pub opens-there : (pools : List PoolCore) (p : ℕ) (a : ServerAddress) → IsSingle pools → opens_in (living_at pools p) a ≡ true → at_address pools a ≡ Some p
 opens-there pools p a single e = on (living_at pools p) refl
@@ -145,7 +130,7 @@ asks-there pools p r apart e = on (living_at pools p) refl
     on (Some s) f =
         let there = living-there pools p s f in
         let asks : is_open_now s r ≡ true = sym (ap (λ o. asks_in o r) f) ∙ e in
-        only-one (λ u. is_open_now u r) pools p s there.0 asks (λ q u at t. apart r q p u s at there.0 (open-known u r t) (open-known s r asks))
+        only-one (λ u. is_open_now u r) pools p s there.0 asks (λ q u at t. apart r q p u s at there.0 (open-knows u r t) (open-knows s r asks))
 
 pub holds-there : (pools : List PoolCore) (p r : ℕ) → IsApart pools → holds_in (living_at pools p) r ≡ true → holder pools r ≡ Some p
 holds-there pools p r apart e = on (living_at pools p) refl
@@ -154,5 +139,5 @@ holds-there pools p r apart e = on (living_at pools p) refl
     on None f = let k : holds_in (living_at pools p) r ≡ false = ap (λ o. holds_in o r) f in cc
     on (Some s) f =
         let there = living-there pools p s f in
-        let holds : is_some (held_connection s r) ≡ true = sym (ap (λ o. holds_in o r) f) ∙ e in
-        only-one (λ u. is_some (held_connection u r)) pools p s there.0 holds (λ q u at t. apart r q p u s at there.0 (held-known u r t) (held-known s r holds))
+        let holds : holds_now s r ≡ true = sym (ap (λ o. holds_in o r) f) ∙ e in
+        only-one (λ u. holds_now u r) pools p s there.0 holds (λ q u at t. apart r q p u s at there.0 (holds-knows u r t) (holds-knows s r holds))

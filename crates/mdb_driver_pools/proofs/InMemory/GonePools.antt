@@ -4,17 +4,16 @@ use Rattle.std.proofs.lemmas.Bool.Decides.{nat_tests}
 use Rattle.std.specs.Prelude.{slice_get}
 use Rattle.mdb_base.specs.declared.address.ServerAddress.{ServerAddress}
 use Rattle.mdb_base.specs.declared.options.Options.{Options}
-use Rattle.mdb_log.specs.Connections.{has, holding, is_live}
+use Rattle.mdb_log.specs.Connections.{holding, is_live}
 use Rattle.mdb_log.specs.History.{Item, of_pool, open_pool, has_asked}
 use Rattle.mdb_log.specs.Opening.{pool_options}
 use Rattle.mdb_log.specs.Requests.{is_open}
 use Rattle.mdb_pool.specs.Core.{PoolCore}
-use Rattle.mdb_pool.specs.Kept.{is_asked_at, is_spent, request_at}
+use Rattle.mdb_pool.specs.Now.{asked_now, is_spent, settled_now}
 use Rattle.mdb_pool.specs.Standing.{Fits}
-use Rattle.mdb_pool.proofs.Answered.Act.{holding-is}
-use Rattle.mdb_pool.proofs.Follows.Fits.{asked-known}
-use Rattle.mdb_pool.proofs.KeptInLittle.NothingLives.{none-held, none-open, none-there}
-use Rattle.mdb_pool.proofs.Listed.FirstOrLast.{id_or}
+use Rattle.mdb_pool.proofs.KeptInLittle.NothingLives.{nobody-holds as nobody-holds-now, none-live as none-live-now, none-open}
+use Rattle.mdb_pool.proofs.Told.OfItems.{live-is}
+use Rattle.mdb_pool.proofs.Told.OfQueries.{asked-is, holding-is}
 use Rattle.mdb_driver_pools.specs.Living.{lives_at, living_at}
 use Rattle.mdb_driver_pools.specs.Standing.{at_address, IsGone, PoolsFit, is_here_among}
 use Rattle.mdb_driver_pools.proofs.OnePool.FoundAt.{fits-at, number-at, open-lives}
@@ -57,10 +56,10 @@ module _ (o : Options) (pools : List PoolCore) (h : List Item) (z : PoolsFit (po
     own = subst (λ n. Fits s (of_pool n h)) (number-at (pool_options o) pools h z p s at) (fits-at (pool_options o) pools h z p s at)
 
     nobody-holds : (r : ℕ) → holding (of_pool p h) r ≡ None
-    nobody-holds r = holding-is s (of_pool p h) own r ∙ ap (λ x. id_or x None) (none-held s spent r)
+    nobody-holds r = holding-is s (of_pool p h) own r ∙ nobody-holds-now s spent r
 
     none-live : (c : ℕ) → is_live (of_pool p h) c ≡ false
-    none-live c = rw (own.matches.connections.live c, none-there s spent c) refl
+    none-live c = live-is s (of_pool p h) own c ∙ none-live-now s spent c
 
     none-asked : (r : ℕ) → has_asked (of_pool p h) r && is_open h r ≡ false
     none-asked r = on (has_asked (of_pool p h) r) refl
@@ -75,9 +74,9 @@ module _ (o : Options) (pools : List PoolCore) (h : List Item) (z : PoolsFit (po
         on : (b : Bool) → has_asked (of_pool p h) r ≡ b → has_asked (of_pool p h) r && is_open h r ≡ false
         on false e = rw e refl
         on true e =
-            let asked : is_asked_at (request_at s r) ≡ true = sym (asked-known s (of_pool p h) own r) ∙ e in
-            let settled : not (has r s.settled) ≡ false = off (is_asked_at (request_at s r)) (has r s.settled) (none-open s spent r) asked in
-            let closed : is_open h r ≡ not (has r s.settled) = (stands-in o pools h z p s at).opens r (ap (λ n. has_asked (of_pool n h) r) numbered ∙ e) in
+            let asked : asked_now s r ≡ true = sym (asked-is s (of_pool p h) own r) ∙ e in
+            let settled : not (settled_now s r) ≡ false = off (asked_now s r) (settled_now s r) (none-open s spent r) asked in
+            let closed : is_open h r ≡ not (settled_now s r) = (stands-in o pools h z p s at).opens r (ap (λ n. has_asked (of_pool n h) r) numbered ∙ e) in
             rw (e, closed) settled
 
   pub is-gone : IsGone h p

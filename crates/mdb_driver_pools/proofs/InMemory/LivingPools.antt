@@ -6,8 +6,8 @@ use Rattle.std.proofs.lemmas.Bool.Decides.{nat_tests}
 use Rattle.std.proofs.lemmas.Option.{slice_get_within}
 use Rattle.mdb_base.specs.declared.address.ServerAddress.{ServerAddress}
 use Rattle.mdb_pool.specs.Core.{PoolCore}
-use Rattle.mdb_pool.specs.Kept.{first_unclaimed, held_connection, is_open_now, is_spent}
-use Rattle.mdb_pool.proofs.KeptInLittle.NothingLives.{spent-shut, none-held, none-open, none-unclaimed}
+use Rattle.mdb_pool.specs.Now.{has_job_now, holds_now, is_open_now, is_spent}
+use Rattle.mdb_pool.proofs.KeptInLittle.NothingLives.{no-job, nobody-held, none-open, spent-shut}
 use Rattle.mdb_driver_pools.specs.declared.placed.Placed.{Placed}
 use Rattle.mdb_driver_pools.specs.Living.{if_lives, lives_at, lives_in, living_at, living_from}
 use Rattle.mdb_driver_pools.specs.Standing.{is_open_at}
@@ -98,11 +98,11 @@ spent-open_at a s e = rw (spent-shut s e) refl
 pub spent-asked : (r : ℕ) (s : PoolCore) → is_spent s ≡ true → is_open_now s r ≡ false
 spent-asked r s e = none-open s e r
 
-pub spent-holder : (r : ℕ) (s : PoolCore) → is_spent s ≡ true → is_some (held_connection s r) ≡ false
-spent-holder r s e = ap is_some (none-held s e r)
+pub spent-holder : (r : ℕ) (s : PoolCore) → is_spent s ≡ true → holds_now s r ≡ false
+spent-holder r s e = nobody-held s e r
 
-pub spent-job : (s : PoolCore) → is_spent s ≡ true → is_some (first_unclaimed s) ≡ false
-spent-job s e = ap is_some (none-unclaimed s e)
+pub spent-job : (s : PoolCore) → is_spent s ≡ true → has_job_now s ≡ false
+spent-job s e = no-job s e
 
 -- what stands at a place
 pub past-none : (n k : ℕ) (pools : List PoolCore) → k < n → find (λ (x : Placed). x.place == k) (living_from n pools) ≡ None

@@ -2,6 +2,7 @@
 use Rattle.std.proofs.Common.{ℕ, ◌≡◌, ◌==◌, Bool, true, false, not, ◌&&◌, ◌||◌, List, is_some, None, Some, refl, sym, subst, arith}
 use Rattle.std.specs.Prelude.{nat_lt, slice_get}
 use Rattle.std.proofs.lemmas.Bool.Decides.{nat_tests}
+use Rattle.std.proofs.lemmas.Bool.{not-false}
 use Rattle.mdb_base.specs.declared.error.Error.{Error}
 use Rattle.mdb_log.specs.declared.step.Act.{Act}
 use Rattle.mdb_log.specs.declared.step.Act.TheVariants as Do
@@ -10,17 +11,17 @@ use Rattle.mdb_log.specs.declared.reply.Refused.TheVariants.{NotPending, TimeBac
 use Rattle.mdb_log.specs.History.{service_in}
 use Rattle.mdb_log.specs.Requests.{names_party}
 use Rattle.mdb_pool.specs.Core.{PoolCore}
-use Rattle.mdb_pool.specs.Kept.{connection_at, is_pending_at, is_spent, request_at}
+use Rattle.mdb_pool.specs.Now.{is_pending_now, is_spent, knows_now}
 use Rattle.mdb_pool_rules.specs.Refusal.{first_row}
 use Rattle.mdb_pool.specs.Refusing.{can_tell, is_pending_here, rows_now, tells_new}
-use Rattle.mdb_log.proofs.Bools.{both-true, not-false}
+use Rattle.mdb_log.proofs.Bools.{both-true}
 use Rattle.mdb_pool_rules.proofs.FirstRow.{first-passes, two-pass}
 use Rattle.mdb_pool.proofs.KeptInLittle.NothingLives.{none-pending}
 use Rattle.mdb_driver_pools.specs.Failing.{IsFailing}
 use Rattle.mdb_driver_pools.specs.Finding.{named_by, names_known}
 use Rattle.mdb_driver_rules.proofs.General.OneElement.{any-none}
 
-can-new : (s : PoolCore) (r : ℕ) → is_some (request_at s r) ≡ false → can_tell s r ≡ true
+can-new : (s : PoolCore) (r : ℕ) → knows_now s r ≡ false → can_tell s r ≡ true
 can-new s r e = rw e (or-true s.alone)
   where
     or-true : (b : Bool) → (b || true) ≡ true
@@ -28,9 +29,9 @@ can-new s r e = rw e (or-true s.alone)
     or-true false = refl
 
 pub new-tells : (pools : List PoolCore) (i : ℕ) (s : PoolCore) (act : Act) → slice_get pools i ≡ Some s → names_known pools act ≡ false → tells_new s act ≡ true
-new-tells pools i s (Do.Request r a) at e = can-new s r (any-none (λ u. is_some (request_at u r)) pools i s e at)
-new-tells pools i s (Do.Warm r a) at e = can-new s r (any-none (λ u. is_some (request_at u r)) pools i s e at)
-new-tells pools i s (Do.Take r q c) at e = can-new s r (any-none (λ u. is_some (request_at u r)) pools i s e at)
+new-tells pools i s (Do.Request r a) at e = can-new s r (any-none (λ u. knows_now u r) pools i s e at)
+new-tells pools i s (Do.Warm r a) at e = can-new s r (any-none (λ u. knows_now u r) pools i s e at)
+new-tells pools i s (Do.Take r q c) at e = can-new s r (any-none (λ u. knows_now u r) pools i s e at)
 new-tells pools i s _ at e = refl
 
 -- the party that an act names is the one that it names for the first time
@@ -68,7 +69,7 @@ failing-lives s step error f = on (is_spent s) refl
 
     on : (b : Bool) → is_spent s ≡ b → b ≡ false
     on true e =
-        let there : is_pending_at (connection_at s f.connection) ≡ true = (both-true (s.pool == s.pool) (is_pending_at (connection_at s f.connection)) pending).1 in
-        let none : is_pending_at (connection_at s f.connection) ≡ false = none-pending s e f.connection in
+        let there : is_pending_now s f.connection ≡ true = (both-true (s.pool == s.pool) (is_pending_now s f.connection) pending).1 in
+        let none : is_pending_now s f.connection ≡ false = none-pending s e f.connection in
         cc
     on false e = refl

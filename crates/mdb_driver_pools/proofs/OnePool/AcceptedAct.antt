@@ -1,5 +1,5 @@
 -- An accepted act of one pool is the answer of all.
-use Rattle.std.proofs.Common.{ℕ, ◌≡◌, ◌≢◌, ◌||◌, Bool, true, false, List, [], ◌∷◌, ◌++◌, map, Option, Some, None, is_some, refl, sym, ◌∙◌, ap, subst}
+use Rattle.std.proofs.Common.{ℕ, ◌≡◌, ◌≢◌, ◌||◌, Bool, true, false, List, [], ◌∷◌, ◌++◌, map, Option, Some, None, refl, sym, ◌∙◌, ap, subst}
 use Rattle.std.specs.Prelude.{slice_get, flat_map}
 use Rattle.mdb_base.specs.declared.options.Options.{Options}
 use Rattle.mdb_events.specs.declared.fact.Fact.{Fact}
@@ -14,8 +14,9 @@ use Rattle.mdb_log.specs.Requests.{names_party, was_asked, asks_how, leaves, is_
 use Rattle.mdb_log.specs.Connections.{created_total}
 use Rattle.mdb_pool_rules.proofs.FactsGrantNothing.{IsBound}
 use Rattle.mdb_log.specs.Own.{AllOwn}
-use Rattle.mdb_pool.specs.Kept.{request_at}
+use Rattle.mdb_pool.specs.Now.{knows_now}
 use Rattle.mdb_pool.specs.Standing.{Accepts}
+use Rattle.mdb_pool.proofs.Told.OfQueries.{party-is}
 use Rattle.mdb_log.proofs.Later.{of_pool-with_facts, own-prefix}
 use Rattle.mdb_pool_rules.proofs.NoMove.{served-serving}
 use Rattle.mdb_log.proofs.Frame.{other-facts}
@@ -76,7 +77,7 @@ module _ (o : Options) (pools : List PoolCore) (h : List Item) (z : PoolsStand (
     where
       at_pool : (a : Option PoolCore) → slice_get pools q ≡ a → names_party step.act r ≡ true → has_party (of_pool q h) r ≡ false
       at_pool None f g = ap (λ xs. has_party xs r) (z.fit.rest q f)
-      at_pool (Some x) f g = (z.fit.each q x f).fits.asked r ∙ any-none (λ u. is_some (request_at u r)) pools q x (w.fresh r g) f
+      at_pool (Some x) f g = party-is x _ (z.fit.each q x f).fits r ∙ any-none (λ u. knows_now u r) pools q x (w.fresh r g) f
 
       on : (b : Bool) → names_party step.act r ≡ b → names_party step.act r || has_party (of_pool s.pool h) r ≡ true → has_party (of_pool q h) r ≡ false
       on true f g = at_pool (slice_get pools q) refl f

@@ -1,6 +1,7 @@
 -- An act that the pool at its place accepts is the answer of all.
 use Rattle.std.proofs.Common.{ℕ, ◌≡◌, ◌≢◌, ◌==◌, ◌||◌, Bool, true, false, not, List, Option, Some, None, is_some, nat_lt, refl, sym, ◌∙◌, ap, subst, arith}
 use Rattle.std.specs.Prelude.{slice_get}
+use Rattle.std.proofs.lemmas.Bool.{not-false}
 use Rattle.mdb_base.specs.declared.address.ServerAddress.{ServerAddress}
 use Rattle.mdb_base.specs.declared.options.Options.{Options}
 use Rattle.mdb_log.specs.declared.step.Step.{Step}
@@ -12,31 +13,29 @@ use Rattle.mdb_log.specs.Connections.{created_total}
 use Rattle.mdb_log.specs.Requests.{names_party, asks_how, leaves, is_claimed}
 use Rattle.mdb_log.specs.Opening.{pool_options}
 use Rattle.mdb_log.proofs.Frame.{other-number, no-party-asked}
-use Rattle.mdb_pool.specs.declared.kept.request.Request.{Request as Asker}
 use Rattle.mdb_pool.specs.Core.{PoolCore}
 use Rattle.mdb_pool_rules.specs.Answer.{reply_of}
 use Rattle.mdb_pool.specs.Planning.{with_item}
 use Rattle.mdb_pool_rules.specs.Refusal.{first_row, wrong_service}
 use Rattle.mdb_pool.specs.Refusing.{is_pending_here, is_pinned_here, rows_now}
-use Rattle.mdb_pool.specs.Kept.{is_open_now, request_at, connection_at, held_connection, given_of, is_pending_at, pins_at}
+use Rattle.mdb_pool.specs.Now.{holds_now, is_open_now, is_pending_now, knows_now, pins_now}
 use Rattle.mdb_pool.specs.Standing.{Fits}
-use Rattle.mdb_pool.proofs.Answered.Act.{held-known}
+use Rattle.mdb_pool.proofs.Told.OfQueries.{given-none, holds-knows, open-knows, party-is, pending-made, pinned-made}
 use Rattle.mdb_pool_rules.proofs.FactsGrantNothing.{IsBound}
-use Rattle.mdb_pool.proofs.Histories.GrantsAreFresh.{holding-created, live-before}
+use Rattle.mdb_pool.proofs.Histories.GrantsAreFresh.{holding-created}
 use Rattle.mdb_pool.proofs.Answered.Item.{names-item, asks-item}
 use Rattle.mdb_pool_rules.proofs.FirstRow.{one-passes, two-pass}
-use Rattle.mdb_log.proofs.Bools.{not-false, both-true}
+use Rattle.mdb_log.proofs.Bools.{both-true}
 use Rattle.mdb_driver_rules.specs.Homes.{home_of}
 use Rattle.mdb_driver_rules.specs.Answer.{pool_reply, reply_to}
 use Rattle.mdb_driver_rules.specs.Refusal.{refusal}
 use Rattle.mdb_driver_pools.specs.Standing.{home, knows, at_address, PoolsFit}
 use Rattle.mdb_driver_pools.specs.Finding.{asked_by, holder, numbered, index_of, names_known}
 use Rattle.mdb_driver_rules.specs.Acts.{is_pool_act}
-use Rattle.mdb_pool.proofs.KeptInLittle.AskedOfThoseThatStay.{open-asked}
 use Rattle.mdb_driver_pools.proofs.OnePool.AcceptedAct.{Concerns}
 use Rattle.mdb_driver_pools.proofs.OnePool.FactsLeaveOthers.{apart-items}
 use Rattle.mdb_driver_rules.proofs.General.OneElement.{position-at}
-use Rattle.mdb_driver_pools.proofs.OnePool.FoundAt.{asked-some, fits-at, number-at, numbered-is, home-placed}
+use Rattle.mdb_driver_pools.proofs.OnePool.FoundAt.{fits-at, number-at, numbered-is, home-placed}
 use Rattle.mdb_driver_pools.proofs.OnePool.TellsNoTopology.{no-heartbeat, no-rule, no-trouble}
 
 -- the one party of an act
@@ -61,32 +60,32 @@ module _ (o : Options) (pools : List PoolCore) (h : List Item) (z : PoolsFit (po
   number = number-at (pool_options o) pools h z i s at_i
 
   -- who is known to this pool is known to no other
-  party-here : (r : ℕ) → is_some (request_at s r) ≡ true → has_party xs r ≡ true
-  party-here r known = fits.asked r ∙ known
+  party-here : (r : ℕ) → knows_now s r ≡ true → has_party xs r ≡ true
+  party-here r known = party-is s xs fits r ∙ known
 
-  not-asked : (r q : ℕ) → is_some (request_at s r) ≡ true → s.pool ≢ q → has_asked (of_pool q h) r ≡ false
+  not-asked : (r q : ℕ) → knows_now s r ≡ true → s.pool ≢ q → has_asked (of_pool q h) r ≡ false
   not-asked r q known ne = no-party-asked (of_pool q h) r (apart-items (pool_options o) pools h z s.pool q ne r (party-here r known))
 
   -- who holds a connection of one pool was given none of another
-  not-given : (r q : ℕ) → is_some (request_at s r) ≡ true → s.pool ≢ q → is_some (given (of_pool q h) r) ≡ false
+  not-given : (r q : ℕ) → knows_now s r ≡ true → s.pool ≢ q → is_some (given (of_pool q h) r) ≡ false
   not-given r q known ne = on (slice_get pools q) refl
     where
-      at_request : (u : PoolCore) (b : Option Asker) → slice_get pools q ≡ Some u → request_at u r ≡ b → is_some (given (of_pool q h) r) ≡ false
-      at_request u None f g = ap is_some ((z.each q u f).fits.matches.requests.given r ∙ ap given_of g)
-      at_request u (Some k) f g = absurd (ne (number ∙ z.apart r i q s u at_i f known (ap is_some g)))
+      in_pool : (u : PoolCore) (b : Bool) → slice_get pools q ≡ Some u → knows_now u r ≡ b → is_some (given (of_pool q h) r) ≡ false
+      in_pool u false f g = given-none u (of_pool q h) (z.each q u f).fits r g
+      in_pool u true f g = absurd (ne (number ∙ z.apart r i q s u at_i f known g))
 
       on : (a : Option PoolCore) → slice_get pools q ≡ a → is_some (given (of_pool q h) r) ≡ false
       on None f = ap (λ ys. is_some (given ys r)) (z.rest q f)
-      on (Some u) f = at_request u (request_at u r) f refl
+      on (Some u) f = in_pool u (knows_now u r) f refl
 
   open-here : (a : ServerAddress) → at_address pools a ≡ Some i → open_pool h a ≡ Some s.pool
   open-here a e = z.open_are a ∙ (e ∙ ap Some (sym number))
 
-  asker-known : (r : ℕ) → asked_by pools r ≡ Some i → is_some (request_at s r) ≡ true
-  asker-known r e = asked-some (request_at s r) (open-asked s r (position-at (λ u. is_open_now u r) pools i s e at_i).0)
+  asker-known : (r : ℕ) → asked_by pools r ≡ Some i → knows_now s r ≡ true
+  asker-known r e = open-knows s r (position-at (λ u. is_open_now u r) pools i s e at_i).0
 
-  holder-known : (r : ℕ) → holder pools r ≡ Some i → is_some (request_at s r) ≡ true
-  holder-known r e = held-known s r (position-at (λ u. is_some (held_connection u r)) pools i s e at_i).0
+  holder-known : (r : ℕ) → holder pools r ≡ Some i → knows_now s r ≡ true
+  holder-known r e = holds-knows s r (position-at (λ u. holds_now u r) pools i s e at_i).0
 
   named : (q : ℕ) → numbered pools q ≡ Some i → q ≡ s.pool
   named q e = numbered-is pools q i e ∙ sym number
@@ -132,14 +131,14 @@ module _ (o : Options) (pools : List PoolCore) (h : List Item) (z : PoolsFit (po
   created-before : (act : Act) → is_pool_act act ≡ true → first_row (rows_now s act) ≡ None → IsBound (created_total xs) xs act
   created-before (Do.Established q c how) k f =
       let rows : (not (is_pending_here s q c) ≡ false) × (wrong_service s.options.load_balanced how.service_id ≡ false) = two-pass (not (is_pending_here s q c)) (wrong_service s.options.load_balanced how.service_id) NotPending WrongMode f in
-      let pending : is_pending_at (connection_at s c) ≡ true = (both-true (q == s.pool) (is_pending_at (connection_at s c)) (not-false (is_pending_here s q c) rows.0)).1 in
-      live-before s xs fits.matches c (λ e. let g : is_pending_at (connection_at s c) ≡ false = rw e refl in cc)
+      let pending : is_pending_now s c ≡ true = (both-true (q == s.pool) (is_pending_now s c) (not-false (is_pending_here s q c) rows.0)).1 in
+      pending-made s xs fits c pending
   created-before (Do.Unpin q c) k f =
       let here : is_pinned_here s q c ≡ true = not-false (is_pinned_here s q c) (one-passes (not (is_pinned_here s q c)) Unpinned f) in
-      let pinned : nat_lt 0 (pins_at (connection_at s c)) ≡ true = (both-true (q == s.pool) (nat_lt 0 (pins_at (connection_at s c))) here).1 in
-      live-before s xs fits.matches c (λ e. let g : nat_lt 0 (pins_at (connection_at s c)) ≡ false = rw e refl in cc)
-  created-before (Do.GiveUp r) k f = λ c g. holding-created s xs fits.matches r c g
-  created-before (Do.Return r used) k f = λ c g. holding-created s xs fits.matches r c g
+      let pinned : nat_lt 0 (pins_now s c) ≡ true = (both-true (q == s.pool) (nat_lt 0 (pins_now s c)) here).1 in
+      pinned-made s xs fits c pinned
+  created-before (Do.GiveUp r) k f = λ c g. holding-created s xs fits r c g
+  created-before (Do.Return r used) k f = λ c g. holding-created s xs fits r c g
   created-before _ k f = tt
 
   -- the reply is the pool's

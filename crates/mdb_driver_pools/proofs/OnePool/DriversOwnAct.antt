@@ -10,7 +10,6 @@ use Rattle.mdb_log.specs.declared.step.Act.TheVariants.{Ready, Clear, Close}
 use Rattle.mdb_log.specs.declared.reply.Reply.{Reply}
 use Rattle.mdb_log.specs.declared.reply.Reply.TheVariants.{Done}
 use Rattle.mdb_log.specs.History.{Item, PoolItem, of_pool, after_act, after_facts, with_facts}
-use Rattle.mdb_log.specs.Connections.{has}
 use Rattle.mdb_log.specs.Requests.{settles, is_job}
 use Rattle.mdb_log.specs.Limits.{WithinLimits}
 use Rattle.mdb_log.specs.LegalLog.{AllFirstCome}
@@ -18,6 +17,7 @@ use Rattle.mdb_log.specs.Fresh.{AllGrantFresh}
 use Rattle.mdb_log.specs.Beside.{AllFreshGrants}
 use Rattle.mdb_log.proofs.Later.{of_pool-with_facts}
 use Rattle.mdb_pool.specs.Core.{PoolCore}
+use Rattle.mdb_pool.specs.Now.{claimed_now, settled_now}
 use Rattle.mdb_pool_rules.specs.Answer.{all_facts, reply_of}
 use Rattle.mdb_pool_rules.specs.Serving.{IsServed}
 use Rattle.mdb_pool_rules.specs.Quiet.{IsQuiet}
@@ -84,8 +84,8 @@ module _ (o : PoolOptions) (pools : List PoolCore) (h : List Item) (z : PoolsSta
 
   replied : reply ≡ Done
   replied =
-      let claims : (c : ℕ) → has c s.claimed ≡ has c s.claimed = λ c. refl in
-      v.reply_is (λ c. has c s.claimed) claims ∙ is-done act inner s.pool (λ c. has c s.claimed) xs (after_facts s.pool m F xs)
+      let claims : (c : ℕ) → claimed_now s c ≡ claimed_now s c = λ c. refl in
+      v.reply_is (λ c. claimed_now s c) claims ∙ is-done act inner s.pool (λ c. claimed_now s c) xs (after_facts s.pool m F xs)
 
   calls : Calls s t m F xs
   calls = record {
@@ -93,8 +93,8 @@ module _ (o : PoolOptions) (pools : List PoolCore) (h : List Item) (z : PoolsSta
     own = v.own;
     fits = v.fits;
     shut = v.shut;
-    settled = λ r. v.settled r ∙ ap (λ b. b || has r s.settled) (settles-none act inner reply r);
-    claimed = λ c. v.claimed c ∙ ap (λ b. is_job s.pool b c || has c s.claimed) replied;
+    settled = λ r. v.settled r ∙ ap (λ b. b || settled_now s r) (settles-none act inner reply r);
+    claimed = λ c. v.claimed c ∙ ap (λ b. is_job s.pool b c || claimed_now s c) replied;
   }
 
   -- what holds of the pool afterwards and of the others holds of each
@@ -119,7 +119,7 @@ module _ (o : PoolOptions) (pools : List PoolCore) (h : List Item) (z : PoolsSta
       let fits : Fits s xs = subst (λ p. Fits s (of_pool p h)) (sym d.number) d.fits in
       subst (λ c. AllGrantFresh s.pool c m xs F) d.options
       (subst (λ ys. AllGrantFresh s.pool s.options m ys (all_facts s.pool s.address s.options m xs ys act)) (same-items act inner s.pool m _ xs)
-      (accepted-fresh s h step fits.matches (is-bound act inner _ xs)))
+      (accepted-fresh s h step fits (is-bound act inner _ xs)))
 
   pub acted : Acted o (set pools i t) m F h
   acted = record {

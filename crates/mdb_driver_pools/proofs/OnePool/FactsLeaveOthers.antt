@@ -1,5 +1,5 @@
 -- What the facts of one pool leave as it was.
-use Rattle.std.proofs.Common.{ℕ, ◌≡◌, ◌≢◌, Bool, true, false, List, [], ◌∷◌, Option, Some, None, is_some, refl, sym, ◌∙◌, ap, subst}
+use Rattle.std.proofs.Common.{ℕ, ◌≡◌, ◌≢◌, Bool, true, false, List, [], ◌∷◌, Option, Some, None, refl, sym, ◌∙◌, ap, subst}
 use Rattle.std.specs.Prelude.{slice_get}
 use Rattle.mdb_events.specs.declared.fact.Fact.{Fact}
 use Rattle.mdb_events.specs.declared.fact.Fact.TheVariants.{Opened, Granted}
@@ -11,7 +11,8 @@ use Rattle.mdb_pool.specs.Core.{PoolCore}
 use Rattle.mdb_log.specs.History.{Item, did, made, PoolItem, of_pool, after_fact, with_facts, has_party}
 use Rattle.mdb_log.specs.Legal.{IsNext, AllFirstCome as PoolFirstCome}
 use Rattle.mdb_log.specs.Own.{IsOwn, AllOwn, IsAccepted}
-use Rattle.mdb_pool.specs.Kept.{request_at}
+use Rattle.mdb_pool.specs.Now.{knows_now}
+use Rattle.mdb_pool.proofs.Told.OfQueries.{party-is}
 use Rattle.mdb_log.specs.Homes.{homes}
 use Rattle.mdb_log.specs.Fresh.{GrantsFresh, AllGrantFresh}
 use Rattle.mdb_log.specs.LegalLog.{FirstCome, AllFirstCome, IsFairAnswer}
@@ -53,11 +54,11 @@ fair-accepted h step _ fs i f = f
 pub apart-items : (o : PoolOptions) (pools : List PoolCore) (h : List Item) (z : PoolsFit o pools h) (p q : ℕ) → p ≢ q → (r : ℕ) → has_party (of_pool p h) r ≡ true → has_party (of_pool q h) r ≡ false
 apart-items o pools h z p q ne r e = on (slice_get pools p) (slice_get pools q) refl refl
   where
-    at_both : (s t : PoolCore) (b : Bool) → slice_get pools p ≡ Some s → slice_get pools q ≡ Some t → is_some (request_at t r) ≡ b → has_party (of_pool q h) r ≡ false
-    at_both s t true f g k = absurd (ne (z.apart r p q s t f g (sym ((z.each p s f).fits.asked r) ∙ e) k))
-    at_both s t false f g k = (z.each q t g).fits.asked r ∙ k
+    at_both : (s t : PoolCore) (b : Bool) → slice_get pools p ≡ Some s → slice_get pools q ≡ Some t → knows_now t r ≡ b → has_party (of_pool q h) r ≡ false
+    at_both s t true f g k = absurd (ne (z.apart r p q s t f g (sym (party-is s _ (z.each p s f).fits r) ∙ e) k))
+    at_both s t false f g k = party-is t _ (z.each q t g).fits r ∙ k
 
     on : (a b : Option PoolCore) → slice_get pools p ≡ a → slice_get pools q ≡ b → has_party (of_pool q h) r ≡ false
     on None b f g = let k : has_party (of_pool p h) r ≡ false = ap (λ xs. has_party xs r) (z.rest p f) in cc
     on (Some s) None f g = ap (λ xs. has_party xs r) (z.rest q g)
-    on (Some s) (Some t) f g = at_both s t (is_some (request_at t r)) f g refl
+    on (Some s) (Some t) f g = at_both s t (knows_now t r) f g refl

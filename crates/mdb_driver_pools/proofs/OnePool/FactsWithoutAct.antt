@@ -5,9 +5,8 @@ use Rattle.mdb_events.specs.declared.fact.Fact.{Fact}
 use Rattle.mdb_log.specs.declared.options.PoolOptions.{PoolOptions}
 use Rattle.mdb_pool.specs.Core.{PoolCore}
 use Rattle.mdb_log.specs.History.{Item, PoolItem, of_pool, with_facts, after_facts}
-use Rattle.mdb_log.specs.Connections.{has}
 use Rattle.mdb_log.specs.Requests.{names_party, was_asked, leaves}
-use Rattle.mdb_pool.specs.Kept.{is_shut}
+use Rattle.mdb_pool.specs.Now.{claimed_now, is_closed_now, settled_now}
 use Rattle.mdb_log.specs.Own.{AllOwn, shuts}
 use Rattle.mdb_pool.specs.Standing.{Fits, SameHome}
 use Rattle.mdb_log.proofs.Later.{of_pool-with_facts}
@@ -21,9 +20,9 @@ pub record Calls (s t : PoolCore) (m : ℕ) (fs : List Fact) (xs : List PoolItem
   pub same : SameHome s t
   pub own : AllOwn s.pool m xs fs
   pub fits : Fits t (after_facts s.pool m fs xs)
-  pub shut : is_shut t.status ≡ shuts fs || is_shut s.status
-  pub settled : (r : ℕ) → has r t.settled ≡ has r s.settled
-  pub claimed : (c : ℕ) → has c t.claimed ≡ has c s.claimed
+  pub shut : is_closed_now t ≡ shuts fs || is_closed_now s
+  pub settled : (r : ℕ) → settled_now t r ≡ settled_now s r
+  pub claimed : (c : ℕ) → claimed_now t c ≡ claimed_now s c
 
 module _ (o : PoolOptions) (pools : List PoolCore) (h : List Item) (z : PoolsFit o pools h) (i : ℕ) (s t : PoolCore) (at_i : slice_get pools i ≡ Some s)
     (m : ℕ) (fs : List Fact) (v : Calls s t m fs (of_pool s.pool h)) where

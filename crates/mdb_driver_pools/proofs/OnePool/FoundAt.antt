@@ -1,29 +1,21 @@
 -- The place that is found for an act is that of the pool that the act concerns.
-use Rattle.std.proofs.Common.{ℕ, ◌≡◌, ◌≢◌, ◌<◌, ◌==◌, Bool, true, false, not, List, [], ◌∷◌, length, Option, Some, None, is_some, refl, sym, ◌∙◌, ap, subst, arith}
+use Rattle.std.proofs.Common.{ℕ, ◌≡◌, ◌≢◌, ◌<◌, ◌==◌, Bool, true, false, List, length, Option, Some, None, is_some, refl, sym, ◌∙◌, ap, subst, arith}
 use Rattle.std.specs.Prelude.{find, slice_get, position}
-use Rattle.std.specs.List.{list_any}
 use Rattle.mdb_base.specs.declared.address.ServerAddress.{ServerAddress}
 use Rattle.mdb_log.specs.declared.options.PoolOptions.{PoolOptions}
 use Rattle.mdb_log.specs.declared.step.Act.{Act}
 use Rattle.mdb_log.specs.declared.step.Act.TheVariants as Do
-use Rattle.mdb_log.specs.declared.reply.Reply.{Reply}
-use Rattle.mdb_log.specs.declared.reply.Reply.TheVariants.{Job}
 use Rattle.mdb_log.specs.History.{Item, of_pool, open_pool, has_asked, is_number}
-use Rattle.mdb_log.specs.Connections.{has, pending_list, holding}
+use Rattle.mdb_log.specs.Connections.{holding}
 use Rattle.mdb_log.specs.Requests.{is_claimed}
 use Rattle.mdb_log.specs.Homes.{has_job, homes}
 use Rattle.mdb_log.proofs.Numbers.{same-number}
 use Rattle.mdb_log.proofs.Frame.{other-number}
-use Rattle.mdb_pool.specs.declared.kept.connection.Connection.{Connection}
 use Rattle.mdb_pool.specs.Core.{PoolCore}
-use Rattle.mdb_pool_rules.specs.Answer.{first_job}
-use Rattle.mdb_pool.specs.declared.kept.request.Request.{Request as Asker}
-use Rattle.mdb_pool.specs.Kept.{request_at, is_asked_at, is_open_now, is_spent, held_connection, first_unclaimed}
-use Rattle.mdb_pool.proofs.KeptInLittle.AskedOfThoseThatStay.{open-asked}
+use Rattle.mdb_pool.specs.Now.{asked_now, claimed_now, has_job_now, holds_now, is_open_now, is_spent}
 use Rattle.mdb_pool.specs.Standing.{Fits}
-use Rattle.mdb_pool.proofs.Answered.Act.{holds-is}
-use Rattle.mdb_pool.proofs.Follows.Fits.{asked-known}
-use Rattle.mdb_pool.proofs.Answered.Claim.{job_of, first-job}
+use Rattle.mdb_pool.proofs.Told.OfItems.{job-by}
+use Rattle.mdb_pool.proofs.Told.OfQueries.{asked-is, asked-knows, holds-is, open-asked}
 use Rattle.mdb_driver_rules.specs.Homes.{concerns, home_of}
 use Rattle.mdb_driver_pools.specs.Living.{lives_at}
 use Rattle.mdb_driver_pools.specs.Standing.{at_address, home, is_open_at, PoolFits, PoolsFit}
@@ -31,28 +23,6 @@ use Rattle.mdb_driver_pools.specs.Finding.{asked_by, holder, numbered, index_of}
 use Rattle.mdb_driver_rules.specs.Acts.{is_pool_act}
 use Rattle.mdb_driver_rules.proofs.General.OneElement.{at-place, find-at, find-none, position-at, position-none, position-within}
 use Rattle.mdb_driver_pools.proofs.InMemory.LivingPools.{lives-within, spent-asked, spent-holder, spent-job, spent-open_at, test-lives}
-
--- a job is told where some pending connection was not claimed
-abbrev is_told : Reply → Bool
-is_told (Job p c) = true
-is_told _ = false
-
-any-job : (p : ℕ) (claimed : ℕ → Bool) (cs : List ℕ) → list_any (λ c. not (claimed c)) cs ≡ is_told (first_job p claimed cs)
-any-job p claimed [] = refl
-any-job p claimed (c ∷ cs) = on (claimed c) refl (any-job p claimed cs)
-  where
-    on : (b : Bool) → claimed c ≡ b → list_any (λ d. not (claimed d)) cs ≡ is_told (first_job p claimed cs) → list_any (λ d. not (claimed d)) (c ∷ cs) ≡ is_told (first_job p claimed (c ∷ cs))
-    on true e rest = rw e rest
-    on false e rest = rw e refl
-
-told-some : (p : ℕ) (o : Option Connection) → is_told (job_of p o) ≡ is_some o
-told-some p None = refl
-told-some p (Some x) = refl
-
--- who asked is known
-pub asked-some : (o : Option Asker) → is_asked_at o ≡ true → is_some o ≡ true
-asked-some None e = cc
-asked-some (Some q) e = refl
 
 -- the number of a pool in which something lives is its place
 pub numbered-is : (pools : List PoolCore) (q i : ℕ) → numbered pools q ≡ Some i → q ≡ i
@@ -87,7 +57,7 @@ pub open-lives : (pools : List PoolCore) (a : ServerAddress) (i : ℕ) → at_ad
 open-lives pools a i e = searched-lives (is_open_at a) (spent-open_at a) pools i e
 
 pub holder-lives : (pools : List PoolCore) (r i : ℕ) → holder pools r ≡ Some i → lives_at pools i ≡ true
-holder-lives pools r i e = searched-lives (λ s. is_some (held_connection s r)) (spent-holder r) pools i e
+holder-lives pools r i e = searched-lives (λ s. holds_now s r) (spent-holder r) pools i e
 
 -- something lives in the pool at the place
 pub place-lives : (pools : List PoolCore) (act : Act) (i : ℕ) → index_of pools act ≡ Some i → lives_at pools i ≡ true
@@ -97,7 +67,7 @@ place-lives pools (Do.Maintain a) i e = open-lives pools a i e
 place-lives pools (Do.Expire a) i e = open-lives pools a i e
 place-lives pools (Do.Collect r) i e = searched-lives (λ s. is_open_now s r) (spent-asked r) pools i e
 place-lives pools (Do.GiveUp r) i e = searched-lives (λ s. is_open_now s r) (spent-asked r) pools i e
-place-lives pools Do.Claim i e = searched-lives (λ s. is_some (first_unclaimed s)) spent-job pools i e
+place-lives pools Do.Claim i e = searched-lives (λ s. has_job_now s) spent-job pools i e
 place-lives pools (Do.Established q c how) i e = numbered-lives pools q i e
 place-lives pools (Do.Return r used) i e = holder-lives pools r i e
 place-lives pools (Do.Pin r) i e = holder-lives pools r i e
@@ -130,17 +100,17 @@ module _ (o : PoolOptions) (pools : List PoolCore) (h : List Item) (z : PoolsFit
   number-at i s at_i = (z.each i s at_i).number
 
   -- what the history says of an act, by what the pool keeps
-  pub asked-at : (r i : ℕ) (s : PoolCore) → slice_get pools i ≡ Some s → has_asked (of_pool s.pool h) r ≡ is_asked_at (request_at s r)
-  asked-at r i s at_i = asked-known s (of_pool s.pool h) (fits-at i s at_i) r
+  pub asked-at : (r i : ℕ) (s : PoolCore) → slice_get pools i ≡ Some s → has_asked (of_pool s.pool h) r ≡ asked_now s r
+  asked-at r i s at_i = asked-is s (of_pool s.pool h) (fits-at i s at_i) r
 
-  pub holds-at : (r i : ℕ) (s : PoolCore) → slice_get pools i ≡ Some s → is_some (holding (of_pool s.pool h) r) ≡ is_some (held_connection s r)
+  pub holds-at : (r i : ℕ) (s : PoolCore) → slice_get pools i ≡ Some s → is_some (holding (of_pool s.pool h) r) ≡ holds_now s r
   holds-at r i s at_i = holds-is s (of_pool s.pool h) (fits-at i s at_i) r
 
-  pub job-at : (i : ℕ) (s : PoolCore) → slice_get pools i ≡ Some s → has_job h s.pool ≡ is_some (first_unclaimed s)
+  pub job-at : (i : ℕ) (s : PoolCore) → slice_get pools i ≡ Some s → has_job h s.pool ≡ has_job_now s
   job-at i s at_i =
       let p : ℕ = s.pool in
-      let claims : (c : ℕ) → is_claimed h p c ≡ has c s.claimed = λ c. ap (λ q. is_claimed h q c) (number-at i s at_i) ∙ z.claims i s c at_i in
-      any-job p (is_claimed h p) (pending_list (of_pool p h)) ∙ (ap (λ cs. is_told (first_job p (is_claimed h p) cs)) (fits-at i s at_i).matches.counts.pending ∙ (ap is_told (first-job p (is_claimed h p) s.claimed claims s.connections) ∙ told-some p (first_unclaimed s)))
+      let claims : (c : ℕ) → is_claimed h p c ≡ claimed_now s c = λ c. ap (λ q. is_claimed h q c) (number-at i s at_i) ∙ z.claims i s c at_i in
+      sym (job-by s (of_pool p h) (fits-at i s at_i) (is_claimed h p) claims)
 
   -- The test of a number passes for the pool at the place, and for none before it.
   abbrev IsFirst : (ℕ → Bool) → ℕ → PoolCore → Type 0
@@ -163,14 +133,14 @@ module _ (o : PoolOptions) (pools : List PoolCore) (h : List Item) (z : PoolsFit
 
   -- a request is open in one pool, and no other was asked by it
   by-open : (r i : ℕ) (s : PoolCore) → slice_get pools i ≡ Some s → asked_by pools r ≡ Some i → IsFirst (λ p. has_asked (of_pool p h) r) i s
-  by-open r i s at_i e = (asked-at r i s at_i ∙ asked, λ j x f l. asked-at r j x f ∙ no-other j x f l (is_asked_at (request_at x r)) refl)
+  by-open r i s at_i e = (asked-at r i s at_i ∙ asked, λ j x f l. asked-at r j x f ∙ no-other j x f l (asked_now x r) refl)
     where
-      asked : is_asked_at (request_at s r) ≡ true
+      asked : asked_now s r ≡ true
       asked = open-asked s r (position-at (λ x. is_open_now x r) pools i s e at_i).0
 
-      no-other : (j : ℕ) (x : PoolCore) → slice_get pools j ≡ Some x → j < i → (b : Bool) → is_asked_at (request_at x r) ≡ b → b ≡ false
+      no-other : (j : ℕ) (x : PoolCore) → slice_get pools j ≡ Some x → j < i → (b : Bool) → asked_now x r ≡ b → b ≡ false
       no-other j x f l false g = refl
-      no-other j x f l true g = let same : j ≡ i = z.apart r j i x s f at_i (asked-some (request_at x r) g) (asked-some (request_at s r) asked) in absurd (omega arith)
+      no-other j x f l true g = let same : j ≡ i = z.apart r j i x s f at_i (asked-knows x r g) (asked-knows s r asked) in absurd (omega arith)
 
   first-concerned : (act : Act) → is_pool_act act ≡ true → (i : ℕ) (s : PoolCore) → slice_get pools i ≡ Some s → index_of pools act ≡ Some i → IsFirst (concerns h act) i s
   first-concerned (Do.Request r a) k i s at_i e = by-address a i s at_i (z.open_are a ∙ e)
@@ -179,10 +149,10 @@ module _ (o : PoolOptions) (pools : List PoolCore) (h : List Item) (z : PoolsFit
   first-concerned (Do.Expire a) k i s at_i e = by-address a i s at_i (z.open_are a ∙ e)
   first-concerned (Do.Collect r) k i s at_i e = by-open r i s at_i e
   first-concerned (Do.GiveUp r) k i s at_i e = by-open r i s at_i e
-  first-concerned Do.Claim k i s at_i e = by-test (λ x. is_some (first_unclaimed x)) (concerns h Do.Claim) job-at i s at_i e
+  first-concerned Do.Claim k i s at_i e = by-test (λ x. has_job_now x) (concerns h Do.Claim) job-at i s at_i e
   first-concerned (Do.Established q c how) k i s at_i e = by-number q i s at_i (numbered-is pools q i e)
-  first-concerned (Do.Return r used) k i s at_i e = by-test (λ x. is_some (held_connection x r)) (concerns h (Do.Return r used)) (λ j x f. holds-at r j x f) i s at_i e
-  first-concerned (Do.Pin r) k i s at_i e = by-test (λ x. is_some (held_connection x r)) (concerns h (Do.Pin r)) (λ j x f. holds-at r j x f) i s at_i e
+  first-concerned (Do.Return r used) k i s at_i e = by-test (λ x. holds_now x r) (concerns h (Do.Return r used)) (λ j x f. holds-at r j x f) i s at_i e
+  first-concerned (Do.Pin r) k i s at_i e = by-test (λ x. holds_now x r) (concerns h (Do.Pin r)) (λ j x f. holds-at r j x f) i s at_i e
   first-concerned (Do.Replicate q c) k i s at_i e = by-number q i s at_i (numbered-is pools q i e)
   first-concerned (Do.Take r q c) k i s at_i e = by-number q i s at_i (numbered-is pools q i e)
   first-concerned (Do.Unpin q c) k i s at_i e = by-number q i s at_i (numbered-is pools q i e)
@@ -200,9 +170,9 @@ module _ (o : PoolOptions) (pools : List PoolCore) (h : List Item) (z : PoolsFit
   none-concerned (Do.Warm r a) e k j x f = ap (λ y. is_number y x.pool) (z.open_are a ∙ e)
   none-concerned (Do.Maintain a) e k j x f = ap (λ y. is_number y x.pool) (z.open_are a ∙ e)
   none-concerned (Do.Expire a) e k j x f = ap (λ y. is_number y x.pool) (z.open_are a ∙ e)
-  none-concerned Do.Claim e k j y g = no-test (λ x. is_some (first_unclaimed x)) (concerns h Do.Claim) job-at e j y g
-  none-concerned (Do.Return r used) e k j y g = no-test (λ x. is_some (held_connection x r)) (concerns h (Do.Return r used)) (λ j x f. holds-at r j x f) e j y g
-  none-concerned (Do.Pin r) e k j y g = no-test (λ x. is_some (held_connection x r)) (concerns h (Do.Pin r)) (λ j x f. holds-at r j x f) e j y g
+  none-concerned Do.Claim e k j y g = no-test (λ x. has_job_now x) (concerns h Do.Claim) job-at e j y g
+  none-concerned (Do.Return r used) e k j y g = no-test (λ x. holds_now x r) (concerns h (Do.Return r used)) (λ j x f. holds-at r j x f) e j y g
+  none-concerned (Do.Pin r) e k j y g = no-test (λ x. holds_now x r) (concerns h (Do.Pin r)) (λ j x f. holds-at r j x f) e j y g
   none-concerned _ e k j y g = cc
 
   -- the pool with the number

@@ -5,19 +5,18 @@ use Rattle.std.proofs.lemmas.Bool.Decides.{nat_tests}
 use Rattle.std.proofs.lemmas.List.{length-map}
 use Rattle.std.proofs.lemmas.Option.{slice_get-map}
 use Rattle.mdb_base.specs.declared.options.Options.{Options}
-use Rattle.mdb_log.specs.Connections.{has}
 use Rattle.mdb_log.specs.History.{Item, of_pool, has_asked}
 use Rattle.mdb_log.specs.Homes.{Home, homes}
 use Rattle.mdb_log.specs.Opening.{pool_options}
 use Rattle.mdb_log.specs.Requests.{is_open, is_claimed}
 use Rattle.mdb_pool.specs.Core.{PoolCore}
-use Rattle.mdb_pool.specs.Kept.{request_at, is_asked_at, is_spent}
+use Rattle.mdb_pool.specs.Now.{asked_now, is_spent, settled_now}
 use Rattle.mdb_pool.specs.Standing.{Fits, StandsIn}
-use Rattle.mdb_pool.proofs.Follows.Fits.{asked-known}
+use Rattle.mdb_pool.proofs.Told.OfQueries.{asked-is, asked-knows}
 use Rattle.mdb_driver_pools.specs.Standing.{home, PoolsFit}
 use Rattle.mdb_driver_pools.specs.Living.{living_at}
 use Rattle.mdb_driver_pools.proofs.InMemory.LivingPools.{lives-within, living-some, living-there}
-use Rattle.mdb_driver_pools.proofs.OnePool.FoundAt.{asked-some, fits-at, number-at}
+use Rattle.mdb_driver_pools.proofs.OnePool.FoundAt.{fits-at, number-at}
 use Rattle.mdb_driver_pools.proofs.OnePool.RefusedByItsRows.{open-at}
 
 -- a pool that is handed out was opened, and something lives in it
@@ -35,10 +34,10 @@ module _ (o : Options) (pools : List PoolCore) (h : List Item) (z : PoolsFit (po
   own : Fits s (of_pool s.pool h)
   own = fits-at (pool_options o) pools h z p s e
 
-  open-is : (r : ℕ) → has_asked (of_pool s.pool h) r ≡ true → is_open h r ≡ not (has r s.settled)
+  open-is : (r : ℕ) → has_asked (of_pool s.pool h) r ≡ true → is_open h r ≡ not (settled_now s r)
   open-is r a =
-      let asked : is_asked_at (request_at s r) ≡ true = sym (asked-known s (of_pool s.pool h) own r) ∙ a in
-      open-at o pools h z r p s e (asked-some (request_at s r) asked) ∙ ap (λ b. b && not (has r s.settled)) asked
+      let asked : asked_now s r ≡ true = sym (asked-is s (of_pool s.pool h) own r) ∙ a in
+      open-at o pools h z r p s e (asked-knows s r asked) ∙ ap (λ b. b && not (settled_now s r)) asked
 
   pub stands-in : StandsIn s h
   stands-in = record {

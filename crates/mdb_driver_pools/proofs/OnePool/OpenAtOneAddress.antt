@@ -7,11 +7,10 @@ use Rattle.mdb_events.specs.declared.fact.Fact.{Fact}
 use Rattle.mdb_log.specs.declared.options.PoolOptions.{PoolOptions}
 use Rattle.mdb_pool.specs.Core.{PoolCore}
 use Rattle.mdb_log.specs.History.{Item, of_pool, open_pool, is_number, with_facts}
-use Rattle.mdb_log.specs.State.{State, is_closed, state_of}
-use Rattle.mdb_pool.specs.declared.kept.status.Status.{Status}
-use Rattle.mdb_pool.specs.declared.kept.status.Status.TheVariants.{Closed}
-use Rattle.mdb_pool.specs.Kept.{is_shut, state_in}
+use Rattle.mdb_log.specs.State.{is_closed, state_of}
+use Rattle.mdb_pool.specs.Now.{is_closed_now}
 use Rattle.mdb_pool.specs.Standing.{Fits}
+use Rattle.mdb_pool.proofs.Told.OfQueries.{closed-is}
 use Rattle.mdb_log.specs.Own.{AllOwn, shuts}
 use Rattle.mdb_describe.proofs.Addresses.{same-address, own-address}
 use Rattle.mdb_log.proofs.Frame.{open-facts}
@@ -57,12 +56,12 @@ none-here pools a p gone = on (at_address pools a) refl
 
 -- the address of a pool that is open there
 pub at-address : (a : ServerAddress) (s : PoolCore) → is_open_at a s ≡ true → s.address ≡ a
-at-address a s e = on (is_shut s.status) (same_address s.address a) refl refl e
+at-address a s e = on (is_closed_now s) (same_address s.address a) refl refl e
   where
-    on : (b c : Bool) → is_shut s.status ≡ b → same_address s.address a ≡ c → not (is_shut s.status) && same_address s.address a ≡ true → s.address ≡ a
+    on : (b c : Bool) → is_closed_now s ≡ b → same_address s.address a ≡ c → not (is_closed_now s) && same_address s.address a ≡ true → s.address ≡ a
     on b true f g e = same-address s.address a g
-    on false false f g e = let w : not (is_shut s.status) && same_address s.address a ≡ false = rw (f, g) refl in let t : true ≡ false = sym e ∙ w in cc
-    on true false f g e = let w : not (is_shut s.status) && same_address s.address a ≡ false = rw f refl in let t : true ≡ false = sym e ∙ w in cc
+    on false false f g e = let w : not (is_closed_now s) && same_address s.address a ≡ false = rw (f, g) refl in let t : true ≡ false = sym e ∙ w in cc
+    on true false f g e = let w : not (is_closed_now s) && same_address s.address a ≡ false = rw f refl in let t : true ≡ false = sym e ∙ w in cc
 
 module _ (o : PoolOptions) (pools : List PoolCore) (h : List Item) (z : PoolsFit o pools h) where
   -- the pool that is open at an address stands at its number
@@ -70,7 +69,11 @@ module _ (o : PoolOptions) (pools : List PoolCore) (h : List Item) (z : PoolsFit
   found a p s e f = (position-at (is_open_at a) pools p s (sym (z.open_are a) ∙ e) f).0
 
   pub open-unclosed : (i : ℕ) (s : PoolCore) → slice_get pools i ≡ Some s → (b : ServerAddress) → is_number (open_pool h b) s.pool ≡ true → state_of s.options (of_pool s.pool h) ≢ is_closed
-  open-unclosed i s at_i b e f = on s.status refl
+  open-unclosed i s at_i b e f =
+      let closed : is_closed_now s ≡ true = closed-is s (of_pool s.pool h) fits f in
+      let no : is_open_at b s ≡ false = rw closed refl in
+      let t : true ≡ false = sym (at_number (open_pool h b) refl e) ∙ no in
+      cc
     where
       d : PoolFits o h i s
       d = z.each i s at_i
@@ -81,16 +84,6 @@ module _ (o : PoolOptions) (pools : List PoolCore) (h : List Item) (z : PoolsFit
       at_number : (x : Option ℕ) → open_pool h b ≡ x → is_number x s.pool ≡ true → is_open_at b s ≡ true
       at_number None g k = cc
       at_number (Some q) g k = let n : q ≡ s.pool = grind arith in found b i s (g ∙ ap Some (n ∙ d.number)) at_i
-
-      on : (u : Status) → s.status ≡ u → ⊥
-      on Closed g =
-          let k : is_open_at b s ≡ false = rw g refl in
-          let t : true ≡ false = sym (at_number (open_pool h b) refl e) ∙ k in
-          cc
-      on _ g =
-          let k : state_in s.status ≡ is_closed = sym fits.matches.clearing.status ∙ f in
-          let l : ◌≡◌ {A = State} _ is_closed = rw g at k in
-          cc
 
   pub is-there : (a : ServerAddress) (p : ℕ) → open_pool h a ≡ Some p → slice_get pools p ≡ None → ⊥
   is-there a p e f = at-place pools p (position-within (is_open_at a) pools p (sym (z.open_are a) ∙ e)) f

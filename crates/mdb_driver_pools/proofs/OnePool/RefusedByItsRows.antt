@@ -1,5 +1,5 @@
 -- An act is refused by the rows of all pools as by those of the pool that it concerns.
-use Rattle.std.proofs.Common.{ℕ, suc, ◌≡◌, ◌&&◌, ◌||◌, Bool, true, false, not, List, [], ◌∷◌, Option, Some, None, is_some, nat_lt, if◌then◌else◌, refl, sym, ◌∙◌, ap, subst}
+use Rattle.std.proofs.Common.{ℕ, suc, ◌≡◌, ◌&&◌, ◌||◌, Bool, true, false, not, List, [], ◌∷◌, Option, Some, None, nat_lt, if◌then◌else◌, refl, sym, ◌∙◌, ap, subst}
 use Rattle.std.specs.Prelude.{slice_get, unwrap_or}
 use Rattle.std.specs.List.{list_any}
 use Rattle.mdb_base.specs.declared.address.ServerAddress.{ServerAddress}
@@ -13,30 +13,25 @@ use Rattle.mdb_log.specs.Connections.{has, holding, held, pending_list, pins}
 use Rattle.mdb_log.specs.Requests.{is_open}
 use Rattle.mdb_log.specs.Opening.{pool_options}
 use Rattle.mdb_log.proofs.Numbers.{same-number}
-use Rattle.mdb_pool.specs.declared.kept.connection.Connection.{Connection}
 use Rattle.mdb_pool.specs.Core.{PoolCore}
 use Rattle.mdb_pool_rules.specs.Refusal.{first_row}
 use Rattle.mdb_pool.specs.Refusing.{is_here, is_pending_here, is_pinned_here, rows_now}
-use Rattle.mdb_pool.specs.Kept.{request_at, connection_at, held_connection, is_open_now, is_asked_at, is_held_at, is_shut, is_spent, pins_at}
-use Rattle.mdb_pool.proofs.Answered.Act.{pending-is, holding-is, live-pins}
-use Rattle.mdb_pool.proofs.Listed.FirstOrLast.{id_or}
-use Rattle.mdb_pool.proofs.Answered.Pin.{held-at}
-use Rattle.mdb_pool.proofs.Answered.Take.{held-is}
+use Rattle.mdb_pool.specs.Now.{asked_now, holds_now, is_closed_now, is_held_now, is_open_now, is_spent, knows_now, settled_now}
+use Rattle.mdb_pool.proofs.Told.OfQueries.{asked-knows, held-is, held-pins, open-knows, pending-is, pins-are}
 use Rattle.mdb_driver_rules.specs.Refusal.{rows_of, has_pin, is_pending}
 use Rattle.mdb_driver_pools.specs.Standing.{is_open_at, knows, requested, settled, at_address, PoolsFit}
 use Rattle.mdb_driver_pools.specs.Living.{lives_at}
 use Rattle.mdb_driver_pools.specs.Finding.{asked_by, numbered, index_of, names_known, missing_pool}
 use Rattle.mdb_driver_rules.specs.Acts.{is_pool_act}
-use Rattle.mdb_pool.proofs.KeptInLittle.AskedOfThoseThatStay.{open-asked}
 use Rattle.mdb_pool.proofs.KeptInLittle.NothingLives.{none-pending, none-pinned}
 use Rattle.mdb_driver_rules.proofs.General.OneElement.{any-none, any-position, any-nowhere, position-at, position-none}
 use Rattle.mdb_driver_rules.proofs.General.OnePosition.{some-same}
 use Rattle.mdb_driver_pools.proofs.InMemory.LivingPools.{lives-of}
-use Rattle.mdb_driver_pools.proofs.OnePool.FoundAt.{asked-some, fits-at, number-at, numbered-is, numbered-gone, home-placed, home-missing}
+use Rattle.mdb_driver_pools.proofs.OnePool.FoundAt.{fits-at, number-at, numbered-is, numbered-gone, home-placed, home-missing}
 
 -- a pool that is open at the address is the one there
 here-open : (a : ServerAddress) (s : PoolCore) → is_open_at a s ≡ true → is_here s a ≡ true
-here-open a s e = on (not (is_shut s.status)) (same_address s.address a) e
+here-open a s e = on (not (is_closed_now s)) (same_address s.address a) e
   where
     on : (b c : Bool) → b && c ≡ true → c && b ≡ true
     on true true e = refl
@@ -58,7 +53,7 @@ any-follows f g (p ∷ ps) k e = on (f p) refl (any-follows f g ps (λ j x h. k 
 
 module _ (o : Options) (pools : List PoolCore) (h : List Item) (z : PoolsFit (pool_options o) pools h) where
   -- what only a pool that knows the party says of it, is said where the party is known
-  known-says : (f : PoolCore → Bool) (r i : ℕ) (s : PoolCore) → slice_get pools i ≡ Some s → is_some (request_at s r) ≡ true → ((j : ℕ) (x : PoolCore) → slice_get pools j ≡ Some x → f x ≡ true → is_some (request_at x r) ≡ true) → list_any f pools ≡ f s
+  known-says : (f : PoolCore → Bool) (r i : ℕ) (s : PoolCore) → slice_get pools i ≡ Some s → knows_now s r ≡ true → ((j : ℕ) (x : PoolCore) → slice_get pools j ≡ Some x → f x ≡ true → knows_now x r ≡ true) → list_any f pools ≡ f s
   known-says f r i s at_i known told = on (f s) refl
     where
       elsewhere : f s ≡ false → (j : ℕ) (x : PoolCore) (b : Bool) → slice_get pools j ≡ Some x → f x ≡ b → f x ≡ false
@@ -73,17 +68,17 @@ module _ (o : Options) (pools : List PoolCore) (h : List Item) (z : PoolsFit (po
       on false e = any-nowhere f pools (λ j x g. elsewhere e j x (f x) g refl) ∙ sym e
 
   -- a request is open where it is open in the pool that it asked
-  pub open-at : (r i : ℕ) (s : PoolCore) → slice_get pools i ≡ Some s → is_some (request_at s r) ≡ true → is_open h r ≡ is_open_now s r
+  pub open-at : (r i : ℕ) (s : PoolCore) → slice_get pools i ≡ Some s → knows_now s r ≡ true → is_open h r ≡ is_open_now s r
   open-at r i s at_i known =
-      let asked : requested pools r ≡ is_asked_at (request_at s r) = known-says (λ u. is_asked_at (request_at u r)) r i s at_i known (λ j x g k. asked-some (request_at x r) k) in
-      let told : settled pools r ≡ has r s.settled = known-says (λ u. has r u.settled) r i s at_i known (λ j x g k. z.noted j x r g k) in
+      let asked : requested pools r ≡ asked_now s r = known-says (λ u. asked_now u r) r i s at_i known (λ j x g k. asked-knows x r k) in
+      let told : settled pools r ≡ settled_now s r = known-says (λ u. settled_now u r) r i s at_i known (λ j x g k. z.noted j x r g k) in
       rw (z.requested r, z.opens r, told, asked) refl
 
   not-open : (r : ℕ) → asked_by pools r ≡ None → is_open h r ≡ false
   not-open r e = on (requested pools r) (settled pools r) refl refl
     where
-      closed : (j : ℕ) (x : PoolCore) → slice_get pools j ≡ Some x → is_asked_at (request_at x r) ≡ true → has r x.settled ≡ true
-      closed j x g k = both (is_asked_at (request_at x r)) (has r x.settled) (position-none (λ u. is_open_now u r) pools e j x g) k
+      closed : (j : ℕ) (x : PoolCore) → slice_get pools j ≡ Some x → asked_now x r ≡ true → settled_now x r ≡ true
+      closed j x g k = both (asked_now x r) (settled_now x r) (position-none (λ u. is_open_now u r) pools e j x g) k
         where
           both : (a b : Bool) → (a && not b) ≡ false → a ≡ true → b ≡ true
           both true true f h = refl
@@ -93,7 +88,7 @@ module _ (o : Options) (pools : List PoolCore) (h : List Item) (z : PoolsFit (po
       on : (a b : Bool) → requested pools r ≡ a → settled pools r ≡ b → is_open h r ≡ false
       on false b f g = rw (z.requested r, f) refl
       on true true f g = rw (z.requested r, z.opens r, f, g) refl
-      on true false f g = let k : settled pools r ≡ true = any-follows (λ u. is_asked_at (request_at u r)) (λ u. has r u.settled) pools closed f in cc
+      on true false f g = let k : settled pools r ≡ true = any-follows (λ u. asked_now u r) (λ u. settled_now u r) pools closed f in cc
 
   -- of a pool in which nothing lives, or that never was, no connection is pending, and none has a pin
   gone-from : (f : List PoolItem → Bool) → f [] ≡ false → (q : ℕ) → ((s : PoolCore) → slice_get pools q ≡ Some s → is_spent s ≡ true → f (of_pool s.pool h) ≡ false) → numbered pools q ≡ None → f (of_pool q h) ≡ false
@@ -111,7 +106,7 @@ module _ (o : Options) (pools : List PoolCore) (h : List Item) (z : PoolsFit (po
   no-pending q c e = gone-from (λ xs. has c (pending_list xs)) refl q (λ s g k. pending-is s (of_pool s.pool h) (fits-at (pool_options o) pools h z q s g) c ∙ none-pending s k c) e
 
   no-pin : (q c : ℕ) → numbered pools q ≡ None → has_pin h q c ≡ false
-  no-pin q c e = gone-from (λ xs. nat_lt 0 (pins xs c)) refl q (λ s g k. ap (nat_lt 0) ((fits-at (pool_options o) pools h z q s g).matches.pinning.pins c ∙ none-pinned s k c)) e
+  no-pin q c e = gone-from (λ xs. nat_lt 0 (pins xs c)) refl q (λ s g k. ap (nat_lt 0) (pins-are s (of_pool s.pool h) (fits-at (pool_options o) pools h z q s g) c ∙ none-pinned s k c)) e
 
   -- an act that concerns no pool
   pub rows-missing : (act : Act) → index_of pools act ≡ None → is_pool_act act ≡ true → first_row (rows_of o h act) ≡ missing_pool pools act
@@ -149,30 +144,25 @@ module _ (o : Options) (pools : List PoolCore) (h : List Item) (z : PoolsFit (po
     number-is q e = numbered-is pools q i e ∙ sym (number-at (pool_options o) pools h z i s at_i)
 
     pinned-is : (q c : ℕ) → q ≡ s.pool → has_pin h q c ≡ is_pinned_here s q c
-    pinned-is q c e = subst (λ n. has_pin h n c ≡ is_pinned_here s n c) (sym e) (rw ((fits-at (pool_options o) pools h z i s at_i).matches.pinning.pins c, same-number s.pool) refl)
+    pinned-is q c e = subst (λ n. has_pin h n c ≡ is_pinned_here s n c) (sym e) (rw (pins-are s xs (fits-at (pool_options o) pools h z i s at_i) c, same-number s.pool) refl)
 
     pub pending-here : (q c : ℕ) → q ≡ s.pool → is_pending h q c ≡ is_pending_here s q c
     pending-here q c e = subst (λ n. is_pending h n c ≡ is_pending_here s n c) (sym e) (rw (pending-is s xs (fits-at (pool_options o) pools h z i s at_i) c, same-number s.pool) refl)
 
-    held-here : (q c : ℕ) → q ≡ s.pool → nat_lt 0 (held (of_pool q h) c) ≡ is_held_at (connection_at s c)
-    held-here q c e = subst (λ n. nat_lt 0 (held (of_pool n h) c) ≡ is_held_at (connection_at s c)) (sym e) (held-is s xs (fits-at (pool_options o) pools h z i s at_i) c)
+    held-here : (q c : ℕ) → q ≡ s.pool → nat_lt 0 (held (of_pool q h) c) ≡ is_held_now s c
+    held-here q c e = subst (λ n. nat_lt 0 (held (of_pool n h) c) ≡ is_held_now s c) (sym e) (held-is s xs (fits-at (pool_options o) pools h z i s at_i) c)
 
     open-there : (r : ℕ) → asked_by pools r ≡ Some i → is_open h r ≡ is_open_now s r
-    open-there r e = open-at r i s at_i (asked-some (request_at s r) (open-asked s r (position-at (λ u. is_open_now u r) pools i s e at_i).0))
+    open-there r e = open-at r i s at_i (open-knows s r (position-at (λ u. is_open_now u r) pools i s e at_i).0)
 
     is-at : (a : ServerAddress) → at_address pools a ≡ Some i → is_here s a ≡ true
     is-at a e = here-open a s (position-at (is_open_at a) pools i s e at_i).0
 
-    new-here : (r : ℕ) → knows pools r ≡ false → is_some (request_at s r) ≡ false
-    new-here r k = any-none (λ u. is_some (request_at u r)) pools i s k at_i
+    new-here : (r : ℕ) → knows pools r ≡ false → knows_now s r ≡ false
+    new-here r k = any-none (λ u. knows_now u r) pools i s k at_i
 
-    pin-rows : (r : ℕ) → is_some (held_connection s r) ≡ true → first_row ((not true, NotHolder) ∷ (has_pin h s.pool (unwrap_or (holding xs r) 0), PinState) ∷ []) ≡ first_row (rows_now s (Do.Pin r))
-    pin-rows r k = rw (holding-is s xs (fits-at (pool_options o) pools h z i s at_i) r) (on (held_connection s r) refl k)
-      where
-        on : (x : Option Connection) → held_connection s r ≡ x → is_some x ≡ true
-            → first_row ((not true, NotHolder) ∷ (nat_lt 0 (pins xs (unwrap_or (id_or x None) 0)), PinState) ∷ []) ≡ first_row ((not (is_some x), NotHolder) ∷ (nat_lt 0 (pins_at x), PinState) ∷ [])
-        on None e k = cc
-        on (Some x) e k = rw (live-pins s xs (fits-at (pool_options o) pools h z i s at_i).matches x.id x (held-at s r x e).1) refl
+    pin-rows : (r : ℕ) → holds_now s r ≡ true → first_row ((not true, NotHolder) ∷ (has_pin h s.pool (unwrap_or (holding xs r) 0), PinState) ∷ []) ≡ first_row (rows_now s (Do.Pin r))
+    pin-rows r k = rw (held-pins s xs (fits-at (pool_options o) pools h z i s at_i) r k, k) refl
 
     -- an act of the pool there
     pub rows-there : (act : Act) → is_pool_act act ≡ true → index_of pools act ≡ Some i → names_known pools act ≡ false → first_row (rows_of o h act) ≡ first_row (rows_now s act)
@@ -185,10 +175,10 @@ module _ (o : Options) (pools : List PoolCore) (h : List Item) (z : PoolsFit (po
     rows-there Do.Claim k e n = refl
     rows-there (Do.Established q c how) k e n = rw (pending-here q c (number-is q e), (z.each i s at_i).options) refl
     rows-there (Do.Return r used) k e n =
-        let held : is_some (held_connection s r) ≡ true = (position-at (λ u. is_some (held_connection u r)) pools i s e at_i).0 in
+        let held : holds_now s r ≡ true = (position-at (λ u. holds_now u r) pools i s e at_i).0 in
         rw (home-placed (pool_options o) pools h z (Do.Return r used) k i s at_i e, held) refl
     rows-there (Do.Pin r) k e n =
-        let held : is_some (held_connection s r) ≡ true = (position-at (λ u. is_some (held_connection u r)) pools i s e at_i).0 in
+        let held : holds_now s r ≡ true = (position-at (λ u. holds_now u r) pools i s e at_i).0 in
         rw (home-placed (pool_options o) pools h z (Do.Pin r) k i s at_i e) (pin-rows r held)
     rows-there (Do.Replicate q c) k e n = rw (pinned-is q c (number-is q e)) refl
     rows-there (Do.Take r q c) k e n = rw (z.names r, n, new-here r n, pinned-is q c (number-is q e), held-here q c (number-is q e)) refl

@@ -14,13 +14,14 @@ use Rattle.mdb_log.specs.History.{Item, did, PoolItem, of_pool, with_facts, with
 use Rattle.mdb_log.specs.Connections.{has, pending_list}
 use Rattle.mdb_log.specs.Requests.{some_act, names_party, was_asked, leaves, told, asks_how, is_outcome, is_claimed, end_of, outcome_of, settles, is_job}
 use Rattle.mdb_pool_rules.specs.Answer.{all_facts, first_job, reply_of}
-use Rattle.mdb_pool.specs.Kept.{request_at}
+use Rattle.mdb_pool.specs.Now.{claimed_now, knows_now}
 use Rattle.mdb_pool_rules.specs.Serving.{IsServed}
 use Rattle.mdb_log.specs.Own.{shuts}
 use Rattle.mdb_log.specs.Legal.{AllFirstCome as PoolFirstCome}
 use Rattle.mdb_log.specs.Limits.{WithinLimits}
 use Rattle.mdb_log.specs.Fresh.{AllGrantFresh}
 use Rattle.mdb_pool.specs.Standing.{Fits, Accepts, SameHome}
+use Rattle.mdb_pool.proofs.Told.OfQueries.{party-is}
 use Rattle.mdb_log.proofs.Later.{with_answer-accepted, opens-after, claimed-reply}
 use Rattle.mdb_pool_rules.proofs.LimitsAreKept.{act-kept, accepted-within}
 use Rattle.mdb_pool.proofs.Histories.GrantsAreFresh.{accepted-fresh}
@@ -138,7 +139,7 @@ module _ (qo : Options) (pools : List PoolCore) (h : List Item) (z : PoolsStand 
   fresh-k =
       let fits : Fits s (of_pool s.pool h) = subst (λ p. Fits s (of_pool p h)) (sym own-stands.number) own-stands.fits in
       let of_act : AllGrantFresh s.pool s.options m (with_act s.pool h step) F =
-      subst (λ zs. AllGrantFresh s.pool s.options m (with_act s.pool h step) (all_facts s.pool s.address s.options m (of_pool s.pool h) zs step.act)) w.mine (accepted-fresh s h step fits.matches w.bound) in
+      subst (λ zs. AllGrantFresh s.pool s.options m (with_act s.pool h step) (all_facts s.pool s.address s.options m (of_pool s.pool h) zs step.act)) w.mine (accepted-fresh s h step fits w.bound) in
       subst (λ c. AllGrantFresh s.pool c m (with_act s.pool h step) F) own-stands.options of_act
 
   closes-k : (b : ℕ → Bool) → ((r : ℕ) → (told h r == 0) && not (some_act leaves h r) ≡ not (b r)) → (r : ℕ) → (told k r == 0) && not (some_act leaves k r) ≡ not (settles step.act reply r || b r)
@@ -149,12 +150,12 @@ module _ (qo : Options) (pools : List PoolCore) (h : List Item) (z : PoolsStand 
 
   no-job : (q c : ℕ) → s.pool ≢ q → is_job q reply c ≡ false
   no-job q c ne =
-      let claims : (d : ℕ) → is_claimed h s.pool d ≡ has d s.claimed = λ d. ap (λ p. is_claimed h p d) own-stands.number ∙ z.fit.claims i s d at_i in
+      let claims : (d : ℕ) → is_claimed h s.pool d ≡ claimed_now s d = λ d. ap (λ p. is_claimed h p d) own-stands.number ∙ z.fit.claims i s d at_i in
       ap (λ b. is_job q b c) (v.reply_is (is_claimed h s.pool) claims) ∙ other-job s.pool q c ne (is_claimed h s.pool) (of_pool s.pool h) (after_facts s.pool m F ys) step.act
 
   -- whose outcome was told, or who leaves, is known
-  known-k : (r : ℕ) → settles step.act reply r ≡ true → is_some (request_at t r) ≡ true
-  known-k r e = sym (v.fits.asked r) ∙ (party-facts s.pool m r F ys ∙ w.parties r (weaker (asks_how step.act r) (is_outcome reply) (leaves step.act r) e))
+  known-k : (r : ℕ) → settles step.act reply r ≡ true → knows_now t r ≡ true
+  known-k r e = sym (party-is t _ v.fits r) ∙ (party-facts s.pool m r F ys ∙ w.parties r (weaker (asks_how step.act r) (is_outcome reply) (leaves step.act r) e))
     where
       weaker : (a b c : Bool) → (a && b) || c ≡ true → a || c ≡ true
       weaker true b c f = refl

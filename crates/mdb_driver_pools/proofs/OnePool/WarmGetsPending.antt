@@ -9,33 +9,20 @@ use Rattle.mdb_log.specs.declared.step.Act.TheVariants as Do
 use Rattle.mdb_log.specs.declared.reply.Reply.{Reply}
 use Rattle.mdb_log.specs.declared.reply.Reply.TheVariants.{Refused}
 use Rattle.mdb_log.specs.Driver.{tells_outcome}
-use Rattle.mdb_log.specs.History.{Item, did, PoolItem, of_pool, open_pool, is_number, given, with_facts, with_answer}
+use Rattle.mdb_log.specs.History.{Item, did, of_pool, open_pool, is_number, given, with_facts, with_answer}
 use Rattle.mdb_log.specs.Connections.{has, pending_list}
 use Rattle.mdb_log.specs.Requests.{is_warm}
 use Rattle.mdb_log.specs.Homes.{Home, homes}
 use Rattle.mdb_log.specs.Own.{IsAccepted}
 use Rattle.mdb_log.proofs.Later.{of_pool-with_facts, with_answer-accepted}
 use Rattle.mdb_log.proofs.Numbers.{same-number}
-use Rattle.mdb_pool.specs.declared.kept.connection.Connection.{Connection}
 use Rattle.mdb_pool.specs.Core.{PoolCore}
-use Rattle.mdb_pool.specs.Kept.{connection_at, holder_at, is_pending_at}
 use Rattle.mdb_pool.specs.Standing.{Fits}
-use Rattle.mdb_pool.proofs.Answered.Act.{pending-is}
-use Rattle.mdb_pool.proofs.Turns.End.{warm-facts}
+use Rattle.mdb_pool.proofs.Histories.Resting.{rested}
+use Rattle.mdb_pool_rules.proofs.ManyEnded.{warm-facts}
 use Rattle.mdb_pool_rules.proofs.Listed.Values.{find-member}
 use Rattle.mdb_driver_rules.specs.Homes.{concerns, home_of, begun}
 use Rattle.mdb_driver_pools.specs.Standing.{PoolsFit}
-
--- in a pool that keeps what its items say
-pub warm-pends : (s : PoolCore) (xs : List PoolItem) → Fits s xs → (r c : ℕ) → is_warm xs r ≡ true → given xs r ≡ Some c → has c (pending_list xs) ≡ true
-warm-pends s xs z r c warm got = pending-is s xs z c ∙ on (connection_at s c) refl
-  where
-    holds : holder_at (connection_at s c) ≡ Some r
-    holds = z.matches.links.taken r c (sym (z.matches.requests.given r) ∙ got)
-
-    on : (k : Option Connection) → connection_at s c ≡ k → is_pending_at (connection_at s c) ≡ true
-    on None e = let f : ◌≡◌ {A = Option ℕ} None (Some r) = sym (ap holder_at e) ∙ holds in cc
-    on (Some k) e = ap is_pending_at e ∙ z.matches.links.fills c k r e (sym (ap holder_at e) ∙ holds) (sym (z.matches.requests.warm r) ∙ warm)
 
 -- an outcome is no refusal
 pub told-accepted : (reply : Reply) → tells_outcome reply ≡ true → IsAccepted reply
@@ -69,4 +56,4 @@ module _ (h : List Item) (m r : ℕ) (a : ServerAddress) (F : List Fact) where
 
       on : (u : Option PoolCore) → slice_get later x.number ≡ u → has c (pending_list (of_pool x.number y)) ≡ true
       on None f = let g : given [] r ≡ Some c = subst (λ xs. given xs r ≡ Some c) (sym same ∙ z.rest x.number f) got in cc
-      on (Some s) f = warm-pends s (of_pool x.number y) (subst (Fits s) same (z.each x.number s f).fits) r c (here-warm x e) got
+      on (Some s) f = (rested s (of_pool x.number y) (subst (Fits s) same (z.each x.number s f).fits)).warm r c got (here-warm x e)

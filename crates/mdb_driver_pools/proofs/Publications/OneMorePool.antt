@@ -1,5 +1,5 @@
 -- One more pool is opened.
-use Rattle.std.proofs.Common.{ℕ, zero, suc, ◌≡◌, ◌≢◌, ◌==◌, ◌+◌, Bool, true, false, List, [], ◌∷◌, ◌++◌, length, map, Option, Some, None, is_some, refl, sym, ◌∙◌, ap, subst, arith, if◌then◌else◌, position}
+use Rattle.std.proofs.Common.{ℕ, zero, suc, ◌≡◌, ◌≢◌, ◌==◌, ◌+◌, Bool, true, false, List, [], ◌∷◌, ◌++◌, length, map, Option, Some, None, refl, sym, ◌∙◌, ap, subst, arith, if◌then◌else◌, position}
 use Rattle.std.specs.Prelude.{slice_get, not}
 use Rattle.std.specs.List.{list_any}
 use Rattle.std.proofs.lemmas.Grind.{common_steps}
@@ -15,10 +15,10 @@ use Rattle.mdb_events.specs.declared.cmap.CmapEvent.TheVariants.{PoolCreated}
 use Rattle.mdb_log.specs.declared.options.PoolOptions.{PoolOptions}
 use Rattle.mdb_pool.specs.Core.{PoolCore}
 use Rattle.mdb_log.specs.History.{Item, made, pool_created, of_pool, open_pool}
-use Rattle.mdb_log.specs.Connections.{has}
 use Rattle.mdb_log.specs.Requests.{is_claimed}
-use Rattle.mdb_pool.specs.Kept.{request_at, is_asked_at, is_shut}
+use Rattle.mdb_pool.specs.Now.{asked_now, claimed_now, is_closed_now, knows_now, settled_now}
 use Rattle.mdb_pool.specs.Standing.{Fits}
+use Rattle.mdb_pool.proofs.Told.OfQueries.{asked-is, party-is}
 use Rattle.mdb_describe.proofs.Addresses.{same-address}
 use Rattle.mdb_log.proofs.Frame.{other-number}
 use Rattle.mdb_log.proofs.Numbers.{same-number}
@@ -65,9 +65,9 @@ place xs y j = on (j == length xs) refl
 -- a pool that was just made
 pub record IsFresh (s : PoolCore) : Type 0 where
   pub fits : Fits s (pool_created ∷ [])
-  pub settled : (r : ℕ) → has r s.settled ≡ false
-  pub claimed : (c : ℕ) → has c s.claimed ≡ false
-  pub unshut : is_shut s.status ≡ false
+  pub settled : (r : ℕ) → settled_now s r ≡ false
+  pub claimed : (c : ℕ) → claimed_now s c ≡ false
+  pub unshut : is_closed_now s ≡ false
 
 -- the pool s, which is new, comes last
 module _ (o : PoolOptions) (pools : List PoolCore) (h : List Item) (z : PoolsFit o pools h) (s : PoolCore) (m : ℕ) (e : PoolCreatedEvent)
@@ -85,11 +85,11 @@ module _ (o : PoolOptions) (pools : List PoolCore) (h : List Item) (z : PoolsFit
   mine : of_pool n k ≡ pool_created ∷ []
   mine = rw (same-number n, z.rest n (slice_get_past pools n (omega arith))) refl
 
-  knows-none : (r : ℕ) → is_some (request_at s r) ≡ false
-  knows-none r = sym (fresh.fits.asked r)
+  knows-none : (r : ℕ) → knows_now s r ≡ false
+  knows-none r = sym (party-is s _ fresh.fits r)
 
-  asked-none : (r : ℕ) → is_asked_at (request_at s r) ≡ false
-  asked-none r = sym (fresh.fits.matches.requests.asks r)
+  asked-none : (r : ℕ) → asked_now s r ≡ false
+  asked-none r = sym (asked-is s _ fresh.fits r)
 
   each-k : (j : ℕ) (u : PoolCore) → slice_get (pools ++ s ∷ []) j ≡ Some u → PoolFits o k j u
   each-k j u f = on (place pools s j)
@@ -144,22 +144,22 @@ module _ (o : PoolOptions) (pools : List PoolCore) (h : List Item) (z : PoolsFit
   apart-k r p q u w f g a b = on (place pools s p) (place pools s q)
     where
       on : Place pools s p → Place pools s q → p ≡ q
-      on (at_end c d) y = let v : is_some (request_at s r) ≡ true = subst (λ x. is_some (request_at x r) ≡ true) (some-same u s (slice_get (pools ++ s ∷ []) p) f d) a in let t : false ≡ true = sym (knows-none r) ∙ v in cc
-      on (earlier ne d) (at_end c2 d2) = let v : is_some (request_at s r) ≡ true = subst (λ x. is_some (request_at x r) ≡ true) (some-same w s (slice_get (pools ++ s ∷ []) q) g d2) b in let t : false ≡ true = sym (knows-none r) ∙ v in cc
+      on (at_end c d) y = let v : knows_now s r ≡ true = subst (λ x. knows_now x r ≡ true) (some-same u s (slice_get (pools ++ s ∷ []) p) f d) a in let t : false ≡ true = sym (knows-none r) ∙ v in cc
+      on (earlier ne d) (at_end c2 d2) = let v : knows_now s r ≡ true = subst (λ x. knows_now x r ≡ true) (some-same w s (slice_get (pools ++ s ∷ []) q) g d2) b in let t : false ≡ true = sym (knows-none r) ∙ v in cc
       on (earlier ne d) (earlier ne2 d2) = z.apart r p q u w (sym d ∙ f) (sym d2 ∙ g) a b
 
-  noted-k : (j : ℕ) (u : PoolCore) (r : ℕ) → slice_get (pools ++ s ∷ []) j ≡ Some u → has r u.settled ≡ true → is_some (request_at u r) ≡ true
+  noted-k : (j : ℕ) (u : PoolCore) (r : ℕ) → slice_get (pools ++ s ∷ []) j ≡ Some u → settled_now u r ≡ true → knows_now u r ≡ true
   noted-k j u r f g = on (place pools s j)
     where
-      on : Place pools s j → is_some (request_at u r) ≡ true
-      on (at_end c d) = let t : has r u.settled ≡ false = ap (λ x. has r x.settled) (some-same u s (slice_get (pools ++ s ∷ []) j) f d) ∙ fresh.settled r in cc
+      on : Place pools s j → knows_now u r ≡ true
+      on (at_end c d) = let t : settled_now u r ≡ false = ap (λ x. settled_now x r) (some-same u s (slice_get (pools ++ s ∷ []) j) f d) ∙ fresh.settled r in cc
       on (earlier ne d) = z.noted j u r (sym d ∙ f) g
 
-  claims-k : (j : ℕ) (u : PoolCore) (c : ℕ) → slice_get (pools ++ s ∷ []) j ≡ Some u → is_claimed k j c ≡ has c u.claimed
+  claims-k : (j : ℕ) (u : PoolCore) (c : ℕ) → slice_get (pools ++ s ∷ []) j ≡ Some u → is_claimed k j c ≡ claimed_now u c
   claims-k j u c f = on (place pools s j)
     where
-      on : Place pools s j → is_claimed k j c ≡ has c u.claimed
-      on (at_end b d) = z.unclaimed j c (slice_get_past pools j (omega arith)) ∙ sym (ap (λ x. has c x.claimed) (some-same u s (slice_get (pools ++ s ∷ []) j) f d) ∙ fresh.claimed c)
+      on : Place pools s j → is_claimed k j c ≡ claimed_now u c
+      on (at_end b d) = z.unclaimed j c (slice_get_past pools j (omega arith)) ∙ sym (ap (λ x. claimed_now x c) (some-same u s (slice_get (pools ++ s ∷ []) j) f d) ∙ fresh.claimed c)
       on (earlier ne d) = z.claims j u c (sym d ∙ f)
 
   unclaimed-k : (j c : ℕ) → slice_get (pools ++ s ∷ []) j ≡ None → is_claimed k j c ≡ false
@@ -176,10 +176,10 @@ module _ (o : PoolOptions) (pools : List PoolCore) (h : List Item) (z : PoolsFit
     homes_are = ap (λ hs. hs ++ record { number = n; address = s.address } ∷ []) z.homes_are ∙ (ap (λ p. map home pools ++ record { number = p; address = s.address } ∷ []) (sym number) ∙ sym (map-push home pools s));
     open_are = open-k;
     single = single-k;
-    names = λ r. z.names r ∙ sym (any-push (λ u. is_some (request_at u r)) pools s (knows-none r));
+    names = λ r. z.names r ∙ sym (any-push (λ u. knows_now u r) pools s (knows-none r));
     apart = apart-k;
-    requested = λ r. z.requested r ∙ sym (any-push (λ u. is_asked_at (request_at u r)) pools s (asked-none r));
-    opens = λ r. z.opens r ∙ ap not (sym (any-push (λ u. has r u.settled) pools s (fresh.settled r)));
+    requested = λ r. z.requested r ∙ sym (any-push (λ u. asked_now u r) pools s (asked-none r));
+    opens = λ r. z.opens r ∙ ap not (sym (any-push (λ u. settled_now u r) pools s (fresh.settled r)));
     noted = noted-k;
     claims = claims-k;
     unclaimed = unclaimed-k;

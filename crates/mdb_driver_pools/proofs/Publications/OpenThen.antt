@@ -19,7 +19,7 @@ use Rattle.mdb_describe.proofs.Addresses.{same-address}
 use Rattle.mdb_pool.specs.Core.{PoolCore}
 use Rattle.mdb_pool_rules.specs.Answer.{all_facts}
 use Rattle.mdb_pool_rules.specs.Facts.{closed_fact, pool_closed_fact, all_ends, readied, close_facts}
-use Rattle.mdb_pool.specs.Kept.{is_shut}
+use Rattle.mdb_pool.specs.Now.{is_closed_now}
 use Rattle.mdb_pool.specs.Planning.{Does}
 use Rattle.mdb_pool_rules.specs.Quiet.{IsQuiet}
 use Rattle.mdb_pool_rules.specs.Serving.{IsServed}
@@ -85,23 +85,23 @@ module _ (o : PoolOptions) (pools : List PoolCore) (k : List Item) (z : PoolsSta
   at-a = at-address a s open-s
 
   module _ (does : Does s t [] fs (record { moment = m; act = Ready q }) reply) where
-    still-open : is_shut t.status ≡ is_shut s.status
+    still-open : is_closed_now t ≡ is_closed_now s
     still-open =
         let v : Accepts s t [] fs m (Ready q) reply xs xs = does xs fits in
         let quiet : IsQuiet s.options xs = subst (λ c. IsQuiet c xs) (sym d.options) (z.quiet s.pool) in
         let served : IsServed s.options xs = subst (λ c. IsServed c xs) (sym d.options) (z.served s.pool) in
         let no : shuts (all_facts s.pool s.address s.options m xs xs (Ready q)) ≡ false =
         ap shuts (ready-alone s.pool s.address s.options m xs q quiet served) ∙ readied-open s.pool s.address s.options m xs in
-        v.shut ∙ ap (λ b. b || is_shut s.status) no
+        v.shut ∙ ap (λ b. b || is_closed_now s) no
 
     -- after a mark as ready the same are open
     pub ready-open : (b : ServerAddress) → is_some (at_address (set pools i t) b) ≡ is_some (at_address pools b)
     ready-open b =
-        let w : is_open_at b t ≡ is_open_at b s = ap (λ x. not x && same_address t.address b) still-open ∙ ap (λ c. not (is_shut s.status) && same_address c b) same.address in
+        let w : is_open_at b t ≡ is_open_at b s = ap (λ x. not x && same_address t.address b) still-open ∙ ap (λ c. not (is_closed_now s) && same_address c b) same.address in
         ap is_some (position-set (is_open_at b) pools i s t at_i w)
 
   module _ (does : Does s t [] fs (record { moment = m; act = Close q }) reply) where
-    is-shut : is_shut t.status ≡ true
+    is-shut : is_closed_now t ≡ true
     is-shut =
         let v : Accepts s t [] fs m (Close q) reply xs xs = does xs fits in
         let number : open_pool k a ≡ Some s.pool = z.fit.open_are a ∙ (here ∙ ap Some (sym d.number)) in
@@ -109,7 +109,7 @@ module _ (o : PoolOptions) (pools : List PoolCore) (k : List Item) (z : PoolsSta
         let unclosed : state_of s.options xs ≢ is_closed = open-unclosed o pools k z.fit i s at_i a mine in
         let yes : shuts (all_facts s.pool s.address s.options m xs xs (Close q)) ≡ true =
         ap shuts (close-alone s.pool s.address s.options m xs q) ∙ close-shut s.pool s.address s.options m xs unclosed in
-        v.shut ∙ ap (λ b. b || is_shut s.status) yes
+        v.shut ∙ ap (λ b. b || is_closed_now s) yes
       where
         own : (p : ℕ) → (p == p) ≡ true
         own p = grind arith

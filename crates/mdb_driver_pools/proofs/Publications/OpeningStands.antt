@@ -12,7 +12,6 @@ use Rattle.mdb_events.specs.declared.cmap.CmapEvent.TheVariants.{PoolCreated}
 use Rattle.mdb_events.specs.declared.sdam.SdamEvent.TheVariants.{ServerOpening}
 use Rattle.mdb_log.specs.declared.options.PoolOptions.{PoolOptions}
 use Rattle.mdb_log.specs.History.{Item, PoolItem, made, of_pool, open_pool, opening, pool_created, with_facts}
-use Rattle.mdb_log.specs.Connections.{has}
 use Rattle.mdb_log.specs.Limits.{WithinLimits}
 use Rattle.mdb_log.specs.Homes.{homes}
 use Rattle.mdb_log.specs.LegalLog.{AllFirstCome}
@@ -22,7 +21,7 @@ use Rattle.mdb_describe.proofs.Addresses.{own-address}
 use Rattle.mdb_log.proofs.Frame.{other-number}
 use Rattle.mdb_log.proofs.Numbers.{same-number}
 use Rattle.mdb_pool.specs.Core.{PoolCore}
-use Rattle.mdb_pool.specs.Kept.{is_shut}
+use Rattle.mdb_pool.specs.Now.{is_closed_now, settled_now}
 use Rattle.mdb_pool_rules.specs.Serving.{next_move, IsServed}
 use Rattle.mdb_pool_rules.specs.Quiet.{IsQuiet}
 use Rattle.mdb_pool.specs.Standing.{Fits, StandsFor}
@@ -45,15 +44,15 @@ none-here false p = refl
 pub fresh-opened : (s : PoolCore) (n : ℕ) (a : ServerAddress) (o : PoolOptions) → s.pool ≡ n → s.address ≡ a → StandsFor s (opening n a o) → IsFresh s
 fresh-opened s n a o number at z = record {
   fits = subst (Fits s) known z.fits;
-  settled = λ r. no-mark (has r s.settled) (z.opens r);
+  settled = λ r. no-mark (settled_now s r) (z.opens r);
   claimed = λ c. sym (z.claims c);
-  unshut = on (is_shut s.status) refl;
+  unshut = on (is_closed_now s) refl;
 }
   where
     known : of_pool s.pool (opening n a o) ≡ pool_created ∷ []
     known = rw (number, same-number n) refl
 
-    on : (b : Bool) → is_shut s.status ≡ b → is_shut s.status ≡ false
+    on : (b : Bool) → is_closed_now s ≡ b → is_closed_now s ≡ false
     on false f = f
     on true f =
         let here : same_address a a ≡ true = own-address a in

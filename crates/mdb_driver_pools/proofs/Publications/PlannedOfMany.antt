@@ -2,6 +2,7 @@
 use Rattle.std.proofs.Common.{ℕ, zero, suc, ◌≡◌, ◌+◌, ◌&&◌, ◌||◌, Bool, true, false, not, List, [], ◌∷◌, ◌++◌, length, map, take, Option, Some, None, is_some, refl, sym, ◌∙◌, ap, subst, arith}
 use Rattle.std.specs.Prelude.{slice_get}
 use Rattle.std.specs.List.{list_any}
+use Rattle.std.proofs.lemmas.Bool.{not-true}
 use Rattle.mdb_base.specs.Equality.{same_address}
 use Rattle.mdb_base.specs.OptionRules.{all_different}
 use Rattle.mdb_base.specs.declared.address.ServerAddress.{ServerAddress}
@@ -22,7 +23,7 @@ use Rattle.mdb_driver_rules.specs.Touching.{is_ready_at, readies, readies_one}
 use Rattle.mdb_driver_rules.proofs.General.OneElement.{any-none}
 use Rattle.mdb_driver_pools.proofs.Publications.OneMorePool.{map-push}
 use Rattle.mdb_driver_pools.proofs.Publications.PlannedInTurn.{listed-both, plans-then}
-use Rattle.mdb_driver_rules.proofs.General.Truth.{not-back, or-false, or-true}
+use Rattle.mdb_driver_rules.proofs.General.Truth.{or-false, or-true}
 
 -- none of the addresses before a place is the one there
 pub different-take : (xs : List ServerAddress) (k : ℕ) (x : ServerAddress) → all_different xs ≡ true → slice_get xs k ≡ Some x → is_listed (take k xs) x ≡ false
@@ -30,7 +31,7 @@ different-take [] k x e f = cc
 different-take (y ∷ ys) zero x e f = refl
 different-take (y ∷ ys) (suc k) x e f =
     let both : (not (list_any (λ b. same_address b y) ys) ≡ true) × (all_different ys ≡ true) = both-true (not (list_any (λ b. same_address b y) ys)) (all_different ys) e in
-    let apart : same_address x y ≡ false = any-none (λ b. same_address b y) ys k x (not-back (list_any (λ b. same_address b y) ys) both.0) f in
+    let apart : same_address x y ≡ false = any-none (λ b. same_address b y) ys k x (not-true (list_any (λ b. same_address b y) ys) both.0) f in
     let back : same_address y x ≡ false = same_back y x ∙ apart in
     rw back (different-take ys k x both.1 f)
 
@@ -40,7 +41,7 @@ absent-at pools [] k x e f = cc
 absent-at pools (y ∷ ys) zero x e f =
     let both : (not (is_some (at_address pools y)) ≡ true) × (are_absent pools ys ≡ true) = both-true (not (is_some (at_address pools y))) (are_absent pools ys) e in
     let w : y ≡ x = cc in
-    ap (at_address pools) (sym w) ∙ none (at_address pools y) (not-back (is_some (at_address pools y)) both.0)
+    ap (at_address pools) (sym w) ∙ none (at_address pools y) (not-true (is_some (at_address pools y)) both.0)
   where
     none : (x : Option ℕ) → is_some x ≡ false → x ≡ None
     none None e = refl

@@ -11,9 +11,8 @@ use Rattle.mdb_log.specs.History.{Item}
 use Rattle.mdb_log.specs.Opening.{pool_options}
 use Rattle.mdb_describe.proofs.Addresses.{own-address}
 use Rattle.mdb_pool.specs.Core.{PoolCore}
-use Rattle.mdb_pool.specs.Body.{PoolSteps as Plan}
-use Rattle.mdb_pool.specs.Kept.{is_shut}
-use Rattle.mdb_pool.specs.Planning.{Plans, IsPlanOf}
+use Rattle.mdb_pool.specs.Now.{is_closed_now}
+use Rattle.mdb_pool.specs.Planning.{Plan, Plans, IsPlanOf}
 use Rattle.mdb_pool.specs.Standing.{SameHome}
 use Rattle.mdb_driver_pools.specs.declared.pool_change.PoolChange.TheVariants.{Alter, Open}
 use Rattle.mdb_driver_rules.specs.Publishing.{opened_at, server_opened}
@@ -49,7 +48,7 @@ leaves-still o m pools n touched now later k a z l y = ap (λ (w : List PoolCore
 pub not-open : (s : PoolCore) (a b : ServerAddress) → s.address ≡ a → same_address a b ≡ false → is_open_at b s ≡ false
 not-open s a b at e =
     let w : same_address s.address b ≡ false = ap (λ x. same_address x b) at ∙ e in
-    rw w (and-false (not (is_shut s.status)))
+    rw w (and-false (not (is_closed_now s)))
 
 -- The pool that is open at the address changes, by a plan that was made on it.
 module _ (o : Options) (m : ℕ) (pools : List PoolCore) (a : ServerAddress) (i : ℕ) (s : PoolCore) (plan : Plan)

@@ -1,6 +1,7 @@
 -- A whole publication, planned: the servers that changed, those that go, the topology, and those that come.
 use Rattle.std.proofs.Common.{ℕ, ◌≡◌, ◌+◌, ◌&&◌, ◌||◌, Bool, true, false, not, List, [], ◌∷◌, ◌++◌, length, map, Some, is_some, refl, sym, ◌∙◌, ap, subst, arith, append-nil}
 use Rattle.std.proofs.lemmas.List.{append_assoc}
+use Rattle.std.proofs.lemmas.Bool.{or_left, or_right, not-true}
 use Rattle.mdb_base.specs.Equality.{same_address}
 use Rattle.mdb_base.specs.declared.address.ServerAddress.{ServerAddress}
 use Rattle.mdb_base.specs.declared.options.Options.{Options}
@@ -22,7 +23,7 @@ use Rattle.mdb_driver_rules.specs.Publishing.{server_changed, server_closed, top
 use Rattle.mdb_driver_pools.specs.Standing.{at_address, are_absent, PoolsStand}
 use Rattle.mdb_driver_rules.specs.Touching.{is_ready_at, readies, touches}
 use Rattle.mdb_driver_pools.proofs.Publications.PlannedInTurn.{plans-then}
-use Rattle.mdb_driver_rules.proofs.General.Truth.{not-back, or-first, or-second, fails}
+use Rattle.mdb_driver_rules.proofs.General.Truth.{fails}
 
 -- a changed server is known before and after
 listed-both : (earlier later : List ServerDescription) (xs : List ServerAddress) (b : ServerAddress) → are_in_both earlier later xs ≡ true → is_listed xs b ≡ true → (is_known b earlier ≡ true) × (is_known b later ≡ true)
@@ -39,16 +40,16 @@ listed-both earlier later (y ∷ ys) b all e =
 missing-known : (servers others : List ServerDescription) (b : ServerAddress) → is_listed (missing servers others) b ≡ true → (is_known b servers ≡ true) × (is_known b others ≡ false)
 missing-known servers others b e =
     let d : (is_known b servers ≡ true) × (not (is_known b others) ≡ true) = both-true (is_known b servers) (not (is_known b others)) (sym (listed-missing b others servers) ∙ e) in
-    (d.0, not-back (is_known b others) d.1)
+    (d.0, not-true (is_known b others) d.1)
 
 -- at addresses that no earlier server has, no pool is open
 pub added-absent : (pools : List PoolCore) (earlier : List ServerDescription) (xs : List ServerAddress) → ((a : ServerAddress) → is_some (at_address pools a) ≡ is_known a earlier)
     → ((a : ServerAddress) → is_listed xs a ≡ true → is_known a earlier ≡ false) → are_absent pools xs ≡ true
 added-absent pools earlier [] known new = refl
 added-absent pools earlier (a ∷ more) known new =
-    let here : is_listed (a ∷ more) a ≡ true = or-first (same_address a a) (is_listed more a) (own-address a) in
+    let here : is_listed (a ∷ more) a ≡ true = or_left (same_address a a) (is_listed more a) (own-address a) in
     let none : is_some (at_address pools a) ≡ false = known a ∙ new a here in
-    rw none (added-absent pools earlier more known (λ b e. new b (or-second (same_address a b) (is_listed more b) e)))
+    rw none (added-absent pools earlier more known (λ b e. new b (or_right (same_address a b) (is_listed more b) e)))
 
 neither : (p q : Bool) → p ≡ false → q ≡ false → p || q ≡ false
 neither p q e f = rw (e, f) refl
@@ -84,7 +85,7 @@ module _ (t u : TopologyDescription) (d : Diff) (different : difference t.server
 
     old-touched : (p q r : Bool) → p || q ≡ true → p || (q || r) ≡ true
     old-touched true q r e = refl
-    old-touched false q r e = or-first q r e
+    old-touched false q r e = or_left q r e
 
     pub plans-all : (o : Options) (m : ℕ) (pools : List PoolCore) (n : ℕ) (c0 c1 c2 c3 : List PoolChange) (f0 f1 f2 f3 f4 : List Fact)
         → PlansMore o m pools n (readies u d.changed) (map (server_changed o m t u) d.changed) [] [] c0 c1 f0 f1
@@ -100,13 +101,13 @@ module _ (t u : TopologyDescription) (d : Diff) (different : difference t.server
         let none : n + length {A = ServerAddress} [] ≡ n = omega arith in
         let one : PlansMore o m pools n old (A ++ B) d.removed [] c0 c2 f0 f2 =
         plans-then o m pools n n (readies u d.changed) (is_listed d.removed) old A B [] [] d.removed [] c0 c1 c2 f0 f1 f2 none (λ b e. cc) removed-apart
-        (λ b e. or-first (readies u d.changed b) (is_listed d.removed b) e) (λ b e. or-second (readies u d.changed b) (is_listed d.removed b) e) p q in
+        (λ b e. or_left (readies u d.changed b) (is_listed d.removed b) e) (λ b e. or_right (readies u d.changed b) (is_listed d.removed b) e) p q in
         let two : PlansMore o m pools n old ((A ++ B) ++ T) (d.removed ++ []) [] c0 c2 f0 f3 =
         plans-then o m pools n n old (λ b. false) old (A ++ B) T d.removed [] [] [] c0 c2 c2 f0 f2 f3 none (λ b e. refl) (λ b e. cc) (λ b e. e) (λ b e. cc) one r in
         let three : PlansMore o m pools n (touches u d) (((A ++ B) ++ T) ++ D) ((d.removed ++ []) ++ []) d.added c0 c3 f0 f4 =
         plans-then o m pools n n old (is_listed d.added) (touches u d) ((A ++ B) ++ T) D (d.removed ++ []) [] [] d.added c0 c2 c3 f0 f3 f4 none (λ b e. refl) added-apart
         (λ b e. old-touched (readies u d.changed b) (is_listed d.removed b) (is_listed d.added b) e)
-        (λ b e. or-second (readies u d.changed b) (is_listed d.removed b || is_listed d.added b) (or-second (is_listed d.removed b) (is_listed d.added b) e)) two s in
+        (λ b e. or_right (readies u d.changed b) (is_listed d.removed b || is_listed d.added b) (or_right (is_listed d.removed b) (is_listed d.added b) e)) two s in
         let gone : (d.removed ++ []) ++ [] ≡ d.removed = append-nil (d.removed ++ []) ∙ append-nil d.removed in
         let joined : ((A ++ B) ++ T) ++ D ≡ publication o m t u = append_assoc (A ++ B) T D ∙ ap (telling o m t u) (sym different) in
         subst (λ (parts : List (List Item → List Fact)). PlansMore o m pools n (touches u d) parts d.removed d.added c0 c3 f0 f4) joined

@@ -21,7 +21,7 @@ use Rattle.mdb_sound.specs.Laws.{IsOver}
 use Rattle.mdb_sound.specs.Sound.{Sound, was_closed, just_failed}
 use Rattle.mdb_sound.proofs.Acts.{Done, requests as asks, warms, gives_up, establishes, fails, returns, pins_one, replicates, takes, unpins, maintains, expires, readies, clears, shuts, tells}
 use Rattle.mdb_sound.proofs.Generations.{closed-for-good}
-use Rattle.mdb_sound.proofs.Rested.{Rested}
+use Rattle.mdb_pool_rules.specs.Rested.{Rested}
 use Rattle.mdb_laws.specs.CloseCauses.{failing, AllCaused}
 use Rattle.mdb_laws.proofs.OfCloses.Quiet.{caused-both, end-caused, ends-caused}
 use Rattle.mdb_laws.proofs.OfCloses.Backs.{returned-caused, given_up-caused, unpinned-caused, established-caused, requester-caused}

@@ -21,7 +21,7 @@ use Rattle.mdb_log.proofs.Later.{of_pool-with_facts}
 use Rattle.mdb_log.proofs.Numbers.{same-number}
 use Rattle.mdb_pool_rules.specs.Refusal.{first_row}
 use Rattle.mdb_sound.specs.Sound.{just_failed}
-use Rattle.mdb_sound.proofs.Rested.{Rested}
+use Rattle.mdb_pool_rules.specs.Rested.{Rested}
 use Rattle.mdb_driver_rules.specs.Description.{description_of, marking_rule, rule_after, is_stopped}
 use Rattle.mdb_driver_rules.specs.Errors.{Trouble, marks}
 use Rattle.mdb_driver_rules.specs.Facts.{trouble, clear_of, clearing, asking, own_facts, step_facts}

@@ -14,7 +14,7 @@ use Rattle.mdb_pool_rules.specs.Refusal.{first_row}
 use Rattle.mdb_pool_rules.specs.Facts.{clear_facts}
 use Rattle.mdb_sound.proofs.Acts.{Done}
 use Rattle.mdb_sound.proofs.Establishes.{calm-rested}
-use Rattle.mdb_sound.proofs.Rested.{Rested}
+use Rattle.mdb_pool_rules.specs.Rested.{Rested}
 use Rattle.mdb_sound.proofs.Served.{Fine}
 use Rattle.mdb_driver_rules.specs.Description.{description_of, rule_after}
 use Rattle.mdb_driver_rules.specs.Errors.{Clear, nothing, whole, only, Trouble}

@@ -2,6 +2,7 @@
 use Rattle.std.proofs.Common.{ℕ, ◌≡◌, true, false, not, ◌&&◌, ◌==◌, nat_lt, List, ◌∷◌, None, is_some, refl, sym, ◌∙◌, ap, subst, arith}
 use Rattle.std.specs.Prelude.{IfOk, Result}
 use Rattle.std.proofs.lemmas.Result.{IfOk-weaker}
+use Rattle.std.proofs.lemmas.Bool.{not-false}
 use Rattle.mdb_base.specs.declared.address.ServerAddress.{ServerAddress}
 use Rattle.mdb_base.specs.declared.error.Error.{Error}
 use Rattle.mdb_events.specs.declared.fact.Fact.{Fact}
@@ -19,7 +20,8 @@ use Rattle.mdb_describe.proofs.Addresses.{same-address}
 use Rattle.mdb_log.proofs.Numbers.{same-number}
 use Rattle.mdb_base.specs.Equality.{same_address}
 use Rattle.mdb_pool.specs.Core.{PoolCore}
-use Rattle.mdb_pool.specs.Kept.{request_at, connection_at, held_connection, is_open_now, is_asked_at, is_pending_at, is_held_at, is_shut, pins_at}
+use Rattle.mdb_pool.specs.Kept.Values.{request_at, connection_at, held_connection, is_asked_at, is_pending_at, is_held_at, is_shut, pins_at}
+use Rattle.mdb_pool.specs.Now.{is_open_now}
 use Rattle.mdb_pool_rules.specs.Refusal.{first_row, wrong_service}
 use Rattle.mdb_pool.specs.Refusing.{rows_now, refusal_now, is_here, is_pending_here, is_pinned_here}
 use Rattle.mdb_pool.specs.Planning.{Does, with_item}
@@ -27,7 +29,7 @@ use Rattle.mdb_pool.specs.Standing.{Fits, Accepts}
 use Rattle.mdb_pool.proofs.Answered.Act.{no-some, holds-given}
 use Rattle.mdb_pool.proofs.Answered.GiveUp.{open-known}
 use Rattle.mdb_pool_rules.proofs.FirstRow.{first-passes, one-passes, two-pass, three-pass}
-use Rattle.mdb_log.proofs.Bools.{not-false, both-true}
+use Rattle.mdb_log.proofs.Bools.{both-true}
 use Rattle.mdb_pool.proofs.Follows.Fits.{asked-known}
 
 -- what the calls want

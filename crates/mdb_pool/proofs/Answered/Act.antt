@@ -22,12 +22,13 @@ use Rattle.mdb_pool_rules.specs.Refusal.{refusal_of}
 use Rattle.mdb_pool_rules.specs.Facts.{act_facts}
 use Rattle.mdb_pool_rules.specs.Answer.{all_facts, reply_of, answer, answered}
 use Rattle.mdb_pool_rules.specs.Serving.{serving, IsServed}
-use Rattle.mdb_pool.specs.Standing.{Fits, StandsFor, Serves, Accepts, Answers, SameHome}
-use Rattle.mdb_pool.specs.Matching.{Matches}
-use Rattle.mdb_pool.specs.Kept.{connection_at, request_at, held_connection, outcome_now, is_pending_at, given_of, given_in, holder_at, if_held, end_at, is_shut, pins_at}
+use Rattle.mdb_pool.specs.Standing.{Fits, StandsFor, Accepts, Answers, SameHome}
+use Rattle.mdb_pool.specs.Acts.Doing.{Serves}
+use Rattle.mdb_pool.specs.Kept.Matching.{Matches}
+use Rattle.mdb_pool.specs.Kept.Values.{connection_at, request_at, held_connection, outcome_now, is_pending_at, given_of, given_in, holder_at, if_held, end_at, is_shut, pins_at}
 use Rattle.mdb_log.specs.Legal.{IsFairAnswer, NoneLeftWaiting, AllFirstCome}
 use Rattle.mdb_log.specs.Own.{IsAccepted, AllOwn, shuts}
-use Rattle.mdb_pool.specs.Places.{is_pending, is_held, is_available, is_at_pin}
+use Rattle.mdb_pool.specs.Kept.Places.{is_pending, is_held, is_available, is_at_pin}
 use Rattle.mdb_pool_rules.proofs.Listed.Values.{has-where, passes, entry_at-key}
 use Rattle.mdb_pool.proofs.Listed.FirstOrLast.{id_or}
 use Rattle.mdb_pool_rules.proofs.Fair.{fair-append, serve-fair, own-append, serve-own, with-serve, size}

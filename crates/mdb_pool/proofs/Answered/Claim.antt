@@ -12,13 +12,14 @@ use Rattle.mdb_pool.proofs.Listed.Noted.{has-marked}
 use Rattle.mdb_log.proofs.Numbers.{same-number}
 use Rattle.mdb_pool.proofs.Follows.Fits.{noted-fits}
 use Rattle.mdb_pool_rules.specs.Answer.{first_job}
-use Rattle.mdb_pool.specs.Changes.{claiming}
+use Rattle.mdb_pool.specs.Acts.Changes.{claiming}
 use Rattle.mdb_log.specs.Connections.{has}
 use Rattle.mdb_log.specs.History.{PoolItem}
-use Rattle.mdb_pool.specs.Kept.{first_unclaimed, job_now, ids_where, is_shut}
+use Rattle.mdb_pool.specs.Kept.Values.{first_unclaimed, job_now, ids_where, is_shut}
 use Rattle.mdb_log.specs.Own.{IsAccepted}
-use Rattle.mdb_pool.specs.Places.{is_pending}
-use Rattle.mdb_pool.specs.Standing.{Fits, SameHome, SameNotes, Serves, Accepts}
+use Rattle.mdb_pool.specs.Kept.Places.{is_pending}
+use Rattle.mdb_pool.specs.Standing.{Fits, SameHome, Accepts}
+use Rattle.mdb_pool.specs.Acts.Doing.{SameNotes, Serves}
 use Rattle.mdb_log.specs.Requests.{settles, is_job}
 
 abbrev pub job_of : ℕ → Option Connection → Reply

@@ -17,15 +17,16 @@ use Rattle.mdb_log.specs.Connections.{has, pending_list, available_list, known_s
 use Rattle.mdb_log.specs.Requests.{requests, is_unserved, queued, end_of}
 use Rattle.mdb_log.specs.State.{state_of}
 use Rattle.mdb_pool_rules.specs.Facts.{all_ends, close_facts, closed_fact, pool_closed_fact}
-use Rattle.mdb_pool.specs.Kept.{connection_at, request_at, given_in, given_of, end_in, end_at, state_in, is_shut, unserved_in, holder_at, is_asked_at, numbers_asked}
-use Rattle.mdb_pool.specs.Places.{is_pending, is_available, is_queued}
+use Rattle.mdb_pool.specs.Kept.Values.{connection_at, request_at, given_in, given_of, end_in, end_at, state_in, is_shut, unserved_in, holder_at, is_asked_at, numbers_asked}
+use Rattle.mdb_pool.specs.Kept.Places.{is_pending, is_available, is_queued}
 use Rattle.std.specs.List.{filter_map}
 use Rattle.mdb_pool.proofs.Turns.EndUnserved.{found-unserved, all-ended}
-use Rattle.mdb_pool.specs.Ended.{ended_all}
-use Rattle.mdb_pool.specs.Changes.{closing, closing_facts, shut_facts, off_facts, available_ones, pending_ones, unserved_ones, over_facts}
+use Rattle.mdb_pool.specs.Acts.Ended.{ended_all}
+use Rattle.mdb_pool.specs.Acts.Changes.{closing, closing_facts, shut_facts, off_facts, available_ones, pending_ones, unserved_ones, over_facts}
 use Rattle.mdb_log.specs.Legal.{AllFirstCome}
 use Rattle.mdb_log.specs.Own.{AllOwn, shuts}
-use Rattle.mdb_pool.specs.Standing.{Fits, Serves, Accepts, SameHome, SameNotes}
+use Rattle.mdb_pool.specs.Standing.{Fits, Accepts, SameHome}
+use Rattle.mdb_pool.specs.Acts.Doing.{Serves, SameNotes}
 use Rattle.mdb_pool_rules.proofs.Listed.Values.{In, here, there, passes, has-where, member-at, one_if-le}
 use Rattle.mdb_pool.proofs.Answered.Act.{accepts, live-service, pending-is}
 use Rattle.mdb_log.proofs.Numbers.{same-number}
@@ -36,7 +37,7 @@ use Rattle.mdb_pool.proofs.Follows.Serving.{queued-known}
 use Rattle.mdb_log.proofs.Frame.{asked-facts}
 use Rattle.mdb_pool_rules.proofs.Fair.{fair-append, own-append}
 use Rattle.mdb_pool.proofs.Turns.EndFacts.{over-is, over-known, over-fair, over-own}
-use Rattle.mdb_pool.proofs.Turns.CloseMany.{closings, endings}
+use Rattle.mdb_pool_rules.proofs.ManyClosed.{closings, endings}
 use Rattle.mdb_pool.proofs.Follows.Closing.{id_of, number_of, shut_ids, over_numbers, shut_items, close-fits}
 
 -- a part of the list is of the list

@@ -8,12 +8,13 @@ use Rattle.mdb_pool.proofs.Answered.Act.{outcome-is, outcome-accepted, outcome-n
 use Rattle.std.proofs.Math.Bool.{or-false}
 use Rattle.mdb_pool.proofs.Answered.Request.{telling-settled, telling-fits}
 use Rattle.mdb_pool.proofs.Follows.Fits.{noted-fits}
-use Rattle.mdb_pool.specs.Changes.{telling}
+use Rattle.mdb_pool.specs.Acts.Changes.{telling}
 use Rattle.mdb_log.specs.Connections.{has}
 use Rattle.mdb_log.specs.History.{PoolItem}
-use Rattle.mdb_pool.specs.Kept.{outcome_now, is_shut}
+use Rattle.mdb_pool.specs.Kept.Values.{outcome_now, is_shut}
 use Rattle.mdb_log.specs.Requests.{outcome_of, is_outcome}
-use Rattle.mdb_pool.specs.Standing.{Fits, SameHome, SameNotes, Serves, Accepts}
+use Rattle.mdb_pool.specs.Standing.{Fits, SameHome, Accepts}
+use Rattle.mdb_pool.specs.Acts.Doing.{SameNotes, Serves}
 
 -- an open request
 pub collect-accepts : (s s1 t u : PoolCore) (before after : List Fact) (n r : ℕ) (reply : Reply) (xs : List PoolItem) → Fits s xs

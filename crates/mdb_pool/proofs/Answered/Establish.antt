@@ -19,16 +19,17 @@ use Rattle.mdb_log.specs.Own.{shuts}
 use Rattle.mdb_pool_rules.proofs.Fair.{fair-append, own-append, shut-append}
 use Rattle.mdb_log.proofs.Frame.{asked-facts}
 use Rattle.mdb_pool.proofs.Answered.Fail.{holder-some, holder-none}
-use Rattle.mdb_pool.specs.Standing.{Fits, Serves, Accepts, SameHome, SameNotes}
-use Rattle.mdb_pool.specs.Kept.{connection_at, request_at, asked_at_of, warm_of, given_in, given_of, holder_at, holder_request, is_shut, reason_now}
-use Rattle.mdb_pool.specs.Changes.{establishing, pooling, back_facts, forgetting, pooling_for, filling_for, parting, ending}
+use Rattle.mdb_pool.specs.Standing.{Fits, Accepts, SameHome}
+use Rattle.mdb_pool.specs.Acts.Doing.{Serves, SameNotes}
+use Rattle.mdb_pool.specs.Kept.Values.{connection_at, request_at, asked_at_of, warm_of, given_in, given_of, holder_at, holder_request, is_shut, reason_now}
+use Rattle.mdb_pool.specs.Acts.Changes.{establishing, pooling, back_facts, forgetting, pooling_for, filling_for, parting, ending}
 use Rattle.mdb_pool.proofs.Answered.Act.{accepts, live-errored, live-dropped, given-open}
 use Rattle.mdb_pool_rules.proofs.Listed.Values.{entry_at-key, entry_at-swap, others-swap}
 use Rattle.mdb_log.proofs.Numbers.{same-number}
 use Rattle.mdb_pool.proofs.Follows.Fits.{establish-fits, pool-fits, pool-drop-fits, rest-fits, part-fits, skip-fits, late-end-fits, late-end-fits_closed, late-end-fits_skipped, asked-known}
 use Rattle.mdb_log.specs.Connections.{has, held, granted_to, service_of, known_service}
 use Rattle.mdb_log.specs.Requests.{end_of}
-use Rattle.mdb_pool.specs.Places.{is_pending}
+use Rattle.mdb_pool.specs.Kept.Places.{is_pending}
 use Rattle.mdb_events.specs.declared.reasons.ConnectionClosedReason.{ConnectionClosedReason}
 use Rattle.mdb_pool.proofs.Follows.CheckIn.{check-in-is, back-fair, back-own, back-open, back-fits}
 use Rattle.mdb_pool.proofs.Follows.Stale.{live-created, stale-in}

@@ -8,11 +8,12 @@ use Rattle.mdb_pool.specs.Core.{PoolCore}
 use Rattle.mdb_log.specs.History.{PoolItem, after_facts}
 use Rattle.mdb_log.specs.Connections.{has}
 use Rattle.mdb_pool_rules.specs.Facts.{all_ends, overdue}
-use Rattle.mdb_pool.specs.Kept.{is_shut}
-use Rattle.mdb_pool.specs.Standing.{Fits, Serves, Expires, Accepts, SameHome, SameNotes}
+use Rattle.mdb_pool.specs.Kept.Values.{is_shut}
+use Rattle.mdb_pool.specs.Standing.{Fits, Accepts, SameHome}
+use Rattle.mdb_pool.specs.Acts.Doing.{Serves, Expires, SameNotes}
 use Rattle.mdb_pool.proofs.Answered.Act.{accepts}
 use Rattle.mdb_pool.proofs.Follows.Fits.{later-fits}
-use Rattle.mdb_pool.proofs.Answered.Clear.{ends-fair, ends-own, ends-open}
+use Rattle.mdb_pool_rules.proofs.ClearFacts.{ends-fair, ends-own, ends-open}
 use Rattle.mdb_pool.proofs.Turns.ExpireMany.{overdue-asked}
 
 pub expire-accepts : (s s0 s1 t : PoolCore) (before f1 after : List Fact) (n : ℕ) (xs : List PoolItem) → Fits s xs → s0 ≡ record s { last = n }

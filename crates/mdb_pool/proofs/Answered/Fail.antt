@@ -13,9 +13,10 @@ use Rattle.mdb_pool.specs.declared.kept.request.Request.{Request}
 use Rattle.mdb_pool.specs.Core.{PoolCore}
 use Rattle.mdb_log.specs.History.{PoolItem, failed, closed, ended, after_fact, after_facts, has_asked, service_in}
 use Rattle.mdb_pool_rules.specs.Facts.{act_facts, closed_fact}
-use Rattle.mdb_pool.specs.Standing.{Fits, Serves, Accepts, SameHome, SameNotes}
-use Rattle.mdb_pool.specs.Kept.{connection_at, request_at, given_of, holder_at, holder_request, is_shut}
-use Rattle.mdb_pool.specs.Changes.{failing, forgetting, over_facts}
+use Rattle.mdb_pool.specs.Standing.{Fits, Accepts, SameHome}
+use Rattle.mdb_pool.specs.Acts.Doing.{Serves, SameNotes}
+use Rattle.mdb_pool.specs.Kept.Values.{connection_at, request_at, given_of, holder_at, holder_request, is_shut}
+use Rattle.mdb_pool.specs.Acts.Changes.{failing, forgetting, over_facts}
 use Rattle.mdb_pool.proofs.Answered.Act.{accepts, live-service, given-open}
 use Rattle.mdb_pool_rules.proofs.Listed.Values.{entry_at-key}
 use Rattle.mdb_pool.proofs.Turns.EndFacts.{over-is, over-known, over-fair, over-own, over-open}
@@ -23,7 +24,7 @@ use Rattle.mdb_log.proofs.Numbers.{same-number}
 use Rattle.mdb_pool.proofs.Follows.Fits.{fail-fits, forget-fits, asked-known}
 use Rattle.mdb_log.specs.Connections.{has, held}
 use Rattle.mdb_log.specs.Requests.{end_of}
-use Rattle.mdb_pool.specs.Places.{is_pending, stays}
+use Rattle.mdb_pool.specs.Kept.Places.{is_pending, stays}
 
 -- a pending connection
 module _ (s : PoolCore) (xs : List PoolItem) (z : Fits s xs) (n : ℕ) (x : Connection) (at : FailedAt) (error : Error) where

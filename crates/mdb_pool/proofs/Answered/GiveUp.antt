@@ -16,13 +16,15 @@ use Rattle.mdb_pool.specs.declared.kept.request.Phase.{Phase}
 use Rattle.mdb_pool.specs.declared.kept.request.Phase.TheVariants.{Queued, Given, Over, Ended as EndedPhase}
 use Rattle.mdb_pool.specs.Core.{PoolCore}
 use Rattle.mdb_log.specs.History.{PoolItem, given, has_asked, after_facts, gave_up, closed, checked_in, ended, after_fact}
-use Rattle.mdb_pool.specs.Kept.{connection_at, request_at, given_in, given_of, end_in, end_at, is_ended_at, held_connection, pending_connection, is_open_now, is_pending_at, outcome_now, is_shut, reason_now, used_as, is_asked_at}
+use Rattle.mdb_pool.specs.Kept.Values.{connection_at, request_at, given_in, given_of, end_in, end_at, is_ended_at, held_connection, pending_connection, is_pending_at, outcome_now, is_shut, reason_now, used_as, is_asked_at}
+use Rattle.mdb_pool.specs.Now.{is_open_now}
 use Rattle.mdb_log.specs.Requests.{end_of, told}
 use Rattle.mdb_pool_rules.specs.Facts.{act_facts}
-use Rattle.mdb_pool.specs.Standing.{Fits, SameHome, SameNotes, Serves, Accepts}
+use Rattle.mdb_pool.specs.Standing.{Fits, SameHome, Accepts}
+use Rattle.mdb_pool.specs.Acts.Doing.{SameNotes, Serves}
 use Rattle.mdb_log.specs.Connections.{has, pending_list, held}
-use Rattle.mdb_pool.specs.Places.{is_pending}
-use Rattle.mdb_pool.specs.Changes.{quitting, leaving, handing, back_facts, losing, handing_for, to_pin}
+use Rattle.mdb_pool.specs.Kept.Places.{is_pending}
+use Rattle.mdb_pool.specs.Acts.Changes.{quitting, leaving, handing, back_facts, losing, handing_for, to_pin}
 use Rattle.mdb_log.specs.Legal.{AllFirstCome}
 use Rattle.mdb_log.specs.Own.{AllOwn, shuts}
 use Rattle.mdb_pool.proofs.Answered.Return.{none-above, some-above}
@@ -32,7 +34,7 @@ use Rattle.mdb_pool.proofs.Follows.Fits.{quit-fits, leave-fits, hand-fits, late-
 use Rattle.mdb_pool_rules.proofs.Listed.Values.{entry_at-key}
 use Rattle.std.proofs.Math.Bool.{or_comm}
 use Rattle.mdb_pool.proofs.Listed.Noted.{has-marked}
-use Rattle.mdb_pool.specs.Keyed.{marked}
+use Rattle.mdb_pool.specs.Kept.Keyed.{marked}
 use Rattle.mdb_log.proofs.Numbers.{same-number}
 use Rattle.mdb_pool.proofs.Answered.Act.{accepts, pending-is, holding-is, outcome-is, outcome-accepted, outcome-no-job, live-errored, live-service, live-pins}
 use Rattle.mdb_pool.proofs.Follows.CheckIn.{check-in-is, back-fair, back-own, back-open, back-fits}

@@ -1,6 +1,7 @@
 -- What a pool knows with an act that it accepts.
 use Rattle.std.proofs.Common.{ℕ, ◌≡◌, Bool, true, false, ◌||◌, ◌==◌, List, [], ◌∷◌, None, is_some, refl, ◌∙◌, not, nat_lt}
 use Rattle.std.proofs.Math.Bool.{or_assoc}
+use Rattle.std.proofs.lemmas.Bool.{not-false}
 use Rattle.mdb_base.specs.declared.address.ServerAddress.{ServerAddress}
 use Rattle.mdb_log.specs.declared.step.Act.{Act}
 use Rattle.mdb_log.specs.declared.step.Act.TheVariants.{Open, Request, Warm, Collect, Claim, GiveUp, Established, Failed, Return, Pin, Replicate, Take, Unpin, Error, Hello, Beat, Beaten, Rtt, Hosts, ClusterTime, Want, Unwant, Stop, Maintain, Expire, Ready, Clear, Close}
@@ -10,13 +11,13 @@ use Rattle.mdb_log.specs.History.{Item, PoolItem, after_act, gave_up, given, fai
 use Rattle.mdb_log.specs.Requests.{names_party, was_asked}
 use Rattle.mdb_log.proofs.Numbers.{same-number}
 use Rattle.mdb_pool.specs.Core.{PoolCore}
-use Rattle.mdb_pool.specs.Kept.{request_at, connection_at, is_held_at, pins_at}
+use Rattle.mdb_pool.specs.Kept.Values.{request_at, connection_at, is_held_at, pins_at}
 use Rattle.mdb_pool_rules.specs.Refusal.{first_row}
 use Rattle.mdb_pool.specs.Refusing.{rows_now, is_here, is_pinned_here}
 use Rattle.mdb_pool.specs.Planning.{with_item}
 use Rattle.mdb_pool.specs.Standing.{StandsFor}
 use Rattle.mdb_pool.proofs.Answered.Refusal.{here-is}
-use Rattle.mdb_log.proofs.Bools.{both-true, not-false}
+use Rattle.mdb_log.proofs.Bools.{both-true}
 use Rattle.mdb_pool_rules.proofs.FirstRow.{three-pass, two-pass}
 
 or-swap : (a b d : Bool) → a || (b || d) ≡ b || (a || d)

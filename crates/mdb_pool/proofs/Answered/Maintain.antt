@@ -9,13 +9,14 @@ use Rattle.mdb_log.specs.Connections.{has, available_list}
 use Rattle.mdb_log.specs.State.{min_size}
 use Rattle.mdb_pool_rules.specs.Facts.{sweep, fill}
 use Rattle.mdb_log.specs.Own.{shuts}
-use Rattle.mdb_pool.specs.Kept.{is_shut}
-use Rattle.mdb_pool.specs.Standing.{Fits, Serves, Sweeps, Fills, Accepts, SameHome, SameNotes}
+use Rattle.mdb_pool.specs.Kept.Values.{is_shut}
+use Rattle.mdb_pool.specs.Standing.{Fits, Accepts, SameHome}
+use Rattle.mdb_pool.specs.Acts.Doing.{Serves, Sweeps, Fills, SameNotes}
 use Rattle.mdb_pool.proofs.Answered.Act.{accepts}
 use Rattle.mdb_log.proofs.Later.{after-append}
 use Rattle.mdb_pool.proofs.Follows.Fits.{later-fits}
 use Rattle.mdb_pool_rules.proofs.Fair.{fair-append, own-append, shut-append}
-use Rattle.mdb_pool.proofs.Turns.MaintainMany.{sweep-fair, sweep-own, sweep-open, fill-fair, fill-own, fill-open}
+use Rattle.mdb_pool_rules.proofs.SweepAndFill.{sweep-fair, sweep-own, sweep-open, fill-fair, fill-own, fill-open}
 
 pub maintain-accepts : (s s0 s1 s2 t : PoolCore) (before f1 f2 after : List Fact) (n : ℕ) (xs : List PoolItem) → Fits s xs → s0 ≡ record s { last = n }
     → SameHome s0 s1 → SameNotes s0 s1 → ((k : List PoolItem) → Fits s0 k → Sweeps s0 s1 n before f1 k)

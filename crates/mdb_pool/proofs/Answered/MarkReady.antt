@@ -10,11 +10,12 @@ use Rattle.mdb_log.specs.History.{PoolItem, after_facts}
 use Rattle.mdb_log.specs.Connections.{has}
 use Rattle.mdb_pool_rules.specs.Facts.{readied, pool_ready_fact}
 use Rattle.mdb_log.specs.State.{state_of}
-use Rattle.mdb_pool.specs.Kept.{state_in, is_shut, is_ready_now}
-use Rattle.mdb_pool.specs.Changes.{readied_to, readied_facts}
+use Rattle.mdb_pool.specs.Kept.Values.{state_in, is_shut, is_ready_now}
+use Rattle.mdb_pool.specs.Acts.Changes.{readied_to, readied_facts}
 use Rattle.mdb_log.specs.Legal.{AllFirstCome}
 use Rattle.mdb_log.specs.Own.{AllOwn, shuts}
-use Rattle.mdb_pool.specs.Standing.{Fits, Serves, Accepts, SameHome, SameNotes}
+use Rattle.mdb_pool.specs.Standing.{Fits, Accepts, SameHome}
+use Rattle.mdb_pool.specs.Acts.Doing.{Serves, SameNotes}
 use Rattle.mdb_pool.proofs.Answered.Act.{accepts}
 use Rattle.mdb_log.proofs.Numbers.{same-number}
 use Rattle.mdb_pool.proofs.Follows.Fits.{later-fits, ready-fits}

@@ -9,11 +9,12 @@ use Rattle.mdb_pool.specs.declared.kept.request.Request.{Request}
 use Rattle.mdb_pool.specs.Core.{PoolCore}
 use Rattle.mdb_log.specs.History.{PoolItem, pinned_by, replicated}
 use Rattle.mdb_log.specs.Connections.{has}
-use Rattle.mdb_pool.specs.Standing.{Fits, Serves, Accepts, SameHome, SameNotes}
-use Rattle.mdb_pool.specs.Matching.{Matches}
-use Rattle.mdb_pool.specs.Kept.{connection_at, request_at, held_connection, given_of, given_in, is_shut, pins_at}
-use Rattle.mdb_pool.specs.Places.{stays}
-use Rattle.mdb_pool.specs.Changes.{pinning}
+use Rattle.mdb_pool.specs.Standing.{Fits, Accepts, SameHome}
+use Rattle.mdb_pool.specs.Acts.Doing.{Serves, SameNotes}
+use Rattle.mdb_pool.specs.Kept.Matching.{Matches}
+use Rattle.mdb_pool.specs.Kept.Values.{connection_at, request_at, held_connection, given_of, given_in, is_shut, pins_at}
+use Rattle.mdb_pool.specs.Kept.Places.{stays}
+use Rattle.mdb_pool.specs.Acts.Changes.{pinning}
 use Rattle.mdb_pool.proofs.Answered.Act.{accepts}
 use Rattle.mdb_pool.proofs.Listed.FirstOrLast.{Holder, holder}
 use Rattle.mdb_pool_rules.proofs.Listed.Values.{entry_at-key}

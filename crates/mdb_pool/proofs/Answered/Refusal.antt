@@ -15,7 +15,8 @@ use Rattle.mdb_log.specs.Requests.{some_act, names_party, is_open}
 use Rattle.mdb_log.proofs.Numbers.{same-number}
 use Rattle.mdb_pool.specs.declared.kept.connection.Connection.{Connection}
 use Rattle.mdb_pool.specs.Core.{PoolCore}
-use Rattle.mdb_pool.specs.Kept.{request_at, held_connection, is_open_now, is_shut, pins_at}
+use Rattle.mdb_pool.specs.Kept.Values.{request_at, held_connection, is_shut, pins_at}
+use Rattle.mdb_pool.specs.Now.{is_open_now}
 use Rattle.mdb_pool_rules.specs.Refusal.{first_row, rows_of, refusal_of}
 use Rattle.mdb_pool.specs.Refusing.{is_here, rows_now, refusal_now}
 use Rattle.mdb_pool.specs.Standing.{StandsFor}

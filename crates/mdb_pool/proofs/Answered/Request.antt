@@ -15,14 +15,15 @@ use Rattle.mdb_log.specs.declared.reply.Reply.TheVariants.{Pooled}
 use Rattle.mdb_pool.specs.Core.{PoolCore}
 use Rattle.mdb_log.specs.History.{PoolItem, asked, after_facts}
 use Rattle.mdb_log.specs.Requests.{outcome_of, is_outcome}
-use Rattle.mdb_pool.specs.Standing.{Fits, Serves, Accepts, SameHome, SameNotes}
-use Rattle.mdb_pool.specs.Kept.{connection_at, request_at, outcome_now, state_in, is_shut, is_ready_now, first_queued, last_available, perished_now, ready_connection, candidate_now, blocked_now}
-use Rattle.mdb_pool.specs.Places.{is_queued}
-use Rattle.mdb_pool.specs.Changes.{asking, telling, away_end, away_facts, away, handed, granting, granting_at_once, met, meeting, meeting_facts}
+use Rattle.mdb_pool.specs.Standing.{Fits, Accepts, SameHome}
+use Rattle.mdb_pool.specs.Acts.Doing.{Serves, SameNotes}
+use Rattle.mdb_pool.specs.Kept.Values.{connection_at, request_at, outcome_now, state_in, is_shut, is_ready_now, first_queued, last_available, perished_now, ready_connection, candidate_now, blocked_now}
+use Rattle.mdb_pool.specs.Kept.Places.{is_queued}
+use Rattle.mdb_pool.specs.Acts.Changes.{asking, telling, away_end, away_facts, away, handed, granting, granting_at_once, met, meeting, meeting_facts}
 use Rattle.mdb_pool.proofs.Answered.Act.{accepts, outcome-is, outcome-accepted, outcome-no-job}
 use Rattle.std.proofs.Math.Bool.{and-false, and-true, or-false, or_comm}
 use Rattle.mdb_pool.proofs.Listed.Noted.{has-marked}
-use Rattle.mdb_pool.specs.Keyed.{marked}
+use Rattle.mdb_pool.specs.Kept.Keyed.{marked}
 use Rattle.mdb_log.proofs.Numbers.{same-number}
 use Rattle.mdb_pool.proofs.Follows.Fits.{ask-fits, noted-fits, end-fits}
 use Rattle.mdb_log.specs.Connections.{has}

@@ -13,16 +13,17 @@ use Rattle.mdb_pool.specs.declared.kept.request.Phase.TheVariants.{Given, Over}
 use Rattle.mdb_pool.specs.Core.{PoolCore}
 use Rattle.mdb_log.specs.History.{PoolItem, returned, given, after_facts, closed, checked_in}
 use Rattle.mdb_pool_rules.specs.Facts.{act_facts, check_in}
-use Rattle.mdb_pool.specs.Standing.{Fits, Serves, Accepts, SameHome, SameNotes}
-use Rattle.mdb_pool.specs.Kept.{connection_at, request_at, held_connection, given_of, given_in, is_shut, reason_now, used_as}
+use Rattle.mdb_pool.specs.Standing.{Fits, Accepts, SameHome}
+use Rattle.mdb_pool.specs.Acts.Doing.{Serves, SameNotes}
+use Rattle.mdb_pool.specs.Kept.Values.{connection_at, request_at, held_connection, given_of, given_in, is_shut, reason_now, used_as}
 use Rattle.mdb_log.specs.Connections.{is_fault, has, held, is_errored}
-use Rattle.mdb_pool.specs.Changes.{returning, dropping, back_facts, returning_for, to_pin}
+use Rattle.mdb_pool.specs.Acts.Changes.{returning, dropping, back_facts, returning_for, to_pin}
 use Rattle.mdb_pool.proofs.Answered.Act.{accepts, holding-is, live-errored, live-service, live-pins}
 use Rattle.mdb_pool_rules.proofs.Listed.Values.{entry_at-key}
 use Rattle.mdb_pool.proofs.Listed.FirstOrLast.{Holder, holder}
 use Rattle.std.proofs.Math.Bool.{or_comm}
 use Rattle.mdb_pool.proofs.Listed.Noted.{has-marked}
-use Rattle.mdb_pool.specs.Keyed.{marked}
+use Rattle.mdb_pool.specs.Kept.Keyed.{marked}
 use Rattle.mdb_log.proofs.Numbers.{same-number}
 use Rattle.mdb_pool.proofs.Follows.Fits.{return-fits, drop-fits}
 use Rattle.mdb_pool.proofs.Follows.PinsFit.{stand-fits}

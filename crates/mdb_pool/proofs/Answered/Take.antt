@@ -9,10 +9,11 @@ use Rattle.mdb_pool.specs.declared.kept.connection.Place.TheVariants.{Pending, A
 use Rattle.mdb_pool.specs.Core.{PoolCore}
 use Rattle.mdb_log.specs.History.{PoolItem, taken}
 use Rattle.mdb_log.specs.Connections.{has, held}
-use Rattle.mdb_pool.specs.Standing.{Fits, Serves, Accepts, SameHome, SameNotes}
-use Rattle.mdb_pool.specs.Kept.{connection_at, request_at, is_shut, pins_at, is_held_at, is_pending_at, holder_at, one_party}
-use Rattle.mdb_pool.specs.Places.{is_available, is_held, is_at_pin, stays}
-use Rattle.mdb_pool.specs.Changes.{taking}
+use Rattle.mdb_pool.specs.Standing.{Fits, Accepts, SameHome}
+use Rattle.mdb_pool.specs.Acts.Doing.{Serves, SameNotes}
+use Rattle.mdb_pool.specs.Kept.Values.{connection_at, request_at, is_shut, pins_at, is_held_at, is_pending_at, holder_at, one_party}
+use Rattle.mdb_pool.specs.Kept.Places.{is_available, is_held, is_at_pin, stays}
+use Rattle.mdb_pool.specs.Acts.Changes.{taking}
 use Rattle.mdb_pool.proofs.Answered.Act.{accepts, pending-is, no-some}
 use Rattle.mdb_pool.proofs.Answered.Pin.{pinned-at, pinned-outside}
 use Rattle.mdb_pool.proofs.Follows.PinsFit.{take-fits}

@@ -11,10 +11,11 @@ use Rattle.mdb_pool.specs.Core.{PoolCore}
 use Rattle.mdb_log.specs.History.{PoolItem, unpinned, after_facts, closed, checked_in}
 use Rattle.mdb_pool_rules.specs.Facts.{act_facts}
 use Rattle.mdb_log.specs.Connections.{has, pins, is_pinned}
-use Rattle.mdb_pool.specs.Standing.{Fits, Serves, Accepts, SameHome, SameNotes}
-use Rattle.mdb_pool.specs.Kept.{connection_at, is_shut, pins_at, is_pinned_at, reason_now}
-use Rattle.mdb_pool.specs.Places.{is_at_pin}
-use Rattle.mdb_pool.specs.Changes.{unpinning, pin_ending, back_facts}
+use Rattle.mdb_pool.specs.Standing.{Fits, Accepts, SameHome}
+use Rattle.mdb_pool.specs.Acts.Doing.{Serves, SameNotes}
+use Rattle.mdb_pool.specs.Kept.Values.{connection_at, is_shut, pins_at, is_pinned_at, reason_now}
+use Rattle.mdb_pool.specs.Kept.Places.{is_at_pin}
+use Rattle.mdb_pool.specs.Acts.Changes.{unpinning, pin_ending, back_facts}
 use Rattle.mdb_pool.proofs.Answered.Act.{accepts, live-errored, live-dropped, live-service, live-pins}
 use Rattle.mdb_pool.proofs.Follows.CheckIn.{check-in-is, back-fair, back-own, back-open, back-fits}
 use Rattle.mdb_pool.proofs.Follows.Stale.{stale-at}

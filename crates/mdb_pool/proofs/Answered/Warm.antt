@@ -11,9 +11,10 @@ use Rattle.mdb_log.specs.declared.reply.Reply.{Reply}
 use Rattle.mdb_pool.specs.Core.{PoolCore}
 use Rattle.mdb_log.specs.History.{PoolItem, warmed, after_facts}
 use Rattle.mdb_log.specs.Requests.{outcome_of, is_outcome}
-use Rattle.mdb_pool.specs.Standing.{Fits, Serves, Accepts, SameHome, SameNotes}
-use Rattle.mdb_pool.specs.Kept.{request_at, outcome_now, state_in, is_shut}
-use Rattle.mdb_pool.specs.Changes.{asking, telling, away_end, away_facts, away}
+use Rattle.mdb_pool.specs.Standing.{Fits, Accepts, SameHome}
+use Rattle.mdb_pool.specs.Acts.Doing.{Serves, SameNotes}
+use Rattle.mdb_pool.specs.Kept.Values.{request_at, outcome_now, state_in, is_shut}
+use Rattle.mdb_pool.specs.Acts.Changes.{asking, telling, away_end, away_facts, away}
 use Rattle.mdb_pool.proofs.Answered.Act.{accepts, outcome-is, outcome-accepted, outcome-no-job}
 use Rattle.mdb_log.proofs.Numbers.{same-number}
 use Rattle.mdb_pool.proofs.Follows.Fits.{warm-fits, end-fits}

@@ -7,9 +7,9 @@ use Rattle.mdb_log.specs.History.{PoolItem}
 use Rattle.mdb_pool.specs.declared.kept.connection.Connection.{Connection}
 use Rattle.mdb_pool_rules.specs.Available.{available_records}
 use Rattle.mdb_pool.specs.Core.{PoolCore}
-use Rattle.mdb_pool.specs.Kept.{connection_in, ids_where, lasts_in, service_at}
-use Rattle.mdb_pool.specs.Matching.{Matches}
-use Rattle.mdb_pool.specs.Places.{is_available}
+use Rattle.mdb_pool.specs.Kept.Values.{connection_in, ids_where, lasts_in, service_at}
+use Rattle.mdb_pool.specs.Kept.Matching.{Matches}
+use Rattle.mdb_pool.specs.Kept.Places.{is_available}
 use Rattle.mdb_pool_rules.proofs.Listed.Values.{In, here, there, member-at, one_if-le}
 
 abbrev stands_available : Connection → Bool

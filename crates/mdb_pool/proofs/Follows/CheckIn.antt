@@ -9,8 +9,8 @@ use Rattle.mdb_log.specs.History.{PoolItem, closed, checked_in, after_facts}
 use Rattle.mdb_log.specs.State.{state_of, is_stale}
 use Rattle.mdb_log.specs.Connections.{known_service, last_use, is_errored, is_dropped}
 use Rattle.mdb_pool_rules.specs.Facts.{check_in, close_reason, closes, checked_in_fact}
-use Rattle.mdb_pool.specs.Kept.{state_in, is_shut, stale_for, reason_of, reason_now}
-use Rattle.mdb_pool.specs.Changes.{back_facts}
+use Rattle.mdb_pool.specs.Kept.Values.{state_in, is_shut, stale_for, reason_of, reason_now}
+use Rattle.mdb_pool.specs.Acts.Changes.{back_facts}
 use Rattle.mdb_log.specs.Legal.{AllFirstCome}
 use Rattle.mdb_log.specs.Own.{AllOwn, shuts}
 use Rattle.mdb_pool.specs.Standing.{Fits}

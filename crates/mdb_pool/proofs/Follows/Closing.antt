@@ -13,15 +13,15 @@ use Rattle.mdb_pool.specs.Core.{PoolCore}
 use Rattle.mdb_log.specs.History.{PoolItem, pool_closed, given}
 use Rattle.mdb_log.specs.Connections.{one_if, has, live, live_total, pending_list, available_list, parties, service_of, known_service, is_errored, is_dropped, last_use, wire_of}
 use Rattle.mdb_log.specs.Requests.{queued, end_of}
-use Rattle.mdb_pool.specs.Kept.{connection_at, request_at, given_of, holder_at, service_at, end_at, asked_at_of, warm_of, one_party, numbers_where, is_pending_at, lasts, unserved_in, wire_at, pins_at, is_pinned_at, errored_at, dropped_at, is_asked_at, numbers_asked}
+use Rattle.mdb_pool.specs.Kept.Values.{connection_at, request_at, given_of, holder_at, service_at, end_at, asked_at_of, warm_of, one_party, numbers_where, is_pending_at, lasts, unserved_in, wire_at, pins_at, is_pinned_at, errored_at, dropped_at, is_asked_at, numbers_asked}
 use Rattle.mdb_pool.specs.Standing.{Fits}
-use Rattle.mdb_pool.specs.Matching.{Matches}
+use Rattle.mdb_pool.specs.Kept.Matching.{Matches}
 use Rattle.mdb_slots.specs.Keyed.{entry_at}
-use Rattle.mdb_pool.specs.Places.{is_pending, is_available, is_queued, stays}
-use Rattle.mdb_pool.specs.Changes.{closing, ended_request, available_ones, pending_ones, unserved_ones}
+use Rattle.mdb_pool.specs.Kept.Places.{is_pending, is_available, is_queued, stays}
+use Rattle.mdb_pool.specs.Acts.Changes.{closing, ended_request, available_ones, pending_ones, unserved_ones}
 use Rattle.mdb_pool_rules.proofs.Listed.Values.{named, passes, has-where, one_if-le}
 use Rattle.mdb_log.proofs.Pins.{pinned-again}
-use Rattle.mdb_pool.proofs.Turns.CloseMany.{closings, endings, Still, still-both, leave, leave-all, leave-none, leave-one, live-closings, total-closings, pending-closings, available-closings, queued-closings, parties-closings, given-closings, end-closings, live-endings, total-endings, pending-endings, available-endings, queued-endings, parties-endings, given-endings, end-endings, entry_at-filter, named-filter, filter-none}
+use Rattle.mdb_pool_rules.proofs.ManyClosed.{closings, endings, Still, still-both, leave, leave-all, leave-none, leave-one, live-closings, total-closings, pending-closings, available-closings, queued-closings, parties-closings, given-closings, end-closings, live-endings, total-endings, pending-endings, available-endings, queued-endings, parties-endings, given-endings, end-endings, entry_at-filter, named-filter, filter-none}
 
 abbrev pub id_of : Connection → ℕ
 id_of x = x.id

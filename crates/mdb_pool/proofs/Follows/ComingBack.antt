@@ -9,11 +9,11 @@ use Rattle.mdb_pool.specs.declared.kept.request.Phase.TheVariants.{Given, Over}
 use Rattle.mdb_log.specs.declared.step.Use.{Use}
 use Rattle.mdb_pool.specs.Core.{PoolCore}
 use Rattle.mdb_log.specs.History.{PoolItem, without, given, returned, established, closed, checked_in}
-use Rattle.mdb_pool.specs.Kept.{connection_at, request_at, given_in, given_of, holder_at, warm_of, used_as}
-use Rattle.mdb_pool.specs.Matching.{Matches}
+use Rattle.mdb_pool.specs.Kept.Values.{connection_at, request_at, given_in, given_of, holder_at, warm_of, used_as}
+use Rattle.mdb_pool.specs.Kept.Matching.{Matches}
 use Rattle.mdb_log.specs.Connections.{granted_to, available_list, holding}
-use Rattle.mdb_pool.specs.Places.{is_pending, is_available, is_queued, stays}
-use Rattle.mdb_pool.specs.Changes.{establishing, pooling, returning, dropping}
+use Rattle.mdb_pool.specs.Kept.Places.{is_pending, is_available, is_queued, stays}
+use Rattle.mdb_pool.specs.Acts.Changes.{establishing, pooling, returning, dropping}
 use Rattle.mdb_pool.proofs.Follows.Serving.{parties-without, holder-given, pending-place}
 use Rattle.mdb_log.proofs.Pins.{pinned-again, holding-one, errored-return}
 use Rattle.mdb_pool_rules.proofs.Listed.Values.{entry_at-others, map-filter-others, entry_at-put, where-put, named-others, named-put, length-others, length-put, passes, where-put_out, where-put_stay, entry_at-swap, named-swap, where-swap_stay}

@@ -10,12 +10,12 @@ use Rattle.mdb_pool.specs.declared.kept.request.Phase.{Phase}
 use Rattle.mdb_pool.specs.declared.kept.request.Phase.TheVariants.{Queued, Given, Over, Ended as EndedPhase}
 use Rattle.mdb_pool.specs.Core.{PoolCore}
 use Rattle.mdb_log.specs.History.{PoolItem, without, failed, closed, ended}
-use Rattle.mdb_pool.specs.Kept.{connection_at, request_at, given_in, given_of, holder_at}
+use Rattle.mdb_pool.specs.Kept.Values.{connection_at, request_at, given_in, given_of, holder_at}
 use Rattle.mdb_log.specs.Requests.{queued}
-use Rattle.mdb_pool.specs.Matching.{Matches}
+use Rattle.mdb_pool.specs.Kept.Matching.{Matches}
 use Rattle.mdb_log.specs.Connections.{pending_list}
-use Rattle.mdb_pool.specs.Places.{is_pending, is_available, is_queued}
-use Rattle.mdb_pool.specs.Changes.{forgetting, failing}
+use Rattle.mdb_pool.specs.Kept.Places.{is_pending, is_available, is_queued}
+use Rattle.mdb_pool.specs.Acts.Changes.{forgetting, failing}
 use Rattle.mdb_pool.proofs.Follows.Serving.{parties-without, holder-given}
 use Rattle.mdb_log.proofs.Pins.{pinned-again}
 use Rattle.mdb_pool_rules.proofs.Listed.Values.{without-absent, entry_at-others, map-filter-others, named-others, length-others, passes, has-where, entry_at-swap, named-swap, where-swap_stay}

@@ -14,9 +14,9 @@ use Rattle.mdb_log.specs.declared.step.Use.TheVariants.{Ok}
 use Rattle.mdb_pool.specs.Core.{PoolCore}
 use Rattle.mdb_pool.proofs.Follows.Serving.{grant-matches, new_request, asked_request, ask-matches, warm_request, warm-matches, made_request, create-matches, spawn-matches}
 use Rattle.mdb_log.specs.History.{PoolItem, asked, warmed, has_asked, gave_up, returned, established, created, closed, checked_in, granted, ended, failed, raised, pool_ready}
-use Rattle.mdb_pool.specs.Kept.{connection_at, request_at, warm_of, given_in, given_of, numbers_asked, is_asked_at, used_as}
+use Rattle.mdb_pool.specs.Kept.Values.{connection_at, request_at, warm_of, given_in, given_of, numbers_asked, is_asked_at, used_as}
 use Rattle.mdb_pool.specs.Standing.{Fits}
-use Rattle.mdb_pool.specs.Changes.{asking, creating, spawning, parting, granting, establishing, pooling, returning, dropping, quitting, leaving, handing, failing, forgetting, ending, finishing, discarding, losing, raising}
+use Rattle.mdb_pool.specs.Acts.Changes.{asking, creating, spawning, parting, granting, establishing, pooling, returning, dropping, quitting, leaving, handing, failing, forgetting, ending, finishing, discarding, losing, raising}
 use Rattle.mdb_pool.proofs.Follows.GivingUp.{quit_request, quit-matches, left_request, leave-matches, apart_request, part-matches, handed_request, hand-matches, late-matches}
 use Rattle.mdb_pool.proofs.Follows.ComingBack.{establish-matches, pool-matches, rest-matches, back_request, return-matches, gone_request, drop-matches}
 use Rattle.mdb_log.specs.Connections.{held}

@@ -9,12 +9,12 @@ use Rattle.mdb_pool.specs.declared.kept.request.Request.{Request}
 use Rattle.mdb_pool.specs.declared.kept.request.Phase.TheVariants.{Given, Ended as EndedPhase}
 use Rattle.mdb_pool.specs.Core.{PoolCore}
 use Rattle.mdb_log.specs.History.{PoolItem, without, given, gave_up, checked_in, ended}
-use Rattle.mdb_pool.specs.Kept.{connection_at, request_at, given_in, given_of, holder_at, used_as}
+use Rattle.mdb_pool.specs.Kept.Values.{connection_at, request_at, given_in, given_of, holder_at, used_as}
 use Rattle.mdb_log.specs.Requests.{queued}
-use Rattle.mdb_pool.specs.Matching.{Matches}
+use Rattle.mdb_pool.specs.Kept.Matching.{Matches}
 use Rattle.mdb_log.specs.Connections.{holding}
-use Rattle.mdb_pool.specs.Places.{is_pending, is_available, is_queued, stays}
-use Rattle.mdb_pool.specs.Changes.{quitting, leaving, parting, handing}
+use Rattle.mdb_pool.specs.Kept.Places.{is_pending, is_available, is_queued, stays}
+use Rattle.mdb_pool.specs.Acts.Changes.{quitting, leaving, parting, handing}
 use Rattle.mdb_pool.proofs.Follows.Serving.{parties-without, holder-given, pending-place}
 use Rattle.mdb_log.proofs.Pins.{pinned-again, holding-none, holding-one, holding-pending}
 use Rattle.mdb_log.specs.declared.step.Use.TheVariants.{Ok}

@@ -4,13 +4,13 @@ use Rattle.mdb_base.specs.declared.address.ServerAddress.{ServerAddress}
 use Rattle.mdb_base.specs.Equality.{same_address}
 use Rattle.mdb_log.specs.declared.options.PoolOptions.{PoolOptions}
 use Rattle.mdb_pool.specs.declared.kept.status.Status.{Status}
-use Rattle.mdb_pool.specs.Inner.{Inner}
+use Rattle.mdb_pool.specs.Kept.Inner.{Inner}
 use Rattle.mdb_pool.specs.Core.{PoolCore}
 use Rattle.mdb_log.specs.History.{of_pool, opening, pool_created}
 use Rattle.mdb_log.specs.State.{is_ready, is_new}
-use Rattle.mdb_pool.specs.Kept.{state_in, is_shut}
+use Rattle.mdb_pool.specs.Kept.Values.{state_in, is_shut}
 use Rattle.mdb_pool.specs.Standing.{Fits, StandsFor}
-use Rattle.mdb_pool.specs.Matching.{Matches}
+use Rattle.mdb_pool.specs.Kept.Matching.{Matches}
 use Rattle.mdb_log.proofs.Numbers.{same-number}
 
 module _ (p : ℕ) (a : ServerAddress) (o : PoolOptions) (status : Status) (alone : Bool) (inner : Inner) where

@@ -10,12 +10,12 @@ use Rattle.mdb_log.specs.declared.step.Use.{Use}
 use Rattle.mdb_log.specs.declared.step.Use.TheVariants.{Ok}
 use Rattle.mdb_pool.specs.Core.{PoolCore}
 use Rattle.mdb_log.specs.History.{PoolItem, without, given, gave_up, returned, ended, pinned_by, replicated, taken, unpinned, checked_in}
-use Rattle.mdb_pool.specs.Kept.{connection_at, request_at, given_in, given_of, holder_at, used_as, timeouts_in, is_pinned_at}
+use Rattle.mdb_pool.specs.Kept.Values.{connection_at, request_at, given_in, given_of, holder_at, used_as, timeouts_in, is_pinned_at}
 use Rattle.mdb_log.specs.Requests.{queued}
-use Rattle.mdb_pool.specs.Matching.{Matches}
+use Rattle.mdb_pool.specs.Kept.Matching.{Matches}
 use Rattle.mdb_log.specs.Connections.{holding, pins, is_pinned}
-use Rattle.mdb_pool.specs.Places.{is_pending, is_available, is_at_pin, is_queued, stays}
-use Rattle.mdb_pool.specs.Changes.{to_pin, pinning, taking, unpinned_once, unpinning, pin_ending}
+use Rattle.mdb_pool.specs.Kept.Places.{is_pending, is_available, is_at_pin, is_queued, stays}
+use Rattle.mdb_pool.specs.Acts.Changes.{to_pin, pinning, taking, unpinned_once, unpinning, pin_ending}
 use Rattle.mdb_pool.proofs.Follows.Serving.{parties-without, holder-given, pending-place}
 use Rattle.mdb_log.proofs.Pins.{pinned-again, holding-one, errored-return}
 use Rattle.mdb_pool_rules.proofs.Listed.Values.{without-absent, entry_at-put, where-put, named, named-put, length-put, passes, has-where, where-put_stay, entry_at-swap, named-swap, length-swap, where-swap_stay, where-swap_same, one_if-le}

@@ -10,10 +10,10 @@ use Rattle.mdb_log.specs.declared.step.Use.{Use}
 use Rattle.mdb_log.specs.declared.step.Use.TheVariants.{Ok}
 use Rattle.mdb_pool.specs.Core.{PoolCore}
 use Rattle.mdb_log.specs.History.{PoolItem, given, gave_up, returned, ended, pinned_by, replicated, taken, unpinned, checked_in, closed}
-use Rattle.mdb_pool.specs.Kept.{connection_at, request_at, used_as}
+use Rattle.mdb_pool.specs.Kept.Values.{connection_at, request_at, used_as}
 use Rattle.mdb_pool.specs.Standing.{Fits}
-use Rattle.mdb_pool.specs.Places.{is_at_pin, stays}
-use Rattle.mdb_pool.specs.Changes.{to_pin, pinning, taking, unpinned_once, unpinning, pin_ending}
+use Rattle.mdb_pool.specs.Kept.Places.{is_at_pin, stays}
+use Rattle.mdb_pool.specs.Acts.Changes.{to_pin, pinning, taking, unpinned_once, unpinning, pin_ending}
 use Rattle.mdb_pool.proofs.Follows.Pinning.{stand-matches, back_request, quit-pinned-matches, left_request, pin-matches, replicate-matches, take-matches, taken_q, taken_request, unpin-matches, pin-end-matches}
 use Rattle.mdb_pool.proofs.Follows.Fits.{order-stays, discard-fits}
 use Rattle.mdb_log.proofs.Numbers.{same-number}

@@ -8,13 +8,13 @@ use Rattle.mdb_pool.specs.declared.kept.request.Request.{Request}
 use Rattle.mdb_pool.specs.declared.kept.request.Phase.TheVariants.{Queued, Given}
 use Rattle.mdb_pool.specs.Core.{PoolCore}
 use Rattle.mdb_log.specs.History.{PoolItem, is_number, without, asked, warmed, created, granted, has_asked}
-use Rattle.mdb_pool.specs.Kept.{connection_at, request_at, one_party, holder_at, given_of, timeouts_in, is_asked_at}
-use Rattle.mdb_pool.specs.Matching.{Matches}
+use Rattle.mdb_pool.specs.Kept.Values.{connection_at, request_at, one_party, holder_at, given_of, timeouts_in, is_asked_at}
+use Rattle.mdb_pool.specs.Kept.Matching.{Matches}
 use Rattle.mdb_log.specs.Connections.{one_if, has, granted_to, parties, pending_list}
-use Rattle.mdb_pool.specs.Places.{is_pending, is_available, is_queued}
+use Rattle.mdb_pool.specs.Kept.Places.{is_pending, is_available, is_queued}
 use Rattle.mdb_log.specs.declared.step.Use.TheVariants.{Ok}
 use Rattle.mdb_log.proofs.Pins.{pinned-again, queued-asked}
-use Rattle.mdb_pool.specs.Changes.{asking, creating, granting, spawning}
+use Rattle.mdb_pool.specs.Acts.Changes.{asking, creating, granting, spawning}
 use Rattle.mdb_pool_rules.proofs.Listed.Values.{entry_at-put, named, named-put, length-put, passes, has-where, where-put_out, where-put_stay, where-put_in, entry_at-swap, named-swap, length-swap, where-swap_out, where-swap_stay}
 
 without-one : (o : Option ℕ) (r : ℕ) → without r (one_party o) ≡ if is_number o r then [] else one_party o

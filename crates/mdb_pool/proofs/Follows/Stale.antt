@@ -12,8 +12,8 @@ use Rattle.mdb_pool.specs.Core.{PoolCore}
 use Rattle.mdb_log.specs.History.{PoolItem, same_service}
 use Rattle.mdb_log.specs.Connections.{service_of}
 use Rattle.mdb_log.specs.State.{is_stale, ready, generation_of, generation_before}
-use Rattle.mdb_pool.specs.Matching.{Matches}
-use Rattle.mdb_pool.specs.Kept.{connection_at, clears_for, clears_before, cleared_since, stale_for, state_in, is_ready_now, is_shut}
+use Rattle.mdb_pool.specs.Kept.Matching.{Matches}
+use Rattle.mdb_pool.specs.Kept.Values.{connection_at, clears_for, clears_before, cleared_since, stale_for, state_in, is_ready_now, is_shut}
 use Rattle.mdb_pool_rules.proofs.Listed.Values.{named}
 
 pub ready-is : (t : Status) → ready (state_in t) ≡ is_ready_now t

@@ -15,12 +15,12 @@ use Rattle.mdb_pool.specs.Core.{PoolCore}
 use Rattle.mdb_pool.specs.declared.kept.status.Clear.{Clear}
 use Rattle.mdb_pool.specs.declared.kept.status.Status.TheVariants.{Ready}
 use Rattle.mdb_log.specs.History.{PoolItem, same_service, without, established, closed, checked_in, ended, raised, pool_ready}
-use Rattle.mdb_pool.specs.Kept.{connection_at, request_at, ids_where, given_in, given_of, state_in, clears_for, clears_before, timeouts_in}
-use Rattle.mdb_pool.specs.Matching.{Matches}
+use Rattle.mdb_pool.specs.Kept.Values.{connection_at, request_at, ids_where, given_in, given_of, state_in, clears_for, clears_before, timeouts_in}
+use Rattle.mdb_pool.specs.Kept.Matching.{Matches}
 use Rattle.mdb_log.specs.State.{state_of}
 use Rattle.mdb_log.specs.Connections.{one_if, has, available_list}
-use Rattle.mdb_pool.specs.Places.{is_pending, is_available, is_queued, stays}
-use Rattle.mdb_pool.specs.Changes.{ending, discarding, cleared_status, raising}
+use Rattle.mdb_pool.specs.Kept.Places.{is_pending, is_available, is_queued, stays}
+use Rattle.mdb_pool.specs.Acts.Changes.{ending, discarding, cleared_status, raising}
 use Rattle.mdb_pool.proofs.Follows.Serving.{parties-without, holder-given}
 use Rattle.mdb_log.proofs.Pins.{pinned-again}
 use Rattle.std.proofs.Math.Bool.{and-false, and-true}

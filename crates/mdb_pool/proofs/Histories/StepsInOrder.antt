@@ -66,7 +66,7 @@ run-more s t u before middle after steps seat step h home next r logs =
     let e : Entry = record { seat = seat; step = step; reply = (answer t.pool t.address t.options k step).reply; facts = (answer t.pool t.address t.options k step).facts } in
     let same : with_entries (r.entries ++ e ∷ []) h ≡ with_answer e.step e.reply e.facts k = with_entries-append r.entries e h in
     let none_left_t : NoneLeftWaiting t.options (of_pool t.pool (with_answer e.step e.reply e.facts k)) = v.none_left r.none_left in
-    let place : OnePlace (of_pool u.pool (with_answer e.step e.reply e.facts k)) = one-place u (of_pool u.pool (with_answer e.step e.reply e.facts k)) v.stands.fits.matches in
+    let place : OnePlace (of_pool u.pool (with_answer e.step e.reply e.facts k)) = one-place u (of_pool u.pool (with_answer e.step e.reply e.facts k)) v.stands.fits in
     record {
       entries = r.entries ++ e ∷ [];
       logged = v.entry ∙ (ap (λ es. es ++ e ∷ []) r.logged ∙ append_assoc before r.entries (e ∷ []));

@@ -1,5 +1,5 @@
 -- What is asked of requests that have not left is what is asked of all.
-use Rattle.std.proofs.Common.{◌≡◌, ℕ, Bool, true, false, not, ◌==◌, ◌&&◌, if◌then◌else◌, is_some, Option, Some, None, ◌⊎◌, inl, inr, List, [], ◌∷◌, map, filter, find, refl, sym, ◌∙◌, ap, subst, arith}
+use Rattle.std.proofs.Common.{◌≡◌, ℕ, Bool, true, false, not, ◌==◌, ◌&&◌, if◌then◌else◌, is_some, Option, Some, None, ◌⊎◌, inl, inr, List, [], ◌∷◌, map, filter, refl, sym, ◌∙◌, ap, subst, arith}
 use Rattle.std.specs.List.{filter_map}
 use Rattle.std.proofs.lemmas.Grind.{common_steps}
 use Rattle.mdb_log.specs.Connections.{has}
@@ -14,10 +14,11 @@ use Rattle.mdb_pool.specs.declared.kept.connection.Connection.{Connection}
 use Rattle.mdb_pool.specs.declared.kept.request.Request.{Request}
 use Rattle.mdb_pool.specs.declared.kept.request.Phase.{Phase}
 use Rattle.mdb_pool.specs.declared.kept.request.Phase.TheVariants.{Queued, Given, Over, Ended as EndedPhase}
-use Rattle.mdb_pool.specs.Changes.{away, unserved_ones}
+use Rattle.mdb_pool.specs.Acts.Changes.{away, unserved_ones}
 use Rattle.mdb_pool.specs.Core.{PoolCore}
-use Rattle.mdb_pool.specs.Kept.{candidate_now, blocked_now, connection_at, first_overdue, first_queued, given_in, given_of, held_connection, holder_request, if_lingers, is_asked_at, is_ended_at, is_gone, is_open_now, kept_holder, kept_request, kept_requests, lingers, overdue_now, request_at, request_in, unserved_in}
-use Rattle.mdb_pool.specs.Places.{is_done, is_queued}
+use Rattle.mdb_pool.specs.Kept.Values.{candidate_now, blocked_now, connection_at, first_overdue, first_queued, given_in, given_of, held_connection, holder_request, if_lingers, is_asked_at, is_ended_at, is_gone, kept_holder, kept_request, kept_requests, lingers, overdue_now, request_at, request_in, unserved_in}
+use Rattle.mdb_pool.specs.Now.{is_open_now}
+use Rattle.mdb_pool.specs.Kept.Places.{is_done, is_queued}
 use Rattle.mdb_pool.specs.Standing.{Fits}
 use Rattle.mdb_pool.proofs.KeptInLittle.RequestsThatStay.{number-of, queued-kept}
 use Rattle.mdb_pool_rules.proofs.Listed.Values.{In, here, there, entry_at-key, entry_at-put, entry_at-swap_any, find-member}

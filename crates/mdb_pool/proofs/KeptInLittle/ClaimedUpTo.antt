@@ -11,11 +11,11 @@ use Rattle.mdb_slots.specs.Lists.{apart}
 use Rattle.mdb_slots.proofs.Noted.{noted-others, noted-put, noted-swap, swap-number}
 use Rattle.mdb_slots.proofs.Numbers.{same-number}
 use Rattle.mdb_pool.specs.declared.kept.connection.Connection.{Connection}
-use Rattle.mdb_pool.specs.Claiming.{no_claims, Ascends, ClaimsFit}
+use Rattle.mdb_pool.specs.Kept.Claiming.{no_claims, Ascends, ClaimsFit}
 use Rattle.mdb_pool.specs.Core.{PoolCore}
-use Rattle.mdb_pool.specs.Inner.{Claimed}
-use Rattle.mdb_pool.specs.Kept.{ids_where, first_unclaimed}
-use Rattle.mdb_pool.specs.Places.{is_available, is_pending}
+use Rattle.mdb_pool.specs.Kept.Inner.{Claimed}
+use Rattle.mdb_pool.specs.Kept.Values.{ids_where, first_unclaimed}
+use Rattle.mdb_pool.specs.Kept.Places.{is_available, is_pending}
 use Rattle.mdb_pool.proofs.Listed.Beside.{find_among}
 use Rattle.mdb_pool_rules.proofs.Listed.Values.{In, here, there, find-member}
 

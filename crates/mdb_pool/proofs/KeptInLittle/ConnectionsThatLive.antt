@@ -1,11 +1,11 @@
 -- The connections that a pool finds live.
-use Rattle.std.proofs.Common.{ℕ, ◌≡◌, Bool, true, false, ◌==◌, ◌&&◌, is_some, List, [], ◌∷◌, filter, find, Option, Some, None, ◌⊎◌, inl, inr, refl, sym, ◌∙◌, ap, subst, arith}
+use Rattle.std.proofs.Common.{ℕ, ◌≡◌, Bool, true, false, ◌==◌, ◌&&◌, is_some, List, [], ◌∷◌, filter, Option, Some, None, ◌⊎◌, inl, inr, refl, sym, ◌∙◌, ap, subst, arith}
 use Rattle.std.proofs.lemmas.Grind.{common_steps}
 use Rattle.mdb_slots.specs.Keyed.{after_key, rest_of}
 use Rattle.mdb_pool.specs.declared.kept.connection.Connection.{Connection}
 use Rattle.mdb_pool.specs.Core.{PoolCore}
-use Rattle.mdb_pool.specs.Kept.{connection_in, connection_at, first_perished, held_connection, held_given, given_of, if_held, is_pending_at, last_available, perished_now, request_at}
-use Rattle.mdb_pool.specs.Places.{is_available, is_held}
+use Rattle.mdb_pool.specs.Kept.Values.{connection_in, connection_at, first_perished, held_connection, held_given, given_of, if_held, is_pending_at, last_available, perished_now, request_at}
+use Rattle.mdb_pool.specs.Kept.Places.{is_available, is_held}
 use Rattle.mdb_pool.proofs.Listed.FirstOrLast.{last-member}
 use Rattle.mdb_pool_rules.proofs.Listed.Values.{In, here, there, entry_at-key, find-member}
 

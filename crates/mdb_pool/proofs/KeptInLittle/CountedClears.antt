@@ -7,15 +7,15 @@ use Rattle.std.proofs.lemmas.Grind.{common_steps}
 use Rattle.std.proofs.lemmas.List.{at_drop_all}
 use Rattle.mdb_base.specs.declared.object_id.ObjectId.{ObjectId}
 use Rattle.mdb_log.specs.History.{same_service}
-use Rattle.mdb_slots.specs.Keyed.{entry_at, put, others, swap}
+use Rattle.mdb_slots.specs.Keyed.{put, others, swap}
 use Rattle.mdb_slots.proofs.Numbers.{same-number}
 use Rattle.mdb_pool.specs.declared.kept.connection.Connection.{Connection}
 use Rattle.mdb_pool.specs.declared.kept.marks.Mark.{Mark}
 use Rattle.mdb_pool.specs.declared.kept.marks.Marks.{Marks}
 use Rattle.mdb_pool.specs.declared.kept.status.Clear.{Clear}
-use Rattle.mdb_pool.specs.Clearing.{counts_at, weigh, parts_at, IsAsked, JoinsAt, Grown, ClearsFit}
-use Rattle.mdb_pool.specs.Inner.{Cleared}
-use Rattle.mdb_pool.specs.Kept.{connection_in, clears_for, clears_before}
+use Rattle.mdb_pool.specs.Kept.Clearing.{counts_at, weigh, parts_at, IsAsked, JoinsAt, Grown, ClearsFit}
+use Rattle.mdb_pool.specs.Kept.Inner.{Cleared}
+use Rattle.mdb_pool.specs.Kept.Values.{connection_in, clears_before}
 use Rattle.mdb_pool_rules.proofs.OrderOfIds.{same-id}
 use Rattle.mdb_pool.proofs.Follows.WholePool.{clears_for-append, clears_before-append, timeouts-append}
 use Rattle.mdb_pool_rules.proofs.Listed.Values.{entry_at-others, entry_at-put, entry_at-swap_any}

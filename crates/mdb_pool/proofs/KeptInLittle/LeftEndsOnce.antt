@@ -3,8 +3,8 @@ use Rattle.std.proofs.Common.{◌≡◌, ℕ, true, false, ◌⊎◌, inl, inr, 
 use Rattle.mdb_slots.specs.Lists.{apart}
 use Rattle.mdb_pool.specs.declared.kept.request.Request.{Request}
 use Rattle.mdb_pool.specs.Core.{PoolCore}
-use Rattle.mdb_pool.specs.Changes.{ended_one}
-use Rattle.mdb_pool.specs.Kept.{kept_request, request_at, unserved_in}
+use Rattle.mdb_pool.specs.Acts.Changes.{ended_one}
+use Rattle.mdb_pool.specs.Kept.Values.{kept_request, request_at, unserved_in}
 use Rattle.mdb_pool.proofs.KeptInLittle.RequestsThatStay.{number-of}
 use Rattle.mdb_pool.proofs.KeptInLittle.AskedOfThoseThatStay.{gone-served}
 use Rattle.mdb_pool.proofs.Turns.EndUnserved.{none-found, one-stays}

@@ -1,10 +1,11 @@
 -- A closed pool in which nothing lives: nobody holds a connection of it, and none of its requests is open.
-use Rattle.std.proofs.Common.{◌≡◌, ℕ, Bool, true, false, not, ◌==◌, ◌&&◌, Option, Some, None, List, [], ◌∷◌, filter, length, refl, sym, ◌∙◌, ap, arith}
+use Rattle.std.proofs.Common.{◌≡◌, ℕ, Bool, true, false, not, ◌==◌, ◌&&◌, Option, Some, None, is_some, List, [], ◌∷◌, filter, length, refl, sym, ◌∙◌, ap, arith}
 use Rattle.std.proofs.lemmas.Bool.Decides.{nat_tests}
 use Rattle.mdb_log.specs.Connections.{has}
 use Rattle.mdb_pool.specs.declared.kept.request.Request.{Request}
 use Rattle.mdb_pool.specs.Core.{PoolCore}
-use Rattle.mdb_pool.specs.Kept.{connection_at, first_unclaimed, given_of, held_connection, held_given, is_asked_at, is_open_now, is_pending_at, is_shut, is_spent, kept_requests, lingers, pins_at, request_at, request_in}
+use Rattle.mdb_pool.specs.Kept.Values.{connection_at, first_unclaimed, given_of, held_connection, held_given, id_at, is_asked_at, kept_requests, lingers, request_at, request_in}
+use Rattle.mdb_pool.specs.Now.{has_job_now, held_now, holds_now, is_closed_now, is_live_now, is_open_now, is_pending_now, is_spent, pins_now}
 use Rattle.mdb_log.proofs.Bools.{both-true}
 use Rattle.mdb_pool_rules.proofs.Listed.Values.{entry_at-key}
 
@@ -26,35 +27,47 @@ counted p r q (x ∷ qs) e f = on (p x) (x.number == r) refl refl (counted p r q
     on false false g h more = let at : request_in (x ∷ qs) r ≡ request_in qs r = rw h refl in rw g (more (sym at ∙ e) f)
 
 module _ (s : PoolCore) (spent : is_spent s ≡ true) where
-  pub spent-shut : is_shut s.status ≡ true
-  spent-shut = (both-true (is_shut s.status) ((length s.connections == 0) && (length (kept_requests s) == 0)) spent).0
+  pub spent-shut : is_closed_now s ≡ true
+  spent-shut = (both-true (is_closed_now s) ((length s.connections == 0) && (length (kept_requests s) == 0)) spent).0
 
   rest : (length s.connections == 0) && (length (kept_requests s) == 0) ≡ true
-  rest = (both-true (is_shut s.status) ((length s.connections == 0) && (length (kept_requests s) == 0)) spent).1
+  rest = (both-true (is_closed_now s) ((length s.connections == 0) && (length (kept_requests s) == 0)) spent).1
 
-  pub no-connections : s.connections ≡ []
+  no-connections : s.connections ≡ []
   no-connections = empty s.connections (both-true (length s.connections == 0) (length (kept_requests s) == 0) rest).0
 
   none-kept : (length (kept_requests s) == 0) ≡ true
   none-kept = (both-true (length s.connections == 0) (length (kept_requests s) == 0) rest).1
 
-  pub none-there : (c : ℕ) → connection_at s c ≡ None
+  none-there : (c : ℕ) → connection_at s c ≡ None
   none-there c = rw no-connections refl
 
-  pub none-held : (r : ℕ) → held_connection s r ≡ None
+  none-held : (r : ℕ) → held_connection s r ≡ None
   none-held r = on (given_of (request_at s r))
     where
       on : (o : Option ℕ) → held_given s o ≡ None
       on None = refl
       on (Some c) = rw (none-there c) refl
 
-  pub none-unclaimed : first_unclaimed s ≡ None
+  none-unclaimed : first_unclaimed s ≡ None
   none-unclaimed = rw no-connections refl
 
-  pub none-pending : (c : ℕ) → is_pending_at (connection_at s c) ≡ false
+  pub none-live : (c : ℕ) → is_live_now s c ≡ false
+  none-live c = ap is_some (none-there c)
+
+  pub nobody-holds : (r : ℕ) → held_now s r ≡ None
+  nobody-holds r = ap id_at (none-held r)
+
+  pub nobody-held : (r : ℕ) → holds_now s r ≡ false
+  nobody-held r = ap is_some (none-held r)
+
+  pub no-job : has_job_now s ≡ false
+  no-job = ap is_some none-unclaimed
+
+  pub none-pending : (c : ℕ) → is_pending_now s c ≡ false
   none-pending c = rw (none-there c) refl
 
-  pub none-pinned : (c : ℕ) → pins_at (connection_at s c) ≡ 0
+  pub none-pinned : (c : ℕ) → pins_now s c ≡ 0
   none-pinned c = rw (none-there c) refl
 
   pub none-open : (r : ℕ) → is_open_now s r ≡ false

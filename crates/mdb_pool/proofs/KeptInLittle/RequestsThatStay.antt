@@ -11,10 +11,10 @@ use Rattle.mdb_slots.proofs.Numbers.{same-number}
 use Rattle.mdb_pool.specs.declared.kept.request.Phase.{Phase}
 use Rattle.mdb_pool.specs.declared.kept.request.Phase.TheVariants.{Queued, Given, Over, Ended as EndedPhase}
 use Rattle.mdb_pool.specs.declared.kept.request.Request.{Request}
-use Rattle.mdb_pool.specs.Asking.{RequestsFit}
-use Rattle.mdb_pool.specs.Keyed.{marked}
-use Rattle.mdb_pool.specs.Kept.{if_lingers, is_asked_at, is_gone, lingers, request_in}
-use Rattle.mdb_pool.specs.Places.{is_done, is_queued}
+use Rattle.mdb_pool.specs.Kept.Asking.{RequestsFit}
+use Rattle.mdb_pool.specs.Kept.Keyed.{marked}
+use Rattle.mdb_pool.specs.Kept.Values.{if_lingers, is_asked_at, is_gone, lingers, request_in}
+use Rattle.mdb_pool.specs.Kept.Places.{is_done, is_queued}
 use Rattle.mdb_pool.proofs.Listed.Noted.{has-marked, marked-again}
 use Rattle.mdb_pool_rules.proofs.Listed.Values.{entry_at-key, entry_at-others, entry_at-put, entry_at-swap_any}
 

@@ -9,10 +9,10 @@ use Rattle.std.proofs.lemmas.List.{length-map}
 use Rattle.std.proofs.lemmas.List.Sums.{length-filter}
 use Rattle.mdb_base.specs.declared.object_id.ObjectId.{ObjectId}
 use Rattle.mdb_slots.specs.Sided.{stays, noted, numbered, record_of}
-use Rattle.mdb_pool.specs.Places.{is_available, is_pending, is_queued, stays as stays_open}
+use Rattle.mdb_pool.specs.Kept.Places.{is_available, is_pending, is_queued, stays as stays_open}
 use Rattle.mdb_pool.specs.declared.kept.connection.Place.{Place}
 use Rattle.mdb_pool.specs.declared.kept.connection.Place.TheVariants.{Pending, Available, Held, Pinned}
-use Rattle.mdb_pool.specs.Kept.{last_from}
+use Rattle.mdb_pool.specs.Kept.Values.{last_from}
 use Rattle.mdb_pool.specs.declared.kept.connection.Connection.{Connection}
 use Rattle.mdb_pool.specs.declared.kept.request.Request.{Request}
 

@@ -9,9 +9,9 @@ use Rattle.mdb_pool.specs.declared.kept.request.Phase.TheVariants.{Queued, Given
 use Rattle.mdb_pool.specs.Core.{PoolCore}
 use Rattle.mdb_log.specs.History.{PoolItem}
 use Rattle.mdb_pool_rules.specs.Serving.{last_of}
-use Rattle.mdb_pool.specs.Matching.{Matches}
-use Rattle.mdb_pool.specs.Kept.{connection_at, request_at, ids_where, numbers_where, first_queued, candidate_now, blocked_now, first_perished, perished_now, last_available, last_from, held_given, held_connection, if_held, given_in, given_of, if_pending, pending_connection, holder_at}
-use Rattle.mdb_pool.specs.Places.{is_pending, is_available, is_held, is_at_pin, is_queued}
+use Rattle.mdb_pool.specs.Kept.Matching.{Matches}
+use Rattle.mdb_pool.specs.Kept.Values.{connection_at, request_at, ids_where, numbers_where, first_queued, candidate_now, blocked_now, first_perished, perished_now, last_available, last_from, held_given, held_connection, if_held, given_in, given_of, if_pending, pending_connection, holder_at}
+use Rattle.mdb_pool.specs.Kept.Places.{is_pending, is_available, is_held, is_at_pin, is_queued}
 use Rattle.mdb_log.proofs.Bools.{both-left, both-right}
 use Rattle.mdb_pool_rules.proofs.Listed.Values.{In, here, there, member-at, one_if-le, find-member, entry_at-key}
 

@@ -4,7 +4,7 @@ use Rattle.std.proofs.Math.Bool.{or-false}
 use Rattle.mdb_log.specs.Connections.{has}
 use Rattle.mdb_log.proofs.Numbers.{has-append}
 use Rattle.mdb_slots.proofs.Numbers.{same-number}
-use Rattle.mdb_pool.specs.Keyed.{marked}
+use Rattle.mdb_pool.specs.Kept.Keyed.{marked}
 
 -- it is there, and the others stay
 pub has-marked : (k r : ℕ) (ks : List ℕ) → has k (marked r ks) ≡ (has k ks || (r == k))

@@ -24,7 +24,7 @@ use Rattle.mdb_pool_rules.specs.Facts.{check_in, come_back, overdue, sweep, fill
 use Rattle.mdb_pool_rules.specs.Serving.{serving}
 use Rattle.mdb_pool_rules.specs.Refusal.{refusal_of}
 use Rattle.mdb_pool_rules.specs.Answer.{all_facts, answer, answered}
-use Rattle.mdb_pool.specs.Kept.{state_in}
+use Rattle.mdb_pool.specs.Kept.Values.{state_in}
 use Rattle.mdb_pool.specs.Standing.{StandsFor}
 use Rattle.mdb_pool_rules.specs.Quiet.{IsQuiet}
 use Rattle.mdb_pool_rules.proofs.KeptByFacts.{AreGentle, quiet-if, quiet-facts, gentle-append, gentle-if, check_in-gentle, come_back-gentle, hand-gentle, fail-gentle, ends-gentle, sweep-gentle, fill-gentle, readied-gentle, serve-gentle}

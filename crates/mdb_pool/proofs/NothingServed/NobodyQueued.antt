@@ -16,7 +16,7 @@ use Rattle.mdb_log.specs.Requests.{requests, queued, is_warm, is_unserved}
 use Rattle.mdb_log.specs.State.{State, is_new, is_ready, is_paused, is_closed, state_of, ready}
 use Rattle.mdb_pool_rules.specs.Facts.{closed_fact, cleared_fact, pool_closed_fact, new_pool_error, end_facts, all_ends, clear_facts, close_facts, turned_away}
 use Rattle.mdb_pool_rules.specs.Quiet.{IsQuiet}
-use Rattle.mdb_pool.proofs.Turns.CloseMany.{leave, leave-all}
+use Rattle.mdb_pool_rules.proofs.ManyClosed.{leave, leave-all}
 use Rattle.mdb_pool_rules.proofs.KeptByFacts.{quiet-facts, away-gentle}
 use Rattle.mdb_pool_rules.proofs.Listed.Values.{without-absent}
 use Rattle.mdb_log.proofs.Later.{after-append}

@@ -19,7 +19,7 @@ use Rattle.mdb_log.specs.Legal.{AllFirstCome}
 use Rattle.mdb_log.specs.Own.{AllOwn, shuts}
 use Rattle.mdb_log.specs.Limits.{WithinLimits}
 use Rattle.mdb_pool_rules.specs.Facts.{end_facts, all_ends, clear_facts, act_facts}
-use Rattle.mdb_pool.specs.Kept.{is_shut}
+use Rattle.mdb_pool.specs.Kept.Values.{is_shut}
 use Rattle.mdb_pool_rules.specs.Quiet.{IsQuiet}
 use Rattle.mdb_pool_rules.specs.Serving.{serving, IsServed}
 use Rattle.mdb_pool_rules.specs.Answer.{all_facts}
@@ -29,7 +29,7 @@ use Rattle.mdb_pool_rules.proofs.SameAnswers.FactsOf.{alike-facts, failed-alike,
 use Rattle.mdb_pool_rules.proofs.SameAnswers.ServingOf.{serving-alike, served-alike, all-first-alike}
 use Rattle.mdb_pool.proofs.SameAnswers.State.{fits-alike}
 use Rattle.mdb_pool_rules.proofs.AfterClearOrClose.{clear-alone}
-use Rattle.mdb_pool.proofs.Answered.Clear.{clear-fair, clear-all-own}
+use Rattle.mdb_pool_rules.proofs.ClearFacts.{clear-fair, clear-all-own}
 use Rattle.mdb_pool_rules.proofs.KeptByFacts.{AreGentle, quiet-facts, gentle-append, fail-gentle, serve-gentle}
 use Rattle.mdb_pool.proofs.NothingServed.NobodyQueued.{clear-quiet}
 use Rattle.mdb_pool_rules.proofs.SameAnswers.FailureAndClear.{failed-facts, clear-of-clear, of-clear-within}

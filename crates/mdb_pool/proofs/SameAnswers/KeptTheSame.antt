@@ -7,7 +7,7 @@ use Rattle.mdb_log.specs.declared.step.Act.{Act}
 use Rattle.mdb_log.specs.declared.reply.Reply.{Reply}
 use Rattle.mdb_log.specs.History.{Item, PoolItem}
 use Rattle.mdb_pool.specs.declared.planning.Answered.{Answered}
-use Rattle.mdb_pool.specs.Inner.{Inner}
+use Rattle.mdb_pool.specs.Kept.Inner.{Inner}
 use Rattle.mdb_pool.specs.Core.{PoolCore, SameKept}
 use Rattle.mdb_pool.specs.Standing.{Fits, StandsFor, SameHome, Accepts, Answers, Logs}
 use Rattle.mdb_pool.specs.Planning.{DoesLogged, IsDone, IsPrepared}

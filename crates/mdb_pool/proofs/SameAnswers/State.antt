@@ -3,8 +3,8 @@ use Rattle.std.proofs.Common.{◌≡◌, ◌+◌, false, List, None, refl, sym, 
 use Rattle.mdb_pool.specs.Core.{PoolCore}
 use Rattle.mdb_log.specs.History.{PoolItem, has_party}
 use Rattle.mdb_log.specs.Connections.{is_dropped}
-use Rattle.mdb_pool.specs.Kept.{lasts_in}
-use Rattle.mdb_pool.specs.Matching.{Matches}
+use Rattle.mdb_pool.specs.Kept.Values.{lasts_in}
+use Rattle.mdb_pool.specs.Kept.Matching.{Matches}
 use Rattle.mdb_pool.specs.Standing.{Fits}
 use Rattle.mdb_pool_rules.proofs.SameAnswers.Queries.{Alike}
 

@@ -10,7 +10,7 @@ use Rattle.mdb_log.specs.Connections.{one_if, has, pending_list}
 use Rattle.mdb_log.specs.State.{generation_of, generation_before}
 use Rattle.mdb_pool.specs.declared.kept.connection.Connection.{Connection}
 use Rattle.mdb_pool.specs.Core.{PoolCore}
-use Rattle.mdb_pool.specs.Kept.{connection_at, is_pending_at, clears_before, count_at}
+use Rattle.mdb_pool.specs.Kept.Values.{connection_at, is_pending_at, clears_before, count_at}
 use Rattle.mdb_pool.specs.Standing.{Fits}
 use Rattle.mdb_pool_rules.specs.Jobs.{items_before, cleared_services, generations, has_id}
 use Rattle.mdb_pool.proofs.Answered.Act.{pending-is}

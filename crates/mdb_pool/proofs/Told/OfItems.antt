@@ -1,16 +1,17 @@
--- What the calls that only look at a pool answer, by its items, and where those don't tell it by its history.
+-- What a pool says of itself now is what its items say, and where those don't tell it, its history.
 use Rattle.std.proofs.Common.{ℕ, ◌≡◌, Bool, true, false, List, [], ◌∷◌, Option, Some, None, is_some, refl, sym, ◌∙◌, ap, if◌then◌else◌, nat_lt, not, ◌&&◌, ◌==◌, ◌+◌, arith}
 use Rattle.mdb_base.specs.declared.object_id.ObjectId.{ObjectId}
 use Rattle.mdb_pool.specs.declared.kept.connection.Connection.{Connection}
 use Rattle.mdb_pool.specs.Core.{PoolCore}
 use Rattle.std.specs.List.{list_any}
 use Rattle.std.specs.Prelude.{find}
-use Rattle.mdb_log.specs.History.{Item, PoolItem, has_asked, has_party, of_pool}
+use Rattle.mdb_log.specs.History.{Item, PoolItem, has_asked, of_pool}
 use Rattle.mdb_log.specs.Requests.{is_claimed, is_open}
 use Rattle.mdb_log.specs.Connections.{has, is_live, pending_list, held, holding, known_service, pins, timeouts_since}
 use Rattle.mdb_log.specs.State.{generation_of, generation_before, is_interrupted}
-use Rattle.mdb_pool.specs.Kept.{request_at, is_asked_at, is_open_now, first_unclaimed, ids_where, connection_at, held_connection, is_pending_at, id_at, clears_for, clears_before, generation_at, interrupted_at, timeouts_in, is_held_at, pins_at}
-use Rattle.mdb_pool.specs.Places.{is_held, is_pending}
+use Rattle.mdb_pool.specs.Kept.Values.{ids_where, connection_at, held_connection, id_at, clears_before, generation_at, interrupted_at, timeouts_in, is_held_at, pins_at}
+use Rattle.mdb_pool.specs.Now.{claimed_now, clears_before_now, clears_now, generation_now, has_job_now, held_now, holds_now, is_held_now, is_live_now, is_open_now, is_pending_now, pins_now}
+use Rattle.mdb_pool.specs.Kept.Places.{is_held, is_pending}
 use Rattle.mdb_log.specs.Generations.{carried}
 use Rattle.mdb_log.specs.declared.generation.ConnectionGeneration.TheVariants.{Normal, LoadBalanced}
 use Rattle.mdb_pool.proofs.Answered.Take.{held-is}
@@ -23,46 +24,40 @@ use Rattle.mdb_pool.proofs.Listed.FirstOrLast.{id_or}
 use Rattle.mdb_pool.proofs.Follows.Stale.{live-created}
 
 module _ (s : PoolCore) (xs : List PoolItem) (z : Fits s xs) where
-  pub generation-now : (t : Option ObjectId) → clears_for t s.clears ≡ generation_of xs t
+  pub generation-now : (t : Option ObjectId) → clears_now s t ≡ generation_of xs t
   generation-now t = sym (z.matches.clearing.clears t)
 
-  live-is : (c : ℕ) → is_live xs c ≡ is_some (connection_at s c)
+  pub live-is : (c : ℕ) → is_live xs c ≡ is_live_now s c
   live-is c = rw (z.matches.connections.live c) (on (is_some (connection_at s c)))
     where
       on : (b : Bool) → nat_lt 0 (if b then 1 else 0) ≡ b
       on true = refl
       on false = refl
 
-  pub before-now : (c : ℕ) (t : Option ObjectId) → (if is_some (connection_at s c) then Some (clears_before c t s.clears) else None) ≡ (if is_live xs c then Some (generation_before xs c t) else None)
+  pub before-now : (c : ℕ) (t : Option ObjectId) → (if is_live_now s c then Some (clears_before_now s c t) else None) ≡ (if is_live xs c then Some (generation_before xs c t) else None)
   before-now c t = rw (live-is c) (on (connection_at s c) refl)
     where
-      on : (o : Option Connection) → connection_at s c ≡ o → (if is_some (connection_at s c) then Some (clears_before c t s.clears) else None) ≡ (if is_some (connection_at s c) then Some (generation_before xs c t) else None)
+      on : (o : Option Connection) → connection_at s c ≡ o → (if is_live_now s c then Some (clears_before_now s c t) else None) ≡ (if is_live_now s c then Some (generation_before xs c t) else None)
       on None e = rw e refl
       on (Some x) e = rw e (ap Some (sym (z.matches.clearing.before c t (live-created s xs z.matches c x e))))
 
-  pub held-now : (r : ℕ) → id_at (held_connection s r) ≡ holding xs r
+  pub held-now : (r : ℕ) → held_now s r ≡ holding xs r
   held-now r = on (held_connection s r) ∙ sym (holding-is s xs z r)
     where
       on : (o : Option Connection) → id_at o ≡ id_or o None
       on None = refl
       on (Some x) = refl
 
-  pub knows-now : (r : ℕ) → is_some (request_at s r) ≡ has_party xs r
-  knows-now r = sym (z.asked r)
-
-  pub holds-now : (r : ℕ) → is_some (held_connection s r) ≡ is_some (holding xs r)
+  pub holds-now : (r : ℕ) → holds_now s r ≡ is_some (holding xs r)
   holds-now r = sym (holds-is s xs z r)
 
-  pub asked-now : (r : ℕ) → is_asked_at (request_at s r) ≡ has_asked xs r
-  asked-now r = sym (asked-known s xs z r)
-
-  pub pins-now : (c : ℕ) → nat_lt 0 (pins_at (connection_at s c)) ≡ nat_lt 0 (pins xs c)
+  pub pins-now : (c : ℕ) → nat_lt 0 (pins_now s c) ≡ nat_lt 0 (pins xs c)
   pins-now c = ap (nat_lt 0) (sym (z.matches.pinning.pins c))
 
-  pub in-use-now : (c : ℕ) → is_held_at (connection_at s c) ≡ nat_lt 0 (held xs c)
+  pub in-use-now : (c : ℕ) → is_held_now s c ≡ nat_lt 0 (held xs c)
   in-use-now c = sym (held-is s xs z c)
 
-  pub pending-now : (c : ℕ) → is_pending_at (connection_at s c) ≡ has c (pending_list xs)
+  pub pending-now : (c : ℕ) → is_pending_now s c ≡ has c (pending_list xs)
   pending-now c = sym (pending-is s xs z c)
 
   -- the generation that a connection carries
@@ -71,7 +66,7 @@ module _ (s : PoolCore) (xs : List PoolItem) (z : Fits s xs) where
   carried-same c x e true None = refl
   carried-same c x e true (Some t) = ap (λ n. LoadBalanced (Some (record { generation = n; service_id = t }))) (sym (z.matches.clearing.before c (Some t) (live-created s xs z.matches c x e)))
 
-  pub carried-now : (c : ℕ) → generation_at s c (connection_at s c) ≡ (if is_live xs c then Some (carried s.options.load_balanced (generation_before xs c) (known_service xs c)) else None)
+  pub carried-now : (c : ℕ) → generation_now s c ≡ (if is_live xs c then Some (carried s.options.load_balanced (generation_before xs c) (known_service xs c)) else None)
   carried-now c = rw (live-is c) (on (connection_at s c) refl)
     where
       on : (o : Option Connection) → connection_at s c ≡ o → generation_at s c (connection_at s c) ≡ (if is_some (connection_at s c) then Some (carried s.options.load_balanced (generation_before xs c) (known_service xs c)) else None)
@@ -93,6 +88,20 @@ module _ (s : PoolCore) (xs : List PoolItem) (z : Fits s xs) where
       on None e = and-false (not s.options.load_balanced)
       on (Some x) e = at_held x (is_held x.place) e refl
 
+-- Some pending connection is not claimed.
+module _ (s : PoolCore) (xs : List PoolItem) (z : Fits s xs) (claimed : ℕ → Bool) (claims : (c : ℕ) → claimed c ≡ claimed_now s c) where
+  unclaimed-in : (cs : List Connection) → is_some (find (λ x. is_pending x.place && not (has x.id s.claimed)) cs) ≡ list_any (λ c. not (claimed c)) (ids_where is_pending cs)
+  unclaimed-in [] = refl
+  unclaimed-in (x ∷ cs) = on (is_pending x.place) (has x.id s.claimed) refl refl (unclaimed-in cs)
+    where
+      on : (b k : Bool) → is_pending x.place ≡ b → has x.id s.claimed ≡ k → is_some (find (λ y. is_pending y.place && not (has y.id s.claimed)) cs) ≡ list_any (λ c. not (claimed c)) (ids_where is_pending cs) → is_some (find (λ y. is_pending y.place && not (has y.id s.claimed)) (x ∷ cs)) ≡ list_any (λ c. not (claimed c)) (ids_where is_pending (x ∷ cs))
+      on false k e f rest = rw e rest
+      on true true e f rest = rw (e, claims x.id, f) rest
+      on true false e f rest = rw (e, claims x.id, f) refl
+
+  pub job-by : has_job_now s ≡ list_any (λ c. not (claimed c)) (pending_list xs)
+  job-by = rw z.matches.counts.pending (unclaimed-in s.connections)
+
 -- a pool that stands for a history of its own stands in it
 pub stands-in : (s : PoolCore) (h : List Item) → StandsFor s h → StandsIn s h
 stands-in s h z = record {
@@ -100,9 +109,6 @@ stands-in s h z = record {
   opens = λ r e. rw (z.requested r, e) (z.opens r);
   claims = z.claims;
 }
-
-pub open-alone : (s : PoolCore) (h : List Item) → StandsFor s h → (r : ℕ) → is_open_now s r ≡ is_open h r
-open-alone s h z r = sym (rw (z.requested r, asked-known s (of_pool s.pool h) z.fits r, z.opens r) refl)
 
 module _ (s : PoolCore) (h : List Item) (z : StandsIn s h) where
   abbrev own : List PoolItem
@@ -115,15 +121,5 @@ module _ (s : PoolCore) (h : List Item) (z : StandsIn s h) where
       on false e = refl
       on true e = sym (z.opens r e)
 
-  -- some pending connection is not claimed
-  unclaimed-in : (cs : List Connection) → is_some (find (λ x. is_pending x.place && not (has x.id s.claimed)) cs) ≡ list_any (λ c. not (is_claimed h s.pool c)) (ids_where is_pending cs)
-  unclaimed-in [] = refl
-  unclaimed-in (x ∷ cs) = on (is_pending x.place) (has x.id s.claimed) refl refl (unclaimed-in cs)
-    where
-      on : (b k : Bool) → is_pending x.place ≡ b → has x.id s.claimed ≡ k → is_some (find (λ y. is_pending y.place && not (has y.id s.claimed)) cs) ≡ list_any (λ c. not (is_claimed h s.pool c)) (ids_where is_pending cs) → is_some (find (λ y. is_pending y.place && not (has y.id s.claimed)) (x ∷ cs)) ≡ list_any (λ c. not (is_claimed h s.pool c)) (ids_where is_pending (x ∷ cs))
-      on false k e f rest = rw e rest
-      on true true e f rest = rw (e, z.claims x.id, f) rest
-      on true false e f rest = rw (e, z.claims x.id, f) refl
-
-  pub job-now : is_some (first_unclaimed s) ≡ list_any (λ c. not (is_claimed h s.pool c)) (pending_list own)
-  job-now = rw z.fits.matches.counts.pending (unclaimed-in s.connections)
+  pub job-now : has_job_now s ≡ list_any (λ c. not (is_claimed h s.pool c)) (pending_list own)
+  job-now = job-by s own z.fits (is_claimed h s.pool) z.claims

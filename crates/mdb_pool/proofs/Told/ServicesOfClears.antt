@@ -16,8 +16,8 @@ use Rattle.mdb_base.specs.declared.object_id.ObjectId.{ObjectId}
 use Rattle.mdb_log.specs.History.{same_service}
 use Rattle.mdb_pool.specs.declared.kept.marks.Mark.{Mark}
 use Rattle.mdb_pool.specs.declared.kept.status.Clear.{Clear}
-use Rattle.mdb_pool.specs.Clearing.{AreMarked}
-use Rattle.mdb_pool.specs.Kept.{clears_before}
+use Rattle.mdb_pool.specs.Kept.Clearing.{AreMarked}
+use Rattle.mdb_pool.specs.Kept.Values.{clears_before}
 use Rattle.mdb_pool_rules.specs.Jobs.{id_order, has_id}
 use Rattle.mdb_pool_rules.proofs.OrderOfIds.{Ascends, id-total, same-by-order, same-id, same-back, own-id}
 

@@ -4,7 +4,8 @@ use Rattle.mdb_events.specs.declared.fact.Fact.{Fact}
 use Rattle.mdb_pool.specs.Core.{PoolCore}
 use Rattle.mdb_log.specs.History.{PoolItem, after_facts}
 use Rattle.mdb_pool_rules.specs.Serving.{serving}
-use Rattle.mdb_pool.specs.Standing.{Fits, SameHome, Serves}
+use Rattle.mdb_pool.specs.Standing.{Fits, SameHome}
+use Rattle.mdb_pool.specs.Acts.Doing.{Serves}
 use Rattle.mdb_log.proofs.Later.{after-append}
 
 -- a call made the facts fs, and the state then fits them too

@@ -13,10 +13,10 @@ use Rattle.mdb_pool.specs.declared.kept.request.Request.{Request}
 use Rattle.mdb_pool.specs.declared.kept.request.Phase.{Phase}
 use Rattle.mdb_pool.specs.declared.kept.request.Phase.TheVariants.{Queued, Given, Over, Ended as EndedPhase}
 use Rattle.mdb_pool.specs.Core.{PoolCore}
-use Rattle.mdb_pool.specs.Kept.{connection_at, request_at, given_in, given_of, holder_at, is_pending_at, unserved_in}
-use Rattle.mdb_pool.specs.Places.{is_pending, is_queued}
-use Rattle.mdb_pool.specs.Changes.{pending_ones, unserved_ones}
-use Rattle.mdb_pool.specs.Matching.{Matches}
+use Rattle.mdb_pool.specs.Kept.Values.{connection_at, request_at, given_in, given_of, holder_at, is_pending_at, unserved_in}
+use Rattle.mdb_pool.specs.Kept.Places.{is_pending, is_queued}
+use Rattle.mdb_pool.specs.Acts.Changes.{pending_ones, unserved_ones}
+use Rattle.mdb_pool.specs.Kept.Matching.{Matches}
 use Rattle.mdb_pool.specs.Standing.{Fits}
 use Rattle.mdb_pool.proofs.Listed.WalkBack.{count-more, count-yes, count-no}
 use Rattle.mdb_pool_rules.proofs.Listed.Values.{named, passes, has-where, has-none, one_if-le, member-has, find-member, length-without_has}

@@ -1,104 +1,32 @@
 -- The ends of a queue, one after another.
-use Rattle.std.proofs.Common.{ℕ, ◌≡◌, ◌-◌, ◌<◌, ◌≤◌, Bool, true, false, ◌==◌, List, [], ◌∷◌, ◌++◌, length, Some, None, is_some, refl, sym, ◌∙◌, ap, subst, arith, append_assoc, append-nil}
+use Rattle.std.proofs.Common.{ℕ, ◌≡◌, ◌-◌, ◌<◌, ◌≤◌, true, ◌==◌, List, [], ◌∷◌, ◌++◌, length, Some, None, is_some, refl, sym, ◌∙◌, ap, subst, arith, append_assoc, append-nil}
 use Rattle.std.specs.Prelude.{count_by}
 use Rattle.std.proofs.lemmas.Grind.{common_steps}
-use Rattle.mdb_base.specs.declared.address.ServerAddress.{ServerAddress}
 use Rattle.mdb_events.specs.declared.fact.Fact.{Fact}
-use Rattle.mdb_events.specs.declared.fact.Fact.TheVariants.{Opened, Pool, Granted, Ended, Raised, Sdam, CheckNow, Cancel}
-use Rattle.mdb_events.specs.declared.cmap.CmapEvent.TheVariants.{PoolCreated, PoolReady, PoolCleared, PoolClosed, ConnectionCreated, ConnectionReady, ConnectionClosed, ConnectionCheckoutStarted, ConnectionCheckoutFailed, ConnectionCheckedOut, ConnectionCheckedIn}
 use Rattle.mdb_events.specs.declared.end.End.{End}
 use Rattle.mdb_pool.specs.declared.kept.request.Request.{Request}
 use Rattle.mdb_pool.specs.declared.kept.request.Phase.TheVariants.{Queued, Ended as EndedPhase}
 use Rattle.mdb_pool.specs.Core.{PoolCore}
-use Rattle.mdb_log.specs.History.{PoolItem, ended, after_fact, after_facts, without, has_asked}
-use Rattle.mdb_log.specs.Connections.{has}
+use Rattle.mdb_log.specs.History.{PoolItem, ended, after_facts, without, has_asked}
 use Rattle.mdb_log.specs.Requests.{queued, asked_at, is_warm}
 use Rattle.mdb_pool_rules.specs.Facts.{end_facts, all_ends}
-use Rattle.mdb_pool.specs.Kept.{request_at, first_queued, numbers_where, given_in, asked_at_of, warm_of}
-use Rattle.mdb_pool.specs.Places.{is_queued}
-use Rattle.mdb_pool.specs.Changes.{ending, over_facts}
-use Rattle.mdb_pool.specs.Standing.{Fits, SameHome, EndsQueue}
+use Rattle.mdb_pool.specs.Kept.Values.{request_at, first_queued, numbers_where, given_in, asked_at_of, warm_of}
+use Rattle.mdb_pool.specs.Kept.Places.{is_queued}
+use Rattle.mdb_pool.specs.Acts.Changes.{ending, over_facts}
+use Rattle.mdb_pool.specs.Standing.{Fits, SameHome}
+use Rattle.mdb_pool.specs.Acts.Doing.{EndsQueue}
 use Rattle.mdb_pool_rules.proofs.Listed.Values.{named, where-swap_out, length-without, one_if-le}
 use Rattle.mdb_pool.proofs.Turns.EndFacts.{over-known}
 use Rattle.mdb_pool.proofs.Listed.FirstOrLast.{queued-at, queue-head, queue-empty}
-use Rattle.mdb_log.proofs.Numbers.{same-number}
 use Rattle.mdb_log.proofs.Later.{after-append}
 use Rattle.mdb_pool.proofs.Follows.Serving.{queued-asked_at}
 use Rattle.mdb_pool.proofs.Follows.Fits.{end-fits}
-
--- facts don't ask
-pub moment-fact : (p m r : ℕ) (f : Fact) (xs : List PoolItem) → asked_at (after_fact p m f xs) r ≡ asked_at xs r
-moment-fact p m r (Opened q a) xs = refl
-moment-fact p m r (Pool q (PoolCreated e)) xs = grind arith
-moment-fact p m r (Pool q (PoolReady e)) xs = grind arith
-moment-fact p m r (Pool q (PoolCleared e)) xs = refl
-moment-fact p m r (Pool q (PoolClosed e)) xs = grind arith
-moment-fact p m r (Pool q (ConnectionCreated e)) xs = grind arith
-moment-fact p m r (Pool q (ConnectionReady e)) xs = refl
-moment-fact p m r (Pool q (ConnectionClosed e)) xs = grind arith
-moment-fact p m r (Pool q (ConnectionCheckoutStarted e)) xs = refl
-moment-fact p m r (Pool q (ConnectionCheckoutFailed e)) xs = refl
-moment-fact p m r (Pool q (ConnectionCheckedOut e)) xs = refl
-moment-fact p m r (Pool q (ConnectionCheckedIn e)) xs = grind arith
-moment-fact p m r (Granted k q c) xs = grind arith
-moment-fact p m r (Ended k end) xs = grind arith
-moment-fact p m r (Raised q service error) xs = grind arith
-moment-fact p m r (CheckNow a) xs = refl
-moment-fact p m r (Cancel a) xs = refl
-moment-fact p m r (Sdam e) xs = refl
-
-pub moment-facts : (p m r : ℕ) (fs : List Fact) (xs : List PoolItem) → asked_at (after_facts p m fs xs) r ≡ asked_at xs r
-moment-facts p m r [] xs = refl
-moment-facts p m r (f ∷ fs) xs = moment-facts p m r fs (after_fact p m f xs) ∙ moment-fact p m r f xs
-
-pub warm-fact : (p m r : ℕ) (f : Fact) (xs : List PoolItem) → is_warm (after_fact p m f xs) r ≡ is_warm xs r
-warm-fact p m r (Opened q a) xs = refl
-warm-fact p m r (Pool q (PoolCreated e)) xs = grind arith
-warm-fact p m r (Pool q (PoolReady e)) xs = grind arith
-warm-fact p m r (Pool q (PoolCleared e)) xs = refl
-warm-fact p m r (Pool q (PoolClosed e)) xs = grind arith
-warm-fact p m r (Pool q (ConnectionCreated e)) xs = grind arith
-warm-fact p m r (Pool q (ConnectionReady e)) xs = refl
-warm-fact p m r (Pool q (ConnectionClosed e)) xs = grind arith
-warm-fact p m r (Pool q (ConnectionCheckoutStarted e)) xs = refl
-warm-fact p m r (Pool q (ConnectionCheckoutFailed e)) xs = refl
-warm-fact p m r (Pool q (ConnectionCheckedOut e)) xs = refl
-warm-fact p m r (Pool q (ConnectionCheckedIn e)) xs = grind arith
-warm-fact p m r (Granted k q c) xs = grind arith
-warm-fact p m r (Ended k end) xs = grind arith
-warm-fact p m r (Raised q service error) xs = grind arith
-warm-fact p m r (CheckNow a) xs = refl
-warm-fact p m r (Cancel a) xs = refl
-warm-fact p m r (Sdam e) xs = refl
-
-pub warm-facts : (p m r : ℕ) (fs : List Fact) (xs : List PoolItem) → is_warm (after_facts p m fs xs) r ≡ is_warm xs r
-warm-facts p m r [] xs = refl
-warm-facts p m r (f ∷ fs) xs = warm-facts p m r fs (after_fact p m f xs) ∙ warm-fact p m r f xs
-
-pub ends-append : (p : ℕ) (a : ServerAddress) (m : ℕ) (xs : List PoolItem) (end : End) (rs : List ℕ) (r : ℕ) → all_ends p a m xs end (rs ++ r ∷ []) ≡ all_ends p a m xs end rs ++ end_facts p a m xs r end
-ends-append p a m xs end [] r = append-nil (end_facts p a m xs r end)
-ends-append p a m xs end (k ∷ rs) r = ap (λ f. end_facts p a m xs k end ++ f) (ends-append p a m xs end rs r) ∙ sym (append_assoc (end_facts p a m xs k end) (all_ends p a m xs end rs) (end_facts p a m xs r end))
+use Rattle.mdb_pool_rules.proofs.ManyEnded.{ends-append, moment-facts, once, warm-facts}
 
 -- a number stands in a part of the list at most as often as in the list
 part-named : (k : ℕ) (qs : List Request) → count_by (λ j. j == k) (numbers_where is_queued qs) ≤ named (λ (q : Request). q.number) k qs
 part-named k [] = omega arith
 part-named k (q ∷ qs) = grind (arith, common_steps, part-named k qs)
-
-has-count : (k : ℕ) (ks : List ℕ) → has k ks ≡ true → 1 ≤ count_by (λ j. j == k) ks
-has-count k [] e = cc
-has-count k (j ∷ ks) e = grind (arith, common_steps, has-count k ks)
-
--- a number that stands once is not behind itself
-pub once : (k : ℕ) (ks : List ℕ) → count_by (λ j. j == k) (k ∷ ks) ≤ 1 → without k (k ∷ ks) ≡ ks
-once k ks l = on (has k ks) refl
-  where
-    absent : (js : List ℕ) → has k js ≡ false → without k js ≡ js
-    absent [] e = refl
-    absent (j ∷ js) e = grind (arith, common_steps, absent js)
-
-    on : (b : Bool) → has k ks ≡ b → without k (k ∷ ks) ≡ ks
-    on true e = let h : 1 ≤ count_by (λ j. j == k) ks = has-count k ks e in let s : (k == k) ≡ true = same-number k in absurd (grind (arith, common_steps))
-    on false e = let h : without k ks ≡ ks = absent ks e in grind (arith, common_steps)
 
 -- how far the ends are
 pub record Ending (s t : PoolCore) (n : ℕ) (end : End) (before after : List Fact) (xs : List PoolItem) : Type 0 where

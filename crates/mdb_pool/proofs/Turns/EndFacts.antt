@@ -5,11 +5,11 @@ use Rattle.mdb_pool.specs.declared.kept.request.Request.{Request}
 use Rattle.mdb_pool.specs.Core.{PoolCore}
 use Rattle.mdb_log.specs.History.{PoolItem, ended, after_facts, has_asked}
 use Rattle.mdb_pool_rules.specs.Facts.{end_facts}
-use Rattle.mdb_pool.specs.Kept.{request_at, asked_at_of, warm_of}
-use Rattle.mdb_pool.specs.Changes.{over_facts}
+use Rattle.mdb_pool.specs.Kept.Values.{request_at, asked_at_of, warm_of}
+use Rattle.mdb_pool.specs.Acts.Changes.{over_facts}
 use Rattle.mdb_log.specs.Legal.{AllFirstCome}
 use Rattle.mdb_log.specs.Own.{AllOwn, shuts}
-use Rattle.mdb_pool.specs.Matching.{Matches}
+use Rattle.mdb_pool.specs.Kept.Matching.{Matches}
 
 -- they are those of the definitions
 pub over-is : (s : PoolCore) (xs : List PoolItem) → Matches s xs → (n : ℕ) (q : Request) (end : End) → request_at s q.number ≡ Some q → end_facts s.pool s.address n xs q.number end ≡ over_facts s q.number q.warm (n - q.asked_at) end

@@ -12,14 +12,14 @@ use Rattle.mdb_pool.specs.declared.kept.connection.Connection.{Connection}
 use Rattle.mdb_pool.specs.declared.kept.request.Request.{Request}
 use Rattle.mdb_pool.specs.declared.kept.request.Phase.TheVariants.{Ended as EndedPhase}
 use Rattle.mdb_pool.specs.Core.{PoolCore}
-use Rattle.mdb_pool.specs.Kept.{unserved_in, request_at}
+use Rattle.mdb_pool.specs.Kept.Values.{unserved_in, request_at}
 use Rattle.mdb_pool_rules.proofs.Listed.Values.{In, here, there, entry_at-key, member-has}
 use Rattle.mdb_log.specs.Connections.{has as member}
 use Rattle.mdb_log.proofs.Numbers.{has-append}
 use Rattle.std.specs.List.{filter_map}
 use Rattle.std.proofs.lemmas.List.Elements.{filter-append, filter_map-append}
-use Rattle.mdb_pool.specs.Ended.{ended_all}
-use Rattle.mdb_pool.specs.Changes.{ended_request, ended_one, over_facts, off_facts, shut_facts, unserved_ones}
+use Rattle.mdb_pool.specs.Acts.Ended.{ended_all}
+use Rattle.mdb_pool.specs.Acts.Changes.{ended_request, ended_one, over_facts, off_facts, shut_facts, unserved_ones}
 use Rattle.mdb_pool_rules.specs.Facts.{closed_fact}
 
 abbrev pub number_of : Request → ℕ

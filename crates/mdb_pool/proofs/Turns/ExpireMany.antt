@@ -14,13 +14,15 @@ use Rattle.mdb_log.specs.History.{PoolItem, ended, after_facts, without, has_ask
 use Rattle.mdb_log.specs.Connections.{has}
 use Rattle.mdb_log.specs.Requests.{queued, asked_at, is_warm}
 use Rattle.mdb_pool_rules.specs.Facts.{all_ends, is_over, overdue}
-use Rattle.mdb_pool.specs.Kept.{request_at, numbers_where, asked_at_of, warm_of, overdue_since, overdue_now, first_overdue}
-use Rattle.mdb_pool.specs.Places.{is_queued}
-use Rattle.mdb_pool.specs.Changes.{ending, over_facts}
-use Rattle.mdb_pool.specs.Standing.{Fits, SameHome, Expires}
+use Rattle.mdb_pool.specs.Kept.Values.{request_at, numbers_where, asked_at_of, warm_of, overdue_since, overdue_now, first_overdue}
+use Rattle.mdb_pool.specs.Kept.Places.{is_queued}
+use Rattle.mdb_pool.specs.Acts.Changes.{ending, over_facts}
+use Rattle.mdb_pool.specs.Standing.{Fits, SameHome}
+use Rattle.mdb_pool.specs.Acts.Doing.{Expires}
 use Rattle.mdb_pool_rules.proofs.Listed.Values.{In, here, there, named, member-at, member-has, find-member, where-swap_out, length-without_has, one_if-le}
 use Rattle.mdb_pool.proofs.Listed.FirstOrLast.{is-queued}
-use Rattle.mdb_pool.proofs.Turns.End.{once, more-known, more-facts, more-fits}
+use Rattle.mdb_pool.proofs.Turns.End.{more-known, more-facts, more-fits}
+use Rattle.mdb_pool_rules.proofs.ManyEnded.{once}
 use Rattle.mdb_log.proofs.Bools.{both-left}
 use Rattle.mdb_log.proofs.Pins.{queued-asked}
 

@@ -17,11 +17,12 @@ use Rattle.mdb_log.specs.Requests.{queued, is_warm, asked_at}
 use Rattle.mdb_log.specs.Connections.{pending_list, available_list, since, has, known_service}
 use Rattle.mdb_pool_rules.specs.Serving.{last_of, wants_connection, is_blocked, candidate, warm_move, caller_move, move_for, next_move, serve, serving}
 use Rattle.mdb_pool_rules.specs.Facts.{created_fact, checked_out_fact, perished, closed_fact}
-use Rattle.mdb_pool.specs.Standing.{Fits, SameHome, SameNotes, Serves}
-use Rattle.mdb_pool.specs.Kept.{connection_at, request_at, ids_where, numbers_where, pending_count, candidate_now, blocked_now, wants_now, last_available, has_room, given_in, asked_at_of, warm_of, timeouts_in, is_ready_now, idle_since, perished_now}
-use Rattle.mdb_pool.specs.Changes.{creating, handed, granting, ending, warming, warming_facts, discarding, meeting, meeting_facts}
+use Rattle.mdb_pool.specs.Standing.{Fits, SameHome}
+use Rattle.mdb_pool.specs.Acts.Doing.{SameNotes, Serves}
+use Rattle.mdb_pool.specs.Kept.Values.{connection_at, request_at, ids_where, numbers_where, pending_count, candidate_now, blocked_now, wants_now, last_available, has_room, given_in, asked_at_of, warm_of, timeouts_in, is_ready_now, idle_since, perished_now}
+use Rattle.mdb_pool.specs.Acts.Changes.{creating, handed, granting, ending, warming, warming_facts, discarding, meeting, meeting_facts}
 use Rattle.mdb_log.specs.declared.step.Use.TheVariants.{Ok}
-use Rattle.mdb_pool.specs.Places.{is_pending, is_available, is_queued}
+use Rattle.mdb_pool.specs.Kept.Places.{is_pending, is_available, is_queued}
 use Rattle.mdb_pool_rules.proofs.Listed.Values.{In, member-has, here as head_in, there, find-member, member-at, one_if-le, length-without, length-where, where-put_out, map-filter-others, passes, has-where, where-swap_out, length-without_has}
 use Rattle.mdb_slots.specs.Keyed.{put, swap}
 use Rattle.mdb_log.proofs.Bools.{both-left}

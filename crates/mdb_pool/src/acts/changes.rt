@@ -31,9 +31,9 @@ pub(crate) fn new_pool_error(alloc: Global) -> Result<Error, AllocError>
 impl Draft {
     ghost use Rattle.mdb_log.specs.Connections.{has};
     ghost use Rattle.mdb_slots.specs.Keyed.{swap};
-    ghost use Rattle.mdb_pool.specs.Places.{is_queued};
-    ghost use Rattle.mdb_pool.specs.Kept.{is_gone, request_at, connection_at, outcome_now};
-    ghost use Rattle.mdb_pool.specs.Changes.{asking, away, away_end, away_facts, discarding, creating, spawning, ending, granting, establishing, telling, handed};
+    ghost use Rattle.mdb_pool.specs.Kept.Places.{is_queued};
+    ghost use Rattle.mdb_pool.specs.Kept.Values.{is_gone, request_at, connection_at, outcome_now};
+    ghost use Rattle.mdb_pool.specs.Acts.Changes.{asking, away, away_end, away_facts, discarding, creating, spawning, ending, granting, establishing, telling, handed};
     ghost use Rattle.mdb_events.specs.declared.fact.Fact.TheVariants.{Pool, Granted, Ended};
     ghost use Rattle.mdb_events.specs.declared.cmap.CmapEvent.TheVariants.{ConnectionCreated, ConnectionCheckedOut};
 

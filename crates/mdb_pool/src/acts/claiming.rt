@@ -10,8 +10,8 @@ use mdb_events::Fact;
 use std::alloc::Global;
 
 impl Draft {
-    ghost use Rattle.mdb_pool.specs.Kept.{job_now};
-    ghost use Rattle.mdb_pool.specs.Changes.{claiming};
+    ghost use Rattle.mdb_pool.specs.Kept.Values.{job_now};
+    ghost use Rattle.mdb_pool.specs.Acts.Changes.{claiming};
     ghost use Rattle.mdb_pool.specs.Standing.{SameHome, Fits, Accepts, StandsFor, Answers};
     ghost use Rattle.mdb_log.specs.History.{Item, PoolItem};
     ghost use Rattle.mdb_log.specs.declared.step.Act.TheVariants.{Claim};
@@ -49,8 +49,8 @@ impl Draft {
 }
 
 impl PoolCore {
-    ghost use Rattle.mdb_pool.specs.Kept.{job_now};
-    ghost use Rattle.mdb_pool.specs.Changes.{claiming};
+    ghost use Rattle.mdb_pool.specs.Kept.Values.{job_now};
+    ghost use Rattle.mdb_pool.specs.Acts.Changes.{claiming};
     ghost use Rattle.mdb_pool.specs.Standing.{SameHome, Fits, Accepts, StandsFor, Answers};
     ghost use Rattle.mdb_pool.specs.Planning.{Passes};
     ghost use Rattle.mdb_log.specs.History.{Item, PoolItem};

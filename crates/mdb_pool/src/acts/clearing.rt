@@ -12,10 +12,11 @@ use mdb_events::{Boxed, CmapEvent, End, Fact, PoolClearedEvent};
 use std::alloc::Global;
 
 impl Draft {
-    ghost use Rattle.mdb_pool.specs.Changes.{ending, raising, over_facts};
-    ghost use Rattle.mdb_pool.specs.Standing.{SameHome, SameNotes, Fits, EndsQueue, Clears, Accepts, StandsFor, Answers};
+    ghost use Rattle.mdb_pool.specs.Acts.Changes.{ending, raising, over_facts};
+    ghost use Rattle.mdb_pool.specs.Standing.{SameHome, Fits, Accepts, StandsFor, Answers};
+    ghost use Rattle.mdb_pool.specs.Acts.Doing.{SameNotes, EndsQueue, Clears};
     ghost use Rattle.mdb_log.specs.History.{Item, PoolItem};
-    ghost use Rattle.mdb_pool.specs.Kept.{is_gone, request_at, is_ready_now, is_shut};
+    ghost use Rattle.mdb_pool.specs.Kept.Values.{is_gone, request_at, is_ready_now, is_shut};
     ghost use Rattle.std.specs.Prelude.{true, None};
     ghost use Rattle.mdb_log.specs.declared.step.Act.TheVariants.{Clear as ClearAct};
     ghost use Rattle.mdb_events.specs.declared.fact.Fact.TheVariants.{Raised};
@@ -188,11 +189,12 @@ impl Draft {
 }
 
 impl PoolCore {
-    ghost use Rattle.mdb_pool.specs.Changes.{ending, raising, over_facts};
-    ghost use Rattle.mdb_pool.specs.Standing.{SameHome, SameNotes, Fits, EndsQueue, Clears, Accepts, StandsFor, Answers};
+    ghost use Rattle.mdb_pool.specs.Acts.Changes.{ending, raising, over_facts};
+    ghost use Rattle.mdb_pool.specs.Standing.{SameHome, Fits, Accepts, StandsFor, Answers};
+    ghost use Rattle.mdb_pool.specs.Acts.Doing.{SameNotes, EndsQueue, Clears};
     ghost use Rattle.mdb_pool.specs.Planning.{Passes};
     ghost use Rattle.mdb_log.specs.History.{Item, PoolItem};
-    ghost use Rattle.mdb_pool.specs.Kept.{is_ready_now, is_shut};
+    ghost use Rattle.mdb_pool.specs.Kept.Values.{is_ready_now, is_shut};
     ghost use Rattle.std.specs.Prelude.{true, None};
     ghost use Rattle.mdb_log.specs.declared.step.Act.TheVariants.{Clear as ClearAct};
     ghost use Rattle.mdb_events.specs.declared.fact.Fact.TheVariants.{Raised};

@@ -2,7 +2,7 @@
 
 ghost use Rattle.std.specs.Prelude.{◌≡◌, ◌++◌, ◌∷◌, [], not, OnOk, IfOk, List, filter, OnErr};
 ghost use Rattle.std.specs.List.{filter_map};
-ghost use Rattle.mdb_pool.specs.Places.{is_available, is_pending};
+ghost use Rattle.mdb_pool.specs.Kept.Places.{is_available, is_pending};
 
 use crate::kept::draft::Draft;
 use crate::kept::request::{Phase, Request};
@@ -14,11 +14,11 @@ use mdb_events::{CmapEvent, ConnectionClosedReason, End, Fact, PoolClosedEvent};
 use std::alloc::Global;
 
 impl Draft {
-    ghost use Rattle.mdb_pool.specs.Changes.{closing, shut_facts, off_facts, ended_one, available_ones, pending_ones, unserved_ones};
-    ghost use Rattle.mdb_pool.specs.Ended.{ended_all};
+    ghost use Rattle.mdb_pool.specs.Acts.Changes.{closing, shut_facts, off_facts, ended_one, available_ones, pending_ones, unserved_ones};
+    ghost use Rattle.mdb_pool.specs.Acts.Ended.{ended_all};
     ghost use Rattle.mdb_pool.specs.Standing.{SameHome, Fits, Accepts};
     ghost use Rattle.mdb_log.specs.History.{PoolItem};
-    ghost use Rattle.mdb_pool.specs.Kept.{request_at, unserved_in};
+    ghost use Rattle.mdb_pool.specs.Kept.Values.{request_at, unserved_in};
     ghost use Rattle.mdb_log.specs.declared.step.Act.TheVariants.{Close};
     ghost use Rattle.mdb_pool_rules.specs.Facts.{pool_closed_fact};
 
@@ -206,11 +206,11 @@ impl Draft {
 }
 
 impl PoolCore {
-    ghost use Rattle.mdb_pool.specs.Changes.{closing, shut_facts, off_facts, available_ones, pending_ones, unserved_ones};
+    ghost use Rattle.mdb_pool.specs.Acts.Changes.{closing, shut_facts, off_facts, available_ones, pending_ones, unserved_ones};
     ghost use Rattle.mdb_pool.specs.Standing.{SameHome, Fits, Accepts, StandsFor, Answers};
     ghost use Rattle.mdb_pool.specs.Planning.{Passes};
     ghost use Rattle.mdb_log.specs.History.{Item, PoolItem};
-    ghost use Rattle.mdb_pool.specs.Kept.{unserved_in};
+    ghost use Rattle.mdb_pool.specs.Kept.Values.{unserved_in};
     ghost use Rattle.mdb_log.specs.declared.step.Act.TheVariants.{Close};
     ghost use Rattle.mdb_pool_rules.specs.Facts.{pool_closed_fact};
 

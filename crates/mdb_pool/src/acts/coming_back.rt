@@ -23,10 +23,17 @@ pub(crate) fn as_made(connection: Connection, made: Established) -> Connection
     }
 }
 
+/// A connection that comes back, and why it is closed: `None` where it is available from then on.
+#[derive(Clone, Copy)]
+pub(crate) struct CheckIn {
+    pub connection: Connection,
+    pub reason: Option<ConnectionClosedReason>,
+}
+
 impl Draft {
-    ghost use Rattle.mdb_pool.specs.Places.{is_queued};
-    ghost use Rattle.mdb_pool.specs.Kept.{is_gone, request_at, connection_at};
-    ghost use Rattle.mdb_pool.specs.Changes.{returning_for, pooling, pooling_for, filling_for, quitting, leaving, handing_for, to_pin, back_facts, placed, finishing};
+    ghost use Rattle.mdb_pool.specs.Kept.Places.{is_queued};
+    ghost use Rattle.mdb_pool.specs.Kept.Values.{is_gone, request_at, connection_at};
+    ghost use Rattle.mdb_pool.specs.Acts.Changes.{returning_for, pooling, pooling_for, filling_for, quitting, leaving, handing_for, to_pin, back_facts, placed, finishing};
     ghost use Rattle.mdb_pool.specs.declared.kept.request.Phase.TheVariants.{Ended as EndedPhase};
     ghost use Rattle.mdb_events.specs.declared.fact.Fact.TheVariants.{Ended};
     ghost use Rattle.mdb_events.specs.declared.end.End.TheVariants.{GaveUp, Filled};
@@ -123,20 +130,19 @@ impl Draft {
         alloc: Global,
         facts: &mut Vec<Fact>,
         moment: Moment,
-        connection: Connection,
+        back: CheckIn,
         made: Established,
-        reason: Option<ConnectionClosedReason>,
     ) -> Result<(), OutOfMemory>
-        requires lives { is_some (connection_at self.old connection.id) ≡ true }
-        ensures core { OnOk result (self.new ≡ pooling_for self.old moment connection made reason) }
-        ensures facts { OnOk result (facts.new.items ≡ facts.old.items ++ ready_fact self.old.pool self.old.address connection.id (moment - connection.created_at) ∷ back_facts self.old (record connection { service = made.service_id; wire = Some made.wire }) reason) }
+        requires lives { is_some (connection_at self.old back.connection.id) ≡ true }
+        ensures core { OnOk result (self.new ≡ pooling_for self.old moment back.connection made back.reason) }
+        ensures facts { OnOk result (facts.new.items ≡ facts.old.items ++ ready_fact self.old.pool self.old.address back.connection.id (moment - back.connection.created_at) ∷ back_facts self.old (record back.connection { service = made.service_id; wire = Some made.wire }) back.reason) }
         ensures inner { self.new.inner ≡ self.old.inner }
     {
-        let connection = as_made(connection, made);
+        let connection = as_made(back.connection, made);
         self.push_ready(facts, moment, connection)?;
-        self.push_back(facts, connection, reason)?;
+        self.push_back(facts, connection, back.reason)?;
         self.set_last(moment);
-        self.place_back(alloc, moment, connection, reason)?;
+        self.place_back(alloc, moment, connection, back.reason)?;
         Ok(())
     }
 
@@ -167,18 +173,17 @@ impl Draft {
         alloc: Global,
         facts: &mut Vec<Fact>,
         moment: Moment,
-        connection: Connection,
+        back: CheckIn,
         made: Established,
         request: Request,
-        reason: Option<ConnectionClosedReason>,
     ) -> Result<(), OutOfMemory>
         requires there { is_gone self.old.settled (request_at self.old request.number) ≡ false }
-        requires lives { is_some (connection_at self.old connection.id) ≡ true }
-        ensures core { OnOk result (self.new ≡ filling_for self.old moment connection made request reason) }
-        ensures facts { OnOk result (facts.new.items ≡ facts.old.items ++ (ready_fact self.old.pool self.old.address connection.id (moment - connection.created_at) ∷ back_facts self.old (record connection { service = made.service_id; wire = Some made.wire }) reason) ++ Ended request.number Filled ∷ []) }
+        requires lives { is_some (connection_at self.old back.connection.id) ≡ true }
+        ensures core { OnOk result (self.new ≡ filling_for self.old moment back.connection made request back.reason) }
+        ensures facts { OnOk result (facts.new.items ≡ facts.old.items ++ (ready_fact self.old.pool self.old.address back.connection.id (moment - back.connection.created_at) ∷ back_facts self.old (record back.connection { service = made.service_id; wire = Some made.wire }) back.reason) ++ Ended request.number Filled ∷ []) }
         ensures inner { self.new.inner ≡ self.old.inner }
     {
-        self.pool_connection(alloc, facts, moment, connection, made, reason)?;
+        self.pool_connection(alloc, facts, moment, back, made)?;
         self.end_warm(alloc, facts, request, &End::Filled)
     }
 
@@ -262,20 +267,19 @@ impl Draft {
         alloc: Global,
         facts: &mut Vec<Fact>,
         moment: Moment,
-        connection: Connection,
+        back: CheckIn,
         request: Request,
-        reason: Option<ConnectionClosedReason>,
     ) -> Result<(), OutOfMemory>
         requires came { is_some (request_at self.old request.number) ≡ true }
         requires there { is_gone self.old.settled (request_at self.old request.number) ≡ false }
-        requires lives { is_some (connection_at self.old connection.id) ≡ true }
-        ensures core { OnOk result (self.new ≡ returning_for self.old moment connection request reason) }
-        ensures facts { OnOk result (facts.new.items ≡ facts.old.items ++ back_facts self.old connection reason) }
+        requires lives { is_some (connection_at self.old back.connection.id) ≡ true }
+        ensures core { OnOk result (self.new ≡ returning_for self.old moment back.connection request back.reason) }
+        ensures facts { OnOk result (facts.new.items ≡ facts.old.items ++ back_facts self.old back.connection back.reason) }
         ensures inner { self.new.inner ≡ self.old.inner }
     {
-        self.push_back(facts, connection, reason)?;
+        self.push_back(facts, back.connection, back.reason)?;
         self.finish(alloc, moment, request, Phase::Over)?;
-        self.place_back(alloc, moment, connection, reason)?;
+        self.place_back(alloc, moment, back.connection, back.reason)?;
         Ok(())
     }
 
@@ -333,21 +337,20 @@ impl Draft {
         alloc: Global,
         facts: &mut Vec<Fact>,
         moment: Moment,
-        connection: Connection,
+        back: CheckIn,
         request: Request,
-        reason: Option<ConnectionClosedReason>,
     ) -> Result<(), OutOfMemory>
         requires came { is_some (request_at self.old request.number) ≡ true }
         requires there { is_gone self.old.settled (request_at self.old request.number) ≡ false }
-        requires lives { is_some (connection_at self.old connection.id) ≡ true }
-        ensures core { OnOk result (self.new ≡ handing_for self.old moment connection request reason) }
-        ensures facts { OnOk result (facts.new.items ≡ facts.old.items ++ Ended request.number GaveUp ∷ back_facts self.old connection reason) }
+        requires lives { is_some (connection_at self.old back.connection.id) ≡ true }
+        ensures core { OnOk result (self.new ≡ handing_for self.old moment back.connection request back.reason) }
+        ensures facts { OnOk result (facts.new.items ≡ facts.old.items ++ Ended request.number GaveUp ∷ back_facts self.old back.connection back.reason) }
         ensures inner { self.new.inner ≡ self.old.inner }
     {
         facts.push(Fact::Ended(request.number, End::GaveUp))?;
-        self.push_back(facts, connection, reason)?;
+        self.push_back(facts, back.connection, back.reason)?;
         self.finish(alloc, moment, request, Phase::Ended(End::GaveUp))?;
-        self.place_back(alloc, moment, connection, reason)?;
+        self.place_back(alloc, moment, back.connection, back.reason)?;
         Ok(())
     }
 }

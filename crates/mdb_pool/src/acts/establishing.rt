@@ -2,7 +2,7 @@
 
 ghost use Rattle.std.specs.Prelude.{◌≡◌, ◌∷◌, OnOk, OnErr, IfOk, List, true};
 
-use crate::acts::coming_back::as_made;
+use crate::acts::coming_back::{CheckIn, as_made};
 use crate::kept::draft::Draft;
 use crate::pool_core::PoolCore;
 use crate::{Act, Established, Reply, Step};
@@ -11,7 +11,7 @@ use mdb_events::Fact;
 use std::alloc::Global;
 
 impl Draft {
-    ghost use Rattle.mdb_pool.specs.Kept.{connection_at, is_pending_at};
+    ghost use Rattle.mdb_pool.specs.Kept.Values.{connection_at, is_pending_at};
     ghost use Rattle.mdb_pool.specs.Standing.{SameHome, Fits, Accepts, StandsFor, Answers};
     ghost use Rattle.mdb_log.specs.History.{Item, PoolItem, established};
     ghost use Rattle.mdb_log.specs.declared.step.Act.TheVariants.{Established as EstablishedAct};
@@ -37,10 +37,11 @@ impl Draft {
         };
         let up = as_made(connection, made);
         let reason = self.reason_now(up);
+        let back = CheckIn { connection, reason };
         if let Some(request) = self.holder_request(connection) {
             let request = request.copy()?;
             if request.warm {
-                self.fill_in(alloc, facts, moment, connection, made, request, reason)?;
+                self.fill_in(alloc, facts, moment, back, made, request)?;
                 self.serve(alloc, facts, moment)?;
                 return Ok(Reply::Done);
             }
@@ -50,7 +51,7 @@ impl Draft {
             return Ok(Reply::Done);
         }
         if connection.has_party() {
-            self.pool_connection(alloc, facts, moment, connection, made, reason)?;
+            self.pool_connection(alloc, facts, moment, back, made)?;
             self.serve(alloc, facts, moment)?;
             return Ok(Reply::Done);
         }
@@ -61,7 +62,7 @@ impl Draft {
 }
 
 impl PoolCore {
-    ghost use Rattle.mdb_pool.specs.Kept.{connection_at, is_pending_at};
+    ghost use Rattle.mdb_pool.specs.Kept.Values.{connection_at, is_pending_at};
     ghost use Rattle.mdb_pool.specs.Standing.{SameHome, Fits, Accepts, StandsFor, Answers};
     ghost use Rattle.mdb_pool.specs.Planning.{Passes};
     ghost use Rattle.mdb_log.specs.History.{Item, PoolItem, established};

@@ -11,9 +11,10 @@ use mdb_events::{End, Fact};
 use std::alloc::Global;
 
 impl Draft {
-    ghost use Rattle.mdb_pool.specs.Kept.{is_gone, request_at, first_overdue};
-    ghost use Rattle.mdb_pool.specs.Changes.{ending, over_facts};
-    ghost use Rattle.mdb_pool.specs.Standing.{SameHome, SameNotes, Fits, Expires, Accepts, StandsFor, Answers};
+    ghost use Rattle.mdb_pool.specs.Kept.Values.{is_gone, request_at, first_overdue};
+    ghost use Rattle.mdb_pool.specs.Acts.Changes.{ending, over_facts};
+    ghost use Rattle.mdb_pool.specs.Standing.{SameHome, Fits, Accepts, StandsFor, Answers};
+    ghost use Rattle.mdb_pool.specs.Acts.Doing.{SameNotes, Expires};
     ghost use Rattle.mdb_log.specs.History.{Item, PoolItem};
     ghost use Rattle.mdb_log.specs.declared.step.Act.TheVariants.{Expire as ExpireAct};
     ghost use Rattle.mdb_events.specs.declared.end.End.TheVariants.{TimedOut};
@@ -80,9 +81,10 @@ impl Draft {
 }
 
 impl PoolCore {
-    ghost use Rattle.mdb_pool.specs.Kept.{first_overdue};
-    ghost use Rattle.mdb_pool.specs.Changes.{ending, over_facts};
-    ghost use Rattle.mdb_pool.specs.Standing.{SameHome, SameNotes, Fits, Expires, Accepts, StandsFor, Answers};
+    ghost use Rattle.mdb_pool.specs.Kept.Values.{first_overdue};
+    ghost use Rattle.mdb_pool.specs.Acts.Changes.{ending, over_facts};
+    ghost use Rattle.mdb_pool.specs.Standing.{SameHome, Fits, Accepts, StandsFor, Answers};
+    ghost use Rattle.mdb_pool.specs.Acts.Doing.{SameNotes, Expires};
     ghost use Rattle.mdb_pool.specs.Planning.{Passes};
     ghost use Rattle.mdb_log.specs.History.{Item, PoolItem};
     ghost use Rattle.mdb_log.specs.declared.step.Act.TheVariants.{Expire as ExpireAct};

@@ -26,9 +26,9 @@ fn failure_of(end: &End) -> ConnectionCheckoutFailedReason
 }
 
 impl Draft {
-    ghost use Rattle.mdb_pool.specs.Kept.{is_gone, request_at, connection_at, is_pending_at};
+    ghost use Rattle.mdb_pool.specs.Kept.Values.{is_gone, request_at, connection_at, is_pending_at};
     ghost use Rattle.mdb_log.specs.History.{service_in};
-    ghost use Rattle.mdb_pool.specs.Changes.{failing, forgetting, over_facts};
+    ghost use Rattle.mdb_pool.specs.Acts.Changes.{failing, forgetting, over_facts};
     ghost use Rattle.mdb_pool.specs.Standing.{SameHome, Fits, Accepts, StandsFor, Answers};
     ghost use Rattle.mdb_log.specs.History.{Item, PoolItem, failed};
     ghost use Rattle.mdb_log.specs.declared.step.Act.TheVariants.{Failed as FailedAct};
@@ -141,9 +141,9 @@ impl Draft {
 }
 
 impl PoolCore {
-    ghost use Rattle.mdb_pool.specs.Kept.{connection_at, is_pending_at};
+    ghost use Rattle.mdb_pool.specs.Kept.Values.{connection_at, is_pending_at};
     ghost use Rattle.mdb_log.specs.History.{service_in};
-    ghost use Rattle.mdb_pool.specs.Changes.{failing, forgetting, over_facts};
+    ghost use Rattle.mdb_pool.specs.Acts.Changes.{failing, forgetting, over_facts};
     ghost use Rattle.mdb_pool.specs.Standing.{SameHome, Fits, Accepts, StandsFor, Answers};
     ghost use Rattle.mdb_pool.specs.Planning.{Passes};
     ghost use Rattle.mdb_log.specs.History.{Item, PoolItem, failed};

@@ -2,6 +2,7 @@
 
 ghost use Rattle.std.specs.Prelude.{◌≡◌, ◌∷◌, OnOk, OnErr, IfOk, List, true, false, Some};
 
+use crate::acts::coming_back::CheckIn;
 use crate::kept::clears::used_as;
 use crate::kept::connection::Connection;
 use crate::kept::draft::Draft;
@@ -14,7 +15,8 @@ use std::alloc::Global;
 
 impl Draft {
     ghost use Rattle.mdb_log.specs.Connections.{has};
-    ghost use Rattle.mdb_pool.specs.Kept.{request_at, is_ended_at, is_asked_at, is_open_now, held_connection};
+    ghost use Rattle.mdb_pool.specs.Kept.Values.{request_at, is_ended_at, is_asked_at, held_connection};
+    ghost use Rattle.mdb_pool.specs.Now.{is_open_now};
     ghost use Rattle.mdb_pool.specs.Standing.{SameHome, Fits, Accepts, StandsFor, Answers};
     ghost use Rattle.mdb_log.specs.History.{Item, PoolItem, gave_up};
     ghost use Rattle.mdb_log.specs.declared.step.Act.TheVariants.{GiveUp};
@@ -68,7 +70,11 @@ impl Draft {
             return Ok(Reply::Done);
         }
         let reason = self.reason_now(back);
-        self.hand_back(alloc, facts, moment, back, request, reason)?;
+        let check_in = CheckIn {
+            connection: back,
+            reason,
+        };
+        self.hand_back(alloc, facts, moment, check_in, request)?;
         self.serve(alloc, facts, moment)?;
         Ok(Reply::Done)
     }
@@ -111,7 +117,7 @@ impl Draft {
 }
 
 impl PoolCore {
-    ghost use Rattle.mdb_pool.specs.Kept.{request_at, is_ended_at, is_asked_at, held_connection};
+    ghost use Rattle.mdb_pool.specs.Kept.Values.{request_at, is_ended_at, is_asked_at, held_connection};
     ghost use Rattle.mdb_pool.specs.Standing.{SameHome, Fits, Accepts, StandsFor, Answers};
     ghost use Rattle.mdb_pool.specs.Planning.{Passes};
     ghost use Rattle.mdb_log.specs.History.{Item, PoolItem, gave_up};

@@ -11,8 +11,8 @@ use mdb_events::Fact;
 use std::alloc::Global;
 
 impl Draft {
-    ghost use Rattle.mdb_pool.specs.Changes.{pinning};
-    ghost use Rattle.mdb_pool.specs.Kept.{held_connection, connection_at, pins_at};
+    ghost use Rattle.mdb_pool.specs.Acts.Changes.{pinning};
+    ghost use Rattle.mdb_pool.specs.Kept.Values.{held_connection, connection_at, pins_at};
     ghost use Rattle.mdb_pool.specs.Standing.{SameHome, Fits, Accepts, StandsFor, Answers};
     ghost use Rattle.mdb_log.specs.History.{PoolItem, pinned_by, replicated};
     ghost use Rattle.mdb_log.specs.declared.step.Act.TheVariants.{Pin, Replicate};
@@ -83,8 +83,8 @@ impl Draft {
 }
 
 impl PoolCore {
-    ghost use Rattle.mdb_pool.specs.Changes.{pinning};
-    ghost use Rattle.mdb_pool.specs.Kept.{held_connection, connection_at, pins_at};
+    ghost use Rattle.mdb_pool.specs.Acts.Changes.{pinning};
+    ghost use Rattle.mdb_pool.specs.Kept.Values.{held_connection, connection_at, pins_at};
     ghost use Rattle.mdb_pool.specs.Standing.{SameHome, Fits, Accepts, StandsFor, Answers};
     ghost use Rattle.mdb_pool.specs.Planning.{Passes};
     ghost use Rattle.mdb_log.specs.Connections.{pins};

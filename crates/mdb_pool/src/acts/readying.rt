@@ -11,7 +11,7 @@ use mdb_events::{CmapEvent, Fact, PoolReadyEvent};
 use std::alloc::Global;
 
 impl Draft {
-    ghost use Rattle.mdb_pool.specs.Changes.{readied_to, readied_facts};
+    ghost use Rattle.mdb_pool.specs.Acts.Changes.{readied_to, readied_facts};
     ghost use Rattle.mdb_pool.specs.Standing.{SameHome, Fits, Accepts, StandsFor, Answers};
     ghost use Rattle.mdb_log.specs.History.{Item, PoolItem};
     ghost use Rattle.mdb_log.specs.declared.step.Act.TheVariants.{Ready as ReadyAct};
@@ -55,7 +55,7 @@ impl Draft {
 }
 
 impl PoolCore {
-    ghost use Rattle.mdb_pool.specs.Changes.{readied_to, readied_facts};
+    ghost use Rattle.mdb_pool.specs.Acts.Changes.{readied_to, readied_facts};
     ghost use Rattle.mdb_pool.specs.Standing.{SameHome, Fits, Accepts, StandsFor, Answers};
     ghost use Rattle.mdb_pool.specs.Planning.{Passes};
     ghost use Rattle.mdb_log.specs.History.{Item, PoolItem};

@@ -12,9 +12,9 @@ use mdb_events::Fact;
 use std::alloc::Global;
 
 impl Draft {
-    ghost use Rattle.mdb_pool.specs.Changes.{granting_at_once};
+    ghost use Rattle.mdb_pool.specs.Acts.Changes.{granting_at_once};
     ghost use Rattle.mdb_pool_rules.specs.Facts.{started_fact, checked_out_fact};
-    ghost use Rattle.mdb_pool.specs.Kept.{request_at, ready_connection};
+    ghost use Rattle.mdb_pool.specs.Kept.Values.{request_at, ready_connection};
     ghost use Rattle.mdb_events.specs.declared.fact.Fact.TheVariants.{Granted};
     ghost use Rattle.mdb_log.specs.declared.reply.Reply.TheVariants.{Pooled};
     ghost use Rattle.mdb_pool.specs.Standing.{SameHome, Fits, Accepts, StandsFor, Answers};
@@ -97,7 +97,7 @@ impl Draft {
 }
 
 impl PoolCore {
-    ghost use Rattle.mdb_pool.specs.Kept.{request_at};
+    ghost use Rattle.mdb_pool.specs.Kept.Values.{request_at};
     ghost use Rattle.mdb_pool.specs.Standing.{SameHome, Fits, Accepts, StandsFor, Answers};
     ghost use Rattle.mdb_pool.specs.Planning.{Passes};
     ghost use Rattle.mdb_log.specs.History.{Item, PoolItem, asked};

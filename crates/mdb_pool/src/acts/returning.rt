@@ -2,6 +2,7 @@
 
 ghost use Rattle.std.specs.Prelude.{◌≡◌, ◌∷◌, OnOk, OnErr, IfOk, List, true, is_some};
 
+use crate::acts::coming_back::CheckIn;
 use crate::kept::clears::used_as;
 use crate::kept::draft::Draft;
 use crate::kept::request::Phase;
@@ -12,7 +13,7 @@ use mdb_events::Fact;
 use std::alloc::Global;
 
 impl Draft {
-    ghost use Rattle.mdb_pool.specs.Kept.{held_connection};
+    ghost use Rattle.mdb_pool.specs.Kept.Values.{held_connection};
     ghost use Rattle.mdb_pool.specs.Standing.{SameHome, Fits, Accepts, StandsFor, Answers};
     ghost use Rattle.mdb_log.specs.History.{Item, PoolItem, returned};
     ghost use Rattle.mdb_log.specs.declared.step.Act.TheVariants.{Return as ReturnAct};
@@ -47,14 +48,18 @@ impl Draft {
             return Ok(Reply::Done);
         }
         let reason = self.reason_now(back);
-        self.give_back(alloc, facts, moment, back, request, reason)?;
+        let check_in = CheckIn {
+            connection: back,
+            reason,
+        };
+        self.give_back(alloc, facts, moment, check_in, request)?;
         self.serve(alloc, facts, moment)?;
         Ok(Reply::Done)
     }
 }
 
 impl PoolCore {
-    ghost use Rattle.mdb_pool.specs.Kept.{held_connection};
+    ghost use Rattle.mdb_pool.specs.Kept.Values.{held_connection};
     ghost use Rattle.mdb_pool.specs.Standing.{SameHome, Fits, Accepts, StandsFor, Answers};
     ghost use Rattle.mdb_pool.specs.Planning.{Passes};
     ghost use Rattle.mdb_log.specs.History.{Item, PoolItem, returned};

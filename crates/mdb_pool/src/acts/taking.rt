@@ -12,8 +12,8 @@ use mdb_events::Fact;
 use std::alloc::Global;
 
 impl Draft {
-    ghost use Rattle.mdb_pool.specs.Changes.{taking};
-    ghost use Rattle.mdb_pool.specs.Kept.{connection_at, request_at, pins_at, is_held_at};
+    ghost use Rattle.mdb_pool.specs.Acts.Changes.{taking};
+    ghost use Rattle.mdb_pool.specs.Kept.Values.{connection_at, request_at, pins_at, is_held_at};
     ghost use Rattle.mdb_pool.specs.Standing.{SameHome, Fits, Accepts, StandsFor, Answers};
     ghost use Rattle.mdb_log.specs.History.{Item, PoolItem, taken};
     ghost use Rattle.mdb_log.specs.declared.step.Act.TheVariants.{Take};
@@ -82,8 +82,8 @@ impl Draft {
 }
 
 impl PoolCore {
-    ghost use Rattle.mdb_pool.specs.Changes.{taking};
-    ghost use Rattle.mdb_pool.specs.Kept.{connection_at, request_at, pins_at, is_held_at};
+    ghost use Rattle.mdb_pool.specs.Acts.Changes.{taking};
+    ghost use Rattle.mdb_pool.specs.Kept.Values.{connection_at, request_at, pins_at, is_held_at};
     ghost use Rattle.mdb_pool.specs.Standing.{SameHome, Fits, Accepts, StandsFor, Answers};
     ghost use Rattle.mdb_pool.specs.Planning.{Passes};
     ghost use Rattle.mdb_log.specs.History.{Item, PoolItem, taken};

@@ -11,8 +11,8 @@ use mdb_events::{ConnectionClosedReason, Fact};
 use std::alloc::Global;
 
 impl Draft {
-    ghost use Rattle.mdb_pool.specs.Changes.{unpinned_once, unpinning, pin_ending, back_facts};
-    ghost use Rattle.mdb_pool.specs.Kept.{connection_at, pins_at};
+    ghost use Rattle.mdb_pool.specs.Acts.Changes.{unpinned_once, unpinning, pin_ending, back_facts};
+    ghost use Rattle.mdb_pool.specs.Kept.Values.{connection_at, pins_at};
     ghost use Rattle.mdb_pool.specs.Standing.{SameHome, Fits, Accepts, StandsFor, Answers};
     ghost use Rattle.mdb_log.specs.History.{Item, PoolItem, unpinned};
     ghost use Rattle.mdb_log.specs.declared.step.Act.TheVariants.{Unpin};
@@ -98,8 +98,8 @@ impl Draft {
 }
 
 impl PoolCore {
-    ghost use Rattle.mdb_pool.specs.Changes.{unpinned_once, unpinning, pin_ending, back_facts};
-    ghost use Rattle.mdb_pool.specs.Kept.{connection_at, pins_at};
+    ghost use Rattle.mdb_pool.specs.Acts.Changes.{unpinned_once, unpinning, pin_ending, back_facts};
+    ghost use Rattle.mdb_pool.specs.Kept.Values.{connection_at, pins_at};
     ghost use Rattle.mdb_pool.specs.Standing.{SameHome, Fits, Accepts, StandsFor, Answers};
     ghost use Rattle.mdb_pool.specs.Planning.{Passes};
     ghost use Rattle.mdb_log.specs.History.{Item, PoolItem, unpinned};

@@ -10,7 +10,7 @@ use mdb_events::Fact;
 use std::alloc::Global;
 
 impl Draft {
-    ghost use Rattle.mdb_pool.specs.Kept.{request_at};
+    ghost use Rattle.mdb_pool.specs.Kept.Values.{request_at};
     ghost use Rattle.mdb_pool.specs.Standing.{SameHome, Fits, Accepts, StandsFor, Answers};
     ghost use Rattle.mdb_log.specs.History.{Item, PoolItem, warmed};
     ghost use Rattle.mdb_log.specs.declared.step.Act.TheVariants.{Warm as WarmAct};
@@ -38,7 +38,7 @@ impl Draft {
 }
 
 impl PoolCore {
-    ghost use Rattle.mdb_pool.specs.Kept.{request_at};
+    ghost use Rattle.mdb_pool.specs.Kept.Values.{request_at};
     ghost use Rattle.mdb_pool.specs.Standing.{SameHome, Fits, Accepts, StandsFor, Answers};
     ghost use Rattle.mdb_pool.specs.Planning.{Passes};
     ghost use Rattle.mdb_log.specs.History.{Item, PoolItem, warmed};

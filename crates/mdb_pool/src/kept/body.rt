@@ -2,7 +2,7 @@
 
 ghost use Rattle.std.specs.Prelude.{◌≡◌};
 ghost use Rattle.mdb_pool.specs.Core.{SameKept};
-ghost use Rattle.mdb_pool.specs.Body.{now_of, inner_of, pool_of, led, PoolFits};
+ghost use Rattle.mdb_pool.specs.Kept.Body.{now_of, inner_of, pool_of, led, PoolFits};
 
 use crate::PoolOptions;
 use crate::kept::connections::{Connections, ConnectionsRedo};
@@ -43,7 +43,7 @@ pub struct BodyRedo {
 
 impl Model for BodyRedo {
     ghost use Rattle.mdb_pool.specs.Core.{SameKept};
-    ghost use Rattle.mdb_pool.specs.Body.{PoolSteps};
+    ghost use Rattle.mdb_pool.specs.Kept.Body.{PoolSteps};
 
     ghost Value = { PoolSteps };
 

@@ -2,7 +2,7 @@
 
 ghost use Rattle.std.specs.Prelude.{◌≡◌, ◌∷◌, ◌++◌, []};
 ghost use Rattle.mdb_slots.specs.Open.{or_else};
-ghost use Rattle.mdb_pool.specs.Claiming.{claimed_after, no_claims};
+ghost use Rattle.mdb_pool.specs.Kept.Claiming.{claimed_after, no_claims};
 
 use mdb_past::{Past, Tells};
 use mdb_slots::UndoCell;
@@ -20,7 +20,7 @@ pub struct Claims {
 }
 
 impl Model for Claims {
-    ghost use Rattle.mdb_pool.specs.Claiming.{OpenClaims};
+    ghost use Rattle.mdb_pool.specs.Kept.Claiming.{OpenClaims};
 
     ghost Value = { OpenClaims };
 
@@ -36,7 +36,7 @@ pub struct ClaimsRedo {
 }
 
 impl Model for ClaimsRedo {
-    ghost use Rattle.mdb_pool.specs.Claiming.{CountSteps};
+    ghost use Rattle.mdb_pool.specs.Kept.Claiming.{CountSteps};
 
     ghost Value = { CountSteps };
 

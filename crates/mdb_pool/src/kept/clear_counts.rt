@@ -1,7 +1,7 @@
 //! How often a pool was cleared, with changes that can be taken back.
 
 ghost use Rattle.std.specs.Prelude.{◌≡◌, ◌∷◌, ◌++◌, []};
-ghost use Rattle.mdb_pool.specs.Clearing.{cleared_after};
+ghost use Rattle.mdb_pool.specs.Kept.Clearing.{cleared_after};
 
 use crate::kept::marks::Marks;
 use crate::kept::status::Clear;
@@ -20,7 +20,7 @@ pub struct ClearCounts {
 }
 
 impl Model for ClearCounts {
-    ghost use Rattle.mdb_pool.specs.Clearing.{OpenCleared};
+    ghost use Rattle.mdb_pool.specs.Kept.Clearing.{OpenCleared};
 
     ghost Value = { OpenCleared };
 
@@ -35,7 +35,7 @@ pub struct ClearCountsRedo {
 }
 
 impl Model for ClearCountsRedo {
-    ghost use Rattle.mdb_pool.specs.Clearing.{ClearSteps};
+    ghost use Rattle.mdb_pool.specs.Kept.Clearing.{ClearSteps};
 
     ghost Value = { ClearSteps };
 

@@ -2,7 +2,7 @@
 
 ghost use Rattle.std.specs.Prelude.{◌≡◌};
 ghost use Rattle.mdb_log.specs.History.{same_service};
-ghost use Rattle.mdb_pool.specs.Kept.{clears_for, clears_before, used_as};
+ghost use Rattle.mdb_pool.specs.Kept.Values.{used_as};
 ghost use Rattle.mdb_log.specs.Connections.{is_dropped};
 
 use crate::kept::connection::Connection;
@@ -39,8 +39,9 @@ pub(crate) fn used_as(connection: Connection, used: Use) -> Connection
 }
 
 impl PoolCore {
-    ghost use Rattle.std.specs.Prelude.{is_some, true, if◌then◌else◌, Some, None, List};
-    ghost use Rattle.mdb_pool.specs.Kept.{connection_at, generation_at, interrupted_at};
+    ghost use Rattle.std.specs.Prelude.{true, if◌then◌else◌, Some, None, List};
+    ghost use Rattle.mdb_pool.specs.Kept.Values.{connection_at, interrupted_at};
+    ghost use Rattle.mdb_pool.specs.Now.{clears_before_now, clears_now, generation_now, is_live_now};
     ghost use Rattle.mdb_log.specs.Generations.{carried};
     ghost use Rattle.mdb_pool.specs.Standing.{Fits};
     ghost use Rattle.mdb_log.specs.History.{PoolItem};
@@ -49,7 +50,7 @@ impl PoolCore {
 
     /// How often the pool was cleared: for the service, or as a whole where there is none (CMAP, "Generation").
     pub fn generation(&self, service: Option<ObjectId>) -> u64
-        ensures kept { result ≡ clears_for service self.now.clears }
+        ensures now { result ≡ clears_now self.now service }
         ensures items { (xs : List PoolItem) → Fits self.now xs → result ≡ generation_of xs service }
     {
         self.draft.body.generation(service)
@@ -57,7 +58,7 @@ impl PoolCore {
 
     /// How often it was cleared so before the connection was created, `None` where the connection isn't live.
     pub fn generation_before(&self, id: u32, service: Option<ObjectId>) -> Option<u64>
-        ensures kept { result ≡ if is_some (connection_at self.now id) then Some (clears_before id service self.now.clears) else None }
+        ensures now { result ≡ if is_live_now self.now id then Some (clears_before_now self.now id service) else None }
         ensures items { (xs : List PoolItem) → Fits self.now xs → result ≡ if is_live xs id then Some (generation_before xs id service) else None }
     {
         if self.draft.body.connections.get(id).is_none() {
@@ -68,8 +69,8 @@ impl PoolCore {
 
     // The generation that a connection of the service carries, which lives.
     fn carried(&self, id: u32, service: Option<ObjectId>) -> ConnectionGeneration
-        requires { is_some (connection_at self.now id) ≡ true }
-        ensures { result ≡ carried self.now.options.load_balanced (λ t. clears_before id t self.now.clears) service }
+        requires { is_live_now self.now id ≡ true }
+        ensures { result ≡ carried self.now.options.load_balanced (clears_before_now self.now id) service }
     {
         let connections = &self.draft.body.connections;
         if !self.draft.body.options.load_balanced {
@@ -86,7 +87,7 @@ impl PoolCore {
 
     /// The generation that the connection carries (CMAP, "Generation"), `None` where it isn't live.
     pub fn connection_generation(&self, id: u32) -> Option<ConnectionGeneration>
-        ensures kept { result ≡ generation_at self.now id (connection_at self.now id) }
+        ensures now { result ≡ generation_now self.now id }
         ensures items { (xs : List PoolItem) → Fits self.now xs → result ≡ if is_live xs id then Some (carried self.now.options.load_balanced (generation_before xs id) (known_service xs id)) else None }
     {
         match self.draft.body.connections.get(id) {

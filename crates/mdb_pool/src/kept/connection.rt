@@ -50,8 +50,8 @@ pub struct Connection {
 
 impl Connection {
     ghost use Rattle.std.specs.Prelude.{is_some, ◌&&◌, ◌==◌};
-    ghost use Rattle.mdb_pool.specs.Places.{is_available, is_pending, is_held, is_at_pin, stays};
-    ghost use Rattle.mdb_pool.specs.Changes.{pending_for};
+    ghost use Rattle.mdb_pool.specs.Kept.Places.{is_available, is_pending, is_held, is_at_pin, stays};
+    ghost use Rattle.mdb_pool.specs.Acts.Changes.{pending_for};
 
     /// A new connection, for a party or in the background.
     pub(crate) fn pending(
@@ -138,7 +138,7 @@ impl Keyed for Connection {
 
 // The available connections stand on the left, and the pending ones on the right.
 impl Sided for Connection {
-    ghost use Rattle.mdb_pool.specs.Places.{is_available, is_pending};
+    ghost use Rattle.mdb_pool.specs.Kept.Places.{is_available, is_pending};
 
     ghost service = { λ x. x.service };
 

@@ -10,11 +10,11 @@ ghost use Rattle.mdb_slots.specs.Slots.{listing};
 ghost use Rattle.mdb_slots.specs.Table.{items};
 ghost use Rattle.std.specs.List.Sorted.{IsStrictlySortedBy};
 ghost use Rattle.mdb_base.specs.declared.object_id.ObjectId.{ObjectId};
-ghost use Rattle.mdb_pool.specs.Claiming.{claimed_after, no_claims, ClaimsFit};
-ghost use Rattle.mdb_pool.specs.Clearing.{cleared_after, ClearsFit};
+ghost use Rattle.mdb_pool.specs.Kept.Claiming.{claimed_after, no_claims, ClaimsFit};
+ghost use Rattle.mdb_pool.specs.Kept.Clearing.{cleared_after, ClearsFit};
 ghost use Rattle.mdb_pool_rules.specs.Jobs.{has_id, id_order};
-ghost use Rattle.mdb_pool.specs.Kept.{clears_before, clears_for, timeouts_in};
-ghost use Rattle.mdb_pool.specs.Places.{is_available, is_pending};
+ghost use Rattle.mdb_pool.specs.Kept.Values.{clears_before, clears_for, timeouts_in};
+ghost use Rattle.mdb_pool.specs.Kept.Places.{is_available, is_pending};
 
 use crate::kept::claims::{Claims, ClaimsRedo};
 use crate::kept::clear_counts::{ClearCounts, ClearCountsRedo};
@@ -38,9 +38,9 @@ pub struct Connections {
 
 impl Model for Connections {
     ghost use Rattle.mdb_slots.specs.Table.{items};
-    ghost use Rattle.mdb_pool.specs.Claiming.{ClaimsFit};
-    ghost use Rattle.mdb_pool.specs.Clearing.{ClearsFit};
-    ghost use Rattle.mdb_pool.specs.Connecting.{OpenConnections};
+    ghost use Rattle.mdb_pool.specs.Kept.Claiming.{ClaimsFit};
+    ghost use Rattle.mdb_pool.specs.Kept.Clearing.{ClearsFit};
+    ghost use Rattle.mdb_pool.specs.Kept.Connecting.{OpenConnections};
 
     ghost Value = { OpenConnections };
 
@@ -58,7 +58,7 @@ pub struct ConnectionsRedo {
 }
 
 impl Model for ConnectionsRedo {
-    ghost use Rattle.mdb_pool.specs.Connecting.{ConnectionSteps};
+    ghost use Rattle.mdb_pool.specs.Kept.Connecting.{ConnectionSteps};
 
     ghost Value = { ConnectionSteps };
 

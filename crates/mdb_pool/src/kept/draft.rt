@@ -5,9 +5,9 @@ ghost use Rattle.mdb_log.specs.Connections.{has};
 ghost use Rattle.mdb_slots.specs.Keyed.{others, put, swap};
 ghost use Rattle.mdb_slots.specs.Lists.{apart};
 ghost use Rattle.mdb_slots.specs.Sided.{stays};
-ghost use Rattle.mdb_pool.specs.Keyed.{marked};
-ghost use Rattle.mdb_pool.specs.Kept.{connection_at, first_unclaimed, is_gone, kept_request, kept_requests, request_at};
-ghost use Rattle.mdb_pool.specs.Places.{is_available, is_done, is_pending, is_queued};
+ghost use Rattle.mdb_pool.specs.Kept.Keyed.{marked};
+ghost use Rattle.mdb_pool.specs.Kept.Values.{connection_at, first_unclaimed, is_gone, kept_request, kept_requests, request_at};
+ghost use Rattle.mdb_pool.specs.Kept.Places.{is_available, is_done, is_pending, is_queued};
 
 use crate::PoolOptions;
 use crate::kept::body::Body;
@@ -26,7 +26,7 @@ pub struct Draft {
 
 impl Model for Draft {
     ghost use Rattle.mdb_pool.specs.Core.{PoolCore};
-    ghost use Rattle.mdb_pool.specs.Body.{now_of};
+    ghost use Rattle.mdb_pool.specs.Kept.Body.{now_of};
 
     ghost Value = { PoolCore };
 

@@ -16,9 +16,9 @@ impl Draft {
     ghost use Rattle.mdb_slots.specs.Keyed.{after_key, entry_before, last_of, rest_of};
     ghost use Rattle.mdb_slots.specs.Sided.{noted};
     ghost use Rattle.mdb_slots.specs.Slots.{listing};
-    ghost use Rattle.mdb_pool.specs.Places.{is_available, is_queued};
-    ghost use Rattle.mdb_pool.specs.Changes.{available_ones, pending_ones};
-    ghost use Rattle.mdb_pool.specs.Kept.{connection_at, pending_count, is_ended_at, request_at, outcome_now, wants_now, candidate_now, fills_now, first_perished, first_overdue, first_queued, last_available, has_room, given_in, held_given, held_connection, pending_connection, kept_holder, kept_requests, first_unclaimed, stale_for, perished_now, reason_now, timeouts_in};
+    ghost use Rattle.mdb_pool.specs.Kept.Places.{is_available, is_queued};
+    ghost use Rattle.mdb_pool.specs.Acts.Changes.{available_ones, pending_ones};
+    ghost use Rattle.mdb_pool.specs.Kept.Values.{connection_at, pending_count, is_ended_at, request_at, outcome_now, wants_now, candidate_now, fills_now, first_perished, first_overdue, first_queued, last_available, has_room, given_in, held_given, held_connection, pending_connection, kept_holder, kept_requests, first_unclaimed, stale_for, perished_now, reason_now, timeouts_in};
 
     pub(crate) fn first_queued(&self) -> Option<&Request>
         ensures { option_copied result ≡ first_queued self.now }

@@ -2,7 +2,7 @@
 
 ghost use Rattle.std.specs.Prelude.{◌≡◌, ◌&&◌, not, nat_lt, option_copied, IfOk, false};
 ghost use Rattle.mdb_log.specs.Connections.{has};
-ghost use Rattle.mdb_pool.specs.Body.{now_of};
+ghost use Rattle.mdb_pool.specs.Kept.Body.{now_of};
 
 use crate::Reply;
 use crate::kept::body::Body;
@@ -13,7 +13,7 @@ use mdb_log::{DEFAULT_MAX_CONNECTING, DEFAULT_MAX_POOL_SIZE};
 
 impl Body {
     ghost use Rattle.mdb_log.specs.State.{max_connecting};
-    ghost use Rattle.mdb_pool.specs.Kept.{wants_now, blocked_now, first_caller, candidate_now, fills_now, first_overdue, overdue_since, first_queued, last_available, pending_count, has_room, given_in, held_given, held_connection, pending_connection, kept_holder, outcome_now, first_unclaimed};
+    ghost use Rattle.mdb_pool.specs.Kept.Values.{wants_now, blocked_now, first_caller, candidate_now, fills_now, first_overdue, overdue_since, first_queued, last_available, pending_count, has_room, given_in, held_given, held_connection, pending_connection, kept_holder, outcome_now, first_unclaimed};
 
     pub(crate) fn first_queued(&self) -> Option<&Request>
         ensures { option_copied result ≡ first_queued (now_of self.now) }

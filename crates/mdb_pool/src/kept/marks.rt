@@ -3,7 +3,7 @@
 ghost use Rattle.std.specs.Prelude.{◌≡◌, ◌<◌, ◌+◌, ◌≤◌, true, find, is_some, if◌then◌else◌, Some, None, IfOk, IfSome, OnOk};
 ghost use Rattle.mdb_log.specs.History.{same_service};
 ghost use Rattle.std.specs.List.Sorted.{IsStrictlySortedBy};
-ghost use Rattle.mdb_pool.specs.Clearing.{counts_at, parts_at, weigh, AreMarked, JoinsAt, Grown};
+ghost use Rattle.mdb_pool.specs.Kept.Clearing.{counts_at, parts_at, weigh, AreMarked, JoinsAt, Grown};
 ghost use Rattle.mdb_pool_rules.specs.Jobs.{id_order};
 
 use crate::kept::clears::same_service;

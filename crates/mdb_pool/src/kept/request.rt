@@ -35,7 +35,7 @@ pub struct Request {
 }
 
 impl Request {
-    ghost use Rattle.mdb_pool.specs.Places.{is_done, is_queued};
+    ghost use Rattle.mdb_pool.specs.Kept.Places.{is_done, is_queued};
 
     /// It waits to be served.
     pub(crate) fn is_queued(&self) -> bool
@@ -81,7 +81,7 @@ impl Keyed for Request {
 // The queued requests stand on the right, and the warm ones of them on the left as well.
 impl Sided for Request {
     ghost use Rattle.std.specs.Prelude.{None, ◌&&◌};
-    ghost use Rattle.mdb_pool.specs.Places.{is_queued};
+    ghost use Rattle.mdb_pool.specs.Kept.Places.{is_queued};
 
     ghost service = { λ q. None };
 

@@ -6,10 +6,10 @@ ghost use Rattle.mdb_slots.specs.Keyed.{put, swap};
 ghost use Rattle.mdb_slots.specs.Lists.{has as among};
 ghost use Rattle.mdb_slots.specs.NumberSet.{numbers_kept};
 ghost use Rattle.mdb_slots.specs.Table.{items};
-ghost use Rattle.mdb_pool.specs.Asking.{asked_base, asked_room, PartsFit};
-ghost use Rattle.mdb_pool.specs.Keyed.{marked};
-ghost use Rattle.mdb_pool.specs.Kept.{is_gone, lingers, request_in};
-ghost use Rattle.mdb_pool.specs.Places.{is_done, is_queued};
+ghost use Rattle.mdb_pool.specs.Kept.Asking.{asked_base, asked_room, PartsFit};
+ghost use Rattle.mdb_pool.specs.Kept.Keyed.{marked};
+ghost use Rattle.mdb_pool.specs.Kept.Values.{is_gone, lingers, request_in};
+ghost use Rattle.mdb_pool.specs.Kept.Places.{is_done, is_queued};
 
 use crate::kept::request::Request;
 use mdb_base::OutOfMemory;
@@ -69,7 +69,7 @@ impl<'a> Tells<(&'a Past<Request>, &'a Request), Request> for Swapped {
 struct Noted;
 
 impl<'a> Tells<(&'a Past<u32>, &'a u32), u32> for Noted {
-    ghost use Rattle.mdb_pool.specs.Keyed.{marked};
+    ghost use Rattle.mdb_pool.specs.Kept.Keyed.{marked};
 
     ghost told = { λ x. marked x.1.now x.0.now.value };
 }

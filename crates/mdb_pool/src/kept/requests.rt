@@ -4,10 +4,10 @@ ghost use Rattle.std.specs.Prelude.{◌≡◌, ◌&&◌, ◌||◌, [], true, fal
 ghost use Rattle.mdb_log.specs.Connections.{has};
 ghost use Rattle.mdb_slots.specs.Keyed.{after_key, entry_before, last_of, put, rest_of, swap};
 ghost use Rattle.mdb_slots.specs.Lists.{apart};
-ghost use Rattle.mdb_pool.specs.Asking.{asked_after, asked_room_after, AskedFits};
-ghost use Rattle.mdb_pool.specs.Keyed.{marked};
-ghost use Rattle.mdb_pool.specs.Kept.{if_lingers, is_asked_at, is_gone, lingers, request_in};
-ghost use Rattle.mdb_pool.specs.Places.{is_done, is_queued};
+ghost use Rattle.mdb_pool.specs.Kept.Asking.{asked_after, asked_room_after, AskedFits};
+ghost use Rattle.mdb_pool.specs.Kept.Keyed.{marked};
+ghost use Rattle.mdb_pool.specs.Kept.Values.{if_lingers, is_asked_at, is_gone, lingers, request_in};
+ghost use Rattle.mdb_pool.specs.Kept.Places.{is_done, is_queued};
 
 use crate::kept::request::Request;
 use crate::kept::request_parts::{RequestParts, SameNumbers, SameRequests};
@@ -24,7 +24,7 @@ pub struct Requests {
 }
 
 impl Model for Requests {
-    ghost use Rattle.mdb_pool.specs.Asking.{asked_base, asked_room, BaseFits, OpenRequests, PartsFit};
+    ghost use Rattle.mdb_pool.specs.Kept.Asking.{asked_base, asked_room, BaseFits, OpenRequests, PartsFit};
 
     ghost Value = { OpenRequests };
 
@@ -44,7 +44,7 @@ pub struct RequestsRedo {
 }
 
 impl Model for RequestsRedo {
-    ghost use Rattle.mdb_pool.specs.Asking.{AskedSteps};
+    ghost use Rattle.mdb_pool.specs.Kept.Asking.{AskedSteps};
 
     ghost Value = { AskedSteps };
 

@@ -41,7 +41,7 @@ pub struct Clear {
 
 impl Status {
     ghost use Rattle.std.specs.Prelude.{◌≡◌};
-    ghost use Rattle.mdb_pool.specs.Kept.{is_ready_now, is_shut, state_in};
+    ghost use Rattle.mdb_pool.specs.Kept.Values.{is_ready_now, is_shut, state_in};
     ghost use Rattle.mdb_log.specs.State.{is_ready, is_new};
     ghost use Rattle.std.specs.Prelude.{if◌then◌else◌, false};
 

@@ -10,8 +10,8 @@ use std::alloc::Global;
 impl Draft {
     ghost use Rattle.mdb_log.specs.History.{PoolItem};
     ghost use Rattle.mdb_pool.specs.Standing.{Fits};
-    ghost use Rattle.mdb_pool.specs.Kept.{unserved_in};
-    ghost use Rattle.mdb_pool.specs.Changes.{pending_ones, unserved_ones};
+    ghost use Rattle.mdb_pool.specs.Kept.Values.{unserved_in};
+    ghost use Rattle.mdb_pool.specs.Acts.Changes.{pending_ones, unserved_ones};
 
     // Nothing was handed to the request: it is queued, or its connection is pending.
     pub(crate) fn is_unserved(&self, request: &Request) -> bool

@@ -1,7 +1,7 @@
 //! The changes of a pool stay, or are taken back.
 
 ghost use Rattle.std.specs.Prelude.{◌≡◌};
-ghost use Rattle.mdb_pool.specs.Body.{pool_of, led, PoolFits};
+ghost use Rattle.mdb_pool.specs.Kept.Body.{pool_of, led, PoolFits};
 ghost use Rattle.mdb_pool.specs.Core.{SameKept};
 
 use crate::kept::draft::Draft;

@@ -10,10 +10,11 @@ use mdb_events::{End, Fact};
 use std::alloc::Global;
 
 impl Draft {
-    ghost use Rattle.mdb_pool.specs.Kept.{is_gone, request_at, connection_at};
-    ghost use Rattle.mdb_pool.specs.Standing.{SameHome, SameNotes, Fits, Serves};
+    ghost use Rattle.mdb_pool.specs.Kept.Values.{is_gone, request_at, connection_at};
+    ghost use Rattle.mdb_pool.specs.Standing.{SameHome, Fits};
+    ghost use Rattle.mdb_pool.specs.Acts.Doing.{SameNotes, Serves};
     ghost use Rattle.mdb_log.specs.History.{PoolItem};
-    ghost use Rattle.mdb_pool.specs.Changes.{meeting, meeting_facts, warming, warming_facts};
+    ghost use Rattle.mdb_pool.specs.Acts.Changes.{meeting, meeting_facts, warming, warming_facts};
 
     // A caller meets the available connection that came back last.
     fn meet(

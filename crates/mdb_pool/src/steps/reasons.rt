@@ -1,7 +1,7 @@
 //! Why the connections among the parts of a pool are closed.
 
 ghost use Rattle.std.specs.Prelude.{◌≡◌, is_some, true};
-ghost use Rattle.mdb_pool.specs.Body.{now_of};
+ghost use Rattle.mdb_pool.specs.Kept.Body.{now_of};
 
 use crate::kept::body::Body;
 use crate::kept::clears::is_dropped;
@@ -10,7 +10,7 @@ use mdb_base::{Moment, ObjectId};
 use mdb_events::ConnectionClosedReason;
 
 impl Body {
-    ghost use Rattle.mdb_pool.specs.Kept.{cleared_since, connection_at, stale_for, idle_since, perished_now, reason_now, timeouts_in, first_perished};
+    ghost use Rattle.mdb_pool.specs.Kept.Values.{cleared_since, connection_at, stale_for, idle_since, perished_now, reason_now, timeouts_in, first_perished};
 
     // The service, or the pool as a whole where there is none, was cleared since the connection, which lives, was created.
     #[tactic(auto, using(crate::proofs::Follows::Stale::since_is))]

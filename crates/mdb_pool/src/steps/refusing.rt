@@ -1,7 +1,7 @@
 //! When a pool with these parts refuses a step. Refusals are tested before all else, and take no memory.
 
 ghost use Rattle.std.specs.Prelude.{◌≡◌, ℕ, Some, nat_lt, true, if◌then◌else◌, List};
-ghost use Rattle.mdb_pool.specs.Body.{now_of};
+ghost use Rattle.mdb_pool.specs.Kept.Body.{now_of};
 
 use crate::kept::body::Body;
 use crate::pool_core::PoolCore;
@@ -250,7 +250,7 @@ impl PoolCore {
     pub fn refusal_now(&self, step: &Step) -> Option<Refused>
         requires act { IsPoolAct self.now.pool step.now.act }
         requires new { tells_new self.now step.now.act ≡ true }
-        ensures kept { result ≡ refusal_now self.now step.now }
+        ensures now { result ≡ refusal_now self.now step.now }
         ensures history { (h : List Item) → StandsFor self.now h → result ≡ refusal_of self.now.pool self.now.options h step.now }
     {
         self.draft.body.refusal_now(step)

@@ -2,7 +2,7 @@
 use Rattle.std.proofs.Common.{ℕ, suc, ◌≡◌, ◌+◌, ◌-◌, ◌≤◌, ◌<◌, ◌^◌, ◌==◌, ◌&&◌, ◌||◌, Bool, true, false, not, if◌then◌else◌, List, [], ◌∷◌, ◌++◌, map, length, Option, Some, None, is_some, nat_lt, refl, sym, ◌∙◌, ap, subst, arith, append-nil}
 use Rattle.std.specs.Prelude.{nat_le, unwrap_or, All}
 use Rattle.std.proofs.lemmas.Bool.Decides.{nat_tests}
-use Rattle.std.proofs.lemmas.Bool.{and_parts}
+use Rattle.std.proofs.lemmas.Bool.{and_parts, not-false}
 use Rattle.std.proofs.lemmas.List.{length-map}
 use Rattle.mdb_base.specs.declared.address.ServerAddress.{ServerAddress}
 use Rattle.mdb_base.specs.declared.options.Options.{Options}
@@ -71,10 +71,6 @@ skip : (b : Bool) (why : BadOption) (rules : List (Bool × BadOption)) → first
 skip true why rules e = cc
 skip false why rules e = (refl, e)
 
-not-back : (b : Bool) → not b ≡ false → b ≡ true
-not-back true e = refl
-not-back false e = cc
-
 -- what options that keep the rules say of the seeds
 module _ (o : Options) (kept : broken_rule o ≡ None) where
   abbrev Rules : Type 0
@@ -105,7 +101,7 @@ module _ (o : Options) (kept : broken_rule o ≡ None) where
   second = skip ((o.direct || o.load_balanced) && not (length o.seeds == 1)) Bad.OneSeed both_on first.1
 
   pub different-seeds : all_different o.seeds ≡ true
-  different-seeds = (and_parts (nat_le 1 (length o.seeds) && nat_le (length o.seeds) 128) (all_different o.seeds) (not-back (are_seeds o.seeds) first.0)).1
+  different-seeds = (and_parts (nat_le 1 (length o.seeds) && nat_le (length o.seeds) 128) (all_different o.seeds) (not-false (are_seeds o.seeds) first.0)).1
 
   pub one-seed : o.load_balanced ≡ true → (length o.seeds == 1) ≡ true
   one-seed balanced = on o.direct (length o.seeds == 1) balanced second.0

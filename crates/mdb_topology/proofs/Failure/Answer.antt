@@ -19,10 +19,10 @@ use Rattle.mdb_log.specs.declared.step.FailedAt.{FailedAt}
 use Rattle.mdb_log.specs.declared.step.Step.{Step}
 use Rattle.mdb_log.specs.History.{Item, of_pool}
 use Rattle.mdb_log.specs.Opening.{pool_options}
-use Rattle.mdb_pool.specs.declared.kept.connection.Connection.{Connection}
 use Rattle.mdb_pool.specs.Core.{PoolCore}
-use Rattle.mdb_pool.specs.Kept.{connection_at, exhausted_now, is_pending_at}
+use Rattle.mdb_pool.specs.Now.{exhausted_now, is_live_now, is_pending_now}
 use Rattle.mdb_pool.specs.Refusing.{refusal_now}
+use Rattle.mdb_pool.proofs.Told.OfQueries.{pending-lives}
 use Rattle.mdb_pool_rules.specs.Serving.{IsServed}
 use Rattle.mdb_driver_pools.specs.declared.pool_change.PoolChange.{PoolChange}
 use Rattle.mdb_driver_pools.specs.declared.trouble.Asked.{Asked}
@@ -67,10 +67,10 @@ module _ (w : TopologyCore) (st : StandsForSome w) (i : ℕ) (s : PoolCore) (the
   still-at service = still-fails s (of_pool s.pool st.0) (fits-at (pool_options w.options) w.pools.cores.items st.0 st.1.pools.fit i s there) served step error d service
 
   -- the connection that is pending
-  pub live-at : (c : ℕ) (at : FailedAt) → step.act ≡ Failed i c at error → (x : Connection) × (connection_at s c ≡ Some x)
-  live-at c at e = on (connection_at s c) refl (subst (λ n. is_pending_at (connection_at s n) ≡ true) same pending)
+  pub live-at : (c : ℕ) (at : FailedAt) → step.act ≡ Failed i c at error → is_live_now s c ≡ true
+  live-at c at e = pending-lives s c (subst (λ n. is_pending_now s n ≡ true) same pending)
     where
-      pending : is_pending_at (connection_at s d.connection) ≡ true
+      pending : is_pending_now s d.connection ≡ true
       pending = pending-now s (of_pool s.pool st.0) (fits-at (pool_options w.options) w.pools.cores.items st.0 st.1.pools.fit i s there) served step error d
 
       both : Failed s.pool d.connection d.at error ≡ Failed i c at error
@@ -78,10 +78,6 @@ module _ (w : TopologyCore) (st : StandsForSome w) (i : ℕ) (s : PoolCore) (the
 
       same : d.connection ≡ c
       same = cc
-
-      on : (y : Option Connection) → connection_at s c ≡ y → is_pending_at (connection_at s c) ≡ true → (x : Connection) × (connection_at s c ≡ Some x)
-      on None f g = let w2 : is_pending_at (connection_at s c) ≡ false = rw f refl in let t : true ≡ false = sym g ∙ w2 in cc
-      on (Some x) f g = (x, f)
 
 -- what was planned of a mark is told so
 pub told-of : (w : TopologyCore) (st : StandsForSome w) (m : ℕ) (l : w.pools.last ≤ m) (u : TopologyDescription) (y : Option Diff) (touched : ServerAddress → Bool) (changes : List PoolChange) (facts : List Fact) → difference w.description.servers u.servers ≡ y
@@ -179,7 +175,7 @@ module _ (w : TopologyCore) (h : List Item) (z : StandsFor w h) (step : Step) (l
         (λ a. ap (λ y. is_known a y.servers) v ∙ marked-known s.address error t a))
 
   -- which of them it is
-  module _ (c : ℕ) (at : FailedAt) (act : step.act ≡ Failed i c at error) (x : Connection) (live : connection_at s c ≡ Some x) (d : IsFailing s step error) where
+  module _ (c : ℕ) (at : FailedAt) (act : step.act ≡ Failed i c at error) (live : is_live_now s c ≡ true) (d : IsFailing s step error) where
     number : s.pool ≡ i
     number = number-at (pool_options o) pools h z.pools.fit i s there
 
@@ -190,18 +186,18 @@ module _ (w : TopologyCore) (h : List Item) (z : StandsFor w h) (step : Step) (l
     accepted = ap (refusal_now s) (sym step-here) ∙ d.accepted
 
     pub at-nothing : regards_now w s c at error && is_some (case_of (establishing at) error) ≡ false → TellsFailure o h step s None false None error Nothing
-    at-nothing e = subst (λ y. TellsFailure o h y s None false None error Nothing) (sym step-here) (means-nothing w h z m l i s there c x live at error accepted e)
+    at-nothing e = subst (λ y. TellsFailure o h y s None false None error Nothing) (sym step-here) (means-nothing w h z m l i s there c live at error accepted e)
 
     pub at-service : regards_now w s c at error ≡ true → o.load_balanced ≡ true → is_some (case_of (establishing at) error) ≡ true
-        → TellsFailure o h step s None (is_some (service_after x at error)) (service_after x at error) error Nothing
+        → TellsFailure o h step s None (is_some (service_after s c at error)) (service_after s c at error) error Nothing
     at-service current balanced row =
-        subst (λ y. TellsFailure o h y s None (is_some (service_after x at error)) (service_after x at error) error Nothing) (sym step-here) (means-service w h z m l i s there c x live at error accepted current balanced row)
+        subst (λ y. TellsFailure o h y s None (is_some (service_after s c at error)) (service_after s c at error) error Nothing) (sym step-here) (means-service w h z m l i s there c live at error accepted current balanced row)
 
     pub at-mark : regards_now w s c at error ≡ true → o.load_balanced ≡ false → is_some (case_of (establishing at) error) ≡ true
-        → TellsFailure o h step s (Some (updates (failed s.address error))) (is_some (difference t.servers (updated t (failed s.address error)).servers) && clears_after x error) None error (asked_after error)
+        → TellsFailure o h step s (Some (updates (failed s.address error))) (is_some (difference t.servers (updated t (failed s.address error)).servers) && clears_after s c error) None error (asked_after error)
     at-mark current normal row =
-        subst (λ y. TellsFailure o h y s (Some (updates (failed s.address error))) (is_some (difference t.servers (updated t (failed s.address error)).servers) && clears_after x error) None error (asked_after error)) (sym step-here)
-        (means-mark w h z m l i s there c x live at error accepted current normal row)
+        subst (λ y. TellsFailure o h y s (Some (updates (failed s.address error))) (is_some (difference t.servers (updated t (failed s.address error)).servers) && clears_after s c error) None error (asked_after error)) (sym step-here)
+        (means-mark w h z m l i s there c live at error accepted current normal row)
 
     pub at-place : regards_now w s c at error ≡ true → at_address pools s.address ≡ Some i
-    at-place current = failed-place w h z m i s there c x live at error current
+    at-place current = failed-place w h z m i s there c live at error current

@@ -20,13 +20,13 @@ use Rattle.mdb_log.specs.Homes.{homes}
 use Rattle.mdb_log.specs.Opening.{pool_options}
 use Rattle.mdb_pool.specs.Core.{PoolCore}
 use Rattle.mdb_pool_rules.specs.Facts.{act_facts}
-use Rattle.mdb_pool.specs.Kept.{exhausted_now}
+use Rattle.mdb_pool.specs.Now.{exhausted_now}
 use Rattle.mdb_pool_rules.specs.Quiet.{IsQuiet}
 use Rattle.mdb_pool_rules.specs.Refusal.{is_exhausted, wrong_service}
 use Rattle.mdb_pool.specs.Refusing.{refusal_now}
 use Rattle.mdb_pool_rules.specs.Serving.{IsServed}
 use Rattle.mdb_pool.specs.Standing.{Fits}
-use Rattle.mdb_pool.proofs.Answered.Clear.{exhausted-is}
+use Rattle.mdb_pool.proofs.Told.OfQueries.{exhausted-is}
 use Rattle.mdb_log.specs.Limits.{WithinLimits}
 use Rattle.mdb_driver_pools.specs.declared.trouble.Asked.{Asked}
 use Rattle.mdb_driver_pools.specs.declared.trouble.Asked.TheVariants.{Nothing, CheckNow, CancelIfCleared}

@@ -14,7 +14,7 @@ use Rattle.mdb_log.specs.Own.{is_closing, shuts}
 use Rattle.mdb_pool.specs.Core.{PoolCore}
 use Rattle.mdb_pool_rules.specs.Answer.{all_facts}
 use Rattle.mdb_pool_rules.specs.Facts.{act_facts, clear_facts}
-use Rattle.mdb_pool.specs.Kept.{is_shut}
+use Rattle.mdb_pool.specs.Now.{is_closed_now}
 use Rattle.mdb_pool_rules.specs.Serving.{serving}
 use Rattle.mdb_pool_rules.proofs.Fair.{shut-append}
 use Rattle.mdb_topology.proofs.Marks.ClearsPool.{cleared-open}
@@ -48,5 +48,5 @@ module _ (p : ℕ) (a : ServerAddress) (o : PoolOptions) (m q c : ℕ) (at : Fai
       ∙ rw (cleared-open p a o m ws cause service, fails-open) refl
 
 -- so the pool is shut as before
-pub shut-before : (s u : PoolCore) (m : ℕ) (fs : List Fact) (ws : List PoolItem) → Fails s u m fs ws → shuts fs ≡ false → is_shut u.status ≡ is_shut s.status
-shut-before s u m fs ws v e = v.shut ∙ ap (λ b. b || is_shut s.status) e
+pub shut-before : (s u : PoolCore) (m : ℕ) (fs : List Fact) (ws : List PoolItem) → Fails s u m fs ws → shuts fs ≡ false → is_closed_now u ≡ is_closed_now s
+shut-before s u m fs ws v e = v.shut ∙ ap (λ b. b || is_closed_now s) e

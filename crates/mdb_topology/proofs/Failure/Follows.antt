@@ -22,9 +22,8 @@ use Rattle.mdb_log.specs.Beside.{AllFreshGrants}
 use Rattle.mdb_log.specs.LegalLog.{IsFairAnswer}
 use Rattle.mdb_log.specs.Own.{IsAccepted}
 use Rattle.mdb_pool.specs.Core.{PoolCore}
-use Rattle.mdb_pool.specs.Body.{PoolSteps as Plan}
-use Rattle.mdb_pool.specs.Kept.{is_shut, is_spent}
-use Rattle.mdb_pool.specs.Planning.{Plans, IsPlanOf}
+use Rattle.mdb_pool.specs.Now.{is_closed_now, is_spent}
+use Rattle.mdb_pool.specs.Planning.{Plan, Plans, IsPlanOf}
 use Rattle.mdb_pool.specs.Standing.{SameHome}
 use Rattle.mdb_driver_pools.specs.declared.pool_change.PoolChange.TheVariants.{Alter}
 use Rattle.mdb_topology.specs.declared.topology.TopologyCore.{TopologyCore}
@@ -51,7 +50,7 @@ module _ (w : TopologyCore) (h : List Item) (z : StandsFor w h) (i : ℕ) (s : P
     (told clears asks fails : List Fact) (calm_told : AreCalm told) (calm_asks : AreCalm asks)
     (plan : Plan) (made : IsPlanOf plan s)
     (does : (u : PoolCore) → Plans plan s u → Fails s u m (clears ++ fails) (failed c (service_in at) ∷ of_pool s.pool h))
-    (last_is : (u : PoolCore) → Plans plan s u → u.last ≡ m) (stays : (u : PoolCore) → Plans plan s u → is_shut u.status ≡ is_shut s.status)
+    (last_is : (u : PoolCore) → Plans plan s u → u.last ≡ m) (stays : (u : PoolCore) → Plans plan s u → is_closed_now u ≡ is_closed_now s)
     (n : Transition) (reply : n.reply ≡ Done) (facts : n.facts.items ≡ told ++ (clears ++ (asks ++ fails))) (changes : n.changes.items ≡ Alter i plan ∷ []) (none : n.monitors.items ≡ []) (nothing : n.monitoring ≡ Same) (goes_on : n.stops ≡ false) where
   abbrev o : Options
   o = w.options
@@ -109,7 +108,7 @@ module _ (w : TopologyCore) (h : List Item) (z : StandsFor w h) (i : ℕ) (s : P
 
       open-same : (b : ServerAddress) → open_pool k b ≡ open_pool h b
       open-same b =
-          let q : is_open_at b u ≡ is_open_at b s = ap (λ x. not x && same_address u.address b) (stays u plans) ∙ ap (λ x. not (is_shut s.status) && same_address x b) (does u plans).same.address in
+          let q : is_open_at b u ≡ is_open_at b s = ap (λ x. not x && same_address u.address b) (stays u plans) ∙ ap (λ x. not (is_closed_now s) && same_address x b) (does u plans).same.address in
           stands.fit.open_are b ∙ (position-set (is_open_at b) pools i s u at_i q ∙ sym (z.pools.fit.open_are b))
 
       monitors-fit : MonitorsFit o (w.monitors.items ++ n.monitors.items) then

@@ -14,9 +14,8 @@ use Rattle.mdb_log.specs.declared.step.Step.{Step}
 use Rattle.mdb_log.specs.declared.step.Act.{Act}
 use Rattle.mdb_log.specs.declared.step.Act.TheVariants as Do
 use Rattle.mdb_log.specs.History.{Item, service_in, of_pool}
-use Rattle.mdb_pool.specs.declared.kept.connection.Connection.{Connection}
 use Rattle.mdb_pool.specs.Core.{PoolCore}
-use Rattle.mdb_pool.specs.Kept.{connection_at}
+use Rattle.mdb_pool.specs.Now.{is_live_now}
 use Rattle.mdb_pool_rules.specs.Refusal.{wrong_service}
 use Rattle.mdb_pool.specs.Refusing.{refusal_now}
 use Rattle.mdb_driver_pools.specs.declared.trouble.Asked.TheVariants.{Nothing}
@@ -45,7 +44,7 @@ and-first true = refl
 and-first false = refl
 
 module _ (w : TopologyCore) (h : List Item) (z : StandsFor w h) (m : ℕ) (l : w.pools.last ≤ m) (i : ℕ) (s : PoolCore) (there : slice_get w.pools.cores.items i ≡ Some s)
-    (c : ℕ) (x : Connection) (live : connection_at s c ≡ Some x) (at : FailedAt) (e : Error) (accepted : refusal_now s (failing m s.pool c at e) ≡ None) where
+    (c : ℕ) (live : is_live_now s c ≡ true) (at : FailedAt) (e : Error) (accepted : refusal_now s (failing m s.pool c at e) ≡ None) where
   abbrev o : Options
   o = w.options
 
@@ -85,7 +84,7 @@ module _ (w : TopologyCore) (h : List Item) (z : StandsFor w h) (m : ℕ) (l : w
   -- an error that is not current, or has no row, tells nothing
   pub means-nothing : regards_now w s c at e && is_some (case_of (establishing at) e) ≡ false → TellsFailure o h step s None false None e Nothing
   means-nothing none =
-      let calm : troubled None = failed-none w h z m i s there c x live at e none in
+      let calm : troubled None = failed-none w h z m i s there c live at e none in
       record {
         failing = is-failing;
         fitting = λ f. cc;
@@ -98,13 +97,13 @@ module _ (w : TopologyCore) (h : List Item) (z : StandsFor w h) (m : ℕ) (l : w
     -- under load balancing it clears the service
     module _ (balanced : o.load_balanced ≡ true) where
       abbrev service : Option ObjectId
-      service = service_after x at e
+      service = service_after s c at e
 
       served : (y : Option ObjectId) → is_some y ≡ true → wrong_service true y ≡ false
       served None f = cc
       served (Some v) f = refl
 
-      facts-for : (row : Case) (y : Option ObjectId) (k : List Item) → clearing o m (Some (met w h z m i s there c x live at e row)) (for_service y) k ≡ cleared_facts (is_some y) o m s (of_pool s.pool k) y e
+      facts-for : (row : Case) (y : Option ObjectId) (k : List Item) → clearing o m (Some (met w h z m i s there c live at e row)) (for_service y) k ≡ cleared_facts (is_some y) o m s (of_pool s.pool k) y e
       facts-for row None k = refl
       facts-for row (Some v) k = refl
 
@@ -113,16 +112,16 @@ module _ (w : TopologyCore) (h : List Item) (z : StandsFor w h) (m : ℕ) (l : w
       asks-for (Some v) = refl
 
       by-row : (row : Case) → case_of (establishing at) e ≡ Some row → marks true row ≡ false → ((y : Clear) (a : _) → asks true row e y a ≡ [])
-          → clear_by o false (Some (met w h z m i s there c x live at e row)) ≡ for_service service → TellsFailure o h step s None (is_some service) service e Nothing
+          → clear_by o false (Some (met w h z m i s there c live at e row)) ≡ for_service service → TellsFailure o h step s None (is_some service) service e Nothing
       by-row row case unmarked silent clears_it =
-          let told : troubled (Some (met w h z m i s there c x live at e row)) = failed-told w h z m i s there c x live at e row current case in
-          let ruled : rule_after o h step ≡ None = unruled-by (Some (met w h z m i s there c x live at e row)) told (rw (balanced, unmarked) refl) in
-          let cleared : clear_of o h step ≡ for_service service = clear-is (Some (met w h z m i s there c x live at e row)) None told ruled ∙ clears_it in
+          let told : troubled (Some (met w h z m i s there c live at e row)) = failed-told w h z m i s there c live at e row current case in
+          let ruled : rule_after o h step ≡ None = unruled-by (Some (met w h z m i s there c live at e row)) told (rw (balanced, unmarked) refl) in
+          let cleared : clear_of o h step ≡ for_service service = clear-is (Some (met w h z m i s there c live at e row)) None told ruled ∙ clears_it in
           record {
             failing = is-failing;
             fitting = λ f. ap (λ b. wrong_service b service) balanced ∙ served service f;
             rule_is = ruled;
-            clears_are = λ k. ap (λ y. clearing o m y (clear_of o h step) k) (trouble-is _ told) ∙ (ap (λ y. clearing o m (Some (met w h z m i s there c x live at e row)) y k) cleared ∙ facts-for row service k);
+            clears_are = λ k. ap (λ y. clearing o m y (clear_of o h step) k) (trouble-is _ told) ∙ (ap (λ y. clearing o m (Some (met w h z m i s there c live at e row)) y k) cleared ∙ facts-for row service k);
             asks_are = λ k. ap (λ y. asking o y (clear_of o h step) k) (trouble-is _ told) ∙ (ap (λ b. asks b row e (clear_of o h step) s.address) balanced ∙ (silent (clear_of o h step) s.address ∙ sym (asks-for service)));
           }
 
@@ -134,7 +133,7 @@ module _ (w : TopologyCore) (h : List Item) (z : StandsFor w h) (m : ℕ) (l : w
       means-service row = on (row-of at e row)
         where
           on : Row at e → TellsFailure o h step s None (is_some service) service e Nothing
-          on (changes f case) = by-row state_change case refl (λ y a. refl) (rw (balanced, f) (for-if (is_hard_now x e) (service_in at)))
+          on (changes f case) = by-row state_change case refl (λ y a. refl) (rw (balanced, f) (for-if (is_hard_now s c e) (service_in at)))
           on (loses f case) = by-row lost case refl (λ y a. refl) (rw (balanced, f) refl)
 
     -- else it marks the server, and clears the pool where something changed
@@ -146,26 +145,26 @@ module _ (w : TopologyCore) (h : List Item) (z : StandsFor w h) (m : ℕ) (l : w
       differs = is_some (difference t.servers u.servers)
 
       abbrev cleared : Bool
-      cleared = differs && clears_after x e
+      cleared = differs && clears_after s c e
 
       running : w.stopped ≡ false
-      running = open-unstopped w h z m l s.address i (failed-place w h z m i s there c x live at e current)
+      running = open-unstopped w h z m l s.address i (failed-place w h z m i s there c live at e current)
 
-      facts-whole : (row : Case) (b : Bool) (k : List Item) → clearing o m (Some (met w h z m i s there c x live at e row)) (where_so b whole) k ≡ cleared_facts b o m s (of_pool s.pool k) None e
+      facts-whole : (row : Case) (b : Bool) (k : List Item) → clearing o m (Some (met w h z m i s there c live at e row)) (where_so b whole) k ≡ cleared_facts b o m s (of_pool s.pool k) None e
       facts-whole row true k = refl
       facts-whole row false k = refl
 
-      by-mark : (row : Case) → case_of (establishing at) e ≡ Some row → marks false row ≡ true → clear_by o differs (Some (met w h z m i s there c x live at e row)) ≡ where_so cleared whole
+      by-mark : (row : Case) → case_of (establishing at) e ≡ Some row → marks false row ≡ true → clear_by o differs (Some (met w h z m i s there c live at e row)) ≡ where_so cleared whole
           → asks false row e (where_so cleared whole) s.address ≡ asked_of (asked_after e) cleared s.address → TellsFailure o h step s (Some (updates (failed s.address e))) cleared None e (asked_after e)
       by-mark row case marked clears_it asks_it =
-          let told : troubled (Some (met w h z m i s there c x live at e row)) = failed-told w h z m i s there c x live at e row current case in
-          let ruled : rule_after o h step ≡ Some (updates (failed s.address e)) = ruled-by (Some (met w h z m i s there c x live at e row)) told (Some (updates (failed s.address e))) (rw (normal, marked) refl) running in
-          let clear : clear_of o h step ≡ where_so cleared whole = clear-is (Some (met w h z m i s there c x live at e row)) (Some (updates (failed s.address e))) told ruled ∙ clears_it in
+          let told : troubled (Some (met w h z m i s there c live at e row)) = failed-told w h z m i s there c live at e row current case in
+          let ruled : rule_after o h step ≡ Some (updates (failed s.address e)) = ruled-by (Some (met w h z m i s there c live at e row)) told (Some (updates (failed s.address e))) (rw (normal, marked) refl) running in
+          let clear : clear_of o h step ≡ where_so cleared whole = clear-is (Some (met w h z m i s there c live at e row)) (Some (updates (failed s.address e))) told ruled ∙ clears_it in
           record {
             failing = is-failing;
             fitting = λ f. ap (λ b. wrong_service b None) normal;
             rule_is = ruled;
-            clears_are = λ k. ap (λ y. clearing o m y (clear_of o h step) k) (trouble-is _ told) ∙ (ap (λ y. clearing o m (Some (met w h z m i s there c x live at e row)) y k) clear ∙ facts-whole row cleared k);
+            clears_are = λ k. ap (λ y. clearing o m y (clear_of o h step) k) (trouble-is _ told) ∙ (ap (λ y. clearing o m (Some (met w h z m i s there c live at e row)) y k) clear ∙ facts-whole row cleared k);
             asks_are = λ k. ap (λ y. asking o y (clear_of o h step) k) (trouble-is _ told) ∙ (ap (λ y. asks o.load_balanced row e y s.address) clear ∙ (ap (λ b. asks b row e (where_so cleared whole) s.address) normal ∙ asks_it));
           }
 

@@ -16,11 +16,10 @@ use Rattle.mdb_log.specs.Limits.{WithinLimits}
 use Rattle.mdb_log.specs.Opening.{pool_options}
 use Rattle.mdb_log.specs.Own.{shuts}
 use Rattle.mdb_pool.specs.Core.{PoolCore}
-use Rattle.mdb_pool.specs.Body.{PoolSteps as Plan}
 use Rattle.mdb_pool_rules.specs.Answer.{all_facts}
 use Rattle.mdb_pool_rules.specs.Facts.{clear_facts}
-use Rattle.mdb_pool.specs.Kept.{is_shut}
-use Rattle.mdb_pool.specs.Planning.{Plans, IsPlanOf, IsDone}
+use Rattle.mdb_pool.specs.Now.{is_closed_now}
+use Rattle.mdb_pool.specs.Planning.{Plan, Plans, IsPlanOf, IsDone}
 use Rattle.mdb_pool_rules.specs.Quiet.{IsQuiet}
 use Rattle.mdb_pool_rules.specs.Serving.{IsServed}
 use Rattle.mdb_pool.specs.Standing.{Fits}
@@ -73,7 +72,7 @@ module _ (o : Options) (h : List Item) (s : PoolCore) (fits : Fits s (of_pool s.
     pub made : IsPlanOf plan s
     pub does : (u : PoolCore) → Plans plan s u → Fails s u m (clears b ++ fails b) ws
     pub last_is : (u : PoolCore) → Plans plan s u → u.last ≡ m
-    pub stays : (u : PoolCore) → Plans plan s u → is_shut u.status ≡ is_shut s.status
+    pub stays : (u : PoolCore) → Plans plan s u → is_closed_now u ≡ is_closed_now s
     pub told : after ≡ before ++ (clears b ++ (asked_of asked b s.address ++ fails b))
     pub changes_are : changes ≡ Alter i plan ∷ []
 

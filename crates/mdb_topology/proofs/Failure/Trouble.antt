@@ -16,12 +16,11 @@ use Rattle.mdb_log.specs.Connections.{service_of, wire_of}
 use Rattle.mdb_log.specs.Opening.{pool_options}
 use Rattle.mdb_log.specs.State.{generation_of, generation_before}
 use Rattle.mdb_log.proofs.Numbers.{same-number}
-use Rattle.mdb_pool.specs.declared.kept.connection.Connection.{Connection}
 use Rattle.mdb_pool.specs.Core.{PoolCore}
-use Rattle.mdb_pool.specs.Kept.{connection_at, clears_before, clears_for}
+use Rattle.mdb_pool.specs.Now.{clears_before_now, clears_now, is_live_now, wire_now}
 use Rattle.mdb_pool.specs.Standing.{Fits}
 use Rattle.mdb_log.proofs.Bools.{both-true}
-use Rattle.mdb_pool.proofs.Follows.Stale.{live-created}
+use Rattle.mdb_pool.proofs.Told.OfQueries.{before-is, clears-are, wire-is}
 use Rattle.mdb_topology.specs.declared.topology.TopologyCore.{TopologyCore}
 use Rattle.mdb_driver_rules.specs.Current.{Complaint, establishing, known_version, may_tell, is_of_generation, is_current, in_handshake, complaint_of}
 use Rattle.mdb_driver_rules.specs.Errors.{Case, state_change, lost, Trouble, is_loss, case_of, current_trouble, complaint_trouble, trouble_of}
@@ -29,7 +28,6 @@ use Rattle.mdb_topology.specs.Failing.{is_uncleared, is_timely, regards_now}
 use Rattle.mdb_driver_rules.specs.Homes.{begun}
 use Rattle.mdb_topology.specs.Standing.{StandsFor}
 use Rattle.mdb_driver_pools.specs.Standing.{at_address, is_here_among}
-use Rattle.mdb_topology.proofs.Marks.CurrentErrors.{live-wired}
 use Rattle.mdb_driver_pools.proofs.Failure.PoolsStand.{failing, failed-here}
 use Rattle.mdb_topology.proofs.Failure.RefusedByItsPool.{home-numbered}
 use Rattle.mdb_driver_pools.proofs.OnePool.FoundAt.{fits-at, number-at}
@@ -39,8 +37,8 @@ not-not true = refl
 not-not false = refl
 
 -- the generation of the connection, with its failure
-module _ (o : Options) (s : PoolCore) (xs : List PoolItem) (fits : Fits s xs) (c : ℕ) (x : Connection) (live : connection_at s c ≡ Some x) where
-  of-now : (t : Option ObjectId) → (clears_before c t s.clears == clears_for t s.clears) ≡ is_uncleared s c t
+module _ (o : Options) (s : PoolCore) (xs : List PoolItem) (fits : Fits s xs) (c : ℕ) (live : is_live_now s c ≡ true) where
+  of-now : (t : Option ObjectId) → (clears_before_now s c t == clears_now s t) ≡ is_uncleared s c t
   of-now t = refl
 
   timely-is : (at : FailedAt) → is_of_generation o (failed_item c (service_in at) ∷ xs) c (establishing at) ≡ is_timely o.load_balanced s c at
@@ -48,11 +46,11 @@ module _ (o : Options) (s : PoolCore) (xs : List PoolItem) (fits : Fits s xs) (c
     where
       on : (b : Bool) → not b && nat_le (generation_of xs None) (generation_before xs c None) ≡ is_timely b s c Pre
       on true = refl
-      on false = rw (fits.matches.clearing.clears None, fits.matches.clearing.before c None (live-created s xs fits.matches c x live)) refl
+      on false = rw (clears-are s xs fits None, before-is s xs fits c live None) refl
   timely-is (Post service) = rw (same-number c) (on o.load_balanced service)
     where
       same : (t : Option ObjectId) → (generation_before xs c t == generation_of xs t) ≡ is_uncleared s c t
-      same t = rw (fits.matches.clearing.clears t, fits.matches.clearing.before c t (live-created s xs fits.matches c x live)) refl
+      same t = rw (clears-are s xs fits t, before-is s xs fits c live t) refl
 
       on : (b : Bool) (t : Option ObjectId) →
           not (not (b && not (is_some (if b then t else None))) && not (generation_before xs c (if b then t else None) == generation_of xs (if b then t else None))) ≡ is_timely b s c (Post t)
@@ -60,7 +58,7 @@ module _ (o : Options) (s : PoolCore) (xs : List PoolItem) (fits : Fits s xs) (c
       on true None = refl
       on true (Some t) = ap (λ d. not (not d)) (same (Some t)) ∙ not-not (is_uncleared s c (Some t))
 
-module _ (w : TopologyCore) (h : List Item) (z : StandsFor w h) (m i : ℕ) (s : PoolCore) (there : slice_get w.pools.cores.items i ≡ Some s) (c : ℕ) (x : Connection) (live : connection_at s c ≡ Some x) (at : FailedAt) (e : Error) where
+module _ (w : TopologyCore) (h : List Item) (z : StandsFor w h) (m i : ℕ) (s : PoolCore) (there : slice_get w.pools.cores.items i ≡ Some s) (c : ℕ) (live : is_live_now s c ≡ true) (at : FailedAt) (e : Error) where
   abbrev o : Options
   o = w.options
 
@@ -100,12 +98,12 @@ module _ (w : TopologyCore) (h : List Item) (z : StandsFor w h) (m i : ℕ) (s :
   current-is : is_current o k t said ≡ regards_now w s c at e
   current-is =
       ap (λ ys. current-by (is_number (open_pool k s.address) s.pool) (is_of_generation o ys c (establishing at))) known
-      ∙ (ap (current-by (is_number (open_pool k s.address) s.pool)) (timely-is o s xs fits c x live at)
+      ∙ (ap (current-by (is_number (open_pool k s.address) s.pool)) (timely-is o s xs fits c live at)
       ∙ ap (λ y. current-by (is_number y s.pool) (is_timely o.load_balanced s c at)) (z.pools.fit.open_are s.address))
 
   -- the trouble of the row
   abbrev pub met : Case → Trouble
-  met row = record { row = row; pool = s.pool; address = s.address; error = e; wire = unwrap_or x.wire (pos 0); service = service_in at }
+  met row = record { row = row; pool = s.pool; address = s.address; error = e; wire = unwrap_or (wire_now s c) (pos 0); service = service_in at }
 
   abbrev met-of : Option Case → Option Trouble
   met-of None = None
@@ -114,7 +112,7 @@ module _ (w : TopologyCore) (h : List Item) (z : StandsFor w h) (m i : ℕ) (s :
   met-row : (y : Option Case) → current_trouble k said y ≡ met-of y
   met-row None = refl
   met-row (Some row) =
-      let wired : wire_of (of_pool s.pool k) c ≡ x.wire = ap (λ ys. wire_of ys c) known ∙ live-wired s xs fits.matches c x live in
+      let wired : wire_of (of_pool s.pool k) c ≡ wire_now s c = ap (λ ys. wire_of ys c) known ∙ wire-is s xs fits c live in
       let served : service_of (of_pool s.pool k) c ≡ service_in at = ap (λ ys. service_of ys c) known ∙ rw (same-number c) refl in
       rw (wired, served) refl
 

@@ -16,7 +16,7 @@ use Rattle.mdb_log.specs.declared.step.Step.{Step}
 use Rattle.mdb_log.specs.History.{Item}
 use Rattle.mdb_describe.proofs.Addresses.{same-address}
 use Rattle.mdb_pool.specs.Core.{PoolCore}
-use Rattle.mdb_pool.specs.Kept.{clears_for, exhausted_now, is_shut}
+use Rattle.mdb_pool.specs.Now.{clears_now, exhausted_now, is_closed_now}
 use Rattle.mdb_pool_rules.specs.Refusal.{wrong_service}
 use Rattle.mdb_pool.specs.Refusing.{refusal_now}
 use Rattle.mdb_topology.specs.declared.topology.TopologyCore.{TopologyCore}
@@ -59,8 +59,8 @@ module _ (w : TopologyCore) (st : StandsForSome w) (i : ℕ) (s : PoolCore) (the
   pools = w.pools.cores.items
 
   -- what the limit of the options says of the pool
-  pub limit-is : (service : Option ObjectId) → not (is_shut s.status) && nat_le (unwrap_or w.options.limit_generation 18446744073709551615) (clears_for service s.clears) ≡ exhausted_now s service
-  limit-is service = ap (λ p. not (is_shut s.status) && nat_le p.limit_generation (clears_for service s.clears)) (sym (st.1.pools.fit.each i s there).options)
+  pub limit-is : (service : Option ObjectId) → not (is_closed_now s) && nat_le (unwrap_or w.options.limit_generation 18446744073709551615) (clears_now s service) ≡ exhausted_now s service
+  limit-is service = ap (λ p. not (is_closed_now s) && nat_le p.limit_generation (clears_now s service)) (sym (st.1.pools.fit.each i s there).options)
 
   module _ (m : ℕ) (l : w.pools.last ≤ m) (service : Option ObjectId) (error : Error) (fit : wrong_service w.options.load_balanced service ≡ false) where
     pub clear-refused : refusal_now s (step_of m (clear_act service error) s.pool) ≡ (if exhausted_now s service then Some (Exhausted Generation) else None)
@@ -84,9 +84,9 @@ some-of pools i within = on (slice_get pools i) refl
 -- The pool that stands at the place of an address is the one there.
 module _ (pools : List PoolCore) (a : ServerAddress) (i : ℕ) (here : at_address pools a ≡ Some i) where
   pub own-place : (s : PoolCore) → slice_get pools i ≡ Some s → s.address ≡ a
-  own-place s there = on (is_shut s.status) refl (position-at (is_open_at a) pools i s here there).0
+  own-place s there = on (is_closed_now s) refl (position-at (is_open_at a) pools i s here there).0
     where
-      on : (b : Bool) → is_shut s.status ≡ b → is_open_at a s ≡ true → s.address ≡ a
+      on : (b : Bool) → is_closed_now s ≡ b → is_open_at a s ≡ true → s.address ≡ a
       on true e f = let no : is_open_at a s ≡ false = rw e refl in let t : true ≡ false = sym f ∙ no in cc
       on false e f = same-address s.address a (sym (rw e refl) ∙ f)
 

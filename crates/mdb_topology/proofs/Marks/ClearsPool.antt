@@ -23,7 +23,7 @@ use Rattle.mdb_log.specs.State.{State, is_new, is_ready, is_paused, is_closed, s
 use Rattle.mdb_pool.specs.Core.{PoolCore}
 use Rattle.mdb_pool_rules.specs.Answer.{all_facts}
 use Rattle.mdb_pool_rules.specs.Facts.{all_ends, cleared_fact, clear_facts}
-use Rattle.mdb_pool.specs.Kept.{is_shut}
+use Rattle.mdb_pool.specs.Now.{is_closed_now}
 use Rattle.mdb_pool.specs.Planning.{Does}
 use Rattle.mdb_pool_rules.specs.Refusal.{is_exhausted}
 use Rattle.mdb_pool_rules.specs.Serving.{IsServed}
@@ -137,7 +137,7 @@ module _ (o : Options) (m : ℕ) (a : ServerAddress) (pools : List PoolCore) (i 
     abbrev d : PoolFits (pool_options o) k i s
     d = z.fit.each i s at_i
 
-    still-open : is_shut t.status ≡ is_shut s.status
+    still-open : is_closed_now t ≡ is_closed_now s
     still-open =
         let ys : List PoolItem = of_pool s.pool k in
         let fits : Fits s ys = subst (λ p. Fits s (of_pool p k)) (sym d.number) d.fits in
@@ -145,11 +145,11 @@ module _ (o : Options) (m : ℕ) (a : ServerAddress) (pools : List PoolCore) (i 
         let served : IsServed s.options ys = subst (λ c. IsServed c ys) (sym d.options) (z.served s.pool) in
         let no : shuts (all_facts s.pool s.address s.options m ys ys (ClearAct q service error)) ≡ false =
         ap shuts (clear-alone s.pool s.address s.options m ys q service error served) ∙ cleared-open s.pool s.address s.options m ys error service in
-        v.shut ∙ ap (λ b. b || is_shut s.status) no
+        v.shut ∙ ap (λ b. b || is_closed_now s) no
 
     pub clear-open : (b : ServerAddress) → is_some (at_address (set pools i t) b) ≡ is_some (at_address pools b)
     clear-open b =
-        let w : is_open_at b t ≡ is_open_at b s = ap (λ x. not x && same_address t.address b) still-open ∙ ap (λ c. not (is_shut s.status) && same_address c b) same.address in
+        let w : is_open_at b t ≡ is_open_at b s = ap (λ x. not x && same_address t.address b) still-open ∙ ap (λ c. not (is_closed_now s) && same_address c b) same.address in
         ap is_some (position-set (is_open_at b) pools i s t at_i w)
 
 -- the clear, behind other changes

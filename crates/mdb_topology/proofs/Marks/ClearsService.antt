@@ -10,9 +10,8 @@ use Rattle.mdb_log.specs.declared.step.Act.{Act}
 use Rattle.mdb_log.specs.declared.step.Act.TheVariants as Do
 use Rattle.mdb_log.specs.declared.reply.Reply.TheVariants.{Changed}
 use Rattle.mdb_log.specs.History.{Item}
-use Rattle.mdb_pool.specs.declared.kept.connection.Connection.{Connection}
 use Rattle.mdb_pool.specs.Core.{PoolCore}
-use Rattle.mdb_pool.specs.Kept.{held_connection}
+use Rattle.mdb_pool.specs.Now.{held_now, service_now}
 use Rattle.mdb_topology.specs.declared.topology.TopologyCore.{TopologyCore}
 use Rattle.mdb_topology.specs.Complaining.{is_hard_now, service_cleared, concerns_now}
 use Rattle.mdb_driver_rules.specs.Current.{operating}
@@ -28,8 +27,8 @@ use Rattle.mdb_topology.proofs.Marks.CurrentErrors.{complaint-passes, trouble-to
 use Rattle.mdb_topology.proofs.Marks.WhichSteps.{all_parts}
 use Rattle.mdb_topology.proofs.Publications.WhichSteps.{at_m, rule-unstopped}
 
-module _ (w : TopologyCore) (h : List Item) (z : StandsFor w h) (m : ℕ) (l : w.pools.last ≤ m) (r : ℕ) (e : Error) (i : ℕ) (s : PoolCore) (x : Connection)
-    (held : holder w.pools.cores.items r ≡ Some i) (there : slice_get w.pools.cores.items i ≡ Some s) (has : held_connection s r ≡ Some x) (current : concerns_now w s x e ≡ true) (balanced : w.options.load_balanced ≡ true) where
+module _ (w : TopologyCore) (h : List Item) (z : StandsFor w h) (m : ℕ) (l : w.pools.last ≤ m) (r : ℕ) (e : Error) (i : ℕ) (s : PoolCore) (x : ℕ)
+    (held : holder w.pools.cores.items r ≡ Some i) (there : slice_get w.pools.cores.items i ≡ Some s) (has : held_now s r ≡ Some x) (current : concerns_now w s x e ≡ true) (balanced : w.options.load_balanced ≡ true) where
   abbrev o : Options
   o = w.options
 
@@ -37,7 +36,7 @@ module _ (w : TopologyCore) (h : List Item) (z : StandsFor w h) (m : ℕ) (l : w
   act = Do.Error r e
 
   abbrev cleared : Clear
-  cleared = for_service (service_cleared x e)
+  cleared = for_service (service_cleared s x e)
 
   module _ (row : Case) (case : case_of operating e ≡ Some row) (unmarked : marks true row ≡ false) (silent : (c : Clear) (a : ServerAddress) → asks true row e c a ≡ [])
       (clears_it : clear_by o false (Some (row_trouble w h z m l r e i s x held there has current row)) ≡ cleared) where
@@ -75,9 +74,9 @@ module _ (w : TopologyCore) (h : List Item) (z : StandsFor w h) (m : ℕ) (l : w
 
   -- what is cleared by a change of the server's state, and by a lost connection
   changed-clears : is_state_change e.kind ≡ true → clear_by o false (Some (row_trouble w h z m l r e i s x held there has current state_change)) ≡ cleared
-  changed-clears f = rw (balanced, f) (on (is_hard_now x e))
+  changed-clears f = rw (balanced, f) (on (is_hard_now s x e))
     where
-      on : (b : Bool) → where_so b (for_service x.service) ≡ for_service (if not b then None else x.service)
+      on : (b : Bool) → where_so b (for_service (service_now s x)) ≡ for_service (if not b then None else service_now s x)
       on true = refl
       on false = refl
 

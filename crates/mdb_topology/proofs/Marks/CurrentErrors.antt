@@ -1,5 +1,5 @@
 -- Which errors of operations are current, and what trouble they tell of.
-use Rattle.std.proofs.Common.{ℕ, ◌≡◌, ◌≤◌, ◌&&◌, Bool, true, false, if◌then◌else◌, List, Option, Some, None, is_some, refl, sym, ◌∙◌, ap, subst, arith}
+use Rattle.std.proofs.Common.{ℕ, ◌≡◌, ◌≤◌, ◌&&◌, Bool, true, false, if◌then◌else◌, List, Option, Some, None, is_some, refl, sym, ◌∙◌, ap, subst}
 use Rattle.std.specs.Prelude.{pos, slice_get, unwrap_or}
 use Rattle.mdb_base.specs.declared.error.Error.{Error}
 use Rattle.mdb_base.specs.declared.object_id.ObjectId.{ObjectId}
@@ -10,17 +10,13 @@ use Rattle.mdb_log.specs.declared.step.Act.TheVariants as Do
 use Rattle.mdb_log.specs.declared.step.Use.TheVariants as Used
 use Rattle.mdb_log.specs.declared.reply.Refused.TheVariants.{NotHolder}
 use Rattle.mdb_log.specs.History.{Item, PoolItem, of_pool}
-use Rattle.mdb_log.specs.Connections.{holding, wire_of}
+use Rattle.mdb_log.specs.Connections.{holding}
 use Rattle.mdb_log.specs.Opening.{pool_options}
 use Rattle.mdb_log.specs.State.{is_stale}
-use Rattle.mdb_pool.specs.declared.kept.connection.Connection.{Connection}
 use Rattle.mdb_pool.specs.Core.{PoolCore}
-use Rattle.mdb_pool.specs.Kept.{held_connection, connection_at}
-use Rattle.mdb_pool.specs.Matching.{Matches}
+use Rattle.mdb_pool.specs.Now.{held_now, holds_now, is_live_now, service_now, wire_now}
 use Rattle.mdb_pool.specs.Standing.{Fits}
-use Rattle.mdb_pool.proofs.Answered.Act.{holding-is}
-use Rattle.mdb_pool.proofs.Answered.Pin.{held-at}
-use Rattle.mdb_pool.proofs.Follows.Stale.{live-created, live-served}
+use Rattle.mdb_pool.proofs.Told.OfQueries.{before-is, clears-are, held-lives, holding-is, holds-held, service-is, wire-is}
 use Rattle.mdb_topology.specs.declared.topology.TopologyCore.{TopologyCore}
 use Rattle.mdb_topology.specs.Complaining.{is_outdated, concerns_now}
 use Rattle.mdb_driver_rules.specs.Current.{Complaint, operating, in_operation, complaint_of, is_current}
@@ -34,37 +30,28 @@ use Rattle.mdb_driver_rules.proofs.General.OneElement.{position-at, position-wit
 use Rattle.mdb_driver_pools.proofs.OnePool.FoundAt.{home-placed, home-missing}
 use Rattle.mdb_topology.proofs.Publications.WhichSteps.{at_m, in-time, passes-time}
 
--- the wire version of a live connection
-pub live-wired : (s : PoolCore) (xs : List PoolItem) → Matches s xs → (c : ℕ) (x : Connection) → connection_at s c ≡ Some x → wire_of xs c ≡ x.wire
-live-wired s xs m c x e = grind (arith, m.told.wire c, e)
-
 -- the connection is stale where its generation is outdated
-outdated-is : (s : PoolCore) (xs : List PoolItem) → Matches s xs → (c : ℕ) (x : Connection) → connection_at s c ≡ Some x → is_stale s.options xs c ≡ is_outdated s c x.service
-outdated-is s xs m c x e =
-    let t : Option ObjectId = if s.options.load_balanced then x.service else None in
-    rw (live-served s xs m c x e, m.clearing.before c t (live-created s xs m c x e), m.clearing.clears t) refl
+outdated-is : (s : PoolCore) (xs : List PoolItem) → Fits s xs → (c : ℕ) → is_live_now s c ≡ true → is_stale s.options xs c ≡ is_outdated s c
+outdated-is s xs z c live =
+    let t : Option ObjectId = if s.options.load_balanced then service_now s c else None in
+    rw (service-is s xs z c live, before-is s xs z c live t, clears-are s xs z t) refl
 
 -- the pool of which the party holds a connection
 pub record Held (pools : List PoolCore) (r i : ℕ) : Type 0 where
   pub pool : PoolCore
-  pub connection : Connection
+  pub connection : ℕ
   pub there : slice_get pools i ≡ Some pool
-  pub has : held_connection pool r ≡ Some connection
+  pub has : held_now pool r ≡ Some connection
 
 pub held-there : (pools : List PoolCore) (r i : ℕ) → holder pools r ≡ Some i → Held pools r i
 held-there pools r i held = on (slice_get pools i) refl
   where
-    held_in : (s : PoolCore) (y : Option Connection) → slice_get pools i ≡ Some s → held_connection s r ≡ y → Held pools r i
-    held_in s None f g =
-        let yes : is_some (held_connection s r) ≡ true = (position-at (λ u. is_some (held_connection u r)) pools i s held f).0 in
-        let no : is_some (held_connection s r) ≡ false = rw g refl in
-        let t : true ≡ false = sym yes ∙ no in
-        cc
-    held_in s (Some x) f g = record { pool = s; connection = x; there = f; has = g }
+    held_in : (s : PoolCore) → slice_get pools i ≡ Some s → Held pools r i
+    held_in s f = let x = holds-held s r (position-at (λ u. holds_now u r) pools i s held f).0 in record { pool = s; connection = x.0; there = f; has = x.1 }
 
     on : (y : Option PoolCore) → slice_get pools i ≡ y → Held pools r i
-    on None f = absurd (at-place pools i (position-within (λ u. is_some (held_connection u r)) pools i held) f)
-    on (Some s) f = held_in s (held_connection s r) f refl
+    on None f = absurd (at-place pools i (position-within (λ u. holds_now u r) pools i held) f)
+    on (Some s) f = held_in s f
 
 module _ (w : TopologyCore) (h : List Item) (z : StandsFor w h) (m : ℕ) (l : w.pools.last ≤ m) (r : ℕ) (e : Error) where
   abbrev o : Options
@@ -88,7 +75,7 @@ module _ (w : TopologyCore) (h : List Item) (z : StandsFor w h) (m : ℕ) (l : w
       let missing : home_of h act ≡ None = home-missing (pool_options o) pools h z.pools.fit (Do.Return r Used.Ok) refl none in
       rw (in-time w h z m l, missing) refl
 
-  module _ (i : ℕ) (s : PoolCore) (x : Connection) (held : holder pools r ≡ Some i) (there : slice_get pools i ≡ Some s) (has : held_connection s r ≡ Some x) where
+  module _ (i : ℕ) (s : PoolCore) (x : ℕ) (held : holder pools r ≡ Some i) (there : slice_get pools i ≡ Some s) (has : held_now s r ≡ Some x) where
     home-is : home_of h act ≡ Some (home s)
     home-is = home-placed (pool_options o) pools h z.pools.fit (Do.Return r Used.Ok) refl i s there held
 
@@ -107,14 +94,14 @@ module _ (w : TopologyCore) (h : List Item) (z : StandsFor w h) (m : ℕ) (l : w
     fits : Fits s xs
     fits = subst (λ p. Fits s (of_pool p h)) (sym d.number) d.fits
 
-    at-id : connection_at s x.id ≡ Some x
-    at-id = (held-at s r x has).1
+    live : is_live_now s x ≡ true
+    live = held-lives s r x has
 
-    holding-x : holding xs r ≡ Some x.id
-    holding-x = holding-is s xs fits r ∙ rw has refl
+    holding-x : holding xs r ≡ Some x
+    holding-x = holding-is s xs fits r ∙ has
 
     abbrev c : Complaint
-    c = record { pool = s.pool; address = s.address; connection = x.id; phase = operating; error = e }
+    c = record { pool = s.pool; address = s.address; connection = x; phase = operating; error = e }
 
     complaint-is : complaint_of k act ≡ Some c
     complaint-is =
@@ -123,12 +110,12 @@ module _ (w : TopologyCore) (h : List Item) (z : StandsFor w h) (m : ℕ) (l : w
 
     current-is : is_current o k t c ≡ concerns_now w s x e
     current-is =
-        let stale : is_stale (pool_options o) xs x.id ≡ is_outdated s x.id x.service = ap (λ p. is_stale p xs x.id) (sym d.options) ∙ outdated-is s xs fits.matches x.id x at-id in
+        let stale : is_stale (pool_options o) xs x ≡ is_outdated s x = ap (λ p. is_stale p xs x) (sym d.options) ∙ outdated-is s xs fits x live in
         rw (z.pools.fit.open_are s.address, stale) refl
 
     -- the trouble of the row
     abbrev pub complained : Case → Trouble
-    complained row = record { row = row; pool = s.pool; address = s.address; error = e; wire = unwrap_or x.wire (pos 0); service = x.service }
+    complained row = record { row = row; pool = s.pool; address = s.address; error = e; wire = unwrap_or (wire_now s x) (pos 0); service = service_now s x }
 
     abbrev complained-of : Option Case → Option Trouble
     complained-of None = None
@@ -136,7 +123,7 @@ module _ (w : TopologyCore) (h : List Item) (z : StandsFor w h) (m : ℕ) (l : w
 
     trouble-row : (y : Option Case) → current_trouble k c y ≡ complained-of y
     trouble-row None = refl
-    trouble-row (Some row) = rw (live-wired s xs fits.matches x.id x at-id, live-served s xs fits.matches x.id x at-id) refl
+    trouble-row (Some row) = rw (wire-is s xs fits x live, service-is s xs fits x live) refl
 
     -- a current error of a row is its trouble
     pub trouble-told : (row : Case) → concerns_now w s x e ≡ true → case_of operating e ≡ Some row → trouble_of o k t act ≡ Some (complained row)

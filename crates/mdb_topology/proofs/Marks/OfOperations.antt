@@ -16,9 +16,8 @@ use Rattle.mdb_log.specs.declared.step.Act.{Act}
 use Rattle.mdb_log.specs.declared.step.Act.TheVariants as Do
 use Rattle.mdb_log.specs.declared.reply.Reply.TheVariants.{Changed}
 use Rattle.mdb_log.specs.History.{Item, did, made}
-use Rattle.mdb_pool.specs.declared.kept.connection.Connection.{Connection}
 use Rattle.mdb_pool.specs.Core.{PoolCore}
-use Rattle.mdb_pool.specs.Kept.{held_connection}
+use Rattle.mdb_pool.specs.Now.{held_now}
 use Rattle.mdb_log.proofs.Bools.{both-true}
 use Rattle.mdb_driver_pools.specs.declared.trouble.Asked.TheVariants.{CheckNow, CancelIfCleared}
 use Rattle.mdb_topology.specs.declared.topology.TopologyCore.{TopologyCore}
@@ -96,7 +95,7 @@ module _ (w : TopologyCore) (h : List Item) (z : StandsFor w h) (m : ℕ) (l : w
           let w2 : true ≡ false = sym known ∙ ap (is_known a) none in
           cc
 
-  module _ (r : ℕ) (e : Error) (i : ℕ) (s : PoolCore) (x : Connection) (held : holder pools r ≡ Some i) (there : slice_get pools i ≡ Some s) (has : held_connection s r ≡ Some x) where
+  module _ (r : ℕ) (e : Error) (i : ℕ) (s : PoolCore) (x : ℕ) (held : holder pools r ≡ Some i) (there : slice_get pools i ≡ Some s) (has : held_now s r ≡ Some x) where
     abbrev act : Act
     act = Do.Error r e
 
@@ -118,8 +117,8 @@ module _ (w : TopologyCore) (h : List Item) (z : StandsFor w h) (m : ℕ) (l : w
       -- the pool is the open one of its address
       pub complaint-here : at_address pools s.address ≡ Some i
       complaint-here =
-          let first = both-true (not (is_incompatible e.kind)) (is_here_among pools s.address s.pool && (may_tell (known_version (server_at s.address t.servers)) e.topology_version && not (is_outdated s x.id x.service))) current in
-          let second = both-true (is_here_among pools s.address s.pool) (may_tell (known_version (server_at s.address t.servers)) e.topology_version && not (is_outdated s x.id x.service)) first.1 in
+          let first = both-true (not (is_incompatible e.kind)) (is_here_among pools s.address s.pool && (may_tell (known_version (server_at s.address t.servers)) e.topology_version && not (is_outdated s x))) current in
+          let second = both-true (is_here_among pools s.address s.pool) (may_tell (known_version (server_at s.address t.servers)) e.topology_version && not (is_outdated s x)) first.1 in
           on (at_address pools s.address) refl second.0
         where
           on : (y : Option ℕ) → at_address pools s.address ≡ y → is_here_among pools s.address s.pool ≡ true → at_address pools s.address ≡ Some i
@@ -139,7 +138,7 @@ module _ (w : TopologyCore) (h : List Item) (z : StandsFor w h) (m : ℕ) (l : w
             ∙ (ap (marking_rule o) (trouble-told w h z m l r e i s x held there has row current case) ∙ rw (normal, marks-normal row) refl)
 
         -- a change of the server's state
-        pub changed-of-pool : IsOfPool o (row_trouble state_change) i s.address e (is_hard_now x e) CheckNow
+        pub changed-of-pool : IsOfPool o (row_trouble state_change) i s.address e (is_hard_now s x e) CheckNow
         changed-of-pool = record {
           pool = number-is w h z m l r e i s x held there has;
           address = refl;
@@ -150,7 +149,7 @@ module _ (w : TopologyCore) (h : List Item) (z : StandsFor w h) (m : ℕ) (l : w
 
         pub changed-marking : case_of operating e ≡ Some state_change → IsMarking w h (at_m w h z m l act) (updated t (failed s.address e)) (row_trouble state_change)
         changed-marking case =
-            marking-by w h z m l act s.address e (row_trouble state_change) i (is_hard_now x e) CheckNow changed-of-pool
+            marking-by w h z m l act s.address e (row_trouble state_change) i (is_hard_now s x e) CheckNow changed-of-pool
             (complaint-passes w h z m l r e i s x held there has) (complaint-ruled state_change case) (complaint-trouble state_change case) (λ k. refl) refl
 
         -- a lost connection

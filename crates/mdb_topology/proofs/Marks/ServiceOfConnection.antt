@@ -16,11 +16,11 @@ use Rattle.mdb_log.specs.History.{Item, of_pool}
 use Rattle.mdb_log.specs.Opening.{pool_options}
 use Rattle.mdb_pool.specs.Core.{PoolCore}
 use Rattle.mdb_pool_rules.specs.Facts.{clear_facts}
-use Rattle.mdb_pool.specs.Kept.{exhausted_now}
+use Rattle.mdb_pool.specs.Now.{exhausted_now}
 use Rattle.mdb_pool_rules.specs.Refusal.{is_exhausted, wrong_service}
 use Rattle.mdb_pool.specs.Refusing.{refusal_now}
 use Rattle.mdb_pool.specs.Standing.{Fits}
-use Rattle.mdb_pool.proofs.Answered.Clear.{exhausted-is}
+use Rattle.mdb_pool.proofs.Told.OfQueries.{exhausted-is}
 use Rattle.mdb_driver_pools.specs.declared.pool_change.PoolChange.{PoolChange}
 use Rattle.mdb_topology.specs.declared.transition.Transition.{Transition}
 use Rattle.mdb_topology.specs.declared.monitors.monitoring.Monitoring.TheVariants.{Same}

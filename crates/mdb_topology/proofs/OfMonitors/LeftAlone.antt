@@ -10,7 +10,6 @@ use Rattle.mdb_monitor.specs.declared.monitor.MonitorCore.{MonitorCore}
 use Rattle.mdb_monitor.specs.Standing.{StandsFor as MonitorStands}
 use Rattle.mdb_log.specs.declared.step.Step.{Step}
 use Rattle.mdb_log.specs.declared.step.Act.{Act}
-use Rattle.mdb_log.specs.declared.step.Act.TheVariants as Do
 use Rattle.mdb_log.specs.declared.reply.Reply.{Reply}
 use Rattle.mdb_log.specs.History.{Item, did, with_facts}
 use Rattle.mdb_log.specs.Connections.{one_if}

@@ -20,8 +20,8 @@ use Rattle.mdb_log.proofs.Numbers.{same-number}
 use Rattle.mdb_pool.specs.Core.{PoolCore}
 use Rattle.mdb_pool_rules.specs.Answer.{first_job}
 use Rattle.mdb_pool_rules.specs.Jobs.{job_in}
-use Rattle.mdb_pool.specs.Kept.{is_spent}
-use Rattle.mdb_pool.proofs.Answered.Act.{pending-is}
+use Rattle.mdb_pool.specs.Now.{is_spent}
+use Rattle.mdb_pool.proofs.Told.OfQueries.{pending-is}
 use Rattle.mdb_pool.proofs.KeptInLittle.NothingLives.{none-pending}
 use Rattle.mdb_pool_rules.proofs.Listed.Values.{find-member}
 use Rattle.mdb_topology.specs.declared.topology.TopologyCore.{TopologyCore}

@@ -1,6 +1,7 @@
 -- What a step of a driver answers is what every core of many pools answers.
-use Rattle.std.proofs.Common.{ℕ, ◌≡◌, ◌≤◌, ◌||◌, Bool, true, false, List, ◌∷◌, Option, Some, None, nat_lt, refl, sym, ◌∙◌, ap, subst, arith}
+use Rattle.std.proofs.Common.{ℕ, ◌≡◌, ◌≤◌, Bool, true, false, List, ◌∷◌, Option, Some, None, nat_lt, refl, sym, ◌∙◌, ap, subst, arith}
 use Rattle.std.proofs.lemmas.Bool.Decides.{nat_tests}
+use Rattle.std.proofs.lemmas.Bool.{or_right}
 use Rattle.mdb_base.specs.declared.options.Options.{Options}
 use Rattle.mdb_events.specs.declared.fact.Fact.{Fact}
 use Rattle.mdb_log.specs.declared.job.Job.{Job as JobRecord}
@@ -29,10 +30,6 @@ use Rattle.mdb_topology.proofs.OnePool.JobsAreThere.{told-there}
 use Rattle.mdb_driver_pools.proofs.ReplyOfAct.{WarmPends, accepted-kind, tells-how, not-refused}
 use Rattle.mdb_topology.proofs.WholeSteps.InTime.{answer-in-time, refused-in-time, claim-facts}
 use Rattle.mdb_driver_pools.proofs.OnePool.WarmGetsPending.{warm-step}
-
-or-right : (a b : Bool) → b ≡ true → a || b ≡ true
-or-right true b e = refl
-or-right false b e = e
 
 abbrev is_claim : Act → Bool
 is_claim Do.Claim = true
@@ -118,7 +115,7 @@ module _ (w : TopologyCore) (h : List Item) (z : StandsFor w h) (m : ℕ) where
       kind = on (refusal o h (at_m act)) refl
         where
           on : (x : Option Why) → refusal o h (at_m act) ≡ x → is_reply_to act (answer o h (at_m act)).reply ≡ true
-          on None e = ap (λ a. is_reply_to act a.reply) (accepts act e) ∙ or-right (is_refusal (its_reply act)) (answers act (its_reply act)) (goes e)
+          on None e = ap (λ a. is_reply_to act a.reply) (accepts act e) ∙ or_right (is_refusal (its_reply act)) (answers act (its_reply act)) (goes e)
           on (Some why) e = ap (λ a. is_reply_to act a.reply) (refuses act why e)
 
       pub timely : w.pools.last ≤ m → is_in_time act (answer o h (at_m act)).reply ≡ true

@@ -4,7 +4,6 @@ use Rattle.std.specs.Prelude.{Result, Ok, Err, IfOk, OnOk, OnErr}
 use Rattle.std.proofs.lemmas.List.{append-nil, append_cancel_left}
 use Rattle.mdb_log.specs.declared.log.Entry.{Entry}
 use Rattle.mdb_log.specs.declared.step.Step.{Step}
-use Rattle.mdb_log.specs.declared.step.Act.TheVariants as Do
 use Rattle.mdb_log.specs.declared.reply.Reply.{Reply}
 use Rattle.mdb_log.specs.Acts.{IsDriverAct}
 use Rattle.mdb_log.specs.Driver.{IsEntry, is_reply_to, is_in_time, IsThere}

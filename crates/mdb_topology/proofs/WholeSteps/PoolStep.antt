@@ -1,5 +1,5 @@
 -- A step of one pool that is done in place: its answer, and what each part of the driver then is.
-use Rattle.std.proofs.Common.{ℕ, ◌≡◌, ◌≤◌, ◌+◌, ◌^◌, ◌||◌, true, false, List, [], ◌∷◌, ◌++◌, map, set, length, Some, is_some, refl, sym, ◌∙◌, ap, subst, arith, append-nil}
+use Rattle.std.proofs.Common.{ℕ, ◌≡◌, ◌≤◌, ◌+◌, ◌^◌, ◌||◌, true, false, List, [], ◌∷◌, ◌++◌, set, length, Some, is_some, refl, sym, ◌∙◌, ap, subst, arith, append-nil}
 use Rattle.std.specs.Prelude.{slice_get, unwrap_or, All}
 use Rattle.std.proofs.lemmas.List.{length-set}
 use Rattle.std.proofs.lemmas.List.Elements.{All-set, All-nil}
@@ -20,7 +20,7 @@ use Rattle.mdb_log.specs.Opening.{pool_options}
 use Rattle.mdb_log.specs.Requests.{names_party}
 use Rattle.mdb_log.proofs.Later.{with_answer-accepted}
 use Rattle.mdb_pool.specs.Core.{PoolCore}
-use Rattle.mdb_pool.specs.Kept.{is_spent}
+use Rattle.mdb_pool.specs.Now.{is_spent}
 use Rattle.mdb_pool.specs.Planning.{IsDone}
 use Rattle.mdb_pool.specs.Standing.{SameHome}
 use Rattle.mdb_topology.specs.declared.topology.TopologyCore.{TopologyCore}

@@ -1,8 +1,7 @@
 //! Which errors of operations still concern their server (SDAM, "Error handling pseudocode").
 
 ghost use Rattle.std.specs.Prelude.{◌≡◌, Some, is_some, unwrap_or, pos, int_lt, true};
-ghost use Rattle.mdb_pool.specs.declared.kept.connection.Connection.{Connection};
-ghost use Rattle.mdb_pool.specs.Kept.{connection_at};
+ghost use Rattle.mdb_pool.specs.Now.{is_live_now, service_now};
 ghost use Rattle.mdb_topology.specs.Complaining.{is_outdated, is_hard_now, service_cleared};
 ghost use Rattle.mdb_driver_rules.specs.Current.{operating};
 ghost use Rattle.mdb_driver_rules.specs.Errors.{case_of};
@@ -14,7 +13,7 @@ use mdb_pool::PoolCore;
 
 // The generation of a live connection is not the one that its pool has.
 fn is_outdated(pool: &PoolCore, id: u32) -> bool
-    ensures { (x : Connection) → connection_at pool.now id ≡ Some x → result ≡ is_outdated pool.now id x.service }
+    ensures { is_live_now pool.now id ≡ true → result ≡ is_outdated pool.now id }
 {
     match pool.connection_generation(id) {
         Some(ConnectionGeneration::Normal(own)) => own != pool.generation(None),
@@ -45,14 +44,14 @@ fn is_old(wire: Option<i32>) -> bool
 
 /// The server shuts down, or the wire version of the connection is below 8.
 pub(crate) fn is_hard(pool: &PoolCore, id: u32, error: &Error) -> bool
-    ensures { (x : Connection) → connection_at pool.now id ≡ Some x → result ≡ is_hard_now x error.now }
+    ensures { result ≡ is_hard_now pool.now id error.now }
 {
     error.is_shutting_down() || is_old(pool.wire_version(id))
 }
 
 // The service of a live connection under load balancing.
 fn service_at(pool: &PoolCore, id: u32) -> Option<ObjectId>
-    ensures { (x : Connection) → pool.now.options.load_balanced ≡ true → connection_at pool.now id ≡ Some x → result ≡ x.service }
+    ensures { pool.now.options.load_balanced ≡ true → is_live_now pool.now id ≡ true → result ≡ service_now pool.now id }
 {
     match pool.connection_generation(id) {
         Some(own) => own.service_id(),
@@ -62,7 +61,7 @@ fn service_at(pool: &PoolCore, id: u32) -> Option<ObjectId>
 
 /// The service that the error about the connection clears under load balancing.
 pub(crate) fn service_cleared(pool: &PoolCore, id: u32, error: &Error) -> Option<ObjectId>
-    ensures { (x : Connection) → pool.now.options.load_balanced ≡ true → connection_at pool.now id ≡ Some x → result ≡ service_cleared x error.now }
+    ensures { pool.now.options.load_balanced ≡ true → is_live_now pool.now id ≡ true → result ≡ service_cleared pool.now id error.now }
 {
     let hard = is_hard(pool, id, error);
     if error.is_state_change_error() && !hard {
@@ -96,7 +95,7 @@ impl TopologyCore {
     /// The error of an operation on the connection of the pool is current.
     pub(crate) fn is_current(&self, pool: &PoolCore, id: u32, error: &Error) -> bool
         requires stands { StandsForSome self.now }
-        ensures { (x : Connection) → connection_at pool.now id ≡ Some x → x.id ≡ id → result ≡ concerns_now self.now pool.now x error.now }
+        ensures { is_live_now pool.now id ≡ true → result ≡ concerns_now self.now pool.now id error.now }
     {
         if error.is_incompatible_server() {
             return false;

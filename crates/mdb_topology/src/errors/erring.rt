@@ -3,9 +3,8 @@
 ghost use Rattle.std.specs.Prelude.{◌≡◌, ◌≤◌, ◌<◌, ◌&&◌, IfOk, OnErr, List, Some, is_some, not, slice_get, true, false};
 ghost use Rattle.mdb_log.specs.declared.step.Act.TheVariants.{Hello as HelloAct, Error as ErrorAct};
 ghost use Rattle.mdb_log.specs.declared.checked.HelloResult.TheVariants.{Err as Erred};
-ghost use Rattle.mdb_pool.specs.declared.kept.connection.Connection.{Connection};
 ghost use Rattle.mdb_pool.specs.Core.{PoolCore as Core};
-ghost use Rattle.mdb_pool.specs.Kept.{connection_at};
+ghost use Rattle.mdb_pool.specs.Now.{is_live_now};
 ghost use Rattle.mdb_driver_rules.specs.Current.{operating};
 ghost use Rattle.mdb_driver_rules.specs.Errors.{case_of, for_service};
 ghost use Rattle.mdb_driver_pools.specs.Living.{lives_at};
@@ -124,7 +123,7 @@ impl TopologyCore {
     // An error about the connection of the pool tells nothing: it is not current, or it has no row.
     fn leaves_complaint(&self, pool: &PoolCore, id: u32, error: &Error) -> bool
         requires stands { StandsForSome self.now }
-        ensures { (x : Connection) → connection_at pool.now id ≡ Some x → x.id ≡ id → result ≡ not (concerns_now self.now pool.now x error.now && is_some (case_of operating error.now)) }
+        ensures { is_live_now pool.now id ≡ true → result ≡ not (concerns_now self.now pool.now id error.now && is_some (case_of operating error.now)) }
     {
         !(self.is_current(pool, id, error) && has_row(error))
     }

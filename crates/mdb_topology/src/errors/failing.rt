@@ -7,9 +7,8 @@ ghost use Rattle.mdb_describe.specs.Update.{updated};
 ghost use Rattle.mdb_log.specs.declared.step.Act.TheVariants.{Failed as FailedAct};
 ghost use Rattle.mdb_log.specs.declared.step.FailedAt.{FailedAt as At};
 ghost use Rattle.mdb_log.specs.declared.step.FailedAt.TheVariants.{Post as PostAt};
-ghost use Rattle.mdb_pool.specs.declared.kept.connection.Connection.{Connection};
 ghost use Rattle.mdb_pool.specs.Core.{PoolCore as Core};
-ghost use Rattle.mdb_pool.specs.Kept.{clears_before, clears_for, connection_at};
+ghost use Rattle.mdb_pool.specs.Now.{clears_before_now, clears_now, is_live_now};
 ghost use Rattle.mdb_driver_rules.specs.Current.{establishing};
 ghost use Rattle.mdb_driver_rules.specs.Errors.{case_of};
 ghost use Rattle.mdb_topology.specs.Failing.{is_timely, is_uncleared, clears_after, service_after, asked_after};
@@ -48,7 +47,7 @@ fn asked_after(error: &Error) -> Asked
 
 // The error about the connection clears its pool, or its service.
 fn clears_after(pool: &PoolCore, id: u32, error: &Error) -> bool
-    ensures { (x : Connection) → connection_at pool.now id ≡ Some x → result ≡ clears_after x error.now }
+    ensures { result ≡ clears_after pool.now id error.now }
 {
     let hard = is_hard(pool, id, error);
     !error.is_state_change_error() || hard
@@ -56,7 +55,7 @@ fn clears_after(pool: &PoolCore, id: u32, error: &Error) -> bool
 
 // The service that the error clears under load balancing.
 fn service_after(pool: &PoolCore, id: u32, at: FailedAt, error: &Error) -> Option<ObjectId>
-    ensures { (x : Connection) → connection_at pool.now id ≡ Some x → result ≡ service_after x at error.now }
+    ensures { result ≡ service_after pool.now id at error.now }
 {
     if clears_after(pool, id, error) {
         return at.service_id();
@@ -66,7 +65,7 @@ fn service_after(pool: &PoolCore, id: u32, at: FailedAt, error: &Error) -> Optio
 
 // The pool was not cleared, or not for the service, since the connection was created.
 fn is_uncleared(pool: &PoolCore, id: u32, service: Option<ObjectId>) -> bool
-    ensures { (x : Connection) → connection_at pool.now id ≡ Some x → result ≡ is_uncleared pool.now id service }
+    ensures { is_live_now pool.now id ≡ true → result ≡ is_uncleared pool.now id service }
 {
     match pool.generation_before(id, service) {
         Some(own) => own == pool.generation(service),
@@ -76,7 +75,7 @@ fn is_uncleared(pool: &PoolCore, id: u32, service: Option<ObjectId>) -> bool
 
 // Under load balancing a connection without a service is never cleared.
 fn is_kept(pool: &PoolCore, id: u32, service: Option<ObjectId>) -> bool
-    ensures { (x : Connection) → connection_at pool.now id ≡ Some x → result ≡ is_timely true pool.now id (PostAt service) }
+    ensures { is_live_now pool.now id ≡ true → result ≡ is_timely true pool.now id (PostAt service) }
 {
     match service {
         Some(_) => is_uncleared(pool, id, service),
@@ -86,7 +85,7 @@ fn is_kept(pool: &PoolCore, id: u32, service: Option<ObjectId>) -> bool
 
 // The generation of the connection is not below that of its pool.
 fn is_not_below(pool: &PoolCore, id: u32) -> bool
-    ensures { (x : Connection) → connection_at pool.now id ≡ Some x → result ≡ nat_le (clears_for None pool.now.clears) (clears_before id None pool.now.clears) }
+    ensures { is_live_now pool.now id ≡ true → result ≡ nat_le (clears_now pool.now None) (clears_before_now pool.now id None) }
 {
     match pool.generation_before(id, None) {
         Some(own) => pool.generation(None) <= own,
@@ -107,7 +106,7 @@ impl TopologyCore {
 
     // The connection is of the generation that its pool has.
     fn is_timely(&self, pool: &PoolCore, id: u32, at: FailedAt) -> bool
-        ensures { (x : Connection) → connection_at pool.now id ≡ Some x → result ≡ is_timely self.now.options.load_balanced pool.now id at }
+        ensures { is_live_now pool.now id ≡ true → result ≡ is_timely self.now.options.load_balanced pool.now id at }
     {
         match at {
             FailedAt::Pre => !self.options.load_balanced && is_not_below(pool, id),
@@ -119,7 +118,7 @@ impl TopologyCore {
     // The error about the pending connection of the pool is current.
     fn regards(&self, pool: &PoolCore, id: u32, at: FailedAt, error: &Error) -> bool
         requires stands { StandsForSome self.now }
-        ensures { (x : Connection) → connection_at pool.now id ≡ Some x → result ≡ regards_now self.now pool.now id at error.now }
+        ensures { is_live_now pool.now id ≡ true → result ≡ regards_now self.now pool.now id at error.now }
     {
         if error.is_incompatible_server() {
             return false;
@@ -136,7 +135,7 @@ impl TopologyCore {
     // The error tells nothing: it is not current, or it has no row.
     fn leaves_failure(&self, pool: &PoolCore, id: u32, at: FailedAt, error: &Error) -> bool
         requires stands { StandsForSome self.now }
-        ensures { (x : Connection) → connection_at pool.now id ≡ Some x → result ≡ not (regards_now self.now pool.now id at error.now && is_some (case_of (establishing at) error.now)) }
+        ensures { is_live_now pool.now id ≡ true → result ≡ not (regards_now self.now pool.now id at error.now && is_some (case_of (establishing at) error.now)) }
     {
         !(self.regards(pool, id, at, error) && has_failure_row(error))
     }

@@ -6,7 +6,7 @@ ghost use Rattle.mdb_describe.specs.Differences.{difference};
 ghost use Rattle.mdb_describe.specs.Same.{same, same_error, same_kind, same_option, same_version};
 ghost use Rattle.mdb_describe.specs.Update.{is_older, updated};
 ghost use Rattle.mdb_pool.specs.Core.{PoolCore as Core};
-ghost use Rattle.mdb_pool.specs.Kept.{clears_for, exhausted_now, is_shut};
+ghost use Rattle.mdb_pool.specs.Now.{clears_now, exhausted_now, is_closed_now, is_spent};
 ghost use Rattle.mdb_driver_pools.specs.Living.{lives_at};
 
 use crate::topology::TopologyCore;
@@ -17,7 +17,7 @@ use mdb_pool::{PoolCore, PoolState};
 
 // The pool is open, and was cleared so often, or for the service.
 fn is_at_limit(pool: &PoolCore, limit: u64, service: Option<ObjectId>) -> bool
-    ensures { result ≡ not (is_shut pool.now.status) && nat_le limit (clears_for service pool.now.clears) }
+    ensures { result ≡ not (is_closed_now pool.now) && nat_le limit (clears_now pool.now service) }
 {
     !matches!(pool.state(), PoolState::Closed) && limit <= pool.generation(service)
 }

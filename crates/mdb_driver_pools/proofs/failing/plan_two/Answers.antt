@@ -1,5 +1,6 @@
-use Rattle.std.proofs.Common.{◌≡◌, true, false, ◌||◌, Bool, [], ◌∷◌, ◌++◌, refl, sym, ◌∙◌, ap, subst}
+use Rattle.std.proofs.Common.{◌≡◌, [], ◌∷◌, ◌++◌, sym, ◌∙◌, ap, subst}
 use Rattle.std.specs.Prelude.{All}
+use Rattle.std.proofs.lemmas.Bool.{or_right}
 use Rattle.mdb_log.specs.Acts.{IsPoolAct}
 use Rattle.mdb_log.specs.declared.step.Step.{Step}
 use Rattle.mdb_pool.specs.Planning.{LeadsTo}
@@ -9,13 +10,6 @@ use Rattle.mdb_driver_pools.proofs.InMemory.LivingPools.{some-living}
 use Rattle.mdb_driver_pools.proofs.OnePool.OneAnswer.{all-two-steps}
 use Rattle.mdb_driver_pools.proofs.OnePool.TwoSteps.{two-some, two-more, two-done}
 use Rattle.mdb_driver_pools.proofs.failing.plan_two.Goals as goal
-
-or-true : (b c : Bool) → c ≡ true → (b || c) ≡ true
-or-true b c e = rw e (on b)
-  where
-    on : (d : Bool) → (d || true) ≡ true
-    on true = refl
-    on false = refl
 
 pub prepare-requires-clause-acts : goal.prepare-requires-clause-acts
 prepare-requires-clause-acts c =
@@ -27,7 +21,7 @@ pub prepare-requires-clause-new : goal.prepare-requires-clause-new
 prepare-requires-clause-new c =
     let steps : c.deref.result.now ≡ c.args.first ∷ c.args.second.now ∷ [] =
     c.deref.ensures.value ∙ (c.in_ok-push-2.ensures.items ∙ (ap (λ xs. xs ++ c.in_ok-second.second ∷ []) (c.in_ok-push.ensures.items ∙ ap (λ xs. xs ++ c.args.first ∷ []) c.new-steps.ensures.items) ∙ ap (λ x. c.args.first ∷ x ∷ []) c.in_ok-second.ensures.cases)) in
-    λ s at. subst (TellsNew s) (sym steps) (named_tells s c.args.first.act c.requires.nobody.0, (or-true s.alone (names_nobody c.args.second.now.act) c.requires.nobody.1, tt))
+    λ s at. subst (TellsNew s) (sym steps) (named_tells s c.args.first.act c.requires.nobody.0, (or_right s.alone (names_nobody c.args.second.now.act) c.requires.nobody.1, tt))
 
 pub unreachable-requires : goal.unreachable-requires
 unreachable-requires c =

@@ -2,7 +2,7 @@ use Rattle.std.proofs.Common.{◌≡◌, List, refl, sym, ◌∙◌, subst}
 use Rattle.std.specs.Prelude.{IfOk}
 use Rattle.std.proofs.lemmas.Result.{IfOk-weaker}
 use Rattle.mdb_log.specs.History.{Item}
-use Rattle.mdb_pool.specs.Body.{led, PoolFits}
+use Rattle.mdb_pool.specs.Kept.Body.{led, PoolFits}
 use Rattle.mdb_pool.specs.Core.{PoolCore}
 use Rattle.mdb_pool.specs.Standing.{StandsFor}
 use Rattle.mdb_pool.specs.Planning.{LeadsTo, IsPrepared, Plans, IsPlanOf}

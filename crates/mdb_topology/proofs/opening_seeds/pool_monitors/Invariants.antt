@@ -1,4 +1,4 @@
-use Rattle.std.proofs.Common.{ℕ, take, ◌≡◌, ◌<◌, ◌≤◌, ◌-◌, [], All, true, length, map}
+use Rattle.std.proofs.Common.{ℕ, take, ◌≡◌, ◌<◌, ◌≤◌, [], All, true, length, map}
 use Rattle.mdb_log.specs.Connections.{has}
 use Rattle.mdb_monitor.specs.Standing.{StandsFor as MonitorStands}
 use Rattle.mdb_driver_rules.specs.Monitors.{setting}

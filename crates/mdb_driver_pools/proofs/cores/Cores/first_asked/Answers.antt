@@ -1,6 +1,6 @@
 use Rattle.std.proofs.Common.{find, position, ◌∙◌, ap}
 use Rattle.std.specs.Prelude.{option_map}
-use Rattle.mdb_pool.specs.Kept.{is_open_now}
+use Rattle.mdb_pool.specs.Now.{is_open_now}
 use Rattle.mdb_driver_pools.specs.declared.placed.Placed.{Placed}
 use Rattle.mdb_driver_pools.specs.Living.{PoolList}
 use Rattle.mdb_driver_pools.proofs.InMemory.LivingPools.{found-place, spent-asked}

@@ -1,7 +1,7 @@
 use Rattle.std.proofs.Common.{filter, find, ap, arith}
 use Rattle.std.proofs.lemmas.Bool.Decides.{nat_tests}
 use Rattle.std.specs.Prelude.{nat_lt, option_copied}
-use Rattle.mdb_pool.specs.Places.{is_pending}
+use Rattle.mdb_pool.specs.Kept.Places.{is_pending}
 use Rattle.mdb_pool.proofs.Listed.WalksForth.{walk-shorter, walk-miss, walk-hit, walk-none}
 use Rattle.mdb_pool.proofs.kept.connections.first_after.Goals as goal
 

@@ -1,7 +1,7 @@
 use Rattle.std.proofs.Common.{◌≡◌, filter, find, length}
 use Rattle.std.specs.Prelude.{nat_lt, option_copied}
 use Rattle.mdb_slots.specs.Keyed.{rest_of}
-use Rattle.mdb_pool.specs.Places.{is_pending}
+use Rattle.mdb_pool.specs.Kept.Places.{is_pending}
 use Rattle.mdb_pool.proofs.kept.connections.first_after.Given as goal
 
 -- what is left of the walk decides

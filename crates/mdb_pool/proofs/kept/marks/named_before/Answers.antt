@@ -1,6 +1,6 @@
 use Rattle.std.proofs.Common.{rules, subst}
 use Rattle.std.proofs.lemmas.List.{take_all}
-use Rattle.mdb_pool.specs.Clearing.{AreMarked}
+use Rattle.mdb_pool.specs.Kept.Clearing.{AreMarked}
 use Rattle.mdb_pool.proofs.Told.ServicesOfClears.{pass-whole, pass-later, name-one}
 use Rattle.mdb_pool.proofs.kept.marks.named_before.Goals.{in-Some+then-mark-id+in_ok-push, in_default, in_default-via-in-None-1, in_default-via-in-Some+else-mark-id}
 use Rattle.mdb_pool.proofs.kept.marks.named_before.Goals as goal

@@ -1,6 +1,6 @@
 use Rattle.std.proofs.Common.{arith}
 use Rattle.std.proofs.lemmas.List.{at_drop_all}
-use Rattle.mdb_pool.specs.Clearing.{counts_at, weigh}
+use Rattle.mdb_pool.specs.Kept.Clearing.{counts_at, weigh}
 use Rattle.mdb_pool.proofs.KeptInLittle.CountedClears.{nothing, weigh_rest, weigh_within}
 use Rattle.mdb_pool.proofs.kept.marks.sum_of.Goals as goal
 

@@ -1,5 +1,5 @@
 use Rattle.std.proofs.Common.{◌≡◌, ◌+◌, drop}
-use Rattle.mdb_pool.specs.Clearing.{counts_at, weigh}
+use Rattle.mdb_pool.specs.Kept.Clearing.{counts_at, weigh}
 use Rattle.mdb_pool.proofs.kept.marks.sum_of.Given as goal
 
 -- what was counted and what is left is all

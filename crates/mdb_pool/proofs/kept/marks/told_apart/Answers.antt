@@ -1,6 +1,6 @@
 use Rattle.std.proofs.Common.{is_some, find, sym, ◌∙◌, ap}
 use Rattle.std.specs.Prelude.{option_copied}
-use Rattle.mdb_pool.specs.Clearing.{parts_at}
+use Rattle.mdb_pool.specs.Kept.Clearing.{parts_at}
 use Rattle.mdb_pool.proofs.Listed.WalksForth.{walk-shorter, walk-miss, walk-hit, walk-none}
 use Rattle.mdb_pool.proofs.kept.marks.told_apart.Goals as goal
 

@@ -1,7 +1,7 @@
 use Rattle.std.proofs.Common.{◌≡◌, find, length}
 use Rattle.std.specs.Prelude.{option_copied}
 use Rattle.mdb_slots.specs.Keyed.{rest_of}
-use Rattle.mdb_pool.specs.Clearing.{parts_at}
+use Rattle.mdb_pool.specs.Kept.Clearing.{parts_at}
 use Rattle.mdb_pool.proofs.kept.marks.told_apart.Given as goal
 
 -- what is left of the walk decides

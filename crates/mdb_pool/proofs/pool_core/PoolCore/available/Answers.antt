@@ -1,7 +1,7 @@
 use Rattle.std.proofs.Common.{◌∙◌, ap}
 use Rattle.mdb_slots.specs.Sided.{noted}
 use Rattle.mdb_pool.specs.Core.{PoolCore}
-use Rattle.mdb_pool.specs.Places.{is_available}
+use Rattle.mdb_pool.specs.Kept.Places.{is_available}
 use Rattle.mdb_pool.proofs.Follows.Availability.{available-told}
 use Rattle.mdb_pool.proofs.pool_core.PoolCore.available.Goals as goal
 

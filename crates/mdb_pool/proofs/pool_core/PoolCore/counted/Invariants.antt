@@ -1,5 +1,5 @@
 use Rattle.std.proofs.Common.{◌≡◌, Some, map, take}
-use Rattle.mdb_pool.specs.Kept.{count_at}
+use Rattle.mdb_pool.specs.Kept.Values.{count_at}
 use Rattle.mdb_pool.proofs.pool_core.PoolCore.counted.Given as goal
 
 abbrev pub invariant-loop-service : goal.invariant-loop-service

@@ -2,8 +2,8 @@ use Rattle.std.proofs.Common.{rules, ◌∙◌}
 use Rattle.mdb_pool.proofs.Told.OfItems.{generation-now}
 use Rattle.mdb_pool.proofs.pool_core.PoolCore.generation.Goals as goal
 
-pub returns-clause-kept : goal.returns-clause-kept
-returns-clause-kept c = search rules
+pub returns-clause-now : goal.returns-clause-now
+returns-clause-now c = search rules
 
 pub returns-clause-items : goal.returns-clause-items
-returns-clause-items c = λ xs z. returns-clause-kept c ∙ generation-now c.args.self.now xs z c.args.service
+returns-clause-items c = λ xs z. returns-clause-now c ∙ generation-now c.args.self.now xs z c.args.service

@@ -1,20 +1,13 @@
-use Rattle.std.proofs.Common.{◌≡◌, Bool, true, false, not, refl, Some, map, sym, ◌∙◌, ap, subst}
+use Rattle.std.proofs.Common.{Some, map, sym, ◌∙◌, ap, subst}
+use Rattle.std.proofs.lemmas.Bool.{not-true, not-false}
 use Rattle.mdb_log.specs.declared.generation.PoolGeneration.TheVariants.{Normal, LoadBalanced}
 use Rattle.mdb_log.specs.declared.options.PoolOptions.{PoolOptions}
 use Rattle.mdb_pool.specs.Core.{PoolCore}
 use Rattle.mdb_pool.specs.declared.pool_core.PoolCore.TheInside.{Inside}
-use Rattle.mdb_pool.specs.Kept.{count_at}
+use Rattle.mdb_pool.specs.Kept.Values.{count_at}
 use Rattle.mdb_pool.proofs.Told.ServicesOfClears.{AreNamed}
 use Rattle.mdb_pool.proofs.Told.JobGenerations.{normal-generation, balanced-generation}
 use Rattle.mdb_pool.proofs.pool_core.PoolCore.generations_before.Goals as goal
-
-not-true : (b : Bool) → not b ≡ true → b ≡ false
-not-true true e = sym e
-not-true false e = refl
-
-not-false : (b : Bool) → not b ≡ false → b ≡ true
-not-false true e = refl
-not-false false e = sym e
 
 pub returns-then-not-options : goal.returns-then-not-options
 returns-then-not-options c = λ xs z waits. ap Normal c.count_at.ensures ∙ normal-generation c.args.self.now xs z c.args.id waits (sym (ap (λ (o : PoolOptions). o.load_balanced) c.options.ensures ∙ ap (λ (v : PoolCore). v.options.load_balanced) c.self.view_is) ∙ not-true c.options.result.load_balanced c.if-not-options.true)

@@ -1,5 +1,5 @@
 use Rattle.std.proofs.Common.{rules, ◌≡◌, ◌∙◌, nat_lt}
-use Rattle.mdb_pool.specs.Kept.{connection_at, pins_at}
+use Rattle.mdb_pool.specs.Kept.Values.{connection_at, pins_at}
 use Rattle.mdb_pool.proofs.Told.OfItems.{pins-now}
 use Rattle.mdb_pool.proofs.pool_core.PoolCore.has_pin.Goals as goal
 

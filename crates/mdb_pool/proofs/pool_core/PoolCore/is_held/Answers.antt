@@ -1,5 +1,5 @@
 use Rattle.std.proofs.Common.{rules, ◌≡◌, ◌∙◌}
-use Rattle.mdb_pool.specs.Kept.{connection_at, is_held_at}
+use Rattle.mdb_pool.specs.Kept.Values.{connection_at, is_held_at}
 use Rattle.mdb_pool.proofs.Told.OfItems.{in-use-now}
 use Rattle.mdb_pool.proofs.pool_core.PoolCore.is_held.Goals as goal
 

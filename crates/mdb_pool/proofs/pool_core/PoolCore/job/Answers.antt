@@ -3,7 +3,7 @@ use Rattle.mdb_base.specs.declared.address.ServerAddress.{ServerAddress}
 use Rattle.mdb_log.specs.declared.generation.PoolGeneration.{PoolGeneration}
 use Rattle.mdb_log.specs.declared.job.Job.{Job}
 use Rattle.mdb_log.specs.Connections.{has, pending_list}
-use Rattle.mdb_pool.specs.Kept.{connection_at, is_pending_at}
+use Rattle.mdb_pool.specs.Kept.Values.{connection_at, is_pending_at}
 use Rattle.mdb_pool.proofs.Told.OfItems.{pending-now}
 use Rattle.mdb_pool.proofs.KeptInLittle.ConnectionsThatLive.{pending_lives}
 use Rattle.mdb_pool.proofs.pool_core.PoolCore.job.Goals as goal

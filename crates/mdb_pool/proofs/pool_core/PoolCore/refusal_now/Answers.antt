@@ -2,8 +2,8 @@ use Rattle.std.proofs.Common.{rules, ◌∙◌}
 use Rattle.mdb_pool.proofs.Answered.Refusal.{refused-now}
 use Rattle.mdb_pool.proofs.pool_core.PoolCore.refusal_now.Goals as goal
 
-pub returns-clause-kept : goal.returns-clause-kept
-returns-clause-kept c = search rules
+pub returns-clause-now : goal.returns-clause-now
+returns-clause-now c = search rules
 
 pub returns-clause-history : goal.returns-clause-history
-returns-clause-history c = λ h z. returns-clause-kept c ∙ refused-now c.args.self.now h z c.args.step.now
+returns-clause-history c = λ h z. returns-clause-now c ∙ refused-now c.args.self.now h z c.args.step.now

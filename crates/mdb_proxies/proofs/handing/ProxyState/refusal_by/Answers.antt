@@ -1,8 +1,8 @@
 use Rattle.std.proofs.Common.{◌≡◌, true, false, is_some, nat_eq, nat_le, length, refl, sym, ap, ◌∙◌, arith}
 use Rattle.std.specs.HashMap.{get}
 use Rattle.std.proofs.lemmas.Bool.Decides.{nat_tests}
+use Rattle.std.proofs.lemmas.Bool.{not-true}
 use Rattle.mdb_proxies.specs.Tables.{is_fresh}
-use Rattle.mdb_proxies.proofs.Bools.{not-true}
 use Rattle.mdb_proxies.proofs.Charges.{fresh-by, place-none}
 use Rattle.mdb_proxies.proofs.handing.ProxyState.refusal_by.Goals as goal
 

@@ -1,22 +1,22 @@
 use Rattle.std.proofs.Common.{◌≡◌, ◌==◌, not, Some, sym, ◌∙◌, ap}
 use Rattle.mdb_log.specs.declared.generation.ConnectionGeneration.TheVariants.{Normal, LoadBalanced}
-use Rattle.mdb_pool.specs.Kept.{generation_at}
+use Rattle.mdb_pool.specs.Now.{generation_now}
 use Rattle.mdb_topology.proofs.Marks.Outdated.{outdated-normal, outdated-balanced}
 use Rattle.mdb_topology.proofs.errors.complaining.is_outdated.Goals as goal
 
 pub returns-in-Some-Normal : goal.returns-in-Some-Normal
-returns-in-Some-Normal c x at =
+returns-in-Some-Normal c live =
     let p = c.args.pool.now in
     let own = c.in-Some-Normal.own in
-    let told : Some (Normal own) ≡ generation_at p c.args.id (Some x) =
-    ap Some (sym c.in-Some-Normal.field-0-is) ∙ (sym c.in-Some-Normal.is ∙ (c.connection_generation.ensures.kept ∙ ap (generation_at p c.args.id) at)) in
-    ap (λ n. not (own == n)) c.generation.ensures.kept ∙ outdated-normal p c.args.id x own told
+    let told : Some (Normal own) ≡ generation_now p c.args.id =
+    ap Some (sym c.in-Some-Normal.field-0-is) ∙ (sym c.in-Some-Normal.is ∙ c.connection_generation.ensures.now) in
+    ap (λ n. not (own == n)) c.generation.ensures.now ∙ outdated-normal p c.args.id live own told
 
 pub returns-in-Some-LoadBalanced-Some : goal.returns-in-Some-LoadBalanced-Some
-returns-in-Some-LoadBalanced-Some c x at =
+returns-in-Some-LoadBalanced-Some c live =
     let p = c.args.pool.now in
     let own = c.in-Some-LoadBalanced-Some.own in
-    let told : Some (LoadBalanced (Some own)) ≡ generation_at p c.args.id (Some x) =
+    let told : Some (LoadBalanced (Some own)) ≡ generation_now p c.args.id =
     ap (λ y. Some (LoadBalanced y)) (sym c.in-Some-LoadBalanced-Some.field-0-0-is) ∙ (ap Some (sym c.in-Some-LoadBalanced-Some.field-0-is)
-    ∙ (sym c.in-Some-LoadBalanced-Some.is ∙ (c.connection_generation.ensures.kept ∙ ap (generation_at p c.args.id) at))) in
-    ap (λ n. not (own.generation == n)) c.generation-in-Some-LoadBalanced-Some.ensures.kept ∙ outdated-balanced p c.args.id x own told
+    ∙ (sym c.in-Some-LoadBalanced-Some.is ∙ c.connection_generation.ensures.now)) in
+    ap (λ n. not (own.generation == n)) c.generation-in-Some-LoadBalanced-Some.ensures.now ∙ outdated-balanced p c.args.id live own told

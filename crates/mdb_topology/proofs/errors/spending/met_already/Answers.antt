@@ -1,5 +1,4 @@
-use Rattle.std.proofs.Common.{◌&&◌, not, false, true, sym, ◌∙◌, ap}
-use Rattle.mdb_describe.specs.Fields.{error}
+use Rattle.std.proofs.Common.{◌&&◌, not, sym, ◌∙◌, ap}
 use Rattle.mdb_describe.specs.Same.{same_error}
 use Rattle.mdb_driver_rules.proofs.ChangesKnown.{same-failed, same-unfailed}
 use Rattle.mdb_topology.proofs.errors.spending.met_already.Goals as goal

@@ -15,7 +15,7 @@ use Rattle.mdb_topology.specs.Marking.{check_spends, IsOfPool, FailsAs}
 use Rattle.mdb_topology.specs.Checking.{Ends}
 use Rattle.mdb_driver_rules.specs.Monitors.{runs as runs_at, check_result, monitor_items}
 use Rattle.mdb_driver_rules.specs.Refusal.{may_want, refusal}
-use Rattle.mdb_pool.specs.Kept.{exhausted_now}
+use Rattle.mdb_pool.specs.Now.{exhausted_now}
 use Rattle.mdb_pool_rules.specs.Refusal.{wrong_service}
 use Rattle.mdb_topology.specs.Stepping.{BecomesOf, Follows}
 use Rattle.mdb_driver_pools.specs.Standing.{is_here_among}

@@ -1,8 +1,8 @@
-use Rattle.std.proofs.Common.{◌≡◌, ◌&&◌, Some, None, is_some, sym, ◌∙◌, subst}
+use Rattle.std.proofs.Common.{◌≡◌, ◌&&◌, Some, None, is_some, sym, ◌∙◌, ap, subst}
 use Rattle.std.specs.Prelude.{slice_get}
 use Rattle.std.proofs.lemmas.Result.{IfOk-weaker, on_err_weaker}
+use Rattle.std.proofs.lemmas.Bool.{not-true, not-false}
 use Rattle.mdb_pool.specs.Core.{PoolCore}
-use Rattle.mdb_pool.specs.Kept.{connection_at}
 use Rattle.mdb_log.proofs.Bools.{both-true}
 use Rattle.mdb_driver_pools.specs.declared.trouble.Asked.TheVariants.{Nothing}
 use Rattle.mdb_describe.specs.Descriptions.{failed}
@@ -11,7 +11,6 @@ use Rattle.mdb_describe.specs.Update.{updated}
 use Rattle.mdb_driver_rules.specs.Description.{updates}
 use Rattle.mdb_driver_pools.specs.Standing.{at_address}
 use Rattle.mdb_topology.specs.Failing.{clears_after, service_after, asked_after, TellsFailure}
-use Rattle.mdb_driver_rules.proofs.General.Truth.{not-back, not-front}
 use Rattle.mdb_topology.proofs.Failure.Answer.{live-at, at-nothing, at-service, at-mark, at-place}
 use Rattle.mdb_driver_rules.proofs.General.OnePosition.{some-same}
 use Rattle.mdb_topology.proofs.topology.TopologyCore.fail_at.Goals as goal
@@ -27,8 +26,8 @@ returns-then-leaves_failure-clause-becomes c =
     let there : slice_get pools i ≡ Some s = c.at.ensures in
     let d = c.requires.failing s there in
     let live = live-at w c.requires.stands i s there step e d c.args.id c.args.at c.requires.act in
-    let left = not-back _ (sym (c.leaves_failure.ensures live.0 live.1) ∙ c.if-leaves_failure.true) in
-    IfOk-weaker c.fail_unmarked.result _ _ (λ stepped g h z. g h s z there (at-nothing w h z step c.requires.in_time i s there e c.args.id c.args.at c.requires.act live.0 live.1 d left)) c.fail_unmarked.ensures.becomes
+    let left = not-true _ (sym (c.leaves_failure.ensures live) ∙ c.if-leaves_failure.true) in
+    IfOk-weaker c.fail_unmarked.result _ _ (λ stepped g h z. g h s z there (at-nothing w h z step c.requires.in_time i s there e c.args.id c.args.at c.requires.act live d left)) c.fail_unmarked.ensures.becomes
 
 pub returns-then-self-clause-becomes : goal.returns-then-self-clause-becomes
 returns-then-self-clause-becomes c =
@@ -41,14 +40,14 @@ returns-then-self-clause-becomes c =
     let there : slice_get pools i ≡ Some s = c.at.ensures in
     let d = c.requires.failing s there in
     let live = live-at w c.requires.stands i s there step e d c.args.id c.args.at c.requires.act in
-    let both = both-true _ _ (not-front _ (sym (c.leaves_failure.ensures live.0 live.1) ∙ c.if-leaves_failure.false)) in
+    let both = both-true _ _ (not-false _ (sym (c.leaves_failure.ensures live) ∙ c.if-leaves_failure.false)) in
     let p = c.at-then-self.result.now in
     let at_p : slice_get pools i ≡ Some p = c.at-then-self.ensures in
-    let service : c.service_after-service.result ≡ service_after live.0 c.args.at e =
-    c.service_after-service.ensures live.0 (subst (λ (u : PoolCore). connection_at u c.args.id ≡ Some live.0) (some-same s p (slice_get pools i) there at_p) live.1) in
+    let service : c.service_after-service.result ≡ service_after s c.args.id c.args.at e =
+    c.service_after-service.ensures ∙ ap (λ (u : PoolCore). service_after u c.args.id c.args.at e) (sym (some-same s p (slice_get pools i) there at_p)) in
     IfOk-weaker c.fail_unmarked-then-self.result _ _ (λ stepped g h z. g h s z there
     (subst (λ y. TellsFailure w.options h step s None (is_some y) y e Nothing) (sym service)
-    (at-service w h z step c.requires.in_time i s there e c.args.id c.args.at c.requires.act live.0 live.1 d both.0 c.if-self.true both.1))) c.fail_unmarked-then-self.ensures.becomes
+    (at-service w h z step c.requires.in_time i s there e c.args.id c.args.at c.requires.act live d both.0 c.if-self.true both.1))) c.fail_unmarked-then-self.ensures.becomes
 
 pub fail_marked-requires-clause-here : goal.fail_marked-requires-clause-here
 fail_marked-requires-clause-here c = λ s there.
@@ -61,9 +60,9 @@ fail_marked-requires-clause-here c = λ s there.
     let at_p : slice_get pools i ≡ Some p = c.at.ensures in
     let d = c.requires.failing p at_p in
     let live = live-at w c.requires.stands i p at_p step e d c.args.id c.args.at c.requires.act in
-    let both = both-true _ _ (not-front _ (sym (c.leaves_failure.ensures live.0 live.1) ∙ c.if-leaves_failure.false)) in
+    let both = both-true _ _ (not-false _ (sym (c.leaves_failure.ensures live) ∙ c.if-leaves_failure.false)) in
     subst (λ (u : PoolCore). at_address pools u.address ≡ Some i) (some-same p s (slice_get pools i) at_p there)
-    (at-place w c.requires.stands.0 c.requires.stands.1 step c.requires.in_time i p at_p e c.args.id c.args.at c.requires.act live.0 live.1 d both.0)
+    (at-place w c.requires.stands.0 c.requires.stands.1 step c.requires.in_time i p at_p e c.args.id c.args.at c.requires.act live d both.0)
 
 pub returns-clause-becomes : goal.returns-clause-becomes
 returns-clause-becomes c =
@@ -76,14 +75,14 @@ returns-clause-becomes c =
     let there : slice_get pools i ≡ Some s = c.at.ensures in
     let d = c.requires.failing s there in
     let live = live-at w c.requires.stands i s there step e d c.args.id c.args.at c.requires.act in
-    let both = both-true _ _ (not-front _ (sym (c.leaves_failure.ensures live.0 live.1) ∙ c.if-leaves_failure.false)) in
+    let both = both-true _ _ (not-false _ (sym (c.leaves_failure.ensures live) ∙ c.if-leaves_failure.false)) in
     let p = c.at-2.result.now in
     let at_p : slice_get pools i ≡ Some p = c.at-2.ensures in
-    let clears : c.clears_after-clears.result ≡ clears_after live.0 e =
-    c.clears_after-clears.ensures live.0 (subst (λ (u : PoolCore). connection_at u c.args.id ≡ Some live.0) (some-same s p (slice_get pools i) there at_p) live.1) in
+    let clears : c.clears_after-clears.result ≡ clears_after s c.args.id e =
+    c.clears_after-clears.ensures ∙ ap (λ (u : PoolCore). clears_after u c.args.id e) (sym (some-same s p (slice_get pools i) there at_p)) in
     IfOk-weaker c.fail_marked.result _ _ (λ stepped g h z. g h s z there
     (subst (λ b. TellsFailure w.options h step s (Some (updates (failed s.address e))) (is_some (difference w.description.servers (updated w.description (failed s.address e)).servers) && b) None e (asked_after e)) (sym clears)
-    (at-mark w h z step c.requires.in_time i s there e c.args.id c.args.at c.requires.act live.0 live.1 d both.0 c.if-self.false both.1))) c.fail_marked.ensures.becomes
+    (at-mark w h z step c.requires.in_time i s there e c.args.id c.args.at c.requires.act live d both.0 c.if-self.false both.1))) c.fail_marked.ensures.becomes
 
 pub returns-then-leaves_failure-clause-wants : goal.returns-then-leaves_failure-clause-wants
 returns-then-leaves_failure-clause-wants c =
@@ -96,8 +95,8 @@ returns-then-leaves_failure-clause-wants c =
     let there : slice_get pools i ≡ Some s = c.at.ensures in
     let d = c.requires.failing s there in
     let live = live-at w c.requires.stands i s there step e d c.args.id c.args.at c.requires.act in
-    let left = not-back _ (sym (c.leaves_failure.ensures live.0 live.1) ∙ c.if-leaves_failure.true) in
-    on_err_weaker c.fail_unmarked.result (λ g h z. g h s z there (at-nothing w h z step c.requires.in_time i s there e c.args.id c.args.at c.requires.act live.0 live.1 d left)) c.fail_unmarked.ensures.wants
+    let left = not-true _ (sym (c.leaves_failure.ensures live) ∙ c.if-leaves_failure.true) in
+    on_err_weaker c.fail_unmarked.result (λ g h z. g h s z there (at-nothing w h z step c.requires.in_time i s there e c.args.id c.args.at c.requires.act live d left)) c.fail_unmarked.ensures.wants
 
 pub returns-then-self-clause-wants : goal.returns-then-self-clause-wants
 returns-then-self-clause-wants c =
@@ -110,14 +109,14 @@ returns-then-self-clause-wants c =
     let there : slice_get pools i ≡ Some s = c.at.ensures in
     let d = c.requires.failing s there in
     let live = live-at w c.requires.stands i s there step e d c.args.id c.args.at c.requires.act in
-    let both = both-true _ _ (not-front _ (sym (c.leaves_failure.ensures live.0 live.1) ∙ c.if-leaves_failure.false)) in
+    let both = both-true _ _ (not-false _ (sym (c.leaves_failure.ensures live) ∙ c.if-leaves_failure.false)) in
     let p = c.at-then-self.result.now in
     let at_p : slice_get pools i ≡ Some p = c.at-then-self.ensures in
-    let service : c.service_after-service.result ≡ service_after live.0 c.args.at e =
-    c.service_after-service.ensures live.0 (subst (λ (u : PoolCore). connection_at u c.args.id ≡ Some live.0) (some-same s p (slice_get pools i) there at_p) live.1) in
+    let service : c.service_after-service.result ≡ service_after s c.args.id c.args.at e =
+    c.service_after-service.ensures ∙ ap (λ (u : PoolCore). service_after u c.args.id c.args.at e) (sym (some-same s p (slice_get pools i) there at_p)) in
     on_err_weaker c.fail_unmarked-then-self.result (λ g h z. g h s z there
     (subst (λ y. TellsFailure w.options h step s None (is_some y) y e Nothing) (sym service)
-    (at-service w h z step c.requires.in_time i s there e c.args.id c.args.at c.requires.act live.0 live.1 d both.0 c.if-self.true both.1))) c.fail_unmarked-then-self.ensures.wants
+    (at-service w h z step c.requires.in_time i s there e c.args.id c.args.at c.requires.act live d both.0 c.if-self.true both.1))) c.fail_unmarked-then-self.ensures.wants
 
 pub returns-clause-wants : goal.returns-clause-wants
 returns-clause-wants c =
@@ -130,11 +129,11 @@ returns-clause-wants c =
     let there : slice_get pools i ≡ Some s = c.at.ensures in
     let d = c.requires.failing s there in
     let live = live-at w c.requires.stands i s there step e d c.args.id c.args.at c.requires.act in
-    let both = both-true _ _ (not-front _ (sym (c.leaves_failure.ensures live.0 live.1) ∙ c.if-leaves_failure.false)) in
+    let both = both-true _ _ (not-false _ (sym (c.leaves_failure.ensures live) ∙ c.if-leaves_failure.false)) in
     let p = c.at-2.result.now in
     let at_p : slice_get pools i ≡ Some p = c.at-2.ensures in
-    let clears : c.clears_after-clears.result ≡ clears_after live.0 e =
-    c.clears_after-clears.ensures live.0 (subst (λ (u : PoolCore). connection_at u c.args.id ≡ Some live.0) (some-same s p (slice_get pools i) there at_p) live.1) in
+    let clears : c.clears_after-clears.result ≡ clears_after s c.args.id e =
+    c.clears_after-clears.ensures ∙ ap (λ (u : PoolCore). clears_after u c.args.id e) (sym (some-same s p (slice_get pools i) there at_p)) in
     on_err_weaker c.fail_marked.result (λ g h z. g h s z there
     (subst (λ b. TellsFailure w.options h step s (Some (updates (failed s.address e))) (is_some (difference w.description.servers (updated w.description (failed s.address e)).servers) && b) None e (asked_after e)) (sym clears)
-    (at-mark w h z step c.requires.in_time i s there e c.args.id c.args.at c.requires.act live.0 live.1 d both.0 c.if-self.false both.1))) c.fail_marked.ensures.wants
+    (at-mark w h z step c.requires.in_time i s there e c.args.id c.args.at c.requires.act live d both.0 c.if-self.false both.1))) c.fail_marked.ensures.wants

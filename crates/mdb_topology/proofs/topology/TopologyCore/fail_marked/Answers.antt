@@ -4,7 +4,7 @@ use Rattle.mdb_describe.specs.Descriptions.{failed}
 use Rattle.mdb_describe.specs.Differences.{difference}
 use Rattle.mdb_describe.specs.Update.{updated}
 use Rattle.mdb_pool.specs.Core.{PoolCore}
-use Rattle.mdb_pool.specs.Kept.{exhausted_now}
+use Rattle.mdb_pool.specs.Now.{exhausted_now}
 use Rattle.mdb_pool_rules.specs.Refusal.{wrong_service}
 use Rattle.mdb_topology.specs.Failing.{asked_after, FailureTold, TellsFailure}
 use Rattle.mdb_topology.specs.Standing.{StandsFor}

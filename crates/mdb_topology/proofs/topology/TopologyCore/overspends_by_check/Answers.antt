@@ -1,9 +1,9 @@
-use Rattle.std.proofs.Common.{◌≡◌, ◌&&◌, Bool, None, not, is_some, false, true, sym, ◌∙◌, ap}
+use Rattle.std.proofs.Common.{◌≡◌, ◌&&◌, Bool, None, not, is_some, true, sym, ◌∙◌, ap}
 use Rattle.mdb_describe.specs.Descriptions.{failed}
 use Rattle.mdb_describe.specs.Differences.{difference}
 use Rattle.mdb_describe.specs.Update.{updated}
 use Rattle.mdb_log.specs.declared.checked.BeatenResult.TheVariants.{Err}
-use Rattle.mdb_pool.specs.Kept.{exhausted_now}
+use Rattle.mdb_pool.specs.Now.{exhausted_now}
 use Rattle.mdb_topology.specs.Marking.{check_spends}
 use Rattle.mdb_topology.proofs.OfMonitors.CheckFailed.{untroubled-else}
 use Rattle.mdb_topology.proofs.Marks.AtItsLimit.{untroubled-spends}

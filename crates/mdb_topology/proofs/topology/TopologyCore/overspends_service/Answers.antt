@@ -1,5 +1,5 @@
 use Rattle.std.proofs.Common.{◌≡◌, ◌&&◌, false, true, not, is_some, sym, ◌∙◌, ap}
-use Rattle.mdb_pool.specs.Kept.{exhausted_now}
+use Rattle.mdb_pool.specs.Now.{exhausted_now}
 use Rattle.mdb_topology.proofs.topology.TopologyCore.overspends_service.Goals as goal
 
 pub returns-then-is_none : goal.returns-then-is_none

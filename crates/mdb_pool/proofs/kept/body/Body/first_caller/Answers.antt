@@ -1,6 +1,6 @@
 use Rattle.std.proofs.Common.{not, List, filter, find, sym, ◌∙◌, ap}
 use Rattle.std.specs.Prelude.{option_copied}
-use Rattle.mdb_pool.specs.Places.{is_queued}
+use Rattle.mdb_pool.specs.Kept.Places.{is_queued}
 use Rattle.mdb_pool.specs.declared.kept.request.Request.{Request}
 use Rattle.mdb_pool.proofs.Listed.Beside.{find_among, none_else}
 use Rattle.mdb_pool.proofs.Listed.WalksForth.{walk-shorter, walk-miss, walk-hit, walk-none}

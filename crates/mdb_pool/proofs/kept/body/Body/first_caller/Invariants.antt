@@ -1,7 +1,7 @@
 use Rattle.std.proofs.Common.{◌≡◌, not, filter, find, length}
 use Rattle.std.specs.Prelude.{option_copied}
 use Rattle.mdb_slots.specs.Keyed.{rest_of}
-use Rattle.mdb_pool.specs.Places.{is_queued}
+use Rattle.mdb_pool.specs.Kept.Places.{is_queued}
 use Rattle.mdb_pool.proofs.kept.body.Body.first_caller.Given as goal
 
 -- what is left of the walk decides

@@ -1,7 +1,7 @@
 use Rattle.std.proofs.Common.{◌&&◌, not, filter, find, sym, ◌∙◌, ap}
 use Rattle.std.specs.Prelude.{option_copied}
-use Rattle.mdb_pool.specs.Places.{is_queued}
-use Rattle.mdb_pool.specs.Kept.{overdue_since}
+use Rattle.mdb_pool.specs.Kept.Places.{is_queued}
+use Rattle.mdb_pool.specs.Kept.Values.{overdue_since}
 use Rattle.mdb_pool.proofs.Listed.Beside.{find_among}
 use Rattle.mdb_pool.proofs.Listed.WalksForth.{walk-shorter, walk-miss, walk-hit, walk-none}
 use Rattle.mdb_pool.proofs.kept.body.Body.first_overdue.Goals as goal

@@ -1,8 +1,8 @@
 use Rattle.std.proofs.Common.{◌≡◌, ◌&&◌, not, filter, find, length}
 use Rattle.std.specs.Prelude.{option_copied}
 use Rattle.mdb_slots.specs.Keyed.{rest_of}
-use Rattle.mdb_pool.specs.Places.{is_queued}
-use Rattle.mdb_pool.specs.Kept.{overdue_since}
+use Rattle.mdb_pool.specs.Kept.Places.{is_queued}
+use Rattle.mdb_pool.specs.Kept.Values.{overdue_since}
 use Rattle.mdb_pool.proofs.kept.body.Body.first_overdue.Given as goal
 
 -- what is left of the walk decides

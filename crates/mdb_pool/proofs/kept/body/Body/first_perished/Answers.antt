@@ -1,8 +1,8 @@
 use Rattle.std.proofs.Common.{is_some, filter, find, sym, ◌∙◌, ap}
 use Rattle.std.specs.Prelude.{option_copied}
-use Rattle.mdb_pool.specs.Body.{now_of}
-use Rattle.mdb_pool.specs.Places.{is_available}
-use Rattle.mdb_pool.specs.Kept.{perished_now}
+use Rattle.mdb_pool.specs.Kept.Body.{now_of}
+use Rattle.mdb_pool.specs.Kept.Places.{is_available}
+use Rattle.mdb_pool.specs.Kept.Values.{perished_now}
 use Rattle.mdb_slots.specs.Keyed.{rest_of}
 use Rattle.mdb_pool.specs.declared.kept.connection.Connection.{Connection}
 use Rattle.mdb_pool.proofs.Listed.Beside.{find_among}

@@ -1,10 +1,10 @@
 use Rattle.std.proofs.Common.{◌≡◌, is_some, Some, filter, find, length}
 use Rattle.std.specs.Prelude.{option_copied}
 use Rattle.mdb_slots.specs.Keyed.{rest_of}
-use Rattle.mdb_pool.specs.Body.{now_of}
-use Rattle.mdb_pool.specs.Places.{is_available}
+use Rattle.mdb_pool.specs.Kept.Body.{now_of}
+use Rattle.mdb_pool.specs.Kept.Places.{is_available}
 use Rattle.mdb_pool.specs.declared.kept.connection.Connection.{Connection}
-use Rattle.mdb_pool.specs.Kept.{perished_now}
+use Rattle.mdb_pool.specs.Kept.Values.{perished_now}
 use Rattle.mdb_pool_rules.proofs.Listed.Values.{In}
 use Rattle.mdb_pool.proofs.kept.body.Body.first_perished.Given as goal
 

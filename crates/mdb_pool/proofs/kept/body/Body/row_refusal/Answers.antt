@@ -1,6 +1,6 @@
 use Rattle.std.proofs.Common.{◌≡◌, true, ◌∙◌, sym, ap}
 use Rattle.mdb_log.specs.declared.step.Act.{Act}
-use Rattle.mdb_pool.specs.Body.{now_of}
+use Rattle.mdb_pool.specs.Kept.Body.{now_of}
 use Rattle.mdb_pool.specs.Core.{PoolCore}
 use Rattle.mdb_pool_rules.specs.Refusal.{first_row}
 use Rattle.mdb_pool.specs.Refusing.{rows_now, tells_new}

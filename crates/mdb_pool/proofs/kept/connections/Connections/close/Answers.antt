@@ -1,5 +1,5 @@
 use Rattle.std.proofs.Common.{not}
-use Rattle.mdb_pool.specs.Places.{is_available, is_pending}
+use Rattle.mdb_pool.specs.Kept.Places.{is_available, is_pending}
 use Rattle.mdb_pool.proofs.KeptInLittle.ClaimedUpTo.{rest-fit}
 use Rattle.mdb_pool.proofs.KeptInLittle.CountedClears.{filter-counts}
 use Rattle.mdb_pool.proofs.kept.connections.Connections.close.Goals as goal

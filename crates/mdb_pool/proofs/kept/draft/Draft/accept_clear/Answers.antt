@@ -1,5 +1,5 @@
 use Rattle.std.proofs.Common.{sym, ◌∙◌, ap}
-use Rattle.mdb_pool.specs.Kept.{is_shut}
+use Rattle.mdb_pool.specs.Kept.Values.{is_shut}
 use Rattle.mdb_pool.proofs.Answered.Clear.{clear-accepts, shut-accepts}
 use Rattle.mdb_pool.proofs.kept.draft.Draft.accept_clear.Goals as goal
 

@@ -1,6 +1,6 @@
 use Rattle.std.proofs.Common.{◌≡◌, Some, sym, ◌∙◌, ap, true}
-use Rattle.mdb_pool.specs.Places.{is_pending}
-use Rattle.mdb_pool.specs.Kept.{is_pending_at, reason_now}
+use Rattle.mdb_pool.specs.Kept.Places.{is_pending}
+use Rattle.mdb_pool.specs.Kept.Values.{is_pending_at, reason_now}
 use Rattle.mdb_pool.proofs.Listed.FirstOrLast.{is-pending}
 use Rattle.mdb_pool.proofs.KeptInLittle.AskedOfThoseThatStay.{holder-is, holder-none, holder-there}
 use Rattle.mdb_pool.proofs.Answered.Establish.{established-of, fill-of, pooled-of, rest-of}

@@ -4,7 +4,7 @@ use Rattle.mdb_pool.specs.declared.kept.request.Request.{Request}
 use Rattle.mdb_log.specs.declared.step.Act.TheVariants.{GiveUp}
 use Rattle.mdb_log.specs.Connections.{has}
 use Rattle.mdb_log.specs.History.{PoolItem, gave_up}
-use Rattle.mdb_pool.specs.Kept.{held_connection, kept_request, request_at, is_ended_at, is_asked_at}
+use Rattle.mdb_pool.specs.Kept.Values.{held_connection, kept_request, request_at, is_ended_at, is_asked_at}
 use Rattle.mdb_pool.specs.Standing.{Fits, Accepts}
 use Rattle.mdb_pool.proofs.KeptInLittle.AskedOfThoseThatStay.{kept-is, kept-there, kept-came, open-asked, open_unsettled, unsettled_kept}
 use Rattle.mdb_pool_rules.proofs.Listed.Values.{entry_at-key}

@@ -1,5 +1,5 @@
 use Rattle.std.proofs.Common.{◌≡◌, ◌∙◌, sym, ap, subst}
-use Rattle.mdb_pool.specs.Body.{pool_of, led, PoolFits}
+use Rattle.mdb_pool.specs.Kept.Body.{pool_of, led, PoolFits}
 use Rattle.mdb_pool.specs.Core.{PoolCore, SameKept}
 use Rattle.mdb_pool.proofs.SameAnswers.KeptTheSame.{prepared_same}
 use Rattle.mdb_pool.proofs.kept.draft.Draft.answered_all.Goals as goal

@@ -1,4 +1,4 @@
-use Rattle.mdb_pool.specs.Changes.{pending_ones}
+use Rattle.mdb_pool.specs.Acts.Changes.{pending_ones}
 use Rattle.mdb_pool.proofs.Listed.WalksForth.{walk-shorter}
 use Rattle.mdb_pool.proofs.Turns.CountUnserved.{awaited-starts, awaited-over}
 use Rattle.mdb_pool.proofs.kept.draft.Draft.awaited_count.Goals as goal

@@ -1,7 +1,7 @@
 use Rattle.std.proofs.Common.{◌≡◌, ◌+◌, not, is_some, length}
 use Rattle.std.specs.List.{count_by}
 use Rattle.mdb_slots.specs.Keyed.{rest_of}
-use Rattle.mdb_pool.specs.Changes.{pending_ones}
+use Rattle.mdb_pool.specs.Acts.Changes.{pending_ones}
 use Rattle.mdb_pool.proofs.kept.draft.Draft.awaited_count.Given as goal
 
 -- those of what is left that nobody has are to be taken off

@@ -1,7 +1,8 @@
 use Rattle.std.proofs.Common.{sym, ◌∙◌, subst, None, ◌≡◌, ap}
-use Rattle.mdb_pool.specs.Kept.{is_ready_now}
-use Rattle.mdb_pool.specs.Standing.{Clears}
-use Rattle.mdb_pool.proofs.Answered.Clear.{clears-named, clears-paused, no-service}
+use Rattle.mdb_pool.specs.Kept.Values.{is_ready_now}
+use Rattle.mdb_pool.specs.Acts.Doing.{Clears}
+use Rattle.mdb_pool.proofs.Answered.Clear.{clears-named, clears-paused}
+use Rattle.mdb_pool_rules.proofs.ClearFacts.{no-service}
 use Rattle.mdb_pool.proofs.kept.draft.Draft.clear_open.Goals as goal
 
 pub returns-then-is_some-clause-moves : goal.returns-then-is_some-clause-moves

@@ -1,5 +1,5 @@
 use Rattle.std.proofs.Common.{◌++◌, ◌∷◌, [], ◌∙◌, ap}
-use Rattle.mdb_pool.specs.Changes.{available_ones, pending_ones, shut_facts, off_facts}
+use Rattle.mdb_pool.specs.Acts.Changes.{available_ones, pending_ones, shut_facts, off_facts}
 use Rattle.mdb_pool_rules.specs.Facts.{pool_closed_fact}
 use Rattle.mdb_pool.proofs.Answered.Close.{all-end, all-told}
 use Rattle.mdb_pool.proofs.kept.draft.Draft.close_open.Goals as goal

@@ -1,8 +1,9 @@
 use Rattle.std.proofs.Common.{◌≡◌, List, length}
 use Rattle.mdb_log.specs.History.{PoolItem}
-use Rattle.mdb_pool.specs.Standing.{Fits, SameHome, SameNotes}
-use Rattle.mdb_pool.specs.Kept.{numbers_where}
-use Rattle.mdb_pool.specs.Places.{is_queued}
+use Rattle.mdb_pool.specs.Standing.{Fits, SameHome}
+use Rattle.mdb_pool.specs.Acts.Doing.{SameNotes}
+use Rattle.mdb_pool.specs.Kept.Values.{numbers_where}
+use Rattle.mdb_pool.specs.Kept.Places.{is_queued}
 use Rattle.mdb_pool.proofs.Turns.ExpireMany.{Expiring}
 use Rattle.mdb_pool.proofs.kept.draft.Draft.end_all_overdue.Given as goal
 

@@ -2,7 +2,7 @@ use Rattle.std.proofs.Common.{◌≡◌, List, ℕ, ◌∙◌, ap, sym, subst, t
 use Rattle.std.specs.List.{slice_index}
 use Rattle.std.proofs.lemmas.List.{take_more, take_all}
 use Rattle.mdb_pool.specs.Core.{PoolCore}
-use Rattle.mdb_pool.specs.Ended.{ended_all}
+use Rattle.mdb_pool.specs.Acts.Ended.{ended_all}
 use Rattle.mdb_pool.proofs.Turns.EndUnserved.{none-ended, one-more-ended}
 use Rattle.mdb_pool.proofs.kept.draft.Draft.end_all_unserved.Goals as goal
 

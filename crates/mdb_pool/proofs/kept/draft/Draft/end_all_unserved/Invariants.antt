@@ -1,5 +1,5 @@
 use Rattle.std.proofs.Common.{◌≡◌, take}
-use Rattle.mdb_pool.specs.Ended.{ended_all}
+use Rattle.mdb_pool.specs.Acts.Ended.{ended_all}
 use Rattle.mdb_pool.proofs.kept.draft.Draft.end_all_unserved.Given as goal
 
 -- those before have ended

@@ -3,7 +3,7 @@ use Rattle.std.specs.Prelude.{OnOk}
 use Rattle.mdb_pool.proofs.KeptInLittle.LeftEndsOnce.{left-stays}
 use Rattle.mdb_pool.proofs.KeptInLittle.AskedOfThoseThatStay.{kept-is, kept-number, kept-there}
 use Rattle.mdb_pool.proofs.Turns.EndUnserved.{one-stays, one-ends}
-use Rattle.mdb_pool.specs.Kept.{is_gone, request_at}
+use Rattle.mdb_pool.specs.Kept.Values.{is_gone, request_at}
 use Rattle.mdb_pool.proofs.kept.draft.Draft.end_unserved.Goals as goal
 
 pub returns-in_default-clause-core : goal.returns-in_default-clause-core

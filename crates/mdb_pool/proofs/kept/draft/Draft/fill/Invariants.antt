@@ -1,6 +1,7 @@
 use Rattle.std.proofs.Common.{◌≡◌, ◌-◌, List}
 use Rattle.mdb_log.specs.History.{PoolItem}
-use Rattle.mdb_pool.specs.Standing.{Fits, SameHome, SameNotes}
+use Rattle.mdb_pool.specs.Standing.{Fits, SameHome}
+use Rattle.mdb_pool.specs.Acts.Doing.{SameNotes}
 use Rattle.mdb_pool.proofs.Turns.MaintainMany.{Filling}
 use Rattle.mdb_pool.proofs.kept.draft.Draft.fill.Given as goal
 

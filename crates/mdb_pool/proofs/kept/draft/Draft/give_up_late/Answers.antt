@@ -1,6 +1,6 @@
 use Rattle.std.proofs.Common.{◌∙◌, ap}
 use Rattle.mdb_pool.specs.Core.{PoolCore}
-use Rattle.mdb_pool.specs.Keyed.{marked}
+use Rattle.mdb_pool.specs.Kept.Keyed.{marked}
 use Rattle.mdb_pool.proofs.Answered.GiveUp.{late-accepts}
 use Rattle.mdb_pool.proofs.KeptInLittle.AskedOfThoseThatStay.{ended-came}
 use Rattle.mdb_pool.proofs.kept.draft.Draft.give_up_late.Goals as goal

@@ -1,6 +1,6 @@
 use Rattle.std.proofs.Common.{◌++◌, sym, ◌∙◌, ap, append-nil}
 use Rattle.mdb_slots.specs.Keyed.{rest_of}
-use Rattle.mdb_pool.specs.Changes.{shut_facts, available_ones}
+use Rattle.mdb_pool.specs.Acts.Changes.{shut_facts, available_ones}
 use Rattle.mdb_pool.proofs.Listed.WalksForth.{walk-shorter}
 use Rattle.mdb_pool.proofs.Turns.EndUnserved.{shut-on}
 use Rattle.mdb_pool.proofs.kept.draft.Draft.push_available.Goals as goal

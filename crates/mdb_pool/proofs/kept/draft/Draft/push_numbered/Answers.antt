@@ -1,7 +1,7 @@
 use Rattle.std.proofs.Common.{◌≡◌, ◌++◌, filter, sym, subst, append-nil}
 use Rattle.std.specs.Prelude.{OnOk}
-use Rattle.mdb_pool.specs.Kept.{unserved_in}
-use Rattle.mdb_pool.specs.Changes.{off_facts}
+use Rattle.mdb_pool.specs.Kept.Values.{unserved_in}
+use Rattle.mdb_pool.specs.Acts.Changes.{off_facts}
 use Rattle.mdb_pool.proofs.KeptInLittle.AskedOfThoseThatStay.{kept-is, none-off}
 use Rattle.mdb_pool.proofs.Turns.EndUnserved.{found-one}
 use Rattle.mdb_pool.proofs.kept.draft.Draft.push_numbered.Goals as goal

@@ -1,6 +1,6 @@
 use Rattle.std.proofs.Common.{◌++◌, sym, ◌∙◌, ap}
 use Rattle.mdb_events.specs.declared.end.End.TheVariants.{Closed}
-use Rattle.mdb_pool.specs.Changes.{over_facts}
+use Rattle.mdb_pool.specs.Acts.Changes.{over_facts}
 use Rattle.mdb_pool.proofs.Turns.EndUnserved.{off-one, off-none}
 use Rattle.mdb_pool.proofs.kept.draft.Draft.push_off.Goals as goal
 

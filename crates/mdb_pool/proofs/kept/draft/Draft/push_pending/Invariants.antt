@@ -1,6 +1,6 @@
 use Rattle.std.proofs.Common.{◌≡◌, ◌++◌, length}
 use Rattle.mdb_slots.specs.Keyed.{rest_of}
-use Rattle.mdb_pool.specs.Changes.{shut_facts, pending_ones}
+use Rattle.mdb_pool.specs.Acts.Changes.{shut_facts, pending_ones}
 use Rattle.mdb_pool.proofs.kept.draft.Draft.push_pending.Given as goal
 
 -- with the facts of what is left they are all

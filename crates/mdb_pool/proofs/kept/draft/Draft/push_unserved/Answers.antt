@@ -1,8 +1,8 @@
 use Rattle.std.proofs.Common.{◌≡◌, ◌++◌, filter, take, sym, subst}
 use Rattle.std.specs.List.{filter_map, slice_index}
 use Rattle.std.proofs.lemmas.List.{take_more}
-use Rattle.mdb_pool.specs.Kept.{request_at, unserved_in}
-use Rattle.mdb_pool.specs.Changes.{off_facts}
+use Rattle.mdb_pool.specs.Kept.Values.{request_at, unserved_in}
+use Rattle.mdb_pool.specs.Acts.Changes.{off_facts}
 use Rattle.mdb_pool.proofs.Turns.EndUnserved.{number-told}
 use Rattle.mdb_pool.proofs.kept.draft.Draft.push_unserved.Goals as goal
 

@@ -1,7 +1,7 @@
 use Rattle.std.proofs.Common.{◌≡◌, ◌++◌, filter, take}
 use Rattle.std.specs.List.{filter_map}
-use Rattle.mdb_pool.specs.Kept.{request_at, unserved_in}
-use Rattle.mdb_pool.specs.Changes.{off_facts}
+use Rattle.mdb_pool.specs.Kept.Values.{request_at, unserved_in}
+use Rattle.mdb_pool.specs.Acts.Changes.{off_facts}
 use Rattle.mdb_pool.proofs.kept.draft.Draft.push_unserved.Given as goal
 
 -- the ends of those before are told

@@ -1,6 +1,6 @@
 use Rattle.std.proofs.Common.{Some, refl, sym, ◌∙◌, ap}
 use Rattle.mdb_pool.proofs.Turns.Serve.{starts, ends-full, ends-empty, serves-nothing, turn-meet-to, turn-create-to, turn-warm-to, smaller-meet, smaller-create, smaller-warm, meeting-keeps, warming-keeps}
-use Rattle.mdb_pool.specs.Kept.{is_ready_now}
+use Rattle.mdb_pool.specs.Kept.Values.{is_ready_now}
 use Rattle.mdb_pool.proofs.Follows.Stale.{ready-status}
 use Rattle.mdb_pool.proofs.KeptInLittle.AskedOfThoseThatStay.{candidate-there}
 use Rattle.mdb_pool.proofs.kept.draft.Draft.serve.Goals as goal

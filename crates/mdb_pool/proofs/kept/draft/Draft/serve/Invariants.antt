@@ -1,7 +1,8 @@
 use Rattle.std.proofs.Common.{◌≡◌, true, List}
 use Rattle.mdb_log.specs.History.{PoolItem}
-use Rattle.mdb_pool.specs.Standing.{Fits, SameHome, SameNotes}
-use Rattle.mdb_pool.specs.Kept.{is_ready_now}
+use Rattle.mdb_pool.specs.Standing.{Fits, SameHome}
+use Rattle.mdb_pool.specs.Acts.Doing.{SameNotes}
+use Rattle.mdb_pool.specs.Kept.Values.{is_ready_now}
 use Rattle.mdb_pool.proofs.Turns.Serve.{Progress, load}
 use Rattle.mdb_pool.proofs.kept.draft.Draft.serve.Given as goal
 

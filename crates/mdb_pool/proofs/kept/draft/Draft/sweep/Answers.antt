@@ -1,5 +1,5 @@
 use Rattle.std.proofs.Common.{◌∙◌, ◌≡◌, true, false, is_some, refl, sym, ap}
-use Rattle.mdb_pool.specs.Kept.{perished_now}
+use Rattle.mdb_pool.specs.Kept.Values.{perished_now}
 use Rattle.mdb_pool.proofs.Turns.MaintainMany.{sweep-start, sweep-more, sweep-done, sweep-smaller, has-perished}
 use Rattle.mdb_pool.proofs.kept.draft.Draft.sweep.Goals as goal
 

@@ -1,9 +1,9 @@
 use Rattle.std.proofs.Common.{◌≡◌, ◌+◌, ◌≤◌, length, is_some, sym, arith, subst}
 use Rattle.std.specs.List.{count_by}
 use Rattle.std.proofs.lemmas.List.Sums.{count_by-le-length, length-filter}
-use Rattle.mdb_pool.specs.Kept.{kept_requests, unserved_in}
-use Rattle.mdb_pool.specs.Places.{is_queued}
-use Rattle.mdb_pool.specs.Changes.{pending_ones, unserved_ones}
+use Rattle.mdb_pool.specs.Kept.Values.{kept_requests, unserved_in}
+use Rattle.mdb_pool.specs.Kept.Places.{is_queued}
+use Rattle.mdb_pool.specs.Acts.Changes.{pending_ones, unserved_ones}
 use Rattle.mdb_pool.proofs.KeptInLittle.AskedOfThoseThatStay.{unserved-kept}
 use Rattle.mdb_pool.proofs.Turns.CountUnserved.{unserved-count}
 use Rattle.mdb_pool.proofs.kept.draft.Draft.unserved_count.Goals as goal

@@ -1,6 +1,6 @@
 use Rattle.std.proofs.Common.{◌≡◌, ℕ, ◌<◌, List, filter, length, map, reverse, sym, ◌∙◌, ap, subst, arith}
 use Rattle.std.specs.Prelude.{option_copied}
-use Rattle.mdb_pool.specs.Kept.{kept_requests, unserved_in}
+use Rattle.mdb_pool.specs.Kept.Values.{kept_requests, unserved_in}
 use Rattle.mdb_pool.proofs.KeptInLittle.AskedOfThoseThatStay.{kept-apart, unserved-kept}
 use Rattle.mdb_pool.proofs.Listed.WalkBack.{Back, back-starts, back-less, back-finds, back-passes, back-over, back-enough}
 use Rattle.mdb_pool.proofs.kept.draft.Draft.unserved_numbers.Goals.{then-is_unserved+in_ok-push, else-is_unserved, in-Some+then-missing-eq0, in_default}

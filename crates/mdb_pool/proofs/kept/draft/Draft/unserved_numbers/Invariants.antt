@@ -1,5 +1,5 @@
 use Rattle.std.specs.Prelude.{option_copied}
-use Rattle.mdb_pool.specs.Kept.{kept_requests, unserved_in}
+use Rattle.mdb_pool.specs.Kept.Values.{kept_requests, unserved_in}
 use Rattle.mdb_pool.proofs.Listed.WalkBack.{Back, back_left}
 use Rattle.mdb_pool.proofs.kept.draft.Draft.unserved_numbers.Given as goal
 

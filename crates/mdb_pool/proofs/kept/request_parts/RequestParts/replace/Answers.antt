@@ -1,14 +1,7 @@
-use Rattle.std.proofs.Common.{◌≡◌, Bool, true, false, not, refl, sym, ◌∙◌}
+use Rattle.std.proofs.Common.{sym, ◌∙◌}
+use Rattle.std.proofs.lemmas.Bool.{not-true, not-false}
 use Rattle.mdb_pool.proofs.KeptInLittle.RequestsThatStay.{swap-fits, leave-fits}
 use Rattle.mdb_pool.proofs.kept.request_parts.RequestParts.replace.Goals as goal
-
-not-true : (b : Bool) → not b ≡ true → b ≡ false
-not-true true e = cc
-not-true false e = refl
-
-not-false : (b : Bool) → not b ≡ false → b ≡ true
-not-false true e = refl
-not-false false e = cc
 
 pub returns-then-leaves-clause-fits : goal.returns-then-leaves-clause-fits
 returns-then-leaves-clause-fits c =

@@ -1,6 +1,6 @@
 use Rattle.std.proofs.Common.{filter, find, ◌∙◌, ap}
 use Rattle.mdb_pool.specs.declared.kept.request.Request.{Request}
-use Rattle.mdb_pool.specs.Places.{is_queued}
+use Rattle.mdb_pool.specs.Kept.Places.{is_queued}
 use Rattle.mdb_pool.proofs.KeptInLittle.RequestsThatStay.{first-kept, queued-kept, queued-open}
 use Rattle.mdb_pool.proofs.kept.requests.Requests.first_right.Goals as goal
 

@@ -1,7 +1,7 @@
 use Rattle.std.proofs.Common.{◌≡◌, false, refl, sym, ◌∙◌, ap}
 use Rattle.std.specs.Prelude.{option_copied}
 use Rattle.mdb_log.specs.Connections.{has}
-use Rattle.mdb_pool.specs.Kept.{is_gone, request_in}
+use Rattle.mdb_pool.specs.Kept.Values.{is_gone, request_in}
 use Rattle.mdb_pool.proofs.KeptInLittle.RequestsThatStay.{found-kept, open-now}
 use Rattle.mdb_pool.proofs.kept.requests.Requests.is_open.Goals as goal
 

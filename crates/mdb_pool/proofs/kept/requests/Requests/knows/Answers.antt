@@ -1,6 +1,6 @@
 use Rattle.std.proofs.Common.{◌≡◌, true, not, ◌||◌, is_some, sym, ◌∙◌, subst}
-use Rattle.mdb_pool.specs.Asking.{OpenRequests}
-use Rattle.mdb_pool.specs.Kept.{request_in}
+use Rattle.mdb_pool.specs.Kept.Asking.{OpenRequests}
+use Rattle.mdb_pool.specs.Kept.Values.{request_in}
 use Rattle.mdb_pool.proofs.KeptInLittle.RequestsThatStay.{knows-not}
 use Rattle.mdb_pool.proofs.kept.requests.Requests.knows.Goals as goal
 

@@ -1,6 +1,6 @@
 use Rattle.std.proofs.Common.{sym, subst, ◌∙◌, ap}
-use Rattle.mdb_pool.specs.Asking.{BaseFits, OpenRequests}
-use Rattle.mdb_pool.specs.Inner.{Asked}
+use Rattle.mdb_pool.specs.Kept.Asking.{BaseFits, OpenRequests}
+use Rattle.mdb_pool.specs.Kept.Inner.{Asked}
 use Rattle.mdb_pool.proofs.KeptInLittle.RequestsThatStay.{put-unsettled}
 use Rattle.mdb_pool.proofs.kept.requests.Requests.put.Goals as goal
 

@@ -1,7 +1,7 @@
 use Rattle.std.proofs.Common.{filter, length, sym, ◌∙◌, ap}
 use Rattle.std.proofs.lemmas.List.Sums.{length-filter}
 use Rattle.mdb_pool.specs.declared.kept.request.Request.{Request}
-use Rattle.mdb_pool.specs.Places.{is_queued}
+use Rattle.mdb_pool.specs.Kept.Places.{is_queued}
 use Rattle.mdb_pool.proofs.KeptInLittle.RequestsThatStay.{queued-kept, queued-open}
 use Rattle.mdb_pool.proofs.Listed.Beside.{numbered_length}
 use Rattle.mdb_pool.proofs.kept.requests.Requests.queued_count.Goals as goal

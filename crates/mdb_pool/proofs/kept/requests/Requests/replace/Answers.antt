@@ -1,6 +1,6 @@
 use Rattle.std.proofs.Common.{sym, subst, ◌∙◌, ap}
-use Rattle.mdb_pool.specs.Asking.{BaseFits}
-use Rattle.mdb_pool.specs.Inner.{Asked}
+use Rattle.mdb_pool.specs.Kept.Asking.{BaseFits}
+use Rattle.mdb_pool.specs.Kept.Inner.{Asked}
 use Rattle.mdb_pool.proofs.kept.requests.Requests.replace.Goals as goal
 
 pub replace-requires-clause-fits : goal.replace-requires-clause-fits

@@ -3,13 +3,13 @@ use Rattle.std.specs.Prelude.{ℕ, Option}
 use Rattle.mdb_slots.specs.Open.{or_else}
 use Rattle.mdb_slots.specs.Table.{items}
 use Rattle.mdb_slots.specs.Sided.{SidedSteps, SidedFits, sided_after, sided_capacity_after}
-use Rattle.mdb_pool.specs.Places.{is_available, is_pending}
+use Rattle.mdb_pool.specs.Kept.Places.{is_available, is_pending}
 use Rattle.mdb_pool.specs.declared.kept.connection.Connection.{Connection}
 use Rattle.mdb_pool.specs.declared.kept.status.Status.{Status}
-use Rattle.mdb_pool.specs.Inner.{PoolShelf, PoolRoom, Inner}
-use Rattle.mdb_pool.specs.Asking.{AskedSteps, asked_after, asked_room_after, AskedFits}
-use Rattle.mdb_pool.specs.Claiming.{ClaimSteps, claimed_after, ClaimsFit}
-use Rattle.mdb_pool.specs.Clearing.{ClearSteps, cleared_after, ClearsFit}
+use Rattle.mdb_pool.specs.Kept.Inner.{PoolShelf, PoolRoom, Inner}
+use Rattle.mdb_pool.specs.Kept.Asking.{AskedSteps, asked_after, asked_room_after, AskedFits}
+use Rattle.mdb_pool.specs.Kept.Claiming.{ClaimSteps, claimed_after, ClaimsFit}
+use Rattle.mdb_pool.specs.Kept.Clearing.{ClearSteps, cleared_after, ClearsFit}
 use Rattle.mdb_pool.specs.Core.{PoolCore}
 use Rattle.mdb_pool.specs.declared.kept.body.Body.{Body}
 

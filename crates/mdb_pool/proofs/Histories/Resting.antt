@@ -1,4 +1,4 @@
--- What the items of a pool say where no answer is half told, by the state that fits them.
+-- No answer is half told in the items that the state of a pool fits.
 use Rattle.std.proofs.Common.{ℕ, ◌≡◌, ◌<◌, Bool, true, false, List, [], ◌∷◌, Option, Some, None, is_some, ◌⊎◌, inl, inr, refl, sym, ◌∙◌, ap, subst, arith}
 use Rattle.mdb_pool.specs.declared.kept.connection.Connection.{Connection}
 use Rattle.mdb_pool.specs.declared.kept.connection.Place.{Place}
@@ -7,29 +7,15 @@ use Rattle.mdb_pool.specs.declared.kept.request.Request.{Request}
 use Rattle.mdb_pool.specs.declared.kept.request.Phase.{Phase}
 use Rattle.mdb_pool.specs.declared.kept.request.Phase.TheVariants.{Queued, Given, Over, Ended as EndedPhase}
 use Rattle.mdb_pool.specs.Core.{PoolCore}
-use Rattle.mdb_log.specs.History.{PoolItem, given, has_asked}
-use Rattle.mdb_log.specs.Connections.{one_if, has, live, pending_list, available_list, parties, pins, is_pinned, held, granted_to}
-use Rattle.mdb_log.specs.Requests.{is_warm, end_of}
-use Rattle.mdb_pool.specs.Matching.{Matches}
-use Rattle.mdb_pool.specs.Places.{is_pending, is_available, is_held, is_at_pin, stays}
-use Rattle.mdb_pool.specs.Kept.{connection_at, request_at, given_of, given_in, holder_at, end_at, end_in, is_ended_at, one_party, pins_at, is_pinned_at}
+use Rattle.mdb_log.specs.History.{PoolItem, given}
+use Rattle.mdb_log.specs.Connections.{one_if, has, pending_list, available_list, parties, pins, is_pinned, held, granted_to}
+use Rattle.mdb_log.specs.Requests.{end_of}
+use Rattle.mdb_pool_rules.specs.Rested.{Rested}
+use Rattle.mdb_pool.specs.Kept.Matching.{Matches}
+use Rattle.mdb_pool.specs.Standing.{Fits}
+use Rattle.mdb_pool.specs.Kept.Places.{is_pending, is_available, is_held, is_at_pin, stays}
+use Rattle.mdb_pool.specs.Kept.Values.{connection_at, request_at, given_of, given_in, holder_at, end_at, end_in, is_ended_at, one_party, pins_at, is_pinned_at}
 use Rattle.mdb_pool_rules.proofs.Listed.Values.{has-where, passes}
-
--- what the moments between the answers have in common
-pub record Rested (xs : List PoolItem) : Type 0 where
-  pub lives : (r c : ℕ) → given xs r ≡ Some c → live xs c ≡ 1
-  pub unended : (r c : ℕ) → given xs r ≡ Some c → end_of xs r ≡ None
-  pub free : (c : ℕ) → has c (available_list xs) ≡ true → parties xs c ≡ []
-  pub loose : (c : ℕ) → has c (available_list xs) ≡ true → pins xs c ≡ 0
-  pub pending_loose : (c : ℕ) → has c (pending_list xs) ≡ true → pins xs c ≡ 0
-  pub apart : (c : ℕ) → has c (pending_list xs) ≡ true → has c (available_list xs) ≡ false
-  pub background : (c : ℕ) → has c (pending_list xs) ≡ true → granted_to xs c ≡ None → parties xs c ≡ []
-  pub left : (c r : ℕ) → has c (pending_list xs) ≡ true → granted_to xs c ≡ Some r → is_some (end_of xs r) ≡ true → parties xs c ≡ []
-  pub waits : (c r : ℕ) → has c (pending_list xs) ≡ true → granted_to xs c ≡ Some r → end_of xs r ≡ None → given xs r ≡ Some c
-  pub known : (c r : ℕ) → has c (pending_list xs) ≡ true → granted_to xs c ≡ Some r → has_asked xs r ≡ true
-  pub warm : (r c : ℕ) → given xs r ≡ Some c → is_warm xs r ≡ true → has c (pending_list xs) ≡ true
-  pub at_pin : (c : ℕ) → 0 < pins xs c → held xs c ≡ 0 → is_pinned xs c ≡ true
-  pub pinned_free : (c : ℕ) → is_pinned xs c ≡ true → parties xs c ≡ []
 
 -- a connection that passes a test
 some-passes : (test : Place → Bool) (o : Option Connection) → passes (λ (x : Connection). x.id) (λ x. test x.place) o ≡ true → (x : Connection) × ((o ≡ Some x) × (test x.place ≡ true))
@@ -50,7 +36,10 @@ some-holder : (o : Option Connection) (r : ℕ) → holder_at o ≡ Some r → (
 some-holder None r e = cc
 some-holder (Some x) r e = (x, (refl, e))
 
-module _ (s : PoolCore) (xs : List PoolItem) (m : Matches s xs) where
+module _ (s : PoolCore) (xs : List PoolItem) (z : Fits s xs) where
+  m : Matches s xs
+  m = z.matches
+
   pending-one : (c : ℕ) → has c (pending_list xs) ≡ true → (x : Connection) × ((connection_at s c ≡ Some x) × (is_pending x.place ≡ true))
   pending-one c e = some-passes is_pending (connection_at s c) (sym (has-where (λ (x : Connection). x.id) (λ x. is_pending x.place) c s.connections (m.counts.single c)) ∙ (ap (has c) (sym m.counts.pending) ∙ e))
 

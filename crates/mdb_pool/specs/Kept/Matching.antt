@@ -11,8 +11,8 @@ use Rattle.mdb_log.specs.History.{PoolItem, given, has_asked}
 use Rattle.mdb_log.specs.Connections.{one_if, live, live_total, created_total, created_at, pending_list, parties, pins, granted_to, available_list, since, is_errored, known_service, service_of, last_use, is_dropped, is_pinned, wire_of, timeouts_since}
 use Rattle.mdb_log.specs.Requests.{queued, is_warm, asked_at, end_of}
 use Rattle.mdb_log.specs.State.{State, state_of, generation_of, generation_before}
-use Rattle.mdb_pool.specs.Places.{is_pending, is_available, is_queued, is_held, is_at_pin, stays}
-use Rattle.mdb_pool.specs.Kept.{connection_in, request_in, given_of, asked_at_of, warm_of, ids_where, numbers_where, one_party, holder_at, end_at, is_ended_at, service_at, lasts_in, state_in, clears_for, clears_before, wire_at, is_asked_at, pins_at, is_pinned_at, errored_at, dropped_at, timeouts_in}
+use Rattle.mdb_pool.specs.Kept.Places.{is_pending, is_available, is_queued, is_held, is_at_pin, stays}
+use Rattle.mdb_pool.specs.Kept.Values.{connection_in, request_in, given_of, asked_at_of, warm_of, ids_where, numbers_where, one_party, holder_at, end_at, is_ended_at, service_at, lasts_in, state_in, clears_for, clears_before, wire_at, is_asked_at, pins_at, is_pinned_at, errored_at, dropped_at, timeouts_in}
 
 -- how many connections were made and live, which are pending and which available; each id once
 pub record CountsMatch (made : ℕ) (cs : List Connection) (total alive : ℕ) (pending_now available_now : List ℕ) : Type 0 where

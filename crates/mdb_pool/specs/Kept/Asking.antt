@@ -8,9 +8,9 @@ use Rattle.mdb_slots.specs.Sided.{SidedSteps, SidedFits, sided_after, sided_capa
 use Rattle.mdb_slots.specs.Table.{TableSteps, items, shelf_after, capacity_after as table_capacity_after, Fits as TableFits}
 use Rattle.mdb_pool.specs.declared.kept.request.Request.{Request}
 use Rattle.mdb_pool.specs.declared.kept.request_parts.RequestParts.{RequestParts}
-use Rattle.mdb_pool.specs.Inner.{Asked, AskedRoom}
-use Rattle.mdb_pool.specs.Kept.{lingers, request_in}
-use Rattle.mdb_pool.specs.Places.{is_queued}
+use Rattle.mdb_pool.specs.Kept.Inner.{Asked, AskedRoom}
+use Rattle.mdb_pool.specs.Kept.Values.{lingers, request_in}
+use Rattle.mdb_pool.specs.Kept.Places.{is_queued}
 
 -- Memory has those that have not left, of these the numbers that are settled, and all numbers that ever asked, where the pool stands alone.
 pub record RequestsFit (all : List Request) (settled : List ℕ) (kept : List Request) (told : List ℕ) (alone : Bool) (known : List ℕ) : Type 0 where

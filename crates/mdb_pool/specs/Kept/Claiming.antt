@@ -3,9 +3,9 @@ use Rattle.std.specs.Prelude.{ℕ, ◌≡◌, ◌≤◌, ◌<◌, true, false, �
 use Rattle.mdb_log.specs.Connections.{has}
 use Rattle.mdb_slots.specs.Open.{OpenOne, or_else}
 use Rattle.mdb_pool.specs.declared.kept.connection.Connection.{Connection}
-use Rattle.mdb_pool.specs.Inner.{Claimed}
-use Rattle.mdb_pool.specs.Kept.{ids_where}
-use Rattle.mdb_pool.specs.Places.{is_pending}
+use Rattle.mdb_pool.specs.Kept.Inner.{Claimed}
+use Rattle.mdb_pool.specs.Kept.Values.{ids_where}
+use Rattle.mdb_pool.specs.Kept.Places.{is_pending}
 
 abbrev pub no_claims : Claimed
 no_claims = record { numbers = []; last = 0 }

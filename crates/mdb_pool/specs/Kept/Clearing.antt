@@ -8,9 +8,9 @@ use Rattle.mdb_pool.specs.declared.kept.connection.Connection.{Connection}
 use Rattle.mdb_pool.specs.declared.kept.marks.Mark.{Mark}
 use Rattle.mdb_pool.specs.declared.kept.marks.Marks.{Marks}
 use Rattle.mdb_pool.specs.declared.kept.status.Clear.{Clear}
-use Rattle.mdb_pool.specs.Inner.{Cleared}
+use Rattle.mdb_pool.specs.Kept.Inner.{Cleared}
 use Rattle.mdb_pool_rules.specs.Jobs.{has_id}
-use Rattle.mdb_pool.specs.Kept.{connection_in, clears_for, clears_before, timeouts_in}
+use Rattle.mdb_pool.specs.Kept.Values.{connection_in, clears_for, clears_before, timeouts_in}
 
 -- the mark is one of the service, and of before the connection was created where one is given
 abbrev pub counts_at : Option ObjectId → Option ℕ → Mark → Bool

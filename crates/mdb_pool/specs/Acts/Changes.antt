@@ -19,9 +19,9 @@ use Rattle.mdb_pool.specs.declared.kept.request.Request.{Request}
 use Rattle.mdb_pool.specs.declared.kept.request.Phase.TheVariants.{Queued, Given, Over, Ended as EndedPhase}
 use Rattle.mdb_pool.specs.Core.{PoolCore}
 use Rattle.mdb_slots.specs.Keyed.{put, others, swap}
-use Rattle.mdb_pool.specs.Keyed.{marked}
-use Rattle.mdb_pool.specs.Kept.{first_unclaimed, outcome_now, perished_now, wants_now, is_shut, is_ready_now, unserved_in, timeouts_in}
-use Rattle.mdb_pool.specs.Places.{is_pending, is_available, stays}
+use Rattle.mdb_pool.specs.Kept.Keyed.{marked}
+use Rattle.mdb_pool.specs.Kept.Values.{first_unclaimed, outcome_now, perished_now, wants_now, is_shut, is_ready_now, unserved_in, timeouts_in}
+use Rattle.mdb_pool.specs.Kept.Places.{is_pending, is_available, stays}
 use Rattle.mdb_log.specs.Requests.{is_outcome}
 use Rattle.mdb_log.specs.declared.step.Established.{Established}
 use Rattle.mdb_log.specs.declared.step.Use.TheVariants.{Ok}

@@ -4,9 +4,9 @@ use Rattle.mdb_slots.specs.Open.{OpenOne}
 use Rattle.mdb_slots.specs.Sided.{SidedShelf, SidedSteps, SidedCapacities}
 use Rattle.mdb_pool.specs.declared.kept.connection.Connection.{Connection}
 use Rattle.mdb_pool.specs.declared.kept.status.Clear.{Clear}
-use Rattle.mdb_pool.specs.Claiming.{ClaimSteps}
-use Rattle.mdb_pool.specs.Clearing.{ClearSteps}
-use Rattle.mdb_pool.specs.Inner.{Claimed, Cleared}
+use Rattle.mdb_pool.specs.Kept.Claiming.{ClaimSteps}
+use Rattle.mdb_pool.specs.Kept.Clearing.{ClearSteps}
+use Rattle.mdb_pool.specs.Kept.Inner.{Claimed, Cleared}
 
 -- the connections, how many were created, what is claimed and what is cleared, as they are and as they were when they were last committed
 pub record OpenConnections : Type 0 where
