@@ -3,7 +3,8 @@
 
 What stands above mdb_pool names a pool by its number, its address and its options, by what it says of itself now
 (specs/Now), and by when it fits the items of a history (specs/Standing). What it keeps (specs/Kept, specs/Acts and the
-types of src/kept) is the business of mdb_pool alone. The last line is `N files above a pool, M of them behind it`."""
+types of src/kept) is the business of mdb_pool alone, and so are the parts of `Fits`. A field of the record is not told
+from one of another record that has its name. The last line is `N files above a pool, M of them behind it`."""
 import os
 import re
 import sys
