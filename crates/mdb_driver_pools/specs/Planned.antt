@@ -8,7 +8,7 @@ use Rattle.mdb_log.specs.History.{Item}
 use Rattle.mdb_log.specs.Homes.{Home}
 use Rattle.mdb_log.specs.Opening.{pool_options}
 use Rattle.mdb_pool.specs.Core.{PoolCore}
-use Rattle.mdb_pool.specs.Now.{is_spent}
+use Rattle.mdb_pool.specs.Now.{is_spent, last_now}
 use Rattle.mdb_pool.specs.Planning.{Plans}
 use Rattle.mdb_driver_pools.specs.declared.pool_change.PoolChange.{PoolChange}
 use Rattle.mdb_driver_pools.specs.declared.pool_change.PoolChange.TheVariants.{Alter, Open}
@@ -45,7 +45,7 @@ Agrees before now a = (at_address now a ≡ at_address before a) × ((i : ℕ) �
 pub record CanTake (m : ℕ) (planned now : List PoolCore) (n : ℕ) (touched : ServerAddress → Bool) : Type 0 where
   pub agrees : (a : ServerAddress) → touched a ≡ true → Agrees planned now a
   pub count : length now ≡ n
-  pub early : All (λ s. s.last ≤ m) now
+  pub early : All (λ s. last_now s ≤ m) now
 
 -- Parts of a step at the moment m, planned on the pools: the changes that they come to and the facts that they add.
 pub record IsPlanned (o : Options) (m : ℕ) (planned : List PoolCore) (n : ℕ) (touched : ServerAddress → Bool) (parts : List (List Item → List Fact)) (changes : List PoolChange) (before after : List Fact) : Type 0 where
@@ -55,7 +55,7 @@ pub record IsPlanned (o : Options) (m : ℕ) (planned : List PoolCore) (n : ℕ)
   pub tells : (now later : List PoolCore) → CanTake m planned now n touched → LeadsAll changes now later → Tells o m parts now later before after
   -- and every other address stays as it is
   pub keeps : (now later : List PoolCore) (b : ServerAddress) → CanTake m planned now n touched → LeadsAll changes now later → touched b ≡ false → Agrees now later b
-  pub early : (now later : List PoolCore) → CanTake m planned now n touched → LeadsAll changes now later → All (λ s. s.last ≤ m) later
+  pub early : (now later : List PoolCore) → CanTake m planned now n touched → LeadsAll changes now later → All (λ s. last_now s ≤ m) later
   pub homes : (now later : List PoolCore) → CanTake m planned now n touched → LeadsAll changes now later → map home later ≡ map home now ++ opened_by changes
 
 -- Of the addresses with an open pool, those of the gone servers have none afterwards, and the opened ones have one.

@@ -5,6 +5,7 @@ ghost use Rattle.mdb_intervals.specs.Spans.{has as is_within};
 ghost use Rattle.mdb_log.specs.Requests.{names_party};
 ghost use Rattle.mdb_driver_pools.specs.Finding.{named_by};
 ghost use Rattle.mdb_driver_rules.specs.Acts.{is_pool_act};
+ghost use Rattle.mdb_pool.specs.Now.{last_now};
 
 use crate::pool_decision::PoolDecision;
 use crate::pools::Pools;
@@ -92,7 +93,7 @@ impl Pools {
         requires in_time { self.now.last ≤ step.now.moment }
         requires single { IsSingle self.now.cores.items }
         requires apart { IsApart self.now.cores.items }
-        requires early { All (λ s. s.last ≤ self.now.last) self.now.cores.items }
+        requires early { All (λ s. last_now s ≤ self.now.last) self.now.cores.items }
         ensures ready { IsReady self.now.cores.items step.now result }
         ensures performs { (o : Options) (h : List Item) → PoolsStand (pool_options o) self.now.cores.items h → last_moment h ≡ self.now.last → length (description_of o h).servers ≤ 128 → Performs o self.now.cores.items step.now result h }
     {

@@ -8,6 +8,7 @@ ghost use Rattle.mdb_describe.specs.Topology.{opened, stopped};
 ghost use Rattle.mdb_driver_rules.specs.Description.{with_balancers, begins_with, unopened};
 ghost use Rattle.mdb_driver_rules.specs.Events.{opening_fact};
 ghost use Rattle.mdb_driver_pools.specs.Opening.{IsOpened, Publishes};
+ghost use Rattle.mdb_pool.specs.Now.{last_now};
 
 use crate::cores::Cores;
 use crate::pools::Pools;
@@ -89,7 +90,7 @@ impl Pools {
         diff: &Diff,
         facts: &mut Vec<Fact>,
     ) -> Result<(), OutOfMemory>
-        requires early { All (λ s. s.last ≤ change.now.moment) self.old.cores.items }
+        requires early { All (λ s. last_now s ≤ change.now.moment) self.old.cores.items }
         requires open_for { (a : ServerAddress) → is_some (at_address self.old.cores.items a) ≡ is_known a change.now.earlier.now.servers }
         requires few { length self.old.cores.items + length change.now.later.now.servers ≤ 2 ^ 32 }
         requires difference { difference change.now.earlier.now.servers change.now.later.now.servers ≡ Some diff.now }
@@ -119,7 +120,7 @@ impl Pools {
         change: &TopologyChange<'_>,
         facts: &mut Vec<Fact>,
     ) -> Result<(), OutOfMemory>
-        requires early { All (λ s. s.last ≤ change.now.moment) self.old.cores.items }
+        requires early { All (λ s. last_now s ≤ change.now.moment) self.old.cores.items }
         requires open_for { (a : ServerAddress) → is_some (at_address self.old.cores.items a) ≡ is_known a change.now.earlier.now.servers }
         requires few { length self.old.cores.items + length change.now.later.now.servers ≤ 2 ^ 32 }
         ensures last { self.new.last ≡ self.old.last }

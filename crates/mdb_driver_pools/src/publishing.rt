@@ -4,6 +4,7 @@ ghost use Rattle.std.specs.Prelude.{◌≡◌, ◌≤◌, ◌+◌, ◌++◌, ◌
 ghost use Rattle.mdb_describe.specs.Differences.{difference, AreInOrder, are_in_both};
 ghost use Rattle.mdb_describe.specs.Servers.{is_known};
 ghost use Rattle.mdb_driver_rules.specs.Events.{topology_fact};
+ghost use Rattle.mdb_pool.specs.Now.{last_now};
 
 use crate::opening_server::plan_all_opened;
 use crate::pool_change::PoolChange;
@@ -48,7 +49,7 @@ impl Pools {
         diff: &Diff,
         facts: &mut Vec<Fact>,
     ) -> Result<Vec<PoolChange>, OutOfMemory>
-        requires early { All (λ s. s.last ≤ change.now.moment) self.old.cores.items }
+        requires early { All (λ s. last_now s ≤ change.now.moment) self.old.cores.items }
         requires open_for { (a : ServerAddress) → is_some (at_address self.old.cores.items a) ≡ is_known a change.now.earlier.now.servers }
         requires few { length self.old.cores.items + length diff.now.added ≤ 2 ^ 32 }
         requires difference { difference change.now.earlier.now.servers change.now.later.now.servers ≡ Some diff.now }

@@ -4,6 +4,7 @@ ghost use Rattle.std.specs.Prelude.{◌≡◌, ◌≤◌, ◌++◌, ◌∷◌, [
 ghost use Rattle.mdb_base.specs.OptionRules.{all_different};
 ghost use Rattle.mdb_driver_pools.specs.Acting.{readying};
 ghost use Rattle.mdb_driver_rules.specs.Events.{changed_fact};
+ghost use Rattle.mdb_pool.specs.Now.{last_now};
 
 use crate::pool_change::PoolChange;
 use crate::pools::Pools;
@@ -53,7 +54,7 @@ impl Pools {
         facts: &mut Vec<Fact>,
         changes: &mut Vec<PoolChange>,
     ) -> Result<(), OutOfMemory>
-        requires early { All (λ s. s.last ≤ moment) self.old.cores.items }
+        requires early { All (λ s. last_now s ≤ moment) self.old.cores.items }
         ensures same { self.new ≡ self.old }
         ensures planned { OnOk result (PlansAt self.old.cores.items (if wanted then at_address self.old.cores.items address.now else None) moment readying changes.old.items changes.new.items facts.old.items facts.new.items) }
     {
@@ -76,7 +77,7 @@ impl Pools {
         facts: &mut Vec<Fact>,
         changes: &mut Vec<PoolChange>,
     ) -> Result<(), OutOfMemory>
-        requires early { All (λ s. s.last ≤ change.now.moment) self.old.cores.items }
+        requires early { All (λ s. last_now s ≤ change.now.moment) self.old.cores.items }
         ensures same { self.new ≡ self.old }
         ensures planned { OnOk result (PlansMore change.now.options.now change.now.moment self.old.cores.items (length self.old.cores.items) (readies_one change.now.later.now address.now) (server_changed change.now.options.now change.now.moment change.now.earlier.now change.now.later.now address.now ∷ []) [] [] changes.old.items changes.new.items facts.old.items facts.new.items) }
     {
@@ -101,7 +102,7 @@ impl Pools {
         facts: &mut Vec<Fact>,
         changes: &mut Vec<PoolChange>,
     ) -> Result<(), OutOfMemory>
-        requires early { All (λ s. s.last ≤ change.now.moment) self.old.cores.items }
+        requires early { All (λ s. last_now s ≤ change.now.moment) self.old.cores.items }
         requires different { all_different addresses.now ≡ true }
         ensures same { self.new ≡ self.old }
         ensures planned { OnOk result (PlansMore change.now.options.now change.now.moment self.old.cores.items (length self.old.cores.items) (readies change.now.later.now addresses.now) (map (server_changed change.now.options.now change.now.moment change.now.earlier.now change.now.later.now) addresses.now) [] [] changes.old.items changes.new.items facts.old.items facts.new.items) }

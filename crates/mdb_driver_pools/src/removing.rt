@@ -6,6 +6,7 @@ ghost use Rattle.mdb_base.specs.Equality.{same_address};
 ghost use Rattle.mdb_describe.specs.Servers.{is_listed};
 ghost use Rattle.mdb_driver_pools.specs.Acting.{closing};
 ghost use Rattle.mdb_driver_rules.specs.Events.{gone_fact};
+ghost use Rattle.mdb_pool.specs.Now.{last_now};
 
 use crate::pool_change::PoolChange;
 use crate::pools::Pools;
@@ -46,7 +47,7 @@ impl Pools {
         facts: &mut Vec<Fact>,
         changes: &mut Vec<PoolChange>,
     ) -> Result<(), OutOfMemory>
-        requires early { All (λ s. s.last ≤ moment) self.old.cores.items }
+        requires early { All (λ s. last_now s ≤ moment) self.old.cores.items }
         ensures same { self.new ≡ self.old }
         ensures planned { OnOk result (PlansAt self.old.cores.items (at_address self.old.cores.items address.now) moment closing changes.old.items changes.new.items facts.old.items facts.new.items) }
     {
@@ -67,7 +68,7 @@ impl Pools {
         facts: &mut Vec<Fact>,
         changes: &mut Vec<PoolChange>,
     ) -> Result<(), OutOfMemory>
-        requires early { All (λ s. s.last ≤ moment) self.old.cores.items }
+        requires early { All (λ s. last_now s ≤ moment) self.old.cores.items }
         ensures same { self.new ≡ self.old }
         ensures planned { OnOk result (PlansMore options.now moment self.old.cores.items (length self.old.cores.items) (same_address address.now) (server_closed options.now moment address.now ∷ []) (address.now ∷ []) [] changes.old.items changes.new.items facts.old.items facts.new.items) }
     {
@@ -85,7 +86,7 @@ impl Pools {
         facts: &mut Vec<Fact>,
         changes: &mut Vec<PoolChange>,
     ) -> Result<(), OutOfMemory>
-        requires early { All (λ s. s.last ≤ moment) self.old.cores.items }
+        requires early { All (λ s. last_now s ≤ moment) self.old.cores.items }
         requires different { all_different addresses.now ≡ true }
         ensures same { self.new ≡ self.old }
         ensures planned { OnOk result (PlansMore options.now moment self.old.cores.items (length self.old.cores.items) (is_listed addresses.now) (map (server_closed options.now moment) addresses.now) addresses.now [] changes.old.items changes.new.items facts.old.items facts.new.items) }

@@ -1,31 +1,16 @@
--- What a pool keeps.
-use Rattle.std.specs.Prelude.{ℕ, ◌≡◌, Bool, List}
+-- A pool: its number, its address, its options, and what it keeps.
+use Rattle.std.specs.Prelude.{ℕ, ◌≡◌}
 use Rattle.mdb_base.specs.declared.address.ServerAddress.{ServerAddress}
 use Rattle.mdb_log.specs.declared.options.PoolOptions.{PoolOptions}
-use Rattle.mdb_pool.specs.declared.kept.connection.Connection.{Connection}
-use Rattle.mdb_pool.specs.declared.kept.request.Request.{Request}
-use Rattle.mdb_pool.specs.declared.kept.status.Status.{Status}
-use Rattle.mdb_pool.specs.declared.kept.status.Clear.{Clear}
-use Rattle.mdb_pool.specs.Kept.Inner.{Inner}
+use Rattle.mdb_pool.specs.Kept.Record.{Kept}
 
--- a pool: the moment of its last step, how many connections it created, its connections and requests in the order in which they were put, its state
--- and its clears, the requests whose outcome was told or that gave up or came back, the connections that a claim was told to establish, whether it stands alone, and so keeps the numbers of all
--- its parties, as in a driver the driver does, and what it is read from
+-- a pool; what it keeps is named by mdb_pool alone, and told to others by the queries of what a pool says of itself now
 pub record PoolCore : Type 0 where
   pub pool : ℕ
   pub address : ServerAddress
   pub options : PoolOptions
-  pub last : ℕ
-  pub created : ℕ
-  pub connections : List Connection
-  pub requests : List Request
-  pub status : Status
-  pub clears : List Clear
-  pub settled : List ℕ
-  pub claimed : List ℕ
-  pub alone : Bool
-  pub inner : Inner
+  pub kept : Kept
 
 -- the two pools keep the same, whatever they are read from
-abbrev pub SameKept : PoolCore → PoolCore → Type 0
-SameKept s t = t ≡ record s { inner = t.inner }
+unfoldable pub SameKept : PoolCore → PoolCore → Type 0
+SameKept s t = t ≡ record s { kept = record s.kept { inner = t.kept.inner } }

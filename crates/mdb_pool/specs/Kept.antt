@@ -1,5 +1,6 @@
 -- What a pool keeps, and when it is what the pool's items say: the business of this crate alone.
 pub mod Inner
+pub mod Record
 pub mod Keyed
 pub mod Places
 pub mod Values

@@ -17,6 +17,7 @@ use Rattle.mdb_pool.specs.Core.{PoolCore, SameKept}
 use Rattle.mdb_pool.specs.declared.planning.Answered.{Answered}
 use Rattle.mdb_pool_rules.specs.Answer.{answer}
 use Rattle.mdb_pool_rules.specs.Refusal.{refusal_of}
+use Rattle.mdb_pool.specs.Now.{last_now}
 use Rattle.mdb_pool.specs.Refusing.{refusal_now}
 use Rattle.mdb_pool.specs.Standing.{Fits, SameHome, StandsFor, Accepts}
 
@@ -36,7 +37,7 @@ Does s t before after step reply = (xs : List PoolItem) → Fits s xs → Accept
 -- an accepted step: the pool stays at home, its last moment is that of the step, and it does the act
 pub record IsDone (s t : PoolCore) (step : Step) (a : Answered) : Type 0 where
   pub home : SameHome s t
-  pub last : t.last ≡ step.moment
+  pub last : last_now t ≡ step.moment
   pub does : Does s t [] a.facts step a.reply
 
 -- no row refuses the step, on any history that the pool stands for
@@ -86,8 +87,8 @@ abbrev pub Plan : Type 0
 Plan = PoolSteps
 
 -- the plan leads the pool to this one
-abbrev pub Plans : Plan → PoolCore → PoolCore → Type 0
-Plans plan s t = PoolFits plan s.inner × (led plan s ≡ t)
+unfoldable pub Plans : Plan → PoolCore → PoolCore → Type 0
+Plans plan s t = PoolFits plan s.kept.inner × (led plan s ≡ t)
 
 -- the plan was made on the pool, which no call changed since
 abbrev pub IsPlanOf : Plan → PoolCore → Type 0

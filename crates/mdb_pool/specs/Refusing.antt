@@ -10,7 +10,7 @@ use Rattle.mdb_log.specs.declared.reply.Refused.{Refused}
 use Rattle.mdb_log.specs.declared.reply.Refused.TheVariants.{TimeBack, UnknownServer, RequestKnown, UnknownRequest, NotHolder, NotPending, Unpinned, PinInUse, PinState, WrongMode, Exhausted}
 use Rattle.mdb_log.specs.History.{service_in}
 use Rattle.mdb_pool.specs.Core.{PoolCore}
-use Rattle.mdb_pool.specs.Now.{exhausted_now, holds_now, is_closed_now, is_held_now, is_open_now, is_pending_now, is_pinned_now, knows_now, pins_now}
+use Rattle.mdb_pool.specs.Now.{alone_now, exhausted_now, holds_now, is_closed_now, is_held_now, is_open_now, is_pending_now, is_pinned_now, knows_now, last_now, pins_now}
 use Rattle.mdb_pool_rules.specs.Refusal.{first_row, wrong_service}
 
 -- the pool is open, and this is its address
@@ -45,11 +45,11 @@ rows_now s _ = []
 
 -- the refusal of a step, None where it is accepted
 abbrev pub refusal_now : PoolCore → Step → Option Refused
-refusal_now s step = first_row ((nat_lt step.moment s.last, TimeBack s.last) ∷ rows_now s step.act)
+refusal_now s step = first_row ((nat_lt step.moment (last_now s), TimeBack (last_now s)) ∷ rows_now s step.act)
 
 -- the pool can tell whether the party is new: it stands alone, and keeps all numbers, or the party is new
 abbrev pub can_tell : PoolCore → ℕ → Bool
-can_tell s r = s.alone || not (knows_now s r)
+can_tell s r = alone_now s || not (knows_now s r)
 
 -- it can tell so of the party that the act names for the first time, where it names one
 abbrev pub tells_new : PoolCore → Act → Bool
@@ -73,4 +73,4 @@ NameNobody alone (step ∷ more) = ((alone || names_nobody step.act) ≡ true) �
 -- Steps one after another: the pool can tell of the first, and stands alone or the others name nobody.
 abbrev pub TellsNew : PoolCore → List Step → Type 0
 TellsNew s [] = ⊤
-TellsNew s (step ∷ more) = (tells_new s step.act ≡ true) × NameNobody s.alone more
+TellsNew s (step ∷ more) = (tells_new s step.act ≡ true) × NameNobody (alone_now s) more

@@ -1,5 +1,5 @@
 -- When the state of a pool stands for a history.
-use Rattle.std.specs.Prelude.{ℕ, ◌≡◌, Bool, true, if◌then◌else◌, ◌==◌, List, [], ◌∷◌, ◌++◌, Some, None, not, ◌&&◌, ◌||◌, take}
+use Rattle.std.specs.Prelude.{ℕ, ◌≡◌, Bool, true, if◌then◌else◌, ◌==◌, List, [], ◌∷◌, ◌++◌, Some, None, is_some, not, ◌&&◌, ◌||◌, take}
 use Rattle.mdb_base.specs.declared.address.ServerAddress.{ServerAddress}
 use Rattle.mdb_events.specs.declared.fact.Fact.{Fact}
 use Rattle.mdb_log.specs.declared.step.Step.{Step}
@@ -16,20 +16,20 @@ use Rattle.mdb_log.specs.Own.{AllOwn, shuts, IsAccepted}
 use Rattle.mdb_log.specs.Limits.{WithinLimits}
 use Rattle.mdb_log.specs.Fresh.{EntriesGrantFresh}
 use Rattle.mdb_pool.specs.Kept.Matching.{Matches}
-use Rattle.mdb_pool.specs.Kept.Values.{numbers_asked}
-use Rattle.mdb_pool.specs.Now.{claimed_now, is_closed_now, knows_now, settled_now}
+use Rattle.mdb_pool.specs.Kept.Values.{numbers_asked, request_at}
+use Rattle.mdb_pool.specs.Now.{claimed_now, is_closed_now, last_now, settled_now}
 use Rattle.mdb_base.specs.Equality.{same_address}
 
 -- The state of a pool is that of the pool's items.
 pub record Fits (s : PoolCore) (xs : List PoolItem) : Type 0 where
   pub matches : Matches s xs
-  pub asked : (r : ℕ) → has_party xs r ≡ knows_now s r
-  pub order : requests xs ≡ numbers_asked s.requests
+  pub asked : (r : ℕ) → has_party xs r ≡ is_some (request_at s r)
+  pub order : requests xs ≡ numbers_asked s.kept.requests
 
 -- The state of a pool stands for a history of its own.
 pub record StandsFor (s : PoolCore) (h : List Item) : Type 0 where
   pub fits : Fits s (of_pool s.pool h)
-  pub last_is : last_moment h ≡ s.last
+  pub last_is : last_moment h ≡ last_now s
   pub open_here : (a : ServerAddress) → open_pool h a ≡ if same_address s.address a && not (is_closed_now s) then Some s.pool else None
   pub asked_once : (r : ℕ) → some_act names_party h r ≡ has_party (of_pool s.pool h) r
   pub requested : (r : ℕ) → some_act was_asked h r ≡ has_asked (of_pool s.pool h) r
@@ -48,7 +48,7 @@ pub record SameHome (s t : PoolCore) : Type 0 where
   pub pool : t.pool ≡ s.pool
   pub address : t.address ≡ s.address
   pub options : t.options ≡ s.options
-  pub alone : t.alone ≡ s.alone
+  pub alone : t.kept.alone ≡ s.kept.alone
 
 -- an accepted act: xs is what the pool knew, and ys what it knows with the act; the reply and the facts are those of the definitions, and the state then fits them
 pub record Accepts (s t : PoolCore) (before after : List Fact) (m : ℕ) (act : Act) (reply : Reply) (xs ys : List PoolItem) : Type 0 where

@@ -1,4 +1,5 @@
 //! What a worker has to know that establishes a pending connection.
+#![tactic(auto, unfolding(crate::specs::Now::queries))]
 
 ghost use Rattle.std.specs.Prelude.{◌≡◌, IfOk, Some};
 

@@ -46,11 +46,11 @@ impl Draft {
         alloc: Global,
         steps: &[Step],
     ) -> Result<(Vec<Answered>, Plan), OutOfMemory>
-        requires committed { self.old ≡ pool_of self.old.inner }
+        requires committed { self.old ≡ pool_of self.old.kept.inner }
         requires acts { All (λ step. IsPoolAct self.old.pool step.act) steps.now }
         requires new { TellsNew self.old steps.now }
         ensures same { self.new ≡ self.old }
-        ensures fits { IfOk result (λ made. PoolFits made.1 self.old.inner) }
+        ensures fits { IfOk result (λ made. PoolFits made.1 self.old.kept.inner) }
         ensures does { IfOk result (λ made. LeadsTo self.old (led made.1 self.old) steps.now made.0.items) }
         ensures prepared { IfOk result (λ made. (h : List Item) → StandsFor self.old h → IsPrepared self.old (led made.1 self.old) steps.now made.0.items h) }
     {
@@ -84,6 +84,7 @@ pub fn prepare(
 }
 
 /// The second part: the pool changes as it was planned. It takes no memory.
+#[tactic(auto, unfolding(crate::specs::Planning::Plans))]
 pub fn apply(pool: &mut PoolCore, plan: Plan)
     requires { IsPlanOf plan pool.old }
     ensures { (t : Core) → Plans plan pool.old t → pool.new ≡ t }

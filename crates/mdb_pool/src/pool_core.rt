@@ -1,4 +1,5 @@
 //! The core of one pool.
+#![tactic(auto, unfolding(crate::specs::Now::queries))]
 
 ghost use Rattle.std.specs.Prelude.{◌≡◌, true, false, is_some, nat_lt, option_copied, None, List, if◌then◌else◌, ◌&&◌};
 
@@ -14,7 +15,7 @@ use std::alloc::Global;
 use std::marker::Model;
 
 /// The connections and the requests of one server's pool. Steps are taken one at a time by `step`, or by the call of an act, in place; either leaves
-/// the pool as it was where there is no memory. In clauses `inner` is what it is read from, which tells the plans that it can follow.
+/// the pool as it was where there is no memory. Clauses see its number, its address, its options, and what it keeps as one value, which they name by queries alone.
 #[derive(Drop)]
 pub struct PoolCore {
     pub(crate) draft: Draft,
@@ -29,11 +30,11 @@ impl Model for PoolCore {
 
     ghost view = { λ p. p.draft };
 
-    ghost invariant = { λ p. p.draft ≡ pool_of p.draft.inner };
+    ghost invariant = { λ p. p.draft ≡ pool_of p.draft.kept.inner };
 }
 
 impl PoolCore {
-    ghost use Rattle.mdb_pool.specs.Now.{cause_of, held_now, holds_now, is_open_now, is_spent, name_of, state_now, wire_now};
+    ghost use Rattle.mdb_pool.specs.Now.{alone_now, cause_of, held_now, holds_now, is_open_now, is_spent, name_of, state_now, wire_now};
     ghost use Rattle.mdb_pool.specs.Refusing.{can_tell};
     ghost use Rattle.mdb_log.specs.Connections.{has, held, pins, is_live, pending_list, holding, wire_of};
     ghost use Rattle.mdb_log.specs.Requests.{is_open};
@@ -60,7 +61,7 @@ impl PoolCore {
         ensures pool { result.pool ≡ pool }
         ensures address { result.address ≡ address }
         ensures options { result.options ≡ options }
-        ensures alone { result.alone ≡ alone }
+        ensures alone { alone_now result ≡ alone }
     {
         PoolCore {
             draft: Draft {
@@ -85,7 +86,7 @@ impl PoolCore {
         ensures pool { result.pool ≡ pool }
         ensures address { result.address ≡ address }
         ensures options { result.options ≡ options }
-        ensures alone { result.alone ≡ true }
+        ensures alone { alone_now result ≡ true }
     {
         PoolCore::made(alloc, pool, address, options, true)
     }
@@ -103,14 +104,14 @@ impl PoolCore {
         ensures pool { result.pool ≡ pool }
         ensures address { result.address ≡ address }
         ensures options { result.options ≡ options }
-        ensures alone { result.alone ≡ false }
+        ensures alone { alone_now result ≡ false }
     {
         PoolCore::made(alloc, pool, address, options, false)
     }
 
     /// It keeps the number of each party that it knew, as a pool does that is in no driver.
     pub fn is_alone(&self) -> bool
-        ensures { result ≡ self.now.alone }
+        ensures { result ≡ alone_now self.now }
     {
         self.draft.body.requests.is_alone()
     }

@@ -1,4 +1,5 @@
 //! What a pool with these parts answers to its getters.
+#![tactic(auto, unfolding(crate::specs::Now::queries))]
 
 ghost use Rattle.std.specs.Prelude.{◌≡◌, is_some, nat_lt, true, false};
 ghost use Rattle.mdb_log.specs.Connections.{has};
@@ -43,7 +44,7 @@ impl Body {
     }
 
     // The request, which is not settled, ended in another way.
-    #[tactic(auto, using(crate::proofs::KeptInLittle::AskedOfThoseThatStay::unsettled_kept))]
+    #[tactic(auto, using(crate::proofs::KeptInLittle::AskedOfThoseThatStay::unsettled_kept), unfolding(crate::specs::Now::queries))]
     pub(crate) fn is_ended(&self, request: u32) -> bool
         requires { has request self.now.requests.settled ≡ false }
         ensures { result ≡ is_ended_at (request_at (now_of self.now) request) }

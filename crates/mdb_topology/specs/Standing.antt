@@ -1,5 +1,6 @@
 -- When what a driver keeps stands for its history.
 use Rattle.std.specs.Prelude.{ℕ, ◌^◌, ◌≡◌, ◌≤◌, Bool, true, is_some, List, [], length, map, slice_get, Some, None, All}
+use Rattle.mdb_pool.specs.Now.{last_now}
 use Rattle.mdb_intervals.specs.Spans.{has as is_within}
 use Rattle.mdb_base.specs.declared.address.ServerAddress.{ServerAddress}
 use Rattle.mdb_base.specs.declared.options.Options.{Options}
@@ -52,7 +53,7 @@ pub record StandsFor (w : TopologyCore) (h : List Item) : Type 0 where
   -- their numbers are of 32 bits
   pub numbers : length w.pools.cores.items ≤ 2 ^ 32
   -- no pool was stepped after the last moment
-  pub early : All (λ s. s.last ≤ w.pools.last) w.pools.cores.items
+  pub early : All (λ s. last_now s ≤ w.pools.last) w.pools.cores.items
 
 -- it stands for some history
 abbrev pub StandsForSome : TopologyCore → Type 0

@@ -12,6 +12,7 @@ use Rattle.mdb_log.specs.Connections.{one_if}
 use Rattle.mdb_log.specs.Own.{IsAccepted}
 use Rattle.mdb_log.specs.Opening.{pool_options}
 use Rattle.mdb_pool.specs.Core.{PoolCore}
+use Rattle.mdb_pool.specs.Now.{last_now}
 use Rattle.mdb_topology.specs.declared.topology.TopologyCore.{TopologyCore}
 use Rattle.mdb_topology.specs.declared.transition.Transition.{Transition}
 use Rattle.mdb_topology.specs.declared.transition.Decision.{Decision}
@@ -32,7 +33,7 @@ pub record Follows (w : TopologyCore) (n : Transition) (step : Step) (h : List I
   pub leads : (later : List PoolCore) × LeadsAll n.changes.items w.pools.cores.items later
   pub pools : (later : List PoolCore) → LeadsAll n.changes.items w.pools.cores.items later → PoolsStand (pool_options w.options) later (with_answer step n.reply n.facts.items h)
   pub numbers : (later : List PoolCore) → LeadsAll n.changes.items w.pools.cores.items later → length later ≤ 2 ^ 32
-  pub early : (later : List PoolCore) → LeadsAll n.changes.items w.pools.cores.items later → All (λ s. s.last ≤ step.moment) later
+  pub early : (later : List PoolCore) → LeadsAll n.changes.items w.pools.cores.items later → All (λ s. last_now s ≤ step.moment) later
   pub each_opened : length n.monitors.items ≡ length (opened_by n.changes.items)
   pub placed : IsPlaced n.monitoring w.monitors.kept
   pub monitors : MonitorsFit w.options (monitors_after n.monitoring w.monitors.items ++ n.monitors.items) (with_answer step n.reply n.facts.items h)

@@ -13,6 +13,7 @@ use Rattle.mdb_log.specs.LegalLog.{numbered}
 use Rattle.mdb_describe.proofs.Addresses.{own-address, same-address}
 use Rattle.mdb_pool.specs.Core.{PoolCore}
 use Rattle.mdb_pool.specs.Now.{is_closed_now, is_spent}
+use Rattle.mdb_pool.proofs.KeptInLittle.NothingLives.{spent-shut}
 use Rattle.mdb_log.proofs.Bools.{both-true}
 use Rattle.mdb_driver_pools.specs.Living.{lives_at}
 use Rattle.mdb_driver_pools.specs.Standing.{at_address, home, is_open_at}
@@ -91,7 +92,11 @@ all-open n (b ∷ rest) (x ∷ pools) e o f (suc p) s at =
 
 -- something lives in an open pool
 pub open-unspent : (s : PoolCore) → is_closed_now s ≡ false → is_spent s ≡ false
-open-unspent s e = rw e refl
+open-unspent s e = on (is_spent s) refl
+  where
+    on : (b : Bool) → is_spent s ≡ b → is_spent s ≡ false
+    on false f = f
+    on true f = let shut : is_closed_now s ≡ true = spent-shut s f in cc
 
 same-test : (p n : ℕ) → nat_lt (suc p) (suc n) ≡ nat_lt p n
 same-test p n = on (nat_lt p n) refl

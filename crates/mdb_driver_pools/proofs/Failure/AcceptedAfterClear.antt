@@ -16,7 +16,7 @@ use Rattle.mdb_log.specs.Connections.{has, pending_list}
 use Rattle.mdb_log.proofs.Numbers.{same-number}
 use Rattle.mdb_pool.specs.Core.{PoolCore}
 use Rattle.mdb_pool_rules.specs.Answer.{all_facts}
-use Rattle.mdb_pool.specs.Now.{is_pending_now}
+use Rattle.mdb_pool.specs.Now.{is_pending_now, last_now}
 use Rattle.mdb_pool_rules.specs.Refusal.{first_row}
 use Rattle.mdb_pool.specs.Refusing.{is_pending_here, refusal_now}
 use Rattle.mdb_pool_rules.specs.Serving.{IsServed}
@@ -63,9 +63,9 @@ module _ (s : PoolCore) (xs : List PoolItem) (fits : Fits s xs) (served : IsServ
   whole service = all_facts s.pool s.address s.options m xs xs (Clear s.pool service error)
 
   -- the connection is pending
-  rows : (nat_lt step.moment s.last ≡ false) × (not (is_pending_here s s.pool d.connection) ≡ false) × (not s.options.load_balanced && is_some (service_in d.at) ≡ false)
+  rows : (nat_lt step.moment (last_now s) ≡ false) × (not (is_pending_here s s.pool d.connection) ≡ false) × (not s.options.load_balanced && is_some (service_in d.at) ≡ false)
   rows =
-      two-rows (nat_lt step.moment s.last) (TimeBack s.last) (not (is_pending_here s s.pool d.connection)) (not s.options.load_balanced && is_some (service_in d.at)) _ _
+      two-rows (nat_lt step.moment (last_now s)) (TimeBack (last_now s)) (not (is_pending_here s s.pool d.connection)) (not s.options.load_balanced && is_some (service_in d.at)) _ _
       (ap (λ a. refusal_now s (record { moment = step.moment; act = a })) (sym d.act_is) ∙ d.accepted)
 
   pub pending-now : is_pending_now s d.connection ≡ true
@@ -74,8 +74,8 @@ module _ (s : PoolCore) (xs : List PoolItem) (fits : Fits s xs) (served : IsServ
   pub still-fails : (service : Option ObjectId) → StillFails s step service error
   still-fails service t a done = ap (λ x. refusal_now t (record { moment = m; act = x })) d.act_is ∙ rw (late, pending-then, fitting) refl
     where
-      late : nat_lt m t.last ≡ false
-      late = let e : t.last ≡ m = done.last in grind (arith, nat_tests)
+      late : nat_lt m (last_now t) ≡ false
+      late = let e : last_now t ≡ m = done.last in grind (arith, nat_tests)
 
       v : Accepts s t [] a.facts m (Clear s.pool service error) a.reply xs xs
       v = done.does xs fits

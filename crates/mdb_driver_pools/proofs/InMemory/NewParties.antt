@@ -11,7 +11,7 @@ use Rattle.mdb_log.specs.declared.reply.Refused.TheVariants.{NotPending, TimeBac
 use Rattle.mdb_log.specs.History.{service_in}
 use Rattle.mdb_log.specs.Requests.{names_party}
 use Rattle.mdb_pool.specs.Core.{PoolCore}
-use Rattle.mdb_pool.specs.Now.{is_pending_now, is_spent, knows_now}
+use Rattle.mdb_pool.specs.Now.{alone_now, is_pending_now, is_spent, knows_now, last_now}
 use Rattle.mdb_pool_rules.specs.Refusal.{first_row}
 use Rattle.mdb_pool.specs.Refusing.{can_tell, is_pending_here, rows_now, tells_new}
 use Rattle.mdb_log.proofs.Bools.{both-true}
@@ -22,7 +22,7 @@ use Rattle.mdb_driver_pools.specs.Finding.{named_by, names_known}
 use Rattle.mdb_driver_rules.proofs.General.OneElement.{any-none}
 
 can-new : (s : PoolCore) (r : ℕ) → knows_now s r ≡ false → can_tell s r ≡ true
-can-new s r e = rw e (or-true s.alone)
+can-new s r e = rw e (or-true (alone_now s))
   where
     or-true : (b : Bool) → (b || true) ≡ true
     or-true true = refl
@@ -59,7 +59,7 @@ pub failing-lives : (s : PoolCore) (step : Step) (error : Error) → IsFailing s
 failing-lives s step error f = on (is_spent s) refl
   where
     rows : first_row (rows_now s step.act) ≡ None
-    rows = (first-passes (nat_lt step.moment s.last) (TimeBack s.last) (rows_now s step.act) f.accepted).1
+    rows = (first-passes (nat_lt step.moment (last_now s)) (TimeBack (last_now s)) (rows_now s step.act) f.accepted).1
 
     rows-of : first_row (rows_now s (Do.Failed s.pool f.connection f.at error)) ≡ None
     rows-of = subst (λ a. first_row (rows_now s a) ≡ None) f.act_is rows

@@ -15,6 +15,7 @@ use Rattle.mdb_log.specs.History.{Item, of_pool, last_moment}
 use Rattle.mdb_log.specs.Own.{IsAccepted}
 use Rattle.mdb_log.specs.Opening.{pool_options}
 use Rattle.mdb_pool.specs.Core.{PoolCore}
+use Rattle.mdb_pool.specs.Now.{last_now}
 use Rattle.mdb_pool.specs.declared.planning.Answered.{Answered}
 use Rattle.mdb_pool.specs.Planning.{with_item, IsDone}
 use Rattle.mdb_pool_rules.specs.Refusal.{first_row}
@@ -49,8 +50,8 @@ in-time : (a m : ℕ) (rows : List (Bool × Why)) → a ≤ m → first_row ((na
 in-time a m rows l = rw (not-back m a l) refl
 
 -- no pool is later than the last moment
-early-at : (pools : List PoolCore) (last i : ℕ) (s : PoolCore) → All (λ (x : PoolCore). x.last ≤ last) pools → slice_get pools i ≡ Some s → s.last ≤ last
-early-at pools last i s early e = subst (λ (u : PoolCore). u.last ≤ last) (get_or_from_slice_get pools i s s e) (early i s (slice_get_within pools i s e))
+early-at : (pools : List PoolCore) (last i : ℕ) (s : PoolCore) → All (λ (x : PoolCore). last_now x ≤ last) pools → slice_get pools i ≡ Some s → last_now s ≤ last
+early-at pools last i s early e = subst (λ (u : PoolCore). last_now u ≤ last) (get_or_from_slice_get pools i s s e) (early i s (slice_get_within pools i s e))
 
 -- a claim alone is accepted where no pool is concerned
 missing-claim : (pools : List PoolCore) (act : Act) → is_pool_act act ≡ true → missing_pool pools act ≡ None → act ≡ Do.Claim
@@ -88,14 +89,14 @@ module _ (o : Options) (pools : List PoolCore) (h : List Item) (z : PoolsStand (
   performs-lacking Idle e f = performs-idle e f
   performs-lacking (ConcernsPool i) e f = absurd f
 
-  module _ (i : ℕ) (there : index_of pools step.act ≡ Some i) (early : All (λ (x : PoolCore). x.last ≤ last) pools) where
+  module _ (i : ℕ) (there : index_of pools step.act ≡ Some i) (early : All (λ (x : PoolCore). last_now x ≤ last) pools) where
     -- the act uses up a number that is known
     pub performs-known : names_known pools step.act ≡ true → Performs o pools step (Refused RequestKnown) h
     performs-known n = row-refuses o h step RequestKnown (by-rows ∙ rows-known o pools h z.fit i step.act there n)
 
     module _ (new : names_known pools step.act ≡ false) (s : PoolCore) (at_i : slice_get pools i ≡ Some s) where
       rows-here : refusal_now s step ≡ first_row (rows_now s step.act)
-      rows-here = let e : s.last ≤ last = early-at pools last i s early at_i in in-time s.last step.moment (rows_now s step.act) (omega (arith, e))
+      rows-here = let e : last_now s ≤ last = early-at pools last i s early at_i in in-time (last_now s) step.moment (rows_now s step.act) (omega (arith, e))
 
       by-pool : first_refusal o h step ≡ refusal_now s step
       by-pool = by-rows ∙ (rows-there o pools h z.fit i s at_i step.act k there new ∙ sym rows-here)

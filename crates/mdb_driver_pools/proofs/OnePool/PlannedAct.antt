@@ -8,6 +8,7 @@ use Rattle.mdb_log.specs.declared.step.Step.{Step}
 use Rattle.mdb_log.specs.declared.step.Act.{Act}
 use Rattle.mdb_log.specs.declared.step.Act.TheVariants.{Ready, Close}
 use Rattle.mdb_pool.specs.Core.{PoolCore}
+use Rattle.mdb_pool.specs.Now.{last_now}
 use Rattle.mdb_pool.specs.declared.planning.Answered.{Answered}
 use Rattle.mdb_pool.specs.Planning.{IsDone, DoesOne, DoesAll, LeadsTo}
 use Rattle.mdb_pool.proofs.SameAnswers.KeptTheSame.{done_same}
@@ -40,10 +41,10 @@ module _ (s t : PoolCore) (step : Step) (told : List Answered) (l : LeadsTo s t 
       subst (λ (b : Answered). IsDone s t step b) (sym same) (done_same s l.0 t step d.0 l.1 (subst (λ why. DoesOne s l.0 step d.0 why) accepted one))
 
 -- a step that isn't before the pool's last one is not refused where no row speaks of its act
-pub ready-accepted : (s : PoolCore) (m p : ℕ) → s.last ≤ m → refusal_now s (record { moment = m; act = Ready p }) ≡ None
+pub ready-accepted : (s : PoolCore) (m p : ℕ) → last_now s ≤ m → refusal_now s (record { moment = m; act = Ready p }) ≡ None
 ready-accepted s m p l = grind (arith, nat_tests)
 
-pub close-accepted : (s : PoolCore) (m p : ℕ) → s.last ≤ m → refusal_now s (record { moment = m; act = Close p }) ≡ None
+pub close-accepted : (s : PoolCore) (m p : ℕ) → last_now s ≤ m → refusal_now s (record { moment = m; act = Close p }) ≡ None
 close-accepted s m p l = grind (arith, nat_tests)
 
 -- of all pools the one at a place

@@ -16,6 +16,7 @@ use Rattle.mdb_log.specs.Opening.{pool_options}
 use Rattle.mdb_log.specs.declared.options.PoolOptions.{PoolOptions}
 use Rattle.mdb_pool_rules.specs.Serving.{IsServed}
 use Rattle.mdb_pool.specs.Core.{PoolCore}
+use Rattle.mdb_pool.specs.Now.{last_now}
 use Rattle.mdb_driver_pools.specs.declared.pool_change.PoolChange.{PoolChange}
 use Rattle.mdb_driver_pools.specs.Opening.{Publishes}
 use Rattle.mdb_driver_pools.specs.Planned.{LeadsAll, CanTake, PlansMore, opened_by}
@@ -46,11 +47,11 @@ few-added t u d different =
     subst (λ (x : Diff). length x.added ≤ length u.servers) same (length-missing u.servers t.servers)
 
 -- on the pools that they were planned on changes can be made
-pub can-now : (m : ℕ) (pools : List PoolCore) (touched : ServerAddress → Bool) → All (λ s. s.last ≤ m) pools → CanTake m pools pools (length pools) touched
+pub can-now : (m : ℕ) (pools : List PoolCore) (touched : ServerAddress → Bool) → All (λ s. last_now s ≤ m) pools → CanTake m pools pools (length pools) touched
 can-now m pools touched early = record { agrees = λ a e. (refl, λ i f. refl); count = refl; early = early }
 
 pub publishes : (o : Options) (m : ℕ) (t u : TopologyDescription) (d : Diff) (pools later : List PoolCore) (changes : List PoolChange) (before after : List Fact)
-    → difference t.servers u.servers ≡ Some d → are_in_both t.servers u.servers d.changed ≡ true → All (λ s. s.last ≤ m) pools → ((a : ServerAddress) → is_some (at_address pools a) ≡ is_known a t.servers)
+    → difference t.servers u.servers ≡ Some d → are_in_both t.servers u.servers d.changed ≡ true → All (λ s. last_now s ≤ m) pools → ((a : ServerAddress) → is_some (at_address pools a) ≡ is_known a t.servers)
     → PlansMore o m pools (length pools) (touches u d) (publication o m t u) d.removed d.added [] changes before after → LeadsAll changes pools later → Publishes o m t u pools later before after
 publishes o m t u d pools later changes before after different in_both early known p l =
     let can : CanTake m pools pools (length pools) (touches u d) = can-now m pools (touches u d) early in
@@ -82,7 +83,7 @@ both-empty false q r e = cc
 
 -- where nothing differs nothing is done
 pub publishes-nothing : (o : Options) (m : ℕ) (t u : TopologyDescription) (pools : List PoolCore) (facts : List Fact)
-    → difference t.servers u.servers ≡ None → All (λ s. s.last ≤ m) pools → ((a : ServerAddress) → is_some (at_address pools a) ≡ is_known a t.servers) → Publishes o m t u pools pools facts facts
+    → difference t.servers u.servers ≡ None → All (λ s. last_now s ≤ m) pools → ((a : ServerAddress) → is_some (at_address pools a) ≡ is_known a t.servers) → Publishes o m t u pools pools facts facts
 publishes-nothing o m t u pools facts same early known = record {
   tells = subst (λ (parts : List (List Item → List Fact)). Tells o m parts pools pools facts facts) (sym (ap (telling o m t u) same)) (tells-none o m pools facts);
   early = early;

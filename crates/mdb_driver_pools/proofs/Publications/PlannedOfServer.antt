@@ -14,6 +14,7 @@ use Rattle.mdb_log.specs.History.{Item, open_pool}
 use Rattle.mdb_log.specs.Opening.{pool_options}
 use Rattle.mdb_describe.proofs.Addresses.{own-address, same-address}
 use Rattle.mdb_pool.specs.Core.{PoolCore}
+use Rattle.mdb_pool.specs.Now.{last_now}
 use Rattle.mdb_pool.specs.Planning.{IsDone}
 use Rattle.mdb_driver_pools.specs.declared.pool_change.PoolChange.{PoolChange}
 use Rattle.mdb_driver_pools.specs.declared.pool_change.PoolChange.TheVariants.{Alter, Open}
@@ -93,7 +94,7 @@ module _ (o : Options) (m : ℕ) (pools : List PoolCore) (n : ℕ) (earlier chan
           (λ now t at get p. tells-one o m part now (set now i t) before after (makes now t at get (d.does t p)));
     }
 
-    pub plans-open : (core : PoolCore) (before after : List Fact) → core.pool ≡ n → core.address ≡ a → core.options ≡ pool_options o → IsFresh core → core.last ≡ 0 → at_address pools a ≡ None
+    pub plans-open : (core : PoolCore) (before after : List Fact) → core.pool ≡ n → core.address ≡ a → core.options ≡ pool_options o → IsFresh core → last_now core ≡ 0 → at_address pools a ≡ None
         → changes ≡ earlier ++ Open core ∷ [] → after ≡ before ++ opened_at o a n → PlansMore o m pools n (same_address a) (server_opened o a ∷ []) [] (a ∷ []) earlier changes before after
     plans-open core before after number at options fresh last absent behind added = record {
       added = Open core ∷ [];

@@ -11,7 +11,7 @@ use Rattle.mdb_log.specs.History.{Item}
 use Rattle.mdb_log.specs.Opening.{pool_options}
 use Rattle.mdb_describe.proofs.Addresses.{own-address}
 use Rattle.mdb_pool.specs.Core.{PoolCore}
-use Rattle.mdb_pool.specs.Now.{is_closed_now}
+use Rattle.mdb_pool.specs.Now.{is_closed_now, last_now}
 use Rattle.mdb_pool.specs.Planning.{Plan, Plans, IsPlanOf}
 use Rattle.mdb_pool.specs.Standing.{SameHome}
 use Rattle.mdb_driver_pools.specs.declared.pool_change.PoolChange.TheVariants.{Alter, Open}
@@ -37,7 +37,7 @@ planned-still o m pools n touched parts before after tells = record {
   leads = λ now z. (now, refl);
   tells = λ now later z l. subst (λ (w : List PoolCore). Tells o m parts now w before after) (sym l) (tells now z);
   keeps = λ now later b z l e. (ap (λ (w : List PoolCore). at_address w b) l, λ i f. ap (λ (w : List PoolCore). slice_get w i) l);
-  early = λ now later z l. subst (λ (w : List PoolCore). All (λ s. s.last ≤ m) w) (sym l) z.early;
+  early = λ now later z l. subst (λ (w : List PoolCore). All (λ s. last_now s ≤ m) w) (sym l) z.early;
   homes = λ now later z l. ap (λ (w : List PoolCore). map home w) l ∙ sym (append-nil (map home now));
 }
 
@@ -53,7 +53,7 @@ not-open s a b at e =
 -- The pool that is open at the address changes, by a plan that was made on it.
 module _ (o : Options) (m : ℕ) (pools : List PoolCore) (a : ServerAddress) (i : ℕ) (s : PoolCore) (plan : Plan)
     (here : at_address pools a ≡ Some i) (at_i : slice_get pools i ≡ Some s) (made : IsPlanOf plan s)
-    (home_is : (t : PoolCore) → Plans plan s t → SameHome s t) (last_is : (t : PoolCore) → Plans plan s t → t.last ≡ m) where
+    (home_is : (t : PoolCore) → Plans plan s t → SameHome s t) (last_is : (t : PoolCore) → Plans plan s t → last_now t ≡ m) where
   abbrev touched : ServerAddress → Bool
   touched b = same_address a b
 
@@ -112,7 +112,7 @@ module _ (o : Options) (m : ℕ) (pools : List PoolCore) (a : ServerAddress) (i 
         subst (λ (w : List PoolCore). Agrees now w b) (sym d.set_is) (elsewhere n now z d.next b d.planned e);
     early = λ now later z l.
         let d : Altered n now z later = altered n now z later l in
-        subst (λ (w : List PoolCore). All (λ s. s.last ≤ m) w) (sym d.set_is) (All-set (λ (u : PoolCore). u.last ≤ m) now i d.next (subst (λ k. k ≤ m) (sym (last_is d.next d.planned)) (omega arith)) z.early);
+        subst (λ (w : List PoolCore). All (λ s. last_now s ≤ m) w) (sym d.set_is) (All-set (λ (u : PoolCore). last_now u ≤ m) now i d.next (subst (λ k. k ≤ m) (sym (last_is d.next d.planned)) (omega arith)) z.early);
     homes = λ now later z l.
         let d : Altered n now z later = altered n now z later l in
         ap (λ (w : List PoolCore). map home w) d.set_is ∙ (map-set home now i s d.next (still-i n now z) (same-home n now z d.next d.planned) ∙ sym (append-nil (map home now)));
@@ -138,7 +138,7 @@ all-one P x p (suc k) d l = absurd (omega arith)
 
 -- A pool is opened at the address, where none is open.
 module _ (o : Options) (m : ℕ) (pools : List PoolCore) (a : ServerAddress) (n : ℕ) (core : PoolCore)
-    (number : core.pool ≡ n) (at : core.address ≡ a) (options : core.options ≡ pool_options o) (fresh : IsFresh core) (last_is : core.last ≡ 0)
+    (number : core.pool ≡ n) (at : core.address ≡ a) (options : core.options ≡ pool_options o) (fresh : IsFresh core) (last_is : last_now core ≡ 0)
     (absent : at_address pools a ≡ None) where
   module _ (now : List PoolCore) (z : CanTake m pools now n (same_address a)) where
     still-absent : at_address now a ≡ None
@@ -159,8 +159,8 @@ module _ (o : Options) (m : ℕ) (pools : List PoolCore) (a : ServerAddress) (n 
         (makes-opened o m now core a before after (number ∙ sym count) at options fresh (still-absent now z) (added ∙ ap (λ k. before ++ opened_at o a k) (sym count))));
     keeps = λ now later b z l e. subst (λ (w : List PoolCore). Agrees now w b) (sym (l.2 ∙ l.1)) (besides now z b e);
     early = λ now later z l.
-        subst (λ (w : List PoolCore). All (λ s. s.last ≤ m) w) (sym (l.2 ∙ l.1))
-        (All-append (λ (u : PoolCore). u.last ≤ m) now (core ∷ []) z.early (all-one (λ (u : PoolCore). u.last ≤ m) core (subst (λ k. k ≤ m) (sym last_is) (omega arith))));
+        subst (λ (w : List PoolCore). All (λ s. last_now s ≤ m) w) (sym (l.2 ∙ l.1))
+        (All-append (λ (u : PoolCore). last_now u ≤ m) now (core ∷ []) z.early (all-one (λ (u : PoolCore). last_now u ≤ m) core (subst (λ k. k ≤ m) (sym last_is) (omega arith))));
     homes = λ now later z l. ap (λ (w : List PoolCore). map home w) (l.2 ∙ l.1) ∙ map-push home now core;
   }
 

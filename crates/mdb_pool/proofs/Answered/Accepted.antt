@@ -21,7 +21,7 @@ use Rattle.mdb_log.proofs.Numbers.{same-number}
 use Rattle.mdb_base.specs.Equality.{same_address}
 use Rattle.mdb_pool.specs.Core.{PoolCore}
 use Rattle.mdb_pool.specs.Kept.Values.{request_at, connection_at, held_connection, is_asked_at, is_pending_at, is_held_at, is_shut, pins_at}
-use Rattle.mdb_pool.specs.Now.{is_open_now}
+use Rattle.mdb_pool.specs.Now.{is_open_now, last_now, queries}
 use Rattle.mdb_pool_rules.specs.Refusal.{first_row, wrong_service}
 use Rattle.mdb_pool.specs.Refusing.{rows_now, refusal_now, is_here, is_pending_here, is_pinned_here}
 use Rattle.mdb_pool.specs.Planning.{Does, with_item}
@@ -35,17 +35,20 @@ use Rattle.mdb_pool.proofs.Follows.Fits.{asked-known}
 -- what the calls want
 module _ (s : PoolCore) (step : Step) (none : refusal_now s step ≡ None) where
   pub rows-pass : {act : Act} → step.act ≡ act → first_row (rows_now s act) ≡ None
-  rows-pass is = ap (λ k. first_row (rows_now s k)) (sym is) ∙ (first-passes (nat_lt step.moment s.last) (TimeBack s.last) (rows_now s step.act) none).1
+  rows-pass is = ap (λ k. first_row (rows_now s k)) (sym is) ∙ (first-passes (nat_lt step.moment (last_now s)) (TimeBack (last_now s)) (rows_now s step.act) none).1
 
   address-is : {a : ServerAddress} → is_here s a ≡ true → s.address ≡ a
-  address-is {a} e = same-address s.address a (both-true (same_address s.address a) (not (is_shut s.status)) e).0
+  unfolding queries
+  address-is {a} e = same-address s.address a (both-true (same_address s.address a) (not (is_shut s.kept.status)) e).0
 
   pub request-here : {r : ℕ} {a : ServerAddress} → step.act ≡ Request r a → (s.address ≡ a) × (request_at s r ≡ None)
+  unfolding queries
   request-here {r} {a} is =
       let rows : (not (is_here s a) ≡ false) × (is_some (request_at s r) ≡ false) = two-pass (not (is_here s a)) (is_some (request_at s r)) UnknownServer RequestKnown (rows-pass is) in
       (address-is (not-false (is_here s a) rows.0), no-some (request_at s r) rows.1)
 
   pub warm-here : {r : ℕ} {a : ServerAddress} → step.act ≡ Warm r a → (s.address ≡ a) × (request_at s r ≡ None)
+  unfolding queries
   warm-here {r} {a} is =
       let rows : (not (is_here s a) ≡ false) × (is_some (request_at s r) ≡ false) = two-pass (not (is_here s a)) (is_some (request_at s r)) UnknownServer RequestKnown (rows-pass is) in
       (address-is (not-false (is_here s a) rows.0), no-some (request_at s r) rows.1)
@@ -57,12 +60,15 @@ module _ (s : PoolCore) (step : Step) (none : refusal_now s step ≡ None) where
   expire-here {a} is = address-is (not-false (is_here s a) (one-passes (not (is_here s a)) UnknownServer (rows-pass is)))
 
   pub give-up-asked : {r : ℕ} → step.act ≡ GiveUp r → is_asked_at (request_at s r) ≡ true
+  unfolding queries
   give-up-asked {r} is = open-known s r (not-false (is_open_now s r) (one-passes (not (is_open_now s r)) UnknownRequest (rows-pass is)))
 
   pending-here : (q c : ℕ) → is_pending_here s q c ≡ true → ((q == s.pool) ≡ true) × (is_pending_at (connection_at s c) ≡ true)
+  unfolding queries
   pending-here q c e = both-true (q == s.pool) (is_pending_at (connection_at s c)) e
 
   pinned-here : (q c : ℕ) → is_pinned_here s q c ≡ true → ((q == s.pool) ≡ true) × (nat_lt 0 (pins_at (connection_at s c)) ≡ true)
+  unfolding queries
   pinned-here q c e = both-true (q == s.pool) (nat_lt 0 (pins_at (connection_at s c))) e
 
   pub established-pending : {q c : ℕ} {how : Made} → step.act ≡ Established q c how → ((q == s.pool) ≡ true) × (is_pending_at (connection_at s c) ≡ true)
@@ -72,9 +78,11 @@ module _ (s : PoolCore) (step : Step) (none : refusal_now s step ≡ None) where
   failed-pending {q} {c} {at} is = pending-here q c (not-false (is_pending_here s q c) (two-pass (not (is_pending_here s q c)) (not s.options.load_balanced && is_some (service_in at)) NotPending WrongMode (rows-pass is)).0)
 
   pub return-held : {r : ℕ} {used : Use} → step.act ≡ Return r used → is_some (held_connection s r) ≡ true
+  unfolding queries
   return-held {r} is = not-false (is_some (held_connection s r)) (one-passes (not (is_some (held_connection s r))) NotHolder (rows-pass is))
 
   pub pin-held : {r : ℕ} → step.act ≡ Pin r → is_some (held_connection s r) ≡ true
+  unfolding queries
   pin-held {r} is = not-false (is_some (held_connection s r)) (two-pass (not (is_some (held_connection s r))) (nat_lt 0 (pins_at (held_connection s r))) NotHolder PinState (rows-pass is)).0
 
   pub replicate-pinned : {q c : ℕ} → step.act ≡ Replicate q c → ((q == s.pool) ≡ true) × (nat_lt 0 (pins_at (connection_at s c)) ≡ true)
@@ -84,15 +92,18 @@ module _ (s : PoolCore) (step : Step) (none : refusal_now s step ≡ None) where
   unpin-pinned {q} {c} is = pinned-here q c (not-false (is_pinned_here s q c) (one-passes (not (is_pinned_here s q c)) Unpinned (rows-pass is)))
 
   take-rows : {r q c : ℕ} → step.act ≡ Take r q c → (is_some (request_at s r) ≡ false) × (not (is_pinned_here s q c) ≡ false) × (is_held_at (connection_at s c) ≡ false)
+  unfolding queries
   take-rows {r} {q} {c} is = three-pass (is_some (request_at s r)) (not (is_pinned_here s q c)) (is_held_at (connection_at s c)) RequestKnown Unpinned PinInUse (rows-pass is)
 
   pub take-unknown : {r q c : ℕ} → step.act ≡ Take r q c → is_some (request_at s r) ≡ false
+  unfolding queries
   take-unknown is = (take-rows is).0
 
   pub take-pinned : {r q c : ℕ} → step.act ≡ Take r q c → ((q == s.pool) ≡ true) × (nat_lt 0 (pins_at (connection_at s c)) ≡ true)
   take-pinned {r} {q} {c} is = pinned-here q c (not-false (is_pinned_here s q c) (take-rows is).1)
 
   pub take-free : {r q c : ℕ} → step.act ≡ Take r q c → is_held_at (connection_at s c) ≡ false
+  unfolding queries
   take-free is = (take-rows is).2
 
 is-here : (q p : ℕ) → (q == p) ≡ true → q ≡ p

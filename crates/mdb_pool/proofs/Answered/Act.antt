@@ -8,6 +8,7 @@ use Rattle.mdb_log.specs.declared.step.Act.{Act}
 use Rattle.mdb_log.specs.declared.reply.Refused.{Refused}
 use Rattle.mdb_log.specs.declared.reply.Reply.{Reply}
 use Rattle.mdb_log.specs.declared.reply.Reply.TheVariants.{Pooled, Establishing, Waiting, Ended, Job, NoJob, Changed, Count, Done, Refused as RefusedBy}
+use Rattle.mdb_pool.specs.Now.{queries}
 use Rattle.mdb_pool.specs.declared.kept.connection.Connection.{Connection}
 use Rattle.mdb_pool.specs.declared.kept.connection.Place.{Place}
 use Rattle.mdb_pool.specs.declared.kept.request.Phase.{Phase}
@@ -69,14 +70,15 @@ pub accepts : (s s1 t u : PoolCore) (before f1 after : List Fact) (m : ℕ) (act
     → Fits s1 (after_facts s.pool m acts ys)
     → ((zs : List PoolItem) → Fits s1 zs → Serves s1 t m f1 after zs)
     → ((zs : List PoolItem) → Fits t zs → Fits u zs)
-    → ((claimed : ℕ → Bool) → ((c : ℕ) → claimed c ≡ has c s.claimed) → (zs : List PoolItem) → Matches t zs → reply ≡ reply_of s.pool claimed xs zs act)
+    → ((claimed : ℕ → Bool) → ((c : ℕ) → claimed c ≡ has c s.kept.claimed) → (zs : List PoolItem) → Matches t zs → reply ≡ reply_of s.pool claimed xs zs act)
     → IsAccepted reply
-    → is_shut u.status ≡ shuts acts || is_shut s.status
-    → ((r : ℕ) → has r u.settled ≡ settles act reply r || has r s.settled)
-    → ((c : ℕ) → has c u.claimed ≡ is_job s.pool reply c || has c s.claimed)
+    → is_shut u.kept.status ≡ shuts acts || is_shut s.kept.status
+    → ((r : ℕ) → has r u.kept.settled ≡ settles act reply r || has r s.kept.settled)
+    → ((c : ℕ) → has c u.kept.claimed ≡ is_job s.pool reply c || has c s.kept.claimed)
     → AllFirstCome s.pool m ys acts
     → AllOwn s.pool m ys acts
     → Accepts s u before after m act reply xs ys
+unfolding queries
 accepts s s1 t u before f1 after m act reply acts xs ys facts_of f1_is home fits1 serves noted reply_is fine shut settled claimed acts_fair acts_own =
     let zs : List PoolItem = after_facts s.pool m acts ys in
     let v : Serves s1 t m f1 after zs = serves zs fits1 in
@@ -88,7 +90,7 @@ accepts s s1 t u before f1 after m act reply acts xs ys facts_of f1_is home fits
       facts_are = v.facts ∙ (ap (λ f. f ++ serving s1.pool s1.address s1.options m zs) f1_is ∙ (append_assoc before acts (serving s1.pool s1.address s1.options m zs) ∙ ap (λ f. before ++ f) (ap (λ f. acts ++ f) served ∙ sym all)));
       reply_is = λ claims own. reply_is claims own (after_facts s.pool m (all_facts s.pool s.address s.options m xs ys act) ys) (subst (λ f. Fits t (after_facts s.pool m f ys)) (sym all) fits).matches;
       accepted = fine;
-      shut = shut ∙ ap (λ b. b || is_shut s.status) (sym (ap shuts all ∙ with-serve s.pool s.address s.options m acts (size s.pool s.address s.options m zs) zs));
+      shut = shut ∙ ap (λ b. b || is_shut s.kept.status) (sym (ap shuts all ∙ with-serve s.pool s.address s.options m acts (size s.pool s.address s.options m zs) zs));
       settled = settled;
       claimed = claimed;
       fits = noted (after_facts s.pool m (all_facts s.pool s.address s.options m xs ys act) ys) (subst (λ f. Fits t (after_facts s.pool m f ys)) (sym all) fits);
@@ -103,9 +105,10 @@ pub own-answers : (s t : PoolCore) (before after : List Fact) (step : Step) (rep
     → with_act s.pool h step ≡ ys
     → ((r : ℕ) → has_party ys r ≡ names_party step.act r || has_party (of_pool s.pool h) r)
     → ((r : ℕ) → has_asked ys r ≡ was_asked step.act r || has_asked (of_pool s.pool h) r)
-    → SameHome s t → t.last ≡ step.moment
+    → SameHome s t → t.kept.last ≡ step.moment
     → Accepts s t before after step.moment step.act reply (of_pool s.pool h) ys
     → Answers s t before after step reply h
+unfolding queries
 own-answers s t before after step reply ys h z none same names asks home last_is v =
     let p : ℕ = s.pool in
     let m : ℕ = step.moment in
@@ -118,10 +121,10 @@ own-answers s t before after step reply ys h z none same names asks home last_is
     let stands : StandsFor t k = record {
       fits = subst (λ q. Fits t (of_pool q k)) (sym home.pool) (subst (Fits t) (sym known) v.fits);
       last_is = last-facts m facts (did step reply ∷ h) ∙ sym last_is;
-      open_here = λ a. open-facts p m facts ys (did step reply ∷ h) a v.own ∙ (open-home p (same_address s.address a) (is_shut s.status) (is_shut t.status) (shuts facts) (open_pool h a) (z.open_here a) v.shut ∙ rw (home.address, home.pool) refl);
+      open_here = λ a. open-facts p m facts ys (did step reply ∷ h) a v.own ∙ (open-home p (same_address s.address a) (is_shut s.kept.status) (is_shut t.kept.status) (shuts facts) (open_pool h a) (z.open_here a) v.shut ∙ rw (home.address, home.pool) refl);
       asked_once = λ r. acts-facts names_party m r facts (did step reply ∷ h) ∙ (ap (λ b. names_party step.act r || b) (z.asked_once r) ∙ (sym (names r) ∙ (sym (party-facts p m r facts ys) ∙ (ap (λ zs. has_party zs r) (sym known) ∙ ap (λ q. has_party (of_pool q k) r) (sym home.pool)))));
       requested = λ r. acts-facts was_asked m r facts (did step reply ∷ h) ∙ (ap (λ b. was_asked step.act r || b) (z.requested r) ∙ (sym (asks r) ∙ (sym (asked-facts p m r facts ys) ∙ (ap (λ zs. has_asked zs r) (sym known) ∙ ap (λ q. has_asked (of_pool q k) r) (sym home.pool)))));
-      opens = λ r. rw (told-facts m r facts (did step reply ∷ h), acts-facts leaves m r facts (did step reply ∷ h)) (opens-after (asks_how step.act r && is_outcome reply) (leaves step.act r) (some_act leaves h r) (told h r) (has r s.settled) (z.opens r) ∙ ap not (sym (v.settled r)));
+      opens = λ r. rw (told-facts m r facts (did step reply ∷ h), acts-facts leaves m r facts (did step reply ∷ h)) (opens-after (asks_how step.act r && is_outcome reply) (leaves step.act r) (some_act leaves h r) (told h r) (has r s.kept.settled) (z.opens r) ∙ ap not (sym (v.settled r)));
       claims = λ c. claimed-facts t.pool m c facts (did step reply ∷ h) ∙ (ap (λ q. is_claimed (did step reply ∷ h) q c) home.pool ∙ (claimed-reply p c step reply h ∙ (ap (λ b. is_job p reply c || b) (z.claims c) ∙ sym (v.claimed c))));
     } in
     record {
@@ -142,7 +145,7 @@ at_pending (Some x) = refl
 -- what the state says of parties and connections
 module _ (s : PoolCore) (xs : List PoolItem) (z : Fits s xs) where
   pub pending-is : (c : ℕ) → has c (pending_list xs) ≡ is_pending_at (connection_at s c)
-  pending-is c = rw z.matches.counts.pending (has-where (λ (x : Connection). x.id) (λ x. is_pending x.place) c s.connections (z.matches.counts.single c) ∙ at_pending (connection_at s c))
+  pending-is c = rw z.matches.counts.pending (has-where (λ (x : Connection). x.id) (λ x. is_pending x.place) c s.kept.connections (z.matches.counts.single c) ∙ at_pending (connection_at s c))
 
   -- whoever is given a connection holds it, or it is pending
   pub holding-is : (r : ℕ) → holding xs r ≡ id_or (held_connection s r) None
@@ -151,7 +154,7 @@ module _ (s : PoolCore) (xs : List PoolItem) (z : Fits s xs) where
       at_place : (c : ℕ) (x : Connection) (p : Place) → connection_at s c ≡ Some x → x.place ≡ p → holder_at (connection_at s c) ≡ Some r → (if has c (pending_list xs) then None else Some c) ≡ id_or (if is_held x.place then Some x else None) None
       at_place c x Pending e f t = let k : has c (pending_list xs) ≡ true = pending-is c ∙ (ap is_pending_at e ∙ ap is_pending f) in rw (k, f) refl
       at_place c x Available e f t = let k : holder_at (Some x) ≡ None = z.matches.links.free c x e (ap is_available f) in let v : holder_at (Some x) ≡ Some r = ap holder_at (sym e) ∙ t in cc
-      at_place c x Held e f t = let k : has c (pending_list xs) ≡ false = pending-is c ∙ (ap is_pending_at e ∙ ap is_pending f) in let v : x.id ≡ c = entry_at-key (λ (y : Connection). y.id) c x s.connections e in rw (k, f) (ap Some (sym v))
+      at_place c x Held e f t = let k : has c (pending_list xs) ≡ false = pending-is c ∙ (ap is_pending_at e ∙ ap is_pending f) in let v : x.id ≡ c = entry_at-key (λ (y : Connection). y.id) c x s.kept.connections e in rw (k, f) (ap Some (sym v))
       at_place c x Pinned e f t = let k : holder_at (Some x) ≡ None = z.matches.pinning.rests c x e (ap is_at_pin f) in let v : holder_at (Some x) ≡ Some r = ap holder_at (sym e) ∙ t in cc
 
       at_connection : (c : ℕ) (o : Option Connection) → connection_at s c ≡ o → holder_at (connection_at s c) ≡ Some r → (if has c (pending_list xs) then None else Some c) ≡ id_or (if_held o) None
@@ -173,7 +176,7 @@ pub outcome-is : (s : PoolCore) (zs : List PoolItem) (m : Matches s zs) (r : ℕ
 outcome-is s zs m r = on (end_at (request_at s r)) (given_of (request_at s r)) refl refl
   where
     pending-in : (c : ℕ) → has c (pending_list zs) ≡ is_pending_at (connection_at s c)
-    pending-in c = rw m.counts.pending (has-where (λ (x : Connection). x.id) (λ x. is_pending x.place) c s.connections (m.counts.single c) ∙ at_pending (connection_at s c))
+    pending-in c = rw m.counts.pending (has-where (λ (x : Connection). x.id) (λ x. is_pending x.place) c s.kept.connections (m.counts.single c) ∙ at_pending (connection_at s c))
 
     on : (o : Option End) (k : Option ℕ) → end_at (request_at s r) ≡ o → given_of (request_at s r) ≡ k → outcome_of s.pool zs r ≡ outcome_now s r
     on (Some end) k e f = rw (m.requests.ends r, e) refl

@@ -42,12 +42,12 @@ job-is s = on (first_unclaimed s) refl
     on None e = rw e refl
     on (Some x) e = rw e refl
 
-claiming-has : (s : PoolCore) (c : ℕ) → has c (claiming s).claimed ≡ is_job s.pool (job_now s) c || has c s.claimed
+claiming-has : (s : PoolCore) (c : ℕ) → has c (claiming s).kept.claimed ≡ is_job s.pool (job_now s) c || has c s.kept.claimed
 claiming-has s c = on (first_unclaimed s) refl
   where
-    on : (o : Option Connection) → first_unclaimed s ≡ o → has c (claiming s).claimed ≡ is_job s.pool (job_now s) c || has c s.claimed
+    on : (o : Option Connection) → first_unclaimed s ≡ o → has c (claiming s).kept.claimed ≡ is_job s.pool (job_now s) c || has c s.kept.claimed
     on None e = rw e refl
-    on (Some x) e = rw (e, same-number s.pool) (has-marked c x.id s.claimed ∙ or_comm (has c s.claimed) (x.id == c))
+    on (Some x) e = rw (e, same-number s.pool) (has-marked c x.id s.kept.claimed ∙ or_comm (has c s.kept.claimed) (x.id == c))
 
 job-accepted : (s : PoolCore) → IsAccepted (job_now s)
 job-accepted s = on (first_unclaimed s) refl
@@ -60,20 +60,20 @@ job-no-outcome : (s : PoolCore) (r : ℕ) → settles Claim (job_now s) r ≡ fa
 job-no-outcome s r = refl
 
 pub claim-accepts : (s s0 s1 t : PoolCore) (before after : List Fact) (n : ℕ) (reply : Reply) (xs : List PoolItem) → Fits s xs
-    → s0 ≡ claiming s → s1 ≡ record s0 { last = n } → SameHome s1 t → SameNotes s1 t
+    → s0 ≡ claiming s → s1 ≡ record s0 { kept = record s0.kept { last = n } } → SameHome s1 t → SameNotes s1 t
     → ((k : List PoolItem) → Fits s1 k → Serves s1 t n before after k) → reply ≡ job_now s
     → Accepts s t before after n Claim reply xs xs
 claim-accepts s s0 s1 t before after n reply xs z s0_is s1_is home notes serves reply_is =
-    let whole : s1 ≡ record (claiming s) { last = n } = s1_is ∙ ap {A = PoolCore} (λ k. record k { last = n }) s0_is in
+    let whole : s1 ≡ record (claiming s) { kept = record (claiming s).kept { last = n } } = s1_is ∙ ap {A = PoolCore} (λ k. record k { kept = record k.kept { last = n } }) s0_is in
     let at_home : SameHome s s1 = rw whole (record { pool = refl; address = refl; options = refl; alone = refl }) in
     accepts s s1 t t before before after n Claim reply [] xs xs
     refl
-    (sym (append-nil before)) at_home (rw whole (noted-fits s s.settled (claiming s).claimed n xs z)) serves
+    (sym (append-nil before)) at_home (rw whole (noted-fits s s.kept.settled (claiming s).kept.claimed n xs z)) serves
     (λ zs v. v)
-    (λ claims own zs m. reply_is ∙ (job-is s ∙ sym (ap (first_job s.pool claims) z.matches.counts.pending ∙ first-job s.pool claims s.claimed own s.connections)))
+    (λ claims own zs m. reply_is ∙ (job-is s ∙ sym (ap (first_job s.pool claims) z.matches.counts.pending ∙ first-job s.pool claims s.kept.claimed own s.kept.connections)))
     (rw reply_is (job-accepted s))
-    (ap is_shut (notes.status ∙ ap (λ k. k.status) whole))
-    (λ r. ap (has r) (notes.settled ∙ ap (λ k. k.settled) whole))
-    (λ c. ap (has c) (notes.claimed ∙ ap (λ k. k.claimed) whole) ∙ rw reply_is (claiming-has s c))
+    (ap is_shut (notes.status ∙ ap (λ k. k.kept.status) whole))
+    (λ r. ap (has r) (notes.settled ∙ ap (λ k. k.kept.settled) whole))
+    (λ c. ap (has c) (notes.claimed ∙ ap (λ k. k.kept.claimed) whole) ∙ rw reply_is (claiming-has s c))
     tt
     tt

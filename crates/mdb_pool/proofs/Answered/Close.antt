@@ -17,7 +17,7 @@ use Rattle.mdb_log.specs.Connections.{has, pending_list, available_list, known_s
 use Rattle.mdb_log.specs.Requests.{requests, is_unserved, queued, end_of}
 use Rattle.mdb_log.specs.State.{state_of}
 use Rattle.mdb_pool_rules.specs.Facts.{all_ends, close_facts, closed_fact, pool_closed_fact}
-use Rattle.mdb_pool.specs.Kept.Values.{connection_at, request_at, given_in, given_of, end_in, end_at, state_in, is_shut, unserved_in, holder_at, is_asked_at, numbers_asked}
+use Rattle.mdb_pool.specs.Kept.Values.{connection_at, request_at, given_in, given_of, end_in, end_at, state_in, is_shut, unserved_in, holder_at, is_asked_at, numbers_asked, with_requests}
 use Rattle.mdb_pool.specs.Kept.Places.{is_pending, is_available, is_queued}
 use Rattle.std.specs.List.{filter_map}
 use Rattle.mdb_pool.proofs.Turns.EndUnserved.{found-unserved, all-ended}
@@ -73,11 +73,11 @@ module _ {T : Type 0} where
   in-both P (z ∷ xs) ys f g x (there i) = in-both P xs ys (λ y j. f y (there j)) g x i
 
 module _ (s : PoolCore) (xs : List PoolItem) (z : Fits s xs) (n : ℕ) where
-  conn-at : (x : Connection) → In x s.connections → connection_at s x.id ≡ Some x
-  conn-at x i = member-at id_of x s.connections i (rw (z.matches.counts.single x.id) (one_if-le (is_some (connection_at s x.id))))
+  conn-at : (x : Connection) → In x s.kept.connections → connection_at s x.id ≡ Some x
+  conn-at x i = member-at id_of x s.kept.connections i (rw (z.matches.counts.single x.id) (one_if-le (is_some (connection_at s x.id))))
 
-  req-at : (q : Request) → In q s.requests → request_at s q.number ≡ Some q
-  req-at q i = member-at number_of q s.requests i (rw (z.matches.requests.single_request q.number) (one_if-le (is_some (request_at s q.number))))
+  req-at : (q : Request) → In q s.kept.requests → request_at s q.number ≡ Some q
+  req-at q i = member-at number_of q s.kept.requests i (rw (z.matches.requests.single_request q.number) (one_if-le (is_some (request_at s q.number))))
 
   -- the closes
   closes-are : (cs : List Connection) → ((x : Connection) → In x cs → connection_at s x.id ≡ Some x) → map (λ c. closed_fact s.pool s.address c PoolClosedReason (known_service xs c)) (map id_of cs) ≡ shut_facts s cs
@@ -89,14 +89,14 @@ module _ (s : PoolCore) (xs : List PoolItem) (z : Fits s xs) (n : ℕ) where
   ids-append (x ∷ cs) ds = ap (λ ks. x.id ∷ ks) (ids-append cs ds)
 
   shut-all : map (λ c. closed_fact s.pool s.address c PoolClosedReason (known_service xs c)) (available_list xs ++ pending_list xs) ≡ shut_facts s (available_ones s ++ pending_ones s)
-  shut-all = rw (z.matches.counts.available, z.matches.counts.pending, ids-append (available_ones s) (pending_ones s)) (closes-are (available_ones s ++ pending_ones s) (in-both (λ x. connection_at s x.id ≡ Some x) (available_ones s) (pending_ones s) (λ x i. conn-at x (in-filter (λ y. is_available y.place) x s.connections i)) (λ x i. conn-at x (in-filter (λ y. is_pending y.place) x s.connections i))))
+  shut-all = rw (z.matches.counts.available, z.matches.counts.pending, ids-append (available_ones s) (pending_ones s)) (closes-are (available_ones s ++ pending_ones s) (in-both (λ x. connection_at s x.id ≡ Some x) (available_ones s) (pending_ones s) (λ x i. conn-at x (in-filter (λ y. is_available y.place) x s.kept.connections i)) (λ x i. conn-at x (in-filter (λ y. is_pending y.place) x s.kept.connections i))))
 
   -- the ends
   unserved-is : (q : Request) → request_at s q.number ≡ Some q → is_unserved xs q.number ≡ unserved_in s q.phase
   unserved-is q e = on q.phase refl
     where
       there_queued : has q.number (queued xs) ≡ is_queued q.phase
-      there_queued = ap (has q.number) z.matches.requests.queue ∙ (has-where number_of (λ r. is_queued r.phase) q.number s.requests (z.matches.requests.single_request q.number) ∙ ap (passes number_of (λ r. is_queued r.phase)) e)
+      there_queued = ap (has q.number) z.matches.requests.queue ∙ (has-where number_of (λ r. is_queued r.phase) q.number s.kept.requests (z.matches.requests.single_request q.number) ∙ ap (passes number_of (λ r. is_queued r.phase)) e)
 
       end_is : end_of xs q.number ≡ end_in q.phase
       end_is = z.matches.requests.ends q.number ∙ ap end_at e
@@ -148,13 +148,13 @@ module _ (s : PoolCore) (xs : List PoolItem) (z : Fits s xs) (n : ℕ) where
       ap (λ fs. fs ++ all_ends s.pool s.address n xs ClosedEnd (map number_of qs)) (over-is s xs z.matches n q ClosedEnd (at q here)) ∙ ap (λ fs. over_facts s q.number q.warm (n - q.asked_at) ClosedEnd ++ fs) (ends-are qs (λ r i. at r (there i)))
 
   unserved-at : (q : Request) → In q (unserved_ones s) → request_at s q.number ≡ Some q
-  unserved-at q i = req-at q (in-filter (λ r. unserved_in s r.phase) q s.requests i)
+  unserved-at q i = req-at q (in-filter (λ r. unserved_in s r.phase) q s.kept.requests i)
 
   over-all : all_ends s.pool s.address n xs ClosedEnd (filter (is_unserved xs) (requests xs)) ≡ off_facts s n (unserved_ones s)
-  over-all = rw (z.order, numbers-of s.requests (λ q i. req-at q i)) (ends-are (unserved_ones s) (λ q i. unserved-at q i))
+  over-all = rw (z.order, numbers-of s.kept.requests (λ q i. req-at q i)) (ends-are (unserved_ones s) (λ q i. unserved-at q i))
 
-  pub close-are : is_shut s.status ≡ false → close_facts s.pool s.address s.options n xs ≡ closing_facts s n
-  close-are unshut = on s.status z.matches.clearing.status unshut
+  pub close-are : is_shut s.kept.status ≡ false → close_facts s.pool s.address s.options n xs ≡ closing_facts s n
+  close-are unshut = on s.kept.status z.matches.clearing.status unshut
     where
       on : (u : Status) → state_of s.options xs ≡ state_in u → is_shut u ≡ false → close_facts s.pool s.address s.options n xs ≡ closing_facts s n
       on New e f = rw (e, shut-all, over-all) refl
@@ -162,8 +162,8 @@ module _ (s : PoolCore) (xs : List PoolItem) (z : Fits s xs) (n : ℕ) where
       on (Paused error) e f = rw (e, shut-all, over-all) refl
       on Closed e f = cc
 
-  pub close-nothing : is_shut s.status ≡ true → close_facts s.pool s.address s.options n xs ≡ []
-  close-nothing shut = rw (z.matches.clearing.status, shut-status s.status shut) refl
+  pub close-nothing : is_shut s.kept.status ≡ true → close_facts s.pool s.address s.options n xs ≡ []
+  close-nothing shut = rw (z.matches.clearing.status, shut-status s.kept.status shut) refl
 
   -- what the facts say
   shut-known : (cs : List Connection) (ys : List PoolItem) → after_facts s.pool n (shut_facts s cs) ys ≡ closings (map id_of cs) ys
@@ -179,7 +179,7 @@ module _ (s : PoolCore) (xs : List PoolItem) (z : Fits s xs) (n : ℕ) where
       ∙ (ap (after_facts s.pool n (off_facts s n qs)) (over-known s s.pool n q.number (n - q.asked_at) ClosedEnd q.warm ys (asked q here)) ∙ off-known qs (ended q.number ClosedEnd ∷ ys) (λ r i. asked r (there i)))
 
   asked-then : (q : Request) → In q (unserved_ones s) → has_asked (after_facts s.pool n (shut_facts s (available_ones s ++ pending_ones s)) xs) q.number ≡ true
-  asked-then q i = asked-facts s.pool n q.number (shut_facts s (available_ones s ++ pending_ones s)) xs ∙ (asked-known s xs z q.number ∙ unserved-asked q (unserved-at q i) (in-passes (λ r. unserved_in s r.phase) q s.requests i))
+  asked-then q i = asked-facts s.pool n q.number (shut_facts s (available_ones s ++ pending_ones s)) xs ∙ (asked-known s xs z q.number ∙ unserved-asked q (unserved-at q i) (in-passes (λ r. unserved_in s r.phase) q s.kept.requests i))
 
   pub close-known : after_facts s.pool n (closing_facts s n) xs ≡ shut_items s xs z.matches n
   close-known =
@@ -243,7 +243,7 @@ shut-split s [] ds = refl
 shut-split s (x ∷ cs) ds = ap (λ fs. closed_fact s.pool s.address x.id PoolClosedReason x.service ∷ fs) (shut-split s cs ds)
 
 -- an accepted close of a pool that is open
-pub close-accepts : (s s1 t : PoolCore) (before f1 after : List Fact) (n q : ℕ) (xs : List PoolItem) → Fits s xs → is_shut s.status ≡ false → s1 ≡ closing s n
+pub close-accepts : (s s1 t : PoolCore) (before f1 after : List Fact) (n q : ℕ) (xs : List PoolItem) → Fits s xs → is_shut s.kept.status ≡ false → s1 ≡ closing s n
     → f1 ≡ (((before ++ shut_facts s (available_ones s)) ++ shut_facts s (pending_ones s)) ++ off_facts s n (unserved_ones s)) ++ pool_closed_fact s.pool s.address ∷ []
     → SameHome s1 t → SameNotes s1 t → ((k : List PoolItem) → Fits s1 k → Serves s1 t n f1 after k)
     → Accepts s t before after n (CloseAct q) Done xs xs
@@ -258,14 +258,14 @@ close-accepts s s1 t before f1 after n q xs z unshut s1_is f1_is home notes serv
     (λ zs w. w)
     (λ claims own zs m. refl)
     tt
-    (ap is_shut (notes.status ∙ ap (λ k. k.status) s1_is) ∙ ap (λ b. b || is_shut s.status) (sym (close-shuts s xs z n)))
-    (λ r. ap (has r) (notes.settled ∙ ap (λ k. k.settled) s1_is))
-    (λ c. ap (has c) (notes.claimed ∙ ap (λ k. k.claimed) s1_is))
+    (ap is_shut (notes.status ∙ ap (λ k. k.kept.status) s1_is) ∙ ap (λ b. b || is_shut s.kept.status) (sym (close-shuts s xs z n)))
+    (λ r. ap (has r) (notes.settled ∙ ap (λ k. k.kept.settled) s1_is))
+    (λ c. ap (has c) (notes.claimed ∙ ap (λ k. k.kept.claimed) s1_is))
     (close-fair s xs z n)
     (close-all-own s xs z n)
 
 -- a close of a closed pool, which says nothing
-pub closed-accepts : (s s1 t : PoolCore) (before after : List Fact) (n q : ℕ) (xs : List PoolItem) → Fits s xs → is_shut s.status ≡ true → s1 ≡ record s { last = n } → SameHome s1 t → SameNotes s1 t
+pub closed-accepts : (s s1 t : PoolCore) (before after : List Fact) (n q : ℕ) (xs : List PoolItem) → Fits s xs → is_shut s.kept.status ≡ true → s1 ≡ record s { kept = record s.kept { last = n } } → SameHome s1 t → SameNotes s1 t
     → ((k : List PoolItem) → Fits s1 k → Serves s1 t n before after k)
     → Accepts s t before after n (CloseAct q) Done xs xs
 closed-accepts s s1 t before after n q xs z shut s1_is home notes serves =
@@ -275,9 +275,9 @@ closed-accepts s s1 t before after n q xs z shut s1_is home notes serves =
     (λ zs w. w)
     (λ claims own zs m. refl)
     tt
-    (ap is_shut (notes.status ∙ ap (λ k. k.status) s1_is))
-    (λ r. ap (has r) (notes.settled ∙ ap (λ k. k.settled) s1_is))
-    (λ c. ap (has c) (notes.claimed ∙ ap (λ k. k.claimed) s1_is))
+    (ap is_shut (notes.status ∙ ap (λ k. k.kept.status) s1_is))
+    (λ r. ap (has r) (notes.settled ∙ ap (λ k. k.kept.settled) s1_is))
+    (λ c. ap (has c) (notes.claimed ∙ ap (λ k. k.kept.claimed) s1_is))
     tt
     tt
 
@@ -285,5 +285,5 @@ closed-accepts s s1 t before after n q xs z shut s1_is home notes serves =
 pub all-told : (s : PoolCore) (xs : List PoolItem) → Fits s xs → (ks : List ℕ) → ks ≡ map number_of (unserved_ones s) → filter (λ q. unserved_in s q.phase) (filter_map (request_at s) ks) ≡ unserved_ones s
 all-told s xs z ks e = ap (λ js. filter (λ q. unserved_in s q.phase) (filter_map (request_at s) js)) e ∙ found-unserved s (λ q i. req-at s xs z 0 q i)
 
-pub all-end : (s : PoolCore) (m : ℕ) (ks : List ℕ) → ks ≡ map number_of (unserved_ones s) → record (closing s m) { requests = ended_all s ks } ≡ closing s m
-all-end s m ks e = ap (λ qs. record (closing s m) { requests = qs }) (ap (ended_all s) e ∙ all-ended s)
+pub all-end : (s : PoolCore) (m : ℕ) (ks : List ℕ) → ks ≡ map number_of (unserved_ones s) → with_requests (closing s m) (ended_all s ks) ≡ closing s m
+all-end s m ks e = ap (with_requests (closing s m)) (ap (ended_all s) e ∙ all-ended s)

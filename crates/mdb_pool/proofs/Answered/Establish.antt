@@ -98,9 +98,9 @@ module _ (s : PoolCore) (xs : List PoolItem) (z : Fits s xs) (n : ℕ) (x : Conn
       (λ zs v. v)
       (λ claims own zs m. refl)
       tt
-      (ap is_shut (notes.status ∙ ap (λ k. k.status) s1_is))
-      (λ r. ap (has r) (notes.settled ∙ ap (λ k. k.settled) s1_is))
-      (λ c. ap (has c) (notes.claimed ∙ ap (λ k. k.claimed) s1_is))
+      (ap is_shut (notes.status ∙ ap (λ k. k.kept.status) s1_is))
+      (λ r. ap (has r) (notes.settled ∙ ap (λ k. k.kept.settled) s1_is))
+      (λ c. ap (has c) (notes.claimed ∙ ap (λ k. k.kept.claimed) s1_is))
       (tt, (tt, tt))
       (refl, (refl, tt))
 
@@ -114,9 +114,9 @@ module _ (s : PoolCore) (xs : List PoolItem) (z : Fits s xs) (n : ℕ) (x : Conn
       (λ zs v. v)
       (λ claims own zs m. refl)
       tt
-      (ap is_shut (notes.status ∙ ap (λ k. k.status) s1_is))
-      (λ r. ap (has r) (notes.settled ∙ ap (λ k. k.settled) s1_is))
-      (λ c. ap (has c) (notes.claimed ∙ ap (λ k. k.claimed) s1_is))
+      (ap is_shut (notes.status ∙ ap (λ k. k.kept.status) s1_is))
+      (λ r. ap (has r) (notes.settled ∙ ap (λ k. k.kept.settled) s1_is))
+      (λ c. ap (has c) (notes.claimed ∙ ap (λ k. k.kept.claimed) s1_is))
       (tt, tt)
       (refl, tt)
 
@@ -148,9 +148,9 @@ module _ (s : PoolCore) (xs : List PoolItem) (z : Fits s xs) (n : ℕ) (x : Conn
       (λ zs v. v)
       (λ claims own zs m. refl)
       tt
-      (ap is_shut (notes.status ∙ (ap (λ k. k.status) s1_is ∙ (pool-notes-for why).status)) ∙ ap (λ b. b || is_shut s.status) (sym (back-open s up_x why)))
-      (λ r. ap (has r) (notes.settled ∙ (ap (λ k. k.settled) s1_is ∙ (pool-notes-for why).settled)))
-      (λ c. ap (has c) (notes.claimed ∙ (ap (λ k. k.claimed) s1_is ∙ (pool-notes-for why).claimed)))
+      (ap is_shut (notes.status ∙ (ap (λ k. k.kept.status) s1_is ∙ (pool-notes-for why).status)) ∙ ap (λ b. b || is_shut s.kept.status) (sym (back-open s up_x why)))
+      (λ r. ap (has r) (notes.settled ∙ (ap (λ k. k.kept.settled) s1_is ∙ (pool-notes-for why).settled)))
+      (λ c. ap (has c) (notes.claimed ∙ (ap (λ k. k.kept.claimed) s1_is ∙ (pool-notes-for why).claimed)))
       (tt, back-fair s n up_x why ys)
       (refl, back-own s n up_x why ys)
 
@@ -168,27 +168,27 @@ module _ (s : PoolCore) (xs : List PoolItem) (z : Fits s xs) (n : ℕ) (x : Conn
       asked = asked-known s xs z q.number ∙ z.matches.links.known x.id x q.number at_x (z.matches.links.waits x.id x q.number at_x (ap is_pending place) (sym (ap holder_at at_x) ∙ z.matches.links.taken q.number x.id (ap given_of at_q ∙ ap given_in phase)))
 
       at_u : connection_at (apart q) x.id ≡ Some apart_x
-      at_u = entry_at-swap (λ (y : Connection). y.id) x.id apart_x s.connections (ap is_some at_x) ∙ rw (same-number x.id) refl
+      at_u = entry_at-swap (λ (y : Connection). y.id) x.id apart_x s.kept.connections (ap is_some at_x) ∙ rw (same-number x.id) refl
 
       zu : Fits (apart q) (ended q.number Filled ∷ xs)
       zu = part-fits s xs z n x q Filled at_x at_q phase place
 
-      same_others : others (λ y. y.id) x.id (apart q).connections ≡ others (λ y. y.id) x.id s.connections
-      same_others = others-swap (λ (y : Connection). y.id) apart_x s.connections
+      same_others : others (λ y. y.id) x.id (apart q).kept.connections ≡ others (λ y. y.id) x.id s.kept.connections
+      same_others = others-swap (λ (y : Connection). y.id) apart_x s.kept.connections
 
       kept : Fits (ending (pooling s n x how) q Filled) (checked_in x.id n ∷ established x.id how n ∷ ended q.number Filled ∷ xs)
-      kept = subst (λ cs. Fits (record s { last = n; connections = cs ++ record x { place = Available; holder = None; service = how.service_id; wire = Some how.wire; since = n } ∷ []; requests = (apart q).requests }) (checked_in x.id n ∷ established x.id how n ∷ ended q.number Filled ∷ xs)) same_others (pool-fits (apart q) (ended q.number Filled ∷ xs) zu n apart_x how at_u place refl)
+      kept = subst (λ cs. Fits (record s { kept = record s.kept { last = n; connections = cs ++ record x { place = Available; holder = None; service = how.service_id; wire = Some how.wire; since = n } ∷ []; requests = (apart q).kept.requests } }) (checked_in x.id n ∷ established x.id how n ∷ ended q.number Filled ∷ xs)) same_others (pool-fits (apart q) (ended q.number Filled ∷ xs) zu n apart_x how at_u place refl)
 
       gone : Fits (ending (forgetting s n x) q Filled) (closed x.id ∷ checked_in x.id n ∷ established x.id how n ∷ ended q.number Filled ∷ xs)
-      gone = subst (λ cs. Fits (record s { last = n; connections = cs; requests = (apart q).requests }) (closed x.id ∷ checked_in x.id n ∷ established x.id how n ∷ ended q.number Filled ∷ xs)) same_others (pool-drop-fits (apart q) (ended q.number Filled ∷ xs) zu n apart_x how at_u place refl)
+      gone = subst (λ cs. Fits (record s { kept = record s.kept { last = n; connections = cs; requests = (apart q).kept.requests } }) (closed x.id ∷ checked_in x.id n ∷ established x.id how n ∷ ended q.number Filled ∷ xs)) same_others (pool-drop-fits (apart q) (ended q.number Filled ∷ xs) zu n apart_x how at_u place refl)
 
-      shut : (b : Bool) (w : ConnectionClosedReason) → is_shut s.status ≡ b → Fits (ending (forgetting s n x) q Filled) (after_facts s.pool n ((ready_fact s.pool s.address x.id (n - x.created_at) ∷ back_facts s up_x (Some w)) ++ Ended q.number Filled ∷ []) ys)
+      shut : (b : Bool) (w : ConnectionClosedReason) → is_shut s.kept.status ≡ b → Fits (ending (forgetting s n x) q Filled) (after_facts s.pool n ((ready_fact s.pool s.address x.id (n - x.created_at) ∷ back_facts s up_x (Some w)) ++ Ended q.number Filled ∷ []) ys)
       shut true w e = rw (e, same-number s.pool, asked) (late-end-fits_skipped (ending (forgetting s n x) q Filled) xs x.id n q.number how Filled (skip-fits (ending (forgetting s n x) q Filled) (established x.id how n ∷ ended q.number Filled ∷ xs) x.id n gone))
       shut false w e = rw (e, same-number s.pool, asked) (late-end-fits_closed (ending (forgetting s n x) q Filled) xs x.id n q.number how Filled gone)
 
       on : (o : Option ConnectionClosedReason) → Fits (filling_for s n x how q o) (after_facts s.pool n ((ready_fact s.pool s.address x.id (n - x.created_at) ∷ back_facts s up_x o) ++ Ended q.number Filled ∷ []) ys)
       on None = rw (same-number s.pool, asked) (late-end-fits (ending (pooling s n x how) q Filled) xs x.id n q.number how Filled kept)
-      on (Some w) = shut (is_shut s.status) w refl
+      on (Some w) = shut (is_shut s.kept.status) w refl
 
   pub fill-accepts : (s1 t : PoolCore) (before f1 after : List Fact) (q : Request) → connection_at s x.id ≡ Some x → x.place ≡ Pending → x.holder ≡ Some q.number → request_at s q.number ≡ Some q → q.warm ≡ true → s1 ≡ filling_for s n x how q why → f1 ≡ before ++ said ++ Ended q.number Filled ∷ [] → SameHome s1 t → SameNotes s1 t
       → ((k : List PoolItem) → Fits s1 k → Serves s1 t n f1 after k)
@@ -203,9 +203,9 @@ module _ (s : PoolCore) (xs : List PoolItem) (z : Fits s xs) (n : ℕ) (x : Conn
       (λ zs v. v)
       (λ claims own zs m. refl)
       tt
-      (ap is_shut (notes.status ∙ (ap (λ k. k.status) s1_is ∙ (pool-notes-for why).status)) ∙ ap (λ b. b || is_shut s.status) (sym open_then))
-      (λ r. ap (has r) (notes.settled ∙ (ap (λ k. k.settled) s1_is ∙ (pool-notes-for why).settled)))
-      (λ c. ap (has c) (notes.claimed ∙ (ap (λ k. k.claimed) s1_is ∙ (pool-notes-for why).claimed)))
+      (ap is_shut (notes.status ∙ (ap (λ k. k.kept.status) s1_is ∙ (pool-notes-for why).status)) ∙ ap (λ b. b || is_shut s.kept.status) (sym open_then))
+      (λ r. ap (has r) (notes.settled ∙ (ap (λ k. k.kept.settled) s1_is ∙ (pool-notes-for why).settled)))
+      (λ c. ap (has c) (notes.claimed ∙ (ap (λ k. k.kept.claimed) s1_is ∙ (pool-notes-for why).claimed)))
       (fair-append s.pool s.address s.options n said (Ended q.number Filled ∷ []) ys (tt, back-fair s n up_x why ys) (tt, tt))
       (own-append s.pool s.address s.options n said (Ended q.number Filled ∷ []) ys (refl, back-own s n up_x why ys) (asked-facts s.pool n q.number said ys ∙ asked, tt))
     where
@@ -220,7 +220,7 @@ pub established-of : (s s1 t : PoolCore) (before f1 after : List Fact) (n c : �
     → f1 ≡ before ++ ready_fact s.pool s.address x.id (n - x.created_at) ∷ checked_out_fact s.pool s.address x.id (n - q.asked_at) ∷ [] → SameHome s1 t → SameNotes s1 t → ((k : List PoolItem) → Fits s1 k → Serves s1 t n f1 after k)
     → Accepts s t before after n (EstablishedAct s.pool c how) Done xs (established c how n ∷ xs)
 established-of s s1 t before f1 after n c x q how xs z at_c place asker cold s1_is f1_is home notes serves =
-    let e : x.id ≡ c = entry_at-key (λ (y : Connection). y.id) c x s.connections at_c in
+    let e : x.id ≡ c = entry_at-key (λ (y : Connection). y.id) c x s.kept.connections at_c in
     let v : (x.holder ≡ Some q.number) × (request_at s q.number ≡ Some q) = holder-some s x q asker in
     subst (λ d. Accepts s t before after n (EstablishedAct s.pool d how) Done xs (established d how n ∷ xs)) e (established-accepts s xs z n x how s1 t before f1 after q (subst (λ d. connection_at s d ≡ Some x) (sym e) at_c) place v.0 v.1 cold s1_is f1_is home notes serves)
 
@@ -228,7 +228,7 @@ pub fill-of : (s s1 t : PoolCore) (before f1 after : List Fact) (n c : ℕ) (x :
     → f1 ≡ before ++ (ready_fact s.pool s.address x.id (n - x.created_at) ∷ back_facts s (record x { service = how.service_id; wire = Some how.wire }) o) ++ Ended q.number Filled ∷ [] → SameHome s1 t → SameNotes s1 t → ((k : List PoolItem) → Fits s1 k → Serves s1 t n f1 after k)
     → Accepts s t before after n (EstablishedAct s.pool c how) Done xs (established c how n ∷ xs)
 fill-of s s1 t before f1 after n c x q how o xs z at_c place asker hot reason s1_is f1_is home notes serves =
-    let e : x.id ≡ c = entry_at-key (λ (y : Connection). y.id) c x s.connections at_c in
+    let e : x.id ≡ c = entry_at-key (λ (y : Connection). y.id) c x s.kept.connections at_c in
     let v : (x.holder ≡ Some q.number) × (request_at s q.number ≡ Some q) = holder-some s x q asker in
     subst (λ d. Accepts s t before after n (EstablishedAct s.pool d how) Done xs (established d how n ∷ xs)) e (fill-accepts s xs z n x how s1 t before f1 after q (subst (λ d. connection_at s d ≡ Some x) (sym e) at_c) place v.0 v.1 hot (s1_is ∙ ap (filling_for s n x how q) reason) (f1_is ∙ ap (λ k. before ++ (ready_fact s.pool s.address x.id (n - x.created_at) ∷ back_facts s (record x { service = how.service_id; wire = Some how.wire }) k) ++ Ended q.number Filled ∷ []) reason) home notes serves)
 
@@ -238,7 +238,7 @@ pub pooled-of : (s s1 t : PoolCore) (before f1 after : List Fact) (n c : ℕ) (x
 pooled-of s s1 t before f1 after n c x how o xs z at_c place none some_party reason s1_is f1_is home notes serves = on x.party refl
   where
     e : x.id ≡ c
-    e = entry_at-key (λ (y : Connection). y.id) c x s.connections at_c
+    e = entry_at-key (λ (y : Connection). y.id) c x s.kept.connections at_c
 
     at_x : connection_at s x.id ≡ Some x
     at_x = subst (λ d. connection_at s d ≡ Some x) (sym e) at_c
@@ -251,7 +251,7 @@ pub rest-of : (s s1 t : PoolCore) (before f1 after : List Fact) (n c : ℕ) (x :
     → f1 ≡ before ++ ready_fact s.pool s.address x.id (n - x.created_at) ∷ [] → SameHome s1 t → SameNotes s1 t → ((k : List PoolItem) → Fits s1 k → Serves s1 t n f1 after k)
     → Accepts s t before after n (EstablishedAct s.pool c how) Done xs (established c how n ∷ xs)
 rest-of s s1 t before f1 after n c x how xs z at_c place none no_party s1_is f1_is home notes serves =
-    let e : x.id ≡ c = entry_at-key (λ (y : Connection). y.id) c x s.connections at_c in
+    let e : x.id ≡ c = entry_at-key (λ (y : Connection). y.id) c x s.kept.connections at_c in
     let at_x : connection_at s x.id ≡ Some x = subst (λ d. connection_at s d ≡ Some x) (sym e) at_c in
     subst (λ d. Accepts s t before after n (EstablishedAct s.pool d how) Done xs (established d how n ∷ xs)) e (rest-accepts s xs z n x how s1 t before f1 after at_x place (holder-none s xs z x at_x none) (no-number x.party no_party) s1_is f1_is home notes serves)
   where

@@ -16,7 +16,7 @@ use Rattle.mdb_pool.proofs.Follows.Fits.{later-fits}
 use Rattle.mdb_pool_rules.proofs.ClearFacts.{ends-fair, ends-own, ends-open}
 use Rattle.mdb_pool.proofs.Turns.ExpireMany.{overdue-asked}
 
-pub expire-accepts : (s s0 s1 t : PoolCore) (before f1 after : List Fact) (n : ℕ) (xs : List PoolItem) → Fits s xs → s0 ≡ record s { last = n }
+pub expire-accepts : (s s0 s1 t : PoolCore) (before f1 after : List Fact) (n : ℕ) (xs : List PoolItem) → Fits s xs → s0 ≡ record s { kept = record s.kept { last = n } }
     → SameHome s0 s1 → SameNotes s0 s1 → ((k : List PoolItem) → Fits s0 k → Expires s0 s1 n before f1 k)
     → SameHome s1 t → SameNotes s1 t → ((k : List PoolItem) → Fits s1 k → Serves s1 t n f1 after k)
     → Accepts s t before after n (ExpireAct s.address) Done xs xs
@@ -33,8 +33,8 @@ expire-accepts s s0 s1 t before f1 after n xs z s0_is home1 notes1 expires home 
     (λ ks k. k)
     (λ claims own ks m. refl)
     tt
-    (ap is_shut (notes.status ∙ (notes1.status ∙ ap (λ k. k.status) s0_is)) ∙ ap (λ b. b || is_shut s.status) (sym (ends-open s.pool s.address n TimedOut xs late)))
-    (λ r. ap (has r) (notes.settled ∙ (notes1.settled ∙ ap (λ k. k.settled) s0_is)))
-    (λ c. ap (has c) (notes.claimed ∙ (notes1.claimed ∙ ap (λ k. k.claimed) s0_is)))
+    (ap is_shut (notes.status ∙ (notes1.status ∙ ap (λ k. k.kept.status) s0_is)) ∙ ap (λ b. b || is_shut s.kept.status) (sym (ends-open s.pool s.address n TimedOut xs late)))
+    (λ r. ap (has r) (notes.settled ∙ (notes1.settled ∙ ap (λ k. k.kept.settled) s0_is)))
+    (λ c. ap (has c) (notes.claimed ∙ (notes1.claimed ∙ ap (λ k. k.kept.claimed) s0_is)))
     (ends-fair s.pool s.address n TimedOut xs xs late)
     (ends-own s.pool s.address n TimedOut xs xs late (overdue-asked s.options n xs))

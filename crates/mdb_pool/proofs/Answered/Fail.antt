@@ -66,9 +66,9 @@ module _ (s : PoolCore) (xs : List PoolItem) (z : Fits s xs) (n : ℕ) (x : Conn
       (λ zs v. v)
       (λ claims own zs m. refl)
       tt
-      (ap is_shut (notes.status ∙ ap (λ k. k.status) s1_is) ∙ ap (λ b. b || is_shut s.status) (sym (over-open s s.pool n q.number (n - q.asked_at) (FailedEnd error) q.warm)))
-      (λ r. ap (has r) (notes.settled ∙ ap (λ k. k.settled) s1_is))
-      (λ c. ap (has c) (notes.claimed ∙ ap (λ k. k.claimed) s1_is))
+      (ap is_shut (notes.status ∙ ap (λ k. k.kept.status) s1_is) ∙ ap (λ b. b || is_shut s.kept.status) (sym (over-open s s.pool n q.number (n - q.asked_at) (FailedEnd error) q.warm)))
+      (λ r. ap (has r) (notes.settled ∙ ap (λ k. k.kept.settled) s1_is))
+      (λ c. ap (has c) (notes.claimed ∙ ap (λ k. k.kept.claimed) s1_is))
       (tt, over-fair s s.pool n q.number (n - q.asked_at) (FailedEnd error) q.warm (after_fact s.pool n (closed_fact s.pool s.address x.id ErrorReason x.service) ys))
       (refl, over-own s s.pool n q.number (n - q.asked_at) (FailedEnd error) q.warm (after_fact s.pool n (closed_fact s.pool s.address x.id ErrorReason x.service) ys) refl (subst (λ k. has_asked k q.number ≡ true) (sym first) asked))
 
@@ -82,9 +82,9 @@ module _ (s : PoolCore) (xs : List PoolItem) (z : Fits s xs) (n : ℕ) (x : Conn
       (λ zs v. v)
       (λ claims own zs m. refl)
       tt
-      (ap is_shut (notes.status ∙ ap (λ k. k.status) s1_is))
-      (λ r. ap (has r) (notes.settled ∙ ap (λ k. k.settled) s1_is))
-      (λ c. ap (has c) (notes.claimed ∙ ap (λ k. k.claimed) s1_is))
+      (ap is_shut (notes.status ∙ ap (λ k. k.kept.status) s1_is))
+      (λ r. ap (has r) (notes.settled ∙ ap (λ k. k.kept.settled) s1_is))
+      (λ c. ap (has c) (notes.claimed ∙ ap (λ k. k.kept.claimed) s1_is))
       (tt, tt)
       (refl, tt)
 
@@ -97,7 +97,7 @@ holder-some s x q e = on x.holder refl
     on (Some r) f =
         let t : holder_request s x ≡ request_at s r = rw f refl in
         let k : request_at s r ≡ Some q = sym t ∙ e in
-        let i : q.number ≡ r = entry_at-key (λ (k : Request). k.number) r q s.requests k in
+        let i : q.number ≡ r = entry_at-key (λ (k : Request). k.number) r q s.kept.requests k in
         (f ∙ ap Some (sym i), subst (λ d. request_at s d ≡ Some q) (sym i) k)
 
 -- without one nobody has it
@@ -118,7 +118,7 @@ pub fail-of : (s s1 t : PoolCore) (before f1 after : List Fact) (n c : ℕ) (x :
     → f1 ≡ before ++ closed_fact s.pool s.address x.id ErrorReason x.service ∷ over_facts s q.number q.warm (n - q.asked_at) (FailedEnd error) → SameHome s1 t → SameNotes s1 t → ((k : List PoolItem) → Fits s1 k → Serves s1 t n f1 after k)
     → Accepts s t before after n (FailedAct s.pool c at error) Done xs (failed c (service_in at) ∷ xs)
 fail-of s s1 t before f1 after n c x q at error xs z at_c place asker s1_is f1_is home notes serves =
-    let e : x.id ≡ c = entry_at-key (λ (y : Connection). y.id) c x s.connections at_c in
+    let e : x.id ≡ c = entry_at-key (λ (y : Connection). y.id) c x s.kept.connections at_c in
     let v : (x.holder ≡ Some q.number) × (request_at s q.number ≡ Some q) = holder-some s x q asker in
     subst (λ d. Accepts s t before after n (FailedAct s.pool d at error) Done xs (failed d (service_in at) ∷ xs)) e (fail-accepts s xs z n x at error s1 t before f1 after q (subst (λ d. connection_at s d ≡ Some x) (sym e) at_c) place v.0 v.1 s1_is f1_is home notes serves)
 
@@ -126,6 +126,6 @@ pub forget-of : (s s1 t : PoolCore) (before f1 after : List Fact) (n c : ℕ) (x
     → f1 ≡ before ++ closed_fact s.pool s.address x.id ErrorReason x.service ∷ [] → SameHome s1 t → SameNotes s1 t → ((k : List PoolItem) → Fits s1 k → Serves s1 t n f1 after k)
     → Accepts s t before after n (FailedAct s.pool c at error) Done xs (failed c (service_in at) ∷ xs)
 forget-of s s1 t before f1 after n c x at error xs z at_c place none s1_is f1_is home notes serves =
-    let e : x.id ≡ c = entry_at-key (λ (y : Connection). y.id) c x s.connections at_c in
+    let e : x.id ≡ c = entry_at-key (λ (y : Connection). y.id) c x s.kept.connections at_c in
     let at_x : connection_at s x.id ≡ Some x = subst (λ d. connection_at s d ≡ Some x) (sym e) at_c in
     subst (λ d. Accepts s t before after n (FailedAct s.pool d at error) Done xs (failed d (service_in at) ∷ xs)) e (forget-accepts s xs z n x at error s1 t before f1 after at_x place (holder-none s xs z x at_x none) s1_is f1_is home notes serves)

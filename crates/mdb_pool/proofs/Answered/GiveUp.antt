@@ -17,7 +17,7 @@ use Rattle.mdb_pool.specs.declared.kept.request.Phase.TheVariants.{Queued, Given
 use Rattle.mdb_pool.specs.Core.{PoolCore}
 use Rattle.mdb_log.specs.History.{PoolItem, given, has_asked, after_facts, gave_up, closed, checked_in, ended, after_fact}
 use Rattle.mdb_pool.specs.Kept.Values.{connection_at, request_at, given_in, given_of, end_in, end_at, is_ended_at, held_connection, pending_connection, is_pending_at, outcome_now, is_shut, reason_now, used_as, is_asked_at}
-use Rattle.mdb_pool.specs.Now.{is_open_now}
+use Rattle.mdb_pool.specs.Now.{is_open_now, queries}
 use Rattle.mdb_log.specs.Requests.{end_of, told}
 use Rattle.mdb_pool_rules.specs.Facts.{act_facts}
 use Rattle.mdb_pool.specs.Standing.{Fits, SameHome, Accepts}
@@ -52,7 +52,7 @@ module _ (s : PoolCore) (xs : List PoolItem) (z : Fits s xs) (n : ℕ) (q : Requ
   asked = asked-known s xs z q.number ∙ known
 
   -- the facts acts, and a state that fits them, are an answer
-  given-up : (s1 t : PoolCore) (before f1 after : List Fact) (acts : List Fact) → act_facts s.pool s.address s.options n xs ys (GiveUp q.number) ≡ acts → f1 ≡ before ++ acts → SameHome s s1 → s1.settled ≡ marked q.number s.settled → s1.claimed ≡ s.claimed → s1.status ≡ s.status → shuts acts ≡ false
+  given-up : (s1 t : PoolCore) (before f1 after : List Fact) (acts : List Fact) → act_facts s.pool s.address s.options n xs ys (GiveUp q.number) ≡ acts → f1 ≡ before ++ acts → SameHome s s1 → s1.kept.settled ≡ marked q.number s.kept.settled → s1.kept.claimed ≡ s.kept.claimed → s1.kept.status ≡ s.kept.status → shuts acts ≡ false
       → Fits s1 (after_facts s.pool n acts ys) → SameHome s1 t → SameNotes s1 t → ((k : List PoolItem) → Fits s1 k → Serves s1 t n f1 after k) → AllFirstCome s.pool n ys acts → AllOwn s.pool n ys acts
       → Accepts s t before after n (GiveUp q.number) Done xs ys
   given-up s1 t before f1 after acts acts_are f1_is at_home told same state unshut fits home notes serves fair own =
@@ -60,8 +60,8 @@ module _ (s : PoolCore) (xs : List PoolItem) (z : Fits s xs) (n : ℕ) (q : Requ
       (λ zs v. v)
       (λ claims own zs m. rw still refl)
       tt
-      (ap is_shut (notes.status ∙ state) ∙ ap (λ b. b || is_shut s.status) (sym unshut))
-      (λ r. ap (has r) (notes.settled ∙ told) ∙ (has-marked r q.number s.settled ∙ or_comm (has r s.settled) (q.number == r)))
+      (ap is_shut (notes.status ∙ state) ∙ ap (λ b. b || is_shut s.kept.status) (sym unshut))
+      (λ r. ap (has r) (notes.settled ∙ told) ∙ (has-marked r q.number s.kept.settled ∙ or_comm (has r s.kept.settled) (q.number == r)))
       (λ c. ap (has c) (notes.claimed ∙ same))
       fair own
 
@@ -72,7 +72,7 @@ module _ (s : PoolCore) (xs : List PoolItem) (z : Fits s xs) (n : ℕ) (q : Requ
   pub quit-accepts : (s1 t : PoolCore) (before f1 after : List Fact) → given_in q.phase ≡ None → s1 ≡ quitting s n q → f1 ≡ before ++ Ended q.number GaveUp ∷ [] → SameHome s1 t → SameNotes s1 t → ((k : List PoolItem) → Fits s1 k → Serves s1 t n f1 after k)
       → Accepts s t before after n (GiveUp q.number) Done xs ys
   quit-accepts s1 t before f1 after none s1_is f1_is home notes serves =
-      given-up s1 t before f1 after (Ended q.number GaveUp ∷ []) (quit-are none) f1_is (rw s1_is (record { pool = refl; address = refl; options = refl; alone = refl })) (ap (λ k. k.settled) s1_is) (ap (λ k. k.claimed) s1_is) (ap (λ k. k.status) s1_is) refl
+      given-up s1 t before f1 after (Ended q.number GaveUp ∷ []) (quit-are none) f1_is (rw s1_is (record { pool = refl; address = refl; options = refl; alone = refl })) (ap (λ k. k.kept.settled) s1_is) (ap (λ k. k.kept.claimed) s1_is) (ap (λ k. k.kept.status) s1_is) refl
       (rw (s1_is, asked) (quit-fits s xs z n q at_q none)) home notes serves (tt, tt) (asked, tt)
 
   -- its connection is pending
@@ -85,7 +85,7 @@ module _ (s : PoolCore) (xs : List PoolItem) (z : Fits s xs) (n : ℕ) (q : Requ
   pub leave-accepts : (s1 t : PoolCore) (before f1 after : List Fact) (x : Connection) → connection_at s x.id ≡ Some x → x.place ≡ Pending → q.phase ≡ Given x.id → s1 ≡ leaving s n x q → f1 ≡ before ++ Ended q.number GaveUp ∷ [] → SameHome s1 t → SameNotes s1 t → ((k : List PoolItem) → Fits s1 k → Serves s1 t n f1 after k)
       → Accepts s t before after n (GiveUp q.number) Done xs ys
   leave-accepts s1 t before f1 after x at_x place phase s1_is f1_is home notes serves =
-      given-up s1 t before f1 after (Ended q.number GaveUp ∷ []) (leave-are x at_x place phase) f1_is (rw s1_is (record { pool = refl; address = refl; options = refl; alone = refl })) (ap (λ k. k.settled) s1_is) (ap (λ k. k.claimed) s1_is) (ap (λ k. k.status) s1_is) refl
+      given-up s1 t before f1 after (Ended q.number GaveUp ∷ []) (leave-are x at_x place phase) f1_is (rw s1_is (record { pool = refl; address = refl; options = refl; alone = refl })) (ap (λ k. k.kept.settled) s1_is) (ap (λ k. k.kept.claimed) s1_is) (ap (λ k. k.kept.status) s1_is) refl
       (rw (s1_is, asked) (leave-fits s xs z n x q at_x at_q phase place)) home notes serves (tt, tt) (asked, tt)
 
   -- its connection is held
@@ -106,7 +106,7 @@ module _ (s : PoolCore) (xs : List PoolItem) (z : Fits s xs) (n : ℕ) (q : Requ
   pub pinned-accepts : (s1 t : PoolCore) (before f1 after : List Fact) (x : Connection) → held_connection s q.number ≡ Some x → connection_at s x.id ≡ Some x → x.place ≡ Held → q.phase ≡ Given x.id → nat_lt 0 x.pins ≡ true → s1 ≡ to_pin s n (used_as x Ok) q (EndedPhase GaveUp) → f1 ≡ before ++ Ended q.number GaveUp ∷ [] → SameHome s1 t → SameNotes s1 t → ((k : List PoolItem) → Fits s1 k → Serves s1 t n f1 after k)
       → Accepts s t before after n (GiveUp q.number) Done xs ys
   pinned-accepts s1 t before f1 after x held at_x place phase some_pins s1_is f1_is home notes serves =
-      given-up s1 t before f1 after (Ended q.number GaveUp ∷ []) (pinned-are x held at_x some_pins) f1_is (rw s1_is (record { pool = refl; address = refl; options = refl; alone = refl })) (ap (λ k. k.settled) s1_is) (ap (λ k. k.claimed) s1_is) (ap (λ k. k.status) s1_is) refl
+      given-up s1 t before f1 after (Ended q.number GaveUp ∷ []) (pinned-are x held at_x some_pins) f1_is (rw s1_is (record { pool = refl; address = refl; options = refl; alone = refl })) (ap (λ k. k.kept.settled) s1_is) (ap (λ k. k.kept.claimed) s1_is) (ap (λ k. k.kept.status) s1_is) refl
       (rw (s1_is, asked) (quit-pinned-fits s xs z n x q at_x place at_q phase some_pins)) home notes serves (tt, tt) (asked, tt)
 
   hand-fits-for : (x : Connection) → connection_at s x.id ≡ Some x → x.place ≡ Held → q.phase ≡ Given x.id → x.pins ≡ 0 → (o : Option ConnectionClosedReason) → Fits (handing_for s n (used_as x Ok) q o) (after_facts s.pool n (Ended q.number GaveUp ∷ back_facts s (used_as x Ok) o) ys)
@@ -125,14 +125,14 @@ module _ (s : PoolCore) (xs : List PoolItem) (z : Fits s xs) (n : ℕ) (q : Requ
   hand-home-for x None = record { pool = refl; address = refl; options = refl; alone = refl }
   hand-home-for x (Some w) = record { pool = refl; address = refl; options = refl; alone = refl }
 
-  hand-notes-for : (x : Connection) (o : Option ConnectionClosedReason) → ((handing_for s n (used_as x Ok) q o).settled ≡ marked q.number s.settled) × ((handing_for s n (used_as x Ok) q o).claimed ≡ s.claimed) × ((handing_for s n (used_as x Ok) q o).status ≡ s.status)
+  hand-notes-for : (x : Connection) (o : Option ConnectionClosedReason) → ((handing_for s n (used_as x Ok) q o).kept.settled ≡ marked q.number s.kept.settled) × ((handing_for s n (used_as x Ok) q o).kept.claimed ≡ s.kept.claimed) × ((handing_for s n (used_as x Ok) q o).kept.status ≡ s.kept.status)
   hand-notes-for x None = (refl, refl, refl)
   hand-notes-for x (Some w) = (refl, refl, refl)
 
   pub hand-accepts : (s1 t : PoolCore) (before f1 after : List Fact) (x : Connection) → held_connection s q.number ≡ Some x → connection_at s x.id ≡ Some x → x.place ≡ Held → q.phase ≡ Given x.id → x.pins ≡ 0 → s1 ≡ handing_for s n (used_as x Ok) q (why x) → f1 ≡ before ++ Ended q.number GaveUp ∷ back_facts s (used_as x Ok) (why x) → SameHome s1 t → SameNotes s1 t → ((k : List PoolItem) → Fits s1 k → Serves s1 t n f1 after k)
       → Accepts s t before after n (GiveUp q.number) Done xs ys
   hand-accepts s1 t before f1 after x held at_x place phase loose s1_is f1_is home notes serves =
-      given-up s1 t before f1 after (Ended q.number GaveUp ∷ back_facts s (used_as x Ok) (why x)) (hand-are x held at_x phase loose) f1_is (rw s1_is (hand-home-for x (why x))) (ap (λ k. k.settled) s1_is ∙ (hand-notes-for x (why x)).0) (ap (λ k. k.claimed) s1_is ∙ (hand-notes-for x (why x)).1) (ap (λ k. k.status) s1_is ∙ (hand-notes-for x (why x)).2) (back-open s (used_as x Ok) (why x))
+      given-up s1 t before f1 after (Ended q.number GaveUp ∷ back_facts s (used_as x Ok) (why x)) (hand-are x held at_x phase loose) f1_is (rw s1_is (hand-home-for x (why x))) (ap (λ k. k.kept.settled) s1_is ∙ (hand-notes-for x (why x)).0) (ap (λ k. k.kept.claimed) s1_is ∙ (hand-notes-for x (why x)).1) (ap (λ k. k.kept.status) s1_is ∙ (hand-notes-for x (why x)).2) (back-open s (used_as x Ok) (why x))
       (rw s1_is (hand-fits-for x at_x place phase loose (why x))) home notes serves (tt, back-fair s n (used_as x Ok) (why x) (after_facts s.pool n (Ended q.number GaveUp ∷ []) ys)) (asked, back-own s n (used_as x Ok) (why x) (after_facts s.pool n (Ended q.number GaveUp ∷ []) ys))
 
 -- a request that ended is told how
@@ -147,23 +147,24 @@ some-end (Some q) e = on q.phase refl
     on (EndedPhase end) f = ap given_in f
 
 pub late-accepts : (s s1 t : PoolCore) (before after : List Fact) (n r : ℕ) (reply : Reply) (xs : List PoolItem) → Fits s xs → is_ended_at (request_at s r) ≡ true
-    → s1 ≡ record s { last = n; settled = marked r s.settled } → SameHome s1 t → SameNotes s1 t → ((k : List PoolItem) → Fits s1 k → Serves s1 t n before after k) → reply ≡ outcome_now s r
+    → s1 ≡ record s { kept = record s.kept { last = n; settled = marked r s.kept.settled } } → SameHome s1 t → SameNotes s1 t → ((k : List PoolItem) → Fits s1 k → Serves s1 t n before after k) → reply ≡ outcome_now s r
     → Accepts s t before after n (GiveUp r) reply xs (gave_up r ∷ xs)
 late-accepts s s1 t before after n r reply xs z over s1_is home notes serves reply_is =
     let gone : is_some (end_of xs r) ≡ true = ap is_some (z.matches.requests.ends r) ∙ over in
     accepts s s1 t t before before after n (GiveUp r) reply [] xs (gave_up r ∷ xs)
     (rw gone refl)
-    (sym (append-nil before)) (rw s1_is (record { pool = refl; address = refl; options = refl; alone = refl })) (rw s1_is (late-fits s xs z n r (marked r s.settled) (some-end (request_at s r) over))) serves
+    (sym (append-nil before)) (rw s1_is (record { pool = refl; address = refl; options = refl; alone = refl })) (rw s1_is (late-fits s xs z n r (marked r s.kept.settled) (some-end (request_at s r) over))) serves
     (λ zs v. v)
     (λ claims own zs m. rw gone (reply_is ∙ sym (outcome-is s xs z.matches r)))
     (rw reply_is (outcome-accepted s r))
-    (ap is_shut (notes.status ∙ ap (λ x. x.status) s1_is))
-    (λ k. ap (has k) (notes.settled ∙ ap (λ x. x.settled) s1_is) ∙ (has-marked k r s.settled ∙ or_comm (has k s.settled) (r == k)))
-    (λ c. rw (reply_is, outcome-no-job s r s.pool c) (ap (has c) (notes.claimed ∙ ap (λ x. x.claimed) s1_is)))
+    (ap is_shut (notes.status ∙ ap (λ x. x.kept.status) s1_is))
+    (λ k. ap (has k) (notes.settled ∙ ap (λ x. x.kept.settled) s1_is) ∙ (has-marked k r s.kept.settled ∙ or_comm (has k s.kept.settled) (r == k)))
+    (λ c. rw (reply_is, outcome-no-job s r s.pool c) (ap (has c) (notes.claimed ∙ ap (λ x. x.kept.claimed) s1_is)))
     tt tt
 
 -- who has an open request asked
 pub open-known : (s : PoolCore) (r : ℕ) → is_open_now s r ≡ true → is_asked_at (request_at s r) ≡ true
+unfolding queries
 open-known s r e = on (is_asked_at (request_at s r)) refl
   where
     on : (b : Bool) → is_asked_at (request_at s r) ≡ b → is_asked_at (request_at s r) ≡ true
@@ -198,7 +199,7 @@ pub leave-of : (s s1 t : PoolCore) (before f1 after : List Fact) (n r : ℕ) (x 
     → s1 ≡ leaving s n x q → f1 ≡ before ++ Ended q.number GaveUp ∷ [] → SameHome s1 t → SameNotes s1 t → ((k : List PoolItem) → Fits s1 k → Serves s1 t n f1 after k)
     → Accepts s t before after n (GiveUp r) Done xs (gave_up r ∷ xs)
 leave-of s s1 t before f1 after n r x q xs z at_r known open_now waits s1_is f1_is home notes serves =
-    let e : q.number ≡ r = entry_at-key (λ (k : Request). k.number) r q s.requests at_r in
+    let e : q.number ≡ r = entry_at-key (λ (k : Request). k.number) r q s.kept.requests at_r in
     let v : (q.phase ≡ Given x.id) × (connection_at s x.id ≡ Some x) × (x.place ≡ Pending) = pender s r x q waits at_r in
     subst (λ d. Accepts s t before after n (GiveUp d) Done xs (gave_up d ∷ xs)) e (leave-accepts s xs z n q (subst (λ d. request_at s d ≡ Some q) (sym e) at_r) (no-end s r q at_r open_now) (subst (λ d. is_asked_at (request_at s d) ≡ true) (sym e) known) s1 t before f1 after x v.1 v.2 v.0 s1_is f1_is home notes serves)
 
@@ -206,5 +207,5 @@ pub quit-of : (s s1 t : PoolCore) (before f1 after : List Fact) (n r : ℕ) (q :
     → s1 ≡ quitting s n q → f1 ≡ before ++ Ended q.number GaveUp ∷ [] → SameHome s1 t → SameNotes s1 t → ((k : List PoolItem) → Fits s1 k → Serves s1 t n f1 after k)
     → Accepts s t before after n (GiveUp r) Done xs (gave_up r ∷ xs)
 quit-of s s1 t before f1 after n r q xs z at_r known open_now held waits s1_is f1_is home notes serves =
-    let e : q.number ≡ r = entry_at-key (λ (k : Request). k.number) r q s.requests at_r in
+    let e : q.number ≡ r = entry_at-key (λ (k : Request). k.number) r q s.kept.requests at_r in
     subst (λ d. Accepts s t before after n (GiveUp d) Done xs (gave_up d ∷ xs)) e (quit-accepts s xs z n q (subst (λ d. request_at s d ≡ Some q) (sym e) at_r) (no-end s r q at_r open_now) (subst (λ d. is_asked_at (request_at s d) ≡ true) (sym e) known) s1 t before f1 after (not-given s xs z.matches r q at_r held waits) s1_is f1_is home notes serves)

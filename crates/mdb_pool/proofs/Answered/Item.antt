@@ -10,6 +10,7 @@ use Rattle.mdb_log.specs.declared.reply.Refused.TheVariants.{RequestKnown, Unpin
 use Rattle.mdb_log.specs.History.{Item, PoolItem, after_act, gave_up, given, failed, established, returned, pinned_by, replicated, taken, unpinned, has_asked, has_taken, has_party, if_so, is_number, of_pool, open_pool}
 use Rattle.mdb_log.specs.Requests.{names_party, was_asked}
 use Rattle.mdb_log.proofs.Numbers.{same-number}
+use Rattle.mdb_pool.specs.Now.{queries}
 use Rattle.mdb_pool.specs.Core.{PoolCore}
 use Rattle.mdb_pool.specs.Kept.Values.{request_at, connection_at, is_held_at, pins_at}
 use Rattle.mdb_pool_rules.specs.Refusal.{first_row}
@@ -37,6 +38,7 @@ if-asked false i xs k e = refl
 module _ (s : PoolCore) (m : ℕ) (xs : List PoolItem) where
   -- the parties that the pool knows then
   pub names-item : (act : Act) → first_row (rows_now s act) ≡ None → (k : ℕ) → has_party (with_item s.pool m act xs) k ≡ names_party act k || has_party xs k
+  unfolding queries
   names-item (Request r a) e k = rw (same-number s.pool) (or_assoc (r == k) (has_asked xs k) (has_taken xs k))
   names-item (Warm r a) e k = rw (same-number s.pool) (or_assoc (r == k) (has_asked xs k) (has_taken xs k))
   names-item (GiveUp r) e k = if-party (has_asked xs r) (gave_up r) xs k refl
@@ -107,6 +109,7 @@ module _ (s : PoolCore) (h : List Item) (z : StandsFor s h) (m : ℕ) where
   open-number r a e = here-is s h z a ∙ not-false (is_here s a) (two-pass (not (is_here s a)) (is_some (request_at s r)) UnknownServer RequestKnown e).0
 
   pub item-is : (act : Act) → first_row (rows_now s act) ≡ None → after_act s.pool (open_pool h) m act (of_pool s.pool h) ≡ with_item s.pool m act (of_pool s.pool h)
+  unfolding queries
   item-is (Request r a) e = rw (open-number r a e, same-number s.pool) refl
   item-is (Warm r a) e = rw (open-number r a e, same-number s.pool) refl
   item-is (GiveUp r) e = refl

@@ -18,7 +18,7 @@ use Rattle.mdb_pool.proofs.Follows.Fits.{later-fits}
 use Rattle.mdb_pool_rules.proofs.Fair.{fair-append, own-append, shut-append}
 use Rattle.mdb_pool_rules.proofs.SweepAndFill.{sweep-fair, sweep-own, sweep-open, fill-fair, fill-own, fill-open}
 
-pub maintain-accepts : (s s0 s1 s2 t : PoolCore) (before f1 f2 after : List Fact) (n : ℕ) (xs : List PoolItem) → Fits s xs → s0 ≡ record s { last = n }
+pub maintain-accepts : (s s0 s1 s2 t : PoolCore) (before f1 f2 after : List Fact) (n : ℕ) (xs : List PoolItem) → Fits s xs → s0 ≡ record s { kept = record s.kept { last = n } }
     → SameHome s0 s1 → SameNotes s0 s1 → ((k : List PoolItem) → Fits s0 k → Sweeps s0 s1 n before f1 k)
     → SameHome s1 s2 → SameNotes s1 s2 → ((k : List PoolItem) → Fits s1 k → Fills s1 s2 n f1 f2 k)
     → SameHome s2 t → SameNotes s2 t → ((k : List PoolItem) → Fits s2 k → Serves s2 t n f2 after k)
@@ -45,8 +45,8 @@ maintain-accepts s s0 s1 s2 t before f1 f2 after n xs z s0_is home1 notes1 sweep
     (λ ks k. k)
     (λ claims own ks m. refl)
     tt
-    (ap is_shut (notes.status ∙ (notes2.status ∙ (notes1.status ∙ ap (λ k. k.status) s0_is))) ∙ ap (λ b. b || is_shut s.status) (sym unshut))
-    (λ r. ap (has r) (notes.settled ∙ (notes2.settled ∙ (notes1.settled ∙ ap (λ k. k.settled) s0_is))))
-    (λ c. ap (has c) (notes.claimed ∙ (notes2.claimed ∙ (notes1.claimed ∙ ap (λ k. k.claimed) s0_is))))
+    (ap is_shut (notes.status ∙ (notes2.status ∙ (notes1.status ∙ ap (λ k. k.kept.status) s0_is))) ∙ ap (λ b. b || is_shut s.kept.status) (sym unshut))
+    (λ r. ap (has r) (notes.settled ∙ (notes2.settled ∙ (notes1.settled ∙ ap (λ k. k.kept.settled) s0_is))))
+    (λ c. ap (has c) (notes.claimed ∙ (notes2.claimed ∙ (notes1.claimed ∙ ap (λ k. k.kept.claimed) s0_is))))
     (fair-append s.pool s.address s.options n gone come xs (sweep-fair s.pool s.address s.options n xs xs (available_list xs)) (fill-fair s.pool s.address s.options n (min_size s.options) zs))
     (own-append s.pool s.address s.options n gone come xs (sweep-own s.pool s.address s.options n xs xs (available_list xs)) (fill-own s.pool s.address s.options n (min_size s.options) zs))

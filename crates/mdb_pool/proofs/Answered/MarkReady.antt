@@ -37,10 +37,10 @@ module _ (s : PoolCore) (xs : List PoolItem) (z : Fits s xs) (n : ℕ) where
   ready-are (Paused error) e = rw e refl
   ready-are Closed e = rw e refl
 
-  becomes-ready : Fits (record s { last = n; status = Ready }) (after_facts s.pool n (ready_event ∷ []) xs)
-  becomes-ready = rw (same-number s.pool) (ready-fits (record s { last = n }) xs (later-fits s xs z n) n)
+  becomes-ready : Fits (record s { kept = record s.kept { last = n; status = Ready } }) (after_facts s.pool n (ready_event ∷ []) xs)
+  becomes-ready = rw (same-number s.pool) (ready-fits (record s { kept = record s.kept { last = n } }) xs (later-fits s xs z n) n)
 
-  ready-fits-for : (t : Status) → s.status ≡ t → Fits (record s { last = n; status = leads t }) (after_facts s.pool n (says t) xs)
+  ready-fits-for : (t : Status) → s.kept.status ≡ t → Fits (record s { kept = record s.kept { last = n; status = leads t } }) (after_facts s.pool n (says t) xs)
   ready-fits-for New e = becomes-ready
   ready-fits-for Ready e = rw (← e) (later-fits s xs z n)
   ready-fits-for (Paused error) e = becomes-ready
@@ -69,13 +69,13 @@ pub ready-accepts : (s s1 t : PoolCore) (before f1 after : List Fact) (n p : ℕ
     → Accepts s t before after n (ReadyAct p) Done xs xs
 ready-accepts s s1 t before f1 after n p xs z s1_is f1_is home notes serves =
     accepts s s1 t t before f1 after n (ReadyAct p) Done (readied_facts s) xs xs
-    (ready-are s xs z n s.status z.matches.clearing.status)
-    f1_is (rw s1_is (record { pool = refl; address = refl; options = refl; alone = refl })) (rw s1_is (ready-fits-for s xs z n s.status refl)) serves
+    (ready-are s xs z n s.kept.status z.matches.clearing.status)
+    f1_is (rw s1_is (record { pool = refl; address = refl; options = refl; alone = refl })) (rw s1_is (ready-fits-for s xs z n s.kept.status refl)) serves
     (λ zs v. v)
     (λ claims own zs m. refl)
     tt
-    (ap is_shut (notes.status ∙ ap (λ k. k.status) s1_is) ∙ leads-open s xs z n s.status)
-    (λ r. ap (has r) (notes.settled ∙ ap (λ k. k.settled) s1_is))
-    (λ c. ap (has c) (notes.claimed ∙ ap (λ k. k.claimed) s1_is))
-    (says-fair s xs z n s.status)
-    (says-own s xs z n s.status)
+    (ap is_shut (notes.status ∙ ap (λ k. k.kept.status) s1_is) ∙ leads-open s xs z n s.kept.status)
+    (λ r. ap (has r) (notes.settled ∙ ap (λ k. k.kept.settled) s1_is))
+    (λ c. ap (has c) (notes.claimed ∙ ap (λ k. k.kept.claimed) s1_is))
+    (says-fair s xs z n s.kept.status)
+    (says-own s xs z n s.kept.status)

@@ -30,7 +30,7 @@ held-at s r x held = on (request_at s r) refl
 
 -- a connection with a pin is there, held or at its pin
 pub pinned-at : (s : PoolCore) (c : ℕ) (x : Connection) → connection_at s c ≡ Some x → x.id ≡ c
-pinned-at s c x e = entry_at-key (λ (y : Connection). y.id) c x s.connections e
+pinned-at s c x e = entry_at-key (λ (y : Connection). y.id) c x s.kept.connections e
 
 pub pinned-outside : (s : PoolCore) (xs : List PoolItem) → Matches s xs → (c : ℕ) (x : Connection) → connection_at s c ≡ Some x → nat_lt 0 x.pins ≡ true → stays x.place ≡ true
 pinned-outside s xs m c x e some_pins = on (stays x.place) refl
@@ -49,9 +49,9 @@ pin-accepts s s1 t before after n r x xs z held s1_is home notes serves =
     (λ zs v. v)
     (λ claims own zs m. refl)
     tt
-    (ap is_shut (notes.status ∙ ap (λ k. k.status) s1_is))
-    (λ r. ap (has r) (notes.settled ∙ ap (λ k. k.settled) s1_is))
-    (λ c. ap (has c) (notes.claimed ∙ ap (λ k. k.claimed) s1_is))
+    (ap is_shut (notes.status ∙ ap (λ k. k.kept.status) s1_is))
+    (λ r. ap (has r) (notes.settled ∙ ap (λ k. k.kept.settled) s1_is))
+    (λ c. ap (has c) (notes.claimed ∙ ap (λ k. k.kept.claimed) s1_is))
     tt
     tt
 
@@ -67,8 +67,8 @@ replicate-accepts s s1 t before after n c x xs z at_c some_pins s1_is home notes
     (λ zs v. v)
     (λ claims own zs m. refl)
     tt
-    (ap is_shut (notes.status ∙ ap (λ k. k.status) s1_is))
-    (λ r. ap (has r) (notes.settled ∙ ap (λ k. k.settled) s1_is))
-    (λ c. ap (has c) (notes.claimed ∙ ap (λ k. k.claimed) s1_is))
+    (ap is_shut (notes.status ∙ ap (λ k. k.kept.status) s1_is))
+    (λ r. ap (has r) (notes.settled ∙ ap (λ k. k.kept.settled) s1_is))
+    (λ c. ap (has c) (notes.claimed ∙ ap (λ k. k.kept.claimed) s1_is))
     tt
     tt

@@ -16,7 +16,7 @@ use Rattle.mdb_log.proofs.Numbers.{same-number}
 use Rattle.mdb_pool.specs.declared.kept.connection.Connection.{Connection}
 use Rattle.mdb_pool.specs.Core.{PoolCore}
 use Rattle.mdb_pool.specs.Kept.Values.{request_at, held_connection, is_shut, pins_at}
-use Rattle.mdb_pool.specs.Now.{is_open_now}
+use Rattle.mdb_pool.specs.Now.{is_open_now, queries}
 use Rattle.mdb_pool_rules.specs.Refusal.{first_row, rows_of, refusal_of}
 use Rattle.mdb_pool.specs.Refusing.{is_here, rows_now, refusal_now}
 use Rattle.mdb_pool.specs.Standing.{StandsFor}
@@ -32,7 +32,8 @@ module _ (s : PoolCore) (h : List Item) (z : StandsFor s h) where
   xs = of_pool s.pool h
 
   pub here-is : (a : ServerAddress) → is_number (open_pool h a) s.pool ≡ is_here s a
-  here-is a = rw (z.open_here a) (on (same_address s.address a && not (is_shut s.status)))
+  unfolding queries
+  here-is a = rw (z.open_here a) (on (same_address s.address a && not (is_shut s.kept.status)))
     where
       on : (b : Bool) → is_number (if b then Some s.pool else None) s.pool ≡ b
       on true = same-number s.pool
@@ -42,6 +43,7 @@ module _ (s : PoolCore) (h : List Item) (z : StandsFor s h) where
   known-is r = z.asked_once r ∙ z.fits.asked r
 
   open-is : (r : ℕ) → is_open h r ≡ is_open_now s r
+  unfolding queries
   open-is r = rw (z.requested r, asked-known s xs z.fits r, z.opens r) refl
 
   pins-held : (r : ℕ) → first_row ((not (is_some (holding xs r)), NotHolder) ∷ (nat_lt 0 (pins xs (unwrap_or (holding xs r) 0)), PinState) ∷ []) ≡ first_row ((not (is_some (held_connection s r)), NotHolder) ∷ (nat_lt 0 (pins_at (held_connection s r)), PinState) ∷ [])
@@ -52,6 +54,7 @@ module _ (s : PoolCore) (h : List Item) (z : StandsFor s h) where
       on (Some x) e = rw (live-pins s xs z.fits.matches x.id x (held-at s r x e).1) refl
 
   rows-are : (act : Act) → first_row (rows_of s.pool s.options h xs act) ≡ first_row (rows_now s act)
+  unfolding queries
   rows-are (Request r a) = rw (here-is a, known-is r) refl
   rows-are (Warm r a) = rw (here-is a, known-is r) refl
   rows-are (Collect r) = rw (open-is r) refl

@@ -78,7 +78,7 @@ module _ (s : PoolCore) (xs : List PoolItem) (z : Fits s xs) (n : ℕ) (x : Conn
   home-for None = record { pool = refl; address = refl; options = refl; alone = refl }
   home-for (Some w) = record { pool = refl; address = refl; options = refl; alone = refl }
 
-  notes-for : (o : Option ConnectionClosedReason) → ((returning_for s n used_x q o).settled ≡ marked q.number s.settled) × ((returning_for s n used_x q o).claimed ≡ s.claimed) × ((returning_for s n used_x q o).status ≡ s.status)
+  notes-for : (o : Option ConnectionClosedReason) → ((returning_for s n used_x q o).kept.settled ≡ marked q.number s.kept.settled) × ((returning_for s n used_x q o).kept.claimed ≡ s.kept.claimed) × ((returning_for s n used_x q o).kept.status ≡ s.kept.status)
   notes-for None = (refl, refl, refl)
   notes-for (Some w) = (refl, refl, refl)
 
@@ -92,9 +92,9 @@ module _ (s : PoolCore) (xs : List PoolItem) (z : Fits s xs) (n : ℕ) (x : Conn
       (λ zs v. v)
       (λ claims own zs m. refl)
       tt
-      (ap is_shut (notes.status ∙ (ap (λ k. k.status) s1_is ∙ (notes-for why).2)) ∙ ap (λ b. b || is_shut s.status) (sym (back-open s used_x why)))
-      (λ r. ap (has r) (notes.settled ∙ (ap (λ k. k.settled) s1_is ∙ (notes-for why).0)) ∙ (has-marked r q.number s.settled ∙ or_comm (has r s.settled) (q.number == r)))
-      (λ c. ap (has c) (notes.claimed ∙ (ap (λ k. k.claimed) s1_is ∙ (notes-for why).1)))
+      (ap is_shut (notes.status ∙ (ap (λ k. k.kept.status) s1_is ∙ (notes-for why).2)) ∙ ap (λ b. b || is_shut s.kept.status) (sym (back-open s used_x why)))
+      (λ r. ap (has r) (notes.settled ∙ (ap (λ k. k.kept.settled) s1_is ∙ (notes-for why).0)) ∙ (has-marked r q.number s.kept.settled ∙ or_comm (has r s.kept.settled) (q.number == r)))
+      (λ c. ap (has c) (notes.claimed ∙ (ap (λ k. k.kept.claimed) s1_is ∙ (notes-for why).1)))
       (back-fair s n used_x why ys)
       (back-own s n used_x why ys)
 
@@ -108,9 +108,9 @@ module _ (s : PoolCore) (xs : List PoolItem) (z : Fits s xs) (n : ℕ) (x : Conn
       (λ zs v. v)
       (λ claims own zs m. refl)
       tt
-      (ap is_shut (notes.status ∙ ap (λ k. k.status) s1_is))
-      (λ r. ap (has r) (notes.settled ∙ ap (λ k. k.settled) s1_is) ∙ (has-marked r q.number s.settled ∙ or_comm (has r s.settled) (q.number == r)))
-      (λ c. ap (has c) (notes.claimed ∙ ap (λ k. k.claimed) s1_is))
+      (ap is_shut (notes.status ∙ ap (λ k. k.kept.status) s1_is))
+      (λ r. ap (has r) (notes.settled ∙ ap (λ k. k.kept.settled) s1_is) ∙ (has-marked r q.number s.kept.settled ∙ or_comm (has r s.kept.settled) (q.number == r)))
+      (λ c. ap (has c) (notes.claimed ∙ ap (λ k. k.kept.claimed) s1_is))
       tt
       tt
 
@@ -118,7 +118,7 @@ pub return-of : (s s1 t : PoolCore) (before f1 after : List Fact) (n r : ℕ) (x
     → f1 ≡ before ++ back_facts s y o → SameHome s1 t → SameNotes s1 t → ((k : List PoolItem) → Fits s1 k → Serves s1 t n f1 after k)
     → Accepts s t before after n (ReturnAct r used) Done xs (returned r used ∷ xs)
 return-of s s1 t before f1 after n r x y q used o xs z held at_r y_is no_pins why s1_is f1_is home notes serves =
-    let e : q.number ≡ r = entry_at-key (λ (k : Request). k.number) r q s.requests at_r in
+    let e : q.number ≡ r = entry_at-key (λ (k : Request). k.number) r q s.kept.requests at_r in
     let v : Holder s r x q = holder s r x q held at_r in
     let loose : x.pins ≡ 0 = ap (λ k. k.pins) (sym y_is) ∙ none-above y.pins no_pins in
     let w : o ≡ reason_now s (used_as x used) = why ∙ ap (reason_now s) y_is in
@@ -128,6 +128,6 @@ pub stand-of : (s s1 t : PoolCore) (before after : List Fact) (n r : ℕ) (x y :
     → SameHome s1 t → SameNotes s1 t → ((k : List PoolItem) → Fits s1 k → Serves s1 t n before after k)
     → Accepts s t before after n (ReturnAct r used) Done xs (returned r used ∷ xs)
 stand-of s s1 t before after n r x y q used xs z held at_r y_is some_pins s1_is home notes serves =
-    let e : q.number ≡ r = entry_at-key (λ (k : Request). k.number) r q s.requests at_r in
+    let e : q.number ≡ r = entry_at-key (λ (k : Request). k.number) r q s.kept.requests at_r in
     let v : Holder s r x q = holder s r x q held at_r in
     subst (λ d. Accepts s t before after n (ReturnAct d used) Done xs (returned d used ∷ xs)) e (stand-accepts s xs z n x q used s1 t before after (subst (λ d. held_connection s d ≡ Some x) (sym e) held) v.at_x v.place (subst (λ d. request_at s d ≡ Some q) (sym e) at_r) v.phase (ap (λ k. nat_lt 0 k.pins) (sym y_is) ∙ some-above y.pins some_pins) (s1_is ∙ rw y_is refl) home notes serves)

@@ -11,6 +11,7 @@ use Rattle.mdb_log.specs.declared.reply.Reply.TheVariants.{Refused as RefusedBy}
 use Rattle.mdb_log.specs.History.{Item, of_pool, with_answer}
 use Rattle.mdb_log.specs.Legal.{NoneLeftWaiting}
 use Rattle.mdb_pool.specs.Core.{PoolCore}
+use Rattle.mdb_pool.specs.Now.{last_now}
 use Rattle.mdb_pool.specs.declared.planning.Answered.{Answered}
 use Rattle.mdb_pool_rules.specs.Answer.{answer}
 use Rattle.mdb_pool_rules.specs.Refusal.{first_row}
@@ -30,12 +31,12 @@ on-error (Err e) p = p
 
 module _ (s : PoolCore) (step : Step) (none : refusal_now s step ≡ None) where
   rows : first_row (rows_now s step.act) ≡ None
-  rows = (first-passes (nat_lt step.moment s.last) (TimeBack s.last) (rows_now s step.act) none).1
+  rows = (first-passes (nat_lt step.moment (last_now s)) (TimeBack (last_now s)) (rows_now s step.act) none).1
 
   pub passes : Passes s step
   passes h z = sym (refused-now s h z step) ∙ none
 
-  pub does-answers : (t : PoolCore) (before after : List Fact) (reply : Reply) → SameHome s t → t.last ≡ step.moment → Does s t before after step reply → (h : List Item) → StandsFor s h → Answers s t before after step reply h
+  pub does-answers : (t : PoolCore) (before after : List Fact) (reply : Reply) → SameHome s t → t.kept.last ≡ step.moment → Does s t before after step reply → (h : List Item) → StandsFor s h → Answers s t before after step reply h
   does-answers t before after reply home last does h z =
       own-answers s t before after step reply _ h z (passes h z) (item-is s h z step.moment step.act rows)
       (names-item s step.moment (of_pool s.pool h) step.act rows) (asks-item s step.moment (of_pool s.pool h) step.act) home last (does (of_pool s.pool h) z.fits)

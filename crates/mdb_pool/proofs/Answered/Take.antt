@@ -61,8 +61,8 @@ take-accepts s s1 t before after n r c x xs z absent at_c some_pins alone s1_is 
     (λ zs v. v)
     (λ claims own zs m. ap (λ p. Pooled p c) same)
     tt
-    (ap is_shut (notes.status ∙ ap (λ k. k.status) s1_is))
-    (λ r. ap (has r) (notes.settled ∙ ap (λ k. k.settled) s1_is))
-    (λ c. ap (has c) (notes.claimed ∙ ap (λ k. k.claimed) s1_is))
+    (ap is_shut (notes.status ∙ ap (λ k. k.kept.status) s1_is))
+    (λ r. ap (has r) (notes.settled ∙ ap (λ k. k.kept.settled) s1_is))
+    (λ c. ap (has c) (notes.claimed ∙ ap (λ k. k.kept.claimed) s1_is))
     tt
     tt

@@ -62,9 +62,9 @@ module _ (s : PoolCore) (xs : List PoolItem) (z : Fits s xs) (n : ℕ) (x : Conn
       (λ zs v. v)
       (λ claims own zs m. refl)
       tt
-      (ap is_shut (notes.status ∙ ap (λ k. k.status) s1_is))
-      (λ r. ap (has r) (notes.settled ∙ ap (λ k. k.settled) s1_is))
-      (λ c. ap (has c) (notes.claimed ∙ ap (λ k. k.claimed) s1_is))
+      (ap is_shut (notes.status ∙ ap (λ k. k.kept.status) s1_is))
+      (λ r. ap (has r) (notes.settled ∙ ap (λ k. k.kept.settled) s1_is))
+      (λ c. ap (has c) (notes.claimed ∙ ap (λ k. k.kept.claimed) s1_is))
       tt
       tt
 
@@ -87,9 +87,9 @@ module _ (s : PoolCore) (xs : List PoolItem) (z : Fits s xs) (n : ℕ) (x : Conn
       (λ zs v. v)
       (λ claims own zs m. refl)
       tt
-      (ap is_shut (notes.status ∙ ap (λ k. k.status) s1_is) ∙ ap (λ b. b || is_shut s.status) (sym (back-open s x why)))
-      (λ r. ap (has r) (notes.settled ∙ ap (λ k. k.settled) s1_is))
-      (λ c. ap (has c) (notes.claimed ∙ ap (λ k. k.claimed) s1_is))
+      (ap is_shut (notes.status ∙ ap (λ k. k.kept.status) s1_is) ∙ ap (λ b. b || is_shut s.kept.status) (sym (back-open s x why)))
+      (λ r. ap (has r) (notes.settled ∙ ap (λ k. k.kept.settled) s1_is))
+      (λ c. ap (has c) (notes.claimed ∙ ap (λ k. k.kept.claimed) s1_is))
       (back-fair s n x why ys)
       (back-own s n x why ys)
 

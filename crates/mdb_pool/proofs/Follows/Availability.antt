@@ -22,21 +22,21 @@ module _ (s : PoolCore) (xs : List PoolItem) (z : Matches s xs) where
   abbrev told : ℕ → Record
   told c = record { id = c; service = known_service xs c; since = since xs c }
 
-  found : (x : Connection) → In x s.connections → connection_in s.connections x.id ≡ Some x
-  found x i = member-at (λ y. y.id) x s.connections i (subst (λ n. n ≤ 1) (sym (z.counts.single x.id)) (one_if-le (is_some (connection_in s.connections x.id))))
+  found : (x : Connection) → In x s.kept.connections → connection_in s.kept.connections x.id ≡ Some x
+  found x i = member-at (λ y. y.id) x s.kept.connections i (subst (λ n. n ≤ 1) (sym (z.counts.single x.id)) (one_if-le (is_some (connection_in s.kept.connections x.id))))
 
-  service-is : (x : Connection) → connection_in s.connections x.id ≡ Some x → known_service xs x.id ≡ x.service
+  service-is : (x : Connection) → connection_in s.kept.connections x.id ≡ Some x → known_service xs x.id ≡ x.service
   service-is x e =
-      let lasts : lasts_in s.created s.connections x.id ≡ true = rw e refl in
-      let both : (if lasts_in s.created s.connections x.id then known_service xs x.id else None) ≡ service_at (connection_in s.connections x.id) = z.told.service x.id in
-      subst (λ b. (if b then known_service xs x.id else None) ≡ service_at (connection_in s.connections x.id)) lasts both ∙ ap service_at e
+      let lasts : lasts_in s.kept.created s.kept.connections x.id ≡ true = rw e refl in
+      let both : (if lasts_in s.kept.created s.kept.connections x.id then known_service xs x.id else None) ≡ service_at (connection_in s.kept.connections x.id) = z.told.service x.id in
+      subst (λ b. (if b then known_service xs x.id else None) ≡ service_at (connection_in s.kept.connections x.id)) lasts both ∙ ap service_at e
 
-  told-is : (x : Connection) → In x s.connections → stands_available x ≡ true → recorded x ≡ told x.id
+  told-is : (x : Connection) → In x s.kept.connections → stands_available x ≡ true → recorded x ≡ told x.id
   told-is x i e =
       let f = found x i in
       rw (service-is x f, z.connections.since x.id x f e) refl
 
-  all-told : (ys : List Connection) → ((y : Connection) → In y ys → In y s.connections) → noted (λ x. x.id) (λ x. x.service) (λ x. x.since) stands_available ys ≡ map told (ids_where is_available ys)
+  all-told : (ys : List Connection) → ((y : Connection) → In y ys → In y s.kept.connections) → noted (λ x. x.id) (λ x. x.service) (λ x. x.since) stands_available ys ≡ map told (ids_where is_available ys)
   all-told [] in_all = refl
   all-told (y ∷ ys) in_all = on (is_available y.place) refl (all-told ys (λ x i. in_all x (there i)))
     where
@@ -45,5 +45,5 @@ module _ (s : PoolCore) (xs : List PoolItem) (z : Matches s xs) where
       on true e rest = rw e (rw (told-is y (in_all y here) e) (ap (λ rs. told y.id ∷ rs) rest))
       on false e rest = rw e rest
 
-  pub available-told : noted (λ x. x.id) (λ x. x.service) (λ x. x.since) (λ x. is_available x.place) s.connections ≡ available_records xs
-  available-told = all-told s.connections (λ y i. i) ∙ ap (map told) (sym z.counts.available)
+  pub available-told : noted (λ x. x.id) (λ x. x.service) (λ x. x.since) (λ x. is_available x.place) s.kept.connections ≡ available_records xs
+  available-told = all-told s.kept.connections (λ y i. i) ∙ ap (map told) (sym z.counts.available)

@@ -121,28 +121,28 @@ module _ (s : PoolCore) (xs : List PoolItem) (m : Matches s xs) (n : ℕ) where
   still : Still s.options xs (endings ClosedEnd over_numbers (closings shut_ids xs))
   still = still-both s.options ClosedEnd shut_ids over_numbers xs
 
-  once : (c : ℕ) → named id_of c s.connections ≤ 1
+  once : (c : ℕ) → named id_of c s.kept.connections ≤ 1
   once c = rw (m.counts.single c) (one_if-le (is_some (connection_at s c)))
 
   abbrev kept_of : Option Connection → Option Connection
   kept_of o = if passes id_of is_kept o then o else None
 
   at_conn : (c : ℕ) → connection_at (closing s n) c ≡ kept_of (connection_at s c)
-  at_conn c = entry_at-filter id_of c is_kept s.connections (once c)
+  at_conn c = entry_at-filter id_of c is_kept s.kept.connections (once c)
 
   pub at_request : (r : ℕ) → request_at (closing s n) r ≡ ended_of s (request_at s r)
-  at_request r = request-ended s r s.requests
+  at_request r = request-ended s r s.kept.requests
 
   -- which connections are closed, and which requests end
   shut-is : (c : ℕ) → has c shut_ids ≡ passes id_of (λ x. is_available x.place) (connection_at s c) || passes id_of (λ x. is_pending x.place) (connection_at s c)
-  shut-is c = has-ids c (available_ones s) (pending_ones s) ∙ rw (has-where id_of (λ x. is_available x.place) c s.connections (m.counts.single c), has-where id_of (λ x. is_pending x.place) c s.connections (m.counts.single c)) refl
+  shut-is c = has-ids c (available_ones s) (pending_ones s) ∙ rw (has-where id_of (λ x. is_available x.place) c s.kept.connections (m.counts.single c), has-where id_of (λ x. is_pending x.place) c s.kept.connections (m.counts.single c)) refl
 
   over-is : (r : ℕ) → has r over_numbers ≡ passes number_of (λ q. unserved_in s q.phase) (request_at s r)
-  over-is r = has-where number_of (λ q. unserved_in s q.phase) r s.requests (m.requests.single_request r)
+  over-is r = has-where number_of (λ q. unserved_in s q.phase) r s.kept.requests (m.requests.single_request r)
 
   pending-gone : (k : ℕ) → has k (pending_list xs) ≡ true → has k shut_ids ≡ true
   pending-gone k e =
-      let f : passes id_of (λ x. is_pending x.place) (connection_at s k) ≡ true = sym (has-where id_of (λ x. is_pending x.place) k s.connections (m.counts.single k)) ∙ (ap (has k) (sym m.counts.pending) ∙ e) in
+      let f : passes id_of (λ x. is_pending x.place) (connection_at s k) ≡ true = sym (has-where id_of (λ x. is_pending x.place) k s.kept.connections (m.counts.single k)) ∙ (ap (has k) (sym m.counts.pending) ∙ e) in
       shut-is k ∙ rw f (or-true (passes id_of (λ x. is_available x.place) (connection_at s k)))
     where
       or-true : (b : Bool) → b || true ≡ true
@@ -151,12 +151,12 @@ module _ (s : PoolCore) (xs : List PoolItem) (m : Matches s xs) (n : ℕ) where
 
   available-gone : (k : ℕ) → has k (available_list xs) ≡ true → has k shut_ids ≡ true
   available-gone k e =
-      let f : passes id_of (λ x. is_available x.place) (connection_at s k) ≡ true = sym (has-where id_of (λ x. is_available x.place) k s.connections (m.counts.single k)) ∙ (ap (has k) (sym m.counts.available) ∙ e) in
+      let f : passes id_of (λ x. is_available x.place) (connection_at s k) ≡ true = sym (has-where id_of (λ x. is_available x.place) k s.kept.connections (m.counts.single k)) ∙ (ap (has k) (sym m.counts.available) ∙ e) in
       shut-is k ∙ rw f refl
 
   queued-gone : (k : ℕ) → has k (queued xs) ≡ true → has k over_numbers ≡ true
   queued-gone k e =
-      let f : passes number_of (λ q. is_queued q.phase) (request_at s k) ≡ true = sym (has-where number_of (λ q. is_queued q.phase) k s.requests (m.requests.single_request k)) ∙ (ap (has k) (sym m.requests.queue) ∙ e) in
+      let f : passes number_of (λ q. is_queued q.phase) (request_at s k) ≡ true = sym (has-where number_of (λ q. is_queued q.phase) k s.kept.requests (m.requests.single_request k)) ∙ (ap (has k) (sym m.requests.queue) ∙ e) in
       over-is k ∙ on (request_at s k) f
     where
       at_phase : (p : Phase) → is_queued p ≡ true → unserved_in s p ≡ true
@@ -210,11 +210,11 @@ module _ (s : PoolCore) (xs : List PoolItem) (m : Matches s xs) (n : ℕ) where
       on None = refl
       on (Some x) = at_place x x.place refl
 
-  total-then : live_total shut_items ≡ length (closing s n).connections
+  total-then : live_total shut_items ≡ length (closing s n).kept.connections
   total-then =
       let a : live_total shut_items ≡ live_total xs - length shut_ids = total-endings ClosedEnd over_numbers (closings shut_ids xs) ∙ total-closings shut_ids xs in
       let b : length shut_ids ≡ length (available_ones s) + length (pending_ones s) = length-ids (available_ones s) (pending_ones s) in
-      let d : length (available_ones s) + length (pending_ones s) + length (filter is_kept s.connections) ≡ length s.connections = places s.connections in
+      let d : length (available_ones s) + length (pending_ones s) + length (filter is_kept s.kept.connections) ≡ length s.kept.connections = places s.kept.connections in
       a ∙ rw (m.counts.live_all, b) (omega arith)
 
   parties-then : (c : ℕ) → parties shut_items c ≡ one_party (holder_at (connection_at (closing s n) c))
@@ -315,17 +315,17 @@ module _ (s : PoolCore) (xs : List PoolItem) (m : Matches s xs) (n : ℕ) where
   lasts-then : {A : Type 0} (c : ℕ) (v none : A) (says : Option Connection → A) → says None ≡ none → (if lasts s c then v else none) ≡ says (connection_at s c) → (if lasts (closing s n) c then v else none) ≡ says (connection_at (closing s n) c)
   lasts-then c v none says e f = on (connection_at s c) refl
     where
-      created-yet : (x : Connection) → connection_at s c ≡ Some x → nat_lt s.created c ≡ false
+      created-yet : (x : Connection) → connection_at s c ≡ Some x → nat_lt s.kept.created c ≡ false
       created-yet x g = grind (arith, nat_tests, m.counts.unused c, g)
 
       at_place : (x : Connection) (p : Place) → connection_at s c ≡ Some x → x.place ≡ p → (if lasts (closing s n) c then v else none) ≡ says (connection_at (closing s n) c)
       at_place x Pending g p = rw (at_conn c, g, p, created-yet x g) (sym e)
       at_place x Available g p = rw (at_conn c, g, p, created-yet x g) (sym e)
-      at_place x Held g p = let k : v ≡ says (Some x) = subst (λ o. (if is_some o || nat_lt s.created c then v else none) ≡ says o) g f in rw (at_conn c, g, ap stays p) k
-      at_place x Pinned g p = let k : v ≡ says (Some x) = subst (λ o. (if is_some o || nat_lt s.created c then v else none) ≡ says o) g f in rw (at_conn c, g, ap stays p) k
+      at_place x Held g p = let k : v ≡ says (Some x) = subst (λ o. (if is_some o || nat_lt s.kept.created c then v else none) ≡ says o) g f in rw (at_conn c, g, ap stays p) k
+      at_place x Pinned g p = let k : v ≡ says (Some x) = subst (λ o. (if is_some o || nat_lt s.kept.created c then v else none) ≡ says o) g f in rw (at_conn c, g, ap stays p) k
 
       on : (o : Option Connection) → connection_at s c ≡ o → (if lasts (closing s n) c then v else none) ≡ says (connection_at (closing s n) c)
-      on None g = rw (at_conn c, g) (subst (λ o. (if is_some o || nat_lt s.created c then v else none) ≡ says o) g f)
+      on None g = rw (at_conn c, g) (subst (λ o. (if is_some o || nat_lt s.kept.created c then v else none) ≡ says o) g f)
       on (Some x) g = at_place x x.place g refl
 
   -- a connection that is closed is not pinned
@@ -366,9 +366,9 @@ module _ (s : PoolCore) (xs : List PoolItem) (m : Matches s xs) (n : ℕ) where
     counts = record {
       created = still.created ∙ m.counts.created;
       live_all = total-then;
-      pending = pending-endings ClosedEnd over_numbers (closings shut_ids xs) ∙ (pending-closings shut_ids xs ∙ (leave-all shut_ids (pending_list xs) pending-gone ∙ sym (ap (map id_of) (filter-none id_of (λ x. is_pending x.place) is_kept s.connections (λ x e. (kept-not x.place e).0)))));
-      available = available-endings ClosedEnd over_numbers (closings shut_ids xs) ∙ (available-closings shut_ids xs ∙ (leave-all shut_ids (available_list xs) available-gone ∙ sym (ap (map id_of) (filter-none id_of (λ x. is_available x.place) is_kept s.connections (λ x e. (kept-not x.place e).1)))));
-      single = λ c. named-filter id_of c is_kept s.connections (once c);
+      pending = pending-endings ClosedEnd over_numbers (closings shut_ids xs) ∙ (pending-closings shut_ids xs ∙ (leave-all shut_ids (pending_list xs) pending-gone ∙ sym (ap (map id_of) (filter-none id_of (λ x. is_pending x.place) is_kept s.kept.connections (λ x e. (kept-not x.place e).0)))));
+      available = available-endings ClosedEnd over_numbers (closings shut_ids xs) ∙ (available-closings shut_ids xs ∙ (leave-all shut_ids (available_list xs) available-gone ∙ sym (ap (map id_of) (filter-none id_of (λ x. is_available x.place) is_kept s.kept.connections (λ x e. (kept-not x.place e).1)))));
+      single = λ c. named-filter id_of c is_kept s.kept.connections (once c);
       unused = λ c h. at_conn c ∙ rw (m.counts.unused c h) refl;
     };
     connections = record {
@@ -385,9 +385,9 @@ module _ (s : PoolCore) (xs : List PoolItem) (m : Matches s xs) (n : ℕ) where
       wire = λ c. rw (still.wire c) (lasts-then c (wire_of xs c) None wire_at refl (m.told.wire c));
     };
     requests = record {
-      queue = queued-endings ClosedEnd over_numbers (closings shut_ids xs) ∙ (ap (leave over_numbers) (queued-closings shut_ids xs) ∙ (leave-all over_numbers (queued xs) queued-gone ∙ sym (none-queued s s.requests)));
+      queue = queued-endings ClosedEnd over_numbers (closings shut_ids xs) ∙ (ap (leave over_numbers) (queued-closings shut_ids xs) ∙ (leave-all over_numbers (queued xs) queued-gone ∙ sym (none-queued s s.kept.requests)));
       given = given-then;
-      single_request = λ r. named-ended s r s.requests ∙ (m.requests.single_request r ∙ ap one_if (sym (some-then (request_at s r)) ∙ ap is_some (sym (at_request r))));
+      single_request = λ r. named-ended s r s.kept.requests ∙ (m.requests.single_request r ∙ ap one_if (sym (some-then (request_at s r)) ∙ ap is_some (sym (at_request r))));
       asked_at = λ r. still.asked_at r ∙ (m.requests.asked_at r ∙ (moment-then (request_at s r) ∙ ap asked_at_of (sym (at_request r))));
       ends = ends-then;
       asks = λ r. still.asked r ∙ (m.requests.asks r ∙ (asks-then (request_at s r) ∙ ap is_asked_at (sym (at_request r))));
@@ -428,5 +428,5 @@ close-fits s xs z n =
     record {
       matches = close-matches s xs z.matches n;
       asked = λ r. rw (st.asked r, st.taken r) (z.asked r ∙ (sym (some-then s xs z.matches n (request_at s r)) ∙ ap is_some (sym (at_request s xs z.matches n r))));
-      order = st.order ∙ (z.order ∙ sym (same-numbers s s.requests));
+      order = st.order ∙ (z.order ∙ sym (same-numbers s s.kept.requests));
     }

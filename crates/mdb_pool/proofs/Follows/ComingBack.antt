@@ -42,17 +42,17 @@ module _ (s : PoolCore) (xs : List PoolItem) (m : Matches s xs) (n : ℕ) (x : C
   up_x = record x { place = Held; service = how.service_id; wire = Some how.wire }
 
   up_connection : (c : ℕ) → connection_at (establishing s n x how) c ≡ if x.id == c then Some up_x else connection_at s c
-  up_connection c = entry_at-put id_of c up_x s.connections
+  up_connection c = entry_at-put id_of c up_x s.kept.connections
 
   -- its requester holds it
   pub establish-matches : (k : ℕ) → x.holder ≡ Some k → warm_of (request_at s k) ≡ false → Matches (establishing s n x how) (established x.id how n ∷ xs)
   establish-matches k held cold = record {
     counts = record {
       created = m.counts.created;
-      live_all = grind (arith, m.counts.live_all, length-put id_of up_x s.connections, m.counts.single x.id);
-      pending = ap (without x.id) m.counts.pending ∙ sym (where-put_out id_of (λ y. is_pending y.place) up_x s.connections refl);
-      available = rw (was_granted ∙ m.links.waits x.id x k at_x (ap is_pending place) held) (m.counts.available ∙ sym (where-put_stay id_of (λ y. is_available y.place) up_x s.connections refl (m.counts.single x.id) (ap (passes id_of (λ y. is_available y.place)) at_x ∙ ap is_available place)));
-      single = λ c. grind (arith, named-put id_of c up_x s.connections, up_connection c, m.counts.single c);
+      live_all = grind (arith, m.counts.live_all, length-put id_of up_x s.kept.connections, m.counts.single x.id);
+      pending = ap (without x.id) m.counts.pending ∙ sym (where-put_out id_of (λ y. is_pending y.place) up_x s.kept.connections refl);
+      available = rw (was_granted ∙ m.links.waits x.id x k at_x (ap is_pending place) held) (m.counts.available ∙ sym (where-put_stay id_of (λ y. is_available y.place) up_x s.kept.connections refl (m.counts.single x.id) (ap (passes id_of (λ y. is_available y.place)) at_x ∙ ap is_available place)));
+      single = λ c. grind (arith, named-put id_of c up_x s.kept.connections, up_connection c, m.counts.single c);
       unused = λ c h. grind (arith, up_connection c, m.counts.unused c h);
     };
     connections = record {
@@ -97,7 +97,7 @@ module _ (s : PoolCore) (xs : List PoolItem) (m : Matches s xs) (n : ℕ) (x : C
   in_x = record x { place = Available; holder = None; service = how.service_id; wire = Some how.wire; since = n }
 
   in_connection : (c : ℕ) → connection_at (pooling s n x how) c ≡ if x.id == c then Some in_x else connection_at s c
-  in_connection c = entry_at-put id_of c in_x s.connections
+  in_connection c = entry_at-put id_of c in_x s.kept.connections
 
   kept_in : (o : Option ℕ) → without x.id (if is_some o then available_list xs else (without x.id (available_list xs) ++ x.id ∷ [])) ++ x.id ∷ [] ≡ without x.id (available_list xs) ++ x.id ∷ []
   kept_in None = ap (λ cs. cs ++ x.id ∷ []) (without-again x.id (available_list xs))
@@ -108,10 +108,10 @@ module _ (s : PoolCore) (xs : List PoolItem) (m : Matches s xs) (n : ℕ) (x : C
   pool-matches alone = record {
     counts = record {
       created = m.counts.created;
-      live_all = grind (arith, m.counts.live_all, length-put id_of in_x s.connections, m.counts.single x.id);
-      pending = ap (without x.id) m.counts.pending ∙ sym (where-put_out id_of (λ y. is_pending y.place) in_x s.connections refl);
-      available = kept_in (granted_to xs x.id) ∙ (ap (λ cs. without x.id cs ++ x.id ∷ []) m.counts.available ∙ sym (where-put id_of (λ y. is_available y.place) in_x s.connections));
-      single = λ c. grind (arith, named-put id_of c in_x s.connections, in_connection c, m.counts.single c);
+      live_all = grind (arith, m.counts.live_all, length-put id_of in_x s.kept.connections, m.counts.single x.id);
+      pending = ap (without x.id) m.counts.pending ∙ sym (where-put_out id_of (λ y. is_pending y.place) in_x s.kept.connections refl);
+      available = kept_in (granted_to xs x.id) ∙ (ap (λ cs. without x.id cs ++ x.id ∷ []) m.counts.available ∙ sym (where-put id_of (λ y. is_available y.place) in_x s.kept.connections));
+      single = λ c. grind (arith, named-put id_of c in_x s.kept.connections, in_connection c, m.counts.single c);
       unused = λ c h. grind (arith, in_connection c, m.counts.unused c h);
     };
     connections = record {
@@ -157,10 +157,10 @@ module _ (s : PoolCore) (xs : List PoolItem) (m : Matches s xs) (n : ℕ) (x : C
   rest-matches alone nobody = record {
     counts = record {
       created = m.counts.created;
-      live_all = grind (arith, m.counts.live_all, length-put id_of in_x s.connections, m.counts.single x.id);
-      pending = ap (without x.id) m.counts.pending ∙ sym (where-put_out id_of (λ y. is_pending y.place) in_x s.connections refl);
-      available = rw (was_granted ∙ nobody) (ap (λ cs. without x.id cs ++ x.id ∷ []) m.counts.available ∙ sym (where-put id_of (λ y. is_available y.place) in_x s.connections));
-      single = λ c. grind (arith, named-put id_of c in_x s.connections, in_connection c, m.counts.single c);
+      live_all = grind (arith, m.counts.live_all, length-put id_of in_x s.kept.connections, m.counts.single x.id);
+      pending = ap (without x.id) m.counts.pending ∙ sym (where-put_out id_of (λ y. is_pending y.place) in_x s.kept.connections refl);
+      available = rw (was_granted ∙ nobody) (ap (λ cs. without x.id cs ++ x.id ∷ []) m.counts.available ∙ sym (where-put id_of (λ y. is_available y.place) in_x s.kept.connections));
+      single = λ c. grind (arith, named-put id_of c in_x s.kept.connections, in_connection c, m.counts.single c);
       unused = λ c h. grind (arith, in_connection c, m.counts.unused c h);
     };
     connections = record {
@@ -211,10 +211,10 @@ module _ (s : PoolCore) (xs : List PoolItem) (m : Matches s xs) (n : ℕ) (x : C
   back_q = record q { phase = Over }
 
   back_connection : (c : ℕ) → connection_at (returning s n (used_as x used) q) c ≡ if x.id == c then Some back_x else connection_at s c
-  back_connection c = entry_at-put id_of c back_x s.connections
+  back_connection c = entry_at-put id_of c back_x s.kept.connections
 
   pub back_request : (r : ℕ) → request_at (returning s n (used_as x used) q) r ≡ if q.number == r then Some back_q else request_at s r
-  back_request r = entry_at-swap number_of r back_q s.requests (ap is_some at_q)
+  back_request r = entry_at-swap number_of r back_q s.kept.requests (ap is_some at_q)
 
   was_given : given xs q.number ≡ Some x.id
   was_given = m.requests.given q.number ∙ (ap given_of at_q ∙ ap given_in phase)
@@ -233,10 +233,10 @@ module _ (s : PoolCore) (xs : List PoolItem) (m : Matches s xs) (n : ℕ) (x : C
   return-matches loose_now = record {
     counts = record {
       created = m.counts.created;
-      live_all = grind (arith, m.counts.live_all, length-put id_of back_x s.connections, m.counts.single x.id);
-      pending = m.counts.pending ∙ sym (where-put_stay id_of (λ y. is_pending y.place) back_x s.connections refl (m.counts.single x.id) (ap (passes id_of (λ y. is_pending y.place)) at_x ∙ ap is_pending place));
-      available = ap (λ cs. without x.id cs ++ x.id ∷ []) m.counts.available ∙ sym (where-put id_of (λ y. is_available y.place) back_x s.connections);
-      single = λ c. grind (arith, named-put id_of c back_x s.connections, back_connection c, m.counts.single c);
+      live_all = grind (arith, m.counts.live_all, length-put id_of back_x s.kept.connections, m.counts.single x.id);
+      pending = m.counts.pending ∙ sym (where-put_stay id_of (λ y. is_pending y.place) back_x s.kept.connections refl (m.counts.single x.id) (ap (passes id_of (λ y. is_pending y.place)) at_x ∙ ap is_pending place));
+      available = ap (λ cs. without x.id cs ++ x.id ∷ []) m.counts.available ∙ sym (where-put id_of (λ y. is_available y.place) back_x s.kept.connections);
+      single = λ c. grind (arith, named-put id_of c back_x s.kept.connections, back_connection c, m.counts.single c);
       unused = λ c h. grind (arith, back_connection c, m.counts.unused c h);
     };
     connections = record {
@@ -253,9 +253,9 @@ module _ (s : PoolCore) (xs : List PoolItem) (m : Matches s xs) (n : ℕ) (x : C
       wire = λ c. grind (arith, nat_tests, back_connection c, m.told.wire c, m.told.wire x.id, at_x);
     };
     requests = record {
-      queue = m.requests.queue ∙ sym (where-swap_stay number_of (λ y. is_queued y.phase) back_q s.requests refl (m.requests.single_request q.number) (ap (passes number_of (λ y. is_queued y.phase)) at_q ∙ ap is_queued phase));
+      queue = m.requests.queue ∙ sym (where-swap_stay number_of (λ y. is_queued y.phase) back_q s.kept.requests refl (m.requests.single_request q.number) (ap (passes number_of (λ y. is_queued y.phase)) at_q ∙ ap is_queued phase));
       given = λ r. grind (arith, back_request r, m.requests.given r);
-      single_request = λ r. grind (arith, named-swap number_of r back_q s.requests, back_request r, m.requests.single_request r);
+      single_request = λ r. grind (arith, named-swap number_of r back_q s.kept.requests, back_request r, m.requests.single_request r);
       asked_at = λ r. grind (arith, back_request r, m.requests.asked_at r);
       ends = λ r. grind (arith, back_request r, m.requests.ends r, at_q, phase);
       asks = λ r. grind (arith, back_request r, m.requests.asks r);
@@ -286,20 +286,20 @@ module _ (s : PoolCore) (xs : List PoolItem) (m : Matches s xs) (n : ℕ) (x : C
   }
 
   gone_connection : (c : ℕ) → connection_at (dropping s n x q) c ≡ if x.id == c then None else connection_at s c
-  gone_connection c = entry_at-others id_of c x.id s.connections
+  gone_connection c = entry_at-others id_of c x.id s.kept.connections
 
   pub gone_request : (r : ℕ) → request_at (dropping s n x q) r ≡ if q.number == r then Some back_q else request_at s r
-  gone_request r = entry_at-swap number_of r back_q s.requests (ap is_some at_q)
+  gone_request r = entry_at-swap number_of r back_q s.kept.requests (ap is_some at_q)
 
   -- it is closed at once
   pub drop-matches : x.pins ≡ 0 → Matches (dropping s n x q) (closed x.id ∷ checked_in x.id n ∷ returned q.number used ∷ xs)
   drop-matches loose_now = record {
     counts = record {
       created = m.counts.created;
-      live_all = grind (arith, m.counts.live_all, length-others id_of x.id s.connections, m.counts.single x.id, at_x);
-      pending = ap (without x.id) m.counts.pending ∙ sym (map-filter-others id_of (λ y. is_pending y.place) x.id s.connections);
-      available = without-again x.id (available_list xs) ∙ (ap (without x.id) m.counts.available ∙ sym (map-filter-others id_of (λ y. is_available y.place) x.id s.connections));
-      single = λ c. grind (arith, named-others id_of c x.id s.connections, gone_connection c, m.counts.single c);
+      live_all = grind (arith, m.counts.live_all, length-others id_of x.id s.kept.connections, m.counts.single x.id, at_x);
+      pending = ap (without x.id) m.counts.pending ∙ sym (map-filter-others id_of (λ y. is_pending y.place) x.id s.kept.connections);
+      available = without-again x.id (available_list xs) ∙ (ap (without x.id) m.counts.available ∙ sym (map-filter-others id_of (λ y. is_available y.place) x.id s.kept.connections));
+      single = λ c. grind (arith, named-others id_of c x.id s.kept.connections, gone_connection c, m.counts.single c);
       unused = λ c h. grind (arith, gone_connection c, m.counts.unused c h);
     };
     connections = record {
@@ -316,9 +316,9 @@ module _ (s : PoolCore) (xs : List PoolItem) (m : Matches s xs) (n : ℕ) (x : C
       wire = λ c. grind (arith, nat_tests, gone_connection c, m.told.wire c, m.counts.unused c, at_x);
     };
     requests = record {
-      queue = m.requests.queue ∙ sym (where-swap_stay number_of (λ y. is_queued y.phase) back_q s.requests refl (m.requests.single_request q.number) (ap (passes number_of (λ y. is_queued y.phase)) at_q ∙ ap is_queued phase));
+      queue = m.requests.queue ∙ sym (where-swap_stay number_of (λ y. is_queued y.phase) back_q s.kept.requests refl (m.requests.single_request q.number) (ap (passes number_of (λ y. is_queued y.phase)) at_q ∙ ap is_queued phase));
       given = λ r. grind (arith, gone_request r, m.requests.given r);
-      single_request = λ r. grind (arith, named-swap number_of r back_q s.requests, gone_request r, m.requests.single_request r);
+      single_request = λ r. grind (arith, named-swap number_of r back_q s.kept.requests, gone_request r, m.requests.single_request r);
       asked_at = λ r. grind (arith, gone_request r, m.requests.asked_at r);
       ends = λ r. grind (arith, gone_request r, m.requests.ends r, at_q, phase);
       asks = λ r. grind (arith, gone_request r, m.requests.asks r);

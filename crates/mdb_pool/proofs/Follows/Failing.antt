@@ -33,17 +33,17 @@ without-twice c (d ∷ cs) = grind (arith, common_steps, without-twice c cs)
 -- a pending connection failed
 module _ (s : PoolCore) (xs : List PoolItem) (m : Matches s xs) (n : ℕ) (x : Connection) (service : Option ObjectId) (at_x : connection_at s x.id ≡ Some x) (loose_now : x.pins ≡ 0) where
   lost_connection : (c : ℕ) → connection_at (forgetting s n x) c ≡ if x.id == c then None else connection_at s c
-  lost_connection c = entry_at-others id_of c x.id s.connections
+  lost_connection c = entry_at-others id_of c x.id s.kept.connections
 
   -- its requester gave up
   pub forget-matches : x.holder ≡ None → Matches (forgetting s n x) (closed x.id ∷ failed x.id service ∷ xs)
   forget-matches alone = record {
     counts = record {
       created = m.counts.created;
-      live_all = grind (arith, m.counts.live_all, length-others id_of x.id s.connections, m.counts.single x.id, at_x);
-      pending = without-twice x.id (pending_list xs) ∙ (ap (without x.id) m.counts.pending ∙ sym (map-filter-others id_of (λ y. is_pending y.place) x.id s.connections));
-      available = ap (without x.id) m.counts.available ∙ sym (map-filter-others id_of (λ y. is_available y.place) x.id s.connections);
-      single = λ c. grind (arith, named-others id_of c x.id s.connections, lost_connection c, m.counts.single c);
+      live_all = grind (arith, m.counts.live_all, length-others id_of x.id s.kept.connections, m.counts.single x.id, at_x);
+      pending = without-twice x.id (pending_list xs) ∙ (ap (without x.id) m.counts.pending ∙ sym (map-filter-others id_of (λ y. is_pending y.place) x.id s.kept.connections));
+      available = ap (without x.id) m.counts.available ∙ sym (map-filter-others id_of (λ y. is_available y.place) x.id s.kept.connections);
+      single = λ c. grind (arith, named-others id_of c x.id s.kept.connections, lost_connection c, m.counts.single c);
       unused = λ c h. grind (arith, lost_connection c, m.counts.unused c h);
     };
     connections = record {
@@ -90,10 +90,10 @@ module _ (s : PoolCore) (xs : List PoolItem) (m : Matches s xs) (n : ℕ) (x : C
   failed_q = record q { phase = EndedPhase end }
 
   gone_connection : (c : ℕ) → connection_at (failing s n x q end) c ≡ if x.id == c then None else connection_at s c
-  gone_connection c = entry_at-others id_of c x.id s.connections
+  gone_connection c = entry_at-others id_of c x.id s.kept.connections
 
   pub failed_request : (r : ℕ) → request_at (failing s n x q end) r ≡ if q.number == r then Some failed_q else request_at s r
-  failed_request r = entry_at-swap number_of r failed_q s.requests (ap is_some at_q)
+  failed_request r = entry_at-swap number_of r failed_q s.kept.requests (ap is_some at_q)
 
   was_held : holder_at (connection_at s x.id) ≡ Some q.number
   was_held = ap holder_at at_x ∙ held
@@ -117,10 +117,10 @@ module _ (s : PoolCore) (xs : List PoolItem) (m : Matches s xs) (n : ℕ) (x : C
   fail-matches = record {
     counts = record {
       created = m.counts.created;
-      live_all = grind (arith, m.counts.live_all, length-others id_of x.id s.connections, m.counts.single x.id, at_x);
-      pending = without-twice x.id (pending_list xs) ∙ (ap (without x.id) m.counts.pending ∙ sym (map-filter-others id_of (λ y. is_pending y.place) x.id s.connections));
-      available = ap (without x.id) m.counts.available ∙ sym (map-filter-others id_of (λ y. is_available y.place) x.id s.connections);
-      single = λ c. grind (arith, named-others id_of c x.id s.connections, gone_connection c, m.counts.single c);
+      live_all = grind (arith, m.counts.live_all, length-others id_of x.id s.kept.connections, m.counts.single x.id, at_x);
+      pending = without-twice x.id (pending_list xs) ∙ (ap (without x.id) m.counts.pending ∙ sym (map-filter-others id_of (λ y. is_pending y.place) x.id s.kept.connections));
+      available = ap (without x.id) m.counts.available ∙ sym (map-filter-others id_of (λ y. is_available y.place) x.id s.kept.connections);
+      single = λ c. grind (arith, named-others id_of c x.id s.kept.connections, gone_connection c, m.counts.single c);
       unused = λ c h. grind (arith, gone_connection c, m.counts.unused c h);
     };
     connections = record {
@@ -137,9 +137,9 @@ module _ (s : PoolCore) (xs : List PoolItem) (m : Matches s xs) (n : ℕ) (x : C
       wire = λ c. grind (arith, nat_tests, gone_connection c, m.told.wire c, m.counts.unused c, at_x);
     };
     requests = record {
-      queue = without-absent q.number (queued xs) (rw m.requests.queue (has-where number_of (λ y. is_queued y.phase) q.number s.requests (m.requests.single_request q.number) ∙ (ap (passes number_of (λ y. is_queued y.phase)) at_q ∙ not_queued))) ∙ (m.requests.queue ∙ sym (where-swap_stay number_of (λ y. is_queued y.phase) failed_q s.requests refl (m.requests.single_request q.number) (ap (passes number_of (λ y. is_queued y.phase)) at_q ∙ not_queued)));
+      queue = without-absent q.number (queued xs) (rw m.requests.queue (has-where number_of (λ y. is_queued y.phase) q.number s.kept.requests (m.requests.single_request q.number) ∙ (ap (passes number_of (λ y. is_queued y.phase)) at_q ∙ not_queued))) ∙ (m.requests.queue ∙ sym (where-swap_stay number_of (λ y. is_queued y.phase) failed_q s.kept.requests refl (m.requests.single_request q.number) (ap (passes number_of (λ y. is_queued y.phase)) at_q ∙ not_queued)));
       given = λ r. grind (arith, failed_request r, m.requests.given r);
-      single_request = λ r. grind (arith, named-swap number_of r failed_q s.requests, failed_request r, m.requests.single_request r);
+      single_request = λ r. grind (arith, named-swap number_of r failed_q s.kept.requests, failed_request r, m.requests.single_request r);
       asked_at = λ r. grind (arith, failed_request r, m.requests.asked_at r);
       ends = λ r. grind (arith, failed_request r, m.requests.ends r);
       asks = λ r. grind (arith, failed_request r, m.requests.asks r);

@@ -14,7 +14,7 @@ use Rattle.mdb_log.specs.declared.step.Use.TheVariants.{Ok}
 use Rattle.mdb_pool.specs.Core.{PoolCore}
 use Rattle.mdb_pool.proofs.Follows.Serving.{grant-matches, new_request, asked_request, ask-matches, warm_request, warm-matches, made_request, create-matches, spawn-matches}
 use Rattle.mdb_log.specs.History.{PoolItem, asked, warmed, has_asked, gave_up, returned, established, created, closed, checked_in, granted, ended, failed, raised, pool_ready}
-use Rattle.mdb_pool.specs.Kept.Values.{connection_at, request_at, warm_of, given_in, given_of, numbers_asked, is_asked_at, used_as}
+use Rattle.mdb_pool.specs.Kept.Values.{connection_at, request_at, warm_of, given_in, given_of, numbers_asked, is_asked_at, used_as, with_connections}
 use Rattle.mdb_pool.specs.Standing.{Fits}
 use Rattle.mdb_pool.specs.Acts.Changes.{asking, creating, spawning, parting, granting, establishing, pooling, returning, dropping, quitting, leaving, handing, failing, forgetting, ending, finishing, discarding, losing, raising}
 use Rattle.mdb_pool.proofs.Follows.GivingUp.{quit_request, quit-matches, left_request, leave-matches, apart_request, part-matches, handed_request, hand-matches, late-matches}
@@ -41,12 +41,12 @@ asked-known s xs z r = z.matches.requests.asks r
 
 module _ (s : PoolCore) (xs : List PoolItem) (z : Fits s xs) (n : ℕ) where
   -- the order of asking stays where a request goes on
-  pub order-stays : (q : Request) (p : Phase) → request_at s q.number ≡ Some q → requests xs ≡ numbers_asked (swap number_of (record q { phase = p }) s.requests)
-  order-stays q p at_q = z.order ∙ sym (where-swap_same number_of (λ k. not k.took) (record q { phase = p }) q s.requests at_q (rw (z.matches.requests.single_request q.number) (one_if-le (is_some (request_at s q.number)))) refl)
+  pub order-stays : (q : Request) (p : Phase) → request_at s q.number ≡ Some q → requests xs ≡ numbers_asked (swap number_of (record q { phase = p }) s.kept.requests)
+  order-stays q p at_q = z.order ∙ sym (where-swap_same number_of (λ k. not k.took) (record q { phase = p }) q s.kept.requests at_q (rw (z.matches.requests.single_request q.number) (one_if-le (is_some (request_at s q.number)))) refl)
 
   -- a new request comes last
-  asked-last : (r : ℕ) (w : Bool) → request_at s r ≡ None → numbers_asked s.requests ++ r ∷ [] ≡ numbers_asked (put number_of (record { number = r; asked_at = n; warm = w; took = false; phase = Queued }) s.requests)
-  asked-last r w absent = sym (where-put_in number_of (λ k. not k.took) (record { number = r; asked_at = n; warm = w; took = false; phase = Queued }) s.requests refl (z.matches.requests.single_request r) (ap (passes number_of (λ k. not k.took)) absent))
+  asked-last : (r : ℕ) (w : Bool) → request_at s r ≡ None → numbers_asked s.kept.requests ++ r ∷ [] ≡ numbers_asked (put number_of (record { number = r; asked_at = n; warm = w; took = false; phase = Queued }) s.kept.requests)
+  asked-last r w absent = sym (where-put_in number_of (λ k. not k.took) (record { number = r; asked_at = n; warm = w; took = false; phase = Queued }) s.kept.requests refl (z.matches.requests.single_request r) (ap (passes number_of (λ k. not k.took)) absent))
 
   pub grant-fits : (x : Connection) (q : Request) → connection_at s x.id ≡ Some x → x.place ≡ Available → request_at s q.number ≡ Some q → q.phase ≡ Queued → q.warm ≡ false → Fits (granting s x q) (granted q.number x.id ∷ xs)
   grant-fits x q at_x place at_q phase cold = record {
@@ -55,11 +55,11 @@ module _ (s : PoolCore) (xs : List PoolItem) (z : Fits s xs) (n : ℕ) where
     order = order-stays q (Given x.id) at_q;
   }
 
-  pub create-fits : (q : Request) → request_at s q.number ≡ Some q → q.phase ≡ Queued → Fits (creating s n q) (granted q.number (s.created + 1) ∷ created (s.created + 1) n ∷ xs)
+  pub create-fits : (q : Request) → request_at s q.number ≡ Some q → q.phase ≡ Queued → Fits (creating s n q) (granted q.number (s.kept.created + 1) ∷ created (s.kept.created + 1) n ∷ xs)
   create-fits q at_q phase = record {
     matches = create-matches s xs z.matches n q at_q phase;
     asked = λ r. grind (arith, z.asked r, made_request s xs z.matches n q at_q phase r);
-    order = order-stays q (Given (s.created + 1)) at_q;
+    order = order-stays q (Given (s.kept.created + 1)) at_q;
   }
 
   pub ask-fits : (r : ℕ) → request_at s r ≡ None → Fits (asking s r n false) (asked r n ∷ xs)
@@ -76,7 +76,7 @@ module _ (s : PoolCore) (xs : List PoolItem) (z : Fits s xs) (n : ℕ) where
     order = ap (λ ks. ks ++ r ∷ []) z.order ∙ asked-last r true absent;
   }
 
-  pub spawn-fits : Fits (spawning s n) (created (s.created + 1) n ∷ xs)
+  pub spawn-fits : Fits (spawning s n) (created (s.kept.created + 1) n ∷ xs)
   spawn-fits = record { matches = spawn-matches s xs z.matches n; asked = z.asked; order = z.order }
 
   pub establish-fits : (x : Connection) (how : Established) (k : ℕ) → connection_at s x.id ≡ Some x → x.place ≡ Pending → x.holder ≡ Some k → warm_of (request_at s k) ≡ false → Fits (establishing s n x how) (established x.id how n ∷ xs)
@@ -156,7 +156,7 @@ module _ (s : PoolCore) (xs : List PoolItem) (z : Fits s xs) (n : ℕ) where
     order = order-stays q (EndedPhase end) at_q;
   }
 
-  pub late-fits : (r : ℕ) (told : List ℕ) → given_of (request_at s r) ≡ None → Fits (record s { last = n; settled = told }) (gave_up r ∷ xs)
+  pub late-fits : (r : ℕ) (told : List ℕ) → given_of (request_at s r) ≡ None → Fits (record s { kept = record s.kept { last = n; settled = told } }) (gave_up r ∷ xs)
   late-fits r told none = record {
     matches = late-matches s xs z.matches n r told none;
     asked = z.asked;
@@ -177,10 +177,10 @@ module _ (s : PoolCore) (xs : List PoolItem) (z : Fits s xs) (n : ℕ) where
     order = order-stays q (EndedPhase end) at_q;
   }
 
-  pub later-fits : Fits (record s { last = n }) xs
+  pub later-fits : Fits (record s { kept = record s.kept { last = n } }) xs
   later-fits = record { matches = later-matches s xs n z.matches; asked = z.asked; order = z.order }
 
-  pub ready-fits : Fits (record s { status = Ready }) (pool_ready ∷ xs)
+  pub ready-fits : Fits (record s { kept = record s.kept { status = Ready } }) (pool_ready ∷ xs)
   ready-fits = record { matches = ready-matches s xs z.matches; asked = z.asked; order = z.order }
 
   pub raise-fits : (service : Option ObjectId) (error : Error) → Fits (raising s n service error) (raised service error ∷ xs)
@@ -191,15 +191,15 @@ pub pool-drop-fits : (s : PoolCore) (xs : List PoolItem) (z : Fits s xs) (n : �
 pool-drop-fits s xs z n x how at_x place alone =
     let in_x : Connection = record x { place = Available; holder = None; service = how.service_id; wire = Some how.wire; since = n } in
     let u : PoolCore = pooling s n x how in
-    let at_u : connection_at u x.id ≡ Some in_x = entry_at-put id_of x.id in_x s.connections ∙ rw (same-number x.id) refl in
-    subst (λ cs. Fits (record s { last = n; connections = cs }) (closed x.id ∷ checked_in x.id n ∷ established x.id how n ∷ xs)) (others-put id_of in_x s.connections) (discard-fits u (checked_in x.id n ∷ established x.id how n ∷ xs) (pool-fits s xs z n x how at_x place alone) n in_x at_u refl)
+    let at_u : connection_at u x.id ≡ Some in_x = entry_at-put id_of x.id in_x s.kept.connections ∙ rw (same-number x.id) refl in
+    subst (λ cs. Fits (record s { kept = record s.kept { last = n; connections = cs } }) (closed x.id ∷ checked_in x.id n ∷ established x.id how n ∷ xs)) (others-put id_of in_x s.kept.connections) (discard-fits u (checked_in x.id n ∷ established x.id how n ∷ xs) (pool-fits s xs z n x how at_x place alone) n in_x at_u refl)
 
 pub lose-fits : (s : PoolCore) (xs : List PoolItem) (z : Fits s xs) (n : ℕ) (x : Connection) (q : Request) → connection_at s x.id ≡ Some x → x.place ≡ Held → request_at s q.number ≡ Some q → q.phase ≡ Given x.id → x.pins ≡ 0 → Fits (losing s n (used_as x Ok) q) (closed x.id ∷ checked_in x.id n ∷ ended q.number GaveUp ∷ gave_up q.number ∷ xs)
 lose-fits s xs z n x q at_x place at_q phase loose =
     let in_x : Connection = record (used_as x Ok) { place = Available; holder = None; since = n } in
     let u : PoolCore = handing s n (used_as x Ok) q in
-    let at_u : connection_at u x.id ≡ Some in_x = entry_at-put id_of x.id in_x s.connections ∙ rw (same-number x.id) refl in
-    subst (λ cs. Fits (record (finishing s n q (EndedPhase GaveUp)) { connections = cs }) (closed x.id ∷ checked_in x.id n ∷ ended q.number GaveUp ∷ gave_up q.number ∷ xs)) (others-put id_of in_x s.connections) (discard-fits u (checked_in x.id n ∷ ended q.number GaveUp ∷ gave_up q.number ∷ xs) (hand-fits s xs z n x q at_x place at_q phase loose) n in_x at_u refl)
+    let at_u : connection_at u x.id ≡ Some in_x = entry_at-put id_of x.id in_x s.kept.connections ∙ rw (same-number x.id) refl in
+    subst (λ cs. Fits (with_connections (finishing s n q (EndedPhase GaveUp)) cs) (closed x.id ∷ checked_in x.id n ∷ ended q.number GaveUp ∷ gave_up q.number ∷ xs)) (others-put id_of in_x s.kept.connections) (discard-fits u (checked_in x.id n ∷ ended q.number GaveUp ∷ gave_up q.number ∷ xs) (hand-fits s xs z n x q at_x place at_q phase loose) n in_x at_u refl)
 
 -- a connection that comes back to a closed pool is not checked in
 pub skip-fits : (s : PoolCore) (xs : List PoolItem) (c n : ℕ) → Fits s (closed c ∷ checked_in c n ∷ xs) → Fits s (closed c ∷ xs)
@@ -216,7 +216,7 @@ pub late-end-fits_skipped : (s : PoolCore) (xs : List PoolItem) (c n r : ℕ) (h
 late-end-fits_skipped s xs c n r how end z = record { matches = late-end_skipped s xs c n r how end z.matches; asked = z.asked; order = z.order }
 
 -- what was told and claimed, and the last moment, are nothing that the items say
-pub noted-fits : (s : PoolCore) (told claims : List ℕ) (n : ℕ) (xs : List PoolItem) → Fits s xs → Fits (record s { last = n; settled = told; claimed = claims }) xs
+pub noted-fits : (s : PoolCore) (told claims : List ℕ) (n : ℕ) (xs : List PoolItem) → Fits s xs → Fits (record s { kept = record s.kept { last = n; settled = told; claimed = claims } }) xs
 noted-fits s told claims n xs z = record {
   matches = record {
     counts = record {

@@ -33,7 +33,7 @@ module _ (s : PoolCore) (xs : List PoolItem) (m : Matches s xs) (n : ℕ) (q : R
   quit_q = record q { phase = EndedPhase GaveUp }
 
   pub quit_request : (r : ℕ) → request_at (quitting s n q) r ≡ if q.number == r then Some quit_q else request_at s r
-  quit_request r = entry_at-swap number_of r quit_q s.requests (ap is_some at_q)
+  quit_request r = entry_at-swap number_of r quit_q s.kept.requests (ap is_some at_q)
 
   given_none : given_of (request_at s q.number) ≡ None
   given_none = ap given_of at_q ∙ none
@@ -51,9 +51,9 @@ module _ (s : PoolCore) (xs : List PoolItem) (m : Matches s xs) (n : ℕ) (q : R
     };
     told = m.told;
     requests = record {
-      queue = ap (without q.number) m.requests.queue ∙ sym (where-swap_out number_of (λ y. is_queued y.phase) quit_q s.requests refl);
+      queue = ap (without q.number) m.requests.queue ∙ sym (where-swap_out number_of (λ y. is_queued y.phase) quit_q s.kept.requests refl);
       given = λ r. grind (arith, quit_request r, m.requests.given r);
-      single_request = λ r. grind (arith, named-swap number_of r quit_q s.requests, quit_request r, m.requests.single_request r);
+      single_request = λ r. grind (arith, named-swap number_of r quit_q s.kept.requests, quit_request r, m.requests.single_request r);
       asked_at = λ r. grind (arith, quit_request r, m.requests.asked_at r);
       ends = λ r. grind (arith, quit_request r, m.requests.ends r);
       asks = λ r. grind (arith, quit_request r, m.requests.asks r);
@@ -89,10 +89,10 @@ module _ (s : PoolCore) (xs : List PoolItem) (m : Matches s xs) (n : ℕ) (x : C
   left_q = record q { phase = EndedPhase GaveUp }
 
   left_connection : (c : ℕ) → connection_at (leaving s n x q) c ≡ if x.id == c then Some left_x else connection_at s c
-  left_connection c = entry_at-swap id_of c left_x s.connections (ap is_some at_x)
+  left_connection c = entry_at-swap id_of c left_x s.kept.connections (ap is_some at_x)
 
   pub left_request : (r : ℕ) → request_at (leaving s n x q) r ≡ if q.number == r then Some left_q else request_at s r
-  left_request r = entry_at-swap number_of r left_q s.requests (ap is_some at_q)
+  left_request r = entry_at-swap number_of r left_q s.kept.requests (ap is_some at_q)
 
   was_given : given xs q.number ≡ Some x.id
   was_given = m.requests.given q.number ∙ (ap given_of at_q ∙ ap given_in phase)
@@ -107,10 +107,10 @@ module _ (s : PoolCore) (xs : List PoolItem) (m : Matches s xs) (n : ℕ) (x : C
   leave-matches place = record {
     counts = record {
       created = m.counts.created;
-      live_all = m.counts.live_all ∙ sym (length-swap id_of left_x s.connections);
-      pending = m.counts.pending ∙ sym (where-swap_same id_of (λ y. is_pending y.place) left_x x s.connections at_x once refl);
-      available = m.counts.available ∙ sym (where-swap_same id_of (λ y. is_available y.place) left_x x s.connections at_x once refl);
-      single = λ c. grind (arith, named-swap id_of c left_x s.connections, left_connection c, m.counts.single c);
+      live_all = m.counts.live_all ∙ sym (length-swap id_of left_x s.kept.connections);
+      pending = m.counts.pending ∙ sym (where-swap_same id_of (λ y. is_pending y.place) left_x x s.kept.connections at_x once refl);
+      available = m.counts.available ∙ sym (where-swap_same id_of (λ y. is_available y.place) left_x x s.kept.connections at_x once refl);
+      single = λ c. grind (arith, named-swap id_of c left_x s.kept.connections, left_connection c, m.counts.single c);
       unused = λ c h. grind (arith, left_connection c, m.counts.unused c h);
     };
     connections = record {
@@ -127,9 +127,9 @@ module _ (s : PoolCore) (xs : List PoolItem) (m : Matches s xs) (n : ℕ) (x : C
       wire = λ c. grind (arith, nat_tests, left_connection c, m.told.wire c, m.told.wire x.id, at_x);
     };
     requests = record {
-      queue = without-absent q.number (queued xs) (rw m.requests.queue (has-where number_of (λ y. is_queued y.phase) q.number s.requests (m.requests.single_request q.number) ∙ (ap (passes number_of (λ y. is_queued y.phase)) at_q ∙ ap is_queued phase))) ∙ (m.requests.queue ∙ sym (where-swap_stay number_of (λ y. is_queued y.phase) left_q s.requests refl (m.requests.single_request q.number) (ap (passes number_of (λ y. is_queued y.phase)) at_q ∙ ap is_queued phase)));
+      queue = without-absent q.number (queued xs) (rw m.requests.queue (has-where number_of (λ y. is_queued y.phase) q.number s.kept.requests (m.requests.single_request q.number) ∙ (ap (passes number_of (λ y. is_queued y.phase)) at_q ∙ ap is_queued phase))) ∙ (m.requests.queue ∙ sym (where-swap_stay number_of (λ y. is_queued y.phase) left_q s.kept.requests refl (m.requests.single_request q.number) (ap (passes number_of (λ y. is_queued y.phase)) at_q ∙ ap is_queued phase)));
       given = λ r. grind (arith, left_request r, m.requests.given r);
-      single_request = λ r. grind (arith, named-swap number_of r left_q s.requests, left_request r, m.requests.single_request r);
+      single_request = λ r. grind (arith, named-swap number_of r left_q s.kept.requests, left_request r, m.requests.single_request r);
       asked_at = λ r. grind (arith, left_request r, m.requests.asked_at r);
       ends = λ r. grind (arith, left_request r, m.requests.ends r);
       asks = λ r. grind (arith, left_request r, m.requests.asks r);
@@ -159,7 +159,7 @@ module _ (s : PoolCore) (xs : List PoolItem) (m : Matches s xs) (n : ℕ) (x : C
     at_pin = λ c. rw (holding-pending xs q.number x.id was_given (pending-place s xs m x at_x ∙ ap is_pending place)) (grind (arith, left_connection c, pinned-again xs c, m.at_pin c, m.at_pin x.id, at_x, place));
   }
     where
-      once : named id_of x.id s.connections ≤ 1
+      once : named id_of x.id s.kept.connections ≤ 1
       once = rw (m.counts.single x.id) (one_if-le (is_some (connection_at s x.id)))
 
       mine : x.place ≡ Pending → x.party ≡ Some q.number
@@ -175,10 +175,10 @@ module _ (s : PoolCore) (xs : List PoolItem) (m : Matches s xs) (x : Connection)
   apart_q = record q { phase = EndedPhase end }
 
   apart_connection : (c : ℕ) → connection_at (parting s x q end) c ≡ if x.id == c then Some apart_x else connection_at s c
-  apart_connection c = entry_at-swap id_of c apart_x s.connections (ap is_some at_x)
+  apart_connection c = entry_at-swap id_of c apart_x s.kept.connections (ap is_some at_x)
 
   pub apart_request : (r : ℕ) → request_at (parting s x q end) r ≡ if q.number == r then Some apart_q else request_at s r
-  apart_request r = entry_at-swap number_of r apart_q s.requests (ap is_some at_q)
+  apart_request r = entry_at-swap number_of r apart_q s.kept.requests (ap is_some at_q)
 
   kept_for : holder_at (connection_at s x.id) ≡ Some q.number
   kept_for = m.links.taken q.number x.id (ap given_of at_q ∙ ap given_in phase)
@@ -190,10 +190,10 @@ module _ (s : PoolCore) (xs : List PoolItem) (m : Matches s xs) (x : Connection)
   part-matches place = record {
     counts = record {
       created = m.counts.created;
-      live_all = m.counts.live_all ∙ sym (length-swap id_of apart_x s.connections);
-      pending = m.counts.pending ∙ sym (where-swap_same id_of (λ y. is_pending y.place) apart_x x s.connections at_x once refl);
-      available = m.counts.available ∙ sym (where-swap_same id_of (λ y. is_available y.place) apart_x x s.connections at_x once refl);
-      single = λ c. grind (arith, named-swap id_of c apart_x s.connections, apart_connection c, m.counts.single c);
+      live_all = m.counts.live_all ∙ sym (length-swap id_of apart_x s.kept.connections);
+      pending = m.counts.pending ∙ sym (where-swap_same id_of (λ y. is_pending y.place) apart_x x s.kept.connections at_x once refl);
+      available = m.counts.available ∙ sym (where-swap_same id_of (λ y. is_available y.place) apart_x x s.kept.connections at_x once refl);
+      single = λ c. grind (arith, named-swap id_of c apart_x s.kept.connections, apart_connection c, m.counts.single c);
       unused = λ c h. grind (arith, apart_connection c, m.counts.unused c h);
     };
     connections = record {
@@ -210,9 +210,9 @@ module _ (s : PoolCore) (xs : List PoolItem) (m : Matches s xs) (x : Connection)
       wire = λ c. grind (arith, nat_tests, apart_connection c, m.told.wire c, m.told.wire x.id, at_x);
     };
     requests = record {
-      queue = without-absent q.number (queued xs) (rw m.requests.queue (has-where number_of (λ y. is_queued y.phase) q.number s.requests (m.requests.single_request q.number) ∙ (ap (passes number_of (λ y. is_queued y.phase)) at_q ∙ ap is_queued phase))) ∙ (m.requests.queue ∙ sym (where-swap_stay number_of (λ y. is_queued y.phase) apart_q s.requests refl (m.requests.single_request q.number) (ap (passes number_of (λ y. is_queued y.phase)) at_q ∙ ap is_queued phase)));
+      queue = without-absent q.number (queued xs) (rw m.requests.queue (has-where number_of (λ y. is_queued y.phase) q.number s.kept.requests (m.requests.single_request q.number) ∙ (ap (passes number_of (λ y. is_queued y.phase)) at_q ∙ ap is_queued phase))) ∙ (m.requests.queue ∙ sym (where-swap_stay number_of (λ y. is_queued y.phase) apart_q s.kept.requests refl (m.requests.single_request q.number) (ap (passes number_of (λ y. is_queued y.phase)) at_q ∙ ap is_queued phase)));
       given = λ r. grind (arith, apart_request r, m.requests.given r);
-      single_request = λ r. grind (arith, named-swap number_of r apart_q s.requests, apart_request r, m.requests.single_request r);
+      single_request = λ r. grind (arith, named-swap number_of r apart_q s.kept.requests, apart_request r, m.requests.single_request r);
       asked_at = λ r. grind (arith, apart_request r, m.requests.asked_at r);
       ends = λ r. grind (arith, apart_request r, m.requests.ends r);
       asks = λ r. grind (arith, apart_request r, m.requests.asks r);
@@ -242,7 +242,7 @@ module _ (s : PoolCore) (xs : List PoolItem) (m : Matches s xs) (x : Connection)
     at_pin = λ c. grind (arith, apart_connection c, pinned-again xs c, m.at_pin c, m.at_pin x.id, at_x);
   }
     where
-      once : named id_of x.id s.connections ≤ 1
+      once : named id_of x.id s.kept.connections ≤ 1
       once = rw (m.counts.single x.id) (one_if-le (is_some (connection_at s x.id)))
 
       mine : x.place ≡ Pending → x.party ≡ Some q.number
@@ -255,10 +255,10 @@ module _ (s : PoolCore) (xs : List PoolItem) (m : Matches s xs) (n : ℕ) (x : C
   handed_x = record (used_as x Ok) { place = Available; holder = None; since = n }
 
   handed_connection : (c : ℕ) → connection_at (handing s n (used_as x Ok) q) c ≡ if x.id == c then Some handed_x else connection_at s c
-  handed_connection c = entry_at-put id_of c handed_x s.connections
+  handed_connection c = entry_at-put id_of c handed_x s.kept.connections
 
   pub handed_request : (r : ℕ) → request_at (handing s n (used_as x Ok) q) r ≡ if q.number == r then Some (left_q s xs m n x q at_x at_q phase) else request_at s r
-  handed_request r = entry_at-swap number_of r (left_q s xs m n x q at_x at_q phase) s.requests (ap is_some at_q)
+  handed_request r = entry_at-swap number_of r (left_q s xs m n x q at_x at_q phase) s.kept.requests (ap is_some at_q)
 
   had_given : given xs q.number ≡ Some x.id
   had_given = m.requests.given q.number ∙ (ap given_of at_q ∙ ap given_in phase)
@@ -276,10 +276,10 @@ module _ (s : PoolCore) (xs : List PoolItem) (m : Matches s xs) (n : ℕ) (x : C
   hand-matches loose_now = record {
     counts = record {
       created = m.counts.created;
-      live_all = grind (arith, m.counts.live_all, length-put id_of handed_x s.connections, m.counts.single x.id);
-      pending = m.counts.pending ∙ sym (where-put_stay id_of (λ y. is_pending y.place) handed_x s.connections refl (m.counts.single x.id) (ap (passes id_of (λ y. is_pending y.place)) at_x ∙ ap is_pending place));
-      available = ap (λ cs. without x.id cs ++ x.id ∷ []) m.counts.available ∙ sym (where-put id_of (λ y. is_available y.place) handed_x s.connections);
-      single = λ c. grind (arith, named-put id_of c handed_x s.connections, handed_connection c, m.counts.single c);
+      live_all = grind (arith, m.counts.live_all, length-put id_of handed_x s.kept.connections, m.counts.single x.id);
+      pending = m.counts.pending ∙ sym (where-put_stay id_of (λ y. is_pending y.place) handed_x s.kept.connections refl (m.counts.single x.id) (ap (passes id_of (λ y. is_pending y.place)) at_x ∙ ap is_pending place));
+      available = ap (λ cs. without x.id cs ++ x.id ∷ []) m.counts.available ∙ sym (where-put id_of (λ y. is_available y.place) handed_x s.kept.connections);
+      single = λ c. grind (arith, named-put id_of c handed_x s.kept.connections, handed_connection c, m.counts.single c);
       unused = λ c h. grind (arith, handed_connection c, m.counts.unused c h);
     };
     connections = record {
@@ -296,9 +296,9 @@ module _ (s : PoolCore) (xs : List PoolItem) (m : Matches s xs) (n : ℕ) (x : C
       wire = λ c. grind (arith, nat_tests, handed_connection c, m.told.wire c, m.told.wire x.id, at_x);
     };
     requests = record {
-      queue = without-absent q.number (queued xs) (rw m.requests.queue (has-where number_of (λ y. is_queued y.phase) q.number s.requests (m.requests.single_request q.number) ∙ (ap (passes number_of (λ y. is_queued y.phase)) at_q ∙ ap is_queued phase))) ∙ (m.requests.queue ∙ sym (where-swap_stay number_of (λ y. is_queued y.phase) (left_q s xs m n x q at_x at_q phase) s.requests refl (m.requests.single_request q.number) (ap (passes number_of (λ y. is_queued y.phase)) at_q ∙ ap is_queued phase)));
+      queue = without-absent q.number (queued xs) (rw m.requests.queue (has-where number_of (λ y. is_queued y.phase) q.number s.kept.requests (m.requests.single_request q.number) ∙ (ap (passes number_of (λ y. is_queued y.phase)) at_q ∙ ap is_queued phase))) ∙ (m.requests.queue ∙ sym (where-swap_stay number_of (λ y. is_queued y.phase) (left_q s xs m n x q at_x at_q phase) s.kept.requests refl (m.requests.single_request q.number) (ap (passes number_of (λ y. is_queued y.phase)) at_q ∙ ap is_queued phase)));
       given = λ r. grind (arith, handed_request r, m.requests.given r);
-      single_request = λ r. grind (arith, named-swap number_of r (left_q s xs m n x q at_x at_q phase) s.requests, handed_request r, m.requests.single_request r);
+      single_request = λ r. grind (arith, named-swap number_of r (left_q s xs m n x q at_x at_q phase) s.kept.requests, handed_request r, m.requests.single_request r);
       asked_at = λ r. grind (arith, handed_request r, m.requests.asked_at r);
       ends = λ r. grind (arith, handed_request r, m.requests.ends r);
       asks = λ r. grind (arith, handed_request r, m.requests.asks r);
@@ -329,7 +329,7 @@ module _ (s : PoolCore) (xs : List PoolItem) (m : Matches s xs) (n : ℕ) (x : C
   }
 
 -- a request that ended is given up late
-pub late-matches : (s : PoolCore) (xs : List PoolItem) (m : Matches s xs) (n r : ℕ) (told : List ℕ) → given_of (request_at s r) ≡ None → Matches (record s { last = n; settled = told }) (gave_up r ∷ xs)
+pub late-matches : (s : PoolCore) (xs : List PoolItem) (m : Matches s xs) (n r : ℕ) (told : List ℕ) → given_of (request_at s r) ≡ None → Matches (record s { kept = record s.kept { last = n; settled = told } }) (gave_up r ∷ xs)
 late-matches s xs m n r told none = record {
   counts = m.counts;
   connections = m.connections;

@@ -3,6 +3,7 @@ use Rattle.std.proofs.Common.{ℕ, ◌≡◌, Bool, true, false, ◌&&◌, [], �
 use Rattle.mdb_base.specs.declared.address.ServerAddress.{ServerAddress}
 use Rattle.mdb_base.specs.Equality.{same_address}
 use Rattle.mdb_log.specs.declared.options.PoolOptions.{PoolOptions}
+use Rattle.mdb_pool.specs.Now.{queries}
 use Rattle.mdb_pool.specs.declared.kept.status.Status.{Status}
 use Rattle.mdb_pool.specs.Kept.Inner.{Inner}
 use Rattle.mdb_pool.specs.Core.{PoolCore}
@@ -15,7 +16,7 @@ use Rattle.mdb_log.proofs.Numbers.{same-number}
 
 module _ (p : ℕ) (a : ServerAddress) (o : PoolOptions) (status : Status) (alone : Bool) (inner : Inner) where
   abbrev pub opened : PoolCore
-  opened = record { pool = p; address = a; options = o; last = 0; created = 0; connections = []; requests = []; status = status; clears = []; settled = []; claimed = []; alone = alone; inner = inner }
+  opened = record { pool = p; address = a; options = o; kept = record { last = 0; created = 0; connections = []; requests = []; status = status; clears = []; settled = []; claimed = []; alone = alone; inner = inner } }
 
   both : {A : Type 0} (b : Bool) (x : A) → (if b then x else x) ≡ x
   both true x = refl
@@ -86,6 +87,7 @@ module _ (p : ℕ) (a : ServerAddress) (o : PoolOptions) (status : Status) (alon
   opened-items = rw (same-number p) refl
 
   pub opening-stands : state_in status ≡ (if o.load_balanced then is_ready else is_new) → is_shut status ≡ false → StandsFor opened (opening p a o)
+  unfolding queries
   opening-stands e unshut = record {
     fits = subst (Fits opened) (sym opened-items) (record { matches = opened-matches e; asked = λ r. refl; order = refl });
     last_is = refl;

@@ -50,19 +50,19 @@ module _ (s : PoolCore) (xs : List PoolItem) (m : Matches s xs) (n : ℕ) (x : C
     back_q = record q { phase = Over }
 
     back_connection : (c : ℕ) → connection_at (to_pin s n (used_as x used) q Over) c ≡ if x.id == c then Some back_x else connection_at s c
-    back_connection c = entry_at-swap id_of c back_x s.connections (ap is_some at_x)
+    back_connection c = entry_at-swap id_of c back_x s.kept.connections (ap is_some at_x)
 
     pub back_request : (r : ℕ) → request_at (to_pin s n (used_as x used) q Over) r ≡ if q.number == r then Some back_q else request_at s r
-    back_request r = entry_at-swap number_of r back_q s.requests (ap is_some at_q)
+    back_request r = entry_at-swap number_of r back_q s.kept.requests (ap is_some at_q)
 
     pub stand-matches : Matches (to_pin s n (used_as x used) q Over) (returned q.number used ∷ xs)
     stand-matches = record {
       counts = record {
         created = m.counts.created;
-        live_all = m.counts.live_all ∙ sym (length-swap id_of back_x s.connections);
-        pending = m.counts.pending ∙ sym (where-swap_stay id_of (λ y. is_pending y.place) back_x s.connections refl (m.counts.single x.id) (ap (passes id_of (λ y. is_pending y.place)) at_x ∙ ap is_pending place));
-        available = m.counts.available ∙ sym (where-swap_stay id_of (λ y. is_available y.place) back_x s.connections refl (m.counts.single x.id) (ap (passes id_of (λ y. is_available y.place)) at_x ∙ ap is_available place));
-        single = λ c. grind (arith, named-swap id_of c back_x s.connections, back_connection c, m.counts.single c);
+        live_all = m.counts.live_all ∙ sym (length-swap id_of back_x s.kept.connections);
+        pending = m.counts.pending ∙ sym (where-swap_stay id_of (λ y. is_pending y.place) back_x s.kept.connections refl (m.counts.single x.id) (ap (passes id_of (λ y. is_pending y.place)) at_x ∙ ap is_pending place));
+        available = m.counts.available ∙ sym (where-swap_stay id_of (λ y. is_available y.place) back_x s.kept.connections refl (m.counts.single x.id) (ap (passes id_of (λ y. is_available y.place)) at_x ∙ ap is_available place));
+        single = λ c. grind (arith, named-swap id_of c back_x s.kept.connections, back_connection c, m.counts.single c);
         unused = λ c h. grind (arith, back_connection c, m.counts.unused c h);
       };
       connections = record {
@@ -79,9 +79,9 @@ module _ (s : PoolCore) (xs : List PoolItem) (m : Matches s xs) (n : ℕ) (x : C
         wire = λ c. grind (arith, nat_tests, back_connection c, m.told.wire c, m.told.wire x.id, at_x);
       };
       requests = record {
-        queue = m.requests.queue ∙ sym (where-swap_stay number_of (λ y. is_queued y.phase) back_q s.requests refl (m.requests.single_request q.number) (ap (passes number_of (λ y. is_queued y.phase)) at_q ∙ ap is_queued phase));
+        queue = m.requests.queue ∙ sym (where-swap_stay number_of (λ y. is_queued y.phase) back_q s.kept.requests refl (m.requests.single_request q.number) (ap (passes number_of (λ y. is_queued y.phase)) at_q ∙ ap is_queued phase));
         given = λ r. grind (arith, back_request r, m.requests.given r);
-        single_request = λ r. grind (arith, named-swap number_of r back_q s.requests, back_request r, m.requests.single_request r);
+        single_request = λ r. grind (arith, named-swap number_of r back_q s.kept.requests, back_request r, m.requests.single_request r);
         asked_at = λ r. grind (arith, back_request r, m.requests.asked_at r);
         ends = λ r. grind (arith, back_request r, m.requests.ends r, at_q, phase);
         asks = λ r. grind (arith, back_request r, m.requests.asks r);
@@ -119,19 +119,19 @@ module _ (s : PoolCore) (xs : List PoolItem) (m : Matches s xs) (n : ℕ) (x : C
   left_q = record q { phase = EndedPhase GaveUp }
 
   left_connection : (c : ℕ) → connection_at (to_pin s n (used_as x Ok) q (EndedPhase GaveUp)) c ≡ if x.id == c then Some left_x else connection_at s c
-  left_connection c = entry_at-swap id_of c left_x s.connections (ap is_some at_x)
+  left_connection c = entry_at-swap id_of c left_x s.kept.connections (ap is_some at_x)
 
   pub left_request : (r : ℕ) → request_at (to_pin s n (used_as x Ok) q (EndedPhase GaveUp)) r ≡ if q.number == r then Some left_q else request_at s r
-  left_request r = entry_at-swap number_of r left_q s.requests (ap is_some at_q)
+  left_request r = entry_at-swap number_of r left_q s.kept.requests (ap is_some at_q)
 
   pub quit-pinned-matches : Matches (to_pin s n (used_as x Ok) q (EndedPhase GaveUp)) (ended q.number GaveUp ∷ gave_up q.number ∷ xs)
   quit-pinned-matches = record {
     counts = record {
       created = m.counts.created;
-      live_all = m.counts.live_all ∙ sym (length-swap id_of left_x s.connections);
-      pending = m.counts.pending ∙ sym (where-swap_stay id_of (λ y. is_pending y.place) left_x s.connections refl (m.counts.single x.id) (ap (passes id_of (λ y. is_pending y.place)) at_x ∙ ap is_pending place));
-      available = m.counts.available ∙ sym (where-swap_stay id_of (λ y. is_available y.place) left_x s.connections refl (m.counts.single x.id) (ap (passes id_of (λ y. is_available y.place)) at_x ∙ ap is_available place));
-      single = λ c. grind (arith, named-swap id_of c left_x s.connections, left_connection c, m.counts.single c);
+      live_all = m.counts.live_all ∙ sym (length-swap id_of left_x s.kept.connections);
+      pending = m.counts.pending ∙ sym (where-swap_stay id_of (λ y. is_pending y.place) left_x s.kept.connections refl (m.counts.single x.id) (ap (passes id_of (λ y. is_pending y.place)) at_x ∙ ap is_pending place));
+      available = m.counts.available ∙ sym (where-swap_stay id_of (λ y. is_available y.place) left_x s.kept.connections refl (m.counts.single x.id) (ap (passes id_of (λ y. is_available y.place)) at_x ∙ ap is_available place));
+      single = λ c. grind (arith, named-swap id_of c left_x s.kept.connections, left_connection c, m.counts.single c);
       unused = λ c h. grind (arith, left_connection c, m.counts.unused c h);
     };
     connections = record {
@@ -148,9 +148,9 @@ module _ (s : PoolCore) (xs : List PoolItem) (m : Matches s xs) (n : ℕ) (x : C
       wire = λ c. grind (arith, nat_tests, left_connection c, m.told.wire c, m.told.wire x.id, at_x);
     };
     requests = record {
-      queue = without-absent q.number (queued xs) (rw m.requests.queue (has-where number_of (λ y. is_queued y.phase) q.number s.requests (m.requests.single_request q.number) ∙ (ap (passes number_of (λ y. is_queued y.phase)) at_q ∙ ap is_queued phase))) ∙ (m.requests.queue ∙ sym (where-swap_stay number_of (λ y. is_queued y.phase) left_q s.requests refl (m.requests.single_request q.number) (ap (passes number_of (λ y. is_queued y.phase)) at_q ∙ ap is_queued phase)));
+      queue = without-absent q.number (queued xs) (rw m.requests.queue (has-where number_of (λ y. is_queued y.phase) q.number s.kept.requests (m.requests.single_request q.number) ∙ (ap (passes number_of (λ y. is_queued y.phase)) at_q ∙ ap is_queued phase))) ∙ (m.requests.queue ∙ sym (where-swap_stay number_of (λ y. is_queued y.phase) left_q s.kept.requests refl (m.requests.single_request q.number) (ap (passes number_of (λ y. is_queued y.phase)) at_q ∙ ap is_queued phase)));
       given = λ r. grind (arith, left_request r, m.requests.given r);
-      single_request = λ r. grind (arith, named-swap number_of r left_q s.requests, left_request r, m.requests.single_request r);
+      single_request = λ r. grind (arith, named-swap number_of r left_q s.kept.requests, left_request r, m.requests.single_request r);
       asked_at = λ r. grind (arith, left_request r, m.requests.asked_at r);
       ends = λ r. grind (arith, left_request r, m.requests.ends r);
       asks = λ r. grind (arith, left_request r, m.requests.asks r);
@@ -186,9 +186,9 @@ module _ (s : PoolCore) (xs : List PoolItem) (m : Matches s xs) (n : ℕ) (x : C
   pinned_x = record x { pins = x.pins + 1 }
 
   pinned_connection : (c : ℕ) → connection_at (pinning s n x) c ≡ if x.id == c then Some pinned_x else connection_at s c
-  pinned_connection c = entry_at-swap id_of c pinned_x s.connections (ap is_some at_x)
+  pinned_connection c = entry_at-swap id_of c pinned_x s.kept.connections (ap is_some at_x)
 
-  once : named id_of x.id s.connections ≤ 1
+  once : named id_of x.id s.kept.connections ≤ 1
   once = rw (m.counts.single x.id) (one_if-le (is_some (connection_at s x.id)))
 
   -- from its holder
@@ -196,10 +196,10 @@ module _ (s : PoolCore) (xs : List PoolItem) (m : Matches s xs) (n : ℕ) (x : C
   pin-matches k mine place = record {
     counts = record {
       created = m.counts.created;
-      live_all = m.counts.live_all ∙ sym (length-swap id_of pinned_x s.connections);
-      pending = m.counts.pending ∙ sym (where-swap_same id_of (λ y. is_pending y.place) pinned_x x s.connections at_x once refl);
-      available = m.counts.available ∙ sym (where-swap_same id_of (λ y. is_available y.place) pinned_x x s.connections at_x once refl);
-      single = λ c. grind (arith, named-swap id_of c pinned_x s.connections, pinned_connection c, m.counts.single c);
+      live_all = m.counts.live_all ∙ sym (length-swap id_of pinned_x s.kept.connections);
+      pending = m.counts.pending ∙ sym (where-swap_same id_of (λ y. is_pending y.place) pinned_x x s.kept.connections at_x once refl);
+      available = m.counts.available ∙ sym (where-swap_same id_of (λ y. is_available y.place) pinned_x x s.kept.connections at_x once refl);
+      single = λ c. grind (arith, named-swap id_of c pinned_x s.kept.connections, pinned_connection c, m.counts.single c);
       unused = λ c h. grind (arith, pinned_connection c, m.counts.unused c h);
     };
     connections = record {
@@ -245,10 +245,10 @@ module _ (s : PoolCore) (xs : List PoolItem) (m : Matches s xs) (n : ℕ) (x : C
   replicate-matches = record {
     counts = record {
       created = m.counts.created;
-      live_all = m.counts.live_all ∙ sym (length-swap id_of pinned_x s.connections);
-      pending = m.counts.pending ∙ sym (where-swap_same id_of (λ y. is_pending y.place) pinned_x x s.connections at_x once refl);
-      available = m.counts.available ∙ sym (where-swap_same id_of (λ y. is_available y.place) pinned_x x s.connections at_x once refl);
-      single = λ c. grind (arith, named-swap id_of c pinned_x s.connections, pinned_connection c, m.counts.single c);
+      live_all = m.counts.live_all ∙ sym (length-swap id_of pinned_x s.kept.connections);
+      pending = m.counts.pending ∙ sym (where-swap_same id_of (λ y. is_pending y.place) pinned_x x s.kept.connections at_x once refl);
+      available = m.counts.available ∙ sym (where-swap_same id_of (λ y. is_available y.place) pinned_x x s.kept.connections at_x once refl);
+      single = λ c. grind (arith, named-swap id_of c pinned_x s.kept.connections, pinned_connection c, m.counts.single c);
       unused = λ c h. grind (arith, pinned_connection c, m.counts.unused c h);
     };
     connections = record {
@@ -301,16 +301,16 @@ module _ (s : PoolCore) (xs : List PoolItem) (m : Matches s xs) (n : ℕ) (x : C
 module _ (s : PoolCore) (xs : List PoolItem) (m : Matches s xs) (n k : ℕ) (x : Connection)
     (at_x : connection_at s x.id ≡ Some x) (place : x.place ≡ Pinned) (absent : request_at s k ≡ None) where
   abbrev taken_x : Connection
-  taken_x = record x { place = Held; holder = Some k; timeouts = timeouts_in s.clears }
+  taken_x = record x { place = Held; holder = Some k; timeouts = timeouts_in s.kept.clears }
 
   abbrev pub taken_q : Request
   taken_q = record { number = k; asked_at = 0; warm = false; took = true; phase = Given x.id }
 
   taken_connection : (c : ℕ) → connection_at (taking s n k x) c ≡ if x.id == c then Some taken_x else connection_at s c
-  taken_connection c = entry_at-swap id_of c taken_x s.connections (ap is_some at_x)
+  taken_connection c = entry_at-swap id_of c taken_x s.kept.connections (ap is_some at_x)
 
   pub taken_request : (r : ℕ) → request_at (taking s n k x) r ≡ if k == r then Some taken_q else request_at s r
-  taken_request r = entry_at-put number_of r taken_q s.requests
+  taken_request r = entry_at-put number_of r taken_q s.kept.requests
 
   nobody : x.holder ≡ None
   nobody = m.pinning.rests x.id x at_x (ap is_at_pin place)
@@ -319,10 +319,10 @@ module _ (s : PoolCore) (xs : List PoolItem) (m : Matches s xs) (n k : ℕ) (x :
   take-matches = record {
     counts = record {
       created = m.counts.created;
-      live_all = m.counts.live_all ∙ sym (length-swap id_of taken_x s.connections);
-      pending = m.counts.pending ∙ sym (where-swap_stay id_of (λ y. is_pending y.place) taken_x s.connections refl (m.counts.single x.id) (ap (passes id_of (λ y. is_pending y.place)) at_x ∙ ap is_pending place));
-      available = m.counts.available ∙ sym (where-swap_stay id_of (λ y. is_available y.place) taken_x s.connections refl (m.counts.single x.id) (ap (passes id_of (λ y. is_available y.place)) at_x ∙ ap is_available place));
-      single = λ c. grind (arith, named-swap id_of c taken_x s.connections, taken_connection c, m.counts.single c);
+      live_all = m.counts.live_all ∙ sym (length-swap id_of taken_x s.kept.connections);
+      pending = m.counts.pending ∙ sym (where-swap_stay id_of (λ y. is_pending y.place) taken_x s.kept.connections refl (m.counts.single x.id) (ap (passes id_of (λ y. is_pending y.place)) at_x ∙ ap is_pending place));
+      available = m.counts.available ∙ sym (where-swap_stay id_of (λ y. is_available y.place) taken_x s.kept.connections refl (m.counts.single x.id) (ap (passes id_of (λ y. is_available y.place)) at_x ∙ ap is_available place));
+      single = λ c. grind (arith, named-swap id_of c taken_x s.kept.connections, taken_connection c, m.counts.single c);
       unused = λ c h. grind (arith, taken_connection c, m.counts.unused c h);
     };
     connections = record {
@@ -339,9 +339,9 @@ module _ (s : PoolCore) (xs : List PoolItem) (m : Matches s xs) (n k : ℕ) (x :
       wire = λ c. grind (arith, nat_tests, taken_connection c, m.told.wire c, m.told.wire x.id, at_x);
     };
     requests = record {
-      queue = m.requests.queue ∙ sym (where-put_stay number_of (λ y. is_queued y.phase) taken_q s.requests refl (m.requests.single_request k) (ap (passes number_of (λ y. is_queued y.phase)) absent));
+      queue = m.requests.queue ∙ sym (where-put_stay number_of (λ y. is_queued y.phase) taken_q s.kept.requests refl (m.requests.single_request k) (ap (passes number_of (λ y. is_queued y.phase)) absent));
       given = λ r. grind (arith, taken_request r, m.requests.given r);
-      single_request = λ r. grind (arith, named-put number_of r taken_q s.requests, taken_request r, m.requests.single_request r);
+      single_request = λ r. grind (arith, named-put number_of r taken_q s.kept.requests, taken_request r, m.requests.single_request r);
       asked_at = λ r. grind (arith, taken_request r, m.requests.asked_at r, absent);
       ends = λ r. grind (arith, taken_request r, m.requests.ends r, absent);
       asks = λ r. grind (arith, taken_request r, m.requests.asks r, absent);
@@ -377,19 +377,19 @@ module _ (s : PoolCore) (xs : List PoolItem) (m : Matches s xs) (n : ℕ) (x : C
   fewer_x = unpinned_once s x
 
   fewer_connection : (c : ℕ) → connection_at (unpinning s n x) c ≡ if x.id == c then Some fewer_x else connection_at s c
-  fewer_connection c = entry_at-swap id_of c fewer_x s.connections (ap is_some at_x)
+  fewer_connection c = entry_at-swap id_of c fewer_x s.kept.connections (ap is_some at_x)
 
-  single_x : named id_of x.id s.connections ≤ 1
+  single_x : named id_of x.id s.kept.connections ≤ 1
   single_x = rw (m.counts.single x.id) (one_if-le (is_some (connection_at s x.id)))
 
   pub unpin-matches : nat_lt 0 x.pins ≡ true → is_at_pin x.place && (x.pins == 1) ≡ false → Matches (unpinning s n x) (unpinned x.id ∷ xs)
   unpin-matches some_pins not_last = record {
     counts = record {
       created = m.counts.created;
-      live_all = m.counts.live_all ∙ sym (length-swap id_of fewer_x s.connections);
-      pending = m.counts.pending ∙ sym (where-swap_same id_of (λ y. is_pending y.place) fewer_x x s.connections at_x single_x refl);
-      available = m.counts.available ∙ sym (where-swap_same id_of (λ y. is_available y.place) fewer_x x s.connections at_x single_x refl);
-      single = λ c. grind (arith, named-swap id_of c fewer_x s.connections, fewer_connection c, m.counts.single c);
+      live_all = m.counts.live_all ∙ sym (length-swap id_of fewer_x s.kept.connections);
+      pending = m.counts.pending ∙ sym (where-swap_same id_of (λ y. is_pending y.place) fewer_x x s.kept.connections at_x single_x refl);
+      available = m.counts.available ∙ sym (where-swap_same id_of (λ y. is_available y.place) fewer_x x s.kept.connections at_x single_x refl);
+      single = λ c. grind (arith, named-swap id_of c fewer_x s.kept.connections, fewer_connection c, m.counts.single c);
       unused = λ c h. grind (arith, fewer_connection c, m.counts.unused c h);
     };
     connections = record {
@@ -443,16 +443,16 @@ module _ (s : PoolCore) (xs : List PoolItem) (m : Matches s xs) (n : ℕ) (x : C
   free_x = record fewer_x { place = Available; holder = None; since = n }
 
   free_connection : (c : ℕ) → connection_at (pin_ending s n x None) c ≡ if x.id == c then Some free_x else connection_at s c
-  free_connection c = entry_at-put id_of c free_x s.connections
+  free_connection c = entry_at-put id_of c free_x s.kept.connections
 
   pub pin-end-matches : x.place ≡ Pinned → x.pins ≡ 1 → Matches (pin_ending s n x None) (checked_in x.id n ∷ unpinned x.id ∷ xs)
   pin-end-matches place one = record {
     counts = record {
       created = m.counts.created;
-      live_all = grind (arith, m.counts.live_all, length-put id_of free_x s.connections, m.counts.single x.id);
-      pending = m.counts.pending ∙ sym (where-put_stay id_of (λ y. is_pending y.place) free_x s.connections refl (m.counts.single x.id) (ap (passes id_of (λ y. is_pending y.place)) at_x ∙ ap is_pending place));
-      available = ap (λ cs. without x.id cs ++ x.id ∷ []) m.counts.available ∙ sym (where-put id_of (λ y. is_available y.place) free_x s.connections);
-      single = λ c. grind (arith, named-put id_of c free_x s.connections, free_connection c, m.counts.single c);
+      live_all = grind (arith, m.counts.live_all, length-put id_of free_x s.kept.connections, m.counts.single x.id);
+      pending = m.counts.pending ∙ sym (where-put_stay id_of (λ y. is_pending y.place) free_x s.kept.connections refl (m.counts.single x.id) (ap (passes id_of (λ y. is_pending y.place)) at_x ∙ ap is_pending place));
+      available = ap (λ cs. without x.id cs ++ x.id ∷ []) m.counts.available ∙ sym (where-put id_of (λ y. is_available y.place) free_x s.kept.connections);
+      single = λ c. grind (arith, named-put id_of c free_x s.kept.connections, free_connection c, m.counts.single c);
       unused = λ c h. grind (arith, free_connection c, m.counts.unused c h);
     };
     connections = record {

@@ -52,7 +52,7 @@ module _ (s : PoolCore) (xs : List PoolItem) (z : Fits s xs) (n : ℕ) where
   take-fits x r at_x place absent = record {
     matches = take-matches s xs z.matches n r x at_x place absent;
     asked = λ k. grind (arith, z.asked k, taken_request s xs z.matches n r x at_x place absent k);
-    order = z.order ∙ sym (where-put_stay (λ (q : Request). q.number) (λ q. not q.took) (taken_q s xs z.matches n r x at_x place absent) s.requests refl (z.matches.requests.single_request r) (ap (passes (λ (q : Request). q.number) (λ q. not q.took)) absent));
+    order = z.order ∙ sym (where-put_stay (λ (q : Request). q.number) (λ q. not q.took) (taken_q s xs z.matches n r x at_x place absent) s.kept.requests refl (z.matches.requests.single_request r) (ap (passes (λ (q : Request). q.number) (λ q. not q.took)) absent));
   }
 
   pub unpin-fits : (x : Connection) → connection_at s x.id ≡ Some x → nat_lt 0 x.pins ≡ true → is_at_pin x.place && (x.pins == 1) ≡ false → Fits (unpinning s n x) (unpinned x.id ∷ xs)
@@ -74,5 +74,5 @@ module _ (s : PoolCore) (xs : List PoolItem) (z : Fits s xs) (n : ℕ) where
   pin-lose-fits x why at_x place one =
       let in_x : Connection = record (unpinned_once s x) { place = Available; holder = None; since = n } in
       let u : PoolCore = pin_ending s n x None in
-      let at_u : connection_at u x.id ≡ Some in_x = entry_at-put (λ (y : Connection). y.id) x.id in_x s.connections ∙ rw (same-number x.id) refl in
-      subst (λ cs. Fits (record s { last = n; connections = cs }) (closed x.id ∷ checked_in x.id n ∷ unpinned x.id ∷ xs)) (others-put (λ (y : Connection). y.id) in_x s.connections) (discard-fits u (checked_in x.id n ∷ unpinned x.id ∷ xs) (pin-end-fits x at_x place one) n in_x at_u refl)
+      let at_u : connection_at u x.id ≡ Some in_x = entry_at-put (λ (y : Connection). y.id) x.id in_x s.kept.connections ∙ rw (same-number x.id) refl in
+      subst (λ cs. Fits (record s { kept = record s.kept { last = n; connections = cs } }) (closed x.id ∷ checked_in x.id n ∷ unpinned x.id ∷ xs)) (others-put (λ (y : Connection). y.id) in_x s.kept.connections) (discard-fits u (checked_in x.id n ∷ unpinned x.id ∷ xs) (pin-end-fits x at_x place one) n in_x at_u refl)

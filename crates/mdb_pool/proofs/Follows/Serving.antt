@@ -36,12 +36,12 @@ holder-given s xs m r c e = m.links.owned c r (number-some (holder_at (connectio
 module _ (s : PoolCore) (xs : List PoolItem) (m : Matches s xs) where
   -- a connection is pending or available as its place says
   pub pending-place : (x : Connection) → connection_at s x.id ≡ Some x → has x.id (pending_list xs) ≡ is_pending x.place
-  pending-place x e = rw (m.counts.pending, has-where (λ (y : Connection). y.id) (λ y. is_pending y.place) x.id s.connections (m.counts.single x.id)) (ap (passes (λ (y : Connection). y.id) (λ y. is_pending y.place)) e)
+  pending-place x e = rw (m.counts.pending, has-where (λ (y : Connection). y.id) (λ y. is_pending y.place) x.id s.kept.connections (m.counts.single x.id)) (ap (passes (λ (y : Connection). y.id) (λ y. is_pending y.place)) e)
 
   -- who is in the queue asked
   pub queued-asked_at : (q : Request) → request_at s q.number ≡ Some q → is_queued q.phase ≡ true → has_asked xs q.number ≡ true
   queued-asked_at q at_q queued_now =
-      queued-asked xs q.number (rw m.requests.queue (has-where (λ (y : Request). y.number) (λ y. is_queued y.phase) q.number s.requests (m.requests.single_request q.number)) ∙ (ap (passes (λ (y : Request). y.number) (λ y. is_queued y.phase)) at_q ∙ queued_now))
+      queued-asked xs q.number (rw m.requests.queue (has-where (λ (y : Request). y.number) (λ y. is_queued y.phase) q.number s.kept.requests (m.requests.single_request q.number)) ∙ (ap (passes (λ (y : Request). y.number) (λ y. is_queued y.phase)) at_q ∙ queued_now))
 
   pub queued-known : (q : Request) → request_at s q.number ≡ Some q → is_queued q.phase ≡ true → is_asked_at (request_at s q.number) ≡ true
   queued-known q at_q queued_now = sym (m.requests.asks q.number) ∙ queued-asked_at q at_q queued_now
@@ -56,16 +56,16 @@ number_of q = q.number
 module _ (s : PoolCore) (xs : List PoolItem) (m : Matches s xs) (x : Connection) (q : Request)
     (at_x : connection_at s x.id ≡ Some x) (place : x.place ≡ Available) (at_q : request_at s q.number ≡ Some q) (phase : q.phase ≡ Queued) where
   abbrev granted_x : Connection
-  granted_x = record x { place = Held; party = Some q.number; holder = Some q.number; timeouts = timeouts_in s.clears }
+  granted_x = record x { place = Held; party = Some q.number; holder = Some q.number; timeouts = timeouts_in s.kept.clears }
 
   abbrev pub granted_q : Request
   granted_q = record q { phase = Given x.id }
 
   new_connection : (c : ℕ) → connection_at (granting s x q) c ≡ if x.id == c then Some granted_x else connection_at s c
-  new_connection c = entry_at-swap id_of c granted_x s.connections (ap is_some at_x)
+  new_connection c = entry_at-swap id_of c granted_x s.kept.connections (ap is_some at_x)
 
   pub new_request : (r : ℕ) → request_at (granting s x q) r ≡ if q.number == r then Some granted_q else request_at s r
-  new_request r = entry_at-swap number_of r granted_q s.requests (ap is_some at_q)
+  new_request r = entry_at-swap number_of r granted_q s.kept.requests (ap is_some at_q)
 
   alone : x.holder ≡ None
   alone = m.links.free x.id x at_x (ap is_available place)
@@ -77,10 +77,10 @@ module _ (s : PoolCore) (xs : List PoolItem) (m : Matches s xs) (x : Connection)
   grant-matches cold = record {
     counts = record {
       created = m.counts.created;
-      live_all = m.counts.live_all ∙ sym (length-swap id_of granted_x s.connections);
-      pending = m.counts.pending ∙ sym (where-swap_stay id_of (λ y. is_pending y.place) granted_x s.connections refl (m.counts.single x.id) (ap (passes id_of (λ y. is_pending y.place)) at_x ∙ ap is_pending place));
-      available = ap (without x.id) m.counts.available ∙ sym (where-swap_out id_of (λ y. is_available y.place) granted_x s.connections refl);
-      single = λ c. grind (arith, named-swap id_of c granted_x s.connections, new_connection c, m.counts.single c);
+      live_all = m.counts.live_all ∙ sym (length-swap id_of granted_x s.kept.connections);
+      pending = m.counts.pending ∙ sym (where-swap_stay id_of (λ y. is_pending y.place) granted_x s.kept.connections refl (m.counts.single x.id) (ap (passes id_of (λ y. is_pending y.place)) at_x ∙ ap is_pending place));
+      available = ap (without x.id) m.counts.available ∙ sym (where-swap_out id_of (λ y. is_available y.place) granted_x s.kept.connections refl);
+      single = λ c. grind (arith, named-swap id_of c granted_x s.kept.connections, new_connection c, m.counts.single c);
       unused = λ c h. grind (arith, new_connection c, m.counts.unused c h);
     };
     connections = record {
@@ -97,9 +97,9 @@ module _ (s : PoolCore) (xs : List PoolItem) (m : Matches s xs) (x : Connection)
       wire = λ c. grind (arith, nat_tests, new_connection c, m.told.wire c, m.told.wire x.id, at_x);
     };
     requests = record {
-      queue = ap (without q.number) m.requests.queue ∙ sym (where-swap_out number_of (λ y. is_queued y.phase) granted_q s.requests refl);
+      queue = ap (without q.number) m.requests.queue ∙ sym (where-swap_out number_of (λ y. is_queued y.phase) granted_q s.kept.requests refl);
       given = λ r. grind (arith, new_request r, m.requests.given r);
-      single_request = λ r. grind (arith, named-swap number_of r granted_q s.requests, new_request r, m.requests.single_request r);
+      single_request = λ r. grind (arith, named-swap number_of r granted_q s.kept.requests, new_request r, m.requests.single_request r);
       asked_at = λ r. grind (arith, new_request r, m.requests.asked_at r);
       ends = λ r. grind (arith, new_request r, m.requests.ends r);
       asks = λ r. grind (arith, new_request r, m.requests.asks r);
@@ -135,7 +135,7 @@ module _ (s : PoolCore) (xs : List PoolItem) (m : Matches s xs) (r n : ℕ) (abs
   asked_q = record { number = r; asked_at = n; warm = false; took = false; phase = Queued }
 
   pub asked_request : (k : ℕ) → request_at (asking s r n false) k ≡ if r == k then Some asked_q else request_at s k
-  asked_request k = entry_at-put number_of k asked_q s.requests
+  asked_request k = entry_at-put number_of k asked_q s.kept.requests
 
   pub ask-matches : Matches (asking s r n false) (asked r n ∷ xs)
   ask-matches = record {
@@ -143,9 +143,9 @@ module _ (s : PoolCore) (xs : List PoolItem) (m : Matches s xs) (r n : ℕ) (abs
     connections = m.connections;
     told = m.told;
     requests = record {
-      queue = ap (λ rs. rs ++ r ∷ []) m.requests.queue ∙ sym (where-put_in number_of (λ y. is_queued y.phase) asked_q s.requests refl (m.requests.single_request r) (ap (passes number_of (λ y. is_queued y.phase)) absent));
+      queue = ap (λ rs. rs ++ r ∷ []) m.requests.queue ∙ sym (where-put_in number_of (λ y. is_queued y.phase) asked_q s.kept.requests refl (m.requests.single_request r) (ap (passes number_of (λ y. is_queued y.phase)) absent));
       given = λ r. grind (arith, asked_request r, m.requests.given r);
-      single_request = λ r. grind (arith, named-put number_of r asked_q s.requests, asked_request r, m.requests.single_request r);
+      single_request = λ r. grind (arith, named-put number_of r asked_q s.kept.requests, asked_request r, m.requests.single_request r);
       asked_at = λ r. grind (arith, asked_request r, m.requests.asked_at r);
       ends = λ k. grind (arith, asked_request k, m.requests.ends k, absent);
       asks = λ r. grind (arith, asked_request r, m.requests.asks r);
@@ -173,7 +173,7 @@ module _ (s : PoolCore) (xs : List PoolItem) (m : Matches s xs) (r n : ℕ) (abs
   warm_q = record { number = r; asked_at = n; warm = true; took = false; phase = Queued }
 
   pub warm_request : (k : ℕ) → request_at (asking s r n true) k ≡ if r == k then Some warm_q else request_at s k
-  warm_request k = entry_at-put number_of k warm_q s.requests
+  warm_request k = entry_at-put number_of k warm_q s.kept.requests
 
   pub warm-matches : Matches (asking s r n true) (warmed r n ∷ xs)
   warm-matches = record {
@@ -181,9 +181,9 @@ module _ (s : PoolCore) (xs : List PoolItem) (m : Matches s xs) (r n : ℕ) (abs
     connections = m.connections;
     told = m.told;
     requests = record {
-      queue = ap (λ rs. rs ++ r ∷ []) m.requests.queue ∙ sym (where-put_in number_of (λ y. is_queued y.phase) warm_q s.requests refl (m.requests.single_request r) (ap (passes number_of (λ y. is_queued y.phase)) absent));
+      queue = ap (λ rs. rs ++ r ∷ []) m.requests.queue ∙ sym (where-put_in number_of (λ y. is_queued y.phase) warm_q s.kept.requests refl (m.requests.single_request r) (ap (passes number_of (λ y. is_queued y.phase)) absent));
       given = λ r. grind (arith, warm_request r, m.requests.given r);
-      single_request = λ r. grind (arith, named-put number_of r warm_q s.requests, warm_request r, m.requests.single_request r);
+      single_request = λ r. grind (arith, named-put number_of r warm_q s.kept.requests, warm_request r, m.requests.single_request r);
       asked_at = λ r. grind (arith, warm_request r, m.requests.asked_at r);
       ends = λ k. grind (arith, warm_request k, m.requests.ends k, absent);
       asks = λ r. grind (arith, warm_request r, m.requests.asks r);
@@ -209,34 +209,34 @@ module _ (s : PoolCore) (xs : List PoolItem) (m : Matches s xs) (r n : ℕ) (abs
 module _ (s : PoolCore) (xs : List PoolItem) (m : Matches s xs) (n : ℕ) (q : Request)
     (at_q : request_at s q.number ≡ Some q) (phase : q.phase ≡ Queued) where
   abbrev made_x : Connection
-  made_x = record { id = s.created + 1; created_at = n; place = Pending; party = Some q.number; holder = Some q.number; service = None; wire = None; since = n; pins = 0; used = Ok; errored = false; timeouts = timeouts_in s.clears }
+  made_x = record { id = s.kept.created + 1; created_at = n; place = Pending; party = Some q.number; holder = Some q.number; service = None; wire = None; since = n; pins = 0; used = Ok; errored = false; timeouts = timeouts_in s.kept.clears }
 
   abbrev pub made_q : Request
-  made_q = record q { phase = Given (s.created + 1) }
+  made_q = record q { phase = Given (s.kept.created + 1) }
 
-  fresh : connection_at s (s.created + 1) ≡ None
-  fresh = m.counts.unused (s.created + 1) (omega arith)
+  fresh : connection_at s (s.kept.created + 1) ≡ None
+  fresh = m.counts.unused (s.kept.created + 1) (omega arith)
 
   caller : is_asked_at (request_at s q.number) ≡ true
   caller = queued-known s xs m q at_q (ap is_queued phase)
 
-  made_connection : (c : ℕ) → connection_at (creating s n q) c ≡ if s.created + 1 == c then Some made_x else connection_at s c
-  made_connection c = entry_at-put id_of c made_x s.connections
+  made_connection : (c : ℕ) → connection_at (creating s n q) c ≡ if s.kept.created + 1 == c then Some made_x else connection_at s c
+  made_connection c = entry_at-put id_of c made_x s.kept.connections
 
   pub made_request : (r : ℕ) → request_at (creating s n q) r ≡ if q.number == r then Some made_q else request_at s r
-  made_request r = entry_at-swap number_of r made_q s.requests (ap is_some at_q)
+  made_request r = entry_at-swap number_of r made_q s.kept.requests (ap is_some at_q)
 
-  none_named : named id_of (s.created + 1) s.connections ≡ 0
-  none_named = m.counts.single (s.created + 1) ∙ ap (λ o. one_if (is_some o)) fresh
+  none_named : named id_of (s.kept.created + 1) s.kept.connections ≡ 0
+  none_named = m.counts.single (s.kept.created + 1) ∙ ap (λ o. one_if (is_some o)) fresh
 
-  pub create-matches : Matches (creating s n q) (granted q.number (s.created + 1) ∷ created (s.created + 1) n ∷ xs)
+  pub create-matches : Matches (creating s n q) (granted q.number (s.kept.created + 1) ∷ created (s.kept.created + 1) n ∷ xs)
   create-matches = record {
     counts = record {
       created = ap (λ k. k + 1) m.counts.created;
-      live_all = grind (arith, m.counts.live_all, length-put id_of made_x s.connections, none_named);
-      pending = ap (λ cs. cs ++ (s.created + 1) ∷ []) m.counts.pending ∙ sym (where-put_in id_of (λ y. is_pending y.place) made_x s.connections refl (m.counts.single (s.created + 1)) (ap (passes id_of (λ y. is_pending y.place)) fresh));
-      available = ap (without (s.created + 1)) m.counts.available ∙ sym (where-put_out id_of (λ y. is_available y.place) made_x s.connections refl);
-      single = λ c. grind (arith, named-put id_of c made_x s.connections, made_connection c, m.counts.single c);
+      live_all = grind (arith, m.counts.live_all, length-put id_of made_x s.kept.connections, none_named);
+      pending = ap (λ cs. cs ++ (s.kept.created + 1) ∷ []) m.counts.pending ∙ sym (where-put_in id_of (λ y. is_pending y.place) made_x s.kept.connections refl (m.counts.single (s.kept.created + 1)) (ap (passes id_of (λ y. is_pending y.place)) fresh));
+      available = ap (without (s.kept.created + 1)) m.counts.available ∙ sym (where-put_out id_of (λ y. is_available y.place) made_x s.kept.connections refl);
+      single = λ c. grind (arith, named-put id_of c made_x s.kept.connections, made_connection c, m.counts.single c);
       unused = λ c h. grind (arith, made_connection c, m.counts.unused c);
     };
     connections = record {
@@ -253,9 +253,9 @@ module _ (s : PoolCore) (xs : List PoolItem) (m : Matches s xs) (n : ℕ) (q : R
       wire = λ c. grind (arith, nat_tests, made_connection c, m.told.wire c, fresh);
     };
     requests = record {
-      queue = ap (without q.number) m.requests.queue ∙ sym (where-swap_out number_of (λ y. is_queued y.phase) made_q s.requests refl);
+      queue = ap (without q.number) m.requests.queue ∙ sym (where-swap_out number_of (λ y. is_queued y.phase) made_q s.kept.requests refl);
       given = λ r. grind (arith, made_request r, m.requests.given r);
-      single_request = λ r. grind (arith, named-swap number_of r made_q s.requests, made_request r, m.requests.single_request r);
+      single_request = λ r. grind (arith, named-swap number_of r made_q s.kept.requests, made_request r, m.requests.single_request r);
       asked_at = λ r. grind (arith, made_request r, m.requests.asked_at r);
       ends = λ r. grind (arith, made_request r, m.requests.ends r);
       asks = λ r. grind (arith, made_request r, m.requests.asks r);
@@ -293,28 +293,28 @@ module _ (s : PoolCore) (xs : List PoolItem) (m : Matches s xs) (n : ℕ) (q : R
 -- a connection is created in the background
 module _ (s : PoolCore) (xs : List PoolItem) (m : Matches s xs) (n : ℕ) where
   abbrev spare_x : Connection
-  spare_x = record { id = s.created + 1; created_at = n; place = Pending; party = None; holder = None; service = None; wire = None; since = n; pins = 0; used = Ok; errored = false; timeouts = 0 }
+  spare_x = record { id = s.kept.created + 1; created_at = n; place = Pending; party = None; holder = None; service = None; wire = None; since = n; pins = 0; used = Ok; errored = false; timeouts = 0 }
 
-  unmade : connection_at s (s.created + 1) ≡ None
-  unmade = m.counts.unused (s.created + 1) (omega arith)
+  unmade : connection_at s (s.kept.created + 1) ≡ None
+  unmade = m.counts.unused (s.kept.created + 1) (omega arith)
 
-  spare_connection : (c : ℕ) → connection_at (spawning s n) c ≡ if s.created + 1 == c then Some spare_x else connection_at s c
-  spare_connection c = entry_at-put id_of c spare_x s.connections
+  spare_connection : (c : ℕ) → connection_at (spawning s n) c ≡ if s.kept.created + 1 == c then Some spare_x else connection_at s c
+  spare_connection c = entry_at-put id_of c spare_x s.kept.connections
 
-  not_named : named id_of (s.created + 1) s.connections ≡ 0
-  not_named = m.counts.single (s.created + 1) ∙ ap (λ o. one_if (is_some o)) unmade
+  not_named : named id_of (s.kept.created + 1) s.kept.connections ≡ 0
+  not_named = m.counts.single (s.kept.created + 1) ∙ ap (λ o. one_if (is_some o)) unmade
 
-  not_granted : granted_to xs (s.created + 1) ≡ None
-  not_granted = m.connections.ungranted (s.created + 1) (omega arith)
+  not_granted : granted_to xs (s.kept.created + 1) ≡ None
+  not_granted = m.connections.ungranted (s.kept.created + 1) (omega arith)
 
-  pub spawn-matches : Matches (spawning s n) (created (s.created + 1) n ∷ xs)
+  pub spawn-matches : Matches (spawning s n) (created (s.kept.created + 1) n ∷ xs)
   spawn-matches = record {
     counts = record {
       created = ap (λ k. k + 1) m.counts.created;
-      live_all = grind (arith, m.counts.live_all, length-put id_of spare_x s.connections, not_named);
-      pending = ap (λ cs. cs ++ (s.created + 1) ∷ []) m.counts.pending ∙ sym (where-put_in id_of (λ y. is_pending y.place) spare_x s.connections refl (m.counts.single (s.created + 1)) (ap (passes id_of (λ y. is_pending y.place)) unmade));
-      available = m.counts.available ∙ sym (where-put_stay id_of (λ y. is_available y.place) spare_x s.connections refl (m.counts.single (s.created + 1)) (ap (passes id_of (λ y. is_available y.place)) unmade));
-      single = λ c. grind (arith, named-put id_of c spare_x s.connections, spare_connection c, m.counts.single c);
+      live_all = grind (arith, m.counts.live_all, length-put id_of spare_x s.kept.connections, not_named);
+      pending = ap (λ cs. cs ++ (s.kept.created + 1) ∷ []) m.counts.pending ∙ sym (where-put_in id_of (λ y. is_pending y.place) spare_x s.kept.connections refl (m.counts.single (s.kept.created + 1)) (ap (passes id_of (λ y. is_pending y.place)) unmade));
+      available = m.counts.available ∙ sym (where-put_stay id_of (λ y. is_available y.place) spare_x s.kept.connections refl (m.counts.single (s.kept.created + 1)) (ap (passes id_of (λ y. is_available y.place)) unmade));
+      single = λ c. grind (arith, named-put id_of c spare_x s.kept.connections, spare_connection c, m.counts.single c);
       unused = λ c h. grind (arith, spare_connection c, m.counts.unused c);
     };
     connections = record {

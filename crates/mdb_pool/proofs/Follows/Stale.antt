@@ -63,17 +63,17 @@ pub since_is : (c : ℕ) (t : Option ObjectId) (ks : List Clear) → not (clears
 since_is c t ks = rw (← parts c t ks, some-after c t ks) (differ (clears_before c t ks) (clears_after c t ks))
 
 module _ (s : PoolCore) (xs : List PoolItem) (m : Matches s xs) where
-  pub live-created : (c : ℕ) (x : Connection) → connection_at s c ≡ Some x → c ≤ s.created
+  pub live-created : (c : ℕ) (x : Connection) → connection_at s c ≡ Some x → c ≤ s.kept.created
   live-created c x e = grind (arith, m.counts.unused c, e)
 
   pub live-served : (c : ℕ) (x : Connection) → connection_at s c ≡ Some x → service_of xs c ≡ x.service
   live-served c x e = grind (arith, m.told.served c, e)
 
   -- whatever items without a clear come after them
-  pub stale-in : (ys : List PoolItem) (c : ℕ) (service : Option ObjectId) → c ≤ s.created → service_of ys c ≡ service → ((t : Option ObjectId) → generation_before ys c t ≡ generation_before xs c t) → ((t : Option ObjectId) → generation_of ys t ≡ generation_of xs t) → is_stale s.options ys c ≡ stale_for s c service
+  pub stale-in : (ys : List PoolItem) (c : ℕ) (service : Option ObjectId) → c ≤ s.kept.created → service_of ys c ≡ service → ((t : Option ObjectId) → generation_before ys c t ≡ generation_before xs c t) → ((t : Option ObjectId) → generation_of ys t ≡ generation_of xs t) → is_stale s.options ys c ≡ stale_for s c service
   stale-in ys c service l named before now =
       let t : Option ObjectId = if s.options.load_balanced then service else None in
-      rw (named, before t ∙ m.clearing.before c t l, now t ∙ m.clearing.clears t, since_is c t s.clears) refl
+      rw (named, before t ∙ m.clearing.before c t l, now t ∙ m.clearing.clears t, since_is c t s.kept.clears) refl
 
   pub stale-at : (c : ℕ) (x : Connection) → connection_at s c ≡ Some x → is_stale s.options xs c ≡ stale_for s c x.service
   stale-at c x e = stale-in xs c x.service (live-created c x e) (live-served c x e) (λ t. refl) (λ t. refl)

@@ -36,7 +36,7 @@ number_of q = q.number
 -- an available connection is closed
 module _ (s : PoolCore) (xs : List PoolItem) (m : Matches s xs) (x : Connection) (at_x : connection_at s x.id ≡ Some x) (place : x.place ≡ Available) where
   shut_connection : (c : ℕ) → connection_at (discarding s x) c ≡ if x.id == c then None else connection_at s c
-  shut_connection c = entry_at-others id_of c x.id s.connections
+  shut_connection c = entry_at-others id_of c x.id s.kept.connections
 
   unheld : x.holder ≡ None
   unheld = m.links.free x.id x at_x (ap is_available place)
@@ -48,10 +48,10 @@ module _ (s : PoolCore) (xs : List PoolItem) (m : Matches s xs) (x : Connection)
   discard-matches = record {
     counts = record {
       created = m.counts.created;
-      live_all = grind (arith, m.counts.live_all, length-others id_of x.id s.connections, m.counts.single x.id, at_x);
-      pending = ap (without x.id) m.counts.pending ∙ sym (map-filter-others id_of (λ y. is_pending y.place) x.id s.connections);
-      available = ap (without x.id) m.counts.available ∙ sym (map-filter-others id_of (λ y. is_available y.place) x.id s.connections);
-      single = λ c. grind (arith, named-others id_of c x.id s.connections, shut_connection c, m.counts.single c);
+      live_all = grind (arith, m.counts.live_all, length-others id_of x.id s.kept.connections, m.counts.single x.id, at_x);
+      pending = ap (without x.id) m.counts.pending ∙ sym (map-filter-others id_of (λ y. is_pending y.place) x.id s.kept.connections);
+      available = ap (without x.id) m.counts.available ∙ sym (map-filter-others id_of (λ y. is_available y.place) x.id s.kept.connections);
+      single = λ c. grind (arith, named-others id_of c x.id s.kept.connections, shut_connection c, m.counts.single c);
       unused = λ c h. grind (arith, shut_connection c, m.counts.unused c h);
     };
     connections = record {
@@ -124,7 +124,7 @@ skip-check-in s xs c n m = record {
   at_pin = λ c. grind (arith, pinned-again xs c, m.at_pin c);
 }
   where
-    closed_out : has c (ids_where is_available s.connections) ≡ false
+    closed_out : has c (ids_where is_available s.kept.connections) ≡ false
     closed_out = ap (has c) (sym m.counts.available) ∙ without-not c (available_list (checked_in c n ∷ xs))
 
     absent : (k : ℕ) (x : Connection) → connection_at s k ≡ Some x → is_available x.place ≡ true → (c == k) ≡ false
@@ -133,7 +133,7 @@ skip-check-in s xs c n m = record {
         on : (b : Bool) → (c == k) ≡ b → (c == k) ≡ false
         on true g =
             let same : c ≡ k = grind arith in
-            let there : has c (ids_where is_available s.connections) ≡ true = subst (λ d. has d (ids_where is_available s.connections) ≡ true) (sym same) (has-where id_of (λ y. is_available y.place) k s.connections (m.counts.single k) ∙ (ap (passes id_of (λ y. is_available y.place)) e ∙ f)) in
+            let there : has c (ids_where is_available s.kept.connections) ≡ true = subst (λ d. has d (ids_where is_available s.kept.connections) ≡ true) (sym same) (has-where id_of (λ y. is_available y.place) k s.kept.connections (m.counts.single k) ∙ (ap (passes id_of (λ y. is_available y.place)) e ∙ f)) in
             let never : true ≡ false = sym there ∙ closed_out in
             cc
         on false g = g
@@ -144,7 +144,7 @@ module _ (s : PoolCore) (xs : List PoolItem) (m : Matches s xs) (q : Request) (e
   over_q = record q { phase = EndedPhase end }
 
   pub over_request : (r : ℕ) → request_at (ending s q end) r ≡ if q.number == r then Some over_q else request_at s r
-  over_request r = entry_at-swap number_of r over_q s.requests (ap is_some at_q)
+  over_request r = entry_at-swap number_of r over_q s.kept.requests (ap is_some at_q)
 
   given_none : given_of (request_at s q.number) ≡ None
   given_none = ap given_of at_q ∙ none
@@ -162,9 +162,9 @@ module _ (s : PoolCore) (xs : List PoolItem) (m : Matches s xs) (q : Request) (e
     };
     told = m.told;
     requests = record {
-      queue = ap (without q.number) m.requests.queue ∙ sym (where-swap_out number_of (λ y. is_queued y.phase) over_q s.requests refl);
+      queue = ap (without q.number) m.requests.queue ∙ sym (where-swap_out number_of (λ y. is_queued y.phase) over_q s.kept.requests refl);
       given = λ r. grind (arith, over_request r, m.requests.given r);
-      single_request = λ r. grind (arith, named-swap number_of r over_q s.requests, over_request r, m.requests.single_request r);
+      single_request = λ r. grind (arith, named-swap number_of r over_q s.kept.requests, over_request r, m.requests.single_request r);
       asked_at = λ r. grind (arith, over_request r, m.requests.asked_at r);
       ends = λ r. grind (arith, over_request r, m.requests.ends r);
       asks = λ r. grind (arith, over_request r, m.requests.asks r);
@@ -227,7 +227,7 @@ late-end_skipped s xs c n r how end m = record {
 }
 
 -- the pool is marked ready
-pub ready-matches : (s : PoolCore) (xs : List PoolItem) → Matches s xs → Matches (record s { status = Ready }) (pool_ready ∷ xs)
+pub ready-matches : (s : PoolCore) (xs : List PoolItem) → Matches s xs → Matches (record s { kept = record s.kept { status = Ready } }) (pool_ready ∷ xs)
 ready-matches s xs m = record {
   counts = m.counts;
   connections = m.connections;
@@ -246,7 +246,7 @@ ready-matches s xs m = record {
 }
 
 -- the last moment is nothing that the items say
-pub later-matches : (s : PoolCore) (xs : List PoolItem) (n : ℕ) → Matches s xs → Matches (record s { last = n }) xs
+pub later-matches : (s : PoolCore) (xs : List PoolItem) (n : ℕ) → Matches s xs → Matches (record s { kept = record s.kept { last = n } }) xs
 later-matches s xs n m = record {
   counts = m.counts;
   connections = m.connections;
@@ -274,7 +274,7 @@ timeouts-append (j ∷ ks) k = grind (arith, common_steps, timeouts-append ks k)
 -- the pool is cleared
 module _ (s : PoolCore) (xs : List PoolItem) (m : Matches s xs) (n : ℕ) (service : Option ObjectId) (error : Error) where
   abbrev clear_now : Clear
-  clear_now = record { service = service; after = s.created; timeout = is_timeout error.kind }
+  clear_now = record { service = service; after = s.kept.created; timeout = is_timeout error.kind }
 
   paused : (t : Option ObjectId) → service ≡ t → state_of s.options (raised service error ∷ xs) ≡ state_in (cleared_status s service error)
   paused None e = rw e refl
@@ -291,13 +291,13 @@ module _ (s : PoolCore) (xs : List PoolItem) (m : Matches s xs) (n : ℕ) (servi
     uses = record {
       errored = m.uses.errored;
       dropped = m.uses.dropped;
-      calm = λ c y e f. grind (arith, m.uses.calm c y e f, timeouts-append s.clears clear_now);
+      calm = λ c y e f. grind (arith, m.uses.calm c y e f, timeouts-append s.kept.clears clear_now);
     };
     clearing = record {
       status = paused service refl;
-      clears = λ t. ap (λ k. k + one_if (same_service service t)) (m.clearing.clears t) ∙ sym (clears_for-append t s.clears clear_now);
-      before = λ c t h. m.clearing.before c t h ∙ (sym (let e : nat_lt s.created c ≡ false = grind (arith, nat_tests) in rw (clears_before-append c t s.clears clear_now, e, and-false (same_service service t)) (omega arith)));
-      seen = λ c t h. let e : nat_lt s.created c ≡ true = grind (arith, nat_tests) in rw (clears_before-append c t s.clears clear_now, clears_for-append t s.clears clear_now, e, and-true (same_service service t), m.clearing.seen c t h) refl;
+      clears = λ t. ap (λ k. k + one_if (same_service service t)) (m.clearing.clears t) ∙ sym (clears_for-append t s.kept.clears clear_now);
+      before = λ c t h. m.clearing.before c t h ∙ (sym (let e : nat_lt s.kept.created c ≡ false = grind (arith, nat_tests) in rw (clears_before-append c t s.kept.clears clear_now, e, and-false (same_service service t)) (omega arith)));
+      seen = λ c t h. let e : nat_lt s.kept.created c ≡ true = grind (arith, nat_tests) in rw (clears_before-append c t s.kept.clears clear_now, clears_for-append t s.kept.clears clear_now, e, and-true (same_service service t), m.clearing.seen c t h) refl;
     };
     at_pin = λ c. grind (arith, pinned-again xs c, m.at_pin c);
   }

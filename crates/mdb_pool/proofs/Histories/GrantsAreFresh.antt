@@ -30,7 +30,7 @@ module _ (s : PoolCore) (xs : List PoolItem) (z : Fits s xs) where
   all-created = record {
     past = λ c l.
         let unused : connection_at s c ≡ None = z.matches.counts.unused c (omega (arith, l, z.matches.counts.created)) in
-        rw z.matches.counts.available (has-where (λ (x : Connection). x.id) (λ x. is_available x.place) c s.connections (z.matches.counts.single c) ∙ rw unused refl);
+        rw z.matches.counts.available (has-where (λ (x : Connection). x.id) (λ x. is_available x.place) c s.kept.connections (z.matches.counts.single c) ∙ rw unused refl);
   }
 
   live-before : (c : ℕ) → (connection_at s c ≡ None → ⊥) → c ≤ created_total xs
@@ -38,11 +38,11 @@ module _ (s : PoolCore) (xs : List PoolItem) (z : Fits s xs) where
     where
       on : (k : Option Connection) → connection_at s c ≡ k → c ≤ created_total xs
       on None e = absurd (some e)
-      on (Some x) e = let l : c ≤ s.created = live-created s xs z.matches c x e in omega (arith, l, z.matches.counts.created)
+      on (Some x) e = let l : c ≤ s.kept.created = live-created s xs z.matches c x e in omega (arith, l, z.matches.counts.created)
 
   pub pending-created : (c : ℕ) → has c (pending_list xs) ≡ true → c ≤ created_total xs
   pending-created c h = live-before c (λ e.
-      let f : has c (pending_list xs) ≡ false = rw z.matches.counts.pending (has-where (λ (x : Connection). x.id) (λ x. is_pending x.place) c s.connections (z.matches.counts.single c) ∙ rw e refl) in
+      let f : has c (pending_list xs) ≡ false = rw z.matches.counts.pending (has-where (λ (x : Connection). x.id) (λ x. is_pending x.place) c s.kept.connections (z.matches.counts.single c) ∙ rw e refl) in
       cc)
 
   -- a pinned connection was created

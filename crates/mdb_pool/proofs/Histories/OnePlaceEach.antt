@@ -16,10 +16,10 @@ pub one-place : (s : PoolCore) (xs : List PoolItem) → Fits s xs → OnePlace x
 one-place s xs z c = on (connection_at s c) refl
   where
     is_p : has c (pending_list xs) ≡ passes (λ (x : Connection). x.id) (λ x. is_pending x.place) (connection_at s c)
-    is_p = rw z.matches.counts.pending (has-where (λ (x : Connection). x.id) (λ x. is_pending x.place) c s.connections (z.matches.counts.single c))
+    is_p = rw z.matches.counts.pending (has-where (λ (x : Connection). x.id) (λ x. is_pending x.place) c s.kept.connections (z.matches.counts.single c))
 
     is_a : has c (available_list xs) ≡ passes (λ (x : Connection). x.id) (λ x. is_available x.place) (connection_at s c)
-    is_a = rw z.matches.counts.available (has-where (λ (x : Connection). x.id) (λ x. is_available x.place) c s.connections (z.matches.counts.single c))
+    is_a = rw z.matches.counts.available (has-where (λ (x : Connection). x.id) (λ x. is_available x.place) c s.kept.connections (z.matches.counts.single c))
 
     is_n : is_pinned xs c ≡ is_pinned_at (connection_at s c)
     is_n = z.matches.at_pin c

@@ -41,16 +41,16 @@ module _ (s : PoolCore) (xs : List PoolItem) (z : Fits s xs) where
   m = z.matches
 
   pending-one : (c : ℕ) → has c (pending_list xs) ≡ true → (x : Connection) × ((connection_at s c ≡ Some x) × (is_pending x.place ≡ true))
-  pending-one c e = some-passes is_pending (connection_at s c) (sym (has-where (λ (x : Connection). x.id) (λ x. is_pending x.place) c s.connections (m.counts.single c)) ∙ (ap (has c) (sym m.counts.pending) ∙ e))
+  pending-one c e = some-passes is_pending (connection_at s c) (sym (has-where (λ (x : Connection). x.id) (λ x. is_pending x.place) c s.kept.connections (m.counts.single c)) ∙ (ap (has c) (sym m.counts.pending) ∙ e))
 
   available-one : (c : ℕ) → has c (available_list xs) ≡ true → (x : Connection) × ((connection_at s c ≡ Some x) × (is_available x.place ≡ true))
-  available-one c e = some-passes is_available (connection_at s c) (sym (has-where (λ (x : Connection). x.id) (λ x. is_available x.place) c s.connections (m.counts.single c)) ∙ (ap (has c) (sym m.counts.available) ∙ e))
+  available-one c e = some-passes is_available (connection_at s c) (sym (has-where (λ (x : Connection). x.id) (λ x. is_available x.place) c s.kept.connections (m.counts.single c)) ∙ (ap (has c) (sym m.counts.available) ∙ e))
 
   available-is : (c : ℕ) → has c (available_list xs) ≡ passes (λ (x : Connection). x.id) (λ x. is_available x.place) (connection_at s c)
-  available-is c = ap (has c) m.counts.available ∙ has-where (λ (x : Connection). x.id) (λ x. is_available x.place) c s.connections (m.counts.single c)
+  available-is c = ap (has c) m.counts.available ∙ has-where (λ (x : Connection). x.id) (λ x. is_available x.place) c s.kept.connections (m.counts.single c)
 
   pending-is : (c : ℕ) → has c (pending_list xs) ≡ passes (λ (x : Connection). x.id) (λ x. is_pending x.place) (connection_at s c)
-  pending-is c = ap (has c) m.counts.pending ∙ has-where (λ (x : Connection). x.id) (λ x. is_pending x.place) c s.connections (m.counts.single c)
+  pending-is c = ap (has c) m.counts.pending ∙ has-where (λ (x : Connection). x.id) (λ x. is_pending x.place) c s.kept.connections (m.counts.single c)
 
   given-one : (r c : ℕ) → given xs r ≡ Some c → (q : Request) × ((request_at s r ≡ Some q) × (q.phase ≡ Given c))
   given-one r c e = some-given (request_at s r) c (sym (m.requests.given r) ∙ e)

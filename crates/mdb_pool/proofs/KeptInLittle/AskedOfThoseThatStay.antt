@@ -17,7 +17,7 @@ use Rattle.mdb_pool.specs.declared.kept.request.Phase.TheVariants.{Queued, Given
 use Rattle.mdb_pool.specs.Acts.Changes.{away, unserved_ones}
 use Rattle.mdb_pool.specs.Core.{PoolCore}
 use Rattle.mdb_pool.specs.Kept.Values.{candidate_now, blocked_now, connection_at, first_overdue, first_queued, given_in, given_of, held_connection, holder_request, if_lingers, is_asked_at, is_ended_at, is_gone, kept_holder, kept_request, kept_requests, lingers, overdue_now, request_at, request_in, unserved_in}
-use Rattle.mdb_pool.specs.Now.{is_open_now}
+use Rattle.mdb_pool.specs.Now.{is_open_now, queries}
 use Rattle.mdb_pool.specs.Kept.Places.{is_done, is_queued}
 use Rattle.mdb_pool.specs.Standing.{Fits}
 use Rattle.mdb_pool.proofs.KeptInLittle.RequestsThatStay.{number-of, queued-kept}
@@ -74,13 +74,13 @@ kept-some ks (Some p) q e = on (lingers ks p) refl
 module _ (s : PoolCore) where
   -- one that was found and has not left
   pub kept-is : (r : ℕ) (q : Request) → kept_request s r ≡ Some q → request_at s r ≡ Some q
-  kept-is r q e = (kept-some s.settled (request_at s r) q e).0
+  kept-is r q e = (kept-some s.kept.settled (request_at s r) q e).0
 
   pub kept-number : (r : ℕ) (q : Request) → kept_request s r ≡ Some q → q.number ≡ r
-  kept-number r q e = entry_at-key number-of r q s.requests (kept-is r q e)
+  kept-number r q e = entry_at-key number-of r q s.kept.requests (kept-is r q e)
 
-  pub kept-there : (r : ℕ) (q : Request) → kept_request s r ≡ Some q → is_gone s.settled (request_at s q.number) ≡ false
-  kept-there r q e = ap (λ k. is_gone s.settled (request_at s k)) (kept-number r q e) ∙ (ap (is_gone s.settled) (kept-is r q e) ∙ rw (kept-some s.settled (request_at s r) q e).1 refl)
+  pub kept-there : (r : ℕ) (q : Request) → kept_request s r ≡ Some q → is_gone s.kept.settled (request_at s q.number) ≡ false
+  kept-there r q e = ap (λ k. is_gone s.kept.settled (request_at s k)) (kept-number r q e) ∙ (ap (is_gone s.kept.settled) (kept-is r q e) ∙ rw (kept-some s.kept.settled (request_at s r) q e).1 refl)
 
   pub kept-came : (r : ℕ) (q : Request) → kept_request s r ≡ Some q → is_some (request_at s q.number) ≡ true
   kept-came r q e = ap (λ k. is_some (request_at s k)) (kept-number r q e) ∙ ap is_some (kept-is r q e)
@@ -92,10 +92,10 @@ module _ (s : PoolCore) where
       on None f = let w : kept_holder s x ≡ None = rw f refl in cc
       on (Some r) f = let was : kept_holder s x ≡ kept_request s r = rw f refl in rw f (kept-is r q (sym was ∙ e))
 
-  pub holder-there : (x : Connection) (q : Request) → kept_holder s x ≡ Some q → is_gone s.settled (request_at s q.number) ≡ false
+  pub holder-there : (x : Connection) (q : Request) → kept_holder s x ≡ Some q → is_gone s.kept.settled (request_at s q.number) ≡ false
   holder-there x q e = on x.holder refl
     where
-      on : (o : Option ℕ) → x.holder ≡ o → is_gone s.settled (request_at s q.number) ≡ false
+      on : (o : Option ℕ) → x.holder ≡ o → is_gone s.kept.settled (request_at s q.number) ≡ false
       on None f = let w : kept_holder s x ≡ None = rw f refl in cc
       on (Some r) f = let was : kept_holder s x ≡ kept_request s r = rw f refl in kept-there r q (sym was ∙ e)
 
@@ -103,9 +103,9 @@ module _ (s : PoolCore) where
   pub holder-none : (c : ℕ) (x : Connection) (xs : List PoolItem) → Fits s xs → connection_at s c ≡ Some x → kept_holder s x ≡ None → holder_request s x ≡ None
   holder-none c x xs z stood e = on x.holder refl
     where
-      stays : (r : ℕ) (o : Option Request) → given_of o ≡ Some c → if_lingers s.settled o ≡ None → o ≡ None
+      stays : (r : ℕ) (o : Option Request) → given_of o ≡ Some c → if_lingers s.kept.settled o ≡ None → o ≡ None
       stays r None g f = refl
-      stays r (Some q) g f = let w : given_of (if_lingers s.settled (Some q)) ≡ Some c = given_kept s.settled (Some q) ∙ g in let v : given_of (if_lingers s.settled (Some q)) ≡ None = ap given_of f in cc
+      stays r (Some q) g f = let w : given_of (if_lingers s.kept.settled (Some q)) ≡ Some c = given_kept s.kept.settled (Some q) ∙ g in let v : given_of (if_lingers s.kept.settled (Some q)) ≡ None = ap given_of f in cc
 
       on : (o : Option ℕ) → x.holder ≡ o → holder_request s x ≡ None
       on None f = rw f refl
@@ -121,7 +121,7 @@ module _ (s : PoolCore) where
     where
       on : (o : Option Request) → kept_request s r ≡ o → is_some o ≡ true
       on None f =
-          let g : given_of (request_at s r) ≡ None = sym (given_kept s.settled (request_at s r)) ∙ ap given_of f in
+          let g : given_of (request_at s r) ≡ None = sym (given_kept s.kept.settled (request_at s r)) ∙ ap given_of f in
           let h : held_connection s r ≡ None = rw g refl in
           let k : is_some (held_connection s r) ≡ false = ap is_some h in
           cc
@@ -134,13 +134,15 @@ module _ (s : PoolCore) where
   both false b e = cc
 
   pub open-asked : (r : ℕ) → is_open_now s r ≡ true → is_asked_at (request_at s r) ≡ true
-  open-asked r e = (both (is_asked_at (request_at s r)) (has r s.settled) e).0
+  unfolding queries
+  open-asked r e = (both (is_asked_at (request_at s r)) (has r s.kept.settled) e).0
 
-  pub open_unsettled : (r : ℕ) → is_open_now s r ≡ true → has r s.settled ≡ false
-  open_unsettled r e = (both (is_asked_at (request_at s r)) (has r s.settled) e).1
+  pub open_unsettled : (r : ℕ) → is_open_now s r ≡ true → has r s.kept.settled ≡ false
+  unfolding queries
+  open_unsettled r e = (both (is_asked_at (request_at s r)) (has r s.kept.settled) e).1
 
   -- a queued one, where no two have one number
-  module _ (single : apart (map number-of s.requests) ≡ true) where
+  module _ (single : apart (map number-of s.kept.requests) ≡ true) where
     at-own : (qs : List Request) (q : Request) → apart (map number-of qs) ≡ true → In q qs → request_in qs q.number ≡ Some q
     at-own [] q a i = elim i [ ]
     at-own (p ∷ ps) q a here = grind (arith, common_steps)
@@ -158,15 +160,15 @@ module _ (s : PoolCore) where
             cc
         on false e r = rw e r
 
-    pub queued-there : (q : Request) → In q s.requests → is_queued q.phase ≡ true → is_gone s.settled (request_at s q.number) ≡ false
-    queued-there q i w = ap (is_gone s.settled) (at-own s.requests q single i) ∙ on q.phase refl w
+    pub queued-there : (q : Request) → In q s.kept.requests → is_queued q.phase ≡ true → is_gone s.kept.settled (request_at s q.number) ≡ false
+    queued-there q i w = ap (is_gone s.kept.settled) (at-own s.kept.requests q single i) ∙ on q.phase refl w
       where
         off : (b : Bool) → not (not (b && false)) ≡ false
         off true = refl
         off false = refl
 
-        on : (p : Phase) → q.phase ≡ p → is_queued p ≡ true → not (lingers s.settled q) ≡ false
-        on Queued e h = rw e (off (has q.number s.settled))
+        on : (p : Phase) → q.phase ≡ p → is_queued p ≡ true → not (lingers s.kept.settled q) ≡ false
+        on Queued e h = rw e (off (has q.number s.kept.settled))
         on (Given c) e h = cc
         on Over e h = cc
         on (EndedPhase end) e h = cc
@@ -175,14 +177,14 @@ module _ (s : PoolCore) where
     left-of true b e = refl
     left-of false b e = cc
 
-    pub first-there : (q : Request) → first_queued s ≡ Some q → is_gone s.settled (request_at s q.number) ≡ false
-    first-there q e = let m = find-member (λ (p : Request). is_queued p.phase) q s.requests e in queued-there q m.0 m.1
+    pub first-there : (q : Request) → first_queued s ≡ Some q → is_gone s.kept.settled (request_at s q.number) ≡ false
+    first-there q e = let m = find-member (λ (p : Request). is_queued p.phase) q s.kept.requests e in queued-there q m.0 m.1
 
-    pub candidate-there : (q : Request) → candidate_now s ≡ Some q → is_gone s.settled (request_at s q.number) ≡ false
-    candidate-there q e = let m = find-member (λ (p : Request). is_queued p.phase && not (p.warm && blocked_now s)) q s.requests e in queued-there q m.0 (left-of (is_queued q.phase) _ m.1)
+    pub candidate-there : (q : Request) → candidate_now s ≡ Some q → is_gone s.kept.settled (request_at s q.number) ≡ false
+    candidate-there q e = let m = find-member (λ (p : Request). is_queued p.phase && not (p.warm && blocked_now s)) q s.kept.requests e in queued-there q m.0 (left-of (is_queued q.phase) _ m.1)
 
-    pub overdue-there : (n : ℕ) (q : Request) → first_overdue s n ≡ Some q → is_gone s.settled (request_at s q.number) ≡ false
-    overdue-there n q e = let m = find-member (overdue_now s n) q s.requests e in queued-there q m.0 (left-of (is_queued q.phase) _ m.1)
+    pub overdue-there : (n : ℕ) (q : Request) → first_overdue s n ≡ Some q → is_gone s.kept.settled (request_at s q.number) ≡ false
+    overdue-there n q e = let m = find-member (overdue_now s n) q s.kept.requests e in queued-there q m.0 (left-of (is_queued q.phase) _ m.1)
 
   -- those that nothing was handed to have not left
   served-not : (p : Phase) → unserved_in s p ≡ true → is_done p ≡ false
@@ -192,10 +194,10 @@ module _ (s : PoolCore) where
   served-not (EndedPhase end) e = cc
 
   pub unserved-kept : filter (λ q. unserved_in s q.phase) (kept_requests s) ≡ unserved_ones s
-  unserved-kept = queued-kept (λ q. unserved_in s q.phase) s.settled s.requests (λ q e. served-not q.phase e)
+  unserved-kept = queued-kept (λ q. unserved_in s q.phase) s.kept.settled s.kept.requests (λ q e. served-not q.phase e)
 
   -- one that left was served
-  pub gone-served : (o : Option Request) → if_lingers s.settled o ≡ None → (o ≡ None) ⊎ ((q : Request) × (o ≡ Some q) × (unserved_in s q.phase ≡ false))
+  pub gone-served : (o : Option Request) → if_lingers s.kept.settled o ≡ None → (o ≡ None) ⊎ ((q : Request) × (o ≡ Some q) × (unserved_in s q.phase ≡ false))
   gone-served None e = inl refl
   gone-served (Some q) e = inr (q, refl, on (unserved_in s q.phase) refl)
     where
@@ -204,7 +206,7 @@ module _ (s : PoolCore) where
       off false = refl
 
       on : (b : Bool) → unserved_in s q.phase ≡ b → b ≡ false
-      on true f = let l : lingers s.settled q ≡ true = rw (served-not q.phase f) (off (has q.number s.settled)) in let w : if_lingers s.settled (Some q) ≡ Some q = rw l refl in cc
+      on true f = let l : lingers s.kept.settled q ≡ true = rw (served-not q.phase f) (off (has q.number s.kept.settled)) in let w : if_lingers s.kept.settled (Some q) ≡ Some q = rw l refl in cc
       on false f = refl
 
   pub none-off : (r : ℕ) → kept_request s r ≡ None → filter (λ q. unserved_in s q.phase) (filter_map (request_at s) (r ∷ [])) ≡ []
@@ -233,7 +235,7 @@ swap-came q qs r e = ap is_some (entry_at-swap_any number-of r q qs) ∙ on (q.n
     on false o f = f
 
 -- a request that is turned away is not settled by that
-pub away-settled : (s : PoolCore) (r m : ℕ) (warm : Bool) (o : Option End) → (away s r m warm o).settled ≡ s.settled
+pub away-settled : (s : PoolCore) (r m : ℕ) (warm : Bool) (o : Option End) → (away s r m warm o).kept.settled ≡ s.kept.settled
 away-settled s r m warm None = refl
 away-settled s r m warm (Some end) = refl
 

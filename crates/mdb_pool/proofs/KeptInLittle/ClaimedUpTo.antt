@@ -230,8 +230,8 @@ module _ (made : ℕ) (k : Claimed) (cs : List Connection) (z : ClaimsFit made k
           on false e = let w : has x.id k.numbers ≡ true = z.earlier x.id h (grind (arith, nat_tests, e)) in rw (e, w) refl
 
 -- the first that is not claimed is not claimed
-pub first-free : (s : PoolCore) (x : Connection) → first_unclaimed s ≡ Some x → has x.id s.claimed ≡ false
-first-free s x f = off (has x.id s.claimed) (find-member (λ y. not (has y.id s.claimed)) x (filter (λ y. is_pending y.place) s.connections) (sym (find_among (λ y. is_pending y.place) (λ y. not (has y.id s.claimed)) s.connections) ∙ f)).1
+pub first-free : (s : PoolCore) (x : Connection) → first_unclaimed s ≡ Some x → has x.id s.kept.claimed ≡ false
+first-free s x f = off (has x.id s.kept.claimed) (find-member (λ y. not (has y.id s.kept.claimed)) x (filter (λ y. is_pending y.place) s.kept.connections) (sym (find_among (λ y. is_pending y.place) (λ y. not (has y.id s.kept.claimed)) s.kept.connections) ∙ f)).1
   where
     off : (b : Bool) → not b ≡ true → b ≡ false
     off true e = cc

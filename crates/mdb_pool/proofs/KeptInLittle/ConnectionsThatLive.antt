@@ -50,7 +50,7 @@ walked q k x xs e = filtered q x xs (behind x k (filter q xs) (after_key id-of x
 module _ (s : PoolCore) where
   -- it is the one that has the number
   pub at_lives : (c : ℕ) (x : Connection) → connection_at s c ≡ Some x → is_some (connection_at s x.id) ≡ true
-  at_lives c x e = ap (λ k. is_some (connection_at s k)) (entry_at-key id-of c x s.connections e) ∙ ap is_some e
+  at_lives c x e = ap (λ k. is_some (connection_at s k)) (entry_at-key id-of c x s.kept.connections e) ∙ ap is_some e
 
   -- a party holds it
   pub held_lives : (g : Option ℕ) (x : Connection) → held_given s g ≡ Some x → is_some (connection_at s x.id) ≡ true
@@ -70,15 +70,15 @@ module _ (s : PoolCore) where
 
   -- it is the last available one
   pub last_lives : (x : Connection) → last_available s ≡ Some x → is_some (connection_at s x.id) ≡ true
-  last_lives x e = on (last-member None x s.connections e)
+  last_lives x e = on (last-member None x s.kept.connections e)
     where
-      on : (None ≡ Some x) ⊎ (In x s.connections × (is_available x.place ≡ true)) → is_some (connection_at s x.id) ≡ true
+      on : (None ≡ Some x) ⊎ (In x s.kept.connections × (is_available x.place ≡ true)) → is_some (connection_at s x.id) ≡ true
       on (inl f) = cc
-      on (inr i) = member_lives x s.connections i.0
+      on (inr i) = member_lives x s.kept.connections i.0
 
   -- it is the first that has perished
   pub perished_lives : (m : ℕ) (x : Connection) → first_perished s m ≡ Some x → is_some (connection_at s x.id) ≡ true
-  perished_lives m x e = member_lives x s.connections (find-member (λ (y : Connection). is_available y.place && is_some (perished_now s m y)) x s.connections e).0
+  perished_lives m x e = member_lives x s.kept.connections (find-member (λ (y : Connection). is_available y.place && is_some (perished_now s m y)) x s.kept.connections e).0
 
   -- it is pending
   pub pending_lives : (c : ℕ) → is_pending_at (connection_at s c) ≡ true → is_some (connection_at s c) ≡ true

@@ -5,7 +5,7 @@ use Rattle.mdb_log.specs.Connections.{has}
 use Rattle.mdb_pool.specs.declared.kept.request.Request.{Request}
 use Rattle.mdb_pool.specs.Core.{PoolCore}
 use Rattle.mdb_pool.specs.Kept.Values.{connection_at, first_unclaimed, given_of, held_connection, held_given, id_at, is_asked_at, kept_requests, lingers, request_at, request_in}
-use Rattle.mdb_pool.specs.Now.{has_job_now, held_now, holds_now, is_closed_now, is_live_now, is_open_now, is_pending_now, is_spent, pins_now}
+use Rattle.mdb_pool.specs.Now.{has_job_now, held_now, holds_now, is_closed_now, is_live_now, is_open_now, is_pending_now, is_spent, pins_now, queries}
 use Rattle.mdb_log.proofs.Bools.{both-true}
 use Rattle.mdb_pool_rules.proofs.Listed.Values.{entry_at-key}
 
@@ -28,16 +28,20 @@ counted p r q (x ∷ qs) e f = on (p x) (x.number == r) refl refl (counted p r q
 
 module _ (s : PoolCore) (spent : is_spent s ≡ true) where
   pub spent-shut : is_closed_now s ≡ true
-  spent-shut = (both-true (is_closed_now s) ((length s.connections == 0) && (length (kept_requests s) == 0)) spent).0
+  unfolding queries
+  spent-shut = (both-true (is_closed_now s) ((length s.kept.connections == 0) && (length (kept_requests s) == 0)) spent).0
 
-  rest : (length s.connections == 0) && (length (kept_requests s) == 0) ≡ true
-  rest = (both-true (is_closed_now s) ((length s.connections == 0) && (length (kept_requests s) == 0)) spent).1
+  rest : (length s.kept.connections == 0) && (length (kept_requests s) == 0) ≡ true
+  unfolding queries
+  rest = (both-true (is_closed_now s) ((length s.kept.connections == 0) && (length (kept_requests s) == 0)) spent).1
 
-  no-connections : s.connections ≡ []
-  no-connections = empty s.connections (both-true (length s.connections == 0) (length (kept_requests s) == 0) rest).0
+  no-connections : s.kept.connections ≡ []
+  unfolding queries
+  no-connections = empty s.kept.connections (both-true (length s.kept.connections == 0) (length (kept_requests s) == 0) rest).0
 
   none-kept : (length (kept_requests s) == 0) ≡ true
-  none-kept = (both-true (length s.connections == 0) (length (kept_requests s) == 0) rest).1
+  unfolding queries
+  none-kept = (both-true (length s.kept.connections == 0) (length (kept_requests s) == 0) rest).1
 
   none-there : (c : ℕ) → connection_at s c ≡ None
   none-there c = rw no-connections refl
@@ -53,24 +57,31 @@ module _ (s : PoolCore) (spent : is_spent s ≡ true) where
   none-unclaimed = rw no-connections refl
 
   pub none-live : (c : ℕ) → is_live_now s c ≡ false
+  unfolding queries
   none-live c = ap is_some (none-there c)
 
   pub nobody-holds : (r : ℕ) → held_now s r ≡ None
+  unfolding queries
   nobody-holds r = ap id_at (none-held r)
 
   pub nobody-held : (r : ℕ) → holds_now s r ≡ false
+  unfolding queries
   nobody-held r = ap is_some (none-held r)
 
   pub no-job : has_job_now s ≡ false
+  unfolding queries
   no-job = ap is_some none-unclaimed
 
   pub none-pending : (c : ℕ) → is_pending_now s c ≡ false
+  unfolding queries
   none-pending c = rw (none-there c) refl
 
   pub none-pinned : (c : ℕ) → pins_now s c ≡ 0
+  unfolding queries
   none-pinned c = rw (none-there c) refl
 
   pub none-open : (r : ℕ) → is_open_now s r ≡ false
+  unfolding queries
   none-open r = on (request_at s r) refl
     where
       off : (a b : Bool) → (a && not b) ≡ true → b ≡ false
@@ -85,9 +96,9 @@ module _ (s : PoolCore) (spent : is_spent s ≡ true) where
           unopened : (b : Bool) → is_open_now s r ≡ b → b ≡ false
           unopened false f = refl
           unopened true f =
-              let unsettled : has r s.settled ≡ false = off (is_asked_at (request_at s r)) (has r s.settled) f in
-              let own : q.number ≡ r = entry_at-key (λ (k : Request). k.number) r q s.requests e in
-              let stays : lingers s.settled q ≡ true = rw (own, unsettled) refl in
-              let some : (length (kept_requests s) == 0) ≡ false = counted (lingers s.settled) r q s.requests e stays in
+              let unsettled : has r s.kept.settled ≡ false = off (is_asked_at (request_at s r)) (has r s.kept.settled) f in
+              let own : q.number ≡ r = entry_at-key (λ (k : Request). k.number) r q s.kept.requests e in
+              let stays : lingers s.kept.settled q ≡ true = rw (own, unsettled) refl in
+              let some : (length (kept_requests s) == 0) ≡ false = counted (lingers s.kept.settled) r q s.kept.requests e stays in
               let none : (length (kept_requests s) == 0) ≡ true = none-kept in
               cc

@@ -64,25 +64,25 @@ last-id before (x ∷ xs) = on (is_available x.place) refl (λ b. last-id b xs)
 module _ (s : PoolCore) (xs : List PoolItem) (m : Matches s xs) where
   pub queued-at : (q : Request) → first_queued s ≡ Some q → (request_at s q.number ≡ Some q) × (q.phase ≡ Queued)
   queued-at q e =
-      let i : In q s.requests × (is_queued q.phase ≡ true) = find-member (λ (r : Request). is_queued r.phase) q s.requests e in
-      (member-at (λ (r : Request). r.number) q s.requests i.0 (rw (m.requests.single_request q.number) (one_if-le (is_some (request_at s q.number)))), is-queued q.phase i.1)
+      let i : In q s.kept.requests × (is_queued q.phase ≡ true) = find-member (λ (r : Request). is_queued r.phase) q s.kept.requests e in
+      (member-at (λ (r : Request). r.number) q s.kept.requests i.0 (rw (m.requests.single_request q.number) (one_if-le (is_some (request_at s q.number)))), is-queued q.phase i.1)
 
   pub candidate-at : (q : Request) → candidate_now s ≡ Some q → (request_at s q.number ≡ Some q) × (q.phase ≡ Queued)
   candidate-at q e =
-      let i : In q s.requests × ((is_queued q.phase && not (q.warm && blocked_now s)) ≡ true) = find-member (λ (r : Request). is_queued r.phase && not (r.warm && blocked_now s)) q s.requests e in
-      (member-at (λ (r : Request). r.number) q s.requests i.0 (rw (m.requests.single_request q.number) (one_if-le (is_some (request_at s q.number)))), is-queued q.phase (both-left (is_queued q.phase) (not (q.warm && blocked_now s)) i.1))
+      let i : In q s.kept.requests × ((is_queued q.phase && not (q.warm && blocked_now s)) ≡ true) = find-member (λ (r : Request). is_queued r.phase && not (r.warm && blocked_now s)) q s.kept.requests e in
+      (member-at (λ (r : Request). r.number) q s.kept.requests i.0 (rw (m.requests.single_request q.number) (one_if-le (is_some (request_at s q.number)))), is-queued q.phase (both-left (is_queued q.phase) (not (q.warm && blocked_now s)) i.1))
 
   pub perished-at : (n : ℕ) (x : Connection) → first_perished s n ≡ Some x → (connection_at s x.id ≡ Some x) × (x.place ≡ Available) × (is_some (perished_now s n x) ≡ true)
   perished-at n x e =
-      let i : In x s.connections × ((is_available x.place && is_some (perished_now s n x)) ≡ true) = find-member (λ (y : Connection). is_available y.place && is_some (perished_now s n y)) x s.connections e in
-      (member-at (λ (y : Connection). y.id) x s.connections i.0 (rw (m.counts.single x.id) (one_if-le (is_some (connection_at s x.id)))), is-available x.place (both-left (is_available x.place) (is_some (perished_now s n x)) i.1), both-right (is_available x.place) (is_some (perished_now s n x)) i.1)
+      let i : In x s.kept.connections × ((is_available x.place && is_some (perished_now s n x)) ≡ true) = find-member (λ (y : Connection). is_available y.place && is_some (perished_now s n y)) x s.kept.connections e in
+      (member-at (λ (y : Connection). y.id) x s.kept.connections i.0 (rw (m.counts.single x.id) (one_if-le (is_some (connection_at s x.id)))), is-available x.place (both-left (is_available x.place) (is_some (perished_now s n x)) i.1), both-right (is_available x.place) (is_some (perished_now s n x)) i.1)
 
   pub available-at : (x : Connection) → last_available s ≡ Some x → (connection_at s x.id ≡ Some x) × (x.place ≡ Available)
-  available-at x e = on (last-member None x s.connections e)
+  available-at x e = on (last-member None x s.kept.connections e)
     where
-      on : (◌≡◌ {A = Option Connection} None (Some x)) ⊎ (In x s.connections × (is_available x.place ≡ true)) → (connection_at s x.id ≡ Some x) × (x.place ≡ Available)
+      on : (◌≡◌ {A = Option Connection} None (Some x)) ⊎ (In x s.kept.connections × (is_available x.place ≡ true)) → (connection_at s x.id ≡ Some x) × (x.place ≡ Available)
       on (inl f) = cc
-      on (inr i) = (member-at (λ (y : Connection). y.id) x s.connections i.0 (rw (m.counts.single x.id) (one_if-le (is_some (connection_at s x.id)))), is-available x.place i.1)
+      on (inr i) = (member-at (λ (y : Connection). y.id) x s.kept.connections i.0 (rw (m.counts.single x.id) (one_if-le (is_some (connection_at s x.id)))), is-available x.place i.1)
 
 -- the first queued one is the first of the queue
 pub queue-head : (q : Request) (qs : List Request) → find (λ r. is_queued r.phase) qs ≡ Some q → (rest : List ℕ) × (numbers_where is_queued qs ≡ q.number ∷ rest)
@@ -131,7 +131,7 @@ holder s r x q e f = on q.phase refl
     at_held : (c : ℕ) (y : Connection) (b : Bool) → connection_at s c ≡ Some y → is_held y.place ≡ b → q.phase ≡ Given c → if_held (Some y) ≡ Some x → Holder s r x q
     at_held c y true g k p t =
         let w : y ≡ x = grind arith in
-        let i : y.id ≡ c = entry_at-key (λ (z : Connection). z.id) c y s.connections g in
+        let i : y.id ≡ c = entry_at-key (λ (z : Connection). z.id) c y s.kept.connections g in
         record {
           phase = p ∙ ap Given (sym i ∙ ap (λ z. z.id) w);
           at_x = subst (λ d. connection_at s d ≡ Some x) (sym i ∙ ap (λ z. z.id) w) (g ∙ ap Some w);
@@ -156,7 +156,7 @@ pender s r x q e f = on q.phase refl
     at_pending : (c : ℕ) (y : Connection) (b : Bool) → connection_at s c ≡ Some y → is_pending y.place ≡ b → q.phase ≡ Given c → if_pending (Some y) ≡ Some x → (q.phase ≡ Given x.id) × (connection_at s x.id ≡ Some x) × (x.place ≡ Pending)
     at_pending c y true g k p t =
         let w : y ≡ x = grind arith in
-        let i : y.id ≡ c = entry_at-key (λ (z : Connection). z.id) c y s.connections g in
+        let i : y.id ≡ c = entry_at-key (λ (z : Connection). z.id) c y s.kept.connections g in
         (p ∙ ap Given (sym i ∙ ap (λ z. z.id) w), subst (λ d. connection_at s d ≡ Some x) (sym i ∙ ap (λ z. z.id) w) (g ∙ ap Some w), ap (λ z. z.place) (sym w) ∙ is-pending y.place k)
     at_pending c y false g k p t = let w : ◌≡◌ {A = Option Connection} None (Some x) = grind arith in cc
 
@@ -192,7 +192,7 @@ not-given s xs m r q f h p = on q.phase refl
 
 -- a connection that is found is the one of its id
 pub found-at : (s : PoolCore) (c : ℕ) (x : Connection) → connection_at s c ≡ Some x → connection_at s x.id ≡ Some x
-found-at s c x e = subst (λ d. connection_at s d ≡ Some x) (sym (entry_at-key (λ (z : Connection). z.id) c x s.connections e)) e
+found-at s c x e = subst (λ d. connection_at s d ≡ Some x) (sym (entry_at-key (λ (z : Connection). z.id) c x s.kept.connections e)) e
 
 pub pending-at : (s : PoolCore) (r : ℕ) (x : Connection) → pending_connection s r ≡ Some x → connection_at s x.id ≡ Some x
 pending-at s r x e = on (given_of (request_at s r)) refl

@@ -13,6 +13,7 @@ use Rattle.mdb_log.specs.declared.step.FailedAt.TheVariants.{Pre, Post}
 use Rattle.mdb_log.specs.declared.reply.Refused.{Refused}
 use Rattle.mdb_log.specs.declared.reply.Reply.{Reply}
 use Rattle.mdb_log.specs.declared.reply.Reply.TheVariants.{Refused as RefusedBy}
+use Rattle.mdb_pool.specs.Now.{queries}
 use Rattle.mdb_pool.specs.Core.{PoolCore}
 use Rattle.mdb_pool.specs.declared.kept.status.Status.{Status}
 use Rattle.mdb_pool.specs.declared.kept.status.Status.TheVariants.{Closed}
@@ -86,14 +87,15 @@ none-here false p = refl
 
 -- where the state of a pool stands for a history, a pool that is open somewhere is not closed
 pub open-unclosed : (s : PoolCore) (h : List Item) → StandsFor s h → (b : ServerAddress) → is_number (open_pool h b) s.pool ≡ true → state_of s.options (of_pool s.pool h) ≢ is_closed
-open-unclosed s h z b e f = on s.status refl
+unfolding queries
+open-unclosed s h z b e f = on s.kept.status refl
   where
-    on : (u : Status) → s.status ≡ u → ⊥
+    on : (u : Status) → s.kept.status ≡ u → ⊥
     on Closed g =
         let k : open_pool h b ≡ None = z.open_here b ∙ rw g (none-here (same_address s.address b) s.pool) in
         let l : is_number (open_pool h b) s.pool ≡ false = rw k refl in
         cc
-    on _ g = let k : state_in s.status ≡ is_closed = sym z.fits.matches.clearing.status ∙ f in let l : ◌≡◌ {A = State} _ is_closed = rw g at k in cc
+    on _ g = let k : state_in s.kept.status ≡ is_closed = sym z.fits.matches.clearing.status ∙ f in let l : ◌≡◌ {A = State} _ is_closed = rw g at k in cc
 
 -- an answer keeps a pool quiet
 pub answer-quiet : (s : PoolCore) (h : List Item) (step : Step) → StandsFor s h → IsQuiet s.options (of_pool s.pool h)

@@ -10,6 +10,7 @@ use Rattle.mdb_log.specs.declared.options.PoolOptions.{PoolOptions}
 use Rattle.mdb_log.specs.declared.step.Act.TheVariants.{Clear, Failed}
 use Rattle.mdb_log.specs.declared.step.FailedAt.{FailedAt}
 use Rattle.mdb_log.specs.declared.reply.Reply.{Reply}
+use Rattle.mdb_pool.specs.Now.{queries}
 use Rattle.mdb_pool.specs.Core.{PoolCore}
 use Rattle.mdb_log.specs.History.{PoolItem, failed, service_in, after_facts}
 use Rattle.mdb_log.specs.Connections.{available_list, granted_to}
@@ -97,6 +98,7 @@ module _ (s t u : PoolCore) (before middle start after : List Fact) (m : ℕ) (x
       → Accepts s t before middle m (Clear q service cause) first xs xs
       → Accepts t u start after m (Failed k c at error) second zs (failed c (service_in at) ∷ zs)
       → FailsCleared s u m before middle start after clears fails ws
+  unfolding queries
   failed-after-clear served home v w =
       let own_clear : all_facts s.pool s.address s.options m xs xs (Clear q service cause) ≡ clears = clear-alone s.pool s.address s.options m xs q service cause served ∙ sym (clear-failed s.pool s.address s.options m c (service_in at) xs service cause) in
       let vs : List PoolItem = after_facts s.pool m clears xs in
@@ -120,7 +122,7 @@ module _ (s t u : PoolCore) (before middle start after : List Fact) (m : ℕ) (x
         fair = fair-append s.pool s.address s.options m clears fails ws (clear-fair s.pool s.address s.options m ws cause service (state_of s.options ws) refl) (all-first-alike s.pool m fails ys ns behind fair);
         own = own-append s.pool s.address s.options m clears fails ws (clear-all-own s.pool s.address s.options m ws cause service (state_of s.options ws) refl) (all-own-alike s.pool m fails ys ns behind own);
         served = subst (IsServed s.options) (sym joined) (served-alike s.options (after_facts s.pool m fails ys) (after_facts s.pool m fails ns) after_all rests);
-        shut = later.shut ∙ (ap (λ b. b || is_shut t.status) (ap shuts all) ∙ (ap (λ b. shuts fails || b) (v.shut ∙ ap (λ fs. shuts fs || is_shut s.status) own_clear) ∙ (or-swap (shuts fails) (shuts clears) (is_shut s.status) ∙ ap (λ b. b || is_shut s.status) (sym (shut-append s.pool s.address s.options m clears fails)))));
+        shut = later.shut ∙ (ap (λ b. b || is_shut t.kept.status) (ap shuts all) ∙ (ap (λ b. shuts fails || b) (v.shut ∙ ap (λ fs. shuts fs || is_shut s.kept.status) own_clear) ∙ (or-swap (shuts fails) (shuts clears) (is_shut s.kept.status) ∙ ap (λ b. b || is_shut s.kept.status) (sym (shut-append s.pool s.address s.options m clears fails)))));
         within = λ i. subst (WithinLimits s.options) (sym joined) (accepted-within s.pool s.address s.options m xs ns (Failed k c at error) (of-clear-within s.options s.pool m clears ws (clear-of-clear s.pool s.address s.options m ws service cause) i));
         quiet = quiet-after;
       }

@@ -6,6 +6,7 @@ use Rattle.mdb_log.specs.declared.step.Step.{Step}
 use Rattle.mdb_log.specs.declared.step.Act.{Act}
 use Rattle.mdb_log.specs.declared.reply.Reply.{Reply}
 use Rattle.mdb_log.specs.History.{Item, PoolItem}
+use Rattle.mdb_pool.specs.Now.{queries}
 use Rattle.mdb_pool.specs.declared.planning.Answered.{Answered}
 use Rattle.mdb_pool.specs.Kept.Inner.{Inner}
 use Rattle.mdb_pool.specs.Core.{PoolCore, SameKept}
@@ -14,7 +15,7 @@ use Rattle.mdb_pool.specs.Planning.{DoesLogged, IsDone, IsPrepared}
 
 module _ (i : Inner) where
   abbrev with_inner : PoolCore → PoolCore
-  with_inner s = record s { inner = i }
+  with_inner s = record s { kept = record s.kept { inner = i } }
 
   fits-with : (s : PoolCore) (xs : List PoolItem) → Fits s xs → Fits (with_inner s) xs
   fits-with s xs z = record {
@@ -34,6 +35,7 @@ module _ (i : Inner) where
   }
 
   stands-with : (s : PoolCore) (h : List Item) → StandsFor s h → StandsFor (with_inner s) h
+  unfolding queries
   stands-with s h z = record {
     fits = fits-with s _ z.fits;
     last_is = z.last_is;
@@ -46,6 +48,7 @@ module _ (i : Inner) where
 
   accepts-with : (s t : PoolCore) (before after : List Fact) (m : ℕ) (act : Act) (reply : Reply) (xs ys : List PoolItem) → Accepts s t before after m act reply xs ys
       → Accepts s (with_inner t) before after m act reply xs ys
+  unfolding queries
   accepts-with s t before after m act reply xs ys z = record {
     facts_are = z.facts_are;
     reply_is = z.reply_is;
@@ -60,16 +63,20 @@ module _ (i : Inner) where
   }
 
   home-with : (s t : PoolCore) → SameHome s t → SameHome s (with_inner t)
+  unfolding queries
   home-with s t z = record { pool = z.pool; address = z.address; options = z.options; alone = z.alone }
 
   done-with : (s t : PoolCore) (step : Step) (a : Answered) → IsDone s t step a → IsDone s (with_inner t) step a
+  unfolding queries
   done-with s t step a z = record { home = home-with s t z.home; last = z.last; does = λ xs f. accepts-with s t _ _ _ _ _ xs _ (z.does xs f) }
 
 pub home_same : (r s t : PoolCore) → SameKept s t → SameHome r s → SameHome r t
-home_same r s t e z = subst (SameHome r) (sym e) (home-with t.inner r s z)
+unfolding queries SameKept
+home_same r s t e z = subst (SameHome r) (sym e) (home-with t.kept.inner r s z)
 
 pub stands_same : (s t : PoolCore) (h : List Item) → SameKept s t → StandsFor s h → StandsFor t h
-stands_same s t h e z = subst (λ u. StandsFor u h) (sym e) (stands-with t.inner s h z)
+unfolding queries SameKept
+stands_same s t h e z = subst (λ u. StandsFor u h) (sym e) (stands-with t.kept.inner s h z)
 
 pub answers_same : (r s t : PoolCore) (before after : List Fact) (step : Step) (reply : Reply) (h : List Item) → SameKept s t → Answers r s before after step reply h → Answers r t before after step reply h
 answers_same r s t before after step reply h e z = record { reply_is = z.reply_is; facts_are = z.facts_are; stands = stands_same s t _ e z.stands; fair = z.fair; none_left = z.none_left }
@@ -78,7 +85,8 @@ pub logs_same : (r s t : PoolCore) (before after : List Entry) (seat : ℕ) (ste
 logs_same r s t before after seat step h e z = record { entry = z.entry; stands = stands_same s t _ e z.stands; fair = z.fair; none_left = z.none_left }
 
 pub done_same : (r s t : PoolCore) (step : Step) (a : Answered) → SameKept s t → IsDone r s step a → IsDone r t step a
-done_same r s t step a e z = subst (λ u. IsDone r u step a) (sym e) (done-with t.inner r s step a z)
+unfolding queries SameKept
+done_same r s t step a e z = subst (λ u. IsDone r u step a) (sym e) (done-with t.kept.inner r s step a z)
 
 pub logged_same : (r s t : PoolCore) (before after : List Entry) (seat : ℕ) (step : Step) (reply : Reply) → SameKept s t → DoesLogged r s before after seat step reply → DoesLogged r t before after seat step reply
 logged_same r s t before after seat step reply e z = (z.0, done_same r s t step _ e z.1, z.2)

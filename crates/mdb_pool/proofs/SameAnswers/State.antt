@@ -28,9 +28,9 @@ module _ (s : PoolCore) (xs ys : List PoolItem) (k : Alike xs ys) where
       since = λ c x e f. sym (k.since c) ∙ m.connections.since c x e f;
     };
     told = record {
-      served = λ c. ap (λ t. if lasts_in s.created s.connections c then t else None) (sym (k.service_of c)) ∙ m.told.served c;
-      service = λ c. ap (λ t. if lasts_in s.created s.connections c then t else None) (sym (k.known_service c)) ∙ m.told.service c;
-      wire = λ c. ap (λ w. if lasts_in s.created s.connections c then w else None) (sym (k.wire_of c)) ∙ m.told.wire c;
+      served = λ c. ap (λ t. if lasts_in s.kept.created s.kept.connections c then t else None) (sym (k.service_of c)) ∙ m.told.served c;
+      service = λ c. ap (λ t. if lasts_in s.kept.created s.kept.connections c then t else None) (sym (k.known_service c)) ∙ m.told.service c;
+      wire = λ c. ap (λ w. if lasts_in s.kept.created s.kept.connections c then w else None) (sym (k.wire_of c)) ∙ m.told.wire c;
     };
     requests = record {
       queue = sym k.queued ∙ m.requests.queue;
@@ -48,8 +48,8 @@ module _ (s : PoolCore) (xs ys : List PoolItem) (k : Alike xs ys) where
       rests = m.pinning.rests;
     };
     uses = record {
-      errored = λ c. ap (λ b. if lasts_in s.created s.connections c then b else false) (sym (k.is_errored c)) ∙ m.uses.errored c;
-      dropped = λ c. ap (λ u. if lasts_in s.created s.connections c then is_dropped u else false) (sym (k.last_use c)) ∙ m.uses.dropped c;
+      errored = λ c. ap (λ b. if lasts_in s.kept.created s.kept.connections c then b else false) (sym (k.is_errored c)) ∙ m.uses.errored c;
+      dropped = λ c. ap (λ u. if lasts_in s.kept.created s.kept.connections c then is_dropped u else false) (sym (k.last_use c)) ∙ m.uses.dropped c;
       calm = λ c x e f. ap (λ n. n + x.timeouts) (sym (k.timeouts_since c)) ∙ m.uses.calm c x e f;
     };
     clearing = record {

@@ -50,19 +50,19 @@ map-same f g same [] = refl
 map-same f g same (x ∷ xs) = rw (same x, map-same f g same xs) refl
 
 module _ (s : PoolCore) (xs : List PoolItem) (z : Fits s xs) (c : ℕ) (waits : has c (pending_list xs) ≡ true) where
-  counts : (t : Option ObjectId) → (count_at s c t ≡ generation_of (items_before xs c) t) × (clears_before c t s.clears ≡ generation_of (items_before xs c) t)
+  counts : (t : Option ObjectId) → (count_at s c t ≡ generation_of (items_before xs c) t) × (clears_before c t s.kept.clears ≡ generation_of (items_before xs c) t)
   counts t = on (connection_at s c) refl (sym (pending-is s xs z c) ∙ waits)
     where
-      on : (o : Option Connection) → connection_at s c ≡ o → is_pending_at (connection_at s c) ≡ true → (count_at s c t ≡ generation_of (items_before xs c) t) × (clears_before c t s.clears ≡ generation_of (items_before xs c) t)
+      on : (o : Option Connection) → connection_at s c ≡ o → is_pending_at (connection_at s c) ≡ true → (count_at s c t ≡ generation_of (items_before xs c) t) × (clears_before c t s.kept.clears ≡ generation_of (items_before xs c) t)
       on None e f = absurd (true≢false (sym f ∙ ap is_pending_at e))
       on (Some x) e f =
-          let same : clears_before c t s.clears ≡ generation_of (items_before xs c) t = sym (z.matches.clearing.before c t (live-created s xs z.matches c x e)) ∙ sym (before-items xs c t) in
+          let same : clears_before c t s.kept.clears ≡ generation_of (items_before xs c) t = sym (z.matches.clearing.before c t (live-created s xs z.matches c x e)) ∙ sym (before-items xs c t) in
           (rw e same, same)
 
   pub normal-generation : s.options.load_balanced ≡ false → Normal (count_at s c None) ≡ generations s.options.load_balanced (items_before xs c)
   normal-generation e = rw e (ap Normal (counts None).0)
 
-  pub balanced-generation : s.options.load_balanced ≡ true → (services : List ObjectId) → Ascends services → AreNamed c s.clears services → LoadBalanced (map (λ t. (t, count_at s c (Some t))) services) ≡ generations s.options.load_balanced (items_before xs c)
+  pub balanced-generation : s.options.load_balanced ≡ true → (services : List ObjectId) → Ascends services → AreNamed c s.kept.clears services → LoadBalanced (map (λ t. (t, count_at s c (Some t))) services) ≡ generations s.options.load_balanced (items_before xs c)
   balanced-generation e services up named =
       let all : services ≡ cleared_services (items_before xs c) = one-ascent services (cleared_services (items_before xs c)) up (cleared-ascends (items_before xs c)) (λ t. named t ∙ (ap (nat_lt 0) (counts (Some t)).1 ∙ sym (has-cleared t (items_before xs c)))) in
       rw (e, all) (ap LoadBalanced (map-same (λ t. (t, count_at s c (Some t))) (λ t. (t, generation_of (items_before xs c) (Some t))) (λ t. ap (λ n. (t, n)) (counts (Some t)).0) (cleared_services (items_before xs c))))

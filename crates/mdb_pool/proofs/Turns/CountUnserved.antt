@@ -95,24 +95,24 @@ number_of q = q.number
 
 module _ (s : PoolCore) (xs : List PoolItem) (m : Matches s xs) where
   abbrev holders : List ℕ
-  holders = map (λ x. number_or x.holder) (filter is_awaited s.connections)
+  holders = map (λ x. number_or x.holder) (filter is_awaited s.kept.connections)
 
   abbrev given_ids : List ℕ
-  given_ids = map (λ q. number_or (given_in q.phase)) (filter (λ q. awaits s q.phase) s.requests)
+  given_ids = map (λ q. number_or (given_in q.phase)) (filter (λ q. awaits s q.phase) s.kept.requests)
 
   -- whose connection is pending is its holder
-  awaiting-holds : (r : ℕ) → has r (map number_of (filter (λ q. awaits s q.phase) s.requests)) ≡ true → has r holders ≡ true
+  awaiting-holds : (r : ℕ) → has r (map number_of (filter (λ q. awaits s q.phase) s.kept.requests)) ≡ true → has r holders ≡ true
   awaiting-holds r h = on (request_at s r) refl
     where
       meets : passes number_of (λ q. awaits s q.phase) (request_at s r) ≡ true
-      meets = sym (has-where number_of (λ q. awaits s q.phase) r s.requests (m.requests.single_request r)) ∙ h
+      meets = sym (has-where number_of (λ q. awaits s q.phase) r s.kept.requests (m.requests.single_request r)) ∙ h
 
       at_connection : (c : ℕ) (o : Option Connection) → given_of (request_at s r) ≡ Some c → connection_at s c ≡ o → is_pending_at o ≡ true → has r holders ≡ true
       at_connection c None f g u = cc
       at_connection c (Some x) f g u =
           let mine : x.holder ≡ Some r = ap holder_at (sym g) ∙ m.links.taken r c f in
           let its : number_or x.holder ≡ r = ap number_or mine in
-          subst (λ k. has k holders ≡ true) its (member-has (λ y. number_or y.holder) is_awaited x s.connections (find-member (λ y. y.id == c) x s.connections g).0 (rw (u, mine) refl))
+          subst (λ k. has k holders ≡ true) its (member-has (λ y. number_or y.holder) is_awaited x s.kept.connections (find-member (λ y. y.id == c) x s.kept.connections g).0 (rw (u, mine) refl))
 
       at_phase : (q : Request) (p : Phase) → request_at s r ≡ Some q → q.phase ≡ p → awaits s p ≡ true → has r holders ≡ true
       at_phase q Queued e f u = cc
@@ -125,11 +125,11 @@ module _ (s : PoolCore) (xs : List PoolItem) (m : Matches s xs) where
       on (Some q) e = at_phase q q.phase e refl (ap (passes number_of (λ q. awaits s q.phase)) (sym e) ∙ meets)
 
   -- who holds a pending connection is given it
-  holding-awaits : (c : ℕ) → has c (map id_of (filter is_awaited s.connections)) ≡ true → has c given_ids ≡ true
+  holding-awaits : (c : ℕ) → has c (map id_of (filter is_awaited s.kept.connections)) ≡ true → has c given_ids ≡ true
   holding-awaits c h = on (connection_at s c) refl
     where
       meets : passes id_of is_awaited (connection_at s c) ≡ true
-      meets = sym (has-where id_of is_awaited c s.connections (m.counts.single c)) ∙ h
+      meets = sym (has-where id_of is_awaited c s.kept.connections (m.counts.single c)) ∙ h
 
       at_phase : (r : ℕ) (q : Request) (p : Phase) → request_at s r ≡ Some q → q.phase ≡ p → given_in p ≡ Some c → is_pending_at (connection_at s c) ≡ true → has c given_ids ≡ true
       at_phase r q Queued e f g u = cc
@@ -137,7 +137,7 @@ module _ (s : PoolCore) (xs : List PoolItem) (m : Matches s xs) where
           let same : d ≡ c = cc in
           let its : number_or (given_in q.phase) ≡ c = ap (λ p. number_or (given_in p)) f ∙ same in
           let meets_too : awaits s q.phase ≡ true = ap (awaits s) f ∙ (ap (λ k. is_pending_at (connection_at s k)) same ∙ u) in
-          subst (λ k. has k given_ids ≡ true) its (member-has (λ k. number_or (given_in k.phase)) (λ k. awaits s k.phase) q s.requests (find-member (λ k. k.number == r) q s.requests e).0 meets_too)
+          subst (λ k. has k given_ids ≡ true) its (member-has (λ k. number_or (given_in k.phase)) (λ k. awaits s k.phase) q s.kept.requests (find-member (λ k. k.number == r) q s.kept.requests e).0 meets_too)
       at_phase r q Over e f g u = cc
       at_phase r q (EndedPhase end) e f g u = cc
 
@@ -162,26 +162,26 @@ module _ (s : PoolCore) (xs : List PoolItem) (m : Matches s xs) where
           at_holder x x.holder e refl w.0 w.1
 
   -- as many requests have a pending connection as pending connections a holder
-  awaiting-count : count_by (λ q. awaits s q.phase) s.requests ≡ count_by is_awaited s.connections
+  awaiting-count : count_by (λ q. awaits s q.phase) s.kept.requests ≡ count_by is_awaited s.kept.connections
   awaiting-count =
-      let most : count_by (λ q. awaits s q.phase) s.requests ≤ length holders = count-within number_of (λ q. awaits s q.phase) s.requests holders (λ r. rw (m.requests.single_request r) (one_if-le (is_some (request_at s r)))) awaiting-holds in
-      let least : count_by is_awaited s.connections ≤ length given_ids = count-within id_of is_awaited s.connections given_ids (λ c. rw (m.counts.single c) (one_if-le (is_some (connection_at s c)))) holding-awaits in
-      let e : length holders ≡ count_by is_awaited s.connections = length-map (filter is_awaited s.connections) (λ x. number_or x.holder) ∙ length-filter is_awaited s.connections in
-      let f : length given_ids ≡ count_by (λ q. awaits s q.phase) s.requests = length-map (filter (λ q. awaits s q.phase) s.requests) (λ q. number_or (given_in q.phase)) ∙ length-filter (λ q. awaits s q.phase) s.requests in
+      let most : count_by (λ q. awaits s q.phase) s.kept.requests ≤ length holders = count-within number_of (λ q. awaits s q.phase) s.kept.requests holders (λ r. rw (m.requests.single_request r) (one_if-le (is_some (request_at s r)))) awaiting-holds in
+      let least : count_by is_awaited s.kept.connections ≤ length given_ids = count-within id_of is_awaited s.kept.connections given_ids (λ c. rw (m.counts.single c) (one_if-le (is_some (connection_at s c)))) holding-awaits in
+      let e : length holders ≡ count_by is_awaited s.kept.connections = length-map (filter is_awaited s.kept.connections) (λ x. number_or x.holder) ∙ length-filter is_awaited s.kept.connections in
+      let f : length given_ids ≡ count_by (λ q. awaits s q.phase) s.kept.requests = length-map (filter (λ q. awaits s q.phase) s.kept.requests) (λ q. number_or (given_in q.phase)) ∙ length-filter (λ q. awaits s q.phase) s.kept.requests in
       omega (arith, most, least, e, f)
 
 -- they are the queued ones and the holders of pending connections
-pub unserved-count : (s : PoolCore) (xs : List PoolItem) → Fits s xs → length (unserved_ones s) ≡ count_by (λ q. is_queued q.phase) s.requests + count_by (λ x. is_some x.holder) (pending_ones s)
-unserved-count s xs z = length-filter (λ q. unserved_in s q.phase) s.requests ∙ (count-unserved s s.requests ∙ ap (λ n. count_by (λ q. is_queued q.phase) s.requests + n) (awaiting-count s xs z.matches ∙ sym (count-two (λ x. is_pending x.place) (λ x. is_some x.holder) s.connections)))
+pub unserved-count : (s : PoolCore) (xs : List PoolItem) → Fits s xs → length (unserved_ones s) ≡ count_by (λ q. is_queued q.phase) s.kept.requests + count_by (λ x. is_some x.holder) (pending_ones s)
+unserved-count s xs z = length-filter (λ q. unserved_in s q.phase) s.kept.requests ∙ (count-unserved s s.kept.requests ∙ ap (λ n. count_by (λ q. is_queued q.phase) s.kept.requests + n) (awaiting-count s xs z.matches ∙ sym (count-two (λ x. is_pending x.place) (λ x. is_some x.holder) s.kept.connections)))
 
 -- a walk through the pending connections takes off those that nobody has
 count-both : {T : Type 0} (p : T → Bool) (xs : List T) → count_by p xs + count_by (λ x. not (p x)) xs ≡ length xs
 count-both p [] = refl
 count-both p (x ∷ xs) = grind (arith, common_steps, count-both p xs)
 
-pub awaited-starts : (s : PoolCore) (n : ℕ) (at : Option Connection) → n ≡ count_by (λ x. is_pending x.place) s.connections → rest_of id_of at (pending_ones s) ≡ pending_ones s
+pub awaited-starts : (s : PoolCore) (n : ℕ) (at : Option Connection) → n ≡ count_by (λ x. is_pending x.place) s.kept.connections → rest_of id_of at (pending_ones s) ≡ pending_ones s
     → n ≡ count_by (λ x. is_some x.holder) (pending_ones s) + count_by (λ x. not (is_some x.holder)) (rest_of id_of at (pending_ones s))
-awaited-starts s n at e f = rw f (e ∙ (sym (length-filter (λ x. is_pending x.place) s.connections) ∙ sym (count-both (λ x. is_some x.holder) (pending_ones s))))
+awaited-starts s n at e f = rw f (e ∙ (sym (length-filter (λ x. is_pending x.place) s.kept.connections) ∙ sym (count-both (λ x. is_some x.holder) (pending_ones s))))
 
 -- none is left
 pub awaited-over : (s : PoolCore) (n : ℕ) (at : Option Connection) → at ≡ None

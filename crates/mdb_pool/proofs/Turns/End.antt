@@ -40,7 +40,7 @@ ends-start s n end facts xs z = record { done = []; facts = sym (append-nil fact
 
 pub ends-done : (s t : PoolCore) (n : ℕ) (end : End) (before after : List Fact) (xs : List PoolItem) → Ending s t n end before after xs → first_queued t ≡ None → EndsQueue s t n end before after xs
 ends-done s t n end before after xs g e =
-    let empty : queued (after_facts s.pool n (all_ends s.pool s.address n xs end g.done) xs) ≡ [] = g.fits.matches.requests.queue ∙ queue-empty t.requests e in
+    let empty : queued (after_facts s.pool n (all_ends s.pool s.address n xs end g.done) xs) ≡ [] = g.fits.matches.requests.queue ∙ queue-empty t.kept.requests e in
     let all : queued xs ≡ g.done = g.rest ∙ (ap (λ k. g.done ++ k) empty ∙ append-nil g.done) in
     record {
       facts = g.facts ∙ ap (λ k. before ++ all_ends s.pool s.address n xs end k) (sym all);
@@ -77,9 +77,9 @@ pub ends-more : (s t u : PoolCore) (home : SameHome s t) (n : ℕ) (end : End) (
 ends-more s t u home n end before after facts xs q z g e new added =
     let ys : List PoolItem = after_facts s.pool n (all_ends s.pool s.address n xs end g.done) xs in
     let at_q : (request_at t q.number ≡ Some q) × (q.phase ≡ Queued) = queued-at t ys g.fits.matches q e in
-    let head : (rest : List ℕ) × (numbers_where is_queued t.requests ≡ q.number ∷ rest) = queue-head q t.requests e in
+    let head : (rest : List ℕ) × (numbers_where is_queued t.kept.requests ≡ q.number ∷ rest) = queue-head q t.kept.requests e in
     let queue : queued ys ≡ q.number ∷ head.0 = g.fits.matches.requests.queue ∙ head.1 in
-    let single : count_by (λ j. j == q.number) (numbers_where is_queued t.requests) ≤ 1 = at-most (part-named q.number t.requests) (rw (g.fits.matches.requests.single_request q.number) (one_if-le (is_some (request_at t q.number)))) in
+    let single : count_by (λ j. j == q.number) (numbers_where is_queued t.kept.requests) ≤ 1 = at-most (part-named q.number t.kept.requests) (rw (g.fits.matches.requests.single_request q.number) (one_if-le (is_some (request_at t q.number)))) in
     let left : without q.number (queued ys) ≡ head.0 = ap (without q.number) queue ∙ once q.number head.0 (subst (λ k. count_by (λ j. j == q.number) k ≤ 1) head.1 single) in
     let known : after_facts s.pool n (all_ends s.pool s.address n xs end (g.done ++ q.number ∷ [])) xs ≡ ended q.number end ∷ ys = more-known s t home n end xs g.done g.fits q at_q.0 at_q.1 in
     record {
@@ -93,7 +93,7 @@ ends-more s t u home n end before after facts xs q z g e new added =
     at-most k l = omega arith
 
 -- the queue gets shorter with each end
-pub ends-smaller : (t u : PoolCore) (q : Request) (end : End) → first_queued t ≡ Some q → u ≡ ending t q end → length (numbers_where is_queued u.requests) < length (numbers_where is_queued t.requests)
+pub ends-smaller : (t u : PoolCore) (q : Request) (end : End) → first_queued t ≡ Some q → u ≡ ending t q end → length (numbers_where is_queued u.kept.requests) < length (numbers_where is_queued t.kept.requests)
 ends-smaller t u q end e f =
-    let head : (rest : List ℕ) × (numbers_where is_queued t.requests ≡ q.number ∷ rest) = queue-head q t.requests e in
-    rw (f, where-swap_out (λ (r : Request). r.number) (λ r. is_queued r.phase) (record q { phase = EndedPhase end }) t.requests refl, head.1) (grind (arith, length-without q.number head.0))
+    let head : (rest : List ℕ) × (numbers_where is_queued t.kept.requests ≡ q.number ∷ rest) = queue-head q t.kept.requests e in
+    rw (f, where-swap_out (λ (r : Request). r.number) (λ r. is_queued r.phase) (record q { phase = EndedPhase end }) t.kept.requests refl, head.1) (grind (arith, length-without q.number head.0))

@@ -12,7 +12,7 @@ use Rattle.mdb_pool.specs.declared.kept.connection.Connection.{Connection}
 use Rattle.mdb_pool.specs.declared.kept.request.Request.{Request}
 use Rattle.mdb_pool.specs.declared.kept.request.Phase.TheVariants.{Ended as EndedPhase}
 use Rattle.mdb_pool.specs.Core.{PoolCore}
-use Rattle.mdb_pool.specs.Kept.Values.{unserved_in, request_at}
+use Rattle.mdb_pool.specs.Kept.Values.{unserved_in, request_at, with_requests}
 use Rattle.mdb_pool_rules.proofs.Listed.Values.{In, here, there, entry_at-key, member-has}
 use Rattle.mdb_log.specs.Connections.{has as member}
 use Rattle.mdb_log.proofs.Numbers.{has-append}
@@ -40,18 +40,18 @@ ended-again s q = on (unserved_in s q.phase) refl
     on false w = rw (w, w) refl
 
 -- the connections alone tell what is unserved
-same-ends : (s t : PoolCore) (k : ℕ) → t ≡ record s { requests = t.requests } → ended_one t k ≡ map (λ q. if q.number == k then ended_request s q else q) t.requests
-same-ends s t k e = ap (λ u. map (λ q. if q.number == k then ended_request u q else q) t.requests) e ∙ each t.requests
+same-ends : (s t : PoolCore) (k : ℕ) → t ≡ with_requests s t.kept.requests → ended_one t k ≡ map (λ q. if q.number == k then ended_request s q else q) t.kept.requests
+same-ends s t k e = ap (λ u. map (λ q. if q.number == k then ended_request u q else q) t.kept.requests) e ∙ each t.kept.requests
   where
-    one : (q : Request) → ended_request (record s { requests = t.requests }) q ≡ ended_request s q
+    one : (q : Request) → ended_request (with_requests s t.kept.requests) q ≡ ended_request s q
     one q = refl
 
-    each : (qs : List Request) → map (λ q. if q.number == k then ended_request (record s { requests = t.requests }) q else q) qs ≡ map (λ q. if q.number == k then ended_request s q else q) qs
+    each : (qs : List Request) → map (λ q. if q.number == k then ended_request (with_requests s t.kept.requests) q else q) qs ≡ map (λ q. if q.number == k then ended_request s q else q) qs
     each [] = refl
     each (q ∷ qs) = rw (one q, each qs) refl
 
-pub none-ended : (s : PoolCore) → s ≡ record s { requests = ended_all s [] }
-none-ended s = ap (λ (qs : List Request). record s { requests = qs }) (each s.requests)
+pub none-ended : (s : PoolCore) → s ≡ with_requests s (ended_all s [])
+none-ended s = ap (with_requests s) (each s.kept.requests)
   where
     each : (qs : List Request) → qs ≡ map (λ q. if member q.number [] then ended_request s q else q) qs
     each [] = refl
@@ -61,8 +61,8 @@ both : {x y : Request} {xs ys : List Request} → x ≡ y → xs ≡ ys → x �
 both {x} {y} {xs} {ys} e f = ap (λ z. z ∷ xs) e ∙ ap (λ zs. y ∷ zs) f
 
 -- one more of them ends
-pub one-more-ended : (s t u : PoolCore) (rs : List ℕ) (k : ℕ) → t ≡ record s { requests = ended_all s rs } → u ≡ record t { requests = ended_one t k } → u ≡ record s { requests = ended_all s (rs ++ k ∷ []) }
-one-more-ended s t u rs k e f = f ∙ (ap (λ (c : PoolCore). record c { requests = ended_one t k }) e ∙ ap (λ (qs : List Request). record s { requests = qs }) changed)
+pub one-more-ended : (s t u : PoolCore) (rs : List ℕ) (k : ℕ) → t ≡ with_requests s (ended_all s rs) → u ≡ with_requests t (ended_one t k) → u ≡ with_requests s (ended_all s (rs ++ k ∷ []))
+one-more-ended s t u rs k e f = f ∙ (ap (λ (c : PoolCore). with_requests c (ended_one t k)) e ∙ ap (with_requests s) changed)
   where
     each : (qs : List Request) → map (λ q. if q.number == k then ended_request s q else q) (map (λ q. if member q.number rs then ended_request s q else q) qs) ≡ map (λ q. if member q.number (rs ++ k ∷ []) then ended_request s q else q) qs
     each [] = refl
@@ -80,14 +80,14 @@ one-more-ended s t u rs k e f = f ∙ (ap (λ (c : PoolCore). record c { request
         on false false v w more = rw (has-append q.number k rs, v, w, turned false w) (both refl more)
 
     changed : ended_one t k ≡ ended_all s (rs ++ k ∷ [])
-    changed = same-ends s t k (e ∙ ap (λ (qs : List Request). record s { requests = qs }) (sym (ap (λ (c : PoolCore). c.requests) e)))
-        ∙ (ap (map (λ q. if q.number == k then ended_request s q else q)) (ap (λ (c : PoolCore). c.requests) e) ∙ each s.requests)
+    changed = same-ends s t k (e ∙ ap (with_requests s) (sym (ap (λ (c : PoolCore). c.kept.requests) e)))
+        ∙ (ap (map (λ q. if q.number == k then ended_request s q else q)) (ap (λ (c : PoolCore). c.kept.requests) e) ∙ each s.kept.requests)
 
 -- where they are those that nothing was handed to, all such requests end
-pub all-ended : (s : PoolCore) → ended_all s (map number_of (unserved_ones s)) ≡ map (ended_request s) s.requests
-all-ended s = each s.requests (λ q i. i)
+pub all-ended : (s : PoolCore) → ended_all s (map number_of (unserved_ones s)) ≡ map (ended_request s) s.kept.requests
+all-ended s = each s.kept.requests (λ q i. i)
   where
-    each : (qs : List Request) → ((q : Request) → In q qs → In q s.requests) → map (λ q. if member q.number (map number_of (unserved_ones s)) then ended_request s q else q) qs ≡ map (ended_request s) qs
+    each : (qs : List Request) → ((q : Request) → In q qs → In q s.kept.requests) → map (λ q. if member q.number (map number_of (unserved_ones s)) then ended_request s q else q) qs ≡ map (ended_request s) qs
     each [] all = refl
     each (q ∷ qs) all = on (unserved_in s q.phase) refl (each qs (λ r i. all r (there i)))
       where
@@ -97,7 +97,7 @@ all-ended s = each s.requests (λ q i. i)
 
         on : (b : Bool) → unserved_in s q.phase ≡ b → map (λ q. if member q.number (map number_of (unserved_ones s)) then ended_request s q else q) qs ≡ map (ended_request s) qs → map (λ q. if member q.number (map number_of (unserved_ones s)) then ended_request s q else q) (q ∷ qs) ≡ map (ended_request s) (q ∷ qs)
         on true u more =
-            let h : member q.number (map number_of (unserved_ones s)) ≡ true = member-has number_of (λ r. unserved_in s r.phase) q s.requests (all q here) u in
+            let h : member q.number (map number_of (unserved_ones s)) ≡ true = member-has number_of (λ r. unserved_in s r.phase) q s.kept.requests (all q here) u in
             rw (h, more) refl
         on false u more = ap (λ r. r ∷ map (λ q. if member q.number (map number_of (unserved_ones s)) then ended_request s q else q) qs) (stays (member q.number (map number_of (unserved_ones s))) u) ∙ ap (λ rs. ended_request s q ∷ rs) more
 
@@ -141,8 +141,8 @@ pub found-none : (s : PoolCore) (k : ℕ) → request_at s k ≡ None → filter
 found-none s k e = rw e refl
 
 -- those that the numbers of the unserved requests find are these
-pub found-unserved : (s : PoolCore) → ((q : Request) → In q s.requests → request_at s q.number ≡ Some q) → filter (λ q. unserved_in s q.phase) (filter_map (request_at s) (map number_of (unserved_ones s))) ≡ unserved_ones s
-found-unserved s at = each s.requests at
+pub found-unserved : (s : PoolCore) → ((q : Request) → In q s.kept.requests → request_at s q.number ≡ Some q) → filter (λ q. unserved_in s q.phase) (filter_map (request_at s) (map number_of (unserved_ones s))) ≡ unserved_ones s
+found-unserved s at = each s.kept.requests at
   where
     each : (qs : List Request) → ((q : Request) → In q qs → request_at s q.number ≡ Some q) → filter (λ q. unserved_in s q.phase) (filter_map (request_at s) (map number_of (filter (λ q. unserved_in s q.phase) qs))) ≡ filter (λ q. unserved_in s q.phase) qs
     each [] at = refl
@@ -221,12 +221,12 @@ one-stays s k (q ∷ qs) x a e u = on (q.number == k) refl (one-stays s k qs x (
         let f : entry_at number_of k qs ≡ Some x = subst (λ (b : Bool). (if b then Some q else entry_at number_of k qs) ≡ Some x) w e in
         rw w (ap (λ rs. q ∷ rs) (more f u))
 
-pub one-ends : (s : PoolCore) (k : ℕ) (x : Request) → apart (map number_of s.requests) ≡ true → request_at s k ≡ Some x → unserved_in s x.phase ≡ true
-    → ended_one s k ≡ swap number_of (record { number = k; asked_at = x.asked_at; warm = x.warm; took = x.took; phase = EndedPhase ClosedEnd }) s.requests
-one-ends s k x a e u = one-found s k s.requests x _ a e (now-ended ∙ ap (λ n. record { number = n; asked_at = x.asked_at; warm = x.warm; took = x.took; phase = EndedPhase ClosedEnd }) key-is) refl
+pub one-ends : (s : PoolCore) (k : ℕ) (x : Request) → apart (map number_of s.kept.requests) ≡ true → request_at s k ≡ Some x → unserved_in s x.phase ≡ true
+    → ended_one s k ≡ swap number_of (record { number = k; asked_at = x.asked_at; warm = x.warm; took = x.took; phase = EndedPhase ClosedEnd }) s.kept.requests
+one-ends s k x a e u = one-found s k s.kept.requests x _ a e (now-ended ∙ ap (λ n. record { number = n; asked_at = x.asked_at; warm = x.warm; took = x.took; phase = EndedPhase ClosedEnd }) key-is) refl
   where
     now-ended : ended_request s x ≡ record x { phase = EndedPhase ClosedEnd }
     now-ended = rw u refl
 
     key-is : x.number ≡ k
-    key-is = entry_at-key number_of k x s.requests e
+    key-is = entry_at-key number_of k x s.kept.requests e

@@ -92,22 +92,22 @@ module _ (t : PoolCore) (ys : List PoolItem) (z : Fits t ys) (n : ℕ) where
       on true false false e f g rest = rw (e, warm, f, over, g) rest
       on true false true e f g rest = rw (e, warm, f, over, g) (ap (λ ks. q.number ∷ ks) rest)
 
-  overdue-are : overdue t.options n ys ≡ map number_of (filter (overdue_now t n) t.requests)
-  overdue-are = ap late z.matches.requests.queue ∙ late-are t.requests (λ q i. member-at number_of q t.requests i (rw (z.matches.requests.single_request q.number) (one_if-le (is_some (request_at t q.number)))))
+  overdue-are : overdue t.options n ys ≡ map number_of (filter (overdue_now t n) t.kept.requests)
+  overdue-are = ap late z.matches.requests.queue ∙ late-are t.kept.requests (λ q i. member-at number_of q t.kept.requests i (rw (z.matches.requests.single_request q.number) (one_if-le (is_some (request_at t q.number)))))
 
   pub overdue-at : (q : Request) → first_overdue t n ≡ Some q → (request_at t q.number ≡ Some q) × (q.phase ≡ Queued)
   overdue-at q e =
-      let i : In q t.requests × (overdue_now t n q ≡ true) = find-member (overdue_now t n) q t.requests e in
-      (member-at number_of q t.requests i.0 (rw (z.matches.requests.single_request q.number) (one_if-le (is_some (request_at t q.number)))), is-queued q.phase (both-left (is_queued q.phase) (not q.warm && overdue_since t.options.max_wait n q.asked_at) i.1))
+      let i : In q t.kept.requests × (overdue_now t n q ≡ true) = find-member (overdue_now t n) q t.kept.requests e in
+      (member-at number_of q t.kept.requests i.0 (rw (z.matches.requests.single_request q.number) (one_if-le (is_some (request_at t q.number)))), is-queued q.phase (both-left (is_queued q.phase) (not q.warm && overdue_since t.options.max_wait n q.asked_at) i.1))
 
   nobody-overdue : first_overdue t n ≡ None → overdue t.options n ys ≡ []
-  nobody-overdue e = overdue-are ∙ ap (map number_of) (find-none (overdue_now t n) t.requests e)
+  nobody-overdue e = overdue-are ∙ ap (map number_of) (find-none (overdue_now t n) t.kept.requests e)
 
   first-overdue : (q : Request) → first_overdue t n ≡ Some q → overdue t.options n ys ≡ q.number ∷ overdue t.options n (ended q.number TimedOut ∷ ys)
   first-overdue q e =
-      let some : (rest : List Request) × (filter (overdue_now t n) t.requests ≡ q ∷ rest) = find-some (overdue_now t n) q t.requests e in
+      let some : (rest : List Request) × (filter (overdue_now t n) t.kept.requests ≡ q ∷ rest) = find-some (overdue_now t n) q t.kept.requests e in
       let all : overdue t.options n ys ≡ q.number ∷ map number_of some.0 = overdue-are ∙ ap (map number_of) some.1 in
-      let single : count_by (λ j. j == q.number) (map number_of (filter (overdue_now t n) t.requests)) ≤ 1 = at-most (part-named (overdue_now t n) q.number t.requests) (rw (z.matches.requests.single_request q.number) (one_if-le (is_some (request_at t q.number)))) in
+      let single : count_by (λ j. j == q.number) (map number_of (filter (overdue_now t n) t.kept.requests)) ≤ 1 = at-most (part-named (overdue_now t n) q.number t.kept.requests) (rw (z.matches.requests.single_request q.number) (one_if-le (is_some (request_at t q.number)))) in
       let left : without q.number (overdue t.options n ys) ≡ map number_of some.0 = ap (without q.number) all ∙ once q.number (map number_of some.0) (subst (λ k. count_by (λ j. j == q.number) k ≤ 1) (ap (map number_of) some.1) single) in
       all ∙ ap (λ ks. q.number ∷ ks) (sym (overdue-ended t.options n q.number TimedOut ys ∙ left))
     where
@@ -150,8 +150,8 @@ module _ (s t : PoolCore) (home : SameHome s t) (n : ℕ) (before after : List F
       }
 
 -- the queue gets shorter with each end
-pub expire-smaller : (t u : PoolCore) (n : ℕ) (q : Request) → first_overdue t n ≡ Some q → u ≡ ending t q TimedOut → length (numbers_where is_queued u.requests) < length (numbers_where is_queued t.requests)
+pub expire-smaller : (t u : PoolCore) (n : ℕ) (q : Request) → first_overdue t n ≡ Some q → u ≡ ending t q TimedOut → length (numbers_where is_queued u.kept.requests) < length (numbers_where is_queued t.kept.requests)
 expire-smaller t u n q e new =
-    let i : In q t.requests × (overdue_now t n q ≡ true) = find-member (overdue_now t n) q t.requests e in
-    rw (new, where-swap_out number_of (λ r. is_queued r.phase) (record q { phase = EndedPhase TimedOut }) t.requests refl)
-    (length-without_has q.number (numbers_where is_queued t.requests) (member-has number_of (λ r. is_queued r.phase) q t.requests i.0 (both-left (is_queued q.phase) (not q.warm && overdue_since t.options.max_wait n q.asked_at) i.1)))
+    let i : In q t.kept.requests × (overdue_now t n q ≡ true) = find-member (overdue_now t n) q t.kept.requests e in
+    rw (new, where-swap_out number_of (λ r. is_queued r.phase) (record q { phase = EndedPhase TimedOut }) t.kept.requests refl)
+    (length-without_has q.number (numbers_where is_queued t.kept.requests) (member-has number_of (λ r. is_queued r.phase) q t.kept.requests i.0 (both-left (is_queued q.phase) (not q.warm && overdue_since t.options.max_wait n q.asked_at) i.1)))

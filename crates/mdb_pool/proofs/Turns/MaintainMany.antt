@@ -125,24 +125,24 @@ module _ (t : PoolCore) (ys : List PoolItem) (z : Fits t ys) (n : ℕ) where
           taken : y.id ≡ x.id → without x.id (y.id ∷ ids_where is_available cs) ≡ without x.id (ids_where is_available cs)
           taken i = let s : (y.id == x.id) ≡ true = grind arith in rw s refl
 
-  members : (x : Connection) → In x t.connections → connection_at t x.id ≡ Some x
-  members x i = member-at id_of x t.connections i (rw (z.matches.counts.single x.id) (one_if-le (is_some (connection_at t x.id))))
+  members : (x : Connection) → In x t.kept.connections → connection_at t x.id ≡ Some x
+  members x i = member-at id_of x t.kept.connections i (rw (z.matches.counts.single x.id) (one_if-le (is_some (connection_at t x.id))))
 
   nothing-perished : first_perished t n ≡ None → sweep t.pool t.address t.options n ys (available_list ys) ≡ []
-  nothing-perished e = ap (sweep t.pool t.address t.options n ys) z.matches.counts.available ∙ sweep-none t.connections members e
+  nothing-perished e = ap (sweep t.pool t.address t.options n ys) z.matches.counts.available ∙ sweep-none t.kept.connections members e
 
   one-perished : (x : Connection) (why : ConnectionClosedReason) → first_perished t n ≡ Some x → perished_now t n x ≡ Some why → sweep t.pool t.address t.options n ys (available_list ys) ≡ closed_fact t.pool t.address x.id why x.service ∷ sweep t.pool t.address t.options n (closed x.id ∷ ys) (available_list (closed x.id ∷ ys))
   one-perished x why e f =
       let at_x : connection_at t x.id ≡ Some x = (perished-at t ys z.matches n x e).0 in
       ap (sweep t.pool t.address t.options n ys) z.matches.counts.available
-      ∙ (sweep-first x why at_x f t.connections members (rw (z.matches.counts.single x.id) (one_if-le (is_some (connection_at t x.id)))) e
+      ∙ (sweep-first x why at_x f t.kept.connections members (rw (z.matches.counts.single x.id) (one_if-le (is_some (connection_at t x.id)))) e
       ∙ ap (λ cs. closed_fact t.pool t.address x.id why x.service ∷ sweep t.pool t.address t.options n (closed x.id ∷ ys) (without x.id cs)) (sym z.matches.counts.available))
 
   -- whether maintenance creates one more
   fills-is : (ready (state_of t.options ys) && (nat_lt (live_total ys) (min_size t.options) && (nat_lt (length (pending_list ys)) (max_connecting t.options) && nat_lt (created_total ys) t.options.limit_id))) ≡ fills_now t
   fills-is =
-      let pending : length (pending_list ys) ≡ pending_count t = ap length z.matches.counts.pending ∙ length-where id_of (λ x. is_pending x.place) t.connections in
-      rw (z.matches.clearing.status, ready-is t.status, z.matches.counts.live_all, pending, z.matches.counts.created) refl
+      let pending : length (pending_list ys) ≡ pending_count t = ap length z.matches.counts.pending ∙ length-where id_of (λ x. is_pending x.place) t.kept.connections in
+      rw (z.matches.clearing.status, ready-is t.kept.status, z.matches.counts.live_all, pending, z.matches.counts.created) refl
 
 -- how far the closes are
 pub record Sweeping (s t : PoolCore) (n : ℕ) (before after : List Fact) (xs : List PoolItem) : Type 0 where
@@ -185,14 +185,14 @@ module _ (s t : PoolCore) (home : SameHome s t) (n : ℕ) (before after : List F
       }
 
 -- one that is available goes with each close
-pub sweep-smaller : (t u : PoolCore) (n : ℕ) (x : Connection) → first_perished t n ≡ Some x → u ≡ discarding t x → length (ids_where is_available u.connections) < length (ids_where is_available t.connections)
+pub sweep-smaller : (t u : PoolCore) (n : ℕ) (x : Connection) → first_perished t n ≡ Some x → u ≡ discarding t x → length (ids_where is_available u.kept.connections) < length (ids_where is_available t.kept.connections)
 sweep-smaller t u n x e new =
-    let i : In x t.connections × ((is_available x.place && is_some (perished_now t n x)) ≡ true) = find-member (λ (y : Connection). is_available y.place && is_some (perished_now t n y)) x t.connections e in
-    rw (new, map-filter-others id_of (λ y. is_available y.place) x.id t.connections) (length-without_has x.id (ids_where is_available t.connections) (member-has id_of (λ y. is_available y.place) x t.connections i.0 (both-left (is_available x.place) (is_some (perished_now t n x)) i.1)))
+    let i : In x t.kept.connections × ((is_available x.place && is_some (perished_now t n x)) ≡ true) = find-member (λ (y : Connection). is_available y.place && is_some (perished_now t n y)) x t.kept.connections e in
+    rw (new, map-filter-others id_of (λ y. is_available y.place) x.id t.kept.connections) (length-without_has x.id (ids_where is_available t.kept.connections) (member-has id_of (λ y. is_available y.place) x t.kept.connections i.0 (both-left (is_available x.place) (is_some (perished_now t n x)) i.1)))
 
 -- one that is first perished has a reason
 pub has-perished : (t : PoolCore) (n : ℕ) (x : Connection) → first_perished t n ≡ Some x → is_some (perished_now t n x) ≡ true
-has-perished t n x e = both-right (is_available x.place) (is_some (perished_now t n x)) (find-member (λ (y : Connection). is_available y.place && is_some (perished_now t n y)) x t.connections e).1
+has-perished t n x e = both-right (is_available x.place) (is_some (perished_now t n x)) (find-member (λ (y : Connection). is_available y.place && is_some (perished_now t n y)) x t.kept.connections e).1
 
 -- how far the creations are
 pub record Filling (s t : PoolCore) (n : ℕ) (before after : List Fact) (xs : List PoolItem) : Type 0 where
@@ -222,7 +222,7 @@ module _ (s t : PoolCore) (home : SameHome s t) (n : ℕ) (before after : List F
         fits = subst (λ k. Fits t (after_facts s.pool n k xs)) (sym all) g.fits;
       }
 
-  pub fill-more : (u : PoolCore) (facts : List Fact) → fills_now t ≡ true → u ≡ spawning t n → facts ≡ after ++ created_fact t.pool t.address (t.created + 1) ∷ [] → Filling s u n before facts xs
+  pub fill-more : (u : PoolCore) (facts : List Fact) → fills_now t ≡ true → u ≡ spawning t n → facts ≡ after ++ created_fact t.pool t.address (t.kept.created + 1) ∷ [] → Filling s u n before facts xs
   fill-more u facts e new added = on g.left g.rest g.enough
     where
       few : live_total zs < min_size s.options
@@ -239,33 +239,33 @@ module _ (s t : PoolCore) (home : SameHome s t) (n : ℕ) (before after : List F
               less i k h = grind (arith, nat_tests)
           second-test false i k b f = cc
 
-      fact_is : created_fact s.pool s.address (created_total zs + 1) ≡ created_fact t.pool t.address (t.created + 1)
+      fact_is : created_fact s.pool s.address (created_total zs + 1) ≡ created_fact t.pool t.address (t.kept.created + 1)
       fact_is = rw (g.fits.matches.counts.created, home.pool, home.address) refl
 
-      heard : after_facts s.pool n (created_fact t.pool t.address (t.created + 1) ∷ []) zs ≡ created (t.created + 1) n ∷ zs
+      heard : after_facts s.pool n (created_fact t.pool t.address (t.kept.created + 1) ∷ []) zs ≡ created (t.kept.created + 1) n ∷ zs
       heard = rw (home.pool, same-number s.pool) refl
 
-      known : after_facts s.pool n (g.done ++ created_fact t.pool t.address (t.created + 1) ∷ []) xs ≡ created (t.created + 1) n ∷ zs
-      known = after-append s.pool n g.done (created_fact t.pool t.address (t.created + 1) ∷ []) xs ∙ heard
+      known : after_facts s.pool n (g.done ++ created_fact t.pool t.address (t.kept.created + 1) ∷ []) xs ≡ created (t.kept.created + 1) n ∷ zs
+      known = after-append s.pool n g.done (created_fact t.pool t.address (t.kept.created + 1) ∷ []) xs ∙ heard
 
       on : (left : ℕ) → fill s.pool s.address s.options n (min_size s.options) xs ≡ g.done ++ fill s.pool s.address s.options n left zs → min_size s.options ≤ live_total zs + left → Filling s u n before facts xs
       on zero rest enough = let f : live_total zs < min_size s.options = few in absurd (omega arith)
       on (suc left) rest enough =
-          let one : fill s.pool s.address s.options n (suc left) zs ≡ created_fact t.pool t.address (t.created + 1) ∷ fill s.pool s.address s.options n left (after_facts s.pool n (created_fact t.pool t.address (t.created + 1) ∷ []) zs) =
+          let one : fill s.pool s.address s.options n (suc left) zs ≡ created_fact t.pool t.address (t.kept.created + 1) ∷ fill s.pool s.address s.options n left (after_facts s.pool n (created_fact t.pool t.address (t.kept.created + 1) ∷ []) zs) =
           fill-one s.pool s.address s.options n left zs (may-is ∙ e) ∙ ap (λ f. f ∷ fill s.pool s.address s.options n left (after_facts s.pool n (f ∷ []) zs)) fact_is in
-          let after_one : after_facts s.pool n (created_fact t.pool t.address (t.created + 1) ∷ []) zs ≡ after_facts s.pool n (g.done ++ created_fact t.pool t.address (t.created + 1) ∷ []) xs = heard ∙ sym known in
+          let after_one : after_facts s.pool n (created_fact t.pool t.address (t.kept.created + 1) ∷ []) zs ≡ after_facts s.pool n (g.done ++ created_fact t.pool t.address (t.kept.created + 1) ∷ []) xs = heard ∙ sym known in
           record {
-            done = g.done ++ created_fact t.pool t.address (t.created + 1) ∷ [];
+            done = g.done ++ created_fact t.pool t.address (t.kept.created + 1) ∷ [];
             left = left;
-            facts = added ∙ (ap (λ k. k ++ created_fact t.pool t.address (t.created + 1) ∷ []) g.facts ∙ append_assoc before g.done (created_fact t.pool t.address (t.created + 1) ∷ []));
+            facts = added ∙ (ap (λ k. k ++ created_fact t.pool t.address (t.kept.created + 1) ∷ []) g.facts ∙ append_assoc before g.done (created_fact t.pool t.address (t.kept.created + 1) ∷ []));
             fits = subst (Fits u) (sym known) (rw new (spawn-fits t zs g.fits n));
-            rest = rest ∙ (ap (λ k. g.done ++ k) (one ∙ ap (λ k. created_fact t.pool t.address (t.created + 1) ∷ fill s.pool s.address s.options n left k) after_one) ∙ sym (append_assoc g.done (created_fact t.pool t.address (t.created + 1) ∷ []) (fill s.pool s.address s.options n left (after_facts s.pool n (g.done ++ created_fact t.pool t.address (t.created + 1) ∷ []) xs))));
+            rest = rest ∙ (ap (λ k. g.done ++ k) (one ∙ ap (λ k. created_fact t.pool t.address (t.kept.created + 1) ∷ fill s.pool s.address s.options n left k) after_one) ∙ sym (append_assoc g.done (created_fact t.pool t.address (t.kept.created + 1) ∷ []) (fill s.pool s.address s.options n left (after_facts s.pool n (g.done ++ created_fact t.pool t.address (t.kept.created + 1) ∷ []) xs))));
             enough = subst (λ k. min_size s.options ≤ live_total k + left) (sym known) (omega arith);
           }
 
 -- an id is left where maintenance creates a connection
-pub fills-below : (t : PoolCore) → fills_now t ≡ true → t.created < t.options.limit_id
-fills-below t e = last (is_ready_now t.status) (nat_lt (length t.connections) (min_size t.options)) (nat_lt (pending_count t) (max_connecting t.options)) t.created t.options.limit_id e
+pub fills-below : (t : PoolCore) → fills_now t ≡ true → t.kept.created < t.options.limit_id
+fills-below t e = last (is_ready_now t.kept.status) (nat_lt (length t.kept.connections) (min_size t.options)) (nat_lt (pending_count t) (max_connecting t.options)) t.kept.created t.options.limit_id e
   where
     last : (a b c : Bool) (i k : ℕ) → (a && (b && (c && nat_lt i k))) ≡ true → i < k
     last true true true i k f = grind (arith, nat_tests)
@@ -274,5 +274,5 @@ fills-below t e = last (is_ready_now t.status) (nat_lt (length t.connections) (m
     last false b c i k f = cc
 
 -- with each creation one id less is left
-pub spawn-smaller : (t u : PoolCore) (n : ℕ) → fills_now t ≡ true → u ≡ spawning t n → u.options.limit_id - u.created < t.options.limit_id - t.created
-spawn-smaller t u n e new = let b : t.created < t.options.limit_id = fills-below t e in rw new (omega arith)
+pub spawn-smaller : (t u : PoolCore) (n : ℕ) → fills_now t ≡ true → u ≡ spawning t n → u.options.limit_id - u.kept.created < t.options.limit_id - t.kept.created
+spawn-smaller t u n e new = let b : t.kept.created < t.options.limit_id = fills-below t e in rw new (omega arith)

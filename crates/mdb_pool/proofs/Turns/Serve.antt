@@ -53,13 +53,13 @@ module _ (s : PoolCore) (xs : List PoolItem) (z : Fits s xs) (n : ℕ) where
   perished-is x at_x place = rw (stale-at s xs z.matches x.id x at_x, idle-is s.options.max_idle_time x.id x refl (z.matches.connections.since x.id x at_x (ap is_available place))) refl
 
   last-available : last_of (available_list xs) ≡ id_or (last_available s) None
-  last-available = ap last_of z.matches.counts.available ∙ (sym (or_else-none (last_of (ids_where is_available s.connections))) ∙ sym (last-id None s.connections))
+  last-available = ap last_of z.matches.counts.available ∙ (sym (or_else-none (last_of (ids_where is_available s.kept.connections))) ∙ sym (last-id None s.kept.connections))
 
   wants-is : wants_connection s.options xs ≡ wants_now s
   wants-is = rw (z.matches.counts.created, z.matches.counts.live_all) refl
 
   pending-is : length (pending_list xs) ≡ pending_count s
-  pending-is = ap length z.matches.counts.pending ∙ length-where (λ (x : Connection). x.id) (λ x. is_pending x.place) s.connections
+  pending-is = ap length z.matches.counts.pending ∙ length-where (λ (x : Connection). x.id) (λ x. is_pending x.place) s.kept.connections
 
   warm-is : (q : Request) → request_at s q.number ≡ Some q → is_warm xs q.number ≡ q.warm
   warm-is q at_q = z.matches.requests.warm q.number ∙ ap warm_of at_q
@@ -77,44 +77,44 @@ module _ (s : PoolCore) (xs : List PoolItem) (z : Fits s xs) (n : ℕ) where
       on true false e f rest = let g : is_blocked s.options xs q.number ≡ false = blocked-is q (at q head_in) ∙ f in rw (e, g, f) refl
 
   candidate-is : candidate s.options xs (queued xs) ≡ number_at (candidate_now s)
-  candidate-is = ap (candidate s.options xs) z.matches.requests.queue ∙ candidate-in s.requests (λ q i. member-at (λ (r : Request). r.number) q s.requests i (rw (z.matches.requests.single_request q.number) (one_if-le (is_some (request_at s q.number)))))
+  candidate-is = ap (candidate s.options xs) z.matches.requests.queue ∙ candidate-in s.kept.requests (λ q i. member-at (λ (r : Request). r.number) q s.kept.requests i (rw (z.matches.requests.single_request q.number) (one_if-le (is_some (request_at s q.number)))))
 
   -- the candidate has the move
-  move-for : (q : Request) → s.status ≡ Ready → candidate_now s ≡ Some q → next_move s.pool s.address s.options n xs ≡ (if is_warm xs q.number then warm_move s.pool s.address s.options xs q.number else caller_move s.pool s.address s.options n xs q.number (last_of (available_list xs)))
+  move-for : (q : Request) → s.kept.status ≡ Ready → candidate_now s ≡ Some q → next_move s.pool s.address s.options n xs ≡ (if is_warm xs q.number then warm_move s.pool s.address s.options xs q.number else caller_move s.pool s.address s.options n xs q.number (last_of (available_list xs)))
   move-for q r e = rw (z.matches.clearing.status, r) (ap (move_for s.pool s.address s.options n xs) (candidate-is ∙ ap number_at e))
 
-  caller-for : (q : Request) → s.status ≡ Ready → candidate_now s ≡ Some q → q.warm ≡ false → next_move s.pool s.address s.options n xs ≡ caller_move s.pool s.address s.options n xs q.number (last_of (available_list xs))
+  caller-for : (q : Request) → s.kept.status ≡ Ready → candidate_now s ≡ Some q → q.warm ≡ false → next_move s.pool s.address s.options n xs ≡ caller_move s.pool s.address s.options n xs q.number (last_of (available_list xs))
   caller-for q r e cold = move-for q r e ∙ rw (warm-is q (candidate-at s xs z.matches q e).0 ∙ cold) refl
 
-  pub warming-move : (q : Request) → s.status ≡ Ready → candidate_now s ≡ Some q → q.warm ≡ true → next_move s.pool s.address s.options n xs ≡ warming_facts s q
+  pub warming-move : (q : Request) → s.kept.status ≡ Ready → candidate_now s ≡ Some q → q.warm ≡ true → next_move s.pool s.address s.options n xs ≡ warming_facts s q
   warming-move q r e hot = move-for q r e ∙ rw (warm-is q (candidate-at s xs z.matches q e).0 ∙ hot, wants-is, z.matches.counts.created) refl
 
-  pub no-queue : s.status ≡ Ready → candidate_now s ≡ None → next_move s.pool s.address s.options n xs ≡ []
+  pub no-queue : s.kept.status ≡ Ready → candidate_now s ≡ None → next_move s.pool s.address s.options n xs ≡ []
   no-queue r e = rw (z.matches.clearing.status, r) (ap (move_for s.pool s.address s.options n xs) (candidate-is ∙ ap number_at e))
 
-  pub not-ready : is_ready_now s.status ≡ false → next_move s.pool s.address s.options n xs ≡ []
-  not-ready e = rw (z.matches.clearing.status, ready-is s.status, e) refl
+  pub not-ready : is_ready_now s.kept.status ≡ false → next_move s.pool s.address s.options n xs ≡ []
+  not-ready e = rw (z.matches.clearing.status, ready-is s.kept.status, e) refl
 
-  pub grant-move : (q : Request) (x : Connection) → s.status ≡ Ready → candidate_now s ≡ Some q → q.warm ≡ false → last_available s ≡ Some x → connection_at s x.id ≡ Some x → x.place ≡ Available → perished_now s n x ≡ None → next_move s.pool s.address s.options n xs ≡ Granted q.number s.pool x.id ∷ checked_out_fact s.pool s.address x.id (n - asked_at xs q.number) ∷ []
+  pub grant-move : (q : Request) (x : Connection) → s.kept.status ≡ Ready → candidate_now s ≡ Some q → q.warm ≡ false → last_available s ≡ Some x → connection_at s x.id ≡ Some x → x.place ≡ Available → perished_now s n x ≡ None → next_move s.pool s.address s.options n xs ≡ Granted q.number s.pool x.id ∷ checked_out_fact s.pool s.address x.id (n - asked_at xs q.number) ∷ []
   grant-move q x r e cold f at_x place fresh =
       let g : last_of (available_list xs) ≡ Some x.id = last-available ∙ ap (λ o. id_or o None) f in
       caller-for q r e cold ∙ rw (g, perished-is x at_x place, fresh) refl
 
-  pub discard-move : (q : Request) (x : Connection) (why : ConnectionClosedReason) → s.status ≡ Ready → candidate_now s ≡ Some q → q.warm ≡ false → last_available s ≡ Some x → connection_at s x.id ≡ Some x → x.place ≡ Available → perished_now s n x ≡ Some why → next_move s.pool s.address s.options n xs ≡ closed_fact s.pool s.address x.id why x.service ∷ []
+  pub discard-move : (q : Request) (x : Connection) (why : ConnectionClosedReason) → s.kept.status ≡ Ready → candidate_now s ≡ Some q → q.warm ≡ false → last_available s ≡ Some x → connection_at s x.id ≡ Some x → x.place ≡ Available → perished_now s n x ≡ Some why → next_move s.pool s.address s.options n xs ≡ closed_fact s.pool s.address x.id why x.service ∷ []
   discard-move q x why r e cold f at_x place old =
       let g : last_of (available_list xs) ≡ Some x.id = last-available ∙ ap (λ o. id_or o None) f in
       let k : known_service xs x.id ≡ x.service = grind (arith, z.matches.told.service x.id, at_x) in
       caller-for q r e cold ∙ rw (g, perished-is x at_x place, old, k) refl
 
   room : may_create s.options xs ≡ has_room s
-  room = rw (z.matches.counts.created, z.matches.counts.live_all, z.matches.counts.pending, length-where (λ (x : Connection). x.id) (λ x. is_pending x.place) s.connections) refl
+  room = rw (z.matches.counts.created, z.matches.counts.live_all, z.matches.counts.pending, length-where (λ (x : Connection). x.id) (λ x. is_pending x.place) s.kept.connections) refl
 
-  pub create-move : (q : Request) → s.status ≡ Ready → candidate_now s ≡ Some q → q.warm ≡ false → last_available s ≡ None → has_room s ≡ true → next_move s.pool s.address s.options n xs ≡ created_fact s.pool s.address (s.created + 1) ∷ Granted q.number s.pool (s.created + 1) ∷ []
+  pub create-move : (q : Request) → s.kept.status ≡ Ready → candidate_now s ≡ Some q → q.warm ≡ false → last_available s ≡ None → has_room s ≡ true → next_move s.pool s.address s.options n xs ≡ created_fact s.pool s.address (s.kept.created + 1) ∷ Granted q.number s.pool (s.kept.created + 1) ∷ []
   create-move q t e cold f r =
       let g : last_of (available_list xs) ≡ None = last-available ∙ ap (λ o. id_or o None) f in
       caller-for q t e cold ∙ rw (g, room, r, z.matches.counts.created) refl
 
-  pub no-move : (q : Request) → s.status ≡ Ready → candidate_now s ≡ Some q → q.warm ≡ false → last_available s ≡ None → has_room s ≡ false → next_move s.pool s.address s.options n xs ≡ []
+  pub no-move : (q : Request) → s.kept.status ≡ Ready → candidate_now s ≡ Some q → q.warm ≡ false → last_available s ≡ None → has_room s ≡ false → next_move s.pool s.address s.options n xs ≡ []
   no-move q t e cold f r =
       let g : last_of (available_list xs) ≡ None = last-available ∙ ap (λ o. id_or o None) f in
       caller-for q t e cold ∙ rw (g, room, r) refl
@@ -155,10 +155,10 @@ module _ (s t : PoolCore) (home : SameHome s t) (n : ℕ) (before after : List F
         fits = subst (λ k. Fits t (after_facts s.pool n k xs)) (sym f) g.fits;
       }
 
-  pub ends-empty : t.status ≡ Ready → candidate_now t ≡ None → Serves s t n before after xs
+  pub ends-empty : t.kept.status ≡ Ready → candidate_now t ≡ None → Serves s t n before after xs
   ends-empty r e = ends (no-queue t ys g.fits n r e)
 
-  pub ends-full : (q : Request) → t.status ≡ Ready → candidate_now t ≡ Some q → q.warm ≡ false → last_available t ≡ None → has_room t ≡ false → Serves s t n before after xs
+  pub ends-full : (q : Request) → t.kept.status ≡ Ready → candidate_now t ≡ Some q → q.warm ≡ false → last_available t ≡ None → has_room t ≡ false → Serves s t n before after xs
   ends-full q r e cold f room = ends (no-move t ys g.fits n q r e cold f room)
 
   -- one more move of the facts fs, after which the pool knows zs
@@ -185,9 +185,9 @@ module _ (s t : PoolCore) (home : SameHome s t) (n : ℕ) (before after : List F
           }
 
   shorter : (q : Request) → request_at t q.number ≡ Some q → q.phase ≡ Queued → length (without q.number (queued ys)) < length (queued ys)
-  shorter q at_q phase = length-without_has q.number (queued ys) (ap (has q.number) g.fits.matches.requests.queue ∙ (has-where (λ (r : Request). r.number) (λ r. is_queued r.phase) q.number t.requests (g.fits.matches.requests.single_request q.number) ∙ (ap (passes (λ (r : Request). r.number) (λ r. is_queued r.phase)) at_q ∙ ap is_queued phase)))
+  shorter q at_q phase = length-without_has q.number (queued ys) (ap (has q.number) g.fits.matches.requests.queue ∙ (has-where (λ (r : Request). r.number) (λ r. is_queued r.phase) q.number t.kept.requests (g.fits.matches.requests.single_request q.number) ∙ (ap (passes (λ (r : Request). r.number) (λ r. is_queued r.phase)) at_q ∙ ap is_queued phase)))
 
-  pub turn-grant : (q : Request) (x : Connection) → t.status ≡ Ready → candidate_now t ≡ Some q → q.warm ≡ false → last_available t ≡ Some x → perished_now t n x ≡ None → Progress s (granting t x q) n before (after ++ Granted q.number t.pool x.id ∷ checked_out_fact t.pool t.address x.id (n - asked_at ys q.number) ∷ []) xs
+  pub turn-grant : (q : Request) (x : Connection) → t.kept.status ≡ Ready → candidate_now t ≡ Some q → q.warm ≡ false → last_available t ≡ Some x → perished_now t n x ≡ None → Progress s (granting t x q) n before (after ++ Granted q.number t.pool x.id ∷ checked_out_fact t.pool t.address x.id (n - asked_at ys q.number) ∷ []) xs
   turn-grant q x r e cold f fresh =
       let at_q : (request_at t q.number ≡ Some q) × (q.phase ≡ Queued) = candidate-at t ys g.fits.matches q e in
       let at_x : (connection_at t x.id ≡ Some x) × (x.place ≡ Available) = available-at t ys g.fits.matches x f in
@@ -195,22 +195,22 @@ module _ (s t : PoolCore) (home : SameHome s t) (n : ℕ) (before after : List F
       let short : length (without q.number (queued ys)) < length (queued ys) = shorter q at_q.0 at_q.1 in
       grind (arith, short, length-without x.id (available_list ys)))
 
-  pub turn-discard : (q : Request) (x : Connection) (why : ConnectionClosedReason) → t.status ≡ Ready → candidate_now t ≡ Some q → q.warm ≡ false → last_available t ≡ Some x → perished_now t n x ≡ Some why → Progress s (discarding t x) n before (after ++ closed_fact t.pool t.address x.id why x.service ∷ []) xs
+  pub turn-discard : (q : Request) (x : Connection) (why : ConnectionClosedReason) → t.kept.status ≡ Ready → candidate_now t ≡ Some q → q.warm ≡ false → last_available t ≡ Some x → perished_now t n x ≡ Some why → Progress s (discarding t x) n before (after ++ closed_fact t.pool t.address x.id why x.service ∷ []) xs
   turn-discard q x why r e cold f old =
       let at_x : (connection_at t x.id ≡ Some x) × (x.place ≡ Available) = available-at t ys g.fits.matches x f in
-      let there : has x.id (available_list ys) ≡ true = rw (g.fits.matches.counts.available, has-where (λ (y : Connection). y.id) (λ y. is_available y.place) x.id t.connections (g.fits.matches.counts.single x.id)) (ap (passes (λ (y : Connection). y.id) (λ y. is_available y.place)) at_x.0 ∙ ap is_available at_x.1) in
+      let there : has x.id (available_list ys) ≡ true = rw (g.fits.matches.counts.available, has-where (λ (y : Connection). y.id) (λ y. is_available y.place) x.id t.kept.connections (g.fits.matches.counts.single x.id)) (ap (passes (λ (y : Connection). y.id) (λ y. is_available y.place)) at_x.0 ∙ ap is_available at_x.1) in
       turn (discarding t x) (closed_fact t.pool t.address x.id why x.service ∷ []) (closed x.id ∷ ys) (discard-move t ys g.fits n q x why r e cold f at_x.0 at_x.1 old) (rw (same-number t.pool) refl) (discard-fits t ys g.fits n x at_x.0 at_x.1) (
       let short : length (without x.id (available_list ys)) < length (available_list ys) = length-without_has x.id (available_list ys) there in
       omega arith)
 
-  pub turn-create : (q : Request) → t.status ≡ Ready → candidate_now t ≡ Some q → q.warm ≡ false → last_available t ≡ None → has_room t ≡ true → Progress s (creating t n q) n before (after ++ created_fact t.pool t.address (t.created + 1) ∷ Granted q.number t.pool (t.created + 1) ∷ []) xs
+  pub turn-create : (q : Request) → t.kept.status ≡ Ready → candidate_now t ≡ Some q → q.warm ≡ false → last_available t ≡ None → has_room t ≡ true → Progress s (creating t n q) n before (after ++ created_fact t.pool t.address (t.kept.created + 1) ∷ Granted q.number t.pool (t.kept.created + 1) ∷ []) xs
   turn-create q r e cold f room =
       let at_q : (request_at t q.number ≡ Some q) × (q.phase ≡ Queued) = candidate-at t ys g.fits.matches q e in
-      turn (creating t n q) (created_fact t.pool t.address (t.created + 1) ∷ Granted q.number t.pool (t.created + 1) ∷ []) (granted q.number (t.created + 1) ∷ created (t.created + 1) n ∷ ys) (create-move t ys g.fits n q r e cold f room) (rw (same-number t.pool) refl) (create-fits t ys g.fits n q at_q.0 at_q.1) (
+      turn (creating t n q) (created_fact t.pool t.address (t.kept.created + 1) ∷ Granted q.number t.pool (t.kept.created + 1) ∷ []) (granted q.number (t.kept.created + 1) ∷ created (t.kept.created + 1) n ∷ ys) (create-move t ys g.fits n q r e cold f room) (rw (same-number t.pool) refl) (create-fits t ys g.fits n q at_q.0 at_q.1) (
       let short : length (without q.number (queued ys)) < length (queued ys) = shorter q at_q.0 at_q.1 in
-      grind (arith, short, length-without (t.created + 1) (available_list ys)))
+      grind (arith, short, length-without (t.kept.created + 1) (available_list ys)))
 
-  pub turn-warm : (q : Request) → t.status ≡ Ready → candidate_now t ≡ Some q → q.warm ≡ true → Progress s (warming t n q) n before (after ++ warming_facts t q) xs
+  pub turn-warm : (q : Request) → t.kept.status ≡ Ready → candidate_now t ≡ Some q → q.warm ≡ true → Progress s (warming t n q) n before (after ++ warming_facts t q) xs
   turn-warm q r e hot = on (wants_now t) refl
     where
       at_q : (request_at t q.number ≡ Some q) × (q.phase ≡ Queued)
@@ -223,18 +223,18 @@ module _ (s t : PoolCore) (home : SameHome s t) (n : ℕ) (before after : List F
       known = queued-asked_at t ys g.fits.matches q at_q.0 (ap is_queued at_q.1)
 
       on : (b : Bool) → wants_now t ≡ b → Progress s (warming t n q) n before (after ++ warming_facts t q) xs
-      on true w = rw w (turn (creating t n q) (created_fact t.pool t.address (t.created + 1) ∷ Granted q.number t.pool (t.created + 1) ∷ []) (granted q.number (t.created + 1) ∷ created (t.created + 1) n ∷ ys) (warming-move t ys g.fits n q r e hot ∙ rw w refl) (rw (same-number t.pool) refl) (create-fits t ys g.fits n q at_q.0 at_q.1) (grind (arith, short, length-without (t.created + 1) (available_list ys))))
+      on true w = rw w (turn (creating t n q) (created_fact t.pool t.address (t.kept.created + 1) ∷ Granted q.number t.pool (t.kept.created + 1) ∷ []) (granted q.number (t.kept.created + 1) ∷ created (t.kept.created + 1) n ∷ ys) (warming-move t ys g.fits n q r e hot ∙ rw w refl) (rw (same-number t.pool) refl) (create-fits t ys g.fits n q at_q.0 at_q.1) (grind (arith, short, length-without (t.kept.created + 1) (available_list ys))))
       on false w = rw w (turn (ending t q Warmed) (Ended q.number Warmed ∷ []) (ended q.number Warmed ∷ ys) (warming-move t ys g.fits n q r e hot ∙ rw w refl) (rw known refl) (end-fits t ys g.fits n q Warmed at_q.0 (ap given_in at_q.1)) (let less : length (without q.number (queued ys)) < length (queued ys) = short in omega arith))
 
 -- how much there is to serve
 abbrev pub load : PoolCore → ℕ
-load t = length (numbers_where is_queued t.requests) + length (ids_where is_available t.connections)
+load t = length (numbers_where is_queued t.kept.requests) + length (ids_where is_available t.kept.connections)
 
 -- the queue gets shorter with each request that leaves it
-queue-falls : (t : PoolCore) (q : Request) (p : Phase) → candidate_now t ≡ Some q → is_queued p ≡ false → length (numbers_where is_queued (swap (λ r. r.number) (record q { phase = p }) t.requests)) < length (numbers_where is_queued t.requests)
+queue-falls : (t : PoolCore) (q : Request) (p : Phase) → candidate_now t ≡ Some q → is_queued p ≡ false → length (numbers_where is_queued (swap (λ r. r.number) (record q { phase = p }) t.kept.requests)) < length (numbers_where is_queued t.kept.requests)
 queue-falls t q p e out =
-    let i : In q t.requests × ((is_queued q.phase && not (q.warm && blocked_now t)) ≡ true) = find-member (λ (r : Request). is_queued r.phase && not (r.warm && blocked_now t)) q t.requests e in
-    rw (where-swap_out (λ (r : Request). r.number) (λ r. is_queued r.phase) (record q { phase = p }) t.requests out) (length-without_has q.number (numbers_where is_queued t.requests) (member-has (λ (r : Request). r.number) (λ r. is_queued r.phase) q t.requests i.0 (both-left (is_queued q.phase) (not (q.warm && blocked_now t)) i.1)))
+    let i : In q t.kept.requests × ((is_queued q.phase && not (q.warm && blocked_now t)) ≡ true) = find-member (λ (r : Request). is_queued r.phase && not (r.warm && blocked_now t)) q t.kept.requests e in
+    rw (where-swap_out (λ (r : Request). r.number) (λ r. is_queued r.phase) (record q { phase = p }) t.kept.requests out) (length-without_has q.number (numbers_where is_queued t.kept.requests) (member-has (λ (r : Request). r.number) (λ r. is_queued r.phase) q t.kept.requests i.0 (both-left (is_queued q.phase) (not (q.warm && blocked_now t)) i.1)))
 
 -- and no more connections are available where one is put that is not
 available-stays : (x : Connection) (xs : List Connection) → is_available x.place ≡ false → length (ids_where is_available (put (λ y. y.id) x xs)) ≤ length (ids_where is_available xs)
@@ -245,36 +245,36 @@ pub checked_out-kept : (t : PoolCore) (zs : List PoolItem) (z : Fits t zs) (n c 
 checked_out-kept t zs z n c q at_q = ap (λ k. checked_out_fact t.pool t.address c (n - k)) (z.matches.requests.asked_at q.number ∙ ap asked_at_of at_q)
 
 -- the turns as the code makes them
-pub turn-meet-to : (s t u : PoolCore) (home : SameHome s t) (n : ℕ) (before after facts : List Fact) (xs : List PoolItem) (q : Request) (x : Connection) → Progress s t n before after xs → is_ready_now t.status ≡ true → candidate_now t ≡ Some q → q.warm ≡ false → last_available t ≡ Some x → u ≡ meeting t n x q → facts ≡ after ++ meeting_facts t n x q → Progress s u n before facts xs
+pub turn-meet-to : (s t u : PoolCore) (home : SameHome s t) (n : ℕ) (before after facts : List Fact) (xs : List PoolItem) (q : Request) (x : Connection) → Progress s t n before after xs → is_ready_now t.kept.status ≡ true → candidate_now t ≡ Some q → q.warm ≡ false → last_available t ≡ Some x → u ≡ meeting t n x q → facts ≡ after ++ meeting_facts t n x q → Progress s u n before facts xs
 turn-meet-to s t u home n before after facts xs q x g r e cold f new added = on (perished_now t n x) refl
   where
     on : (o : Option ConnectionClosedReason) → perished_now t n x ≡ o → Progress s u n before facts xs
-    on (Some why) old = rw (new, added, old) (turn-discard s t home n before after xs g q x why (ready-status t.status r) e cold f old)
+    on (Some why) old = rw (new, added, old) (turn-discard s t home n before after xs g q x why (ready-status t.kept.status r) e cold f old)
     on None fresh =
         let at_q : (request_at t q.number ≡ Some q) × (q.phase ≡ Queued) = candidate-at t (after_facts s.pool n g.done xs) g.fits.matches q e in
-        rw (new, added, fresh, ← checked_out-kept t (after_facts s.pool n g.done xs) g.fits n x.id q at_q.0) (turn-grant s t home n before after xs g q x (ready-status t.status r) e cold f fresh)
+        rw (new, added, fresh, ← checked_out-kept t (after_facts s.pool n g.done xs) g.fits n x.id q at_q.0) (turn-grant s t home n before after xs g q x (ready-status t.kept.status r) e cold f fresh)
 
-pub turn-create-to : (s t u : PoolCore) (home : SameHome s t) (n : ℕ) (before after facts : List Fact) (xs : List PoolItem) (q : Request) → Progress s t n before after xs → is_ready_now t.status ≡ true → candidate_now t ≡ Some q → q.warm ≡ false → last_available t ≡ None → has_room t ≡ true → u ≡ creating t n q → facts ≡ after ++ created_fact t.pool t.address (t.created + 1) ∷ Granted q.number t.pool (t.created + 1) ∷ [] → Progress s u n before facts xs
-turn-create-to s t u home n before after facts xs q g r e cold f room new added = rw (new, added) (turn-create s t home n before after xs g q (ready-status t.status r) e cold f room)
+pub turn-create-to : (s t u : PoolCore) (home : SameHome s t) (n : ℕ) (before after facts : List Fact) (xs : List PoolItem) (q : Request) → Progress s t n before after xs → is_ready_now t.kept.status ≡ true → candidate_now t ≡ Some q → q.warm ≡ false → last_available t ≡ None → has_room t ≡ true → u ≡ creating t n q → facts ≡ after ++ created_fact t.pool t.address (t.kept.created + 1) ∷ Granted q.number t.pool (t.kept.created + 1) ∷ [] → Progress s u n before facts xs
+turn-create-to s t u home n before after facts xs q g r e cold f room new added = rw (new, added) (turn-create s t home n before after xs g q (ready-status t.kept.status r) e cold f room)
 
 smaller-grant : (t : PoolCore) (q : Request) (x : Connection) → candidate_now t ≡ Some q → load (granting t x q) < load t
 smaller-grant t q x e =
-    let a : length (numbers_where is_queued (granting t x q).requests) < length (numbers_where is_queued t.requests) = queue-falls t q (Given x.id) e refl in
-    let b : length (ids_where is_available (granting t x q).connections) ≤ length (ids_where is_available t.connections) = rw (where-swap_out (λ (y : Connection). y.id) (λ y. is_available y.place) (handed t x q.number) t.connections refl) (length-without x.id (ids_where is_available t.connections)) in
+    let a : length (numbers_where is_queued (granting t x q).kept.requests) < length (numbers_where is_queued t.kept.requests) = queue-falls t q (Given x.id) e refl in
+    let b : length (ids_where is_available (granting t x q).kept.connections) ≤ length (ids_where is_available t.kept.connections) = rw (where-swap_out (λ (y : Connection). y.id) (λ y. is_available y.place) (handed t x q.number) t.kept.connections refl) (length-without x.id (ids_where is_available t.kept.connections)) in
     omega arith
 
 pub smaller-create : (t u : PoolCore) (n : ℕ) (q : Request) → candidate_now t ≡ Some q → u ≡ creating t n q → load u < load t
 smaller-create t u n q e f =
-    let a : length (numbers_where is_queued (creating t n q).requests) < length (numbers_where is_queued t.requests) = queue-falls t q (Given (t.created + 1)) e refl in
-    let b : length (ids_where is_available (creating t n q).connections) ≤ length (ids_where is_available t.connections) = available-stays (record { id = t.created + 1; created_at = n; place = Pending; party = Some q.number; holder = Some q.number; service = None; wire = None; since = n; pins = 0; used = Ok; errored = false; timeouts = timeouts_in t.clears }) t.connections refl in
+    let a : length (numbers_where is_queued (creating t n q).kept.requests) < length (numbers_where is_queued t.kept.requests) = queue-falls t q (Given (t.kept.created + 1)) e refl in
+    let b : length (ids_where is_available (creating t n q).kept.connections) ≤ length (ids_where is_available t.kept.connections) = available-stays (record { id = t.kept.created + 1; created_at = n; place = Pending; party = Some q.number; holder = Some q.number; service = None; wire = None; since = n; pins = 0; used = Ok; errored = false; timeouts = timeouts_in t.kept.clears }) t.kept.connections refl in
     rw f (omega arith)
 
 -- one that is available goes with each discard
 smaller-discard : (t : PoolCore) (x : Connection) → last_available t ≡ Some x → load (discarding t x) < load t
 smaller-discard t x e =
-    let i : last_of (ids_where is_available t.connections) ≡ Some x.id = sym (or_else-none (last_of (ids_where is_available t.connections))) ∙ (sym (last-id None t.connections) ∙ ap (λ o. id_or o None) e) in
-    let a : length (without x.id (ids_where is_available t.connections)) < length (ids_where is_available t.connections) = length-without_has x.id (ids_where is_available t.connections) (last_of-has x.id (ids_where is_available t.connections) i) in
-    rw (map-filter-others (λ (y : Connection). y.id) (λ y. is_available y.place) x.id t.connections) (omega arith)
+    let i : last_of (ids_where is_available t.kept.connections) ≡ Some x.id = sym (or_else-none (last_of (ids_where is_available t.kept.connections))) ∙ (sym (last-id None t.kept.connections) ∙ ap (λ o. id_or o None) e) in
+    let a : length (without x.id (ids_where is_available t.kept.connections)) < length (ids_where is_available t.kept.connections) = length-without_has x.id (ids_where is_available t.kept.connections) (last_of-has x.id (ids_where is_available t.kept.connections) i) in
+    rw (map-filter-others (λ (y : Connection). y.id) (λ y. is_available y.place) x.id t.kept.connections) (omega arith)
 
 pub smaller-meet : (t u : PoolCore) (n : ℕ) (q : Request) (x : Connection) → candidate_now t ≡ Some q → last_available t ≡ Some x → u ≡ meeting t n x q → load u < load t
 smaller-meet t u n q x e f new = on (perished_now t n x) refl
@@ -283,8 +283,8 @@ smaller-meet t u n q x e f new = on (perished_now t n x) refl
     on (Some why) old = rw (new, old) (smaller-discard t x f)
     on None fresh = rw (new, fresh) (smaller-grant t q x e)
 
-pub turn-warm-to : (s t u : PoolCore) (home : SameHome s t) (n : ℕ) (before after facts : List Fact) (xs : List PoolItem) (q : Request) → Progress s t n before after xs → is_ready_now t.status ≡ true → candidate_now t ≡ Some q → q.warm ≡ true → u ≡ warming t n q → facts ≡ after ++ warming_facts t q → Progress s u n before facts xs
-turn-warm-to s t u home n before after facts xs q g r e hot new added = rw (new, added) (turn-warm s t home n before after xs g q (ready-status t.status r) e hot)
+pub turn-warm-to : (s t u : PoolCore) (home : SameHome s t) (n : ℕ) (before after facts : List Fact) (xs : List PoolItem) (q : Request) → Progress s t n before after xs → is_ready_now t.kept.status ≡ true → candidate_now t ≡ Some q → q.warm ≡ true → u ≡ warming t n q → facts ≡ after ++ warming_facts t q → Progress s u n before facts xs
+turn-warm-to s t u home n before after facts xs q g r e hot new added = rw (new, added) (turn-warm s t home n before after xs g q (ready-status t.kept.status r) e hot)
 
 pub smaller-warm : (t u : PoolCore) (n : ℕ) (q : Request) → candidate_now t ≡ Some q → u ≡ warming t n q → load u < load t
 smaller-warm t u n q e new = on (wants_now t) refl
@@ -292,19 +292,19 @@ smaller-warm t u n q e new = on (wants_now t) refl
     on : (b : Bool) → wants_now t ≡ b → load u < load t
     on true w = smaller-create t u n q e (new ∙ rw w refl)
     on false w =
-        let a : length (numbers_where is_queued (ending t q Warmed).requests) < length (numbers_where is_queued t.requests) = queue-falls t q (EndedPhase Warmed) e refl in
+        let a : length (numbers_where is_queued (ending t q Warmed).kept.requests) < length (numbers_where is_queued t.kept.requests) = queue-falls t q (EndedPhase Warmed) e refl in
         rw (new, w) (omega arith)
 
 -- what the warming leaves as it was
-pub warming-keeps : (t u : PoolCore) (n : ℕ) (q : Request) → u ≡ warming t n q → (u.last ≡ t.last) × SameHome t u × SameNotes t u
+pub warming-keeps : (t u : PoolCore) (n : ℕ) (q : Request) → u ≡ warming t n q → (u.kept.last ≡ t.kept.last) × SameHome t u × SameNotes t u
 warming-keeps t u n q new = on (wants_now t) refl
   where
-    on : (b : Bool) → wants_now t ≡ b → (u.last ≡ t.last) × SameHome t u × SameNotes t u
+    on : (b : Bool) → wants_now t ≡ b → (u.kept.last ≡ t.kept.last) × SameHome t u × SameNotes t u
     on true w = rw (new, w) (refl, record { pool = refl; address = refl; options = refl; alone = refl }, record { settled = refl; claimed = refl; status = refl })
     on false w = rw (new, w) (refl, record { pool = refl; address = refl; options = refl; alone = refl }, record { settled = refl; claimed = refl; status = refl })
 
 -- a pool that isn't ready is not served
-pub serves-nothing : (s : PoolCore) (n : ℕ) (facts : List Fact) (xs : List PoolItem) → Fits s xs → is_ready_now s.status ≡ false → Serves s s n facts facts xs
+pub serves-nothing : (s : PoolCore) (n : ℕ) (facts : List Fact) (xs : List PoolItem) → Fits s xs → is_ready_now s.kept.status ≡ false → Serves s s n facts facts xs
 serves-nothing s n facts xs z e =
     let idle : serving s.pool s.address s.options n xs ≡ [] = serve-nothing s.pool s.address s.options n (length (queued xs) + length (available_list xs)) xs (not-ready s xs z n e) in
     record {
@@ -313,9 +313,9 @@ serves-nothing s n facts xs z e =
     }
 
 -- what the meeting leaves as it was
-pub meeting-keeps : (t u : PoolCore) (n : ℕ) (x : Connection) (q : Request) → u ≡ meeting t n x q → (u.last ≡ t.last) × SameHome t u × SameNotes t u
+pub meeting-keeps : (t u : PoolCore) (n : ℕ) (x : Connection) (q : Request) → u ≡ meeting t n x q → (u.kept.last ≡ t.kept.last) × SameHome t u × SameNotes t u
 meeting-keeps t u n x q new = on (perished_now t n x) refl
   where
-    on : (o : Option ConnectionClosedReason) → perished_now t n x ≡ o → (u.last ≡ t.last) × SameHome t u × SameNotes t u
+    on : (o : Option ConnectionClosedReason) → perished_now t n x ≡ o → (u.kept.last ≡ t.kept.last) × SameHome t u × SameNotes t u
     on (Some why) e = rw (new, e) (refl, record { pool = refl; address = refl; options = refl; alone = refl }, record { settled = refl; claimed = refl; status = refl })
     on None e = rw (new, e) (refl, record { pool = refl; address = refl; options = refl; alone = refl }, record { settled = refl; claimed = refl; status = refl })

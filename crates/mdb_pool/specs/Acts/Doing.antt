@@ -17,9 +17,9 @@ use Rattle.mdb_pool.specs.Standing.{Fits}
 
 -- what was told and claimed, and what the pool is, stays
 pub record SameNotes (s t : PoolCore) : Type 0 where
-  pub settled : t.settled ≡ s.settled
-  pub claimed : t.claimed ≡ s.claimed
-  pub status : t.status ≡ s.status
+  pub settled : t.kept.settled ≡ s.kept.settled
+  pub claimed : t.kept.claimed ≡ s.kept.claimed
+  pub status : t.kept.status ≡ s.kept.status
 
 -- the facts after the old ones are those of the serving, and the state then fits them too
 pub record Serves (s t : PoolCore) (m : ℕ) (before after : List Fact) (xs : List PoolItem) : Type 0 where
@@ -40,8 +40,8 @@ pub record Expires (s t : PoolCore) (m : ℕ) (before after : List Fact) (xs : L
 pub record Clears (s t : PoolCore) (m : ℕ) (service : Option ObjectId) (error : Error) (before after : List Fact) (xs : List PoolItem) : Type 0 where
   pub facts : after ≡ before ++ clear_facts s.pool s.address s.options m xs service error
   pub fits : Fits t (after_facts s.pool m (clear_facts s.pool s.address s.options m xs service error) xs)
-  pub settled : t.settled ≡ s.settled
-  pub claimed : t.claimed ≡ s.claimed
+  pub settled : t.kept.settled ≡ s.kept.settled
+  pub claimed : t.kept.claimed ≡ s.kept.claimed
   pub unshut : is_closed_now t ≡ false
 
 -- the available connections that have perished are closed: the facts after the old ones are those of the sweep, and the state then fits them too

@@ -7,4 +7,4 @@ use Rattle.mdb_pool.specs.Acts.Changes.{ended_request}
 
 -- the requests, where those with these numbers end that nothing was handed to
 abbrev pub ended_all : PoolCore → List ℕ → List Request
-ended_all s rs = map (λ q. if has q.number rs then ended_request s q else q) s.requests
+ended_all s rs = map (λ q. if has q.number rs then ended_request s q else q) s.kept.requests

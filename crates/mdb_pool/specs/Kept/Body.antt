@@ -29,16 +29,18 @@ pool_of i = record {
   pool = i.base.pool;
   address = i.base.address;
   options = i.base.options;
-  last = i.base.last;
-  created = i.base.created;
-  connections = items i.base.connections.table;
-  requests = i.base.requests.all;
-  status = i.base.status;
-  clears = i.base.clears.all;
-  settled = i.base.requests.settled;
-  claimed = i.base.claimed.numbers;
-  alone = i.base.requests.alone;
-  inner = i;
+  kept = record {
+    last = i.base.last;
+    created = i.base.created;
+    connections = items i.base.connections.table;
+    requests = i.base.requests.all;
+    status = i.base.status;
+    clears = i.base.clears.all;
+    settled = i.base.requests.settled;
+    claimed = i.base.claimed.numbers;
+    alone = i.base.requests.alone;
+    inner = i;
+  };
 }
 
 -- what the pool is read from once the changes are made
@@ -68,7 +70,7 @@ inner_after p i = record { base = pool_after p i.base; room = room_after p i.roo
 
 -- the pool as it is once the changes are made
 abbrev pub led : PoolSteps → PoolCore → PoolCore
-led p s = pool_of (inner_after p s.inner)
+led p s = pool_of (inner_after p s.kept.inner)
 
 -- the changes can be made without memory, and lead to a pool
 abbrev pub PoolFits : PoolSteps → Inner → Type 0
@@ -107,14 +109,16 @@ now_of b = record {
   pool = b.pool;
   address = b.address;
   options = b.options;
-  last = b.last.now;
-  created = b.connections.created.now;
-  connections = b.connections.now;
-  requests = b.requests.now;
-  status = b.status.now;
-  clears = b.connections.clears;
-  settled = b.requests.settled;
-  claimed = b.connections.claimed;
-  alone = b.requests.base.alone;
-  inner = inner_of b;
+  kept = record {
+    last = b.last.now;
+    created = b.connections.created.now;
+    connections = b.connections.now;
+    requests = b.requests.now;
+    status = b.status.now;
+    clears = b.connections.clears;
+    settled = b.requests.settled;
+    claimed = b.connections.claimed;
+    alone = b.requests.base.alone;
+    inner = inner_of b;
+  };
 }

@@ -80,12 +80,12 @@ pub record ClearsMatch (made : ℕ) (now : Status) (ks : List Clear) (state : St
 
 -- What the pool keeps is what its items say.
 pub record Matches (s : PoolCore) (xs : List PoolItem) : Type 0 where
-  pub counts : CountsMatch s.created s.connections (created_total xs) (live_total xs) (pending_list xs) (available_list xs)
-  pub connections : ConnectionsMatch s.created s.connections (λ c. live xs c) (λ c. parties xs c) (λ c. granted_to xs c) (λ c. created_at xs c) (λ c. since xs c)
-  pub told : ToldMatch s.created s.connections (λ c. service_of xs c) (λ c. known_service xs c) (λ c. wire_of xs c)
-  pub requests : RequestsMatch s.requests (queued xs) (λ r. given xs r) (λ r. asked_at xs r) (λ r. end_of xs r) (λ r. has_asked xs r) (λ r. is_warm xs r)
-  pub links : LinksMatch s.connections s.requests
-  pub pinning : PinsMatch s.connections (λ c. pins xs c)
-  pub uses : UsesMatch s.created s.connections s.clears (λ c. is_errored xs c) (λ c. is_dropped (last_use xs c)) (λ c. timeouts_since xs c)
-  pub clearing : ClearsMatch s.created s.status s.clears (state_of s.options xs) (λ t. generation_of xs t) (λ c t. generation_before xs c t)
-  pub at_pin : (c : ℕ) → is_pinned xs c ≡ is_pinned_at (connection_in s.connections c)
+  pub counts : CountsMatch s.kept.created s.kept.connections (created_total xs) (live_total xs) (pending_list xs) (available_list xs)
+  pub connections : ConnectionsMatch s.kept.created s.kept.connections (λ c. live xs c) (λ c. parties xs c) (λ c. granted_to xs c) (λ c. created_at xs c) (λ c. since xs c)
+  pub told : ToldMatch s.kept.created s.kept.connections (λ c. service_of xs c) (λ c. known_service xs c) (λ c. wire_of xs c)
+  pub requests : RequestsMatch s.kept.requests (queued xs) (λ r. given xs r) (λ r. asked_at xs r) (λ r. end_of xs r) (λ r. has_asked xs r) (λ r. is_warm xs r)
+  pub links : LinksMatch s.kept.connections s.kept.requests
+  pub pinning : PinsMatch s.kept.connections (λ c. pins xs c)
+  pub uses : UsesMatch s.kept.created s.kept.connections s.kept.clears (λ c. is_errored xs c) (λ c. is_dropped (last_use xs c)) (λ c. timeouts_since xs c)
+  pub clearing : ClearsMatch s.kept.created s.kept.status s.kept.clears (state_of s.options xs) (λ t. generation_of xs t) (λ c t. generation_before xs c t)
+  pub at_pin : (c : ℕ) → is_pinned xs c ≡ is_pinned_at (connection_in s.kept.connections c)

@@ -32,14 +32,21 @@ connection_in cs c = entry_at (λ x. x.id) c cs
 abbrev pub request_in : List Request → ℕ → Option Request
 request_in qs r = entry_at (λ q. q.number) r qs
 
+-- the pool with these connections, or these requests
+abbrev pub with_connections : PoolCore → List Connection → PoolCore
+with_connections s cs = record s { kept = record s.kept { connections = cs } }
+
+abbrev pub with_requests : PoolCore → List Request → PoolCore
+with_requests s qs = record s { kept = record s.kept { requests = qs } }
+
 abbrev pub connection_at : PoolCore → ℕ → Option Connection
-connection_at s c = connection_in s.connections c
+connection_at s c = connection_in s.kept.connections c
 
 abbrev pub request_at : PoolCore → ℕ → Option Request
-request_at s r = request_in s.requests r
+request_at s r = request_in s.kept.requests r
 
 abbrev pub first_queued : PoolCore → Option Request
-first_queued s = find (λ q. is_queued q.phase) s.requests
+first_queued s = find (λ q. is_queued q.phase) s.kept.requests
 
 -- the last of them that is available, or the one before them
 abbrev pub last_from : Option Connection → List Connection → Option Connection
@@ -47,13 +54,13 @@ last_from before [] = before
 last_from before (x ∷ xs) = last_from (if is_available x.place then Some x else before) xs
 
 abbrev pub last_available : PoolCore → Option Connection
-last_available s = last_from None s.connections
+last_available s = last_from None s.kept.connections
 
 abbrev pub pending_count : PoolCore → ℕ
-pending_count s = count_by (λ x. is_pending x.place) s.connections
+pending_count s = count_by (λ x. is_pending x.place) s.kept.connections
 
 abbrev pub has_room : PoolCore → Bool
-has_room s = nat_lt s.created s.options.limit_id && (nat_lt (length s.connections) (max_size s.options) && nat_lt (pending_count s) (max_connecting s.options))
+has_room s = nat_lt s.kept.created s.options.limit_id && (nat_lt (length s.kept.connections) (max_size s.options) && nat_lt (pending_count s) (max_connecting s.options))
 
 abbrev pub is_ready_now : Status → Bool
 is_ready_now Ready = true
@@ -61,7 +68,7 @@ is_ready_now _ = false
 
 -- warm requests are to get connections
 abbrev pub wants_now : PoolCore → Bool
-wants_now s = nat_lt (length s.connections) (min_size s.options) && (nat_lt (length s.connections) (max_size s.options) && nat_lt s.created s.options.limit_id)
+wants_now s = nat_lt (length s.kept.connections) (min_size s.options) && (nat_lt (length s.kept.connections) (max_size s.options) && nat_lt s.kept.created s.options.limit_id)
 
 -- and only the number of pending connections hinders them
 abbrev pub blocked_now : PoolCore → Bool
@@ -69,15 +76,15 @@ blocked_now s = wants_now s && not (nat_lt (pending_count s) (max_connecting s.o
 
 -- the first queued caller
 abbrev pub first_caller : PoolCore → Option Request
-first_caller s = find (λ q. is_queued q.phase && not q.warm) s.requests
+first_caller s = find (λ q. is_queued q.phase && not q.warm) s.kept.requests
 
 -- the first of the queued requests that is no blocked warm one
 abbrev pub candidate_now : PoolCore → Option Request
-candidate_now s = find (λ q. is_queued q.phase && not (q.warm && blocked_now s)) s.requests
+candidate_now s = find (λ q. is_queued q.phase && not (q.warm && blocked_now s)) s.kept.requests
 
 -- maintenance may create a connection
 abbrev pub fills_now : PoolCore → Bool
-fills_now s = is_ready_now s.status && (nat_lt (length s.connections) (min_size s.options) && (nat_lt (pending_count s) (max_connecting s.options) && nat_lt s.created s.options.limit_id))
+fills_now s = is_ready_now s.kept.status && (nat_lt (length s.kept.connections) (min_size s.options) && (nat_lt (pending_count s) (max_connecting s.options) && nat_lt s.kept.created s.options.limit_id))
 
 abbrev pub given_in : Phase → Option ℕ
 given_in Queued = None
@@ -155,7 +162,7 @@ is_asked_at (Some q) = not q.took
 
 -- the pending connection that came first among those that no claim was told of
 abbrev pub first_unclaimed : PoolCore → Option Connection
-first_unclaimed s = find (λ x. is_pending x.place && not (has x.id s.claimed)) s.connections
+first_unclaimed s = find (λ x. is_pending x.place && not (has x.id s.kept.claimed)) s.kept.connections
 
 -- what a claim is told
 abbrev pub job_now : PoolCore → Reply
@@ -230,7 +237,7 @@ abbrev pub lasts_in : ℕ → List Connection → ℕ → Bool
 lasts_in made cs c = is_some (connection_in cs c) || nat_lt made c
 
 abbrev pub lasts : PoolCore → ℕ → Bool
-lasts s c = lasts_in s.created s.connections c
+lasts s c = lasts_in s.kept.created s.kept.connections c
 
 -- what the pool is
 abbrev pub state_in : Status → State
@@ -253,7 +260,7 @@ clears_before c t ks = count_by (λ k. same_service k.service t && nat_lt k.afte
 
 -- how often the pool was cleared so before the connection was created, 0 where it isn't live
 abbrev pub count_at : PoolCore → ℕ → Option ObjectId → ℕ
-count_at s c t = if is_some (connection_at s c) then clears_before c t s.clears else 0
+count_at s c t = if is_some (connection_at s c) then clears_before c t s.kept.clears else 0
 
 -- such a clear came after the connection was created
 abbrev pub cleared_since : ℕ → Option ObjectId → List Clear → Bool
@@ -266,18 +273,18 @@ timeouts_in ks = count_by (λ k. k.timeout) ks
 -- the connection is interrupted
 abbrev pub interrupted_at : PoolCore → Option Connection → Bool
 interrupted_at s None = false
-interrupted_at s (Some x) = not s.options.load_balanced && (is_held x.place && ((x.pins == 0) && nat_lt x.timeouts (timeouts_in s.clears)))
+interrupted_at s (Some x) = not s.options.load_balanced && (is_held x.place && ((x.pins == 0) && nat_lt x.timeouts (timeouts_in s.kept.clears)))
 
 -- the generation that the connection carries
 abbrev pub generation_at : PoolCore → ℕ → Option Connection → Option ConnectionGeneration
 generation_at s c None = None
-generation_at s c (Some x) = Some (carried s.options.load_balanced (λ t. clears_before c t s.clears) x.service)
+generation_at s c (Some x) = Some (carried s.options.load_balanced (λ t. clears_before c t s.kept.clears) x.service)
 
 -- a connection with the service would be stale
 abbrev pub stale_for : PoolCore → ℕ → Option ObjectId → Bool
 stale_for s c service =
     let t : Option ObjectId = if s.options.load_balanced then service else None in
-    not (s.options.load_balanced && not (is_some t)) && cleared_since c t s.clears
+    not (s.options.load_balanced && not (is_some t)) && cleared_since c t s.kept.clears
 
 -- a connection that is available since then would be idle at the moment m
 abbrev pub idle_since : Option ℕ → ℕ → ℕ → Bool
@@ -293,7 +300,7 @@ perished_now s m x =
 
 -- the available connection that a new caller gets at once: the pool is ready, nobody waits in it, and the one that came back last has not perished
 abbrev pub ready_connection : PoolCore → ℕ → Option Connection
-ready_connection s m = if is_ready_now s.status && not (is_some (first_queued s)) then if_fresh (last_available s) else None
+ready_connection s m = if is_ready_now s.kept.status && not (is_some (first_queued s)) then if_fresh (last_available s) else None
   where
     if_fresh : Option Connection → Option Connection
     if_fresh None = None
@@ -301,7 +308,7 @@ ready_connection s m = if is_ready_now s.status && not (is_some (first_queued s)
 
 -- the available connection that came back first among those that have perished
 abbrev pub first_perished : PoolCore → ℕ → Option Connection
-first_perished s m = find (λ x. is_available x.place && is_some (perished_now s m x)) s.connections
+first_perished s m = find (λ x. is_available x.place && is_some (perished_now s m x)) s.kept.connections
 
 -- a caller that asked then has waited for too long at the moment m
 abbrev pub overdue_since : Option ℕ → ℕ → ℕ → Bool
@@ -314,7 +321,7 @@ overdue_now s m q = is_queued q.phase && (not q.warm && overdue_since s.options.
 
 -- the first of them in the queue
 abbrev pub first_overdue : PoolCore → ℕ → Option Request
-first_overdue s m = find (overdue_now s m) s.requests
+first_overdue s m = find (overdue_now s m) s.kept.requests
 
 -- the connection with one more use
 abbrev pub used_as : Connection → Use → Connection
@@ -330,7 +337,7 @@ reason_of errored stale dropped =
 
 -- why a connection is closed at its check-in, in the pool as it is
 abbrev pub reason_now : PoolCore → Connection → Option ConnectionClosedReason
-reason_now s x = if is_shut s.status then Some PoolClosedReason else reason_of x.errored (stale_for s x.id x.service) (is_dropped x.used)
+reason_now s x = if is_shut s.kept.status then Some PoolClosedReason else reason_of x.errored (stale_for s x.id x.service) (is_dropped x.used)
 
 -- nothing was handed to a request that is so: it is queued, or its connection is pending
 abbrev pub unserved_in : PoolCore → Phase → Bool
@@ -354,7 +361,7 @@ is_gone ks (Some q) = not (lingers ks q)
 
 -- the request with the number, where it has not left
 abbrev pub kept_request : PoolCore → ℕ → Option Request
-kept_request s r = if_lingers s.settled (request_at s r)
+kept_request s r = if_lingers s.kept.settled (request_at s r)
 
 -- the request that will have the connection, where it has not left
 abbrev pub kept_holder : PoolCore → Connection → Option Request
@@ -366,4 +373,4 @@ kept_holder s x = of_holder x.holder
 
 -- those that have not left
 abbrev pub kept_requests : PoolCore → List Request
-kept_requests s = filter (lingers s.settled) s.requests
+kept_requests s = filter (lingers s.kept.settled) s.kept.requests

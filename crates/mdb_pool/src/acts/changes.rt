@@ -2,6 +2,7 @@
 
 ghost use Rattle.mdb_pool_rules.specs.Facts.{new_pool_error, checked_out_fact, closed_fact, created_fact, started_fact, ready_fact};
 ghost use Rattle.std.specs.Prelude.{false, ◌≡◌, ◌++◌, ◌∷◌, ◌+◌, ◌-◌, ◌<◌, [], OnOk, IfOk, is_some, true, None};
+ghost use Rattle.mdb_pool.specs.Kept.Values.{with_connections, with_requests};
 
 use crate::kept::connection::{Connection, Place};
 use crate::kept::draft::Draft;
@@ -44,10 +45,10 @@ impl Draft {
         request: Request,
         phase: Phase,
     ) -> Result<(), OutOfMemory>
-        requires there { is_gone self.old.settled (request_at self.old request.number) ≡ false }
+        requires there { is_gone self.old.kept.settled (request_at self.old request.number) ≡ false }
         requires unqueued { is_queued phase ≡ false }
-        ensures core { OnOk result (self.new ≡ record self.old { requests = swap (λ q. q.number) (record request { phase = phase }) self.old.requests }) }
-        ensures inner { self.new.inner ≡ self.old.inner }
+        ensures core { OnOk result (self.new ≡ with_requests self.old (swap (λ q. q.number) (record request { phase = phase }) self.old.kept.requests)) }
+        ensures inner { self.new.kept.inner ≡ self.old.kept.inner }
     {
         let Request {
             number,
@@ -79,8 +80,8 @@ impl Draft {
     ) -> Result<(), OutOfMemory>
         requires { request_at self.old request ≡ None }
         ensures core { OnOk result (self.new ≡ asking self.old request moment warm) }
-        ensures unsettled { OnOk result (has request self.new.settled ≡ false) }
-        ensures inner { self.new.inner ≡ self.old.inner }
+        ensures unsettled { OnOk result (has request self.new.kept.settled ≡ false) }
+        ensures inner { self.new.kept.inner ≡ self.old.kept.inner }
     {
         self.set_last(moment);
         self.put_request(
@@ -119,8 +120,8 @@ impl Draft {
         requires { request_at self.old request ≡ None }
         ensures core { OnOk result (self.new ≡ asking self.old request moment false) }
         ensures facts { OnOk result (facts.new.items ≡ facts.old.items ++ started_fact self.old.pool self.old.address ∷ []) }
-        ensures unsettled { OnOk result (has request self.new.settled ≡ false) }
-        ensures inner { self.new.inner ≡ self.old.inner }
+        ensures unsettled { OnOk result (has request self.new.kept.settled ≡ false) }
+        ensures inner { self.new.kept.inner ≡ self.old.kept.inner }
     {
         self.enqueue(alloc, moment, request, false)?;
         self.push_started(facts)?;
@@ -129,7 +130,7 @@ impl Draft {
 
     // How a request ends at once where the pool isn't ready.
     fn away_end(&self, alloc: Global) -> Result<Option<End>, OutOfMemory>
-        ensures { IfOk result (λ end. end ≡ away_end self.now.status) }
+        ensures { IfOk result (λ end. end ≡ away_end self.now.kept.status) }
     {
         match self.status() {
             Status::New => {
@@ -150,10 +151,10 @@ impl Draft {
         request: u32,
         warm: bool,
     ) -> Result<(), OutOfMemory>
-        requires { has request self.old.settled ≡ false }
-        ensures core { OnOk result (self.new ≡ away self.old request moment warm (away_end self.old.status)) }
-        ensures facts { OnOk result (facts.new.items ≡ facts.old.items ++ away_facts self.old request warm (away_end self.old.status)) }
-        ensures inner { self.new.inner ≡ self.old.inner }
+        requires { has request self.old.kept.settled ≡ false }
+        ensures core { OnOk result (self.new ≡ away self.old request moment warm (away_end self.old.kept.status)) }
+        ensures facts { OnOk result (facts.new.items ≡ facts.old.items ++ away_facts self.old request warm (away_end self.old.kept.status)) }
+        ensures inner { self.new.kept.inner ≡ self.old.kept.inner }
     {
         let Some(end) = self.away_end(alloc)? else {
             return Ok(());
@@ -236,11 +237,11 @@ impl Draft {
         moment: Moment,
         request: Request,
     ) -> Result<(), OutOfMemory>
-        requires there { is_gone self.old.settled (request_at self.old request.number) ≡ false }
-        requires live { self.old.created < self.old.options.limit_id }
+        requires there { is_gone self.old.kept.settled (request_at self.old request.number) ≡ false }
+        requires live { self.old.kept.created < self.old.options.limit_id }
         ensures core { OnOk result (self.new ≡ creating self.old moment request) }
-        ensures facts { OnOk result (facts.new.items ≡ facts.old.items ++ Pool self.old.pool (ConnectionCreated (record { address = self.old.address; connection_id = self.old.created + 1 })) ∷ Granted request.number self.old.pool (self.old.created + 1) ∷ []) }
-        ensures inner { self.new.inner ≡ self.old.inner }
+        ensures facts { OnOk result (facts.new.items ≡ facts.old.items ++ Pool self.old.pool (ConnectionCreated (record { address = self.old.address; connection_id = self.old.kept.created + 1 })) ∷ Granted request.number self.old.pool (self.old.kept.created + 1) ∷ []) }
+        ensures inner { self.new.kept.inner ≡ self.old.kept.inner }
     {
         // The id is at most the limit, which bounds it.
         let _limit = self.options().limit_id;
@@ -264,10 +265,10 @@ impl Draft {
         facts: &mut Vec<Fact>,
         moment: Moment,
     ) -> Result<(), OutOfMemory>
-        requires { self.old.created < self.old.options.limit_id }
+        requires { self.old.kept.created < self.old.options.limit_id }
         ensures core { OnOk result (self.new ≡ spawning self.old moment) }
-        ensures facts { OnOk result (facts.new.items ≡ facts.old.items ++ created_fact self.old.pool self.old.address (self.old.created + 1) ∷ []) }
-        ensures inner { self.new.inner ≡ self.old.inner }
+        ensures facts { OnOk result (facts.new.items ≡ facts.old.items ++ created_fact self.old.pool self.old.address (self.old.kept.created + 1) ∷ []) }
+        ensures inner { self.new.kept.inner ≡ self.old.kept.inner }
     {
         // The id is at most the limit, which bounds it.
         let _limit = self.options().limit_id;
@@ -285,10 +286,10 @@ impl Draft {
         request: Request,
         end: &End,
     ) -> Result<(), OutOfMemory>
-        requires there { is_gone self.old.settled (request_at self.old request.number) ≡ false }
+        requires there { is_gone self.old.kept.settled (request_at self.old request.number) ≡ false }
         ensures core { OnOk result (self.new ≡ ending self.old request end.now) }
         ensures facts { OnOk result (facts.new.items ≡ facts.old.items ++ Ended request.number end.now ∷ []) }
-        ensures inner { self.new.inner ≡ self.old.inner }
+        ensures inner { self.new.kept.inner ≡ self.old.kept.inner }
     {
         let number = request.number;
         let kept = end.clone()?;
@@ -308,9 +309,9 @@ impl Draft {
         number: u32,
         waited: Moment,
     ) -> Result<(), OutOfMemory>
-        ensures core { OnOk result (self.new ≡ record self.old { connections = swap (λ x. x.id) (handed self.old connection number) self.old.connections }) }
+        ensures core { OnOk result (self.new ≡ with_connections self.old (swap (λ x. x.id) (handed self.old connection number) self.old.kept.connections)) }
         ensures facts { OnOk result (facts.new.items ≡ facts.old.items ++ Granted number self.old.pool connection.id ∷ checked_out_fact self.old.pool self.old.address connection.id waited ∷ []) }
-        ensures inner { self.new.inner ≡ self.old.inner }
+        ensures inner { self.new.kept.inner ≡ self.old.kept.inner }
     {
         let timeouts = self.timeouts();
         self.replace_connection(
@@ -337,10 +338,10 @@ impl Draft {
         connection: Connection,
         request: Request,
     ) -> Result<(), OutOfMemory>
-        requires there { is_gone self.old.settled (request_at self.old request.number) ≡ false }
+        requires there { is_gone self.old.kept.settled (request_at self.old request.number) ≡ false }
         ensures core { OnOk result (self.new ≡ granting self.old connection request) }
         ensures facts { OnOk result (facts.new.items ≡ facts.old.items ++ Granted request.number self.old.pool connection.id ∷ Pool self.old.pool (ConnectionCheckedOut (record { address = self.old.address; connection_id = connection.id; duration = moment - request.asked_at })) ∷ []) }
-        ensures inner { self.new.inner ≡ self.old.inner }
+        ensures inner { self.new.kept.inner ≡ self.old.kept.inner }
     {
         let number = request.number;
         let waited = moment.saturating_sub(request.asked_at);
@@ -358,7 +359,7 @@ impl Draft {
     ) -> Result<(), OutOfMemory>
         ensures core { OnOk result (self.new ≡ discarding self.old connection) }
         ensures facts { OnOk result (facts.new.items ≡ facts.old.items ++ closed_fact self.old.pool self.old.address connection.id reason connection.service ∷ []) }
-        ensures inner { self.new.inner ≡ self.old.inner }
+        ensures inner { self.new.kept.inner ≡ self.old.kept.inner }
     {
         self.push_close(facts, connection, reason)?;
         self.remove_connection(alloc, connection.id)?;
@@ -378,7 +379,7 @@ impl Draft {
         requires lives { is_some (connection_at self.old connection.id) ≡ true }
         ensures core { OnOk result (self.new ≡ establishing self.old moment connection made) }
         ensures facts { OnOk result (facts.new.items ≡ facts.old.items ++ ready_fact self.old.pool self.old.address connection.id (moment - connection.created_at) ∷ checked_out_fact self.old.pool self.old.address connection.id (moment - asked_at) ∷ []) }
-        ensures inner { self.new.inner ≡ self.old.inner }
+        ensures inner { self.new.kept.inner ≡ self.old.kept.inner }
     {
         self.set_last(moment);
         self.put_connection(
@@ -398,10 +399,10 @@ impl Draft {
 
     // Tells how the request stands. Whoever has a connection or has ended is told once.
     pub(crate) fn tell(&mut self, alloc: Global, request: u32) -> Result<Reply, OutOfMemory>
-        requires { has request self.old.settled ≡ false }
+        requires { has request self.old.kept.settled ≡ false }
         ensures core { OnOk result (self.new ≡ telling self.old request) }
         ensures reply { IfOk result (λ reply. reply ≡ outcome_now self.old request) }
-        ensures inner { self.new.inner ≡ self.old.inner }
+        ensures inner { self.new.kept.inner ≡ self.old.kept.inner }
     {
         let reply = self.body.outcome(request)?;
         if matches!(reply, Reply::Pooled(_, _) | Reply::Ended(_)) {

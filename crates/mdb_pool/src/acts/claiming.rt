@@ -20,7 +20,7 @@ impl Draft {
     fn take_job(&mut self) -> Result<Reply, OutOfMemory>
         ensures core { OnOk result (self.new ≡ claiming self.old) }
         ensures reply { IfOk result (λ reply. reply ≡ job_now self.old) }
-        ensures inner { self.new.inner ≡ self.old.inner }
+        ensures inner { self.new.kept.inner ≡ self.old.kept.inner }
     {
         let Some(connection) = self.first_unclaimed() else {
             return Ok(Reply::NoJob);
@@ -37,9 +37,9 @@ impl Draft {
         moment: Moment,
     ) -> Result<Reply, OutOfMemory>
         ensures home { OnOk result (SameHome self.old self.new) }
-        ensures last { OnOk result (self.new.last ≡ moment) }
+        ensures last { OnOk result (self.new.kept.last ≡ moment) }
         ensures accepts { IfOk result (λ reply. (xs : List PoolItem) → Fits self.old xs → Accepts self.old self.new facts.old.items facts.new.items moment Claim reply xs xs) }
-        ensures inner { self.new.inner ≡ self.old.inner }
+        ensures inner { self.new.kept.inner ≡ self.old.kept.inner }
     {
         let reply = self.take_job()?;
         self.set_last(moment);

@@ -32,10 +32,10 @@ impl Draft {
         request: Request,
         cause: &Error,
     ) -> Result<(), OutOfMemory>
-        requires there { is_gone self.old.settled (request_at self.old request.number) ≡ false }
+        requires there { is_gone self.old.kept.settled (request_at self.old request.number) ≡ false }
         ensures core { OnOk result (self.new ≡ ending self.old request (Cleared cause.now)) }
         ensures facts { OnOk result (facts.new.items ≡ facts.old.items ++ over_facts self.old request.number request.warm (moment - request.asked_at) (Cleared cause.now)) }
-        ensures inner { self.new.inner ≡ self.old.inner }
+        ensures inner { self.new.kept.inner ≡ self.old.kept.inner }
     {
         let (number, warm) = (request.number, request.warm);
         let waited = moment.saturating_sub(request.asked_at);
@@ -55,10 +55,10 @@ impl Draft {
         cause: &Error,
     ) -> Result<(), OutOfMemory>
         ensures home { OnOk result (SameHome self.old self.new) }
-        ensures last { OnOk result (self.new.last ≡ self.old.last) }
+        ensures last { OnOk result (self.new.kept.last ≡ self.old.kept.last) }
         ensures notes { OnOk result (SameNotes self.old self.new) }
         ensures ends { OnOk result ((xs : List PoolItem) → Fits self.old xs → EndsQueue self.old self.new moment (Cleared cause.now) facts.old.items facts.new.items xs) }
-        ensures inner { self.new.inner ≡ self.old.inner }
+        ensures inner { self.new.kept.inner ≡ self.old.kept.inner }
     {
         while let Some(request) = self.first_queued() {
             // No other request has the number.
@@ -80,7 +80,7 @@ impl Draft {
     ) -> Result<(), OutOfMemory>
         ensures core { OnOk result (self.new ≡ raising self.old moment service cause.now) }
         ensures facts { OnOk result (facts.new.items ≡ facts.old.items ++ Raised self.old.pool service cause.now ∷ []) }
-        ensures inner { self.new.inner ≡ self.old.inner }
+        ensures inner { self.new.kept.inner ≡ self.old.kept.inner }
     {
         let told = Boxed::copy_of(alloc, cause)?;
         facts.push(Fact::Raised(self.number(), service, told))?;
@@ -122,11 +122,11 @@ impl Draft {
         moment: Moment,
         cause: &Error,
     ) -> Result<(), OutOfMemory>
-        requires { is_ready_now self.old.status ≡ true }
+        requires { is_ready_now self.old.kept.status ≡ true }
         ensures home { OnOk result (SameHome self.old self.new) }
-        ensures last { OnOk result (self.new.last ≡ moment) }
+        ensures last { OnOk result (self.new.kept.last ≡ moment) }
         ensures moves { OnOk result ((xs : List PoolItem) → Fits self.old xs → Clears self.old self.new moment None cause.now facts.old.items facts.new.items xs) }
-        ensures inner { self.new.inner ≡ self.old.inner }
+        ensures inner { self.new.kept.inner ≡ self.old.kept.inner }
     {
         self.raise(alloc, facts, moment, None, cause)?;
         self.push_cleared(facts, None, cause)?;
@@ -143,11 +143,11 @@ impl Draft {
         service: Option<ObjectId>,
         cause: &Error,
     ) -> Result<(), OutOfMemory>
-        requires { is_shut self.old.status ≡ false }
+        requires { is_shut self.old.kept.status ≡ false }
         ensures home { OnOk result (SameHome self.old self.new) }
-        ensures last { OnOk result (self.new.last ≡ moment) }
+        ensures last { OnOk result (self.new.kept.last ≡ moment) }
         ensures moves { OnOk result ((xs : List PoolItem) → Fits self.old xs → Clears self.old self.new moment service cause.now facts.old.items facts.new.items xs) }
-        ensures inner { self.new.inner ≡ self.old.inner }
+        ensures inner { self.new.kept.inner ≡ self.old.kept.inner }
     {
         if service.is_some() {
             self.raise(alloc, facts, moment, service, cause)?;
@@ -173,9 +173,9 @@ impl Draft {
         cause: &Error,
     ) -> Result<Reply, OutOfMemory>
         ensures home { OnOk result (SameHome self.old self.new) }
-        ensures last { OnOk result (self.new.last ≡ moment) }
+        ensures last { OnOk result (self.new.kept.last ≡ moment) }
         ensures accepts { IfOk result (λ reply. (xs : List PoolItem) → Fits self.old xs → Accepts self.old self.new facts.old.items facts.new.items moment (ClearAct pool service cause.now) reply xs xs) }
-        ensures inner { self.new.inner ≡ self.old.inner }
+        ensures inner { self.new.kept.inner ≡ self.old.kept.inner }
     {
         if self.status().is_closed() {
             self.set_last(moment);

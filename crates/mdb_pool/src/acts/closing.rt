@@ -3,6 +3,7 @@
 ghost use Rattle.std.specs.Prelude.{◌≡◌, ◌++◌, ◌∷◌, [], not, OnOk, IfOk, List, filter, OnErr};
 ghost use Rattle.std.specs.List.{filter_map};
 ghost use Rattle.mdb_pool.specs.Kept.Places.{is_available, is_pending};
+ghost use Rattle.mdb_pool.specs.Kept.Values.{with_connections, with_requests};
 
 use crate::kept::draft::Draft;
 use crate::kept::request::{Phase, Request};
@@ -95,8 +96,8 @@ impl Draft {
 
     // The request ends where nothing was handed to it.
     fn end_unserved(&mut self, alloc: Global, number: u32) -> Result<(), OutOfMemory>
-        ensures core { OnOk result (self.new ≡ record self.old { requests = ended_one self.old number }) }
-        ensures inner { self.new.inner ≡ self.old.inner }
+        ensures core { OnOk result (self.new ≡ with_requests self.old (ended_one self.old number)) }
+        ensures inner { self.new.kept.inner ≡ self.old.kept.inner }
     {
         // No other request has the number.
         let _requests = self.asked();
@@ -118,8 +119,8 @@ impl Draft {
 
     // So do the requests with these numbers.
     fn end_all_unserved(&mut self, alloc: Global, numbers: &[u32]) -> Result<(), OutOfMemory>
-        ensures core { OnOk result (self.new ≡ record self.old { requests = ended_all self.old numbers.now }) }
-        ensures inner { self.new.inner ≡ self.old.inner }
+        ensures core { OnOk result (self.new ≡ with_requests self.old (ended_all self.old numbers.now)) }
+        ensures inner { self.new.kept.inner ≡ self.old.kept.inner }
     {
         for number in numbers {
             self.end_unserved(alloc, *number)?;
@@ -129,8 +130,8 @@ impl Draft {
 
     // The available and the pending connections go.
     fn drop_connections(&mut self, alloc: Global) -> Result<(), OutOfMemory>
-        ensures core { OnOk result (self.new ≡ record self.old { connections = filter (λ x. not (is_pending x.place)) (filter (λ x. not (is_available x.place)) self.old.connections) }) }
-        ensures inner { self.new.inner ≡ self.old.inner }
+        ensures core { OnOk result (self.new ≡ with_connections self.old (filter (λ x. not (is_pending x.place)) (filter (λ x. not (is_available x.place)) self.old.kept.connections))) }
+        ensures inner { self.new.kept.inner ≡ self.old.kept.inner }
     {
         self.body.connections.close(alloc)
     }
@@ -144,9 +145,9 @@ impl Draft {
         moment: Moment,
         numbers: &[u32],
     ) -> Result<(), OutOfMemory>
-        ensures core { OnOk result (self.new ≡ record (closing self.old moment) { requests = ended_all self.old numbers.now }) }
+        ensures core { OnOk result (self.new ≡ with_requests (closing self.old moment) (ended_all self.old numbers.now)) }
         ensures facts { OnOk result (facts.new.items ≡ (((facts.old.items ++ shut_facts self.old (available_ones self.old)) ++ shut_facts self.old (pending_ones self.old)) ++ off_facts self.old moment (filter (λ q. unserved_in self.old q.phase) (filter_map (request_at self.old) numbers.now))) ++ pool_closed_fact self.old.pool self.old.address ∷ []) }
-        ensures inner { self.new.inner ≡ self.old.inner }
+        ensures inner { self.new.kept.inner ≡ self.old.kept.inner }
     {
         self.push_available(facts)?;
         self.push_pending(facts)?;
@@ -171,10 +172,10 @@ impl Draft {
         moment: Moment,
     ) -> Result<(), OutOfMemory>
         ensures home { OnOk result (SameHome self.old self.new) }
-        ensures last { OnOk result (self.new.last ≡ moment) }
+        ensures last { OnOk result (self.new.kept.last ≡ moment) }
         ensures core { OnOk result ((xs : List PoolItem) → Fits self.old xs → self.new ≡ closing self.old moment) }
         ensures facts { OnOk result ((xs : List PoolItem) → Fits self.old xs → facts.new.items ≡ (((facts.old.items ++ shut_facts self.old (available_ones self.old)) ++ shut_facts self.old (pending_ones self.old)) ++ off_facts self.old moment (unserved_ones self.old)) ++ pool_closed_fact self.old.pool self.old.address ∷ []) }
-        ensures inner { self.new.inner ≡ self.old.inner }
+        ensures inner { self.new.kept.inner ≡ self.old.kept.inner }
     {
         let numbers = self.unserved_numbers(alloc)?;
         self.close_with(alloc, facts, moment, numbers.as_slice())?;
@@ -190,9 +191,9 @@ impl Draft {
         pool: u32,
     ) -> Result<Reply, OutOfMemory>
         ensures home { OnOk result (SameHome self.old self.new) }
-        ensures last { OnOk result (self.new.last ≡ moment) }
+        ensures last { OnOk result (self.new.kept.last ≡ moment) }
         ensures accepts { IfOk result (λ reply. (xs : List PoolItem) → Fits self.old xs → Accepts self.old self.new facts.old.items facts.new.items moment (Close pool) reply xs xs) }
-        ensures inner { self.new.inner ≡ self.old.inner }
+        ensures inner { self.new.kept.inner ≡ self.old.kept.inner }
     {
         if self.status().is_closed() {
             self.set_last(moment);

@@ -23,11 +23,11 @@ impl Draft {
         moment: Moment,
         request: u32,
     ) -> Result<Reply, OutOfMemory>
-        requires { has request self.old.settled ≡ false }
+        requires { has request self.old.kept.settled ≡ false }
         ensures home { OnOk result (SameHome self.old self.new) }
-        ensures last { OnOk result (self.new.last ≡ moment) }
+        ensures last { OnOk result (self.new.kept.last ≡ moment) }
         ensures accepts { IfOk result (λ reply. (xs : List PoolItem) → Fits self.old xs → Accepts self.old self.new facts.old.items facts.new.items moment (Collect request) reply xs xs) }
-        ensures inner { self.new.inner ≡ self.old.inner }
+        ensures inner { self.new.kept.inner ≡ self.old.kept.inner }
     {
         self.set_last(moment);
         self.serve(alloc, facts, moment)?;

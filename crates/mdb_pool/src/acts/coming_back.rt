@@ -1,6 +1,7 @@
 //! The changes of a pool by which connections come back and requests are given up.
 
 ghost use Rattle.std.specs.Prelude.{◌≡◌, ◌++◌, ◌∷◌, ◌-◌, [], false, OnOk, Some, is_some, true};
+ghost use Rattle.mdb_pool.specs.Kept.Values.{with_connections};
 
 use crate::kept::connection::{Connection, Place};
 use crate::kept::draft::Draft;
@@ -105,8 +106,8 @@ impl Draft {
         reason: Option<ConnectionClosedReason>,
     ) -> Result<(), OutOfMemory>
         requires lives { is_some (connection_at self.old connection.id) ≡ true }
-        ensures core { OnOk result (self.new ≡ record self.old { connections = placed moment connection reason self.old.connections }) }
-        ensures inner { self.new.inner ≡ self.old.inner }
+        ensures core { OnOk result (self.new ≡ with_connections self.old (placed moment connection reason self.old.kept.connections)) }
+        ensures inner { self.new.kept.inner ≡ self.old.kept.inner }
     {
         if reason.is_some() {
             self.remove_connection(alloc, connection.id)?;
@@ -136,7 +137,7 @@ impl Draft {
         requires lives { is_some (connection_at self.old back.connection.id) ≡ true }
         ensures core { OnOk result (self.new ≡ pooling_for self.old moment back.connection made back.reason) }
         ensures facts { OnOk result (facts.new.items ≡ facts.old.items ++ ready_fact self.old.pool self.old.address back.connection.id (moment - back.connection.created_at) ∷ back_facts self.old (record back.connection { service = made.service_id; wire = Some made.wire }) back.reason) }
-        ensures inner { self.new.inner ≡ self.old.inner }
+        ensures inner { self.new.kept.inner ≡ self.old.kept.inner }
     {
         let connection = as_made(back.connection, made);
         self.push_ready(facts, moment, connection)?;
@@ -158,7 +159,7 @@ impl Draft {
         requires lives { is_some (connection_at self.old connection.id) ≡ true }
         ensures core { OnOk result (self.new ≡ pooling self.old moment connection made) }
         ensures facts { OnOk result (facts.new.items ≡ facts.old.items ++ ready_fact self.old.pool self.old.address connection.id (moment - connection.created_at) ∷ []) }
-        ensures inner { self.new.inner ≡ self.old.inner }
+        ensures inner { self.new.kept.inner ≡ self.old.kept.inner }
     {
         self.push_ready(facts, moment, connection)?;
         self.set_last(moment);
@@ -177,11 +178,11 @@ impl Draft {
         made: Established,
         request: Request,
     ) -> Result<(), OutOfMemory>
-        requires there { is_gone self.old.settled (request_at self.old request.number) ≡ false }
+        requires there { is_gone self.old.kept.settled (request_at self.old request.number) ≡ false }
         requires lives { is_some (connection_at self.old back.connection.id) ≡ true }
         ensures core { OnOk result (self.new ≡ filling_for self.old moment back.connection made request back.reason) }
         ensures facts { OnOk result (facts.new.items ≡ facts.old.items ++ (ready_fact self.old.pool self.old.address back.connection.id (moment - back.connection.created_at) ∷ back_facts self.old (record back.connection { service = made.service_id; wire = Some made.wire }) back.reason) ++ Ended request.number Filled ∷ []) }
-        ensures inner { self.new.inner ≡ self.old.inner }
+        ensures inner { self.new.kept.inner ≡ self.old.kept.inner }
     {
         self.pool_connection(alloc, facts, moment, back, made)?;
         self.end_warm(alloc, facts, request, &End::Filled)
@@ -196,10 +197,10 @@ impl Draft {
         phase: Phase,
     ) -> Result<(), OutOfMemory>
         requires came { is_some (request_at self.old request.number) ≡ true }
-        requires there { is_gone self.old.settled (request_at self.old request.number) ≡ false }
+        requires there { is_gone self.old.kept.settled (request_at self.old request.number) ≡ false }
         requires unqueued { is_queued phase ≡ false }
         ensures core { OnOk result (self.new ≡ finishing self.old moment request phase) }
-        ensures inner { self.new.inner ≡ self.old.inner }
+        ensures inner { self.new.kept.inner ≡ self.old.kept.inner }
     {
         let number = request.number;
         self.set_last(moment);
@@ -219,10 +220,10 @@ impl Draft {
         phase: Phase,
     ) -> Result<(), OutOfMemory>
         requires came { is_some (request_at self.old request.number) ≡ true }
-        requires there { is_gone self.old.settled (request_at self.old request.number) ≡ false }
+        requires there { is_gone self.old.kept.settled (request_at self.old request.number) ≡ false }
         requires unqueued { is_queued phase ≡ false }
         ensures core { OnOk result (self.new ≡ to_pin self.old moment connection request phase) }
-        ensures inner { self.new.inner ≡ self.old.inner }
+        ensures inner { self.new.kept.inner ≡ self.old.kept.inner }
     {
         self.finish(alloc, moment, request, phase)?;
         self.replace_connection(
@@ -246,10 +247,10 @@ impl Draft {
         request: Request,
     ) -> Result<(), OutOfMemory>
         requires came { is_some (request_at self.old request.number) ≡ true }
-        requires there { is_gone self.old.settled (request_at self.old request.number) ≡ false }
+        requires there { is_gone self.old.kept.settled (request_at self.old request.number) ≡ false }
         ensures core { OnOk result (self.new ≡ to_pin self.old moment connection request (EndedPhase GaveUp)) }
         ensures facts { OnOk result (facts.new.items ≡ facts.old.items ++ Ended request.number GaveUp ∷ []) }
-        ensures inner { self.new.inner ≡ self.old.inner }
+        ensures inner { self.new.kept.inner ≡ self.old.kept.inner }
     {
         facts.push(Fact::Ended(request.number, End::GaveUp))?;
         self.put_to_pin(
@@ -271,11 +272,11 @@ impl Draft {
         request: Request,
     ) -> Result<(), OutOfMemory>
         requires came { is_some (request_at self.old request.number) ≡ true }
-        requires there { is_gone self.old.settled (request_at self.old request.number) ≡ false }
+        requires there { is_gone self.old.kept.settled (request_at self.old request.number) ≡ false }
         requires lives { is_some (connection_at self.old back.connection.id) ≡ true }
         ensures core { OnOk result (self.new ≡ returning_for self.old moment back.connection request back.reason) }
         ensures facts { OnOk result (facts.new.items ≡ facts.old.items ++ back_facts self.old back.connection back.reason) }
-        ensures inner { self.new.inner ≡ self.old.inner }
+        ensures inner { self.new.kept.inner ≡ self.old.kept.inner }
     {
         self.push_back(facts, back.connection, back.reason)?;
         self.finish(alloc, moment, request, Phase::Over)?;
@@ -292,10 +293,10 @@ impl Draft {
         request: Request,
     ) -> Result<(), OutOfMemory>
         requires came { is_some (request_at self.old request.number) ≡ true }
-        requires there { is_gone self.old.settled (request_at self.old request.number) ≡ false }
+        requires there { is_gone self.old.kept.settled (request_at self.old request.number) ≡ false }
         ensures core { OnOk result (self.new ≡ quitting self.old moment request) }
         ensures facts { OnOk result (facts.new.items ≡ facts.old.items ++ Ended request.number GaveUp ∷ []) }
-        ensures inner { self.new.inner ≡ self.old.inner }
+        ensures inner { self.new.kept.inner ≡ self.old.kept.inner }
     {
         facts.push(Fact::Ended(request.number, End::GaveUp))?;
         self.finish(alloc, moment, request, Phase::Ended(End::GaveUp))?;
@@ -313,11 +314,11 @@ impl Draft {
         request: Request,
     ) -> Result<(), OutOfMemory>
         requires came { is_some (request_at self.old request.number) ≡ true }
-        requires there { is_gone self.old.settled (request_at self.old request.number) ≡ false }
+        requires there { is_gone self.old.kept.settled (request_at self.old request.number) ≡ false }
         requires live { connection_at self.old connection.id ≡ Some connection }
         ensures core { OnOk result (self.new ≡ leaving self.old moment connection request) }
         ensures facts { OnOk result (facts.new.items ≡ facts.old.items ++ Ended request.number GaveUp ∷ []) }
-        ensures inner { self.new.inner ≡ self.old.inner }
+        ensures inner { self.new.kept.inner ≡ self.old.kept.inner }
     {
         self.quit(alloc, facts, moment, request)?;
         self.replace_connection(
@@ -341,11 +342,11 @@ impl Draft {
         request: Request,
     ) -> Result<(), OutOfMemory>
         requires came { is_some (request_at self.old request.number) ≡ true }
-        requires there { is_gone self.old.settled (request_at self.old request.number) ≡ false }
+        requires there { is_gone self.old.kept.settled (request_at self.old request.number) ≡ false }
         requires lives { is_some (connection_at self.old back.connection.id) ≡ true }
         ensures core { OnOk result (self.new ≡ handing_for self.old moment back.connection request back.reason) }
         ensures facts { OnOk result (facts.new.items ≡ facts.old.items ++ Ended request.number GaveUp ∷ back_facts self.old back.connection back.reason) }
-        ensures inner { self.new.inner ≡ self.old.inner }
+        ensures inner { self.new.kept.inner ≡ self.old.kept.inner }
     {
         facts.push(Fact::Ended(request.number, End::GaveUp))?;
         self.push_back(facts, back.connection, back.reason)?;

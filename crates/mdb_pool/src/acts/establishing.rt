@@ -28,9 +28,9 @@ impl Draft {
     ) -> Result<Reply, OutOfMemory>
         requires { is_pending_at (connection_at self.old id) ≡ true }
         ensures home { OnOk result (SameHome self.old self.new) }
-        ensures last { OnOk result (self.new.last ≡ moment) }
+        ensures last { OnOk result (self.new.kept.last ≡ moment) }
         ensures accepts { IfOk result (λ reply. (xs : List PoolItem) → Fits self.old xs → Accepts self.old self.new facts.old.items facts.new.items moment (EstablishedAct self.old.pool id made) reply xs (established id made moment ∷ xs)) }
-        ensures inner { self.new.inner ≡ self.old.inner }
+        ensures inner { self.new.kept.inner ≡ self.old.kept.inner }
     {
         let Some(connection) = self.connection(id).copied() else {
             unreachable!()

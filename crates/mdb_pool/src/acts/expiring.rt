@@ -27,10 +27,10 @@ impl Draft {
         moment: Moment,
         request: Request,
     ) -> Result<(), OutOfMemory>
-        requires there { is_gone self.old.settled (request_at self.old request.number) ≡ false }
+        requires there { is_gone self.old.kept.settled (request_at self.old request.number) ≡ false }
         ensures core { OnOk result (self.new ≡ ending self.old request TimedOut) }
         ensures facts { OnOk result (facts.new.items ≡ facts.old.items ++ over_facts self.old request.number request.warm (moment - request.asked_at) TimedOut) }
-        ensures inner { self.new.inner ≡ self.old.inner }
+        ensures inner { self.new.kept.inner ≡ self.old.kept.inner }
     {
         let (number, warm) = (request.number, request.warm);
         let waited = moment.saturating_sub(request.asked_at);
@@ -47,10 +47,10 @@ impl Draft {
         moment: Moment,
     ) -> Result<(), OutOfMemory>
         ensures home { OnOk result (SameHome self.old self.new) }
-        ensures last { OnOk result (self.new.last ≡ self.old.last) }
+        ensures last { OnOk result (self.new.kept.last ≡ self.old.kept.last) }
         ensures notes { OnOk result (SameNotes self.old self.new) }
         ensures expires { OnOk result ((xs : List PoolItem) → Fits self.old xs → Expires self.old self.new moment facts.old.items facts.new.items xs) }
-        ensures inner { self.new.inner ≡ self.old.inner }
+        ensures inner { self.new.kept.inner ≡ self.old.kept.inner }
     {
         while let Some(request) = self.first_overdue(moment) {
             // No other request has the number.
@@ -69,9 +69,9 @@ impl Draft {
         moment: Moment,
     ) -> Result<Reply, OutOfMemory>
         ensures home { OnOk result (SameHome self.old self.new) }
-        ensures last { OnOk result (self.new.last ≡ moment) }
+        ensures last { OnOk result (self.new.kept.last ≡ moment) }
         ensures accepts { IfOk result (λ reply. (xs : List PoolItem) → Fits self.old xs → Accepts self.old self.new facts.old.items facts.new.items moment (ExpireAct self.old.address) reply xs xs) }
-        ensures inner { self.new.inner ≡ self.old.inner }
+        ensures inner { self.new.kept.inner ≡ self.old.kept.inner }
     {
         self.set_last(moment);
         self.end_all_overdue(alloc, facts, moment)?;
@@ -93,6 +93,7 @@ impl PoolCore {
     /// The callers that wait in the queue and asked at least `max_wait` ago end as `TimedOut`, in the order of the queue (CMAP, "WaitQueue",
     /// `waitQueueTimeoutMS`); without a limit, or with one of 0, nobody does. No other step ends a caller by time. A warm request doesn't expire,
     /// nor does a caller whose connection is pending. Refused as `TimeBack`, or as `UnknownServer` where the pool is closed.
+    #[tactic(auto, unfolding(crate::specs::Now::queries))]
     pub fn expire(
         &mut self,
         alloc: Global,

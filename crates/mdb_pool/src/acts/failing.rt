@@ -74,10 +74,10 @@ impl Draft {
         request: Request,
         cause: &Error,
     ) -> Result<(), OutOfMemory>
-        requires there { is_gone self.old.settled (request_at self.old request.number) ≡ false }
+        requires there { is_gone self.old.kept.settled (request_at self.old request.number) ≡ false }
         ensures core { OnOk result (self.new ≡ failing self.old moment connection request (FailedEnd cause.now)) }
         ensures facts { OnOk result (facts.new.items ≡ facts.old.items ++ closed_fact self.old.pool self.old.address connection.id ErrorReason connection.service ∷ over_facts self.old request.number request.warm (moment - request.asked_at) (FailedEnd cause.now)) }
-        ensures inner { self.new.inner ≡ self.old.inner }
+        ensures inner { self.new.kept.inner ≡ self.old.kept.inner }
     {
         let (number, warm) = (request.number, request.warm);
         let waited = moment.saturating_sub(request.asked_at);
@@ -101,7 +101,7 @@ impl Draft {
     ) -> Result<(), OutOfMemory>
         ensures core { OnOk result (self.new ≡ forgetting self.old moment connection) }
         ensures facts { OnOk result (facts.new.items ≡ facts.old.items ++ closed_fact self.old.pool self.old.address connection.id ErrorReason connection.service ∷ []) }
-        ensures inner { self.new.inner ≡ self.old.inner }
+        ensures inner { self.new.kept.inner ≡ self.old.kept.inner }
     {
         self.push_close(facts, connection, ConnectionClosedReason::Error)?;
         self.set_last(moment);
@@ -121,9 +121,9 @@ impl Draft {
     ) -> Result<Reply, OutOfMemory>
         requires { is_pending_at (connection_at self.old id) ≡ true }
         ensures home { OnOk result (SameHome self.old self.new) }
-        ensures last { OnOk result (self.new.last ≡ moment) }
+        ensures last { OnOk result (self.new.kept.last ≡ moment) }
         ensures accepts { IfOk result (λ reply. (xs : List PoolItem) → Fits self.old xs → Accepts self.old self.new facts.old.items facts.new.items moment (FailedAct self.old.pool id at cause.now) reply xs (failed id (service_in at) ∷ xs)) }
-        ensures inner { self.new.inner ≡ self.old.inner }
+        ensures inner { self.new.kept.inner ≡ self.old.kept.inner }
     {
         let Some(connection) = self.connection(id).copied() else {
             unreachable!()

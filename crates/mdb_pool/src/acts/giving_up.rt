@@ -30,11 +30,11 @@ impl Draft {
         request: u32,
     ) -> Result<Reply, OutOfMemory>
         requires ended { is_ended_at (request_at self.old request) ≡ true }
-        requires open { has request self.old.settled ≡ false }
+        requires open { has request self.old.kept.settled ≡ false }
         ensures home { OnOk result (SameHome self.old self.new) }
-        ensures last { OnOk result (self.new.last ≡ moment) }
+        ensures last { OnOk result (self.new.kept.last ≡ moment) }
         ensures accepts { IfOk result (λ reply. (xs : List PoolItem) → Fits self.old xs → Accepts self.old self.new facts.old.items facts.new.items moment (GiveUp request) reply xs (gave_up request ∷ xs)) }
-        ensures inner { self.new.inner ≡ self.old.inner }
+        ensures inner { self.new.kept.inner ≡ self.old.kept.inner }
     {
         let reply = self.outcome(request)?;
         self.set_last(moment);
@@ -57,11 +57,11 @@ impl Draft {
         requires asker { request_at self.old request.number ≡ Some request }
         requires open { is_ended_at (request_at self.old request.number) ≡ false }
         requires asked { is_asked_at (request_at self.old request.number) ≡ true }
-        requires unsettled { has request.number self.old.settled ≡ false }
+        requires unsettled { has request.number self.old.kept.settled ≡ false }
         ensures home { OnOk result (SameHome self.old self.new) }
-        ensures last { OnOk result (self.new.last ≡ moment) }
+        ensures last { OnOk result (self.new.kept.last ≡ moment) }
         ensures accepts { IfOk result (λ reply. (xs : List PoolItem) → Fits self.old xs → Accepts self.old self.new facts.old.items facts.new.items moment (GiveUp request.number) reply xs (gave_up request.number ∷ xs)) }
-        ensures inner { self.new.inner ≡ self.old.inner }
+        ensures inner { self.new.kept.inner ≡ self.old.kept.inner }
     {
         let back = used_as(connection, Use::Ok);
         if 0 < back.pins {
@@ -89,9 +89,9 @@ impl Draft {
     ) -> Result<Reply, OutOfMemory>
         requires { is_open_now self.old request ≡ true }
         ensures home { OnOk result (SameHome self.old self.new) }
-        ensures last { OnOk result (self.new.last ≡ moment) }
+        ensures last { OnOk result (self.new.kept.last ≡ moment) }
         ensures accepts { IfOk result (λ reply. (xs : List PoolItem) → Fits self.old xs → Accepts self.old self.new facts.old.items facts.new.items moment (GiveUp request) reply xs (gave_up request ∷ xs)) }
-        ensures inner { self.new.inner ≡ self.old.inner }
+        ensures inner { self.new.kept.inner ≡ self.old.kept.inner }
     {
         if self.is_ended(request) {
             let reply = self.give_up_late(alloc, facts, moment, request)?;

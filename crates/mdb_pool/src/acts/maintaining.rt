@@ -24,10 +24,10 @@ impl Draft {
         moment: Moment,
     ) -> Result<(), OutOfMemory>
         ensures home { OnOk result (SameHome self.old self.new) }
-        ensures last { OnOk result (self.new.last ≡ self.old.last) }
+        ensures last { OnOk result (self.new.kept.last ≡ self.old.kept.last) }
         ensures notes { OnOk result (SameNotes self.old self.new) }
         ensures sweeps { OnOk result ((xs : List PoolItem) → Fits self.old xs → Sweeps self.old self.new moment facts.old.items facts.new.items xs) }
-        ensures inner { self.new.inner ≡ self.old.inner }
+        ensures inner { self.new.kept.inner ≡ self.old.kept.inner }
     {
         while let Some(connection) = self.first_perished(moment) {
             let Some(reason) = self.perished(moment, connection) else {
@@ -46,10 +46,10 @@ impl Draft {
         moment: Moment,
     ) -> Result<(), OutOfMemory>
         ensures home { OnOk result (SameHome self.old self.new) }
-        ensures last { OnOk result (self.new.last ≡ self.old.last) }
+        ensures last { OnOk result (self.new.kept.last ≡ self.old.kept.last) }
         ensures notes { OnOk result (SameNotes self.old self.new) }
         ensures fills { OnOk result ((xs : List PoolItem) → Fits self.old xs → Fills self.old self.new moment facts.old.items facts.new.items xs) }
-        ensures inner { self.new.inner ≡ self.old.inner }
+        ensures inner { self.new.kept.inner ≡ self.old.kept.inner }
     {
         while self.wants_filling() {
             self.spawn(alloc, facts, moment)?;
@@ -65,9 +65,9 @@ impl Draft {
         moment: Moment,
     ) -> Result<Reply, OutOfMemory>
         ensures home { OnOk result (SameHome self.old self.new) }
-        ensures last { OnOk result (self.new.last ≡ moment) }
+        ensures last { OnOk result (self.new.kept.last ≡ moment) }
         ensures accepts { IfOk result (λ reply. (xs : List PoolItem) → Fits self.old xs → Accepts self.old self.new facts.old.items facts.new.items moment (MaintainAct self.old.address) reply xs xs) }
-        ensures inner { self.new.inner ≡ self.old.inner }
+        ensures inner { self.new.kept.inner ≡ self.old.kept.inner }
     {
         self.set_last(moment);
         self.sweep(alloc, facts, moment)?;
@@ -87,6 +87,7 @@ impl PoolCore {
     /// Available connections that are stale or idle for too long are closed, and connections are created in the background while fewer live than
     /// the minimum and fewer are pending than may be (CMAP, "Background Thread"). Refused as `TimeBack`, or as `UnknownServer` where the pool is
     /// closed.
+    #[tactic(auto, unfolding(crate::specs::Now::queries))]
     pub fn maintain(
         &mut self,
         alloc: Global,

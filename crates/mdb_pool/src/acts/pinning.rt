@@ -27,7 +27,7 @@ impl Draft {
     ) -> Result<(), OutOfMemory>
         requires { connection_at self.old connection.id ≡ Some connection }
         ensures core { OnOk result (self.new ≡ pinning self.old moment connection) }
-        ensures inner { self.new.inner ≡ self.old.inner }
+        ensures inner { self.new.kept.inner ≡ self.old.kept.inner }
     {
         let Some(pins) = connection.pins.checked_add(1) else {
             return Err(OutOfMemory);
@@ -47,9 +47,9 @@ impl Draft {
     ) -> Result<Reply, OutOfMemory>
         requires { is_some (held_connection self.old party) ≡ true }
         ensures home { OnOk result (SameHome self.old self.new) }
-        ensures last { OnOk result (self.new.last ≡ moment) }
+        ensures last { OnOk result (self.new.kept.last ≡ moment) }
         ensures accepts { IfOk result (λ reply. (xs : List PoolItem) → Fits self.old xs → Accepts self.old self.new facts.old.items facts.new.items moment (Pin party) reply xs (pinned_by party ∷ xs)) }
-        ensures inner { self.new.inner ≡ self.old.inner }
+        ensures inner { self.new.kept.inner ≡ self.old.kept.inner }
     {
         let Some(connection) = self.held_connection(party) else {
             unreachable!()
@@ -69,9 +69,9 @@ impl Draft {
     ) -> Result<Reply, OutOfMemory>
         requires { nat_lt 0 (pins_at (connection_at self.old id)) ≡ true }
         ensures home { OnOk result (SameHome self.old self.new) }
-        ensures last { OnOk result (self.new.last ≡ moment) }
+        ensures last { OnOk result (self.new.kept.last ≡ moment) }
         ensures accepts { IfOk result (λ reply. (xs : List PoolItem) → Fits self.old xs → Accepts self.old self.new facts.old.items facts.new.items moment (Replicate self.old.pool id) reply xs (replicated id ∷ xs)) }
-        ensures inner { self.new.inner ≡ self.old.inner }
+        ensures inner { self.new.kept.inner ≡ self.old.kept.inner }
     {
         let Some(connection) = self.connection(id).copied() else {
             unreachable!()

@@ -20,7 +20,7 @@ impl Draft {
     fn make_ready(&mut self, facts: &mut Vec<Fact>, moment: Moment) -> Result<(), OutOfMemory>
         ensures core { OnOk result (self.new ≡ readied_to self.old moment) }
         ensures facts { OnOk result (facts.new.items ≡ facts.old.items ++ readied_facts self.old) }
-        ensures inner { self.new.inner ≡ self.old.inner }
+        ensures inner { self.new.kept.inner ≡ self.old.kept.inner }
     {
         self.set_last(moment);
         if self.status().is_ready() || self.status().is_closed() {
@@ -44,9 +44,9 @@ impl Draft {
         pool: u32,
     ) -> Result<Reply, OutOfMemory>
         ensures home { OnOk result (SameHome self.old self.new) }
-        ensures last { OnOk result (self.new.last ≡ moment) }
+        ensures last { OnOk result (self.new.kept.last ≡ moment) }
         ensures accepts { IfOk result (λ reply. (xs : List PoolItem) → Fits self.old xs → Accepts self.old self.new facts.old.items facts.new.items moment (ReadyAct pool) reply xs xs) }
-        ensures inner { self.new.inner ≡ self.old.inner }
+        ensures inner { self.new.kept.inner ≡ self.old.kept.inner }
     {
         self.make_ready(facts, moment)?;
         self.serve(alloc, facts, moment)?;

@@ -51,7 +51,7 @@ impl Draft {
         ensures core { OnOk result (self.new ≡ granting_at_once self.old moment request connection) }
         ensures facts { OnOk result (facts.new.items ≡ facts.old.items ++ started_fact self.old.pool self.old.address ∷ Granted request self.old.pool connection.id ∷ checked_out_fact self.old.pool self.old.address connection.id 0 ∷ []) }
         ensures reply { IfOk result (λ reply. reply ≡ Pooled self.old.pool connection.id) }
-        ensures inner { self.new.inner ≡ self.old.inner }
+        ensures inner { self.new.kept.inner ≡ self.old.kept.inner }
     {
         self.push_started(facts)?;
         self.set_last(moment);
@@ -80,9 +80,9 @@ impl Draft {
     ) -> Result<Reply, OutOfMemory>
         requires { request_at self.old request ≡ None }
         ensures home { OnOk result (SameHome self.old self.new) }
-        ensures last { OnOk result (self.new.last ≡ moment) }
+        ensures last { OnOk result (self.new.kept.last ≡ moment) }
         ensures accepts { IfOk result (λ reply. (xs : List PoolItem) → Fits self.old xs → Accepts self.old self.new facts.old.items facts.new.items moment (RequestAct request self.old.address) reply xs (asked request moment ∷ xs)) }
-        ensures inner { self.new.inner ≡ self.old.inner }
+        ensures inner { self.new.kept.inner ≡ self.old.kept.inner }
     {
         if let Some(connection) = self.ready_connection(moment) {
             let reply = self.grant_at_once(alloc, facts, moment, request, connection)?;
@@ -97,6 +97,7 @@ impl Draft {
 }
 
 impl PoolCore {
+    ghost use Rattle.mdb_pool.specs.Now.{alone_now};
     ghost use Rattle.mdb_pool.specs.Kept.Values.{request_at};
     ghost use Rattle.mdb_pool.specs.Standing.{SameHome, Fits, Accepts, StandsFor, Answers};
     ghost use Rattle.mdb_pool.specs.Planning.{Passes};
@@ -105,7 +106,7 @@ impl PoolCore {
 
     /// A caller asks for a connection. Refused as `TimeBack`, `UnknownServer` where the pool is closed, or `RequestKnown`. It ends at
     /// once where the pool is new or paused (CMAP, "Checking Out a Connection").
-    #[tactic(auto, using(crate::proofs::Answered::NewParties::alone_can))]
+    #[tactic(auto, using(crate::proofs::Answered::NewParties::alone_can), unfolding(crate::specs::Now::queries))]
     pub fn request(
         &mut self,
         alloc: Global,
@@ -113,7 +114,7 @@ impl PoolCore {
         moment: Moment,
         request: u32,
     ) -> Result<Reply, OutOfMemory>
-        requires { self.old.alone ≡ true }
+        requires { alone_now self.old ≡ true }
         ensures home { OnOk result (SameHome self.old self.new) }
         ensures answers { IfOk result (λ reply. (h : List Item) → StandsFor self.old h → Answers self.old self.new facts.old.items facts.new.items (record { moment = moment; act = RequestAct request self.old.address }) reply h) }
         ensures err_core { OnErr result (self.new ≡ self.old) }

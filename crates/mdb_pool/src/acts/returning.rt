@@ -30,9 +30,9 @@ impl Draft {
     ) -> Result<Reply, OutOfMemory>
         requires { is_some (held_connection self.old party) ≡ true }
         ensures home { OnOk result (SameHome self.old self.new) }
-        ensures last { OnOk result (self.new.last ≡ moment) }
+        ensures last { OnOk result (self.new.kept.last ≡ moment) }
         ensures accepts { IfOk result (λ reply. (xs : List PoolItem) → Fits self.old xs → Accepts self.old self.new facts.old.items facts.new.items moment (ReturnAct party used) reply xs (returned party used ∷ xs)) }
-        ensures inner { self.new.inner ≡ self.old.inner }
+        ensures inner { self.new.kept.inner ≡ self.old.kept.inner }
     {
         let Some(request) = self.request(party) else {
             unreachable!()

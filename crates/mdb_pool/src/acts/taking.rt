@@ -29,7 +29,7 @@ impl Draft {
     ) -> Result<(), OutOfMemory>
         requires { is_some (request_at self.old party) ≡ false }
         ensures core { OnOk result (self.new ≡ taking self.old moment party connection) }
-        ensures inner { self.new.inner ≡ self.old.inner }
+        ensures inner { self.new.kept.inner ≡ self.old.kept.inner }
     {
         let timeouts = self.timeouts();
         self.set_last(moment);
@@ -68,9 +68,9 @@ impl Draft {
         requires pinned { nat_lt 0 (pins_at (connection_at self.old id)) ≡ true }
         requires free { is_held_at (connection_at self.old id) ≡ false }
         ensures home { OnOk result (SameHome self.old self.new) }
-        ensures last { OnOk result (self.new.last ≡ moment) }
+        ensures last { OnOk result (self.new.kept.last ≡ moment) }
         ensures accepts { IfOk result (λ reply. (xs : List PoolItem) → Fits self.old xs → Accepts self.old self.new facts.old.items facts.new.items moment (Take party self.old.pool id) reply xs (taken party id ∷ xs)) }
-        ensures inner { self.new.inner ≡ self.old.inner }
+        ensures inner { self.new.kept.inner ≡ self.old.kept.inner }
     {
         let Some(connection) = self.connection(id).copied() else {
             unreachable!()
@@ -82,6 +82,7 @@ impl Draft {
 }
 
 impl PoolCore {
+    ghost use Rattle.mdb_pool.specs.Now.{alone_now};
     ghost use Rattle.mdb_pool.specs.Acts.Changes.{taking};
     ghost use Rattle.mdb_pool.specs.Kept.Values.{connection_at, request_at, pins_at, is_held_at};
     ghost use Rattle.mdb_pool.specs.Standing.{SameHome, Fits, Accepts, StandsFor, Answers};
@@ -100,7 +101,7 @@ impl PoolCore {
         party: u32,
         id: u32,
     ) -> Result<Reply, OutOfMemory>
-        requires { self.old.alone ≡ true }
+        requires { alone_now self.old ≡ true }
         ensures home { OnOk result (SameHome self.old self.new) }
         ensures answers { IfOk result (λ reply. (h : List Item) → StandsFor self.old h → Answers self.old self.new facts.old.items facts.new.items (record { moment = moment; act = Take party self.old.pool id }) reply h) }
         ensures err_core { OnErr result (self.new ≡ self.old) }

@@ -38,7 +38,7 @@ impl Draft {
     ) -> Result<(), OutOfMemory>
         requires { connection_at self.old connection.id ≡ Some connection }
         ensures core { OnOk result (self.new ≡ unpinning self.old moment connection) }
-        ensures inner { self.new.inner ≡ self.old.inner }
+        ensures inner { self.new.kept.inner ≡ self.old.kept.inner }
     {
         let fewer = self.unpinned_once(connection);
         self.set_last(moment);
@@ -58,7 +58,7 @@ impl Draft {
         requires lives { is_some (connection_at self.old connection.id) ≡ true }
         ensures core { OnOk result (self.new ≡ pin_ending self.old moment connection reason) }
         ensures facts { OnOk result (facts.new.items ≡ facts.old.items ++ back_facts self.old connection reason) }
-        ensures inner { self.new.inner ≡ self.old.inner }
+        ensures inner { self.new.kept.inner ≡ self.old.kept.inner }
     {
         self.push_back(facts, connection, reason)?;
         let fewer = self.unpinned_once(connection);
@@ -78,9 +78,9 @@ impl Draft {
     ) -> Result<Reply, OutOfMemory>
         requires { nat_lt 0 (pins_at (connection_at self.old id)) ≡ true }
         ensures home { OnOk result (SameHome self.old self.new) }
-        ensures last { OnOk result (self.new.last ≡ moment) }
+        ensures last { OnOk result (self.new.kept.last ≡ moment) }
         ensures accepts { IfOk result (λ reply. (xs : List PoolItem) → Fits self.old xs → Accepts self.old self.new facts.old.items facts.new.items moment (Unpin self.old.pool id) reply xs (unpinned id ∷ xs)) }
-        ensures inner { self.new.inner ≡ self.old.inner }
+        ensures inner { self.new.kept.inner ≡ self.old.kept.inner }
     {
         let Some(connection) = self.connection(id).copied() else {
             unreachable!()

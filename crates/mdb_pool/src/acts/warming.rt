@@ -25,9 +25,9 @@ impl Draft {
     ) -> Result<Reply, OutOfMemory>
         requires { request_at self.old request ≡ None }
         ensures home { OnOk result (SameHome self.old self.new) }
-        ensures last { OnOk result (self.new.last ≡ moment) }
+        ensures last { OnOk result (self.new.kept.last ≡ moment) }
         ensures accepts { IfOk result (λ reply. (xs : List PoolItem) → Fits self.old xs → Accepts self.old self.new facts.old.items facts.new.items moment (WarmAct request self.old.address) reply xs (warmed request moment ∷ xs)) }
-        ensures inner { self.new.inner ≡ self.old.inner }
+        ensures inner { self.new.kept.inner ≡ self.old.kept.inner }
     {
         self.enqueue(alloc, moment, request, true)?;
         self.turn_away(alloc, facts, moment, request, true)?;
@@ -38,6 +38,7 @@ impl Draft {
 }
 
 impl PoolCore {
+    ghost use Rattle.mdb_pool.specs.Now.{alone_now};
     ghost use Rattle.mdb_pool.specs.Kept.Values.{request_at};
     ghost use Rattle.mdb_pool.specs.Standing.{SameHome, Fits, Accepts, StandsFor, Answers};
     ghost use Rattle.mdb_pool.specs.Planning.{Passes};
@@ -47,7 +48,7 @@ impl PoolCore {
     /// One more connection is asked for where fewer live than the minimum (CMAP, "minPoolSize"): it waits only while as many are pending as may be, is
     /// over once its connection is established (`Filled`), and at once where none is wanted (`Warmed`). Refused as `TimeBack`, `UnknownServer`
     /// where the pool is closed, or `RequestKnown`. It ends at once where the pool is new or paused.
-    #[tactic(auto, using(crate::proofs::Answered::NewParties::alone_can))]
+    #[tactic(auto, using(crate::proofs::Answered::NewParties::alone_can), unfolding(crate::specs::Now::queries))]
     pub fn warm(
         &mut self,
         alloc: Global,
@@ -55,7 +56,7 @@ impl PoolCore {
         moment: Moment,
         request: u32,
     ) -> Result<Reply, OutOfMemory>
-        requires { self.old.alone ≡ true }
+        requires { alone_now self.old ≡ true }
         ensures home { OnOk result (SameHome self.old self.new) }
         ensures answers { IfOk result (λ reply. (h : List Item) → StandsFor self.old h → Answers self.old self.new facts.old.items facts.new.items (record { moment = moment; act = WarmAct request self.old.address }) reply h) }
         ensures err_core { OnErr result (self.new ≡ self.old) }

@@ -52,6 +52,7 @@ impl Model for BodyRedo {
 
 impl Body {
     /// The changes go, and what comes back makes them again. It takes no memory.
+    #[tactic(auto, unfolding(crate::specs::Core::SameKept))]
     pub(crate) fn undo(&mut self, alloc: Global) -> BodyRedo
         ensures now { now_of self.new ≡ pool_of (inner_of self.new) }
         ensures inner { inner_of self.new ≡ inner_of self.old }
@@ -67,6 +68,7 @@ impl Body {
     }
 
     /// The changes stay.
+    #[tactic(auto, unfolding(crate::specs::Core::SameKept))]
     pub(crate) fn commit(&mut self)
         ensures now { now_of self.new ≡ pool_of (inner_of self.new) }
         ensures same { SameKept (now_of self.old) (now_of self.new) }

@@ -1,4 +1,5 @@
 //! The clears of a pool, and why its connections are closed.
+#![tactic(auto, unfolding(crate::specs::Now::queries))]
 
 ghost use Rattle.std.specs.Prelude.{◌≡◌};
 ghost use Rattle.mdb_log.specs.History.{same_service};

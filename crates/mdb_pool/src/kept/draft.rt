@@ -6,7 +6,7 @@ ghost use Rattle.mdb_slots.specs.Keyed.{others, put, swap};
 ghost use Rattle.mdb_slots.specs.Lists.{apart};
 ghost use Rattle.mdb_slots.specs.Sided.{stays};
 ghost use Rattle.mdb_pool.specs.Kept.Keyed.{marked};
-ghost use Rattle.mdb_pool.specs.Kept.Values.{connection_at, first_unclaimed, is_gone, kept_request, kept_requests, request_at};
+ghost use Rattle.mdb_pool.specs.Kept.Values.{connection_at, first_unclaimed, is_gone, kept_request, kept_requests, request_at, with_connections, with_requests};
 ghost use Rattle.mdb_pool.specs.Kept.Places.{is_available, is_done, is_pending, is_queued};
 
 use crate::PoolOptions;
@@ -53,26 +53,26 @@ impl Draft {
     }
 
     pub(crate) fn last(&self) -> Moment
-        ensures { result ≡ self.now.last }
+        ensures { result ≡ self.now.kept.last }
     {
         *self.body.last.get()
     }
 
     pub(crate) fn created(&self) -> u32
-        ensures { result ≡ self.now.created }
+        ensures { result ≡ self.now.kept.created }
     {
         self.body.connections.created()
     }
 
     pub(crate) fn status(&self) -> &Status
-        ensures { result.now ≡ self.now.status }
+        ensures { result.now ≡ self.now.kept.status }
     {
         self.body.status.get()
     }
 
     // How many connections live.
     pub(crate) fn live(&self) -> usize
-        ensures { result ≡ length self.now.connections }
+        ensures { result ≡ length self.now.kept.connections }
     {
         self.body.connections.len()
     }
@@ -80,7 +80,7 @@ impl Draft {
     // How many requests have not left.
     pub(crate) fn asked(&self) -> usize
         ensures value { result ≡ length (kept_requests self.now) }
-        ensures apart { apart (map (λ q. q.number) self.now.requests) ≡ true }
+        ensures apart { apart (map (λ q. q.number) self.now.kept.requests) ≡ true }
     {
         self.body.requests.len()
     }
@@ -99,15 +99,15 @@ impl Draft {
     }
 
     pub(crate) fn set_last(&mut self, moment: Moment)
-        ensures core { self.new ≡ record self.old { last = moment } }
-        ensures inner { self.new.inner ≡ self.old.inner }
+        ensures core { self.new ≡ record self.old { kept = record self.old.kept { last = moment } } }
+        ensures inner { self.new.kept.inner ≡ self.old.kept.inner }
     {
         self.body.last.set(moment);
     }
 
     pub(crate) fn set_status(&mut self, status: Status)
-        ensures core { self.new ≡ record self.old { status = status } }
-        ensures inner { self.new.inner ≡ self.old.inner }
+        ensures core { self.new ≡ record self.old { kept = record self.old.kept { status = status } } }
+        ensures inner { self.new.kept.inner ≡ self.old.kept.inner }
     {
         self.body.status.set(status);
     }
@@ -119,8 +119,8 @@ impl Draft {
         service: Option<ObjectId>,
         timeout: bool,
     ) -> Result<(), OutOfMemory>
-        ensures core { OnOk result (self.new ≡ record self.old { clears = self.old.clears ++ record { service = service; after = self.old.created; timeout = timeout } ∷ [] }) }
-        ensures inner { self.new.inner ≡ self.old.inner }
+        ensures core { OnOk result (self.new ≡ record self.old { kept = record self.old.kept { clears = self.old.kept.clears ++ record { service = service; after = self.old.kept.created; timeout = timeout } ∷ [] } }) }
+        ensures inner { self.new.kept.inner ≡ self.old.kept.inner }
     {
         self.body.connections.clear(alloc, service, timeout)
     }
@@ -128,8 +128,8 @@ impl Draft {
     // The request of this number, which came, is settled.
     pub(crate) fn settle(&mut self, alloc: Global, number: u32) -> Result<(), OutOfMemory>
         requires { is_some (request_at self.old number) ≡ true }
-        ensures core { OnOk result (self.new ≡ record self.old { settled = marked number self.old.settled }) }
-        ensures inner { self.new.inner ≡ self.old.inner }
+        ensures core { OnOk result (self.new ≡ record self.old { kept = record self.old.kept { settled = marked number self.old.kept.settled } }) }
+        ensures inner { self.new.kept.inner ≡ self.old.kept.inner }
     {
         self.body.requests.note(alloc, number)
     }
@@ -137,8 +137,8 @@ impl Draft {
     // A claim is told of the connection, which came first among the pending ones that no claim was told of.
     pub(crate) fn claim(&mut self, connection: &Connection)
         requires { first_unclaimed self.old ≡ Some connection.now }
-        ensures core { self.new ≡ record self.old { claimed = marked connection.now.id self.old.claimed } }
-        ensures inner { self.new.inner ≡ self.old.inner }
+        ensures core { self.new ≡ record self.old { kept = record self.old.kept { claimed = marked connection.now.id self.old.kept.claimed } } }
+        ensures inner { self.new.kept.inner ≡ self.old.kept.inner }
     {
         self.body.connections.claim(connection);
     }
@@ -149,10 +149,10 @@ impl Draft {
         alloc: Global,
         connection: Connection,
     ) -> Result<(), OutOfMemory>
-        requires id { connection.id ≡ self.old.created + 1 }
+        requires id { connection.id ≡ self.old.kept.created + 1 }
         requires pending { is_pending connection.place ≡ true }
-        ensures core { OnOk result (self.new ≡ record self.old { created = connection.id; connections = put (λ x. x.id) connection self.old.connections }) }
-        ensures inner { self.new.inner ≡ self.old.inner }
+        ensures core { OnOk result (self.new ≡ record self.old { kept = record self.old.kept { created = connection.id; connections = put (λ x. x.id) connection self.old.kept.connections } }) }
+        ensures inner { self.new.kept.inner ≡ self.old.kept.inner }
     {
         self.body.connections.create(alloc, connection)
     }
@@ -165,8 +165,8 @@ impl Draft {
     ) -> Result<(), OutOfMemory>
         requires pending { is_pending connection.place ≡ false }
         requires lives { is_some (connection_at self.old connection.id) ≡ true }
-        ensures core { OnOk result (self.new ≡ record self.old { connections = put (λ x. x.id) connection self.old.connections }) }
-        ensures inner { self.new.inner ≡ self.old.inner }
+        ensures core { OnOk result (self.new ≡ with_connections self.old (put (λ x. x.id) connection self.old.kept.connections)) }
+        ensures inner { self.new.kept.inner ≡ self.old.kept.inner }
     {
         self.body.connections.put(alloc, connection)
     }
@@ -179,15 +179,15 @@ impl Draft {
     ) -> Result<(), OutOfMemory>
         requires available { stays (λ x. is_available x.place) connection (connection_at self.old connection.id) ≡ true }
         requires pending { stays (λ x. is_pending x.place) connection (connection_at self.old connection.id) ≡ true }
-        ensures core { OnOk result (self.new ≡ record self.old { connections = swap (λ x. x.id) connection self.old.connections }) }
-        ensures inner { self.new.inner ≡ self.old.inner }
+        ensures core { OnOk result (self.new ≡ with_connections self.old (swap (λ x. x.id) connection self.old.kept.connections)) }
+        ensures inner { self.new.kept.inner ≡ self.old.kept.inner }
     {
         self.body.connections.replace(alloc, connection)
     }
 
     pub(crate) fn remove_connection(&mut self, alloc: Global, id: u32) -> Result<(), OutOfMemory>
-        ensures core { OnOk result (self.new ≡ record self.old { connections = others (λ x. x.id) id self.old.connections }) }
-        ensures inner { self.new.inner ≡ self.old.inner }
+        ensures core { OnOk result (self.new ≡ with_connections self.old (others (λ x. x.id) id self.old.kept.connections)) }
+        ensures inner { self.new.kept.inner ≡ self.old.kept.inner }
     {
         self.body.connections.remove(alloc, id)
     }
@@ -196,9 +196,9 @@ impl Draft {
     pub(crate) fn put_request(&mut self, alloc: Global, request: Request) -> Result<(), OutOfMemory>
         requires fresh { request_at self.old request.number ≡ None }
         requires open { is_done request.phase ≡ false }
-        ensures core { OnOk result (self.new ≡ record self.old { requests = put (λ q. q.number) request self.old.requests }) }
-        ensures unsettled { OnOk result (has request.number self.new.settled ≡ false) }
-        ensures inner { self.new.inner ≡ self.old.inner }
+        ensures core { OnOk result (self.new ≡ with_requests self.old (put (λ q. q.number) request self.old.kept.requests)) }
+        ensures unsettled { OnOk result (has request.number self.new.kept.settled ≡ false) }
+        ensures inner { self.new.kept.inner ≡ self.old.kept.inner }
     {
         self.body.requests.put(alloc, request)
     }
@@ -209,10 +209,10 @@ impl Draft {
         alloc: Global,
         request: Request,
     ) -> Result<(), OutOfMemory>
-        requires there { is_gone self.old.settled (request_at self.old request.number) ≡ false }
+        requires there { is_gone self.old.kept.settled (request_at self.old request.number) ≡ false }
         requires unqueued { is_queued request.phase ≡ false }
-        ensures core { OnOk result (self.new ≡ record self.old { requests = swap (λ q. q.number) request self.old.requests }) }
-        ensures inner { self.new.inner ≡ self.old.inner }
+        ensures core { OnOk result (self.new ≡ with_requests self.old (swap (λ q. q.number) request self.old.kept.requests)) }
+        ensures inner { self.new.kept.inner ≡ self.old.kept.inner }
     {
         self.body.requests.replace(alloc, request)
     }

@@ -118,7 +118,7 @@ impl Draft {
     }
 
     pub(crate) fn timeouts(&self) -> usize
-        ensures { result ≡ timeouts_in self.now.clears }
+        ensures { result ≡ timeouts_in self.now.kept.clears }
     {
         self.body.timeouts()
     }
@@ -132,7 +132,7 @@ impl Draft {
 
     // The available connections in their slots.
     pub(crate) fn available(&self) -> &SlotTable
-        ensures { records_of (listing result.now).items ≡ noted (λ x. x.id) (λ x. x.service) (λ x. x.since) (λ x. is_available x.place) self.now.connections }
+        ensures { records_of (listing result.now).items ≡ noted (λ x. x.id) (λ x. x.service) (λ x. x.since) (λ x. is_available x.place) self.now.kept.connections }
     {
         self.body.connections.left_slots()
     }
@@ -171,7 +171,7 @@ impl Draft {
 
     // How many requests are queued.
     pub(crate) fn queued_count(&self) -> usize
-        ensures { result ≡ count_by (λ q. is_queued q.phase) self.now.requests }
+        ensures { result ≡ count_by (λ q. is_queued q.phase) self.now.kept.requests }
     {
         self.body.requests.queued_count()
     }
@@ -192,7 +192,7 @@ impl Draft {
 
     // The request ended in another way.
     pub(crate) fn is_ended(&self, request: u32) -> bool
-        requires { has request self.now.settled ≡ false }
+        requires { has request self.now.kept.settled ≡ false }
         ensures { result ≡ is_ended_at (request_at self.now request) }
     {
         self.body.is_ended(request)
@@ -200,7 +200,7 @@ impl Draft {
 
     // What the request is told.
     pub(crate) fn outcome(&self, request: u32) -> Result<Reply, OutOfMemory>
-        requires { has request self.now.settled ≡ false }
+        requires { has request self.now.kept.settled ≡ false }
         ensures { IfOk result (λ reply. reply ≡ outcome_now self.now request) }
     {
         self.body.outcome(request)

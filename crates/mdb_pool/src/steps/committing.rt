@@ -11,8 +11,8 @@ use std::alloc::Global;
 impl Draft {
     // The changes go, and the plan makes them again.
     pub(crate) fn undo(&mut self, alloc: Global) -> Plan
-        ensures now { self.new ≡ pool_of self.old.inner }
-        ensures fits { PoolFits result self.old.inner }
+        ensures now { self.new ≡ pool_of self.old.kept.inner }
+        ensures fits { PoolFits result self.old.kept.inner }
         ensures leads { SameKept self.old (led result self.new) }
     {
         let redo = self.body.undo(alloc);
@@ -21,7 +21,7 @@ impl Draft {
 
     // The changes go.
     pub(crate) fn roll_back(&mut self, alloc: Global)
-        ensures { self.new ≡ pool_of self.old.inner }
+        ensures { self.new ≡ pool_of self.old.kept.inner }
     {
         let plan = self.undo(alloc);
         drop(plan);
@@ -29,7 +29,7 @@ impl Draft {
 
     // The changes stay.
     pub(crate) fn commit(&mut self)
-        ensures now { self.new ≡ pool_of self.new.inner }
+        ensures now { self.new ≡ pool_of self.new.kept.inner }
         ensures same { SameKept self.old self.new }
     {
         self.body.commit();

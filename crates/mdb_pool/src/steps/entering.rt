@@ -26,7 +26,7 @@ impl Draft {
         requires passes { refusal_now self.old step.now ≡ None }
         ensures does { IfOk result (λ reply. DoesLogged self.old self.new log.old log.new seat step.now reply) }
         ensures err { OnErr result (log.new ≡ log.old) }
-        ensures inner { self.new.inner ≡ self.old.inner }
+        ensures inner { self.new.kept.inner ≡ self.old.kept.inner }
     {
         let mut facts = Vec::with_capacity(alloc, usual_facts(&step.act))?;
         let reply = self.accept(alloc, &mut facts, step)?;

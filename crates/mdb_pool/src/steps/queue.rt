@@ -25,11 +25,11 @@ impl Draft {
         connection: Connection,
         request: Request,
     ) -> Result<(), OutOfMemory>
-        requires there { is_gone self.old.settled (request_at self.old request.number) ≡ false }
+        requires there { is_gone self.old.kept.settled (request_at self.old request.number) ≡ false }
         requires lives { is_some (connection_at self.old connection.id) ≡ true }
         ensures core { OnOk result (self.new ≡ meeting self.old moment connection request) }
         ensures facts { OnOk result (facts.new.items ≡ facts.old.items ++ meeting_facts self.old moment connection request) }
-        ensures inner { self.new.inner ≡ self.old.inner }
+        ensures inner { self.new.kept.inner ≡ self.old.kept.inner }
     {
         if let Some(reason) = self.perished(moment, connection) {
             self.discard(alloc, facts, connection, reason)
@@ -46,10 +46,10 @@ impl Draft {
         moment: Moment,
         request: Request,
     ) -> Result<(), OutOfMemory>
-        requires there { is_gone self.old.settled (request_at self.old request.number) ≡ false }
+        requires there { is_gone self.old.kept.settled (request_at self.old request.number) ≡ false }
         ensures core { OnOk result (self.new ≡ warming self.old moment request) }
         ensures facts { OnOk result (facts.new.items ≡ facts.old.items ++ warming_facts self.old request) }
-        ensures inner { self.new.inner ≡ self.old.inner }
+        ensures inner { self.new.kept.inner ≡ self.old.kept.inner }
     {
         if self.wants_connection() {
             self.create(alloc, facts, moment, request)
@@ -67,10 +67,10 @@ impl Draft {
         moment: Moment,
     ) -> Result<(), OutOfMemory>
         ensures home { OnOk result (SameHome self.old self.new) }
-        ensures last { OnOk result (self.new.last ≡ self.old.last) }
+        ensures last { OnOk result (self.new.kept.last ≡ self.old.kept.last) }
         ensures notes { OnOk result (SameNotes self.old self.new) }
         ensures serves { OnOk result ((xs : List PoolItem) → Fits self.old xs → Serves self.old self.new moment facts.old.items facts.new.items xs) }
-        ensures inner { self.new.inner ≡ self.old.inner }
+        ensures inner { self.new.kept.inner ≡ self.old.kept.inner }
     {
         if !self.status().is_ready() {
             return Ok(());

@@ -1,4 +1,5 @@
 //! When a pool with these parts refuses a step. Refusals are tested before all else, and take no memory.
+#![tactic(auto, unfolding(crate::specs::Now::queries))]
 
 ghost use Rattle.std.specs.Prelude.{◌≡◌, ℕ, Some, nat_lt, true, if◌then◌else◌, List};
 ghost use Rattle.mdb_pool.specs.Kept.Body.{now_of};

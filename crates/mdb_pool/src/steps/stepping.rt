@@ -37,6 +37,7 @@ impl Draft {
     }
 
     // Does the act of a step that is not refused.
+    #[tactic(auto, unfolding(crate::specs::Now::queries))]
     pub(crate) fn accept(
         &mut self,
         alloc: Global,
@@ -46,9 +47,9 @@ impl Draft {
         requires act { IsPoolAct self.old.pool step.now.act }
         requires passes { refusal_now self.old step.now ≡ None }
         ensures home { OnOk result (SameHome self.old self.new) }
-        ensures last { OnOk result (self.new.last ≡ step.now.moment) }
+        ensures last { OnOk result (self.new.kept.last ≡ step.now.moment) }
         ensures does { IfOk result (λ reply. Does self.old self.new facts.old.items facts.new.items step.now reply) }
-        ensures inner { self.new.inner ≡ self.old.inner }
+        ensures inner { self.new.kept.inner ≡ self.old.kept.inner }
     {
         let moment = step.moment;
         match &step.act {
@@ -90,7 +91,7 @@ impl Draft {
         requires passes { refusal_now self.old step.now ≡ None }
         ensures home { OnOk result (SameHome self.old self.new) }
         ensures answers { IfOk result (λ reply. (h : List Item) → StandsFor self.old h → Answers self.old self.new facts.old.items facts.new.items step.now reply h) }
-        ensures inner { self.new.inner ≡ self.old.inner }
+        ensures inner { self.new.kept.inner ≡ self.old.kept.inner }
     {
         let reply = self.accept(alloc, facts, step)?;
         Ok(reply)
@@ -108,7 +109,7 @@ impl Draft {
         ensures home { OnOk result (SameHome self.old self.new) }
         ensures answers { IfOk result (λ reply. (h : List Item) → StandsFor self.old h → Answers self.old self.new facts.old.items facts.new.items step.now reply h) }
         ensures err { OnErr result (facts.new.items ≡ facts.old.items) }
-        ensures inner { self.new.inner ≡ self.old.inner }
+        ensures inner { self.new.kept.inner ≡ self.old.kept.inner }
     {
         let mut made = Vec::new(alloc);
         let reply = self.perform(alloc, &mut made, step)?;
@@ -134,7 +135,7 @@ impl Draft {
         ensures home { OnOk result (SameHome self.old self.new) }
         ensures logs { OnOk result ((h : List Item) → StandsFor self.old h → Logs self.old self.new log.old log.new seat step.now h) }
         ensures err { OnErr result (log.new ≡ log.old) }
-        ensures inner { self.new.inner ≡ self.old.inner }
+        ensures inner { self.new.kept.inner ≡ self.old.kept.inner }
     {
         let mut facts = Vec::with_capacity(alloc, usual_facts(&step.act))?;
         let reply = self.perform(alloc, &mut facts, step)?;
@@ -143,13 +144,14 @@ impl Draft {
     }
 
     // Answers the step, and does it where it isn't refused.
+    #[tactic(auto, unfolding(crate::specs::Now::queries))]
     pub(crate) fn answer(&mut self, alloc: Global, step: &Step) -> Result<Answered, OutOfMemory>
         requires act { IsPoolAct self.old.pool step.now.act }
         requires new { tells_new self.old step.now.act ≡ true }
         ensures home { OnOk result (SameHome self.old self.new) }
         ensures one { IfOk result (λ answered. DoesOne self.old self.new step.now answered (refusal_now self.old step.now)) }
         ensures answers { IfOk result (λ answered. (h : List Item) → StandsFor self.old h → Answers self.old self.new [] answered.facts step.now answered.reply h) }
-        ensures inner { self.new.inner ≡ self.old.inner }
+        ensures inner { self.new.kept.inner ≡ self.old.kept.inner }
     {
         if let Some(why) = self.refusal_now(step) {
             return Ok(Answered {
@@ -176,7 +178,7 @@ impl Draft {
         ensures home { OnOk result (SameHome self.old self.new) }
         ensures does { IfOk result (λ answers. DoesAll self.old self.new steps.now answers.items) }
         ensures prepared { IfOk result (λ answers. (h : List Item) → StandsFor self.old h → IsPrepared self.old self.new steps.now answers.items h) }
-        ensures inner { self.new.inner ≡ self.old.inner }
+        ensures inner { self.new.kept.inner ≡ self.old.kept.inner }
     {
         let mut answers = Vec::new(alloc);
         for step in steps {
@@ -188,6 +190,7 @@ impl Draft {
 }
 
 impl PoolCore {
+    ghost use Rattle.mdb_pool.specs.Now.{alone_now};
     ghost use Rattle.mdb_pool.specs.Standing.{SameHome, StandsFor, Answers, Logs, Runs, RunsFront};
     ghost use Rattle.mdb_pool.specs.Refusing.{refusal_now, tells_new};
     ghost use Rattle.mdb_pool.specs.Planning.{Passes};
@@ -297,7 +300,7 @@ impl PoolCore {
         seat: u32,
         step: &Step,
     ) -> Result<(), OutOfMemory>
-        requires alone { self.old.alone ≡ true }
+        requires alone { alone_now self.old ≡ true }
         requires act { IsPoolAct self.old.pool step.now.act }
         ensures home { OnOk result (SameHome self.old self.new) }
         ensures logs { OnOk result ((h : List Item) → StandsFor self.old h → Logs self.old self.new log.old log.new seat step.now h) }
@@ -320,7 +323,7 @@ impl PoolCore {
         seat: u32,
         steps: &[Step],
     ) -> Result<(), OutOfMemory>
-        requires alone { self.old.alone ≡ true }
+        requires alone { alone_now self.old ≡ true }
         requires acts { All (λ step. IsPoolAct self.old.pool step.act) steps.now }
         ensures home { SameHome self.old self.new }
         ensures legal { OnOk result ((h : List Item) → StandsFor self.old h → NoneLeftWaiting self.old.options (of_pool self.old.pool h) → Runs self.old self.new log.old log.new seat steps.now h) }

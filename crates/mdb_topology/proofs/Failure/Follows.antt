@@ -22,7 +22,7 @@ use Rattle.mdb_log.specs.Beside.{AllFreshGrants}
 use Rattle.mdb_log.specs.LegalLog.{IsFairAnswer}
 use Rattle.mdb_log.specs.Own.{IsAccepted}
 use Rattle.mdb_pool.specs.Core.{PoolCore}
-use Rattle.mdb_pool.specs.Now.{is_closed_now, is_spent}
+use Rattle.mdb_pool.specs.Now.{is_closed_now, is_spent, last_now}
 use Rattle.mdb_pool.specs.Planning.{Plan, Plans, IsPlanOf}
 use Rattle.mdb_pool.specs.Standing.{SameHome}
 use Rattle.mdb_driver_pools.specs.declared.pool_change.PoolChange.TheVariants.{Alter}
@@ -50,7 +50,7 @@ module _ (w : TopologyCore) (h : List Item) (z : StandsFor w h) (i : ℕ) (s : P
     (told clears asks fails : List Fact) (calm_told : AreCalm told) (calm_asks : AreCalm asks)
     (plan : Plan) (made : IsPlanOf plan s)
     (does : (u : PoolCore) → Plans plan s u → Fails s u m (clears ++ fails) (failed c (service_in at) ∷ of_pool s.pool h))
-    (last_is : (u : PoolCore) → Plans plan s u → u.last ≡ m) (stays : (u : PoolCore) → Plans plan s u → is_closed_now u ≡ is_closed_now s)
+    (last_is : (u : PoolCore) → Plans plan s u → last_now u ≡ m) (stays : (u : PoolCore) → Plans plan s u → is_closed_now u ≡ is_closed_now s)
     (n : Transition) (reply : n.reply ≡ Done) (facts : n.facts.items ≡ told ++ (clears ++ (asks ++ fails))) (changes : n.changes.items ≡ Alter i plan ∷ []) (none : n.monitors.items ≡ []) (nothing : n.monitoring ≡ Same) (goes_on : n.stops ≡ false) where
   abbrev o : Options
   o = w.options
@@ -141,7 +141,7 @@ module _ (w : TopologyCore) (h : List Item) (z : StandsFor w h) (i : ℕ) (s : P
         leads = subst (λ cs. (later : List PoolCore) × LeadsAll cs pools later) (sym changes) (set pools i u, (set pools i u, (s, u, at_i, plans, refl, lives), refl));
         pools = λ later leads. let r = led later leads in subst (λ xs. PoolsStand (pool_options o) xs then) (sym r.2) (subst (PoolsStand (pool_options o) (set pools i r.0)) then-is (failed-stand o pools h z.pools i s r.0 at_i m c at error told clears asks fails calm_told calm_asks (does r.0 r.1)));
         numbers = λ later leads. let r = led later leads in subst (λ xs. length xs ≤ 2 ^ 32) (sym r.2) (subst (λ x. x ≤ 2 ^ 32) (sym (length-set pools i r.0)) z.numbers);
-        early = λ later leads. let r = led later leads in let e : r.0.last ≡ m = last_is r.0 r.1 in subst (All (λ x. x.last ≤ m)) (sym r.2) (All-set (λ x. x.last ≤ m) pools i r.0 (omega (arith, e)) (early-later pools w.pools.last m l z.early));
+        early = λ later leads. let r = led later leads in let e : last_now r.0 ≡ m = last_is r.0 r.1 in subst (All (λ x. last_now x ≤ m)) (sym r.2) (All-set (λ x. last_now x ≤ m) pools i r.0 (omega (arith, e)) (early-later pools w.pools.last m l z.early));
         each_opened = rw (none, changes) refl;
         placed = rw nothing tt;
         monitors = rw nothing monitors-fit;

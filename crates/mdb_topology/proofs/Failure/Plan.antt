@@ -18,7 +18,7 @@ use Rattle.mdb_log.specs.Own.{shuts}
 use Rattle.mdb_pool.specs.Core.{PoolCore}
 use Rattle.mdb_pool_rules.specs.Answer.{all_facts}
 use Rattle.mdb_pool_rules.specs.Facts.{clear_facts}
-use Rattle.mdb_pool.specs.Now.{is_closed_now}
+use Rattle.mdb_pool.specs.Now.{is_closed_now, last_now}
 use Rattle.mdb_pool.specs.Planning.{Plan, Plans, IsPlanOf, IsDone}
 use Rattle.mdb_pool_rules.specs.Quiet.{IsQuiet}
 use Rattle.mdb_pool_rules.specs.Serving.{IsServed}
@@ -71,7 +71,7 @@ module _ (o : Options) (h : List Item) (s : PoolCore) (fits : Fits s (of_pool s.
     pub plan : Plan
     pub made : IsPlanOf plan s
     pub does : (u : PoolCore) → Plans plan s u → Fails s u m (clears b ++ fails b) ws
-    pub last_is : (u : PoolCore) → Plans plan s u → u.last ≡ m
+    pub last_is : (u : PoolCore) → Plans plan s u → last_now u ≡ m
     pub stays : (u : PoolCore) → Plans plan s u → is_closed_now u ≡ is_closed_now s
     pub told : after ≡ before ++ (clears b ++ (asked_of asked b s.address ++ fails b))
     pub changes_are : changes ≡ Alter i plan ∷ []

@@ -14,6 +14,7 @@ use Rattle.mdb_log.specs.Opening.{pool_options}
 use Rattle.mdb_log.proofs.Numbers.{same-number}
 use Rattle.mdb_log.proofs.Frame.{other-number}
 use Rattle.mdb_pool.specs.Core.{PoolCore}
+use Rattle.mdb_pool.specs.Now.{last_now}
 use Rattle.mdb_pool_rules.specs.Refusal.{first_row}
 use Rattle.mdb_pool.specs.Refusing.{is_pending_here, rows_now, refusal_now}
 use Rattle.mdb_topology.specs.declared.topology.TopologyCore.{TopologyCore}
@@ -60,8 +61,8 @@ module _ (w : TopologyCore) (h : List Item) (z : StandsFor w h) (m : ℕ) (l : w
   pub failed-nowhere : (q c : ℕ) (at : FailedAt) (error : Error) → numbered w.pools.cores.items q ≡ None → refusal w.options h (failing m q c at error) ≡ Some NotPending
   failed-nowhere q c at error e = rw (in-time w h z m l, rows-nowhere w.options w.pools.cores.items h z.pools.fit q c at error e) refl
 
-  pub not-late : (i : ℕ) (s : PoolCore) → slice_get w.pools.cores.items i ≡ Some s → nat_lt m s.last ≡ false
-  not-late i s at_i = let early : s.last ≤ m = all-at (λ (s : PoolCore). s.last ≤ m) w.pools.cores.items i s (early-later w.pools.cores.items w.pools.last m l z.early) at_i in grind (arith, nat_tests)
+  pub not-late : (i : ℕ) (s : PoolCore) → slice_get w.pools.cores.items i ≡ Some s → nat_lt m (last_now s) ≡ false
+  not-late i s at_i = let early : last_now s ≤ m = all-at (λ (s : PoolCore). last_now s ≤ m) w.pools.cores.items i s (early-later w.pools.cores.items w.pools.last m l z.early) at_i in grind (arith, nat_tests)
 
   module _ (i : ℕ) (s : PoolCore) (at_i : slice_get w.pools.cores.items i ≡ Some s) (c : ℕ) (at : FailedAt) (error : Error) where
     pub failed-rows : first_refusal w.options h (failing m s.pool c at error) ≡ refusal_now s (failing m s.pool c at error)

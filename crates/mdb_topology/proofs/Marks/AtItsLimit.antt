@@ -16,7 +16,7 @@ use Rattle.mdb_log.specs.declared.step.Step.{Step}
 use Rattle.mdb_log.specs.History.{Item}
 use Rattle.mdb_describe.proofs.Addresses.{same-address}
 use Rattle.mdb_pool.specs.Core.{PoolCore}
-use Rattle.mdb_pool.specs.Now.{clears_now, exhausted_now, is_closed_now}
+use Rattle.mdb_pool.specs.Now.{clears_now, exhausted_now, is_closed_now, last_now}
 use Rattle.mdb_pool_rules.specs.Refusal.{wrong_service}
 use Rattle.mdb_pool.specs.Refusing.{refusal_now}
 use Rattle.mdb_topology.specs.declared.topology.TopologyCore.{TopologyCore}
@@ -65,8 +65,8 @@ module _ (w : TopologyCore) (st : StandsForSome w) (i : ℕ) (s : PoolCore) (the
   module _ (m : ℕ) (l : w.pools.last ≤ m) (service : Option ObjectId) (error : Error) (fit : wrong_service w.options.load_balanced service ≡ false) where
     pub clear-refused : refusal_now s (step_of m (clear_act service error) s.pool) ≡ (if exhausted_now s service then Some (Exhausted Generation) else None)
     clear-refused =
-        let early : s.last ≤ m = all-at (λ (s : PoolCore). s.last ≤ m) pools i s (early-later pools w.pools.last m l st.1.early) there in
-        let late : nat_lt m s.last ≡ false = grind (arith, nat_tests) in
+        let early : last_now s ≤ m = all-at (λ (s : PoolCore). last_now s ≤ m) pools i s (early-later pools w.pools.last m l st.1.early) there in
+        let late : nat_lt m (last_now s) ≡ false = grind (arith, nat_tests) in
         let mode : wrong_service s.options.load_balanced service ≡ false = ap (λ p. wrong_service p.load_balanced service) (st.1.pools.fit.each i s there).options ∙ fit in
         rw (late, mode) refl
 

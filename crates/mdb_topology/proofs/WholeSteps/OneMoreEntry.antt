@@ -28,6 +28,7 @@ use Rattle.mdb_log.specs.Beside.{AllFreshGrants, EntriesGrantFresh}
 use Rattle.mdb_log.proofs.Frame.{acts-facts}
 use Rattle.mdb_log.proofs.Later.{with_answer-accepted, with_entries-append}
 use Rattle.mdb_pool.specs.Core.{PoolCore}
+use Rattle.mdb_pool.specs.Now.{last_now}
 use Rattle.mdb_topology.specs.declared.topology.TopologyCore.{TopologyCore}
 use Rattle.mdb_topology.specs.declared.transition.Transition.{Transition}
 use Rattle.mdb_driver_rules.specs.Answer.{answer, answered}
@@ -128,7 +129,7 @@ taken-logs w v log after seat step h n z e f entered =
           still-watched w v step h n z e p lives (still-lives n.changes.items w.pools.cores.items later p f.leads.1 (subst (λ (xs : List PoolCore). lives_at xs p ≡ true) (sym cores) lives))
           (as-many v.options v.pools.cores.items v.monitors.items k pools_stand.fit monitors_fit);
       numbers = subst (λ xs. length xs ≤ 2 ^ 32) cores (f.numbers later f.leads.1);
-      early = rw e.last (subst (All (λ s. s.last ≤ step.moment)) cores (f.early later f.leads.1));
+      early = rw e.last (subst (All (λ s. last_now s ≤ step.moment)) cores (f.early later f.leads.1));
     } in
     record {
       entry = entered ∙ ap (λ a. log ++ record { seat = seat; step = step; reply = a.reply; facts = a.facts } ∷ []) (sym f.answer_is);

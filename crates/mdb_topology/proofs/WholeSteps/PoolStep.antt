@@ -20,7 +20,7 @@ use Rattle.mdb_log.specs.Opening.{pool_options}
 use Rattle.mdb_log.specs.Requests.{names_party}
 use Rattle.mdb_log.proofs.Later.{with_answer-accepted}
 use Rattle.mdb_pool.specs.Core.{PoolCore}
-use Rattle.mdb_pool.specs.Now.{is_spent}
+use Rattle.mdb_pool.specs.Now.{is_spent, last_now}
 use Rattle.mdb_pool.specs.Planning.{IsDone}
 use Rattle.mdb_pool.specs.Standing.{SameHome}
 use Rattle.mdb_topology.specs.declared.topology.TopologyCore.{TopologyCore}
@@ -146,11 +146,11 @@ module _ (w v : TopologyCore) (h : List Item) (z : StandsFor w h) (step : Step) 
       (subst (λ b. Counts o step.moment w.published w.fresh b v.watchers k) (sym e.stopped)
       (subst (λ ws. Counts o step.moment w.published w.fresh w.stopped ws k) (sym e.watchers) counted)))))
 
-  early-then : All (λ (x : PoolCore). x.last ≤ v.pools.last) v.pools.cores.items
+  early-then : All (λ (x : PoolCore). last_now x ≤ v.pools.last) v.pools.cores.items
   early-then =
-      subst (λ (n : ℕ). All (λ (x : PoolCore). x.last ≤ n) v.pools.cores.items) (sym e.last)
-      (subst (All (λ (x : PoolCore). x.last ≤ step.moment)) (sym cores-are)
-      (All-set (λ x. x.last ≤ step.moment) pools i t (let d : t.last ≡ step.moment = done.last in omega (arith, d)) (early-later pools w.pools.last step.moment l z.early)))
+      subst (λ (n : ℕ). All (λ (x : PoolCore). last_now x ≤ n) v.pools.cores.items) (sym e.last)
+      (subst (All (λ (x : PoolCore). last_now x ≤ step.moment)) (sym cores-are)
+      (All-set (λ x. last_now x ≤ step.moment) pools i t (let d : last_now t ≡ step.moment = done.last in omega (arith, d)) (early-later pools w.pools.last step.moment l z.early)))
 
   stands : StandsFor v k
   stands = record {

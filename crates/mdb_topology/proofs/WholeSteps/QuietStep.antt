@@ -14,6 +14,7 @@ use Rattle.mdb_log.specs.Homes.{homes}
 use Rattle.mdb_log.specs.Opening.{pool_options}
 use Rattle.mdb_log.specs.Own.{IsAccepted}
 use Rattle.mdb_pool.specs.Core.{PoolCore}
+use Rattle.mdb_pool.specs.Now.{last_now}
 use Rattle.mdb_topology.specs.declared.topology.TopologyCore.{TopologyCore}
 use Rattle.mdb_topology.specs.declared.transition.Transition.{Transition}
 use Rattle.mdb_topology.specs.declared.monitors.monitoring.Monitoring.TheVariants.{Same}
@@ -107,7 +108,7 @@ module _ (w : TopologyCore) (h : List Item) (z : StandsFor w h) (step : Step) (l
       leads = rw changes (pools, refl);
       pools = λ later leads. let e : later ≡ pools = subst (λ cs. LeadsAll cs pools later) changes leads in subst (λ xs. PoolsStand (pool_options o) xs (with_answer step n.reply n.facts.items h)) (sym e) (rw (reply, facts) r.stands);
       numbers = λ later leads. let e : later ≡ pools = subst (λ cs. LeadsAll cs pools later) changes leads in subst (λ xs. length xs ≤ 2 ^ 32) (sym e) z.numbers;
-      early = λ later leads. let e : later ≡ pools = subst (λ cs. LeadsAll cs pools later) changes leads in subst (All (λ s. s.last ≤ step.moment)) (sym e) (early-later pools w.pools.last step.moment l z.early);
+      early = λ later leads. let e : later ≡ pools = subst (λ cs. LeadsAll cs pools later) changes leads in subst (All (λ s. last_now s ≤ step.moment)) (sym e) (early-later pools w.pools.last step.moment l z.early);
       each_opened = rw (none, changes) refl;
       placed = rw nothing tt;
       monitors = rw nothing (subst (MonitorsFit o (w.monitors.items ++ n.monitors.items)) (sym k-is) monitors-fit);

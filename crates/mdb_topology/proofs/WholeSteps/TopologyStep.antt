@@ -18,6 +18,7 @@ use Rattle.mdb_log.specs.Homes.{homes}
 use Rattle.mdb_log.specs.Opening.{pool_options}
 use Rattle.mdb_log.proofs.Later.{with_answer-accepted}
 use Rattle.mdb_pool.specs.Core.{PoolCore}
+use Rattle.mdb_pool.specs.Now.{last_now}
 use Rattle.mdb_topology.specs.declared.topology.TopologyCore.{TopologyCore}
 use Rattle.mdb_topology.specs.declared.transition.Transition.{Transition}
 use Rattle.mdb_driver_rules.specs.Homes.{begun}
@@ -69,7 +70,7 @@ telling-quiet o h Do.Stop c = refl
 telling-quiet o h _ c = elim c [ ]
 
 -- all of the earlier moment are of the later
-pub early-later : (pools : List PoolCore) (l m : ℕ) → l ≤ m → All (λ s. s.last ≤ l) pools → All (λ s. s.last ≤ m) pools
+pub early-later : (pools : List PoolCore) (l m : ℕ) → l ≤ m → All (λ s. last_now s ≤ l) pools → All (λ s. last_now s ≤ m) pools
 early-later pools l m le all i d within = let e : _ ≤ l = all i d within in omega arith
 
 pub known-applied : (rule : Option Rule) (t : TopologyDescription) → applied rule t ≡ unwrap_or (known_after rule t) t

@@ -20,7 +20,8 @@ fn is_outdated(pool: &PoolCore, id: u32) -> bool
         Some(ConnectionGeneration::LoadBalanced(Some(own))) => {
             own.generation != pool.generation(Some(own.service_id))
         }
-        _ => false,
+        Some(ConnectionGeneration::LoadBalanced(None)) => false,
+        None => false,
     }
 }
 

@@ -4,6 +4,7 @@ use Rattle.std.proofs.lemmas.Bool.{or_right}
 use Rattle.mdb_log.specs.Acts.{IsPoolAct}
 use Rattle.mdb_log.specs.declared.step.Step.{Step}
 use Rattle.mdb_pool.specs.Planning.{LeadsTo}
+use Rattle.mdb_pool.specs.Now.{alone_now}
 use Rattle.mdb_pool.specs.Refusing.{names_nobody, TellsNew}
 use Rattle.mdb_pool.proofs.Answered.NewParties.{named_tells}
 use Rattle.mdb_driver_pools.proofs.InMemory.LivingPools.{some-living}
@@ -21,7 +22,7 @@ pub prepare-requires-clause-new : goal.prepare-requires-clause-new
 prepare-requires-clause-new c =
     let steps : c.deref.result.now ≡ c.args.first ∷ c.args.second.now ∷ [] =
     c.deref.ensures.value ∙ (c.in_ok-push-2.ensures.items ∙ (ap (λ xs. xs ++ c.in_ok-second.second ∷ []) (c.in_ok-push.ensures.items ∙ ap (λ xs. xs ++ c.args.first ∷ []) c.new-steps.ensures.items) ∙ ap (λ x. c.args.first ∷ x ∷ []) c.in_ok-second.ensures.cases)) in
-    λ s at. subst (TellsNew s) (sym steps) (named_tells s c.args.first.act c.requires.nobody.0, (or_right s.alone (names_nobody c.args.second.now.act) c.requires.nobody.1, tt))
+    λ s at. subst (TellsNew s) (sym steps) (named_tells s c.args.first.act c.requires.nobody.0, (or_right (alone_now s) (names_nobody c.args.second.now.act) c.requires.nobody.1, tt))
 
 pub unreachable-requires : goal.unreachable-requires
 unreachable-requires c =

@@ -9,18 +9,21 @@ use Rattle.mdb_pool.specs.Planning.{LeadsTo, IsPrepared, Plans, IsPlanOf}
 use Rattle.mdb_pool.proofs.planning.prepare.Goals as goal
 
 pub returns-clause-plan : goal.returns-clause-plan
+unfolding Plans
 returns-clause-plan c =
     let s = c.args.pool.now in let r = c.answered_all.result in let same : c.answered_all.new.self ≡ s = c.answered_all.ensures.same ∙ c.pool.view_is in
     subst (λ (p : PoolCore). IfOk r (λ made. IsPlanOf made.1 p)) (sym same)
-    (IfOk-weaker r (λ made. PoolFits made.1 s.inner) (λ made. IsPlanOf made.1 s) (λ made fits. (led made.1 s, (fits, refl))) (subst (λ (p : PoolCore). IfOk r (λ made. PoolFits made.1 p.inner)) c.pool.view_is c.answered_all.ensures.fits))
+    (IfOk-weaker r (λ made. PoolFits made.1 s.kept.inner) (λ made. IsPlanOf made.1 s) (λ made fits. (led made.1 s, (fits, refl))) (subst (λ (p : PoolCore). IfOk r (λ made. PoolFits made.1 p.kept.inner)) c.pool.view_is c.answered_all.ensures.fits))
 
 pub returns-clause-does : goal.returns-clause-does
+unfolding Plans
 returns-clause-does c =
     let s = c.args.pool.now in let r = c.answered_all.result in let same : c.answered_all.new.self ≡ s = c.answered_all.ensures.same ∙ c.pool.view_is in let steps = c.args.steps.now in
     subst (λ (p : PoolCore). IfOk r (λ made. (t : PoolCore) → Plans made.1 p t → LeadsTo s t steps made.0.items)) (sym same)
     (IfOk-weaker r (λ made. LeadsTo s (led made.1 s) steps made.0.items) (λ made. (t : PoolCore) → Plans made.1 s t → LeadsTo s t steps made.0.items) (λ made d t p. subst (λ (u : PoolCore). LeadsTo s u steps made.0.items) p.1 d) (subst (λ (p : PoolCore). IfOk r (λ made. LeadsTo p (led made.1 p) steps made.0.items)) c.pool.view_is c.answered_all.ensures.does))
 
 pub returns-clause-prepared : goal.returns-clause-prepared
+unfolding Plans
 returns-clause-prepared c =
     let s = c.args.pool.now in let r = c.answered_all.result in let same : c.answered_all.new.self ≡ s = c.answered_all.ensures.same ∙ c.pool.view_is in let steps = c.args.steps.now in
     subst (λ (p : PoolCore). IfOk r (λ made. (t : PoolCore) (h : List Item) → Plans made.1 p t → StandsFor s h → IsPrepared s t steps made.0.items h)) (sym same)

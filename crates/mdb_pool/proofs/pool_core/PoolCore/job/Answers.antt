@@ -3,6 +3,7 @@ use Rattle.mdb_base.specs.declared.address.ServerAddress.{ServerAddress}
 use Rattle.mdb_log.specs.declared.generation.PoolGeneration.{PoolGeneration}
 use Rattle.mdb_log.specs.declared.job.Job.{Job}
 use Rattle.mdb_log.specs.Connections.{has, pending_list}
+use Rattle.mdb_pool.specs.Now.{queries}
 use Rattle.mdb_pool.specs.Kept.Values.{connection_at, is_pending_at}
 use Rattle.mdb_pool.proofs.Told.OfItems.{pending-now}
 use Rattle.mdb_pool.proofs.KeptInLittle.ConnectionsThatLive.{pending_lives}
@@ -15,17 +16,20 @@ same-job : (p q id : ℕ) (a b : ServerAddress) (g k : PoolGeneration) → p ≡
 same-job p q id a b g k e f h = rw (e, f, h) refl
 
 pub generations_before-requires : goal.generations_before-requires
+unfolding queries
 generations_before-requires c =
     let kept : c.is_pending.result ≡ is_pending_at (connection_at c.args.self.now c.args.id) = search rules in
     pending_lives c.args.self.now c.args.id (sym kept ∙ c.if-not-is_pending.false)
 
 pub returns-then-not-is_pending : goal.returns-then-not-is_pending
+unfolding queries
 returns-then-not-is_pending c = λ xs z.
     let kept : c.is_pending.result ≡ is_pending_at (connection_at c.args.self.now c.args.id) = search rules in
     let none : has c.args.id (pending_list xs) ≡ false = sym (kept ∙ pending-now c.args.self.now xs z c.args.id) ∙ c.if-not-is_pending.true in
     rw none refl
 
 pub returns : goal.returns
+unfolding queries
 returns c = λ xs z.
     let kept : c.is_pending.result ≡ is_pending_at (connection_at c.args.self.now c.args.id) = search rules in
     let s = c.args.self.now in

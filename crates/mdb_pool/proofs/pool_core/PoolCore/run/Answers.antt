@@ -3,6 +3,7 @@ use Rattle.std.proofs.lemmas.Grind.{common_steps}
 use Rattle.mdb_log.specs.Acts.{IsPoolAct}
 use Rattle.mdb_log.specs.declared.step.Step.{Step}
 use Rattle.mdb_log.specs.declared.log.Entry.{Entry}
+use Rattle.mdb_pool.specs.Now.{queries}
 use Rattle.mdb_pool.specs.Core.{PoolCore}
 use Rattle.mdb_pool.specs.Standing.{SameHome, Runs}
 use Rattle.mdb_pool.proofs.Answered.Steps.{on-error}
@@ -23,6 +24,7 @@ loop-step-preserved c =
     }
 
 pub step-requires-clause-alone : goal.step-requires-clause-alone
+unfolding queries
 step-requires-clause-alone c = c.loop-step.invariant.home.alone ∙ c.requires.alone
 
 pub step-requires-clause-act : goal.step-requires-clause-act

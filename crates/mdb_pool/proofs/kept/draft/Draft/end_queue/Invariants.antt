@@ -10,12 +10,12 @@ use Rattle.mdb_pool.proofs.kept.draft.Draft.end_queue.Given as goal
 
 abbrev pub invariant-loop-request : goal.invariant-loop-request
 invariant-loop-request l = record {
-  last : l.self.last ≡ l.initial.self.last;
+  last : l.self.kept.last ≡ l.initial.self.kept.last;
   home : SameHome l.initial.self l.self;
-  inner : l.self.inner ≡ l.initial.self.inner;
+  inner : l.self.kept.inner ≡ l.initial.self.kept.inner;
   notes : SameNotes l.initial.self l.self;
   ends : (xs : List PoolItem) → Fits l.initial.self xs → Ending l.initial.self l.self l.moment (Cleared l.cause) l.initial.facts.items l.facts.items xs;
 }
 
 abbrev pub decreases-loop-request : goal.decreases-loop-request
-decreases-loop-request l = length (numbers_where is_queued l.self.requests)
+decreases-loop-request l = length (numbers_where is_queued l.self.kept.requests)

@@ -7,12 +7,12 @@ use Rattle.mdb_pool.proofs.kept.draft.Draft.fill.Given as goal
 
 abbrev pub invariant-loop-alloc : goal.invariant-loop-alloc
 invariant-loop-alloc l = record {
-  last : l.self.last ≡ l.initial.self.last;
+  last : l.self.kept.last ≡ l.initial.self.kept.last;
   home : SameHome l.initial.self l.self;
-  inner : l.self.inner ≡ l.initial.self.inner;
+  inner : l.self.kept.inner ≡ l.initial.self.kept.inner;
   notes : SameNotes l.initial.self l.self;
   fills : (xs : List PoolItem) → Fits l.initial.self xs → Filling l.initial.self l.self l.moment l.initial.facts.items l.facts.items xs;
 }
 
 abbrev pub decreases-loop-alloc : goal.decreases-loop-alloc
-decreases-loop-alloc l = l.self.options.limit_id - l.self.created
+decreases-loop-alloc l = l.self.options.limit_id - l.self.kept.created

@@ -44,10 +44,10 @@ loop-request-preserved c = record {
 }
 
 pub returns-else-has_room-clause-serves : goal.returns-else-has_room-clause-serves
-returns-else-has_room-clause-serves c = λ h z. ends-full c.args.self.now c.loop-request.self c.loop-request.invariant.home c.args.moment c.args.facts.now.items c.loop-request.facts.items h (c.loop-request.invariant.serves h z) c.in_ok-request.request (ready-status c.loop-request.self.status c.loop-request.invariant.ready) (sym c.in-Some.ensures ∙ ap Some (sym c.in_ok-request.ensures)) c.if-request.false (sym c.in_default-last_available.ensures) (sym c.has_room.ensures ∙ c.if-has_room.false)
+returns-else-has_room-clause-serves c = λ h z. ends-full c.args.self.now c.loop-request.self c.loop-request.invariant.home c.args.moment c.args.facts.now.items c.loop-request.facts.items h (c.loop-request.invariant.serves h z) c.in_ok-request.request (ready-status c.loop-request.self.kept.status c.loop-request.invariant.ready) (sym c.in-Some.ensures ∙ ap Some (sym c.in_ok-request.ensures)) c.if-request.false (sym c.in_default-last_available.ensures) (sym c.has_room.ensures ∙ c.if-has_room.false)
 
 pub returns-in_default-clause-serves : goal.returns-in_default-clause-serves
-returns-in_default-clause-serves c = λ h z. ends-empty c.args.self.now c.loop-request.self c.loop-request.invariant.home c.args.moment c.args.facts.now.items c.loop-request.facts.items h (c.loop-request.invariant.serves h z) (ready-status c.loop-request.self.status c.loop-request.invariant.ready) (sym c.in_default.ensures)
+returns-in_default-clause-serves c = λ h z. ends-empty c.args.self.now c.loop-request.self c.loop-request.invariant.home c.args.moment c.args.facts.now.items c.loop-request.facts.items h (c.loop-request.invariant.serves h z) (ready-status c.loop-request.self.kept.status c.loop-request.invariant.ready) (sym c.in_default.ensures)
 
 pub returns-then-not-is_ready-clause-serves : goal.returns-then-not-is_ready-clause-serves
 returns-then-not-is_ready-clause-serves c = λ h z. serves-nothing c.args.self.now c.args.moment c.args.facts.now.items h z (sym (c.is_ready.ensures ∙ ap is_ready_now c.status.ensures) ∙ c.if-not-is_ready.true)

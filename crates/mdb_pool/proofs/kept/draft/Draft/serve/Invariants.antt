@@ -8,11 +8,11 @@ use Rattle.mdb_pool.proofs.kept.draft.Draft.serve.Given as goal
 
 abbrev pub invariant-loop-request : goal.invariant-loop-request
 invariant-loop-request l = record {
-  last : l.self.last ≡ l.initial.self.last;
+  last : l.self.kept.last ≡ l.initial.self.kept.last;
   home : SameHome l.initial.self l.self;
-  inner : l.self.inner ≡ l.initial.self.inner;
+  inner : l.self.kept.inner ≡ l.initial.self.kept.inner;
   notes : SameNotes l.initial.self l.self;
-  ready : is_ready_now l.self.status ≡ true;
+  ready : is_ready_now l.self.kept.status ≡ true;
   serves : (xs : List PoolItem) → Fits l.initial.self xs → Progress l.initial.self l.self l.moment l.initial.facts.items l.facts.items xs;
 }
 

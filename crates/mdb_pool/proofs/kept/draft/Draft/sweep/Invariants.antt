@@ -9,12 +9,12 @@ use Rattle.mdb_pool.proofs.kept.draft.Draft.sweep.Given as goal
 
 abbrev pub invariant-loop-connection : goal.invariant-loop-connection
 invariant-loop-connection l = record {
-  last : l.self.last ≡ l.initial.self.last;
+  last : l.self.kept.last ≡ l.initial.self.kept.last;
   home : SameHome l.initial.self l.self;
-  inner : l.self.inner ≡ l.initial.self.inner;
+  inner : l.self.kept.inner ≡ l.initial.self.kept.inner;
   notes : SameNotes l.initial.self l.self;
   sweeps : (xs : List PoolItem) → Fits l.initial.self xs → Sweeping l.initial.self l.self l.moment l.initial.facts.items l.facts.items xs;
 }
 
 abbrev pub decreases-loop-connection : goal.decreases-loop-connection
-decreases-loop-connection l = length (ids_where is_available l.self.connections)
+decreases-loop-connection l = length (ids_where is_available l.self.kept.connections)

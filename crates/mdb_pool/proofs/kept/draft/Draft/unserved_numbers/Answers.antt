@@ -15,7 +15,7 @@ loop-next-init c =
 pub loop-next-smaller : goal.loop-next-smaller
 loop-next-smaller c =
     let s = c.args.self.now in let l = c.loop-next in
-    back-less (λ q. q.number) (λ q. unserved_in s q.phase) (kept_requests s) c.unserved_count-missing.result l.missing l.numbers.items (option_copied l.next) l.invariant (kept-apart s.settled s.requests c.asked-requests.ensures.apart) c.in-Some.q.now (ap option_copied c.in-Some.is)
+    back-less (λ q. q.number) (λ q. unserved_in s q.phase) (kept_requests s) c.unserved_count-missing.result l.missing l.numbers.items (option_copied l.next) l.invariant (kept-apart s.kept.settled s.kept.requests c.asked-requests.ensures.apart) c.in-Some.q.now (ap option_copied c.in-Some.is)
     (option_copied c.previous_request-next.result) c.previous_request-next.ensures
 
 pub loop-next-preserved : goal.loop-next-preserved
@@ -24,10 +24,10 @@ loop-next-preserved c =
     let some : 0 < l.missing = omega (arith, c.if-missing-eq0.false) in
     elim c.if-is_unserved.branch [
       | then-is_unserved+in_ok-push w ↦ rw (w.missing-is, w.numbers-is, w.in_ok-push.ensures.items)
-          (back-finds (λ q. q.number) (λ q. unserved_in s q.phase) (kept_requests s) n l.missing l.numbers.items (option_copied l.next) l.invariant (kept-apart s.settled s.requests c.asked-requests.ensures.apart) c.in-Some.q.now (ap option_copied c.in-Some.is) next c.previous_request-next.ensures
+          (back-finds (λ q. q.number) (λ q. unserved_in s q.phase) (kept_requests s) n l.missing l.numbers.items (option_copied l.next) l.invariant (kept-apart s.kept.settled s.kept.requests c.asked-requests.ensures.apart) c.in-Some.q.now (ap option_copied c.in-Some.is) next c.previous_request-next.ensures
           (sym c.is_unserved.ensures ∙ w.if-is_unserved.true) some)
       | else-is_unserved w ↦ rw (w.missing-is, w.numbers-is)
-          (back-passes (λ q. q.number) (λ q. unserved_in s q.phase) (kept_requests s) n l.missing l.numbers.items (option_copied l.next) l.invariant (kept-apart s.settled s.requests c.asked-requests.ensures.apart) c.in-Some.q.now (ap option_copied c.in-Some.is) next c.previous_request-next.ensures
+          (back-passes (λ q. q.number) (λ q. unserved_in s q.phase) (kept_requests s) n l.missing l.numbers.items (option_copied l.next) l.invariant (kept-apart s.kept.settled s.kept.requests c.asked-requests.ensures.apart) c.in-Some.q.now (ap option_copied c.in-Some.is) next c.previous_request-next.ensures
           (sym c.is_unserved.ensures ∙ w.if-is_unserved.false))
     ]
 
