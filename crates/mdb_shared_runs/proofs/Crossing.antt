@@ -38,13 +38,13 @@ module _ (C : RattleType) (g : Core.Ghosts C.Denot) where
   pub played_crosses : IsSend C → IsSend (Played.the_row C g)
   played_crosses s = recorded_send (Played.the_field C g).row _ _ (Played.the_type C g).to_one (struct_send (shape (Played.the_type C g)) (seat_crosses C g s, (search (memory, crosses, sendable) depth 20, tt)))
 
-  -- the closure that plays a player has the runtime, the allocator, the count of players, the gate, the driver and the steps
+  -- the closure that plays a player has the count of players, the steps, the gate, the runtime, the allocator and the driver
   pub closure_lends : (ν : Sym) (R G S : RattleType) (ℓ ℓ₁ ℓ₂ ℓ₃ : Lifetime) (κ κ₁ κ₂ κ₃ : Lft) → IsSend C → IsSync R → IsSync G → IsSync S
-      → IsSync (TupleAt ν (ShrRef ℓ κ R ∷ Heap.the_row ∷ u32 ∷ ShrRef ℓ₁ κ₁ G ∷ ShrRef ℓ₂ κ₂ (Driver.the_row C g) ∷ ShrSlice ℓ₃ κ₃ S ∷ []))
+      → IsSync (TupleAt ν (u32 ∷ ShrSlice ℓ₃ κ₃ S ∷ ShrRef ℓ₁ κ₁ G ∷ ShrRef ℓ κ R ∷ Heap.the_row ∷ ShrRef ℓ₂ κ₂ (Driver.the_row C g) ∷ []))
   closure_lends ν R G S ℓ ℓ₁ ℓ₂ ℓ₃ κ κ₁ κ₂ κ₃ c r a s =
-      let T = type_at ν (ShrRef ℓ κ R ∷ Heap.the_row ∷ u32 ∷ ShrRef ℓ₁ κ₁ G ∷ ShrRef ℓ₂ κ₂ (Driver.the_row C g) ∷ ShrSlice ℓ₃ κ₃ S ∷ []) in
+      let T = type_at ν (u32 ∷ ShrSlice ℓ₃ κ₃ S ∷ ShrRef ℓ₁ κ₁ G ∷ ShrRef ℓ κ R ∷ Heap.the_row ∷ ShrRef ℓ₂ κ₂ (Driver.the_row C g) ∷ []) in
       recorded_sync (field T).row _ _ T.to_one
-      (struct_sync (shape T) (shr_sync ℓ κ R r, (heap, (number_lends, (shr_sync ℓ₁ κ₁ G a, (shr_sync ℓ₂ κ₂ (Driver.the_row C g) (driver_lends C g c), (shr_slice_sync ℓ₃ κ₃ S s, tt)))))))
+      (struct_sync (shape T) (number_lends, (shr_slice_sync ℓ₃ κ₃ S s, (shr_sync ℓ₁ κ₁ G a, (shr_sync ℓ κ R r, (heap, (shr_sync ℓ₂ κ₂ (Driver.the_row C g) (driver_lends C g c), tt)))))))
 
 -- for `search`: where the core may cross, players do
 pub ruleset players = (part_crosses, crosses, sendable)

@@ -12,6 +12,14 @@ use mdb_shared::{Seat, SharedDriver};
 use std::alloc::Global;
 use std::sync::Wait;
 
+/// The lines of a script that players share: how many players there are, the steps, each of one player, and the gate that a player calls before each of its own.
+#[derive(Clone, Copy)]
+pub(crate) struct SharedLines<'a, G: LineGate> {
+    pub(crate) players: u32,
+    pub(crate) steps: &'a [Step],
+    pub(crate) gate: &'a G,
+}
+
 /// A player has a number, and the seat of this number.
 #[derive(Drop)]
 pub struct Player<C: Core> {
@@ -49,25 +57,23 @@ fn play_line<C: Core, R: Wait>(
 fn play_lines<C: Core, R: Wait, G: LineGate>(
     rt: &R,
     alloc: Global,
-    players: u32,
-    gate: &G,
+    lines: SharedLines<G>,
     driver: &SharedDriver<C>,
-    steps: &[Step],
     number: u32,
     seat: &mut Seat<C>,
 ) -> Result<(), OutOfMemory>
     requires own { seat.old.driver ≡ driver.now.id }
     requires number { seat.old.number ≡ number }
-    requires acts { All (λ s. IsDriverAct s.act) steps.now }
-    requires few { length steps.now ≤ 131072 }
-    requires players { 0 < players }
+    requires acts { All (λ s. IsDriverAct s.act) lines.steps.now }
+    requires few { length lines.steps.now ≤ 131072 }
+    requires players { 0 < lines.players }
     ensures same { (seat.new.driver ≡ seat.old.driver) × (seat.new.number ≡ seat.old.number) }
-    ensures ok { OnOk result (HasPlayed (lines_of_player players number steps.now) seat.old seat.new) }
+    ensures ok { OnOk result (HasPlayed (lines_of_player lines.entry.players number lines.entry.steps.now) seat.old seat.new) }
 {
     let mut line = 1u32;
-    for step in steps {
-        if line % players == number {
-            gate.before(number, line);
+    for step in lines.steps {
+        if line % lines.players == number {
+            lines.gate.before(number, line);
             play_line(rt, alloc, driver, seat, step)?;
         }
         line += 1;
@@ -79,21 +85,19 @@ fn play_lines<C: Core, R: Wait, G: LineGate>(
 pub(crate) fn play<C: Core, R: Wait, G: LineGate>(
     rt: &R,
     alloc: Global,
-    players: u32,
-    gate: &G,
+    lines: SharedLines<G>,
     driver: &SharedDriver<C>,
-    steps: &[Step],
     player: Player<C>,
 ) -> Played<C>
     requires own { player.seat.driver ≡ driver.now.id }
     requires number { player.seat.number ≡ player.number }
-    requires acts { All (λ s. IsDriverAct s.act) steps.now }
-    requires few { length steps.now ≤ 131072 }
-    requires players { 0 < players }
+    requires acts { All (λ s. IsDriverAct s.act) lines.steps.now }
+    requires few { length lines.steps.now ≤ 131072 }
+    requires players { 0 < lines.players }
     ensures same { (result.seat.driver ≡ player.seat.driver) × (result.seat.number ≡ player.seat.number) }
-    ensures ok { OnOk result.done (HasPlayed (lines_of_player players player.number steps.now) player.seat result.seat) }
+    ensures ok { OnOk result.done (HasPlayed (lines_of_player lines.entry.players player.number lines.entry.steps.now) player.seat result.seat) }
 {
     let Player { number, mut seat } = player;
-    let done = play_lines(rt, alloc, players, gate, driver, steps, number, &mut seat);
+    let done = play_lines(rt, alloc, lines, driver, number, &mut seat);
     Played { seat, done }
 }

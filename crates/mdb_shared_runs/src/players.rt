@@ -6,7 +6,7 @@ ghost use Rattle.mdb_shared_runs.specs.Shares.{lines_of_player};
 ghost use Rattle.mdb_shared_runs.specs.Plays.{HasPlayed, numbered_from, AreFresh, DidAll, IsSharedOn};
 
 use crate::gate::LineGate;
-use crate::player::{Played, Player, play};
+use crate::player::{Played, Player, SharedLines, play};
 use mdb_base::OutOfMemory;
 use mdb_journal::Journal;
 use mdb_log::{Core, Log, Step};
@@ -46,18 +46,21 @@ fn all_seats<C: Core>(alloc: Global, ended: Vec<Played<C>>) -> Result<Vec<Seat<C
 fn play_all<C: Core, R: Threads + Wait + Sync, G: LineGate>(
     rt: &R,
     alloc: Global,
-    count: u32,
-    gate: &G,
+    lines: SharedLines<G>,
     driver: &SharedDriver<C>,
-    steps: &[Step],
     seats: Vec<Seat<C>>,
 ) -> Result<Vec<Seat<C>>, OutOfMemory>
-    requires fresh { AreFresh driver.now.id driver.now.base count seats.items }
-    requires acts { All (λ s. IsDriverAct s.act) steps.now }
-    requires few { length steps.now ≤ 131072 }
-    requires players { (0 < count) × (count ≤ 8) }
-    ensures { IfOk result (λ after. DidAll driver.now.id driver.now.base count steps.now after.items) }
+    requires fresh { AreFresh driver.now.id driver.now.base lines.players seats.items }
+    requires acts { All (λ s. IsDriverAct s.act) lines.steps.now }
+    requires few { length lines.steps.now ≤ 131072 }
+    requires players { (0 < lines.players) × (lines.players ≤ 8) }
+    ensures { IfOk result (λ after. DidAll driver.now.id driver.now.base lines.entry.players lines.entry.steps.now after.items) }
 {
+    let SharedLines {
+        players: count,
+        steps,
+        gate,
+    } = lines;
     let players = numbered(alloc, seats)?;
     let ended = map_vec(
         rt,
@@ -70,7 +73,14 @@ fn play_all<C: Core, R: Threads + Wait + Sync, G: LineGate>(
             requires players { 0 < count }
             ensures same { (result.seat.driver ≡ player.seat.driver) × (result.seat.number ≡ player.seat.number) }
             ensures ok { OnOk result.done (HasPlayed (lines_of_player count player.number steps.entry.now) player.seat result.seat) }
-        { play(rt, alloc, count, gate, driver, steps, player) },
+        {
+            let lines = SharedLines {
+                players: count,
+                steps,
+                gate,
+            };
+            play(rt, alloc, lines, driver, player)
+        },
     )?;
     all_seats(alloc, ended)
 }
@@ -89,20 +99,18 @@ fn whole(journal: Journal) -> Result<Log, OutOfMemory>
 pub(crate) fn share<C: Core, R: Threads + Wait + Sync, G: LineGate>(
     rt: &R,
     alloc: Global,
-    count: u32,
-    gate: &G,
+    lines: SharedLines<G>,
     core: C,
     log: Log,
-    steps: &[Step],
 ) -> Result<Log, OutOfMemory>
     requires stands { C.stands core log }
-    requires acts { All (λ s. IsDriverAct s.act) steps.now }
-    requires few { length steps.now ≤ 131072 }
-    requires players { (0 < count) × (count ≤ 8) }
-    ensures { IfOk result (IsSharedOn C.stands count log steps.now) }
+    requires acts { All (λ s. IsDriverAct s.act) lines.steps.now }
+    requires few { length lines.steps.now ≤ 131072 }
+    requires players { (0 < lines.players) × (lines.players ≤ 8) }
+    ensures { IfOk result (IsSharedOn C.stands lines.entry.players log lines.entry.steps.now) }
 {
-    let (driver, seats) = SharedDriver::new(alloc, core, log, count)?;
-    let seats = play_all(rt, alloc, count, gate, &driver, steps, seats)?;
+    let (driver, seats) = SharedDriver::new(alloc, core, log, lines.players)?;
+    let seats = play_all(rt, alloc, lines, &driver, seats)?;
     match driver.close(seats) {
         Ok((_core, journal)) => whole(journal),
         Err(_) => unreachable!(),

@@ -16,6 +16,7 @@ ghost use Rattle.mdb_shared_runs.specs.Runs.{IsShare, Writes, SharedFinished, Sh
 use crate::gate::{LineGate, NoGate};
 use crate::lines::read_steps;
 use crate::opening::open;
+use crate::player::SharedLines;
 use crate::players::share;
 use mdb_base::{OutOfMemory, Sink, Source};
 use mdb_lines::{MAX_INPUT, RunError, log_text, read_all, write_all};
@@ -43,7 +44,12 @@ fn share_steps<R: Threads + Wait + Sync, G: LineGate>(
         [] => Ok(Log::new(alloc)),
         [first, later @ ..] => {
             let (core, log) = open(alloc, first)?;
-            share(rt, alloc, k, gate, core, log, later)
+            let lines = SharedLines {
+                players: k,
+                steps: later,
+                gate,
+            };
+            share(rt, alloc, lines, core, log)
         }
     }
 }

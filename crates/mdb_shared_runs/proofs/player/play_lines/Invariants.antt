@@ -8,5 +8,5 @@ invariant-loop-step g l = record {
   driver : l.seat.driver ≡ l.initial.seat.driver;
   number : l.seat.number ≡ l.initial.seat.number;
   line : l.line ≡ 1 + l.step-index;
-  played : HasPlayed (lines_of_player l.players l.number (take l.step-index l.steps)) l.initial.seat l.seat;
+  played : HasPlayed (lines_of_player l.lines.players l.number (take l.step-index l.lines.steps.now)) l.initial.seat l.seat;
 }

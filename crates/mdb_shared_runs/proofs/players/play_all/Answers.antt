@@ -19,13 +19,13 @@ map_vec-requires-sync-F g c κs within =
 
 pub map_vec-requires-after_bounds : goal.map_vec-requires-after_bounds
 map_vec-requires-after_bounds g c κs within = λ i x low at.
-    let f = job_fits c.args.driver.now.id c.args.driver.now.base c.args.count c.args.seats.items c.in_ok-players.players.items c.requires.fresh c.in_ok-players.ensures i x low at in
+    let f = job_fits c.args.driver.now.id c.args.driver.now.base c.args.lines.players c.args.seats.items c.in_ok-players.players.items c.requires.fresh c.in_ok-players.ensures i x low at in
     (ap (λ s. s.driver) f.1, (ap (λ s. s.number) f.1 ∙ sym f.0, (c.requires.acts, (c.requires.few, (c.requires.players.0, (search sendable, search sendable, search sendable))))))
 
 pub returns : goal.returns
 returns g c =
     if_both c.all_seats.result c.all_seats.ensures.seats c.all_seats.ensures.all
     (λ after is ok.
-    all_did c.args.driver.now.id c.args.driver.now.base c.args.count c.args.steps.now c.args.seats.items c.in_ok-players.players.items c.in_ok-ended.ended.items after.items
+    all_did c.args.driver.now.id c.args.driver.now.base c.args.lines.players c.args.lines.steps.now c.args.seats.items c.in_ok-players.players.items c.in_ok-ended.ended.items after.items
     c.requires.fresh c.in_ok-players.ensures (search rules)
     (λ i d low. let p = (c.in_ok-ended.ensures.each i d low).1 in let m = p.call.met in (p.job, p.job_read, (m.0.0, m.0.1, m.1))) ok is)

@@ -7,13 +7,13 @@ use Rattle.mdb_shared_runs.proofs.players.share.Goals as goal
 
 pub close-requires-clause-own : goal.close-requires-clause-own
 close-requires-clause-own g c κs within =
-    all_own c.in_ok-driver.driver.id c.in_ok-driver.driver.base c.args.count c.args.steps.now c.in_ok-seats.seats.items c.in_ok-seats.ensures
+    all_own c.in_ok-driver.driver.id c.in_ok-driver.driver.base c.args.lines.players c.args.lines.steps.now c.in_ok-seats.seats.items c.in_ok-seats.ensures
 
 pub returns : goal.returns
 returns g c =
-    let Shared : List Entry → Type 0 = IsSharedOn g.C.Core.stands c.args.count c.args.log c.args.steps.now in
+    let Shared : List Entry → Type 0 = IsSharedOn g.C.Core.stands c.args.lines.players c.args.log c.args.lines.steps.now in
     let shared : Shared c.in-Ok.journal.all =
-    shared_on g.C.Core.stands c.in_ok-driver.driver.id c.in_ok-driver.driver.base c.args.log c.args.count c.args.steps.now c.in_ok-seats.seats.items
+    shared_on g.C.Core.stands c.in_ok-driver.driver.id c.in_ok-driver.driver.base c.args.log c.args.lines.players c.args.lines.steps.now c.in_ok-seats.seats.items
     c.in-Ok.journal.all _ c.in_ok-driver.ensures.base c.requires.players.0 c.in-Ok.ensures.accounts c.in_ok-seats.ensures c.in-Ok.ensures.stands in
     when-ok c.whole.result (λ log. log ≡ c.in-Ok.journal.all) Shared c.whole.ensures (λ log is. subst Shared (sym is) shared)
 
