@@ -42,7 +42,7 @@ def definitions(text):
         if line.startswith("--"):
             said.append(line[2:].strip())
             continue
-        start = re.match(r"(?:abbrev pub|pub record|pub data|abbrev pub record|pub) (?:record |data )?(\w[\w']*)", line)
+        start = re.match(r"(?:abbrev pub|unfoldable pub|pub record|pub data|abbrev pub record|pub) (?:record |data )?(\w[\w']*)", line)
         if start and not line.startswith(("pub use", "pub mod")):
             found.append((start[1], " ".join(said)))
         if not line.strip() or start:
