@@ -20,7 +20,6 @@ the prover's own, or changes a function that is not proved as it stands; and one
 The last line is 'N refused, M failed' (or 'N fit, ..'); the status is 0 where M is 0, and else 1.
 """
 import argparse
-import itertools
 import os
 import re
 import shutil
@@ -296,19 +295,27 @@ def copy_of(one, other):
     return os.link(one, other) if one.endswith(".oantt") else shutil.copy2(one, other)
 
 
+def lay_crate(room, crate):
+    """Gives the room the crate as it stands, and no other file of it."""
+    shutil.rmtree(f"{room}/crates/{crate}", ignore_errors=True)
+    for part in PARTS:
+        if os.path.isdir(f"{ROOT}/crates/{crate}/{part}"):
+            shutil.copytree(f"{ROOT}/crates/{crate}/{part}", f"{room}/crates/{crate}/{part}", copy_function=copy_of)
+
+
 def try_all(crates):
     signal.signal(signal.SIGTERM, lambda *_: sys.exit(1))
     refused = whole = 0
     with tempfile.TemporaryDirectory(prefix="edits-", dir=os.path.dirname(ROOT)) as room:  # (on the same disk, for the links)
         for name in ("crates.txt", "HANDLES"):
             shutil.copy2(f"{ROOT}/{name}", room)
-        for name, part in itertools.product(sorted(os.listdir(f"{ROOT}/crates")), PARTS):
-            if os.path.isdir(f"{ROOT}/crates/{name}/{part}"):
-                shutil.copytree(f"{ROOT}/crates/{name}/{part}", f"{room}/crates/{name}/{part}", copy_function=copy_of)
+        for crate in sorted(os.listdir(f"{ROOT}/crates")):
+            lay_crate(room, crate)
         for crate in crates:
             counts = try_crate(room, crate)
             refused, whole = refused + counts[0], whole + counts[1]
-            shutil.rmtree(f"{room}/crates/{crate}/out/incremental", ignore_errors=True)
+            # (a crate above it is tried over the crate as it stands)
+            lay_crate(room, crate)
     print(f"{refused} refused, {whole - refused} failed")
     return whole - refused
 
