@@ -6,6 +6,7 @@ ghost use Rattle.mdb_driver_rules.specs.Acts.{is_pool_act};
 ghost use Rattle.mdb_driver_pools.specs.Living.{lives_at};
 
 use crate::pool_decision::PoolDecision;
+use crate::pool_queries::refusal_now;
 use crate::pools::Pools;
 use mdb_log::Step;
 
@@ -19,7 +20,7 @@ impl Pools {
         requires new { names_known self.now.cores.items step.now.act ≡ false }
         ensures { IsAsked self.now.cores.items place step.now result }
     {
-        match self.cores.at(place).refusal_now(step) {
+        match refusal_now(self.cores.at(place), step) {
             Some(why) => PoolDecision::Refused(why),
             None => PoolDecision::Concerns(place),
         }

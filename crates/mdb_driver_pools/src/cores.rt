@@ -13,11 +13,12 @@ ghost use Rattle.mdb_driver_pools.specs.Standing.{at_address, is_open_at, IsApar
 
 use crate::hints::{Hints, number_of};
 use crate::placed::Placed;
+use crate::pool_queries::{has_job, holds, is_closed, is_open};
 use mdb_base::{OutOfMemory, ServerAddress};
 use mdb_log::{Log, Reply, Step};
 use mdb_past::{Past, Tells};
+use mdb_pool::PoolCore;
 use mdb_pool::planning::{Answered, Plan, apply, prepare};
-use mdb_pool::{PoolCore, PoolState};
 use std::alloc::Global;
 use std::marker::Model;
 
@@ -72,7 +73,7 @@ impl<'a> Tells<(&'a Past<PoolCore>, &'a Placed), PoolCore> for Changed {
 pub(crate) fn is_open_at(pool: &PoolCore, address: &ServerAddress) -> bool
     ensures { result ≡ is_open_at address.now pool.now }
 {
-    !matches!(pool.state(), PoolState::Closed) && pool.address().is(address)
+    !is_closed(pool) && pool.address().is(address)
 }
 
 // The first of the pools that is open at the address.
@@ -88,21 +89,21 @@ fn first_open<'a>(living: &'a [Placed], address: &ServerAddress) -> Option<&'a P
 fn first_asked(living: &[Placed], party: u32) -> Option<&Placed>
     ensures { option_copied result ≡ find (λ x. is_open_now x.core party) living.now }
 {
-    living.iter().find(|placed| placed.core.is_open(party))
+    living.iter().find(|placed| is_open(&placed.core, party))
 }
 
 // The first of which the party holds a connection.
 fn first_held(living: &[Placed], party: u32) -> Option<&Placed>
     ensures { option_copied result ≡ find (λ x. holds_now x.core party) living.now }
 {
-    living.iter().find(|placed| placed.core.holds(party))
+    living.iter().find(|placed| holds(&placed.core, party))
 }
 
 // The first that has a job.
 fn first_with_job(living: &[Placed]) -> Option<&Placed>
     ensures { option_copied result ≡ find (λ x. has_job_now x.core) living.now }
 {
-    living.iter().find(|placed| placed.core.has_job())
+    living.iter().find(|placed| has_job(&placed.core))
 }
 
 // The one at the place.
@@ -261,7 +262,7 @@ impl Cores {
         ensures { result ≡ asks_in (living_at self.now.items place) party }
     {
         match self.get(place) {
-            Some(core) => core.is_open(party),
+            Some(core) => is_open(core, party),
             None => false,
         }
     }
@@ -271,7 +272,7 @@ impl Cores {
         ensures { result ≡ holds_in (living_at self.now.items place) party }
     {
         match self.get(place) {
-            Some(core) => core.holds(party),
+            Some(core) => holds(core, party),
             None => false,
         }
     }

@@ -16,6 +16,7 @@ mod planning;
 mod pool_change;
 mod pool_decision;
 mod pool_options;
+pub mod pool_queries;
 mod pools;
 mod publishing;
 mod readiness;

@@ -1,5 +1,6 @@
 -- What a pool tells of itself.
 pub mod OfItems
 pub mod OfQueries
+pub mod OfSome
 pub mod ServicesOfClears
 pub mod JobGenerations

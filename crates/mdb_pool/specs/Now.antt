@@ -35,6 +35,7 @@ abbrev pub cause_of : State → Option Error
 cause_of (is_paused error) = Some error
 cause_of _ = None
 
+-- it is the name of the state in which a pool is closed
 abbrev pub is_closed_name : PoolState → Bool
 is_closed_name ClosedState = true
 is_closed_name _ = false

@@ -19,7 +19,7 @@ use Rattle.mdb_pool_rules.specs.Answer.{answer}
 use Rattle.mdb_pool_rules.specs.Refusal.{refusal_of}
 use Rattle.mdb_pool.specs.Now.{last_now}
 use Rattle.mdb_pool.specs.Refusing.{refusal_now}
-use Rattle.mdb_pool.specs.Standing.{Fits, SameHome, StandsFor, Accepts}
+use Rattle.mdb_pool.specs.Standing.{Fits, SameHome, StandsFor, StandsForSome, Accepts}
 
 -- what the pool p knows with an act that it accepts at the moment m
 abbrev pub with_item : ℕ → ℕ → Act → List PoolItem → List PoolItem
@@ -86,9 +86,9 @@ pub record IsPrepared (s t : PoolCore) (steps : List Step) (told : List Answered
 abbrev pub Plan : Type 0
 Plan = PoolSteps
 
--- the plan leads the pool to this one
+-- the plan leads the pool to this one, which stands for some history too
 unfoldable pub Plans : Plan → PoolCore → PoolCore → Type 0
-Plans plan s t = PoolFits plan s.kept.inner × (led plan s ≡ t)
+Plans plan s t = PoolFits plan s.kept.inner × (led plan s ≡ t) × StandsForSome t
 
 -- the plan was made on the pool, which no call changed since
 abbrev pub IsPlanOf : Plan → PoolCore → Type 0

@@ -17,7 +17,7 @@ use Rattle.mdb_log.specs.Limits.{WithinLimits}
 use Rattle.mdb_log.specs.Fresh.{EntriesGrantFresh}
 use Rattle.mdb_pool.specs.Kept.Matching.{Matches}
 use Rattle.mdb_pool.specs.Kept.Values.{numbers_asked, request_at}
-use Rattle.mdb_pool.specs.Now.{claimed_now, is_closed_now, last_now, settled_now}
+use Rattle.mdb_pool.specs.Now.{alone_now, claimed_now, is_closed_now, last_now, settled_now}
 use Rattle.mdb_base.specs.Equality.{same_address}
 
 -- The state of a pool is that of the pool's items.
@@ -36,6 +36,10 @@ pub record StandsFor (s : PoolCore) (h : List Item) : Type 0 where
   pub opens : (r : ℕ) → (told h r == 0) && not (some_act leaves h r) ≡ not (settled_now s r)
   pub claims : (c : ℕ) → is_claimed h s.pool c ≡ claimed_now s c
 
+-- The state of a pool stands for some history of its own, as that of each pool does.
+abbrev pub StandsForSome : PoolCore → Type 0
+StandsForSome s = (h : List Item) × StandsFor s h
+
 -- The state of a pool stands in a history, which may be a driver's and tell of other pools too: the state is that of the pool's items, and keeps of the pool's own requests which are open, and of its
 -- connections which were claimed.
 pub record StandsIn (s : PoolCore) (h : List Item) : Type 0 where
@@ -48,7 +52,7 @@ pub record SameHome (s t : PoolCore) : Type 0 where
   pub pool : t.pool ≡ s.pool
   pub address : t.address ≡ s.address
   pub options : t.options ≡ s.options
-  pub alone : t.kept.alone ≡ s.kept.alone
+  pub alone : alone_now t ≡ alone_now s
 
 -- an accepted act: xs is what the pool knew, and ys what it knows with the act; the reply and the facts are those of the definitions, and the state then fits them
 pub record Accepts (s t : PoolCore) (before after : List Fact) (m : ℕ) (act : Act) (reply : Reply) (xs ys : List PoolItem) : Type 0 where

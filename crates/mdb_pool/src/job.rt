@@ -12,7 +12,7 @@ impl PoolCore {
     ghost use Rattle.std.specs.Prelude.{map, List, true, not};
     ghost use Rattle.std.specs.List.{list_any};
     ghost use Rattle.mdb_log.specs.Requests.{is_claimed};
-    ghost use Rattle.mdb_pool.specs.Now.{has_job_now, is_live_now};
+    ghost use Rattle.mdb_pool.specs.Now.{is_live_now};
     ghost use Rattle.mdb_pool_rules.specs.Jobs.{items_before, generations, job_in};
     ghost use Rattle.mdb_pool.specs.Kept.Values.{count_at};
     ghost use Rattle.mdb_log.specs.History.{Item, PoolItem, of_pool};
@@ -23,7 +23,7 @@ impl PoolCore {
     fn count_at(&self, id: u32, service: Option<ObjectId>) -> u64
         ensures { result ≡ count_at self.now id service }
     {
-        self.generation_before(id, service).unwrap_or(0)
+        self.draft.body.generation_before(id, service).unwrap_or(0)
     }
 
     // Each service, with how often it was cleared before the connection was created.
@@ -78,8 +78,7 @@ impl PoolCore {
 
     /// Some pending connection was told by no claim: the next claim is told a job.
     pub fn has_job(&self) -> bool
-        ensures now { result ≡ has_job_now self.now }
-        ensures history { (h : List Item) → StandsIn self.now h → result ≡ list_any (λ c. not (is_claimed h self.now.pool c)) (pending_list (of_pool self.now.pool h)) }
+        ensures { (h : List Item) → StandsIn self.now h → result ≡ list_any (λ c. not (is_claimed h self.now.pool c)) (pending_list (of_pool self.now.pool h)) }
     {
         self.draft.body.first_unclaimed().is_some()
     }

@@ -25,21 +25,22 @@ impl Model for PoolCore {
     ghost use Rattle.std.specs.Prelude.{◌≡◌};
     ghost use Rattle.mdb_pool.specs.Kept.Body.{pool_of};
     ghost use Rattle.mdb_pool.specs.Core.{PoolCore};
+    ghost use Rattle.mdb_pool.specs.Standing.{StandsForSome};
 
     ghost Value = { PoolCore };
 
     ghost view = { λ p. p.draft };
 
-    ghost invariant = { λ p. p.draft ≡ pool_of p.draft.kept.inner };
+    ghost invariant = { λ p. (p.draft ≡ pool_of p.draft.kept.inner) × StandsForSome p.draft };
 }
 
 impl PoolCore {
-    ghost use Rattle.mdb_pool.specs.Now.{alone_now, cause_of, held_now, holds_now, is_open_now, is_spent, name_of, state_now, wire_now};
+    ghost use Rattle.mdb_pool.specs.Now.{alone_now, cause_of, is_spent, name_of};
     ghost use Rattle.mdb_pool.specs.Refusing.{can_tell};
     ghost use Rattle.mdb_log.specs.Connections.{has, held, pins, is_live, pending_list, holding, wire_of};
     ghost use Rattle.mdb_log.specs.Requests.{is_open};
     ghost use Rattle.mdb_log.specs.State.{state_of};
-    ghost use Rattle.mdb_pool.specs.Standing.{Fits, StandsFor, StandsIn};
+    ghost use Rattle.mdb_pool.specs.Standing.{Fits, StandsFor, StandsForSome, StandsIn};
     ghost use Rattle.mdb_pool_rules.specs.Available.{available_records};
     ghost use Rattle.mdb_slots.specs.Items.{records_of};
     ghost use Rattle.mdb_slots.specs.Slots.{listing};
@@ -109,6 +110,13 @@ impl PoolCore {
         PoolCore::made(alloc, pool, address, options, false)
     }
 
+    /// The pool stands for some history of its own, so that what the other calls tell for all items that it fits is told of it. It does nothing.
+    pub fn stands(&self)
+        ensures { StandsForSome self.now }
+    {
+        let _ = &self.draft;
+    }
+
     /// It keeps the number of each party that it knew, as a pool does that is in no driver.
     pub fn is_alone(&self) -> bool
         ensures { result ≡ alone_now self.now }
@@ -132,8 +140,7 @@ impl PoolCore {
 
     /// Whether the pool may be used.
     pub fn state(&self) -> PoolState
-        ensures now { result ≡ name_of (state_now self.now) }
-        ensures items { (xs : List PoolItem) → Fits self.now xs → result ≡ name_of (state_of self.now.options xs) }
+        ensures { (xs : List PoolItem) → Fits self.now xs → result ≡ name_of (state_of self.now.options xs) }
     {
         match self.draft.body.status.get() {
             Status::New => PoolState::New,
@@ -155,13 +162,9 @@ impl PoolCore {
 
     /// The connection that the party holds.
     pub fn held_by(&self, party: u32) -> Option<u32>
-        ensures now { result ≡ held_now self.now party }
-        ensures items { (xs : List PoolItem) → Fits self.now xs → result ≡ holding xs party }
+        ensures { (xs : List PoolItem) → Fits self.now xs → result ≡ holding xs party }
     {
-        match self.draft.body.held_connection(party) {
-            Some(connection) => Some(connection.id),
-            None => None,
-        }
+        self.draft.body.held_by(party)
     }
 
     /// The party asked this pool, or took a pinned connection of it. A pool that stands alone can tell; one of a driver keeps no numbers.
@@ -174,8 +177,7 @@ impl PoolCore {
 
     /// The party holds a connection of this pool.
     pub fn holds(&self, party: u32) -> bool
-        ensures now { result ≡ holds_now self.now party }
-        ensures items { (xs : List PoolItem) → Fits self.now xs → result ≡ is_some (holding xs party) }
+        ensures { (xs : List PoolItem) → Fits self.now xs → result ≡ is_some (holding xs party) }
     {
         self.draft.body.holds(party)
     }
@@ -189,8 +191,7 @@ impl PoolCore {
 
     /// The request was made at this pool, its outcome was not told yet, and its caller neither gave up nor returned the connection.
     pub fn is_open(&self, request: u32) -> bool
-        ensures now { result ≡ is_open_now self.now request }
-        ensures history { (h : List Item) → StandsIn self.now h → result ≡ has_asked (of_pool self.now.pool h) request && is_open h request }
+        ensures { (h : List Item) → StandsIn self.now h → result ≡ has_asked (of_pool self.now.pool h) request && is_open h request }
     {
         self.draft.body.is_open(request)
     }
@@ -225,12 +226,8 @@ impl PoolCore {
 
     /// The wire version that the connection was established with, `None` where it was not, or isn't live.
     pub fn wire_version(&self, id: u32) -> Option<i32>
-        ensures now { result ≡ wire_now self.now id }
-        ensures items { (xs : List PoolItem) → Fits self.now xs → result ≡ if is_live xs id then wire_of xs id else None }
+        ensures { (xs : List PoolItem) → Fits self.now xs → result ≡ if is_live xs id then wire_of xs id else None }
     {
-        match self.draft.body.connections.get(id) {
-            Some(connection) => connection.wire,
-            None => None,
-        }
+        self.draft.body.wire_version(id)
     }
 }

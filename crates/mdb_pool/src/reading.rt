@@ -1,7 +1,7 @@
 //! What a pool with these parts answers to its getters.
 #![tactic(auto, unfolding(crate::specs::Now::queries))]
 
-ghost use Rattle.std.specs.Prelude.{◌≡◌, is_some, nat_lt, true, false};
+ghost use Rattle.std.specs.Prelude.{◌≡◌, is_some, nat_lt, true, false, if◌then◌else◌, Some, None};
 ghost use Rattle.mdb_log.specs.Connections.{has};
 ghost use Rattle.mdb_pool.specs.Kept.Body.{now_of};
 
@@ -11,7 +11,7 @@ use mdb_base::ObjectId;
 
 impl Body {
     ghost use Rattle.mdb_pool.specs.Kept.Values.{held_connection, request_at, connection_at, is_pending_at, is_held_at, is_ended_at, pins_at, clears_for};
-    ghost use Rattle.mdb_pool.specs.Now.{is_open_now, is_spent, exhausted_now};
+    ghost use Rattle.mdb_pool.specs.Now.{clears_before_now, exhausted_now, held_now, is_live_now, is_open_now, is_spent, wire_now};
     ghost use Rattle.mdb_pool.specs.Refusing.{can_tell};
 
     // The party asked this pool, or took a pinned connection of it.
@@ -27,6 +27,16 @@ impl Body {
         ensures { result ≡ is_spent (now_of self.now) }
     {
         self.status.get().is_closed() && self.connections.len() == 0 && self.requests.len() == 0
+    }
+
+    // The connection that the party holds.
+    pub(crate) fn held_by(&self, party: u32) -> Option<u32>
+        ensures { result ≡ held_now (now_of self.now) party }
+    {
+        match self.held_connection(party) {
+            Some(connection) => Some(connection.id),
+            None => None,
+        }
     }
 
     // The party holds a connection of this pool.
@@ -83,6 +93,26 @@ impl Body {
             Some(connection) => 0 < connection.pins,
             None => false,
         }
+    }
+
+    // The wire version that the connection was established with.
+    pub(crate) fn wire_version(&self, id: u32) -> Option<i32>
+        ensures { result ≡ wire_now (now_of self.now) id }
+    {
+        match self.connections.get(id) {
+            Some(connection) => connection.wire,
+            None => None,
+        }
+    }
+
+    // How often the pool was cleared so before the connection was created, `None` where the connection isn't live.
+    pub(crate) fn generation_before(&self, id: u32, service: Option<ObjectId>) -> Option<u64>
+        ensures { result ≡ if is_live_now (now_of self.now) id then Some (clears_before_now (now_of self.now) id service) else None }
+    {
+        if self.connections.get(id).is_none() {
+            return None;
+        }
+        Some(self.connections.generation_before(id, service))
     }
 
     // How often the pool was cleared: for the service, or as a whole where there is none.

@@ -21,6 +21,7 @@ use Rattle.mdb_pool.specs.Kept.Places.{is_pending}
 use Rattle.mdb_pool.specs.Standing.{Fits, SameHome, Accepts}
 use Rattle.mdb_pool.specs.Acts.Doing.{SameNotes, Serves}
 use Rattle.mdb_log.specs.Requests.{settles, is_job}
+use Rattle.mdb_pool.proofs.SameAnswers.StaysHome.{stays-home}
 
 abbrev pub job_of : ℕ → Option Connection → Reply
 job_of p None = NoJob
@@ -65,7 +66,7 @@ pub claim-accepts : (s s0 s1 t : PoolCore) (before after : List Fact) (n : ℕ) 
     → Accepts s t before after n Claim reply xs xs
 claim-accepts s s0 s1 t before after n reply xs z s0_is s1_is home notes serves reply_is =
     let whole : s1 ≡ record (claiming s) { kept = record (claiming s).kept { last = n } } = s1_is ∙ ap {A = PoolCore} (λ k. record k { kept = record k.kept { last = n } }) s0_is in
-    let at_home : SameHome s s1 = rw whole (record { pool = refl; address = refl; options = refl; alone = refl }) in
+    let at_home : SameHome s s1 = rw whole (stays-home refl refl refl refl) in
     accepts s s1 t t before before after n Claim reply [] xs xs
     refl
     (sym (append-nil before)) at_home (rw whole (noted-fits s s.kept.settled (claiming s).kept.claimed n xs z)) serves

@@ -26,6 +26,7 @@ use Rattle.mdb_log.proofs.Numbers.{same-number}
 use Rattle.mdb_pool.proofs.Follows.Fits.{later-fits, raise-fits}
 use Rattle.mdb_pool.proofs.Follows.Stale.{ready-status, shut-status}
 use Rattle.mdb_pool_rules.proofs.ClearFacts.{clear-all-own, clear-fair, clear-open, ends-raised}
+use Rattle.mdb_pool.proofs.SameAnswers.StaysHome.{stays-home}
 
 -- what a clear says
 module _ (s : PoolCore) (xs : List PoolItem) (z : Fits s xs) (n : ℕ) (error : Error) where
@@ -120,7 +121,7 @@ pub shut-accepts : (s s1 t : PoolCore) (before after : List Fact) (n q : ℕ) (s
 shut-accepts s s1 t before after n q service error xs z shut s1_is home notes serves =
     accepts s s1 t t before before after n (ClearAct q service error) Done [] xs xs
     (says-nothing s xs z n error (shut-status s.kept.status shut) service)
-    (sym (append-nil before)) (rw s1_is (record { pool = refl; address = refl; options = refl; alone = refl })) (rw s1_is (later-fits s xs z n)) serves
+    (sym (append-nil before)) (rw s1_is (stays-home refl refl refl refl)) (rw s1_is (later-fits s xs z n)) serves
     (λ zs w. w)
     (λ claims own zs m. refl)
     tt

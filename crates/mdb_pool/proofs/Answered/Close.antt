@@ -39,6 +39,7 @@ use Rattle.mdb_pool_rules.proofs.Fair.{fair-append, own-append}
 use Rattle.mdb_pool.proofs.Turns.EndFacts.{over-is, over-known, over-fair, over-own}
 use Rattle.mdb_pool_rules.proofs.ManyClosed.{closings, endings}
 use Rattle.mdb_pool.proofs.Follows.Closing.{id_of, number_of, shut_ids, over_numbers, shut_items, close-fits}
+use Rattle.mdb_pool.proofs.SameAnswers.StaysHome.{stays-home}
 
 -- a part of the list is of the list
 module _ {T : Type 0} where
@@ -252,7 +253,7 @@ close-accepts s s1 t before f1 after n q xs z unshut s1_is f1_is home notes serv
     accepts s s1 t t before f1 after n (CloseAct q) Done (closing_facts s n) xs xs
     (close-are s xs z n unshut)
     (f1_is ∙ (ap (λ k. (k ++ off_facts s n (unserved_ones s)) ++ pool_closed_fact s.pool s.address ∷ []) split ∙ (ap (λ k. k ++ pool_closed_fact s.pool s.address ∷ []) (append_assoc before (shut_facts s (available_ones s ++ pending_ones s)) (off_facts s n (unserved_ones s))) ∙ append_assoc before (shut_facts s (available_ones s ++ pending_ones s) ++ off_facts s n (unserved_ones s)) (pool_closed_fact s.pool s.address ∷ []))))
-    (rw s1_is (record { pool = refl; address = refl; options = refl; alone = refl }))
+    (rw s1_is (stays-home refl refl refl refl))
     (rw s1_is (subst (Fits (closing s n)) (sym (close-known s xs z n)) (close-fits s xs z n)))
     serves
     (λ zs w. w)
@@ -271,7 +272,7 @@ pub closed-accepts : (s s1 t : PoolCore) (before after : List Fact) (n q : ℕ) 
 closed-accepts s s1 t before after n q xs z shut s1_is home notes serves =
     accepts s s1 t t before before after n (CloseAct q) Done [] xs xs
     (close-nothing s xs z n shut)
-    (sym (append-nil before)) (rw s1_is (record { pool = refl; address = refl; options = refl; alone = refl })) (rw s1_is (later-fits s xs z n)) serves
+    (sym (append-nil before)) (rw s1_is (stays-home refl refl refl refl)) (rw s1_is (later-fits s xs z n)) serves
     (λ zs w. w)
     (λ claims own zs m. refl)
     tt

@@ -15,6 +15,7 @@ use Rattle.mdb_pool.specs.Kept.Values.{outcome_now, is_shut}
 use Rattle.mdb_log.specs.Requests.{outcome_of, is_outcome}
 use Rattle.mdb_pool.specs.Standing.{Fits, SameHome, Accepts}
 use Rattle.mdb_pool.specs.Acts.Doing.{SameNotes, Serves}
+use Rattle.mdb_pool.proofs.SameAnswers.StaysHome.{stays-home}
 
 -- an open request
 pub collect-accepts : (s s1 t u : PoolCore) (before after : List Fact) (n r : ℕ) (reply : Reply) (xs : List PoolItem) → Fits s xs
@@ -22,7 +23,7 @@ pub collect-accepts : (s s1 t u : PoolCore) (before after : List Fact) (n r : �
     → ((k : List PoolItem) → Fits s1 k → Serves s1 t n before after k) → u ≡ telling t r → reply ≡ outcome_now t r
     → Accepts s u before after n (Collect r) reply xs xs
 collect-accepts s s1 t u before after n r reply xs z s1_is home notes serves u_is reply_is =
-    let at_home : SameHome s s1 = rw s1_is (record { pool = refl; address = refl; options = refl; alone = refl }) in
+    let at_home : SameHome s s1 = rw s1_is (stays-home refl refl refl refl) in
     accepts s s1 t u before before after n (Collect r) reply [] xs xs
     refl
     (sym (append-nil before)) at_home (rw s1_is (noted-fits s s.kept.settled s.kept.claimed n xs z)) serves

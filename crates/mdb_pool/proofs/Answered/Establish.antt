@@ -6,6 +6,7 @@ use Rattle.mdb_events.specs.declared.end.End.TheVariants.{Filled}
 use Rattle.mdb_log.specs.declared.step.Act.TheVariants.{Established as EstablishedAct}
 use Rattle.mdb_log.specs.declared.step.Established.{Established}
 use Rattle.mdb_log.specs.declared.reply.Reply.TheVariants.{Done}
+use Rattle.mdb_pool.specs.Now.{queries}
 use Rattle.mdb_pool.specs.declared.kept.connection.Connection.{Connection}
 use Rattle.mdb_pool.specs.declared.kept.connection.Place.TheVariants.{Pending, Available}
 use Rattle.mdb_pool.specs.declared.kept.request.Request.{Request}
@@ -33,6 +34,7 @@ use Rattle.mdb_pool.specs.Kept.Places.{is_pending}
 use Rattle.mdb_events.specs.declared.reasons.ConnectionClosedReason.{ConnectionClosedReason}
 use Rattle.mdb_pool.proofs.Follows.CheckIn.{check-in-is, back-fair, back-own, back-open, back-fits}
 use Rattle.mdb_pool.proofs.Follows.Stale.{live-created, stale-in}
+use Rattle.mdb_pool.proofs.SameAnswers.StaysHome.{stays-home}
 
 -- a pending connection
 module _ (s : PoolCore) (xs : List PoolItem) (z : Fits s xs) (n : ℕ) (x : Connection) (how : Established) where
@@ -94,7 +96,7 @@ module _ (s : PoolCore) (xs : List PoolItem) (z : Fits s xs) (n : ℕ) (x : Conn
   established-accepts s1 t before f1 after q at_x place held at_q cold s1_is f1_is home notes serves =
       accepts s s1 t t before f1 after n (EstablishedAct s.pool x.id how) Done (up-facts q) xs ys
       (up-are q at_x place held at_q cold)
-      f1_is (rw s1_is (record { pool = refl; address = refl; options = refl; alone = refl })) (rw s1_is (establish-fits s xs z n x how q.number at_x place held (ap warm_of at_q ∙ cold))) serves
+      f1_is (rw s1_is (stays-home refl refl refl refl)) (rw s1_is (establish-fits s xs z n x how q.number at_x place held (ap warm_of at_q ∙ cold))) serves
       (λ zs v. v)
       (λ claims own zs m. refl)
       tt
@@ -110,7 +112,7 @@ module _ (s : PoolCore) (xs : List PoolItem) (z : Fits s xs) (n : ℕ) (x : Conn
   rest-accepts s1 t before f1 after at_x place alone nobody s1_is f1_is home notes serves =
       accepts s s1 t t before f1 after n (EstablishedAct s.pool x.id how) Done (ready_fact s.pool s.address x.id (n - x.created_at) ∷ []) xs ys
       (rest-are at_x nobody)
-      f1_is (rw s1_is (record { pool = refl; address = refl; options = refl; alone = refl })) (rw s1_is (rest-fits s xs z n x how at_x place alone nobody)) serves
+      f1_is (rw s1_is (stays-home refl refl refl refl)) (rw s1_is (rest-fits s xs z n x how at_x place alone nobody)) serves
       (λ zs v. v)
       (λ claims own zs m. refl)
       tt
@@ -131,8 +133,8 @@ module _ (s : PoolCore) (xs : List PoolItem) (z : Fits s xs) (n : ℕ) (x : Conn
       keeps f = cc
 
   pool-home-for : (o : Option ConnectionClosedReason) → SameHome s (pooling_for s n x how o)
-  pool-home-for None = record { pool = refl; address = refl; options = refl; alone = refl }
-  pool-home-for (Some w) = record { pool = refl; address = refl; options = refl; alone = refl }
+  pool-home-for None = stays-home refl refl refl refl
+  pool-home-for (Some w) = stays-home refl refl refl refl
 
   pool-notes-for : (o : Option ConnectionClosedReason) → SameNotes s (pooling_for s n x how o)
   pool-notes-for None = record { settled = refl; claimed = refl; status = refl }
@@ -193,6 +195,7 @@ module _ (s : PoolCore) (xs : List PoolItem) (z : Fits s xs) (n : ℕ) (x : Conn
   pub fill-accepts : (s1 t : PoolCore) (before f1 after : List Fact) (q : Request) → connection_at s x.id ≡ Some x → x.place ≡ Pending → x.holder ≡ Some q.number → request_at s q.number ≡ Some q → q.warm ≡ true → s1 ≡ filling_for s n x how q why → f1 ≡ before ++ said ++ Ended q.number Filled ∷ [] → SameHome s1 t → SameNotes s1 t
       → ((k : List PoolItem) → Fits s1 k → Serves s1 t n f1 after k)
       → Accepts s t before after n (EstablishedAct s.pool x.id how) Done xs ys
+  unfolding queries
   fill-accepts s1 t before f1 after q at_x place held at_q hot s1_is f1_is home notes serves =
       let phase : q.phase ≡ Given x.id = given-phase q.phase x.id (ap given_of (sym at_q) ∙ z.matches.links.owned x.id q.number (ap holder_at at_x ∙ held)) in
       let asked : has_asked ys q.number ≡ true = asked-known s xs z q.number ∙ z.matches.links.known x.id x q.number at_x (z.matches.links.waits x.id x q.number at_x (ap is_pending place) held) in

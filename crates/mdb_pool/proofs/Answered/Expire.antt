@@ -15,6 +15,7 @@ use Rattle.mdb_pool.proofs.Answered.Act.{accepts}
 use Rattle.mdb_pool.proofs.Follows.Fits.{later-fits}
 use Rattle.mdb_pool_rules.proofs.ClearFacts.{ends-fair, ends-own, ends-open}
 use Rattle.mdb_pool.proofs.Turns.ExpireMany.{overdue-asked}
+use Rattle.mdb_pool.proofs.SameAnswers.StaysHome.{stays-home}
 
 pub expire-accepts : (s s0 s1 t : PoolCore) (before f1 after : List Fact) (n : ℕ) (xs : List PoolItem) → Fits s xs → s0 ≡ record s { kept = record s.kept { last = n } }
     → SameHome s0 s1 → SameNotes s0 s1 → ((k : List PoolItem) → Fits s0 k → Expires s0 s1 n before f1 k)
@@ -24,7 +25,7 @@ expire-accepts s s0 s1 t before f1 after n xs z s0_is home1 notes1 expires home 
     let late : List ℕ = overdue s.options n xs in
     let gone : List Fact = all_ends s.pool s.address n xs TimedOut late in
     let v : Expires s0 s1 n before f1 xs = expires xs (rw s0_is (later-fits s xs z n)) in
-    let at0 : SameHome s s0 = rw s0_is (record { pool = refl; address = refl; options = refl; alone = refl }) in
+    let at0 : SameHome s s0 = rw s0_is (stays-home refl refl refl refl) in
     let at1 : SameHome s s1 = record { pool = home1.pool ∙ at0.pool; address = home1.address ∙ at0.address; options = home1.options ∙ at0.options; alone = home1.alone ∙ at0.alone } in
     let gone_is : all_ends s0.pool s0.address n xs TimedOut (overdue s0.options n xs) ≡ gone = rw (at0.pool, at0.address, at0.options) refl in
     let fits1 : Fits s1 (after_facts s.pool n gone xs) = subst (λ q. Fits s1 (after_facts q n gone xs)) at0.pool (subst (λ fs. Fits s1 (after_facts s0.pool n fs xs)) gone_is v.fits) in

@@ -25,6 +25,7 @@ use Rattle.mdb_pool.proofs.Follows.Fits.{fail-fits, forget-fits, asked-known}
 use Rattle.mdb_log.specs.Connections.{has, held}
 use Rattle.mdb_log.specs.Requests.{end_of}
 use Rattle.mdb_pool.specs.Kept.Places.{is_pending, stays}
+use Rattle.mdb_pool.proofs.SameAnswers.StaysHome.{stays-home}
 
 -- a pending connection
 module _ (s : PoolCore) (xs : List PoolItem) (z : Fits s xs) (n : ℕ) (x : Connection) (at : FailedAt) (error : Error) where
@@ -62,7 +63,7 @@ module _ (s : PoolCore) (xs : List PoolItem) (z : Fits s xs) (n : ℕ) (x : Conn
       let known : after_facts s.pool n (closed_fact s.pool s.address x.id ErrorReason x.service ∷ over q) ys ≡ ended q.number (FailedEnd error) ∷ closed x.id ∷ ys = ap (after_facts s.pool n (over q)) first ∙ over-known s s.pool n q.number (n - q.asked_at) (FailedEnd error) q.warm (closed x.id ∷ ys) asked in
       accepts s s1 t t before f1 after n (FailedAct s.pool x.id at error) Done (closed_fact s.pool s.address x.id ErrorReason x.service ∷ over q) xs ys
       (fail-are q at_x place held at_q)
-      f1_is (rw s1_is (record { pool = refl; address = refl; options = refl; alone = refl })) (rw s1_is (subst (Fits (failing s n x q (FailedEnd error))) (sym known) (fail-fits s xs z n x (service_in at) q (FailedEnd error) at_x at_q held (z.matches.pinning.loose x.id x at_x (ap stays place))))) serves
+      f1_is (rw s1_is (stays-home refl refl refl refl)) (rw s1_is (subst (Fits (failing s n x q (FailedEnd error))) (sym known) (fail-fits s xs z n x (service_in at) q (FailedEnd error) at_x at_q held (z.matches.pinning.loose x.id x at_x (ap stays place))))) serves
       (λ zs v. v)
       (λ claims own zs m. refl)
       tt
@@ -78,7 +79,7 @@ module _ (s : PoolCore) (xs : List PoolItem) (z : Fits s xs) (n : ℕ) (x : Conn
   forget-accepts s1 t before f1 after at_x place alone s1_is f1_is home notes serves =
       accepts s s1 t t before f1 after n (FailedAct s.pool x.id at error) Done (closed_fact s.pool s.address x.id ErrorReason x.service ∷ []) xs ys
       (forget-are at_x place alone)
-      f1_is (rw s1_is (record { pool = refl; address = refl; options = refl; alone = refl })) (rw (s1_is, same-number s.pool) (forget-fits s xs z n x (service_in at) at_x alone (z.matches.pinning.loose x.id x at_x (ap stays place)))) serves
+      f1_is (rw s1_is (stays-home refl refl refl refl)) (rw (s1_is, same-number s.pool) (forget-fits s xs z n x (service_in at) at_x alone (z.matches.pinning.loose x.id x at_x (ap stays place)))) serves
       (λ zs v. v)
       (λ claims own zs m. refl)
       tt

@@ -39,6 +39,7 @@ use Rattle.mdb_log.proofs.Numbers.{same-number}
 use Rattle.mdb_pool.proofs.Answered.Act.{accepts, pending-is, holding-is, outcome-is, outcome-accepted, outcome-no-job, live-errored, live-service, live-pins}
 use Rattle.mdb_pool.proofs.Follows.CheckIn.{check-in-is, back-fair, back-own, back-open, back-fits}
 use Rattle.mdb_pool.proofs.Follows.Stale.{stale-at}
+use Rattle.mdb_pool.proofs.SameAnswers.StaysHome.{stays-home}
 
 -- a request that has not ended
 module _ (s : PoolCore) (xs : List PoolItem) (z : Fits s xs) (n : ℕ) (q : Request) (at_q : request_at s q.number ≡ Some q) (open_now : end_in q.phase ≡ None) (known : is_asked_at (request_at s q.number) ≡ true) where
@@ -72,7 +73,7 @@ module _ (s : PoolCore) (xs : List PoolItem) (z : Fits s xs) (n : ℕ) (q : Requ
   pub quit-accepts : (s1 t : PoolCore) (before f1 after : List Fact) → given_in q.phase ≡ None → s1 ≡ quitting s n q → f1 ≡ before ++ Ended q.number GaveUp ∷ [] → SameHome s1 t → SameNotes s1 t → ((k : List PoolItem) → Fits s1 k → Serves s1 t n f1 after k)
       → Accepts s t before after n (GiveUp q.number) Done xs ys
   quit-accepts s1 t before f1 after none s1_is f1_is home notes serves =
-      given-up s1 t before f1 after (Ended q.number GaveUp ∷ []) (quit-are none) f1_is (rw s1_is (record { pool = refl; address = refl; options = refl; alone = refl })) (ap (λ k. k.kept.settled) s1_is) (ap (λ k. k.kept.claimed) s1_is) (ap (λ k. k.kept.status) s1_is) refl
+      given-up s1 t before f1 after (Ended q.number GaveUp ∷ []) (quit-are none) f1_is (rw s1_is (stays-home refl refl refl refl)) (ap (λ k. k.kept.settled) s1_is) (ap (λ k. k.kept.claimed) s1_is) (ap (λ k. k.kept.status) s1_is) refl
       (rw (s1_is, asked) (quit-fits s xs z n q at_q none)) home notes serves (tt, tt) (asked, tt)
 
   -- its connection is pending
@@ -85,7 +86,7 @@ module _ (s : PoolCore) (xs : List PoolItem) (z : Fits s xs) (n : ℕ) (q : Requ
   pub leave-accepts : (s1 t : PoolCore) (before f1 after : List Fact) (x : Connection) → connection_at s x.id ≡ Some x → x.place ≡ Pending → q.phase ≡ Given x.id → s1 ≡ leaving s n x q → f1 ≡ before ++ Ended q.number GaveUp ∷ [] → SameHome s1 t → SameNotes s1 t → ((k : List PoolItem) → Fits s1 k → Serves s1 t n f1 after k)
       → Accepts s t before after n (GiveUp q.number) Done xs ys
   leave-accepts s1 t before f1 after x at_x place phase s1_is f1_is home notes serves =
-      given-up s1 t before f1 after (Ended q.number GaveUp ∷ []) (leave-are x at_x place phase) f1_is (rw s1_is (record { pool = refl; address = refl; options = refl; alone = refl })) (ap (λ k. k.kept.settled) s1_is) (ap (λ k. k.kept.claimed) s1_is) (ap (λ k. k.kept.status) s1_is) refl
+      given-up s1 t before f1 after (Ended q.number GaveUp ∷ []) (leave-are x at_x place phase) f1_is (rw s1_is (stays-home refl refl refl refl)) (ap (λ k. k.kept.settled) s1_is) (ap (λ k. k.kept.claimed) s1_is) (ap (λ k. k.kept.status) s1_is) refl
       (rw (s1_is, asked) (leave-fits s xs z n x q at_x at_q phase place)) home notes serves (tt, tt) (asked, tt)
 
   -- its connection is held
@@ -106,7 +107,7 @@ module _ (s : PoolCore) (xs : List PoolItem) (z : Fits s xs) (n : ℕ) (q : Requ
   pub pinned-accepts : (s1 t : PoolCore) (before f1 after : List Fact) (x : Connection) → held_connection s q.number ≡ Some x → connection_at s x.id ≡ Some x → x.place ≡ Held → q.phase ≡ Given x.id → nat_lt 0 x.pins ≡ true → s1 ≡ to_pin s n (used_as x Ok) q (EndedPhase GaveUp) → f1 ≡ before ++ Ended q.number GaveUp ∷ [] → SameHome s1 t → SameNotes s1 t → ((k : List PoolItem) → Fits s1 k → Serves s1 t n f1 after k)
       → Accepts s t before after n (GiveUp q.number) Done xs ys
   pinned-accepts s1 t before f1 after x held at_x place phase some_pins s1_is f1_is home notes serves =
-      given-up s1 t before f1 after (Ended q.number GaveUp ∷ []) (pinned-are x held at_x some_pins) f1_is (rw s1_is (record { pool = refl; address = refl; options = refl; alone = refl })) (ap (λ k. k.kept.settled) s1_is) (ap (λ k. k.kept.claimed) s1_is) (ap (λ k. k.kept.status) s1_is) refl
+      given-up s1 t before f1 after (Ended q.number GaveUp ∷ []) (pinned-are x held at_x some_pins) f1_is (rw s1_is (stays-home refl refl refl refl)) (ap (λ k. k.kept.settled) s1_is) (ap (λ k. k.kept.claimed) s1_is) (ap (λ k. k.kept.status) s1_is) refl
       (rw (s1_is, asked) (quit-pinned-fits s xs z n x q at_x place at_q phase some_pins)) home notes serves (tt, tt) (asked, tt)
 
   hand-fits-for : (x : Connection) → connection_at s x.id ≡ Some x → x.place ≡ Held → q.phase ≡ Given x.id → x.pins ≡ 0 → (o : Option ConnectionClosedReason) → Fits (handing_for s n (used_as x Ok) q o) (after_facts s.pool n (Ended q.number GaveUp ∷ back_facts s (used_as x Ok) o) ys)
@@ -122,8 +123,8 @@ module _ (s : PoolCore) (xs : List PoolItem) (z : Fits s xs) (n : ℕ) (q : Requ
       keeps f = cc
 
   hand-home-for : (x : Connection) (o : Option ConnectionClosedReason) → SameHome s (handing_for s n (used_as x Ok) q o)
-  hand-home-for x None = record { pool = refl; address = refl; options = refl; alone = refl }
-  hand-home-for x (Some w) = record { pool = refl; address = refl; options = refl; alone = refl }
+  hand-home-for x None = stays-home refl refl refl refl
+  hand-home-for x (Some w) = stays-home refl refl refl refl
 
   hand-notes-for : (x : Connection) (o : Option ConnectionClosedReason) → ((handing_for s n (used_as x Ok) q o).kept.settled ≡ marked q.number s.kept.settled) × ((handing_for s n (used_as x Ok) q o).kept.claimed ≡ s.kept.claimed) × ((handing_for s n (used_as x Ok) q o).kept.status ≡ s.kept.status)
   hand-notes-for x None = (refl, refl, refl)
@@ -153,7 +154,7 @@ late-accepts s s1 t before after n r reply xs z over s1_is home notes serves rep
     let gone : is_some (end_of xs r) ≡ true = ap is_some (z.matches.requests.ends r) ∙ over in
     accepts s s1 t t before before after n (GiveUp r) reply [] xs (gave_up r ∷ xs)
     (rw gone refl)
-    (sym (append-nil before)) (rw s1_is (record { pool = refl; address = refl; options = refl; alone = refl })) (rw s1_is (late-fits s xs z n r (marked r s.kept.settled) (some-end (request_at s r) over))) serves
+    (sym (append-nil before)) (rw s1_is (stays-home refl refl refl refl)) (rw s1_is (late-fits s xs z n r (marked r s.kept.settled) (some-end (request_at s r) over))) serves
     (λ zs v. v)
     (λ claims own zs m. rw gone (reply_is ∙ sym (outcome-is s xs z.matches r)))
     (rw reply_is (outcome-accepted s r))

@@ -17,6 +17,7 @@ use Rattle.mdb_log.proofs.Later.{after-append}
 use Rattle.mdb_pool.proofs.Follows.Fits.{later-fits}
 use Rattle.mdb_pool_rules.proofs.Fair.{fair-append, own-append, shut-append}
 use Rattle.mdb_pool_rules.proofs.SweepAndFill.{sweep-fair, sweep-own, sweep-open, fill-fair, fill-own, fill-open}
+use Rattle.mdb_pool.proofs.SameAnswers.StaysHome.{stays-home}
 
 pub maintain-accepts : (s s0 s1 s2 t : PoolCore) (before f1 f2 after : List Fact) (n : ℕ) (xs : List PoolItem) → Fits s xs → s0 ≡ record s { kept = record s.kept { last = n } }
     → SameHome s0 s1 → SameNotes s0 s1 → ((k : List PoolItem) → Fits s0 k → Sweeps s0 s1 n before f1 k)
@@ -29,7 +30,7 @@ maintain-accepts s s0 s1 s2 t before f1 f2 after n xs z s0_is home1 notes1 sweep
     let zs : List PoolItem = after_facts s.pool n gone xs in
     let come : List Fact = fill s.pool s.address s.options n (min_size s.options) zs in
     let v : Sweeps s0 s1 n before f1 xs = sweeps xs (rw s0_is (later-fits s xs z n)) in
-    let at0 : SameHome s s0 = rw s0_is (record { pool = refl; address = refl; options = refl; alone = refl }) in
+    let at0 : SameHome s s0 = rw s0_is (stays-home refl refl refl refl) in
     let at1 : SameHome s s1 = record { pool = home1.pool ∙ at0.pool; address = home1.address ∙ at0.address; options = home1.options ∙ at0.options; alone = home1.alone ∙ at0.alone } in
     let at2 : SameHome s s2 = record { pool = home2.pool ∙ at1.pool; address = home2.address ∙ at1.address; options = home2.options ∙ at1.options; alone = home2.alone ∙ at1.alone } in
     let gone_is : sweep s0.pool s0.address s0.options n xs (available_list xs) ≡ gone = rw (at0.pool, at0.address, at0.options) refl in

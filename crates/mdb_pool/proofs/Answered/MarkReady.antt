@@ -19,6 +19,7 @@ use Rattle.mdb_pool.specs.Acts.Doing.{Serves, SameNotes}
 use Rattle.mdb_pool.proofs.Answered.Act.{accepts}
 use Rattle.mdb_log.proofs.Numbers.{same-number}
 use Rattle.mdb_pool.proofs.Follows.Fits.{later-fits, ready-fits}
+use Rattle.mdb_pool.proofs.SameAnswers.StaysHome.{stays-home}
 
 module _ (s : PoolCore) (xs : List PoolItem) (z : Fits s xs) (n : ℕ) where
   abbrev ready_event : Fact
@@ -70,7 +71,7 @@ pub ready-accepts : (s s1 t : PoolCore) (before f1 after : List Fact) (n p : ℕ
 ready-accepts s s1 t before f1 after n p xs z s1_is f1_is home notes serves =
     accepts s s1 t t before f1 after n (ReadyAct p) Done (readied_facts s) xs xs
     (ready-are s xs z n s.kept.status z.matches.clearing.status)
-    f1_is (rw s1_is (record { pool = refl; address = refl; options = refl; alone = refl })) (rw s1_is (ready-fits-for s xs z n s.kept.status refl)) serves
+    f1_is (rw s1_is (stays-home refl refl refl refl)) (rw s1_is (ready-fits-for s xs z n s.kept.status refl)) serves
     (λ zs v. v)
     (λ claims own zs m. refl)
     tt

@@ -32,10 +32,10 @@ nobody_tells s act e = on (alone_now s) refl
     on false f = named_tells s act (sym (ap (λ b. b || names_nobody act) f) ∙ e)
 
 -- what is said of the steps that come is said after the first of them
-pub tells-on : (s t : PoolCore) (step : Step) (more : List Step) → t.kept.alone ≡ s.kept.alone → TellsNew s (step ∷ more) → TellsNew t more
+pub tells-on : (s t : PoolCore) (step : Step) (more : List Step) → alone_now t ≡ alone_now s → TellsNew s (step ∷ more) → TellsNew t more
 unfolding queries
 tells-on s t step [] e z = tt
-tells-on s t step (x ∷ more) e z = let later : NameNobody s.kept.alone (x ∷ more) = z.1 in (nobody_tells t x.act (subst (λ b. (b || names_nobody x.act) ≡ true) (sym e) later.0), subst (λ b. NameNobody b more) (sym e) later.1)
+tells-on s t step (x ∷ more) e z = let later : NameNobody (alone_now s) (x ∷ more) = z.1 in (nobody_tells t x.act (subst (λ b. (b || names_nobody x.act) ≡ true) (sym e) later.0), subst (λ b. NameNobody b more) (sym e) later.1)
 
 -- a pool that stands alone can tell of all steps
 pub alone-all : (alone : Bool) (steps : List Step) → alone ≡ true → NameNobody alone steps

@@ -19,6 +19,7 @@ use Rattle.mdb_pool.proofs.Answered.Act.{accepts}
 use Rattle.mdb_pool.proofs.Listed.FirstOrLast.{Holder, holder}
 use Rattle.mdb_pool_rules.proofs.Listed.Values.{entry_at-key}
 use Rattle.mdb_pool.proofs.Follows.PinsFit.{pin-fits, replicate-fits}
+use Rattle.mdb_pool.proofs.SameAnswers.StaysHome.{stays-home}
 
 -- the connection that a party holds was given to it
 pub held-at : (s : PoolCore) (r : ℕ) (x : Connection) → held_connection s r ≡ Some x → (given_of (request_at s r) ≡ Some x.id) × (connection_at s x.id ≡ Some x) × (x.place ≡ Held)
@@ -45,7 +46,7 @@ pin-accepts s s1 t before after n r x xs z held s1_is home notes serves =
     let v : (given_of (request_at s r) ≡ Some x.id) × (connection_at s x.id ≡ Some x) × (x.place ≡ Held) = held-at s r x held in
     accepts s s1 t t before before after n (Pin r) Done [] xs (pinned_by r ∷ xs)
     refl
-    (sym (append-nil before)) (rw s1_is (record { pool = refl; address = refl; options = refl; alone = refl })) (rw s1_is (pin-fits s xs z n x r v.1 v.2 (z.matches.requests.given r ∙ v.0))) serves
+    (sym (append-nil before)) (rw s1_is (stays-home refl refl refl refl)) (rw s1_is (pin-fits s xs z n x r v.1 v.2 (z.matches.requests.given r ∙ v.0))) serves
     (λ zs v. v)
     (λ claims own zs m. refl)
     tt
@@ -63,7 +64,7 @@ replicate-accepts s s1 t before after n c x xs z at_c some_pins s1_is home notes
     let outside : stays x.place ≡ true = pinned-outside s xs z.matches c x at_c (ap (λ o. nat_lt 0 (pins_at o)) (sym at_c) ∙ some_pins) in
     accepts s s1 t t before before after n (Replicate s.pool c) Done [] xs (replicated c ∷ xs)
     refl
-    (sym (append-nil before)) (rw s1_is (record { pool = refl; address = refl; options = refl; alone = refl })) (rw s1_is (subst (λ d. Fits (pinning s n x) (replicated d ∷ xs)) e (replicate-fits s xs z n x at_x outside))) serves
+    (sym (append-nil before)) (rw s1_is (stays-home refl refl refl refl)) (rw s1_is (subst (λ d. Fits (pinning s n x) (replicated d ∷ xs)) e (replicate-fits s xs z n x at_x outside))) serves
     (λ zs v. v)
     (λ claims own zs m. refl)
     tt

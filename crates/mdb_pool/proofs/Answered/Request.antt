@@ -36,6 +36,7 @@ use Rattle.mdb_pool_rules.proofs.Listed.Values.{entry_at-put, entry_at-swap, swa
 use Rattle.mdb_pool.proofs.Listed.FirstOrLast.{available-at}
 use Rattle.mdb_pool.proofs.Follows.Stale.{ready-status}
 use Rattle.mdb_pool.proofs.Turns.Serve.{starts, turn-meet-to, ends-empty}
+use Rattle.mdb_pool.proofs.SameAnswers.StaysHome.{stays-home}
 
 -- what was told is noted
 pub telling-settled : (t : PoolCore) (r k : ℕ) → has k (telling t r).kept.settled ≡ ((r == k) && is_outcome (outcome_now t r)) || has k t.kept.settled
@@ -76,8 +77,8 @@ module _ (s : PoolCore) (xs : List PoolItem) (z : Fits s xs) (n r : ℕ) (absent
   away-fits (Some end) = rw (same-number r) (end-fits (asking s r n false) ys (ask-fits s xs z n r absent) n new_q end there refl)
 
   away-home : (o : Option End) → SameHome s (away (asking s r n false) r n false o)
-  away-home None = record { pool = refl; address = refl; options = refl; alone = refl }
-  away-home (Some end) = record { pool = refl; address = refl; options = refl; alone = refl }
+  away-home None = stays-home refl refl refl refl
+  away-home (Some end) = stays-home refl refl refl refl
 
   away-notes : (o : Option End) → SameNotes s (away (asking s r n false) r n false o)
   away-notes None = record { settled = refl; claimed = refl; status = refl }
@@ -183,8 +184,8 @@ module _ (s : PoolCore) (n r : ℕ) (x : Connection) (absent : request_at s r �
   serves-once before after xs told z =
       let meets : given_s ≡ meeting asked_s n x asked_q = sym (ap (met asked_s x asked_q) m.fresh) in
       let facts_are : Granted r s.pool x.id ∷ checked_out_fact s.pool s.address x.id 0 ∷ [] ≡ meeting_facts asked_s n x asked_q = rw (m.fresh, no-wait) refl in
-      ends-empty asked_s given_s (record { pool = refl; address = refl; options = refl; alone = refl }) n before after xs
-      (turn-meet-to asked_s asked_s given_s (record { pool = refl; address = refl; options = refl; alone = refl }) n before before after xs asked_q x (starts asked_s n before xs z) m.ready candidate-first refl m.last meets (told ∙ ap (λ fs. before ++ fs) facts_are))
+      ends-empty asked_s given_s (stays-home refl refl refl refl) n before after xs
+      (turn-meet-to asked_s asked_s given_s (stays-home refl refl refl refl) n before before after xs asked_q x (starts asked_s n before xs z) m.ready candidate-first refl m.last meets (told ∙ ap (λ fs. before ++ fs) facts_are))
       (ready-status s.kept.status m.ready) candidate-none
 
   outcome-pooled : connection_at s x.id ≡ Some x → outcome_now given_s r ≡ Pooled s.pool x.id
@@ -211,6 +212,6 @@ at-once-accepts s u before after n r x reply xs z absent e u_is told reply_is =
     request-accepts s asked_s asked_s (given_s s n r x absent m) u before begun begun after n r reply xs z absent refl refl
     (sym (ap (away asked_s r n false) stays))
     (sym (ap (λ o. begun ++ away_facts asked_s r false o) stays ∙ append-nil begun))
-    (record { pool = refl; address = refl; options = refl; alone = refl }) (record { settled = refl; claimed = refl; status = refl })
+    (stays-home refl refl refl refl) (record { settled = refl; claimed = refl; status = refl })
     (λ k v. serves-once s n r x absent m begun after k (told ∙ sym (append_assoc before (started_fact s.pool s.address ∷ []) (Granted r s.pool x.id ∷ checked_out_fact s.pool s.address x.id 0 ∷ []))) v)
     (u_is ∙ told-at-once s n r x absent m there) (reply_is ∙ sym (outcome-pooled s n r x absent m there))

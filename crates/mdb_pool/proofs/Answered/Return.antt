@@ -30,6 +30,7 @@ use Rattle.mdb_pool.proofs.Follows.PinsFit.{stand-fits}
 use Rattle.mdb_log.proofs.Pins.{errored-return}
 use Rattle.mdb_pool.proofs.Follows.CheckIn.{check-in-is, back-fair, back-own, back-open, back-fits}
 use Rattle.mdb_pool.proofs.Follows.Stale.{stale-at}
+use Rattle.mdb_pool.proofs.SameAnswers.StaysHome.{stays-home}
 
 pub none-above : (k : ℕ) → k ≤ 0 → k ≡ 0
 none-above k l = omega arith
@@ -75,8 +76,8 @@ module _ (s : PoolCore) (xs : List PoolItem) (z : Fits s xs) (n : ℕ) (x : Conn
       keeps f = cc
 
   home-for : (o : Option ConnectionClosedReason) → SameHome s (returning_for s n used_x q o)
-  home-for None = record { pool = refl; address = refl; options = refl; alone = refl }
-  home-for (Some w) = record { pool = refl; address = refl; options = refl; alone = refl }
+  home-for None = stays-home refl refl refl refl
+  home-for (Some w) = stays-home refl refl refl refl
 
   notes-for : (o : Option ConnectionClosedReason) → ((returning_for s n used_x q o).kept.settled ≡ marked q.number s.kept.settled) × ((returning_for s n used_x q o).kept.claimed ≡ s.kept.claimed) × ((returning_for s n used_x q o).kept.status ≡ s.kept.status)
   notes-for None = (refl, refl, refl)
@@ -104,7 +105,7 @@ module _ (s : PoolCore) (xs : List PoolItem) (z : Fits s xs) (n : ℕ) (x : Conn
   stand-accepts s1 t before after held at_x place at_q phase some_pins s1_is home notes serves =
       accepts s s1 t t before before after n (ReturnAct q.number used) Done [] xs ys
       (stand-are held at_x some_pins)
-      (sym (append-nil before)) (rw s1_is (record { pool = refl; address = refl; options = refl; alone = refl })) (rw s1_is (stand-fits s xs z n x q at_x place at_q phase some_pins used)) serves
+      (sym (append-nil before)) (rw s1_is (stays-home refl refl refl refl)) (rw s1_is (stand-fits s xs z n x q at_x place at_q phase some_pins used)) serves
       (λ zs v. v)
       (λ claims own zs m. refl)
       tt

@@ -11,14 +11,14 @@ use Rattle.mdb_log.specs.declared.reply.Reply.TheVariants.{Refused as RefusedBy}
 use Rattle.mdb_log.specs.History.{Item, of_pool, with_answer}
 use Rattle.mdb_log.specs.Legal.{NoneLeftWaiting}
 use Rattle.mdb_pool.specs.Core.{PoolCore}
-use Rattle.mdb_pool.specs.Now.{last_now}
+use Rattle.mdb_pool.specs.Now.{last_now, queries}
 use Rattle.mdb_pool.specs.declared.planning.Answered.{Answered}
 use Rattle.mdb_pool_rules.specs.Answer.{answer}
 use Rattle.mdb_pool_rules.specs.Refusal.{first_row}
 use Rattle.mdb_pool.specs.Refusing.{refusal_now, rows_now}
 use Rattle.mdb_log.specs.declared.log.Entry.{Entry}
-use Rattle.mdb_pool.specs.Standing.{StandsFor, SameHome, Answers, Logs}
-use Rattle.mdb_pool.specs.Planning.{Does, DoesOne, DoesAll, IsPrepared, Passes, answered_as, answers_for, with_steps}
+use Rattle.mdb_pool.specs.Standing.{StandsFor, StandsForSome, SameHome, Answers, Logs}
+use Rattle.mdb_pool.specs.Planning.{Does, DoesLogged, DoesOne, DoesAll, IsPrepared, Passes, answered_as, answers_for, with_steps}
 use Rattle.mdb_pool.proofs.Answered.Act.{own-answers, refuses}
 use Rattle.mdb_pool.proofs.Answered.Item.{names-item, asks-item, item-is}
 use Rattle.mdb_pool_rules.proofs.FirstRow.{first-passes}
@@ -40,6 +40,12 @@ module _ (s : PoolCore) (step : Step) (none : refusal_now s step ≡ None) where
   does-answers t before after reply home last does h z =
       own-answers s t before after step reply _ h z (passes h z) (item-is s h z step.moment step.act rows)
       (names-item s step.moment (of_pool s.pool h) step.act rows) (asks-item s step.moment (of_pool s.pool h) step.act) home last (does (of_pool s.pool h) z.fits)
+
+-- the pool of a logged step stands for the history with it
+pub logged-stands : (s : PoolCore) (step : Step) → refusal_now s step ≡ None → (t : PoolCore) (before after : List Entry) (seat : ℕ) (reply : Reply) → DoesLogged s t before after seat step reply → StandsForSome s → StandsForSome t
+unfolding queries
+logged-stands s step none t before after seat reply does some =
+    (_, (does-answers s step none t [] does.0 reply does.1.home does.1.last does.1.does some.0 some.1).stands)
 
 pub refuses-now : (s : PoolCore) (before : List Fact) (step : Step) (why : Refused) → refusal_now s step ≡ Some why → (h : List Item) → StandsFor s h → Answers s s before before step (RefusedBy why) h
 refuses-now s before step why e h z = refuses s before step why h z (sym (refused-now s h z step) ∙ e)

@@ -17,6 +17,7 @@ use Rattle.mdb_pool.specs.Acts.Changes.{taking}
 use Rattle.mdb_pool.proofs.Answered.Act.{accepts, pending-is, no-some}
 use Rattle.mdb_pool.proofs.Answered.Pin.{pinned-at, pinned-outside}
 use Rattle.mdb_pool.proofs.Follows.PinsFit.{take-fits}
+use Rattle.mdb_pool.proofs.SameAnswers.StaysHome.{stays-home}
 
 -- a pinned connection that nobody has is at its pin
 pub at-pin : (p : Place) → stays p ≡ true → is_held p ≡ false → p ≡ Pinned
@@ -57,7 +58,7 @@ take-accepts s s1 t before after n r c x xs z absent at_c some_pins alone s1_is 
     let same : t.pool ≡ s.pool = home.pool ∙ ap (λ k. k.pool) s1_is in
     accepts s s1 t t before before after n (Take r s.pool c) (Pooled t.pool c) [] xs (taken r c ∷ xs)
     refl
-    (sym (append-nil before)) (rw s1_is (record { pool = refl; address = refl; options = refl; alone = refl })) (rw s1_is (subst (λ d. Fits (taking s n r x) (taken r d ∷ xs)) e (take-fits s xs z n x r at_x place (no-some (request_at s r) absent)))) serves
+    (sym (append-nil before)) (rw s1_is (stays-home refl refl refl refl)) (rw s1_is (subst (λ d. Fits (taking s n r x) (taken r d ∷ xs)) e (take-fits s xs z n x r at_x place (no-some (request_at s r) absent)))) serves
     (λ zs v. v)
     (λ claims own zs m. ap (λ p. Pooled p c) same)
     tt

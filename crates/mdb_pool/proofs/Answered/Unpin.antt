@@ -24,6 +24,7 @@ use Rattle.mdb_log.proofs.Bools.{both-left, both-right}
 use Rattle.mdb_pool.proofs.Listed.FirstOrLast.{is-pinned}
 use Rattle.mdb_pool.proofs.Answered.Pin.{pinned-at}
 use Rattle.mdb_pool.proofs.Follows.PinsFit.{unpin-fits, pin-end-fits, pin-lose-fits}
+use Rattle.mdb_pool.proofs.SameAnswers.StaysHome.{stays-home}
 
 -- a connection that has a pin
 module _ (s : PoolCore) (xs : List PoolItem) (z : Fits s xs) (n : ℕ) (x : Connection) (at_x : connection_at s x.id ≡ Some x) (some_pins : nat_lt 0 x.pins ≡ true) where
@@ -58,7 +59,7 @@ module _ (s : PoolCore) (xs : List PoolItem) (z : Fits s xs) (n : ℕ) (x : Conn
   unpin-accepts s1 t before after more s1_is home notes serves =
       accepts s s1 t t before before after n (Unpin s.pool x.id) Done [] xs ys
       (stays-are more)
-      (sym (append-nil before)) (rw s1_is (record { pool = refl; address = refl; options = refl; alone = refl })) (rw s1_is (unpin-fits s xs z n x at_x some_pins more)) serves
+      (sym (append-nil before)) (rw s1_is (stays-home refl refl refl refl)) (rw s1_is (unpin-fits s xs z n x at_x some_pins more)) serves
       (λ zs v. v)
       (λ claims own zs m. refl)
       tt
@@ -83,7 +84,7 @@ module _ (s : PoolCore) (xs : List PoolItem) (z : Fits s xs) (n : ℕ) (x : Conn
   pin-end-accepts s1 t before f1 after place one s1_is f1_is home notes serves =
       accepts s s1 t t before f1 after n (Unpin s.pool x.id) Done (back_facts s x why) xs ys
       (ends-are (rw (place, one) refl))
-      f1_is (rw s1_is (record { pool = refl; address = refl; options = refl; alone = refl })) (rw s1_is (fits-for (is-pinned x.place place) one why)) serves
+      f1_is (rw s1_is (stays-home refl refl refl refl)) (rw s1_is (fits-for (is-pinned x.place place) one why)) serves
       (λ zs v. v)
       (λ claims own zs m. refl)
       tt

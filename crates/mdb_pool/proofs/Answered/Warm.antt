@@ -26,6 +26,7 @@ use Rattle.mdb_log.specs.Own.{shuts, AllOwn}
 use Rattle.mdb_pool_rules.proofs.Listed.Values.{entry_at-put}
 use Rattle.std.proofs.Math.Bool.{or-false}
 use Rattle.mdb_pool.proofs.Answered.Request.{telling-settled, telling-fits}
+use Rattle.mdb_pool.proofs.SameAnswers.StaysHome.{stays-home}
 
 -- a warm request that is new, and ends at once where the pool isn't ready
 module _ (s : PoolCore) (xs : List PoolItem) (z : Fits s xs) (n r : ℕ) (absent : request_at s r ≡ None) where
@@ -52,8 +53,8 @@ module _ (s : PoolCore) (xs : List PoolItem) (z : Fits s xs) (n r : ℕ) (absent
   away-fits (Some end) = rw (same-number r) (end-fits (asking s r n true) ys (warm-fits s xs z n r absent) n new_q end there refl)
 
   away-home : (o : Option End) → SameHome s (away (asking s r n true) r n true o)
-  away-home None = record { pool = refl; address = refl; options = refl; alone = refl }
-  away-home (Some end) = record { pool = refl; address = refl; options = refl; alone = refl }
+  away-home None = stays-home refl refl refl refl
+  away-home (Some end) = stays-home refl refl refl refl
 
   away-notes : (o : Option End) → SameNotes s (away (asking s r n true) r n true o)
   away-notes None = record { settled = refl; claimed = refl; status = refl }

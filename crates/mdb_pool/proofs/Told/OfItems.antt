@@ -7,10 +7,10 @@ use Rattle.std.specs.List.{list_any}
 use Rattle.std.specs.Prelude.{find}
 use Rattle.mdb_log.specs.History.{Item, PoolItem, has_asked, of_pool}
 use Rattle.mdb_log.specs.Requests.{is_claimed, is_open}
-use Rattle.mdb_log.specs.Connections.{has, is_live, pending_list, held, holding, known_service, pins, timeouts_since}
-use Rattle.mdb_log.specs.State.{generation_of, generation_before, is_interrupted}
-use Rattle.mdb_pool.specs.Kept.Values.{ids_where, connection_at, held_connection, id_at, clears_before, generation_at, interrupted_at, timeouts_in, is_held_at, pins_at}
-use Rattle.mdb_pool.specs.Now.{claimed_now, clears_before_now, clears_now, generation_now, has_job_now, held_now, holds_now, is_held_now, is_live_now, is_open_now, is_pending_now, pins_now, queries}
+use Rattle.mdb_log.specs.Connections.{has, is_live, pending_list, held, holding, known_service, pins, timeouts_since, wire_of}
+use Rattle.mdb_log.specs.State.{generation_of, generation_before, is_interrupted, state_of}
+use Rattle.mdb_pool.specs.Kept.Values.{ids_where, connection_at, held_connection, id_at, clears_before, generation_at, interrupted_at, timeouts_in, is_held_at, pins_at, wire_at}
+use Rattle.mdb_pool.specs.Now.{claimed_now, clears_before_now, clears_now, generation_now, has_job_now, held_now, holds_now, is_held_now, is_live_now, is_open_now, is_pending_now, pins_now, queries, state_now, wire_now}
 use Rattle.mdb_pool.specs.Kept.Places.{is_held, is_pending}
 use Rattle.mdb_log.specs.Generations.{carried}
 use Rattle.mdb_log.specs.declared.generation.ConnectionGeneration.TheVariants.{Normal, LoadBalanced}
@@ -24,6 +24,10 @@ use Rattle.mdb_pool.proofs.Listed.FirstOrLast.{id_or}
 use Rattle.mdb_pool.proofs.Follows.Stale.{live-created}
 
 module _ (s : PoolCore) (xs : List PoolItem) (z : Fits s xs) where
+  pub state-now : state_now s ≡ state_of s.options xs
+  unfolding queries
+  state-now = sym z.matches.clearing.status
+
   pub generation-now : (t : Option ObjectId) → clears_now s t ≡ generation_of xs t
   unfolding queries
   generation-now t = sym (z.matches.clearing.clears t)
@@ -35,6 +39,14 @@ module _ (s : PoolCore) (xs : List PoolItem) (z : Fits s xs) where
       on : (b : Bool) → nat_lt 0 (if b then 1 else 0) ≡ b
       on true = refl
       on false = refl
+
+  pub wire-now : (c : ℕ) → wire_now s c ≡ (if is_live xs c then wire_of xs c else None)
+  unfolding queries
+  wire-now c = rw (live-is c) (on (connection_at s c) refl)
+    where
+      on : (o : Option Connection) → connection_at s c ≡ o → wire_at (connection_at s c) ≡ (if is_some (connection_at s c) then wire_of xs c else None)
+      on None e = rw e refl
+      on (Some x) e = sym (z.matches.told.wire c) ∙ rw e refl
 
   pub before-now : (c : ℕ) (t : Option ObjectId) → (if is_live_now s c then Some (clears_before_now s c t) else None) ≡ (if is_live xs c then Some (generation_before xs c t) else None)
   unfolding queries

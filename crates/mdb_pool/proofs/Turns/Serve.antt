@@ -34,6 +34,7 @@ use Rattle.mdb_pool.proofs.Follows.Serving.{queued-asked_at}
 use Rattle.mdb_pool.proofs.Follows.Fits.{grant-fits, create-fits, discard-fits, end-fits}
 use Rattle.mdb_pool.proofs.Follows.Stale.{ready-is, ready-status, stale-at}
 use Rattle.mdb_pool_rules.proofs.Fair.{serve-nothing}
+use Rattle.mdb_pool.proofs.SameAnswers.StaysHome.{stays-home}
 
 or_else-none : (o : Option ℕ) → or_else o None ≡ o
 or_else-none None = refl
@@ -300,8 +301,8 @@ pub warming-keeps : (t u : PoolCore) (n : ℕ) (q : Request) → u ≡ warming t
 warming-keeps t u n q new = on (wants_now t) refl
   where
     on : (b : Bool) → wants_now t ≡ b → (u.kept.last ≡ t.kept.last) × SameHome t u × SameNotes t u
-    on true w = rw (new, w) (refl, record { pool = refl; address = refl; options = refl; alone = refl }, record { settled = refl; claimed = refl; status = refl })
-    on false w = rw (new, w) (refl, record { pool = refl; address = refl; options = refl; alone = refl }, record { settled = refl; claimed = refl; status = refl })
+    on true w = rw (new, w) (refl, stays-home refl refl refl refl, record { settled = refl; claimed = refl; status = refl })
+    on false w = rw (new, w) (refl, stays-home refl refl refl refl, record { settled = refl; claimed = refl; status = refl })
 
 -- a pool that isn't ready is not served
 pub serves-nothing : (s : PoolCore) (n : ℕ) (facts : List Fact) (xs : List PoolItem) → Fits s xs → is_ready_now s.kept.status ≡ false → Serves s s n facts facts xs
@@ -317,5 +318,5 @@ pub meeting-keeps : (t u : PoolCore) (n : ℕ) (x : Connection) (q : Request) �
 meeting-keeps t u n x q new = on (perished_now t n x) refl
   where
     on : (o : Option ConnectionClosedReason) → perished_now t n x ≡ o → (u.kept.last ≡ t.kept.last) × SameHome t u × SameNotes t u
-    on (Some why) e = rw (new, e) (refl, record { pool = refl; address = refl; options = refl; alone = refl }, record { settled = refl; claimed = refl; status = refl })
-    on None e = rw (new, e) (refl, record { pool = refl; address = refl; options = refl; alone = refl }, record { settled = refl; claimed = refl; status = refl })
+    on (Some why) e = rw (new, e) (refl, stays-home refl refl refl refl, record { settled = refl; claimed = refl; status = refl })
+    on None e = rw (new, e) (refl, stays-home refl refl refl refl, record { settled = refl; claimed = refl; status = refl })

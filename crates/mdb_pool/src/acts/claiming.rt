@@ -30,6 +30,7 @@ impl Draft {
     }
 
     // A worker is told the pending connection that came first among those that no other is told of. Whoever calls has tested the refusals.
+    #[tactic(auto, unfolding(crate::specs::Now::queries))]
     pub(crate) fn accept_claim(
         &mut self,
         alloc: Global,

@@ -115,6 +115,7 @@ impl Draft {
     }
 
     // A clear of a pool that is ready, as a whole: the queue ends.
+    #[tactic(auto, unfolding(crate::specs::Now::queries))]
     fn clear_ready(
         &mut self,
         alloc: Global,
@@ -135,6 +136,7 @@ impl Draft {
     }
 
     // A clear of a pool that is not closed.
+    #[tactic(auto, unfolding(crate::specs::Now::queries))]
     fn clear_open(
         &mut self,
         alloc: Global,
@@ -163,6 +165,7 @@ impl Draft {
     }
 
     // The pool, or a service of it, is cleared (CMAP, "Clearing a Connection Pool"). Whoever calls has tested the refusals.
+    #[tactic(auto, unfolding(crate::specs::Now::queries))]
     pub(crate) fn accept_clear(
         &mut self,
         alloc: Global,

@@ -165,6 +165,7 @@ impl Draft {
     }
 
     // A pool that is not closed is.
+    #[tactic(auto, unfolding(crate::specs::Now::queries))]
     fn close_open(
         &mut self,
         alloc: Global,
@@ -183,6 +184,7 @@ impl Draft {
     }
 
     // The pool is closed (CMAP, "Closing a Connection Pool"). Whoever calls has tested the refusals.
+    #[tactic(auto, unfolding(crate::specs::Now::queries))]
     pub(crate) fn accept_close(
         &mut self,
         alloc: Global,

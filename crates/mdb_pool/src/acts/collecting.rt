@@ -16,6 +16,7 @@ impl Draft {
     ghost use Rattle.mdb_log.specs.declared.step.Act.TheVariants.{Collect};
 
     // An open request is told how it stands. Whoever calls has tested the refusals.
+    #[tactic(auto, unfolding(crate::specs::Now::queries))]
     pub(crate) fn accept_collect(
         &mut self,
         alloc: Global,

@@ -17,7 +17,7 @@ impl Draft {
     ghost use Rattle.mdb_log.specs.declared.step.Act.TheVariants.{Established as EstablishedAct};
 
     // A pending connection is handed over, or goes into the pool. Whoever calls has tested the refusals.
-    #[tactic(auto, using(crate::proofs::KeptInLittle::ConnectionsThatLive::at_lives))]
+    #[tactic(auto, using(crate::proofs::KeptInLittle::ConnectionsThatLive::at_lives), unfolding(crate::specs::Now::queries))]
     pub(crate) fn accept_established(
         &mut self,
         alloc: Global,

@@ -62,6 +62,7 @@ impl Draft {
     }
 
     // The callers of the pool that have waited for too long end. Whoever calls has tested the refusals.
+    #[tactic(auto, unfolding(crate::specs::Now::queries))]
     pub(crate) fn accept_expire(
         &mut self,
         alloc: Global,

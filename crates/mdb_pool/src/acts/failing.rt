@@ -110,6 +110,7 @@ impl Draft {
     }
 
     // A pending connection failed, at any point. Whoever calls has tested the refusals.
+    #[tactic(auto, unfolding(crate::specs::Now::queries))]
     pub(crate) fn accept_failed(
         &mut self,
         alloc: Global,

@@ -22,6 +22,7 @@ impl Draft {
     ghost use Rattle.mdb_log.specs.declared.step.Act.TheVariants.{GiveUp};
 
     // An ended request is told how it ended.
+    #[tactic(auto, unfolding(crate::specs::Now::queries))]
     fn give_up_late(
         &mut self,
         alloc: Global,
@@ -44,7 +45,7 @@ impl Draft {
     }
 
     // A request whose connection is held is given up.
-    #[tactic(auto, using(crate::proofs::KeptInLittle::ConnectionsThatLive::party_lives))]
+    #[tactic(auto, using(crate::proofs::KeptInLittle::ConnectionsThatLive::party_lives), unfolding(crate::specs::Now::queries))]
     fn give_up_held(
         &mut self,
         alloc: Global,
@@ -80,6 +81,7 @@ impl Draft {
     }
 
     // The caller of a request no longer wants its connection. Whoever calls has tested the refusals.
+    #[tactic(auto, unfolding(crate::specs::Now::queries))]
     pub(crate) fn accept_give_up(
         &mut self,
         alloc: Global,

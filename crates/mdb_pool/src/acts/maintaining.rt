@@ -58,6 +58,7 @@ impl Draft {
     }
 
     // The pool is maintained. Whoever calls has tested the refusals.
+    #[tactic(auto, unfolding(crate::specs::Now::queries))]
     pub(crate) fn accept_maintain(
         &mut self,
         alloc: Global,

@@ -38,6 +38,7 @@ impl Draft {
     }
 
     // A held connection is pinned. Whoever calls has tested the refusals.
+    #[tactic(auto, unfolding(crate::specs::Now::queries))]
     pub(crate) fn accept_pin(
         &mut self,
         alloc: Global,
@@ -60,6 +61,7 @@ impl Draft {
     }
 
     // A pinned connection gets one more pin. Whoever calls has tested the refusals.
+    #[tactic(auto, unfolding(crate::specs::Now::queries))]
     pub(crate) fn accept_replicate(
         &mut self,
         alloc: Global,

@@ -36,6 +36,7 @@ impl Draft {
     }
 
     // A new or paused pool becomes ready, and is then served. Whoever calls has tested the refusals.
+    #[tactic(auto, unfolding(crate::specs::Now::queries))]
     pub(crate) fn accept_ready(
         &mut self,
         alloc: Global,

@@ -71,6 +71,7 @@ impl Draft {
     }
 
     // A new caller is served. Whoever calls has tested the refusals.
+    #[tactic(auto, unfolding(crate::specs::Now::queries))]
     pub(crate) fn accept_request(
         &mut self,
         alloc: Global,

@@ -19,7 +19,7 @@ impl Draft {
     ghost use Rattle.mdb_log.specs.declared.step.Act.TheVariants.{Return as ReturnAct};
 
     // A held connection comes back, or goes to its pin. Whoever calls has tested the refusals.
-    #[tactic(auto, using(crate::proofs::KeptInLittle::ConnectionsThatLive::held_lives))]
+    #[tactic(auto, using(crate::proofs::KeptInLittle::ConnectionsThatLive::held_lives), unfolding(crate::specs::Now::queries))]
     pub(crate) fn accept_return(
         &mut self,
         alloc: Global,

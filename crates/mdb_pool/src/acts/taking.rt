@@ -56,6 +56,7 @@ impl Draft {
     }
 
     // A new party takes a connection from its pin. Whoever calls has tested the refusals.
+    #[tactic(auto, unfolding(crate::specs::Now::queries))]
     pub(crate) fn accept_take(
         &mut self,
         alloc: Global,

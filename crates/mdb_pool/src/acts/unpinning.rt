@@ -68,7 +68,7 @@ impl Draft {
     }
 
     // A pinned connection loses a pin. Whoever calls has tested the refusals.
-    #[tactic(auto, using(crate::proofs::KeptInLittle::ConnectionsThatLive::at_lives))]
+    #[tactic(auto, using(crate::proofs::KeptInLittle::ConnectionsThatLive::at_lives), unfolding(crate::specs::Now::queries))]
     pub(crate) fn accept_unpin(
         &mut self,
         alloc: Global,

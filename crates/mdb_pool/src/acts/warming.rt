@@ -16,6 +16,7 @@ impl Draft {
     ghost use Rattle.mdb_log.specs.declared.step.Act.TheVariants.{Warm as WarmAct};
 
     // A new warm request is served. Whoever calls has tested the refusals.
+    #[tactic(auto, unfolding(crate::specs::Now::queries))]
     pub(crate) fn accept_warm(
         &mut self,
         alloc: Global,

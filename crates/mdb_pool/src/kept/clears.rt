@@ -42,7 +42,7 @@ pub(crate) fn used_as(connection: Connection, used: Use) -> Connection
 impl PoolCore {
     ghost use Rattle.std.specs.Prelude.{true, if◌then◌else◌, Some, None, List};
     ghost use Rattle.mdb_pool.specs.Kept.Values.{connection_at, interrupted_at};
-    ghost use Rattle.mdb_pool.specs.Now.{clears_before_now, clears_now, generation_now, is_live_now};
+    ghost use Rattle.mdb_pool.specs.Now.{clears_before_now, generation_now, is_live_now};
     ghost use Rattle.mdb_log.specs.Generations.{carried};
     ghost use Rattle.mdb_pool.specs.Standing.{Fits};
     ghost use Rattle.mdb_log.specs.History.{PoolItem};
@@ -51,21 +51,16 @@ impl PoolCore {
 
     /// How often the pool was cleared: for the service, or as a whole where there is none (CMAP, "Generation").
     pub fn generation(&self, service: Option<ObjectId>) -> u64
-        ensures now { result ≡ clears_now self.now service }
-        ensures items { (xs : List PoolItem) → Fits self.now xs → result ≡ generation_of xs service }
+        ensures { (xs : List PoolItem) → Fits self.now xs → result ≡ generation_of xs service }
     {
         self.draft.body.generation(service)
     }
 
     /// How often it was cleared so before the connection was created, `None` where the connection isn't live.
     pub fn generation_before(&self, id: u32, service: Option<ObjectId>) -> Option<u64>
-        ensures now { result ≡ if is_live_now self.now id then Some (clears_before_now self.now id service) else None }
-        ensures items { (xs : List PoolItem) → Fits self.now xs → result ≡ if is_live xs id then Some (generation_before xs id service) else None }
+        ensures { (xs : List PoolItem) → Fits self.now xs → result ≡ if is_live xs id then Some (generation_before xs id service) else None }
     {
-        if self.draft.body.connections.get(id).is_none() {
-            return None;
-        }
-        Some(self.draft.body.connections.generation_before(id, service))
+        self.draft.body.generation_before(id, service)
     }
 
     // The generation that a connection of the service carries, which lives.
@@ -86,15 +81,21 @@ impl PoolCore {
         }))
     }
 
-    /// The generation that the connection carries (CMAP, "Generation"), `None` where it isn't live.
-    pub fn connection_generation(&self, id: u32) -> Option<ConnectionGeneration>
-        ensures now { result ≡ generation_now self.now id }
-        ensures items { (xs : List PoolItem) → Fits self.now xs → result ≡ if is_live xs id then Some (carried self.now.options.load_balanced (generation_before xs id) (known_service xs id)) else None }
+    // The generation that the connection carries, `None` where it isn't live.
+    fn carries(&self, id: u32) -> Option<ConnectionGeneration>
+        ensures { result ≡ generation_now self.now id }
     {
         match self.draft.body.connections.get(id) {
             Some(connection) => Some(self.carried(id, connection.service)),
             None => None,
         }
+    }
+
+    /// The generation that the connection carries (CMAP, "Generation"), `None` where it isn't live.
+    pub fn connection_generation(&self, id: u32) -> Option<ConnectionGeneration>
+        ensures { (xs : List PoolItem) → Fits self.now xs → result ≡ if is_live xs id then Some (carried self.now.options.load_balanced (generation_before xs id) (known_service xs id)) else None }
+    {
+        self.carries(id)
     }
 
     // The connection is interrupted, by what is kept of it.

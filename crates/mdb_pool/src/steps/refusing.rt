@@ -247,13 +247,21 @@ impl PoolCore {
     ghost use Rattle.mdb_pool.specs.Refusing.{refusal_now, tells_new};
     ghost use Rattle.mdb_pool.specs.Standing.{StandsFor};
 
+    // Why the pool refuses the step, by what it keeps.
+    pub(crate) fn refuses(&self, step: &Step) -> Option<Refused>
+        requires act { IsPoolAct self.now.pool step.now.act }
+        requires new { tells_new self.now step.now.act ≡ true }
+        ensures { result ≡ refusal_now self.now step.now }
+    {
+        self.draft.body.refusal_now(step)
+    }
+
     /// Why the pool refuses the step, `None` where it accepts it. It only looks, and takes no memory. A pool of a driver is asked only for parties that are new to it.
     pub fn refusal_now(&self, step: &Step) -> Option<Refused>
         requires act { IsPoolAct self.now.pool step.now.act }
         requires new { tells_new self.now step.now.act ≡ true }
-        ensures now { result ≡ refusal_now self.now step.now }
-        ensures history { (h : List Item) → StandsFor self.now h → result ≡ refusal_of self.now.pool self.now.options h step.now }
+        ensures { (h : List Item) → StandsFor self.now h → result ≡ refusal_of self.now.pool self.now.options h step.now }
     {
-        self.draft.body.refusal_now(step)
+        self.refuses(step)
     }
 }

@@ -199,7 +199,6 @@ impl PoolCore {
     ghost use Rattle.mdb_log.specs.History.{Item, of_pool};
 
     // The step, which is not refused, is done. Where there is no memory the pool is as it was.
-    #[tactic(auto, using(crate::proofs::SameAnswers::KeptTheSame::home_same))]
     fn done(
         &mut self,
         alloc: Global,
@@ -241,14 +240,13 @@ impl PoolCore {
         ensures err_facts { OnErr result (facts.new.items ≡ facts.old.items) }
         ensures passes { OnErr result (Passes self.old step.now) }
     {
-        if let Some(why) = self.refusal_now(step) {
+        if let Some(why) = self.refuses(step) {
             return Ok(Reply::Refused(why));
         }
         self.done(alloc, facts, step)
     }
 
     // Does what the step says, which is not refused, and logs it.
-    #[tactic(auto, using(crate::proofs::SameAnswers::KeptTheSame::home_same))]
     fn enter(
         &mut self,
         alloc: Global,
@@ -307,7 +305,7 @@ impl PoolCore {
         ensures err_core { OnErr result (self.new ≡ self.old) }
         ensures err_log { OnErr result (log.new ≡ log.old) }
     {
-        if let Some(why) = self.refusal_now(step) {
+        if let Some(why) = self.refuses(step) {
             self.refuse(alloc, log, seat, step, why)?;
             return Ok(());
         }

@@ -8,6 +8,7 @@ ghost use Rattle.mdb_driver_rules.specs.Errors.{case_of};
 
 use crate::topology::TopologyCore;
 use mdb_base::{Error, ObjectId, ServerAddress};
+use mdb_driver_pools::pool_queries::{connection_generation, generation, wire_version};
 use mdb_log::ConnectionGeneration;
 use mdb_pool::PoolCore;
 
@@ -15,10 +16,10 @@ use mdb_pool::PoolCore;
 fn is_outdated(pool: &PoolCore, id: u32) -> bool
     ensures { is_live_now pool.now id ≡ true → result ≡ is_outdated pool.now id }
 {
-    match pool.connection_generation(id) {
-        Some(ConnectionGeneration::Normal(own)) => own != pool.generation(None),
+    match connection_generation(pool, id) {
+        Some(ConnectionGeneration::Normal(own)) => own != generation(pool, None),
         Some(ConnectionGeneration::LoadBalanced(Some(own))) => {
-            own.generation != pool.generation(Some(own.service_id))
+            own.generation != generation(pool, Some(own.service_id))
         }
         Some(ConnectionGeneration::LoadBalanced(None)) => false,
         None => false,
@@ -47,14 +48,14 @@ fn is_old(wire: Option<i32>) -> bool
 pub(crate) fn is_hard(pool: &PoolCore, id: u32, error: &Error) -> bool
     ensures { result ≡ is_hard_now pool.now id error.now }
 {
-    error.is_shutting_down() || is_old(pool.wire_version(id))
+    error.is_shutting_down() || is_old(wire_version(pool, id))
 }
 
 // The service of a live connection under load balancing.
 fn service_at(pool: &PoolCore, id: u32) -> Option<ObjectId>
     ensures { pool.now.options.load_balanced ≡ true → is_live_now pool.now id ≡ true → result ≡ service_now pool.now id }
 {
-    match pool.connection_generation(id) {
+    match connection_generation(pool, id) {
         Some(own) => own.service_id(),
         None => None,
     }

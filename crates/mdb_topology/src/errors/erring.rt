@@ -13,6 +13,7 @@ use crate::errors::complaining::{has_row, is_hard, service_cleared};
 use crate::topology::TopologyCore;
 use crate::transition::{Decision, Transition};
 use mdb_base::{Error, ObjectId, OutOfMemory, ServerAddress};
+use mdb_driver_pools::pool_queries::held_by;
 use mdb_driver_pools::{Asked, PoolTrouble};
 use mdb_log::{Refused, Reply, Step, What};
 use mdb_pool::PoolCore;
@@ -146,7 +147,7 @@ impl TopologyCore {
         let Some(index) = self.pools.holder(party) else {
             return Ok(Decision::Refused(Refused::NotHolder));
         };
-        let Some(id) = self.pools.cores.at(index).held_by(party) else {
+        let Some(id) = held_by(self.pools.cores.at(index), party) else {
             return Ok(Decision::Refused(Refused::NotHolder));
         };
         if self.leaves_complaint(self.pools.cores.at(index), id, error) {

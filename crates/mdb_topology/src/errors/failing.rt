@@ -19,6 +19,7 @@ use crate::topology::TopologyCore;
 use crate::transition::{Decision, Transition};
 use mdb_base::{Error, ObjectId, OutOfMemory, ServerAddress};
 use mdb_describe::TopologyDescription;
+use mdb_driver_pools::pool_queries::{generation, generation_before, refusal_now};
 use mdb_driver_pools::{Asked, PoolChange, PoolTrouble};
 use mdb_events::Fact;
 use mdb_log::{FailedAt, Refused, Reply, Step, What};
@@ -67,8 +68,8 @@ fn service_after(pool: &PoolCore, id: u32, at: FailedAt, error: &Error) -> Optio
 fn is_uncleared(pool: &PoolCore, id: u32, service: Option<ObjectId>) -> bool
     ensures { is_live_now pool.now id ≡ true → result ≡ is_uncleared pool.now id service }
 {
-    match pool.generation_before(id, service) {
-        Some(own) => own == pool.generation(service),
+    match generation_before(pool, id, service) {
+        Some(own) => own == generation(pool, service),
         None => false,
     }
 }
@@ -87,8 +88,8 @@ fn is_kept(pool: &PoolCore, id: u32, service: Option<ObjectId>) -> bool
 fn is_not_below(pool: &PoolCore, id: u32) -> bool
     ensures { is_live_now pool.now id ≡ true → result ≡ nat_le (clears_now pool.now None) (clears_before_now pool.now id None) }
 {
-    match pool.generation_before(id, None) {
-        Some(own) => pool.generation(None) <= own,
+    match generation_before(pool, id, None) {
+        Some(own) => generation(pool, None) <= own,
         None => false,
     }
 }
@@ -317,7 +318,7 @@ impl TopologyCore {
         let Some(index) = self.pools.numbered(number) else {
             return Ok(Decision::Refused(Refused::NotPending));
         };
-        if let Some(why) = self.pools.cores.at(index).refusal_now(step) {
+        if let Some(why) = refusal_now(self.pools.cores.at(index), step) {
             return Ok(Decision::Refused(why));
         }
         self.fail_at(alloc, step, index, id, at, error)

@@ -12,14 +12,15 @@ ghost use Rattle.mdb_driver_pools.specs.Living.{lives_at};
 use crate::topology::TopologyCore;
 use mdb_base::{Error, ErrorKind, ObjectId, ServerAddress, TopologyVersion};
 use mdb_describe::ServerDescription;
+use mdb_driver_pools::pool_queries::{generation, is_closed};
 use mdb_log::BeatenResult;
-use mdb_pool::{PoolCore, PoolState};
+use mdb_pool::PoolCore;
 
 // The pool is open, and was cleared so often, or for the service.
 fn is_at_limit(pool: &PoolCore, limit: u64, service: Option<ObjectId>) -> bool
     ensures { result ≡ not (is_closed_now pool.now) && nat_le limit (clears_now pool.now service) }
 {
-    !matches!(pool.state(), PoolState::Closed) && limit <= pool.generation(service)
+    !is_closed(pool) && limit <= generation(pool, service)
 }
 
 // The one version is older than the other, of the same process.

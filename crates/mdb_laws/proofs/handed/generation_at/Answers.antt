@@ -11,7 +11,7 @@ pub returns-in-Some : goal.returns-in-Some
 returns-in-Some c = λ h z.
     let d = c.in-Some.ensures.fits h c.in-Some.known.now z refl in
     let xs = of_pool c.args.pool h in
-    subst (λ (o : PoolOptions). c.connection_generation.result ≡ (if is_live xs c.args.id then Some (carried o.load_balanced (generation_before xs c.args.id) (known_service xs c.args.id)) else None)) d.options (c.connection_generation.ensures.items xs d.fits)
+    subst (λ (o : PoolOptions). c.connection_generation.result ≡ (if is_live xs c.args.id then Some (carried o.load_balanced (generation_before xs c.args.id) (known_service xs c.args.id)) else None)) d.options (c.connection_generation.ensures xs d.fits)
 
 pub returns-in-None : goal.returns-in-None
 returns-in-None c = λ h z. sym (ap (λ b. if b then Some (carried (pool_options c.args.core.now.options).load_balanced (generation_before (of_pool c.args.pool h) c.args.id) (known_service (of_pool c.args.pool h) c.args.id)) else None) ((c.in-None.ensures.missing h z refl).live c.args.id))

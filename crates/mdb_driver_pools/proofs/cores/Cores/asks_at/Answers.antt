@@ -5,7 +5,7 @@ use Rattle.mdb_driver_pools.specs.Finding.{asks_in}
 use Rattle.mdb_driver_pools.proofs.cores.Cores.asks_at.Goals as goal
 
 pub returns-in-Some : goal.returns-in-Some
-returns-in-Some c = c.is_open.ensures.now ∙ ap (λ (o : Option PoolCore). asks_in o c.args.party) (sym (ap option_copied c.in-Some.is) ∙ c.get.ensures)
+returns-in-Some c = c.is_open.ensures ∙ ap (λ (o : Option PoolCore). asks_in o c.args.party) (sym (ap option_copied c.in-Some.is) ∙ c.get.ensures)
 
 pub returns-in-None : goal.returns-in-None
 returns-in-None c = ap (λ (o : Option PoolCore). asks_in o c.args.party) (sym (ap option_copied c.in-None.is) ∙ c.get.ensures)

@@ -11,7 +11,7 @@ pub refusal_now-requires-clause-new : goal.refusal_now-requires-clause-new
 refusal_now-requires-clause-new c = new-tells c.args.self.now.cores.items c.args.place c.at.result.now c.args.step.now.act c.at.ensures c.requires.new
 
 pub returns-in-Some : goal.returns-in-Some
-returns-in-Some c = (c.at.result.now, c.at.ensures, sym c.refusal_now.ensures.now ∙ c.in-Some.is, alive-of c.args.self.now.cores.items c.args.place c.at.result.now c.requires.there c.at.ensures)
+returns-in-Some c = (c.at.result.now, c.at.ensures, sym c.refusal_now.ensures ∙ c.in-Some.is, alive-of c.args.self.now.cores.items c.args.place c.at.result.now c.requires.there c.at.ensures)
 
 pub returns-in-None : goal.returns-in-None
-returns-in-None c = (c.at.result.now, c.at.ensures, (refl, sym c.refusal_now.ensures.now ∙ c.in-None.is), alive-of c.args.self.now.cores.items c.args.place c.at.result.now c.requires.there c.at.ensures)
+returns-in-None c = (c.at.result.now, c.at.ensures, (refl, sym c.refusal_now.ensures ∙ c.in-None.is), alive-of c.args.self.now.cores.items c.args.place c.at.result.now c.requires.there c.at.ensures)

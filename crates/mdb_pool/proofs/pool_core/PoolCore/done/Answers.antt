@@ -1,10 +1,14 @@
 use Rattle.std.proofs.Common.{List, subst}
 use Rattle.mdb_log.specs.History.{Item}
 use Rattle.mdb_pool.specs.Core.{PoolCore}
-use Rattle.mdb_pool.specs.Standing.{StandsFor, Answers}
+use Rattle.mdb_pool.specs.Standing.{SameHome, StandsFor, Answers}
 use Rattle.mdb_pool.proofs.Answered.Steps.{passes}
-use Rattle.mdb_pool.proofs.SameAnswers.KeptTheSame.{answers_same}
+use Rattle.mdb_pool.proofs.SameAnswers.KeptTheSame.{home_same, answers_same, stands_same}
 use Rattle.mdb_pool.proofs.pool_core.PoolCore.done.Goals as goal
+
+pub returns-in-Ok-clause-home : goal.returns-in-Ok-clause-home
+returns-in-Ok-clause-home c =
+    subst (λ (p : PoolCore). SameHome p c.commit.new.self) c.self.view_is (home_same c.self.inside.draft c.tell_step.new.self c.commit.new.self c.commit.ensures.same c.in-Ok.ensures.home)
 
 pub returns-in-Ok-clause-answers : goal.returns-in-Ok-clause-answers
 returns-in-Ok-clause-answers c =
@@ -14,3 +18,8 @@ returns-in-Ok-clause-answers c =
 
 pub returns-in-Err-clause-passes : goal.returns-in-Err-clause-passes
 returns-in-Err-clause-passes c = passes c.args.self.now c.args.step.now c.requires.passes
+
+pub invariant_of-self : goal.invariant_of-self
+invariant_of-self c =
+    let some = c.self.invariant.1 in
+    (c.commit.ensures.now, (_, stands_same c.tell_step.new.self c.commit.new.self _ c.commit.ensures.same (c.in-Ok.ensures.answers some.0 some.1).stands))

@@ -1,12 +1,10 @@
-use Rattle.std.proofs.Common.{rules, ◌∙◌}
-use Rattle.mdb_pool.specs.Now.{queries}
+use Rattle.std.proofs.Common.{rules, ◌≡◌, ◌∙◌}
+use Rattle.mdb_pool.specs.Now.{clears_now, queries}
 use Rattle.mdb_pool.proofs.Told.OfItems.{generation-now}
 use Rattle.mdb_pool.proofs.pool_core.PoolCore.generation.Goals as goal
 
-pub returns-clause-now : goal.returns-clause-now
+pub returns : goal.returns
 unfolding queries
-returns-clause-now c = search rules
-
-pub returns-clause-items : goal.returns-clause-items
-unfolding queries
-returns-clause-items c = λ xs z. returns-clause-now c ∙ generation-now c.args.self.now xs z c.args.service
+returns c =
+    let kept : c.generation.result ≡ clears_now c.args.self.now c.args.service = search rules in
+    λ xs z. kept ∙ generation-now c.args.self.now xs z c.args.service

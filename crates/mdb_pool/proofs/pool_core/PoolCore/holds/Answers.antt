@@ -1,12 +1,10 @@
-use Rattle.std.proofs.Common.{rules, ◌∙◌}
-use Rattle.mdb_pool.specs.Now.{queries}
+use Rattle.std.proofs.Common.{rules, ◌≡◌, ◌∙◌}
+use Rattle.mdb_pool.specs.Now.{holds_now, queries}
 use Rattle.mdb_pool.proofs.Told.OfItems.{holds-now}
 use Rattle.mdb_pool.proofs.pool_core.PoolCore.holds.Goals as goal
 
-pub returns-clause-now : goal.returns-clause-now
+pub returns : goal.returns
 unfolding queries
-returns-clause-now c = search rules
-
-pub returns-clause-items : goal.returns-clause-items
-unfolding queries
-returns-clause-items c = λ xs z. returns-clause-now c ∙ holds-now c.args.self.now xs z c.args.party
+returns c =
+    let kept : c.holds.result ≡ holds_now c.args.self.now c.args.party = search rules in
+    λ xs z. kept ∙ holds-now c.args.self.now xs z c.args.party

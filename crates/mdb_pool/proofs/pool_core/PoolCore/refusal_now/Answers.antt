@@ -1,9 +1,6 @@
-use Rattle.std.proofs.Common.{rules, ◌∙◌}
+use Rattle.std.proofs.Common.{◌∙◌}
 use Rattle.mdb_pool.proofs.Answered.Refusal.{refused-now}
 use Rattle.mdb_pool.proofs.pool_core.PoolCore.refusal_now.Goals as goal
 
-pub returns-clause-now : goal.returns-clause-now
-returns-clause-now c = search rules
-
-pub returns-clause-history : goal.returns-clause-history
-returns-clause-history c = λ h z. returns-clause-now c ∙ refused-now c.args.self.now h z c.args.step.now
+pub returns : goal.returns
+returns c = λ h z. c.refuses.ensures ∙ refused-now c.args.self.now h z c.args.step.now

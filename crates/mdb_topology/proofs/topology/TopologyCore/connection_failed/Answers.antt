@@ -25,7 +25,7 @@ returns-in-Some-refusal_now-clause-becomes c h z =
     let act : c.args.step.now.act ≡ Failed s.pool c.args.id c.args.at c.args.error.now = c.requires.act ∙ ap (λ n. Failed n c.args.id c.args.at c.args.error.now) number in
     subst (λ a. refusal w.options h (record { moment = m; act = a }) ≡ Some why) (sym act)
     (failed-refused w h z m c.requires.in_time i s there c.args.id c.args.at c.args.error.now why
-    (subst (λ a. refusal_now s (record { moment = m; act = a }) ≡ Some why) act (sym c.refusal_now.ensures.now ∙ c.in-Some-refusal_now.is)))
+    (subst (λ a. refusal_now s (record { moment = m; act = a }) ≡ Some why) act (sym c.refusal_now.ensures ∙ c.in-Some-refusal_now.is)))
 
 pub fail_at-requires-clause-failing : goal.fail_at-requires-clause-failing
 fail_at-requires-clause-failing c = λ s there.
@@ -40,7 +40,7 @@ fail_at-requires-clause-failing c = λ s there.
       connection = c.args.id;
       at = c.args.at;
       act_is = c.requires.act ∙ ap (λ n. Failed n c.args.id c.args.at c.args.error.now) number;
-      accepted = subst (λ (u : PoolCore). refusal_now u c.args.step.now ≡ None) (some-same p s (slice_get pools i) at_p there) (sym c.refusal_now.ensures.now ∙ c.in_default-refusal_now.is);
+      accepted = subst (λ (u : PoolCore). refusal_now u c.args.step.now ≡ None) (some-same p s (slice_get pools i) at_p there) (sym c.refusal_now.ensures ∙ c.in_default-refusal_now.is);
     }
 
 pub at-requires : goal.at-requires

@@ -65,7 +65,7 @@ mark_complaint-requires-clause-there c = holder-lives c.args.self.now.pools.core
 pub returns-in_default-held_by-clause-becomes : goal.returns-in_default-held_by-clause-becomes
 returns-in_default-held_by-clause-becomes c h z =
     let none : ◌≡◌ {A = Option ℕ} (Some (held-there c.args.self.now.pools.cores.items c.args.party c.in-Some.index (sym c.holder.ensures ∙ c.in-Some.is)).connection) None =
-    id-is c.args.self.now.pools.cores.items c.args.party c.in-Some.index (sym c.holder.ensures ∙ c.in-Some.is) c.at.result.now c.at.ensures c.held_by.result c.held_by.ensures.now ∙ c.in_default-held_by.is in
+    id-is c.args.self.now.pools.cores.items c.args.party c.in-Some.index (sym c.holder.ensures ∙ c.in-Some.is) c.at.result.now c.at.ensures c.held_by.result c.held_by.ensures ∙ c.in_default-held_by.is in
     cc
 
 pub returns-then-leaves_complaint-clause-becomes : goal.returns-then-leaves_complaint-clause-becomes
@@ -79,7 +79,7 @@ returns-then-leaves_complaint-clause-becomes c h z =
     let pools = w.pools.cores.items in
     let held = sym c.holder.ensures ∙ c.in-Some.is in
     let there = held-there pools r i held in
-    let id = ap (λ y. unwrap_or y 0) (id-is pools r i held c.at.result.now c.at.ensures c.held_by.result c.held_by.ensures.now ∙ c.in-Some-held_by.is) in
+    let id = ap (λ y. unwrap_or y 0) (id-is pools r i held c.at.result.now c.at.ensures c.held_by.result c.held_by.ensures ∙ c.in-Some-held_by.is) in
     let left = not-true _ (sym (c.leaves_complaint.ensures (live pools r i held c.at-2.result.now c.at-2.ensures c.in-Some-held_by.id id)) ∙ c.if-leaves_complaint.true) in
     let none = subst (λ u. concerns_now w u c.in-Some-held_by.id x && is_some (case_of operating x) ≡ false) (sym (same pools r i held c.at-2.result.now c.at-2.ensures)) left in
     let rests = subst (λ a. IsChanging w.options h w.description None (record { moment = m; act = a }) (Changed false) false []) (sym c.requires.act)
@@ -95,7 +95,7 @@ mark_complaint-requires-clause-complains c =
     let pools = w.pools.cores.items in
     let held = sym c.holder.ensures ∙ c.in-Some.is in
     let there = held-there pools r i held in
-    let id = ap (λ y. unwrap_or y 0) (id-is pools r i held c.at.result.now c.at.ensures c.held_by.result c.held_by.ensures.now ∙ c.in-Some-held_by.is) in
+    let id = ap (λ y. unwrap_or y 0) (id-is pools r i held c.at.result.now c.at.ensures c.held_by.result c.held_by.ensures ∙ c.in-Some-held_by.is) in
     let left = not-false _ (sym (c.leaves_complaint.ensures (live pools r i held c.at-2.result.now c.at-2.ensures c.in-Some-held_by.id id)) ∙ c.if-leaves_complaint.false) in
     let both = both-true _ _ (subst (λ u. concerns_now w u c.in-Some-held_by.id x && is_some (case_of operating x) ≡ true) (sym (same pools r i held c.at-2.result.now c.at-2.ensures)) left) in
     record { pool = there.pool; held = held; there = there.there; has = there.has ∙ ap Some id; current = both.0; row = both.1 }
@@ -111,7 +111,7 @@ returns-then-self-clause-becomes c =
     let pools = w.pools.cores.items in
     let held = sym c.holder.ensures ∙ c.in-Some.is in
     let there = held-there pools r i held in
-    let id = ap (λ y. unwrap_or y 0) (id-is pools r i held c.at.result.now c.at.ensures c.held_by.result c.held_by.ensures.now ∙ c.in-Some-held_by.is) in
+    let id = ap (λ y. unwrap_or y 0) (id-is pools r i held c.at.result.now c.at.ensures c.held_by.result c.held_by.ensures ∙ c.in-Some-held_by.is) in
     let left = not-false _ (sym (c.leaves_complaint.ensures (live pools r i held c.at-2.result.now c.at-2.ensures c.in-Some-held_by.id id)) ∙ c.if-leaves_complaint.false) in
     let both = both-true _ _ (subst (λ u. concerns_now w u c.in-Some-held_by.id x && is_some (case_of operating x) ≡ true) (sym (same pools r i held c.at-2.result.now c.at-2.ensures)) left) in
     let balanced = c.if-self.true in
@@ -135,7 +135,7 @@ returns-then-self-clause-wants c =
     let pools = w.pools.cores.items in
     let held = sym c.holder.ensures ∙ c.in-Some.is in
     let there = held-there pools r i held in
-    let id = ap (λ y. unwrap_or y 0) (id-is pools r i held c.at.result.now c.at.ensures c.held_by.result c.held_by.ensures.now ∙ c.in-Some-held_by.is) in
+    let id = ap (λ y. unwrap_or y 0) (id-is pools r i held c.at.result.now c.at.ensures c.held_by.result c.held_by.ensures ∙ c.in-Some-held_by.is) in
     let left = not-false _ (sym (c.leaves_complaint.ensures (live pools r i held c.at-2.result.now c.at-2.ensures c.in-Some-held_by.id id)) ∙ c.if-leaves_complaint.false) in
     let both = both-true _ _ (subst (λ u. concerns_now w u c.in-Some-held_by.id x && is_some (case_of operating x) ≡ true) (sym (same pools r i held c.at-2.result.now c.at-2.ensures)) left) in
     let balanced = c.if-self.true in

@@ -1,13 +1,15 @@
 use Rattle.std.proofs.Common.{Some, refl, sym, ◌∙◌, ap}
+use Rattle.mdb_pool.specs.Now.{queries}
 use Rattle.mdb_pool.proofs.Turns.ExpireMany.{expire-start, expire-more, expire-done, expire-smaller}
 use Rattle.mdb_pool.proofs.KeptInLittle.AskedOfThoseThatStay.{overdue-there}
+use Rattle.mdb_pool.proofs.SameAnswers.StaysHome.{stays-home}
 use Rattle.mdb_pool.proofs.kept.draft.Draft.end_all_overdue.Goals as goal
 
 pub loop-request-init : goal.loop-request-init
 loop-request-init c = record {
   last = refl;
   inner = refl;
-  home = record { pool = refl; address = refl; options = refl; alone = refl };
+  home = stays-home refl refl refl refl;
   notes = record { settled = refl; claimed = refl; status = refl };
   expires = λ h z. expire-start c.args.self.now c.args.moment c.args.facts.now.items h z;
 }
@@ -16,6 +18,7 @@ pub loop-request-smaller : goal.loop-request-smaller
 loop-request-smaller c = expire-smaller c.loop-request.self c.end_overdue.new.self c.args.moment c.in_ok-request.request (sym c.in-Some.ensures ∙ ap Some (sym c.in_ok-request.ensures)) c.in_ok-end_overdue.ensures.core
 
 pub loop-request-preserved : goal.loop-request-preserved
+unfolding queries
 loop-request-preserved c = record {
   last = rw c.in_ok-end_overdue.ensures.core c.loop-request.invariant.last;
   inner = c.end_overdue.ensures.inner ∙ c.loop-request.invariant.inner;

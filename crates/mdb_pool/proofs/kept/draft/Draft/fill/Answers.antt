@@ -1,12 +1,14 @@
 use Rattle.std.proofs.Common.{refl, sym, ◌∙◌}
+use Rattle.mdb_pool.specs.Now.{queries}
 use Rattle.mdb_pool.proofs.Turns.MaintainMany.{fill-start, fill-more, fill-done, fills-below, spawn-smaller}
+use Rattle.mdb_pool.proofs.SameAnswers.StaysHome.{stays-home}
 use Rattle.mdb_pool.proofs.kept.draft.Draft.fill.Goals as goal
 
 pub loop-alloc-init : goal.loop-alloc-init
 loop-alloc-init c = record {
   last = refl;
   inner = refl;
-  home = record { pool = refl; address = refl; options = refl; alone = refl };
+  home = stays-home refl refl refl refl;
   notes = record { settled = refl; claimed = refl; status = refl };
   fills = λ h z. fill-start c.args.self.now c.args.moment c.args.facts.now.items h z;
 }
@@ -15,6 +17,7 @@ pub loop-alloc-smaller : goal.loop-alloc-smaller
 loop-alloc-smaller c = spawn-smaller c.loop-alloc.self c.spawn.new.self c.args.moment (sym c.wants_filling.ensures ∙ c.loop-alloc-test.true) c.in_ok-spawn.ensures.core
 
 pub loop-alloc-preserved : goal.loop-alloc-preserved
+unfolding queries
 loop-alloc-preserved c = record {
   last = rw c.in_ok-spawn.ensures.core c.loop-alloc.invariant.last;
   inner = c.spawn.ensures.inner ∙ c.loop-alloc.invariant.inner;

@@ -1,15 +1,17 @@
 use Rattle.std.proofs.Common.{Some, refl, sym, ◌∙◌, ap}
+use Rattle.mdb_pool.specs.Now.{queries}
 use Rattle.mdb_pool.proofs.Turns.Serve.{starts, ends-full, ends-empty, serves-nothing, turn-meet-to, turn-create-to, turn-warm-to, smaller-meet, smaller-create, smaller-warm, meeting-keeps, warming-keeps}
 use Rattle.mdb_pool.specs.Kept.Values.{is_ready_now}
 use Rattle.mdb_pool.proofs.Follows.Stale.{ready-status}
 use Rattle.mdb_pool.proofs.KeptInLittle.AskedOfThoseThatStay.{candidate-there}
+use Rattle.mdb_pool.proofs.SameAnswers.StaysHome.{stays-home}
 use Rattle.mdb_pool.proofs.kept.draft.Draft.serve.Goals as goal
 
 pub loop-request-init : goal.loop-request-init
 loop-request-init c = record {
   last = refl;
   inner = refl;
-  home = record { pool = refl; address = refl; options = refl; alone = refl };
+  home = stays-home refl refl refl refl;
   notes = record { settled = refl; claimed = refl; status = refl };
   ready = sym (c.is_ready.ensures ∙ ap is_ready_now c.status.ensures) ∙ c.if-not-is_ready.false;
   serves = λ h z. starts c.args.self.now c.args.moment c.args.facts.now.items h z;
@@ -34,6 +36,7 @@ pub loop-request-smaller : goal.loop-request-smaller
 loop-request-smaller c = smaller-create c.loop-request.self c.create.new.self c.args.moment c.in_ok-request.request (sym c.in-Some.ensures ∙ ap Some (sym c.in_ok-request.ensures)) c.in_ok-create.ensures.core
 
 pub loop-request-preserved : goal.loop-request-preserved
+unfolding queries
 loop-request-preserved c = record {
   last = rw c.in_ok-create.ensures.core c.loop-request.invariant.last;
   inner = c.create.ensures.inner ∙ c.loop-request.invariant.inner;

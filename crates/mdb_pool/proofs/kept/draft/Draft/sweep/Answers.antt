@@ -1,13 +1,15 @@
 use Rattle.std.proofs.Common.{◌∙◌, ◌≡◌, true, false, is_some, refl, sym, ap}
+use Rattle.mdb_pool.specs.Now.{queries}
 use Rattle.mdb_pool.specs.Kept.Values.{perished_now}
 use Rattle.mdb_pool.proofs.Turns.MaintainMany.{sweep-start, sweep-more, sweep-done, sweep-smaller, has-perished}
+use Rattle.mdb_pool.proofs.SameAnswers.StaysHome.{stays-home}
 use Rattle.mdb_pool.proofs.kept.draft.Draft.sweep.Goals as goal
 
 pub loop-connection-init : goal.loop-connection-init
 loop-connection-init c = record {
   last = refl;
   inner = refl;
-  home = record { pool = refl; address = refl; options = refl; alone = refl };
+  home = stays-home refl refl refl refl;
   notes = record { settled = refl; claimed = refl; status = refl };
   sweeps = λ h z. sweep-start c.args.self.now c.args.moment c.args.facts.now.items h z;
 }
@@ -16,6 +18,7 @@ pub loop-connection-smaller : goal.loop-connection-smaller
 loop-connection-smaller c = sweep-smaller c.loop-connection.self c.discard.new.self c.args.moment c.in-Some.connection (sym c.in-Some.ensures) c.in_ok-discard.ensures.core
 
 pub loop-connection-preserved : goal.loop-connection-preserved
+unfolding queries
 loop-connection-preserved c = record {
   last = rw c.in_ok-discard.ensures.core c.loop-connection.invariant.last;
   inner = c.discard.ensures.inner ∙ c.loop-connection.invariant.inner;
