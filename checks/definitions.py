@@ -98,16 +98,19 @@ def page():
         for (at, file), text in files.items():
             if at != crate:
                 continue
-            named = [(name, said) for name, said in definitions(text) if (crate, file, name) in wanted]
+            together, shared = [], ""
+            for name, said in definitions(text):
+                is_wanted = (crate, file, name) in wanted
+                if said:
+                    # those without a sentence that follow share it, where the one that it stands above is told too
+                    shared = said if is_wanted else ""
+                if is_wanted and together and not said and together[-1][1] == shared:
+                    together[-1][0].append(name)
+                elif is_wanted:
+                    together.append([[name], shared])
             head = text.split("\n", 1)[0]
             title = head[2:].strip() if head.startswith("--") else ""
-            rows += [f"\n**{file}**: {title}\n"] if named else []
-            together = []
-            for name, said in named:
-                if said or not together:
-                    together.append([[name], said])
-                else:
-                    together[-1][0].append(name)
+            rows += [f"\n**{file}**: {title}\n"] if together else []
             rows += [f"- {', '.join(f'`{it}`' for it in names)}: {said or 'as its name says.'}\n" for names, said in together]
         if rows:
             parts.append(f"\n## {crate}\n" + "".join(rows))
