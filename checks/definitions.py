@@ -1,9 +1,10 @@
 #!/usr/bin/env python3
-"""Writes docs/DEFINITIONS.md: each definition that a clause of a public call cites, with the sentence above it in crates/CRATE/specs.
+"""Tells the definitions that clauses of public calls cite, and what these cite in their turn, with the sentence above each in crates/CRATE/specs.
 
-usage: checks/definitions.py [--write]
+usage: checks/definitions.py [--write | CRATE ..]
 
-Without --write it says whether the page is the one that would be written; the status is 0 where it is, and else 1.
+docs/DEFINITIONS.md has those of the crates that say what a log means. --write writes it; without a word the script says whether the page is the one that
+would be written, and the status is 0 where it is, and else 1. With names of crates it prints theirs, whichever crates they are.
 """
 import os
 import re
@@ -13,11 +14,16 @@ ROOT = os.path.dirname(os.path.dirname(os.path.abspath(__file__)))
 PAGE = f"{ROOT}/docs/DEFINITIONS.md"
 HEAD = """# Definitions
 
-What the clauses of public calls cite, in the words that stand above each definition in `crates/CRATE/specs/FILE.antt`; most of them compute. Histories are lists, newest item first. This page is written by
-`checks/definitions.py --write`.
+For who reads a claim: what the clauses of public calls say of logs and histories, and what these words rest on, in the sentences that stand above each definition in `crates/CRATE/specs/FILE.antt`; most of them compute.
+Histories are lists, newest item first. This page is written by `checks/definitions.py --write`; `checks/definitions.py CRATE` prints the definitions of any other crate.
 """
+# the crates that say what a log means; the words of all others are told on demand
+TOLD = ("mdb_log", "mdb_pool_rules", "mdb_driver_rules", "mdb_describe", "mdb_monitor", "mdb_srv", "mdb_lines", "mdb_laws", "mdb_pool_laws", "mdb_sound", "mdb_runs", "mdb_shared_runs")
+# a sentence that begins so speaks of one that stands elsewhere
+LEANS = ("So ", "A driver's own answer does")
 CITED = re.compile(r"use Rattle\.(\w+)\.specs\.([\w.]+?)\.\{([^}]*)\}")
 WORD = re.compile(r"[\w']+")
+START = re.compile(r"(?:abbrev pub|unfoldable pub|pub record|pub data|abbrev pub record|pub) (?:record |data )?(\w[\w']*)")
 
 
 def crates():
@@ -36,17 +42,21 @@ def imports_of(text):
 
 
 def definitions(text):
-    """The definitions of a file of specs, in their order, each with its sentence."""
-    found, said = [], []
+    """The definitions of a file of specs, in their order, each with its sentence and its text. Those that follow one another without a blank line share the sentence of the first."""
+    found, said, shared = [], [], ""
     for line in text.split("\n"):
         if line.startswith("--"):
             said.append(line[2:].strip())
             continue
-        start = re.match(r"(?:abbrev pub|unfoldable pub|pub record|pub data|abbrev pub record|pub) (?:record |data )?(\w[\w']*)", line)
+        start = START.match(line)
         if start and not line.startswith(("pub use", "pub mod")):
-            found.append((start[1], " ".join(said)))
-        if not line.strip() or start:
+            shared = " ".join(said) or shared
+            found.append([start[1], shared, line])
             said = []
+        elif not line.strip():
+            said, shared = [], ""
+        elif found:
+            found[-1][2] += "\n" + line
     return found
 
 
@@ -90,35 +100,66 @@ def cited(defined):
     return found & set(defined)
 
 
-def page():
-    files = read_all()
-    wanted, parts = cited((crate, file, name) for (crate, file), text in files.items() for name, _ in definitions(text)), [HEAD]
-    for crate in crates():
-        rows = []
-        for (at, file), text in files.items():
-            if at != crate:
+def rested_on(files, rows, wanted):
+    """The definitions that are wanted, and those that their texts cite, as far as they lead."""
+    texts = {(crate, file, name): text for (crate, file), found in rows.items() for name, _, text in found}
+    left = list(wanted)
+    while left:
+        crate, file, name = left.pop()
+        words = set(WORD.findall(texts[crate, file, name]))
+        near = {(crate, file, other) for other, _, _ in rows[crate, file] if other in words}
+        far = {it for here, it in imports_of(files[crate, file]).items() if here in words}
+        for it in (near | far) & set(texts):
+            if it not in wanted:
+                wanted.add(it)
+                left.append(it)
+    return wanted
+
+
+def section(crate, files, rows, wanted):
+    lines = []
+    for (at, file), text in files.items():
+        if at != crate:
+            continue
+        together = []
+        for name, said, _ in rows[at, file]:
+            if (crate, file, name) not in wanted:
                 continue
-            together, shared = [], ""
-            for name, said in definitions(text):
-                is_wanted = (crate, file, name) in wanted
-                if said:
-                    # those without a sentence that follow share it, where the one that it stands above is told too
-                    shared = said if is_wanted else ""
-                if is_wanted and together and not said and together[-1][1] == shared:
-                    together[-1][0].append(name)
-                elif is_wanted:
-                    together.append([[name], shared])
-            head = text.split("\n", 1)[0]
-            title = head[2:].strip() if head.startswith("--") else ""
-            rows += [f"\n**{file}**: {title}\n"] if together else []
-            rows += [f"- {', '.join(f'`{it}`' for it in names)}: {said or 'as its name says.'}\n" for names, said in together]
-        if rows:
-            parts.append(f"\n## {crate}\n" + "".join(rows))
-    return "".join(parts)
+            if together and said and together[-1][1] == said:
+                together[-1][0].append(name)
+            else:
+                together.append([[name], said])
+        head = text.split("\n", 1)[0]
+        title = head[2:].strip() if head.startswith("--") else ""
+        told = [it for it in together if it[1]]
+        plain = [name for names, said in together if not said for name in names]
+        lines += [f"\n**{file}**: {title}\n"] if together else []
+        lines += [f"- {', '.join(f'`{it}`' for it in names)}: {said}\n" for names, said in told]
+        lines += [f"- As their names say: {', '.join(f'`{it}`' for it in plain)}.\n"] if plain else []
+    return f"\n## {crate}\n" + "".join(lines) if lines else ""
+
+
+def leaning(rows, wanted):
+    """The sentences that can't be read alone."""
+    return [f"{crate} {file} {name}: {said}" for (crate, file), found in rows.items() for name, said, _ in found if (crate, file, name) in wanted and said.startswith(LEANS)]
 
 
 def main():
-    made = page()
+    files = read_all()
+    rows = {at: definitions(text) for at, text in files.items()}
+    wanted = rested_on(files, rows, cited((crate, file, name) for (crate, file), found in rows.items() for name, _, _ in found))
+    named = [it for it in sys.argv[1:] if it != "--write"]
+    unknown = [it for it in named if it not in crates()]
+    if unknown:
+        print("no crate of crates.txt:", *unknown, file=sys.stderr)
+        return 2
+    if named:
+        print("".join(section(crate, files, rows, wanted) for crate in named), end="")
+        return 0
+    told = {it for it in wanted if it[0] in TOLD}
+    for line in leaning(rows, told):
+        print("a sentence that can't be read alone:", line)
+    made = HEAD + "".join(section(crate, files, rows, told) for crate in crates() if crate in TOLD)
     if "--write" in sys.argv[1:]:
         open(PAGE, "w", encoding="utf-8").write(made)
         return 0
