@@ -6,6 +6,7 @@ usage: pages/build.py [--check]
 Each module's imports are dropped and its exports made plain, so all stand in one scope: a name that two modules declare is
 refused. With --check nothing is written, and the status is 1 where the page is not what the sources build.
 """
+import argparse
 import os
 import re
 import sys
@@ -51,8 +52,11 @@ def built():
 
 
 def main():
+    reader = argparse.ArgumentParser(description=__doc__, formatter_class=argparse.RawDescriptionHelpFormatter)
+    reader.add_argument('--check', action='store_true', help='write nothing, and say whether the page is up to date')
+    given = reader.parse_args()
     text = built()
-    if sys.argv[1:] == ['--check']:
+    if given.check:
         with open(PAGE, encoding='utf-8') as file:
             return 0 if file.read() == text else 1
     with open(PAGE, 'w', encoding='utf-8', newline='\n') as file:
