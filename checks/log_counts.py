@@ -69,6 +69,9 @@ class Counts:
         elif name == 'Ended':
             self.ended[words[2]] += 1
         elif name == 'Raised':
+            self.jumps['raise'] += 1
+        elif name == 'PoolCleared':  # what raised the generation of a pool that was not paused
+            self.jumps['raise'] -= 1
             self.jumps['clear'] += 1
         if name == 'Ended':
             self.over.add(words[1])
@@ -77,11 +80,11 @@ class Counts:
 
     def as_page(self):
         """The counts under the names that the page gives them."""
-        n = self.n
+        n, jumps = self.n, {kind: count for kind, count in self.jumps.items() if count}
         return {
             'lines': n['lines'], 'read': n['lines'], 'unread': 0, 'servers': len(self.addresses), 'pools': n['Opened'], 'created': n['ConnectionCreated'],
             'closed': dict(self.closed), 'grants': n['Granted'], 'ended': dict(self.ended), 'connections': n['ConnectionCreated'],
-            'had': n['ConnectionCheckedOut'], 'requests': dict(self.asked), 'waiting': len(self.waiting), 'jumps': dict(self.jumps), 'clears': n['Raised'],
+            'had': n['ConnectionCheckedOut'], 'requests': dict(self.asked), 'waiting': len(self.waiting), 'jumps': jumps, 'clears': n['Raised'],
             'types': n['ServerOpening'] + n['ServerDescriptionChanged'], 'trips': n['trips'],
             'ready': n['PoolReady'] + (n['Opened'] if self.balanced else 0), 'live': [self.live[p] for p in sorted(self.live)],
         }
@@ -89,7 +92,7 @@ class Counts:
     def as_drawn(self):
         """What a picture of the whole log has."""
         page = self.as_page()
-        marks = Counter(self.jumps)
+        marks = Counter(page['jumps'])
         marks.update({'check now': self.n['CheckNow'], 'cancel': self.n['Cancel']})
         return {
             'servers': page['servers'], 'types': page['types'] + self.n['TopologyDescriptionChanged'], 'trips': page['trips'], 'pools': page['pools'],

@@ -1,12 +1,12 @@
 #!/usr/bin/env python3
-"""Feeds the built program mutated and generated scripts by AFL++, with a model of the script as the judge.
+"""Feeds the built program mutated and generated scripts by AFL++, with the auditor or a model of the script as the judge.
 
-usage: checks/fuzz/fuzz.py --model MODEL [--program PROGRAM] [--seconds N] [--folder FOLDER]
+usage: checks/fuzz/fuzz.py [--judge PROGRAM-OR-MODEL] [--program PROGRAM] [--seconds N] [--folder FOLDER]
 
-MODEL is a Python file with `run_script(data)`, as judge.py tells; it is no part of this repository. PROGRAM is
-crates/mdb_script/out/mdb_script where it is left out; nothing is built. It runs for N seconds (1800), at the lowest priority
+The judge is crates/mdb_auditor/out/mdb_auditor where it is left out; a model is a Python file with `run_script(data)`, as judge.py
+tells, and no part of this repository. PROGRAM is crates/mdb_script/out/mdb_script where it is left out; nothing is built. It runs for N seconds (1800), at the lowest priority
 and in one process, and begins with the scripts of crates/mdb_checks_top/stdin. FOLDER (a new one) keeps what was found, in
-`differences`: the input, how the program ended and how the model says. The last lines tell how many inputs were tried, by
+`differences`: the input, how the program ended and what the judge says. The last lines tell how many inputs were tried, by
 status, and how many differ. The status is 0 where none does, 1 where one does, and 2 where something is missing. Needs
 `afl-fuzz` (the package afl++).
 """
@@ -42,7 +42,7 @@ def seeds(folder):
 def fuzz(given, folder):
     """Runs afl-fuzz to the end of its time."""
     out, file = os.path.join(folder, 'afl'), os.path.join(folder, 'input')
-    judge = [sys.executable, os.path.join(HERE, 'judge.py'), os.path.abspath(given.program), os.path.abspath(given.model), folder, file]
+    judge = [sys.executable, os.path.join(HERE, 'judge.py'), os.path.abspath(given.program), os.path.abspath(given.judge), folder, file]
     words = ['nice', '-n', '19', 'afl-fuzz', '-i', seeds(os.path.join(folder, 'seeds')), '-o', out, '-f', file, '-V', str(given.seconds),
              '-t', str(TIMEOUT), '-m', 'none', '--'] + judge
     with open(os.path.join(folder, 'log'), 'wb') as log:
@@ -68,7 +68,7 @@ def tell(folder):
 def options():
     """The words of the command line."""
     reader = argparse.ArgumentParser(usage=__doc__.split('usage: ')[1])
-    reader.add_argument('--model', required=True)
+    reader.add_argument('--judge', default=os.path.join(CRATES, 'mdb_auditor/out/mdb_auditor'))
     reader.add_argument('--program', default=os.path.join(CRATES, 'mdb_script/out/mdb_script'))
     reader.add_argument('--seconds', type=int, default=1800)
     reader.add_argument('--folder')
@@ -78,7 +78,7 @@ def options():
 def main():
     """Fuzzes the program, and says what was found."""
     given = options()
-    missing = [it for it in (given.model, given.program) if not os.path.isfile(it)] + ['afl-fuzz'] * (not shutil.which('afl-fuzz'))
+    missing = [it for it in (given.judge, given.program) if not os.path.isfile(it)] + ['afl-fuzz'] * (not shutil.which('afl-fuzz'))
     for it in missing:
         print('missing: %s' % it, file=sys.stderr)
     if missing:

@@ -1,12 +1,13 @@
 """The target of afl-fuzz: runs the program and the model on an input, and compares them.
 
-usage: judge.py PROGRAM MODEL FOLDER FILE
+usage: judge.py PROGRAM JUDGE FOLDER FILE
 
 afl-fuzz starts it once and asks it for each input, which stands in FILE, by the protocol of its fork server: four bytes
-come on descriptor 198 and four go out on 199. MODEL is a Python file with a function `run_script(data)`: of the bytes of a
+come on descriptor 198 and four go out on 199. JUDGE is a model, a Python file with a function `run_script(data)`: of the bytes of a
 script it answers the status, the text on standard error and the text on standard output, each text as a `str` of one letter
-a byte. An input at which the program ends with another status or other bytes is written to FOLDER/differences and told to
-afl-fuzz as a crash. FOLDER/tally has the number of inputs by status.
+a byte. Or it is a program, mdb_auditor: the run is to end by one of the statuses of a script, with one entry for each line up to
+the bad one, each behind its own line, and the auditor is to find them legal. An input at which this is not so is written to
+FOLDER/differences and told to afl-fuzz as a crash. FOLDER/tally has the number of inputs by status.
 
 The shape of the log (kinds of lines, replies and facts, without their numbers) goes to the map in shared memory in which
 afl-fuzz looks for what is new, as the program has no instrumentation of its own.
@@ -29,6 +30,8 @@ MAP = 65536
 LIMIT = 60  # seconds for one run of the program
 DIFFERS = 100  # how a child ends that found a difference; else it ends with the status of the program
 NUMBER = re.compile(rb'[0-9]+')
+MALFORMED = re.compile(rb'line ([0-9]+) is malformed\n')
+MAX_INPUT = 131072
 
 
 def loaded(path):
@@ -79,21 +82,50 @@ def run(program, path):
     return ended.returncode, ended.stdout, ended.stderr
 
 
-def wanted(model, data):
-    """How it has to end by the model."""
-    status, told, text = model.run_script(data)
-    return status, text.encode('latin-1'), told.encode('latin-1')
+class Model:
+    """Says how a script has to end: a Python file."""
+
+    def __init__(self, path):
+        self.model = loaded(path)
+
+    def wanted(self, data, _found):
+        status, told, text = self.model.run_script(data)
+        return status, text.encode('latin-1'), told.encode('latin-1')
+
+
+class Auditor:
+    """Says of a run whether it may be: the auditor's program. What it answers is the run itself where nothing speaks against it, and else why."""
+
+    def __init__(self, path):
+        self.path = path
+
+    def wanted(self, data, found):
+        status, text, told = found
+        lines = data.split(b'\n')[:-1]
+        bad = MALFORMED.fullmatch(told)
+        if status not in (0, 5, 6) or (status == 5) != (bad is not None) or (status == 6) != (len(data) > MAX_INPUT):
+            return 'an end that no script has'
+        entries = text.split(b'\n')[:-1]
+        many = {0: len(lines), 6: 0}.get(status, int(bad[1]) - 1 if bad else -1)
+        if len(entries) != many or any(entry.split(b' | ')[0] != line for entry, line in zip(entries, lines)):
+            return 'not one entry for each line'
+        said = subprocess.run([self.path], input=text, capture_output=True, timeout=LIMIT)
+        return found if said.returncode in (0, 6) else said.stdout
+
+
+def judge_of(path):
+    return Model(path) if path.endswith('.py') else Auditor(path)
 
 
 def keep(folder, data, found, expected):
     """Writes down an input at which they differ, with both ends."""
     path = os.path.join(folder, 'differences', '%d' % time.time_ns())
-    for name, text in (('', data), ('.program', repr(found).encode()), ('.model', repr(expected).encode())):
+    for name, text in (('', data), ('.program', repr(found).encode()), ('.judge', repr(expected).encode())):
         with open(path + name, 'wb') as file:
             file.write(text)
 
 
-def judge(program, model, folder, path, places):
+def judge(program, judging, folder, path, places):
     """What a child ends with: the status of the program, or that it differs."""
     with open(path, 'rb') as file:
         data = file.read()
@@ -101,8 +133,8 @@ def judge(program, model, folder, path, places):
     try:
         found = run(program, path)
         put_shapes(places, found[1])
-        expected = wanted(model, data)
-    except Exception as e:  # the model failed, or the program took too long: that is a difference, and is told
+        expected = judging.wanted(data, found)
+    except Exception as e:  # the judge failed, or the program took too long: that is a difference, and is told
         expected = expected or e
     if found != expected:
         keep(folder, data, found, expected)
@@ -120,14 +152,14 @@ def told(status, tally):
     return signal.SIGABRT if code == DIFFERS else 0
 
 
-def serve(program, model, folder, path, places):
+def serve(program, judging, folder, path, places):
     """Answers each input that afl-fuzz asks for, in a child of its own."""
     tally, begun = Counter(), time.monotonic()
     os.write(ANSWERED, bytes(4))
     while len(os.read(ASKED, 4)) == 4:
         child = os.fork()
         if child == 0:
-            os._exit(judge(program, model, folder, path, places))
+            os._exit(judge(program, judging, folder, path, places))
         os.write(ANSWERED, struct.pack('i', child))
         _, status = os.waitpid(child, 0)
         answer = told(status, tally)
@@ -140,12 +172,12 @@ def serve(program, model, folder, path, places):
 def main():
     """Serves afl-fuzz, or without it judges the one input."""
     program, path, folder, file = sys.argv[1:]
-    model, places = loaded(path), shared_map()
+    judging, places = judge_of(path), shared_map()
     os.makedirs(os.path.join(folder, 'differences'), exist_ok=True)
     if '__AFL_SHM_ID' in os.environ:
-        serve(program, model, folder, file, places)
+        serve(program, judging, folder, file, places)
     else:
-        print(judge(program, model, folder, file, places))
+        print(judge(program, judging, folder, file, places))
 
 
 if __name__ == '__main__':

@@ -7,9 +7,10 @@ import { Input } from './input.js';
 import { rowPlace } from './layout.js';
 import { readText, fromFragment, listen } from './opening.js';
 import { thingName, stateText } from './say.js';
+import { outageTexts } from './outages.js';
 import { answerScripts } from './answers.js';
 
-const SIGNS = { clear: '▼', refusal: '✕', error: '◆', 'void error': '◇', 'failed check': '▽' };
+const SIGNS = { clear: '▼', raise: '▿', refusal: '✕', error: '◆', 'void error': '◇', 'failed check': '▽' };
 const THEMES = ['auto', 'light', 'dark'];
 
 const page = Object.fromEntries([...document.querySelectorAll('[id]')].map((it) => [it.id, it]));
@@ -75,6 +76,7 @@ class App {
     this.search(false);
     this.details.show();
     this.picture.paint();
+    page.scroll.focus({ preventScroll: true });
     this.opened = { milliseconds: performance.now() - started, name };
   }
 
@@ -88,7 +90,7 @@ class App {
     const plural = (count, one, more) => `${count} ${count === 1 ? one : more}`;
     const entries = plural(history.tallies.entries, 'entry', 'entries') + (log.unread.length > 0 ? ` in ${plural(log.count, 'line', 'lines')}` : '');
     this.tell([log.name, entries, plural(history.servers.size, 'server', 'servers'), plural(created, 'connection', 'connections'),
-      plural(grants, 'grant', 'grants')].join(' · '));
+      plural(grants, 'grant', 'grants'), ...outageTexts(history)].join(' · '));
   }
 
   setAxis(axis) {
@@ -119,9 +121,13 @@ class App {
 
   showJumps() {
     const wanted = new Set([...page.kinds.querySelectorAll('input:checked')].map((it) => it.value));
-    const kindOf = (kind) => (kind === 'void error' ? 'error' : kind);
+    const kindOf = (kind) => ({ 'void error': 'error', raise: 'clear' }[kind] ?? kind);
     const jumps = this.picture.history?.jumps ?? [];
-    for (const box of page.kinds.querySelectorAll('input')) box.nextElementSibling.textContent = `${box.dataset.name} ${jumps.filter((it) => kindOf(it.kind) === box.value).length}`;
+    const count = (kind) => jumps.filter((it) => it.kind === kind).length;
+    for (const box of page.kinds.querySelectorAll('input')) {
+      const again = box.value === 'clear' && count('raise') > 0 ? ` (${count('raise')} more raised)` : '';
+      box.nextElementSibling.textContent = `${box.dataset.name} ${box.value === 'error' ? count('error') + count('void error') : count(box.value)}${again}`;
+    }
     this.jumps.show(jumps.filter((it) => wanted.has(kindOf(it.kind))).map((it) => ({ ...it, sign: SIGNS[it.kind], label: '#' + (it.entry + 1) })));
   }
 
@@ -146,6 +152,7 @@ class App {
     const { picture } = this;
     if (!picture.log || entry < 0 || entry >= picture.log.count) return;
     picture.select(entry, thing);
+    for (const list of [this.jumps, this.found, this.unread]) list.follow(entry);
     if (isRevealed) {
       picture.reveal();
       this.revealThing(thing);
@@ -171,7 +178,7 @@ class App {
     const stop = found === null ? null : found.stop;
     page.tip.hidden = stop === null;
     if (stop === null) return;
-    const what = stop.thing === null ? '' : `${thingName(stop.thing)}: ${stateText(this.picture, stop.thing, this.picture.scale.entryAt(found.place))}\n`;
+    const what = stop.said ? `${stop.said}\n` : stop.thing === null ? '' : `${thingName(stop.thing)}: ${stateText(this.picture, stop.thing, this.picture.scale.entryAt(found.place))}\n`;
     page.tip.textContent = what + `entry ${stop.entry + 1}: ${this.picture.log.line(stop.entry).split(' | ').slice(0, 2).join(' | ').slice(0, 120)}`;
     page.tip.style.left = Math.min(event.clientX + 14, window.innerWidth - page.tip.offsetWidth - 8) + 'px';
     page.tip.style.top = Math.min(event.clientY + 16, window.innerHeight - page.tip.offsetHeight - 8) + 'px';
@@ -195,7 +202,10 @@ class App {
       n: () => this.jump(1), p: () => this.jump(-1), v: () => this.toggleBars(), '?': () => page.help.showModal(), l: () => page.scroll.focus(),
       Escape: () => this.clear(),
     }[event.key];
-    if (act === undefined) return;
+    if (act === undefined) {
+      this.input.key(event);
+      return;
+    }
     event.preventDefault();
     act();
   }

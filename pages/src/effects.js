@@ -54,7 +54,7 @@ function operationError(history, step, entry) {
   const connection = history.held(step.party);
   const isLate = isVoid && connection !== null && (connection.pool.end >= 0 || (!history.options.lb && connection.pool.clears > connection.clears));
   const effect = isLate ? 'late, without effect: ' : isVoid ? 'without effect: ' : '';
-  history.jump(entry, isVoid ? 'void error' : 'error', `party ${step.party}: ${effect}${step.error.text}`);
+  history.jump(entry, isVoid ? 'void error' : 'error', `${effect}${step.error.text}: party ${step.party}`);
   if (connection !== null) connection.pool.errors.push({ entry, connection, party: step.party, isVoid, isLate });
 }
 
@@ -65,7 +65,7 @@ function trip(history, step, entry) {
 }
 
 function checkFailed(history, step, entry) {
-  const text = `${step.address}: ${step.result === 'cancelled' ? 'cancelled, ' : ''}${step.error.text}`;
+  const text = `${step.result === 'cancelled' ? 'cancelled, ' : ''}${step.error.text}: ${step.address}`;
   history.server(step.address).marks.push({ entry, kind: 'failed check', text });
   history.jump(entry, 'failed check', text);
 }
@@ -102,14 +102,17 @@ function opened(history, fact, entry) {
   history.touch(pool, entry);
 }
 
+/** A generation is raised. Where the pool was paused before there is no PoolCleared event, and so no clear for who listens. */
 function raised(history, fact, entry) {
   const pool = history.pool(fact.pool, undefined, entry);
+  const before = pool.states.length === 0 ? '' : pool.states[pool.states.length - 1].state;
+  const isAgain = fact.service === null && (before === 'Paused' || before === 'New');
   const whose = fact.service === null ? '' : ` service ${fact.service}`;
-  const text = `${pool.address}: pool ${fact.pool}${whose} cleared by ${fact.error.text}`;
+  const kind = isAgain ? 'raise' : 'clear';
   pool.clears += 1;
   if (fact.service === null) pool.states.push({ entry, state: 'Paused' });
-  history.server(pool.address).marks.push({ entry, kind: 'clear', text: fact.error.text });
-  history.jump(entry, 'clear', text);
+  history.server(pool.address).marks.push({ entry, kind, text: fact.error.text });
+  history.jump(entry, kind, `${fact.error.text}: ${pool.address} pool ${fact.pool}${whose} ${isAgain ? 'raised again (already paused)' : 'cleared'}`);
 }
 
 function described(history, address, entry, type) {

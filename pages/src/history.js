@@ -14,6 +14,7 @@ export class History {
     this.topology = []; // { entry, type, servers }
     this.jumps = []; // { entry, kind, text }: clears, refusals, errors, checks that failed
     this.refusals = [];
+    this.grantEntries = []; // the entries that granted a connection, in order
     this.options = {};
     this.touched = [];
     this.tallies = { entries: 0, created: 0, established: 0, grants: 0, closed: {}, ended: {}, returned: 0 };
@@ -105,6 +106,7 @@ export class History {
   grant(request, connection, entry) {
     if (request.kind === 'request' && request.granted < 0) request.pool.waiting -= 1;
     request.granted = entry;
+    this.grantEntries.push(entry);
     request.connection = connection;
     connection.requester = request;
     request.pool.grants.push({ entry, request, connection });

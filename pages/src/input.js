@@ -6,9 +6,18 @@ const WHEEL = 0.0016; // how much one unit of a wheel zooms
 const STEP = 1.3; // how much a key zooms
 const LINE = 60; // pixels of a key's pan or scroll
 const CLICK = 5; // a pointer that moved less is a click
+const SCROLLING = new Set(['ArrowUp', 'ArrowDown', 'PageUp', 'PageDown', 'Home', 'End']);
 
 function wheelPixels(event, height) {
   return [1, 16, height][event.deltaMode];
+}
+
+/** A button takes Enter, a choice takes the arrows, and what scrolls takes the keys that scroll. */
+function isAnswered(event) {
+  const at = event.target;
+  if (at instanceof HTMLButtonElement) return event.key === 'Enter';
+  if (at instanceof HTMLInputElement) return event.key.startsWith('Arrow') || event.key === 'Enter';
+  return at instanceof Element && at.closest('aside, dialog') !== null && SCROLLING.has(event.key);
 }
 
 export class Input {
@@ -21,7 +30,6 @@ export class Input {
     page.scroll.addEventListener('wheel', (event) => this.wheel(event), { passive: false });
     page.head.addEventListener('wheel', (event) => this.zoomBy(event, event.deltaY), { passive: false });
     page.scroll.addEventListener('scroll', () => picture.ask());
-    page.scroll.addEventListener('keydown', (event) => this.key(event));
     for (const [name, act] of [['pointerdown', this.down], ['pointermove', this.moved], ['pointerup', this.up], ['pointercancel', this.left]]) {
       page.lanes.addEventListener(name, (event) => act.call(this, event));
     }
@@ -133,9 +141,9 @@ export class Input {
     } else this.picture.pan(-event.movementX);
   }
 
-  /** Keys in the picture. Those for the whole page are the app's. */
+  /** Keys of the picture, wherever the focus is but on a control that answers the key itself. The app asks, after its own. */
   key(event) {
-    if (!this.picture.log || this.picture.log.count === 0 || event.ctrlKey || event.metaKey || event.altKey) return;
+    if (!this.picture.log || this.picture.log.count === 0 || isAnswered(event)) return;
     const act = (event.shiftKey ? this.shifted() : this.plain())[event.key];
     if (act === undefined) return;
     event.preventDefault();

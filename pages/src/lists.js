@@ -1,7 +1,7 @@
 // Long lists of entries to jump to: only the rows in view are in the page.
 import { element } from './details.js';
 
-const ROW = 26;
+const ROW = 44; // two lines of text
 const MORE = 4; // rows above and below those in view
 
 export class JumpList {
@@ -48,6 +48,13 @@ export class JumpList {
     if (item.kind !== undefined) row.append(element('span', { className: 'sign ' + item.kind.replace(' ', '-'), textContent: item.sign }));
     row.append(element('span', { className: 'number', textContent: item.label }), ' ', item.text);
     return row;
+  }
+
+  /** What is selected elsewhere is marked here too, where it is in the list. */
+  follow(entry) {
+    if (this.items[this.active]?.entry === entry) return;
+    this.active = this.items.findIndex((it) => it.entry === entry);
+    this.draw();
   }
 
   pick(at) {

@@ -1,6 +1,7 @@
 // Lanes of the topology, with refusals, and of servers with their states.
 import { lastBefore } from './layout.js';
-import { typeColours } from './palette.js';
+import { topologyText } from './outages.js';
+import { topologyColours, typeColours } from './palette.js';
 import { nanosText } from './scale.js';
 import { inView, triangle, dot } from './signs.js';
 
@@ -8,8 +9,9 @@ export function paintTopology(frame, lane, y) {
   const { history } = frame.picture;
   inView(frame, history.topology, (item, x0, x1) => {
     frame.drawn.types += 1;
-    frame.box(frame.palette.other, x0, x1 - 1, y + 4, 15);
-    frame.textIn(`${item.type}, ${item.servers} ${item.servers === 1 ? 'server' : 'servers'}`, x0, x1, y + 15, frame.palette.onother);
+    const [band, ink] = topologyColours(frame.palette, item.type);
+    frame.box(band, x0, x1 - 1, y + 4, 15);
+    frame.textIn(topologyText(history, item), x0, x1, y + 15, ink, item.type === 'Unknown');
   });
   paintRefusals(frame, y);
 }
@@ -95,6 +97,8 @@ function paintServerMark(frame, item, x, y, isCrowded) {
   if (item.kind === 'clear') {
     frame.box(palette.bad, x - 1, x + 1, y, 46);
     if (!isCrowded) triangle(frame, x, y + 5, 5, palette.bad, false);
+  } else if (item.kind === 'raise') {
+    triangle(frame, x, y + 5, 5, palette.bad, true);
   } else if (item.kind === 'failed check') {
     if (isCrowded) frame.box(palette.warn, x - 1, x + 1, y + 21, 8);
     else triangle(frame, x, y + 25, 4, palette.warn, true);

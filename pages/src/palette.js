@@ -1,7 +1,7 @@
 // Colours by the page's theme, and the hatches that tell places apart without colour.
 
 const NAMES = ['page', 'lane', 'ink', 'muted', 'line', 'pending', 'available', 'held', 'pinned', 'waiting', 'bad', 'warn', 'accent',
-  'onheld', 'primary', 'onprimary', 'secondary', 'onsecondary', 'other', 'onother', 'unknown', 'mark'];
+  'onheld', 'primary', 'onprimary', 'secondary', 'onsecondary', 'other', 'onother', 'none', 'onnone', 'unknown', 'mark'];
 
 function hatch(context, colour, background, ratio, slope) {
   const size = 6 * ratio;
@@ -37,6 +37,14 @@ export function paletteOf(context, ratio) {
 
 const TYPE_COLOURS = { RsPrimary: ['primary', 'onprimary'], RsSecondary: ['secondary', 'onsecondary'], Unknown: ['unknownHatch', 'ink'] };
 const MAIN_TYPES = new Set(['Standalone', 'Mongos', 'LoadBalancer']);
+
+const TOPOLOGY_COLOURS = { ReplicaSetNoPrimary: ['none', 'onnone'], Unknown: ['unknownHatch', 'ink'], ReplicaSetWithPrimary: ['primary', 'onprimary'] };
+
+/** The colours of a topology's type: that of no primary stands out. */
+export function topologyColours(palette, type) {
+  const [band, text] = TOPOLOGY_COLOURS[type] ?? ['secondary', 'onsecondary'];
+  return [palette[band], palette[text]];
+}
 
 /** The colours of a server's type: of its band, and of the text in it. */
 export function typeColours(palette, type) {

@@ -1,5 +1,6 @@
 // What can be picked in the picture, by a pointer or by keys: the stops of each row, in order.
-import { firstBar, laneAt } from './layout.js';
+import { firstBar, laneAt, lastBefore } from './layout.js';
+import { topologyText } from './outages.js';
 
 /** A stop is an entry and the thing that it is a stop of. */
 function barStops(bars, isConnection) {
@@ -77,6 +78,15 @@ function entryOf(picture, bar, place) {
   return [bar.ready, bar.granted, bar.start].find((it) => it >= 0 && it <= entry) ?? bar.start;
 }
 
+const BAND = 22; // pixels of the topology's lane that its type takes; below stand the refusals
+
+/** The stretch of the topology that covers a place on the axis, with its words. */
+function stretchAt(picture, place) {
+  const { history, scale } = picture;
+  const at = lastBefore(history.topology, scale.entryAt(place));
+  return at < 0 ? null : { entry: history.topology[at].entry, thing: null, said: topologyText(history, history.topology[at]) };
+}
+
 /** What stands at a point of the picture: the lane, the row, and the stop, if one is there. */
 export function pick(picture, x, y) {
   const lane = laneAt(picture.lanes, y + picture.scroll);
@@ -87,7 +97,8 @@ export function pick(picture, x, y) {
   const stops = stopsOf(picture.history, lane, row);
   const near = nearestStop(stops, picture.scale, place);
   if (lane.kind !== 'connections' && lane.kind !== 'requests') {
-    if (near.away * picture.factor <= REACH) found.stop = stops[near.at];
+    if (lane.kind === 'topology' && y + picture.scroll - lane.y < BAND) found.stop = stretchAt(picture, place);
+    else if (near.away * picture.factor <= REACH) found.stop = stops[near.at];
     return found;
   }
   const error = lane.pool.errors.find((it) => it.connection.row === row && lane.kind === 'connections' && Math.abs(picture.scale.at(it.entry) - place) * picture.factor <= REACH);
