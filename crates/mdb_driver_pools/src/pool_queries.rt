@@ -87,6 +87,5 @@ pub fn refusal_now(pool: &PoolCore, step: &Step) -> Option<Refused>
     requires new { tells_new pool.now step.now.act ≡ true }
     ensures { result ≡ refusal_now pool.now step.now }
 {
-    pool.stands();
     pool.refusal_now(step)
 }

@@ -6,7 +6,7 @@ ghost use Rattle.mdb_log.specs.History.{Item};
 ghost use Rattle.mdb_pool.specs.Kept.Body.{led, pool_of, PoolFits};
 ghost use Rattle.mdb_pool.specs.Core.{PoolCore as Core};
 ghost use Rattle.mdb_pool.specs.Refusing.{TellsNew};
-ghost use Rattle.mdb_pool.specs.Standing.{StandsFor};
+ghost use Rattle.mdb_pool.specs.Standing.{SameHome, StandsFor};
 ghost use Rattle.mdb_pool.specs.Planning.{LeadsTo, IsPrepared, Plans, IsPlanOf};
 
 use crate::kept::body::BodyRedo;
@@ -83,11 +83,12 @@ pub fn prepare(
     pool.draft.answered_all(alloc, steps)
 }
 
-/// The second part: the pool changes as it was planned. It takes no memory.
+/// The second part: the pool changes as it was planned, and its number, its address, its options and whether it stands alone stay. It takes no memory.
 #[tactic(auto, unfolding(crate::specs::Planning::Plans))]
 pub fn apply(pool: &mut PoolCore, plan: Plan)
     requires { IsPlanOf plan pool.old }
-    ensures { (t : Core) → Plans plan pool.old t → pool.new ≡ t }
+    ensures leads { (t : Core) → Plans plan pool.old t → pool.new ≡ t }
+    ensures home { SameHome pool.old pool.new }
 {
     let Plan { redo } = plan;
     pool.draft.body.redo(redo);

@@ -18,6 +18,7 @@ pub(crate) fn named(
     requires few { touches.old.count < 2 ^ 64 - 1 }
     ensures value { result ≡ name_at slots.now.cells slot }
     ensures counts { touches.new.count ≤ touches.old.count + 1 }
+    ensures counted { touches.old.count ≤ touches.new.count }
 {
     let slot = slot?;
     let held = slots.value(slot, touches)?;

@@ -41,6 +41,7 @@ pub(crate) fn set_after(
     ensures open { stays ≡ false → GoesBack nodes.old nodes.new }
     ensures room { nodes.old.room ≤ nodes.new.room + 1 }
     ensures counts { touches.new.count ≤ touches.old.count + 2 }
+    ensures counted { touches.old.count ≤ touches.new.count }
 {
     if let Some(at) = at.get() {
         let node = node_of(nodes, at, touches);
@@ -63,6 +64,7 @@ pub(crate) fn set_before(
     ensures open { stays ≡ false → GoesBack nodes.old nodes.new }
     ensures room { nodes.old.room ≤ nodes.new.room + 1 }
     ensures counts { touches.new.count ≤ touches.old.count + 2 }
+    ensures counted { touches.old.count ≤ touches.new.count }
 {
     if let Some(at) = at.get() {
         let node = node_of(nodes, at, touches);

@@ -92,6 +92,7 @@ impl SlotOrder {
         requires few { touches.old.count < 2 ^ 64 - 1 }
         ensures value { result ≡ next at self.now.now.used }
         ensures counts { touches.new.count ≤ touches.old.count + 1 }
+        ensures counted { touches.old.count ≤ touches.new.count }
     {
         node_of(&self.nodes, at, touches).after.get()
     }
@@ -102,6 +103,7 @@ impl SlotOrder {
         requires few { touches.old.count < 2 ^ 64 - 1 }
         ensures value { result ≡ previous None at self.now.now.used }
         ensures counts { touches.new.count ≤ touches.old.count + 1 }
+        ensures counted { touches.old.count ≤ touches.new.count }
     {
         node_of(&self.nodes, at, touches).before.get()
     }
@@ -150,6 +152,7 @@ impl SlotOrder {
         ensures open { stays ≡ false → (self.new.base ≡ self.old.base) × (self.new.capacity ≡ self.old.capacity) }
         ensures lasts { stays ≡ true → order_of self.new.base ≡ self.new.now }
         ensures counts { touches.new.count ≤ touches.old.count + 4 }
+        ensures counted { touches.old.count ≤ touches.new.count }
     {
         let free = self.ends.free;
         let at = free.get().unwrap();
@@ -183,6 +186,7 @@ impl SlotOrder {
         ensures lasts { stays ≡ true → order_of self.new.base ≡ self.new.now }
         ensures room { self.old.room ≤ self.new.room + 3 }
         ensures counts { touches.new.count ≤ touches.old.count + 6 }
+        ensures counted { touches.old.count ≤ touches.new.count }
     {
         let node = node_of(&self.nodes, at, touches);
         set_after(&mut self.nodes, node.before, node.after, stays, touches);
@@ -213,6 +217,7 @@ impl SlotOrder {
         ensures base { self.new.base ≡ self.old.base }
         ensures capacity { self.new.capacity ≡ self.old.capacity }
         ensures counts { touches.new.count ≤ touches.old.count + 8 }
+        ensures counted { touches.old.count ≤ touches.new.count }
     {
         let node = node_of(&self.nodes, at, touches);
         match node.after.get() {

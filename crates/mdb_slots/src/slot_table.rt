@@ -58,6 +58,7 @@ impl Slots<Record> {
         requires { touches.old.count < 2 ^ 64 - 8 }
         ensures value { result ≡ newest_of (listing self.now).items }
         ensures counts { touches.new.count ≤ touches.old.count + 8 }
+        ensures counted { touches.old.count ≤ touches.new.count }
     {
         named(self, self.last(), touches)
     }
@@ -67,6 +68,7 @@ impl Slots<Record> {
         requires { touches.old.count < 2 ^ 64 - 8 }
         ensures value { result ≡ oldest_of (listing self.now).items }
         ensures counts { touches.new.count ≤ touches.old.count + 8 }
+        ensures counted { touches.old.count ≤ touches.new.count }
     {
         named(self, self.first(), touches)
     }
@@ -76,6 +78,7 @@ impl Slots<Record> {
         requires { touches.old.count < 2 ^ 64 - 8 }
         ensures value { result ≡ lists at (listing self.now).items }
         ensures counts { touches.new.count ≤ touches.old.count + 1 }
+        ensures counted { touches.old.count ≤ touches.new.count }
     {
         match self.value(at.slot, touches) {
             Some(held) => held.id == at.id,
@@ -88,6 +91,7 @@ impl Slots<Record> {
         requires { touches.old.count < 2 ^ 64 - 8 }
         ensures value { result ≡ newer at (listing self.now).items }
         ensures counts { touches.new.count ≤ touches.old.count + 8 }
+        ensures counted { touches.old.count ≤ touches.new.count }
     {
         if !self.contains(at, touches) {
             return None;
@@ -101,6 +105,7 @@ impl Slots<Record> {
         requires { touches.old.count < 2 ^ 64 - 8 }
         ensures value { result ≡ older at (listing self.now).items }
         ensures counts { touches.new.count ≤ touches.old.count + 8 }
+        ensures counted { touches.old.count ≤ touches.new.count }
     {
         if !self.contains(at, touches) {
             return None;
@@ -123,6 +128,7 @@ impl Slots<Record> {
         ensures spare { (listing self.new).spare + 1 ≡ (listing self.old).spare }
         ensures id { result.id ≡ id }
         ensures counts { touches.new.count ≤ touches.old.count + 8 }
+        ensures counted { touches.old.count ≤ touches.new.count }
     {
         let slot = self.bring(Record { id, service, since }, true, touches);
         SlotRef { slot, id }
@@ -135,6 +141,7 @@ impl Slots<Record> {
         ensures items { (listing self.new).items ≡ dropped at (listing self.old).items }
         ensures spare { (listing self.new).spare ≡ (listing self.old).spare + (if result then 1 else 0) }
         ensures counts { touches.new.count ≤ touches.old.count + 8 }
+        ensures counted { touches.old.count ≤ touches.new.count }
     {
         if !self.contains(at, touches) {
             return false;

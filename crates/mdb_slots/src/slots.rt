@@ -94,6 +94,7 @@ impl<T: Drop> Slots<T> {
         requires few { touches.old.count < 2 ^ 64 - 1 }
         ensures value { result ≡ next at self.now.order.used }
         ensures counts { touches.new.count ≤ touches.old.count + 1 }
+        ensures counted { touches.old.count ≤ touches.new.count }
     {
         self.order.after(at, touches)
     }
@@ -104,6 +105,7 @@ impl<T: Drop> Slots<T> {
         requires few { touches.old.count < 2 ^ 64 - 1 }
         ensures value { result ≡ previous None at self.now.order.used }
         ensures counts { touches.new.count ≤ touches.old.count + 1 }
+        ensures counted { touches.old.count ≤ touches.new.count }
     {
         self.order.before(at, touches)
     }
@@ -114,6 +116,7 @@ impl<T: Drop> Slots<T> {
         ensures value { option_copied result ≡ cell_at self.now.cells at }
         ensures cover { is_some (option_copied result) ≡ has at self.now.order.used }
         ensures counts { touches.new.count ≤ touches.old.count + 1 }
+        ensures counted { touches.old.count ≤ touches.new.count }
     {
         if at as usize >= self.cells.as_slice().len() {
             return None;
@@ -167,6 +170,7 @@ impl<T: Drop> Slots<T> {
         ensures open { stays ≡ false → SlotsGoBack self.old self.new }
         ensures lasts { stays ≡ true → SlotsLast self.new }
         ensures counts { touches.new.count ≤ touches.old.count + 5 }
+        ensures counted { touches.old.count ≤ touches.new.count }
     {
         let at = self.order.push(stays, touches);
         write(&mut self.cells, at, Some(value), stays, touches);
@@ -187,6 +191,7 @@ impl<T: Drop> Slots<T> {
         ensures nodes_room { self.old.room.order ≤ self.new.room.order + 3 }
         ensures cells_room { self.old.room.cells ≤ self.new.room.cells + 1 }
         ensures counts { touches.new.count ≤ touches.old.count + 7 }
+        ensures counted { touches.old.count ≤ touches.new.count }
     {
         self.order.remove(at, stays, touches);
         write(&mut self.cells, at, None, stays, touches);

@@ -260,7 +260,8 @@ impl PoolCore {
     pub fn refusal_now(&self, step: &Step) -> Option<Refused>
         requires act { IsPoolAct self.now.pool step.now.act }
         requires new { tells_new self.now step.now.act ≡ true }
-        ensures { (h : List Item) → StandsFor self.now h → result ≡ refusal_of self.now.pool self.now.options h step.now }
+        ensures history { (h : List Item) → StandsFor self.now h → result ≡ refusal_of self.now.pool self.now.options h step.now }
+        ensures now { result ≡ refusal_now self.now step.now }
     {
         self.refuses(step)
     }

@@ -35,7 +35,7 @@ invariant_of-self c =
     let s = c.self.inside in
     let l = c.requires.leads.1 in
     let same : x.core ≡ l.0 = ap (λ (y : Placed). y.core) (read-there c.args.place pools l.0 i xs l.2 l.5 found are x c.index_mut.ensures.value) in
-    let became : c.apply.new.pool ≡ l.1 = c.apply.ensures l.1 (subst (λ u. Plans c.args.plan u l.1) (sym same) l.3) in
+    let became : c.apply.new.pool ≡ l.1 = c.apply.ensures.leads l.1 (subst (λ u. Plans c.args.plan u l.1) (sym same) l.3) in
     let there : c.index.result.now ≡ record { place = c.args.place; core = l.1 } = read-put c.args.place pools l.0 i xs l.2 l.5 found are x c.index_mut.ensures.value c.apply.new.pool l.1 became c.index.result.now c.index.ensures in
     let told : c.of-all.result.value ≡ set s.all.value c.args.place l.1 = c.of-all.ensures ∙ ap (λ (y : Placed). set s.all.value y.place y.core) there in
     let named : set s.all.value c.args.place l.1 ≡ set pools c.args.place l.1 = ap (λ (v : PoolList). set v.items c.args.place l.1) c.self.view_is in
@@ -55,7 +55,7 @@ returns-clause-led c later l =
     let are : xs ≡ living_from 0 pools = c.self.invariant.0 ∙ ap (λ (v : PoolList). living_from 0 v.items) c.self.view_is in
     let s = c.self.inside in
     let same : x.core ≡ l.0 = ap (λ (y : Placed). y.core) (read-there c.args.place pools l.0 i xs l.2 l.5 found are x c.index_mut.ensures.value) in
-    let became : c.apply.new.pool ≡ l.1 = c.apply.ensures l.1 (subst (λ u. Plans c.args.plan u l.1) (sym same) l.3) in
+    let became : c.apply.new.pool ≡ l.1 = c.apply.ensures.leads l.1 (subst (λ u. Plans c.args.plan u l.1) (sym same) l.3) in
     let there : c.index.result.now ≡ record { place = c.args.place; core = l.1 } = read-put c.args.place pools l.0 i xs l.2 l.5 found are x c.index_mut.ensures.value c.apply.new.pool l.1 became c.index.result.now c.index.ensures in
     let told : c.of-all.result.value ≡ set s.all.value c.args.place l.1 = c.of-all.ensures ∙ ap (λ (y : Placed). set s.all.value y.place y.core) there in
     l.4 ∙ sym (told ∙ ap (λ (v : PoolList). set v.items c.args.place l.1) c.self.view_is)
