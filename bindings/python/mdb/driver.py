@@ -4,43 +4,40 @@ from __future__ import annotations
 
 import threading
 from ctypes import byref, c_size_t, c_uint32, c_uint64, create_string_buffer
-from typing import Iterator
+from typing import Iterator, NoReturn
 
 from ._library import (
     LIBRARY, At, CheckNumbers, ConnectionNumbers, EstablishedNumbers, FactNumbers, ReplyNumbers, ServerNumbers, Slot, TopologyNumbers, TypesNumbers,
 )
 from .errors import NoEntry, NoRoom, check
+from .numbers import number
 from .values import Action, Awaited, Check, Connection, Event, Fact, FactKind, Kind, Next, Reply, Server, ServerKind, Text, Topology, TopologyKind, Use
 
-_ROOM = 4096
-
-
-def _number(value: int, bits: int) -> int:
-    """The number, if it fits: ctypes would drop the bits beyond."""
-    if not 0 <= value < 1 << bits:
-        raise OverflowError(f"{value} is no number of {bits} bits")
-    return value
+_ROOM = 512
 
 
 def _bytes(text: str | bytes) -> bytes:
     return text.encode("utf-8") if isinstance(text, str) else text
 
 
+def _reply(told: ReplyNumbers) -> Reply:
+    return Reply(Kind(told.kind), told.pool, told.id, told.why, told.number)
+
+
 class Driver:
     """One driver: its connection pools, and what it knows of its servers.
 
     It opens no socket and reads no clock: it is told what happened, step by step. Moments are in milliseconds, durations of checks in nanoseconds.
-    Any number of threads may share one; a lock gives it to one call at a time, and `lock` can be held around a step and its facts.
+    Any number of threads may share one; a lock gives it to one call at a time, and `lock` can be held around a step and its facts. A signal handler
+    or a finalizer may call it too. A number that does not fit the library's raises OverflowError, and the library is not asked. A driver is not copied.
     """
 
     def __init__(self, line: str | bytes, seat: int = 0) -> None:
         """Opens a driver by an `open` line of a script, as `open seeds=a:27017 max=10`. Raises Malformed or NoMemory."""
         self._slot = Slot()
         self.lock = threading.RLock()
-        self._reply, self._fact, self._size = ReplyNumbers(), FactNumbers(), c_size_t()
-        self._out = create_string_buffer(_ROOM)
         text = _bytes(line)
-        check(LIBRARY.mdb_open_line(byref(self._slot), _number(seat, 32), text, len(text)), line)
+        check(LIBRARY.mdb_open_line(byref(self._slot), number(seat, 32), text, len(text)), line)
 
     def close(self) -> None:
         """Frees the driver. Each later call raises Closed; a second close does nothing."""
@@ -57,14 +54,17 @@ class Driver:
         if getattr(self, "_slot", None) is not None and LIBRARY is not None:
             LIBRARY.mdb_close(byref(self._slot))
 
+    def __reduce__(self) -> NoReturn:
+        raise TypeError("a driver is not copied: its copy would free what it still uses")
+
     # ---- by lines
 
     def line(self, line: str | bytes, seat: int = 0) -> Reply:
         """Does the step that a line of a script spells, any but `open`."""
-        text = _bytes(line)
+        text, told = _bytes(line), ReplyNumbers()
         with self.lock:
-            check(LIBRARY.mdb_line(byref(self._slot), _number(seat, 32), text, len(text), byref(self._reply)), line)
-            return self._told()
+            check(LIBRARY.mdb_line(byref(self._slot), number(seat, 32), text, len(text), byref(told)), line)
+        return _reply(told)
 
     def entry_text(self) -> str:
         """The text of the last entry, with its newline."""
@@ -75,24 +75,24 @@ class Driver:
     def request(self, moment: int, party: int, address: str, seat: int = 0) -> Reply:
         """A caller asks for a connection to the address (CMAP, "Checking Out a Connection")."""
         text = _bytes(address)
-        return self._step(LIBRARY.mdb_request, moment, seat, _number(party, 32), text, len(text))
+        return self._step(LIBRARY.mdb_request, moment, seat, number(party, 32), text, len(text))
 
     def warm(self, moment: int, party: int, address: str, seat: int = 0) -> Reply:
         """One connection more for the pool of the address, where fewer live than its minimum."""
         text = _bytes(address)
-        return self._step(LIBRARY.mdb_warm, moment, seat, _number(party, 32), text, len(text))
+        return self._step(LIBRARY.mdb_warm, moment, seat, number(party, 32), text, len(text))
 
     def collect(self, moment: int, party: int, seat: int = 0) -> Reply:
         """The caller of a request asks how it stands. That it ended is told once."""
-        return self._step(LIBRARY.mdb_collect, moment, seat, _number(party, 32))
+        return self._step(LIBRARY.mdb_collect, moment, seat, number(party, 32))
 
     def give_up(self, moment: int, party: int, seat: int = 0) -> Reply:
         """The caller of a request no longer wants its connection."""
-        return self._step(LIBRARY.mdb_give_up, moment, seat, _number(party, 32))
+        return self._step(LIBRARY.mdb_give_up, moment, seat, number(party, 32))
 
     def return_(self, moment: int, party: int, used: Use = Use.OK, seat: int = 0) -> Reply:
         """A party returns its connection (CMAP, "Checking In a Connection")."""
-        return self._step(LIBRARY.mdb_return, moment, seat, _number(party, 32), _number(used, 32))
+        return self._step(LIBRARY.mdb_return, moment, seat, number(party, 32), number(used, 32))
 
     def claim(self, moment: int, seat: int = 0) -> Reply:
         """A worker asks for a connection to establish (CMAP, "Establishing a Connection")."""
@@ -103,13 +103,13 @@ class Driver:
     ) -> Reply:
         """A pending connection was established. `service` is the service behind a load balancer, in 24 hex digits."""
         text = _bytes(service)
-        told = -1 if server_id is None else _number(server_id, 63)
-        made = EstablishedNumbers(_number(connection.pool, 32), _number(connection.id, 32), _number(wire, 31), told)
+        told = -1 if server_id is None else number(server_id, 63)
+        made = EstablishedNumbers(number(connection.pool, 32), number(connection.id, 32), number(wire, 31), told)
         return self._step(LIBRARY.mdb_established, moment, seat, byref(made), text, len(text))
 
     def pin(self, moment: int, party: int, seat: int = 0) -> Reply:
         """A party pins its connection, so that it stays with its session when it comes back."""
-        return self._step(LIBRARY.mdb_pin, moment, seat, _number(party, 32))
+        return self._step(LIBRARY.mdb_pin, moment, seat, number(party, 32))
 
     def replicate(self, moment: int, connection: Connection, seat: int = 0) -> Reply:
         """One pin more of a pinned connection."""
@@ -117,7 +117,7 @@ class Driver:
 
     def take(self, moment: int, party: int, connection: Connection, seat: int = 0) -> Reply:
         """A new party takes a pinned connection."""
-        return self._step(LIBRARY.mdb_take, moment, seat, _number(party, 32), self._connection(connection))
+        return self._step(LIBRARY.mdb_take, moment, seat, number(party, 32), self._connection(connection))
 
     def unpin(self, moment: int, connection: Connection, seat: int = 0) -> Reply:
         """One pin less of a pinned connection."""
@@ -136,20 +136,20 @@ class Driver:
     def beat(self, moment: int, address: str, pool: int, seat: int = 0) -> Reply:
         """The monitor of the address begins a check, for the pool of this number."""
         text = _bytes(address)
-        return self._step(LIBRARY.mdb_beat, moment, seat, text, len(text), _number(pool, 32))
+        return self._step(LIBRARY.mdb_beat, moment, seat, text, len(text), number(pool, 32))
 
     def want(self, moment: int, watcher: int, seat: int = 0) -> Reply:
         """A watcher wants the servers checked at once."""
-        return self._step(LIBRARY.mdb_want, moment, seat, _number(watcher, 32))
+        return self._step(LIBRARY.mdb_want, moment, seat, number(watcher, 32))
 
     def unwant(self, moment: int, watcher: int, seat: int = 0) -> Reply:
         """A watcher no longer wants it."""
-        return self._step(LIBRARY.mdb_unwant, moment, seat, _number(watcher, 32))
+        return self._step(LIBRARY.mdb_unwant, moment, seat, number(watcher, 32))
 
     def error(self, moment: int, party: int, error: str, seat: int = 0) -> Reply:
         """An operation of a party met an error on its connection, as `network msg=reset`."""
         text = _bytes(error)
-        return self._step(LIBRARY.mdb_error, moment, seat, _number(party, 32), text, len(text))
+        return self._step(LIBRARY.mdb_error, moment, seat, number(party, 32), text, len(text))
 
     def failed(self, moment: int, connection: Connection, outcome: str, seat: int = 0) -> Reply:
         """A pending connection failed: `pre ERROR` before the server's hello, `post ERROR` or `post sid=ID ERROR` after it."""
@@ -169,7 +169,7 @@ class Driver:
     def rtt(self, moment: int, address: str, pool: int, nanos: int, seat: int = 0) -> Reply:
         """A round trip was measured beside the checks of a monitor. The address has its port."""
         monitor = _bytes(f"{address} {pool}")
-        return self._step(LIBRARY.mdb_rtt, moment, seat, monitor, len(monitor), _number(nanos, 64))
+        return self._step(LIBRARY.mdb_rtt, moment, seat, monitor, len(monitor), number(nanos, 64))
 
     def hosts(self, moment: int, hosts: str, seat: int = 0) -> Reply:
         """DNS names these servers now: addresses with their ports, and commas between them."""
@@ -178,7 +178,7 @@ class Driver:
 
     def cluster_time(self, moment: int, time: int, seat: int = 0) -> Reply:
         """A reply told this time of the cluster."""
-        return self._step(LIBRARY.mdb_cluster_time, moment, seat, _number(time, 64))
+        return self._step(LIBRARY.mdb_cluster_time, moment, seat, number(time, 64))
 
     def stop(self, moment: int, seat: int = 0) -> Reply:
         """The driver stops: its pools and its monitors are closed."""
@@ -219,7 +219,7 @@ class Driver:
 
     def job_address(self, connection: Connection) -> str:
         """The address to which a pending connection goes. Raises NoEntry where it is not pending."""
-        return self._text(LIBRARY.mdb_job_address, _number(connection.pool, 32), _number(connection.id, 32))
+        return self._text(LIBRARY.mdb_job_address, number(connection.pool, 32), number(connection.id, 32))
 
     def next_check(self, address: str) -> Check:
         """What the check of the server does that begins now, asked before `beat`. Raises NoEntry where no pool is open there."""
@@ -254,18 +254,14 @@ class Driver:
     # ---- within
 
     def _step(self, call, moment: int, seat: int, *values) -> Reply:
-        at = At(_number(moment, 64), _number(seat, 32))
+        at, told = At(number(moment, 64), number(seat, 32)), ReplyNumbers()
         with self.lock:
-            check(call(byref(self._slot), byref(at), *values, byref(self._reply)))
-            return self._told()
-
-    def _told(self) -> Reply:
-        told = self._reply
-        return Reply(Kind(told.kind), told.pool, told.id, told.why, told.number)
+            check(call(byref(self._slot), byref(at), *values, byref(told)))
+        return _reply(told)
 
     @staticmethod
     def _connection(connection: Connection):
-        return byref(ConnectionNumbers(_number(connection.pool, 32), _number(connection.id, 32)))
+        return byref(ConnectionNumbers(number(connection.pool, 32), number(connection.id, 32)))
 
     def _wide(self, call) -> int:
         found = c_uint64()
@@ -275,20 +271,20 @@ class Driver:
 
     def _text(self, call, *index: int) -> str:
         """A text that the call writes, with a larger buffer where it does not fit."""
+        out, size = create_string_buffer(_ROOM), c_size_t()
         with self.lock:
             while True:
-                room = len(self._out)
-                status = call(byref(self._slot), *index, self._out, room, byref(self._size))
+                status = call(byref(self._slot), *index, out, len(out), byref(size))
                 if status != NoRoom.status:
                     check(status)
-                    return self._out.raw[: self._size.value].decode("ascii")
-                self._out = create_string_buffer(2 * self._size.value)
+                    return out.raw[: size.value].decode("ascii")
+                out = create_string_buffer(2 * size.value)
 
     def _facts(self) -> Iterator[Fact]:
-        check(LIBRARY.mdb_fact_count(byref(self._slot), byref(self._size)))
-        for index in range(self._size.value):
-            check(LIBRARY.mdb_fact_at(byref(self._slot), index, byref(self._fact)), index)
-            fact = self._fact
+        fact, size = FactNumbers(), c_size_t()
+        check(LIBRARY.mdb_fact_count(byref(self._slot), byref(size)))
+        for index in range(size.value):
+            check(LIBRARY.mdb_fact_at(byref(self._slot), index, byref(fact)), index)
             text = self._text(LIBRARY.mdb_fact_text, index)
             address = self._some_text(LIBRARY.mdb_fact_address, index)
             yield Fact(FactKind(fact.kind), Event(fact.event), fact.pool, fact.id, fact.party, fact.why, fact.number, text, address, *self._types(index, fact.event))

@@ -7,6 +7,7 @@ from typing import Iterable
 
 from ._library import LIBRARY
 from .errors import BadRecords, NoRoom, check
+from .numbers import number
 
 
 def accepted_hosts(name: str, found: Iterable[str], skip: bool = False) -> list[str]:
@@ -27,8 +28,11 @@ def txt_options(name: str, records: Iterable[Iterable[bytes]]) -> dict[str, str]
 
 
 def rescan_seconds(accepted: int, ttl: int, heartbeat: int) -> int:
-    """After how many seconds the records are looked up again, where so many hosts of the last lookup were accepted, 0 where it failed."""
-    return LIBRARY.mdb_srv_rescan(accepted, ttl, heartbeat)
+    """After how many seconds the records are looked up again, where so many hosts of the last lookup were accepted, 0 where it failed.
+
+    Raises OverflowError for a number that does not fit the library's.
+    """
+    return LIBRARY.mdb_srv_rescan(number(accepted, 32), number(ttl, 32), number(heartbeat, 64))
 
 
 def _text(call, name: bytes, *values) -> str:

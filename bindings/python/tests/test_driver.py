@@ -1,5 +1,7 @@
 """The package: exceptions, threads, numbers, what is known."""
 
+import copy
+import sys
 import threading
 
 import pytest
@@ -257,3 +259,30 @@ def test_threads_share_a_driver():
 
 def test_version():
     assert mdb.__version__ == "0.3.0"
+
+
+def test_a_call_within_a_call_keeps_its_own_reply():
+    """A signal handler, a finalizer or a trace function may call the driver between the library's answer and its reading."""
+    with opened() as driver:
+        inner = []
+
+        def traced(frame, event, _argument):
+            if frame.f_code.co_name in ("_step", "_text", "_facts", "_reply") and event in ("line", "return"):
+                inner.append(driver.return_(2, 99).refusal)
+            return traced
+
+        sys.settrace(traced)
+        try:
+            reply = driver.request(2, 1, "a:27017")
+        finally:
+            sys.settrace(None)
+        assert (reply.kind, reply.connection) == (Kind.ESTABLISHING, Connection(0, 1))
+        assert len(inner) > 2 and set(inner) == {Why.NOT_HOLDER}
+
+
+def test_a_driver_is_not_copied():
+    with opened() as driver:
+        for copied in (copy.copy, copy.deepcopy):
+            with pytest.raises(TypeError):
+                copied(driver)
+        assert driver.request(2, 1, "a:27017").kind is Kind.ESTABLISHING

@@ -35,6 +35,12 @@ def test_options_of_a_record():
             txt_options(NAME, records)
 
 
+def test_numbers_that_do_not_fit_are_refused():
+    for accepted, ttl, heartbeat in ((1 << 32, 5, 10), (1, 1 << 32, 10), (1, 5, 1 << 64), (-1, 5, 10)):
+        with pytest.raises(OverflowError):
+            rescan_seconds(accepted, ttl, heartbeat)
+
+
 def test_when_to_look_again():
     assert [rescan_seconds(1, 5, 10), rescan_seconds(1, 300, 10), rescan_seconds(0, 300, 10), rescan_seconds(0, 300, 90)] == [60, 300, 60, 90]
     for line, polled in (("open seeds=a:1", True), ("open seeds=a:1 direct", False), ("open seeds=a:1 set=rs", False)):
