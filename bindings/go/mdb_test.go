@@ -1,6 +1,7 @@
 package mdb
 
 import (
+	"errors"
 	"fmt"
 	"strings"
 	"sync"
@@ -284,4 +285,142 @@ func BenchmarkCalls(b *testing.B) {
 		_, err := d.Return(5, party, Used)
 		return err
 	})
+}
+
+func TestStepAndFactsBelongTogether(t *testing.T) {
+	d := opened(t)
+	defer d.Close()
+	var group sync.WaitGroup
+	for seat := uint32(1); seat <= 4; seat++ {
+		group.Add(1)
+		go func(seat uint32) {
+			defer group.Done()
+			for i := uint32(0); i < 200; i++ {
+				party := seat*1000 + i
+				err := d.Do(func(tx *Tx) error {
+					tx.Seat = seat
+					reply, err := tx.Request(5, party, "a:27017")
+					if err != nil {
+						return err
+					}
+					facts, err := tx.Facts()
+					if err != nil {
+						return err
+					}
+					granted := 0
+					for _, fact := range facts {
+						if fact.Kind == FactGranted && fact.Party == party {
+							granted++
+						}
+					}
+					if (reply.Kind == Pooled || reply.Kind == Establishing) != (granted == 1) {
+						t.Errorf("party %d: %v with %v", party, reply, facts)
+					}
+					_, err = tx.GiveUp(5, party)
+					return err
+				})
+				if err != nil {
+					t.Error(err)
+				}
+			}
+		}(seat)
+	}
+	group.Wait()
+}
+
+func TestErrorOfDoIsReturned(t *testing.T) {
+	d := opened(t)
+	defer d.Close()
+	err := d.Do(func(tx *Tx) error {
+		_, err := tx.Request(4, 2, "a:0")
+		return fmt.Errorf("a caller: %w", err)
+	})
+	if !errors.Is(err, Malformed) {
+		t.Fatal(err)
+	}
+}
+
+func TestPins(t *testing.T) {
+	d := opened(t)
+	defer d.Close()
+	place := Connection{0, 1}
+	for _, step := range []struct {
+		name string
+		make func() (Reply, error)
+		kind Kind
+		why  Why
+	}{
+		{"unpin what has no pin", func() (Reply, error) { return d.Unpin(4, place) }, Refused, WhyUnpinned},
+		{"pin", func() (Reply, error) { return d.Pin(4, 1) }, Done, 0},
+		{"pin again", func() (Reply, error) { return d.Pin(4, 1) }, Refused, WhyPinState},
+		{"replicate", func() (Reply, error) { return d.Replicate(4, place) }, Done, 0},
+		{"take what is held", func() (Reply, error) { return d.Take(4, 2, place) }, Refused, WhyPinInUse},
+		{"return to the pin", func() (Reply, error) { return d.Return(5, 1, Used) }, Done, 0},
+		{"take from the pin", func() (Reply, error) { return d.Take(6, 2, place) }, Pooled, 0},
+		{"return once more", func() (Reply, error) { return d.Return(7, 2, Used) }, Done, 0},
+		{"unpin", func() (Reply, error) { return d.Unpin(7, place) }, Done, 0},
+		{"unpin the last", func() (Reply, error) { return d.Unpin(8, place) }, Done, 0},
+	} {
+		if r, err := step.make(); err != nil || r.Kind != step.kind || r.Refusal() != step.why {
+			t.Fatal(step.name, r, err)
+		}
+	}
+	facts, err := d.Facts()
+	if err != nil || len(facts) != 1 || facts[0].Event != EventCheckedIn {
+		t.Fatal(facts, err)
+	}
+}
+
+func TestTimersAndWatchers(t *testing.T) {
+	d, err := Open("open seeds=a:27017 max=1 min=1 wait=5")
+	if err != nil {
+		t.Fatal(err)
+	}
+	defer d.Close()
+	if r, err := d.Want(1, 9); err != nil || r.Kind != Count || r.Number != 1 {
+		t.Fatal(r, err)
+	}
+	if r, err := d.Unwant(1, 9); err != nil || r.Kind != Count || r.Number != 0 {
+		t.Fatal(r, err)
+	}
+	if r, err := d.Hello(2, "a:27017", 0, "ok rtt=1 maxWireVersion=21"); err != nil || r.Kind != Changed {
+		t.Fatal(r, err)
+	}
+	facts, err := d.Facts()
+	if err != nil {
+		t.Fatal(err)
+	}
+	for _, fact := range facts {
+		if fact.Event == EventServerChanged && (ServerKind(fact.Before) != ServerUnknown || ServerKind(fact.After) != ServerStandalone) {
+			t.Fatal(fact)
+		}
+		if fact.Event == EventTopologyChanged && TopologyKind(fact.After) != TopologySingle {
+			t.Fatal(fact)
+		}
+	}
+	if r, err := d.Warm(2, 1, "a:27017"); err != nil || r.Kind != Establishing {
+		t.Fatal(r, err)
+	}
+	if r, err := d.Request(3, 2, "a:27017"); err != nil || r.Kind != Waiting {
+		t.Fatal(r, err)
+	}
+	if r, err := d.Expire(8, "a:27017"); err != nil || r.Kind != Done {
+		t.Fatal(r, err)
+	}
+	if r, err := d.Collect(8, 2); err != nil || r.End() != EndTimedOut {
+		t.Fatal(r, err)
+	}
+	moment, err := d.LastMoment()
+	if err != nil || moment != 8 {
+		t.Fatal(moment, err)
+	}
+	if count, err := d.Published(); err != nil || count != 2 {
+		t.Fatal(count, err)
+	}
+	if pool, err := d.OpenPool("A"); err != nil || pool != 0 {
+		t.Fatal(pool, err)
+	}
+	if _, err := d.OpenPool("b:1"); err != NoEntry {
+		t.Fatal(err)
+	}
 }
