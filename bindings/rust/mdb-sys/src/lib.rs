@@ -132,7 +132,12 @@ extern "C" {
     pub fn mdb_return(slot: *mut mdb_slot, at: *const mdb_at, party: u32, used: u32, reply: *mut mdb_reply) -> u32;
     pub fn mdb_claim(slot: *mut mdb_slot, at: *const mdb_at, reply: *mut mdb_reply) -> u32;
     pub fn mdb_established(
-        slot: *mut mdb_slot, at: *const mdb_at, made: *const mdb_established_as, service: *const u8, service_len: usize, reply: *mut mdb_reply,
+        slot: *mut mdb_slot,
+        at: *const mdb_at,
+        made: *const mdb_established_as,
+        service: *const u8,
+        service_len: usize,
+        reply: *mut mdb_reply,
     ) -> u32;
     pub fn mdb_job_address(slot: *mut mdb_slot, pool: u32, id: u32, out: *mut u8, out_len: usize, needed: *mut usize) -> u32;
     pub fn mdb_pin(slot: *mut mdb_slot, at: *const mdb_at, party: u32, reply: *mut mdb_reply) -> u32;
@@ -146,13 +151,30 @@ extern "C" {
     pub fn mdb_unwant(slot: *mut mdb_slot, at: *const mdb_at, watcher: u32, reply: *mut mdb_reply) -> u32;
     pub fn mdb_error(slot: *mut mdb_slot, at: *const mdb_at, party: u32, error: *const u8, error_len: usize, reply: *mut mdb_reply) -> u32;
     pub fn mdb_failed(
-        slot: *mut mdb_slot, at: *const mdb_at, connection: *const mdb_connection, outcome: *const u8, outcome_len: usize, reply: *mut mdb_reply,
+        slot: *mut mdb_slot,
+        at: *const mdb_at,
+        connection: *const mdb_connection,
+        outcome: *const u8,
+        outcome_len: usize,
+        reply: *mut mdb_reply,
     ) -> u32;
     pub fn mdb_hello(
-        slot: *mut mdb_slot, at: *const mdb_at, monitor: *const u8, monitor_len: usize, outcome: *const u8, outcome_len: usize, reply: *mut mdb_reply,
+        slot: *mut mdb_slot,
+        at: *const mdb_at,
+        monitor: *const u8,
+        monitor_len: usize,
+        outcome: *const u8,
+        outcome_len: usize,
+        reply: *mut mdb_reply,
     ) -> u32;
     pub fn mdb_beaten(
-        slot: *mut mdb_slot, at: *const mdb_at, monitor: *const u8, monitor_len: usize, outcome: *const u8, outcome_len: usize, reply: *mut mdb_reply,
+        slot: *mut mdb_slot,
+        at: *const mdb_at,
+        monitor: *const u8,
+        monitor_len: usize,
+        outcome: *const u8,
+        outcome_len: usize,
+        reply: *mut mdb_reply,
     ) -> u32;
     pub fn mdb_rtt(slot: *mut mdb_slot, at: *const mdb_at, monitor: *const u8, monitor_len: usize, nanos: u64, reply: *mut mdb_reply) -> u32;
     pub fn mdb_hosts(slot: *mut mdb_slot, at: *const mdb_at, hosts: *const u8, hosts_len: usize, reply: *mut mdb_reply) -> u32;
@@ -172,11 +194,17 @@ extern "C" {
     pub fn mdb_check_get(slot: *mut mdb_slot, address: *const u8, address_len: usize, check: *mut mdb_check) -> u32;
     pub fn mdb_check_next(slot: *mut mdb_slot, monitor: *const u8, monitor_len: usize, outcome: *const u8, outcome_len: usize, next: *mut u32) -> u32;
     pub fn mdb_srv_hosts(
-        name: *const u8, name_len: usize, found: *const u8, found_len: usize, strangers: u32, out: *mut u8, out_len: usize, needed: *mut usize,
+        name: *const u8,
+        name_len: usize,
+        found: *const u8,
+        found_len: usize,
+        strangers: u32,
+        out: *mut u8,
+        out_len: usize,
+        needed: *mut usize,
     ) -> u32;
-    pub fn mdb_srv_txt(
-        name: *const u8, name_len: usize, count: u32, text: *const u8, text_len: usize, out: *mut u8, out_len: usize, needed: *mut usize,
-    ) -> u32;
+    pub fn mdb_srv_txt(name: *const u8, name_len: usize, count: u32, text: *const u8, text_len: usize, out: *mut u8, out_len: usize, needed: *mut usize)
+        -> u32;
     pub fn mdb_srv_rescan(accepted: u32, ttl: u32, heartbeat: u64) -> u64;
     pub fn mdb_last_moment(slot: *mut mdb_slot, moment: *mut u64) -> u32;
     pub fn mdb_published(slot: *mut mdb_slot, count: *mut u64) -> u32;

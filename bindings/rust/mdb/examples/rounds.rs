@@ -1,6 +1,6 @@
 //! Times rounds of a request and a return, by calls and by lines: `cargo run --release --example rounds`. Each number is processor time, the least of 100 runs.
 use mdb::{Driver, Kind, Use};
-use std::ffi::c_long;
+use std::os::raw::c_long;
 
 const RUNS: u32 = 100;
 const ROUNDS: u32 = 1_000;
@@ -17,16 +17,22 @@ fn main() -> Result<(), mdb::Error> {
     driver.established(3, connection, 21, "", None)?;
     driver.return_connection(4, 0, Use::Ok)?;
     let mut party = 0;
-    println!("by calls: {:.2} us a request and a return", least(|| {
-        party += 1;
-        assert_eq!(driver.request(5, party, "a:27017")?.kind, Kind::Pooled);
-        driver.return_connection(5, party, Use::Ok)
-    })?);
-    println!("by lines: {:.2} us a request and a return", least(|| {
-        party += 1;
-        assert_eq!(driver.line(0, &format!("request 5 {party} a:27017"))?.kind, Kind::Pooled);
-        driver.line(0, &format!("return 5 {party} ok"))
-    })?);
+    println!(
+        "by calls: {:.2} us a request and a return",
+        least(|| {
+            party += 1;
+            assert_eq!(driver.request(5, party, "a:27017")?.kind, Kind::Pooled);
+            driver.return_connection(5, party, Use::Ok)
+        })?
+    );
+    println!(
+        "by lines: {:.2} us a request and a return",
+        least(|| {
+            party += 1;
+            assert_eq!(driver.line(0, &format!("request 5 {party} a:27017"))?.kind, Kind::Pooled);
+            driver.line(0, &format!("return 5 {party} ok"))
+        })?
+    );
     Ok(())
 }
 

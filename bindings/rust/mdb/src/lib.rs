@@ -5,14 +5,24 @@ pub mod srv;
 mod values;
 
 pub use values::{
-    Action, Awaited, Check, Connection, End, Error, Event, Fact, FactKind, Kind, Next, Reply, Server, ServerKind, Text, Topology, TopologyKind, Use, Why,
+    Action, Awaited, Change, Check, Connection, End, Error, Event, Fact, FactKind, Kind, Next, Reply, Server, ServerKind, Text, Topology, TopologyKind, Use,
+    Why,
 };
 
 use mdb_sys as c;
 use std::ptr::null_mut;
 
 /// One driver. It opens no socket and reads no clock: it is told what happened, step by step. Moments are in milliseconds.
-pub struct Driver(c::mdb_slot);
+pub struct Driver {
+    slot: c::mdb_slot,
+    seat: u32,
+}
+
+impl std::fmt::Debug for Driver {
+    fn fmt(&self, f: &mut std::fmt::Formatter<'_>) -> std::fmt::Result {
+        f.debug_struct("Driver").field("seat", &self.seat).finish_non_exhaustive()
+    }
+}
 
 // SAFETY: what a slot holds may go from thread to thread: the library's `Word` is proved to be `Send`, and `&mut self` is one call at a time.
 unsafe impl Send for Driver {}
@@ -20,10 +30,10 @@ unsafe impl Send for Driver {}
 // The reply of a call that makes a step.
 macro_rules! step {
     ($driver:ident, $call:ident, $moment:ident $(, $more:expr)*) => {{
-        let at = c::mdb_at { moment: $moment, seat: 0 };
+        let at = c::mdb_at { moment: $moment, seat: $driver.seat };
         let mut reply = c::mdb_reply::default();
         // SAFETY: a slot of this driver's, and other parameters of their own, each slice with its length.
-        Error::check(unsafe { c::$call(&mut $driver.0, &at $(, $more)*, &mut reply) })?;
+        Error::check(unsafe { c::$call(&mut $driver.slot, &at $(, $more)*, &mut reply) })?;
         Reply::of(reply)
     }};
 }
@@ -34,13 +44,22 @@ impl Driver {
     /// # Errors
     ///
     /// `Malformed`, `NoMemory`.
+    ///
+    /// # Panics
+    ///
+    /// Where the library that was linked has another interface than this crate.
     pub fn open(line: &str) -> Result<Driver, Error> {
         // SAFETY: it takes nothing.
         assert_eq!(unsafe { c::mdb_abi() }, c::MDB_ABI, "the library has another interface");
-        let mut driver = Driver(c::mdb_slot { state: 0, at: null_mut() });
+        let mut driver = Driver { slot: c::mdb_slot { state: 0, at: null_mut() }, seat: 0 };
         // SAFETY: a slot of zeros, and a slice with its length.
-        Error::check(unsafe { c::mdb_open_line(&mut driver.0, 0, line.as_ptr(), line.len()) })?;
+        Error::check(unsafe { c::mdb_open_line(&mut driver.slot, 0, line.as_ptr(), line.len()) })?;
         Ok(driver)
+    }
+
+    /// Whoever makes the steps that follow: a number that stands in their entries and changes nothing else. It is 0 at first.
+    pub fn set_seat(&mut self, seat: u32) {
+        self.seat = seat;
     }
 
     /// Does the step that a line of a script spells, any but `open`. The entry has the seat, a number that changes nothing.
@@ -51,7 +70,7 @@ impl Driver {
     pub fn line(&mut self, seat: u32, line: &str) -> Result<Reply, Error> {
         let mut reply = c::mdb_reply::default();
         // SAFETY: a slot of this driver's, a slice with its length, and a reply of its own.
-        Error::check(unsafe { c::mdb_line(&mut self.0, seat, line.as_ptr(), line.len(), &mut reply) })?;
+        Error::check(unsafe { c::mdb_line(&mut self.slot, seat, line.as_ptr(), line.len(), &mut reply) })?;
         Reply::of(reply)
     }
 
@@ -62,7 +81,7 @@ impl Driver {
     /// `NoMemory`.
     pub fn entry_text(&mut self) -> Result<String, Error> {
         // SAFETY: a slot of this driver's, a buffer with its length, and a number of its own.
-        text(|out, room, needed| unsafe { c::mdb_entry_text(&mut self.0, out, room, needed) })
+        text(|out, room, needed| unsafe { c::mdb_entry_text(&mut self.slot, out, room, needed) })
     }
 
     /// A caller asks for a connection to the address (CMAP, "Checking Out a Connection").
@@ -193,46 +212,53 @@ impl Driver {
     pub fn facts(&mut self) -> Result<Vec<Fact>, Error> {
         let mut count = 0;
         // SAFETY: a slot of this driver's, and a number of its own.
-        Error::check(unsafe { c::mdb_fact_count(&mut self.0, &mut count) })?;
+        Error::check(unsafe { c::mdb_fact_count(&mut self.slot, &mut count) })?;
         (0..count).map(|index| self.fact(index)).collect()
     }
 
     fn fact(&mut self, index: usize) -> Result<Fact, Error> {
         let mut numbers = c::mdb_fact::default();
         // SAFETY: a slot of this driver's, and numbers of their own.
-        Error::check(unsafe { c::mdb_fact_at(&mut self.0, index, &mut numbers) })?;
+        Error::check(unsafe { c::mdb_fact_at(&mut self.slot, index, &mut numbers) })?;
         // SAFETY: as in `entry_text`.
-        let text = text(|out, room, needed| unsafe { c::mdb_fact_text(&mut self.0, index, out, room, needed) })?;
+        let text = text(|out, room, needed| unsafe { c::mdb_fact_text(&mut self.slot, index, out, room, needed) })?;
         // SAFETY: as in `entry_text`.
-        let address = some_text(|out, room, needed| unsafe { c::mdb_fact_address(&mut self.0, index, out, room, needed) })?;
-        Fact::of(numbers, text, address)
+        let address = some_text(|out, room, needed| unsafe { c::mdb_fact_address(&mut self.slot, index, out, room, needed) })?;
+        let mut fact = Fact::of(numbers, text, address)?;
+        if fact.tells_types() {
+            let mut types = c::mdb_types::default();
+            // SAFETY: a slot of this driver's, and numbers of their own.
+            Error::check(unsafe { c::mdb_fact_types(&mut self.slot, index, &mut types) })?;
+            fact.change = Some(Change::of(fact.event, types)?);
+        }
+        Ok(fact)
     }
 
     /// The address to which a pending connection goes, if it is pending.
     pub fn job_address(&mut self, connection: Connection) -> Result<Option<String>, Error> {
         // SAFETY: as in `entry_text`.
-        some_text(|out, room, needed| unsafe { c::mdb_job_address(&mut self.0, connection.pool, connection.id, out, room, needed) })
+        some_text(|out, room, needed| unsafe { c::mdb_job_address(&mut self.slot, connection.pool, connection.id, out, room, needed) })
     }
 
     /// What is known of the topology.
     pub fn topology(&mut self) -> Result<Topology, Error> {
         let mut told = c::mdb_topology::default();
         // SAFETY: a slot of this driver's, and numbers of their own.
-        Error::check(unsafe { c::mdb_topology_get(&mut self.0, &mut told) })?;
+        Error::check(unsafe { c::mdb_topology_get(&mut self.slot, &mut told) })?;
         Topology::of(told)
     }
 
     /// A text of the topology, `SetName`, `ElectionId` or `Error`, if there is one.
     pub fn topology_text(&mut self, which: Text) -> Result<Option<String>, Error> {
         // SAFETY: as in `entry_text`.
-        some_text(|out, room, needed| unsafe { c::mdb_topology_text(&mut self.0, which as u32, out, room, needed) })
+        some_text(|out, room, needed| unsafe { c::mdb_topology_text(&mut self.slot, which as u32, out, room, needed) })
     }
 
     /// What is known of the server at the place, in the order of the servers' addresses, if there is one.
     pub fn server(&mut self, place: usize) -> Result<Option<Server>, Error> {
         let mut told = c::mdb_server::default();
         // SAFETY: a slot of this driver's, and numbers of their own.
-        match Error::check(unsafe { c::mdb_server_get(&mut self.0, place, &mut told) }) {
+        match Error::check(unsafe { c::mdb_server_get(&mut self.slot, place, &mut told) }) {
             Ok(()) => Server::of(told).map(Some),
             Err(Error::NoEntry) => Ok(None),
             Err(error) => Err(error),
@@ -243,7 +269,7 @@ impl Driver {
     pub fn server_at(&mut self, address: &str) -> Result<Option<usize>, Error> {
         let mut place = 0;
         // SAFETY: a slot of this driver's, a slice with its length, and a number of its own.
-        match Error::check(unsafe { c::mdb_server_at(&mut self.0, address.as_ptr(), address.len(), &mut place) }) {
+        match Error::check(unsafe { c::mdb_server_at(&mut self.slot, address.as_ptr(), address.len(), &mut place) }) {
             Ok(()) => Ok(Some(place)),
             Err(Error::NoEntry) => Ok(None),
             Err(error) => Err(error),
@@ -253,14 +279,14 @@ impl Driver {
     /// A text of the server at the place, if there is one.
     pub fn server_text(&mut self, place: usize, which: Text) -> Result<Option<String>, Error> {
         // SAFETY: as in `entry_text`.
-        some_text(|out, room, needed| unsafe { c::mdb_server_text(&mut self.0, place, which as u32, out, room, needed) })
+        some_text(|out, room, needed| unsafe { c::mdb_server_text(&mut self.slot, place, which as u32, out, room, needed) })
     }
 
     /// What the check of the server does that begins now, asked before `beat`, if a pool is open there.
     pub fn next_check(&mut self, address: &str) -> Result<Option<Check>, Error> {
         let mut told = c::mdb_check::default();
         // SAFETY: a slot of this driver's, a slice with its length, and numbers of their own.
-        match Error::check(unsafe { c::mdb_check_get(&mut self.0, address.as_ptr(), address.len(), &mut told) }) {
+        match Error::check(unsafe { c::mdb_check_get(&mut self.slot, address.as_ptr(), address.len(), &mut told) }) {
             Ok(()) => Check::of(told).map(Some),
             Err(Error::NoEntry) => Ok(None),
             Err(error) => Err(error),
@@ -272,7 +298,7 @@ impl Driver {
         let monitor = format!("{address} {pool}");
         let mut next = 0;
         // SAFETY: a slot of this driver's, slices with their lengths, and a number of its own.
-        match Error::check(unsafe { c::mdb_check_next(&mut self.0, monitor.as_ptr(), monitor.len(), outcome.as_ptr(), outcome.len(), &mut next) }) {
+        match Error::check(unsafe { c::mdb_check_next(&mut self.slot, monitor.as_ptr(), monitor.len(), outcome.as_ptr(), outcome.len(), &mut next) }) {
             Ok(()) => Next::of(next).map(Some),
             Err(Error::NoEntry) => Ok(None),
             Err(error) => Err(error),
@@ -283,7 +309,7 @@ impl Driver {
     pub fn last_moment(&mut self) -> Result<u64, Error> {
         let mut moment = 0;
         // SAFETY: a slot of this driver's, and a number of its own.
-        Error::check(unsafe { c::mdb_last_moment(&mut self.0, &mut moment) })?;
+        Error::check(unsafe { c::mdb_last_moment(&mut self.slot, &mut moment) })?;
         Ok(moment)
     }
 
@@ -291,7 +317,7 @@ impl Driver {
     pub fn published(&mut self) -> Result<u64, Error> {
         let mut count = 0;
         // SAFETY: a slot of this driver's, and a number of its own.
-        Error::check(unsafe { c::mdb_published(&mut self.0, &mut count) })?;
+        Error::check(unsafe { c::mdb_published(&mut self.slot, &mut count) })?;
         Ok(count)
     }
 
@@ -299,7 +325,7 @@ impl Driver {
     pub fn open_pool(&mut self, address: &str) -> Result<Option<u32>, Error> {
         let mut pool = 0;
         // SAFETY: a slot of this driver's, a slice with its length, and a number of its own.
-        match Error::check(unsafe { c::mdb_open_pool(&mut self.0, address.as_ptr(), address.len(), &mut pool) }) {
+        match Error::check(unsafe { c::mdb_open_pool(&mut self.slot, address.as_ptr(), address.len(), &mut pool) }) {
             Ok(()) => Ok(Some(pool)),
             Err(Error::NoEntry) => Ok(None),
             Err(error) => Err(error),
@@ -310,7 +336,7 @@ impl Driver {
 impl Drop for Driver {
     fn drop(&mut self) {
         // SAFETY: a slot of this driver's.
-        unsafe { c::mdb_close(&mut self.0) }
+        unsafe { c::mdb_close(&mut self.slot) }
     }
 }
 

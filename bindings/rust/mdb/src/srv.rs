@@ -14,11 +14,30 @@ pub enum Strangers {
 
 /// Why there is no answer.
 #[derive(Clone, Debug, PartialEq, Eq)]
+#[non_exhaustive]
 pub enum Refusal {
     /// The records break a rule, which the text names.
     Records(String),
     /// A text or a number means nothing, or there was no memory.
     Call(Error),
+}
+
+impl std::fmt::Display for Refusal {
+    fn fmt(&self, f: &mut std::fmt::Formatter<'_>) -> std::fmt::Result {
+        match self {
+            Refusal::Records(why) => f.write_str(why),
+            Refusal::Call(error) => error.fmt(f),
+        }
+    }
+}
+
+impl std::error::Error for Refusal {
+    fn source(&self) -> Option<&(dyn std::error::Error + 'static)> {
+        match self {
+            Refusal::Records(_) => None,
+            Refusal::Call(error) => Some(error),
+        }
+    }
 }
 
 /// The hosts of an SRV lookup of the name that are in its domain, in their order. `found` are those that the records name, as `a.b.c:27017`, with commas

@@ -5,6 +5,7 @@ use std::fmt;
 
 /// A call was not done, and nothing changed.
 #[derive(Clone, Copy, Debug, PartialEq, Eq)]
+#[non_exhaustive]
 pub enum Error {
     /// There was no memory. The call may be made again.
     NoMemory,
@@ -59,6 +60,7 @@ impl std::error::Error for Error {}
 
 /// The kind of a reply.
 #[derive(Clone, Copy, Debug, PartialEq, Eq)]
+#[non_exhaustive]
 pub enum Kind {
     Pooled = 1,
     Establishing = 2,
@@ -92,6 +94,7 @@ impl Kind {
 
 /// How a request ended.
 #[derive(Clone, Copy, Debug, PartialEq, Eq)]
+#[non_exhaustive]
 pub enum End {
     Cleared = 1,
     Failed = 2,
@@ -119,6 +122,7 @@ impl End {
 
 /// Why a step was refused: the first reason that holds, in this order.
 #[derive(Clone, Copy, Debug, PartialEq, Eq)]
+#[non_exhaustive]
 pub enum Why {
     TimeBack = 1,
     UnknownServer = 2,
@@ -158,6 +162,7 @@ impl Why {
 
 /// How a connection was used by the party that returns it.
 #[derive(Clone, Copy, Debug, PartialEq, Eq)]
+#[non_exhaustive]
 pub enum Use {
     Ok = 0,
     Errored = 1,
@@ -167,6 +172,7 @@ pub enum Use {
 
 /// The kind of a fact.
 #[derive(Clone, Copy, Debug, PartialEq, Eq)]
+#[non_exhaustive]
 pub enum FactKind {
     Opened = 1,
     Pool = 2,
@@ -196,6 +202,7 @@ impl FactKind {
 
 /// The event of a fact of a pool (CMAP, "Events"), or of a server or the topology (SDAM monitoring).
 #[derive(Clone, Copy, Debug, PartialEq, Eq)]
+#[non_exhaustive]
 pub enum Event {
     None = 0,
     PoolCreated = 1,
@@ -284,12 +291,20 @@ impl Reply {
 
     /// How a request ended, of `Ended`.
     pub fn end(&self) -> Option<End> {
-        if self.kind == Kind::Ended { End::of(self.why).ok() } else { None }
+        if self.kind == Kind::Ended {
+            End::of(self.why).ok()
+        } else {
+            None
+        }
     }
 
     /// Why the step was refused, of `Refused`.
     pub fn refusal(&self) -> Option<Why> {
-        if self.kind == Kind::Refused { Why::of(self.why).ok() } else { None }
+        if self.kind == Kind::Refused {
+            Why::of(self.why).ok()
+        } else {
+            None
+        }
     }
 }
 
@@ -306,17 +321,44 @@ pub struct Fact {
     pub text: String,
     /// The address that it names, if it names one.
     pub address: Option<String>,
+    /// The types before and after, of a change of a server or of the topology.
+    pub change: Option<Change>,
+}
+
+/// The types before and after a change.
+#[derive(Clone, Copy, Debug, PartialEq, Eq)]
+#[non_exhaustive]
+pub enum Change {
+    /// Of a server.
+    Server(ServerKind, ServerKind),
+    /// Of the topology.
+    Topology(TopologyKind, TopologyKind),
+}
+
+impl Change {
+    pub(crate) fn of(event: Event, types: c::mdb_types) -> Result<Change, Error> {
+        if event == Event::TopologyChanged {
+            Ok(Change::Topology(TopologyKind::of(types.before)?, TopologyKind::of(types.after)?))
+        } else {
+            Ok(Change::Server(ServerKind::of(types.before)?, ServerKind::of(types.after)?))
+        }
+    }
 }
 
 impl Fact {
     pub(crate) fn of(told: c::mdb_fact, text: String, address: Option<String>) -> Result<Fact, Error> {
         let (kind, event) = (FactKind::of(told.kind)?, Event::of(told.event)?);
-        Ok(Fact { kind, event, pool: told.pool, id: told.id, party: told.party, why: told.why, number: told.number, text, address })
+        Ok(Fact { kind, event, pool: told.pool, id: told.id, party: told.party, why: told.why, number: told.number, text, address, change: None })
+    }
+
+    pub(crate) fn tells_types(&self) -> bool {
+        matches!(self.event, Event::ServerChanged | Event::TopologyChanged)
     }
 }
 
 /// The type of a topology (SDAM, "TopologyType").
 #[derive(Clone, Copy, Debug, PartialEq, Eq)]
+#[non_exhaustive]
 pub enum TopologyKind {
     Unknown = 1,
     Single = 2,
@@ -342,6 +384,7 @@ impl TopologyKind {
 
 /// The type of a server (SDAM, "ServerType").
 #[derive(Clone, Copy, Debug, PartialEq, Eq)]
+#[non_exhaustive]
 pub enum ServerKind {
     Unknown = 1,
     Standalone = 2,
@@ -373,6 +416,7 @@ impl ServerKind {
 
 /// A text of a server; the first three are also texts of a topology.
 #[derive(Clone, Copy, Debug, PartialEq, Eq)]
+#[non_exhaustive]
 pub enum Text {
     SetName = 1,
     ElectionId = 2,
@@ -447,6 +491,7 @@ impl Server {
 
 /// What a check of a server does.
 #[derive(Clone, Copy, Debug, PartialEq, Eq)]
+#[non_exhaustive]
 pub enum Action {
     /// It makes a connection, whose first command is the check.
     Connect = 1,
@@ -507,6 +552,7 @@ impl Check {
 
 /// What a monitor does after a check.
 #[derive(Clone, Copy, Debug, PartialEq, Eq)]
+#[non_exhaustive]
 pub enum Next {
     /// It checks again at once: a server that was available may have restarted.
     Retry = 1,

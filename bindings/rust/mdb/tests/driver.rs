@@ -168,3 +168,23 @@ fn records_are_judged() {
     assert_eq!((rescan_seconds(1, 5, 10), rescan_seconds(1, 300, 10), rescan_seconds(0, 300, 90)), (60, 300, 90));
     assert!(Driver::open("open seeds=a:1").unwrap().topology().unwrap().polled);
 }
+
+#[test]
+fn a_change_tells_the_types_before_and_after() {
+    let mut driver = Driver::open("open seeds=a:27017").unwrap();
+    driver.set_seat(3);
+    driver.hello(1, "a:27017", 0, "ok rtt=5 maxWireVersion=21").unwrap();
+    let changes: Vec<_> = driver.facts().unwrap().into_iter().filter_map(|fact| fact.change).collect();
+    let server = mdb::Change::Server(mdb::ServerKind::Unknown, mdb::ServerKind::Standalone);
+    let topology = mdb::Change::Topology(mdb::TopologyKind::Unknown, mdb::TopologyKind::Single);
+    assert_eq!(changes, [server, topology]);
+    assert!(format!("{driver:?}").contains("seat: 3"));
+}
+
+#[test]
+fn a_refused_lookup_is_an_error_of_the_language() -> Result<(), Box<dyn std::error::Error>> {
+    mdb::srv::accepted_hosts("a.b.example.com", "c.b.example.com:1", mdb::srv::Strangers::Refuse)?;
+    let refused = mdb::srv::accepted_hosts("a.b.example.com", "evil.com:1", mdb::srv::Strangers::Refuse).unwrap_err();
+    assert!(Box::<dyn std::error::Error>::from(refused).to_string().contains("does not match domain name"));
+    Ok(())
+}
