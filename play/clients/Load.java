@@ -7,24 +7,29 @@ import org.bson.Document;
 
 /**
  * A load by the Java driver: threads that insert documents, each with its own text, for some seconds.
+ * On a busy machine it goes on until each has 25 done, but for no longer than six times as long.
  *
  * <p>usage: java -cp /usr/share/java/mongo-java-driver.jar:FOLDER Load SECONDS THREADS, with MDB_URI
  */
 public final class Load {
   private static final AtomicLong DONE = new AtomicLong();
   private static final AtomicLong FAILED = new AtomicLong();
+  private static final int LEAST = 25;
 
-  private static void work(MongoCollection<Document> items, int thread, long until) {
+  private static void work(MongoCollection<Document> items, int thread, long milliseconds) {
+    long begin = System.currentTimeMillis();
+    int mine = 0;
     try {
-      for (int number = 1; System.currentTimeMillis() < until; number++) {
+      for (int number = 1; System.currentTimeMillis() - begin < (mine >= LEAST ? 1 : 6) * milliseconds; number++) {
         try {
           items.insertOne(new Document("text", thread + " " + number));
           DONE.incrementAndGet();
+          mine++;
         } catch (MongoException why) {
           FAILED.incrementAndGet();
           Thread.sleep(10);
         }
-        Thread.sleep(2);
+        Thread.sleep(10);
       }
     } catch (InterruptedException why) {
       Thread.currentThread().interrupt();
@@ -36,11 +41,11 @@ public final class Load {
     int threads = Integer.parseInt(words[1]);
     MongoClient client = new MongoClient(new MongoClientURI(System.getenv("MDB_URI")));
     MongoCollection<Document> items = client.getDatabase("test").getCollection("items");
-    long until = System.currentTimeMillis() + (long) (1000 * Double.parseDouble(words[0]));
+    long milliseconds = (long) (1000 * Double.parseDouble(words[0]));
     Thread[] workers = new Thread[threads];
     for (int thread = 0; thread < threads; thread++) {
       int number = thread;
-      workers[thread] = new Thread(() -> work(items, number, until));
+      workers[thread] = new Thread(() -> work(items, number, milliseconds));
       workers[thread].start();
     }
     for (Thread worker : workers) {

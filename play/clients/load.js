@@ -1,22 +1,27 @@
 // A load by node-mongodb: chains of inserts, each document with its own text, for some seconds.
+// On a busy machine it goes on until each has 25 done, but for no longer than six times as long.
 //
 // usage: node load.js SECONDS CHAINS      MDB_URI says where; Debian's modules are found by NODE_PATH=/usr/share/nodejs
 'use strict';
 const { MongoClient } = require('mongodb');
 
 const pause = (milliseconds) => new Promise((resolve) => setTimeout(resolve, milliseconds));
+const LEAST = 25;
 const counts = { done: 0, failed: 0 };
 
-async function work(items, chain, until) {
-  for (let number = 1; Date.now() < until; number++) {
+async function work(items, chain, milliseconds) {
+  const begin = Date.now();
+  let mine = 0;
+  for (let number = 1; Date.now() - begin < (mine >= LEAST ? 1 : 6) * milliseconds; number++) {
     try {
       await items.insertOne({ text: `${chain} ${number}` });
       counts.done++;
+      mine++;
     } catch (_why) {
       counts.failed++;
       await pause(10);
     }
-    await pause(2);
+    await pause(10);
   }
 }
 
@@ -25,8 +30,7 @@ async function main() {
   const client = new MongoClient(process.env.MDB_URI, { useUnifiedTopology: true });
   await client.connect();
   const items = client.db('test').collection('items');
-  const until = Date.now() + seconds * 1000;
-  await Promise.all(Array.from({ length: chains }, (_, chain) => work(items, chain, until)));
+  await Promise.all(Array.from({ length: chains }, (_, chain) => work(items, chain, seconds * 1000)));
   await client.close();
   console.error('node-mongodb', counts);
 }

@@ -1,12 +1,14 @@
 <?php
 // A load by php-mongodb: inserts of documents, each with its own text, for some seconds, in one thread.
+// On a busy machine it goes on until 25 are done, but for no longer than six times as long.
 //
 // usage: php load.php SECONDS      MDB_URI says where
 
-$until = microtime(true) + (float) $argv[1];
+$begin = microtime(true);
+$seconds = (float) $argv[1];
 $manager = new MongoDB\Driver\Manager(getenv('MDB_URI'));
 [$done, $failed, $number] = [0, 0, 0];
-while (microtime(true) < $until) {
+while (microtime(true) - $begin < ($done >= 25 ? 1 : 6) * $seconds) {
     $number++;
     $bulk = new MongoDB\Driver\BulkWrite();
     $bulk->insert(['text' => "0 $number"]);
@@ -17,6 +19,6 @@ while (microtime(true) < $until) {
         $failed++;
         usleep(10000);
     }
-    usleep(2000);
+    usleep(10000);
 }
 fwrite(STDERR, 'php-mongodb ' . MONGODB_VERSION . ": done $done failed $failed\n");

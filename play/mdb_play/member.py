@@ -69,8 +69,14 @@ class Member:
 
     @property
     def address(self) -> str:
-        """Where it listens."""
-        return f"127.0.0.1:{self.port}"
+        """Its host and its port."""
+        host = self.world.plan.host
+        return f"[{host}]:{self.port}" if ":" in host else f"{host}:{self.port}"
+
+    @property
+    def _bound(self) -> str:
+        """The address at which it listens: of the two of `localhost` the second one alone."""
+        return "127.0.0.1" if self.world.plan.host == "localhost" else self.world.plan.host
 
     @property
     def up(self) -> bool:
@@ -136,7 +142,7 @@ class Member:
         while self._clogs:
             self._clogs.pop().close()
         if self._listener is None:
-            made = await asyncio.get_running_loop().create_server(lambda: self._protocol(serve), "127.0.0.1", self.port, backlog=4096, ssl=tls)
+            made = await asyncio.get_running_loop().create_server(lambda: self._protocol(serve), self._bound, self.port, backlog=4096, ssl=tls)
             self._listener, self.port = made, made.sockets[0].getsockname()[1]
 
     def _protocol(self, serve: Serve) -> asyncio.StreamReaderProtocol:
@@ -159,15 +165,16 @@ class Member:
     def clog(self) -> None:
         """As killed, but attempts to connect are not answered at all."""
         self.kill()
-        listener = socket.socket()
+        family = socket.AF_INET6 if ":" in self._bound else socket.AF_INET
+        listener = socket.socket(family)
         listener.setsockopt(socket.SOL_SOCKET, socket.SO_REUSEADDR, 1)
-        listener.bind(("127.0.0.1", self.port))
+        listener.bind((self._bound, self.port))
         listener.listen(0)
         self._clogs = [listener]
         for _ in range(_FILLERS):
-            filler = socket.socket()
+            filler = socket.socket(family)
             filler.setblocking(False)
-            filler.connect_ex(("127.0.0.1", self.port))
+            filler.connect_ex((self._bound, self.port))
             self._clogs.append(filler)
 
     def hello(self, command: Document, connection: int) -> Document:

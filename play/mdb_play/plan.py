@@ -11,6 +11,7 @@ from .damage import DAMAGES
 KINDS = {"set": "replica", "standalone": "standalone", "routers": "router", "balancer": "balancer"}
 PHASES = ("before", "before-reply", "after-reply")
 ROLES = ("member", "arbiter", "ghost", "standalone", "router")
+HOSTS = ("127.0.0.1", "localhost", "::1")
 MOST_MEMBERS = 50
 _DURATION = re.compile(r"(\d+(?:\.\d+)?)(ms|s)")
 
@@ -87,6 +88,7 @@ class Plan:
 
     kind: str = "replica"
     name: str = "rs"
+    host: str = "127.0.0.1"
     count: int = 3
     seed: int = 1
     end: float = 60.0
@@ -114,8 +116,9 @@ def duration(text: str) -> float:
 def parse(text: str) -> Plan:
     """The plan that the lines say; `;` separates lines too. Raises PlanError."""
     plan = Plan()
-    for number, line in enumerate(re.split(r"[\n;]", text), 1):
-        plain = " ".join(line.split("#")[0].split())
+    parts = [part for line in text.split("\n") for part in line.split("#")[0].split(";")]
+    for number, part in enumerate(parts, 1):
+        plain = " ".join(part.split())
         if not plain:
             continue
         try:
@@ -176,7 +179,14 @@ def _set_time(name: str) -> Callable[[Plan, str], None]:
     return lambda plan, text: setattr(plan, name, duration(text) / 1000)
 
 
+def _set_host(plan: Plan, host: str) -> None:
+    if host not in HOSTS:
+        raise ValueError(f"the hosts are {' '.join(HOSTS)}")
+    plan.host = host
+
+
 _SETTINGS: dict[str, Callable[..., None]] = {
+    "host": _set_host,
     "seed": _set_seed,
     "seeds": _set_seeds,
     "end": _set_time("end"),

@@ -5,6 +5,7 @@ from __future__ import annotations
 import os
 import shutil
 import subprocess
+from collections import Counter
 from concurrent.futures import ThreadPoolExecutor
 from dataclasses import dataclass
 
@@ -71,9 +72,11 @@ def _difference(fleet: Fleet, sent: Sent, path: str) -> str | None:
 
 
 def recorded(path: str, recording: str, standard: str | None) -> tuple[int, str]:
-    """The status and the last line of `mdb_recorded` for a recording."""
+    """The status and the last line of `mdb_recorded` for a recording, with how often each rule was broken."""
     with open(recording, encoding="utf-8") as file:
         words = [path, *(["--cmap", standard] if standard else [])]
         ran = subprocess.run(words, stdin=file, capture_output=True, text=True, timeout=SECONDS, check=False)
     lines = ran.stdout.splitlines()
-    return ran.returncode, lines[-1] if lines else ran.stderr.strip()
+    rules = Counter(line.split(" ")[2] for line in lines if line.startswith("event "))
+    told = ", ".join(f"{count} {rule}" for rule, count in rules.most_common())
+    return ran.returncode, (f"{told}; " if told else "") + (lines[-1] if lines else ran.stderr.strip())

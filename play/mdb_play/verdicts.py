@@ -104,7 +104,7 @@ def lost_writes(run: Run) -> Verdict:
         if it.branch and it.outcome is Outcome.ACKNOWLEDGED and member.branched_at != world.elections:
             it.dropped = True
     gone = [it for it in writes if it.dropped and not (it.ids and all(key in kept for key in it.ids))]
-    done = sum(it.outcome is Outcome.ACKNOWLEDGED and it.executed for it in writes)
+    done = sum(it.outcome is Outcome.ACKNOWLEDGED for it in writes)
     return _of("lost-writes", [f"a {it.name} that member {it.link.member} acknowledged at {it.answered:.3f}" for it in gone], f"none of {done} acknowledged writes is gone", {"acknowledged": done})
 
 
@@ -126,10 +126,13 @@ def double_writes(run: Run) -> Verdict:
 
 
 def _known_primaries(run: Run) -> list[tuple[float, int | None]]:
-    """Who was the primary for the client, from which moments on, by what its monitors and its commands were told."""
+    """Who was the primary for the client, from which moments on, by what its monitors and its commands were told.
+
+    A driver without awaited hellos may ask on any connection, and one of a single thread has no others than those of its commands.
+    """
     watch = run.world.watch
-    kind = "monitor" if any(it.kind == "monitor" for it in watch.links) else "poll"
-    news: list[tuple[float, Told | Command]] = [(it.at, it) for it in watch.told if it.link.kind == kind]
+    streams = any(it.kind == "monitor" for it in watch.links)
+    news: list[tuple[float, Told | Command]] = [(it.at, it) for it in watch.told if not streams or it.link.kind == "monitor"]
     news += [(it.answered, it) for it in watch.commands if it.answered is not None and it.code in NOT_WRITABLE]
     primary, greatest = None, -1
     made: list[tuple[float, int | None]] = []
@@ -192,7 +195,7 @@ def stale_connections(run: Run) -> Verdict:
 
 
 def wrong_answers(run: Run) -> Verdict:
-    """Connections that the client went on using after a reply that answers another request."""
+    """Connections that the client went on using after a reply that answers another request: it took the answer, or kept the connection all the same."""
     watch = run.world.watch
     spoiled = [it for it in watch.links if it.wrong is not None]
     if not spoiled:
@@ -301,7 +304,10 @@ def recorded(run: Run) -> Verdict:
     path = proved.program("mdb_recorded")
     if run.recording is None or path is None or not os.path.exists(run.recording) or not os.path.getsize(run.recording):
         return Verdict("recorded", UNJUDGED, "no program mdb_recorded" if run.recording and path is None else "the client recorded nothing")
-    status, text = proved.recorded(path, run.recording, run.standard)
+    try:
+        status, text = proved.recorded(path, run.recording, run.standard)
+    except (OSError, ValueError) as why:
+        return Verdict("recorded", UNJUDGED, f"{path}: {why}")
     return Verdict("recorded", OK if status == 0 else FAILS, text, {"status": status})
 
 

@@ -4,7 +4,7 @@ from __future__ import annotations
 
 import asyncio
 import ssl
-from typing import Callable
+from typing import Any, Callable
 
 from bson import ObjectId
 
@@ -47,6 +47,7 @@ class World:
 
     async def open(self) -> None:
         """The members listen, and what the plan has before the client's start is done."""
+        asyncio.get_running_loop().set_exception_handler(_quiet)
         for member in self.members:
             await self.listen(member)
         for rule in self.plan.rules:
@@ -200,6 +201,7 @@ class World:
         if self._spread[1] == 0:
             for other in others:
                 self._step_down(other)
+                other.rejoin(False)
         self._crowned(member)
         if self._spread[1] == 0:
             for other in self.members:
@@ -218,6 +220,7 @@ class World:
         member.primary = primary
         if member.number != primary:
             self._step_down(member)
+            member.rejoin(False)
         member.tell()
         self.note()
 
@@ -237,7 +240,6 @@ class World:
         if self.fleet.demote(member.number):
             member.sessions.clear()
             member.primary = None
-            member.rejoin(member.branch is not None and member.branched_at == self.elections)
             member.tell(False)
 
     def _do_crown(self, member: Member) -> None:
@@ -345,6 +347,12 @@ class World:
             if command.branch and command.link.member == member.number:
                 command.branch = False
                 command.dropped = not kept and command.outcome is Outcome.ACKNOWLEDGED
+
+
+def _quiet(loop: asyncio.AbstractEventLoop, context: dict[str, Any]) -> None:
+    """A connection that ends by an error is nothing to tell of."""
+    if not isinstance(context.get("exception"), ConnectionError):
+        loop.default_exception_handler(context)
 
 
 def _range(words: str) -> tuple[float, float]:
