@@ -105,7 +105,12 @@ def lost_writes(run: Run) -> Verdict:
             it.dropped = True
     gone = [it for it in writes if it.dropped and not (it.ids and all(key in kept for key in it.ids))]
     done = sum(it.outcome is Outcome.ACKNOWLEDGED for it in writes)
-    return _of("lost-writes", [f"a {it.name} that member {it.link.member} acknowledged at {it.answered:.3f}" for it in gone], f"none of {done} acknowledged writes is gone", {"acknowledged": done})
+    return _of(
+        "lost-writes",
+        [f"a {it.name} that member {it.link.member} acknowledged at {it.answered:.3f}" for it in gone],
+        f"none of {done} acknowledged writes is gone",
+        {"acknowledged": done},
+    )
 
 
 def double_writes(run: Run) -> Verdict:

@@ -17,7 +17,8 @@ class Raw:
 
     def __init__(self, port: int) -> None:
         self.socket = socket.create_connection(("127.0.0.1", port), SECONDS)
-        self._number = 0
+        # Beyond the numbers that the servers give their replies.
+        self._number = 1_000_000
 
     def __enter__(self) -> "Raw":
         return self
@@ -48,7 +49,7 @@ class Raw:
 
     def ask(self, command: Document) -> Document:
         """The answer to a command."""
-        number = self.send({"$db": "test", **command} if "$db" in command else {**command, "$db": "test"})
+        number = self.send({**command, "$db": command.get("$db", "test")})
         answers, _, said = self.read()
         assert answers == number
         return said

@@ -13,7 +13,9 @@ PLANS = sorted(glob.glob(os.path.join(os.path.dirname(__file__), "..", "plans", 
 
 
 def test_the_plan_of_the_page_is_read() -> None:
-    plan = parse("set rs 3\nseed 7\nat insert 20 before-reply kill 0 # a comment; with a semicolon\nat +300ms elect 1; at check 4 of 2 damage short\nsometimes 1/50 insert delay 5ms..200ms\nend 60s")
+    plan = parse(
+        "set rs 3\nseed 7\nat insert 20 before-reply kill 0 # a comment; with a semicolon\nat +300ms elect 1; at check 4 of 2 damage short\nsometimes 1/50 insert delay 5ms..200ms\nend 60s"
+    )
     assert (plan.kind, plan.count, plan.seed, plan.end) == ("replica", 3, 7, 60.0)
     first, *rest = plan.rules
     assert isinstance(first.when, Start) and first.action == Action("elect", ("0",))

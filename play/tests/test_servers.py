@@ -121,7 +121,12 @@ def test_documents_are_written_and_read(ports: list[int]) -> None:
 def test_documents_are_changed_and_deleted(ports: list[int]) -> None:
     with Raw(ports[0]) as link:
         link.ask({"insert": "items", "documents": [{"_id": 1, "n": 1}, {"_id": 2, "n": 1}]})
-        said = link.ask({"update": "items", "updates": [{"q": {"n": 1}, "u": {"$inc": {"n": 4}, "$push": {"l": 2}}, "multi": True}, {"q": {"_id": 9}, "u": {"$set": {"a.b": 1}}, "upsert": True}]})
+        said = link.ask(
+            {
+                "update": "items",
+                "updates": [{"q": {"n": 1}, "u": {"$inc": {"n": 4}, "$push": {"l": 2}}, "multi": True}, {"q": {"_id": 9}, "u": {"$set": {"a.b": 1}}, "upsert": True}],
+            }
+        )
         assert (said["n"], said["nModified"], said["upserted"]) == (3, 2, [{"index": 1, "_id": 9}])
         found = link.ask({"findAndModify": "items", "query": {"_id": 9}, "update": {"x": 1}, "new": True})
         assert found["value"] == {"_id": 9, "x": 1}
