@@ -13,7 +13,7 @@ from .plan import duration
 from .points import HELLOS, Decision, Point
 from .service import Served, refused, serve, writes
 from .sessions import in_transaction, operation_of
-from .watch import Command, End, Outcome, Told, describe
+from .watch import Command, End, Link, Outcome, Told, describe
 from .wire import MORE_TO_COME, Document, Malformed, Request, packed, read_request
 from .wording import failure
 
@@ -201,7 +201,7 @@ class Conversation:
             self._note_wrong(fate.damage)
             await self._send(whole, fate.damage)
             if fate.damage == "none" and fate.code is None:
-                self._world.watch.told.append(Told(self._world.now(), self.link, member.writable, self._world.fleet.said(member.number).election or 0))
+                self._world.watch.told.append(_told(self._world.now(), self.link, said))
         await self._phase(decisions, "after-reply", fate)
 
     def _note_wrong(self, damage: str) -> None:
@@ -274,6 +274,12 @@ class Conversation:
         if not await self._until(member.healed, limit / 1000 if limit else None):
             return {**said, "writeConcernError": {"code": 64, "codeName": "WriteConcernFailed", "errmsg": "waiting for replication timed out"}}
         return said if branched == self._world.elections else refused(member, request, 189, self.link.modern)
+
+
+def _told(at: float, link: Link, said: Document) -> Told:
+    """What a hello said of who is primary."""
+    election = said.get("electionId")
+    return Told(at, link, bool(said.get("isWritablePrimary", said.get("ismaster"))), 0 if election is None else int(str(election), 16))
 
 
 def _code(said: Document) -> int:

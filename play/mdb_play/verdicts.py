@@ -130,25 +130,28 @@ def double_writes(run: Run) -> Verdict:
 # ---- who is written to
 
 
-def _known_primaries(run: Run) -> list[tuple[float, int | None]]:
-    """Who was the primary for the client, from which moments on, by what its monitors and its commands were told.
+def _possible_primaries(run: Run) -> list[tuple[float, frozenset[int]]]:
+    """Whom the client could take for the primary, from which moments on.
 
-    A driver without awaited hellos may ask on any connection, and one of a single thread has no others than those of its commands.
+    What only a monitor was told is certain: who is no primary, and that there was a later election. Any other connection may have told it who is one. A driver without
+    awaited hellos may ask on any connection, and one of a single thread has no others than those of its commands.
     """
     watch = run.world.watch
     streams = any(it.kind == "monitor" for it in watch.links)
-    news: list[tuple[float, Told | Command]] = [(it.at, it) for it in watch.told if not streams or it.link.kind == "monitor"]
+    news: list[tuple[float, Told | Command]] = [(it.at, it) for it in watch.told]
     news += [(it.answered, it) for it in watch.commands if it.answered is not None and it.code in NOT_WRITABLE]
-    primary, greatest = None, -1
-    made: list[tuple[float, int | None]] = []
+    possible: frozenset[int] = frozenset()
+    greatest = -1
+    made: list[tuple[float, frozenset[int]]] = []
     for at, it in sorted(news, key=lambda pair: pair[0]):
-        member = it.link.member
+        certain = isinstance(it, Command) or not streams or it.link.kind == "monitor"
         if isinstance(it, Told) and it.writable and it.election >= greatest:
-            primary, greatest = member, it.election
-        elif primary == member and not (isinstance(it, Told) and it.writable):
-            primary = None
-        if not made or made[-1][1] != primary:
-            made.append((at, primary))
+            possible = frozenset({it.link.member}) | (frozenset() if certain else possible)
+            greatest = it.election if certain else greatest
+        elif certain:
+            possible -= {it.link.member}
+        if not made or made[-1][1] != possible:
+            made.append((at, possible))
     return made
 
 
@@ -160,18 +163,18 @@ def old_primary(run: Run) -> Verdict:
         return Verdict(name, UNJUDGED, "the client watches no replica set")
     if _many_clients(run):
         return Verdict(name, UNJUDGED, "there is more than one client")
-    primaries = _known_primaries(run)
+    primaries = _possible_primaries(run)
     grace = GRACE + _late(run)
     wrong = [it for it in _writes(run) if it.at > grace and not _was_primary(primaries, it, grace)]
     return _of(name, [f"a {it.name} to member {it.link.member} at {it.at:.3f}" for it in wrong], "each write went to whom the client could take for the primary")
 
 
-def _was_primary(primaries: list[tuple[float, int | None]], write: Command, grace: float) -> bool:
-    """The member was the primary for the client at some moment of the grace before the write, or nothing was known of any."""
+def _was_primary(primaries: list[tuple[float, frozenset[int]]], write: Command, grace: float) -> bool:
+    """The client could take the member for the primary at some moment of the grace before the write, or nothing was known of any."""
     if not primaries or primaries[0][0] > write.at - grace:
         return True
-    for (begin, primary), following in zip(primaries, [*primaries[1:], (write.at + 1, None)]):
-        if begin <= write.at and following[0] >= write.at - grace and primary == write.link.member:
+    for (begin, possible), following in zip(primaries, [*primaries[1:], (write.at + 1, frozenset())]):
+        if begin <= write.at and following[0] >= write.at - grace and write.link.member in possible:
             return True
     return False
 
