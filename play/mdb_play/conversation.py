@@ -13,6 +13,7 @@ from .plan import duration
 from .points import HELLOS, Decision, Point
 from .service import Served, refused, serve, writes
 from .sessions import in_transaction, operation_of
+from .view import spelled
 from .watch import Command, End, Link, Outcome, Told, describe
 from .wire import MORE_TO_COME, Document, Malformed, Request, packed, read_request
 from .wording import failure
@@ -200,7 +201,9 @@ class Conversation:
             whole = packed(request, said, number, answers, MORE_TO_COME if more else 0)
             self._note_wrong(fate.damage)
             await self._send(whole, fate.damage)
-            if fate.damage == "none" and fate.code is None:
+            if fate.damage != "none":
+                self._world.watch.faults.append((self._world.now(), member.number))
+            elif fate.code is None:
                 self._world.watch.told.append(_told(self._world.now(), self.link, said))
         await self._phase(decisions, "after-reply", fate)
 
@@ -279,7 +282,7 @@ class Conversation:
 def _told(at: float, link: Link, said: Document) -> Told:
     """What a hello said of who is primary."""
     election = said.get("electionId")
-    return Told(at, link, bool(said.get("isWritablePrimary", said.get("ismaster"))), 0 if election is None else int(str(election), 16))
+    return Told(at, link, bool(said.get("isWritablePrimary", said.get("ismaster"))), 0 if election is None else int(str(election), 16), spelled(said))
 
 
 def _code(said: Document) -> int:

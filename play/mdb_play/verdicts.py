@@ -11,6 +11,7 @@ from typing import Callable, Iterable
 
 from . import proved
 from .running import Run
+from .view import late_news, of_client, of_library
 from .watch import Command, End, Link, Outcome, Told
 from .wording import NOT_WRITABLE, RETRYABLE, SHUTTING_DOWN
 
@@ -319,4 +320,20 @@ def recorded(run: Run) -> Verdict:
     return Verdict("recorded", OK if status == 0 else FAILS, text, {"status": status})
 
 
-JUDGES: list[Judge] = [lost_writes, double_writes, old_primary, stale_connections, wrong_answers, retries, recovery, client, fleet, recorded]
+def view(run: Run) -> Verdict:
+    """The client's last view of the servers beside that of a driver of the library after the same hellos."""
+    if run.recording is None or not os.path.exists(run.recording) or not os.path.getsize(run.recording):
+        return Verdict("view", UNJUDGED, "the client recorded nothing")
+    if late_news(run, GRACE + _late(run)):
+        return Verdict("view", UNJUDGED, "something happened right before the end")
+    try:
+        own, library = of_client(run.recording), of_library(run)
+    except (ImportError, OSError, ValueError, KeyError) as why:
+        return Verdict("view", UNJUDGED, f"no driver of the library: {why}")
+    if not own:
+        return Verdict("view", UNJUDGED, "the client told of no servers")
+    texts = [f"{address} is {own.get(address, 'not known')} for the client, and {kind} for the library" for address, kind in library.items() if own.get(address) != kind]
+    return _of("view", texts, f"the client and the library see the same {len(library)} servers")
+
+
+JUDGES: list[Judge] = [lost_writes, double_writes, old_primary, stale_connections, wrong_answers, retries, recovery, client, fleet, recorded, view]

@@ -75,6 +75,7 @@ class Told:
     link: Link
     writable: bool
     election: int
+    line: str = ""
 
 
 @dataclass(frozen=True)
@@ -103,6 +104,8 @@ class Watch:
     told: list[Told] = field(default_factory=list)
     deeds: list[Deed] = field(default_factory=list)
     states: list[States] = field(default_factory=list)
+    # When a member sent a damaged hello.
+    faults: list[tuple[float, int]] = field(default_factory=list)
     # How late the servers themselves came to a timer at most, in seconds: a machine that is this busy delays the client too.
     lag: float = 0.0
 
