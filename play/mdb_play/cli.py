@@ -35,6 +35,7 @@ def _parser() -> argparse.ArgumentParser:
     one.add_argument("--shrink", action="store_true", help="take lines out of the plan while the same verdicts fail")
     one.add_argument("--runs", type=int, default=1, metavar="N", help="as many runs, with the seeds that follow the plan's; ends at the first that fails")
     one.add_argument("--picture", action="store_true", help="show the time line also where nothing fails")
+    one.add_argument("--recording", metavar="FILE", help="keep what the client's listeners write to MDB_RECORD")
     one.add_argument("--cmap", choices=["2020", "2021"], help="the standard by which mdb_recorded judges pools")
     one.add_argument("client", nargs=argparse.REMAINDER, metavar="-- COMMAND", help="the client; $MDB_URI in its words is the connection string, as is the variable MDB_URI")
     held = words.add_parser("serve", help="play until the standard input ends; each line there is an action")
@@ -128,7 +129,8 @@ def _one(given: argparse.Namespace, plan: Plan, client: list[str]) -> int:
             told = read(file.read())
         replayed, plan = Replayed(told), told.plan
     with tempfile.TemporaryDirectory() as folder:
-        done = asyncio.run(run(plan, client, replayed, _tls(given), os.path.join(folder, "recording.jsonl")))
+        recording = given.recording or os.path.join(folder, "recording.jsonl")
+        done = asyncio.run(run(plan, client, replayed, _tls(given), recording))
         done.standard = given.cmap
         verdicts = judge(done)
     _write(given, done)

@@ -123,8 +123,9 @@ def double_writes(run: Run) -> Verdict:
     twice = []
     for group in groups.values():
         unseen = [it for it in group if it.outcome is not Outcome.ACKNOWLEDGED]
-        if len(group) > 1 and unseen and len(group) - len(unseen) <= 1:
-            twice.append(f"a {group[0].name} at {group[0].at:.3f} and again at {group[1].at:.3f}")
+        later = [it for it in group if unseen and unseen[0].answered is not None and it.at >= unseen[0].answered]
+        if later and len(group) - len(unseen) <= 1:
+            twice.append(f"a {group[0].name} at {group[0].at:.3f} and again at {later[0].at:.3f}")
     return _of("double-writes", twice, "no write that went unanswered was stored twice")
 
 

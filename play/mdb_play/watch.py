@@ -119,13 +119,14 @@ _STATEMENTS = {"insert": "documents", "update": "updates", "delete": "deletes"}
 
 
 def describe(command: Command, document: Document) -> None:
-    """Puts in what a write writes: what its statements are apart from any `_id`, and the `_id`s that it inserts."""
+    """Puts in what a write writes: what its statements are apart from any `_id`, and the `_id`s that it inserts. Documents of nothing else can't be told apart."""
     if command.name == "findandmodify":
         statements: list[Any] = [{key: document.get(key) for key in ("query", "update", "remove")}]
     else:
         statements = document.get(_STATEMENTS.get(command.name, ""), [])
     inserts = command.name == "insert"
     plain = [{key: value for key, value in it.items() if key != "_id"} if inserts else it for it in statements]
-    whole = encoded({"name": command.name, "in": command.namespace, "what": plain})
-    command.print = hashlib.blake2b(whole, digest_size=12).digest()
+    if any(plain):
+        whole = encoded({"name": command.name, "in": command.namespace, "what": plain})
+        command.print = hashlib.blake2b(whole, digest_size=12).digest()
     command.ids = tuple(key_of(it["_id"]) for it in statements if "_id" in it) if inserts else ()

@@ -136,12 +136,14 @@ def _document(body: bytes, at: int) -> Document:
     size = struct.unpack_from("<i", body, at)[0]
     if size < 5 or at + size > len(body):
         raise Malformed("a document longer than its message")
-    return bson.decode(body[at : at + size], _OPTIONS)
+    made: Document = bson.decode(body[at : at + size], _OPTIONS)
+    return made
 
 
 def encoded(document: Document) -> bytes:
     """The document as BSON."""
-    return bson.encode(document, codec_options=_OPTIONS)
+    made: bytes = bson.encode(document, codec_options=_OPTIONS)
+    return made
 
 
 def packed(request: Request, document: Document, number: int, answers: int | None = None, flags: int = 0) -> bytes:
