@@ -32,7 +32,7 @@ workers = Array.new(threads) do |thread|
         client[:items].insert_one({ text: "#{thread} #{number}" })
         counts[:done] += 1
         mine += 1
-      rescue Mongo::Error, SystemCallError, IOError
+      rescue StandardError
         counts[:failed] += 1
         sleep 0.01
       end

@@ -48,7 +48,6 @@ class Conversation:
         self._world, self._member, self._reader, self._writer = world, member, reader, writer
         self._number, self._messages = world.connections, 0
         self.link = world.watch.open_link(member.number, world.now())
-        self.link.ordinal = sum(it.member == member.number for it in world.watch.links)
         self._running: Command | None = None
         self._ended, self._left = False, asyncio.Event()
 
@@ -121,9 +120,7 @@ class Conversation:
         """The next point of the connection, whose kind this message may tell."""
         link = self.link
         if kind != link.kind and not (kind == "poll" and link.kind in ("application", "monitor")):
-            link.kind = kind
-            same = [it for it in self._world.watch.links if it.member == link.member and it.kind == kind and it is not link]
-            link.ordinal = 1 + max((it.ordinal for it in same), default=0)
+            self._world.watch.turn(link, kind)
         self._messages += 1
         return Point(link.member, link.kind, link.ordinal, self._messages, name)
 

@@ -109,10 +109,19 @@ class Watch:
     # How late the servers themselves came to a timer at most, in seconds: a machine that is this busy delays the client too.
     lag: float = 0.0
 
+    _counts: dict[tuple[int, str], int] = field(default_factory=dict)
+
     def open_link(self, member: int, at: float) -> Link:
         """A connection was taken."""
         self.links.append(Link(len(self.links), member, at))
+        self.turn(self.links[-1], "new")
         return self.links[-1]
+
+    def turn(self, link: Link, kind: str) -> None:
+        """The connection is the next one of this kind at its member."""
+        count = self._counts.get((link.member, kind), 0) + 1
+        self._counts[link.member, kind] = count
+        link.kind, link.ordinal = kind, count
 
 
 _STATEMENTS = {"insert": "documents", "update": "updates", "delete": "deletes"}
