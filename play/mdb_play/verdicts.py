@@ -21,6 +21,10 @@ GRACE = 1.0
 WRONG_KEPT = 2.0
 # A retry is due within so many seconds where there is a primary.
 RETRY = 3.0
+# On a machine on which the servers came so many seconds late, a client's own time-outs make it lose servers that answer.
+BUSY = 0.3
+# What happens within so many seconds happens at once.
+_SAME = 0.005
 # On a busy machine all of these are longer, by so many times what the servers themselves came late.
 LAGS = 4.0
 OK, FAILS, ALLOWED, UNJUDGED = "ok", "FAILS", "allowed", "unjudged"
@@ -247,6 +251,8 @@ def _retry_missing(run: Run, write: Command) -> bool:
     if write.answered is None or not (cut or write.code in RETRYABLE):
         return False
     watch, failed_at, due = run.world.watch, write.answered, RETRY + _late(run)
+    if _disturbed(run, failed_at, failed_at + due):
+        return False
     client = run.client
     if client is not None and not client.told and client.status != 0 and not client.hung and run.seconds - failed_at < due:
         return True
@@ -255,6 +261,15 @@ def _retry_missing(run: Run, write: Command) -> bool:
         return True
     succeeded = (it.at for it in watch.commands if it.at > failed_at and it.outcome is Outcome.ACKNOWLEDGED and it.writes)
     return any(run.seconds - at > due for at in succeeded)
+
+
+def _disturbed(run: Run, begin: float, end: float) -> bool:
+    """A member went down or a connection ended in its handshake meanwhile, so that a retry may have met that and never have come."""
+    watch = run.world.watch
+    # Behind a load balancer nobody waits for a server: a retry meets at once what ended the first attempt.
+    after = begin - _SAME if run.world.plan.kind == "balancer" else begin + _SAME
+    down = any(after < it.at <= end and it.text.startswith(("kill ", "restart ", "clog ", "reset ")) for it in watch.deeds)
+    return down or any(it.kind == "new" and it.end is End.SERVER and it.closed is not None and begin <= it.closed <= end for it in watch.links)
 
 
 def recovery(run: Run) -> Verdict:
@@ -325,8 +340,10 @@ def view(run: Run) -> Verdict:
     """The client's last view of the servers beside that of a driver of the library after the same hellos."""
     if run.recording is None or not os.path.exists(run.recording) or not os.path.getsize(run.recording):
         return Verdict("view", UNJUDGED, "the client recorded nothing")
+    if run.world.watch.lag > BUSY:
+        return Verdict("view", UNJUDGED, "the machine is so busy that the client's own time-outs count")
     if late_news(run, GRACE + _late(run)):
-        return Verdict("view", UNJUDGED, "something happened right before the end")
+        return Verdict("view", UNJUDGED, "something happened right before the end, or a member was not watched then")
     try:
         own, library = of_client(run.recording), of_library(run)
     except (ImportError, OSError, ValueError, KeyError) as why:

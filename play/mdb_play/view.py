@@ -5,6 +5,7 @@ from __future__ import annotations
 import json
 from typing import TYPE_CHECKING, Any, Iterable
 
+from .watch import End, Link
 from .wire import Document
 
 if TYPE_CHECKING:
@@ -39,8 +40,14 @@ def of_client(recording: str) -> dict[str, str]:
             if told.get("event") in ("ServerClosed", "TopologyClosed"):
                 break
             if told.get("event") == "ServerDescriptionChanged" and "to" in told:
-                kinds[told["address"]] = told["to"]
+                kinds[_bracketed(told["address"])] = told["to"]
     return kinds
+
+
+def _bracketed(address: str) -> str:
+    """An address of IPv6 in brackets, as the library spells it."""
+    host, _, port = address.rpartition(":")
+    return f"[{host}]:{port}" if ":" in host and not host.startswith("[") else address
 
 
 def of_library(run: "Run") -> dict[str, str]:
@@ -72,23 +79,32 @@ _NAMES.update({"RS_OTHER": "RSOther", "RS_GHOST": "RSGhost", "UNKNOWN": "Unknown
 
 
 def _news(run: "Run") -> Iterable[tuple[int, str]]:
-    """What the client's monitors met, in the order of time: hellos, and connections that the servers ended or whose answers they damaged."""
+    """What the client's monitors met, in the order of time: hellos, connections that ended, and answers that were damaged.
+
+    A connection that the client ended counts where another one to the member followed: the client had given it up, as after its own time-out. The others are its end.
+    """
     watch = run.world.watch
-    streams = any(it.kind == "monitor" for it in watch.links)
-    watching = [it for it in watch.links if it.kind == "monitor" or not streams]
+    watching = _watching(run)
     numbers = {it.number for it in watching}
     news = [(it.at, it.link.member, "ok rtt=1 " + it.line) for it in watch.told if it.link.number in numbers]
-    lost = [(it.closed, it.member) for it in watching if it.closed is not None and it.end is not None and it.end.value == "server"]
+    newest = {link.member: link.opened for link in watch.links}
+    given_up = [it for it in watch.links if it.kind == "new"] + watching
+    lost = [(it.closed, it.member) for it in given_up if it.closed is not None and (it.end is End.SERVER or newest[it.member] > it.closed)]
     news += [(at, member, "err network msg=lost") for at, member in [*lost, *watch.faults]]
     return [(member, outcome) for _, member, outcome in sorted(news, key=lambda it: it[0])]
 
 
+def _watching(run: "Run") -> list[Link]:
+    """The connections of the client's monitors; of a driver without awaited hellos any may be one."""
+    links = run.world.watch.links
+    streams = any(it.kind == "monitor" for it in links)
+    return [it for it in links if it.kind == "monitor" or not streams]
+
+
 def late_news(run: "Run", seconds: float) -> bool:
-    """A monitor met something so shortly before the end that the client may not have seen it."""
-    watch = run.world.watch
-    changes = (
-        [it.at for it in watch.states]
-        + [at for at, _ in watch.faults]
-        + [it.closed for it in watch.links if it.end is not None and it.end.value == "server" and it.closed is not None]
-    )
-    return any(at > run.seconds - seconds for at in changes)
+    """Something happened so shortly before the end that the client may not have seen it, or a member was not watched by then."""
+    watch, since = run.world.watch, run.seconds - seconds
+    changes = [it.at for it in watch.states] + [at for at, _ in watch.faults] + [it.closed for it in watch.links if it.end is End.SERVER and it.closed is not None]
+    watched = {it.member for it in _watching(run) if it.opened < since and (it.closed is None or it.closed > since)}
+    up = {member for member, letter in enumerate(watch.states[-1].letters) if letter in "Ps"}
+    return any(at > since for at in changes) or not up <= watched

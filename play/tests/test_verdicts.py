@@ -134,6 +134,13 @@ def test_a_retry_that_had_no_time_is_not_missed(run: Run) -> None:
     assert state(verdicts.retries(run)) == FAILS
 
 
+@pytest.mark.parametrize("deed, expected", [("reset", FAILS), ("reset 0", OK), ("kill 0", OK)])
+def test_a_retry_that_may_have_met_another_failure_is_not_missed(run: Run, deed: str, expected: str) -> None:
+    insert(run, 1.0, link(run), Outcome.FAILED, 1).code = 189
+    run.world.watch.deeds.append(Deed(1.5, 1, deed))
+    assert state(verdicts.retries(run)) == expected
+
+
 def test_recovery(run: Run) -> None:
     on = link(run)
     insert(run, 1.0, on)
