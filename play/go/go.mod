@@ -1,0 +1,3 @@
+module mdbtest
+
+go 1.19

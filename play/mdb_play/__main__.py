@@ -1,0 +1,7 @@
+"""`python -m mdb_play`."""
+
+import sys
+
+from .cli import main
+
+sys.exit(main())
