@@ -1,10 +1,8 @@
 // Package mdb is one driver's connection pools, and what it knows of its servers, over the C library of include/mdb.h. It is told what happened, step by
-// step: moments are in milliseconds. `make -C bindings` builds the library that it links.
+// step: moments are in milliseconds.
 package mdb
 
 /*
-#cgo CFLAGS: -I${SRCDIR}/../../include
-#cgo LDFLAGS: ${SRCDIR}/../out/libmdb.a
 #include "mdb.h"
 */
 import "C"

@@ -116,20 +116,36 @@ _CALLS = {
 }
 
 
-def _path() -> str:
-    """The library that MDB_LIBRARY names, that of bindings/out beside this package, or that of the system."""
+def _places() -> list[str]:
+    """Where the library may be: what MDB_LIBRARY names, and that alone; or else this package, bindings/out of a checkout, the system."""
     named = os.environ.get("MDB_LIBRARY")
     if named:
-        return named
-    built = os.path.join(os.path.dirname(os.path.abspath(__file__)), "..", "..", "out", "libmdb.so")
-    return built if os.path.exists(built) else f"libmdb.so.{ABI}"
+        return [named]
+    here = os.path.dirname(os.path.abspath(__file__))
+    inside = [os.path.join(here, "libmdb.so"), os.path.join(here, "..", "..", "out", "libmdb.so")]
+    return [it for it in map(os.path.normpath, inside) if os.path.exists(it)] + [f"libmdb.so.{ABI}"]
+
+
+def _open() -> ctypes.CDLL:
+    """The library at the first place."""
+    place = _places()[0]
+    try:
+        return ctypes.CDLL(place)
+    except OSError as why:
+        raise ImportError(
+            f"mdb found no library for C: {why}. Install a wheel of mdb for this processor, or libmdb{ABI}, or run `make -C bindings` in a checkout, or name "
+            "libmdb.so by the variable MDB_LIBRARY"
+        ) from None
 
 
 def _load() -> ctypes.CDLL:
-    library = ctypes.CDLL(_path())
-    library.mdb_abi.argtypes, library.mdb_abi.restype = [], c_uint32
+    library = _open()
+    try:
+        library.mdb_abi.argtypes, library.mdb_abi.restype = [], c_uint32
+    except AttributeError:
+        raise ImportError(f"{library._name} is not the library of mdb.h: it has no mdb_abi") from None
     if library.mdb_abi() != ABI:
-        raise ImportError(f"the library has the interface {library.mdb_abi()}, and this package is for {ABI}")
+        raise ImportError(f"{library._name} has the interface {library.mdb_abi()}, and this package is for {ABI}: take both from one release")
     for name, types in _CALLS.items():
         function = getattr(library, name)
         function.argtypes, function.restype = types, c_uint32

@@ -1,0 +1,148 @@
+#!/usr/bin/env python3
+"""Builds the library for C and the programs over the libraries that rt ci proved on this machine.
+
+usage: packaging/build.py [--sources CHECKOUT] [--to FOLDER] [--cpu CPU ..] [--jobs N] [CRATE ..]
+
+Of each CRATE (all that a release has, where none is named) the crate itself is checked once more for each processor, over the libraries that rt ci kept
+of these very files, and what was checked is built: FOLDER/CPU/NAME.o, the object file of a program, or FOLDER/CPU/NAME.a and NAME.s, archive and text of
+the library, with NAME.verdict, the prover's last line. FOLDER/made.json says of what. Nothing below the crate is proved again, and nothing is written to
+the checkout. Needs the kit; the target's C library is not asked for.
+"""
+from __future__ import annotations
+
+import argparse
+import json
+import os
+import re
+import shutil
+import tempfile
+import time
+from pathlib import Path
+
+import kit as kits
+from plain import Stop, ends_well, run
+from shipped import BUILT, LIBRARY, PROGRAMS, TARGETS, TOP, Target
+
+# A clang that also keeps what it is given, as $ROOM says: the module, or the text of the assembler that was made of it, and each call's words.
+KEEPING = """#!/bin/sh
+for it in module.bc module.s; do
+    [ -f "$it" ] && cp "$it" {room}/
+done
+echo "$@" >> {room}/calls
+exec {clang} "$@"
+"""
+
+
+def toolchain(kit: Path, room: Path) -> Path:
+    """The kit's toolchain, with a clang that leaves the module in the room."""
+    tools = room / "toolchain"
+    (tools / "bin").mkdir(parents=True)
+    os.symlink(kit / "toolchain" / "lib", tools / "lib")
+    for it in (kit / "toolchain" / "bin").iterdir():
+        if it.name != "clang":
+            os.symlink(it, tools / "bin" / it.name)
+    clang = tools / "bin" / "clang"
+    clang.write_text(KEEPING.format(room=room, clang=kit / "toolchain" / "bin" / "clang"))
+    clang.chmod(0o755)
+    return tools
+
+
+def assembly(kit: Path, room: Path, to: Path) -> None:
+    """The text of the assembler for the module that the archive was made of."""
+    if (room / "module.s").is_file():
+        shutil.copyfile(room / "module.s", to)
+        return
+    calls = [it.split() for it in (room / "calls").read_text().splitlines()]
+    words = next(it for it in reversed(calls) if "-c" in it and "module.bc" in it)
+    words = ["-S" if it == "-c" else str(to) if it == "module.o" else it for it in words]
+    run(kit / "toolchain" / "bin" / "clang", *words, "-fno-addrsig", "-fno-verbose-asm", cwd=room)
+
+
+class Builder:
+    """What all crates of one build share."""
+
+    def __init__(self, sources: Path, to: Path, jobs: int) -> None:
+        self.kit, self.crates, self.to, self.jobs = kits.kit_folder(), kits.crates_of(sources), to, jobs
+        self.kept, self.lent = kits.kept_of(sources, self.kit), to / "proved"
+
+    def lend(self, name: str) -> None:
+        """Brings the libraries below a crate."""
+        lacking = [it for it in self.crates.below(name) if it not in self.kept]
+        if lacking:
+            raise Stop(f"{name}: rt ci has kept no proof of {', '.join(lacking)} as in this checkout: run .ci/run, or rt ci {name}")
+        for it in self.crates.below(name):
+            folder = self.lent / it
+            if not folder.is_dir():
+                kits.lend(self.kept[it], folder.with_suffix(".part"))
+                folder.with_suffix(".part").rename(folder)
+
+    def words(self, name: str, target: Target) -> list[str]:
+        """How rt calls rattle for this crate, but for where the libraries are and the target."""
+        crates, rlibs = self.crates, self.kit / "rlibs"
+        rlib = lambda it: self.lent / it / "rlib" / f"{it}.rlib"
+        words = ["--crate-name", name, crates.root(name)]
+        words += [word for it in crates.of_kit(name) for word in ("--extern", f"{it}={rlibs}/{it}.rlib")]
+        words += ["-L", f"dependency={rlibs}"]
+        words += [word for it in crates.of(name) if it in crates.stands_on for word in ("--extern", f"{it}={rlib(it)}")]
+        words += [word for it in crates.below(name) for word in ("-L", f"dependency={rlib(it).parent}")]
+        words += ["--antt-project", f"{self.kit}/rattle/logic/antt-project.json", "--links", f"{name}="]
+        words += ["--crate-type", "staticlib"] if "staticlib" in crates.kinds[name] else []
+        return [*words, "--target", target.triple]
+
+    def build(self, name: str, target: Target) -> None:
+        """Checks a crate for a target, and builds what was checked."""
+        self.lend(name)
+        folder, words = self.to / target.cpu, self.words(name, target)
+        folder.mkdir(parents=True, exist_ok=True)
+        is_library = "staticlib" in self.crates.kinds[name]
+        begun = time.monotonic()
+        with tempfile.TemporaryDirectory(prefix="mdb-build-") as made:
+            room = Path(made)
+            said = self.rattle("check", name, *words, "--logic-built", self.kit / "logic_built", "--empty-contracts", "--jobs", self.jobs, "-o", room / "checked")
+            verdict = said.rstrip("\n").rpartition("\n")[2]
+            if not verdict.startswith("logic=proved "):
+                raise Stop(f"{name}: not proved: {verdict}")
+            proved = time.monotonic()
+            to = folder / f"{name}{'.a' if is_library else '.o'}"
+            self.rattle("build", name, *words, "--crate-checked", room / "checked", "--toolchain", toolchain(self.kit, room), "--backend", "llvm", "-o", to)
+            if is_library:
+                assembly(self.kit, room, to.with_suffix(".s"))
+        (folder / f"{name}.verdict").write_text(verdict + "\n")
+        print(f"{name} for {target.cpu}: proved in {proved - begun:.0f} s, built in {time.monotonic() - proved:.0f} s, {to.stat().st_size} bytes", flush=True)
+
+    def rattle(self, command: str, name: str, *words: object) -> str:
+        return run(self.kit / "bin" / "rattle", command, *words, cwd=self.crates.folder(name))
+
+
+def made_of(sources: Path, kit: Path, proved: bool) -> dict[str, object]:
+    """What a build was made of, for who packs it."""
+    compiler = run(kit / "toolchain" / "bin" / "clang", "--version").splitlines()[0]
+    commit = run("git", "-C", sources, "rev-parse", "HEAD").strip()
+    changed = bool(run("git", "--no-optional-locks", "-C", sources, "status", "--porcelain", "--", "crates", "crates.txt"))
+    logic = re.search(r" logic (\w+)", kits.identity(kit))
+    return {"commit": commit, "changed": changed, "kit": kits.identity(kit), "logic": logic[1] if logic else "", "compiler": compiler, "proved": proved}
+
+
+@ends_well
+def main() -> None:
+    at = argparse.ArgumentParser(description=__doc__.split("\n")[0])
+    at.add_argument("--sources", type=Path, default=TOP, help="the checkout whose crates are built (this one)")
+    at.add_argument("--to", type=Path, default=BUILT, help="the folder for what is built (packaging/out/built)")
+    at.add_argument("--cpu", nargs="*", choices=[it.cpu for it in TARGETS], default=[it.cpu for it in TARGETS], help="the processors (all)")
+    at.add_argument("--jobs", type=int, default=1, help="the prover's processes for a crate (1)")
+    at.add_argument("crates", nargs="*", metavar="CRATE", help="mdb_c, or a program (all that a release has)")
+    given = at.parse_args()
+    builder = Builder(given.sources.resolve(), given.to.resolve(), given.jobs)
+    given.to.mkdir(parents=True, exist_ok=True)
+    made = made_of(given.sources, builder.kit, True)
+    (given.to / "made.json").unlink(missing_ok=True)
+    for target in TARGETS:
+        for name in (given.crates or (LIBRARY, *PROGRAMS)) if target.cpu in given.cpu else ():
+            builder.build(name, target)
+    # last, so that a build that was broken off is none
+    (given.to / "made.json").write_text(json.dumps(made, indent=1, sort_keys=True) + "\n")
+    shutil.rmtree(builder.lent, ignore_errors=True)
+
+
+if __name__ == "__main__":
+    main()

@@ -1,0 +1,146 @@
+#!/usr/bin/env python3
+"""Makes a release of what build.py built: dist/, whole or not at all.
+
+usage: packaging/dist.py --log GATE.LOG [--check] [--built FOLDER] [--sources CHECKOUT] [--to FOLDER]
+       packaging/dist.py --unproved [..]
+
+The checkout must be clean, and GATE.LOG the log of its own gate, which passed: `.ci/run > GATE.LOG`. Needs no kit: a compiler for each processor, musl,
+dpkg-deb, git. The same commit, built by the same compilers, gives the same bytes, whatever the folder and the day. --unproved takes what unproved.py
+built, asks for no log and a clean checkout neither, and marks the version: it is for trying the packaging.
+"""
+from __future__ import annotations
+
+import argparse
+import json
+import os
+import shutil
+import tempfile
+from pathlib import Path
+
+import debian
+import gate_log
+import packages
+from kit import crates_of
+from linked import Made
+from packed import sum_of
+from plain import Stop, ends_well, need, run, write
+from release import Release
+from shipped import BUILT, DIST, LIBRARY, PROGRAMS, TARGETS, TOP, Target, interface, version
+
+
+def targets_in(built: Path) -> list[Target]:
+    found = [it for it in TARGETS if (built / it.cpu / f"{LIBRARY}.a").is_file()]
+    if not found:
+        raise Stop(f"{built} has no {LIBRARY}.a: run packaging/build.py first")
+    for target in found:
+        lacking = [it for it in PROGRAMS if not (built / target.cpu / f"{it}.o").is_file()]
+        if lacking:
+            raise Stop(f"{built} has no {', '.join(lacking)} for {target.cpu}: run packaging/build.py first")
+    return found
+
+
+def tools_for(targets: list[Target]) -> dict[str, str]:
+    tools = {"git": "git", "dpkg-deb": "dpkg"}
+    for it in targets:
+        of_gcc = "gcc" if it.cpu == os.uname().machine else f"gcc-{it.multiarch.replace('_', '-')}"
+        tools |= {it.tool("gcc"): of_gcc, it.tool("objcopy"): of_gcc.replace("gcc", "binutils", 1), str(it.musl / "libc.a"): f"musl-dev:{it.debian}"}
+    return tools
+
+
+def built_in(built: Path, commit: str, may_be_unproved: bool) -> dict[str, object]:
+    """What the build says of itself, held to the commit."""
+    if not (built / "made.json").is_file():
+        raise Stop(f"{built} has no made.json: run packaging/build.py, to its end")
+    made = json.loads((built / "made.json").read_text(encoding="utf-8"))
+    if not made["proved"] and not may_be_unproved:
+        raise Stop(f"{built} was built without proof: run packaging/build.py")
+    if made["commit"] != commit and not may_be_unproved:
+        raise Stop(f"{built} is of commit {made['commit'][:12]}, and the checkout of {commit[:12]}: run packaging/build.py")
+    if made["changed"] and not may_be_unproved:
+        raise Stop(f"{built} was built of a checkout with changes: run packaging/build.py")
+    return made
+
+
+def gate_of(sources: Path, log: Path | None, commit: str) -> gate_log.GateLog:
+    """What the gate said of this very commit, in a checkout without changes. All else is refused."""
+    if not log or not log.name:
+        raise Stop("--log GATE.LOG is missing: the log of the gate that passed (make -C packaging dist LOG=GATE.LOG)")
+    changes = run("git", "--no-optional-locks", "-C", sources, "status", "--porcelain").splitlines()
+    if changes:
+        raise Stop(f"{sources} has changes: {changes[0].strip()}{f' and {len(changes) - 1} more' if len(changes) > 1 else ''}")
+    said = gate_log.read(log)
+    gate_log.hold(said, log, commit, list(crates_of(sources).stands_on))
+    return said
+
+
+def release_of(given: argparse.Namespace, to: Path, targets: list[Target]) -> Release:
+    """All that is asked before anything is made."""
+    sources = given.sources.resolve()
+    commit = run("git", "-C", sources, "rev-parse", "HEAD").strip()
+    log = None if given.unproved else gate_of(sources, given.log, commit)
+    made = built_in(given.built, commit, given.unproved) if targets else {"proved": True}
+    date = int(os.environ.get("SOURCE_DATE_EPOCH") or run("git", "-C", sources, "log", "-1", "--format=%ct"))
+    verdicts = {it.cpu: {f.stem: f.read_text(encoding="utf-8").strip() for f in sorted((given.built / it.cpu).glob("*.verdict"))} for it in targets}
+    mark = "" if made["proved"] else "+unproved"
+    of = Release(sources, to, version(sources) + mark, interface(sources), commit, date, made, verdicts, log)
+    of.sum_sources(run("git", "-C", sources, "ls-files", "crates", "crates.txt", "HANDLES", "include", "bindings", "packaging").splitlines())
+    return of
+
+
+def make(of: Release, built: Path, targets: list[Target], room: Path) -> None:
+    all_made = [Made(it, built, of.sources, room / it.cpu, of.interface) for it in targets]
+    for made in all_made:
+        cpu = made.target.cpu
+        packages.plain_folder(of, made, room / f"plain-{cpu}")
+        packages.wheel(of, made, room / f"wheel-{cpu}")
+        debian.packages(of, made, room / f"debian-{cpu}")
+    packages.rust(of, all_made, room / "rust")
+    packages.go(of, all_made, room / "go")
+    packages.assembly(of, all_made, room / "assembly")
+    sums = {it.name: sum_of(it) for it in sorted(of.to.iterdir())}
+    write(of.to / "MANIFEST.json", of.manifest(files=sums))
+    sums["MANIFEST.json"] = sum_of(of.to / "MANIFEST.json")
+    write(of.to / "SHA256SUMS", "".join(f"{total}  {name}\n" for name, total in sorted(sums.items())))
+
+
+def put_in_place(part: Path, to: Path) -> None:
+    """The new folder takes the place of an earlier one."""
+    earlier = to.with_name(f".{to.name}.earlier")
+    shutil.rmtree(earlier, ignore_errors=True)
+    if to.exists():
+        to.rename(earlier)
+    part.rename(to)
+    shutil.rmtree(earlier, ignore_errors=True)
+
+
+@ends_well
+def main() -> None:
+    at = argparse.ArgumentParser(description=__doc__.split("\n")[0])
+    at.add_argument("--log", type=Path, help="the log of the gate of this commit")
+    at.add_argument("--built", type=Path, default=BUILT, help="what build.py built (packaging/out/built)")
+    at.add_argument("--sources", type=Path, default=TOP, help="the checkout (this one)")
+    at.add_argument("--to", type=Path, default=DIST, help="the folder of the release (dist)")
+    at.add_argument("--check", action="store_true", help="only ask whether a release may be made here")
+    at.add_argument("--unproved", action="store_true", help="pack what unproved.py built, and say so in the version")
+    given = at.parse_args()
+    to = given.to.resolve()
+    targets = [] if given.check else targets_in(given.built)
+    need(tools_for(targets or list(TARGETS)))
+    part = to.with_name(f".{to.name}.part")
+    of = release_of(given, part, targets)
+    if given.check:
+        return
+    shutil.rmtree(part, ignore_errors=True)
+    try:
+        part.mkdir(parents=True)
+        with tempfile.TemporaryDirectory(prefix="mdb-dist-", dir=part.parent) as room:
+            make(of, given.built.resolve(), targets, Path(room))
+        for it in sorted(part.iterdir()):
+            print(f"{it.stat().st_size:>10}  {it.name}")
+        put_in_place(part, to)
+    finally:
+        shutil.rmtree(part, ignore_errors=True)
+
+
+if __name__ == "__main__":
+    main()
