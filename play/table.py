@@ -31,7 +31,7 @@ COMMANDS = {
     "perl": ["/usr/bin/perl", f"{CLIENTS}/load.pl", SECONDS],
     "php": ["/usr/bin/php", f"{CLIENTS}/load.php", SECONDS],
 }
-LIMIT = 240
+LIMIT = 400
 
 
 def play(folder: str, name: str, plan: str, prefix: list[str], again: float | None) -> None:

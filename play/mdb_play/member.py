@@ -50,7 +50,9 @@ class Member:
         self.late: tuple[float, float] = (0.0, 0.0)
         self.damage, self.spoil, self.errors = "none", "none", list[int]()
         self.links: set["Conversation"] = set()
+        # Who it takes for the primary, and by which election.
         self.primary: int | None = None
+        self.heard = 0
         # Its own documents, where it has left the set without knowing, and how many elections there had been.
         self.branch: Store | None = None
         self.branched_at = 0

@@ -8,7 +8,7 @@ from __future__ import annotations
 from dataclasses import dataclass, field
 from typing import Iterable
 
-from .plan import Action, Plan, PlanError, action, parse
+from .plan import Plan, PlanError, action, parse
 from .points import Decision, Point
 
 _FIRST = "mdb-play transcript 1"
@@ -70,7 +70,7 @@ def _point(told: Recorded, number: int, text: str) -> None:
 
 def _decision(text: str) -> Decision:
     rule, phase, *words = text.split(" ")
-    return Decision(int(rule), phase, action(words) if words else Action(""))
+    return Decision(int(rule), phase, action(words))
 
 
 class Replayed:

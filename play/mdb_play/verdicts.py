@@ -21,6 +21,8 @@ GRACE = 1.0
 WRONG_KEPT = 2.0
 # A retry is due within so many seconds where there is a primary.
 RETRY = 3.0
+# For so many seconds a driver looks for a server, where its connection string says nothing else.
+SELECTION = 30.0
 # On a machine on which the servers came so many seconds late, a client's own time-outs make it lose servers that answer.
 BUSY = 0.3
 # What happens within so many seconds happens at once.
@@ -246,21 +248,27 @@ def retries(run: Run) -> Verdict:
 
 
 def _retry_missing(run: Run, write: Command) -> bool:
-    """The write failed so that it should have been sent again, and there was a primary and time for that."""
+    """The write failed so that it should have been sent again, and the client had a primary and time for that.
+
+    It had where another write of it succeeded within half of the time for which it looks for a server. Where it ended by itself right after, with a status, it never looked.
+    """
     cut = write.outcome is Outcome.UNANSWERED and write.link.end is End.SERVER and write.link.cut_busy
     if write.answered is None or not (cut or write.code in RETRYABLE):
         return False
-    watch, failed_at, due = run.world.watch, write.answered, RETRY + _late(run)
+    failed_at, due, window = write.answered, RETRY + _late(run), _selection(run) / 2
     if _disturbed(run, failed_at, failed_at + due):
         return False
     client = run.client
-    if client is not None and not client.told and client.status != 0 and not client.hung and run.seconds - failed_at < due:
+    if client is not None and not client.told and client.status != 0 and not client.hung and run.seconds - failed_at < min(due, window):
         return True
-    quiet = max([it.at for it in watch.states if it.at > failed_at] + [failed_at])
-    if "P" in watch.states[-1].letters and run.seconds - quiet > due:
-        return True
-    succeeded = (it.at for it in watch.commands if it.at > failed_at and it.outcome is Outcome.ACKNOWLEDGED and it.writes)
-    return any(run.seconds - at > due for at in succeeded)
+    fine = [it for it in _writes(run) if it.outcome is Outcome.ACKNOWLEDGED and it.at > failed_at and it.answered is not None]
+    return any(it.answered is not None and it.answered < failed_at + window and run.seconds - it.answered > due for it in fine)
+
+
+def _selection(run: Run) -> float:
+    """For how many seconds the client looks for a server."""
+    given = [it.split("=")[1] for it in run.world.plan.options if it.lower().startswith("serverselectiontimeoutms=")]
+    return float(given[0]) / 1000 if given else SELECTION
 
 
 def _disturbed(run: Run, begin: float, end: float) -> bool:

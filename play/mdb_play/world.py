@@ -9,9 +9,10 @@ from typing import Any, Callable
 from bson import ObjectId
 
 from .conversation import Conversation
+from .deeds import act
 from .fleet import Fleet
 from .member import Member, Reader
-from .plan import Action, Later, Nth, Plan, Start, duration
+from .plan import Action, Later, Nth, Plan, Start
 from .points import Decider, Decision, Planned, Point, chance
 from .store import Store
 from .transcript import Transcript
@@ -35,8 +36,8 @@ class World:
         self.configured = list(range(plan.count))
         self.shift, self.elections, self.connections, self.replies = 0, 0, 0, 0
         self.budget, self._tls = Budget(LARGE_BYTES), tls
+        self.spread: tuple[float, float] = (0.0, 0.0)
         self._began: float | None = None
-        self._spread: tuple[float, float] = (0.0, 0.0)
         self._timers: list[asyncio.TimerHandle] = []
         self._tasks: set[asyncio.Task[None]] = set()
         self._measuring: asyncio.Task[None] | None = None
@@ -107,6 +108,12 @@ class World:
         await member.start(self._serve, self._tls)
         self.note()
 
+    def begin_to_listen(self, member: Member) -> None:
+        """It begins to listen, as soon as the loop comes to it."""
+        task = asyncio.get_running_loop().create_task(self.listen(member))
+        self._tasks.add(task)
+        task.add_done_callback(self._tasks.discard)
+
     def service(self, connection: int) -> ObjectId:
         """The service behind a load balancer that a connection meets."""
         return ObjectId(f"{0xA0 + connection % 2:024x}")
@@ -155,9 +162,10 @@ class World:
         """The line of this number is done when its time has passed, if it has one."""
         rule = next(it for it in self.plan.rules if it.number == number)
         if isinstance(rule.when, Later) and self._began is not None:
-            self._later(rule.when.milliseconds, lambda: self.do(rule.action, rule.number))
+            self.later(rule.when.milliseconds, lambda: self.do(rule.action, rule.number))
 
-    def _later(self, milliseconds: float, then: Callable[[], None]) -> None:
+    def later(self, milliseconds: float, then: Callable[[], None]) -> None:
+        """Does something when so much time has passed."""
         self._timers.append(asyncio.get_running_loop().call_later(milliseconds / 1000, then))
 
     # ---- what is done
@@ -168,11 +176,7 @@ class World:
             raise ValueError(f"{action.word} needs a message")
         self.transcript.deed(self.now(), rule, str(action))
         self.watch.deeds.append(Deed(self.now(), rule, str(action)))
-        words = list(action.words)
-        if words and words[0].isdigit() and action.word != "reconfigure":
-            getattr(self, "_do_" + action.word)(self.members[int(words[0])], *words[1:])
-        else:
-            getattr(self, "_do_" + action.word)(*words)
+        act(self, action)
         self.note()
         self._follow(rule)
 
@@ -187,160 +191,6 @@ class World:
         for member in self.members:
             member.tell()
 
-    def _do_nobody(self) -> None:
-        return None
-
-    def _do_spread(self, words: str) -> None:
-        self._spread = _range(words)
-
-    def _do_elect(self, member: Member) -> None:
-        """It wins an election. The primary before it learns of it at once, or after its part of the `spread`."""
-        if not member.up:
-            return
-        others = [it for it in self.members if it is not member and it.believes]
-        if self._spread[1] == 0:
-            for other in others:
-                self._step_down(other)
-                other.rejoin(False)
-        self._crowned(member)
-        if self._spread[1] == 0:
-            for other in self.members:
-                self._learn(other, member.number)
-            return
-        for other in self.members:
-            point = Point(other.number, "new", 0, 0, "elect")
-            part = chance(self.plan.seed, f"spread {self.elections}", point)
-            self._later(self._spread[0] + (self._spread[1] - self._spread[0]) * part, self._learning(other, member.number))
-
-    def _learning(self, other: Member, primary: int) -> Callable[[], None]:
-        return lambda: self._learn(other, primary)
-
-    def _learn(self, member: Member, primary: int) -> None:
-        """It hears who is primary; an earlier primary steps down."""
-        member.primary = primary
-        if member.number != primary:
-            self._step_down(member)
-            member.rejoin(False)
-        member.tell()
-        self.note()
-
-    def _crowned(self, member: Member) -> None:
-        keeps = member.branch is not None and member.branched_at == self.elections
-        if not keeps:
-            for other in self.members:
-                if other is not member and other.believes:
-                    other.leave()
-        member.rejoin(keeps)
-        self.elections += 1
-        self.fleet.elect(member.number)
-        member.primary = member.number
-        member.tell(False)
-
-    def _step_down(self, member: Member) -> None:
-        if self.fleet.demote(member.number):
-            member.sessions.clear()
-            member.primary = None
-            member.tell(False)
-
-    def _do_crown(self, member: Member) -> None:
-        """An election that the primary before does not hear of."""
-        if member.up:
-            self._crowned(member)
-
-    def _do_stepdown(self) -> None:
-        for member in self.members:
-            member.primary = None
-            self._step_down(member)
-            member.tell()
-
-    def _do_part(self, member: Member) -> None:
-        """It and the others no longer hear each other."""
-        member.leave()
-
-    def _do_heal(self) -> None:
-        """All hear each other again: who was left behind by an election steps down, and what it wrote is gone."""
-        for member in self.members:
-            if member.branch is not None and member.branched_at != self.elections:
-                self._step_down(member)
-            member.rejoin(member.branched_at == self.elections)
-
-    def _do_kill(self, member: Member) -> None:
-        self._step_down_by_end(member)
-        member.kill()
-
-    def _step_down_by_end(self, member: Member) -> None:
-        if self.fleet.demote(member.number):
-            member.primary = None
-        member.rejoin(False)
-
-    def _do_start(self, member: Member) -> None:
-        task = asyncio.get_running_loop().create_task(self.listen(member))
-        self._tasks.add(task)
-        task.add_done_callback(self._tasks.discard)
-
-    def _do_restart(self, member: Member) -> None:
-        self._do_kill(member)
-        self._do_start(member)
-
-    def _do_freeze(self, member: Member) -> None:
-        member.thawed.clear()
-
-    def _do_thaw(self, member: Member) -> None:
-        member.thawed.set()
-
-    def _do_clog(self, member: Member) -> None:
-        self._step_down_by_end(member)
-        member.clog()
-
-    def _do_reset(self, member: Member) -> None:
-        member.reset()
-
-    def _do_slow(self, member: Member, words: str) -> None:
-        member.late = _range(words)
-
-    def _do_fail(self, member: Member, code: str, count: str) -> None:
-        member.errors = [int(code)] * int(count)
-
-    def _do_damage(self, member: Member, kind: str) -> None:
-        member.damage = kind
-        member.tell()
-
-    def _do_spoil(self, member: Member, kind: str) -> None:
-        member.spoil = kind
-
-    def _do_hide(self, member: Member) -> None:
-        member.hidden = True
-        self._configure()
-
-    def _do_show(self, member: Member) -> None:
-        member.hidden = False
-        self._configure()
-
-    def _do_rename(self, member: Member, name: str) -> None:
-        member.name = name
-        member.tell()
-
-    def _do_wire(self, member: Member, least: str, most: str) -> None:
-        member.wires = int(least), int(most)
-        member.tell()
-
-    def _do_role(self, member: Member, role: str) -> None:
-        self._step_down_by_end(member)
-        member.role = role
-        self.tell()
-
-    def _do_reconfigure(self, numbers: str) -> None:
-        self.configured = [int(it) for it in numbers.split(",")]
-        self._configure()
-
-    def _configure(self) -> None:
-        """The set's version rises: by the primary where there is one."""
-        primaries = [it for it in self.members if it.believes]
-        for member in primaries:
-            self.fleet.reconfigure(member.number)
-        self.shift += not primaries
-        self.tell()
-
     def dropped(self, member: Member, kept: bool) -> None:
         """What a member wrote apart from its set was kept by the set, or is gone."""
         for command in self.watch.commands:
@@ -353,9 +203,3 @@ def _quiet(loop: asyncio.AbstractEventLoop, context: dict[str, Any]) -> None:
     """A connection that ends by an error is nothing to tell of."""
     if not isinstance(context.get("exception"), ConnectionError):
         loop.default_exception_handler(context)
-
-
-def _range(words: str) -> tuple[float, float]:
-    """Milliseconds, least and most, of `5ms..20ms` or `5ms`."""
-    least, _, most = words.partition("..")
-    return duration(least), duration(most or least)

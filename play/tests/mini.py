@@ -15,7 +15,7 @@ from bson.binary import Binary
 Document = Dict[str, Any]
 MUTANTS = ("takes-wrong-answers", "forgets-the-clear", "writes-to-the-old-primary", "never-retries", "retries-twice", "retries-as-another")
 RETRYABLE = {10107, 13435, 11600, 11602, 13436, 189, 91}
-SECONDS = 10.0
+SECONDS = 60.0
 
 
 class Broken(Exception):

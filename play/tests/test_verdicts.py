@@ -120,7 +120,12 @@ def test_retries(run: Run) -> None:
     assert state(verdicts.retries(run)) == UNJUDGED
     failed = insert(run, 1.0, on, Outcome.FAILED, 1)
     failed.code = 189
+    assert state(verdicts.retries(run)) == OK
+    insert(run, 1.05, on, number=7)
     assert state(verdicts.retries(run)) == FAILS
+    run.world.plan.options.append("serverSelectionTimeoutMS=20")
+    assert state(verdicts.retries(run)) == OK
+    run.world.plan.options.clear()
     insert(run, 1.1, on, number=1)
     assert state(verdicts.retries(run)) == OK
     insert(run, 1.2, on, number=1)
@@ -137,6 +142,7 @@ def test_a_retry_that_had_no_time_is_not_missed(run: Run) -> None:
 @pytest.mark.parametrize("deed, expected", [("reset", FAILS), ("reset 0", OK), ("kill 0", OK)])
 def test_a_retry_that_may_have_met_another_failure_is_not_missed(run: Run, deed: str, expected: str) -> None:
     insert(run, 1.0, link(run), Outcome.FAILED, 1).code = 189
+    insert(run, 2.0, link(run), number=7)
     run.world.watch.deeds.append(Deed(1.5, 1, deed))
     assert state(verdicts.retries(run)) == expected
 
