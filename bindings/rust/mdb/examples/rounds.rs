@@ -1,6 +1,6 @@
 //! Times rounds of a request and a return, by calls and by lines: `cargo run --release --example rounds`. Each number is processor time, the least of 100 runs.
 use mdb::{Driver, Kind, Use};
-use std::ffi::c_long;
+use std::os::raw::c_long;
 
 const RUNS: u32 = 100;
 const ROUNDS: u32 = 1_000;
