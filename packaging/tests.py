@@ -2,6 +2,8 @@
 """Tests of the packaging, over a checkout and a build that are made up here: what is refused and in which words, and that nothing is left half-written."""
 from __future__ import annotations
 
+import hashlib
+import json
 import os
 import shutil
 import subprocess
@@ -12,7 +14,7 @@ from pathlib import Path
 
 import gate_log
 import packed
-from kit import crates_of
+from kit import Kept, crates_of, lend
 from plain import Stop
 from prove import Progress
 from shipped import HERE, LIBRARY, PROGRAMS, SAID, TARGETS, TOP, version
@@ -171,6 +173,77 @@ class Whole(MadeUp):
         self.assertEqual([it.name for it in self.to.parent.iterdir()], ["dist"])
         checked = subprocess.run(["sha256sum", "--quiet", "-c", "SHA256SUMS"], cwd=self.to)
         self.assertEqual(checked.returncode, 0)
+
+
+RT = """#!{python}
+import os, sys, types
+STORE = os.environ.get("STORE", "")
+Crate = types.SimpleNamespace()
+handles_of, own_sum = lambda top: "", lambda crate: crate.name
+def crates_of(top):
+    names = [it.partition(":")[0].split() for it in open(top + "/crates.txt") if ":" in it and it[0] != "#"]
+    return [types.SimpleNamespace(name=it[0], is_program=it[0] in ("mdb_recorded", "mdb_fleet"), below=list) for it in names]
+if __name__ == "__main__":
+    print(os.environ["SAID"])
+    sys.exit(int(os.environ.get("STATUS", "0")))
+"""
+
+
+class Proving(unittest.TestCase):
+    """Over a kit whose rt says what a test wants."""
+
+    def setUp(self):
+        self.room = Path(tempfile.mkdtemp(prefix="mdb-tests-"))
+        self.addCleanup(shutil.rmtree, self.room)
+        (self.room / "bin").mkdir()
+        rt = self.room / "bin/rt"
+        rt.write_text(RT.replace("{python}", sys.executable))
+        rt.chmod(0o755)
+
+    def keep(self, name: str, files: dict[str, bytes]):
+        folder = self.room / f"proof-{name}-{hashlib.sha256(repr((name, [])).encode()).hexdigest()}"
+        folder.mkdir()
+        for number, text in enumerate(files.values()):
+            (folder / str(number)).write_bytes(text)
+        sums = [(path, hashlib.sha256(text).hexdigest()) for path, text in files.items()]
+        (folder / "made.json").write_text(json.dumps({"files": sums}))
+        return folder
+
+    def run_one(self, script: str, *words: str, **variables: str):
+        path = f"{self.room}/bin:{os.environ['PATH']}"
+        return subprocess.run(
+            [sys.executable, str(HERE / script), "--to", str(self.room / "to"), *words], stdout=subprocess.PIPE, stderr=subprocess.PIPE, text=True,
+            env={**os.environ, "PATH": path, "STORE": str(self.room), **variables},
+        )
+
+    def test_a_line_for_each_crate_and_the_program_at_the_end(self):
+        self.keep("mdb_recorded", {"mdb_recorded": b"program", "mdb_recorded_rattle": b"other"})
+        ran = self.run_one("prove.py", "recorded", SAID="== mdb_base\nrt: mdb_base proved\nrt: mdb_parts is kept: an earlier run\nrt: mdb_recorded proved\n3 passed, 0 failed")
+        self.assertEqual(ran.returncode, 0, ran.stderr)
+        self.assertRegex(ran.stdout, r"/\d+ mdb_base proved, about \d+ minutes left\n2/\d+ mdb_parts kept, ")
+        self.assertEqual((self.room / "to/mdb_recorded").read_bytes(), b"program")
+
+    def test_what_is_not_proved(self):
+        ran = self.run_one("prove.py", "recorded", SAID="rt: mdb_base NOT PROVED\n0 passed, 1 failed: mdb_base", STATUS="1")
+        self.assertEqual(ran.returncode, 1)
+        self.assertIn("mdb_base NOT PROVED", ran.stdout)
+        self.assertRegex(ran.stderr, r"\Aprove\.py: not all is proved, .*: 0 passed, 1 failed: mdb_base\n\Z")
+
+    def test_an_unknown_crate(self):
+        ran = self.run_one("prove.py", "nothing", SAID="")
+        self.assertEqual((ran.returncode, ran.stderr), (1, "prove.py: crates.txt has no crate mdb_nothing\n"))
+
+    def test_no_build_over_what_is_not_kept(self):
+        ran = self.run_one("build.py", "mdb_hello", SAID="clang version 0")
+        self.assertEqual((ran.returncode, ran.stderr.count("\n")), (1, 1), ran.stderr)
+
+    def test_a_damaged_library_is_refused(self):
+        folder = self.keep("mdb_base", {"rlib/mdb_base.rlib/format": b"whole"})
+        kept = Kept(folder, [("rlib/mdb_base.rlib/format", hashlib.sha256(b"whole").hexdigest())])
+        lend(kept, self.room / "lent")
+        (folder / "0").write_bytes(b"damaged")
+        with self.assertRaisesRegex(Stop, "is damaged: file 0"):
+            lend(kept, self.room / "again")
 
 
 class Parts(unittest.TestCase):
