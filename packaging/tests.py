@@ -17,10 +17,10 @@ import packed
 from kit import Kept, crates_of, lend
 from plain import Stop
 from prove import Progress
-from shipped import HERE, LIBRARY, PROGRAMS, SAID, TARGETS, TOP, version
+from shipped import HERE, LIBRARY, PROGRAMS, SAID, TARGETS, TOP, is_released, version
 from unproved import exports_in
 
-COPIED = ("include", "bindings", "LICENSE", "docs")
+COPIED = ("include", "bindings", "LICENSE", "docs", "CHANGES.md")
 LIBRARY_CODE = "unsigned mdb_abi(void) { return 3; }\nvoid *rattle_alloc(unsigned long, unsigned long);\nvoid *mdb_take(void) { return rattle_alloc(1, 1); }\n"
 PROGRAM_CODE = "long read(int, void *, unsigned long);\nlong write(int, const void *, unsigned long);\nint main(int n, char **words) { char c; while (read(0, &c, 1) > 0) write(1, &c, 1); return n - 1; }\n"
 
@@ -43,6 +43,8 @@ class MadeUp(unittest.TestCase):
             ignored = {"ignore": shutil.ignore_patterns("out", "target", "__pycache__")} if (TOP / it).is_dir() else {}
             copy(TOP / it, cls.checkout / it, **ignored)
         (cls.checkout / "crates.txt").write_text("mdb_c staticlib:\n")
+        changes = cls.checkout / "CHANGES.md"
+        changes.write_text(f"# Changes\n\n## {version(TOP)}\n\n- First.\n")
         git(cls.checkout, "init", "-q")
         git(cls.checkout, "add", "-A")
         git(cls.checkout, "commit", "-qm", "all")
@@ -119,6 +121,26 @@ class Refusals(MadeUp):
         self.addCleanup(more.unlink)
         self.refused("has changes: ?? more")
 
+    def test_a_tag_of_another_commit(self):
+        changes = self.checkout / "CHANGES.md"
+        git(self.checkout, "tag", "-a", "-m", "earlier", f"v{version(TOP)}")
+        self.addCleanup(git, self.checkout, "tag", "-d", f"v{version(TOP)}")
+        self.addCleanup(git, self.checkout, "reset", "-q", "--hard", self.commit)
+        changes.write_text(changes.read_text() + "- Second.\n")
+        git(self.checkout, "commit", "-qam", "later")
+        later = git(self.checkout, "rev-parse", "HEAD")
+        self.log.write_text(self.log.read_text().replace(self.commit, later))
+        made = self.built / "made.json"
+        self.addCleanup(made.write_text, made.read_text())
+        made.write_text(made.read_text().replace(self.commit, later))
+        self.refused("is of another commit: a new release needs a new version")
+
+    def test_changes_of_another_version(self):
+        with tempfile.TemporaryDirectory() as room:
+            Path(room, "CHANGES.md").write_text("# Changes\n\n## 0.0.1\n")
+            with self.assertRaisesRegex(Stop, "CHANGES.md begins with 0.0.1"):
+                is_released(Path(room), "0.3.0")
+
     def test_a_build_of_another_commit(self):
         made = self.built / "made.json"
         text = made.read_text()
@@ -161,6 +183,7 @@ class Whole(MadeUp):
         self.assertEqual(self.dist().returncode, 0)
         first = {it.name: it.read_bytes() for it in self.to.iterdir()}
         self.assertEqual(len(first), 15)
+        self.assertIn(f"mdb-{version(TOP)}-x86_64-linux.tar.gz", first)
         self.to = self.room / "another" / "folder" / "dist"
         self.assertEqual(self.dist(TMPDIR=str(self.room), TZ="Asia/Tokyo").returncode, 0)
         self.assertEqual({it.name: it.read_bytes() for it in self.to.iterdir()}, first)
