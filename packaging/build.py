@@ -64,6 +64,8 @@ class Builder:
     def __init__(self, sources: Path, to: Path, jobs: int) -> None:
         self.kit, self.crates, self.to, self.jobs = kits.kit_folder(), kits.crates_of(sources), to, jobs
         self.kept, self.lent = kits.kept_of(sources, self.kit), to / "proved"
+        # what an earlier build left may be of other sources
+        shutil.rmtree(self.lent, ignore_errors=True)
 
     def lend(self, name: str) -> None:
         """Brings the libraries below a crate."""
@@ -73,8 +75,7 @@ class Builder:
         for it in self.crates.below(name):
             folder = self.lent / it
             if not folder.is_dir():
-                kits.lend(self.kept[it], folder.with_suffix(".part"))
-                folder.with_suffix(".part").rename(folder)
+                kits.lend(self.kept[it], folder)
 
     def words(self, name: str, target: Target) -> list[str]:
         """How rt calls rattle for this crate, but for where the libraries are and the target."""

@@ -25,7 +25,7 @@ from linked import Made
 from packed import sum_of
 from plain import Stop, ends_well, need, run, write
 from release import Release
-from shipped import BUILT, DIST, LIBRARY, PROGRAMS, TARGETS, TOP, Target, interface, version
+from shipped import BUILT, DIST, LIBRARY, PROGRAMS, TARGETS, TOP, Target, interface, is_released, version
 
 
 def targets_in(built: Path) -> list[Target]:
@@ -73,6 +73,20 @@ def gate_of(sources: Path, log: Path | None, commit: str) -> gate_log.GateLog:
     return said
 
 
+def version_of(sources: Path, commit: str, is_proved: bool) -> str:
+    """The version, with the commit behind it where CHANGES does not say that it is released."""
+    wanted = version(sources)
+    released = is_released(sources, wanted)
+    if not is_proved:
+        return f"{wanted}+unproved"
+    if not released:
+        return f"{wanted}+{commit[:8]}"
+    tagged = run("git", "-C", sources, "for-each-ref", "--format=%(*objectname)%(objectname)", f"refs/tags/v{wanted}").strip()
+    if tagged and not tagged.startswith(commit):
+        raise Stop(f"the tag v{wanted} is of another commit: a new release needs a new version")
+    return wanted
+
+
 def release_of(given: argparse.Namespace, to: Path, targets: list[Target]) -> Release:
     """All that is asked before anything is made."""
     sources = given.sources.resolve()
@@ -81,8 +95,9 @@ def release_of(given: argparse.Namespace, to: Path, targets: list[Target]) -> Re
     made = built_in(given.built, commit, given.unproved) if targets else {"proved": True}
     date = int(os.environ.get("SOURCE_DATE_EPOCH") or run("git", "-C", sources, "log", "-1", "--format=%ct"))
     verdicts = {it.cpu: {f.stem: f.read_text(encoding="utf-8").strip() for f in sorted((given.built / it.cpu).glob("*.verdict"))} for it in targets}
-    mark = "" if made["proved"] else "+unproved"
-    of = Release(sources, to, version(sources) + mark, interface(sources), commit, date, made, verdicts, log)
+    tools = {it.cpu: run(it.tool("gcc"), "--version").splitlines()[0] for it in targets}
+    named = version_of(sources, commit, bool(made["proved"]))
+    of = Release(sources, to, named, interface(sources), commit, date, made, verdicts, log, tools)
     of.sum_sources(run("git", "-C", sources, "ls-files", "crates", "crates.txt", "HANDLES", "include", "bindings", "packaging").splitlines())
     return of
 

@@ -32,6 +32,9 @@ def plain_folder(of: Release, made: Made, tree: Path) -> None:
     for it in made.programs:
         put(it, tree / "bin" / it.name, 0o755)
         os.symlink("mdb.1", tree / f"share/man/man1/{it.name}.1")
+        for stream in ("stdin", "stdout"):
+            if (of.sources / "crates" / it.name / stream).is_file():
+                put(of.sources / "crates" / it.name / stream, share / f"examples/{it.name}.{stream}")
     for it in ("C_LIBRARY.md", *of.documents):
         put(of.sources / "docs" / it, share / it)
     for it in ("heap.c", "examples/round.c"):

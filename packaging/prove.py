@@ -1,7 +1,7 @@
 #!/usr/bin/env python3
 """Proves the programs and the library for C, with a line for each crate, and keeps the programs in packaging/out/proved.
 
-usage: packaging/prove.py [NAME ..]
+usage: packaging/prove.py [--to FOLDER] [NAME ..]
 
 `rt ci` proves each crate and those below it, with as many side by side as there are processors, and what was proved before is not proved again. How long
 is left is said by the table of docs/GATE.md: the greater of the longest chain that is left and the sum that is left over the processors, times how much
@@ -73,18 +73,18 @@ def follow(names: list[str], progress: Progress, log: Path) -> None:
         raise Stop(f"not all is proved, as {log} says: {last_line(log.read_text(encoding='utf-8'))}")
 
 
-def take(names: list[str], crates: kits.Crates) -> None:
+def take(names: list[str], crates: kits.Crates, to: Path) -> None:
     """Takes the programs that rt ci kept."""
     kept = kits.kept_of(TOP, kits.kit_folder())
-    PROVED.mkdir(parents=True, exist_ok=True)
+    to.mkdir(parents=True, exist_ok=True)
     for name in names:
         files = [path for path, _ in kept[name].files] if name in kept else []
         if name in files:
-            part = PROVED / f".{name}"
+            part = to / f".{name}"
             shutil.copyfile(kept[name].folder / str(files.index(name)), part)
             part.chmod(0o755)
-            part.rename(PROVED / name)
-            print(f"packaging/out/proved/{name}")
+            part.rename(to / name)
+            print(f"{to / name} is proved")
         elif crates.root(name) == "src/main.rt":
             print(f"prove.py: {name} is proved, but rt kept no program of it: run rt run in crates/{name}", file=sys.stderr)
 
@@ -93,6 +93,7 @@ def take(names: list[str], crates: kits.Crates) -> None:
 def main() -> None:
     at = argparse.ArgumentParser(description=__doc__.split("\n")[0])
     at.add_argument("names", nargs="*", metavar="NAME", help="the crates (the library for C and the programs)")
+    at.add_argument("--to", type=Path, default=PROVED, help="the folder for the programs (packaging/out/proved)")
     given = at.parse_args()
     kits.kit_folder()
     crates = kits.crates_of(TOP)
@@ -100,10 +101,10 @@ def main() -> None:
     processors = len(os.sched_getaffinity(0))
     progress = Progress(crates, names, table_of(TOP), processors)
     print(f"{progress.all} crates on {processors} processors: {progress.first / 60:.0f} minutes on the machine of docs/GATE.md", flush=True)
-    log = HERE / "out/prove.log"
-    log.parent.mkdir(parents=True, exist_ok=True)
+    log = given.to / "prove.log"
+    given.to.mkdir(parents=True, exist_ok=True)
     follow(names, progress, log)
-    take(names, crates)
+    take(names, crates, given.to)
 
 
 if __name__ == "__main__":

@@ -24,8 +24,9 @@ class Release:
     built: dict[str, object]
     verdicts: dict[str, dict[str, str]]
     gate: GateLog | None
+    tools: dict[str, str]
     # Pages of docs/ that go along with the programs.
-    documents: tuple[str, ...] = ("SCRIPT.md", "CLAIMS.md", "RECORDED.md")
+    documents: tuple[str, ...] = ("SCRIPT.md", "CLAIMS.md", "RECORDED.md", "RELEASE.md")
     sums: dict[str, str] = field(default_factory=dict)
 
     def manual(self) -> str:
@@ -46,6 +47,7 @@ class Release:
         return {
             "name": "mdb", "version": self.version, "interface": self.interface, "commit": self.commit, "kit": self.built["kit"],
             "logic": self.built["logic"], "compiler": self.built["compiler"], "gate": gate, "built": self.verdicts, "sources": self.sums,
+            "tools": self.tools,
         }
 
     def manifest(self, **more: object) -> str:

@@ -24,7 +24,8 @@ class Room:
 
     def run(self, command: str, feed: bytes = b"", status: int = 0, **variables: str) -> bytes:
         """What a command of the shell writes, in /try."""
-        words = ["unshare", "--net", "chroot", str(self.root), "/bin/sh", "-ec", f"cd /try\n{command}"]
+        alone = ["unshare", "--net", "--pid", "--fork", f"--mount-proc={self.root}/proc"]
+        words = [*alone, "chroot", str(self.root), "/bin/sh", "-ec", f"cd /try\n{command}"]
         ran = subprocess.run(words, input=feed, stdout=subprocess.PIPE, stderr=subprocess.PIPE, env={**CLEAN, **variables})
         if ran.returncode != status:
             said = last_line((ran.stderr or ran.stdout).decode(errors="replace"))

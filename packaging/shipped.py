@@ -93,6 +93,14 @@ def version(top: Path) -> str:
     return wanted
 
 
+def is_released(top: Path, wanted: str) -> bool:
+    """Whether CHANGES begins with the section of this version, and not with what is not released yet."""
+    section = said(top, "CHANGES.md", r"(?m)^## (.+)$")
+    if section not in (wanted, "Not released yet"):
+        raise Stop(f"CHANGES.md begins with {section}, and include/mdb.h says version {wanted}")
+    return section == wanted
+
+
 def interface(top: Path) -> int:
     """The number of the interface, which the bindings were written for too."""
     number = said(top, "include/mdb.h", r"#define MDB_ABI (\d+)")
