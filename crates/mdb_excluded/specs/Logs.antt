@@ -6,9 +6,16 @@ use Rattle.mdb_log.specs.History.{history_of}
 use Rattle.mdb_log.specs.Opening.{pool_options}
 use Rattle.mdb_log.specs.Requests.{told}
 use Rattle.mdb_driver_rules.specs.Lines.{options_of}
-use Rattle.mdb_laws.specs.CloseCauses.{EntriesCaused}
+use Rattle.mdb_pool_laws.specs.CloseCauses.{EntriesCaused}
 use Rattle.mdb_laws.specs.Answers.{AreAnswers}
+use Rattle.mdb_laws.specs.Logs.{EachAnswer}
+use Rattle.mdb_laws.specs.Refusals.{RefusesByTable}
+use Rattle.mdb_laws.specs.Searches.{AnswerGrantsLast}
 use Rattle.mdb_excluded.specs.Entries.{usual}
+
+-- a connection that was available for ten milliseconds is idle
+abbrev pub idling : Options
+idling = record usual { max_idle_time = Some 10 }
 
 -- at most one connection lives
 abbrev pub one_live : Options
@@ -29,3 +36,11 @@ ClosesByCause log = EntriesCaused (pool_options (options_of log)) [] log
 -- each entry is the answer to its step
 abbrev pub IsAnswered : List Entry → Type 0
 IsAnswered log = AreAnswers [] log
+
+-- each entry is refused exactly as the table of refusals says, and a refused one makes no fact
+abbrev pub IsRefusedRightly : List Entry → Type 0
+IsRefusedRightly log = EachAnswer RefusesByTable log
+
+-- each caller gets the available connection that came back last, or another one where none is available
+abbrev pub SearchesLastFirst : List Entry → Type 0
+SearchesLastFirst log = EachAnswer AnswerGrantsLast log

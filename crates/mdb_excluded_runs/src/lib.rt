@@ -11,7 +11,7 @@ ghost use Rattle.mdb_log.specs.Beside.{KeepsLimits, GrantsAllFresh};
 ghost use Rattle.mdb_log.specs.PlainLegal.{LegalLog};
 ghost use Rattle.mdb_laws.specs.Logs.{TellsAllCauses};
 ghost use Rattle.mdb_excluded.specs.Excluded.{Excludes};
-ghost use Rattle.mdb_excluded.specs.Logs.{TellsOnce, ClosesByCause, IsAnswered};
+ghost use Rattle.mdb_excluded.specs.Logs.{TellsOnce, ClosesByCause, IsAnswered, IsRefusedRightly, SearchesLastFirst};
 ghost use Rattle.mdb_runs.specs.Runs.{Seen, Ran, Ended};
 ghost use Rattle.mdb_shared_runs.specs.Scripts.{Shared};
 
@@ -36,7 +36,7 @@ pub fn writes_other_lines()
 {}
 
 /// Where an entry is excluded after a log, because the log with it would not be legal, would pass a limit, would grant what is stale, would close without a cause, would answer otherwise, would tell an
-/// outcome twice, or would say of a pool what nothing caused, no run that ends well has written it.
+/// outcome twice, would say of a pool what nothing caused, would refuse otherwise than the table, or would grant another connection than the one that came back last, no run that ends well has written it.
 pub fn runs_write_nothing_excluded()
     ensures legal { (front later : List Entry) (e : Entry) (input : List ℕ) (held new_held : Option Held) (faults new_faults : ℕ) → Excludes LegalLog front e → ¬ (Ran input (front ++ e ∷ later) held new_held faults new_faults) }
     ensures within { (front later : List Entry) (e : Entry) (input : List ℕ) (held new_held : Option Held) (faults new_faults : ℕ) → Excludes KeepsLimits front e → ¬ (Ran input (front ++ e ∷ later) held new_held faults new_faults) }
@@ -45,6 +45,8 @@ pub fn runs_write_nothing_excluded()
     ensures answered { (front later : List Entry) (e : Entry) (input : List ℕ) (held new_held : Option Held) (faults new_faults : ℕ) → Excludes IsAnswered front e → ¬ (Ran input (front ++ e ∷ later) held new_held faults new_faults) }
     ensures once { (front later : List Entry) (e : Entry) (input : List ℕ) (held new_held : Option Held) (faults new_faults : ℕ) → Excludes TellsOnce front e → ¬ (Ran input (front ++ e ∷ later) held new_held faults new_faults) }
     ensures causes { (front later : List Entry) (e : Entry) (input : List ℕ) (held new_held : Option Held) (faults new_faults : ℕ) → Excludes TellsAllCauses front e → ¬ (Ran input (front ++ e ∷ later) held new_held faults new_faults) }
+    ensures refused { (front later : List Entry) (e : Entry) (input : List ℕ) (held new_held : Option Held) (faults new_faults : ℕ) → Excludes IsRefusedRightly front e → ¬ (Ran input (front ++ e ∷ later) held new_held faults new_faults) }
+    ensures searches { (front later : List Entry) (e : Entry) (input : List ℕ) (held new_held : Option Held) (faults new_faults : ℕ) → Excludes SearchesLastFirst front e → ¬ (Ran input (front ++ e ∷ later) held new_held faults new_faults) }
 {}
 
 /// Nor has any run whose lines parts share.
@@ -56,4 +58,6 @@ pub fn parts_write_nothing_excluded()
     ensures answered { (front later : List Entry) (e : Entry) (k : ℕ) (steps : List Step) → Excludes IsAnswered front e → ¬ (Shared k steps (front ++ e ∷ later)) }
     ensures once { (front later : List Entry) (e : Entry) (k : ℕ) (steps : List Step) → Excludes TellsOnce front e → ¬ (Shared k steps (front ++ e ∷ later)) }
     ensures causes { (front later : List Entry) (e : Entry) (k : ℕ) (steps : List Step) → Excludes TellsAllCauses front e → ¬ (Shared k steps (front ++ e ∷ later)) }
+    ensures refused { (front later : List Entry) (e : Entry) (k : ℕ) (steps : List Step) → Excludes IsRefusedRightly front e → ¬ (Shared k steps (front ++ e ∷ later)) }
+    ensures searches { (front later : List Entry) (e : Entry) (k : ℕ) (steps : List Step) → Excludes SearchesLastFirst front e → ¬ (Shared k steps (front ++ e ∷ later)) }
 {}

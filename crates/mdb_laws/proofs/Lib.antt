@@ -19,3 +19,7 @@ pub mod OfHistories
 pub mod OfCloses
 pub mod OfNames
 pub mod OfTelling
+pub mod OfSearches
+mod Answered
+mod OfRefusals
+pub mod WholeHeadline

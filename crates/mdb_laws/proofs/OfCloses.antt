@@ -1,13 +1,7 @@
-pub mod Quiet
-pub mod Backs
-pub mod Sweeps
-pub mod Serving
-pub mod Acts
 pub mod Pools
 pub mod Published
 pub mod Soft
 pub mod Steps
 pub mod Failed
-pub mod Dues
 pub mod Duties
 pub mod Driver

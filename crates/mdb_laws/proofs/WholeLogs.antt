@@ -21,7 +21,7 @@ use Rattle.mdb_topology.specs.Logging.{opening_step, Stood, AreDriven, IsDriverO
 use Rattle.mdb_driver_rules.specs.Refusal.{refusal}
 use Rattle.mdb_topology.specs.Standing.{StandsFor}
 use Rattle.mdb_laws.specs.Causes.{TellsCauses, HasCauses}
-use Rattle.mdb_laws.specs.Logs.{TellsByReply, AnswerTells, EntriesTellCauses, TellsAllCauses}
+use Rattle.mdb_laws.specs.Logs.{TellsByReply, AnswerTells, EachEntry, TellsAllCauses}
 use Rattle.mdb_laws.proofs.Causes.{accepts, causes, has-causes}
 use Rattle.mdb_laws.proofs.Opening.{nothing-sound, opening-marks}
 use Rattle.mdb_laws.proofs.Spared.{stale-spares}
@@ -68,7 +68,7 @@ opening-tells o kept = record {
 }
 
 -- the entries that a driver made after a log
-driven-tells : (o : Options) (first : Entry) (log es : List Entry) → options_in first.step.act ≡ o → Stood o (first ∷ log) → AreDriven o (first ∷ log) es → EntriesTellCauses o (history_of (first ∷ log)) es
+driven-tells : (o : Options) (first : Entry) (log es : List Entry) → options_in first.step.act ≡ o → Stood o (first ∷ log) → AreDriven o (first ∷ log) es → EachEntry AnswerTells o (history_of (first ∷ log)) es
 driven-tells o first log [] own stood driven = tt
 driven-tells o first log (e ∷ es) own stood driven =
     let h : List Item = history_of (first ∷ log) in
@@ -78,7 +78,7 @@ driven-tells o first log (e ∷ es) own stood driven =
     let here : AnswerTells o h e.step (answer_after (first ∷ log) e.step) = subst (AnswerTells o h e.step) (sym same) right in
     let one : AnswerTells o h e.step (record { reply = e.reply; facts = e.facts }) = subst (λ (x : Entry). AnswerTells o h e.step (record { reply = x.reply; facts = x.facts })) (sym driven.0.answers) here in
     let longer : history_of (first ∷ (log ++ e ∷ [])) ≡ with_answer e.step e.reply e.facts h = with_entries-append (first ∷ log) e [] in
-    (one, subst (λ k. EntriesTellCauses o k es) longer (driven-tells o first (log ++ e ∷ []) es own driven.0.stood driven.1))
+    (one, subst (λ k. EachEntry AnswerTells o k es) longer (driven-tells o first (log ++ e ∷ []) es own driven.0.stood driven.1))
 
 -- the options of a driver are those of its opening
 pub options-are : (w : TopologyCore) (log : List Entry) → IsDriverOf w log → options_of log ≡ w.options
@@ -87,6 +87,6 @@ options-are w log z = ap options_of z.logged
 pub log-tells : (w : TopologyCore) (log : List Entry) → IsDriverOf w log → TellsAllCauses log
 log-tells w log z =
     let first : Entry = entry_after z.seat [] (opening_step w.options) in
-    let more : EntriesTellCauses w.options (history_of (first ∷ [])) z.entries = driven-tells w.options first [] z.entries refl z.began z.driven in
-    let all : EntriesTellCauses w.options [] log = subst (EntriesTellCauses w.options []) (sym z.logged) (opening-tells w.options z.fits, more) in
-    subst (λ (q : Options). EntriesTellCauses q [] log) (sym (options-are w log z)) all
+    let more : EachEntry AnswerTells w.options (history_of (first ∷ [])) z.entries = driven-tells w.options first [] z.entries refl z.began z.driven in
+    let all : EachEntry AnswerTells w.options [] log = subst (EachEntry AnswerTells w.options []) (sym z.logged) (opening-tells w.options z.fits, more) in
+    subst (λ (q : Options). EachEntry AnswerTells q [] log) (sym (options-are w log z)) all

@@ -3,7 +3,8 @@ pub mod Causes
 pub mod Stale
 pub mod Logs
 pub mod HistoryLaws
-pub mod CloseCauses
-pub mod Dues
 pub mod Names
 pub mod Answers
+pub mod Refusals
+pub mod Searches
+pub mod LogHeadline

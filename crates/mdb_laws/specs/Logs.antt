@@ -30,11 +30,15 @@ pub record AnswerTells (o : Options) (h : List Item) (step : Step) (a : Answer) 
 abbrev pub answer_in : Entry → Answer
 answer_in e = record { reply = e.reply; facts = e.facts }
 
--- so of each of the entries, one after another
-abbrev pub EntriesTellCauses : Options → List Item → List Entry → Type 0
-EntriesTellCauses o h [] = ⊤
-EntriesTellCauses o h (e ∷ es) = AnswerTells o h e.step (answer_in e) × EntriesTellCauses o (with_answer e.step e.reply e.facts h) es
+-- Each of the entries is so, one after another: P says it of the answer to a step after a history, under the options of the opening.
+abbrev pub EachEntry : (Options → List Item → Step → Answer → Type 0) → Options → List Item → List Entry → Type 0
+EachEntry P o h [] = ⊤
+EachEntry P o h (e ∷ es) = P o h e.step (answer_in e) × EachEntry P o (with_answer e.step e.reply e.facts h) es
 
 -- Each entry of the log, the opening too, under the options of the opening.
+abbrev pub EachAnswer : (Options → List Item → Step → Answer → Type 0) → List Entry → Type 0
+EachAnswer P log = EachEntry P (options_of log) [] log
+
+-- The log tells its causes, and no late error has an effect in it.
 abbrev pub TellsAllCauses : List Entry → Type 0
-TellsAllCauses log = EntriesTellCauses (options_of log) [] log
+TellsAllCauses log = EachAnswer AnswerTells log

@@ -11,8 +11,8 @@ ghost use Rattle.mdb_driver_rules.specs.Answer.{answer};
 ghost use Rattle.mdb_topology.specs.Logging.{IsDriverOf};
 ghost use Rattle.mdb_topology.specs.Standing.{StandsFor};
 ghost use Rattle.mdb_histories.specs.SoundHistory.{SoundHistory};
-ghost use Rattle.mdb_laws.specs.CloseCauses.{AnswerCaused, EntriesCaused};
-ghost use Rattle.mdb_laws.specs.Dues.{AnswerDue, EntriesDue};
+ghost use Rattle.mdb_pool_laws.specs.CloseCauses.{AnswerCaused, EntriesCaused};
+ghost use Rattle.mdb_pool_laws.specs.Dues.{AnswerDue, EntriesDue};
 
 /// Whatever a caller of a driver does, each close that its answer makes in any pool has a cause, and what is checked in with a reason is closed next.
 pub fn closes_have_causes()

@@ -22,8 +22,10 @@ use Rattle.mdb_log.specs.LegalLog.{IsLegalLog}
 use Rattle.mdb_log.specs.History.{history_of}
 use Rattle.mdb_log.specs.PlainLegal.{LegalLog}
 use Rattle.mdb_topology.specs.Logging.{IsKept}
+use Rattle.mdb_topology.proofs.DriverOpened.ScriptsLog.{legal-log}
 use Rattle.mdb_histories.specs.SoundHistory.{SoundHistory}
-use Rattle.mdb_runs.specs.Runs.{IsWithin, Begins, IsNextLine, IsBad, LineRuns, HasDriver, Ran, RunEnds, Seen, Ended}
+use Rattle.mdb_runs.specs.Runs.{IsWithin, Begins, IsNextLine, IsBad, LineRuns, HasDriver, IsDriverLog, Ran, RunEnds, Seen, Ended}
+use Rattle.mdb_runs.proofs.Headlines.{driven-headline}
 
 -- what holds between two lines
 pub record Between (input rest : List ℕ) (n : ℕ) (entries : List Entry) (held new_held : Option Held) (faults new_faults : ℕ) : Type 0 where
@@ -107,6 +109,10 @@ has-driver None log h = subst HasDriver (sym h) tt
 has-driver (Some w) [] h = tt
 has-driver (Some w) (e ∷ es) h = (w, h)
 
+-- and it keeps what every log of a driver keeps
+pub driver-log : (core : Option TopologyCore) (log : List Entry) → Holds core log → IsDriverLog log
+driver-log core log h = record { driver = has-driver core log h; legal = legal-log core log h; keeps = driven-headline log (has-driver core log h) }
+
 pub done : (input : List ℕ) (n : ℕ) (log : List Entry) (held new_held : Option Held) (faults new_faults : ℕ) (rest : List ℕ) → length rest ≡ 0
     → Between input rest n log held new_held faults new_faults → HasDriver log → IsLegalLog log → LegalLog log → IsKept log → SoundHistory (history_of log) → Ran input log held new_held faults new_faults
 unfolding lines_of
@@ -116,33 +122,33 @@ done input n log held new_held faults new_faults (b ∷ bs) none s driver legal 
 -- the line that is next ends the run
 pub line_ends : (input rest line behind : List ℕ) (n : ℕ) (log new_log : List Entry) (held mid new_held : Option Held) (faults old_faults new_faults : ℕ) (e : RunError)
     → lines_of rest ≡ (line ++ codes "\n") ∷ lines_of behind
-    → Between input rest n log held mid faults old_faults → IsLegalLog log → IsLegalLog new_log → LineRuns n line log new_log mid new_held old_faults new_faults (Err e)
+    → Between input rest n log held mid faults old_faults → IsDriverLog log → IsDriverLog new_log → LineRuns n line log new_log mid new_held old_faults new_faults (Err e)
     → RunEnds input held new_held faults new_faults e
-line_ends input rest line behind n log new_log held mid new_held faults old_faults new_faults errors.OutOfMemory cut s legal new_legal (taken, same) =
-    (steps_of log, lines_of rest, s.begins, subst IsLegalLog s.answers legal, rw (← s.answers) (took_no_more held mid new_held (text_of log) s.taken taken), same ∙ s.same)
-line_ends input rest line behind n log new_log held mid new_held faults old_faults new_faults errors.ReadFault cut s legal new_legal h = h
-line_ends input rest line behind n log new_log held mid new_held faults old_faults new_faults errors.WriteFault cut s legal new_legal (step, next, added, (k, front), rose) =
+line_ends input rest line behind n log new_log held mid new_held faults old_faults new_faults errors.OutOfMemory cut s kept new_kept (taken, same) =
+    (steps_of log, lines_of rest, s.begins, subst IsDriverLog s.answers kept, rw (← s.answers) (took_no_more held mid new_held (text_of log) s.taken taken), same ∙ s.same)
+line_ends input rest line behind n log new_log held mid new_held faults old_faults new_faults errors.ReadFault cut s kept new_kept h = h
+line_ends input rest line behind n log new_log held mid new_held faults old_faults new_faults errors.WriteFault cut s kept new_kept (step, next, added, (k, front), rose) =
     let e = entry_after 0 log step in
     let log_is : log_of (steps_of log ++ step ∷ []) ≡ log ++ e ∷ [] = rw (log_push [] (steps_of log) step, ← s.answers) refl in
     let text : take (length (text_of log) + k) (text_of (log ++ e ∷ [])) ≡ text_of log ++ take k (text_of_entry e) = rw (text_push log e, take-append-add (text_of log) (text_of_entry e) k) refl in
     let took : Took held new_held (take (length (text_of log) + k) (text_of (log ++ e ∷ []))) = rw text (took_more held mid new_held (text_of log) (take k (text_of_entry e)) s.taken front) in
-    (steps_of log ++ step ∷ [], lines_of behind, begins_more input rest line behind n log held mid faults old_faults step cut s next, subst IsLegalLog (added ∙ sym log_is) new_legal, (length (text_of log) + k, rw log_is took), subst (λ (f : ℕ). Rose f new_faults) s.same rose)
-line_ends input rest line behind n log new_log held mid new_held faults old_faults new_faults (errors.Malformed m) cut s legal new_legal (at, never, taken, same) =
+    (steps_of log ++ step ∷ [], lines_of behind, begins_more input rest line behind n log held mid faults old_faults step cut s next, subst IsDriverLog (added ∙ sym log_is) new_kept, (length (text_of log) + k, rw log_is took), subst (λ (f : ℕ). Rose f new_faults) s.same rose)
+line_ends input rest line behind n log new_log held mid new_held faults old_faults new_faults (errors.Malformed m) cut s kept new_kept (at, never, taken, same) =
     let begins : Begins input (steps_of log) ((line ++ codes "\n") ∷ lines_of behind) = rw (← cut) s.begins in
-    (steps_of log, line ++ codes "\n", lines_of behind, begins, subst IsLegalLog s.answers legal, at ∙ s.number ∙ ap (λ (k : ℕ). 1 + k) (sym (length_steps log)), bad, rw (← s.answers) (took_no_more held mid new_held (text_of log) s.taken taken), same ∙ s.same)
+    (steps_of log, line ++ codes "\n", lines_of behind, begins, subst IsDriverLog s.answers kept, at ∙ s.number ∙ ap (λ (k : ℕ). 1 + k) (sym (length_steps log)), bad, rw (← s.answers) (took_no_more held mid new_held (text_of log) s.taken taken), same ∙ s.same)
   where
     bad : IsBad m (steps_of log) (line ++ codes "\n")
     bad t (sp, may) eq =
         let w : line ≡ spelling t = append_cancel_right line (spelling t) (codes "\n") eq in
         never t (subst (λ (xs : List ℕ). Spells n xs t) (sym w) (subst (λ (k : ℕ). Spells k (spelling t) t) at sp), may)
-line_ends input rest line behind n log new_log held mid new_held faults old_faults new_faults errors.TooLong cut s legal new_legal h = h
+line_ends input rest line behind n log new_log held mid new_held faults old_faults new_faults errors.TooLong cut s kept new_kept h = h
 
 -- bytes without a newline end the run
 pub last_ends : (input rest : List ℕ) (n : ℕ) (log : List Entry) (held new_held : Option Held) (faults new_faults : ℕ) → (lines_of rest ≡ rest ∷ []) × (beyond 10 rest ≡ [])
-    → Between input rest n log held new_held faults new_faults → IsLegalLog log → RunEnds input held new_held faults new_faults (errors.Malformed n)
-last_ends input rest n log held new_held faults new_faults cut s legal =
+    → Between input rest n log held new_held faults new_faults → IsDriverLog log → RunEnds input held new_held faults new_faults (errors.Malformed n)
+last_ends input rest n log held new_held faults new_faults cut s kept =
     let begins : Begins input (steps_of log) (rest ∷ []) = rw (← cut.0) s.begins in
-    (steps_of log, rest, [], begins, subst IsLegalLog s.answers legal, s.number ∙ ap (λ (k : ℕ). 1 + k) (sym (length_steps log)), λ t sp eq. line_not_last (spelling t) (rw eq at cut.1), rw (← s.answers) s.taken, s.same)
+    (steps_of log, rest, [], begins, subst IsDriverLog s.answers kept, s.number ∙ ap (λ (k : ℕ). 1 + k) (sym (length_steps log)), λ t sp eq. line_not_last (spelling t) (rw eq at cut.1), rw (← s.answers) s.taken, s.same)
 
 -- whole runs
 
@@ -151,7 +157,7 @@ pub flush_fails : (old new : Seen) (input : List ℕ) (log : List Entry) (mid : 
 flush_fails old new input log mid count read ran took rose =
     let text = text_of log in
     let all : Took old.held new.held (take (length text) text) = rw (take-length text) (took_no_more old.held mid new.held text ran.taken took) in
-    (input, read, (steps_of log, [], ran.begins, subst IsLegalLog ran.answers ran.legal, (length text, rw (← ran.answers) all), subst (λ (f : ℕ). Rose f new.writes) ran.same rose))
+    (input, read, (steps_of log, [], ran.begins, subst IsDriverLog ran.answers (record { driver = ran.driver; legal = ran.legal; keeps = driven-headline log ran.driver }), (length text, rw (← ran.answers) all), subst (λ (f : ℕ). Rose f new.writes) ran.same rose))
 
 pub read_ends : (old new : Seen) (e : RunError) → new.held ≡ old.held → new.writes ≡ old.writes → ReadEnds max_input old.left new.left old.reads new.reads e → Ended old new e
 read_ends old new errors.OutOfMemory held writes h = (h, writes, inl (rw held (took_nothing old.held)))

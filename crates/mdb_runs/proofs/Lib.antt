@@ -1,3 +1,4 @@
+pub mod Headlines
 pub mod Between
 pub mod Complete
 pub mod ScriptLaws

@@ -19,6 +19,7 @@ use Rattle.mdb_log.specs.PlainLegal.{LegalLog}
 use Rattle.mdb_topology.specs.declared.topology.TopologyCore.{TopologyCore}
 use Rattle.mdb_topology.specs.Logging.{IsDriverOf, IsKept}
 use Rattle.mdb_histories.specs.SoundHistory.{SoundHistory}
+use Rattle.mdb_laws.specs.LogHeadline.{LogHeadline}
 
 -- the first step opens seeds, and every later step is one that may come after it
 abbrev pub IsWithin : List Step → Type 0
@@ -71,7 +72,8 @@ abbrev pub HasDriver : List Entry → Type 0
 HasDriver [] = ⊤
 HasDriver (e ∷ es) = (w : TopologyCore) × IsDriverOf w (e ∷ es)
 
--- The lines of the input are those of the log's steps, the log is theirs and a driver's, legal, by the plain sentences too, kept and sound, and the sink took its text.
+-- The lines of the input are those of the log's steps, the log is theirs and a driver's, legal, kept and sound, and the sink took its text. Of the two legalities `plain` is the one that the headline promises: it is said of any list of
+-- entries. `legal` says the same in the words by which a driver is proved, and also that a refused entry has no facts.
 pub record Ran (input : List ℕ) (log : List Entry) (held new_held : Option Held) (faults new_faults : ℕ) : Type 0 where
   pub begins : Begins input (steps_of log) []
   pub answers : log ≡ log_of (steps_of log)
@@ -83,15 +85,21 @@ pub record Ran (input : List ℕ) (log : List Entry) (held new_held : Option Hel
   pub taken : Took held new_held (text_of log)
   pub same : new_faults ≡ faults
 
--- The lines ended before their end: for lack of memory, at a write error, or at a line that spells no step. The log so far is legal.
+-- The log is a driver's, legal, and keeps what every log of a driver keeps.
+pub record IsDriverLog (log : List Entry) : Type 0 where
+  pub driver : HasDriver log
+  pub legal : IsLegalLog log
+  pub keeps : LogHeadline log
+
+-- The lines ended before their end: for lack of memory, at a write error, or at a line that spells no step. The log so far keeps what every log of a driver keeps.
 abbrev pub RunEnds : List ℕ → Option Held → Option Held → ℕ → ℕ → RunError → Type 0
 RunEnds input held new_held faults new_faults errors.OutOfMemory =
-    (steps : List Step) × (more : List (List ℕ)) × Begins input steps more × IsLegalLog (log_of steps) × Took held new_held (text_of (log_of steps)) × (new_faults ≡ faults)
+    (steps : List Step) × (more : List (List ℕ)) × Begins input steps more × IsDriverLog (log_of steps) × Took held new_held (text_of (log_of steps)) × (new_faults ≡ faults)
 RunEnds input held new_held faults new_faults errors.ReadFault = ⊥
 RunEnds input held new_held faults new_faults errors.WriteFault =
-    (steps : List Step) × (more : List (List ℕ)) × Begins input steps more × IsLegalLog (log_of steps) × TookFront held new_held (text_of (log_of steps)) × Rose faults new_faults
+    (steps : List Step) × (more : List (List ℕ)) × Begins input steps more × IsDriverLog (log_of steps) × TookFront held new_held (text_of (log_of steps)) × Rose faults new_faults
 RunEnds input held new_held faults new_faults (errors.Malformed n) =
-    (steps : List Step) × (bad : List ℕ) × (more : List (List ℕ)) × Begins input steps (bad ∷ more) × IsLegalLog (log_of steps) × (n ≡ 1 + length steps) × IsBad n steps bad
+    (steps : List Step) × (bad : List ℕ) × (more : List (List ℕ)) × Begins input steps (bad ∷ more) × IsDriverLog (log_of steps) × (n ≡ 1 + length steps) × IsBad n steps bad
     × Took held new_held (text_of (log_of steps)) × (new_faults ≡ faults)
 RunEnds input held new_held faults new_faults errors.TooLong = ⊥
 

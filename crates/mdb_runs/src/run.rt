@@ -7,6 +7,7 @@ ghost use Rattle.mdb_lines.specs.Loops.{ReadsFew};
 ghost use Rattle.mdb_lines.specs.declared.run_error.RunError.TheVariants.{OutOfMemory as NoMemory, Malformed, TooLong};
 ghost use Rattle.mdb_driver_rules.specs.Lines.{steps_of};
 ghost use Rattle.mdb_topology.specs.Driving.{Stands, IsTaken};
+ghost use Rattle.mdb_runs.specs.Headline.{Headline};
 ghost use Rattle.mdb_runs.specs.Runs.{StepRuns, LineRuns, Ran, RunEnds, Finished, Ended, EndsWith, IsBadAt, IsScript};
 
 use mdb_base::{Sink, Source};
@@ -121,13 +122,18 @@ fn run<S: Source, K: Sink>(alloc: Global, source: &mut S, sink: &mut K) -> Resul
 
 /// Reads a whole script, answers its lines one by one on seat 0, and writes the text of each entry. It flushes at the end.
 ///
-/// `Ok` carries the log. `ReadFault` and `WriteFault` come only where the source or the sink failed in this call,
+/// `Ok` carries the log, of which `headline` says in one record what is promised. `ReadFault` and `WriteFault` come only where the source or the sink failed in this call,
 /// `Malformed(n)` where line n, counted from 1, is the first that spells no step, and `TooLong` past 131,072 bytes.
 pub fn run_script<S: Source, K: Sink>(
     alloc: Global,
     source: &mut S,
     sink: &mut K,
 ) -> Result<Log, RunError>
+    ensures headline { IfOk result (Headline
+        (record { left = S.left source.old; reads = S.faults source.old; calls = S.calls source.old; held = K.held sink.old; writes = K.faults sink.old })
+        (record { left = S.left source.new; reads = S.faults source.new; calls = S.calls source.new; held = K.held sink.new; writes = K.faults sink.new })) }
+
+    // What stands behind it: the log is that of the lines' steps, answer by answer, and a driver stands for it.
     ensures finished { IfOk result (Finished
         (record { left = S.left source.old; reads = S.faults source.old; calls = S.calls source.old; held = K.held sink.old; writes = K.faults sink.old })
         (record { left = S.left source.new; reads = S.faults source.new; calls = S.calls source.new; held = K.held sink.new; writes = K.faults sink.new })) }

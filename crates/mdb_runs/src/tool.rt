@@ -1,11 +1,13 @@
 //! The tool: its words, its statuses, and what it says of an error.
 
 ghost use Rattle.std.specs.Prelude.{◌≡◌, ◌≤◌, ◌<◌, ℕ, List, [], length, map, Some};
+ghost use Rattle.mdb_log.specs.declared.log.Entry.{Entry};
 ghost use Rattle.mdb_log.specs.declared.step.Step.{Step};
 ghost use Rattle.mdb_base.specs.Outside.{Rose};
 ghost use Rattle.mdb_lines.specs.Loops.{ReadsFew};
 ghost use Rattle.mdb_lines.specs.declared.run_error.RunError.TheVariants.{Malformed, TooLong};
 ghost use Rattle.mdb_lines.specs.Status.{Tells, message, status};
+ghost use Rattle.mdb_runs.specs.Headline.{Headline};
 ghost use Rattle.mdb_runs.specs.Runs.{IsBadAt, IsScript};
 ghost use Rattle.mdb_runs.specs.Tool.{ToolEnds, ToolTells, EndsWell, usage};
 
@@ -38,6 +40,10 @@ pub fn run_tool<S: Source, K: Sink, E: Sink>(
     sink: &mut K,
     errors: &mut E,
 ) -> Status
+    // A script on the source that ends with 0 keeps the headline.
+    ensures headline { words.now ≡ [] → result ≡ 0 → (log : List Entry) × Headline
+        (record { left = S.left source.old; reads = S.faults source.old; calls = S.calls source.old; held = K.held sink.old; writes = K.faults sink.old })
+        (record { left = S.left source.new; reads = S.faults source.new; calls = S.calls source.new; held = K.held sink.new; writes = K.faults sink.new }) log }
     ensures ends { ToolEnds (map (λ w. w.now) words.now)
         (record { left = S.left source.old; reads = S.faults source.old; calls = S.calls source.old; held = K.held sink.old; writes = K.faults sink.old })
         (record { left = S.left source.new; reads = S.faults source.new; calls = S.calls source.new; held = K.held sink.new; writes = K.faults sink.new })

@@ -3,4 +3,7 @@
 
 mod laws;
 
-pub use laws::{logs_are_legal, logs_are_sound, slots_cross};
+pub use laws::{
+    logs_are_legal, logs_are_sound, sessions_keep_the_headline, slots_cross,
+    slots_keep_the_headline,
+};

@@ -8,3 +8,4 @@ pub mod Opened
 pub mod Endings
 pub mod Complete
 pub mod Programs
+pub mod Headlines

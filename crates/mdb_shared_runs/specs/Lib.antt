@@ -3,4 +3,5 @@ pub mod Shares
 pub mod Plays
 pub mod Scripts
 pub mod Runs
+pub mod Headline
 pub mod Program

@@ -10,7 +10,7 @@ ghost use Rattle.mdb_generator.specs.declared.words.ToolCommand.TheVariants.{Sha
 ghost use Rattle.mdb_generator.specs.Words.{Names};
 ghost use Rattle.mdb_runs.specs.Runs.{IsBadAt, IsScript};
 ghost use Rattle.mdb_runs.specs.Tool.{ToolTells, EndsWell};
-ghost use Rattle.mdb_shared_runs.specs.Program.{ProgramShares, ProgramEnds, AsksScript};
+ghost use Rattle.mdb_shared_runs.specs.Program.{ProgramShares, ProgramEnds, ProgramHeadline, AsksScript};
 
 use crate::shared::run_shared;
 use mdb_base::{Sink, Source};
@@ -72,6 +72,10 @@ pub fn run_program<R: Threads + Wait + Sync, S: Source, K: Sink, E: Sink>(
     sink: &mut K,
     errors: &mut E,
 ) -> Status
+    // A script on the source that ends with 0 keeps the headline.
+    ensures headline { AsksScript (map (λ w. w.now) words.now) → result ≡ 0 → ProgramHeadline (map (λ w. w.now) words.now)
+        (record { left = S.left source.old; reads = S.faults source.old; calls = S.calls source.old; held = K.held sink.old; writes = K.faults sink.old })
+        (record { left = S.left source.new; reads = S.faults source.new; calls = S.calls source.new; held = K.held sink.new; writes = K.faults sink.new }) }
     ensures ends { ProgramEnds (map (λ w. w.now) words.now)
         (record { left = S.left source.old; reads = S.faults source.old; calls = S.calls source.old; held = K.held sink.old; writes = K.faults sink.old })
         (record { left = S.left source.new; reads = S.faults source.new; calls = S.calls source.new; held = K.held sink.new; writes = K.faults sink.new })

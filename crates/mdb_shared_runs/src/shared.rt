@@ -9,6 +9,7 @@ ghost use Rattle.mdb_lines.specs.LogText.{text_of};
 ghost use Rattle.mdb_lines.specs.Loops.{ReadsFew};
 ghost use Rattle.mdb_lines.specs.declared.run_error.RunError.TheVariants.{OutOfMemory as NoMemory, Malformed, TooLong};
 ghost use Rattle.mdb_runs.specs.Runs.{IsWithin, IsScript, IsBadAt, EndsWith};
+ghost use Rattle.mdb_shared_runs.specs.Headline.{SharedHeadline};
 ghost use Rattle.mdb_shared_runs.specs.Reading.{NoScript};
 ghost use Rattle.mdb_shared_runs.specs.Scripts.{Shared};
 ghost use Rattle.mdb_shared_runs.specs.Runs.{IsShare, Writes, SharedFinished, SharedEnded};
@@ -133,6 +134,11 @@ pub fn run_gated<R: Threads + Wait + Sync, S: Source, K: Sink, G: LineGate>(
     sink: &mut K,
 ) -> Result<Log, RunError>
     requires { (1 ≤ k) × (k ≤ 8) }
+    ensures headline { IfOk result (SharedHeadline k
+        (record { left = S.left source.old; reads = S.faults source.old; calls = S.calls source.old; held = K.held sink.old; writes = K.faults sink.old })
+        (record { left = S.left source.new; reads = S.faults source.new; calls = S.calls source.new; held = K.held sink.new; writes = K.faults sink.new })) }
+
+    // What stands behind it: the log is that of the steps, shared, and a driver stands for it.
     ensures finished { IfOk result (SharedFinished k
         (record { left = S.left source.old; reads = S.faults source.old; calls = S.calls source.old; held = K.held sink.old; writes = K.faults sink.old })
         (record { left = S.left source.new; reads = S.faults source.new; calls = S.calls source.new; held = K.held sink.new; writes = K.faults sink.new })) }
@@ -168,6 +174,11 @@ pub fn run_shared<R: Threads + Wait + Sync, S: Source, K: Sink>(
     sink: &mut K,
 ) -> Result<Log, RunError>
     requires { (1 ≤ k) × (k ≤ 8) }
+    ensures headline { IfOk result (SharedHeadline k
+        (record { left = S.left source.old; reads = S.faults source.old; calls = S.calls source.old; held = K.held sink.old; writes = K.faults sink.old })
+        (record { left = S.left source.new; reads = S.faults source.new; calls = S.calls source.new; held = K.held sink.new; writes = K.faults sink.new })) }
+
+    // What stands behind it: the log is that of the steps, shared, and a driver stands for it.
     ensures finished { IfOk result (SharedFinished k
         (record { left = S.left source.old; reads = S.faults source.old; calls = S.calls source.old; held = K.held sink.old; writes = K.faults sink.old })
         (record { left = S.left source.new; reads = S.faults source.new; calls = S.calls source.new; held = K.held sink.new; writes = K.faults sink.new })) }

@@ -165,15 +165,22 @@ module _ (s : PoolCore) (h : List Item) (z : StandsFor s h) (sound : Sound (of_p
       let open-one : is_open h r ≡ true = not-false (is_open h r) (one-passes (not (is_open h r)) UnknownRequest f) in
       sym (z.requested r) ∙ (both-true (some_act was_asked h r) ((told h r == 0) && not (some_act leaves h r)) open-one).0
 
+  -- no row refuses a step that is accepted
+  pub rows-pass : (step : Step) → refusal_of s.pool s.options h step ≡ None → first_row (rows_of s.pool s.options h (of_pool s.pool h) step.act) ≡ None
+  rows-pass step none = (first-passes (nat_lt step.moment (last_moment h)) (TimeBack (last_moment h)) (rows_of s.pool s.options h (of_pool s.pool h) step.act) none).1
+
+  -- an accepted step may come
+  pub step-done : (step : Step) → refusal_of s.pool s.options h step ≡ None → Done step.moment (of_pool s.pool h) step.act (with_act s.pool h step)
+  step-done step none = done-of s.pool s.options h step.moment knows sound (rested s (of_pool s.pool h) z.fits) step.act (mine step.act (rows-pass step none)) (rows-pass step none)
+
   -- what it answers to a step keeps them sound
   pub answer-sound : (step : Step) → Sound (of_pool s.pool (with_answer step (answer s.pool s.address s.options h step).reply (answer s.pool s.address s.options h step).facts h))
   answer-sound step = on (refusal_of s.pool s.options h step) refl
     where
       accepted : (facts : List Fact) (says : Reply) → facts ≡ all_facts s.pool s.address s.options step.moment (of_pool s.pool h) (with_act s.pool h step) step.act → IsAccepted says → refusal_of s.pool s.options h step ≡ None → Sound (of_pool s.pool (with_answer step says facts h))
       accepted facts says e k none =
-          let rows : first_row (rows_of s.pool s.options h (of_pool s.pool h) step.act) ≡ None = (first-passes (nat_lt step.moment (last_moment h)) (TimeBack (last_moment h)) (rows_of s.pool s.options h (of_pool s.pool h) step.act) none).1 in
           let rest : Rested (of_pool s.pool h) = rested s (of_pool s.pool h) z.fits in
-          let done : Done step.moment (of_pool s.pool h) step.act (with_act s.pool h step) = done-of s.pool s.options h step.moment knows sound rest step.act (mine step.act rows) rows in
+          let done : Done step.moment (of_pool s.pool h) step.act (with_act s.pool h step) = step-done step none in
           let all : Sound (after_facts s.pool step.moment (all_facts s.pool s.address s.options step.moment (of_pool s.pool h) (with_act s.pool h step) step.act) (with_act s.pool h step)) = all-sound s.pool s.address s.options step.moment (of_pool s.pool h) sound rest step.act (with_act s.pool h step) done in
           let same : of_pool s.pool (with_answer step says facts h) ≡ after_facts s.pool step.moment facts (with_act s.pool h step) = ap (of_pool s.pool) (with_answer-accepted step says facts h k) ∙ of_pool-with_facts s.pool step.moment facts (did step says ∷ h) in
           subst Sound (sym same) (subst (λ fs. Sound (after_facts s.pool step.moment fs (with_act s.pool h step))) (sym e) all)

@@ -1,5 +1,5 @@
 use Rattle.std.proofs.Common.{◌∷◌, ◌++◌}
-use Rattle.mdb_excluded_runs.proofs.Drivers.{closes-by-cause, is-answered, tells-once, tells-causes}
+use Rattle.mdb_excluded_runs.proofs.Drivers.{closes-by-cause, is-answered, tells-once, tells-causes, refused-rightly, searches-last-first}
 use Rattle.mdb_excluded_runs.proofs.runs_write_nothing_excluded.Goals as goal
 
 -- what a run writes keeps each law
@@ -23,3 +23,9 @@ returns-clause-once c = λ front later e input held new_held faults new_faults x
 
 pub returns-clause-causes : goal.returns-clause-causes
 returns-clause-causes c = λ front later e input held new_held faults new_faults x ran. x.2 later (tells-causes (front ++ e ∷ later) ran.driver)
+
+pub returns-clause-refused : goal.returns-clause-refused
+returns-clause-refused c = λ front later e input held new_held faults new_faults x ran. x.2 later (refused-rightly (front ++ e ∷ later) ran.driver)
+
+pub returns-clause-searches : goal.returns-clause-searches
+returns-clause-searches c = λ front later e input held new_held faults new_faults x ran. x.2 later (searches-last-first (front ++ e ∷ later) ran.driver)

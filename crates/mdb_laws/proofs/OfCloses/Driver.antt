@@ -31,8 +31,8 @@ use Rattle.mdb_topology.specs.Standing.{StandsFor}
 use Rattle.mdb_histories.specs.SoundHistory.{SoundHistory}
 use Rattle.mdb_histories.proofs.Answers.{keeps-sound, opening-sound}
 use Rattle.mdb_histories.proofs.Rest.{rested-none, each-rested}
-use Rattle.mdb_laws.specs.CloseCauses.{AllCaused, AnswerCaused, EntriesCaused}
-use Rattle.mdb_laws.specs.Dues.{AnswerDue, EntriesDue}
+use Rattle.mdb_pool_laws.specs.CloseCauses.{AllCaused, AnswerCaused, EntriesCaused}
+use Rattle.mdb_pool_laws.specs.Dues.{AnswerDue, EntriesDue}
 use Rattle.mdb_laws.proofs.OfCloses.Duties.{act-due}
 use Rattle.mdb_laws.proofs.OfCloses.Failed.{driver-failed}
 use Rattle.mdb_laws.proofs.OfCloses.Steps.{pool-caused, outside-caused}

@@ -38,8 +38,8 @@ use Rattle.mdb_histories.proofs.Opened.{open-opened, unopened-empty, party-opene
 use Rattle.mdb_histories.proofs.Outside.{told, parts-are}
 use Rattle.mdb_histories.proofs.Parties.{each-sound, apart}
 use Rattle.mdb_histories.proofs.Steps.{home-concerned, given-party}
-use Rattle.mdb_laws.specs.Dues.{Closes, Due}
-use Rattle.mdb_laws.proofs.OfCloses.Dues.{closes-left, closes-right, returned-due, given_up-due, unpinned-due, sweep-due}
+use Rattle.mdb_pool_laws.specs.Dues.{Closes, Due}
+use Rattle.mdb_pool_laws.proofs.OfCloses.Dues.{closes-left, closes-right, returned-due, given_up-due, unpinned-due, sweep-due}
 use Rattle.mdb_laws.proofs.OfCloses.Steps.{cleared, then_asked}
 
 module _ (o : Options) (h : List Item) (s : SoundHistory h) (rest : (p : ℕ) → Rested (of_pool p h)) (p m : ℕ) where

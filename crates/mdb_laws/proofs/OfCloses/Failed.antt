@@ -39,7 +39,7 @@ use Rattle.mdb_histories.proofs.PoolSteps.{begun-sound}
 use Rattle.mdb_histories.proofs.Steps.{home-concerned}
 use Rattle.mdb_histories.proofs.Troubles.{asking-calm, trouble-here}
 use Rattle.mdb_histories.proofs.Turns.{calm-items}
-use Rattle.mdb_laws.proofs.OfCloses.Acts.{failed-caused}
+use Rattle.mdb_pool_laws.proofs.OfCloses.Acts.{failed-caused}
 use Rattle.mdb_laws.proofs.OfCloses.Pools.{come-split, calm-caused, parts-both}
 use Rattle.mdb_laws.proofs.OfCloses.Soft.{soft-keeps, clearing-soft}
 use Rattle.mdb_laws.proofs.OfCloses.Steps.{Caused, cleared, then_asked, last-caused}

@@ -22,11 +22,11 @@ use Rattle.mdb_driver_rules.proofs.SameHistories.{IsCalm}
 use Rattle.mdb_topology.proofs.OfMonitors.FactsOfCheck.{AreCalm}
 use Rattle.mdb_histories.proofs.Numbered.{AllApart, homes-apart}
 use Rattle.mdb_histories.proofs.Owns.{serving-own}
-use Rattle.mdb_laws.specs.CloseCauses.{HasCause, AllCaused}
-use Rattle.mdb_laws.proofs.OfCloses.Quiet.{caused-both, others-caused}
-use Rattle.mdb_laws.proofs.OfCloses.Serving.{serving-caused}
+use Rattle.mdb_pool_laws.specs.CloseCauses.{HasCause, AllCaused}
+use Rattle.mdb_pool_laws.proofs.OfCloses.Quiet.{caused-both, others-caused}
+use Rattle.mdb_pool_laws.proofs.OfCloses.Serving.{serving-caused}
 
-or-right : (b : Bool) → b || true ≡ true
+pub or-right : (b : Bool) → b || true ≡ true
 or-right true = refl
 or-right false = refl
 

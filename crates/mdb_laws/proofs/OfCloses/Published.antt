@@ -25,10 +25,10 @@ use Rattle.mdb_histories.proofs.Owns.{readied-own, close-own}
 use Rattle.mdb_histories.proofs.Parties.{each-sound}
 use Rattle.mdb_histories.proofs.Turns.{Turn, ComeTurn, AllGood}
 use Rattle.mdb_histories.proofs.Publications.{told-good}
-use Rattle.mdb_laws.specs.CloseCauses.{AllCaused}
-use Rattle.mdb_laws.proofs.OfCloses.Acts.{readied-caused}
+use Rattle.mdb_pool_laws.specs.CloseCauses.{AllCaused}
+use Rattle.mdb_pool_laws.proofs.OfCloses.Acts.{readied-caused}
 use Rattle.mdb_laws.proofs.OfCloses.Pools.{at-pool, parts-both}
-use Rattle.mdb_laws.proofs.OfCloses.Sweeps.{closed-caused}
+use Rattle.mdb_pool_laws.proofs.OfCloses.Sweeps.{closed-caused}
 
 module _ (p : ℕ) (o : Options) (here : ServerAddress → Option ℕ) (m : ℕ) (act : Act) where
   abbrev po : PoolOptions

@@ -36,8 +36,8 @@ use Rattle.mdb_histories.proofs.PoolSteps.{begun-sound, pool-come}
 use Rattle.mdb_histories.proofs.Steps.{home-concerned}
 use Rattle.mdb_histories.proofs.Troubles.{asking-calm}
 use Rattle.mdb_histories.proofs.Turns.{Turn, ComeTurn, calm-turn}
-use Rattle.mdb_laws.specs.CloseCauses.{AllCaused}
-use Rattle.mdb_laws.proofs.OfCloses.Acts.{act-caused, clear-caused}
+use Rattle.mdb_pool_laws.specs.CloseCauses.{AllCaused}
+use Rattle.mdb_pool_laws.proofs.OfCloses.Acts.{act-caused, clear-caused}
 use Rattle.mdb_laws.proofs.OfCloses.Pools.{come-split, calm-caused, at-pool, parts-both, serve-all-caused}
 use Rattle.mdb_laws.proofs.OfCloses.Published.{told-caused}
 

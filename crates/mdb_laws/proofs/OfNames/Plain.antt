@@ -1,4 +1,4 @@
--- Facts that are neither ready nor checked out.
+-- Facts that are neither ready nor checked out, nor a grant.
 use Rattle.std.proofs.Common.{ℕ, zero, suc, ◌≡◌, ◌+◌, ◌==◌, Bool, true, false, ◌&&◌, List, [], ◌∷◌, ◌++◌, length, map, Option, Some, None, is_some, nat_lt, refl}
 use Rattle.std.specs.Prelude.{⊤, filter}
 use Rattle.mdb_base.specs.declared.address.ServerAddress.{ServerAddress}
@@ -8,7 +8,7 @@ use Rattle.mdb_events.specs.declared.cmap.CmapEvent.TheVariants.{ConnectionReady
 use Rattle.mdb_events.specs.declared.end.End.{End}
 use Rattle.mdb_events.specs.declared.end.End.TheVariants.{Cleared, Closed, Failed as FailedEnd, TimedOut}
 use Rattle.mdb_events.specs.declared.fact.Fact.{Fact}
-use Rattle.mdb_events.specs.declared.fact.Fact.TheVariants.{Pool, Sdam, CheckNow, Cancel}
+use Rattle.mdb_events.specs.declared.fact.Fact.TheVariants.{Pool, Sdam, CheckNow, Cancel, Granted}
 use Rattle.mdb_events.specs.declared.reasons.ConnectionClosedReason.{ConnectionClosedReason}
 use Rattle.mdb_events.specs.declared.reasons.ConnectionClosedReason.TheVariants.{PoolClosed as PoolClosedReason}
 use Rattle.mdb_log.specs.declared.options.PoolOptions.{PoolOptions}
@@ -25,6 +25,7 @@ use Rattle.mdb_topology.proofs.OfMonitors.FactsOfCheck.{AreCalm}
 abbrev pub IsPlain : Fact → Type 0
 IsPlain (Pool q (ConnectionReady e)) = ⊥
 IsPlain (Pool q (ConnectionCheckedOut e)) = ⊥
+IsPlain (Granted r q c) = ⊥
 IsPlain _ = ⊤
 
 abbrev pub ArePlain : List Fact → Type 0

@@ -1,4 +1,4 @@
--- What is published is plain: neither ready nor checked out.
+-- What is published is plain: neither ready nor checked out, nor a grant.
 use Rattle.std.proofs.Common.{ℕ, Bool, true, false, if◌then◌else◌, List, [], ◌∷◌, ◌++◌, map, Option, Some, None}
 use Rattle.std.specs.Prelude.{⊤}
 use Rattle.mdb_base.specs.declared.address.ServerAddress.{ServerAddress}

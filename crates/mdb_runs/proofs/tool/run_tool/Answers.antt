@@ -1,8 +1,9 @@
-use Rattle.std.proofs.Common.{refl, inl, inr}
+use Rattle.std.proofs.Common.{refl, inl, inr, sym, ◌∙◌}
 use Rattle.mdb_lines.specs.declared.run_error.RunError.TheVariants.{Malformed}
 use Rattle.mdb_lines.specs.Status.{Told}
 use Rattle.mdb_generator.specs.declared.words.ToolCommand.TheVariants.{Make, Script}
 use Rattle.mdb_runs.proofs.Complete.{tells_so}
+use Rattle.mdb_runs.proofs.Headlines.{error-status, no-make}
 use Rattle.mdb_runs.proofs.tool.run_tool.Goals as goal
 
 pub returns-in-Ok-run_made-clause-ends : goal.returns-in-Ok-run_made-clause-ends
@@ -28,3 +29,15 @@ returns-in-Usage-clause-malformed g c = λ input number none left short found re
 
 pub returns-in-Usage-clause-too_long : goal.returns-in-Usage-clause-too_long
 returns-in-Usage-clause-too_long g c = λ input none left long read. absurd (c.in-Usage.ensures Script (rw none refl))
+
+pub returns-in-Err-clause-headline : goal.returns-in-Err-clause-headline
+returns-in-Err-clause-headline g c = λ none good. absurd (error-status c.in-Err.e (sym c.end_with_error.ensures.status ∙ good))
+
+pub returns-in-Ok-run_made-clause-headline : goal.returns-in-Ok-run_made-clause-headline
+returns-in-Ok-run_made-clause-headline g c = λ none good. absurd (no-make (λ w. w.now) c.args.words.now c.in-Make.n c.in-Make.ensures none)
+
+pub returns-in-Err-run_made-clause-headline : goal.returns-in-Err-run_made-clause-headline
+returns-in-Err-run_made-clause-headline g c = λ none good. absurd (no-make (λ w. w.now) c.args.words.now c.in-Make.n c.in-Make.ensures none)
+
+pub returns-in-Usage-clause-headline : goal.returns-in-Usage-clause-headline
+returns-in-Usage-clause-headline g c = λ none good. absurd (c.in-Usage.ensures Script (rw none refl))

@@ -1,9 +1,22 @@
-use Rattle.std.proofs.Common.{map}
+use Rattle.std.proofs.Common.{◌≡◌, List, [], map, inl, inr}
 use Rattle.mdb_lines.specs.Status.{Told}
 use Rattle.mdb_generator.specs.declared.words.ToolCommand.TheVariants.{Share}
 use Rattle.mdb_runs.specs.Runs.{Seen}
+use Rattle.mdb_shared_runs.proofs.Headlines.{shares-headline}
 use Rattle.mdb_shared_runs.proofs.Programs.{tool_ends, asks_none, map_none}
 use Rattle.mdb_shared_runs.proofs.program.run_program.Goals as goal
+
+pub returns-in-Some-clause-headline : goal.returns-in-Some-clause-headline
+returns-in-Some-clause-headline g c =
+    let old : Seen = record { left = g.S.Source.left c.args.source.now; reads = g.S.Source.faults c.args.source.now; calls = g.S.Source.calls c.args.source.now; held = g.K.Sink.held c.args.sink.now; writes = g.K.Sink.faults c.args.sink.now } in
+    let new : Seen = record { left = g.S.Source.left c.share.new.source; reads = g.S.Source.faults c.share.new.source; calls = g.S.Source.calls c.share.new.source; held = g.K.Sink.held c.share.new.sink; writes = g.K.Sink.faults c.share.new.sink } in
+    let told : Told = record { held = g.E.Sink.held c.args.errors.now; faults = g.E.Sink.faults c.args.errors.now } in
+    let new_told : Told = record { held = g.E.Sink.held c.share.new.errors; faults = g.E.Sink.faults c.share.new.errors } in
+    λ asks good. inr (c.in-Some.k, c.in-Some.ensures.players, shares-headline c.in-Some.k old new told new_told c.share.result c.share.ensures.ends good)
+
+pub returns-in-None-clause-headline : goal.returns-in-None-clause-headline
+returns-in-None-clause-headline g c =
+    λ asks good. let none : map (λ w. w.now) c.args.words.now ≡ [] = asks_none _ asks c.in-None.ensures.none in inl (none, c.run_tool.ensures.headline (map_none (λ w. w.now) c.args.words.now none) good)
 
 pub returns-in-Some-clause-ends : goal.returns-in-Some-clause-ends
 returns-in-Some-clause-ends g c = (Share c.in-Some.k, c.in-Some.ensures.players, c.share.ensures.ends)

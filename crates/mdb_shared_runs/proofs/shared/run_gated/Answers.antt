@@ -1,6 +1,13 @@
 use Rattle.mdb_runs.specs.Runs.{Seen}
+use Rattle.mdb_shared_runs.proofs.Headlines.{ok-headline}
 use Rattle.mdb_shared_runs.proofs.Complete.{completes, names, lengthy}
 use Rattle.mdb_shared_runs.proofs.shared.run_gated.Goals as goal
+
+pub returns-clause-headline : goal.returns-clause-headline
+returns-clause-headline g c =
+    let old : Seen = record { left = g.S.Source.left c.args.source.now; reads = g.S.Source.faults c.args.source.now; calls = g.S.Source.calls c.args.source.now; held = g.K.Sink.held c.args.sink.now; writes = g.K.Sink.faults c.args.sink.now } in
+    let new : Seen = record { left = g.S.Source.left c.run.new.source; reads = g.S.Source.faults c.run.new.source; calls = g.S.Source.calls c.run.new.source; held = g.K.Sink.held c.run.new.sink; writes = g.K.Sink.faults c.run.new.sink } in
+    ok-headline c.args.k old new c.run.result c.run.ensures.finished
 
 pub returns-clause-complete : goal.returns-clause-complete
 returns-clause-complete g c =

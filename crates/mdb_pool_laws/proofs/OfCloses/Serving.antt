@@ -11,8 +11,8 @@ use Rattle.mdb_log.specs.State.{state_of, ready, may_create}
 use Rattle.mdb_pool_rules.specs.Facts.{perished}
 use Rattle.mdb_pool_rules.specs.Serving.{last_of, candidate, wants_connection, caller_move, meet, warm_move, move_for, next_move, serve, serving}
 use Rattle.mdb_pool_rules.proofs.Fair.{candidate-first}
-use Rattle.mdb_laws.specs.CloseCauses.{meeting, AllCaused}
-use Rattle.mdb_laws.proofs.OfCloses.Quiet.{caused-both}
+use Rattle.mdb_pool_laws.specs.CloseCauses.{meeting, AllCaused}
+use Rattle.mdb_pool_laws.proofs.OfCloses.Quiet.{caused-both}
 
 module _ (p : ℕ) (a : ServerAddress) (o : PoolOptions) (here : ServerAddress → Option ℕ) (m : ℕ) (act : Act) where
   module _ (xs : List PoolItem) where

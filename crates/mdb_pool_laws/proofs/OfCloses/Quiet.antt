@@ -13,7 +13,7 @@ use Rattle.mdb_log.specs.History.{PoolItem, after_fact, after_facts}
 use Rattle.mdb_log.specs.Requests.{is_warm}
 use Rattle.mdb_log.specs.Own.{IsOwn, AllOwn}
 use Rattle.mdb_pool_rules.specs.Facts.{end_facts, all_ends}
-use Rattle.mdb_laws.specs.CloseCauses.{closes_pool, IsShut, IsCaused, IsClosedNext, failing, checking_in, coming_back, meeting, sweeping, shutting, HasCause, AllCaused}
+use Rattle.mdb_pool_laws.specs.CloseCauses.{closes_pool, IsShut, IsCaused, IsClosedNext, failing, checking_in, coming_back, meeting, sweeping, shutting, HasCause, AllCaused}
 
 any-more : (test : Fact → Bool) (fs gs : List Fact) → list_any test fs ≡ true → list_any test (fs ++ gs) ≡ true
 any-more test [] gs e = cc

@@ -16,8 +16,8 @@ use Rattle.mdb_log.specs.Requests.{end_of, is_warm}
 use Rattle.mdb_log.specs.State.{State, is_new, is_ready, is_paused, is_closed, state_of}
 use Rattle.mdb_log.proofs.Numbers.{same-number}
 use Rattle.mdb_pool_rules.specs.Facts.{close_reason, closes, checked_in_fact, check_in, come_back, hand_over, fail_requester}
-use Rattle.mdb_laws.specs.CloseCauses.{reason_back, BackAtClosed, IsClosedNext, checking_in, coming_back, AllCaused}
-use Rattle.mdb_laws.proofs.OfCloses.Quiet.{caused-both, end-caused}
+use Rattle.mdb_pool_laws.specs.CloseCauses.{reason_back, BackAtClosed, IsClosedNext, checking_in, coming_back, AllCaused}
+use Rattle.mdb_pool_laws.proofs.OfCloses.Quiet.{caused-both, end-caused}
 
 no-pins : (n : ℕ) → nat_lt 0 n ≡ false → n ≡ 0
 no-pins n e = grind (arith, nat_tests)

@@ -19,8 +19,8 @@ use Rattle.mdb_pool_rules.specs.Facts.{closes, closed_fact, created_fact, pool_c
 use Rattle.mdb_sound.specs.Sound.{Sound}
 use Rattle.mdb_sound.proofs.Order.{times, times-none}
 use Rattle.mdb_sound.proofs.Lists.{another, times-both, available-once, pending-once}
-use Rattle.mdb_laws.specs.CloseCauses.{reason_found, closes_pool, sweeping, shutting, AllCaused}
-use Rattle.mdb_laws.proofs.OfCloses.Quiet.{caused-both, ends-caused}
+use Rattle.mdb_pool_laws.specs.CloseCauses.{reason_found, closes_pool, sweeping, shutting, AllCaused}
+use Rattle.mdb_pool_laws.proofs.OfCloses.Quiet.{caused-both, ends-caused}
 
 or-right : (b : Bool) → b || true ≡ true
 or-right true = refl

@@ -22,14 +22,14 @@ use Rattle.mdb_sound.specs.Sound.{Sound, was_closed, just_failed}
 use Rattle.mdb_sound.proofs.Acts.{Done, requests as asks, warms, gives_up, establishes, fails, returns, pins_one, replicates, takes, unpins, maintains, expires, readies, clears, shuts, tells}
 use Rattle.mdb_sound.proofs.Generations.{closed-for-good}
 use Rattle.mdb_pool_rules.specs.Rested.{Rested}
-use Rattle.mdb_laws.specs.CloseCauses.{failing, AllCaused}
-use Rattle.mdb_laws.proofs.OfCloses.Quiet.{caused-both, end-caused, ends-caused}
-use Rattle.mdb_laws.proofs.OfCloses.Backs.{returned-caused, given_up-caused, unpinned-caused, established-caused, requester-caused}
-use Rattle.mdb_laws.proofs.OfCloses.Sweeps.{maintained-caused, closed-caused}
-use Rattle.mdb_laws.proofs.OfCloses.Serving.{serving-caused}
+use Rattle.mdb_pool_laws.specs.CloseCauses.{failing, AllCaused}
+use Rattle.mdb_pool_laws.proofs.OfCloses.Quiet.{caused-both, end-caused, ends-caused}
+use Rattle.mdb_pool_laws.proofs.OfCloses.Backs.{returned-caused, given_up-caused, unpinned-caused, established-caused, requester-caused}
+use Rattle.mdb_pool_laws.proofs.OfCloses.Sweeps.{maintained-caused, closed-caused}
+use Rattle.mdb_pool_laws.proofs.OfCloses.Serving.{serving-caused}
 
 -- a pool that is closed was closed
-shut-was : (o : PoolOptions) (xs : List PoolItem) → state_of o xs ≡ is_closed → was_closed xs ≡ true
+pub shut-was : (o : PoolOptions) (xs : List PoolItem) → state_of o xs ≡ is_closed → was_closed xs ≡ true
 shut-was o [] e = cc
 shut-was o (pool_created ∷ xs) e = on o.load_balanced refl
   where

@@ -1,5 +1,5 @@
 -- Which connections a step has to close: what each situation names is closed by the answer.
-use Rattle.std.specs.Prelude.{ℕ, ◌≡◌, ◌⊎◌, true, List, [], ◌∷◌, Option, Some, ⊤}
+use Rattle.std.specs.Prelude.{ℕ, ◌≡◌, ◌⊎◌, true, List, [], ◌∷◌, ◌++◌, Option, Some, ⊤}
 use Rattle.mdb_base.specs.declared.address.ServerAddress.{ServerAddress}
 use Rattle.mdb_events.specs.declared.cmap.CmapEvent.TheVariants.{ConnectionClosed}
 use Rattle.mdb_events.specs.declared.fact.Fact.{Fact}
@@ -12,11 +12,11 @@ use Rattle.mdb_log.specs.declared.reply.Reply.{Reply}
 use Rattle.mdb_log.specs.declared.reply.Reply.TheVariants.{Refused}
 use Rattle.mdb_log.specs.declared.step.Step.{Step}
 use Rattle.mdb_log.specs.declared.step.Act.{Act}
-use Rattle.mdb_log.specs.declared.step.Act.TheVariants.{Failed, Return, GiveUp, Unpin, Maintain}
+use Rattle.mdb_log.specs.declared.step.Act.TheVariants.{Failed, Return, GiveUp, Unpin, Maintain, Close}
 use Rattle.mdb_log.specs.History.{Item, PoolItem, is_number, of_pool, open_pool, has_asked, with_answer}
-use Rattle.mdb_log.specs.Connections.{has, available_list, holding, pins, is_pinned}
+use Rattle.mdb_log.specs.Connections.{has, available_list, pending_list, holding, pins, is_pinned}
 use Rattle.mdb_log.specs.State.{is_closed, state_of}
-use Rattle.mdb_laws.specs.CloseCauses.{reason_found}
+use Rattle.mdb_pool_laws.specs.CloseCauses.{reason_found}
 
 -- the fact closes the connection c of the pool p for the reason
 abbrev pub IsCloseOf : ℕ → ℕ → ConnectionClosedReason → Fact → Type 0
@@ -43,6 +43,16 @@ Due p o here m xs (Unpin q c) facts = q ≡ p → is_pinned xs c ≡ true → pi
 -- each available connection that is stale or idle, where the pool of the address is maintained
 Due p o here m xs (Maintain a) facts = is_number (here a) p ≡ true → (c : ℕ) (why : ConnectionClosedReason) → has c (available_list xs) ≡ true → reason_found o m xs c ≡ Some why → Closes p c why facts
 Due p o here m xs _ facts = ⊤
+
+-- so does an accepted act of a pool that stands alone; where the pool itself is closed, each available and each pending connection is
+abbrev pub DueAlone : ℕ → PoolOptions → (ServerAddress → Option ℕ) → ℕ → List PoolItem → Act → List Fact → Type 0
+DueAlone p o here m xs (Close q) facts = (c : ℕ) → has c (available_list xs ++ pending_list xs) ≡ true → Closes p c AsPoolClosed facts
+DueAlone p o here m xs act facts = Due p o here m xs act facts
+
+-- what an accepted step closes of the pool p, which stands alone
+abbrev pub PoolDue : ℕ → PoolOptions → List Item → Step → Reply → List Fact → Type 0
+PoolDue p o h step (Refused why) facts = ⊤
+PoolDue p o h step _ facts = DueAlone p o (open_pool h) step.moment (of_pool p h) step.act facts
 
 -- what an accepted step closes of each pool
 abbrev pub AnswerDue : PoolOptions → List Item → Step → Reply → List Fact → Type 0

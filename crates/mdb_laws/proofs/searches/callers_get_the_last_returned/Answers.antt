@@ -1,0 +1,5 @@
+use Rattle.mdb_laws.proofs.OfSearches.Steps.{answer-last}
+use Rattle.mdb_laws.proofs.searches.callers_get_the_last_returned.Goals as goal
+
+pub returns : goal.returns
+returns c = answer-last

@@ -1,0 +1,2 @@
+pub mod OfCloses
+pub mod OfSearches

@@ -1,0 +1,3 @@
+pub mod CloseCauses
+pub mod Dues
+pub mod Searches

@@ -1,0 +1,23 @@
+-- The headline: what an answer Ok with a log says of a run.
+use Rattle.std.specs.Prelude.{◌≡◌, ℕ, List, map}
+use Rattle.mdb_base.specs.Outside.{Took, IsFlushed}
+use Rattle.mdb_log.specs.declared.log.Entry.{Entry}
+use Rattle.mdb_lines.specs.LogText.{text_of}
+use Rattle.mdb_lines.specs.Loops.{ReadsAll}
+use Rattle.mdb_lines.specs.Script.{lines_of, line_of, max_input}
+use Rattle.mdb_driver_rules.specs.Lines.{steps_of}
+use Rattle.mdb_laws.specs.LogHeadline.{LogHeadline}
+use Rattle.mdb_runs.specs.Runs.{Seen}
+
+pub record Headline (old new : Seen) (log : List Entry) : Type 0 where
+  -- the source was read to its end
+  pub input : List ℕ
+  pub read : ReadsAll max_input old.left new.left old.reads new.reads input
+  -- the sink received exactly the log's text, flushed, and no write failed
+  pub received : Took old.held new.held (text_of log)
+  pub flushed : IsFlushed new.held
+  pub unfailed : new.writes ≡ old.writes
+  -- the log has one entry for each line, in order
+  pub one_each : lines_of input ≡ map line_of (steps_of log)
+  -- it keeps what every log of a driver keeps: refusals by the table, one place, the longest-waiting caller first, nobody left waiting, limits, fresh grants, closes by their causes, pools by theirs, outcomes told once, late errors without effect
+  pub log_keeps : LogHeadline log
