@@ -27,22 +27,28 @@
  *   hands none out: all that it tells is copied into its caller's buffers.
  *
  * Threads. One call at a time has a slot: who shares one among threads locks around each call, or around a step and the facts that it reads then.
- *   A step takes some microseconds and never blocks. Calls on different slots need no order. There is no thread-local state, no signal, no callback.
+ *   A step never blocks; most take some microseconds, and one that changes what is known of a large topology up to a millisecond. Calls on different slots need no order. There is no thread-local state, no signal, no callback.
  *   What a slot holds may go from thread to thread where a lock, a thread's start or join, or a sequentially consistent atomic orders the calls: that
  *   is proved of its type.
  *
- * What a caller owes, and nothing checks: a pointer is not NULL, also for no bytes, is aligned, and leads to the memory that its parameter names for as
- *   long as the call lasts; no two parameters of a call overlap; a length is below 2^63; a slot begins as zeros, and nobody else writes or copies its
- *   words (it may be moved while no call has it). malloc, realloc and free are those of one allocator. No call is made from a signal handler, or in
- *   the child of a fork of a program with threads. Everything else is tested by each call: numbers, texts, lengths of texts, sizes of buffers, the
- *   order of steps, and a slot that is not open.
+ * What a caller owes, and nothing checks: a pointer is not NULL, is aligned, and leads to the memory that its parameter names for as long as the call
+ *   lasts; for no bytes it is any pointer that is not NULL, so who asks for a length hands in `(uint8_t *)""` and 0; no two parameters of a call overlap,
+ *   but for those of no bytes; a length is below 2^63; a slot begins as zeros, and nobody else writes or copies its words (it may be moved while no call
+ *   has it). malloc, realloc and free are those of one allocator. No call is made from a signal handler. Everything else is tested by each call:
+ *   numbers, texts, lengths of texts, sizes of buffers, the order of steps, and a slot that is not open.
+ *
+ * Fork. The child of a fork, once malloc may be called in it, may open new slots and make calls on them. The slots that it got from its parent it may
+ *   forget, by zeros in their words: their memory stays with the child until it ends. It makes no call on one that a thread of the parent had in a call
+ *   at the fork; and a driver that goes on in both speaks for connections that only one of them may use.
  *
  * Memory. The library asks for it by malloc, realloc and free (bindings/heap.c, three functions that may be replaced). It keeps the last entry alone.
- *   What a driver keeps beside that grows with the parties that it has known, since a party's number is never taken again: 170 to 500 bytes for each.
- *   2^32 parties end a driver: its requests are then refused as MDB_WHY_REQUEST_KNOWN.
+ *   Beside that a driver keeps its connections, the requests that wait, have a connection or were never told how they ended, what it knows of its
+ *   servers, and which numbers parties had, as ranges. So number parties upwards, which makes one range of all that were used (a number drawn at random
+ *   takes 8 bytes for ever), and hear each request to its end: collect it until it is told, give it up, or return its connection. 2^32 parties end a
+ *   driver: its requests are then refused as MDB_WHY_REQUEST_KNOWN. docs/EMBEDDING.md, 10, says more.
  *
  * Proved, by the contract of the function of the same name in crates/mdb_c/src: what each call answers is what the driver's definitions say after the
- *   log of all calls so far, or of the records that it was given; what it writes and leaves; when it answers MDB_MALFORMED, MDB_CLOSED, MDB_OPENED, MDB_NO_ROOM and MDB_NO_ENTRY. For want of
+ *   log of all calls so far, or of the records that it was given; what it writes and leaves; which statuses it may answer, and when it answers MDB_MALFORMED, MDB_CLOSED, MDB_OPENED, MDB_NO_ROOM and MDB_NO_ENTRY. For want of
  *   memory a call may fail at any time. Tested by checks/c_library.py: that it does not fail with memory at hand, this header against the library,
  *   clients under valgrind and sanitizers, each allocation refused in turn. This file is written by hand. */
 #ifndef MDB_H
@@ -156,7 +162,8 @@ mdb_status mdb_line(mdb_slot *slot, uint32_t seat, const uint8_t *line, size_t l
  * its log. */
 mdb_status mdb_entry_text(mdb_slot *slot, uint8_t *out, size_t out_len, size_t *needed);
 
-/* ---- by calls: one step each. All answer MDB_CLOSED where the slot is not open. */
+/* ---- by calls: one step each. All answer MDB_CLOSED where the slot is not open, unless a text or a number is looked at before, which may be MDB_MALFORMED
+ * or want memory. */
 
 /* When a step is made, and by which seat. */
 typedef struct mdb_at {
@@ -211,7 +218,7 @@ typedef struct mdb_established_as {
  * neither. */
 mdb_status mdb_established(mdb_slot *slot, const mdb_at *at, const mdb_established_as *made, const uint8_t *service, size_t service_len, mdb_reply *reply);
 
-/* Pins, under load balancing: the party pins what it holds; one pin more; a new party takes it from its pin; one pin less. */
+/* Pins: the party pins what it holds; one pin more; a new party takes it from its pin; one pin less. */
 mdb_status mdb_pin(mdb_slot *slot, const mdb_at *at, uint32_t party, mdb_reply *reply);
 mdb_status mdb_replicate(mdb_slot *slot, const mdb_at *at, const mdb_connection *connection, mdb_reply *reply);
 mdb_status mdb_take(mdb_slot *slot, const mdb_at *at, uint32_t party, const mdb_connection *connection, mdb_reply *reply);

@@ -2,9 +2,29 @@
 //! nothing, so each call tests what it can, and requires no more than its types say.
 #![tactic(auto)]
 
-mod calls;
+mod address_list;
+mod callers;
+mod check_numbers;
 mod checks;
+mod connections;
+mod fact_parts;
 mod facts;
+mod found_hosts;
+mod given;
+mod host_text;
 mod known;
 mod lines;
-mod srv;
+mod monitors;
+mod next_checks;
+mod outcomes;
+mod pools;
+mod rescan;
+mod server_numbers;
+mod server_texts;
+mod timers;
+mod topology_numbers;
+mod topology_texts;
+mod txt_records;
+mod txt_text;
+mod types;
+mod which;

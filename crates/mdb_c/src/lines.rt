@@ -7,7 +7,7 @@ ghost use Rattle.mdb_lines.specs.Script.{Spells};
 ghost use Rattle.mdb_driver_rules.specs.Lines.{entry_after};
 ghost use Rattle.mdb_session.specs.Sessions.{IsLastText, IsStepped};
 
-use mdb_session::{CLOSED, MALFORMED, NO_ROOM, OK, OPENED, ReplyNumbers, Slot, Status};
+use mdb_session::{CLOSED, MALFORMED, NO_MEMORY, NO_ROOM, OK, OPENED, ReplyNumbers, Slot, Status};
 use std::alloc::Global;
 
 /// The number of this interface, which changes where a call, a struct or a number of it does.
@@ -28,6 +28,7 @@ pub extern "C" fn mdb_open_line(alloc: Global, slot: &mut Slot, seat: u32, line:
     ensures other { result ≢ OK → slot.new.word.value ≡ slot.old.word.value }
     ensures malformed { result ≡ MALFORMED → (s : Step) → Spells 1 line.now s → ⊥ }
     ensures opened { result ≡ OPENED → slot.old.word.value ≢ None }
+    ensures answers { result ≢ OK → result ≢ NO_MEMORY → result ≢ MALFORMED → result ≡ OPENED }
 {
     slot.open_line(alloc, seat, line)
 }
@@ -45,6 +46,7 @@ pub extern "C" fn mdb_line(
     ensures other { result ≢ OK → (slot.new.word.value ≡ slot.old.word.value) × (reply.new ≡ reply.old) }
     ensures malformed { result ≡ MALFORMED → (s : Step) → Spells 2 line.now s → ⊥ }
     ensures closed { result ≡ CLOSED → slot.old.word.value ≡ None }
+    ensures answers { result ≢ OK → result ≢ NO_MEMORY → result ≢ MALFORMED → result ≡ CLOSED }
 {
     slot.line(alloc, seat, line, reply)
 }
@@ -62,8 +64,23 @@ pub extern "C" fn mdb_entry_text(
     ensures other { result ≢ OK → out.new ≡ out.old }
     ensures same { slot.new.word.value ≡ slot.old.word.value }
     ensures closed { result ≡ CLOSED → slot.old.word.value ≡ None }
+    ensures answers { result ≢ OK → result ≢ NO_MEMORY → result ≢ NO_ROOM → result ≡ CLOSED }
+    ensures needed { result ≢ OK → result ≢ NO_ROOM → needed.new ≡ 0 }
 {
-    slot.entry_text(alloc, out, needed)
+    *needed = 0;
+    let Some(session) = slot.take(alloc) else {
+        return CLOSED;
+    };
+    let room = out.len();
+    let told = session.entry_text(alloc, out);
+    *slot = Slot::holding(session);
+    match told {
+        Ok(length) => {
+            *needed = length;
+            if length <= room { OK } else { NO_ROOM }
+        }
+        Err(_) => NO_MEMORY,
+    }
 }
 
 /// Frees the driver, if there is one, and closes the slot.

@@ -6,13 +6,11 @@ mod at;
 mod fact_numbers;
 mod loose;
 mod numbers;
-mod past;
 mod reads;
 mod session;
 mod slot;
 mod status;
 mod steps;
-mod telling;
 mod texts;
 mod word;
 
@@ -21,6 +19,8 @@ pub use fact_numbers::{FactNumbers, numbers_of_fact};
 pub use numbers::{ReplyNumbers, numbers_of};
 pub use session::Session;
 pub use slot::Slot;
-pub use status::{CLOSED, MALFORMED, NO_ENTRY, NO_MEMORY, NO_ROOM, OK, OPENED, Status, status_of};
+pub use status::{
+    BAD_RECORDS, CLOSED, MALFORMED, NO_ENTRY, NO_MEMORY, NO_ROOM, OK, OPENED, Status, status_of,
+};
 pub use texts::{address_in, copied, text_in};
 pub use word::Word;

@@ -7,11 +7,11 @@ ghost use Rattle.mdb_lines.specs.Script.{Spells};
 ghost use Rattle.mdb_parts.specs.declared.line_error.LineError.TheVariants.{OutOfMemory as NoMemory};
 ghost use Rattle.mdb_driver_rules.specs.Lines.{entry_after, answer_after};
 
-use crate::past::Past;
 use crate::texts::copied;
 use mdb_base::OutOfMemory;
 use mdb_lines::{LineError, read_line, write_entry};
-use mdb_log::{Act, Log, Reply, Step};
+use mdb_log::{Act, Entry, Log, Reply, Step};
+use mdb_past::{Past, Tells};
 use mdb_topology::TopologyCore;
 use std::alloc::Global;
 use std::marker::Model;
@@ -20,7 +20,7 @@ use std::marker::Model;
 #[derive(Drop)]
 pub struct Session {
     pub(crate) core: TopologyCore,
-    pub(crate) past: Past,
+    pub(crate) past: Past<Entry>,
     pub(crate) last: Log,
 }
 
@@ -35,9 +35,16 @@ impl Model for Session {
 
     ghost coded = { Prim.hlevel (codes, fields_coded) };
 
-    ghost view = { λ s. s.past.entries ++ s.last };
+    ghost view = { λ s. s.past.value ++ s.last };
 
-    ghost invariant = { λ s. Keeps s.core s.past.entries s.last };
+    ghost invariant = { λ s. Keeps s.core s.past.value s.last };
+}
+
+// The whole log.
+struct Whole;
+
+impl Tells<Session, Entry> for Whole {
+    ghost told = { λ s. s };
 }
 
 impl Session {
@@ -60,7 +67,7 @@ impl Session {
         let core = TopologyCore::open_seeds(alloc, &mut last, seat, options)?;
         Ok(Session {
             core,
-            past: Past::new(),
+            past: Past::none(),
             last,
         })
     }
@@ -83,9 +90,10 @@ impl Session {
         ensures ok { IfOk result (λ reply. (reply ≡ (answer_after self.old step.now).reply) × (self.new ≡ self.old ++ entry_after seat self.old step.now ∷ [])) }
         ensures err { OnErr result (self.new ≡ self.old) }
     {
+        let past = Past::of::<Session, Whole>(self);
         let mut log = Log::new(alloc);
         let reply = self.core.step(alloc, &mut log, seat, step)?;
-        self.past = Past::with(&self.past, &self.last);
+        self.past = past;
         self.last = log;
         Ok(reply)
     }

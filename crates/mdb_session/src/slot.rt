@@ -1,15 +1,14 @@
 //! What a program in C keeps of a driver, and what it may do with it.
-ghost use Rattle.std.specs.Prelude.{◌≡◌, ◌≢◌, ◌++◌, ◌∷◌, ◌≤◌, ◌<◌, [], ℕ, List, None, Some, Option, IfNone, IfSome, is_some, false, length, drop};
-ghost use Rattle.mdb_log.specs.declared.log.Entry.{Entry};
+ghost use Rattle.std.specs.Prelude.{◌≡◌, ◌≢◌, ◌++◌, ◌∷◌, [], None, Some, IfNone, IfSome, is_some, false};
 ghost use Rattle.mdb_log.specs.declared.step.Step.{Step};
 ghost use Rattle.mdb_lines.specs.Script.{Spells};
 ghost use Rattle.mdb_driver_rules.specs.Lines.{entry_after};
-ghost use Rattle.mdb_session.specs.Sessions.{IsLastText, IsStepped};
+ghost use Rattle.mdb_session.specs.Sessions.{IsStepped};
 
 use crate::loose::Loose;
 use crate::numbers::{ReplyNumbers, numbers_of};
 use crate::session::Session;
-use crate::status::{CLOSED, MALFORMED, NO_MEMORY, NO_ROOM, OK, OPENED, Status, status_of};
+use crate::status::{CLOSED, MALFORMED, NO_MEMORY, OK, OPENED, Status, status_of};
 use crate::word::Word;
 use std::alloc::Global;
 use std::mem::replace;
@@ -76,6 +75,7 @@ impl Slot {
         ensures other { result ≢ OK → self.new.word.value ≡ self.old.word.value }
         ensures malformed { result ≡ MALFORMED → (s : Step) → Spells 1 line.now s → ⊥ }
         ensures opened { result ≡ OPENED → self.old.word.value ≢ None }
+        ensures answers { result ≢ OK → result ≢ NO_MEMORY → result ≢ MALFORMED → result ≡ OPENED }
     {
         if self.is_open() {
             return OPENED;
@@ -105,6 +105,7 @@ impl Slot {
         ensures other { result ≢ OK → (self.new.word.value ≡ self.old.word.value) × (reply.new ≡ reply.old) }
         ensures malformed { result ≡ MALFORMED → (s : Step) → Spells 2 line.now s → ⊥ }
         ensures closed { result ≡ CLOSED → self.old.word.value ≡ None }
+        ensures answers { result ≢ OK → result ≢ NO_MEMORY → result ≢ MALFORMED → result ≡ CLOSED }
     {
         let Some(mut session) = self.take(alloc) else {
             return CLOSED;
@@ -118,30 +119,6 @@ impl Slot {
                 OK
             }
             Err(why) => status_of(why),
-        }
-    }
-
-    /// Writes the text of the last entry to the beginning of `out`, and how long it is to `needed`.
-    pub fn entry_text(&mut self, alloc: Global, out: &mut [u8], needed: &mut usize) -> Status
-        ensures ok { result ≡ OK → (log : List Entry) × (text : List ℕ) × (self.old.word.value ≡ Some log) × IsLastText log text × (needed.new ≡ length text) × (out.new ≡ text ++ drop (length text) out.old) }
-        ensures room { result ≡ NO_ROOM → (log : List Entry) × (text : List ℕ) × (self.old.word.value ≡ Some log) × IsLastText log text × (needed.new ≡ length text) × (length out.old < length text) }
-        ensures other { result ≢ OK → out.new ≡ out.old }
-        ensures same { self.new.word.value ≡ self.old.word.value }
-        ensures closed { result ≡ CLOSED → self.old.word.value ≡ None }
-    {
-        *needed = 0;
-        let Some(session) = self.take(alloc) else {
-            return CLOSED;
-        };
-        let room = out.len();
-        let told = session.entry_text(alloc, out);
-        *self = Slot::holding(session);
-        match told {
-            Ok(length) => {
-                *needed = length;
-                if length <= room { OK } else { NO_ROOM }
-            }
-            Err(_) => NO_MEMORY,
         }
     }
 

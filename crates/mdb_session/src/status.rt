@@ -1,6 +1,6 @@
 //! What a call from C answers.
 
-ghost use Rattle.std.specs.Prelude.{◌≡◌};
+ghost use Rattle.std.specs.Prelude.{◌≡◌, ◌≢◌};
 ghost use Rattle.mdb_session.specs.Answers.{status_number};
 
 use mdb_lines::LineError;
@@ -29,9 +29,13 @@ pub const OPENED: Status = 5;
 /// There is no such fact, pool, server or text.
 pub const NO_ENTRY: Status = 6;
 
+/// The records of a lookup break a rule, which the text names.
+pub const BAD_RECORDS: Status = 7;
+
 /// The status that tells of an error.
 pub fn status_of(why: LineError) -> Status
-    ensures { result ≡ status_number why }
+    ensures number { result ≡ status_number why }
+    ensures answers { result ≢ NO_MEMORY → result ≡ MALFORMED }
 {
     match why {
         LineError::OutOfMemory => NO_MEMORY,

@@ -20,6 +20,7 @@ impl Slot {
         ensures other { result ≢ OK → (self.new.word.value ≡ self.old.word.value) × (reply.new ≡ reply.old) }
         ensures formed { result ≢ MALFORMED }
         ensures closed { (result ≡ CLOSED) ↔ (self.old.word.value ≡ None) }
+        ensures answers { result ≢ OK → result ≢ NO_MEMORY → result ≡ CLOSED }
     {
         let Some(mut session) = self.take(alloc) else {
             return CLOSED;
@@ -44,6 +45,7 @@ impl Slot {
         ensures other { result ≢ OK → (self.new.word.value ≡ self.old.word.value) × (reply.new ≡ reply.old) }
         ensures formed { result ≢ MALFORMED }
         ensures closed { (result ≡ CLOSED) ↔ (self.old.word.value ≡ None) }
+        ensures answers { result ≢ OK → result ≢ NO_MEMORY → result ≡ CLOSED }
     {
         let step = Step {
             moment: at.moment,

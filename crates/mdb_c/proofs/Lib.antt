@@ -1,0 +1,3 @@
+pub mod LineLemmas
+mod Zips
+mod Names

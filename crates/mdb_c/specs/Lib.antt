@@ -1,0 +1,12 @@
+pub mod Calls
+pub mod Lines
+pub mod Checks
+pub mod Types
+pub mod Servers
+pub mod Topologies
+pub mod FactParts
+pub mod Jobs
+pub mod Giving
+pub mod Hosts
+pub mod Txt
+pub mod Rescan

@@ -1,2 +1,0 @@
-mod Zips
-mod Names

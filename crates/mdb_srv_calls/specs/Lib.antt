@@ -1,4 +1,0 @@
-pub mod Giving
-pub mod Hosts
-pub mod Txt
-pub mod Rescan
