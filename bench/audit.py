@@ -1,16 +1,18 @@
 #!/usr/bin/env python3
 """Times the auditor on logs of its own: of 1, 4 and 8 MiB, on pools of three sizes; and on texts that no core writes.
 
-usage: audit.py AUDITOR [MIB]
+usage: audit.py AUDITOR [MIB [KIND]]
 
-It builds nothing. Each log is legal: all connections of a pool are held, and then one party after another asks and waits, an
+It builds nothing but `bench/colliding.c`, by cc. Of the texts only those are run whose names have KIND, where it is given. Each log is legal: all connections of a pool are held, and then one party after another asks and waits, an
 earlier one returns its connection, and the next is granted it. The other texts, of 8 MiB or of MIB, are legal too, but nobody's
 logs: much of what they say concerns all that was said before, as when a party that took thousands of connections pins them, gives
-up, or ends again and again. Each run is made three times, and the best is taken; the time is of the whole run, with the start of
+up, or ends again and again; or whose numbers collide in a table that hashes with a fixed seed. Each run is made three times, and the best is taken; the time is of the whole run, with the start of
 the process.
 """
 import os
+import subprocess
 import sys
+import tempfile
 sys.dont_write_bytecode = True
 sys.path.insert(0, os.path.dirname(os.path.abspath(__file__)))
 from bench import SERVICE, timed
@@ -111,6 +113,26 @@ def weighed(size):
     return "".join([SHORT] + [kept(n) for n in range(1, side + 1)] + unpins + ["pin 1 1 | Done\ngiveup 1 1 | Done\n" * side])[:size].rsplit("\n", 1)[0] + "\n"
 
 
+def colliding(size):
+    """A party that takes connections whose keys begin at one place of a table, 120,000 of them in 8 MiB, and then unpins of the last."""
+    count = size * 120_000 // (8 * 1_048_576)
+    with tempfile.TemporaryDirectory() as folder:
+        finder = os.path.join(folder, "colliding")
+        subprocess.run(["cc", "-O2", "-o", finder, os.path.join(os.path.dirname(os.path.abspath(__file__)), "colliding.c")], check=True)
+        ids = subprocess.run([finder, str(count)], check=True, capture_output=True, text=True).stdout.split()
+    takes = SHORT + "".join(f"take 1 1 0 {n} | Done\n" for n in ids)
+    unpin = f"unpin 1 0 {ids[-1]} | Done\n"
+    return takes + unpin * ((size - len(takes)) // len(unpin))
+
+
+def plain(size):
+    """The same with the ids from 1 on."""
+    count = size * 120_000 // (8 * 1_048_576)
+    takes = SHORT + "".join(f"take 1 1 0 {n} | Done\n" for n in range(1, count + 1))
+    unpin = f"unpin 1 0 {count} | Done\n"
+    return takes + unpin * ((size - len(takes)) // len(unpin))
+
+
 def shared(n):
     return f"take 1 {n} 0 1 | Done\n"
 
@@ -135,6 +157,8 @@ KINDS = (
     ("openings of one number, its closings", lambda size: openings(size, lambda n: f" | Opened 1 b{n}:1", lambda n, m: f"{IDLE} | Pool 1 PoolClosed a:1\n")),
     ("requests at no pool, their ends", lambda size: lines(size, lambda n: f"request 1 {n} b:1 | Waiting\n", lambda n, m: f"{IDLE} | Ended {n % m + 1} Closed\n")),
     ("one entry of facts", lambda size: facts(size, lambda n: IDLE + "\n", lambda n, m: " | CheckNow a:1")),
+    ("connections that collide where a seed is fixed", colliding),
+    ("the same with other ids", plain),
     ("short lines", lambda size: lines(size, lambda n: IDLE + "\n", lambda n, m: "stop 1 | Done\n")),
 )
 
@@ -149,20 +173,28 @@ def measured(program, text):
 
 
 def main():
-    if len(sys.argv) not in (2, 3):
+    if len(sys.argv) not in (2, 3, 4) or sys.argv[1].startswith("-"):
         raise SystemExit(__doc__)
     program = os.path.abspath(sys.argv[1])
-    most_bytes = int(sys.argv[2]) if len(sys.argv) == 3 else max(MIB)
+    most_bytes = int(sys.argv[2]) if len(sys.argv) > 2 else max(MIB)
+    kind = sys.argv[3] if len(sys.argv) > 3 else None
+    if kind is None:
+        of_logs(program)
+    print(f"{'a text of ' + str(most_bytes) + ' MiB':<58} {'entries':>8} {'seconds':>8} {'MB':>7}")
+    for name, make in KINDS:
+        if kind is None or kind in name:
+            entries, seconds, most_size = measured(program, make(most_bytes * 1_048_576).encode())
+            print(f"{name:<58} {entries:>8} {seconds:>8.2f} {most_size:>7.1f}", flush=True)
+
+
+def of_logs(program):
+    """Prints the lines of legal logs, of pools of three sizes."""
     print(f"{'max':>5} {'MiB':>4} {'entries':>8} {'seconds':>8} {'entries/s':>10} {'MB':>7}")
     for most in SIZES:
         for size in MIB:
             text = log(most, size * 1_048_576)
             entries, seconds, most_size = measured(program, text)
             print(f"{most:>5} {size:>4} {entries:>8} {seconds:>8.2f} {entries / seconds:>10.0f} {most_size:>7.1f}")
-    print(f"{'a text of ' + str(most_bytes) + ' MiB':<58} {'entries':>8} {'seconds':>8} {'MB':>7}")
-    for name, make in KINDS:
-        entries, seconds, most_size = measured(program, make(most_bytes * 1_048_576).encode())
-        print(f"{name:<58} {entries:>8} {seconds:>8.2f} {most_size:>7.1f}", flush=True)
 
 
 if __name__ == "__main__":

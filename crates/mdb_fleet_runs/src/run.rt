@@ -2,6 +2,7 @@
 
 ghost use Rattle.std.specs.Prelude.{◌≡◌, ◌+◌, ◌≤◌, ◌<◌, [], ◌∷◌, ℕ, List, IfOk, IfErr, OnOk, MatchResult, length, Some, string_bytes};
 ghost use Rattle.mdb_base.specs.Outside.{Rose};
+ghost use Rattle.mdb_lines.specs.Loops.{ReadsFew};
 ghost use Rattle.mdb_lines.specs.declared.run_error.RunError.TheVariants.{OutOfMemory as NoMemory, Malformed, TooLong};
 ghost use Rattle.mdb_fleets.specs.ReplicaSet.{new_set};
 ghost use Rattle.mdb_fleet_runs.specs.declared.event.Event.{Event as EventRecord};
@@ -128,6 +129,7 @@ fn run<S: Source, K: Sink>(alloc: Global, source: &mut S, sink: &mut K) -> Resul
     ensures ended { IfErr result (Ended
         (record { left = S.left source.old; reads = S.faults source.old; held = K.held sink.old; writes = K.faults sink.old })
         (record { left = S.left source.new; reads = S.faults source.new; held = K.held sink.new; writes = K.faults sink.new })) }
+    ensures few { ReadsFew MAX_INPUT (S.left source.old) (S.left source.new) (S.calls source.old) (S.calls source.new) }
 {
     let input = match read_all(alloc, source, MAX_INPUT) {
         Ok(input) => input,
@@ -160,6 +162,9 @@ pub fn run_fleet<S: Source, K: Sink>(
     ensures ended { IfErr result (Ended
         (record { left = S.left source.old; reads = S.faults source.old; held = K.held sink.old; writes = K.faults sink.old })
         (record { left = S.left source.new; reads = S.faults source.new; held = K.held sink.new; writes = K.faults sink.new })) }
+
+    // The source is read at most once more than there are bytes, and at most 131,073 times.
+    ensures few { ReadsFew MAX_INPUT (S.left source.old) (S.left source.new) (S.calls source.old) (S.calls source.new) }
 
     // A run is run to its end where nothing fails, unless memory runs out.
     ensures complete { (input : List ℕ) (n : ℕ) (events : List EventRecord) → S.left source.old ≡ Some input → length input ≤ MAX_INPUT → Begins input n events []

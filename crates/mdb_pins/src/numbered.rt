@@ -5,12 +5,12 @@ ghost use Rattle.mdb_pins.specs.Numbered.{of_number};
 
 use mdb_base::OutOfMemory;
 use std::alloc::Global;
-use std::collections::HashMap;
+use std::collections::BTreeMap;
 
 /// A value for each number, the same one where none was set.
 #[derive(Drop)]
 pub struct Numbered<V: Copy> {
-    pub map: HashMap<u64, V>,
+    pub map: BTreeMap<u64, V>,
     pub none: V,
 }
 
@@ -20,7 +20,7 @@ impl<V: Copy> Numbered<V> {
         ensures { (n : ℕ) → of_number result n ≡ none }
     {
         Numbered {
-            map: HashMap::new(alloc),
+            map: BTreeMap::new(alloc),
             none,
         }
     }

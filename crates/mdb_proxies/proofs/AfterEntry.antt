@@ -7,7 +7,8 @@ use Rattle.mdb_proxies.specs.declared.asked.Asked.{Asked}
 use Rattle.mdb_proxies.specs.declared.asked.Standing.{Standing}
 use Rattle.mdb_proxies.specs.declared.books.Fate.TheVariants.{Stays, Charged, Gone}
 use Rattle.mdb_proxies.specs.Charge.{requests, ends, settles, is_requested, is_charged, since, is_at, charge}
-use Rattle.mdb_proxies.specs.Tables.{charge_in, fated, after_entry, standing_of, standing_if, standings, AreMade}
+use Rattle.mdb_proxies.specs.Standings.{charge_in}
+use Rattle.mdb_proxies.specs.Tables.{fated, after_entry, standing_of, standing_if, standings, AreMade}
 use Rattle.mdb_proxies.proofs.Logged.{since-more, requested-more, charged-more, unrequested, request-no-return}
 
 -- what an entry makes of an ask that was requested (h) and charged (c), by what it is: the request (q), refused (f), an end (n), settling (s)

@@ -16,7 +16,8 @@ use Rattle.mdb_proxies.specs.Charge.{requests, is_requested, since, is_at, is_he
 use Rattle.mdb_proxies.specs.Shares.{share_of}
 use Rattle.mdb_proxies.specs.Passing.{is_passed}
 use Rattle.mdb_proxies.specs.View.{KeepsShares}
-use Rattle.mdb_proxies.specs.Tables.{charge_in, may_go, some_may_go, standing_if, standings, is_fresh, place_of, Sound}
+use Rattle.mdb_proxies.specs.Standings.{charge_in}
+use Rattle.mdb_proxies.specs.Tables.{may_go, some_may_go, standing_if, standings, is_fresh, place_of, Sound}
 use Rattle.mdb_proxies.proofs.AfterEntry.{charge-is}
 use Rattle.mdb_proxies.proofs.Bools.{left, right, first, rest, other}
 use Rattle.mdb_proxies.proofs.Within.{same-address}

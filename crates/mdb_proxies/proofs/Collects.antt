@@ -19,7 +19,8 @@ use Rattle.mdb_proxies.specs.Entries.{GoesOn, Enters}
 use Rattle.mdb_proxies.specs.Telling.{tells, ask_of, kept_reply, tell, worth_keeping}
 use Rattle.mdb_proxies.specs.Recording.{Begun, SameAsks, told_at, tell_at}
 use Rattle.mdb_proxies.specs.Replies.{Replies, Performs, is_collectable, is_held_off, found, kept_for, core_step, tell_if, new_ask}
-use Rattle.mdb_proxies.specs.Tables.{KeptBy, NotedBy, AreMade, blank, note_of, place_of, held_at, is_off_in, standing_if, standings}
+use Rattle.mdb_proxies.specs.Standings.{held_at}
+use Rattle.mdb_proxies.specs.Tables.{KeptBy, NotedBy, AreMade, blank, note_of, place_of, is_off_in, standing_if, standings}
 use Rattle.mdb_proxies.proofs.AfterEntry.{charge-is}
 use Rattle.mdb_proxies.specs.declared.asked.Note.{Note}
 use Rattle.mdb_proxies.proofs.Telling.{same_asks}

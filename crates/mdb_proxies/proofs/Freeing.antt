@@ -15,7 +15,8 @@ use Rattle.mdb_proxies.specs.declared.freed.Freed.{Freed}
 use Rattle.mdb_proxies.specs.declared.freed.Freed.TheVariants.{Nowhere, At, Anywhere}
 use Rattle.mdb_proxies.specs.Charge.{requests}
 use Rattle.mdb_proxies.specs.Shares.{share_of}
-use Rattle.mdb_proxies.specs.Tables.{standing_at, charged_at, held_at, charge_in, may_go, some_may_go, sooner_in, next_in, IsBest, fate_of, fated, after_entry, is_freed, KeepsCharge, goes_elsewhere, IsOnly}
+use Rattle.mdb_proxies.specs.Standings.{standing_at, charged_at, held_at, charge_in}
+use Rattle.mdb_proxies.specs.Tables.{may_go, some_may_go, sooner_in, next_in, IsBest, fate_of, fated, after_entry, is_freed, KeepsCharge, goes_elsewhere, IsOnly}
 use Rattle.mdb_proxies.proofs.Bools.{left, right, first, rest, other, both}
 use Rattle.mdb_proxies.proofs.Within.{standing-is, charge-append, after_entry-append, handed-fate}
 use Rattle.mdb_proxies.proofs.Numbers.{around}

@@ -14,7 +14,8 @@ use Rattle.mdb_proxies.specs.declared.asked.Standing.{Standing}
 use Rattle.mdb_proxies.specs.Charge.{requests}
 use Rattle.mdb_proxies.specs.Shares.{share_of}
 use Rattle.mdb_proxies.specs.Handing.{Entered, IsRequestAt}
-use Rattle.mdb_proxies.specs.Tables.{standing_at, held_at, charge_in, held_in, may_go, some_may_go, after_entry, AreWithin, Keeps, is_off_in}
+use Rattle.mdb_proxies.specs.Standings.{standing_at, held_at, charge_in}
+use Rattle.mdb_proxies.specs.Tables.{held_in, may_go, some_may_go, after_entry, AreWithin, Keeps, is_off_in}
 use Rattle.mdb_proxies.proofs.Bools.{left, right, first, rest, other}
 use Rattle.mdb_proxies.proofs.Within.{NoneRequested, SingleStandings, handed-within, handed-fewer, standing-is, charge-append, held-uncharged}
 use Rattle.mdb_proxies.proofs.Numbers.{free-none, split-free, single-standings, around}

@@ -9,6 +9,7 @@ pub mod Noted
 pub mod Places
 pub mod Entering
 pub mod Hands
+pub mod Counts
 pub mod Freeing
 pub mod Charges
 pub mod AfterEntryLoop

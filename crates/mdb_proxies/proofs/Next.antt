@@ -14,7 +14,8 @@ use Rattle.mdb_proxies.specs.Charge.{charge, is_requested, counts, since, sooner
 use Rattle.mdb_proxies.specs.Entries.{request_at, next_request}
 use Rattle.mdb_proxies.specs.Handing.{IsRequestAt}
 use Rattle.mdb_proxies.specs.Recording.{SameAsks}
-use Rattle.mdb_proxies.specs.Tables.{charge_in, may_go, some_may_go, sooner_in, next_in, IsBest, standing_of, standing_if, standings}
+use Rattle.mdb_proxies.specs.Standings.{charge_in}
+use Rattle.mdb_proxies.specs.Tables.{may_go, some_may_go, sooner_in, next_in, IsBest, standing_of, standing_if, standings}
 use Rattle.mdb_proxies.proofs.AfterEntry.{charge-is}
 use Rattle.mdb_proxies.proofs.Telling.{standings-same}
 

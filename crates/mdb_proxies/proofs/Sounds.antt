@@ -166,6 +166,13 @@ held-behind false now shares os old new o h e k off g =
     let p : (now ≡ false) × (new ≡ old) = h.1 refl in
     p.0 ∙ sym (ap (some_may_go shares) (p.1 ∙ e) ∙ off-stays shares os o k off g)
 
+-- where nothing lagged, nothing does
+pub caught : (was now : Bool) (shares : List ℕ) (old new : Books) → (was ≡ true → now ≡ some_may_go shares new.standing.items) × (was ≡ false → (now ≡ false) × (new ≡ old)) → was ≡ some_may_go shares old.standing.items → now ≡ some_may_go shares new.standing.items
+caught true now shares old new h g = h.0 refl
+caught false now shares old new h g =
+    let p : (now ≡ false) × (new ≡ old) = h.1 refl in
+    p.0 ∙ g ∙ ap (λ (b : Books). some_may_go shares b.standing.items) (sym p.1)
+
 -- a refused entry leaves it as it was
 pub rests : (r refused behind : Bool) (shares : List ℕ) (os ps : List Standing) → not r ≡ false → r ≡ refused → (refused ≡ true → ps ≡ os) → behind ≡ some_may_go shares os → behind ≡ some_may_go shares ps
 rests true refused behind shares os ps g e k h = h ∙ ap (some_may_go shares) (sym (k (sym e)))

@@ -12,7 +12,8 @@ use Rattle.mdb_proxies.specs.declared.books.Fate.TheVariants.{Stays, Charged, Go
 use Rattle.mdb_proxies.specs.Shares.{share_of}
 use Rattle.mdb_proxies.specs.Charge.{requests, ends, settles}
 use Rattle.mdb_proxies.proofs.Bools.{left, right}
-use Rattle.mdb_proxies.specs.Tables.{standing_at, charged_at, charge_in, held_in, may_go, fate_of, fated, after_entry, AreWithin}
+use Rattle.mdb_proxies.specs.Standings.{standing_at, charged_at, charge_in}
+use Rattle.mdb_proxies.specs.Tables.{held_in, may_go, fate_of, fated, after_entry, AreWithin}
 
 -- ---- entries that are none of the requests of the standing asks
 

@@ -1,6 +1,7 @@
 pub mod Shares
 pub mod Charge
 pub mod Telling
+pub mod Standings
 pub mod Entries
 pub mod Tables
 pub mod Order

@@ -2,7 +2,6 @@
 use Rattle.std.specs.Prelude.{◌≡◌, ℕ, ◌+◌, ◌≤◌, ◌<◌, Bool, true, false, not, ◌&&◌, ◌||◌, if◌then◌else◌, ◌==◌, nat_eq, nat_lt, nat_le, List, [], ◌∷◌, length, Option, Some, None, is_some, option_map, ⊤, zero, suc}
 use Rattle.std.specs.List.{list_any, HoldsAt}
 use Rattle.std.specs.HashMap.{get}
-use Rattle.mdb_base.specs.Equality.{same_address}
 use Rattle.mdb_base.specs.declared.address.ServerAddress.{ServerAddress}
 use Rattle.mdb_log.specs.declared.step.Act.{Act}
 use Rattle.mdb_log.specs.declared.step.Act.TheVariants.{Request, Return}
@@ -17,24 +16,11 @@ use Rattle.mdb_proxies.specs.declared.books.Fate.TheVariants.{Stays, Charged, Go
 use Rattle.mdb_proxies.specs.declared.freed.Freed.{Freed}
 use Rattle.mdb_proxies.specs.declared.freed.Freed.TheVariants.{Nowhere, At, Anywhere}
 use Rattle.mdb_proxies.specs.Shares.{share_of}
+use Rattle.mdb_proxies.specs.Standings.{standing_at, held_at, charge_in}
 use Rattle.mdb_proxies.specs.Charge.{requests, ends, settles, since, is_held, counts}
 use Rattle.mdb_proxies.specs.Telling.{is_finished}
 
 -- ---- the standing asks
-
-abbrev pub standing_at : ℕ → ServerAddress → Standing → Bool
-standing_at t a o = (o.tenant == t) && same_address o.address a
-
-abbrev pub charged_at : ℕ → ServerAddress → Standing → Bool
-charged_at t a o = standing_at t a o && not o.held
-
-abbrev pub held_at : ℕ → ServerAddress → Standing → Bool
-held_at t a o = standing_at t a o && o.held
-
--- the charge, by the standing asks
-abbrev pub charge_in : List Standing → ℕ → ServerAddress → ℕ
-charge_in [] t a = 0
-charge_in (o ∷ os) t a = if charged_at t a o then 1 + charge_in os t a else charge_in os t a
 
 -- how many of the standing asks are held back
 abbrev pub held_in : List Standing → ℕ

@@ -1,15 +1,16 @@
 //! The books of a proxy: all asks in their order, those that are standing, and where each stands by its number.
 
-ghost use Rattle.std.specs.Prelude.{◌≡◌, ◌<◌, ◌++◌, ◌∷◌, [], List, false, not, ◌||◌, length, IfSome};
+ghost use Rattle.std.specs.Prelude.{◌≡◌, ◌<◌, ◌++◌, ◌∷◌, [], List, false, not, ◌&&◌, ◌||◌, nat_lt, length, get_or, IfSome};
 ghost use Rattle.std.specs.List.{list_any, HoldsAt};
 ghost use Rattle.mdb_log.specs.Driver.{is_refusal};
 ghost use Rattle.mdb_proxies.specs.Shares.{share_of};
 ghost use Rattle.mdb_proxies.specs.Charge.{requests, returns, is_end, ends, settles};
 ghost use Rattle.mdb_proxies.specs.declared.asked.Standing.{Standing as StandingRecord};
-ghost use Rattle.mdb_proxies.specs.Tables.{charged_at, held_at, charge_in, may_go, IsBest, fate_of, after_entry, KeepsCharge};
+ghost use Rattle.mdb_proxies.specs.Standings.{standing_at, charged_at, held_at, charge_in, AreCounted};
+ghost use Rattle.mdb_proxies.specs.Tables.{IsBest, fate_of};
 
 use crate::asked::{Asked, Note, Standing};
-use crate::freed::Freed;
+use crate::standings::StandingAsks;
 use mdb_base::ServerAddress;
 use mdb_events::Fact;
 use mdb_log::{Act, Entry, Reply};
@@ -19,7 +20,7 @@ use std::collections::HashMap;
 pub struct Books {
     pub asks: Vec<Asked>,
     // Those that are held back or charged, in the order of the asks.
-    pub standing: Vec<Standing>,
+    pub standing: StandingAsks,
     // What became of each, in the order of the asks.
     pub notes: Vec<Note>,
     // The place of an ask in the list of all, by its number.
@@ -34,16 +35,22 @@ pub enum Fate {
     Gone,
 }
 
+pub fn is_standing_at(standing: &Standing, tenant: u32, address: &ServerAddress) -> bool
+    ensures { result ≡ standing_at tenant address.now standing.now }
+{
+    standing.tenant == tenant && standing.address.is(address)
+}
+
 fn is_charged_at(standing: &Standing, tenant: u32, address: &ServerAddress) -> bool
     ensures { result ≡ charged_at tenant address.now standing.now }
 {
-    standing.tenant == tenant && standing.address.is(address) && !standing.held
+    is_standing_at(standing, tenant, address) && !standing.held
 }
 
 pub fn is_held_at(standing: &Standing, tenant: u32, address: &ServerAddress) -> bool
     ensures { result ≡ held_at tenant address.now standing.now }
 {
-    standing.tenant == tenant && standing.address.is(address) && standing.held
+    is_standing_at(standing, tenant, address) && standing.held
 }
 
 // How many of the tenant's asks at the address are charged.
@@ -72,14 +79,30 @@ pub fn share_of(shares: &[u32], tenant: u32) -> usize
     }
 }
 
-fn may_go(shares: &[u32], standing: &[Standing], one: &Standing) -> bool
-    ensures { result ≡ may_go shares.now standing.now one.now }
+// The ask may be handed on, where its tenant has this charge at its address.
+fn may_go(shares: &[u32], one: &Standing, charge: usize) -> bool
+    ensures { result ≡ (one.now.held && nat_lt charge (share_of shares.now one.now.tenant)) }
 {
-    one.held && charge(standing, one.tenant, &one.address) < share_of(shares, one.tenant)
+    one.held && charge < share_of(shares, one.tenant)
+}
+
+// The charge that is counted beside the ask at this place.
+fn count_at(charges: &[usize], at: usize) -> usize
+    requires { at < length charges.now }
+    ensures { result ≡ get_or charges.now at result }
+{
+    charges[at]
 }
 
 // The better of the best place so far and of one more: where the ask there may go, and its tenant has a lesser number.
-fn better(shares: &[u32], standing: &[Standing], best: Option<usize>, at: usize) -> Option<usize>
+fn better(
+    shares: &[u32],
+    standing: &[Standing],
+    charges: &[usize],
+    best: Option<usize>,
+    at: usize,
+) -> Option<usize>
+    requires counted { AreCounted standing.now charges.now }
     requires at { at < length standing.now }
     requires best { IfSome best (λ b. b < length standing.now) }
     ensures { HoldsAt (λ o. (ps : List StandingRecord) → IsBest shares.now standing.now ps best → IsBest shares.now standing.now (ps ++ o ∷ []) result) standing.now at }
@@ -93,7 +116,8 @@ fn better(shares: &[u32], standing: &[Standing], best: Option<usize>, at: usize)
         }
         None => {}
     }
-    if may_go(shares, standing, one) {
+    let charge = count_at(charges, at);
+    if may_go(shares, one, charge) {
         Some(at)
     } else {
         best
@@ -101,12 +125,13 @@ fn better(shares: &[u32], standing: &[Standing], best: Option<usize>, at: usize)
 }
 
 // The place of the next standing ask to hand on: the first one of the tenant with the least number.
-pub fn best_of_all(shares: &[u32], standing: &[Standing]) -> Option<usize>
+pub fn best_of_all(shares: &[u32], standing: &[Standing], charges: &[usize]) -> Option<usize>
+    requires { AreCounted standing.now charges.now }
     ensures { IsBest shares.now standing.now standing.now result }
 {
     let mut best: Option<usize> = None;
     for at in 0..standing.len() {
-        best = better(shares, standing, best, at);
+        best = better(shares, standing, charges, best, at);
     }
     best
 }
@@ -160,7 +185,7 @@ fn is_settled_by(entry: &Entry, request: u32) -> bool
         && (is_return_of(&entry.step.act, request) || is_ended_by(entry.facts.as_slice(), request))
 }
 
-fn fate_by(standing: &Standing, entry: &Entry) -> Fate
+pub fn fate_by(standing: &Standing, entry: &Entry) -> Fate
     ensures { result ≡ fate_of entry.now standing.now }
 {
     let request = standing.request;
@@ -178,27 +203,4 @@ fn fate_by(standing: &Standing, entry: &Entry) -> Fate
     } else {
         Fate::Charged
     }
-}
-
-// What the newest entry makes of the standing asks, and where it frees some of a share.
-pub fn take_entry(standing: &mut Vec<Standing>, entry: &Entry) -> Freed
-    ensures after_entry { standing.new.items ≡ after_entry entry.now standing.old.items }
-    ensures freed { KeepsCharge result standing.old.items standing.new.items }
-{
-    let mut freed = Freed::Nowhere;
-    let mut at = 0;
-    while at < standing.len() {
-        match fate_by(&standing[at], entry) {
-            Fate::Stays => at += 1,
-            Fate::Charged => {
-                standing[at].held = false;
-                at += 1;
-            }
-            Fate::Gone => {
-                let gone = standing.remove(at);
-                freed = freed.and_gone(gone);
-            }
-        }
-    }
-    freed
 }

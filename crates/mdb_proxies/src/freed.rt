@@ -3,10 +3,12 @@
 ghost use Rattle.std.specs.Prelude.{◌≡◌, ℕ, true, false, position, if◌then◌else◌};
 ghost use Rattle.mdb_base.specs.declared.address.ServerAddress.{ServerAddress as AddressRecord};
 ghost use Rattle.mdb_proxies.specs.declared.freed.Freed.TheVariants.{Nowhere as IsNowhere, At as IsAt, Anywhere as IsAnywhere};
-ghost use Rattle.mdb_proxies.specs.Tables.{charged_at, held_at, is_freed, IsOnly, IsBest};
+ghost use Rattle.mdb_proxies.specs.Standings.{charged_at, held_at};
+ghost use Rattle.mdb_proxies.specs.Tables.{is_freed, IsOnly, IsBest};
 
 use crate::asked::Standing;
-use crate::books::{best_of_all, charge, is_held_at, share_of};
+use crate::books::{charge, is_held_at, share_of};
+use crate::standings::StandingAsks;
 
 // Where charges fell: nowhere, at the tenant and address of one ask that is gone, or anywhere.
 #[derive(Drop)]
@@ -87,13 +89,13 @@ fn next_at(shares: &[u32], standing: &[Standing], one: &Standing) -> Option<usiz
 }
 
 // The place of the next standing ask to hand on, where only those may go that stand where it was freed.
-pub fn next(shares: &[u32], standing: &[Standing], freed: &Freed) -> Option<usize>
-    requires { IsOnly shares.now standing.now freed.now }
-    ensures { IsBest shares.now standing.now standing.now result }
+pub fn next(shares: &[u32], standing: &StandingAsks, freed: &Freed) -> Option<usize>
+    requires { IsOnly shares.now standing.now.items freed.now }
+    ensures { IsBest shares.now standing.now.items standing.now.items result }
 {
     match freed {
         Freed::Nowhere => None,
-        Freed::At(one) => next_at(shares, standing, one),
-        Freed::Anywhere => best_of_all(shares, standing),
+        Freed::At(one) => next_at(shares, standing.as_slice(), one),
+        Freed::Anywhere => standing.best(shares),
     }
 }

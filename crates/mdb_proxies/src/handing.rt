@@ -94,7 +94,7 @@ fn hand_on<C: Core>(
     ensures freed { IfOk result (λ r. KeepsCharge r.1 books.old.standing.items books.new.standing.items) }
     ensures err { OnErr result ((log.new ≡ log.old) × (books.new ≡ books.old)) }
 {
-    let one = &books.standing[at];
+    let one = &books.standing.as_slice()[at];
     let request = one.request;
     let address = one.address.clone()?;
     let step = Step {
@@ -123,11 +123,7 @@ impl<C: Core> ProxyState<C> {
     {
         let mut some = false;
         let mut freed = freed;
-        while let Some(at) = next(
-            self.shares.as_slice(),
-            self.books.standing.as_slice(),
-            &freed,
-        ) {
+        while let Some(at) = next(self.shares.as_slice(), &self.books.standing, &freed) {
             let handed = hand_on(
                 &mut self.core,
                 &mut self.log,
@@ -246,7 +242,7 @@ impl<C: Core> ProxyState<C> {
         ensures freed { IfOk result (λ r. KeepsCharge r.1 self.old.books.standing.items self.new.books.standing.items) }
         ensures err { OnErr result ((self.new.log ≡ self.old.log) × (self.new.books ≡ self.old.books)) }
     {
-        let at = self.books.standing.len() - 1;
+        let at = self.books.standing.as_slice().len() - 1;
         hand_on(
             &mut self.core,
             &mut self.log,

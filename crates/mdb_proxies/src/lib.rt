@@ -12,6 +12,7 @@ mod passed;
 mod proxy;
 mod recording;
 mod shares;
+mod standings;
 mod step;
 mod told;
 

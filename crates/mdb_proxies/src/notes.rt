@@ -5,7 +5,7 @@ ghost use Rattle.std.specs.HashMap.{get};
 ghost use Rattle.mdb_proxies.specs.Tables.{handed_at, taken_back, noted_at, noted, after_entry, KeepsCharge};
 
 use crate::asked::Note;
-use crate::books::{Books, is_refused, take_entry};
+use crate::books::{Books, is_refused};
 use crate::freed::Freed;
 use mdb_log::{Act, Entry};
 
@@ -97,6 +97,6 @@ impl Books {
         ensures freed { KeepsCharge result self.old.standing.items self.new.standing.items }
     {
         self.note(entry, at);
-        take_entry(&mut self.standing, entry)
+        self.standing.take_entry(entry)
     }
 }

@@ -22,7 +22,8 @@ use std::alloc::Global;
 use std::marker::Model;
 
 /// A core behind shares. A tenant's ask is handed to the core as a request while fewer of the tenant's requests than its share stand at the
-/// address, and is held back otherwise. So no tenant waits because of the connections of another.
+/// address, and is held back otherwise. So no tenant waits because another holds connections: over a driver one waits only for connections that
+/// are being established, or for ids that are used up.
 #[derive(Drop)]
 pub struct Proxy<C: Core> {
     parts: ProxyState<C>,

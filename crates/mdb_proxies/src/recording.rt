@@ -11,6 +11,7 @@ ghost use Rattle.mdb_proxies.specs.Tables.{standing_of, blank};
 
 use crate::asked::{Asked, Note, Standing};
 use crate::books::Books;
+use crate::standings::StandingAsks;
 use mdb_base::OutOfMemory;
 use std::alloc::Global;
 use std::collections::HashMap;
@@ -24,7 +25,7 @@ impl Books {
     {
         Books {
             asks: Vec::new(alloc),
-            standing: Vec::new(alloc),
+            standing: StandingAsks::new(alloc),
             notes: Vec::new(alloc),
             known: HashMap::new(alloc),
         }
@@ -44,11 +45,13 @@ impl Books {
             address: ask.address.clone()?,
             held: true,
         };
-        self.standing.reserve(1)?;
         self.asks.reserve(1)?;
         self.notes.reserve(1)?;
-        self.known.insert(ask.request, self.asks.len())?;
-        self.standing.push_reserved(one);
+        self.standing.push(one)?;
+        if self.known.insert(ask.request, self.asks.len()).is_err() {
+            self.standing.pop();
+            return Err(OutOfMemory);
+        }
         self.asks.push_reserved(ask);
         self.notes.push_reserved(Note {
             handed: None,

@@ -4,6 +4,7 @@ pub mod Covered
 pub mod Facts
 pub mod Given
 pub mod GivenTo
+pub mod Keys
 pub mod Lent
 pub mod Noted
 pub mod Parties

@@ -5,7 +5,7 @@ ghost use Rattle.mdb_tallies.specs.Tables.{at, same_key};
 
 use mdb_base::OutOfMemory;
 use std::alloc::Global;
-use std::collections::HashMap;
+use std::collections::BTreeMap;
 
 /// The numbers by which a value is named; those that are not needed are 0.
 pub type Key = (u32, u32, u32);
@@ -13,7 +13,7 @@ pub type Key = (u32, u32, u32);
 /// A value for each key, the same one where none was set.
 #[derive(Drop)]
 pub struct DefaultMap<V: Copy> {
-    pub map: HashMap<Key, V>,
+    pub map: BTreeMap<Key, V>,
     pub none: V,
 }
 
@@ -23,7 +23,7 @@ impl<V: Copy> DefaultMap<V> {
         ensures { (a b c : ℕ) → at result a b c ≡ none }
     {
         DefaultMap {
-            map: HashMap::new(alloc),
+            map: BTreeMap::new(alloc),
             none,
         }
     }

@@ -1,6 +1,7 @@
-use Rattle.std.proofs.Common.{◌≡◌, ◌≤◌, ◌<◌, sym, ◌∙◌, subst}
+use Rattle.std.proofs.Common.{◌≡◌, ℕ, ◌≤◌, ◌<◌, sym, ◌∙◌, subst}
 use Rattle.mdb_proxies.specs.declared.asked.Standing.{Standing}
 use Rattle.mdb_proxies.proofs.Next.{at-any, best-same, best-stays, best-first, best-begins}
+use Rattle.mdb_proxies.proofs.Counts.{count-at, may-goes, many}
 use Rattle.mdb_proxies.proofs.books.better.Goals as goal
 use Rattle.mdb_proxies.proofs.books.better.Goals.{in-Some+else-standing-best, in-None}
 
@@ -17,7 +18,7 @@ returns-then-may_go c = λ d ps b.
     let os = c.args.standing.now in
     let one = c.index-standing-at.result in
     let here = at-any os c.args.at one c.requires.at c.index-standing-at.is in
-    let goes = sym c.may_go.ensures ∙ c.if-may_go.true in
+    let goes = may-goes c.args.shares.now os one c.count_at-charge.result _ (count-at os c.args.charges.now c.args.at one c.count_at-charge.result c.requires.counted c.requires.at c.index-standing-at.is c.count_at-charge.ensures) (sym c.may_go.ensures ∙ c.if-may_go.true) in
     rw (here d)
     (elim c.match-best.branch [
       | in-Some+else-standing-best w ↦ best-first c.args.shares.now os ps one w.index-standing-best.result w.in-Some.best c.args.at c.requires.at here
@@ -30,4 +31,7 @@ returns-else-may_go c = λ d ps b.
     let os = c.args.standing.now in
     let one = c.index-standing-at.result in
     let same : c.match-best.best ≡ c.args.best = elim c.match-best.branch [ in-Some+else-standing-best w ↦ (let e = w.best-is in let f = w.in-Some.is in cc) | in-None w ↦ (let e = w.best-is in let f = w.in-None.is in cc) ] in
-    rw (at-any os c.args.at one c.requires.at c.index-standing-at.is d, same) (best-same c.args.shares.now os ps one c.args.best (sym c.may_go.ensures ∙ c.if-may_go.false) b)
+    rw (at-any os c.args.at one c.requires.at c.index-standing-at.is d, same) (best-same c.args.shares.now os ps one c.args.best (may-goes c.args.shares.now os one c.count_at-charge.result _ (count-at os c.args.charges.now c.args.at one c.count_at-charge.result c.requires.counted c.requires.at c.index-standing-at.is c.count_at-charge.ensures) (sym c.may_go.ensures ∙ c.if-may_go.false)) b)
+
+pub count_at-charge-requires : goal.count_at-charge-requires
+count_at-charge-requires c = subst (λ (n : ℕ). c.args.at < n) (sym (many c.args.standing.now c.args.charges.now c.requires.counted)) c.requires.at

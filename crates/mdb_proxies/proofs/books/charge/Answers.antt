@@ -1,5 +1,5 @@
 use Rattle.std.proofs.Common.{◌≡◌, rules, count_by, sym, ◌∙◌}
-use Rattle.mdb_proxies.specs.Tables.{charged_at}
+use Rattle.mdb_proxies.specs.Standings.{charged_at}
 use Rattle.mdb_proxies.proofs.Counting.{charge-count}
 use Rattle.mdb_proxies.proofs.books.charge.Goals as goal
 

@@ -1,6 +1,6 @@
 use Rattle.std.proofs.Common.{◌≤◌, ◌<◌, arith}
 use Rattle.mdb_proxies.specs.Shares.{share_of}
-use Rattle.mdb_proxies.specs.Tables.{charge_in}
+use Rattle.mdb_proxies.specs.Standings.{charge_in}
 use Rattle.mdb_proxies.proofs.Freeing.{next-full, best-held, not-lt, is-lt}
 use Rattle.mdb_proxies.proofs.freed.next_at.Goals as goal
 

@@ -2,7 +2,8 @@ use Rattle.std.proofs.Common.{◌∙◌, ap, if◌then◌else◌, Some}
 use Rattle.mdb_base.specs.Equality.{same_address}
 use Rattle.mdb_judging.specs.Newest.{by_host, last_at}
 use Rattle.std.specs.Ordering.{is_eq}
-use Rattle.mdb_judging.proofs.Ranks.{same-key, cond-if}
+use Rattle.mdb_tallies.proofs.Keys.{cond-if}
+use Rattle.mdb_judging.proofs.Ranks.{same-key}
 use Rattle.mdb_judging.proofs.newest.Newest.set.Goals as goal
 
 pub returns : goal.returns

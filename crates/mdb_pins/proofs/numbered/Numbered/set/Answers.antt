@@ -1,10 +1,8 @@
-use Rattle.std.proofs.Common.{◌≡◌, ◌==◌, Bool, true, false, if◌then◌else◌, Some, Option, unwrap_or, refl, ap, ◌∙◌}
+use Rattle.std.proofs.Common.{◌==◌, unwrap_or, sym, ap, ◌∙◌}
+use Rattle.mdb_tallies.proofs.Keys.{number_eq, put}
 use Rattle.mdb_pins.proofs.numbered.Numbered.set.Goals as goal
 
--- the value that was put, or the one that stood there
-put : {V : Type 0} (b : Bool) (v : V) (o : Option V) (none : V) → unwrap_or (if b then (Some v) else o) none ≡ if b then v else unwrap_or o none
-put true v o none = refl
-put false v o none = refl
-
 pub returns : goal.returns
-returns g c = λ n. ap (λ o. unwrap_or o c.args.self.now.none) (c.in_ok-insert.ensures.updates.0 n) ∙ put (c.args.number == n) c.args.value _ c.args.self.now.none
+returns g c = λ n.
+    ap (λ o. unwrap_or o c.args.self.now.none) (c.in_ok-insert.ensures.updates.0 n)
+    ∙ put _ (c.args.number == n) c.args.value _ c.args.self.now.none (sym (number_eq c.args.number n))

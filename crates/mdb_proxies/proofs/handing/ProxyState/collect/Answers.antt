@@ -2,6 +2,7 @@ use Rattle.std.proofs.Common.{◌≡◌, ℕ, true, not, Option, is_some, sym, a
 use Rattle.mdb_proxies.specs.Charge.{is_held}
 use Rattle.mdb_proxies.proofs.Entering.{held-at}
 use Rattle.mdb_proxies.proofs.Collects.{spot, spot-handed, spot-entry, collect-held, kept-is, if-ok, released, asked-core}
+use Rattle.mdb_proxies.proofs.Sounds.{caught}
 use Rattle.mdb_proxies.proofs.handing.ProxyState.collect.Goals as goal
 
 pub returns-in_default-clause-ok : goal.returns-in_default-clause-ok
@@ -55,3 +56,10 @@ returns-in-None-clause-ok g c =
     let e = spot-entry s.log s.books c.args.request c.unwrap_or-place.result c.in-Some.at c.handed.result f c.requires.sound.keeps c.in-Some.is note in
     let k = kept-is s.log s.books c.args.request c.unwrap_or-place.result c.in-Some.at c.in_ok-kept.field-0 f e.0 c.in_ok-kept.ensures in
     if-ok c.ask_core.result (asked-core c.args.moment s.shares.items s.log c.ask_core.new.self.log s.books c.args.request c.unwrap_or-place.result c.ask_core.new.self.books.asks.items f e.1 (sym k ∙ c.in-None.is)) c.ask_core.ensures.ok
+
+pub returns-in_default-clause-behind : goal.returns-in_default-clause-behind
+returns-in_default-clause-behind g c =
+    let s = c.args.self.now in
+    let n = c.catch_up.new.self in
+    let b = c.catch_up.ensures.behind in
+    rw c.catch_up.ensures.shares (caught s.behind n.behind s.shares.items s.books n.books ((rw c.catch_up.ensures.shares at b).0, (λ f. let p = b.1 f in (p.0, p.2))) c.requires.behind)

@@ -20,7 +20,7 @@ loop-at-init g c = record {
 pub loop-at-smaller : goal.loop-at-smaller
 loop-at-smaller g c =
     let l = c.loop-at in
-    let s = rw (c.as_slice.ensures.value, c.as_slice-in-loop-at.ensures.value) at c.in-Some.ensures in
+    let s = rw c.as_slice.ensures.value at c.in-Some.ensures in
     let ok = c.in-Ok.ensures.ok in
     (hands-on l.self.shares.items l.self.log c.hand_on-handed.new.log l.self.books.standing.items c.hand_on-handed.new.books.standing.items l.self.books.asks.items (λ r. get nat_eq l.self.books.known r)
     c.args.moment c.in-Some.at ok.0 c.in-Ok.reply s.0 (best-goes l.self.shares.items l.self.books.standing.items c.in-Some.at s) ok.1 ok.2 l.invariant.sound.keeps l.invariant.sound.within).fewer
@@ -28,7 +28,7 @@ loop-at-smaller g c =
 pub loop-at-preserved : goal.loop-at-preserved
 loop-at-preserved g c =
     let l = c.loop-at in
-    let s = rw (c.as_slice.ensures.value, c.as_slice-in-loop-at.ensures.value) at c.in-Some.ensures in
+    let s = rw c.as_slice.ensures.value at c.in-Some.ensures in
     let ok = c.in-Ok.ensures.ok in
     let h = hands-on l.self.shares.items l.self.log c.hand_on-handed.new.log l.self.books.standing.items c.hand_on-handed.new.books.standing.items l.self.books.asks.items (λ r. get nat_eq l.self.books.known r)
     c.args.moment c.in-Some.at ok.0 c.in-Ok.reply s.0 (best-goes l.self.shares.items l.self.books.standing.items c.in-Some.at s) ok.1 ok.2 l.invariant.sound.keeps l.invariant.sound.within in
@@ -46,10 +46,10 @@ loop-at-preserved g c =
 pub returns-in-Err-clause-behind : goal.returns-in-Err-clause-behind
 returns-in-Err-clause-behind g c =
     let l = c.loop-at in
-    let s = rw (c.as_slice.ensures.value, c.as_slice-in-loop-at.ensures.value) at c.in-Some.ensures in
+    let s = rw c.as_slice.ensures.value at c.in-Some.ensures in
     rw c.in-Err.ensures.err.1 (sym (best-some l.self.shares.items l.self.books.standing.items c.in-Some.at s))
 
 pub returns-clause-behind : goal.returns-clause-behind
 returns-clause-behind g c =
     let l = c.loop-at in
-    sym (next-none l.self.shares.items l.self.books.standing.items l.self.books.standing.items (rw (c.as_slice.ensures.value, c.as_slice-in-loop-at.ensures.value) at c.in_default.ensures))
+    sym (next-none l.self.shares.items l.self.books.standing.items l.self.books.standing.items (rw c.as_slice.ensures.value at c.in_default.ensures))
