@@ -94,7 +94,7 @@ class Writing(threading.Thread):
 
 def play(given, log):
     """Plays the failover, and answers the status of mdb_live, what it wrote, when each command was given, and the addresses."""
-    servers = subprocess.Popen([given.python, os.path.join(HERE, 'servers.py'), 'replica', '3', '--seconds', '120'], stdin=subprocess.PIPE, stdout=subprocess.PIPE, text=True)
+    servers = subprocess.Popen([given.python, os.path.join(HERE, 'servers.py'), 'replica', '3', '--seconds', '300'], stdin=subprocess.PIPE, stdout=subprocess.PIPE, text=True)
     seeds = servers.stdout.readline().split()[1]
     commands = [*((0, 'work %d 10' % it) for it in range(3)), (0, 'elect 0'), *PLAY]
     told, writing = {}, None
@@ -110,10 +110,10 @@ def play(given, log):
             words = [given.program, uri, '100', '--load', str(given.threads), '--log', log]
             writing = Writing(subprocess.Popen(words, stdout=subprocess.PIPE, stderr=subprocess.STDOUT, text=True))
     writing.program.terminate()
-    status = writing.program.wait(30)
+    status = writing.program.wait(90)
     writing.join()
     servers.stdin.close()
-    servers.wait(10)
+    servers.wait(60)
     return status, writing, told, seeds.split(',')
 
 

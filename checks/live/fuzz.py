@@ -28,6 +28,7 @@ router, balancer = Member(fleet, 3, 'router'), Member(fleet, 4, 'balancer')
 said = [it.hello({'hello': 1, 'loadBalanced': True}, 7) for it in (*fleet.all, router, balancer)]
 said[0].update(tags={'dc': 'ny', 'rack': '1'}, passives=['B:2'], lastWrite={'opTime': 1})
 said += [fleet.all[1].other('insert'), {'ok': 1, 'writeConcernError': {'code': 91, 'errmsg': 'x', 'errorLabels': ['RetryableWriteError']}}, {'ok': 0.0, 'errmsg': 'a|b'}]
+said.append(filling(dict(said[0]), 65535))
 for at, fields in enumerate(said):
     for form, code in ((0, OP_QUERY), (1, OP_MSG)):
         flags = MORE if at % 2 and form else 0
@@ -47,7 +48,7 @@ def main():
     subprocess.run([given.python, '-c', SEEDS, HERE, seeds], check=True)
     settings = {**os.environ, 'AFL_SKIP_CPUFREQ': '1', 'AFL_NO_UI': '1', 'AFL_NO_AFFINITY': '1', 'AFL_I_DONT_CARE_ABOUT_MISSING_CRASHES': '1',
                 'ASAN_OPTIONS': 'abort_on_error=1:symbolize=0:detect_leaks=0', 'UBSAN_OPTIONS': 'abort_on_error=1:symbolize=0'}
-    words = ['afl-fuzz', '-V', str(given.seconds), '-m', 'none', '-t', '2000+', '-i', seeds, '-o', found, '--', os.path.join(LIVE, 'out', 'fuzz_wire')]
+    words = ['afl-fuzz', '-G', '200000', '-V', str(given.seconds), '-m', 'none', '-t', '2000+', '-i', seeds, '-o', found, '--', os.path.join(LIVE, 'out', 'fuzz_wire')]
     ran = subprocess.run(words, env=settings, stdin=subprocess.DEVNULL, stdout=subprocess.PIPE, stderr=subprocess.STDOUT, text=True)
     try:
         with open(os.path.join(found, 'default', 'fuzzer_stats')) as file:

@@ -16,7 +16,7 @@ import time
 sys.dont_write_bytecode = True
 from run import HERE, TOP, Servers
 
-KINDS = ['short', 'negative', 'huge', 'opcode', 'answers', 'half', 'stall', 'overlong', 'nothing', 'deep', 'garbage', 'field']
+KINDS = ['short', 'negative', 'huge', 'opcode', 'answers', 'half', 'stall', 'overlong', 'nothing', 'deep', 'garbage', 'field', 'wide']
 
 
 def main():

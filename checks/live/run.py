@@ -2,10 +2,10 @@
 """Plays scenarios of servers that fail and recover, and compares what mdb_live describes of them with what is to be described by the standard, and with what
 two other drivers describe: pymongo and the Go driver, where they are installed.
 
-usage: checks/live/run.py [--program MDB_LIVE] [--auditor MDB_AUDITOR] [--python PYTHON] [--list] [NAME ..]
+usage: checks/live/run.py [--program MDB_LIVE] [--auditor MDB_AUDITOR] [--python PYTHON] [--alone] [--list] [NAME ..]
 
 PROGRAM is examples/live/out/mdb_live where it is left out (its Makefile builds it). PYTHON is /usr/bin/python3, which has Debian's python3-bson and
-python3-pymongo; the Go witness is built with Debian's golang-go and golang-mongodb-mongo-driver-dev. After each command every view is to be the wanted one
+python3-pymongo; the Go witness is built with Debian's golang-go and golang-mongodb-mongo-driver-dev; with --alone there is no witness. After each command every view is to be the wanted one
 within 3 seconds. Where AUDITOR (crates/mdb_auditor/out/mdb_auditor) is built it judges the log of each run of mdb_live. A witness that shows another view is a failure, but for the differences that DIFFERENCES explains. Status 0 where all is well, else 1.
 """
 import argparse
@@ -48,7 +48,7 @@ class View:
         """Ends the program, and answers what was wrong with its end."""
         died = self.program.poll()
         self.program.terminate()
-        status = self.program.wait(20)
+        status = self.program.wait(60)
         self.errors.seek(0)
         told = self.errors.read()
         if self.name == 'mdb_live' and (died is not None or status != 0 or told):
@@ -57,9 +57,15 @@ class View:
 
 
 class Servers:
-    def __init__(self, python, kind, count):
-        self.program = subprocess.Popen([python, os.path.join(HERE, 'servers.py'), kind, str(count), '--seconds', '120'], stdin=subprocess.PIPE, stdout=subprocess.PIPE, text=True)
+    def __init__(self, python, kind, count, seconds=120):
+        self.program = subprocess.Popen([python, os.path.join(HERE, 'servers.py'), kind, str(count), '--seconds', str(seconds)], stdin=subprocess.PIPE, stdout=subprocess.PIPE, text=True)
         self.addresses = self.program.stdout.readline().split()[1].split(',')
+
+    def ask(self, question):
+        """The words of the answer."""
+        self.program.stdin.write(question + '\n')
+        self.program.stdin.flush()
+        return self.program.stdout.readline().split()[1:]
 
     def do(self, command):
         self.program.stdin.write(command + '\n')
@@ -70,7 +76,7 @@ class Servers:
 
     def close(self):
         self.program.stdin.close()
-        self.program.wait(10)
+        self.program.wait(60)
 
 
 class Forwarder:
@@ -133,6 +139,8 @@ class Runs:
         with open(self.hosts, 'w') as file:
             file.write(HOSTS)
         self.own_hosts = shutil.which('unshare') and subprocess.run(with_hosts(['true'], self.hosts), stderr=subprocess.DEVNULL).returncode == 0
+        if given.alone:
+            return
         if subprocess.run([given.python, '-c', 'import pymongo'], stderr=subprocess.DEVNULL).returncode == 0:
             self.witnesses['pymongo'] = [given.python, os.path.join(HERE, 'witness', 'by_pymongo.py')]
         by_go = os.path.join(folder, 'by_go')
@@ -229,6 +237,7 @@ def main():
     parser.add_argument('--program', default=os.path.join(TOP, 'examples', 'live', 'out', 'mdb_live'))
     parser.add_argument('--auditor', default=os.path.join(TOP, 'crates', 'mdb_auditor', 'out', 'mdb_auditor'))
     parser.add_argument('--python', default='/usr/bin/python3')
+    parser.add_argument('--alone', action='store_true')
     parser.add_argument('--list', action='store_true')
     parser.add_argument('names', nargs='*')
     given = parser.parse_args()

@@ -1,7 +1,8 @@
 // For a fuzzer: bytes as a server may send them go through the reader of messages, and what it makes of them goes to the library, which must be able to
 // read it. The first byte says in which form the command was sent, and whether a reply came before. Ends by abort() where a line is malformed.
-#include "greet.h"
+#include "handshake.h"
 #include "mdb.h"
+#include <stdio.h>
 #include <stdlib.h>
 #include <string.h>
 #include <sys/socket.h>
@@ -10,7 +11,7 @@
 static const uint8_t OPEN[] = "open seeds=a:1", MONITOR[] = "a:1 0", ADDRESS[] = "a:1";
 
 // Begins and ends a check with this outcome.
-static void tell(const struct greeted *greeted) {
+static void tell(const struct handshake *shake) {
     static mdb_slot slot = MDB_SLOT_INIT;
     static unsigned steps = 0;
     char room[REPLY_ROOM + 64];
@@ -26,7 +27,7 @@ static void tell(const struct greeted *greeted) {
         steps = 0;
         return;
     }
-    text_add(&outcome, "1 %s%s%s", greeted->well ? "ok" : "err ", greeted->room, greeted->well && greeted->more ? " more" : "");
+    text_add(&outcome, "1 %s%s%s", shake->ok ? "ok" : "err ", shake->room, shake->ok && shake->more ? " more" : "");
     mdb_status status = mdb_beaten(&slot, &at, MONITOR, sizeof MONITOR - 1, (const uint8_t *)room, outcome.length, &reply);
     if (status != MDB_OK) {
         fprintf(stderr, "status %u: %s\n", status, room);
@@ -34,20 +35,23 @@ static void tell(const struct greeted *greeted) {
     }
 }
 
+enum { INPUT_MOST = 200000, BUFFER = 400000 };
+
 static void try_bytes(const uint8_t *bytes, size_t length) {
-    static struct greeted greeted;
-    int ends[2];
-    if (length < 1 || length > 60000 || socketpair(AF_UNIX, SOCK_STREAM | SOCK_NONBLOCK, 0, ends)) return;
-    struct link link = { .fd = ends[0], .cancel = -1, .deadline = NO_DEADLINE };
-    struct talk talk = { .asked = 1, .told = 2, .more = bytes[0] & 2, .form = bytes[0] & 1 ? AS_MESSAGE : AS_QUERY };
-    if (write(ends[1], bytes + 1, length - 1) < 0) abort();
+    static struct handshake shake;
+    int ends[2], room = BUFFER;
+    if (length < 1 || length > INPUT_MOST || socketpair(AF_UNIX, SOCK_STREAM | SOCK_NONBLOCK, 0, ends)) return;
+    setsockopt(ends[1], SOL_SOCKET, SO_SNDBUF, &room, sizeof room);
+    struct conn conn = { .asked = 1, .told = 2, .more = bytes[0] & 2, .form = bytes[0] & 1 ? AS_MESSAGE : AS_QUERY };
+    conn.sock = (struct sock){ .fd = ends[0], .cancel = -1, .deadline = NO_DEADLINE };
+    if (length > 1 && write(ends[1], bytes + 1, length - 1) != (ssize_t)length - 1) abort();
     close(ends[1]);
     for (int i = 0; i < 4; i++) {
-        greet(&greeted, &link, &talk, 0);
-        tell(&greeted);
-        if (greeted.network) break;
+        handshake_again(&shake, &conn, NULL);
+        tell(&shake);
+        if (shake.network) break;
     }
-    link_close(&link);
+    sock_close(&conn.sock);
 }
 
 #ifdef __AFL_FUZZ_TESTCASE_LEN
@@ -61,7 +65,7 @@ int main(void) {
 }
 #else
 int main(void) {
-    static uint8_t bytes[65536];
+    static uint8_t bytes[INPUT_MOST + 1];
     size_t length = fread(bytes, 1, sizeof bytes, stdin);
     try_bytes(bytes, length);
     return 0;

@@ -1,0 +1,97 @@
+// For checks/live/mended.py: makes the calls of mdb_net.h that its standard input asks for, on one client for each connection string of the command line.
+//
+//   run CLIENT COMMAND [timeout=MS] [cancel=MS] [stop=MS] [any] [read]    runs {COMMAND: 1}; cancelled, or its client stopped, after so many milliseconds
+//   open URI                                                              a client is opened and freed
+//
+// Each line is answered by one: `CODE sent=0 changed=0 retried=0 server=0 ms=N reply=BYTES TEXT`.
+#include <bson/bson.h>
+#include <mdb_net.h>
+#include <pthread.h>
+#include <stdio.h>
+#include <stdlib.h>
+#include <string.h>
+#include <time.h>
+
+enum { CLIENTS = 8 };
+
+static mdb_net_client *clients[CLIENTS];
+
+// What another thread does to a command that runs.
+struct meanwhile {
+    mdb_net_cancel *cancel;
+    mdb_net_client *stopped;
+    unsigned long after;
+};
+
+static unsigned long milliseconds(void) {
+    struct timespec now;
+    clock_gettime(CLOCK_MONOTONIC, &now);
+    return (unsigned long)now.tv_sec * 1000 + (unsigned long)now.tv_nsec / 1000000;
+}
+
+static void *meddle(void *given) {
+    struct meanwhile *meanwhile = given;
+    nanosleep(&(struct timespec){ (time_t)(meanwhile->after / 1000), (long)(meanwhile->after % 1000) * 1000000 }, NULL);
+    if (meanwhile->cancel) mdb_net_cancel_now(meanwhile->cancel);
+    if (meanwhile->stopped) mdb_net_stop(meanwhile->stopped);
+    return NULL;
+}
+
+static void tell(const mdb_net_err *err, unsigned long took, size_t length) {
+    printf("%d sent=%d changed=%d retried=%d server=%d ms=%lu reply=%zu %s\n", err->code, err->sent, err->changed, err->retried, err->server_code, took, length,
+           err->text);
+}
+
+static void run(mdb_net_client *client, const char *name, char *words) {
+    mdb_net_command_options options = { 0 };
+    struct meanwhile meanwhile = { .after = 0 };
+    for (char *word = strtok(words, " "); word; word = strtok(NULL, " ")) {
+        const char *value = strchr(word, '=') ? strchr(word, '=') + 1 : "";
+        if (!strncmp(word, "timeout=", 8)) options.timeout = strtoul(value, NULL, 10);
+        if (!strncmp(word, "cancel=", 7) || !strncmp(word, "stop=", 5)) meanwhile.after = strtoul(value, NULL, 10);
+        if (!strncmp(word, "cancel=", 7) && mdb_net_cancel_new(client, &meanwhile.cancel) != MDB_NET_OK) abort();
+        if (!strncmp(word, "stop=", 5)) meanwhile.stopped = client;
+        if (!strcmp(word, "any")) options.preference = MDB_NET_ANY;
+        if (!strcmp(word, "read")) options.is_read = true;
+    }
+    options.cancel = meanwhile.cancel;
+    pthread_t thread;
+    bson_t command = BSON_INITIALIZER;
+    mdb_net_reply reply;
+    mdb_net_err err;
+    bson_append_int32(&command, name, -1, 1);
+    if (meanwhile.after && pthread_create(&thread, NULL, meddle, &meanwhile)) abort();
+    unsigned long began = milliseconds();
+    mdb_net_command(client, "test", (mdb_net_document){ bson_get_data(&command), command.len }, &options, &reply, &err);
+    tell(&err, milliseconds() - began, reply.document.length);
+    if (meanwhile.after) pthread_join(thread, NULL);
+    mdb_net_cancel_free(meanwhile.cancel);
+    mdb_net_reply_free(&reply);
+    bson_destroy(&command);
+}
+
+static void open_and_free(const char *uri) {
+    mdb_net_client *client;
+    mdb_net_err err;
+    unsigned long began = milliseconds();
+    mdb_net_open(uri, NULL, &client, &err);
+    mdb_net_free(client);
+    tell(&err, milliseconds() - began, 0);
+}
+
+int main(int count, char **words) {
+    char line[512], name[64];
+    mdb_net_err err;
+    setvbuf(stdout, NULL, _IOLBF, 0);
+    for (int i = 1; i < count && i <= CLIENTS; i++) {
+        if (mdb_net_open(words[i], NULL, &clients[i - 1], &err) != MDB_NET_OK) return fprintf(stderr, "%s\n", err.text), 1;
+    }
+    while (fgets(line, sizeof line, stdin)) {
+        int client = 0, used = 0;
+        line[strcspn(line, "\n")] = 0;
+        if (!strncmp(line, "open ", 5)) open_and_free(line + 5);
+        else if (sscanf(line, "run %d %63s%n", &client, name, &used) == 2 && client < count - 1) run(clients[client], name, line + used);
+    }
+    for (int i = 0; i < CLIENTS; i++) mdb_net_free(clients[i]);
+    return 0;
+}

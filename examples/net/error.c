@@ -1,0 +1,115 @@
+#include "error.h"
+#include <bson/bson.h>
+#include <string.h>
+
+enum { MESSAGE_BYTES = 200, LABELS_MOST = 8 };
+
+void error_of_fault(struct text *line, enum net_fault fault, const char *doing) {
+    const char *label = is_shortage(fault) ? " labels=SystemOverloadedError" : "";
+    text_add(line, "%s%s msg=%s: %s", fault == NET_TIMED_OUT ? "timeout" : "network", label, doing, fault_text(fault));
+}
+
+void error_of_form(struct text *line, const char *what) { text_add(line, "other msg=bad reply to a hello: %s", what); }
+
+bool is_retryable_code(int32_t code) {
+    static const int32_t codes[] = { 6, 7, 89, 91, 134, 189, 262, 9001, 10107, 11600, 11602, 13435, 13436 };
+    for (size_t i = 0; i < sizeof codes / sizeof *codes; i++) {
+        if (codes[i] == code) return true;
+    }
+    return false;
+}
+
+// What is read of a reply that may tell an error.
+struct findings {
+    bson_iter_t code, message, labels, version;
+    bool fine, has_code, has_message, has_labels, has_version;
+    mdb_net_code kind;
+};
+
+static bool is_number(const bson_iter_t *at) {
+    return BSON_ITER_HOLDS_INT32(at) || BSON_ITER_HOLDS_INT64(at) || BSON_ITER_HOLDS_DOUBLE(at) || BSON_ITER_HOLDS_BOOL(at);
+}
+
+static double number_of(const bson_iter_t *at) { return BSON_ITER_HOLDS_DOUBLE(at) ? bson_iter_double(at) : (double)bson_iter_as_int64(at); }
+
+static void find_one(struct findings *found, const bson_iter_t *at) {
+    const char *key = bson_iter_key(at);
+    if (!strcmp(key, "ok") && is_number(at)) found->fine = number_of(at) == 1;
+    if (!strcmp(key, "code") && is_number(at)) found->code = *at, found->has_code = true;
+    if (!strcmp(key, "errmsg") && BSON_ITER_HOLDS_UTF8(at)) found->message = *at, found->has_message = true;
+    if (!strcmp(key, "errorLabels") && BSON_ITER_HOLDS_ARRAY(at)) found->labels = *at, found->has_labels = true;
+    if (!strcmp(key, "topologyVersion") && BSON_ITER_HOLDS_DOCUMENT(at)) found->version = *at, found->has_version = true;
+}
+
+static void find_inner(struct findings *found, const bson_iter_t *at, mdb_net_code kind) {
+    bson_iter_t inner;
+    if (!BSON_ITER_HOLDS_DOCUMENT(at) || !bson_iter_recurse(at, &inner)) return;
+    found->kind = kind;
+    while (bson_iter_next(&inner)) {
+        if (strcmp(bson_iter_key(&inner), "ok")) find_one(found, &inner);
+    }
+}
+
+// Errors of write concern are errors of the command too: they may tell that the server is no longer the primary. Those of single writes are not.
+static void find_parts(struct findings *found, const bson_iter_t *at) {
+    bson_iter_t first;
+    if (!strcmp(bson_iter_key(at), "writeConcernError")) find_inner(found, at, MDB_NET_CONCERN);
+    if (strcmp(bson_iter_key(at), "writeErrors") || found->kind || !BSON_ITER_HOLDS_ARRAY(at)) return;
+    if (bson_iter_recurse(at, &first) && bson_iter_next(&first)) find_inner(found, &first, MDB_NET_WRITES);
+}
+
+static void put_labels(struct text *line, const bson_iter_t *labels) {
+    bson_iter_t item;
+    int count = 0;
+    if (!bson_iter_recurse(labels, &item)) return;
+    while (count < LABELS_MOST && bson_iter_next(&item)) {
+        uint32_t length = 0;
+        const char *label = BSON_ITER_HOLDS_UTF8(&item) ? bson_iter_utf8(&item, &length) : "";
+        if (is_name(label, length)) text_add(line, "%s%s", count++ ? "," : " labels=", label);
+    }
+}
+
+static void put_version(struct text *line, const bson_iter_t *version) {
+    bson_iter_t process, counter;
+    char digits[25];
+    if (!bson_iter_recurse(version, &process) || !bson_iter_find(&process, "processId") || !BSON_ITER_HOLDS_OID(&process)) return;
+    if (!bson_iter_recurse(version, &counter) || !bson_iter_find(&counter, "counter")) return;
+    if ((!BSON_ITER_HOLDS_INT64(&counter) && !BSON_ITER_HOLDS_INT32(&counter)) || bson_iter_as_int64(&counter) < 0) return;
+    bson_oid_to_string(bson_iter_oid(&process), digits);
+    text_add(line, " tv=%s.%lld", digits, (long long)bson_iter_as_int64(&counter));
+}
+
+static void put_message(struct text *line, const struct findings *found) {
+    uint32_t length = 0;
+    const char *message = found->has_message ? bson_iter_utf8(&found->message, &length) : "";
+    text_add(line, " msg=");
+    text_add_plain(line, message, length, MESSAGE_BYTES);
+}
+
+static struct verdict spell(struct text *line, const struct findings *found) {
+    struct verdict verdict = { found->kind ? found->kind : MDB_NET_COMMAND, 0 };
+    double code = found->has_code ? number_of(&found->code) : -1;
+    if (code >= 0 && code <= INT32_MAX && code == (int32_t)code) text_add(line, "command.%d", verdict.server_code = (int32_t)code);
+    else text_add(line, "other");
+    if (found->has_labels) put_labels(line, &found->labels);
+    if (found->has_version) put_version(line, &found->version);
+    put_message(line, found);
+    return verdict;
+}
+
+struct verdict error_of_reply(struct text *line, const struct reply *reply) {
+    bson_t document;
+    bson_iter_t at;
+    struct findings found = { .fine = false };
+    bool well = bson_init_static(&document, reply->document, reply->length) && bson_iter_init(&at, &document);
+    while (well && bson_iter_next(&at)) {
+        find_one(&found, &at);
+        find_parts(&found, &at);
+    }
+    if (!well || at.err_off) {
+        error_of_fault(line, NET_MALFORMED, "reply");
+        return (struct verdict){ MDB_NET_NETWORK, 0 };
+    }
+    if (!found.fine) found.kind = MDB_NET_COMMAND;
+    return found.kind ? spell(line, &found) : (struct verdict){ MDB_NET_OK, 0 };
+}

@@ -1,0 +1,61 @@
+#include "handshake.h"
+
+enum { WIRE_OF_OP_MSG = 6 };
+
+static void begin(struct handshake *shake) {
+    shake->ok = shake->network = shake->more = false;
+    shake->fault = NET_FINE;
+    shake->nanos = 0;
+    shake->reply = (struct hello_reply){ .server = -1 };
+    shake->text = TEXT_IN(shake->room);
+    shake->room[0] = 0;
+}
+
+static void fail(struct handshake *shake, enum net_fault fault, const char *doing) {
+    shake->network = true;
+    shake->fault = fault;
+    error_of_fault(&shake->text, fault, doing);
+}
+
+static void read_reply(struct handshake *shake, const struct reply *reply) {
+    shake->more = reply->more;
+    mdb_net_code code = error_of_reply(&shake->text, reply).code;
+    shake->network = code == MDB_NET_NETWORK;
+    if (code != MDB_NET_OK) return;
+    hello_read(reply, &shake->text, &shake->reply);
+    shake->ok = !shake->reply.wrong;
+    if (shake->ok) return;
+    shake->text = TEXT_IN(shake->room);
+    error_of_form(&shake->text, shake->reply.wrong);
+}
+
+static enum net_fault send_hello(struct conn *conn, const struct hello *hello) {
+    struct document document;
+    hello_command(&document, hello, conn->form == AS_MESSAGE);
+    struct command command = { .database = "admin", .document = { document.bytes, document.length }, .exhaust = hello->awaits };
+    return document.full ? NET_MALFORMED : wire_send(conn, &command);
+}
+
+void handshake_again(struct handshake *shake, struct conn *conn, const struct hello *hello) {
+    struct reply reply = { .body = NULL };
+    begin(shake);
+    uint64_t began = clock_now();
+    enum net_fault fault = hello ? send_hello(conn, hello) : NET_FINE;
+    if (!fault) fault = wire_receive(conn, &reply);
+    shake->nanos = clock_now() - began;
+    if (fault) fail(shake, fault, "hello");
+    else read_reply(shake, &reply);
+    reply_free(&reply);
+}
+
+void handshake_first(struct handshake *shake, struct conn *conn, const struct hello *hello, const char *address) {
+    conn->form = hello->load_balanced ? AS_MESSAGE : AS_QUERY;
+    begin(shake);
+    enum net_fault fault = sock_connect(&conn->sock, address);
+    if (fault) {
+        fail(shake, fault, "connect");
+        return;
+    }
+    handshake_again(shake, conn, hello);
+    if (shake->reply.wire >= WIRE_OF_OP_MSG) conn->form = AS_MESSAGE;
+}
