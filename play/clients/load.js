@@ -28,7 +28,13 @@ async function work(items, chain, milliseconds) {
 async function main() {
   const [seconds, chains] = process.argv.slice(2).map(Number);
   const client = new MongoClient(process.env.MDB_URI, { useUnifiedTopology: true });
-  await client.connect();
+  try {
+    await client.connect();
+  } catch (_why) {
+    console.error('node-mongodb: no server is there');
+    await client.close();
+    return;
+  }
   const items = client.db('test').collection('items');
   await Promise.all(Array.from({ length: chains }, (_, chain) => work(items, chain, seconds * 1000)));
   await client.close();

@@ -90,8 +90,7 @@ def _plan(given: argparse.Namespace) -> Plan:
             text = file.read()
     plan = parse(text + "\n" + (given.do or ""))
     if given.seed is not None:
-        plan.seed = given.seed
-        plan.lines = [it for it in plan.lines if not it.startswith("seed ")] + [f"seed {given.seed}"]
+        plan.reseed(given.seed)
     if given.tls:
         plan.options += [] if any(it.startswith("tls") for it in plan.options) else ["tls=true"]
     return plan
@@ -115,7 +114,7 @@ def _run(given: argparse.Namespace, plan: Plan) -> int:
     status = 0
     for number in range(given.runs):
         if number:
-            plan.seed += 1
+            plan.reseed(plan.seed + 1)
         status = _one(given, plan, client)
         if status:
             break

@@ -74,7 +74,11 @@ When = Union[Start, Later, Nth, Chance]
 
 @dataclass(frozen=True)
 class Rule:
-    """One line: when, and what. `key` is its text, counted where a plan has it twice: what chance decides hangs on it, not on the line's number."""
+    """One line: when, and what.
+
+    `number` counts the lines without comments and empty ones, so that it is the same where a transcript has them. `key` is the line's text, counted where a plan has it twice:
+    what chance decides hangs on it, and not on the number.
+    """
 
     number: int
     key: str
@@ -100,9 +104,11 @@ class Plan:
     rules: list[Rule] = field(default_factory=list)
     lines: list[str] = field(default_factory=list)
 
-    def text(self) -> str:
-        """The plan, as it was written."""
-        return "\n".join(self.lines) + "\n"
+    def reseed(self, seed: int) -> None:
+        """It has this seed, also in its lines; no other line gets another number."""
+        self.seed = seed
+        told = any(it.startswith("seed ") for it in self.lines)
+        self.lines = [f"seed {seed}" if it.startswith("seed ") else it for it in self.lines] + ([] if told else [f"seed {seed}"])
 
 
 def duration(text: str) -> float:
@@ -122,7 +128,7 @@ def parse(text: str) -> Plan:
         if not plain:
             continue
         try:
-            _line(plan, number, plain)
+            _line(plan, plain)
         except (ValueError, IndexError, KeyError) as why:
             raise PlanError(f"line {number}, {plain}: {why}") from why
         plan.lines.append(plain)
@@ -134,7 +140,7 @@ def _finish(plan: Plan) -> None:
     for rule in plan.rules:
         for member in _members_of(rule):
             if member >= plan.count:
-                raise PlanError(f"line {rule.number}: there is no member {member}")
+                raise PlanError(f"{rule.key}: there is no member {member}")
     starts = [rule for rule in plan.rules if isinstance(rule.when, Start) and rule.action.word in ("elect", "nobody")]
     if plan.kind == "replica" and not starts:
         plan.rules.insert(0, Rule(0, "elect 0", Start(), Action("elect", ("0",))))
@@ -148,12 +154,12 @@ def _members_of(rule: Rule) -> Iterable[int]:
         yield from (int(it) for it in rule.action.words[0].split(",") if it.isdigit())
 
 
-def _line(plan: Plan, number: int, plain: str) -> None:
+def _line(plan: Plan, plain: str) -> None:
     word, *rest = plain.split(" ")
     if word in ("at", "sometimes", "always"):
         when, action = {"at": _at, "sometimes": _sometimes, "always": _always}[word](rest)
         again = sum(rule.key.startswith(plain) for rule in plan.rules)
-        plan.rules.append(Rule(number, f"{plain} {again}" if again else plain, when, action))
+        plan.rules.append(Rule(len(plan.lines) + 1, f"{plain} {again}" if again else plain, when, action))
     elif word in _SETTINGS:
         _SETTINGS[word](plan, *rest)
     elif word in KINDS:

@@ -7,7 +7,7 @@ import threading
 from typing import Awaitable, Callable, TypeVar
 
 from .picture import picture
-from .plan import action, parse
+from .plan import Plan, action, parse
 from .running import ClientEnd, Run
 from .verdicts import Verdict, failed, judge
 from .world import World
@@ -66,12 +66,11 @@ class Played:
         """Starts the servers of a plan. Raises PlanError, and RuntimeError where they were started."""
         if self._world is not None:
             raise RuntimeError("the servers run already")
-        world = World(parse(text))
+        plan = parse(text)
         self._loop = asyncio.new_event_loop()
         self._thread = threading.Thread(target=self._loop.run_forever, name="mdb_play", daemon=True)
         self._thread.start()
-        self._world = world
-        self._call(lambda: self._open(world))
+        self._world = self._call(lambda: self._open(plan))
 
     @property
     def uri(self) -> str:
@@ -124,9 +123,11 @@ class Played:
         return asyncio.run_coroutine_threadsafe(called(), self._loop).result(SECONDS)
 
     @staticmethod
-    async def _open(world: World) -> None:
+    async def _open(plan: Plan) -> World:
+        world = World(plan)
         await world.open()
         world.begin()
+        return world
 
     @staticmethod
     async def _do(world: World, made: object) -> None:

@@ -108,9 +108,9 @@ def lost_writes(run: Run) -> Verdict:
     kept = {key for it in writes if it.executed and not it.dropped for key in it.ids}
     for it in writes:
         member = world.members[it.link.member]
-        if it.branch and it.outcome is Outcome.ACKNOWLEDGED and member.branched_at != world.elections:
+        if it.branch and member.branched_at != world.elections:
             it.dropped = True
-    gone = [it for it in writes if it.dropped and not (it.ids and all(key in kept for key in it.ids))]
+    gone = [it for it in writes if it.dropped and it.outcome is Outcome.ACKNOWLEDGED and not (it.ids and all(key in kept for key in it.ids))]
     done = sum(it.outcome is Outcome.ACKNOWLEDGED for it in writes)
     return _of(
         "lost-writes",

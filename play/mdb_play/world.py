@@ -16,7 +16,7 @@ from .plan import Action, Later, Nth, Plan, Start
 from .points import Decider, Decision, Planned, Point, chance
 from .store import Store
 from .transcript import Transcript
-from .watch import Deed, Link, Outcome, States, Watch
+from .watch import Deed, Link, States, Watch
 from .wire import Budget
 
 # Bytes of large requests that all connections hold at once.
@@ -195,8 +195,7 @@ class World:
         """What a member wrote apart from its set was kept by the set, or is gone."""
         for command in self.watch.commands:
             if command.branch and command.link.member == member.number:
-                command.branch = False
-                command.dropped = not kept and command.outcome is Outcome.ACKNOWLEDGED
+                command.branch, command.dropped = False, not kept
 
 
 def _quiet(loop: asyncio.AbstractEventLoop, context: dict[str, Any]) -> None:

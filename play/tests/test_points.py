@@ -50,6 +50,13 @@ def test_a_transcript_is_followed() -> None:
     assert replayed.outcome() == "followed"
 
 
+def test_a_transcript_has_the_numbers_of_its_plan() -> None:
+    plan = parse("\n# a comment\nset rs 3; \n\n at insert 1 reset # another\nat insert 2 stepdown; at +50ms elect 1\n")
+    plan.reseed(9)
+    again = read(Transcript(plan).text()).plan
+    assert again.seed == 9 and again.rules == plan.rules and [rule.number for rule in plan.rules] == [0, 2, 3, 4]
+
+
 def test_where_a_client_parts_is_told() -> None:
     plan = parse(PLAN)
     planned, transcript = Planned(plan), Transcript(plan)

@@ -206,11 +206,13 @@ def test_what_a_parted_primary_acknowledged_is_gone(played: Played, ports: list[
 def test_a_majority_fails_when_its_primary_has_to_go(played: Played, ports: list[int]) -> None:
     with Raw(ports[0]) as old:
         played.do("part 0")
-        old.send({"insert": "items", "documents": [{"_id": 3}], "writeConcern": {"w": "majority"}, "$db": "test"})
-        time.sleep(0.1)
+        old.send({"insert": "items", "documents": [{"_id": 3, "text": "x"}], "writeConcern": {"w": "majority"}, "$db": "test"})
+        time.sleep(0.5)
         played.do("elect 1")
         assert old.read()[2]["code"] == 189
-    assert played.verdict.lost_writes == 0
+    with Raw(ports[1]) as new:
+        new.ask({"insert": "items", "documents": [{"_id": 3, "text": "x"}], "writeConcern": {"w": "majority"}})
+    assert played.verdict.lost_writes == 0 and played.verdict.double_writes == 0
 
 
 # ---- messages
