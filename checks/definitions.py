@@ -19,7 +19,7 @@ Histories are lists, newest item first. This page is written by `checks/definiti
 """
 # the crates that say what a log means; the words of all others are told on demand
 TOLD = ("mdb_log", "mdb_pool_rules", "mdb_driver_rules", "mdb_describe", "mdb_monitor", "mdb_srv", "mdb_lines", "mdb_laws", "mdb_pool_laws", "mdb_sound", "mdb_runs", "mdb_shared_runs")
-# a sentence that begins so speaks of one that stands elsewhere
+# a sentence that begins so speaks of one that stands elsewhere, and is not told
 LEANS = ("So ", "A driver's own answer does")
 CITED = re.compile(r"use Rattle\.(\w+)\.specs\.([\w.]+?)\.\{([^}]*)\}")
 WORD = re.compile(r"[\w']+")
@@ -51,6 +51,7 @@ def definitions(text):
         start = START.match(line)
         if start and not line.startswith(("pub use", "pub mod")):
             shared = " ".join(said) or shared
+            shared = "" if shared.startswith(LEANS) else shared
             found.append([start[1], shared, line])
             said = []
         elif not line.strip():
@@ -139,11 +140,6 @@ def section(crate, files, rows, wanted):
     return f"\n## {crate}\n" + "".join(lines) if lines else ""
 
 
-def leaning(rows, wanted):
-    """The sentences that can't be read alone."""
-    return [f"{crate} {file} {name}: {said}" for (crate, file), found in rows.items() for name, said, _ in found if (crate, file, name) in wanted and said.startswith(LEANS)]
-
-
 def main():
     files = read_all()
     rows = {at: definitions(text) for at, text in files.items()}
@@ -157,8 +153,6 @@ def main():
         print("".join(section(crate, files, rows, wanted) for crate in named), end="")
         return 0
     told = {it for it in wanted if it[0] in TOLD}
-    for line in leaning(rows, told):
-        print("a sentence that can't be read alone:", line)
     made = HEAD + "".join(section(crate, files, rows, told) for crate in crates() if crate in TOLD)
     if "--write" in sys.argv[1:]:
         open(PAGE, "w", encoding="utf-8").write(made)

@@ -148,7 +148,7 @@ def functions_of(path, text):
             outer, is_of_type = module, False
         elif "#[cycle(" in line:
             cycle = re.search(r"#\[cycle\((\w+)\)\]", line)[1]
-        begins = re.match(r"( *)(?:pub(?:\(.*?\))? )?(?:const |unsafe )*fn (\w+)", line)
+        begins = re.match(r"( *)(?:pub(?:\(.*?\))? )?(?:const |unsafe |extern \"C\" )*fn (\w+)", line)
         if begins:
             opens = opening(lines, at, begins[1])
             if opens:

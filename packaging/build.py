@@ -5,21 +5,20 @@ usage: packaging/build.py [--sources CHECKOUT] [--to FOLDER] [--cpu CPU ..] [--j
 
 Of each CRATE (all that a release has, where none is named) the crate itself is checked once more for each processor, over the libraries that rt ci kept
 of these very files, and what was checked is built: FOLDER/CPU/NAME.o, the object file of a program, or FOLDER/CPU/NAME.a and NAME.s, archive and text of
-the library, with NAME.verdict, the prover's last line. FOLDER/made.json says of what. Nothing below the crate is proved again, and nothing is written to
-the checkout. Needs the kit; the target's C library is not asked for.
+the library, with NAME.json, which has the prover's last line and says of what it was made. Nothing below the crate is proved again, and nothing is written
+to the checkout. Needs the kit; the target's C library is not asked for.
 """
 from __future__ import annotations
 
 import argparse
-import json
 import os
-import re
 import shutil
 import tempfile
 import time
 from pathlib import Path
 
 import kit as kits
+from built import begin, end, file_of, made_of
 from plain import Stop, ends_well, run
 from shipped import BUILT, LIBRARY, PROGRAMS, TARGETS, TOP, Target
 
@@ -63,6 +62,7 @@ class Builder:
 
     def __init__(self, sources: Path, to: Path, jobs: int) -> None:
         self.kit, self.crates, self.to, self.jobs = kits.kit_folder(), kits.crates_of(sources), to, jobs
+        self.made = made_of(sources, self.kit, True)
         self.kept, self.lent = kits.kept_of(sources, self.kit), to / "proved"
         # what an earlier build left may be of other sources
         shutil.rmtree(self.lent, ignore_errors=True)
@@ -93,9 +93,9 @@ class Builder:
     def build(self, name: str, target: Target) -> None:
         """Checks a crate for a target, and builds what was checked."""
         self.lend(name)
-        folder, words = self.to / target.cpu, self.words(name, target)
-        folder.mkdir(parents=True, exist_ok=True)
-        is_library = "staticlib" in self.crates.kinds[name]
+        words = self.words(name, target)
+        to = file_of(self.to, target, name)
+        begin(to)
         begun = time.monotonic()
         with tempfile.TemporaryDirectory(prefix="mdb-build-") as made:
             room = Path(made)
@@ -104,24 +104,14 @@ class Builder:
             if not verdict.startswith("logic=proved "):
                 raise Stop(f"{name}: not proved: {verdict}")
             proved = time.monotonic()
-            to = folder / f"{name}{'.a' if is_library else '.o'}"
             self.rattle("build", name, *words, "--crate-checked", room / "checked", "--toolchain", toolchain(self.kit, room), "--backend", "llvm", "-o", to)
-            if is_library:
+            if to.suffix == ".a":
                 assembly(self.kit, room, to.with_suffix(".s"))
-        (folder / f"{name}.verdict").write_text(verdict + "\n")
+        end(to, self.made, verdict)
         print(f"{name} for {target.cpu}: proved in {proved - begun:.0f} s, built in {time.monotonic() - proved:.0f} s, {to.stat().st_size} bytes", flush=True)
 
     def rattle(self, command: str, name: str, *words: object) -> str:
         return run(self.kit / "bin" / "rattle", command, *words, cwd=self.crates.folder(name))
-
-
-def made_of(sources: Path, kit: Path, proved: bool) -> dict[str, object]:
-    """What a build was made of, for who packs it."""
-    compiler = run(kit / "toolchain" / "bin" / "clang", "--version").splitlines()[0]
-    commit = run("git", "-C", sources, "rev-parse", "HEAD").strip()
-    changed = bool(run("git", "--no-optional-locks", "-C", sources, "status", "--porcelain", "--", "crates", "crates.txt"))
-    logic = re.search(r" logic (\w+)", kits.identity(kit))
-    return {"commit": commit, "changed": changed, "kit": kits.identity(kit), "logic": logic[1] if logic else "", "compiler": compiler, "proved": proved}
 
 
 @ends_well
@@ -134,14 +124,9 @@ def main() -> None:
     at.add_argument("crates", nargs="*", metavar="CRATE", help="mdb_c, or a program (all that a release has)")
     given = at.parse_args()
     builder = Builder(given.sources.resolve(), given.to.resolve(), given.jobs)
-    given.to.mkdir(parents=True, exist_ok=True)
-    made = made_of(given.sources, builder.kit, True)
-    (given.to / "made.json").unlink(missing_ok=True)
     for target in TARGETS:
         for name in (given.crates or (LIBRARY, *PROGRAMS)) if target.cpu in given.cpu else ():
             builder.build(name, target)
-    # last, so that a build that was broken off is none
-    (given.to / "made.json").write_text(json.dumps(made, indent=1, sort_keys=True) + "\n")
     shutil.rmtree(builder.lent, ignore_errors=True)
 
 

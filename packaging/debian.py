@@ -30,7 +30,8 @@ def documents(package: str, of: Release, tree: Path) -> None:
     folder = tree / "usr/share/doc" / package
     put(HERE / "debian/copyright", folder / "copyright")
     date = formatdate(of.date, localtime=False).replace("-0000", "+0000")
-    changes = f"mdb ({of.version}) unstable; urgency=medium\n\n  * Version {of.version}, of commit {of.commit[:12]}.\n\n -- Nalomuvish <nalomuvish@example.org>  {date}\n"
+    changes = f"mdb ({of.version}) unstable; urgency=medium\n\n  * Version {of.version}, of commit {of.commit[:12]}.\n"
+    changes += f"\n -- Nalomuvish <nalomuvish@example.org>  {date}\n"
     packed.gz(changes.encode(), folder / "changelog.gz")
 
 

@@ -11,12 +11,12 @@ built, asks for no log and a clean checkout neither, and marks the version: it i
 from __future__ import annotations
 
 import argparse
-import json
 import os
 import shutil
 import tempfile
 from pathlib import Path
 
+import built
 import debian
 import gate_log
 import packages
@@ -25,18 +25,7 @@ from linked import Made
 from packed import sum_of
 from plain import Stop, ends_well, need, run, write
 from release import Release
-from shipped import BUILT, DIST, LIBRARY, PROGRAMS, TARGETS, TOP, Target, interface, is_released, version
-
-
-def targets_in(built: Path) -> list[Target]:
-    found = [it for it in TARGETS if (built / it.cpu / f"{LIBRARY}.a").is_file()]
-    if not found:
-        raise Stop(f"{built} has no {LIBRARY}.a: run packaging/build.py first")
-    for target in found:
-        lacking = [it for it in PROGRAMS if not (built / target.cpu / f"{it}.o").is_file()]
-        if lacking:
-            raise Stop(f"{built} has no {', '.join(lacking)} for {target.cpu}: run packaging/build.py first")
-    return found
+from shipped import BUILT, DIST, LIBRARY, TARGETS, TOP, Target, interface, is_released, version
 
 
 def tools_for(targets: list[Target]) -> dict[str, str]:
@@ -45,20 +34,6 @@ def tools_for(targets: list[Target]) -> dict[str, str]:
         of_gcc = "gcc" if it.cpu == os.uname().machine else f"gcc-{it.multiarch.replace('_', '-')}"
         tools |= {it.tool("gcc"): of_gcc, it.tool("objcopy"): of_gcc.replace("gcc", "binutils", 1), str(it.musl / "libc.a"): f"musl-dev:{it.debian}"}
     return tools
-
-
-def built_in(built: Path, commit: str, may_be_unproved: bool) -> dict[str, object]:
-    """What the build says of itself, held to the commit."""
-    if not (built / "made.json").is_file():
-        raise Stop(f"{built} has no made.json: run packaging/build.py, to its end")
-    made = json.loads((built / "made.json").read_text(encoding="utf-8"))
-    if not made["proved"] and not may_be_unproved:
-        raise Stop(f"{built} was built without proof: run packaging/build.py")
-    if made["commit"] != commit and not may_be_unproved:
-        raise Stop(f"{built} is of commit {made['commit'][:12]}, and the checkout of {commit[:12]}: run packaging/build.py")
-    if made["changed"] and not may_be_unproved:
-        raise Stop(f"{built} was built of a checkout with changes: run packaging/build.py")
-    return made
 
 
 def gate_of(sources: Path, log: Path | None, commit: str) -> gate_log.GateLog:
@@ -92,18 +67,21 @@ def release_of(given: argparse.Namespace, to: Path, targets: list[Target]) -> Re
     sources = given.sources.resolve()
     commit = run("git", "-C", sources, "rev-parse", "HEAD").strip()
     log = None if given.unproved else gate_of(sources, given.log, commit)
-    made = built_in(given.built, commit, given.unproved) if targets else {"proved": True}
+    pages = built.pages_in(given.built, targets)
+    if not given.unproved:
+        built.hold(given.built, pages, commit)
+    facts = pages[targets[0].cpu][LIBRARY]
     date = int(os.environ.get("SOURCE_DATE_EPOCH") or run("git", "-C", sources, "log", "-1", "--format=%ct"))
-    verdicts = {it.cpu: {f.stem: f.read_text(encoding="utf-8").strip() for f in sorted((given.built / it.cpu).glob("*.verdict"))} for it in targets}
+    verdicts = {cpu: {name: page["verdict"] for name, page in of_cpu.items()} for cpu, of_cpu in pages.items()}
     tools = {it.cpu: run(it.tool("gcc"), "--version").splitlines()[0] for it in targets}
-    named = version_of(sources, commit, bool(made["proved"]))
-    of = Release(sources, to, named, interface(sources), commit, date, made, verdicts, log, tools)
+    named = version_of(sources, commit, bool(facts["proved"]))
+    of = Release(sources, to, named, interface(sources), commit, date, facts, verdicts, log, tools)
     of.sum_sources(run("git", "-C", sources, "ls-files", "crates", "crates.txt", "HANDLES", "include", "bindings", "packaging").splitlines())
     return of
 
 
-def make(of: Release, built: Path, targets: list[Target], room: Path) -> None:
-    all_made = [Made(it, built, of.sources, room / it.cpu, of.interface) for it in targets]
+def make(of: Release, folder: Path, targets: list[Target], room: Path) -> None:
+    all_made = [Made(it, folder, of.sources, room / it.cpu, of.interface) for it in targets]
     for made in all_made:
         cpu = made.target.cpu
         packages.plain_folder(of, made, room / f"plain-{cpu}")
@@ -139,12 +117,15 @@ def main() -> None:
     at.add_argument("--unproved", action="store_true", help="pack what unproved.py built, and say so in the version")
     given = at.parse_args()
     to = given.to.resolve()
-    targets = [] if given.check else targets_in(given.built)
-    need(tools_for(targets or list(TARGETS)))
     part = to.with_name(f".{to.name}.part")
-    of = release_of(given, part, targets)
+    need(tools_for(list(TARGETS) if given.check else built.targets_in(given.built)))
     if given.check:
+        commit = run("git", "-C", given.sources, "rev-parse", "HEAD").strip()
+        gate_of(given.sources.resolve(), given.log, commit)
+        version_of(given.sources, commit, True)
         return
+    targets = built.targets_in(given.built)
+    of = release_of(given, part, targets)
     shutil.rmtree(part, ignore_errors=True)
     try:
         part.mkdir(parents=True)

@@ -4,7 +4,7 @@ from __future__ import annotations
 from pathlib import Path
 
 from plain import put, run, write
-from shipped import HERE, LIBRARY, Target
+from shipped import HERE, LIBRARY, PROGRAMS, Target
 
 # A linker that leaves nothing of the day, the folder or the machine in what it makes.
 LINKING = ["-Wl,--build-id=none", "-Wl,-z,noexecstack,-z,relro,-z,now", "-Wl,--gc-sections"]
@@ -63,4 +63,4 @@ class Made:
         shared_library(target, self.archive, self.shared, interface)
         shared_library(target, self.archive, self.debian, interface, "-lc")
         self.assembly = folder / f"{LIBRARY}.s"
-        self.programs = [program(target, it, heap, room) for it in sorted(folder.glob("*.o"))]
+        self.programs = [program(target, folder / f"{it}.o", heap, room) for it in PROGRAMS]

@@ -61,7 +61,8 @@ def record_of(folder: Path, info: str) -> str:
 
 def deb(folder: Path, to: Path, date: int) -> None:
     """A Debian package of a folder that has DEBIAN/control: the sums of its files are added, and each gets the one date."""
-    sums = [f"{hashlib.md5((folder / it).read_bytes()).hexdigest()}  {it}\n" for it in files_below(folder) if it.parts[0] != "DEBIAN" and not (folder / it).is_symlink()]
+    plain = [it for it in files_below(folder) if it.parts[0] != "DEBIAN" and not (folder / it).is_symlink()]
+    sums = [f"{hashlib.md5((folder / it).read_bytes()).hexdigest()}  {it}\n" for it in plain]
     write(folder / "DEBIAN/md5sums", "".join(sums))
     for at, _, names in os.walk(folder):
         os.chmod(at, 0o755)

@@ -63,7 +63,8 @@ def follow(names: list[str], progress: Progress, log: Path) -> None:
     """Runs rt ci, with a line for each crate that it ends."""
     words, environment = ["rt", "ci", *names], {**os.environ, "RT_JOBS": str(progress.processors)}
     with open(log, "w", encoding="utf-8") as kept:
-        ran = subprocess.Popen(words, cwd=TOP, env=environment, stdin=subprocess.DEVNULL, stdout=subprocess.PIPE, stderr=subprocess.STDOUT, text=True, errors="replace")
+        streams = {"stdin": subprocess.DEVNULL, "stdout": subprocess.PIPE, "stderr": subprocess.STDOUT}
+        ran = subprocess.Popen(words, cwd=TOP, env=environment, text=True, errors="replace", **streams)
         for line in ran.stdout:
             kept.write(line)
             ended = re.match(r"rt: (\w+) (?:is )?(proved|kept|NOT PROVED)\b", line)

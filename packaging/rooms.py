@@ -50,10 +50,11 @@ def debian_room(name: str, folder: Path) -> Room:
     if not ready.is_file():
         if os.geteuid():
             raise Stop("only root can make a root of Debian: run this as root")
-        need({"debootstrap": "debootstrap"})
+        need({"debootstrap": "debootstrap", "unshare": "util-linux"})
         shutil.rmtree(root, ignore_errors=True)
         folder.mkdir(parents=True, exist_ok=True)
-        run("debootstrap", "--variant=minbase", f"--include={RELEASES[name]}", name, root)
+        # what it mounts in the root is gone when it ends, however it ends
+        run("unshare", "--mount", "debootstrap", "--variant=minbase", f"--include={RELEASES[name]}", name, root)
         ready.touch()
     return Room(name, root)
 

@@ -15,6 +15,7 @@ import time
 from pathlib import Path
 from typing import Callable
 
+import emulated
 import rooms
 import trials
 from plain import Stop, ends_well, need
@@ -60,7 +61,7 @@ def main() -> None:
             for title, does in trials.in_musl(of, room):
                 every.one(bare, title, does)
     here = rooms.Room("here", given.rooms.resolve() / "here")
-    for title, does in trials.with_emulator(of):
+    for title, does in emulated.with_emulator(of):
         every.one(here, title, does)
     print(f"{every.passed} passed, {every.failed} failed")
     sys.exit(1 if every.failed else 0)
