@@ -203,7 +203,7 @@ def late_wake(given):
                 if fact.startswith('Granted ') and cleared is None:
                     held[fact.split(' ')[1]] = None
             # A party's connection comes back by its return, or its request ends.
-            for party in [words[2]] * (words[0] == 'return') + [it.split(' ')[1] for it in facts if it.startswith('Ended ')]:
+            for party in (words[2:3] if words[0] == 'return' else []) + [it.split(' ')[1] for it in facts if it.startswith('Ended ')]:
                 if party in held and cleared is None:
                     del held[party]
                 elif party in held and held[party] is None:
@@ -224,7 +224,7 @@ def no_answers(given):
         time.sleep(5)
         status, _ = played.end()
         said.append((option, played.count('timeout') + played.count('timed_out'), status, played.count('pools cleared'), played.judged()))
-    well = all(it[1] >= 8 and it[2] == 0 and it[3] == 0 and legal(it[4]) for it in said)
+    well = all(it[1] >= 3 and it[2] == 0 and it[3] == 0 and legal(it[4]) for it in said)
     return well, '; '.join('%s=700: %d timed out in 5 s, status %s, %d pools cleared, %s' % it for it in said)
 
 
