@@ -9,7 +9,7 @@ import packed
 from linked import Made
 from plain import files_below, put, write
 from release import Release
-from shipped import HERE
+from shipped import HERE, MAINTAINER
 
 # The oldest glibc that has what the shared library asks for, malloc and five more.
 OLDEST = {"x86_64": "2.14", "aarch64": "2.17"}
@@ -19,7 +19,7 @@ def control_of(name: str, of: Release, made: Made, tree: Path) -> str:
     size = sum((tree / it).lstat().st_size for it in files_below(tree)) // 1024 + 1
     text = (HERE / "debian" / f"{name}.control").read_text(encoding="utf-8")
     target = made.target
-    said = {"ABI": of.interface, "DEBIAN": of.version, "ARCH": target.debian, "SIZE": size, "LIBC": OLDEST[target.cpu]}
+    said = {"ABI": of.interface, "DEBIAN": of.version, "ARCH": target.debian, "SIZE": size, "LIBC": OLDEST[target.cpu], "MAINTAINER": MAINTAINER}
     for word, value in said.items():
         text = text.replace(f"@{word}@", str(value))
     return text
@@ -31,7 +31,7 @@ def documents(package: str, of: Release, tree: Path) -> None:
     put(HERE / "debian/copyright", folder / "copyright")
     date = formatdate(of.date, localtime=False).replace("-0000", "+0000")
     changes = f"mdb ({of.version}) unstable; urgency=medium\n\n  * Version {of.version}, of commit {of.commit[:12]}.\n"
-    changes += f"\n -- Nalomuvish <nalomuvish@example.org>  {date}\n"
+    changes += f"\n -- {MAINTAINER}  {date}\n"
     packed.gz(changes.encode(), folder / "changelog.gz")
 
 

@@ -61,7 +61,7 @@ class Progress:
 
 def follow(names: list[str], progress: Progress, log: Path) -> None:
     """Runs rt ci, with a line for each crate that it ends."""
-    words, environment = ["rt", "ci", *names], {**os.environ, "RT_JOBS": str(progress.processors)}
+    words, environment = ["rt", "ci", *names], {**os.environ, "RT_JOBS": str(progress.processors), "PYTHONUNBUFFERED": "1"}
     with open(log, "w", encoding="utf-8") as kept:
         streams = {"stdin": subprocess.DEVNULL, "stdout": subprocess.PIPE, "stderr": subprocess.STDOUT}
         ran = subprocess.Popen(words, cwd=TOP, env=environment, text=True, errors="replace", **streams)

@@ -14,6 +14,9 @@ HERE = TOP / "packaging"
 BUILT = HERE / "out" / "built"
 DIST = TOP / "dist"
 
+# Who answers for the Debian packages.
+MAINTAINER = "Nalomuvish <nalomuvish@example.org>"
+
 # A program more is one more name here, and a page of the manual in packaging/man.
 PROGRAMS = ("mdb_script", "mdb_auditor", "mdb_recorded", "mdb_proxy", "mdb_fleet")
 # The crate whose archive is libmdb.
