@@ -18,7 +18,7 @@ For who reads a claim: what the clauses of public calls say of logs and historie
 Histories are lists, newest item first. This page is written by `checks/definitions.py --write`; `checks/definitions.py CRATE` prints the definitions of any other crate.
 """
 # the crates that say what a log means; the words of all others are told on demand
-TOLD = ("mdb_log", "mdb_pool_rules", "mdb_driver_rules", "mdb_describe", "mdb_monitor", "mdb_srv", "mdb_lines", "mdb_laws", "mdb_pool_laws", "mdb_sound", "mdb_runs", "mdb_shared_runs")
+TOLD = ("mdb_log", "mdb_pool_rules", "mdb_driver_rules", "mdb_pool_laws", "mdb_laws", "mdb_runs")
 # a sentence that begins so speaks of one that stands elsewhere, and is not told
 LEANS = ("So ", "A driver's own answer does")
 CITED = re.compile(r"use Rattle\.(\w+)\.specs\.([\w.]+?)\.\{([^}]*)\}")
