@@ -1,7 +1,7 @@
 """A load by pymongo: threads that insert documents, each with its own text, for some seconds. On a busy machine it goes on until each has 25 done, but for no longer
 than six times as long.
 
-usage: load.py SECONDS THREADS      MDB_URI says where; MDB_RECORD names a file for what the listeners are told
+usage: load.py SECONDS THREADS      MDB_URI says where; MDB_RECORD names a file for what the listeners are told; MDB_DNS a server of names, asked each second
 """
 
 from __future__ import annotations
@@ -12,6 +12,7 @@ import threading
 import time
 
 import pymongo
+import pymongo.common
 import pymongo.errors
 
 LEAST = 25
@@ -25,6 +26,19 @@ def listeners(name: str) -> list[object]:
     import record_pymongo
 
     return record_pymongo.listeners(open(name, "w", encoding="utf-8", buffering=1))
+
+
+def ask_for_names(address: str) -> None:
+    """Seed lists are asked of this server of names, each second and not each minute; nothing without an address."""
+    if not address:
+        return
+    import dns.resolver
+
+    host, _, port = address.rpartition(":")
+    resolver = dns.resolver.Resolver(configure=False)
+    resolver.nameservers, resolver.port = [host], int(port)
+    dns.resolver.default_resolver = resolver
+    pymongo.common.MIN_SRV_RESCAN_INTERVAL = 1
 
 
 def work(client: pymongo.MongoClient, thread: int, seconds: float, counts: dict[str, int]) -> None:
@@ -46,6 +60,7 @@ def work(client: pymongo.MongoClient, thread: int, seconds: float, counts: dict[
 def main() -> None:
     """Plays the load, and says on the standard error how it went."""
     seconds, threads = float(sys.argv[1]), int(sys.argv[2])
+    ask_for_names(os.environ.get("MDB_DNS", ""))
     client = pymongo.MongoClient(os.environ["MDB_URI"], event_listeners=listeners(os.environ.get("MDB_RECORD", "")))
     counts = {"done": 0, "failed": 0}
     workers = [threading.Thread(target=work, args=(client, thread, seconds, counts)) for thread in range(threads)]

@@ -15,7 +15,7 @@ if TYPE_CHECKING:
 def act(world: "World", action: Action) -> None:
     """Does it; the first word behind an action of one member is the member's number."""
     words: list[Any] = list(action.words)
-    if words and words[0].isdigit() and action.word != "reconfigure":
+    if words and words[0].isdigit() and action.word not in ("reconfigure", "names"):
         words[0] = world.members[int(words[0])]
     _DEEDS[action.word](world, *words)
 
@@ -204,6 +204,11 @@ def _reconfigure(world: "World", numbers: str) -> None:
     _configure(world)
 
 
+def _names(world: "World", numbers: str) -> None:
+    """Who asks for the seed list from now on gets these."""
+    world.named = [int(it) for it in numbers.split(",")]
+
+
 def _configure(world: "World") -> None:
     """The set's version rises: by the primary where there is one."""
     primaries = [it for it in world.members if it.believes]
@@ -244,4 +249,5 @@ _DEEDS: dict[str, Callable[..., None]] = {
     "wire": _wire,
     "role": _role,
     "reconfigure": _reconfigure,
+    "names": _names,
 }

@@ -13,6 +13,7 @@ PHASES = ("before", "before-reply", "after-reply")
 ROLES = ("member", "arbiter", "ghost", "standalone", "router")
 HOSTS = ("127.0.0.1", "localhost", "::1")
 MOST_MEMBERS = 50
+LONGEST_TEXT = 255
 _DURATION = re.compile(r"(\d+(?:\.\d+)?)(ms|s)")
 
 
@@ -99,6 +100,8 @@ class Plan:
     until: float | None = None
     recover: float = 15.0
     seeds: list[int] | None = None
+    names: list[int] | None = None
+    text: str = ""
     options: list[str] = field(default_factory=list)
     allowed: set[str] = field(default_factory=set)
     rules: list[Rule] = field(default_factory=list)
@@ -137,6 +140,13 @@ def parse(text: str) -> Plan:
 
 
 def _finish(plan: Plan) -> None:
+    for member in (*(plan.seeds or ()), *(plan.names or ())):
+        if member >= plan.count:
+            raise PlanError(f"there is no member {member} to be named")
+    if plan.names is None and any(rule.action.word == "names" for rule in plan.rules):
+        raise PlanError("the names change, and no line names the first ones")
+    if plan.names is not None and (plan.seeds or plan.host != HOSTS[0]):
+        raise PlanError(f"names go with neither seeds nor a host other than {HOSTS[0]}")
     for rule in plan.rules:
         for member in _members_of(rule):
             if member >= plan.count:
@@ -150,7 +160,7 @@ def _members_of(rule: Rule) -> Iterable[int]:
     member = getattr(rule.when, "member", None)
     if member is not None:
         yield member
-    if not rule.action.of_message and rule.action.words and rule.action.word != "names":
+    if not rule.action.of_message and rule.action.words:
         yield from (int(it) for it in rule.action.words[0].split(",") if it.isdigit())
 
 
@@ -177,6 +187,16 @@ def _set_seeds(plan: Plan, members: str) -> None:
     plan.seeds = [int(it) for it in members.split(",")]
 
 
+def _set_names(plan: Plan, members: str) -> None:
+    plan.names = [int(it) for it in members.split(",")]
+
+
+def _set_text(plan: Plan, text: str) -> None:
+    if len(text) > LONGEST_TEXT or not text.isascii():
+        raise ValueError(f"a text has at most {LONGEST_TEXT} characters of ASCII")
+    plan.text = text
+
+
 def _set_seed(plan: Plan, number: str) -> None:
     plan.seed = int(number)
 
@@ -195,6 +215,8 @@ _SETTINGS: dict[str, Callable[..., None]] = {
     "host": _set_host,
     "seed": _set_seed,
     "seeds": _set_seeds,
+    "names": _set_names,
+    "text": _set_text,
     "end": _set_time("end"),
     "until": _set_time("until"),
     "recover": _set_time("recover"),
@@ -295,6 +317,7 @@ _OF_SET: dict[str, list[Callable[[str], None]]] = {
     "wire": [_is_member, _is_number, _is_number],
     "role": [_is_member, _is_role],
     "reconfigure": [_are_members],
+    "names": [_are_members],
     "spread": [_is_range],
 }
 

@@ -37,8 +37,9 @@ class Run:
 
 
 def environment(world: World, recording: str | None) -> dict[str, str]:
-    """What a client is told: MDB_URI, MDB_HOSTS, MDB_SET and, where its events are to be recorded, MDB_RECORD."""
+    """What a client is told: MDB_URI, MDB_HOSTS, MDB_SET, where names are asked for MDB_DNS, and where its events are to be recorded MDB_RECORD."""
     told = {"MDB_URI": world.uri, "MDB_HOSTS": ",".join(it.address for it in world.members), "MDB_SET": world.plan.name if world.plan.kind == "replica" else ""}
+    told |= {"MDB_DNS": world.names.address} if world.names else {}
     return {**told, **({"MDB_RECORD": recording} if recording else {})}
 
 

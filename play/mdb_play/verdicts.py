@@ -348,6 +348,8 @@ def view(run: Run) -> Verdict:
     """The client's last view of the servers beside that of a driver of the library after the same hellos."""
     if run.recording is None or not os.path.exists(run.recording) or not os.path.getsize(run.recording):
         return Verdict("view", UNJUDGED, "the client recorded nothing")
+    if run.world.plan.names is not None:
+        return Verdict("view", UNJUDGED, "no server sees when a client asks for names")
     if run.world.watch.lag > BUSY:
         return Verdict("view", UNJUDGED, "the machine is so busy that the client's own time-outs count")
     if late_news(run, GRACE + _late(run)):

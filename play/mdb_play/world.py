@@ -12,6 +12,7 @@ from .conversation import Conversation
 from .deeds import act
 from .fleet import Fleet
 from .member import Member, Reader
+from .names import HOST, Names, listening
 from .plan import Action, Later, Nth, Plan, Start
 from .points import Decider, Decision, Planned, Point, chance
 from .store import Store
@@ -34,6 +35,8 @@ class World:
         self.transcript, self.watch = Transcript(plan), Watch()
         self.members = [Member(self, number, "member" if plan.kind == "replica" else plan.kind) for number in range(plan.count)]
         self.configured = list(range(plan.count))
+        self.named = list(plan.names or ())
+        self.names: Names | None = None
         self.shift, self.elections, self.connections, self.replies = 0, 0, 0, 0
         self.budget, self._tls = Budget(LARGE_BYTES), tls
         self.spread: tuple[float, float] = (0.0, 0.0)
@@ -51,6 +54,8 @@ class World:
         asyncio.get_running_loop().set_exception_handler(_quiet)
         for member in self.members:
             await self.listen(member)
+        if self.plan.names is not None:
+            self.names = await listening(lambda: [(self.plan.host, self.members[it].port) for it in self.named], self.plan.text)
         for rule in self.plan.rules:
             if isinstance(rule.when, Start):
                 self.do(rule.action, rule.number)
@@ -88,20 +93,26 @@ class World:
             timer.cancel()
         for member in self.members:
             member.kill()
+        if self.names is not None:
+            self.names.close()
         await self.settle()
 
     @property
     def uri(self) -> str:
         """The connection string."""
         chosen = self.plan.seeds or range(len(self.members))
-        hosts = ",".join(self.members[it].address for it in chosen)
+        scheme, hosts = "mongodb", ",".join(self.members[it].address for it in chosen)
         options = list(self.plan.options)
-        named = {it.split("=")[0] for it in options}
-        if self.plan.kind == "replica" and not named & {"replicaSet", "directConnection"}:
+        told = {it.split("=")[0] for it in (*options, *self.plan.text.split("&"))}
+        if self.plan.kind == "replica" and not told & {"replicaSet", "directConnection"}:
             options.insert(0, f"replicaSet={self.plan.name}")
-        if self.plan.kind == "balancer" and "loadBalanced" not in named:
+        if self.plan.kind == "balancer" and "loadBalanced" not in told:
             options.insert(0, "loadBalanced=true")
-        return f"mongodb://{hosts}/" + ("?" + "&".join(options) if options else "")
+        if self.plan.names is not None:
+            # connections by a seed list are TLS, where nothing else is said; pymongo 3.11 knows no `tls=false` here
+            scheme, hosts = "mongodb+srv", HOST
+            options += [] if told & {"tls", "ssl"} else ["ssl=false"]
+        return f"{scheme}://{hosts}/" + ("?" + "&".join(options) if options else "")
 
     async def listen(self, member: Member) -> None:
         """It begins to listen."""
