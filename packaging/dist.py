@@ -76,7 +76,7 @@ def release_of(given: argparse.Namespace, to: Path, targets: list[Target]) -> Re
     tools = {it.cpu: run(it.tool("gcc"), "--version").splitlines()[0] for it in targets}
     named = version_of(sources, commit, bool(facts["proved"]))
     of = Release(sources, to, named, interface(sources), commit, date, facts, verdicts, log, tools)
-    of.sum_sources(run("git", "-C", sources, "ls-files", "crates", "crates.txt", "HANDLES", "include", "bindings", "packaging").splitlines())
+    of.sum_sources(run("git", "-C", sources, "ls-files", "crates", "crates.txt", "HANDLES", "include", "bindings", "packaging", "pages").splitlines())
     return of
 
 
@@ -90,6 +90,7 @@ def make(of: Release, folder: Path, targets: list[Target], room: Path) -> None:
     packages.rust(of, all_made, room / "rust")
     packages.go(of, all_made, room / "go")
     packages.assembly(of, all_made, room / "assembly")
+    packages.pages(of)
     sums = {it.name: sum_of(it) for it in sorted(of.to.iterdir())}
     write(of.to / "MANIFEST.json", of.manifest(files=sums))
     sums["MANIFEST.json"] = sum_of(of.to / "MANIFEST.json")

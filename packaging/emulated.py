@@ -14,11 +14,12 @@ from trials import WANTED, Packed, Trial, lintian, programs, same
 AARCH64 = TARGETS[1]
 
 
-def emulated(program: Path, feed: bytes, status: int) -> bytes:
-    """What a static program writes."""
-    ran = subprocess.run([AARCH64.emulator, str(program)], input=feed, stdout=subprocess.PIPE, stderr=subprocess.PIPE)
+def emulated(folder: Path, command: str, feed: bytes, status: int) -> bytes:
+    """What a static program of a folder writes."""
+    name, *words = command.split()
+    ran = subprocess.run([AARCH64.emulator, str(folder / name), *words], input=feed, stdout=subprocess.PIPE, stderr=subprocess.PIPE)
     if ran.returncode != status:
-        raise Stop(f"{program.name} ended with {ran.returncode}, and not {status}")
+        raise Stop(f"{name} ended with {ran.returncode}, and not {status}")
     return ran.stdout
 
 
@@ -47,7 +48,7 @@ def with_emulator(of: Packed) -> Iterator[Trial]:
 
     def each(room: Room) -> None:
         top = folder(room)
-        programs(lambda name, feed, status: emulated(top / "bin" / name, feed, status))
+        programs(lambda command, feed, status: emulated(top / "bin", command, feed, status))
 
     yield "aarch64 tar.gz, libmdb.a: the first example, under qemu", archive
     yield "aarch64 tar.gz, shared: the first example, under qemu", shared

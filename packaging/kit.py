@@ -128,5 +128,18 @@ def lend(kept: Kept, to: Path) -> None:
             raise Stop(f"{kept.folder} is damaged: file {number} is not the one that was kept")
 
 
+def take(name: str, kept: dict[str, Kept], to: Path) -> bool:
+    """Takes the executable of a program that rt ci kept into a folder. Whether there is one."""
+    paths = [path for path, _ in kept[name].files] if name in kept else []
+    if name not in paths:
+        return False
+    to.mkdir(parents=True, exist_ok=True)
+    part = to / f".{name}"
+    shutil.copyfile(kept[name].folder / str(paths.index(name)), part)
+    part.chmod(0o755)
+    part.rename(to / name)
+    return True
+
+
 def identity(kit: Path) -> str:
     return run(kit / "bin" / "rt", "version").strip()

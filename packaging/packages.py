@@ -94,6 +94,12 @@ def go(of: Release, all_made: list[Made], tree: Path) -> None:
     packed.tar_gz(tree, of.to / f"{name}.tar.gz", of.date, name)
 
 
+def pages(of: Release) -> None:
+    """The pages that run in a browser: each is one file, which opens from the disk."""
+    for it in sorted((of.sources / "pages").glob("*.html")):
+        put(it, of.to / f"mdb-{of.version}-{it.name}")
+
+
 def without_comments(text: str, cpu: str) -> str:
     """The preprocessor would read a comment that begins with # as its own."""
     return re.sub(r'(?m)[ \t]*(?<!")#[ -].*$' if cpu == "x86_64" else r"(?m)[ \t]*//.*$", "", text)

@@ -12,7 +12,6 @@ from __future__ import annotations
 import argparse
 import os
 import re
-import shutil
 import subprocess
 import sys
 import time
@@ -77,14 +76,8 @@ def follow(names: list[str], progress: Progress, log: Path) -> None:
 def take(names: list[str], crates: kits.Crates, to: Path) -> None:
     """Takes the programs that rt ci kept."""
     kept = kits.kept_of(TOP, kits.kit_folder())
-    to.mkdir(parents=True, exist_ok=True)
     for name in names:
-        files = [path for path, _ in kept[name].files] if name in kept else []
-        if name in files:
-            part = to / f".{name}"
-            shutil.copyfile(kept[name].folder / str(files.index(name)), part)
-            part.chmod(0o755)
-            part.rename(to / name)
+        if kits.take(name, kept, to):
             print(f"{to / name} is proved")
         elif crates.root(name) == "src/main.rt":
             print(f"prove.py: {name} is proved, but rt kept no program of it: run rt run in crates/{name}", file=sys.stderr)

@@ -10,7 +10,14 @@ from pathlib import Path
 
 from gate_log import GateLog
 from packed import sum_of
-from shipped import HERE
+from shipped import HERE, PROGRAMS
+
+
+def manual_of(programs: tuple[str, ...]) -> str:
+    """The page of the manual, with what it says of these programs alone: lines that begin with @NAME@ are said of NAME."""
+    lines = (HERE / "man/mdb.1").read_text(encoding="utf-8").replace("@PROGRAMS@", ", ".join(programs)).splitlines()
+    said = (re.fullmatch(r"(?:@(mdb\w*)@)?(.*)", it) for it in lines)
+    return "".join(f"{it[2]}\n" for it in said if it and it[1] in (None, *programs))
 
 
 @dataclass
@@ -31,7 +38,8 @@ class Release:
 
     def manual(self) -> str:
         day = time.strftime("%Y-%m-%d", time.gmtime(self.date))
-        return (HERE / "man/mdb.1").read_text(encoding="utf-8").replace("@VERSION@", self.version).replace("@DATE@", day)
+        text = manual_of(PROGRAMS)
+        return text.replace("@VERSION@", self.version).replace("@DATE@", day)
 
     def pkg_config(self, prefix: str, libraries: str = "${prefix}/lib") -> str:
         text = (self.sources / "bindings/mdb.pc.in").read_text(encoding="utf-8")

@@ -17,8 +17,11 @@ DIST = TOP / "dist"
 # Who answers for the Debian packages.
 MAINTAINER = "Nalomuvish <nalomuvish@example.org>"
 
-# A program more is one more name here, and a page of the manual in packaging/man.
-PROGRAMS = ("mdb_script", "mdb_auditor", "mdb_recorded", "mdb_proxy", "mdb_fleet")
+# The program for people, which a checkout may not have yet, and those of the specification. One more is one more name here, and its lines in packaging/man.
+TOOL = "mdb"
+PROGRAMS = tuple(
+    it for it in (TOOL, "mdb_script", "mdb_auditor", "mdb_recorded", "mdb_proxy", "mdb_fleet") if it != TOOL or (TOP / "crates" / it / "src/main.rt").is_file()
+)
 # The crate whose archive is libmdb.
 LIBRARY = "mdb_c"
 

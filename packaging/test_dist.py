@@ -15,7 +15,7 @@ from built import end, file_of
 from plain import Stop
 from shipped import HERE, LIBRARY, PROGRAMS, TARGETS, TOP, is_released, version
 
-COPIED = ("include", "bindings", "LICENSE", "docs", "CHANGES.md")
+COPIED = ("include", "bindings", "pages", "LICENSE", "docs", "CHANGES.md")
 LIBRARY_CODE = "unsigned mdb_abi(void) { return 3; }\nvoid *rattle_alloc(unsigned long, unsigned long);\nvoid *mdb_take(void) { return rattle_alloc(1, 1); }\n"
 PROGRAM_CODE = """long read(int, void *, unsigned long);
 long write(int, const void *, unsigned long);
@@ -200,7 +200,7 @@ class Whole(MadeUp):
     def test_the_same_bytes_in_two_folders(self):
         self.assertEqual(self.dist().returncode, 0)
         first = {it.name: it.read_bytes() for it in self.to.iterdir()}
-        self.assertEqual(len(first), 15)
+        self.assertEqual(len(first), 16)
         self.assertIn(f"mdb-{version(TOP)}-x86_64-linux.tar.gz", first)
         self.to = self.room / "another" / "folder" / "dist"
         self.assertEqual(self.dist(TMPDIR=str(self.room), TZ="Asia/Tokyo").returncode, 0)

@@ -5,6 +5,7 @@ from __future__ import annotations
 import hashlib
 import json
 import os
+import re
 import shutil
 import subprocess
 import sys
@@ -17,6 +18,7 @@ import packed
 from kit import Kept, crates_of, lend
 from plain import Stop
 from prove import Progress
+from release import manual_of
 from shipped import HERE, LIBRARY, PROGRAMS, SAID, TOP, version
 from unproved import exports_in
 
@@ -98,8 +100,12 @@ class Parts(unittest.TestCase):
         self.assertEqual(set(SAID) & {"include/mdb.h"}, {"include/mdb.h"})
 
     def test_each_program_has_its_manual(self):
-        name = (HERE / "man/mdb.1").read_text().partition(".SH NAME\n")[2].partition("\\-")[0]
-        self.assertEqual(tuple(name.replace(",", " ").split()), PROGRAMS)
+        for programs in (PROGRAMS, ("mdb", *(it for it in PROGRAMS if it != "mdb"))):
+            text = manual_of(programs)
+            self.assertEqual(re.findall(r"(?m)^\.TP\n\.B (\w+)$", text), list(programs))
+            name = text.partition(".SH NAME\n")[2].partition("\\-")[0]
+            self.assertEqual(tuple(name.replace(",", " ").split()), programs)
+            self.assertEqual(set(re.findall(r"@\w+@", text)), {"@VERSION@", "@DATE@"})
 
     def test_what_is_shipped_is_in_crates_txt(self):
         crates = crates_of(TOP)

@@ -1,6 +1,7 @@
 """What a stranger does with each file of a release."""
 from __future__ import annotations
 
+import re
 import shutil
 import tarfile
 from functools import partial
@@ -63,9 +64,12 @@ def plain(of: Packed, words: str, room: Room) -> None:
 
 
 def programs(run_one: Callable[[str, bytes, int], bytes]) -> None:
-    """Each program's stdin gives its stdout and its status."""
+    """By what runs a command: each program's stdin gives its stdout and its status. One that has none says its version."""
     for name in PROGRAMS:
         folder = TOP / "crates" / name
+        if not (folder / "stdout").is_file():
+            run_one(f"{name} --version", b"", 0)
+            continue
         status = int((folder / "status").read_text()) if (folder / "status").is_file() else 0
         same(run_one(name, (folder / "stdin").read_bytes(), status), (folder / "stdout").read_bytes(), name)
 
@@ -137,6 +141,14 @@ def assembly(of: Packed, room: Room) -> None:
     same(room.run("assembly/round"), WANTED, "round")
 
 
+def pages(of: Packed, _: Room) -> None:
+    """Each page is one file: it asks for no other."""
+    for it in of.dist.glob("*.html"):
+        asked = re.search(r"""\b(?:src|href)=["']?(?!#|data:|["'])[^"'>]+|@import|\bfetch\(""", it.read_text(encoding="utf-8"))
+        if asked:
+            raise Stop(f"{it.name} asks for another file: {asked[0][:100]}")
+
+
 def lintian(of: Packed, room: Room) -> None:
     said = run("lintian", "--fail-on", "error,warning", *sorted(of.dist.glob("*.deb")))
     if said.strip():
@@ -163,6 +175,7 @@ def in_debian(of: Packed, has_all: bool) -> Iterator[Trial]:
         yield "Rust: tests, example, a program of one's own", partial(rust, of)
         yield "Go: tests, a program of one's own that vendors it", partial(go, of)
     yield "assembly: the first example", partial(assembly, of)
+    yield "pages: each is one file", partial(pages, of)
 
 
 def in_musl(of: Packed, debian: Room) -> Iterator[Trial]:
