@@ -13,7 +13,7 @@ from pathlib import Path
 
 from built import end, file_of
 from plain import Stop
-from shipped import HERE, LIBRARY, PROGRAMS, TARGETS, TOP, is_released, version
+from shipped import HERE, LIBRARY, PROGRAMS, TARGETS, TOP, interface, is_released, version
 
 COPIED = ("include", "bindings", "pages", "LICENSE", "docs", "CHANGES.md")
 LIBRARY_CODE = "unsigned mdb_abi(void) { return 3; }\nvoid *rattle_alloc(unsigned long, unsigned long);\nvoid *mdb_take(void) { return rattle_alloc(1, 1); }\n"
@@ -205,6 +205,18 @@ class Whole(MadeUp):
         self.to = self.room / "another" / "folder" / "dist"
         self.assertEqual(self.dist(TMPDIR=str(self.room), TZ="Asia/Tokyo").returncode, 0)
         self.assertEqual({it.name: it.read_bytes() for it in self.to.iterdir()}, first)
+
+    def test_the_manifest_says_of_what_a_release_was_made(self):
+        self.assertEqual(self.dist().returncode, 0)
+        page = json.loads((self.to / "MANIFEST.json").read_text())
+        wanted = {"name": "mdb", "version": version(TOP), "interface": interface(TOP), "commit": self.commit, "kit": "k", "logic": "l", "compiler": "c"}
+        self.assertEqual({it: page[it] for it in wanted}, wanted)
+        self.assertEqual(page["gate"], {"passed": 1, "verdicts": {"mdb_c": "logic=proved functions=1"}})
+        self.assertEqual({cpu: set(of_cpu) for cpu, of_cpu in page["built"].items()}, {it.cpu: {LIBRARY, *PROGRAMS} for it in TARGETS})
+        self.assertEqual(set(page["sources"]), {"crates.txt", "include", "bindings", "pages"})
+        sums = {name: total for total, name in (it.split("  ") for it in (self.to / "SHA256SUMS").read_text().splitlines())}
+        self.assertEqual({**page["files"], "MANIFEST.json": sums["MANIFEST.json"]}, sums)
+        self.assertEqual(set(sums), {it.name for it in self.to.iterdir()} - {"SHA256SUMS"})
 
     def test_an_earlier_release_gives_way(self):
         self.to.mkdir(parents=True)
