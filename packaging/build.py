@@ -32,8 +32,8 @@ exec {clang} "$@"
 """
 
 
-def toolchain(kit: Path, room: Path) -> Path:
-    """The kit's toolchain, with a clang that leaves the module in the room."""
+def toolchain(kit: Path, room: Path, script: str = KEEPING) -> Path:
+    """The kit's toolchain, with a script in the place of its clang, which leaves the module in the room."""
     tools = room / "toolchain"
     (tools / "bin").mkdir(parents=True)
     os.symlink(kit / "toolchain" / "lib", tools / "lib")
@@ -41,7 +41,7 @@ def toolchain(kit: Path, room: Path) -> Path:
         if it.name != "clang":
             os.symlink(it, tools / "bin" / it.name)
     clang = tools / "bin" / "clang"
-    clang.write_text(KEEPING.format(room=room, clang=kit / "toolchain" / "bin" / "clang"))
+    clang.write_text(script.format(room=room, clang=kit / "toolchain" / "bin" / "clang"))
     clang.chmod(0o755)
     return tools
 
