@@ -31,8 +31,9 @@ COMMANDS = {
     "perl": ["/usr/bin/perl", f"{CLIENTS}/load.pl", SECONDS],
     "php": ["/usr/bin/php", f"{CLIENTS}/load.php", SECONDS],
 }
-# Clients whose resolver can be told another server of names: all others ask port 53.
+# Clients whose resolver can be told another server of names. All others ask port 53, so that they play seed lists in a room of their own, which takes root.
 NAMED = ("pymongo",)
+ROOM = ["unshare", "--mount", "--net", "sh", "-c", 'ip link set lo up && mount --bind "$0" /etc/resolv.conf && exec "$@"']
 LIMIT = 400
 
 
@@ -42,7 +43,9 @@ def play(folder: str, name: str, plan: str, prefix: list[str], again: float | No
     known = verdicts(base)
     if known is not None and (again is None or known["lag"] <= again):
         return
-    words = [*prefix, os.path.join(HERE, "mdb-play"), "run", "--plan", os.path.join(HERE, "plans", plan + ".plan"), "--cmap", "2020", "--picture"]
+    in_room = room(folder, name, plan)
+    words = [*prefix, *in_room, os.path.join(HERE, "mdb-play"), "run", "--plan", os.path.join(HERE, "plans", plan + ".plan"), "--cmap", "2020", "--picture"]
+    words += ["--names-port", "53"] if in_room else []
     words += ["--json", base + ".json", "--transcript", base + ".transcript", "--", *COMMANDS[name]]
     with open(base + ".txt", "w", encoding="utf-8") as file:
         try:
@@ -75,9 +78,24 @@ def lines_of(plan: str) -> list[str]:
         return file.read().splitlines()
 
 
+def asks_names(plan: str) -> bool:
+    """Whether a plan has a seed list."""
+    return any(it.startswith("names ") for it in lines_of(plan))
+
+
 def is_played(name: str, plan: str) -> bool:
-    """Whether a client can play a plan: one with a seed list asks for names."""
-    return name in NAMED or not any(it.startswith("names ") for it in lines_of(plan))
+    """Whether a client can play a plan here."""
+    return name in NAMED or not asks_names(plan) or os.geteuid() == 0
+
+
+def room(folder: str, name: str, plan: str) -> list[str]:
+    """The words before a run for a room in which the plan's server of names is the only one; none where no room is wanted."""
+    if name in NAMED or not asks_names(plan):
+        return []
+    path = os.path.join(os.path.abspath(folder), "resolv.conf")
+    with open(path, "w", encoding="utf-8") as file:
+        file.write("nameserver 127.0.0.1\n")
+    return [*ROOM, path]
 
 
 def table(folder: str, names: list[str], plans: list[str]) -> str:

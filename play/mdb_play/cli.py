@@ -49,6 +49,7 @@ def _plan_words(parser: argparse.ArgumentParser) -> None:
     parser.add_argument("--plan", metavar="FILE", help="the plan; - is the standard input")
     parser.add_argument("--do", metavar="LINES", help="further lines of the plan, with ; between them")
     parser.add_argument("--seed", type=int, help="another seed than the plan's")
+    parser.add_argument("--names-port", type=int, default=0, metavar="PORT", help="the port of the server of names, as 53 for drivers that ask no other (the system's choice)")
     parser.add_argument("--tls", nargs=2, metavar=("CERTIFICATE", "KEY"), help="connections are TLS, by these files")
 
 
@@ -91,6 +92,7 @@ def _plan(given: argparse.Namespace) -> Plan:
     plan = parse(text + "\n" + (given.do or ""))
     if given.seed is not None:
         plan.reseed(given.seed)
+    plan.port = given.names_port
     if given.tls:
         plan.options += [] if any(it.startswith("tls") for it in plan.options) else ["tls=true"]
     return plan

@@ -206,7 +206,7 @@ def _reconfigure(world: "World", numbers: str) -> None:
 
 def _names(world: "World", numbers: str) -> None:
     """Who asks for the seed list from now on gets these."""
-    world.named = [int(it) for it in numbers.split(",")]
+    world.named = [world.members[int(it)].number for it in numbers.split(",")]
 
 
 def _configure(world: "World") -> None:

@@ -80,7 +80,7 @@ class Names(asyncio.DatagramProtocol):
             self._transport.close()
 
 
-async def listening(targets: Callable[[], list[tuple[str, int]]], text: str) -> Names:
-    """A server of names at a port of the system's choice."""
-    _, names = await asyncio.get_running_loop().create_datagram_endpoint(lambda: Names(targets, text), local_addr=("127.0.0.1", 0))
+async def listening(targets: Callable[[], list[tuple[str, int]]], text: str, port: int = 0) -> Names:
+    """A server of names at a port; 0 is one of the system's choice. Raises OSError."""
+    _, names = await asyncio.get_running_loop().create_datagram_endpoint(lambda: Names(targets, text), local_addr=("127.0.0.1", port))
     return names

@@ -102,6 +102,8 @@ class Plan:
     seeds: list[int] | None = None
     names: list[int] | None = None
     text: str = ""
+    # of the server of names; 0 is the system's choice
+    port: int = 0
     options: list[str] = field(default_factory=list)
     allowed: set[str] = field(default_factory=set)
     rules: list[Rule] = field(default_factory=list)

@@ -1,4 +1,4 @@
-"""Servers that are told by lines: `serve` writes `ready URI`, and answers each line of its standard input with one line.
+"""Servers that are told by lines: `serve` writes `ready URI`, with the server of names behind it where there is one, and answers each line of its standard input with one line.
 
 A line is an action, as `elect 1`; `after 200ms ACTION`; `verdicts`, answered with one line of JSON; `picture`, with its lines and an empty one; or `quit`.
 """
@@ -22,7 +22,7 @@ async def serve(plan: Plan, tls: ssl.SSLContext | None = None) -> int:
     world = World(plan, None, tls)
     await world.open()
     world.begin()
-    print(f"ready {world.uri}", flush=True)
+    print(" ".join(["ready", world.uri, *([world.names.address] if world.names else [])]), flush=True)
     reader = asyncio.StreamReader()
     await asyncio.get_running_loop().connect_read_pipe(lambda: asyncio.StreamReaderProtocol(reader), sys.stdin)
     try:

@@ -55,7 +55,7 @@ class World:
         for member in self.members:
             await self.listen(member)
         if self.plan.names is not None:
-            self.names = await listening(lambda: [(self.plan.host, self.members[it].port) for it in self.named], self.plan.text)
+            self.names = await listening(lambda: [(self.plan.host, self.members[it].port) for it in self.named], self.plan.text, self.plan.port)
         for rule in self.plan.rules:
             if isinstance(rule.when, Start):
                 self.do(rule.action, rule.number)

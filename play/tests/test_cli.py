@@ -78,6 +78,17 @@ def test_servers_are_told_by_lines() -> None:
     assert json.loads(verdicts)["failed"] == 0
 
 
+def test_the_server_of_names_has_the_port_that_is_asked_for() -> None:
+    with socket.socket(socket.AF_INET, socket.SOCK_DGRAM) as free:
+        free.bind(("127.0.0.1", 0))
+        port = free.getsockname()[1]
+    words = [*PROGRAM, "serve", "--do", "routers 2; names 1", "--names-port", str(port)]
+    told = subprocess.run(words, env=ENVIRONMENT, input="names 0\nnames 2\nquit\n", capture_output=True, text=True, timeout=120, check=False)
+    lines = told.stdout.splitlines()
+    assert lines[:2] == [f"ready mongodb+srv://mdb.0.0.1/?ssl=false 127.0.0.1:{port}", "done names 0"], told.stderr
+    assert lines[2].startswith("failed names 2")
+
+
 @pytest.mark.skipif(shutil.which("openssl") is None, reason="no openssl")
 def test_connections_are_tls(tmp_path: Path) -> None:
     key, certificate = str(tmp_path / "key"), str(tmp_path / "certificate")
