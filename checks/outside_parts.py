@@ -61,7 +61,7 @@ def cases(built: Built) -> list[Command]:
 def judges(built: Built) -> list[Command]:
     auditor, script = ("--auditor", built.program("mdb_auditor")), ("--script", built.program("mdb_script"))
     return [
-        command(built.python, CHECKS / "audit/mutants.py", *auditor, *script, "--mutants", 100),
+        command(built.python, CHECKS / "audit/mutants.py", *auditor, *script, "--mutants", 300),
         command(built.python, CHECKS / "audit/lines.py", *auditor, *script, "--lines", 1000),
         command(built.python, CHECKS / "audit/forged.py", *auditor, "--logs", 300),
         command(built.python, CHECKS / "recorded/mutants.py", built.program("mdb_recorded"), 200),

@@ -1,6 +1,7 @@
 // For checks/live/mended.py: makes the calls of mdb_net.h that its standard input asks for, on one client for each connection string of the command line.
 //
 //   run CLIENT COMMAND [timeout=MS] [cancel=MS] [stop=MS] [any] [read]    runs {COMMAND: 1}; cancelled, or its client stopped, after so many milliseconds
+//   stop CLIENT THREADS                                                   as many threads stop the client at once
 //   open URI                                                              a client is opened and freed
 //
 // Each line is answered by one: `CODE sent=0 changed=0 retried=0 server=0 ms=N reply=BYTES TEXT`.
@@ -12,7 +13,7 @@
 #include <string.h>
 #include <time.h>
 
-enum { CLIENTS = 8 };
+enum { CLIENTS = 8, STOPS = 16 };
 
 static mdb_net_client *clients[CLIENTS];
 
@@ -70,6 +71,22 @@ static void run(mdb_net_client *client, const char *name, char *words) {
     bson_destroy(&command);
 }
 
+static void *stop(void *client) {
+    mdb_net_stop(client);
+    return NULL;
+}
+
+static void stop_at_once(mdb_net_client *client, int count) {
+    pthread_t threads[STOPS];
+    mdb_net_err err = { .code = MDB_NET_OK };
+    unsigned long began = milliseconds();
+    for (int i = 0; i < count && i < STOPS; i++) {
+        if (pthread_create(&threads[i], NULL, stop, client)) abort();
+    }
+    for (int i = 0; i < count && i < STOPS; i++) pthread_join(threads[i], NULL);
+    tell(&err, milliseconds() - began, 0);
+}
+
 static void open_and_free(const char *uri) {
     mdb_net_client *client;
     mdb_net_err err;
@@ -87,9 +104,10 @@ int main(int count, char **words) {
         if (mdb_net_open(words[i], NULL, &clients[i - 1], &err) != MDB_NET_OK) return fprintf(stderr, "%s\n", err.text), 1;
     }
     while (fgets(line, sizeof line, stdin)) {
-        int client = 0, used = 0;
+        int client = 0, used = 0, threads = 0;
         line[strcspn(line, "\n")] = 0;
         if (!strncmp(line, "open ", 5)) open_and_free(line + 5);
+        else if (sscanf(line, "stop %d %d", &client, &threads) == 2 && client < count - 1) stop_at_once(clients[client], threads);
         else if (sscanf(line, "run %d %63s%n", &client, name, &used) == 2 && client < count - 1) run(clients[client], name, line + used);
     }
     for (int i = 0; i < CLIENTS; i++) mdb_net_free(clients[i]);

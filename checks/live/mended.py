@@ -434,6 +434,8 @@ def calls(given):
     expect('run 0 insert stop=300', CLOSED, ms=lambda it: 290 < it < 3000)
     expect('run 0 ping', CLOSED, sent=0)
     expect('run 1 ping any read', OK)
+    expect('stop 1 8', OK)
+    expect('run 1 ping any', CLOSED, sent=0)
     expect('open mongodb://a:b@c', OPTIONS)
     expect('open mongodb://c,', OPTIONS)
     expect('open mongodb://c/?directConnection=true&loadBalanced=true', OPTIONS)
@@ -441,7 +443,7 @@ def calls(given):
     status, errors = made.end()
     one.close()
     two.close()
-    return status == 0 and not wrong, '17 calls, status %d %s; wrong: %s' % (status, errors, wrong or 'none')
+    return status == 0 and not wrong, '19 calls, status %d %s; wrong: %s' % (status, errors, wrong or 'none')
 
 
 SCENARIOS = {it.__name__.replace('_', '-'): it for it in (

@@ -102,14 +102,17 @@ static void wind_down(client_t *client) {
 
 mdb_net_code mdb_net_stop(mdb_net_client *client) {
     client_lock(client);
-    bool ended = client->ended;
-    if (!ended) wind_down(client);
+    bool first = !client->ending;
+    client->ending = true;
+    if (first) wind_down(client);
+    while (!client->ended && !first) client_wait(client, &client->left, NO_DEADLINE);
     client_unlock(client);
-    if (ended) return client->failed;
+    if (!first) return client->failed;
     pthread_join(client->keeper, NULL);
     if (client->lookup) pthread_join(client->poller, NULL);
     client_lock(client);
     client->ended = true;
+    pthread_cond_broadcast(&client->left);
     pthread_cond_broadcast(&client->lines.some);
     pthread_cond_broadcast(&client->log.some);
     client_unlock(client);

@@ -49,6 +49,7 @@ struct mdb_net_client {
     bool stopping;       // no operation begins
     bool stopped;        // no operation runs, and the driver has stopped
     bool ended;          // no thread runs
+    bool ending;         // a stop has begun
     mdb_net_code failed; // why it ended before, or OK
     struct stream lines, log;
     uint64_t published; // how often libmdb had told of the topology when the last line was told

@@ -67,7 +67,7 @@ typedef struct mdb_net_options {
 mdb_net_code mdb_net_open(const char *uri, const mdb_net_options *options, mdb_net_client **client, mdb_net_err *err);
 
 /* Ends the commands that run, closes every connection and waits for the client's threads. What it told can still be taken. Answers MDB_NET_OK, or why the
- * client had ended before: NO_MEMORY or INTERNAL. A second stop does nothing. */
+ * client had ended before: NO_MEMORY or INTERNAL. A second stop does nothing, and where the first one is not over it waits for its end. */
 mdb_net_code mdb_net_stop(mdb_net_client *client);
 
 /* Why a client has ended by itself: NO_MEMORY or INTERNAL; OK while it has not. */
