@@ -439,11 +439,12 @@ def calls(given):
     expect('open mongodb://a:b@c', OPTIONS)
     expect('open mongodb://c,', OPTIONS)
     expect('open mongodb://c/?directConnection=true&loadBalanced=true', OPTIONS)
+    expect('open mongodb+srv://cluster.live.test/?directConnection=true', OPTIONS)
     expect('open mongodb://127.0.0.1:1', OK)
     status, errors = made.end()
     one.close()
     two.close()
-    return status == 0 and not wrong, '19 calls, status %d %s; wrong: %s' % (status, errors, wrong or 'none')
+    return status == 0 and not wrong, '20 calls, status %d %s; wrong: %s' % (status, errors, wrong or 'none')
 
 
 SCENARIOS = {it.__name__.replace('_', '-'): it for it in (

@@ -183,7 +183,8 @@ bool uri_read(struct options *options, const char *uri, struct text *wrong) {
     bool well = srv ? read_srv_host(options, hosts, length) : read_hosts(options, hosts, length);
     if (!well) return text_add(wrong, "bad hosts"), false;
     const char *pairs = strchr(hosts + length, '?');
-    return !pairs || options_read(options, pairs + 1, wrong);
+    if (pairs && !options_read(options, pairs + 1, wrong)) return false;
+    return !(srv && options->direct) || (text_add(wrong, "directConnection goes with no list of seeds"), false);
 }
 
 static void line_add(struct text *line, const char *name, long value) {
