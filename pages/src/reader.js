@@ -2,6 +2,7 @@
 import { Unreadable, unreadable } from './words.js';
 import { readStep } from './steps.js';
 import { readReply, readFact } from './facts.js';
+import { partsOf } from './names.js';
 
 const UNPRINTABLE = /[^ -~]/;
 
@@ -64,6 +65,11 @@ export class Log {
 
   line(at) {
     return this.text.slice(this.starts[at], this.starts[at + 1] - 1);
+  }
+
+  /** An entry by its parts, with what their words name. */
+  parts(at) {
+    return partsOf(this.line(at));
   }
 
   /** A last line without newline is drawn where it can be read: it may be cut. */
