@@ -87,7 +87,9 @@ function stretchAt(picture, place) {
   return at < 0 ? null : { entry: history.topology[at].entry, thing: null, said: topologyText(history, history.topology[at]) };
 }
 
-const TYPES = 23; // pixels of a server's lane that its types take, below the triangles of clears
+const TYPES = 23; // pixels of a server's lane that its types take, with the triangles of clears over them
+
+const isClear = (server, entry) => server.marks.some((it) => it.entry === entry && (it.kind === 'clear' || it.kind === 'raise'));
 
 /** The stretch of a server's type that covers a place on the axis, with its words. */
 function typeAt(picture, server, place) {
@@ -105,9 +107,10 @@ export function pick(picture, x, y) {
   const stops = stopsOf(picture.history, lane, row);
   const near = nearestStop(stops, picture.scale, place);
   if (lane.kind !== 'connections' && lane.kind !== 'requests') {
+    const isNear = near.away * picture.factor <= REACH;
     if (lane.kind === 'topology' && y + picture.scroll - lane.y < BAND) found.stop = stretchAt(picture, place);
-    else if (near.away * picture.factor <= REACH) found.stop = stops[near.at];
-    else if (lane.kind === 'server' && y + picture.scroll - lane.y < TYPES) found.stop = typeAt(picture, lane.server, place);
+    else if (lane.kind === 'server' && y + picture.scroll - lane.y < TYPES && !(isNear && isClear(lane.server, stops[near.at].entry))) found.stop = typeAt(picture, lane.server, place);
+    else if (isNear) found.stop = stops[near.at];
     return found;
   }
   const error = lane.pool.errors.find((it) => it.connection.row === row && lane.kind === 'connections' && Math.abs(picture.scale.at(it.entry) - place) * picture.factor <= REACH);
