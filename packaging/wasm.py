@@ -4,7 +4,7 @@
 usage: packaging/wasm.py [--built FOLDER] [--to FILE]
 
 FOLDER is what packaging/build.py or packaging/unproved.py left, with the module for LLVM of the library for x86-64. Its text is given the data layout and
-the triple of wasm64 and compiled by the kit's clang, with packaging/heap_wasm.c in place of a C library; binaryen then lowers it to a memory of 32 bits, which
+the triple of wasm64 and compiled by the kit's clang, with heap_wasm.c and wide_wasm.c in place of a C library; binaryen then lowers it to a memory of 32 bits, which
 every browser has. Neither step is covered by a proof: checks/wasm.py compares the module's logs with those of the archive. Beside it stands mdb.json, which
 says of what it was made. Needs the kit, and wasm-opt (Debian's binaryen).
 """
@@ -25,7 +25,10 @@ from shipped import BUILT, HERE, LIBRARY, TARGETS
 LAYOUT = "e-m:e-p:64:64-p10:8:8-p20:8:8-i64:64-i128:128-n32:64-S128-ni:1:10:20"
 TRIPLE = "wasm64-unknown-unknown"
 CPU = "lime1"
-COMPILING = f"--target={TRIPLE} -mcpu={CPU} -mbulk-memory -O3 -mllvm -expand-div-rem-bits=64 -ffunction-sections -fdata-sections -Wno-override-module".split()
+COMPILING = f"--target={TRIPLE} -mcpu={CPU} -mbulk-memory -mllvm -expand-div-rem-bits=64 -ffunction-sections -fdata-sections -Wno-override-module".split()
+ALONE = "-O2 -ffreestanding -fno-builtin -nostdinc -x c".split()
+# What stands in for a C library and for instructions that there are none of.
+HELPERS = ("heap_wasm.c", "wide_wasm.c")
 LINKING = "-flavor wasm -mwasm64 --no-entry --stack-first -z stack-size=1048576 --gc-sections --fatal-warnings --strip-all".split()
 LOWERING = "--enable-memory64 --enable-bulk-memory --enable-sign-ext --enable-nontrapping-float-to-int --enable-mutable-globals --memory64-lowering".split()
 # What a host calls: those of the header, and its own room.
@@ -53,10 +56,11 @@ def linked(kit: Path, text: str, room: Path) -> Path:
         raise Stop("the module has no function that can be called from outside")
     module = room / "module.ll"
     module.write_text(retargeted(text), encoding="utf-8")
-    run(clang, *COMPILING, "-x", "ir", "-c", module, "-o", room / "library.o")
-    run(clang, *COMPILING, "-ffreestanding", "-fno-builtin", "-nostdinc", "-x", "c", "-c", HERE / "heap_wasm.c", "-o", room / "heap.o")
+    run(clang, *COMPILING, "-O3", "-x", "ir", "-c", module, "-o", room / "library.o")
+    for it in HELPERS:
+        run(clang, *COMPILING, *ALONE, "-c", HERE / it, "-o", room / f"{it}.o")
     words = [f"--export={it}" for it in (*exports, *ROOM)]
-    run(kit / "toolchain/bin/ld.lld", *LINKING, *words, "-o", room / "mdb64.wasm", room / "library.o", room / "heap.o")
+    run(kit / "toolchain/bin/ld.lld", *LINKING, *words, "-o", room / "mdb64.wasm", room / "library.o", *(room / f"{it}.o" for it in HELPERS))
     return room / "mdb64.wasm"
 
 

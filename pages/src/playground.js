@@ -80,11 +80,12 @@ class Playground {
     this.isAsked = true;
     requestAnimationFrame(() => {
       this.isAsked = false;
-      if (this.library !== undefined) this.run(true);
+      this.run(true);
     });
   }
 
   run(isChanged) {
+    if (this.library === undefined) return;
     const begun = performance.now();
     const { entries, fault } = runScript(this.library, this.editor.text);
     this.entries = entries;
