@@ -47,7 +47,8 @@ def failover(checks):
     checks.equal('the log of the failover', log(checks) == stored('pages', 'examples', 'failover.log'), True)
     checks.equal('no line is wrong', text(checks, 'wrong'), '')
     checks.equal('its timeline has no complaint', checks.timeline('unread()'), [])
-    checks.true('its lanes are drawn', checks.timeline('drawn()')['grants'] == 60, checks.timeline('drawn()'))
+    checks.equal('its timeline has each grant', checks.timeline('counts()')['grants'], log(checks).count(' | Granted '))
+    checks.true('its lanes are drawn', checks.timeline('drawn()')['connections'] > 0, checks.timeline('drawn()'))
 
 
 def wrong(checks):

@@ -46,6 +46,7 @@ export function hintAt(text, place) {
   const start = text.lastIndexOf('\n', place - 1) + 1;
   const words = text.slice(start, place).split(' ');
   const begun = words[words.length - 1];
-  const found = candidates(words, text).filter((it) => it.startsWith(begun) && it.trim() !== begun);
-  return { shape: shapeOf(words[0]), begun, words: found.slice(0, MOST_WORDS) };
+  const isAtEnd = ['', ' ', '\n'].includes(text.charAt(place)); // of a word: nothing is put into one
+  const found = isAtEnd ? candidates(words, text).filter((it) => it.startsWith(begun) && it.trim() !== begun) : [];
+  return { shape: shapeOf(/^\w*/.exec(text.slice(start))[0]), begun, words: found.slice(0, MOST_WORDS) };
 }

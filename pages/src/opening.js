@@ -7,12 +7,12 @@ const PORTION = 25000; // lines that are read before the page may do other thing
 
 const rest = () => new Promise((resolve) => setTimeout(resolve, 0));
 
-/** A text with its history, of which nothing is read yet, and what reads a part of it. */
-function begun(name, text) {
+/** A text with its history, of which nothing is read yet, and what reads a part of it. `reader` reads a line of a log. */
+function begun(name, text, reader) {
   const log = isRecording(text) ? new RecordingLog(name, text) : new Log(name, text);
   const history = new History(log.count);
   const take = (entry, parsed) => history.take(entry, parsed);
-  const read = (from, to) => (log instanceof RecordingLog ? readRecorded(log, history, from, to) : readLines(log, from, to, take));
+  const read = (from, to) => (log instanceof RecordingLog ? readRecorded(log, history, from, to) : readLines(log, from, to, take, reader));
   return { log, history, read };
 }
 
@@ -35,8 +35,8 @@ export async function readText(name, text, progress) {
 }
 
 /** Reads a text at once. */
-export function readNow(name, text) {
-  const all = begun(name, text);
+export function readNow(name, text, reader) {
+  const all = begun(name, text, reader);
   all.read(0, all.log.count);
   return ended(all);
 }

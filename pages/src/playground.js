@@ -7,10 +7,12 @@ import { runScript } from './running.js';
 import { reasonOf } from './reasons.js';
 import { readNow, unpacked, fromFragment, fragmentOf, listen } from './opening.js';
 import { saved, copied } from './saving.js';
+import { keepingReader } from './reader.js';
 import { element } from './details.js';
 import { answerScripts } from './answers.js';
 
 const page = Object.fromEntries([...document.querySelectorAll('[id]')].map((it) => [it.id, it]));
+const MOST_KEPT = 20000; // lines of logs that were read
 const WARM = 20; // runs of the first script, so that a browser has compiled what a key asks for
 
 class Playground {
@@ -23,6 +25,7 @@ class Playground {
     this.examples = JSON.parse(page.scripts.textContent);
     this.name = '';
     this.entries = [];
+    this.reader = keepingReader(MOST_KEPT);
     this.bind();
   }
 
@@ -92,7 +95,7 @@ class Playground {
     this.editor.mark(fault, fault === null ? '' : reasonOf(fault));
     this.log.show(entries.map((it, at) => ({ entry: at, text: it.slice(0, -1) })));
     const ran = performance.now();
-    const { log, history } = readNow(this.name, entries.join(''));
+    const { log, history } = readNow(this.name, entries.join(''), this.reader);
     this.view.show(log, history, isChanged);
     this.toLine(Math.min(this.editor.lineOfCaret(), entries.length - 1));
     this.summarize(history);
