@@ -3,6 +3,7 @@ import re
 
 import page_keys
 import page_looks
+import page_numbers
 import page_ways
 from browser import CTRL, SHIFT
 from log_counts import names
@@ -164,4 +165,5 @@ def run(checks, is_quick):
     page_keys.run(checks, lines())
     moments(checks)
     page_ways.run(checks)
+    page_numbers.run(checks)
     page_looks.run(checks, is_quick)

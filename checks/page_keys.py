@@ -3,7 +3,7 @@ import json
 
 from browser import SHIFT
 
-CONTROLS = {'pick', 'axistime', 'wider', 'closer', 'fit', 'bars', 'search', 'themes', 'keys', 'scroll', 'jumps'}
+CONTROLS = {'pick', 'axistime', 'wider', 'closer', 'fit', 'bars', 'onlyserver', 'onlyfailed', 'link', 'png', 'search', 'themes', 'keys', 'scroll', 'mark', 'jumps'}
 MOST = 60
 
 

@@ -12,7 +12,7 @@ from audit import log as audit_log
 NAMED = {'button', 'textbox', 'searchbox', 'checkbox', 'radio', 'listbox', 'option', 'application', 'dialog', 'img', 'alert', 'heading'}
 # Colours of text and of what is under it, which are to differ so much (WCAG: 4.5 for text, 3 for signs).
 TEXTS = [('ink', 'page'), ('muted', 'page'), ('ink', 'panel'), ('muted', 'panel'), ('ink', 'lane'), ('muted', 'lane'), ('bad', 'page'), ('warn', 'page'), ('accent', 'panel'),
-         ('onheld', 'held'), ('onprimary', 'primary'), ('onsecondary', 'secondary'), ('onother', 'other'), ('ink', 'mark')]
+         ('onheld', 'held'), ('onprimary', 'primary'), ('onsecondary', 'secondary'), ('onother', 'other'), ('onnone', 'none'), ('onheld', 'pinned'), ('ink', 'mark'), ('bad', 'panel')]
 SIGNS = [(name, ground) for name in ('pending', 'available', 'held', 'pinned', 'waiting', 'accent') for ground in ('page', 'lane')]
 MEBIBYTE = 1_048_576
 OPENING, FRAME = 3.0, 0.040  # processor seconds at most: of opening 8 MiB, and of the page for one frame
@@ -46,12 +46,17 @@ def contrasts(checks, scheme):
     return colour('page')
 
 
-def narrow(checks):
-    checks.browser.size(390, 800, ratio=2, is_phone=True)
-    checks.browser.settle()
-    checks.true('nothing is wider than a narrow screen', checks.ask('document.documentElement.scrollWidth') <= 390)
-    checks.true('lanes are drawn on a narrow screen', checks.timeline('drawn()')['connections'] > 0)
-    checks.keep('narrow')
+WIDTHS = (390, 820, 1024, 1400, 2560)
+
+
+def widths(checks, name):
+    """The page on screens of many widths: nothing is wider than the screen, and lanes are drawn."""
+    for width in WIDTHS:
+        checks.browser.size(width, 900, ratio=2 if width < 500 else 1, is_phone=width < 500)
+        checks.browser.settle()
+        checks.true('nothing is wider than %d pixels' % width, checks.ask('document.documentElement.scrollWidth') <= width)
+        checks.true('lanes are drawn on %d pixels' % width, checks.timeline('drawn()')['connections'] > 0)
+        checks.keep('%s-%d' % (name, width))
     checks.browser.size(1400, 900)
 
 
@@ -94,10 +99,11 @@ def run(checks, is_quick):
     checks.ask('document.getElementById("search").value = "#%d"; document.getElementById("searching").requestSubmit(); 1' % (late + 1))
     checks.ask('document.getElementById("search").value = ""; document.getElementById("search").dispatchEvent(new Event("input"))')
     checks.keep('dark')
+    widths(checks, 'dark')
     checks.browser.scheme('light')
     checks.keep('timeline')
     names(checks)
-    narrow(checks)
+    widths(checks, 'light')
     if not is_quick:
         long_log(checks, 'a long log', made(8 * MEBIBYTE))
         long_log(checks, 'a log of a hundred connections', audit_log(100, 8 * MEBIBYTE).decode())

@@ -1,26 +1,36 @@
 #!/usr/bin/env python3
-"""Builds pages/timeline.html from pages/src: the modules in the order of their imports, the style, and the page around them.
+"""Builds the pages of pages/src, each into one file that opens from the disk: the modules in the order of their imports, the style, and the page around them.
 
-usage: pages/build.py [--check]
+usage: pages/build.py [--check] [--module FILE] [--to FOLDER] [timeline] [playground]
 
-Each module's imports are dropped and its exports made plain, so all stand in one scope: a name that two modules declare is
-refused. With --check nothing is written, and the status is 1 where the page is not what the sources build.
+timeline is pages/timeline.html, and all that is built where no page is named. playground, which runs scripts, also has the module of WebAssembly that
+packaging/wasm.py made (packaging/out/wasm/mdb.wasm, or FILE): it is written to pages/playground.html where that module was proved, and else to
+pages/out, and FOLDER takes either. Each module's imports are dropped and its exports made plain, so all stand in one scope: a name that two modules declare is refused. With
+--check nothing is written, and the status is 1 where pages/timeline.html is not what the sources build.
 """
 import argparse
+import base64
+import gzip
+import json
 import os
 import re
 import sys
 
 HERE = os.path.dirname(os.path.abspath(__file__))
 SOURCES = os.path.join(HERE, 'src')
+EXAMPLES = os.path.join(HERE, 'examples')
 PAGE = os.path.join(HERE, 'timeline.html')
+MODULE = os.path.join(HERE, os.pardir, 'packaging', 'out', 'wasm', 'mdb.wasm')
+ROOTS = {'timeline': 'app.js', 'playground': 'playground.js'}
 IMPORT = re.compile(r"^import [^;]*? from '\./(\w+\.js)';\n", re.MULTILINE)
 EXPORT_LIST = re.compile(r'^export \{[^}]*\};\n', re.MULTILINE)
 DECLARED = re.compile(r'^(?:export )?(?:async )?(?:function|class|const|let) (\w+)', re.MULTILINE)
+INCLUDED = re.compile(r'^<!--(\w+\.html)-->\n', re.MULTILINE)
+LEVEL = 9  # of packing
 
 
-def read(name):
-    with open(os.path.join(SOURCES, name), encoding='utf-8') as file:
+def read(name, folder=SOURCES):
+    with open(os.path.join(folder, name), encoding='utf-8') as file:
         return file.read()
 
 
@@ -44,24 +54,60 @@ def plain(name, owners):
     return '// %s\n' % name + re.sub(r'^export ', '', text, flags=re.MULTILINE)
 
 
-def built():
+def data(texts):
+    """Texts that a page carries, as a script of JSON."""
+    return json.dumps(texts, indent=0).replace('</', '<\\/')
+
+
+def built(name='timeline', more=None):
+    """A page, with its modules and texts; `more` replaces further places of its frame."""
     owners = {}
-    modules = [plain(name, owners) for name in in_order('app.js', {})]
+    modules = [plain(it, owners) for it in in_order(ROOTS[name], {})]
     script = "'use strict';\n(() => {\n" + '\n'.join(modules) + '})();'
-    return read('page.html').replace('/*STYLE*/', read('page.css')).replace('/*SCRIPT*/', script.replace('</script', '<\\/script'))
+    page = INCLUDED.sub(lambda found: read(found[1]), read(name + '.html'))
+    examples = data({it: read(it, EXAMPLES) for it in sorted(os.listdir(EXAMPLES)) if it.endswith('.log' if name == 'timeline' else '.script')})
+    style = read('page.css') + (read('playground.css') if name == 'playground' else '')
+    places = {'/*STYLE*/': style, '/*SCRIPT*/': script.replace('</script', '<\\/script'), '/*EXAMPLES*/': examples, **(more or {})}
+    for place, text in places.items():
+        page = page.replace(place, text)
+    return page
+
+
+def write(path, text):
+    os.makedirs(os.path.dirname(path), exist_ok=True)
+    with open(path, 'w', encoding='utf-8', newline='\n') as file:
+        file.write(text)
+    print('%s: %d bytes' % (os.path.relpath(path), len(text.encode())))
+
+
+def playground(module, folder):
+    """The page that runs scripts, with the module and what is said of it."""
+    with open(module, 'rb') as file:
+        packed = base64.b64encode(gzip.compress(file.read(), LEVEL, mtime=0)).decode()
+    with open(os.path.splitext(module)[0] + '.json', encoding='utf-8') as file:
+        made = json.load(file)
+    about = {key: made[key] for key in ('commit', 'changed', 'proved', 'compiler', 'lowered')}
+    home = HERE if made['proved'] and not made['changed'] else os.path.join(HERE, 'out')
+    write(os.path.join(folder or home, 'playground.html'), built('playground', {'/*MODULE*/': packed, '/*ABOUT*/': data(about)}))
 
 
 def main():
     reader = argparse.ArgumentParser(description=__doc__, formatter_class=argparse.RawDescriptionHelpFormatter)
-    reader.add_argument('--check', action='store_true', help='write nothing, and say whether the page is up to date')
+    reader.add_argument('--check', action='store_true', help='write nothing, and say whether the timeline is up to date')
+    reader.add_argument('--module', default=MODULE, help='what packaging/wasm.py made')
+    reader.add_argument('--to', help='the folder for the pages')
+    reader.add_argument('pages', nargs='*', metavar='PAGE', help='timeline, playground')
     given = reader.parse_args()
-    text = built()
     if given.check:
         with open(PAGE, encoding='utf-8') as file:
-            return 0 if file.read() == text else 1
-    with open(PAGE, 'w', encoding='utf-8', newline='\n') as file:
-        file.write(text)
-    print('%s: %d bytes' % (os.path.relpath(PAGE), len(text.encode())))
+            return 0 if file.read() == built() else 1
+    for name in given.pages or ['timeline']:
+        if name not in ROOTS:
+            reader.error('no page ' + name)
+        if name == 'playground':
+            playground(given.module, given.to)
+        else:
+            write(os.path.join(given.to, 'timeline.html') if given.to else PAGE, built())
     return 0
 
 

@@ -1,5 +1,5 @@
 // The selected entry: its text by its parts, with what it names as buttons, and the life of what was picked.
-import { partsOf, thingOf } from './names.js';
+import { thingOf } from './names.js';
 import { thingName, stateText, lifeOf, momentText } from './say.js';
 
 export function element(tag, properties = {}, ...children) {
@@ -43,7 +43,7 @@ export class Details {
     }
     const isRead = picture.history.isRead[entry] === 1;
     found.push(element('h3', { textContent: `Entry ${entry + 1} of ${log.count}, ${isRead ? momentText(picture, entry) : 'not read'}` }));
-    found.push(isRead ? this.text(log.line(entry)) : element('pre', { textContent: log.line(entry) }));
+    found.push(isRead ? this.text(log.parts(entry)) : element('pre', { textContent: log.line(entry) }));
     if (isRead) found.push(this.named());
     return found;
   }
@@ -69,9 +69,9 @@ export class Details {
     return list;
   }
 
-  text(line) {
+  text(parts) {
     const box = element('div', { className: 'entry' });
-    for (const part of partsOf(line)) {
+    for (const part of parts) {
       const row = element('div', { className: part.role });
       part.tokens.forEach((token, at) => row.append(at > 0 ? ' ' : '', this.token(token)));
       box.append(row);

@@ -16,6 +16,7 @@ export class History {
     this.refusals = [];
     this.grantEntries = []; // the entries that granted a connection, in order
     this.options = {};
+    this.started = new Set(); // of a recording: the check-outs that wait, in the order in which they began
     this.touched = [];
     this.tallies = { entries: 0, created: 0, established: 0, grants: 0, closed: {}, ended: {}, returned: 0 };
   }
@@ -34,6 +35,16 @@ export class History {
     this.reply = reply;
     if (Object.hasOwn(ACTS, step.kind)) ACTS[step.kind](this, step, entry);
     for (const fact of facts) if (Object.hasOwn(FACTS, fact.kind)) FACTS[fact.kind](this, fact, entry);
+    this.keepSizes(entry);
+  }
+
+  /** An event of a recording, and what it does. */
+  tell(entry, moment, act) {
+    this.isRead[entry] = 1;
+    this.isDone[entry] = 1;
+    this.moments[entry] = moment;
+    this.tallies.entries += 1;
+    act();
     this.keepSizes(entry);
   }
 

@@ -3,8 +3,15 @@
 export const HEIGHTS = { topology: 40, server: 54, pool: 66, connections: 18, requests: 13 };
 const GAP = 6;
 
-/** The lanes in order. A pool whose number is in `folded` shows no bars. */
-export function lanesOf(history, folded, areBarsShown) {
+/** The row of each bar of a lane that does not have all of its pool. */
+function placesIn(rows) {
+  const found = new Map();
+  rows.forEach((bars, row) => bars.forEach((bar) => found.set(bar, row)));
+  return found;
+}
+
+/** The lanes in order. A pool whose number is in `folded` shows no bars; the filter says what else is shown. */
+export function lanesOf(history, { folded, areBarsShown, filter }) {
   const lanes = [];
   let y = 0;
   const add = (kind, what, rows) => {
@@ -14,13 +21,15 @@ export function lanesOf(history, folded, areBarsShown) {
   };
   add('topology', {}, [[]]);
   for (const server of history.servers.values()) {
+    if (!filter.shows(server)) continue;
     y += GAP;
     add('server', { server }, [[]]);
     for (const pool of server.pools) {
       add('pool', { server, pool }, [[]]);
       if (!areBarsShown || folded.has(pool.number)) continue;
       if (pool.connectionRows.rows.length > 0) add('connections', { server, pool }, pool.connectionRows.rows);
-      if (pool.requestRows.rows.length > 0) add('requests', { server, pool }, pool.requestRows.rows);
+      const requests = filter.requestRows(pool);
+      if (requests.length > 0) add('requests', { server, pool, places: filter.isFailed ? placesIn(requests) : null }, requests);
     }
   }
   return { lanes, height: y + GAP };
@@ -44,10 +53,16 @@ export function firstLaneFrom(lanes, y) {
   return low;
 }
 
-/** Where the row of a connection or of a request begins, or nothing where its pool shows no bars. */
+/** The row of a bar in a lane of its pool, or -1 where it is not shown. */
+export function rowIn(lane, thing) {
+  return lane.places ? (lane.places.get(thing) ?? -1) : thing.row;
+}
+
+/** Where the row of a connection or of a request begins, or nothing where its pool does not show it. */
 export function rowPlace(lanes, kind, thing) {
   const lane = lanes.find((it) => it.kind === kind && it.pool === thing.pool);
-  return lane === undefined ? null : { y: lane.y + thing.row * lane.rowHeight, height: lane.rowHeight };
+  const row = lane === undefined ? -1 : rowIn(lane, thing);
+  return row < 0 ? null : { y: lane.y + row * lane.rowHeight, height: lane.rowHeight };
 }
 
 /** The last bar of a row that begins at or before the entry, or the first of all. */

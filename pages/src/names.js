@@ -57,9 +57,9 @@ export function thingOf(history, name) {
 const hasThen = (request, entry) => request.connection && request.granted <= entry && (request.end < 0 || request.end >= entry);
 
 /** All that an entry names, and what belongs to it: a party's connection, a connection's pool, its server. */
-export function namedBy(history, line, entry) {
+export function namedBy(history, log, entry) {
   const found = new Set();
-  for (const part of partsOf(line)) {
+  for (const part of history.isRead[entry] === 1 ? log.parts(entry) : []) {
     for (const token of part.tokens) {
       const thing = token.names === null ? null : thingOf(history, token.names);
       if (thing !== null) found.add(thing);

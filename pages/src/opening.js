@@ -1,23 +1,44 @@
 // How a log comes in: picked, dropped, or in the fragment of the page's address.
 import { Log, readLines } from './reader.js';
 import { History } from './history.js';
+import { RecordingLog, isRecording, readRecorded } from './recording.js';
 
 const PORTION = 25000; // lines that are read before the page may do other things
 
 const rest = () => new Promise((resolve) => setTimeout(resolve, 0));
 
-/** Reads a text, and tells how far it is. */
-export async function readText(name, text, progress) {
-  const log = new Log(name, text);
+/** A text with its history, of which nothing is read yet, and what reads a part of it. `reader` reads a line of a log. */
+function begun(name, text, reader) {
+  const log = isRecording(text) ? new RecordingLog(name, text) : new Log(name, text);
   const history = new History(log.count);
-  for (let from = 0; from < log.count; from += PORTION) {
-    readLines(log, from, Math.min(from + PORTION, log.count), (entry, parsed) => history.take(entry, parsed));
-    progress(Math.min(from + PORTION, log.count), log.count);
-    await rest();
-  }
+  const take = (entry, parsed) => history.take(entry, parsed);
+  const read = (from, to) => (log instanceof RecordingLog ? readRecorded(log, history, from, to) : readLines(log, from, to, take, reader));
+  return { log, history, read };
+}
+
+function ended({ log, history }) {
   log.noteEnd();
   history.end();
   return { log, history };
+}
+
+/** Reads a text, and tells how far it is. */
+export async function readText(name, text, progress) {
+  const all = begun(name, text);
+  const { count } = all.log;
+  for (let from = 0; from < count; from += PORTION) {
+    all.read(from, Math.min(from + PORTION, count));
+    progress(Math.min(from + PORTION, count), count);
+    await rest();
+  }
+  return ended(all);
+}
+
+/** Reads a text at once. */
+export function readNow(name, text, reader) {
+  const all = begun(name, text, reader);
+  all.read(0, all.log.count);
+  return ended(all);
 }
 
 function bytesOf(text) {
@@ -25,23 +46,36 @@ function bytesOf(text) {
   return Uint8Array.from(plain, (letter) => letter.charCodeAt(0));
 }
 
-async function unzipped(bytes) {
-  const stream = new Blob([bytes]).stream().pipeThrough(new DecompressionStream('gzip'));
-  return new Response(stream).text();
+const through = (bytes, stream) => new Response(new Blob([bytes]).stream().pipeThrough(stream));
+
+/** What base64 of gzip has packed. */
+export const unpacked = (text) => through(bytesOf(text), new DecompressionStream('gzip'));
+
+/** A text as base64 of gzip, in letters that an address may have. */
+async function packedText(text) {
+  const bytes = new Uint8Array(await through(new TextEncoder().encode(text), new CompressionStream('gzip')).arrayBuffer());
+  const letters = Array.from(bytes, (it) => String.fromCharCode(it)).join('');
+  return btoa(letters).replaceAll('+', '-').replaceAll('/', '_').replaceAll('=', '');
 }
 
-/** The log of a fragment: #log=TEXT with percent escapes, or #gzip=BASE64; `name`, `axis` and `entry` may stand beside it. */
-export async function fromFragment(fragment) {
+/** A fragment that holds a text of this kind, and the words beside it. */
+export async function fragmentOf(kind, text, words) {
+  const whole = typeof CompressionStream === 'undefined' ? [kind, encodeURIComponent(text)] : ['gzip', await packedText(text)];
+  return '#' + [...Object.entries(words).map(([name, value]) => [name, encodeURIComponent(value)]), whole].map((it) => it.join('=')).join('&');
+}
+
+/** The text of a fragment: #log=TEXT with percent escapes, where `log` is its kind, or #gzip=BASE64; `name`, `axis` and `entry` may stand beside it. */
+export async function fromFragment(fragment, kind = 'log') {
   const words = new Map(fragment.replace(/^#/, '').split('&').map((it) => [it.slice(0, it.indexOf('=')), it.slice(it.indexOf('=') + 1)]));
-  const said = { name: decodeURIComponent(words.get('name') ?? 'a log from the address'), axis: words.get('axis'), entry: words.get('entry') };
-  if (words.has('log')) return { ...said, text: decodeURIComponent(words.get('log')) };
-  if (words.has('gzip')) return { ...said, text: await unzipped(bytesOf(words.get('gzip'))) };
+  const said = { name: decodeURIComponent(words.get('name') ?? `a ${kind} from the address`), axis: words.get('axis'), entry: words.get('entry') };
+  if (words.has(kind)) return { ...said, text: decodeURIComponent(words.get(kind)) };
+  if (words.has('gzip')) return { ...said, text: await (await unpacked(words.get('gzip'))).text() };
   return null;
 }
 
 /** Files that are picked or dropped are handed on, the first of them. */
-export function listen(page, open) {
-  page.pick.addEventListener('click', () => page.file.click());
+export function listen(page, button, open) {
+  button.addEventListener('click', () => page.file.click());
   page.file.addEventListener('change', () => {
     if (page.file.files.length > 0) open(page.file.files[0]);
     page.file.value = '';

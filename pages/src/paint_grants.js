@@ -1,5 +1,5 @@
 // Grants: a line from the request, where it was granted, to the connection that it got.
-import { HEIGHTS } from './layout.js';
+import { HEIGHTS, rowIn } from './layout.js';
 
 const CLOSE = 3; // pixels; of lines that are closer the first is drawn, and those that are lit
 const HEAD_ROOM = 6; // pixels; closer lines have no heads
@@ -33,9 +33,11 @@ function firstFrom(frame, grants, place, from) {
 }
 
 function paintGrant(frame, lanes, grant, hasHead) {
+  const row = rowIn(lanes.requests, grant.request);
+  if (row < 0) return false;
   const x = frame.x(grant.entry);
   const to = lanes.connections.y - frame.top + (grant.connection.row + 1) * HEIGHTS.connections - 3;
-  const from = lanes.requests.y - frame.top + grant.request.row * HEIGHTS.requests + HEIGHTS.requests / 2;
+  const from = lanes.requests.y - frame.top + row * HEIGHTS.requests + HEIGHTS.requests / 2;
   const isSeen = from >= 0 && to <= frame.height && x >= frame.left && x <= frame.right;
   if (isSeen) line(frame, x, from, to, frame.isLit(grant.request), hasHead || frame.isLit(grant.request));
   return isSeen;

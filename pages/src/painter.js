@@ -70,6 +70,30 @@ function paintName(frame, lane, y) {
   pen.restore();
 }
 
+/** The two marks, and a veil between them. */
+function paintMarks(frame) {
+  const { picture, pen, palette } = frame;
+  const places = picture.marks.map((it) => Math.min(Math.max(frame.x(it), frame.left - 2), frame.right + 2));
+  if (places.length === 2) {
+    pen.globalAlpha = 0.1;
+    frame.box(palette.accent, places[0], places[1], 0, frame.height);
+    pen.globalAlpha = 1;
+  }
+  pen.setLineDash([4, 3]);
+  pen.lineWidth = 1.5;
+  pen.strokeStyle = palette.accent;
+  places.forEach((x, at) => {
+    if (x < frame.left || x > frame.right) return;
+    pen.beginPath();
+    pen.moveTo(x, 0);
+    pen.lineTo(x, frame.height);
+    pen.stroke();
+    pen.font = BOLD_FONT;
+    frame.text('AB'[at], x + 3, frame.height - 6, palette.accent, true);
+  });
+  pen.setLineDash([]);
+}
+
 function paintCursor(frame) {
   const { picture, pen, palette } = frame;
   if (picture.entry < 0) return;
@@ -118,6 +142,7 @@ export function paintLanes(pen, picture) {
     if (y > frame.height && !(isPaired && lanes[at - 1].y - picture.scroll <= frame.height)) break;
     paintLane(frame, lanes[at], y, lanes, at);
   }
+  paintMarks(frame);
   paintCursor(frame);
   return frame.drawn;
 }

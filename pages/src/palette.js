@@ -38,7 +38,10 @@ export function paletteOf(context, ratio) {
 const TYPE_COLOURS = { RsPrimary: ['primary', 'onprimary'], RsSecondary: ['secondary', 'onsecondary'], Unknown: ['unknownHatch', 'ink'] };
 const MAIN_TYPES = new Set(['Standalone', 'Mongos', 'LoadBalancer']);
 
-const TOPOLOGY_COLOURS = { ReplicaSetNoPrimary: ['none', 'onnone'], Unknown: ['unknownHatch', 'ink'], ReplicaSetWithPrimary: ['primary', 'onprimary'] };
+const TOPOLOGY_COLOURS = {
+  ReplicaSetNoPrimary: ['none', 'onnone'], Unknown: ['unknownHatch', 'ink'], ReplicaSetWithPrimary: ['primary', 'onprimary'],
+  Sharded: ['secondary', 'onsecondary'], Single: ['other', 'onother'], LoadBalanced: ['pinned', 'onheld'],
+};
 
 /** The colours of a topology's type: that of no primary stands out. */
 export function topologyColours(palette, type) {

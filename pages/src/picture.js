@@ -1,6 +1,7 @@
 // The picture as a whole: the log, what is in view, what is selected, and the two canvases.
 import { Scale } from './scale.js';
-import { lanesOf } from './layout.js';
+import { lanesOf, rowPlace } from './layout.js';
+import { Filter } from './filters.js';
 import { paletteOf } from './palette.js';
 import { paintLanes } from './painter.js';
 import { paintHead, HEAD } from './paint_head.js';
@@ -17,6 +18,8 @@ export class Picture {
     this.page = page;
     this.folded = new Set();
     this.areBarsShown = true;
+    this.filter = new Filter();
+    this.marks = []; // two entries at most, between which the time is told
     this.drawn = nothingDrawn();
     this.lit = new Set();
     this.entry = -1;
@@ -27,16 +30,36 @@ export class Picture {
   }
 
   show(log, history) {
+    this.folded.clear();
+    this.filter.clear();
+    this.marks = [];
+    this.take(log, history);
+    this.resize();
+    this.arrange();
+    this.fit();
+  }
+
+  take(log, history) {
     this.log = log;
     this.history = history;
     this.scale = new Scale(history.moments);
     this.jumpItems = history.jumps;
     this.refusalItems = history.jumps.filter((it) => it.kind === 'refusal');
-    this.folded.clear();
     this.select(-1, null);
-    this.resize();
+  }
+
+  /** Another log in place of one that was changed a little: what is folded stays so, and the part in view where it is not the whole. */
+  change(log, history) {
+    const { axis } = this.scale;
+    const { from, to } = this.view;
+    const whole = this.wholeView();
+    const isWhole = from <= whole.from && to >= whole.to;
+    this.take(log, history);
+    this.scale.setAxis(axis);
+    this.marks = this.marks.filter((it) => it < log.count);
     this.arrange();
-    this.fit();
+    if (isWhole) this.fit();
+    else this.look(from, to);
   }
 
   resize() {
@@ -61,7 +84,7 @@ export class Picture {
   }
 
   arrange() {
-    const { lanes, height } = lanesOf(this.history, this.folded, this.areBarsShown);
+    const { lanes, height } = lanesOf(this.history, this);
     this.lanes = lanes;
     this.page.space.style.height = Math.max(height, this.height) + 'px';
     this.ask();
@@ -80,10 +103,15 @@ export class Picture {
     return this.view.from + (x - this.gutter) / this.factor;
   }
 
-  fit() {
+  wholeView() {
     const [from, to] = this.scale.extent();
     const margin = Math.max((to - from) * EDGE, CLOSEST);
-    this.look(from - margin, to + margin);
+    return { from: from - margin, to: to + margin };
+  }
+
+  fit() {
+    const { from, to } = this.wholeView();
+    this.look(from, to);
   }
 
   /** Sets the view, within the log and not closer than can be told apart. */
@@ -124,7 +152,7 @@ export class Picture {
   select(entry, thing) {
     this.entry = entry;
     this.thing = thing;
-    this.lit = entry < 0 ? new Set() : namedBy(this.history, this.log.line(entry), entry);
+    this.lit = entry < 0 ? new Set() : namedBy(this.history, this.log, entry);
     if (thing !== null) {
       this.lit.add(thing);
       addHome(this.history, this.lit, thing);
@@ -150,11 +178,18 @@ export class Picture {
   /** The point of the canvas where a connection, a request, a server or a pool is drawn at an entry. */
   where(kind, key, entry) {
     const thing = thingOf(this.history, { kind, key });
-    const isBar = kind === 'connection' || kind === 'party';
-    const lane = this.lanes.find((it) => (isBar ? it.kind === (kind === 'party' ? 'requests' : 'connections') && it.pool === thing.pool : kind === 'pool' ? it.kind === 'pool' && it.pool === thing : it.kind === 'server' && it.server === thing));
+    const bars = { connection: 'connections', party: 'requests' }[kind];
+    const isLane = (it) => (kind === 'pool' ? it.kind === 'pool' && it.pool === thing : it.kind === 'server' && it.server === thing);
+    const at = bars !== undefined ? rowPlace(this.lanes, bars, thing) : this.lanes.find(isLane);
     const box = this.page.lanes.getBoundingClientRect();
     const x = this.gutter + (this.scale.at(entry) - this.view.from) * this.factor;
-    return { x: box.left + x, y: box.top + lane.y + (isBar ? thing.row * lane.rowHeight + lane.rowHeight / 2 : 12) - this.scroll };
+    return { x: box.left + x, y: box.top + at.y + (bars !== undefined ? at.height / 2 : 12) - this.scroll };
+  }
+
+  /** Marks an entry; a third mark is the first of two again. */
+  mark(entry) {
+    this.marks = this.marks.length === 2 ? [entry] : [...this.marks, entry].sort((one, other) => one - other);
+    this.ask();
   }
 
   /** Asks for one painting before the next frame. */

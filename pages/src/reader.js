@@ -2,6 +2,7 @@
 import { Unreadable, unreadable } from './words.js';
 import { readStep } from './steps.js';
 import { readReply, readFact } from './facts.js';
+import { partsOf } from './names.js';
 
 const UNPRINTABLE = /[^ -~]/;
 
@@ -35,12 +36,24 @@ export function linesOf(text) {
   return Float64Array.from(starts);
 }
 
+/** Reads lines as readEntry does, and keeps what it read: for a log that is read again and again with few lines changed. */
+export function keepingReader(most) {
+  const kept = new Map();
+  return (line) => {
+    if (!kept.has(line)) {
+      if (kept.size >= most) kept.clear();
+      kept.set(line, readEntry(line));
+    }
+    return kept.get(line);
+  };
+}
+
 /** Reads the lines from one to another, hands each entry with its line's index on, and notes what cannot be read. */
-export function readLines(log, from, to, take) {
+export function readLines(log, from, to, take, read = readEntry) {
   for (let at = from; at < to; at += 1) {
     const line = log.line(at);
     try {
-      const entry = readEntry(line);
+      const entry = read(line);
       if (at > 0 && entry.step.kind === 'open') unreadable('only the first line opens', line);
       const note = misplaced(entry, at + 1);
       if (note !== null) log.unread.push({ line: at, why: note, isDrawn: true });
@@ -64,6 +77,11 @@ export class Log {
 
   line(at) {
     return this.text.slice(this.starts[at], this.starts[at + 1] - 1);
+  }
+
+  /** An entry by its parts, with what their words name. */
+  parts(at) {
+    return partsOf(this.line(at));
   }
 
   /** A last line without newline is drawn where it can be read: it may be cut. */

@@ -30,6 +30,9 @@ const OPTIONS = [
   ['limit_generation', number64], ['limit_pool', number32], ['limit_monitor', number32],
 ];
 
+export const FIELD_NAMES = FIELDS.map(([name]) => name);
+export const OPTION_NAMES = OPTIONS.map(([name, reader]) => (reader === null ? name : name + '='));
+
 const ESTABLISHED = [['wire', number31], ['sid', id], ['server', number63]];
 
 /** Words NAME=VALUE in the order of the table, each at most once; a name without a reader stands alone. */

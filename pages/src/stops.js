@@ -1,6 +1,6 @@
 // What can be picked in the picture, by a pointer or by keys: the stops of each row, in order.
 import { firstBar, laneAt, lastBefore } from './layout.js';
-import { topologyText } from './outages.js';
+import { topologyText, typeText } from './outages.js';
 
 /** A stop is an entry and the thing that it is a stop of. */
 function barStops(bars, isConnection) {
@@ -87,6 +87,16 @@ function stretchAt(picture, place) {
   return at < 0 ? null : { entry: history.topology[at].entry, thing: null, said: topologyText(history, history.topology[at]) };
 }
 
+const TYPES = 23; // pixels of a server's lane that its types take, with the triangles of clears over them
+
+const isClear = (server, entry) => server.marks.some((it) => it.entry === entry && (it.kind === 'clear' || it.kind === 'raise'));
+
+/** The stretch of a server's type that covers a place on the axis, with its words. */
+function typeAt(picture, server, place) {
+  const at = lastBefore(server.types, picture.scale.entryAt(place));
+  return at < 0 ? null : { entry: server.types[at].entry, thing: server, said: typeText(picture.history, server, server.types[at]) };
+}
+
 /** What stands at a point of the picture: the lane, the row, and the stop, if one is there. */
 export function pick(picture, x, y) {
   const lane = laneAt(picture.lanes, y + picture.scroll);
@@ -97,8 +107,10 @@ export function pick(picture, x, y) {
   const stops = stopsOf(picture.history, lane, row);
   const near = nearestStop(stops, picture.scale, place);
   if (lane.kind !== 'connections' && lane.kind !== 'requests') {
+    const isNear = near.away * picture.factor <= REACH;
     if (lane.kind === 'topology' && y + picture.scroll - lane.y < BAND) found.stop = stretchAt(picture, place);
-    else if (near.away * picture.factor <= REACH) found.stop = stops[near.at];
+    else if (lane.kind === 'server' && y + picture.scroll - lane.y < TYPES && !(isNear && isClear(lane.server, stops[near.at].entry))) found.stop = typeAt(picture, lane.server, place);
+    else if (isNear) found.stop = stops[near.at];
     return found;
   }
   const error = lane.pool.errors.find((it) => it.connection.row === row && lane.kind === 'connections' && Math.abs(picture.scale.at(it.entry) - place) * picture.factor <= REACH);
