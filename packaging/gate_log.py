@@ -23,6 +23,9 @@ def read(path: Path) -> GateLog:
     ended = re.fullmatch(r"(\d+) passed, 0 failed", last_line(text))
     if not ended:
         raise Stop(f"{path} does not end in 'N passed, 0 failed': {last_line(text)[:200]}")
+    wrong = re.search(r"(?m)^\d+ passed, [1-9]\d* failed.*", text)
+    if wrong:
+        raise Stop(f"{path} says '{wrong[0][:200]}' before its end")
     commit = re.search(r"(?m)^commit ([0-9a-f]{40})$", text)
     if not commit:
         raise Stop(f"{path} has no line 'commit ..', with which .ci/run begins: of which commit is it?")

@@ -98,6 +98,10 @@ class Refusals(MadeUp):
         self.log.write_text(f"commit {self.commit}\n== mdb_c\nrt: mdb_c NOT PROVED\n0 passed, 1 failed: mdb_c\n")
         self.refused("does not end in 'N passed, 0 failed': 0 passed, 1 failed")
 
+    def test_a_log_of_a_gate_that_failed_before_what_stands_outside_it_passed(self):
+        self.log.write_text(f"commit {self.commit}\n== mdb_c\nlogic=proved x\n4 passed, 1 failed: mdb_c\n15 passed, 0 failed\n")
+        self.refused("says '4 passed, 1 failed: mdb_c' before its end")
+
     def test_a_log_that_was_cut_off(self):
         self.log.write_text(f"commit {self.commit}\n== mdb_c\n")
         self.refused("does not end in")

@@ -1,6 +1,7 @@
 #include "hello.h"
 #include "address.h"
 #include <bson/bson.h>
+#include <mdb.h>
 #include <stdlib.h>
 #include <string.h>
 
@@ -13,7 +14,7 @@ static void put_client(struct document *document, const char *app) {
     }
     put_open(document, "driver");
     put_text(document, "name", "mdb_net");
-    put_text(document, "version", "0.2.0");
+    put_text(document, "version", MDB_VERSION);
     put_close(document);
     put_open(document, "os");
     put_text(document, "type", "Linux");

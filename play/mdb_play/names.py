@@ -1,6 +1,7 @@
 """A server of names on 127.0.0.1 that knows one host: the SRV records that name members, and the options of its TXT record, for `mongodb+srv://`.
 
 The host is HOST, whose parent domain has the address 127.0.0.1 in it as a name: so the members keep their addresses, and no name is to be resolved beside.
+Where a client asks this server alone, the host is LETTERED, since there are resolvers that take no name of digits alone, and each name beside it has the address.
 """
 
 from __future__ import annotations
@@ -10,8 +11,9 @@ import struct
 from typing import Callable, cast
 
 HOST = "mdb.0.0.1"
+LETTERED = "mdb.play.test"
 SERVICE = f"_mongodb._tcp.{HOST}"
-_SRV, _TXT, _IN = 33, 16, 1
+_SRV, _TXT, _A, _IN = 33, 16, 1, 1
 _SECONDS = 1
 _NO_SUCH_NAME = 3
 # The name of the question, by its place in the message.
@@ -39,10 +41,11 @@ def record(kind: int, data: bytes) -> bytes:
 
 
 class Names(asyncio.DatagramProtocol):
-    """Answers queries. `targets` tells the host and the port of each member that is named now."""
+    """Answers queries. `ports` tells the port of each member that is named now, by its number."""
 
-    def __init__(self, targets: Callable[[], list[tuple[str, int]]], text: str) -> None:
-        self._targets, self._text = targets, text
+    def __init__(self, host: str, ports: Callable[[], dict[int, int]], text: str) -> None:
+        self.host, self._ports, self._text = host, ports, text
+        self._service, self._domain = f"_mongodb._tcp.{host}", host.partition(".")[2]
         self._transport: asyncio.DatagramTransport | None = None
 
     @property
@@ -66,13 +69,18 @@ class Names(asyncio.DatagramProtocol):
     def answer(self, query: bytes) -> bytes:
         """The answer to a query: of a name that it does not know, that there is none. Raises ValueError for what is no query."""
         name, kind, end = question(query)
-        records = []
-        if (name, kind) == (SERVICE, _SRV):
-            records = [record(_SRV, struct.pack(">HHH", 0, 0, port) + spelled(host)) for host, port in self._targets()]
-        if (name, kind) == (HOST, _TXT) and self._text:
+        records, is_member = [], name.endswith("." + self._domain) and name not in (self._service, self.host)
+        if (name, kind) == (self._service, _SRV):
+            records = [record(_SRV, struct.pack(">HHH", 0, 0, port) + spelled(self._target(number))) for number, port in self._ports().items()]
+        if (name, kind) == (self.host, _TXT) and self._text:
             records = [record(_TXT, bytes([len(self._text)]) + self._text.encode())]
-        flags = 0x8180 | (0 if name in (SERVICE, HOST) else _NO_SUCH_NAME)
+        if is_member and kind == _A:
+            records = [record(_A, bytes([127, 0, 0, 1]))]
+        flags = 0x8180 | (0 if is_member or name in (self._service, self.host) else _NO_SUCH_NAME)
         return query[:2] + struct.pack(">HHHHH", flags, 1, len(records), 0, 0) + query[12:end] + b"".join(records)
+
+    def _target(self, number: int) -> str:
+        return "127.0.0.1" if self.host == HOST else f"m{number}.{self._domain}"
 
     def close(self) -> None:
         """It listens no longer."""
@@ -80,7 +88,8 @@ class Names(asyncio.DatagramProtocol):
             self._transport.close()
 
 
-async def listening(targets: Callable[[], list[tuple[str, int]]], text: str, port: int = 0) -> Names:
-    """A server of names at a port; 0 is one of the system's choice. Raises OSError."""
-    _, names = await asyncio.get_running_loop().create_datagram_endpoint(lambda: Names(targets, text), local_addr=("127.0.0.1", port))
+async def listening(ports: Callable[[], dict[int, int]], text: str, port: int = 0) -> Names:
+    """A server of names at a port that a client asks alone; 0 is one of the system's choice. Raises OSError."""
+    host = LETTERED if port else HOST
+    _, names = await asyncio.get_running_loop().create_datagram_endpoint(lambda: Names(host, ports, text), local_addr=("127.0.0.1", port))
     return names

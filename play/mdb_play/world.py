@@ -12,7 +12,7 @@ from .conversation import Conversation
 from .deeds import act
 from .fleet import Fleet
 from .member import Member, Reader
-from .names import HOST, Names, listening
+from .names import Names, listening
 from .plan import Action, Later, Nth, Plan, Start
 from .points import Decider, Decision, Planned, Point, chance
 from .store import Store
@@ -55,7 +55,7 @@ class World:
         for member in self.members:
             await self.listen(member)
         if self.plan.names is not None:
-            self.names = await listening(lambda: [(self.plan.host, self.members[it].port) for it in self.named], self.plan.text, self.plan.port)
+            self.names = await listening(lambda: {it: self.members[it].port for it in self.named}, self.plan.text, self.plan.port)
         for rule in self.plan.rules:
             if isinstance(rule.when, Start):
                 self.do(rule.action, rule.number)
@@ -108,9 +108,9 @@ class World:
             options.insert(0, f"replicaSet={self.plan.name}")
         if self.plan.kind == "balancer" and "loadBalanced" not in told:
             options.insert(0, "loadBalanced=true")
-        if self.plan.names is not None:
+        if self.names is not None:
             # connections by a seed list are TLS, where nothing else is said; pymongo 3.11 knows no `tls=false` here
-            scheme, hosts = "mongodb+srv", HOST
+            scheme, hosts = "mongodb+srv", self.names.host
             options += [] if told & {"tls", "ssl"} else ["ssl=false"]
         return f"{scheme}://{hosts}/" + ("?" + "&".join(options) if options else "")
 

@@ -85,7 +85,7 @@ def test_the_server_of_names_has_the_port_that_is_asked_for() -> None:
     words = [*PROGRAM, "serve", "--do", "routers 2; names 1", "--names-port", str(port)]
     told = subprocess.run(words, env=ENVIRONMENT, input="names 0\nnames 2\nquit\n", capture_output=True, text=True, timeout=120, check=False)
     lines = told.stdout.splitlines()
-    assert lines[:2] == [f"ready mongodb+srv://mdb.0.0.1/?ssl=false 127.0.0.1:{port}", "done names 0"], told.stderr
+    assert lines[:2] == [f"ready mongodb+srv://mdb.play.test/?ssl=false 127.0.0.1:{port}", "done names 0"], told.stderr
     assert lines[2].startswith("failed names 2")
 
 
