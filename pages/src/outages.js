@@ -52,8 +52,15 @@ function firstCheckOut(history, entry) {
   return least === Infinity ? -1 : least;
 }
 
+const outages = new WeakMap(); // of the histories that were asked
+
 /** The times without a primary of a set that had one before: each with the entries of its first error, of its beginning and end, and of the first check-out behind it. */
 export function outagesOf(history) {
+  if (!outages.has(history)) outages.set(history, outagesIn(history));
+  return outages.get(history);
+}
+
+function outagesIn(history) {
   const { topology, moments } = history;
   const found = [];
   let hadPrimary = false;
