@@ -70,7 +70,7 @@ fn write<C: Core, R: Wait>(
     let Ok(sink) = MemSink::new(page.alloc, 10_000, 100, Vec::new(page.alloc)) else {
         return page.fail();
     };
-    let mut writer = LogWriter { sink };
+    let mut writer = LogWriter::new(page.alloc, sink);
     walk(rt, page, driver, one, other, &mut writer);
     put_lines(page, writer.sink.taken());
     drop(writer);

@@ -4,17 +4,19 @@ use Rattle.mdb_base.specs.declared.address.ServerAddress.{ServerAddress}
 use Rattle.mdb_log.specs.declared.log.Entry.{Entry}
 use Rattle.mdb_events.specs.declared.end.End.{End}
 use Rattle.mdb_log.specs.declared.pooled.PooledConnection.{PooledConnection}
-use Rattle.mdb_log.specs.declared.step.Act.TheVariants.{Request, Collect}
+use Rattle.mdb_log.specs.declared.step.Act.TheVariants.{Request, Collect, GiveUp}
+use Rattle.mdb_log.specs.declared.reply.Refused.TheVariants.{UnknownRequest}
+use Rattle.mdb_log.specs.declared.reply.Reply.TheVariants.{Refused as IsRefused}
 use Rattle.mdb_log.specs.declared.reply.Refused.{Refused as WhyRefused}
 use Rattle.mdb_log.specs.declared.reply.Reply.{Reply}
 use Rattle.mdb_shared.specs.Checkout.{is_pending, told_by, Names}
 use Rattle.mdb_shared.specs.declared.checkout.Poll.{Poll}
 use Rattle.mdb_shared.specs.declared.checkout.Poll.TheVariants.{Ready, NotYet, Ended as PollEnded, Refused as PollRefused}
 use Rattle.mdb_turns.specs.Stepping.{SeatView}
-use Rattle.mdb_shared.specs.Seats.{Each}
+use Rattle.mdb_shared.specs.Seats.{Each, HasCore}
 use Rattle.mdb_handles.specs.declared.asking.CheckOutError.{CheckOutError}
 use Rattle.mdb_handles.specs.declared.asking.CheckOutError.TheVariants.{Ended, Refused, OutOfTime, GaveUp, OutOfMemory}
-use Rattle.mdb_handles.specs.CheckingOut.{Tells, IsOpen, Asks, AskFor, Requests, IsGivenUp, Settled, LeftBy}
+use Rattle.mdb_handles.specs.CheckingOut.{Tells, IsOpen, Asks, AskFor, Requests, SeesGivenUp, Settled, LeftBy, TellsWhy}
 use Rattle.mdb_workers.specs.Making.{Made, OneMore}
 use Rattle.mdb_workers.proofs.Adding.{each_more, made_none, made_then}
 
@@ -67,16 +69,25 @@ module _ {T : Type 0} (stands : T → List Entry → Type 0) (MayEnd : Type 0) (
   asked_left may s t u (Err (Ended end)) a l = asked_last s t u l.0 (Err (Ended end)) a l.1 (inr (may, l.2)) l.3
   asked_left may s t u (Err (Refused why)) a l = asked_last s t u l.0 (Err (Refused why)) a l.1 (inr (may, l.2)) l.3
   asked_left may s t u (Err OutOfTime) a l = asked_last s t u l.0 (Err OutOfTime) a l.1 (inr (may, l.2)) l.3
-  asked_left may s t u (Err GaveUp) a l = absurd l.3
+  asked_left may s t u (Err GaveUp) a l = (a.0, l.0 ∷ [], made_then stands s t u a.0 (l.0 ∷ []) a.1 l.1, each_more (Asks MayEnd request) a.0 (l.0 ∷ []) a.2 (inr (may, l.2), tt), a.3, l.3, l.4)
   asked_left may s t u (Err OutOfMemory) a l = asked_later s t u a l
 
   -- another seat gave it up
-  pub asked_given_up : (s t : SeatView) → Asked s t → IsGivenUp request t.seen → Settled stands (AskFor MayEnd request) request s t (Err GaveUp)
-  asked_given_up s t a given = (a.0, a.1, a.2, a.3, given)
+  pub asked_given_up : (s t : SeatView) → Asked s t → SeesGivenUp stands request t → Settled stands (AskFor MayEnd request) request s t (Err GaveUp)
+  asked_given_up s t a given = let none = append-nil a.0 in (a.0, [], subst (Made stands s t) (sym none) a.1, subst (AskFor MayEnd request) (sym none) a.2, a.3, tt, given)
 
   -- there was no memory for the question
   pub asked_no_more : (s t u : SeatView) → Asked s t → Made stands t u [] → Settled stands (AskFor MayEnd request) request s u (Err OutOfMemory)
   asked_no_more s t u a none = asked_later s t u a none
+
+  -- the giving up was refused, and then a look
+  pub left_refused : (t u v : SeatView) (reply : Reply) (why : WhyRefused) (error : CheckOutError) → OneMore stands t u (GiveUp request) reply → reply ≡ IsRefused why → Made stands u v [] → TellsWhy stands request why v error
+      → LeftBy stands request t v (Err error)
+  left_refused t u v reply why (Refused told) one is saw tells = (one.0, made_then stands t u v (one.0 ∷ []) [] one.3 saw, one.1, one.2 ∙ (is ∙ ap IsRefused (sym tells)))
+  left_refused t u v reply why GaveUp one is saw tells = (one.0, made_then stands t u v (one.0 ∷ []) [] one.3 saw, one.1, one.2 ∙ (is ∙ ap IsRefused tells.0), tells.1)
+  left_refused t u v reply why (Ended end) one is saw tells = absurd tells
+  left_refused t u v reply why OutOfTime one is saw tells = absurd tells
+  left_refused t u v reply why OutOfMemory one is saw tells = absurd tells
 
   -- A poll.
   module _ (s t u : SeatView) (poll : Poll) (a : Asked s t) (one : OneMore stands t u (Collect request) (told_by poll)) where
@@ -94,8 +105,22 @@ module _ {T : Type 0} (stands : T → List Entry → Type 0) (MayEnd : Type 0) (
     pub asked_ended : (end : End) → poll ≡ PollEnded end → Settled stands (AskFor MayEnd request) request s u (Err (Ended end))
     asked_ended end is = asked_last s t u one.0 (Err (Ended end)) a one.3 (inl one.1) (tells_ended request one.0 poll one.2 end is)
 
-    pub asked_refused : (why : WhyRefused) → poll ≡ PollRefused why → Settled stands (AskFor MayEnd request) request s u (Err (Refused why))
-    asked_refused why is = asked_last s t u one.0 (Err (Refused why)) a one.3 (inl one.1) (tells_refused request one.0 poll one.2 why is)
+    -- refused, and then a look
+    pub asked_refused : (v : SeatView) (why : WhyRefused) (error : CheckOutError) → poll ≡ PollRefused why → Made stands u v [] → TellsWhy stands request why v error → Settled stands (AskFor MayEnd request) request s v (Err error)
+    asked_refused v why (Refused told) is saw tells =
+        asked_last s t v one.0 (Err (Refused told)) a (made_then stands t u v (one.0 ∷ []) [] one.3 saw) (inl one.1) (one.2 ∙ (ap told_by is ∙ ap IsRefused (sym tells)))
+    asked_refused v why GaveUp is saw tells = (
+      a.0,
+      one.0 ∷ [],
+      made_then stands s t v a.0 (one.0 ∷ []) a.1 (made_then stands t u v (one.0 ∷ []) [] one.3 saw),
+      each_more (Asks MayEnd request) a.0 (one.0 ∷ []) a.2 (inl one.1, tt),
+      a.3,
+      one.2 ∙ (ap told_by is ∙ ap IsRefused tells.0),
+      tells.1,
+    )
+    asked_refused v why (Ended end) is saw tells = absurd tells
+    asked_refused v why OutOfTime is saw tells = absurd tells
+    asked_refused v why OutOfMemory is saw tells = absurd tells
 
   -- there was no memory for the request
   pub never_asked : (address : ServerAddress) (s t u : SeatView) → Made stands s t [] → Made stands t u [] → Settled stands (Requests MayEnd request address) request s u (Err OutOfMemory)
@@ -124,7 +149,7 @@ module _ {T : Type 0} (stands : T → List Entry → Type 0) (MayEnd : Type 0) (
     settled_later v (Err (Ended end)) waits t = (one.0 ∷ t.0, t.1, made_then stands s u v (one.0 ∷ []) (t.0 ++ t.1 ∷ []) first t.2, (one.1, t.3), (waits, t.4), t.5)
     settled_later v (Err (Refused why)) waits t = (one.0 ∷ t.0, t.1, made_then stands s u v (one.0 ∷ []) (t.0 ++ t.1 ∷ []) first t.2, (one.1, t.3), (waits, t.4), t.5)
     settled_later v (Err OutOfTime) waits t = (one.0 ∷ t.0, t.1, made_then stands s u v (one.0 ∷ []) (t.0 ++ t.1 ∷ []) first t.2, (one.1, t.3), (waits, t.4), t.5)
-    settled_later v (Err GaveUp) waits t = (one.0 ∷ t.0, made_then stands s u v (one.0 ∷ []) t.0 first t.1, (one.1, t.2), (waits, t.3), t.4)
+    settled_later v (Err GaveUp) waits t = (one.0 ∷ t.0, t.1, made_then stands s u v (one.0 ∷ []) (t.0 ++ t.1) first t.2, (one.1, t.3), (waits, t.4), t.5, t.6)
     settled_later v (Err OutOfMemory) waits t = (one.0 ∷ t.0, made_then stands s u v (one.0 ∷ []) t.0 first t.1, (one.1, t.2), (waits, t.3))
 
     pub settled_asking : (v : SeatView) (answer : Result PooledConnection CheckOutError) (reply : Reply) → poll ≡ NotYet reply → Names request poll → Settled stands (AskFor MayEnd request) request u v answer → Settled stands (Requests MayEnd request address) request s v answer
@@ -136,5 +161,5 @@ module _ {T : Type 0} (stands : T → List Entry → Type 0) (MayEnd : Type 0) (
   settled_same Kind s s' (Err (Ended end)) t = (t.2.0, t.2.1)
   settled_same Kind s s' (Err (Refused why)) t = (t.2.0, t.2.1)
   settled_same Kind s s' (Err OutOfTime) t = (t.2.0, t.2.1)
-  settled_same Kind s s' (Err GaveUp) t = (t.1.0, t.1.1)
+  settled_same Kind s s' (Err GaveUp) t = (t.2.0, t.2.1)
   settled_same Kind s s' (Err OutOfMemory) t = (t.1.0, t.1.1)

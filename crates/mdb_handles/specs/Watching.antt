@@ -6,6 +6,7 @@ use Rattle.mdb_log.specs.declared.step.Act.{Act}
 use Rattle.mdb_log.specs.declared.step.Act.TheVariants.{Want, Unwant}
 use Rattle.mdb_log.specs.declared.reply.Reply.TheVariants.{Count}
 use Rattle.mdb_turns.specs.Stepping.{SeatView}
+use Rattle.mdb_shared.specs.Seats.{HasCore}
 use Rattle.mdb_workers.specs.Making.{Made, OneMore}
 use Rattle.mdb_journal.specs.Entries.{HasStopped}
 use Rattle.mdb_handles.specs.declared.topology_state.TopologyState.{TopologyState}
@@ -49,7 +50,7 @@ module _ {T : Type 0} (stands : T → List Entry → Type 0) where
     Waited turns s s' w w' true = (0 < turns) × Updated s s' w w'
     Waited turns s s' w w' false = (0 < turns → publications s'.seen ≤ w.seen) × (w' ≡ w) × Made stands s s' []
 
-    -- A later publication was found. Or the driver has stopped, and none was.
+    -- A later publication was found. Or the driver has stopped, and none was: a core stands for the log that tells so.
     abbrev pub WaitedOn : SeatView → SeatView → TopologyWatcher → TopologyWatcher → Bool → Type 0
     WaitedOn s s' w w' true = Updated s s' w w'
-    WaitedOn s s' w w' false = HasStopped s'.seen × (publications s'.seen ≤ w.seen) × (w' ≡ w) × Made stands s s' []
+    WaitedOn s s' w w' false = HasStopped s'.seen × (publications s'.seen ≤ w.seen) × (w' ≡ w) × Made stands s s' [] × HasCore stands s'

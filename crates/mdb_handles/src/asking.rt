@@ -1,20 +1,20 @@
 //! Checking connections out (CMAP, "Checking Out a Connection"): a request, and then questions how it stands. Between them the caller sleeps until the log
-//! tells that its request is settled, so a request that waits takes one question more, and not one for each piece of news. Who finds callers waiting lets them go
-//! first, for a moment.
+//! tells that its request is settled, so a request that waits takes one question more, and not one for each piece of news; and one more each time that entries
+//! were taken which the caller had not looked at. Who finds callers waiting lets them go first, for a moment.
 
 ghost use Rattle.std.specs.Prelude.{◌≡◌, [], IfOk, OnErr};
 ghost use Rattle.mdb_log.specs.declared.step.Act.TheVariants.{Request};
 ghost use Rattle.mdb_shared.specs.Checkout.{told_by, Names};
 ghost use Rattle.mdb_workers.specs.Making.{Made, OneMore};
-ghost use Rattle.mdb_handles.specs.CheckingOut.{Collected, CheckedOut, CheckedOutWithin, LeftBy, SettledFrom};
+ghost use Rattle.mdb_handles.specs.CheckingOut.{Collected, CheckedOut, CheckedOutWithin, LeftBy, SettledFrom, TellsWhy};
 
 use crate::limits::{Endless, Limit, Within};
-use crate::standing::{Standing, State, await_outcome};
+use crate::standing::{GiveUps, Standing, State, await_outcome};
 use mdb_base::{OutOfMemory, ServerAddress};
 use mdb_events::End;
 use mdb_log::{Act, Core, PooledConnection, Refused, Reply, Step};
 use mdb_shared::{Poll, Seat, WaitQueue};
-use mdb_workers::{Access, add, ask, let_go};
+use mdb_workers::{Access, add, ask, glance, let_go};
 use std::rt::Clock;
 use std::sync::Wait;
 use std::time::{Duration, Instant};
@@ -71,11 +71,35 @@ fn request_once<C: Core, R: Wait>(
     }
 }
 
-// The time is over: the request is given up, and what that told is the answer.
+// What a refusal comes to. A request that isn't known any more, since another seat gave it up after the last look, was given up.
+fn refusal<C: Core, R: Wait>(
+    access: &Access<'_, C, R>,
+    seat: &mut Seat<C>,
+    request: u32,
+    from: u64,
+    why: Refused,
+) -> CheckOutError
+    requires own { seat.old.driver ≡ access.now.driver.now.id }
+    ensures same { (seat.new.driver ≡ seat.old.driver) × (seat.new.number ≡ seat.old.number) }
+    ensures saw { Made C.stands seat.old seat.new [] }
+    ensures told { TellsWhy C.stands request why seat.new result }
+{
+    match why {
+        Refused::UnknownRequest => {}
+        why => return CheckOutError::Refused(why),
+    }
+    if glance(access, seat, &GiveUps { request, from }) {
+        return CheckOutError::GaveUp;
+    }
+    CheckOutError::Refused(Refused::UnknownRequest)
+}
+
+// The time is over: the request is given up, and what that told is the answer. It was looked at up to this entry.
 fn leave<C: Core, R: Wait>(
     access: &Access<'_, C, R>,
     seat: &mut Seat<C>,
     request: u32,
+    from: u64,
 ) -> Result<PooledConnection, CheckOutError>
     requires own { seat.old.driver ≡ access.now.driver.now.id }
     ensures same { (seat.new.driver ≡ seat.old.driver) × (seat.new.number ≡ seat.old.number) }
@@ -84,7 +108,7 @@ fn leave<C: Core, R: Wait>(
     match let_go(access, seat, request) {
         Ok(Reply::Done) => Err(CheckOutError::OutOfTime),
         Ok(Reply::Ended(end)) => Err(CheckOutError::Ended(end)),
-        Ok(Reply::Refused(why)) => Err(CheckOutError::Refused(why)),
+        Ok(Reply::Refused(why)) => Err(refusal(access, seat, request, from, why)),
         Ok(_) => unreachable!(),
         Err(OutOfMemory) => Err(CheckOutError::OutOfMemory),
     }
@@ -112,7 +136,7 @@ fn collect<C: Core, R: Wait, L: Limit>(
     for _ in access.rt.forever() {
         let outlook = await_outcome(access, seat, standing, limit);
         match outlook.state {
-            State::Open => return leave(access, seat, request),
+            State::Open => return leave(access, seat, request, outlook.known.from),
             State::GivenUp => return Err(CheckOutError::GaveUp),
             State::Settled => {}
         }
@@ -126,7 +150,9 @@ fn collect<C: Core, R: Wait, L: Limit>(
             }
             Ok(Poll::Ready(connection)) => return Ok(connection),
             Ok(Poll::Ended(end)) => return Err(CheckOutError::Ended(end)),
-            Ok(Poll::Refused(why)) => return Err(CheckOutError::Refused(why)),
+            Ok(Poll::Refused(why)) => {
+                return Err(refusal(access, seat, request, outlook.known.from, why));
+            }
             Err(OutOfMemory) => return Err(CheckOutError::OutOfMemory),
         }
     }
@@ -183,8 +209,9 @@ fn check_out_by<C: Core, R: Wait, L: Limit>(
     }
 }
 
-/// Requests a connection to the address, and waits for it. `GaveUp` comes where another seat gives the request up meanwhile, `OutOfTime` never. After
-/// `OutOfMemory` the request may be open: `abandon` gives it up. It may wait for the turn, and for the connection.
+/// Requests a connection to the address, and waits for it. `GaveUp` comes where another seat gives the request up meanwhile, also where its connection was
+/// granted just before; where the entry that gave it up was taken before it was looked at, `Refused(UnknownRequest)` comes in its place. `OutOfTime` never
+/// comes. After `OutOfMemory` the request may be open: `abandon` gives it up. It may wait for the turn, and for the connection.
 pub fn check_out<C: Core, R: Wait>(
     access: &Access<'_, C, R>,
     seat: &mut Seat<C>,

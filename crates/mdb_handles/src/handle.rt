@@ -6,6 +6,7 @@ ghost use Rattle.mdb_log.specs.Driver.{is_reply_to};
 ghost use Rattle.mdb_log.specs.declared.step.Act.TheVariants.{Collect, GiveUp, Return};
 ghost use Rattle.mdb_log.specs.declared.reply.Reply.TheVariants.{Done, Refused as IsRefused};
 ghost use Rattle.mdb_shared.specs.Checkout.{told_by, Names};
+ghost use Rattle.mdb_shared.specs.Seats.{HasCore};
 ghost use Rattle.mdb_handles.specs.CheckingOut.{CheckedOut, CheckedOutWithin};
 ghost use Rattle.mdb_workers.specs.Filling.{Filled, FilledInPart};
 ghost use Rattle.mdb_handles.specs.Handles.{IsSameHandle};
@@ -28,7 +29,9 @@ use std::sync::Wait;
 use std::time::Duration;
 
 /// A thread at its seat of a shared driver: the seat, the numbers for its requests, and the driver, the runtime and the allocator that every call of the seat
-/// needs. Its calls are those of the functions and of the driver by the same names. Contracts see the seat and the numbers that are left.
+/// needs. Its calls are those of the functions and of the driver by the same names. Contracts see the seat and the numbers that are left. With one that is dropped
+/// its seat is gone, which `close` of the driver wants back.
+#[must_use]
 #[derive(Drop)]
 pub struct Handle<'a, C: Core, R: Wait> {
     pub(crate) access: Access<'a, C, R>,
@@ -185,6 +188,7 @@ impl<'a, C: Core, R: Wait> Handle<'a, C, R> {
         ensures same { IsSameHandle self.old self.new }
         ensures saw { Made C.stands self.old.seat self.new.seat [] }
         ensures told { L.tells look.now self.new.seat.seen result }
+        ensures fits { HasCore C.stands self.new.seat }
     {
         glance(&self.access, &mut self.seat, look)
     }

@@ -1,6 +1,6 @@
 //! What a thread with a role does by its handle: it establishes connections, keeps time, follows the topology, or stops the driver.
 
-ghost use Rattle.std.specs.Prelude.{◌≡◌, ◌∷◌, true, [], IfSome, IfOk, OnOk, OnErr};
+ghost use Rattle.std.specs.Prelude.{◌≡◌, ◌∷◌, true, [], ⊤, IfSome, IfOk, OnOk, OnErr};
 ghost use Rattle.mdb_log.specs.Acts.{IsDriverAct};
 ghost use Rattle.mdb_log.specs.declared.log.Entry.{Entry};
 ghost use Rattle.mdb_log.specs.declared.step.Act.TheVariants.{Stop, Want};
@@ -8,10 +8,10 @@ ghost use Rattle.mdb_log.specs.declared.reply.Reply.TheVariants.{Count};
 ghost use Rattle.mdb_journal.specs.Entries.{HasStopped};
 ghost use Rattle.mdb_handles.specs.Handles.{IsSameHandle};
 ghost use Rattle.mdb_workers.specs.Making.{Made, OneMore};
-ghost use Rattle.mdb_workers.specs.Persisting.{TendedBy};
-ghost use Rattle.mdb_workers.specs.Ticking.{Ticked, TickedInPart};
+ghost use Rattle.mdb_shared.specs.Seats.{HasCore};
+ghost use Rattle.mdb_workers.specs.Ticking.{KeptTime, Ticked, TickedInPart};
 ghost use Rattle.mdb_handles.specs.Watching.{Shows, with_mark, wanting, Retracted, WaitedOn};
-ghost use Rattle.mdb_workers.specs.Working.{ReportsLeft, Worked};
+ghost use Rattle.mdb_workers.specs.Working.{ReportsLeft, Served, Worked};
 
 use crate::handle::Handle;
 use crate::topology_state::TopologyState;
@@ -19,7 +19,8 @@ use crate::watching::{TopologyWatcher, dismiss};
 use mdb_base::{Moment, OutOfMemory};
 use mdb_log::{Core, Step};
 use mdb_workers::{
-    Establisher, Gate, Work, WorkError, keep_time, report_left, serve, stop, tick, work,
+    Establisher, Gate, Timer, Work, WorkError, keep_time, keep_time_by, report_left, serve, stop,
+    tick, work,
 };
 use std::rt::Clock;
 use std::sync::Wait;
@@ -51,8 +52,9 @@ impl<'a, C: Core, R: Wait> Handle<'a, C, R> {
     /// Establishes connections until the driver stops, as `serve` does.
     pub fn serve<E: Establisher, G: Gate>(&mut self, establisher: &mut E, gate: &mut G)
         ensures same { IsSameHandle self.old self.new }
-        ensures tended { TendedBy C.stands self.old.seat self.new.seat }
+        ensures served { Served C.job_after C.stands self.old.seat self.new.seat (E.calls establisher.old) (E.calls establisher.new) }
         ensures stopped { HasStopped self.new.seat.seen }
+        ensures fits { HasCore C.stands self.new.seat }
     {
         serve(&self.access, &mut self.seat, establisher, gate)
     }
@@ -81,6 +83,7 @@ impl<'a, C: Core, R: Wait> Handle<'a, C, R> {
     ) -> Result<TopologyState, OutOfMemory>
         ensures same { IsSameHandle self.old self.new }
         ensures saw { Made C.stands self.old.seat self.new.seat [] }
+        ensures fits { HasCore C.stands self.new.seat }
         ensures state { IfOk result (Shows (C.described self.new.seat.seen) (C.publications self.new.seat.seen)) }
         ensures marked { IfOk result (λ state. watcher.new ≡ with_mark watcher.old state.published) }
         ensures err { OnErr result (watcher.new ≡ watcher.old) }
@@ -123,8 +126,20 @@ impl<'a, C: Core, R: Wait + Clock> Handle<'a, C, R> {
     /// Ticks each so long until the driver stops, as `keep_time` does.
     pub fn keep_time(&mut self, start: Instant, every: Duration)
         ensures same { IsSameHandle self.old self.new }
+        ensures ticked { KeptTime C.stands (λ moment. ⊤) self.old.seat self.new.seat }
         ensures stopped { HasStopped self.new.seat.seen }
+        ensures fits { HasCore C.stands self.new.seat }
     {
         keep_time(&self.access, &mut self.seat, start, every)
+    }
+
+    /// Ticks each so long until the driver stops, at the moments that the timer tells, as `keep_time_by` does.
+    pub fn keep_time_by<T: Timer>(&mut self, timer: &T, every: Duration)
+        ensures same { IsSameHandle self.old self.new }
+        ensures ticked { KeptTime C.stands (T.tells timer.now) self.old.seat self.new.seat }
+        ensures stopped { HasStopped self.new.seat.seen }
+        ensures fits { HasCore C.stands self.new.seat }
+    {
+        keep_time_by(&self.access, &mut self.seat, timer, every)
     }
 }

@@ -1,53 +1,47 @@
 //! Seats for more threads than a driver has seats: a seat is lent and comes back.
 
-ghost use Rattle.std.specs.Prelude.{◌≡◌, All};
+ghost use Rattle.std.specs.Prelude.{◌≡◌, All, IfErr};
 
 use crate::handle::Handle;
 use mdb_base::OutOfMemory;
 use mdb_log::Core;
 use mdb_shared::{Seat, SharedDriver};
 use std::alloc::Global;
-use std::sync::{Condvar, Mutex, Wait};
+use std::rt::Clock;
+use std::sync::{Condvar, CondvarTimeouts, Mutex, Wait};
+use std::time::Duration;
 
 // A handle, or the place of one that is lent.
 type SpareHandle<'a, C, R> = Option<Handle<'a, C, R>>;
 
-/// Handles of one driver that threads borrow in turn, each with the numbers for requests that its seat has left. A handle is always one of a seat of its driver,
-/// whichever thread has it. It takes memory when it is made, and none later.
+/// Handles of one driver that threads borrow in turn, each with the numbers for requests that its seat has left. It takes memory when it is made, and none later.
+/// A value that comes out of a lock is known by its type alone, and two drivers of one type have one: so no clause says which driver a lent handle is of, nor that
+/// these calls add no entry. Each handle is to go back to where it was lent.
 #[derive(Drop)]
 pub struct SpareSeats<'a, C: Core, R: Wait> {
     places: Mutex<Vec<SpareHandle<'a, C, R>>>,
     returned: Condvar,
 }
 
-fn are_all_lent<C: Core, R: Wait>(places: &Vec<SpareHandle<'_, C, R>>) -> bool {
+fn are_all_lent<T>(places: &Vec<Option<T>>) -> bool {
     places.iter().all(|place| place.is_none())
 }
 
-// Takes a handle that isn't lent.
-fn take_one<'a, C: Core, R: Wait>(
-    places: &mut Vec<SpareHandle<'a, C, R>>,
-) -> Option<Handle<'a, C, R>> {
-    for at in 0..places.len() {
-        if let Some(handle) = places[at].take() {
-            return Some(handle);
-        }
-    }
-    None
+// What isn't lent is taken out of its place. It knows nothing of what the places hold.
+fn take_one<T>(places: &mut Vec<Option<T>>) -> Option<T> {
+    let at = places.iter().position(|place| place.is_some())?;
+    places[at].take()
 }
 
-// Puts a handle into the place of one that is lent.
-fn put_one<'a, C: Core, R: Wait>(
-    places: &mut Vec<SpareHandle<'a, C, R>>,
-    handle: Handle<'a, C, R>,
-) -> Result<(), Handle<'a, C, R>> {
-    for at in 0..places.len() {
-        if places[at].is_none() {
-            places[at] = Some(handle);
-            return Ok(());
-        }
-    }
-    Err(handle)
+// It is put into the place of one that is lent.
+fn put_one<T: Drop>(places: &mut Vec<Option<T>>, spare: T) -> Result<(), T>
+    ensures { IfErr result (λ back. back ≡ spare) }
+{
+    let Some(at) = places.iter().position(|place| place.is_none()) else {
+        return Err(spare);
+    };
+    places[at] = Some(spare);
+    Ok(())
 }
 
 impl<'a, C: Core, R: Wait> SpareSeats<'a, C, R> {
@@ -70,7 +64,8 @@ impl<'a, C: Core, R: Wait> SpareSeats<'a, C, R> {
         })
     }
 
-    /// Waits until a seat isn't lent, and lends it.
+    /// Waits until a seat isn't lent, and lends it. Keep it until each connection that it checked out is back: where all seats are lent to threads that wait for a
+    /// connection, and who has the connection waits for a seat to give it back, nobody goes on. `lend_within` ends such a wait, and `check_out_within` as well.
     pub fn lend(&self, rt: &R) -> Handle<'a, C, R> {
         for _ in rt.forever() {
             let places = self.places.lock(rt);
@@ -84,10 +79,24 @@ impl<'a, C: Core, R: Wait> SpareSeats<'a, C, R> {
         unreachable!()
     }
 
-    /// Takes a seat back, and wakes one thread that waits for it. It comes back itself where none is lent, so that it is another's.
-    pub fn take_back(&self, rt: &R, handle: Handle<'a, C, R>) -> Result<(), Handle<'a, C, R>> {
+    /// Takes a seat back that was lent here, and wakes one thread that waits for it. It comes back itself where none is lent. One of another driver is not told
+    /// apart: where a seat is lent, its place is taken by the other driver's, which is lent from then on.
+    pub fn take_back(&self, rt: &R, handle: Handle<'a, C, R>) -> Result<(), Handle<'a, C, R>>
+        ensures back { IfErr result (λ back. back ≡ handle.entry) }
+    {
         let put = put_one(&mut self.places.lock(rt), handle);
         self.returned.notify_one();
         put
+    }
+}
+
+impl<'a, C: Core, R: Wait + Clock> SpareSeats<'a, C, R> {
+    /// Waits until a seat isn't lent, for no longer than this, and lends it. None where the time is over.
+    pub fn lend_within(&self, rt: &R, limit: Duration) -> Option<Handle<'a, C, R>> {
+        let places = self.places.lock(rt);
+        let (mut places, _end) = self
+            .returned
+            .wait_timeout_while(rt, places, limit, |places| are_all_lent(places));
+        take_one(&mut places)
     }
 }

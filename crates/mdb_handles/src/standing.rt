@@ -4,6 +4,8 @@ ghost use Rattle.std.specs.Prelude.{◌≡◌, IsTrue, []};
 ghost use Rattle.mdb_log.specs.declared.step.Act.TheVariants.{GiveUp};
 ghost use Rattle.mdb_log.specs.declared.reply.Reply.TheVariants.{Done};
 ghost use Rattle.mdb_workers.specs.Making.{Made};
+ghost use Rattle.mdb_shared.specs.Seats.{HasCore};
+ghost use Rattle.mdb_handles.specs.CheckingOut.{IsGivenUp};
 ghost use Rattle.mdb_handles.specs.Standing.{MayBe, HasEnded};
 
 use crate::limits::Limit;
@@ -99,19 +101,31 @@ fn settles(entry: &Entry, request: u32, at: &mut Option<(u32, u32)>) -> bool {
     reports(entry, *at)
 }
 
-// By the entries from this one on. Where some of them were taken, a question is to tell.
+// Some seat gave the request up, by the entries from this one on that were not taken.
+fn is_given_up(kept: Kept<'_>, from: u64, request: u32) -> bool
+    ensures { IsTrue result → IsGivenUp request kept.entry.entries.now }
+{
+    for number in from.saturating_sub(kept.from) as usize..kept.entries.len() {
+        if gives_up(&kept.entries[number], request) {
+            return true;
+        }
+    }
+    false
+}
+
+// By the entries from this one on: first whether one of them gives the request up, also where an earlier one settled it. Where some of them were taken, a
+// question is to tell.
 fn state_by(kept: Kept<'_>, from: u64, request: u32, at: &mut Option<(u32, u32)>) -> State
     ensures { MayBe request kept.entry.entries.now result }
 {
+    if is_given_up(kept, from, request) {
+        return State::GivenUp;
+    }
     if from < kept.from {
         return State::Settled;
     }
     for number in (from - kept.from) as usize..kept.entries.len() {
-        let entry = &kept.entries[number];
-        if gives_up(entry, request) {
-            return State::GivenUp;
-        }
-        if settles(entry, request, at) {
+        if settles(&kept.entries[number], request, at) {
             return State::Settled;
         }
     }
@@ -139,6 +153,26 @@ impl<C: Core> Look<C> for Standing {
     }
 }
 
+// A request, and from which entry on one looks whether some seat gave it up.
+#[derive(Clone, Copy)]
+pub(crate) struct GiveUps {
+    pub request: u32,
+    pub from: u64,
+}
+
+impl<C: Core> Look<C> for GiveUps {
+    type Found = bool;
+
+    ghost use Rattle.std.specs.Prelude.{IsTrue};
+    ghost use Rattle.mdb_handles.specs.CheckingOut.{IsGivenUp};
+
+    ghost tells = { λ s log found. IsTrue found → IsGivenUp s.request log };
+
+    fn look(&self, _core: &C, log: &Journal) -> bool {
+        is_given_up(log.kept(), self.from, self.request)
+    }
+}
+
 // Sleeps until the request isn't open any more, or the time is over.
 pub(crate) fn await_outcome<C: Core, R: Wait, L: Limit>(
     access: &Access<'_, C, R>,
@@ -150,6 +184,7 @@ pub(crate) fn await_outcome<C: Core, R: Wait, L: Limit>(
     ensures saw { Made C.stands seat.old seat.new [] }
     ensures outlook { MayBe standing.request seat.new.seen result.state }
     ensures ended { HasEnded (L.ends limit.now) result.state }
+    ensures fits { HasCore C.stands seat.new }
 {
     for _ in access.rt.forever() {
         let outlook = glance(access, seat, &standing);

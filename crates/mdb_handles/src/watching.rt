@@ -3,6 +3,7 @@
 ghost use Rattle.std.specs.Prelude.{◌≡◌, true, false, [], IfOk, OnOk, OnErr};
 ghost use Rattle.mdb_log.specs.declared.step.Act.TheVariants.{Want, Unwant};
 ghost use Rattle.mdb_log.specs.declared.reply.Reply.TheVariants.{Count};
+ghost use Rattle.mdb_shared.specs.Seats.{HasCore};
 ghost use Rattle.mdb_workers.specs.Making.{Made, OneMore};
 ghost use Rattle.mdb_handles.specs.Watching.{Shows, new_watcher, with_mark, wanting, IsWish, Retracted, Waited, WaitedOn};
 
@@ -71,6 +72,7 @@ impl TopologyWatcher {
     ) -> Result<TopologyState, OutOfMemory>
         requires own { seat.old.driver ≡ access.now.driver.now.id }
         ensures saw { Made C.stands seat.old seat.new [] }
+        ensures fits { HasCore C.stands seat.new }
         ensures state { IfOk result (Shows (C.described seat.new.seen) (C.publications seat.new.seen)) }
     {
         glance(access, seat, &State)
@@ -84,6 +86,7 @@ impl TopologyWatcher {
     ) -> Result<TopologyState, OutOfMemory>
         requires own { seat.old.driver ≡ access.now.driver.now.id }
         ensures saw { Made C.stands seat.old seat.new [] }
+        ensures fits { HasCore C.stands seat.new }
         ensures state { IfOk result (Shows (C.described seat.new.seen) (C.publications seat.new.seen)) }
         ensures marked { IfOk result (λ state. self.new ≡ with_mark self.old state.published) }
         ensures err { OnErr result (self.new ≡ self.old) }
@@ -198,6 +201,7 @@ impl TopologyWatcher {
     ) -> TopologyType
         requires own { seat.old.driver ≡ access.now.driver.now.id }
         ensures saw { Made C.stands seat.old seat.new [] }
+        ensures fits { HasCore C.stands seat.new }
         ensures kind { result ≡ (C.described seat.new.seen).topology_type }
     {
         glance(access, seat, &Kind)
@@ -211,6 +215,7 @@ impl TopologyWatcher {
     ) -> Option<ClusterTime>
         requires own { seat.old.driver ≡ access.now.driver.now.id }
         ensures saw { Made C.stands seat.old seat.new [] }
+        ensures fits { HasCore C.stands seat.new }
         ensures time { result ≡ (C.described seat.new.seen).cluster_time }
     {
         glance(access, seat, &Time)

@@ -1,1 +1,2 @@
 pub mod Recorded
+mod Fronts

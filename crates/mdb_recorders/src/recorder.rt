@@ -1,6 +1,7 @@
 //! Who takes the entries of a shared driver and hands them on.
 
 ghost use Rattle.std.specs.Prelude.{◌≡◌, ◌+◌, ◌<◌, ◌^◌, ◌∷◌, ◌++◌, [], length, drop, OnOk, OnErr, IfErr};
+ghost use Rattle.mdb_shared.specs.Seats.{HasCore};
 ghost use Rattle.mdb_turns.specs.Stepping.{OnlySaw};
 ghost use Rattle.mdb_recorders.specs.Recording.{Follows, Misses};
 
@@ -39,7 +40,8 @@ impl Model for Recorder {
 pub enum RecordError<E: Drop> {
     /// The handler took none of those that are to be handed on. They are kept.
     Handler(E),
-    /// Another took entries before: the first of these comes after some that were never handed on.
+    /// Another took entries before: the first of these comes after some that were never handed on. So is each later call answered. Who goes on behind these makes
+    /// a new recorder, `Recorder::new(alloc, taken.from + taken.entries.len() as u64)`.
     Missing(Taken),
 }
 
@@ -76,7 +78,8 @@ impl Recorder {
     }
 
     /// Takes the entries that nobody took, and hands them on behind those that it keeps: all that the seat has seen then, but for those that were handed
-    /// on before. After an error of the handler the same call goes on with what is kept. It adds no entry. It may wait for the turn.
+    /// on before. After an error of the handler the same call goes on with what is kept. It adds no entry. Each caller that waits for a connection, and had not
+    /// looked at these entries yet, asks by an entry of its own once there is news. It may wait for the turn.
     pub fn record<C: Core, R: Wait, H: EntryHandler>(
         &mut self,
         driver: &SharedDriver<C>,
@@ -92,6 +95,7 @@ impl Recorder {
         ensures handed { OnOk result (H.took handler.old handler.new (drop self.old.done seat.new.seen)) }
         ensures done { OnOk result (self.new ≡ record { done = length seat.new.seen; held = [] }) }
         ensures missing { IfErr result (λ e. Misses e self.new seat.new.seen) }
+        ensures fits { OnOk result (HasCore C.stands seat.new) }
         ensures follows { Follows self.new seat.new.seen }
     {
         match self.hand_on(alloc, handler) {

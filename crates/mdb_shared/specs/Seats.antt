@@ -36,6 +36,11 @@ module _ {X : Type 0} where
   Each P [] = Unit {0}
   Each P (x ∷ xs) = P x × Each P xs
 
+module _ {T : Type 0} (stands : T → List Entry → Type 0) where
+  -- a core stands for all that the seat has seen
+  abbrev pub HasCore : SeatView → Type 0
+  HasCore s = (core : T) × stands core s.seen
+
 -- failed tries found turn words, each of them another seat's, and nothing else changed these words
 abbrev pub FoundBusy : SeatView → SeatView → Type 0
 FoundBusy s s' = (words : List ℕ) × (s'.busy ≡ s.busy ++ words) × Each (λ w. (w ≢ 0) × (w ≢ s.number + 1)) words

@@ -9,6 +9,6 @@ use mdb_log::Core;
 pub struct Unclosed<C: Core> {
     pub driver: SharedDriver<C>,
     pub seats: Vec<Seat<C>>,
-    /// How many seats weren't given.
+    /// How many seats weren't given. Which ones tells the number of each that was (`Seat::number`): they are those below `SharedDriver::seats`.
     pub missing: u32,
 }

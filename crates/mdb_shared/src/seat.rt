@@ -5,7 +5,8 @@ use mdb_turns::TableSeat;
 use std::marker::Model;
 
 /// A thread's place at one driver. It has a number, which its entries carry. Contracts see what it has seen of the log, its own entries, and
-/// the turn words that its failed tries found.
+/// the turn words that its failed tries found. One that is dropped is missing where the driver is closed.
+#[must_use]
 #[derive(Drop)]
 pub struct Seat<C: Core> {
     pub(crate) table_seat: TableSeat<C>,

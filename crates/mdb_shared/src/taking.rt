@@ -2,7 +2,7 @@
 
 ghost use Rattle.std.specs.Prelude.{◌≡◌, ◌≢◌, ◌≤◌, ◌<◌, ◌+◌, ◌^◌, ◌∷◌, ◌++◌, [], IfOk, IfErr, length, drop};
 ghost use Rattle.mdb_turns.specs.Stepping.{IsReady, seat_view, OnlySaw};
-ghost use Rattle.mdb_shared.specs.Seats.{FoundBusy};
+ghost use Rattle.mdb_shared.specs.Seats.{FoundBusy, HasCore};
 ghost use Rattle.mdb_turns.specs.Turning.{found_busy};
 
 use crate::driver::SharedDriver;
@@ -24,6 +24,7 @@ fn one_take<C: Core>(
     requires ready { IsReady number table_seat.old.me }
     ensures same { (table_seat.new.table_id ≡ table_seat.old.table_id) × (table_seat.new.id ≡ table_seat.old.id) × IsReady number table_seat.new.me }
     ensures ok { IfOk result (λ taken. OnlySaw (seat_view table_seat.old.table_id number table_seat.old.me.0) (seat_view table_seat.new.table_id number table_seat.new.me.0) × (table_seat.new.me.0.busy ≡ table_seat.old.me.0.busy) × ((taken.from ≤ length table_seat.new.me.0.seen) × (length table_seat.new.me.0.seen < 2 ^ 64)) × (taken.entries ≡ drop taken.from table_seat.new.me.0.seen)) }
+    ensures fits { IfOk result (λ taken. HasCore C.stands (seat_view table_seat.new.table_id number table_seat.new.me.0)) }
     ensures err { IfErr result (λ word. (table_seat.new.me ≡ (found_busy table_seat.old.me.0 word, [])) × (word ≢ 0) × (word ≢ number + 1)) }
 {
     let (core, mut records) = match take(table, table_seat, number) {
@@ -42,6 +43,7 @@ impl<C: Core> SharedDriver<C> {
         requires own { seat.old.driver ≡ self.now.id }
         ensures same { (seat.new.driver ≡ seat.old.driver) × (seat.new.number ≡ seat.old.number) }
         ensures ok { IfOk result (λ taken. OnlySaw seat.old seat.new × (seat.new.busy ≡ seat.old.busy) × ((taken.from ≤ length seat.new.seen) × (length seat.new.seen < 2 ^ 64)) × (taken.entries ≡ drop taken.from seat.new.seen)) }
+        ensures fits { IfOk result (λ taken. HasCore C.stands seat.new) }
         ensures err { IfErr result (λ word. (word ≢ 0) × (word ≢ seat.old.number + 1) × (seat.new.seen ≡ seat.old.seen) × (seat.new.mine ≡ seat.old.mine) × (seat.new.busy ≡ seat.old.busy ++ word ∷ [])) }
     {
         let taken = one_take(&self.table, &mut seat.table_seat, seat.number, alloc);
@@ -51,8 +53,8 @@ impl<C: Core> SharedDriver<C> {
         taken
     }
 
-    /// Hands out the entries that nobody took, oldest first: all that the seat has seen then, but for the first `from`, which were taken before. It adds no
-    /// entry and takes no memory. It may wait for the turn.
+    /// Hands out the entries that nobody took, oldest first: all that the seat has seen then, but for the first `from`, which were taken before. No clause ties
+    /// `from` to other takes. It adds no entry and takes no memory. It may wait for the turn.
     pub fn take<R: Wait>(&self, rt: &R, alloc: Global, seat: &mut Seat<C>) -> Taken
         requires own { seat.old.driver ≡ self.now.id }
         ensures same { (seat.new.driver ≡ seat.old.driver) × (seat.new.number ≡ seat.old.number) }
@@ -60,6 +62,7 @@ impl<C: Core> SharedDriver<C> {
         ensures saw { OnlySaw seat.old seat.new }
         ensures within { (result.from ≤ length seat.new.seen) × (length seat.new.seen < 2 ^ 64) }
         ensures entries { result.entries ≡ drop result.from seat.new.seen }
+        ensures fits { HasCore C.stands seat.new }
     {
         for _ in rt.forever() {
             match self.try_take(alloc, seat) {

@@ -23,7 +23,7 @@ pub each_more : {X : Type 0} (P : X → Type 0) (xs ys : List X) → Each P xs �
 each_more P [] ys h k = k
 each_more P (x ∷ xs) ys h k = (h.0, each_more P xs ys h.1 k)
 
-found_then : (s t u : SeatView) → t.number ≡ s.number → FoundBusy s t → FoundBusy t u → FoundBusy s u
+pub found_then : (s t u : SeatView) → t.number ≡ s.number → FoundBusy s t → FoundBusy t u → FoundBusy s u
 found_then s t u same f g = (
   f.0 ++ g.0,
   g.1 ∙ (ap (λ (l : List ℕ). l ++ g.0) f.1 ∙ append_assoc s.busy f.0 g.0),

@@ -1,5 +1,5 @@
 -- What the steps of a tick add up to.
-use Rattle.std.proofs.Common.{◌≡◌, ℕ, List, [], ◌∷◌, ◌++◌, sym, subst}
+use Rattle.std.proofs.Common.{◌≡◌, ℕ, List, [], ◌∷◌, ◌++◌, Result, Ok, Err, OnOk, OnErr, sym, subst, ap, ◌∙◌, append_assoc, append-nil}
 use Rattle.mdb_base.specs.declared.address.ServerAddress.{ServerAddress}
 use Rattle.mdb_describe.specs.declared.topology.TopologyDescription.{TopologyDescription}
 use Rattle.mdb_log.specs.Acts.{IsDriverAct}
@@ -8,9 +8,10 @@ use Rattle.mdb_log.specs.declared.step.Act.{Act}
 use Rattle.mdb_log.specs.declared.step.Act.TheVariants.{Expire, Maintain}
 use Rattle.mdb_turns.specs.Stepping.{SeatView}
 use Rattle.mdb_shared.specs.Seats.{Each}
-use Rattle.mdb_workers.specs.Making.{Made, MadeAt}
-use Rattle.mdb_workers.specs.Ticking.{AreDue, BothDue, IsDueAct, TickedBy, TickedInPart, Ticked, addresses_of}
-use Rattle.mdb_workers.proofs.Adding.{each_more, made_none_at, made_then_at, made_seen}
+use Rattle.mdb_log.specs.Driver.{StartsWith}
+use Rattle.mdb_workers.specs.Making.{InOrder, InOrderWhen, Made, MadeAt, MadeWhen}
+use Rattle.mdb_workers.specs.Ticking.{AreDue, BothDue, IsDueAct, KeptTime, TickedBy, TickedInPart, Ticked, addresses_of}
+use Rattle.mdb_workers.proofs.Adding.{each_more, found_then, starts_then, made_none_at, made_then_at, made_seen}
 
 due_more : (addresses : List ServerAddress) (es : List Entry) (a : ServerAddress) (e f : Entry) → AreDue addresses es → e.step.act ≡ Expire a → f.step.act ≡ Maintain a → AreDue (addresses ++ a ∷ []) (es ++ e ∷ f ∷ [])
 due_more [] [] a e f h first second = (first, second, tt)
@@ -67,3 +68,55 @@ module _ {T : Type 0} (stands : T → List Entry → Type 0) (moment : ℕ) wher
 
   pub ticked_part : (s t u : SeatView) → Made stands s t [] → TickedInPart stands moment t u → TickedInPart stands moment s u
   ticked_part s t u saw by = (by.0, by.1, made_then_at stands moment s t u [] by.0 saw by.2)
+
+-- ---- a clock that keeps time
+
+module _ {T : Type 0} (stands : T → List Entry → Type 0) (When : ℕ → Type 0) where
+  when_from : (n : ℕ) (a b c es : List Entry) → StartsWith b a → InOrderWhen stands When n b es c → InOrderWhen stands When n a es c
+  when_from n a b c [] f h = starts_then a b c f h
+  when_from n a b c (e ∷ es) f h = (h.0, starts_then a b h.0 f h.1, h.2, h.3)
+
+  when_then : (n : ℕ) (a b c es fs : List Entry) → InOrderWhen stands When n a es b → InOrderWhen stands When n b fs c → InOrderWhen stands When n a (es ++ fs) c
+  when_then n a b c [] fs h k = when_from n a b c fs h k
+  when_then n a b c (e ∷ es) fs h k = (h.0, h.1, h.2, when_then n (h.0 ++ e ∷ []) b c es fs h.3 k)
+
+  -- what was made at one moment of the kind was made at moments of the kind
+  when_at : (moment : ℕ) → When moment → (n : ℕ) (a c es : List Entry) → InOrder stands moment n a es c → InOrderWhen stands When n a es c
+  when_at moment is n a c [] h = h
+  when_at moment is n a c (e ∷ es) h = (h.0, h.1, (moment, is, h.2), when_at moment is n (h.0 ++ e ∷ []) c es h.3)
+
+  made_when : (moment : ℕ) → When moment → (s t u : SeatView) (es fs : List Entry) → MadeWhen stands When s t es → MadeAt stands moment t u fs → MadeWhen stands When s u (es ++ fs)
+  made_when moment is s t u es fs f g = (
+    g.0 ∙ f.0,
+    g.1 ∙ f.1,
+    when_then s.number s.seen t.seen u.seen es fs f.2 (subst (λ (n : ℕ). InOrderWhen stands When n t.seen fs u.seen) f.1 (when_at moment is t.number t.seen u.seen fs g.2)),
+    g.3 ∙ (ap (λ (l : List Entry). l ++ fs) f.3 ∙ append_assoc s.mine es fs),
+    found_then s t u f.1 f.4 g.4,
+  )
+
+  -- no tick yet
+  pub kept_none : (s : SeatView) → KeptTime stands When s s
+  kept_none s = let none = made_none_at stands 0 s in ([], tt, (none.0, none.1, none.2, none.3, none.4))
+
+  made_saw_when : (s t u : SeatView) (es : List Entry) → MadeWhen stands When s t es → Made stands t u [] → MadeWhen stands When s u es
+  made_saw_when s t u es f g = (
+    g.0 ∙ f.0,
+    g.1 ∙ f.1,
+    subst (λ (l : List Entry). InOrderWhen stands When s.number s.seen l u.seen) (append-nil es) (when_then s.number s.seen t.seen u.seen es [] f.2 g.2),
+    g.3 ∙ (append-nil t.mine ∙ f.3),
+    found_then s t u f.1 f.4 g.4,
+  )
+
+  -- a look after the ticks
+  pub kept_saw : (s t u : SeatView) → KeptTime stands When s t → Made stands t u [] → KeptTime stands When s u
+  kept_saw s t u so saw = (so.0, so.1, made_saw_when s t u so.0 so.2 saw)
+
+  kept_part : (moment : ℕ) → When moment → (s t u : SeatView) → KeptTime stands When s t → TickedInPart stands moment t u → KeptTime stands When s u
+  kept_part moment is s t u so part = (so.0 ++ part.0, each_more (λ (e : Entry). IsDueAct e.step.act) so.0 part.0 so.1 part.1, made_when moment is s t u so.0 part.0 so.2 part.2)
+
+  -- one tick more, whole or in part
+  pub kept_more : {A E : Type 0} (described : List Entry → TopologyDescription) (moment : ℕ) → When moment → (s t u : SeatView) (r : Result A E) → KeptTime stands When s t → OnOk r (Ticked stands described moment t u) → OnErr r (TickedInPart stands moment t u)
+      → KeptTime stands When s u
+  kept_more described moment is s t u (Ok done) so whole part =
+      let by = whole.3 in kept_part moment is s t u so (by.0, all_due (addresses_of (described whole.0)) by.0 by.1, by.2)
+  kept_more described moment is s t u (Err why) so whole part = kept_part moment is s t u so part

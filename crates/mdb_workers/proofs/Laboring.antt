@@ -42,7 +42,7 @@ reports_act pool id (Err OutOfMemory) act says = absurd says
 -- ---- many jobs
 
 module _ {T : Type 0} (stands : T → List Entry → Type 0) (job_of : List Entry → ℕ → ℕ → Option Job) where
-  claims_later : (seen more : List Entry) (pool id : ℕ) (job : Job) (claim : Entry) → StartsWith more seen → ClaimsJob job_of seen pool id job claim → ClaimsJob job_of more pool id job claim
+  pub claims_later : (seen more : List Entry) (pool id : ℕ) (job : Job) (claim : Entry) → StartsWith more seen → ClaimsJob job_of seen pool id job claim → ClaimsJob job_of more pool id job claim
   claims_later seen more pool id job claim grown h = (h.0, (h.1.0, starts_then (h.1.0 ++ claim ∷ []) seen more h.1.1 grown, h.1.2))
 
   done_later : (seen more : List Entry) (claim report : Entry) (c : Call) → StartsWith more seen → JobDone job_of seen claim report c → JobDone job_of more claim report c

@@ -1,79 +1,123 @@
 -- Each connection that a worker claimed is reported.
-use Rattle.std.proofs.Common.{◌≡◌, ℕ, List, [], ◌∷◌, ◌++◌, inl, inr, refl, sym, subst, ◌∙◌, Bool, true, false, Option, Some, None, Result, Ok, Err, IfSome}
+use Rattle.std.proofs.Common.{◌≡◌, ℕ, List, [], ◌∷◌, ◌++◌, inl, inr, refl, sym, subst, ap, ◌∙◌, append_assoc, append-nil, Bool, true, false, Option, Some, None, IfSome, IfNone}
+use Rattle.mdb_base.specs.Outside.{Rose}
 use Rattle.mdb_log.specs.Acts.{IsDriverAct}
+use Rattle.mdb_log.specs.Driver.{StartsWith}
 use Rattle.mdb_log.specs.declared.job.Job.{Job}
 use Rattle.mdb_log.specs.declared.log.Entry.{Entry}
 use Rattle.mdb_log.specs.declared.reply.Reply.{Reply}
 use Rattle.mdb_log.specs.declared.reply.Reply.TheVariants.{Job as TellsJob, NoJob}
 use Rattle.mdb_log.specs.declared.step.Act.{Act}
-use Rattle.mdb_log.specs.declared.step.Established.{Established}
 use Rattle.mdb_log.specs.declared.step.Step.{Step}
-use Rattle.mdb_shared.specs.Claims.{claiming}
+use Rattle.mdb_shared.specs.Claims.{claiming, claimed_by, Holds}
+use Rattle.mdb_shared.specs.declared.claiming.Claimed.{Claimed as MayClaim}
+use Rattle.mdb_shared.specs.declared.claiming.Claimed.TheVariants.{Job as JobClaimed, Unread, NoJob as NoneClaimed}
 use Rattle.mdb_turns.specs.Stepping.{SeatView, Stepped}
-use Rattle.mdb_shared.specs.Seats.{FoundBusy}
+use Rattle.mdb_shared.specs.Seats.{Each, FoundBusy}
+use Rattle.mdb_workers.specs.declared.ends.Work.{Work}
+use Rattle.mdb_workers.specs.declared.ends.Work.TheVariants.{Idle, Spent}
 use Rattle.mdb_workers.specs.declared.establishing.Call.{Call}
-use Rattle.mdb_workers.specs.declared.establishing.EstablishError.{EstablishError}
-use Rattle.mdb_workers.specs.declared.establishing.EstablishError.TheVariants.{Refused, OutOfMemory}
 use Rattle.mdb_workers.specs.Establishing.{Reports}
 use Rattle.mdb_workers.specs.Making.{Made}
-use Rattle.mdb_workers.specs.Persisting.{TendedBy, LeftAct, IsTry, ReportsLeftIf}
-use Rattle.mdb_workers.specs.Working.{CalledOnce, IsReportOf, Tended, ReportsLeft}
-use Rattle.mdb_workers.proofs.Adding.{made_none, made_then, made_step}
-
-pub tended_then : (es fs : List Entry) → Tended es → Tended fs → Tended (es ++ fs)
-tended_then [] fs h k = k
-tended_then (e ∷ []) [] h k = h
-tended_then (e ∷ []) (f ∷ fs) h k = inl (h, k)
-tended_then (e ∷ g ∷ es) fs h k = elim h [ inl p ↦ inl (p.0, tended_then (g ∷ es) fs p.1 k) | inr p ↦ inr (p.0, tended_then es fs p.1 k) ]
-
-reports_of : (pool id : ℕ) (answer : Result Established EstablishError) (act : Act) → Reports pool id answer act → IsReportOf pool id act
-reports_of pool id (Ok made) act says = subst (IsReportOf pool id) (sym says) (refl, refl)
-reports_of pool id (Err (Refused after_hello service error)) act says = subst (IsReportOf pool id) (sym says) (refl, refl)
-reports_of pool id (Err OutOfMemory) act says = absurd says
-
--- the step that the establisher's answer made, where there is one, reports the connection
-abbrev pub MayReport : ℕ → ℕ → Option Step → Type 0
-MayReport pool id step = IfSome step (λ x. IsReportOf pool id x.act)
-
-pub called_reports : (pool id : ℕ) (job : Job) (old new : List Call) (step : Option Step) → IfSome step (λ x. CalledOnce pool id job old new x.act) → MayReport pool id step
-called_reports pool id job old new (Some step) h = reports_of pool id h.0.answer step.act h.3
-called_reports pool id job old new None h = tt
+use Rattle.mdb_workers.specs.Persisting.{LeftAct, IsTry, ReportsLeftIf}
+use Rattle.mdb_workers.specs.Working.{CalledOnce, ClaimsJob, Dealt, IsLetFail, IsRound, IsTended, JobDone, ReportsLeft, Round, Served, TendedBy, calls_of, entries_of}
+use Rattle.mdb_workers.proofs.Adding.{each_more, made_none, made_seen, made_step, made_then}
+use Rattle.mdb_workers.proofs.Laboring.{Claimed, claimed_job, claims_later}
 
 pub may_step : (step : Option Step) → IfSome step (λ x. (x.moment ≡ 0) × IsDriverAct x.act) → IfSome step (λ x. IsDriverAct x.act)
 may_step (Some step) h = h.1
 may_step None h = tt
 
-settled_report : (pool id : ℕ) (step : Option Step) (r : Entry) → MayReport pool id step → ReportsLeft pool id step r → IsReportOf pool id r.step.act
-settled_report pool id (Some step) r may by = subst (IsReportOf pool id) (sym by) may
-settled_report pool id None r may by = subst (IsReportOf pool id) (sym by.2) (refl, refl)
+-- the answer was reported, or that there was no memory
+pub dealt_with : {T : Type 0} (stands : T → List Entry → Type 0) (u v : SeatView) (pool id : ℕ) (job : Job) (old new : List Call) (before now : ℕ) (step : Option Step)
+    → IfSome step (λ x. CalledOnce pool id job old new x.act) → IfNone step (new ≡ old) → IfNone step (Rose before now) → ((r : Entry) × ReportsLeft pool id step r × Made stands u v (r ∷ [])) → Dealt stands pool id job u v old new before now
+dealt_with stands u v pool id job old new before now (Some step) some none wanted by = (by.0, by.2, inl (subst (λ (a : Act). CalledOnce pool id job old new a) (sym by.1) some))
+dealt_with stands u v pool id job old new before now None some none wanted by = (by.0, by.2, inr (none, wanted, by.1))
 
-module _ {T : Type 0} (stands : T → List Entry → Type 0) where
-  pub tended_none : (s : SeatView) → TendedBy stands s s
-  tended_none s = ([], made_none stands s, tt)
+module _ {T : Type 0} (stands : T → List Entry → Type 0) (job_of : List Entry → ℕ → ℕ → Option Job) where
+  no_calls : (old new : List Call) → new ≡ old → new ≡ old ++ []
+  no_calls old new is = is ∙ sym (append-nil old)
 
-  pub tended_nothing : (s t : SeatView) → Made stands s t [] → TendedBy stands s t
-  tended_nothing s t m = ([], m, tt)
-
-  pub tended_more : (s t u : SeatView) → TendedBy stands s t → TendedBy stands t u → TendedBy stands s u
-  tended_more s t u h k = (h.0 ++ k.0, made_then stands s t u h.0 k.0 h.1 k.1, tended_then h.0 k.0 h.2 k.2)
-
-  pub tended_later : (s t u : SeatView) → TendedBy stands s t → Made stands t u [] → TendedBy stands s u
-  tended_later s t u h m = tended_more s t u h ([], m, tt)
+  -- nothing was claimed
+  pub tended_nothing : (s t : SeatView) (old : List Call) → Made stands s t [] → TendedBy job_of stands s t old old Spent
+  tended_nothing s t old m = ([], [], m, tt, no_calls old old refl)
 
   -- ---- a claim, and what follows it
-  module _ (t u : SeatView) (reply : Reply) (d : u.driver ≡ t.driver) (n : u.number ≡ t.number) (f : FoundBusy t u) (st : Stepped stands t u claiming reply) where
-    pub tended_idle : reply ≡ NoJob → TendedBy stands t u
-    tended_idle is =
-        let one = made_step stands t u claiming NoJob d n f refl (subst (Stepped stands t u claiming) is st) in
-        (one.0 ∷ [], one.3, (one.1, one.2))
+  module _ (t u : SeatView) (d : u.driver ≡ t.driver) (n : u.number ≡ t.number) (f : FoundBusy t u) (claimed : MayClaim) (st : Stepped stands t u claiming (claimed_by claimed)) (old : List Call) where
+    made_claim : (reply : Reply) → claimed_by claimed ≡ reply → Stepped stands t u claiming reply
+    made_claim reply is = subst (Stepped stands t u claiming) is st
 
-    pub tended_job : (v : SeatView) (pool id : ℕ) (step : Option Step) → reply ≡ TellsJob pool id → MayReport pool id step → ((r : Entry) × ReportsLeft pool id step r × Made stands u v (r ∷ [])) → TendedBy stands t v
-    tended_job v pool id step is may by =
-        let one = made_step stands t u claiming (TellsJob pool id) d n f refl (subst (Stepped stands t u claiming) is st) in (
-          one.0 ∷ by.0 ∷ [],
-          made_then stands t u v (one.0 ∷ []) (by.0 ∷ []) one.3 by.2,
-          inr ((pool, id, (one.1, one.2), settled_report pool id step by.0 may by.1), tt),
-        )
+    pub tended_idle : claimed ≡ NoneClaimed → TendedBy job_of stands t u old old Idle
+    tended_idle is =
+        let one = made_step stands t u claiming NoJob d n f refl (made_claim NoJob (ap claimed_by is)) in
+        (one.0 ∷ [], [], one.3, (one.1, one.2), no_calls old old refl)
+
+    -- there was no memory for the job
+    pub tended_unread : (v : SeatView) (pool id : ℕ) → claimed ≡ Unread pool id → ((r : Entry) × ReportsLeft pool id None r × Made stands u v (r ∷ [])) → TendedBy job_of stands t v old old Spent
+    tended_unread v pool id is by =
+        let one = made_step stands t u claiming (TellsJob pool id) d n f refl (made_claim (TellsJob pool id) (ap claimed_by is)) in
+        (one.0 ∷ by.0 ∷ [], [], made_then stands t u v (one.0 ∷ []) (by.0 ∷ []) one.3 by.2, (pool, id, (one.1, one.2), by.1), no_calls old old refl)
+
+    pub tended_job : (v : SeatView) (new : List Call) (before now : ℕ) (pool id : ℕ) (job : Job) → claimed ≡ JobClaimed pool id job → Holds (job_of u.seen) claimed → Dealt stands pool id job u v old new before now
+        → TendedBy job_of stands t v old new Spent
+    tended_job v new before now pool id job is holds dealt =
+        let claim : Claimed stands job_of pool id job t u = claimed_job stands job_of t u pool id job d n f (made_claim (TellsJob pool id) (ap claimed_by is)) (subst (λ (c : MayClaim). Holds (job_of u.seen) c) is holds) in
+        let e = claim.0 in let r = dealt.0 in
+        let made : Made stands t v (e ∷ r ∷ []) = made_then stands t u v (e ∷ []) (r ∷ []) claim.1 dealt.1 in
+        let later : ClaimsJob job_of v.seen pool id job e = claims_later stands job_of u.seen v.seen pool id job e (made_seen stands 0 u v (r ∷ []) dealt.1) claim.2 in elim dealt.2 [
+          | inl called ↦ let c = called.0 in (e ∷ r ∷ [], c ∷ [], made, (pool, id, subst (λ (j : Job). ClaimsJob job_of v.seen pool id j e) (sym called.1) later, called.3), called.2)
+          | inr none ↦ (e ∷ r ∷ [], [], made, (pool, id, claim.2.0, none.2), no_calls old new none.0)
+        ]
+
+  -- ---- one round after the other
+
+  entries_more : (rs : List Round) (r : Round) → entries_of (rs ++ r ∷ []) ≡ entries_of rs ++ r.entries
+  entries_more [] r = append-nil r.entries
+  entries_more (x ∷ rs) r = ap (λ (l : List Entry). x.entries ++ l) (entries_more rs r) ∙ sym (append_assoc x.entries (entries_of rs) r.entries)
+
+  calls_more : (rs : List Round) (r : Round) → calls_of (rs ++ r ∷ []) ≡ calls_of rs ++ r.calls
+  calls_more [] r = append-nil r.calls
+  calls_more (x ∷ rs) r = ap (λ (l : List Call). x.calls ++ l) (calls_more rs r) ∙ sym (append_assoc x.calls (calls_of rs) r.calls)
+
+  -- what a round was by a log it is by a later one
+  tended_later : (seen more : List Entry) → StartsWith more seen → (work : Work) (es : List Entry) (calls : List Call) → IsTended job_of seen work es calls → IsTended job_of more work es calls
+  tended_later seen more grown Idle [] calls h = absurd h
+  tended_later seen more grown Idle (claim ∷ []) [] h = h
+  tended_later seen more grown Idle (claim ∷ []) (c ∷ calls) h = absurd h
+  tended_later seen more grown Idle (claim ∷ e ∷ es) calls h = absurd h
+  tended_later seen more grown Spent [] [] h = h
+  tended_later seen more grown Spent [] (c ∷ calls) h = absurd h
+  tended_later seen more grown Spent (claim ∷ []) calls h = absurd h
+  tended_later seen more grown Spent (claim ∷ report ∷ []) [] h = h
+  tended_later seen more grown Spent (claim ∷ report ∷ []) (c ∷ []) h = (h.0, h.1, claims_later stands job_of seen more h.0 h.1 c.job claim grown h.2, h.3)
+  tended_later seen more grown Spent (claim ∷ report ∷ []) (c ∷ d ∷ calls) h = absurd h
+  tended_later seen more grown Spent (claim ∷ report ∷ e ∷ es) calls h = absurd h
+
+  rounds_later : (seen more : List Entry) → StartsWith more seen → (rs : List Round) → Each (IsRound job_of seen) rs → Each (IsRound job_of more) rs
+  rounds_later seen more grown [] h = tt
+  rounds_later seen more grown (r ∷ rs) h = (tended_later seen more grown r.work r.entries r.calls h.0, rounds_later seen more grown rs h.1)
+
+  pub served_none : (s : SeatView) (old : List Call) → Served job_of stands s s old old
+  served_none s old = ([], made_none stands s, tt, no_calls old old refl)
+
+  -- a look after the rounds
+  pub served_saw : (s t u : SeatView) (old new : List Call) → Served job_of stands s t old new → Made stands t u [] → Served job_of stands s u old new
+  served_saw s t u old new h m = (
+    h.0,
+    subst (Made stands s u) (append-nil (entries_of h.0)) (made_then stands s t u (entries_of h.0) [] h.1 m),
+    rounds_later t.seen u.seen (made_seen stands 0 t u [] m) h.0 h.2,
+    h.3,
+  )
+
+  -- one round more
+  pub served_more : (s t u : SeatView) (old mid new : List Call) (work : Work) → Served job_of stands s t old mid → TendedBy job_of stands t u mid new work → Served job_of stands s u old new
+  served_more s t u old mid new work h k =
+      let r : Round = record { work = work; entries = k.0; calls = k.1 } in (
+        h.0 ++ r ∷ [],
+        subst (Made stands s u) (sym (entries_more h.0 r)) (made_then stands s t u (entries_of h.0) k.0 h.1 k.2),
+        each_more (IsRound job_of u.seen) h.0 (r ∷ []) (rounds_later t.seen u.seen (made_seen stands 0 t u k.0 k.2) h.0 h.2) (k.3, tt),
+        k.4 ∙ (ap (λ (l : List Call). l ++ k.1) h.3 ∙ (append_assoc old (calls_of h.0) k.1 ∙ ap (λ (l : List Call). old ++ l) (sym (calls_more h.0 r)))),
+      )
 
 -- the act that reports what was left may be made, and its entry settles it
 pub may_act : (pool id : ℕ) (step : Option Step) (act : Act) → IfSome step (λ x. IsDriverAct x.act) → LeftAct pool id step act → IsDriverAct act

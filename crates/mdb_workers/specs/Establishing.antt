@@ -25,6 +25,11 @@ abbrev pub Counts : ℕ → ℕ → Result Established EstablishError → Type 0
 Counts before now (Err (Refused after_hello service error)) = Rose before now
 Counts before now answer = now ≡ before
 
+-- the count rose where there was no memory, and stays else
+abbrev pub CountsWants : ℕ → ℕ → Result Established EstablishError → Type 0
+CountsWants before now (Err OutOfMemory) = Rose before now
+CountsWants before now answer = now ≡ before
+
 -- a refusal after the hello is one of the service that the server named
 abbrev pub failed_at : Bool → Option ObjectId → FailedAt
 failed_at true service = Post service

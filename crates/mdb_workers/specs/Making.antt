@@ -25,6 +25,16 @@ module _ {T : Type 0} (stands : T → List Entry → Type 0) where
   abbrev pub MadeAt : ℕ → SeatView → SeatView → List Entry → Type 0
   MadeAt moment s s' es = (s'.driver ≡ s.driver) × (s'.number ≡ s.number) × InOrder moment s.number s.seen es s'.seen × (s'.mine ≡ s.mine ++ es) × FoundBusy s s'
 
+  -- The entries stand one behind the other, each made at a moment of this kind, raised to the last one.
+  abbrev pub InOrderWhen : (ℕ → Type 0) → ℕ → List Entry → List Entry → List Entry → Type 0
+  InOrderWhen When n seen [] now = StartsWith now seen
+  InOrderWhen When n seen (e ∷ es) now =
+      (log : List Entry) × StartsWith log seen × ((moment : ℕ) × When moment × IsBehind moment n log e) × InOrderWhen When n (log ++ e ∷ []) es now
+
+  -- The seat has these entries more and no others, each made at a moment of this kind, raised to the last one.
+  abbrev pub MadeWhen : (ℕ → Type 0) → SeatView → SeatView → List Entry → Type 0
+  MadeWhen When s s' es = (s'.driver ≡ s.driver) × (s'.number ≡ s.number) × InOrderWhen When s.number s.seen es s'.seen × (s'.mine ≡ s.mine ++ es) × FoundBusy s s'
+
   -- Calls that are given no moment step at 0, raised to the last moment.
   abbrev pub Made : SeatView → SeatView → List Entry → Type 0
   Made = MadeAt 0

@@ -8,3 +8,6 @@ made_so_far m = m.calls.items
 
 abbrev pub refusals : MemEstablisher → ℕ
 refusals m = m.refused
+
+abbrev pub times_without : MemEstablisher → ℕ
+times_without m = m.wanted

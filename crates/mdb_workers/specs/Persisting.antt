@@ -15,7 +15,7 @@ use Rattle.mdb_shared.specs.declared.checkout.BackWhy.TheVariants.{Refused as Ba
 use Rattle.mdb_workers.specs.declared.persisting.Tried.{Tried}
 use Rattle.mdb_workers.specs.declared.persisting.Tried.TheVariants.{Back, Refused, Again}
 use Rattle.mdb_workers.specs.Making.{Made, OneMore}
-use Rattle.mdb_workers.specs.Working.{IsWant, ReportsLeft, Tended}
+use Rattle.mdb_workers.specs.Working.{IsWant, ReportsLeft}
 
 -- The act that reports what was left: that of the step, or else that the connection failed before the hello for lack of memory.
 abbrev pub LeftAct : ℕ → ℕ → Option Step → Act → Type 0
@@ -37,10 +37,6 @@ module _ {T : Type 0} (stands : T → List Entry → Type 0) where
   abbrev pub ReportsLeftIf : ℕ → ℕ → Option Step → SeatView → SeatView → Bool → Type 0
   ReportsLeftIf pool id step s s' true = (e : Entry) × ReportsLeft pool id step e × Made stands s s' (e ∷ [])
   ReportsLeftIf pool id step s s' false = Made stands s s' []
-
-  -- each connection that was claimed is reported
-  abbrev pub TendedBy : SeatView → SeatView → Type 0
-  TendedBy s s' = (es : List Entry) × Made stands s s' es × Tended es
 
   -- The connection came back; or the return was refused, or there was no memory for it, and the connection is still there.
   abbrev pub TriedBack : SeatView → SeatView → PooledConnection → Use → Tried → Type 0

@@ -9,7 +9,7 @@ use Rattle.mdb_log.specs.declared.step.Act.TheVariants.{Expire, Maintain}
 use Rattle.mdb_log.specs.Driver.{StartsWith}
 use Rattle.mdb_turns.specs.Stepping.{SeatView}
 use Rattle.mdb_shared.specs.Seats.{Each}
-use Rattle.mdb_workers.specs.Making.{MadeAt}
+use Rattle.mdb_workers.specs.Making.{MadeAt, MadeWhen}
 
 abbrev pub addresses_of : TopologyDescription → List ServerAddress
 addresses_of t = map (λ (d : ServerDescription). d.address) t.servers
@@ -37,6 +37,10 @@ module _ {T : Type 0} (stands : T → List Entry → Type 0) where
   -- there was no memory for some of it
   abbrev pub TickedInPart : ℕ → SeatView → SeatView → Type 0
   TickedInPart moment s s' = (es : List Entry) × Each (λ e. IsDueAct e.step.act) es × MadeAt stands moment s s' es
+
+  -- Callers expired and pools were maintained, at moments of this kind, and nothing else was done.
+  abbrev pub KeptTime : (ℕ → Type 0) → SeatView → SeatView → Type 0
+  KeptTime When s s' = (es : List Entry) × Each (λ e. IsDueAct e.step.act) es × MadeWhen stands When s s' es
 
   -- All that was due was done, at the addresses that the driver knew of in a log no shorter than what was seen.
   abbrev pub Ticked : (List Entry → TopologyDescription) → ℕ → SeatView → SeatView → Type 0

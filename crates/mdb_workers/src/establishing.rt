@@ -29,7 +29,7 @@ pub struct Call {
 /// Establishes connections (CMAP, "Establishing a Connection").
 pub trait Establisher {
     ghost use Rattle.mdb_workers.specs.declared.establishing.Call.{Call};
-    ghost use Rattle.mdb_workers.specs.Establishing.{calls_after, Counts};
+    ghost use Rattle.mdb_workers.specs.Establishing.{calls_after, Counts, CountsWants};
 
     /// Its calls so far, but those that were answered `OutOfMemory`.
     ghost calls: { Self → List Call };
@@ -37,10 +37,14 @@ pub trait Establisher {
     /// How often it refused.
     ghost faults: { Self → ℕ };
 
+    /// How often it had no memory.
+    ghost wants: { Self → ℕ };
+
     /// Establishes the connection of the job.
     fn establish(&mut self, alloc: Global, job: &Job) -> Result<Established, EstablishError>
         ensures calls { calls self.new ≡ calls_after (calls self.old) job.now result }
-        ensures faults { Counts (faults self.old) (faults self.new) result };
+        ensures faults { Counts (faults self.old) (faults self.new) result }
+        ensures wants { CountsWants (wants self.old) (wants self.new) result };
 }
 
 /// Is told of each job, before and after it is done.

@@ -25,5 +25,5 @@ pub use persisting::{Unreturned, abandon, hand_back, report_left, stop, tend};
 pub use serving::serve;
 pub use start_barrier::StartBarrier;
 pub use steps::{add, ask, give_back, glance, let_go, pause, rest};
-pub use ticking::{keep_time, tick};
+pub use ticking::{Timer, keep_time, keep_time_by, tick};
 pub use working::work;

@@ -1,9 +1,9 @@
 //! Waiting until the log tells what one waits for. Who waits looks at the new entries only, in its turn, and adds none; between two looks it sleeps.
 
-ghost use Rattle.std.specs.Prelude.{◌≡◌, IsTrue, length, []};
+ghost use Rattle.std.specs.Prelude.{◌≡◌, []};
+ghost use Rattle.mdb_shared.specs.Seats.{HasCore};
 ghost use Rattle.mdb_workers.specs.Making.{Made};
-ghost use Rattle.mdb_journal.specs.Entries.{HasNews};
-ghost use Rattle.mdb_workers.specs.Hearing.{IsHeard};
+ghost use Rattle.mdb_workers.specs.Hearing.{IsHeard, IsNewsOf};
 
 use crate::access::Access;
 use crate::steps::glance;
@@ -22,40 +22,47 @@ pub enum Woken {
     Stopped,
 }
 
-// How many entries the log has, and whether one of them is news, from this one on.
+// How many entries the log has, whether one of them is news, from this one on, and whether one stopped the driver.
 #[derive(Clone, Copy)]
 struct AnyNews {
     from: u64,
 }
 
 impl<C: Core> Look<C> for AnyNews {
-    type Found = (u64, bool);
+    type Found = (u64, bool, bool);
 
     ghost use Rattle.std.specs.Prelude.{◌≡◌, IsTrue, length};
-    ghost use Rattle.mdb_journal.specs.Entries.{HasNews};
+    ghost use Rattle.mdb_journal.specs.Entries.{HasNews, HasStopped};
 
-    ghost tells = { λ s log found. (found.0 ≡ length log) × (IsTrue found.1 → HasNews s.from log) };
+    ghost tells = { λ s log found. (found.0 ≡ length log) × (IsTrue found.1 → HasNews s.from log) × (IsTrue found.2 → HasStopped log) };
 
-    fn look(&self, _core: &C, log: &Journal) -> (u64, bool) {
-        (log.len(), log.has_news(self.from))
+    fn look(&self, _core: &C, log: &Journal) -> (u64, bool, bool) {
+        (log.len(), log.has_news(self.from), log.is_stopped())
     }
 }
 
-/// Sleeps until an entry from this one on is news to others, and gives the number of all entries then. What is news says `is_news` of mdb_journal. It adds
-/// no entry.
-pub fn next_news<C: Core, R: Wait>(access: &Access<'_, C, R>, seat: &mut Seat<C>, from: u64) -> u64
+/// Sleeps until an entry from this one on is news to others, and gives the number of all entries then; or until the driver has stopped and none of them is. What
+/// is news says `is_news` of mdb_journal; a stop is. It adds no entry.
+pub fn next_news<C: Core, R: Wait>(
+    access: &Access<'_, C, R>,
+    seat: &mut Seat<C>,
+    from: u64,
+) -> Woken
     requires own { seat.old.driver ≡ access.now.driver.now.id }
     ensures saw { Made C.stands seat.old seat.new [] }
-    ensures count { length seat.new.seen ≡ result }
-    ensures news { HasNews from seat.new.seen }
+    ensures heard { IsHeard seat.new.seen result }
+    ensures news { IsNewsOf from seat.new.seen result }
+    ensures fits { HasCore C.stands seat.new }
 {
-    let mut seen = from;
+    let news = AnyNews { from };
     for _ in access.rt.forever() {
-        let (count, news) = glance(access, seat, &AnyNews { from: seen });
-        if news {
-            return count;
+        let (count, is_there, is_over) = glance(access, seat, &news);
+        if is_there {
+            return Woken::News(count);
         }
-        seen = seen.max(count);
+        if is_over {
+            return Woken::Stopped;
+        }
         access.driver.sleep(access.rt, count);
     }
     unreachable!()
@@ -138,6 +145,7 @@ pub fn next_job<C: Core, R: Wait>(
     requires own { seat.old.driver ≡ access.now.driver.now.id }
     ensures saw { Made C.stands seat.old seat.new [] }
     ensures heard { IsHeard seat.new.seen result }
+    ensures fits { HasCore C.stands seat.new }
 {
     for _ in access.rt.forever() {
         let (count, unclaimed, is_over) = glance(access, seat, &*jobs);

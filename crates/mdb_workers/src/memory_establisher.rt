@@ -4,7 +4,7 @@ ghost use Rattle.std.specs.Prelude.{◌≡◌, false, [], length, None, Ok, Err,
 ghost use Rattle.mdb_base.specs.Outside.{Rose};
 ghost use Rattle.mdb_workers.specs.declared.establishing.EstablishError.TheVariants.{Refused};
 ghost use Rattle.mdb_workers.specs.Establishing.{calls_after};
-ghost use Rattle.mdb_workers.specs.Memory.{made_so_far, refusals};
+ghost use Rattle.mdb_workers.specs.Memory.{made_so_far, refusals, times_without};
 
 use crate::establishing::{Call, EstablishError, Establisher};
 use mdb_base::Error;
@@ -21,6 +21,7 @@ pub struct MemEstablisher {
     fails: Vec<u64>,
     calls: Vec<Call>,
     refused: u64,
+    wanted: u64,
 }
 
 fn copied_generation(generation: &PoolGeneration) -> Result<PoolGeneration, AllocError>
@@ -56,6 +57,7 @@ impl MemEstablisher {
     pub fn new(alloc: Global, made: Established, error: Error, fails: Vec<u64>) -> MemEstablisher
         ensures calls { made_so_far result ≡ [] }
         ensures refusals { refusals result ≡ 0 }
+        ensures wants { times_without result ≡ 0 }
     {
         MemEstablisher {
             made,
@@ -63,6 +65,7 @@ impl MemEstablisher {
             fails,
             calls: Vec::new(alloc),
             refused: 0,
+            wanted: 0,
         }
     }
 
@@ -84,6 +87,7 @@ impl MemEstablisher {
         ensures calls { IfOk result (λ error. made_so_far self.new ≡ calls_after (made_so_far self.old) job (Err (Refused false None error))) }
         ensures rose { OnOk result (Rose (refusals self.old) (refusals self.new)) }
         ensures err { OnErr result ((made_so_far self.new ≡ made_so_far self.old) × (refusals self.new ≡ refusals self.old)) }
+        ensures wants { times_without self.new ≡ times_without self.old }
     {
         let error = Boxed::copy_of(alloc, &self.error)?;
         let told = Boxed::copy_of(alloc, &self.error)?;
@@ -100,6 +104,7 @@ impl MemEstablisher {
         ensures calls { IfOk result (λ made. made_so_far self.new ≡ calls_after (made_so_far self.old) job (Ok made)) }
         ensures faults { refusals self.new ≡ refusals self.old }
         ensures err { OnErr result (made_so_far self.new ≡ made_so_far self.old) }
+        ensures wants { times_without self.new ≡ times_without self.old }
     {
         self.calls.push(Call {
             job,
@@ -107,28 +112,45 @@ impl MemEstablisher {
         })?;
         Ok(self.made)
     }
+
+    // There was no memory.
+    fn note_want(&mut self)
+        ensures wants { Rose (times_without self.old) (times_without self.new) }
+        ensures rest { (made_so_far self.new ≡ made_so_far self.old) × (refusals self.new ≡ refusals self.old) }
+    {
+        self.wanted = self.wanted.saturating_add(1);
+    }
 }
 
 impl Establisher for MemEstablisher {
-    ghost use Rattle.mdb_workers.specs.Memory.{made_so_far, refusals};
+    ghost use Rattle.mdb_workers.specs.Memory.{made_so_far, refusals, times_without};
 
     ghost calls = { made_so_far };
 
     ghost faults = { refusals };
 
+    ghost wants = { times_without };
+
     fn establish(&mut self, alloc: Global, job: &Job) -> Result<Established, EstablishError> {
         let Ok(job) = copied_job(job) else {
+            self.note_want();
             return Err(EstablishError::OutOfMemory);
         };
         if self.refuses() {
             return match self.refuse(alloc, job) {
                 Ok(error) => Err(EstablishError::Refused(false, None, error)),
-                Err(_) => Err(EstablishError::OutOfMemory),
+                Err(_) => {
+                    self.note_want();
+                    Err(EstablishError::OutOfMemory)
+                }
             };
         }
         match self.make(job) {
             Ok(made) => Ok(made),
-            Err(_) => Err(EstablishError::OutOfMemory),
+            Err(_) => {
+                self.note_want();
+                Err(EstablishError::OutOfMemory)
+            }
         }
     }
 }

@@ -7,8 +7,8 @@ ghost use Rattle.mdb_log.specs.declared.log.Entry.{Entry};
 ghost use Rattle.mdb_log.specs.declared.step.Act.TheVariants.{GiveUp, Return, Stop};
 ghost use Rattle.mdb_log.specs.declared.reply.Reply.TheVariants.{Done, Refused as IsRefused};
 ghost use Rattle.mdb_workers.specs.Making.{Made, OneMore};
-ghost use Rattle.mdb_workers.specs.Persisting.{IsTry, LeftAct, ReportsLeftIf, TendedBy, TriedBack, tried_by};
-ghost use Rattle.mdb_workers.specs.Working.{IsWant, ReportsLeft};
+ghost use Rattle.mdb_workers.specs.Persisting.{IsTry, LeftAct, ReportsLeftIf, TriedBack, tried_by};
+ghost use Rattle.mdb_workers.specs.Working.{Dealt, IsWant, ReportsLeft, TendedBy};
 
 use crate::access::Access;
 use crate::ends::Work;
@@ -17,7 +17,7 @@ use crate::steps::{add, give_back, let_go, pause};
 use crate::working::establish;
 use mdb_base::{Error, ErrorKind, Items, OutOfMemory, Text};
 use mdb_events::Boxed;
-use mdb_log::{Act, Core, FailedAt, PooledConnection, Refused, Reply, Step, Use};
+use mdb_log::{Act, Core, FailedAt, Job, PooledConnection, Refused, Reply, Step, Use};
 use mdb_shared::{Back, BackWhy, Claimed, Seat};
 use std::alloc::Global;
 use std::sync::Wait;
@@ -232,8 +232,25 @@ pub fn report_left<C: Core, R: Wait>(
     keep_reporting(access, seat, pool, id, &step);
 }
 
-/// Establishes one connection, where there is one to establish: it is claimed, established and reported. Where there is no memory for that it is reported as
-/// failed, and where there is none for the report it tries again. `Idle` comes exactly where the claim found none.
+// Establishes the connection of a job that was claimed, and reports it: as the establisher answers, or, where that has no memory, as failed.
+fn deal<C: Core, R: Wait, E: Establisher, G: Gate>(
+    access: &Access<'_, C, R>,
+    seat: &mut Seat<C>,
+    establisher: &mut E,
+    gate: &mut G,
+    connection: (u32, u32),
+    job: &Job,
+)
+    requires own { seat.old.driver ≡ access.now.driver.now.id }
+    ensures dealt { Dealt C.stands connection.0 connection.1 job.now seat.old seat.new (E.calls establisher.old) (E.calls establisher.new) (E.wants establisher.old) (E.wants establisher.new) }
+{
+    let (pool, id) = connection;
+    let step = establish(access.alloc, establisher, gate, pool, id, job);
+    report_left(access, seat, pool, id, step);
+}
+
+/// Establishes one connection, where there is one to establish: it is claimed, the establisher is called with its job, and its answer is reported. Where there is
+/// no memory for that it is reported as failed, and where there is none for the report it tries again. `Idle` comes exactly where the claim found none.
 pub fn tend<C: Core, R: Wait, E: Establisher, G: Gate>(
     access: &Access<'_, C, R>,
     seat: &mut Seat<C>,
@@ -241,12 +258,11 @@ pub fn tend<C: Core, R: Wait, E: Establisher, G: Gate>(
     gate: &mut G,
 ) -> Work
     requires own { seat.old.driver ≡ access.now.driver.now.id }
-    ensures tended { TendedBy C.stands seat.old seat.new }
+    ensures tended { TendedBy C.job_after C.stands seat.old seat.new (E.calls establisher.old) (E.calls establisher.new) result }
 {
     match access.driver.claim(access.rt, access.alloc, seat) {
         Ok(Claimed::Job(pool, id, job)) => {
-            let step = establish(access.alloc, establisher, gate, pool, id, &job);
-            report_left(access, seat, pool, id, step);
+            deal(access, seat, establisher, gate, (pool, id), &job);
             Work::Spent
         }
         Ok(Claimed::NoJob) => Work::Idle,

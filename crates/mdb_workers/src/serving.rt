@@ -2,7 +2,8 @@
 
 ghost use Rattle.std.specs.Prelude.{◌≡◌};
 ghost use Rattle.mdb_journal.specs.Entries.{HasStopped};
-ghost use Rattle.mdb_workers.specs.Persisting.{TendedBy};
+ghost use Rattle.mdb_shared.specs.Seats.{HasCore};
+ghost use Rattle.mdb_workers.specs.Working.{Served};
 
 use crate::access::Access;
 use crate::establishing::{Establisher, Gate};
@@ -12,8 +13,8 @@ use mdb_log::Core;
 use mdb_shared::Seat;
 use std::sync::Wait;
 
-/// Establishes connections until the driver stops, and sleeps while there is none to establish. Each connection that it claims is reported, also where there
-/// is no memory for a while.
+/// Establishes connections until the driver stops, and sleeps while there is none to establish. For each connection that it claims the establisher is called
+/// once, and its answer is reported. Where there is no memory for that the connection is reported as failed.
 pub fn serve<C: Core, R: Wait, E: Establisher, G: Gate>(
     access: &Access<'_, C, R>,
     seat: &mut Seat<C>,
@@ -21,8 +22,9 @@ pub fn serve<C: Core, R: Wait, E: Establisher, G: Gate>(
     gate: &mut G,
 )
     requires own { seat.old.driver ≡ access.now.driver.now.id }
-    ensures tended { TendedBy C.stands seat.old seat.new }
+    ensures served { Served C.job_after C.stands seat.old seat.new (E.calls establisher.old) (E.calls establisher.new) }
     ensures stopped { HasStopped seat.new.seen }
+    ensures fits { HasCore C.stands seat.new }
 {
     let mut jobs = Jobs::new();
     for _ in access.rt.forever() {

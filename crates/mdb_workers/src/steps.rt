@@ -6,6 +6,7 @@ ghost use Rattle.mdb_log.specs.Driver.{is_reply_to};
 ghost use Rattle.mdb_log.specs.declared.step.Act.TheVariants.{Collect, GiveUp, Return};
 ghost use Rattle.mdb_log.specs.declared.reply.Reply.TheVariants.{Done};
 ghost use Rattle.mdb_shared.specs.Checkout.{told_by, Names};
+ghost use Rattle.mdb_shared.specs.Seats.{HasCore};
 ghost use Rattle.mdb_workers.specs.Making.{Made, OneMore, OneMoreAt, StaysOut};
 
 use crate::access::Access;
@@ -101,7 +102,7 @@ pub fn give_back<C: Core, R: Wait>(
     }
 }
 
-/// One look, in the turn and without an entry.
+/// One look, in the turn and without an entry. A core stands for what the seat has seen then.
 pub fn glance<C: Core, R: Wait, L: Look<C>>(
     access: &Access<'_, C, R>,
     seat: &mut Seat<C>,
@@ -111,6 +112,7 @@ pub fn glance<C: Core, R: Wait, L: Look<C>>(
     ensures same { (seat.new.driver ≡ seat.old.driver) × (seat.new.number ≡ seat.old.number) }
     ensures saw { Made C.stands seat.old seat.new [] }
     ensures told { L.tells look.now seat.new.seen result }
+    ensures fits { HasCore C.stands seat.new }
 {
     access.driver.look(access.rt, seat, look)
 }

@@ -1,10 +1,11 @@
 //! The clock of a driver: time enters by its steps alone, and all other calls have the grain of its ticks.
 
-ghost use Rattle.std.specs.Prelude.{◌≡◌, ◌∷◌, [], map, IfOk, OnOk, OnErr};
+ghost use Rattle.std.specs.Prelude.{◌≡◌, ◌∷◌, [], ⊤, map, IfOk, OnOk, OnErr};
 ghost use Rattle.mdb_journal.specs.Entries.{HasStopped};
 ghost use Rattle.mdb_log.specs.declared.log.Entry.{Entry};
 ghost use Rattle.mdb_workers.specs.Making.{Made, MadeAt};
-ghost use Rattle.mdb_workers.specs.Ticking.{BothDue, IsDueAct, Ticked, TickedInPart, TickedBy};
+ghost use Rattle.mdb_shared.specs.Seats.{HasCore};
+ghost use Rattle.mdb_workers.specs.Ticking.{BothDue, IsDueAct, KeptTime, Ticked, TickedInPart, TickedBy};
 
 use crate::access::Access;
 use crate::steps::{add, glance};
@@ -164,8 +165,61 @@ fn moment_since<R: Clock>(rt: &R, start: &Instant) -> Moment {
     }
 }
 
-/// Ticks each so long until the driver stops; the moments are the milliseconds since the start. A tick for which there is no memory is left to the next
-/// one. Nothing is claimed of the time that passes.
+/// Tells the moments at which the clock of a driver ticks.
+pub trait Timer {
+    ghost use Rattle.std.specs.Prelude.{ℕ};
+
+    /// It may tell this moment.
+    ghost tells: { Self → ℕ → Type 0 };
+
+    /// The moment now.
+    fn moment(&self) -> Moment
+        ensures { tells self.now result };
+}
+
+// Tells the milliseconds since a start, 0 where the clock can't be read.
+#[derive(Drop)]
+struct Since<'a, R: Clock> {
+    clock: &'a R,
+    start: Instant,
+}
+
+impl<'a, R: Clock> Timer for Since<'a, R> {
+    ghost use Rattle.std.specs.Prelude.{⊤};
+
+    ghost tells = { λ s moment. ⊤ };
+
+    fn moment(&self) -> Moment {
+        moment_since(self.clock, &self.start)
+    }
+}
+
+/// Ticks each so long until the driver stops, at the moments that the timer tells. A tick for which there is no memory is left to the next one. Nothing is
+/// claimed of the time that passes.
+pub fn keep_time_by<C: Core, R: Wait + Clock, T: Timer>(
+    access: &Access<'_, C, R>,
+    seat: &mut Seat<C>,
+    timer: &T,
+    every: Duration,
+)
+    requires own { seat.old.driver ≡ access.now.driver.now.id }
+    ensures same { (seat.new.driver ≡ seat.old.driver) × (seat.new.number ≡ seat.old.number) }
+    ensures ticked { KeptTime C.stands (T.tells timer.now) seat.old seat.new }
+    ensures stopped { HasStopped seat.new.seen }
+    ensures fits { HasCore C.stands seat.new }
+{
+    for _ in access.rt.forever() {
+        if glance(access, seat, &Ending) {
+            return;
+        }
+        drop(tick(access, seat, timer.moment()));
+        sleep(access.rt, every);
+    }
+    unreachable!()
+}
+
+/// Ticks each so long until the driver stops; the moments are the milliseconds since the start. No clause says what a clock tells: with a `Timer` of one's own
+/// `keep_time_by` says at which moments it ticks. A tick for which there is no memory is left to the next one. Nothing is claimed of the time that passes.
 pub fn keep_time<C: Core, R: Wait + Clock>(
     access: &Access<'_, C, R>,
     seat: &mut Seat<C>,
@@ -174,15 +228,13 @@ pub fn keep_time<C: Core, R: Wait + Clock>(
 )
     requires own { seat.old.driver ≡ access.now.driver.now.id }
     ensures same { (seat.new.driver ≡ seat.old.driver) × (seat.new.number ≡ seat.old.number) }
+    ensures ticked { KeptTime C.stands (λ moment. ⊤) seat.old seat.new }
     ensures stopped { HasStopped seat.new.seen }
+    ensures fits { HasCore C.stands seat.new }
 {
-    for _ in access.rt.forever() {
-        if glance(access, seat, &Ending) {
-            return;
-        }
-        let moment = moment_since(access.rt, &start);
-        drop(tick(access, seat, moment));
-        sleep(access.rt, every);
-    }
-    unreachable!()
+    let since = Since {
+        clock: access.rt,
+        start,
+    };
+    keep_time_by(access, seat, &since, every)
 }

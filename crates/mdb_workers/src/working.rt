@@ -1,6 +1,7 @@
 //! Workers: they establish connections outside the driver (CMAP, "Establishing a Connection").
 
 ghost use Rattle.std.specs.Prelude.{◌≡◌, ◌∷◌, [], Err, IfErr, IfSome, IfNone, OnOk};
+ghost use Rattle.mdb_base.specs.Outside.{Rose};
 ghost use Rattle.mdb_log.specs.Acts.{IsDriverAct};
 ghost use Rattle.mdb_log.specs.declared.log.Entry.{Entry};
 ghost use Rattle.mdb_workers.specs.declared.establishing.EstablishError.TheVariants.{OutOfMemory as NoMemory};
@@ -57,6 +58,7 @@ pub(crate) fn establish<E: Establisher, G: Gate>(
     ensures some { IfSome result (λ step. CalledOnce pool id job.now (E.calls establisher.old) (E.calls establisher.new) step.act) }
     ensures act { IfSome result (λ step. (step.moment ≡ 0) × IsDriverAct step.act) }
     ensures none { IfNone result (E.calls establisher.new ≡ E.calls establisher.old) }
+    ensures wanted { IfNone result (Rose (E.wants establisher.old) (E.wants establisher.new)) }
 {
     gate.before(job);
     let answer = establisher.establish(alloc, job);

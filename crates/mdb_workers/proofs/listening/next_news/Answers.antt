@@ -1,16 +1,25 @@
-use Rattle.std.proofs.Common.{sym, arith, le_trans, le_refl}
+use Rattle.std.proofs.Common.{sym}
 use Rattle.mdb_workers.proofs.Adding.{made_none, made_saw}
 use Rattle.mdb_workers.proofs.listening.next_news.Goals as goal
 
 pub loop-init : goal.loop-init
-loop-init g c = record { none = made_none g.C.Core.stands c.args.seat.now; later = le_refl c.args.from }
+loop-init g c = record { none = made_none g.C.Core.stands c.args.seat.now }
 
 pub loop-preserved : goal.loop-preserved
-loop-preserved g c = record { none = made_saw g.C.Core.stands c.args.seat.now c.loop.seat c.glance-count.new.seat c.loop.invariant.none c.glance-count.ensures.saw; later = omega (arith, c.loop.invariant.later, c.max-seen.ensures) }
+loop-preserved g c = record { none = made_saw g.C.Core.stands c.args.seat.now c.loop.seat c.glance-count.new.seat c.loop.invariant.none c.glance-count.ensures.saw }
 
-pub returns-then-news : goal.returns-then-news
-returns-then-news g c = let h = c.glance-count.ensures.told.1 c.if-news.true in record {
+pub returns-then-is_there : goal.returns-then-is_there
+returns-then-is_there g c = record {
   saw = made_saw g.C.Core.stands c.args.seat.now c.loop.seat c.glance-count.new.seat c.loop.invariant.none c.glance-count.ensures.saw;
-  count = sym c.glance-count.ensures.told.0;
-  news = (h.0, h.1, le_trans c.loop.invariant.later h.2, h.3, h.4);
+  heard = sym c.glance-count.ensures.told.0;
+  news = c.glance-count.ensures.told.1 c.if-is_there.true;
+  fits = c.glance-count.ensures.fits;
+}
+
+pub returns-then-is_over : goal.returns-then-is_over
+returns-then-is_over g c = record {
+  saw = made_saw g.C.Core.stands c.args.seat.now c.loop.seat c.glance-count.new.seat c.loop.invariant.none c.glance-count.ensures.saw;
+  heard = c.glance-count.ensures.told.2 c.if-is_over.true;
+  news = tt;
+  fits = c.glance-count.ensures.fits;
 }

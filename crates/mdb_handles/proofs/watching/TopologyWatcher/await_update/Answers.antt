@@ -37,4 +37,5 @@ returns-then-is_over-clause-found g c =
       omega (arith, c.glance-count.ensures.told.0, c.if-published-self.false, same),
       c.loop.invariant.self,
       made_saw g.C.Core.stands c.args.seat.now c.loop.seat c.glance-count.new.seat c.loop.invariant.none c.glance-count.ensures.saw,
+      c.glance-count.ensures.fits,
     )

@@ -25,3 +25,6 @@ returns-in-Ok-clause-told g c = c.in-Ok.ensures.ok.2
 
 pub returns-in-Ok-clause-same : goal.returns-in-Ok-clause-same
 returns-in-Ok-clause-same g c = let was = c.loop.invariant.seat in let same = c.in-Ok.ensures.same in (same.0 ∙ was.0, same.1 ∙ was.1)
+
+pub returns-in-Ok-clause-fits : goal.returns-in-Ok-clause-fits
+returns-in-Ok-clause-fits g c = c.in-Ok.ensures.fits
