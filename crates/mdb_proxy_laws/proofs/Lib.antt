@@ -10,3 +10,4 @@ pub mod Holders
 pub mod Steps
 pub mod Homed
 pub mod NoneWaits
+pub mod InRuns

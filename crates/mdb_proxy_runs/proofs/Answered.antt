@@ -7,6 +7,8 @@ use Rattle.mdb_log.specs.declared.step.Step.{Step}
 use Rattle.mdb_log.specs.LegalLog.{IsLegalLog}
 use Rattle.mdb_lines.specs.Script.{lines_of, max_input}
 use Rattle.mdb_lines.proofs.Loops.{took_nothing, took_more, took_no_more}
+use Rattle.mdb_topology.specs.declared.topology.TopologyCore.{TopologyCore}
+use Rattle.mdb_topology.specs.Logging.{IsDriverOf}
 use Rattle.mdb_proxies.specs.declared.asked.Asked.{Asked}
 use Rattle.mdb_proxies.specs.declared.step.ProxyStep.{ProxyStep}
 use Rattle.mdb_proxies.specs.declared.step.ProxyReply.{ProxyReply}
@@ -59,13 +61,13 @@ answered old new line text s reply k h t = record {
 
 -- ---- lines
 
-answers-push : (old mid new : ProxyView) (ls : List (List ℕ)) (l t u : List ℕ) → AnswersAll old mid ls t → Answers mid new l u → AnswersAll old new (ls ++ l ∷ []) (t ++ u)
+pub answers-push : (old mid new : ProxyView) (ls : List (List ℕ)) (l t u : List ℕ) → AnswersAll old mid ls t → Answers mid new l u → AnswersAll old new (ls ++ l ∷ []) (t ++ u)
 answers-push old mid new [] l t u a b = (new, u, [], subst (λ (v : ProxyView). Answers v new l u) a.0 b, (refl, refl), ap (λ (x : List ℕ). x ++ u) a.1 ∙ sym (append-nil u))
 answers-push old mid new (x ∷ xs) l t u a b =
     let (v, own, rest, first, more, is) = a in
     (v, own, rest ++ u, first, answers-push v mid new xs l rest u more b, ap (λ (y : List ℕ). y ++ u) is ∙ append_assoc own rest u)
 
-lines-push : (ls : List (List ℕ)) (l : List ℕ) (more : List (List ℕ)) → map whole ls ++ whole l ∷ more ≡ map whole (ls ++ l ∷ []) ++ more
+pub lines-push : (ls : List (List ℕ)) (l : List ℕ) (more : List (List ℕ)) → map whole ls ++ whole l ∷ more ≡ map whole (ls ++ l ∷ []) ++ more
 lines-push [] l more = refl
 lines-push (x ∷ xs) l more = ap (λ (y : List (List ℕ)). whole x ∷ y) (lines-push xs l more)
 
@@ -114,8 +116,8 @@ nothing [] held faults none = record { empty = refl; none = refl; taken = took_n
 nothing (x ∷ input) held faults none = absurd (omega arith)
 
 pub played : (shares input line behind : List ℕ) (first last : ProxyView) (log : List Entry) (held mid new_held : Option Held) (faults old_faults new_faults : ℕ) → lines_of input ≡ whole line ∷ lines_of behind
-    → Begins shares line held mid faults old_faults first → LinesRun behind first last mid new_held old_faults new_faults → log ≡ last.log → IsLegalLog log → Played shares input log held new_held faults new_faults
-played shares input line behind first last log held mid new_held faults old_faults new_faults cut (o, opens, is, taken, same) (lines, text, more, answers, took, again) e legal = record {
+    → Begins shares line held mid faults old_faults first → LinesRun behind first last mid new_held old_faults new_faults → log ≡ last.log → (w : TopologyCore) × IsDriverOf w log → IsLegalLog log → Played shares input log held new_held faults new_faults
+played shares input line behind first last log held mid new_held faults old_faults new_faults cut (o, opens, is, taken, same) (lines, text, more, answers, took, again) e driver legal = record {
   options = o;
   line = line;
   lines = lines;
@@ -125,6 +127,7 @@ played shares input line behind first last log held mid new_held faults old_faul
   opens = opens;
   answers = subst (λ (v : ProxyView). AnswersAll v last lines text) is answers;
   is = e;
+  driver = driver;
   legal = legal;
   taken = took_more held mid new_held (opening_text line o) text taken took;
   same = again ∙ same;
@@ -149,6 +152,7 @@ ran-more input log held mid new_held faults old_faults new_faults ran took e = g
       opens = p.opens;
       answers = p.answers;
       is = p.is;
+      driver = p.driver;
       legal = p.legal;
       taken = took_no_more held mid new_held (opening_text p.line p.options ++ p.text) p.taken took;
       same = e ∙ p.same;

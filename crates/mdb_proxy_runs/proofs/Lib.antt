@@ -1,3 +1,4 @@
 pub mod Answered
 pub mod Ending
 pub mod Complete
+pub mod Writing

@@ -1,3 +1,4 @@
 pub mod ProxyScripts
 pub mod ProxyRuns
 pub mod ProxyEnds
+pub mod ProxyWrites

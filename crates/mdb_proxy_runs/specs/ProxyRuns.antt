@@ -15,7 +15,8 @@ use Rattle.mdb_proxies.specs.declared.step.ProxyReply.{ProxyReply}
 use Rattle.mdb_proxies.specs.declared.step.ProxyReply.TheVariants.{Refused as IsRefused}
 use Rattle.mdb_proxies.specs.declared.step.ProxyRefused.{ProxyRefused}
 use Rattle.mdb_driver_rules.specs.Lines.{entry_after}
-use Rattle.mdb_topology.specs.Logging.{opening_step}
+use Rattle.mdb_topology.specs.declared.topology.TopologyCore.{TopologyCore}
+use Rattle.mdb_topology.specs.Logging.{opening_step, IsDriverOf}
 use Rattle.mdb_proxy_lines.specs.ProxyLines.{SpellsShares, SpellsStep}
 use Rattle.mdb_proxy_lines.specs.ProxyText.{answer_text, line_text}
 use Rattle.mdb_proxy_runs.specs.ProxyScripts.{whole, OpensFor}
@@ -73,7 +74,7 @@ abbrev pub LinesRun : List ℕ → ProxyView → ProxyView → Option Held → O
 LinesRun input old new held new_held faults new_faults =
     (lines : List (List ℕ)) × (text : List ℕ) × (lines_of input ≡ map whole lines) × AnswersAll old new lines text × Took held new_held text × (new_faults ≡ faults)
 
--- The first line of the bytes opens a driver whose pools have the shares, and each later line was answered by the one proxy over it; the log is its log, which is legal, and the sink took what is written for the lines.
+-- The first line of the bytes opens a driver whose pools have the shares, and each later line was answered by the one proxy over it; the log is its log, for which the driver stands, which is legal, and the sink took what is written for the lines.
 pub record Played (shares input : List ℕ) (log : List Entry) (held new_held : Option Held) (faults new_faults : ℕ) : Type 0 where
   pub options : Options
   pub line : List ℕ
@@ -84,6 +85,7 @@ pub record Played (shares input : List ℕ) (log : List Entry) (held new_held : 
   pub opens : OpensFor shares line options
   pub answers : AnswersAll (begun shares options) last lines text
   pub is : log ≡ last.log
+  pub driver : (w : TopologyCore) × IsDriverOf w log
   pub legal : IsLegalLog log
   pub taken : Took held new_held (opening_text line options ++ text)
   pub same : new_faults ≡ faults

@@ -6,7 +6,7 @@ ghost use Rattle.mdb_base.specs.Outside.{Rose, Took};
 ghost use Rattle.mdb_base.specs.OptionRules.{broken_rule};
 ghost use Rattle.mdb_lines.specs.Grammar.{is_printable};
 ghost use Rattle.mdb_lines.specs.LogText.{reply_text};
-ghost use Rattle.mdb_lines.specs.Loops.{ReadsFew};
+ghost use Rattle.mdb_lines.specs.Loops.{ReadsFew, TookFront};
 ghost use Rattle.mdb_lines.specs.Script.{Spells, lines_of};
 ghost use Rattle.mdb_lines.specs.declared.run_error.RunError.TheVariants.{OutOfMemory as NoMemory, Malformed, TooLong, WriteFault as IsWriteFault};
 ghost use Rattle.mdb_log.specs.declared.log.Entry.{Entry as EntryRecord};
@@ -16,6 +16,7 @@ ghost use Rattle.mdb_proxy_lines.specs.ProxyText.{line_text};
 ghost use Rattle.mdb_proxy_runs.specs.ProxyScripts.{AreLines, IsBadAt};
 ghost use Rattle.mdb_proxy_runs.specs.ProxyRuns.{Opens, Answers, Begins, LineRuns, LinesRun, RunsFrom, Ran, Finished};
 ghost use Rattle.mdb_proxy_runs.specs.ProxyEnds.{cause_of, LineEnds, LinesEnd, OptionsEnd, OpeningEnds, SecondEnds, SharesEnd, RunEnds, Ended, EndsWith};
+ghost use Rattle.mdb_proxy_runs.specs.ProxyWrites.{LineWrote, LinesWrote, SecondWrote, SharesWrote, RunWrote, Wrote};
 
 use mdb_base::{Options, OutOfMemory, Sink, Source};
 use mdb_lines::{
@@ -39,6 +40,7 @@ fn malformed(e: LineError, number: u32) -> RunError
 fn send<K: Sink>(sink: &mut K, text: &[u8]) -> Result<(), RunError>
     ensures took { OnOk result (Took (K.held sink.old) (K.held sink.new) text.now × (K.faults sink.new ≡ K.faults sink.old)) }
     ensures fails { IfErr result (λ e. (e ≡ IsWriteFault) × Rose (K.faults sink.old) (K.faults sink.new)) }
+    ensures front { IfErr result (λ e. TookFront (K.held sink.old) (K.held sink.new) text.now) }
 {
     match write_all(sink, text) {
         Ok(()) => Ok(()),
@@ -163,6 +165,7 @@ fn one_line<K: Sink>(
 ) -> Result<(), RunError>
     ensures runs { OnOk result (LineRuns line.now proxy.old proxy.new (K.held sink.old) (K.held sink.new) (K.faults sink.old) (K.faults sink.new)) }
     ensures ends { IfErr result (LineEnds number line.now (K.faults sink.old) (K.faults sink.new)) }
+    ensures wrote { IfErr result (LineWrote line.now proxy.old (K.held sink.old) (K.held sink.new)) }
 {
     let line = match text_of(line, number) {
         Ok(line) => line,
@@ -188,6 +191,7 @@ fn more_lines<K: Sink>(
     requires { length input.now ≤ MAX_INPUT }
     ensures run { OnOk result (LinesRun input.now proxy.old proxy.new (K.held sink.old) (K.held sink.new) (K.faults sink.old) (K.faults sink.new)) }
     ensures ends { IfErr result (LinesEnd input.now (K.faults sink.old) (K.faults sink.new)) }
+    ensures wrote { IfErr result (LinesWrote input.now proxy.old (K.held sink.old) (K.held sink.new)) }
 {
     let mut rest = input;
     let mut number = 3u32;
@@ -216,6 +220,7 @@ fn begin<K: Sink>(
 ) -> Result<Proxy<TopologyCore>, RunError>
     ensures begins { IfOk result (Begins shares.items line.now (K.held sink.old) (K.held sink.new) (K.faults sink.old) (K.faults sink.new)) }
     ensures ends { IfErr result (SecondEnds shares.items line.now (K.faults sink.old) (K.faults sink.new)) }
+    ensures wrote { IfErr result (SecondWrote shares.items line.now (K.held sink.old) (K.held sink.new)) }
 {
     let line = match text_of(line, 2) {
         Ok(line) => line,
@@ -245,6 +250,7 @@ fn with_shares<K: Sink>(
     requires { length input.now ≤ MAX_INPUT }
     ensures ran { IfOk result (λ log. RunsFrom shares.items input.now log (K.held sink.old) (K.held sink.new) (K.faults sink.old) (K.faults sink.new)) }
     ensures ends { IfErr result (SharesEnd shares.items input.now (K.faults sink.old) (K.faults sink.new)) }
+    ensures wrote { IfErr result (SharesWrote shares.items input.now (K.held sink.old) (K.held sink.new)) }
 {
     if input.is_empty() {
         return Ok(Log::new(alloc));
@@ -270,6 +276,7 @@ fn run_lines<K: Sink>(alloc: Global, input: &[u8], sink: &mut K) -> Result<Log, 
     requires { length input.now ≤ MAX_INPUT }
     ensures ran { IfOk result (λ log. Ran input.now log (K.held sink.old) (K.held sink.new) (K.faults sink.old) (K.faults sink.new)) }
     ensures ends { IfErr result (RunEnds input.now (K.faults sink.old) (K.faults sink.new)) }
+    ensures wrote { IfErr result (RunWrote input.now (K.held sink.old) (K.held sink.new)) }
 {
     if input.is_empty() {
         return Ok(Log::new(alloc));
@@ -292,6 +299,9 @@ fn run<S: Source, K: Sink>(alloc: Global, source: &mut S, sink: &mut K) -> Resul
         (record { left = S.left source.old; reads = S.faults source.old; held = K.held sink.old; writes = K.faults sink.old })
         (record { left = S.left source.new; reads = S.faults source.new; held = K.held sink.new; writes = K.faults sink.new })) }
     ensures ended { IfErr result (Ended
+        (record { left = S.left source.old; reads = S.faults source.old; held = K.held sink.old; writes = K.faults sink.old })
+        (record { left = S.left source.new; reads = S.faults source.new; held = K.held sink.new; writes = K.faults sink.new })) }
+    ensures wrote { IfErr result (Wrote
         (record { left = S.left source.old; reads = S.faults source.old; held = K.held sink.old; writes = K.faults sink.old })
         (record { left = S.left source.new; reads = S.faults source.new; held = K.held sink.new; writes = K.faults sink.new })) }
     ensures few { ReadsFew MAX_INPUT (S.left source.old) (S.left source.new) (S.calls source.old) (S.calls source.new) }
@@ -322,11 +332,16 @@ pub fn run_proxy<S: Source, K: Sink>(
     source: &mut S,
     sink: &mut K,
 ) -> Result<Log, RunError>
-    // The input was read to its end, and the sink took, flushed, what the one proxy of the first two lines answered to each line.
+    // The input was read to its end, and the sink took, flushed, what the one proxy of the first two lines answered to each line. The driver is handed out that stands for the log.
     ensures finished { IfOk result (Finished
         (record { left = S.left source.old; reads = S.faults source.old; held = K.held sink.old; writes = K.faults sink.old })
         (record { left = S.left source.new; reads = S.faults source.new; held = K.held sink.new; writes = K.faults sink.new })) }
     ensures ended { IfErr result (Ended
+        (record { left = S.left source.old; reads = S.faults source.old; held = K.held sink.old; writes = K.faults sink.old })
+        (record { left = S.left source.new; reads = S.faults source.new; held = K.held sink.new; writes = K.faults sink.new })) }
+
+    // Where it ends early, the sink took the text of the lines before the end and nothing else; at an error of the sink a front of it.
+    ensures wrote { IfErr result (Wrote
         (record { left = S.left source.old; reads = S.faults source.old; held = K.held sink.old; writes = K.faults sink.old })
         (record { left = S.left source.new; reads = S.faults source.new; held = K.held sink.new; writes = K.faults sink.new })) }
 
