@@ -1,14 +1,14 @@
 #!/usr/bin/env python3
-"""Times rounds of a whole driver, by the built program of crates/mdb_long.
+"""Times rounds of a whole driver, by the built program of crates/mdb_bench.
 
 usage: driver.py PROGRAM [ROUNDS]
 
-It builds nothing. A round is a request of a server's pool that is answered with a connection, and its return: two steps, each with its entry in the log. `PROGRAM ROUNDS alone
+It builds nothing. A round is a request of a server's pool that is answered with a connection, and its return: two steps, each with its entry in the log. `PROGRAM calm ROUNDS 1
 SERVERS CONNECTIONS` opens a driver, has each server greet, establishes all connections, and does the rounds in one thread, at one server after the other; each 1,000 entries the
 log lets them go. It writes a line after each tenth of the rounds, and the time from one line to the next is that of a tenth. Told are the least and the median microseconds a round
 over the tenths but the first.
 
-`PROGRAM ROUNDS THREADS SERVERS CONNECTIONS` does the rounds in each of so many threads at a shared driver, while one more thread establishes connections and one takes the entries.
+`PROGRAM taken ROUNDS THREADS SERVERS CONNECTIONS` does the rounds in each of so many threads at a shared driver, while one more thread establishes connections and one takes the entries.
 Told are the rounds a second of all threads, over the whole run of the process; the best of three runs.
 """
 import subprocess
@@ -25,7 +25,7 @@ REPEATS = 3
 
 def tenths(program, rounds, servers, connections):
     """The seconds of each tenth of the rounds of one thread."""
-    child = subprocess.Popen([program, str(rounds), 'alone', str(servers), str(connections)], stdout=subprocess.PIPE, text=True)
+    child = subprocess.Popen([program, 'calm', str(rounds), '1', str(servers), str(connections)], stdout=subprocess.PIPE, text=True)
     times = []
     for line in child.stdout:
         if not line.startswith('returned='):
@@ -39,7 +39,7 @@ def tenths(program, rounds, servers, connections):
 def shared(program, rounds, threads, servers, connections):
     """The rounds a second of all threads."""
     begun = time.perf_counter()
-    told = subprocess.run([program, str(rounds), str(threads), str(servers), str(connections)], stdout=subprocess.PIPE, text=True)
+    told = subprocess.run([program, 'taken', str(rounds), str(threads), str(servers), str(connections)], stdout=subprocess.PIPE, text=True)
     seconds = time.perf_counter() - begun
     if told.returncode != 0 or not told.stdout.startswith('returned=%d ' % (rounds * threads)):
         sys.exit('%d threads: status %d, told %r' % (threads, told.returncode, told.stdout))

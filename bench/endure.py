@@ -1,14 +1,14 @@
 #!/usr/bin/env python3
-"""Shows that a driver that runs for long keeps no more memory and gets no slower, by the built program of crates/mdb_long.
+"""Shows that a driver that runs for long keeps no more memory and gets no slower, by the built program of crates/mdb_bench.
 
 usage: endure.py PROGRAM [ROUNDS [THREADS]]
 
-It builds nothing. `PROGRAM ROUNDS` does rounds of one thread over a driver of three servers: a connection out and in, at one server after the other, with the
+It builds nothing. `PROGRAM lasting ROUNDS 1 3 4` does rounds of one thread over a driver of three servers: a connection out and in, at one server after the other, with the
 entries of the log let go each 1,000 entries, a pool cleared each 1,000 rounds, and a server that goes and comes each 10,000. It writes a line after each
 tenth of the rounds. At each line the resident size of the process is read, and the time since the line before. Told are both for each tenth, and whether
 the last tenth keeps within 2 % of the memory of the first, and takes no more than 5 % longer. 10,000,000 rounds unless it is said otherwise.
 
-With THREADS, `PROGRAM ROUNDS THREADS` does so many rounds in each of so many threads at a shared driver, while another thread takes the entries. Then the
+With THREADS, `PROGRAM taken ROUNDS THREADS 3 4` does so many rounds in each of so many threads at a shared driver, while another thread takes the entries. Then the
 resident size is read twenty times a second, and told is whether the median of the ninth tenth of the time is within 2 % of that of the second: a size
 has the entries that wait to be taken just then. In the last tenth threads end one after another.
 
@@ -50,7 +50,7 @@ def judge(what, first, last, most):
 
 def alone(program, rounds):
     """One thread: a line for each tenth of the rounds."""
-    child = subprocess.Popen([program, str(rounds)], stdout=subprocess.PIPE, text=True, env=ENVIRONMENT)
+    child = subprocess.Popen([program, 'lasting', str(rounds), '1', '3', '4'], stdout=subprocess.PIPE, text=True, env=ENVIRONMENT)
     before, done, parts = time.monotonic(), 0, []
     print('    rounds   KiB   us a round  entries')
     for line in child.stdout:
@@ -72,7 +72,7 @@ def alone(program, rounds):
 
 def shared(program, rounds, threads):
     """Many threads: the resident size from time to time."""
-    child = subprocess.Popen([program, str(rounds), str(threads)], stdout=subprocess.PIPE, text=True, env=ENVIRONMENT)
+    child = subprocess.Popen([program, 'taken', str(rounds), str(threads), '3', '4'], stdout=subprocess.PIPE, text=True, env=ENVIRONMENT)
     begun, sizes = time.monotonic(), []
     while child.poll() is None:
         size = resident(child.pid)

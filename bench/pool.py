@@ -67,7 +67,7 @@ def wanted(kind, connections, rounds):
     connection that nobody has."""
     entries = 3 * connections + STEPS[kind] * rounds
     slots = connections if kind == "available" else 0
-    return f"kind={kind} connections={connections} rounds={rounds} entries={entries} granted={connections + rounds} slots={slots}"
+    return f"connections={connections} rounds={rounds} entries={entries} granted={connections + rounds} slots={slots}"
 
 
 def marked(process, line):
@@ -81,7 +81,7 @@ def marked(process, line):
 
 def timed(program, kind, connections, rounds):
     """The nanoseconds of the rounds of each pass, and the greatest resident size in bytes."""
-    command = [program, kind, str(connections), str(rounds)]
+    command = [program] + [kind, str(rounds), "1", "1", str(connections)] * PASSES
     process = subprocess.Popen(command, stdin=subprocess.DEVNULL, stdout=subprocess.PIPE, text=True)
     passes = []
     for _ in range(PASSES):

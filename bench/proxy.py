@@ -8,7 +8,7 @@ Each tenant holds a connection. A round is three lines: the tenant asks and is h
 served, and collects. mdb_script runs the same rounds with a request in the place of the ask. Each script runs N times (9), the two programs and both
 lengths in turn, and the least processor time counts. Told are microseconds a round, from the difference of two lengths, so that the start of the program, the
 opening and the first asks are left out; and, to see whether a round costs more the more asks were made, a round of the first half and of the second.
-An input has at most 131,072 bytes, which are some 2,400 rounds; mdb_proxy_bench does the same rounds without lines, up to 10,000 asks.
+An input has at most 131,072 bytes, which are some 2,400 rounds; mdb_bench does the same rounds without lines, up to 10,000 asks.
 A script with a stop runs once where it takes more than ten seconds."""
 import argparse
 import os
@@ -91,13 +91,13 @@ def tell(name, tenants, least, whole):
 
 
 def without_lines(program, tenants, runs):
-    """The rounds of mdb_proxy_bench, as many as make 10,000 asks."""
+    """The rounds of mdb_bench, as many as make 10,000 asks."""
     rounds = ASKS - tenants
     least = {}
     for _ in range(runs):
         for n in (0, rounds // 2, rounds):
-            least[n] = min(least.get(n, 9e9), run(program, b'', (str(tenants), str(n))))
-    tell('mdb_proxy_bench', tenants, least, rounds)
+            least[n] = min(least.get(n, 9e9), run(program, b'', ('proxy', str(n), '1', '1', str(tenants))))
+    tell('mdb_bench', tenants, least, rounds)
 
 
 def main():
@@ -105,7 +105,7 @@ def main():
     reader = argparse.ArgumentParser(usage=__doc__.split('usage: ')[1])
     reader.add_argument('--proxy', default=os.path.join(CRATES, 'mdb_proxy/out/mdb_proxy'))
     reader.add_argument('--script', default=os.path.join(CRATES, 'mdb_script/out/mdb_script'))
-    reader.add_argument('--bench', default=os.path.join(CRATES, 'mdb_proxy_bench/out/mdb_proxy_bench'))
+    reader.add_argument('--bench', default=os.path.join(CRATES, 'mdb_bench/out/mdb_bench'))
     reader.add_argument('--runs', type=int, default=9)
     reader.add_argument('--only', choices=('rounds', 'stops'))
     given = reader.parse_args()

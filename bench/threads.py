@@ -1,9 +1,9 @@
 #!/usr/bin/env python3
-"""Times check-outs of many threads that share one pool, by the built program of crates/mdb_pool_demo.
+"""Times check-outs of many threads that share one pool, by the built program of crates/mdb_bench.
 
 usage: threads.py PROGRAM [ROUNDS]
 
-It builds nothing. `PROGRAM THREADS CONNECTIONS ROUNDS` opens a driver with a pool of so many connections and plays it out: each thread checks a connection
+It builds nothing. `PROGRAM kept ROUNDS THREADS 1 CONNECTIONS` opens a driver with a pool of so many connections and plays it out: each thread checks a connection
 out and in, so many rounds, drops it each tenth time, and does nothing else with it, while one worker establishes what is needed. The program tells how
 many check-outs that were, how many entries the log has, and the time that passed, with the start of the threads and without the end of the process.
 
@@ -20,12 +20,12 @@ import sys
 THREADS = (1, 2, 4, 8)
 REPEATS = 5
 ROUNDS = 20000
-TOLD = re.compile(r'check_outs=(\d+) entries=(\d+) micros=(\d+)')
+TOLD = re.compile(r'returned=(\d+) entries=(\d+) micros=(\d+)')
 
 
 def run(program, threads, connections, rounds):
     """The check-outs, entries and microseconds of a run, and its greatest resident size in bytes."""
-    child = subprocess.Popen([program, str(threads), str(connections), str(rounds)], stdout=subprocess.PIPE, text=True)
+    child = subprocess.Popen([program, 'kept', str(rounds), str(threads), '1', str(connections)], stdout=subprocess.PIPE, text=True)
     told = child.stdout.read()
     _, status, usage = os.wait4(child.pid, 0)
     found = TOLD.search(told)

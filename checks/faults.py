@@ -1,12 +1,12 @@
 #!/usr/bin/env python3
 """Runs built programs with one call of the C library failing: each allocation, each read and each write in turn.
 
-usage: checks/faults.py [--script PROGRAM] [--fleet PROGRAM] [--proxy PROGRAM] [--recorded PROGRAM] [--low PROGRAM] [--mid PROGRAM] [--top PROGRAM] [--demo PROGRAM] [--tests PROGRAM] [--jobs N] [--seconds N] [--every]
+usage: checks/faults.py [--script PROGRAM] [--fleet PROGRAM] [--proxy PROGRAM] [--recorded PROGRAM] [--low PROGRAM] [--mid PROGRAM] [--top PROGRAM] [--demo PROGRAM] [--bench PROGRAM] [--tests PROGRAM] [--jobs N] [--seconds N] [--every]
 
-PROGRAM is crates/CRATE/out/CRATE, of mdb_script, mdb_fleet, mdb_proxy, mdb_recorded, the three programs of cases (mdb_checks_low, mdb_checks_mid and mdb_checks_top) and mdb_pool_demo, and
+PROGRAM is crates/CRATE/out/CRATE, of mdb_script, mdb_fleet, mdb_proxy, mdb_recorded, the three programs of cases (mdb_checks_low, mdb_checks_mid and mdb_checks_top), mdb_pool_demo and mdb_bench, and
 crates/mdb_trials/out/mdb_trials_tests, where it is left out; nothing is built. mdb_script runs its stored script, also with `share 1` and `share 2`, `make 10`, and
 the scripts of mdb_checks_top that SWEPT names (with --every all of them); mdb_fleet, mdb_proxy and mdb_recorded run their stored runs, the programs of cases their stored cases, and mdb_pool_demo its threads: of its
-allocations the first DEMO_FIRST fail in turn, and then each DEMO_STEP-th; of a run of the demo with few ROUNDS each fails. Each runs once as it is, and then, up to N runs side by side (as many as there are
+allocations the first DEMO_FIRST fail in turn, and then each DEMO_STEP-th; of a run of mdb_bench with few ROUNDS of two threads at one connection each fails. Each runs once as it is, and then, up to N runs side by side (as many as there are
 processors) and for at most N seconds (900), once for each call and each of these faults:
 
   allocation   is refused. The program tells want of memory, with status 1, after whole entries or lines, the first of the
@@ -19,9 +19,8 @@ processors) and for at most N seconds (900), once for each call and each of thes
 The tests of mdb_trials over a running total share a driver among threads and seats. Each runs once for each of its first allocations, which is refused: it
 ends well, or stops and tells want of memory; it never hangs.
 
-Each run of mdb_pool_demo ends, whichever allocation is refused in whichever thread. It recovers, with one connection more where one failed for which no client
-waited, or tells want of memory, or what came of it: that a thread was not started, which it waits for some seconds, or that a request ended since its connection
-could not be established.
+Each run of mdb_pool_demo and of mdb_bench ends, whichever allocation is refused in whichever thread. It recovers, or tells want of memory, or what came of it: that a thread
+was not started, which it waits for some seconds, or that a request got no connection, since that could not be established.
 
 A case may answer want of memory where it runs the tool (counted as answered). One that is answered otherwise
 for want of memory is known where its kind is in KNOWN, and else a finding. Cases of more than LONG allocations are left out.
@@ -71,12 +70,12 @@ CHECKS_ENDS = {'allocation': (1, b'Error: Kind(OutOfMemory)\n'), 'read': (1, FAU
 SHARE_ENDS = dict(SCRIPT_ENDS)
 FOUND = 7  # the status of mdb_recorded where it finds something
 DEMO_ENDS = dict(CHECKS_ENDS)
-# What the demo may tell at a refused allocation, beside want of memory.
-DEMO_TOLD = ((1, b'a thread was not started\n'), (1, b'the request has ended\n'))
+# What the demo and the rounds may tell at a refused allocation, beside want of memory.
+DEMO_TOLD = ((1, b'a thread was not started\n'), (1, b'a request got no connection\n'), (1, b'another answer\n'))
 DEMO_LIMIT = 30  # seconds for one run of the demo
-DEMO_FIRST, DEMO_STEP = 200, 4999  # which allocations of the demo fail; how many it makes is up to the schedule
-ROUNDS = ['2', '1', '20']  # the rounds of the demo of which each allocation fails: threads, connections, rounds a thread
-TOLD_ROUNDS = re.compile(br'threads=2 connections=1 rounds=20\ncheck_outs=40 entries=\d+ micros=\d+\nrequests=40 collects=\d+ claims=\d+ idle_claims=\d+ others=\d+\n')
+DEMO_FIRST, DEMO_STEP = 200, 97  # which allocations of the demo fail; how many it makes is up to the schedule
+ROUNDS = ['kept', '20', '2', '1', '1']  # the rounds of mdb_bench of which each allocation fails
+TOLD_ROUNDS = re.compile(br'returned=40 entries=\d+ micros=\d+\n')
 
 
 def stored(crate):
@@ -114,9 +113,9 @@ def swept(program, folder, is_every):
     return found
 
 
-def subjects(script, fleet, proxy, recorded, checks, demo, folder, is_every):
+def subjects(script, fleet, proxy, recorded, checks, demo, bench, folder, is_every):
     """The runs that are disturbed, of the programs that are there; and the programs that are missing."""
-    found, missing = [], [program for program in (script, fleet, proxy, recorded, *checks, demo) if not os.path.isfile(program)]
+    found, missing = [], [program for program in (script, fleet, proxy, recorded, *checks, demo, bench) if not os.path.isfile(program)]
     if script not in missing:
         found.append(Subject('mdb_script', script, [], *stored('mdb_script'), SCRIPT_ENDS))
         for parts in ('1', '2'):
@@ -134,7 +133,8 @@ def subjects(script, fleet, proxy, recorded, checks, demo, folder, is_every):
             found.append(Subject(crate, program, [], *stored(crate), CHECKS_ENDS))
     if demo not in missing:
         found.append(Subject('mdb_pool_demo', demo, [], os.devnull, stored('mdb_pool_demo')[1], DEMO_ENDS))
-        found.append(Subject('mdb_pool_demo ' + ' '.join(ROUNDS), demo, ROUNDS, os.devnull, b'\n' * 3, DEMO_ENDS))
+    if bench not in missing:
+        found.append(Subject('mdb_bench ' + ' '.join(ROUNDS), bench, ROUNDS, os.devnull, b'\n', DEMO_ENDS))
     return found, missing
 
 
@@ -153,7 +153,7 @@ def run(subject, library, folder, **fault):
 
 
 def is_by_schedule(subject):
-    """Whether the output is the schedule's: that of several parts, and of rounds of the demo."""
+    """Whether the output is the schedule's: that of several parts, and of rounds of threads."""
     return subject.words == ROUNDS or subject.ends is SHARE_ENDS and subject.words[1] != '1'
 
 
@@ -191,16 +191,6 @@ def changed_cases(written, wanted):
     return changed
 
 
-def is_refilled(subject, ended):
-    """Whether the demo recovered by one connection more: there was no memory to establish one for which no client waited, so it failed, and another was made."""
-    if subject.ends is not DEMO_ENDS or subject.words or ended.told:
-        return False
-    lines, others = ended.written.splitlines(), subject.wanted.splitlines()
-    changed = [(line, other) for line, other in zip(lines, others) if line != other]
-    more = [b'%s=%d' % (name, int(number) + 1) for name, number in (other.split(b'=') for _, other in changed)]
-    return len(lines) == len(others) and [line for line, _ in changed] == more and [it.split(b'=')[0] for it in more] == [b'created', b'closed', b'entries', b'heard']
-
-
 def judge_change(subject, ended):
     """Of an allocation refused in a run that came to its end with another output: what it counts as, and the cases."""
     changed = changed_cases(ended.written, subject.wanted)
@@ -231,7 +221,7 @@ def judge(subject, kind, at, ended):
     if kind in ('short_read', 'short_write'):
         return ('unharmed' if is_unharmed else 'found'), []
     if kind == 'allocation' and ended.status == subject.status:
-        return ('unharmed', []) if is_unharmed or is_refilled(subject, ended) else judge_change(subject, ended)
+        return ('unharmed', []) if is_unharmed else judge_change(subject, ended)
     return judge_end(subject, kind, ended)
 
 
@@ -390,6 +380,7 @@ def options():
     for crate in CHECKS:
         reader.add_argument('--' + crate.rsplit('_', 1)[1], default=os.path.join(CRATES, crate, 'out', crate))
     reader.add_argument('--demo', default=os.path.join(CRATES, 'mdb_pool_demo/out/mdb_pool_demo'))
+    reader.add_argument('--bench', default=os.path.join(CRATES, 'mdb_bench/out/mdb_bench'))
     reader.add_argument('--tests', default=os.path.join(CRATES, 'mdb_trials/out/mdb_trials_tests'))
     reader.add_argument('--jobs', type=int, default=os.cpu_count())
     reader.add_argument('--seconds', type=int, default=900)
@@ -403,8 +394,8 @@ def main():
     until = time.monotonic() + given.seconds
     with tempfile.TemporaryDirectory() as folder:
         checks = [os.path.abspath(it) for it in (given.low, given.mid, given.top)]
-        script, fleet, proxy, recorded, demo = (os.path.abspath(it) for it in (given.script, given.fleet, given.proxy, given.recorded, given.demo))
-        found, missing = subjects(script, fleet, proxy, recorded, checks, demo, folder, given.every)
+        script, fleet, proxy, recorded, demo, bench = (os.path.abspath(it) for it in (given.script, given.fleet, given.proxy, given.recorded, given.demo, given.bench))
+        found, missing = subjects(script, fleet, proxy, recorded, checks, demo, bench, folder, given.every)
         library = build(folder) if found else None
         for subject in found:
             tally.update(sweep(subject, library, folder, given.jobs, until))

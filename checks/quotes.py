@@ -3,7 +3,7 @@
 
 usage: checks/quotes.py
 
-A block of Rust in docs/EMBEDDING.md stands as it is in one file of crates/mdb_pool_demo/src, or where that has none of the name of crates/mdb_long/src, that the heading above it names; a line
+A block of Rust in docs/EMBEDDING.md stands as it is in one file that the heading above it names, of crates/mdb_pool_demo/src or of another crate of PROGRAMS that has a file of this name; a line
 `// ..` stands for any lines.
 Each clause, in a block of text or in a sentence, is one of a function of the libraries below that program. Each line of the code of README.md stands in that
 program. Spaces at both ends don't count, nor do remarks behind `  // ` and `  -- `. The status is 0 where all is so, and else 1.
@@ -14,7 +14,7 @@ import re
 import sys
 
 ROOT = os.path.dirname(os.path.dirname(os.path.abspath(__file__)))
-PROGRAMS = ("mdb_long", "mdb_pool_demo")
+PROGRAMS = ("mdb_trials", "mdb_checks_top", "mdb_bench", "mdb_pool_demo")
 LIBRARIES = ("mdb_topology", "mdb_shared", "mdb_workers", "mdb_handles", "mdb_recorders")
 BLOCK = re.compile(r"```(\w+)\n(.*?)```", re.S)
 CLAUSE = re.compile(r"`((?:ensures|requires) [^`]*)`")
@@ -74,7 +74,7 @@ def readme(files):
 
 
 def main():
-    files = {os.path.basename(path): read(path) for crate in PROGRAMS for path in glob.glob(f"{ROOT}/crates/{crate}/src/*.rt")}
+    files = {os.path.basename(path): read(path) for crate in PROGRAMS for path in glob.glob(f"{ROOT}/crates/{crate}/src/**/*.rt", recursive=True)}
     clauses = {line for crate in LIBRARIES for path in glob.glob(f"{ROOT}/crates/{crate}/src/**/*.rt", recursive=True) for line in read(path)}
     found = [*embedding(files, clauses), *readme(files)]
     for text in found:

@@ -4,7 +4,7 @@ use Rattle.std.specs.List.{count_by, sum_by}
 use Rattle.mdb_events.specs.declared.fact.Fact.{Fact}
 use Rattle.mdb_events.specs.declared.fact.Fact.TheVariants.{Granted}
 use Rattle.mdb_log.specs.declared.log.Entry.{Entry}
-use Rattle.mdb_bench.specs.declared.counting.Counts.{Counts}
+use Rattle.mdb_bench.specs.declared.counts.Counts.{Counts}
 
 -- a connection was granted to a party
 abbrev pub is_grant : Fact → Bool

@@ -1,54 +1,34 @@
-//! Opening a driver: one server, whose hello makes its pool ready.
+//! A driver of one server, and the hello by which its pool becomes ready.
 
 ghost use Rattle.std.specs.Prelude.{IfOk};
 ghost use Rattle.mdb_log.specs.Acts.{IsDriverAct};
 ghost use Rattle.mdb_topology.specs.Logging.{IsDriverOf};
 
 use crate::errors::DemoError;
-use mdb_base::{AddressError, Items, Moment, ObjectId, Options, ServerAddress};
+use mdb_base::{Items, ObjectId, Options, ServerAddress};
 use mdb_events::Boxed;
 use mdb_hello::HelloCommandResponse;
 use mdb_log::{Act, HelloResult, Log, Step};
 use mdb_topology::TopologyCore;
 use std::alloc::Global;
 
-/// What a pool is limited to.
-#[derive(Clone, Copy)]
-pub struct Limits {
-    /// How many connections it has at most, and at least.
-    pub size: u32,
-    pub least: u32,
-    /// How long a caller may wait, and how long a connection may be idle, in milliseconds.
-    pub wait: Option<Moment>,
-    pub idle: Option<Moment>,
-}
-
 /// The address of the server.
 pub fn address(alloc: Global) -> Result<ServerAddress, DemoError> {
-    match ServerAddress::parse(alloc, "a:1") {
-        Ok(address) => Ok(address),
-        Err(AddressError::BadAddress) => Err(DemoError::Address),
-        Err(AddressError::OutOfMemory) => Err(DemoError::OutOfMemory),
-    }
+    Ok(ServerAddress::new(String::from_str(alloc, "a")?, 1)?)
 }
 
-fn seeds(alloc: Global) -> Result<Vec<ServerAddress>, DemoError> {
-    let mut seeds = Vec::new(alloc);
-    seeds.push(address(alloc)?)?;
-    Ok(seeds)
-}
-
-fn options(seeds: Vec<ServerAddress>, limits: Limits) -> Options {
+// At most two connections; a caller waits for ten minutes at most, and an idle connection lives as long.
+fn options(seeds: Vec<ServerAddress>) -> Options {
     Options {
         seeds: Items::new(seeds),
         set_name: None,
         direct: false,
         load_balanced: false,
-        max_pool_size: Some(limits.size),
-        min_pool_size: Some(limits.least),
+        max_pool_size: Some(2),
+        min_pool_size: None,
         max_connecting: None,
-        max_idle_time: limits.idle,
-        max_wait: limits.wait,
+        max_idle_time: Some(600_000),
+        max_wait: Some(600_000),
         heartbeat: None,
         connect: None,
         streaming: None,
@@ -60,42 +40,36 @@ fn options(seeds: Vec<ServerAddress>, limits: Limits) -> Options {
     }
 }
 
-// The reply of a server alone.
-fn greeting(alloc: Global) -> Result<Boxed<HelloCommandResponse>, DemoError> {
-    let mut reply = HelloCommandResponse::default();
-    reply.min_wire_version = Some(0);
-    reply.max_wire_version = Some(21);
-    Ok(Boxed::new(alloc, reply)?)
-}
-
-/// A server alone greets.
-pub fn hello(alloc: Global) -> Result<Step, DemoError>
-    ensures { IfOk result (λ step. IsDriverAct step.act) }
-{
-    let address = address(alloc)?;
-    match greeting(alloc) {
-        Ok(reply) => Ok(Step {
-            moment: 1,
-            act: Act::Hello(address, 0, HelloResult::Ok(5, reply)),
-        }),
-        Err(why) => {
-            drop(address);
-            Err(why)
-        }
-    }
-}
-
 /// A driver of the one server, with its log.
-pub fn open(alloc: Global, limits: Limits) -> Result<(TopologyCore, Log), DemoError>
+pub fn open(alloc: Global) -> Result<(TopologyCore, Log), DemoError>
     ensures { IfOk result (λ opened. IsDriverOf opened.0 opened.1) }
 {
-    let options = options(seeds(alloc)?, limits);
-    let is_broken = options.check().is_some();
-    if is_broken {
+    let options = options(vec![in alloc; address(alloc)?]?);
+    if options.check().is_some() {
         drop(options);
         return Err(DemoError::Options);
     }
     let mut log = Log::new(alloc);
     let core = TopologyCore::open_seeds(alloc, &mut log, 0, options)?;
     Ok((core, log))
+}
+
+/// A server alone greets, after five nanoseconds, for its pool of the number 0.
+pub fn hello(alloc: Global) -> Result<Step, DemoError>
+    ensures { IfOk result (λ step. IsDriverAct step.act) }
+{
+    let address = address(alloc)?;
+    let mut reply = HelloCommandResponse::default();
+    reply.min_wire_version = Some(0);
+    reply.max_wire_version = Some(21);
+    match Boxed::new(alloc, reply) {
+        Ok(reply) => Ok(Step {
+            moment: 1,
+            act: Act::Hello(address, 0, HelloResult::Ok(5, reply)),
+        }),
+        Err(_) => {
+            drop(address);
+            Err(DemoError::OutOfMemory)
+        }
+    }
 }

@@ -1,132 +1,49 @@
-//! What each thread does at its seat.
+//! What each thread does at its seat: a worker, a clock, a monitor that also watches, and clients.
 
 ghost use Rattle.std.specs.Prelude.{◌≡◌};
 
-use crate::clients::ask;
-use crate::closing::close_up;
 use crate::errors::DemoError;
-use crate::hall::Hall;
-use crate::listening::listen;
-use crate::waits::{cancel, hurry, outlast};
+use crate::opening::{address, hello};
+use crate::running::Hall;
 use mdb_base::{Error, ErrorKind, Items, Text};
-use mdb_handles::{Handle, TopologyWatcher};
-use mdb_log::{Core, Established};
+use mdb_handles::{CheckOutError, Handle, TopologyWatcher};
+use mdb_log::{Core, Established, PooledConnection, Use};
 use mdb_shared::{Seat, SharedDriver};
-use mdb_workers::{MemEstablisher, OpenGate};
+use mdb_workers::{MemEstablisher, OpenGate, Unreturned};
 use std::alloc::Global;
 use std::rt::Clock;
 use std::sync::Wait;
+use std::sync::atomic::Ordering;
 use std::time::{Duration, Instant};
 
-// How long the clock sleeps between two ticks, in milliseconds.
+// The number of the monitor's seat.
+const MONITOR: u32 = 2;
+
+// How long the clock sleeps between two ticks, in milliseconds, and how often each client checks a connection out.
 const TICK: u64 = 10;
 
-/// What a thread does.
-#[derive(Clone, Copy, Debug)]
-pub enum Role {
-    /// Establishes connections.
-    Worker,
-    /// Checks a connection out and in, so many times.
-    Client(u32),
-    /// Lets time enter.
-    Clock,
-    /// Follows what is published of the topology, with this number.
-    Watcher(u32),
-    /// Hands the events of the pools to a handler.
-    Listener,
-    /// Fills the pool once all clients have left, and stops the driver.
-    Closer,
-    /// Waits longer than a caller may.
-    Patient,
-    /// Waits no longer than it says itself, and is given up.
-    Hurried,
-    /// Gives another's request up.
-    Canceller,
-}
+const ROUNDS: u32 = 20;
 
-/// A thread's seat and role.
-#[derive(Drop)]
-pub struct SeatedRole<C: Core> {
-    pub seat: Seat<C>,
-    pub role: Role,
-}
-
-/// A part that was played: the seat comes back.
-#[derive(Drop)]
-pub struct Played<C: Core> {
-    pub seat: Seat<C>,
-    pub done: Result<(), DemoError>,
-}
-
-/// An establisher that always succeeds, and finds this out.
-pub fn establisher_of(alloc: Global, made: Established) -> MemEstablisher {
+// A worker: establishes connections until the driver stops, by an establisher that opens no socket and always succeeds.
+fn establish<C: Core, R: Wait>(me: &mut Handle<'_, C, R>, alloc: Global) {
+    let made = Established {
+        wire: 21,
+        service_id: None,
+        server_id: None,
+    };
     let error = Error {
         kind: ErrorKind::Network,
         labels: Items::new(Vec::new(alloc)),
         topology_version: None,
         message: Text::new(String::new(alloc)),
     };
-    MemEstablisher::new(alloc, made, error, Vec::new(alloc))
-}
-
-/// An establisher for a server alone.
-pub fn establisher(alloc: Global) -> MemEstablisher {
-    let made = Established {
-        wire: 21,
-        service_id: None,
-        server_id: None,
-    };
-    establisher_of(alloc, made)
-}
-
-// Establishes connections until the driver stops.
-fn establish<C: Core, R: Wait>(me: &mut Handle<'_, C, R>, alloc: Global)
-    ensures own { me.new.seat.driver ≡ me.old.seat.driver }
-{
-    let mut establisher = establisher(alloc);
+    let mut establisher = MemEstablisher::new(alloc, made, error, Vec::new(alloc));
     me.serve(&mut establisher, &mut OpenGate);
     drop(establisher);
 }
 
-// Follows the topology until the driver stops. At first it asks for a check, and takes that back at the end.
-fn watch<C: Core, R: Wait>(
-    me: &mut Handle<'_, C, R>,
-    rt: &R,
-    number: u32,
-    hall: &Hall,
-) -> Result<(), DemoError>
-    ensures own { me.new.seat.driver ≡ me.old.seat.driver }
-{
-    let mut watcher = TopologyWatcher::new(number);
-    let watched = follow(me, rt, &mut watcher, hall);
-    me.dismiss(watcher);
-    watched
-}
-
-fn follow<C: Core, R: Wait>(
-    me: &mut Handle<'_, C, R>,
-    rt: &R,
-    watcher: &mut TopologyWatcher,
-    hall: &Hall,
-) -> Result<(), DemoError>
-    ensures own { me.new.seat.driver ≡ me.old.seat.driver }
-{
-    me.request_immediate_check(watcher)?;
-    for _ in rt.forever() {
-        if !me.await_update(watcher)? {
-            break;
-        }
-    }
-    let state = me.observe_latest(watcher)?;
-    hall.note_published(state.published);
-    drop(state);
-    Ok(())
-}
-
-// Lets time enter until the driver stops. Where the clock can't be read no time would pass, so the driver is stopped.
-fn tell_time<C: Core, R: Wait + Clock>(me: &mut Handle<'_, C, R>, rt: &R) -> Result<(), DemoError>
-    ensures own { me.new.seat.driver ≡ me.old.seat.driver }
-{
+// The clock: lets time enter until the driver stops. Where it can't be read no time would pass, so the driver is stopped.
+fn tell_time<C: Core, R: Wait + Clock>(me: &mut Handle<'_, C, R>, rt: &R) -> Result<(), DemoError> {
     let Ok(start) = Instant::now(rt) else {
         me.stop();
         return Err(DemoError::Clock);
@@ -135,70 +52,128 @@ fn tell_time<C: Core, R: Wait + Clock>(me: &mut Handle<'_, C, R>, rt: &R) -> Res
     Ok(())
 }
 
-// What a thread does that runs until the driver stops.
-fn attend<C: Core, R: Wait + Clock>(
+// Asks for a check, and follows the topology until the driver stops.
+fn follow<C: Core, R: Wait>(
     me: &mut Handle<'_, C, R>,
     rt: &R,
-    alloc: Global,
-    role: Role,
+    watcher: &mut TopologyWatcher,
     hall: &Hall,
-) -> Result<(), DemoError>
-    ensures own { me.new.seat.driver ≡ me.old.seat.driver }
-{
-    match role {
-        Role::Worker => establish(me, alloc),
-        Role::Clock => return tell_time(me, rt),
-        Role::Watcher(number) => return watch(me, rt, number, hall),
-        Role::Listener => listen(me, rt, &hall.heard),
-        _ => cancel(me, rt),
+) -> Result<(), DemoError> {
+    me.request_immediate_check(watcher)?;
+    for _ in rt.forever() {
+        if !me.await_update(watcher)? {
+            break;
+        }
     }
+    let state = me.observe_latest(watcher)?;
+    hall.published.store(state.published, Ordering::SeqCst);
+    drop(state);
     Ok(())
 }
 
-fn act<C: Core, R: Wait + Clock>(
+// A watcher. What it asked for is taken back at the end.
+fn watch<C: Core, R: Wait>(
     me: &mut Handle<'_, C, R>,
     rt: &R,
-    alloc: Global,
-    role: Role,
     hall: &Hall,
-) -> Result<(), DemoError>
-    ensures own { me.new.seat.driver ≡ me.old.seat.driver }
-{
-    match role {
-        Role::Client(rounds) => {
-            let asked = ask(me, alloc, rounds);
-            hall.leave();
-            asked
+) -> Result<(), DemoError> {
+    let mut watcher = TopologyWatcher::new(1);
+    let watched = follow(me, rt, &mut watcher, hall);
+    me.dismiss(watcher);
+    watched
+}
+
+// Checks a connection out. A request that may be open where memory runs out is given up.
+fn take_out<C: Core, R: Wait>(
+    me: &mut Handle<'_, C, R>,
+    alloc: Global,
+    request: u32,
+) -> Result<PooledConnection, DemoError> {
+    let address = address(alloc)?;
+    match me.check_out(request, address) {
+        Ok(connection) => Ok(connection),
+        Err(CheckOutError::OutOfMemory) => {
+            drop(me.abandon(request));
+            Err(DemoError::OutOfMemory)
         }
-        Role::Closer => close_up(me, rt, alloc, hall),
-        Role::Patient => outlast(me, rt, alloc),
-        Role::Hurried => hurry(me, alloc),
-        _ => attend(me, rt, alloc, role, hall),
+        Err(why) => {
+            drop(why);
+            Err(DemoError::Request)
+        }
     }
 }
 
-/// What a thread does, once all have begun.
+// One round of a client. An operation stands between the two calls.
+fn round<C: Core, R: Wait>(me: &mut Handle<'_, C, R>, alloc: Global) -> Result<(), DemoError> {
+    let Some(request) = me.take_numbers(1) else {
+        return Err(DemoError::Request);
+    };
+    let connection = take_out(me, alloc, request)?;
+    match me.hand_back(connection, Use::Ok) {
+        Ok(()) => Ok(()),
+        Err(unreturned) => {
+            let Unreturned { connection, why: _ } = unreturned;
+            let PooledConnection {
+                pool: _,
+                id: _,
+                party: _,
+            } = connection;
+            Err(DemoError::Return)
+        }
+    }
+}
+
+// A client. The last one that leaves stops the driver, whatever came before.
+fn visit<C: Core, R: Wait>(
+    me: &mut Handle<'_, C, R>,
+    alloc: Global,
+    hall: &Hall,
+) -> Result<(), DemoError> {
+    let mut asked = Ok(());
+    for _ in 0..ROUNDS {
+        if asked.is_ok() {
+            asked = round(me, alloc);
+        }
+    }
+    if hall.clients.fetch_sub(1, Ordering::SeqCst) == 1 {
+        me.stop();
+    }
+    asked
+}
+
+// What a server says, as the thread of a monitor tells it.
+fn greet<C: Core, R: Wait>(me: &mut Handle<'_, C, R>, alloc: Global) -> Result<(), DemoError> {
+    let step = hello(alloc)?;
+    drop(me.step(step)?);
+    Ok(())
+}
+
+/// What the thread of a seat does. The monitor tells what its server says before anybody begins.
 pub fn play<C: Core, R: Wait + Clock>(
     driver: &SharedDriver<C>,
     rt: &R,
     alloc: Global,
-    part: SeatedRole<C>,
+    seat: Seat<C>,
     hall: &Hall,
-) -> Played<C>
-    requires own { part.seat.driver ≡ driver.now.id }
-    ensures own { result.seat.driver ≡ part.seat.driver }
+) -> Result<(), DemoError>
+    requires own { seat.driver ≡ driver.now.id }
 {
-    let SeatedRole { seat, role } = part;
-    if !hall.start.begin(rt) {
-        return Played {
-            seat,
-            done: Err(DemoError::Thread),
-        };
-    }
+    let number = seat.number();
     let mut me = Handle::new(driver, rt, alloc, seat);
-    let done = act(&mut me, rt, alloc, role, hall);
-    Played {
-        seat: me.into_seat(),
-        done,
+    let mut done = Ok(());
+    if number == MONITOR {
+        done = greet(&mut me, alloc);
     }
+    if !hall.start.begin(rt) {
+        drop(me);
+        return Err(DemoError::Thread);
+    }
+    match number {
+        0 => establish(&mut me, alloc),
+        1 => done = tell_time(&mut me, rt),
+        MONITOR => done = done.and(watch(&mut me, rt, hall)),
+        _ => done = visit(&mut me, alloc, hall),
+    }
+    drop(me);
+    done
 }

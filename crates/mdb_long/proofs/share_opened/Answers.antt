@@ -1,5 +1,0 @@
-use Rattle.mdb_topology.proofs.Crossing.{drivers}
-use Rattle.mdb_long.proofs.share_opened.Goals as goal
-
-pub share-requires-send-C : goal.share-requires-send-C
-share-requires-send-C g c κs within = search drivers depth 20
