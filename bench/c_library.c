@@ -90,6 +90,27 @@ static void by_calls_with_facts(void) {
     facts();
 }
 
+static void all_facts(void) {
+    mdb_fact told[16];
+    size_t count;
+    is(mdb_facts(&slot, told, 16, &count) == MDB_OK && count > 0);
+}
+
+static void by_calls_with_all_facts(void) {
+    mdb_at at = {5, 0};
+    is(mdb_request(&slot, &at, party, TEXT("a:27017"), &reply) == MDB_OK && reply.kind == MDB_POOLED);
+    all_facts();
+    is(mdb_return(&slot, &at, party++, MDB_USE_OK, &reply) == MDB_OK && reply.kind == MDB_DONE);
+    all_facts();
+}
+
+static void told_with_facts(void) {
+    mdb_at at = {5, 0};
+    mdb_told told;
+    is(mdb_request_told(&slot, &at, party, TEXT("a:27017"), &told) == MDB_OK && told.reply.kind == MDB_POOLED && told.count == 3);
+    is(mdb_return_told(&slot, &at, party++, MDB_USE_OK, &told) == MDB_OK && told.reply.kind == MDB_DONE && told.count == 1);
+}
+
 static void lines(bool texts) {
     char asked_[64] = "request 5 ", back[64] = "return 5 ";
     size_t k = 10, m = 9;
@@ -165,7 +186,9 @@ int main(int argc, char **argv) {
     size_t before = live, calls = asked;
     timed("request and return by calls", by_calls, rounds);
     printf("%44s %8.1f allocations a round, %.0f bytes stay\n", "", (double)(asked - calls) / rounds, (double)(live - before) / rounds);
-    timed("with all facts as numbers", by_calls_with_facts, rounds);
+    timed("with all facts as numbers, one by one", by_calls_with_facts, rounds);
+    timed("with all facts as numbers, at once", by_calls_with_all_facts, rounds);
+    timed("with all facts as numbers, by the same calls", told_with_facts, rounds);
     timed("request and return by lines", by_lines, rounds);
     timed("with both entry texts", by_lines_with_texts, rounds);
     timed("a refused request by a call", refused, rounds);

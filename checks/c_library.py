@@ -9,7 +9,7 @@ crates/mdb_auditor/out/mdb_auditor; none is built here. In order:
   header     include/mdb.h is C11 and C++ with no warning; the archive defines each function that it declares, and no other global name, and wants no
              function but those of the heap and of copying
   clients    checks/c/lines.c and calls.c, plain, under valgrind (no error, no leak) and with the address and undefined-behaviour sanitizers; the
-             example of bindings/examples
+             examples of bindings/examples
   threads    checks/c/threads.c, plain, under helgrind and with ThreadSanitizer
   memory     each allocation of N random scripts (6) is refused in turn (checks/c/refusing.c), and once so under valgrind
   program    N random scripts give the log that PROGRAM writes (left out where it is not built)
@@ -40,6 +40,8 @@ C = os.path.join(HERE, 'c')
 INCLUDE = os.path.join(TOP, 'include')
 HEAP = os.path.join(TOP, 'bindings', 'heap.c')
 WANTED = {'rattle_alloc', 'rattle_realloc', 'rattle_dealloc', 'memcpy', 'memmove', 'memset', 'memcmp', 'bcmp'}
+EXAMPLES = os.path.join(TOP, 'bindings', 'examples')
+OPERATIONS = '200 operations\n'
 ENTRY = 'return 4 1 ok | Done | Pool 0 ConnectionCheckedIn a:27017 1\n'
 FLAGS = ['-std=gnu11', '-Wall', '-Wextra', '-Werror', '-O1', '-g', '-fno-omit-frame-pointer']
 SANITIZERS = ['-fsanitize=address,undefined', '-fno-sanitize-recover=all']
@@ -80,8 +82,8 @@ class Checks:
         empty = os.path.join(self.folder, 'empty.c')
         with open(empty, 'w') as file:
             file.write('#include "mdb.h"\n')
-        for words in (['gcc', '-std=c11'], ['g++', '-x', 'c++']):
-            well, told = run([*words, '-pedantic', '-Wall', '-Wextra', '-Werror', '-I' + INCLUDE, '-c', empty, '-o', os.devnull])
+        for words in (['gcc', '-std=c11'], ['g++', '-std=c++17', '-x', 'c++']):
+            well, told = run([*words, '-Wall', '-Wextra', '-Wpedantic', '-Werror', '-I' + INCLUDE, '-c', empty, '-o', os.devnull])
             self.tell('header ' + words[0], well, told)
         with open(os.path.join(INCLUDE, 'mdb.h')) as file:
             declared = set(re.findall(r'^(?:mdb_status|void|uint32_t|uint64_t) (mdb_\w+)\(', file.read(), re.M))
@@ -96,10 +98,11 @@ class Checks:
             self.ran(source + ' under valgrind', self.built(source), [few], VALGRIND)
             self.ran(source + ' with sanitizers', self.built(source, SANITIZERS), [few])
 
-        example = os.path.join(self.folder, 'round')
-        well, told = run(['gcc', '-std=c11', '-Wall', '-Wextra', '-Werror', '-I' + INCLUDE, os.path.join(TOP, 'bindings', 'examples', 'round.c'), self.given.library, HEAP, '-o', example])
-        well, told = run([example]) if well else (well, told)
-        self.tell('example', well and told == ENTRY, told)
+        for name, wanted in (('round', ENTRY), ('client', OPERATIONS)):
+            example = os.path.join(self.folder, name)
+            well, told = run(['gcc', '-std=c11', '-Wall', '-Wextra', '-Wpedantic', '-Werror', '-I' + INCLUDE, os.path.join(EXAMPLES, name + '.c'), self.given.library, HEAP, '-lpthread', '-o', example])
+            well, told = run([example], timeout=60) if well else (well, told)
+            self.tell('example ' + name, well and told == wanted, told)
 
     def threads(self):
         self.ran('threads', self.built('threads'), ['2000'])

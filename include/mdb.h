@@ -5,9 +5,25 @@
  * those of the public standards "Connection Monitoring and Pooling" (CMAP) and "Server Discovery and Monitoring" (SDAM).
  *
  * Two layers lead to one driver, and may be mixed. By lines: the text of a step in, the text of its entry out, as docs/SCRIPT.md has them. By
- * calls: each step but the opening with numbers in place of a line, the facts of the last entry by index, what is known of the topology and its
+ * calls: each step but the opening with numbers in place of a line, the facts of the last entry at once or by index, what is known of the topology and its
  * servers, and what their checks do. By lines only: the opening, with its options, and the text of a whole entry. Three calls concern no driver: the
  * rules of SRV and TXT records.
+ *
+ * What to call, by what one wants to do. bindings/examples/round.c is the least program, client.c beside it a client with threads: copy it.
+ *   open and close           mdb_open_line, mdb_stop, mdb_close
+ *   get a connection         mdb_request_told, mdb_collect_told until MDB_POOLED or MDB_ENDED, mdb_give_up; mdb_return_told; mdb_error where it broke
+ *   establish connections    mdb_claim, mdb_job_address; mdb_established_told or mdb_failed; mdb_warm for minPoolSize
+ *   let time enter           mdb_expire and mdb_maintain of each server, every 10 ms or so
+ *   check servers            mdb_open_pool, mdb_check_get, mdb_beat; mdb_check_next, mdb_beaten; mdb_rtt; mdb_hello for a hello of one's own
+ *   check at once            mdb_want, mdb_unwant; MDB_FACT_CHECK_NOW and MDB_FACT_CANCEL
+ *   wake who waits, publish  mdb_facts after each step, or the calls that end in _told: MDB_FACT_GRANTED, MDB_FACT_ENDED, events by kind
+ *   look at servers          mdb_topology_get, mdb_server_get, mdb_server_at, mdb_server_number, and their texts
+ *   pin                      mdb_pin, mdb_replicate, mdb_take, mdb_unpin
+ *   follow DNS               mdb_srv_hosts, mdb_srv_txt, mdb_srv_rescan, mdb_hosts
+ *   keep the log             mdb_entry_text after each step
+ *
+ * Under the lock of a slot: a step with the facts that are read of it; mdb_check_get with mdb_beat, and mdb_check_next with mdb_beaten; mdb_last_moment with
+ * the step whose moment it bounds. Outside of it: sockets, and waiting.
  *
  * Units. A moment is in milliseconds, of any clock that never goes back; a step whose moment is below that of the last accepted step is refused
  *   (MDB_WHY_TIME_BACK, with that moment). Round trips and durations of checks are in nanoseconds. Sizes are in bytes.
@@ -65,7 +81,7 @@ extern "C" {
 #define MDB_VERSION_NUMBER 300 /* major * 10000 + minor * 100 + patch */
 
 /* Which header the library was built for: link only where mdb_abi() == MDB_ABI. It changes where a call, a struct or a number does. */
-#define MDB_ABI 3
+#define MDB_ABI 4
 uint32_t mdb_abi(void);
 
 /* ---- statuses */
@@ -233,7 +249,8 @@ mdb_status mdb_expire(mdb_slot *slot, const mdb_at *at, const uint8_t *address, 
  * mdb_check_get, before it. */
 mdb_status mdb_beat(mdb_slot *slot, const mdb_at *at, const uint8_t *address, size_t address_len, uint32_t pool, mdb_reply *reply);
 
-/* A watcher, by its number, wants the servers checked at once, or no longer (SDAM monitoring, "Requesting an immediate check"). */
+/* A watcher, by its number, wants the servers checked at once, or no longer (SDAM monitoring, "Requesting an immediate check"): MDB_COUNT with how many
+ * watchers now want it. Where mdb_want answers 1 nobody else does: then every monitor that sleeps is to be woken, as no fact says so. */
 mdb_status mdb_want(mdb_slot *slot, const mdb_at *at, uint32_t watcher, mdb_reply *reply);
 mdb_status mdb_unwant(mdb_slot *slot, const mdb_at *at, uint32_t watcher, mdb_reply *reply);
 
@@ -275,13 +292,17 @@ mdb_status mdb_stop(mdb_slot *slot, const mdb_at *at, mdb_reply *reply);
 typedef struct mdb_fact {
     uint32_t kind;   /* MDB_FACT_OPENED .. */
     uint32_t event;  /* of MDB_FACT_POOL: MDB_POOL_CREATED ..; of MDB_FACT_SDAM: MDB_SDAM_SERVER_CHANGED .. */
-    uint32_t pool;   /* of MDB_FACT_OPENED, MDB_FACT_POOL, MDB_FACT_GRANTED, MDB_FACT_RAISED */
+    uint32_t pool;   /* of MDB_FACT_OPENED, MDB_FACT_POOL, MDB_FACT_GRANTED, MDB_FACT_RAISED; of MDB_FACT_CHECK_NOW, MDB_FACT_CANCEL and of events of a
+                      * server the number of the server (below) */
     uint32_t id;     /* the connection of MDB_FACT_GRANTED and of events that name one; of a heartbeat the driver's number of the monitor's connection */
     uint32_t party;  /* of MDB_FACT_GRANTED, MDB_FACT_ENDED */
     uint32_t why;    /* MDB_END_ of MDB_FACT_ENDED; MDB_CLOSED_ of MDB_CONNECTION_CLOSED; MDB_FAILED_ of MDB_CHECKOUT_FAILED; of a heartbeat 1 where the
                       * server answers when something changes */
     uint64_t number; /* the milliseconds of MDB_CONNECTION_READY, MDB_CHECKED_OUT and MDB_CHECKOUT_FAILED; the nanoseconds of a heartbeat that ended; 1 of
                       * an MDB_POOL_CLEARED that interrupts the connections in use */
+    uint8_t service[12];  /* the service behind the load balancer, of MDB_FACT_RAISED, MDB_POOL_CLEARED and MDB_CONNECTION_CLOSED */
+    uint32_t has_service; /* 1 where the fact names a service */
+    uint32_t has_pool;    /* 1 where `pool` is the number of a pool */
 } mdb_fact;
 
 enum { /* kind */
@@ -306,9 +327,32 @@ enum { MDB_CLOSED_STALE = 1, MDB_CLOSED_IDLE, MDB_CLOSED_ERROR, MDB_CLOSED_DROPP
 
 enum { MDB_FAILED_TIMEOUT = 1, MDB_FAILED_CONNECTION_ERROR };
 
+/* All facts of the last entry, in their order, at the beginning of `out`, which has room for so many. *count is how many there are, and 0 at MDB_CLOSED; at
+ * MDB_NO_ROOM nothing else is written. */
+mdb_status mdb_facts(mdb_slot *slot, mdb_fact *out, size_t room, size_t *count);
+
 /* How many facts the last entry has: 0 after a refusal. */
 mdb_status mdb_fact_count(mdb_slot *slot, size_t *count);
 mdb_status mdb_fact_at(mdb_slot *slot, size_t index, mdb_fact *fact);
+
+/* A reply with the facts of its step, for those steps that are made most: each call does the step of its name and tells what that call and mdb_facts tell,
+ * by one call. Where there are more facts than MDB_TOLD_FACTS none of them is written, and mdb_facts tells them. At any status but MDB_OK nothing is. */
+#define MDB_TOLD_FACTS 8
+typedef struct mdb_told {
+    mdb_reply reply;
+    uint64_t count; /* how many facts there are */
+    mdb_fact facts[MDB_TOLD_FACTS];
+} mdb_told;
+mdb_status mdb_request_told(mdb_slot *slot, const mdb_at *at, uint32_t party, const uint8_t *address, size_t address_len, mdb_told *told);
+mdb_status mdb_collect_told(mdb_slot *slot, const mdb_at *at, uint32_t party, mdb_told *told);
+mdb_status mdb_return_told(mdb_slot *slot, const mdb_at *at, uint32_t party, uint32_t used, mdb_told *told);
+mdb_status mdb_established_told(mdb_slot *slot, const mdb_at *at, const mdb_established_as *made, const uint8_t *service, size_t service_len, mdb_told *told);
+mdb_status mdb_line_told(mdb_slot *slot, uint32_t seat, const uint8_t *line, size_t line_len, mdb_told *told);
+
+/* The number of the server at the address, as facts have it in `pool`: that of the server's pool, which MDB_FACT_OPENED tells with the address. It stands
+ * for this address as long as the driver lives; a server that went and came back has a new one. The server is known, or the last entry closed its pool:
+ * else MDB_NO_ENTRY. MDB_MALFORMED. */
+mdb_status mdb_server_number(mdb_slot *slot, const uint8_t *address, size_t address_len, uint32_t *number);
 
 /* The whole text of a fact, as an entry's text has it. *needed is its length, and 0 at MDB_NO_ENTRY, MDB_NO_MEMORY and MDB_CLOSED; at MDB_NO_ROOM nothing
  * is written. */

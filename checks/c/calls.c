@@ -11,7 +11,8 @@ _Static_assert(sizeof(mdb_reply) == 24, "a reply has 24 bytes");
 _Static_assert(sizeof(mdb_at) == 16, "a moment and a seat have 16 bytes");
 _Static_assert(sizeof(mdb_connection) == 8, "a connection has 8 bytes");
 _Static_assert(sizeof(mdb_established_as) == 24, "what was established has 24 bytes");
-_Static_assert(sizeof(mdb_fact) == 32, "a fact has 32 bytes");
+_Static_assert(sizeof(mdb_fact) == 56, "a fact has 56 bytes");
+_Static_assert(sizeof(mdb_told) == 480, "a reply with its facts has 480 bytes");
 _Static_assert(sizeof(mdb_types) == 8, "two types have 8 bytes");
 _Static_assert(sizeof(mdb_topology) == 56, "a topology has 56 bytes");
 _Static_assert(sizeof(mdb_check) == 56, "a check has 56 bytes");
@@ -32,10 +33,48 @@ static size_t text_of(mdb_slot *slot, char *out) {
     return needed;
 }
 
+// The two facts are the same, member by member.
+static int same_fact(const mdb_fact *a, const mdb_fact *b) {
+    return a->kind == b->kind && a->event == b->event && a->pool == b->pool && a->id == b->id && a->party == b->party && a->why == b->why && a->number == b->number
+        && memcmp(a->service, b->service, sizeof a->service) == 0 && a->has_service == b->has_service && a->has_pool == b->has_pool;
+}
+
+// All facts at once are those by index. A room that is too small is told how much is needed, and stays as it is.
+static void all_facts_agree(size_t count) {
+    static mdb_fact all[2048];
+    size_t found = 99;
+    mdb_fact one, kept = {.kind = 77};
+    CHECK(count <= 2048 && mdb_facts(&calls, all, count, &found) == MDB_OK && found == count);
+    for (size_t i = 0; i < count; i++) CHECK(mdb_fact_at(&calls, i, &one) == MDB_OK && same_fact(&one, &all[i]));
+    for (size_t i = 0; i < count; i++) all[i] = kept;
+    if (count) CHECK(mdb_facts(&calls, all, count - 1, &found) == MDB_NO_ROOM && found == count);
+    for (size_t i = 0; i < count; i++) CHECK(all[i].kind == 77);
+    CHECK(mdb_facts(&calls, &kept, 0, &found) == (count ? MDB_NO_ROOM : MDB_OK) && found == count && kept.kind == 77);
+}
+
+// What was told with the reply is what mdb_facts tells; facts that do not fit are not written.
+static mdb_told told;
+static mdb_status told_with(mdb_status status) {
+    mdb_fact all[256];
+    size_t count;
+    CHECK(status == MDB_OK && mdb_facts(&calls, all, 256, &count) == MDB_OK && told.count == count);
+    for (size_t i = 0; i < count && count <= MDB_TOLD_FACTS; i++) CHECK(same_fact(&told.facts[i], &all[i]));
+    for (size_t i = count <= MDB_TOLD_FACTS ? count : 0; i < MDB_TOLD_FACTS; i++) CHECK(told.facts[i].kind == 77);
+    reply = told.reply;
+    return status;
+}
+
+static mdb_told *room(void) {
+    memset(&told, 77, sizeof told);
+    for (int i = 0; i < MDB_TOLD_FACTS; i++) told.facts[i].kind = 77;
+    return &told;
+}
+
 // The texts of the facts that the call layer tells, behind bars, are those of the entry.
 static void facts_agree(const char *entry) {
     size_t count = 99, needed = 99;
     CHECK(mdb_fact_count(&calls, &count) == MDB_OK);
+    all_facts_agree(count);
     const char *at = strstr(entry, " | ");
     CHECK(at);
     at = strstr(at + 3, " | ");
@@ -55,6 +94,10 @@ static void facts_agree(const char *entry) {
         CHECK((has_address == MDB_NO_ENTRY) == (fact.kind == MDB_FACT_GRANTED || fact.kind == MDB_FACT_ENDED || fact.kind == MDB_FACT_RAISED || on_topology));
         named[needed] = 0;
         CHECK(has_address == MDB_OK ? needed > 0 && strstr(text, named) != 0 : has_address == MDB_NO_ENTRY && needed == 0);
+        uint32_t number = 77;
+        if (has_address == MDB_OK) CHECK(mdb_server_number(&calls, (const uint8_t *)named, needed, &number) == MDB_OK && fact.has_pool == 1 && fact.pool == number);
+        CHECK(fact.has_pool == (fact.kind != MDB_FACT_ENDED && !on_topology) && (fact.has_pool || fact.pool == 0));
+        CHECK(fact.has_service == (strstr(text, "service=") != 0 && strstr(text, "service=-") == 0) || fact.kind == MDB_FACT_RAISED);
         mdb_types types = {77, 77};
         mdb_status has_types = mdb_fact_types(&calls, i, &types);
         CHECK(has_types == (fact.kind == MDB_FACT_SDAM && (fact.event == MDB_SDAM_SERVER_CHANGED || fact.event == MDB_SDAM_TOPOLOGY_CHANGED) ? MDB_OK : MDB_NO_ENTRY));
@@ -109,7 +152,7 @@ static const char *spelled(const char *form, ...) {
 }
 
 // The same line to both.
-static void both(const char *line) { agrees(mdb_line(&calls, 7, (const uint8_t *)line, strlen(line), &reply), line); }
+static void both(const char *line) { agrees(told_with(mdb_line_told(&calls, 7, (const uint8_t *)line, strlen(line), room())), line); }
 
 static void open_both(const char *line) {
     CHECK(mdb_open_line(&calls, 7, (const uint8_t *)line, strlen(line)) == MDB_OK);
@@ -142,6 +185,12 @@ static void closed_slots(void) {
         CHECK(mdb_want(&none, &at, 1, &kept) == MDB_CLOSED && mdb_unwant(&none, &at, 1, &kept) == MDB_CLOSED && mdb_stop(&none, &at, &kept) == MDB_CLOSED);
         CHECK(mdb_error(&none, &at, 1, TEXT("network msg=x"), &kept) == MDB_CLOSED && mdb_failed(&none, &at, &connection, TEXT("pre network msg=x"), &kept) == MDB_CLOSED);
         CHECK(mdb_hello(&none, &at, TEXT("a:1 0"), TEXT("ok rtt=5"), &kept) == MDB_CLOSED && mdb_beaten(&none, &at, TEXT("a:1 0"), TEXT("7 ok"), &kept) == MDB_CLOSED);
+        mdb_told kept_told = {.count = 77};
+        CHECK(mdb_request_told(&none, &at, 1, ADDRESS, &kept_told) == MDB_CLOSED && mdb_collect_told(&none, &at, 1, &kept_told) == MDB_CLOSED);
+        CHECK(mdb_return_told(&none, &at, 1, 0, &kept_told) == MDB_CLOSED && mdb_established_told(&none, &at, &made, NO_TEXT, &kept_told) == MDB_CLOSED);
+        CHECK(mdb_line_told(&none, 0, TEXT("claim 1"), &kept_told) == MDB_CLOSED && kept_told.count == 77 && kept_told.reply.kind == 0);
+        CHECK(mdb_facts(&none, &fact, 1, &needed) == MDB_CLOSED && needed == 0 && mdb_server_number(&none, ADDRESS, &narrow) == MDB_CLOSED && narrow == 77);
+        needed = 77;
         CHECK(mdb_fact_count(&none, &count) == MDB_CLOSED && count == 77 && mdb_fact_at(&none, 0, &fact) == MDB_CLOSED);
         CHECK(mdb_fact_text(&none, 0, out, sizeof out, &needed) == MDB_CLOSED && needed == 0);
         CHECK(mdb_rtt(&none, &at, TEXT("a:1 0"), 5, &kept) == MDB_CLOSED && mdb_hosts(&none, &at, TEXT("a:1"), &kept) == MDB_CLOSED);
@@ -180,6 +229,7 @@ static void malformed(void) {
         size_t len = strlen(bad[i]);
         CHECK(mdb_request(&calls, &at, 999, text, len, &kept) == MDB_MALFORMED && mdb_warm(&calls, &at, 999, text, len, &kept) == MDB_MALFORMED);
         CHECK(mdb_maintain(&calls, &at, text, len, &kept) == MDB_MALFORMED && mdb_expire(&calls, &at, text, len, &kept) == MDB_MALFORMED);
+        CHECK(mdb_request_told(&calls, &at, 999, text, len, room()) == MDB_MALFORMED && told.facts[0].kind == 77 && mdb_server_number(&calls, text, len, &narrow) == MDB_MALFORMED);
         CHECK(mdb_beat(&calls, &at, text, len, 0, &kept) == MDB_MALFORMED && mdb_open_pool(&calls, text, len, &narrow) == MDB_MALFORMED);
         CHECK(mdb_server_at(&calls, text, len, &place) == MDB_MALFORMED && place == 77 && mdb_hosts(&calls, &at, text, len, &kept) == MDB_MALFORMED);
         CHECK(mdb_rtt(&calls, &at, text, len, 5, &kept) == MDB_MALFORMED && mdb_check_get(&calls, text, len, &check) == MDB_MALFORMED && check.action == 77);
@@ -199,6 +249,7 @@ static void malformed(void) {
         CHECK(mdb_check_next(&calls, TEXT("a:27017 0"), text, len, &narrow) == MDB_MALFORMED && mdb_check_next(&calls, text, len, TEXT("7 ok"), &narrow) == MDB_MALFORMED);
         CHECK(mdb_hello(&calls, &at, text, len, TEXT("ok rtt=5"), &kept) == MDB_MALFORMED && mdb_beaten(&calls, &at, text, len, TEXT("7 ok"), &kept) == MDB_MALFORMED);
     }
+    CHECK(mdb_return_told(&calls, &at, 1, 4, room()) == MDB_MALFORMED && mdb_line_told(&calls, 0, TEXT("claim"), &told) == MDB_MALFORMED && told.facts[0].kind == 77);
     CHECK(mdb_return(&calls, &at, 1, 4, &kept) == MDB_MALFORMED && mdb_return(&calls, &at, 1, UINT32_MAX, &kept) == MDB_MALFORMED);
     CHECK(memcmp(&kept, &before, sizeof kept) == 0 && narrow == 77);
 }
@@ -216,6 +267,7 @@ static void normal_pool(int rounds) {
     CHECK(mdb_published(&calls, &wide) == MDB_OK && wide == 2);
     CHECK(mdb_open_pool(&calls, (const uint8_t *)"A", 1, &pool) == MDB_OK && pool == 0);
     CHECK(mdb_open_pool(&calls, (const uint8_t *)"b:1", 3, &pool) == MDB_NO_ENTRY && pool == 0);
+    CHECK(mdb_server_number(&calls, (const uint8_t *)"b:1", 3, &pool) == MDB_NO_ENTRY && mdb_server_number(&calls, (const uint8_t *)"A", 1, &pool) == MDB_OK && pool == 0);
     malformed();
     agrees(mdb_warm(&calls, &at, 100, ADDRESS, &reply), "warm 2 100 a:27017");
     agrees(mdb_claim(&calls, &at, &reply), "claim 2");
@@ -241,7 +293,8 @@ static void normal_pool(int rounds) {
     for (int i = 0; i < rounds; i++) {
         uint32_t party = 1000 + (uint32_t)i, used = (uint32_t)(i % 4);
         at.moment = 3 + (uint64_t)i;
-        agrees(mdb_request(&calls, &at, party, ADDRESS, &reply), spelled("request %" PRIu64 " %u a:27017", at.moment, party));
+        mdb_status asked = i % 2 ? told_with(mdb_request_told(&calls, &at, party, ADDRESS, room())) : mdb_request(&calls, &at, party, ADDRESS, &reply);
+        agrees(asked, spelled("request %" PRIu64 " %u a:27017", at.moment, party));
         if (reply.kind == MDB_ESTABLISHING) {
             if (i % 7 == 3) {
                 agrees(mdb_give_up(&calls, &at, party, &reply), spelled("giveup %" PRIu64 " %u", at.moment, party));
@@ -250,10 +303,11 @@ static void normal_pool(int rounds) {
             }
             made.pool = reply.pool, made.id = reply.id, made.server_id = -1;
             agrees(mdb_claim(&calls, &at, &reply), spelled("claim %" PRIu64, at.moment));
-            agrees(mdb_established(&calls, &at, &made, NO_TEXT, &reply), spelled("established %" PRIu64 " 0 %u wire=21", at.moment, made.id));
-            if (reply.kind != MDB_REFUSED) agrees(mdb_collect(&calls, &at, party, &reply), spelled("collect %" PRIu64 " %u", at.moment, party));
+            agrees(told_with(mdb_established_told(&calls, &at, &made, NO_TEXT, room())), spelled("established %" PRIu64 " 0 %u wire=21", at.moment, made.id));
+            if (reply.kind != MDB_REFUSED) agrees(told_with(mdb_collect_told(&calls, &at, party, room())), spelled("collect %" PRIu64 " %u", at.moment, party));
         }
-        agrees(mdb_return(&calls, &at, party, used, &reply), spelled("return %" PRIu64 " %u %s", at.moment, party, words[used]));
+        mdb_status back = i % 2 ? told_with(mdb_return_told(&calls, &at, party, used, room())) : mdb_return(&calls, &at, party, used, &reply);
+        agrees(back, spelled("return %" PRIu64 " %u %s", at.moment, party, words[used]));
         if (i % 5 == 0) agrees(mdb_maintain(&calls, &at, ADDRESS, &reply), spelled("maintain %" PRIu64 " a:27017", at.moment));
         if (i % 6 == 0) agrees(mdb_expire(&calls, &at, ADDRESS, &reply), spelled("expire %" PRIu64 " a:27017", at.moment));
         if (i % 9 == 0) agrees(mdb_want(&calls, &at, party, &reply), spelled("want %" PRIu64 " %u", at.moment, party));

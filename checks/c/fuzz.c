@@ -75,12 +75,32 @@ static void know(void) {
     CHECK(mdb_server_get(&slot, topology.servers, &server) == MDB_NO_ENTRY);
 }
 
+// All facts at once are those by index, and a fact of a server has the number of its address.
+static void all_facts(size_t count) {
+    static mdb_fact all[1 << 14];
+    static uint8_t address[512];
+    mdb_fact one;
+    size_t found = 77, needed;
+    CHECK(count <= 1 << 14 && mdb_facts(&slot, all, count, &found) == MDB_OK && found == count);
+    if (count) CHECK(mdb_facts(&slot, &one, count - 1 ? 0 : count - 1, &found) == MDB_NO_ROOM && found == count);
+    for (size_t i = 0; i < count; i++) {
+        CHECK(mdb_fact_at(&slot, i, &one) == MDB_OK && one.kind == all[i].kind && one.event == all[i].event && one.pool == all[i].pool && one.id == all[i].id);
+        CHECK(one.party == all[i].party && one.why == all[i].why && one.number == all[i].number && memcmp(one.service, all[i].service, 12) == 0);
+        CHECK(one.has_service == all[i].has_service && one.has_pool == all[i].has_pool && (one.has_pool || one.pool == 0));
+        uint32_t number = 77;
+        if (mdb_fact_address(&slot, i, address, sizeof address, &needed) != MDB_OK) continue;
+        mdb_status status = mdb_server_number(&slot, address, needed, &number);
+        CHECK(status == MDB_OK ? one.has_pool && one.pool == number : status == MDB_NO_ENTRY && !one.has_pool);
+    }
+}
+
 // The last entry's text is kept, and its facts are those of the text.
 static void look(void) {
     size_t needed = 0, count = 0, length = 0;
     if (entries == MOST || sizeof log_ - told < 1 << 18) return;
     CHECK(mdb_entry_text(&slot, (uint8_t *)log_ + told, sizeof log_ - told, &needed) == MDB_OK && needed > 4 && log_[told + needed - 1] == '\n');
     CHECK(mdb_fact_count(&slot, &count) == MDB_OK);
+    all_facts(count);
     const char *entry = log_ + told, *at = entry + needed - 1;
     // the facts from the last one back, each behind a bar
     for (size_t i = count; i-- > 0;) {
@@ -163,6 +183,25 @@ static void records(const uint8_t *bytes, size_t length) {
     }
 }
 
+// A step whose facts come with its reply.
+static mdb_status with_facts(uint32_t kind, const mdb_at *when, uint32_t party, const uint8_t *address, size_t length, const mdb_connection *connection, const mdb_established_as *made, const char *service, mdb_reply *reply) {
+    static mdb_told with, kept;
+    mdb_fact one;
+    mdb_status status;
+    with = kept;
+    switch (kind) {
+        case 24: status = mdb_request_told(&slot, when, party, address, length, &with); break;
+        case 25: status = mdb_collect_told(&slot, when, party, &with); break;
+        case 26: status = mdb_return_told(&slot, when, party, connection->pool, &with); break;
+        case 27: status = mdb_established_told(&slot, when, made, (const uint8_t *)service, strlen(service), &with); break;
+        default: status = mdb_line_told(&slot, 0, (const uint8_t *)"claim 0", 7, &with); break;
+    }
+    if (status != MDB_OK) CHECK(memcmp(&with, &kept, sizeof with) == 0);
+    for (size_t i = 0; status == MDB_OK && i < with.count && with.count <= MDB_TOLD_FACTS; i++) CHECK(mdb_fact_at(&slot, i, &one) == MDB_OK && one.kind == with.facts[i].kind && one.event == with.facts[i].event && one.party == with.facts[i].party);
+    *reply = with.reply;
+    return status;
+}
+
 // A call of the bytes of a line.
 static mdb_status called(const uint8_t *at, const uint8_t *end, mdb_reply *reply) {
     static const char *const addresses[] = {"a:1", "a", "b:2", "A:1", "z:9", "", "a:0", "[::1]:9"};
@@ -200,6 +239,7 @@ static mdb_status called(const uint8_t *at, const uint8_t *end, mdb_reply *reply
         case 21: return mdb_rtt(&slot, &when, (const uint8_t *)"a:1 0", 5, (uint64_t)party << connection.pool % 57, reply);
         case 22: return mdb_hosts(&slot, &when, at, (size_t)(end - at), reply);
         case 23: return mdb_cluster_time(&slot, &when, (uint64_t)party << connection.pool % 57, reply);
+        case 24: case 25: case 26: case 27: case 28: return with_facts(kind, &when, party, text, n, &connection, &made, service, reply);
         default: return mdb_request(&slot, &when, party, at, (size_t)(end - at), reply); // an address of any bytes
     }
 }

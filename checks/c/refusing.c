@@ -57,11 +57,13 @@ static void records(void) {
 
 // One step, made again once where it had no memory: the reply is not written then, and the last entry still has its text.
 static bool step(const char *line, size_t n, bool opens, mdb_reply *reply, size_t *told, char *log) {
-    mdb_reply kept = {77, 77, 77, 77, 77};
-    *reply = kept;
-    mdb_status status = opens ? mdb_open_line(&slot, 0, (const uint8_t *)line, n) : mdb_line(&slot, 0, (const uint8_t *)line, n, reply);
+    static mdb_told kept, with;
+    memset(&kept, 77, sizeof kept);
+    with = kept;
+    mdb_status status = opens ? mdb_open_line(&slot, 0, (const uint8_t *)line, n) : mdb_line_told(&slot, 0, (const uint8_t *)line, n, &with);
+    *reply = with.reply;
     if (status == MDB_NO_MEMORY) {
-        CHECK(memcmp(reply, &kept, sizeof kept) == 0);
+        CHECK(memcmp(&with, &kept, sizeof kept) == 0);
         CHECK(opens ? slot.state == 0 : slot.state != 0);
         if (!opens) {
             static char again[1 << 20];
@@ -81,7 +83,11 @@ static bool step(const char *line, size_t n, bool opens, mdb_reply *reply, size_
     }
     CHECK(status == MDB_OK);
     *told += needed;
-    CHECK(mdb_fact_count(&slot, &count) == MDB_OK);
+    static mdb_fact facts[4096];
+    uint32_t number;
+    CHECK(mdb_fact_count(&slot, &count) == MDB_OK && mdb_facts(&slot, facts, 4096, &needed) == MDB_OK && needed == count); // no memory is asked for
+    status = mdb_server_number(&slot, (const uint8_t *)"a:27017", 7, &number);
+    CHECK(status == MDB_OK || status == MDB_NO_ENTRY || status == MDB_NO_MEMORY);
     for (size_t i = 0; i < count; i++) {
         uint8_t text[8192];
         status = mdb_fact_text(&slot, i, text, sizeof text, &needed);

@@ -6,7 +6,7 @@ import ctypes
 import os
 from ctypes import POINTER, Structure, c_int32, c_int64, c_size_t, c_uint8, c_uint32, c_uint64, c_void_p
 
-ABI = 3
+ABI = 4
 
 
 class Slot(Structure):
@@ -22,6 +22,7 @@ class ReplyNumbers(Structure):
 class FactNumbers(Structure):
     _fields_ = [
         ("kind", c_uint32), ("event", c_uint32), ("pool", c_uint32), ("id", c_uint32), ("party", c_uint32), ("why", c_uint32), ("number", c_uint64),
+        ("service", c_uint8 * 12), ("has_service", c_uint32), ("has_pool", c_uint32),
     ]
 
 

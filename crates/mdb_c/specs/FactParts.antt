@@ -8,6 +8,7 @@ use Rattle.mdb_events.specs.declared.fact.Fact.{Fact}
 use Rattle.mdb_events.specs.declared.fact.Fact.TheVariants as fact
 use Rattle.mdb_events.specs.declared.sdam.SdamEvent.{SdamEvent}
 use Rattle.mdb_events.specs.declared.sdam.SdamEvent.TheVariants as sdam
+use Rattle.mdb_session.specs.Facts.{sdam_address}
 use Rattle.mdb_c.specs.Types.{server_type_number, topology_type_number}
 use Rattle.mdb_c.specs.declared.fact_parts.TypesNumbers.{TypesNumbers}
 
@@ -23,17 +24,6 @@ pool_address (cmap.ConnectionCheckoutStarted e) = e.address
 pool_address (cmap.ConnectionCheckoutFailed e) = e.address
 pool_address (cmap.ConnectionCheckedOut e) = e.address
 pool_address (cmap.ConnectionCheckedIn e) = e.address
-
-abbrev pub sdam_address : SdamEvent → Option ServerAddress
-sdam_address (sdam.ServerDescriptionChanged e) = Some e.address
-sdam_address (sdam.ServerOpening e) = Some e.address
-sdam_address (sdam.ServerClosed e) = Some e.address
-sdam_address (sdam.TopologyDescriptionChanged e) = None
-sdam_address (sdam.TopologyOpening e) = None
-sdam_address (sdam.TopologyClosed e) = None
-sdam_address (sdam.ServerHeartbeatStarted e) = Some e.server_address
-sdam_address (sdam.ServerHeartbeatSucceeded e) = Some e.server_address
-sdam_address (sdam.ServerHeartbeatFailed e) = Some e.server_address
 
 -- the address that a fact names, if it names one
 abbrev pub fact_address : Fact → Option ServerAddress

@@ -94,8 +94,8 @@ pub extern "C" fn mdb_give_up(
     slot.step(alloc, at, Act::GiveUp(party), reply)
 }
 
-// The use of a number, from 0.
-fn use_of(number: u32) -> Option<Use>
+/// The use of a number, from 0.
+pub fn use_of(number: u32) -> Option<Use>
     ensures { result ≡ use_of number }
 {
     if number == 0 {

@@ -74,8 +74,8 @@ fn service_in(bytes: &[u8]) -> Option<Option<ObjectId>>
     }
 }
 
-// What is told of an established connection.
-fn made_of(made: &EstablishedNumbers, service: &[u8]) -> Option<Established>
+/// What is told of an established connection.
+pub fn made_of(made: &EstablishedNumbers, service: &[u8]) -> Option<Established>
     ensures { result ≡ made_of made.now service.now }
 {
     if made.wire < 0 {

@@ -1,11 +1,12 @@
 //! What a fact names: an address, and the types before and after a change.
 
 ghost use Rattle.std.specs.Prelude.{◌≡◌, option_copied};
-ghost use Rattle.mdb_c.specs.FactParts.{pool_address, sdam_address, fact_address, sdam_types, fact_types};
+ghost use Rattle.mdb_c.specs.FactParts.{pool_address, fact_address, sdam_types, fact_types};
 
 use crate::types::{server_type_number, topology_type_number};
 use mdb_base::ServerAddress;
 use mdb_events::{CmapEvent, Fact, SdamEvent};
+use mdb_session::sdam_address;
 
 /// The types of a server or of the topology before and after a change.
 #[repr(C)]
@@ -32,22 +33,6 @@ fn pool_address(event: &CmapEvent) -> &ServerAddress
         CmapEvent::ConnectionCheckoutFailed(e) => &e.address,
         CmapEvent::ConnectionCheckedOut(e) => &e.address,
         CmapEvent::ConnectionCheckedIn(e) => &e.address,
-    }
-}
-
-fn sdam_address(event: &SdamEvent) -> Option<&ServerAddress>
-    ensures { option_copied result ≡ sdam_address event.now }
-{
-    match event {
-        SdamEvent::ServerDescriptionChanged(e) => Some(&e.address),
-        SdamEvent::ServerOpening(e) => Some(&e.address),
-        SdamEvent::ServerClosed(e) => Some(&e.address),
-        SdamEvent::TopologyDescriptionChanged(_) => None,
-        SdamEvent::TopologyOpening(_) => None,
-        SdamEvent::TopologyClosed(_) => None,
-        SdamEvent::ServerHeartbeatStarted(e) => Some(&e.server_address),
-        SdamEvent::ServerHeartbeatSucceeded(e) => Some(&e.server_address),
-        SdamEvent::ServerHeartbeatFailed(e) => Some(&e.server_address),
     }
 }
 

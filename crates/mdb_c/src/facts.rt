@@ -4,7 +4,7 @@ ghost use Rattle.std.specs.Prelude.{◌≡◌, ◌≢◌, ◌↔◌, ◌++◌, �
 ghost use Rattle.mdb_events.specs.FactText.{fact_text};
 ghost use Rattle.mdb_events.specs.declared.fact.Fact.{Fact as Told};
 ghost use Rattle.mdb_log.specs.declared.log.Entry.{Entry};
-ghost use Rattle.mdb_session.specs.Facts.{fact_numbers};
+ghost use Rattle.mdb_session.specs.Facts.{AreNumbersAt};
 ghost use Rattle.mdb_session.specs.Sessions.{IsLast, IsLastFact, LacksFact};
 ghost use Rattle.mdb_c.specs.FactParts.{address_at, types_at};
 
@@ -40,7 +40,7 @@ pub extern "C" fn mdb_fact_at(
     index: usize,
     fact: &mut FactNumbers,
 ) -> Status
-    ensures ok { result ≡ OK → (log : List Entry) × (f : Told) × (slot.old.word.value ≡ Some log) × IsLastFact log index f × (fact.new ≡ fact_numbers f) }
+    ensures ok { result ≡ OK → (log : List Entry) × (slot.old.word.value ≡ Some log) × AreNumbersAt log index fact.new }
     ensures none { result ≡ NO_ENTRY → (log : List Entry) × (slot.old.word.value ≡ Some log) × LacksFact log index }
     ensures other { result ≢ OK → fact.new ≡ fact.old }
     ensures same { slot.new.word.value ≡ slot.old.word.value }

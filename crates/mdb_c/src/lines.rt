@@ -11,7 +11,7 @@ use mdb_session::{CLOSED, MALFORMED, NO_MEMORY, NO_ROOM, OK, OPENED, ReplyNumber
 use std::alloc::Global;
 
 /// The number of this interface, which changes where a call, a struct or a number of it does.
-pub const ABI: u32 = 3;
+pub const ABI: u32 = 4;
 
 /// Tells the number of the interface that the library was built for.
 #[unsafe(no_mangle)]

@@ -5,3 +5,4 @@ pub mod Values
 pub mod Words
 pub mod Slots
 pub mod Beforehand
+pub mod Filled

@@ -5,3 +5,4 @@ pub mod Answers
 pub mod Holding
 pub mod Texts
 pub mod Ahead
+pub mod Told

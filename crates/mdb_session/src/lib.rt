@@ -4,6 +4,7 @@
 mod ahead;
 mod at;
 mod fact_numbers;
+mod last_facts;
 mod loose;
 mod numbers;
 mod reads;
@@ -12,10 +13,12 @@ mod slot;
 mod status;
 mod steps;
 mod texts;
+mod told;
 mod word;
 
 pub use at::At;
-pub use fact_numbers::{FactNumbers, numbers_of_fact};
+pub use fact_numbers::FactNumbers;
+pub use last_facts::sdam_address;
 pub use numbers::{ReplyNumbers, numbers_of};
 pub use session::Session;
 pub use slot::Slot;
@@ -23,4 +26,5 @@ pub use status::{
     BAD_RECORDS, CLOSED, MALFORMED, NO_ENTRY, NO_MEMORY, NO_ROOM, OK, OPENED, Status, status_of,
 };
 pub use texts::{address_in, copied, text_in};
+pub use told::Told;
 pub use word::Word;

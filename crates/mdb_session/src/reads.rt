@@ -7,10 +7,8 @@ ghost use Rattle.mdb_log.specs.History.{history_of, open_pool};
 ghost use Rattle.mdb_driver_rules.specs.Jobs.{job_after};
 ghost use Rattle.mdb_driver_rules.specs.Lines.{described, last_of, publications};
 ghost use Rattle.mdb_lines.specs.Spelling.{HasSpelling};
-ghost use Rattle.mdb_session.specs.Facts.{fact_numbers};
 ghost use Rattle.mdb_session.specs.Sessions.{IsLast, IsLastFact, LacksFact};
 
-use crate::fact_numbers::{FactNumbers, numbers_of_fact};
 use crate::session::Session;
 use crate::texts::copied;
 use mdb_base::{Moment, OutOfMemory, ServerAddress};
@@ -28,17 +26,6 @@ impl Session {
             unreachable!()
         };
         entry
-    }
-
-    /// The numbers of a fact of the last entry, by its index.
-    pub fn fact(&self, index: usize) -> Option<FactNumbers>
-        ensures some { IfSome result (λ numbers. (f : Fact) × IsLastFact self.now index f × (numbers ≡ fact_numbers f)) }
-        ensures none { IfNone result (LacksFact self.now index) }
-    {
-        match self.last().facts.as_slice().get(index) {
-            Some(fact) => Some(numbers_of_fact(fact)),
-            None => None,
-        }
     }
 
     /// Writes the text of a fact of the last entry, by its index, to the beginning of `out` where it fits there, and answers how long it is. `None`

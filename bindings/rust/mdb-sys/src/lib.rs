@@ -4,7 +4,7 @@
 
 use core::ffi::c_void;
 
-pub const MDB_ABI: u32 = 3;
+pub const MDB_ABI: u32 = 4;
 
 pub const MDB_OK: u32 = 0;
 pub const MDB_NO_MEMORY: u32 = 1;
@@ -41,6 +41,9 @@ pub struct mdb_fact {
     pub party: u32,
     pub why: u32,
     pub number: u64,
+    pub service: [u8; 12],
+    pub has_service: u32,
+    pub has_pool: u32,
 }
 
 #[repr(C)]
