@@ -87,7 +87,8 @@ def apply_all(crates):
 
 
 def name_of_impl(head):
-    """The name of an impl's functions before their own: of 'From<A> for B<C>' it is 'BFromA', of 'B<C>' it is 'B'."""
+    """The name of an impl's functions before their own: of 'From<A> for B<C>' it is 'BFromA', of '<C> B<C>' it is 'B', and of 'B<A>' it is 'B+A'."""
+    is_generic = head.startswith("<")
     while head.startswith("<") or " where " in head:
         depth, at = 0, 0
         for at, it in enumerate(head):
@@ -97,7 +98,7 @@ def name_of_impl(head):
         head = head[at + 1 :].strip() if head.startswith("<") else head.partition(" where ")[0]
     trait, _, kind = head.rpartition(" for ")
     words = [re.findall(r"\w+", re.sub(r"\w+::|'\w+|\bmut\b|\bdyn\b", "", it)) for it in (kind, trait)]
-    return words[0][0] + "".join(words[1])
+    return words[0][0] + "".join(words[1]) if trait or is_generic else "+".join(words[0])
 
 
 class Function:
@@ -243,7 +244,7 @@ def verdicts_on(functions, crate, said):
             own[it].append(line)
         elsewhere = elsewhere or (line if at and at[4] and not whose else None)
     for it in functions:
-        state = next((re.sub(r"^fn \S+ ", "", line) for line in said if re.match(rf"fn {crate}::(\w+::)*{it.name}: ", line)), None)
+        state = next((re.sub(r"^fn \S+ ", "", line) for line in said if re.match(rf"fn {crate}::(\w+::)*{re.escape(it.name)}: ", line)), None)
         unread = [line for line in own[it] if re.match(r"(\./)?src/\S+ error", line) and UNREAD.search(re.sub(r"`[^`]*`", "", line))]
         if state is None:
             told[it] = "not tried", next((line for line in said if re.search(r"\berror|fits no", line)), said[-1])

@@ -63,8 +63,9 @@ static void deal(void) {
 static bool greets(const mdb_reply *job) { return job->id > 0; }
 
 static void answers(const char *server, char *outcome, size_t room) {
-    const char *role = strcmp(server, servers[0]) ? "secondary=true" : "isWritablePrimary=true";
-    snprintf(outcome, room, "900000 ok setName=rs hosts=a:27017,b:27017 %s minWireVersion=0 maxWireVersion=21", role);
+    bool writes = !strcmp(server, servers[0]);
+    const char *first = writes ? "isWritablePrimary=true " : "", *last = writes ? "" : "secondary=true ";
+    snprintf(outcome, room, "900000 ok %shosts=a:27017,b:27017 setName=rs %sminWireVersion=0 maxWireVersion=21", first, last);
 }
 
 static bool uses(const mdb_reply *connection) { return connection->id > 0; }

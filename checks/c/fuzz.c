@@ -75,7 +75,7 @@ static void know(void) {
     CHECK(mdb_server_get(&slot, topology.servers, &server) == MDB_NO_ENTRY);
 }
 
-// All facts at once are those by index, and a fact of a server has the number of its address.
+// All facts at once are those by index, and a fact of a server has the number of its address, or, of a pool, an earlier one.
 static void all_facts(size_t count) {
     static mdb_fact all[1 << 14];
     static uint8_t address[512];
@@ -90,7 +90,9 @@ static void all_facts(size_t count) {
         uint32_t number = 77;
         if (mdb_fact_address(&slot, i, address, sizeof address, &needed) != MDB_OK) continue;
         mdb_status status = mdb_server_number(&slot, address, needed, &number);
-        CHECK(status == MDB_OK ? one.has_pool && one.pool == number : status == MDB_NO_ENTRY && !one.has_pool);
+        CHECK(status == MDB_OK || status == MDB_NO_ENTRY);
+        if (one.kind == MDB_FACT_POOL) CHECK(one.has_pool && (status == MDB_NO_ENTRY || one.pool <= number)); // its pool may be one that was closed before
+        else CHECK(status == MDB_OK ? one.has_pool && one.pool == number : !one.has_pool);
     }
 }
 
@@ -198,7 +200,7 @@ static mdb_status with_facts(uint32_t kind, const mdb_at *when, uint32_t party, 
     }
     if (status != MDB_OK) CHECK(memcmp(&with, &kept, sizeof with) == 0);
     for (size_t i = 0; status == MDB_OK && i < with.count && with.count <= MDB_TOLD_FACTS; i++) CHECK(mdb_fact_at(&slot, i, &one) == MDB_OK && one.kind == with.facts[i].kind && one.event == with.facts[i].event && one.party == with.facts[i].party);
-    *reply = with.reply;
+    if (status == MDB_OK) *reply = with.reply;
     return status;
 }
 
