@@ -87,18 +87,21 @@ def apply_all(crates):
 
 
 def name_of_impl(head):
-    """The name of an impl's functions before their own: of 'From<A> for B<C>' it is 'BFromA', of '<C> B<C>' it is 'B', and of 'B<A>' it is 'B+A'."""
-    is_generic = head.startswith("<")
+    """The name of an impl's functions before their own: of 'From<A> for B<C>' it is 'BFromA', of 'B<A>' it is 'B+A'; its own parameters are left out."""
+    own = set()
     while head.startswith("<") or " where " in head:
         depth, at = 0, 0
         for at, it in enumerate(head):
             depth += (it == "<") - (it == ">" and head[at - 1] != "-")
             if not depth:
                 break
+        if head.startswith("<"):
+            own |= set(re.findall(r"(?:^|,) *(?:const )?(\w+)", re.sub(r"->|<.*?>+", "", head[1:at])))
         head = head[at + 1 :].strip() if head.startswith("<") else head.partition(" where ")[0]
     trait, _, kind = head.rpartition(" for ")
     words = [re.findall(r"\w+", re.sub(r"\w+::|'\w+|\bmut\b|\bdyn\b", "", it)) for it in (kind, trait)]
-    return words[0][0] + "".join(words[1]) if trait or is_generic else "+".join(words[0])
+    kind, trait = ([it for it in found if it not in own] or found for found in words)
+    return kind[0] + "".join(trait) if trait else "+".join(kind)
 
 
 class Function:
