@@ -2,7 +2,7 @@
 
 use crate::monitor::Monitor;
 use crate::topologies::Topology;
-use crate::{base, deliveries, events, hello, monitor, servers, srv, topologies};
+use crate::{base, bson, deliveries, events, hello, monitor, servers, srv, topologies};
 use mdb_cases::Page;
 
 /// What the cases of sequences are about: what the last `open` of each made.
@@ -49,6 +49,7 @@ fn of_base(page: &mut Page, kind: &str, given: &str) {
 
 fn of_replies(page: &mut Page, kind: &str, given: &str) {
     match kind {
+        "bson" => bson::answer(page, given),
         "hello" => hello::answer(page, given),
         "greet" => hello::greet(page, given),
         "exchange" => hello::exchange(page, given),

@@ -2,6 +2,7 @@
 #![tactic(auto)]
 
 mod base;
+mod bson;
 mod cases;
 mod deliveries;
 mod events;
