@@ -11,7 +11,8 @@ OTHERS = ('ConnectionPoolCreated', 'ConnectionPoolReady', 'ConnectionPoolCleared
 KINDS = ('Unknown', 'Standalone', 'Mongos', 'PossiblePrimary', 'RSPrimary', 'RSSecondary', 'RSArbiter', 'RSOther', 'RSGhost', 'LoadBalancer')
 SERVERS, TOPOLOGIES = ('ServerOpening', 'ServerClosed', 'ServerDescriptionChanged'), ('TopologyOpening', 'TopologyClosed', 'TopologyDescriptionChanged')
 BEATS = ('ServerHeartbeatStarted', 'ServerHeartbeatSucceeded', 'ServerHeartbeatFailed')
-POOL_LIFE = ('ConnectionPoolReady', 'ConnectionPoolCleared', 'ConnectionPoolClosed', 'ConnectionCreated', 'ConnectionReady', 'ConnectionCheckedOut')
+POOL_LIFE = ('ConnectionPoolReady', 'ConnectionPoolCleared', 'ConnectionPoolClosed', 'ConnectionCreated')
+REASONS = {'ConnectionClosed': ('idle', 'stale', 'error', 'connectionError', 'poolClosed'), 'ConnectionCheckOutFailed': ('timeout', 'connectionError', 'poolClosed')}
 
 
 class Malformed(Exception):
@@ -63,8 +64,17 @@ def micros(value):
     return at
 
 
+def word_of(thing, key, words):
+    """One of the words, or None where the member is not there."""
+    if thing.get(key) is None:
+        return None
+    if text(thing, key) not in words:
+        raise Malformed
+    return thing[key]
+
+
 def event_of(line):
-    """The event that a line tells; None where it is passed over."""
+    """The event that a line tells; None where it is of a kind that is not judged. A member that is null is not there."""
     thing = loads(line)
     if not isinstance(thing, dict):
         raise Malformed
@@ -75,39 +85,70 @@ def event_of(line):
     if kind != 'pool':
         return server_event_of(thing, kind, name)
     if name not in NEEDS_ID and name not in OTHERS:
-        return None
-    event = {'kind': 'pool', 'event': name, 'address': text(thing, 'address'), 'id': None, 'at': micros(thing['t']) if 't' in thing else None}
-    event['caller'] = number(thing['caller']) if 'caller' in thing else None
+        raise Malformed
+    event = {'kind': 'pool', 'event': name, 'address': text(thing, 'address'), 'id': None, 'at': None if thing.get('t') is None else micros(thing['t'])}
+    event['caller'] = None if thing.get('caller') is None else number(thing['caller'])
     if name in NEEDS_ID:
         if 'connectionId' not in thing:
             raise Malformed
         event['id'] = number(thing['connectionId'])
     if name == 'ConnectionPoolCreated':
-        for key, other in (('maxPoolSize', 100), ('maxConnecting', 2), ('maxIdleTimeMS', 0)):
-            event[key] = number(thing[key]) if key in thing else other
+        for key, other in (('maxPoolSize', 100), ('maxConnecting', 0), ('maxIdleTimeMS', 0)):
+            event[key] = other if thing.get(key) is None else number(thing[key])
+        event['loadBalanced'] = thing.get('loadBalanced') or False
+        if not isinstance(event['loadBalanced'], bool) or thing.get('loadBalanced') not in (None, True, False):
+            raise Malformed
     if name == 'ConnectionPoolCleared':
         service = thing.get('serviceId')
         event['all'] = not isinstance(service, str) or isinstance(service, Number)
-    reason = thing.get('reason')
-    event['reason'] = reason if isinstance(reason, str) and not isinstance(reason, Number) else ''
+    event['reason'] = word_of(thing, 'reason', REASONS[name]) if name in REASONS else None
     return event
 
 
 def server_event_of(thing, kind, name):
     if name not in (BEATS if kind == 'beat' else SERVERS + TOPOLOGIES):
-        return None
+        raise Malformed
     event = {'kind': kind, 'event': name, 'address': None if name in TOPOLOGIES else text(thing, 'address')}
     for key in ('from', 'to'):
-        word = thing.get(key)
-        event[key] = word if isinstance(word, str) and not isinstance(word, Number) and word in KINDS else None
+        event[key] = word_of(thing, key, KINDS) if name == 'ServerDescriptionChanged' else None
     return event
 
 
-def life(events, address):
-    """The events of the pool at an address since it was created there last."""
+def lives(events, address):
+    """The events of each pool at an address, from those before the first creation on."""
     mine = [e for e in events if e['address'] == address]
     starts = [n for n, e in enumerate(mine) if e['event'] == 'ConnectionPoolCreated']
-    return mine[starts[-1]:] if starts else mine
+    return [mine[a:b] for a, b in zip([0] + starts, starts + [len(mine)])]
+
+
+def ended(pool):
+    """The closes of connections that the pool created."""
+    return [(n, x) for n, x in enumerate(pool) if x['event'] == 'ConnectionClosed' and named(pool[:n], 'ConnectionCreated', x['id'])]
+
+
+def live(pool):
+    return max(0, len(named(pool, 'ConnectionCreated')) - len(ended(pool)))
+
+
+def left(pools):
+    """How many connections of the pools before the last are not closed."""
+    count = 0
+    for n, pool in enumerate(pools):
+        for _ in range(len(named(pool, 'ConnectionClosed')) - len(ended(pool))):
+            count = max(0, count - 1)
+        if n < len(pools) - 1:
+            count += live(pool)
+    return count
+
+
+def since(pool, me):
+    """What came since the connection was created last."""
+    made = [n for n, x in enumerate(pool) if x['event'] == 'ConnectionCreated' and x['id'] == me]
+    return pool[made[-1]:] if made else pool
+
+
+def pauses(pool):
+    return [x for x in pool if x['event'] == 'ConnectionPoolClosed' or x['event'] == 'ConnectionPoolCleared' and x['all']]
 
 
 def named(events, name, connection=None):
@@ -127,6 +168,12 @@ def clears(events):
 def is_ready(pool):
     last = newest(pool, lambda e: e['event'] in ('ConnectionPoolReady', 'ConnectionPoolClosed') or e['event'] == 'ConnectionPoolCleared' and e['all'])
     return last is not None and last['event'] == 'ConnectionPoolReady'
+
+
+def hands_out(pool):
+    """It is ready, or behind a load balancer and not closed."""
+    made = named(pool, 'ConnectionPoolCreated')
+    return is_ready(pool) or bool(made and made[-1]['loadBalanced'] and not named(pool, 'ConnectionPoolClosed'))
 
 
 ENDS_WAIT = ('ConnectionCheckedOut', 'ConnectionCreated', 'ConnectionCheckOutFailed')
@@ -161,7 +208,7 @@ def server_rules(events, e):
     if name == 'ServerOpening' and is_open:
         yield 'server-opened-twice'
     told = any(x['kind'] == 'sdam' for x in events)
-    if (name in ('ServerClosed', 'ServerDescriptionChanged') or name in BEATS and told) and not is_open:
+    if (name in ('ServerClosed', 'ServerDescriptionChanged') or name == BEATS[0] and told) and not is_open:
         yield 'server-not-open'
     if name == 'ServerDescriptionChanged':
         last = newest(mine, lambda x: x['event'] in SERVERS)
@@ -171,28 +218,41 @@ def server_rules(events, e):
     beat = newest(mine, lambda x: x['event'] in BEATS)
     if name in BEATS[1:] and (beat is None or beat['event'] != BEATS[0]):
         yield 'no-check'
-    if name == 'TopologyDescriptionChanged':
-        last = newest(events, lambda x: x['event'] in SERVERS + ('TopologyOpening', 'TopologyDescriptionChanged'))
-        if last is None or last['event'] == 'TopologyDescriptionChanged':
+    changes = [n for n, x in enumerate(events) if x['event'] == 'TopologyDescriptionChanged']
+    if name in ('TopologyDescriptionChanged', 'TopologyClosed') and changes:
+        before = events[changes[-2] + 1 if len(changes) > 1 else 0:changes[-1]]
+        caused = any(x['event'] in SERVERS + ('TopologyOpening',) for x in before)
+        if not caused and not any(x['event'] in SERVERS[:2] for x in events[changes[-1]:]):
             yield 'no-cause'
 
 
-def rules(pool, e, year):
-    """The rules that an event breaks after these events of its pool, in the order in which they are told."""
+def pool_rules(pools, e, year):
+    """The rules that an event breaks after these events of the pools at its address, in the order in which they are told."""
+    uses = e['event'] in NEEDS_ID[1:] and 0 < left(pools)
+    for rule in rules(pools[-1], e, year, any(named(pool, 'ConnectionPoolClosed') for pool in pools[:-1])):
+        if not uses or rule == 'out-of-turn':
+            yield rule
+
+
+def rules(pool, e, year, was_closed):
+    """The rules that an event breaks, if it is of this pool."""
     name, me = e['event'], e['id']
     created_pool, closed_pool = bool(named(pool, 'ConnectionPoolCreated')), bool(named(pool, 'ConnectionPoolClosed'))
-    options = named(pool, 'ConnectionPoolCreated')[-1] if created_pool else {'maxPoolSize': 0, 'maxConnecting': 2, 'maxIdleTimeMS': 0}
-    created, readied, closed = (bool(named(pool, kind, me)) for kind in ('ConnectionCreated', 'ConnectionReady', 'ConnectionClosed'))
-    last = newest(pool, lambda x: x['id'] == me and x['event'] in ('ConnectionCheckedOut', 'ConnectionCheckedIn'))
+    options = named(pool, 'ConnectionPoolCreated')[-1] if created_pool else {'maxPoolSize': 0, 'maxConnecting': 0, 'maxIdleTimeMS': 0}
+    own, made = since(pool, me), [n for n, x in enumerate(pool) if x['event'] == 'ConnectionCreated' and x['id'] == me]
+    created, readied, closed = bool(made), bool(named(own, 'ConnectionReady', me)), bool(named(own, 'ConnectionClosed', me))
+    ready = [n for n, x in enumerate(pool) if x['event'] == 'ConnectionReady' and x['id'] == me and (not made or made[-1] < n)]
+    first = not named(own, 'ConnectionCheckedOut', me) and len(pauses(pool)) <= len(pauses(pool[:ready[-1]] if ready else []))
+    last = newest(own, lambda x: x['id'] == me and x['event'] in ('ConnectionCheckedOut', 'ConnectionCheckedIn'))
     out = last is not None and last['event'] == 'ConnectionCheckedOut'
     goes_out = name == 'ConnectionCheckedOut'
     if name == 'ConnectionPoolCreated' and created_pool and not closed_pool:
         yield 'pool-created-twice'
     if name != 'ConnectionPoolCreated' and not created_pool:
         yield 'pool-not-created'
-    if name in POOL_LIFE and closed_pool:
+    if closed_pool and (name in POOL_LIFE or goes_out and not first):
         yield 'pool-is-closed'
-    if goes_out and not is_ready(pool) and year != 2020:
+    if goes_out and not hands_out(pool) and not (first and made and hands_out(pool[:made[-1]])) and year != 2020:
         yield 'pool-not-ready'
     if name == 'ConnectionCreated' and created:
         yield 'created-twice'
@@ -213,21 +273,20 @@ def rules(pool, e, year):
     if name == 'ConnectionClosed' and out and year in (2020, 2021):
         yield 'closed-while-out'
     if goes_out:
-        ready = [n for n, x in enumerate(pool) if x['event'] == 'ConnectionReady' and x['id'] == me]
-        if (clears(pool[:ready[-1]]) if ready else 0) < clears(pool):
+        if (clears(pool[:made[-1]]) if made else 0) < clears(pool) and not first:
             yield 'stale'
-        rest = newest(pool, lambda x: x['id'] == me and x['event'] in ('ConnectionReady', 'ConnectionCheckedIn'))
+        rest = newest(own, lambda x: x['id'] == me and x['event'] in ('ConnectionReady', 'ConnectionCheckedIn'))
         if rest and rest['at'] is not None and e['at'] is not None and 0 < options['maxIdleTimeMS'] and options['maxIdleTimeMS'] * 1000 < e['at'] - rest['at']:
             yield 'idle'
     if name == 'ConnectionCreated':
-        if 0 < options['maxPoolSize'] <= max(0, len(named(pool, 'ConnectionCreated')) - len(named(pool, 'ConnectionClosed'))):
+        if 0 < options['maxPoolSize'] <= live(pool):
             yield 'too-many'
-        dropped = sum(1 for n, x in enumerate(pool) if x['event'] == 'ConnectionClosed' and not named(pool[:n], 'ConnectionReady', x['id']))
-        if options['maxConnecting'] <= max(0, max(0, len(named(pool, 'ConnectionCreated')) - len(named(pool, 'ConnectionReady'))) - dropped) and year != 2020:
+        dropped = sum(1 for n, x in ended(pool) if not named(since(pool[:n], x['id']), 'ConnectionReady', x['id']))
+        if 0 < options['maxConnecting'] <= max(0, max(0, len(named(pool, 'ConnectionCreated')) - len(named(pool, 'ConnectionReady'))) - dropped) and year != 2020:
             yield 'too-many-pending'
     if name == 'ConnectionCheckOutFailed':
         broken = any(x['reason'] in ('error', 'connectionError') for x in named(pool, 'ConnectionClosed'))
-        fair = {'timeout': True, 'poolClosed': closed_pool, 'connectionError': not is_ready(pool) or broken or 0 < clears(pool)}
+        fair = {'timeout': True, 'poolClosed': was_closed or closed_pool, 'connectionError': was_closed or not hands_out(pool) or broken or 0 < clears(pool)}
         if not fair.get(e['reason'], False):
             yield 'no-reason'
     if is_passed(pool, e):
@@ -236,7 +295,7 @@ def rules(pool, e, year):
 
 def report(data, year):
     """The text that mdb_recorded writes, and its status."""
-    lines, events, servers, found, bad = [], [], [], 0, 0
+    lines, events, servers, found, bad, passed = [], [], [], 0, 0, 0
     for n, line in enumerate(data.split(b'\n')[:-1] if data.endswith(b'\n') else data.split(b'\n') if data else [], 1):
         try:
             event = event_of(line)
@@ -245,6 +304,7 @@ def report(data, year):
             bad += 1
             continue
         if event is None:
+            passed += 1
             continue
         if event['kind'] != 'pool':
             for rule in server_rules(servers, event):
@@ -252,17 +312,20 @@ def report(data, year):
                 lines.append('event %d: %s%s' % (n, rule, '' if event['address'] is None else ' server=' + event['address']))
             servers.append(event)
             continue
-        for rule in rules(life(events, event['address']), event, year):
+        for rule in pool_rules(lives(events, event['address']), event, year):
             found += 1
             lines.append('event %d: %s pool=%s%s' % (n, rule, event['address'], '' if event['id'] is None else ' connection=%d' % event['id']))
         events.append(event)
     for address in dict.fromkeys(e['address'] for e in events):
-        pool = life(events, address)
-        counts = [len(named(pool, kind)) for kind in NEEDS_ID[:3] + ('ConnectionCheckOutStarted',) + NEEDS_ID[3:] + ('ConnectionCheckOutFailed',)] + [clears(pool)]
-        lines.append('pool %s created=%d ready=%d closed=%d started=%d out=%d in=%d failed=%d cleared=%d' % ((address,) + tuple(counts)))
+        pools = lives(events, address)
+        pool = pools[-1]
+        counts = [len(named(pool, kind)) for kind in NEEDS_ID[:2]] + [len(ended(pool))]
+        counts += [len(named(pool, kind)) for kind in ('ConnectionCheckOutStarted',) + NEEDS_ID[3:] + ('ConnectionCheckOutFailed',)] + [clears(pool), left(pools)]
+        lines.append('pool %s created=%d ready=%d closed=%d started=%d out=%d in=%d failed=%d cleared=%d left=%d' % ((address,) + tuple(counts)))
     judged = len(events) + len(servers)
-    lines.append('clean events=%d' % judged if not found and not bad else 'findings=%d malformed=%d events=%d' % (found, bad, judged))
-    return ''.join(line + '\n' for line in lines).encode(), 0 if not found and not bad else 7
+    told, status = ('findings=%d malformed=%d events=%d' % (found, bad, judged), 7) if found or bad else ('clean events=%d' % judged, 0) if judged else ('nothing judged', 8)
+    lines.append('%s passed_over=%d' % (told, passed))
+    return ''.join(line + '\n' for line in lines).encode(), status
 
 
 def main():

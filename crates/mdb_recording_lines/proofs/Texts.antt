@@ -1,9 +1,9 @@
 -- What a line tells, by whether it is text and what its value is.
-use Rattle.std.proofs.Common.{◌≡◌, ℕ, Bool, true, false, if◌then◌else◌, List, codes, Option, Some, None, refl, sym, ap, ◌∙◌}
+use Rattle.std.proofs.Common.{◌≡◌, ℕ, Bool, true, false, if◌then◌else◌, List, codes, Some, None, refl, sym, ap, ◌∙◌}
 use Rattle.std.specs.Str.{IsUtf8, is_utf8}
 use Rattle.std.proofs.lemmas.Str.{IsUtf8-from_is_utf8, is_utf8-from_IsUtf8}
 use Rattle.json.specs.Json.{Json, document}
-use Rattle.mdb_recording_lines.specs.LineForms.{Said, malformed, said, object_from, kind_from, text_at}
+use Rattle.mdb_recording_lines.specs.LineForms.{malformed, said, object_from, kind_from, text_at}
 
 -- bytes that are no text
 pub not-text : (line : List ℕ) → (IsUtf8 line → ⊥) → malformed ≡ said line

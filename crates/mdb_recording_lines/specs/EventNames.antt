@@ -32,19 +32,19 @@ connection_event word =
 unfoldable pub event_named : List ℕ → Option EventName
 event_named word = option_or (connection_event word) (pool_event word)
 
--- why a connection was closed; some drivers say connectionError for error
-unfoldable pub close_reason : List ℕ → CloseReason
+-- why a connection was closed, of the words of the standard; some drivers say connectionError for error
+unfoldable pub close_reason : List ℕ → Option CloseReason
 close_reason word =
-    if bytes_eq word (codes "idle") then closes.Idle
-    else if bytes_eq word (codes "stale") then closes.Stale
-    else if bytes_eq word (codes "error") || bytes_eq word (codes "connectionError") then closes.Error
-    else if bytes_eq word (codes "poolClosed") then closes.PoolClosed
-    else closes.Other
+    if bytes_eq word (codes "idle") then Some closes.Idle
+    else if bytes_eq word (codes "stale") then Some closes.Stale
+    else if bytes_eq word (codes "error") || bytes_eq word (codes "connectionError") then Some closes.Error
+    else if bytes_eq word (codes "poolClosed") then Some closes.PoolClosed
+    else None
 
--- why a check-out failed
-unfoldable pub fail_reason : List ℕ → FailReason
+-- why a check-out failed, of the words of the standard
+unfoldable pub fail_reason : List ℕ → Option FailReason
 fail_reason word =
-    if bytes_eq word (codes "timeout") then fails.Timeout
-    else if bytes_eq word (codes "connectionError") then fails.ConnectionError
-    else if bytes_eq word (codes "poolClosed") then fails.PoolClosed
-    else fails.Other
+    if bytes_eq word (codes "timeout") then Some fails.Timeout
+    else if bytes_eq word (codes "connectionError") then Some fails.ConnectionError
+    else if bytes_eq word (codes "poolClosed") then Some fails.PoolClosed
+    else None

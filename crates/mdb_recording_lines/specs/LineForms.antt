@@ -1,9 +1,13 @@
 -- What a line of a recording tells.
-use Rattle.std.specs.Prelude.{ℕ, Bool, not, List, codes, Option, Some, None, is_some, unwrap_or, option_map, option_and_then, if◌then◌else◌}
+use Rattle.std.specs.Prelude.{ℕ, Bool, false, not, List, codes, Option, Some, None, is_some, option_map, option_and_then, if◌then◌else◌}
 use Rattle.std.specs.Str.{bytes_eq, is_utf8}
 use Rattle.json.specs.Json.{Json, document}
-use Rattle.json.specs.Find.{get, as_str, as_number}
+use Rattle.json.specs.Find.{get, as_bool, as_str, as_number, is_null}
+use Rattle.mdb_recordings.specs.declared.event.CloseReason.{CloseReason}
+use Rattle.mdb_recordings.specs.declared.event.CloseReason.TheVariants as closes
 use Rattle.mdb_recordings.specs.declared.event.Event.{Event}
+use Rattle.mdb_recordings.specs.declared.event.FailReason.{FailReason}
+use Rattle.mdb_recordings.specs.declared.event.FailReason.TheVariants as fails
 use Rattle.mdb_recordings.specs.declared.event.Limits.{Limits}
 use Rattle.mdb_recordings.specs.declared.event.Told.{Told}
 use Rattle.mdb_recordings.specs.declared.event.Told.TheVariants as told
@@ -19,6 +23,13 @@ use Rattle.mdb_recording_lines.specs.declared.event_name.EventName.TheVariants a
 use Rattle.mdb_recording_lines.specs.declared.line.Line.{Line}
 use Rattle.mdb_recording_lines.specs.declared.line.Line.TheVariants as lines
 
+-- a member of an object; one that is null is not there
+abbrev pub unless_null : Json → Option Json
+unless_null j = if is_null j then None else Some j
+
+abbrev pub member : List ℕ → Json → Option Json
+member key j = option_and_then unless_null (get key j)
+
 -- the text, and the whole number, of a member of an object
 
 abbrev pub text_at : List ℕ → Json → Option (List ℕ)
@@ -33,12 +44,20 @@ number_from other None = Some other
 number_from other (Some j) = option_and_then (whole 0) (as_number j)
 
 abbrev pub number_or : List ℕ → ℕ → Json → Option ℕ
-number_or key other j = number_from other (get key j)
+number_or key other j = number_from other (member key j)
+
+-- whether a member is true; it is not where there is none
+abbrev pub flag_from : Option Json → Option Bool
+flag_from None = Some false
+flag_from (Some j) = as_bool j
+
+abbrev pub flag_at : List ℕ → Json → Option Bool
+flag_at key j = flag_from (member key j)
 
 abbrev pub has_text : List ℕ → Json → Bool
 has_text key j = is_some (text_at key j)
 
--- What a line tells: nothing that can be read; nothing that is judged; or an event of the pool or the server at an address, or of the topology.
+-- What a line tells: nothing that can be read; something of a kind that is not judged; or an event of the pool or the server at an address, or of the topology.
 pub data Said : Type 0 where
   malformed : Said
   passed : Said
@@ -46,17 +65,35 @@ pub data Said : Type 0 where
   tells_server : List ℕ → ServerTold → Said
   tells_topology : ServerEvent → Said
 
-abbrev pub limits_from : Option ℕ → Option ℕ → Option ℕ → Option Limits
-limits_from (Some size) (Some connecting) (Some idle) = Some (record { max_size = size; max_connecting = connecting; max_idle = idle })
-limits_from _ _ _ = None
+abbrev pub limits_from : Option ℕ → Option ℕ → Option ℕ → Option Bool → Option Limits
+limits_from (Some size) (Some connecting) (Some idle) (Some balanced) = Some (record { max_size = size; max_connecting = connecting; max_idle = idle; is_load_balanced = balanced })
+limits_from _ _ _ _ = None
 
--- the options of a pool, and those of the standard where the event has none
+-- The options of a pool. Where the event has none, the size is the standard's 100; how many connections may be pending is not assumed, as
+-- some drivers never tell it.
 abbrev pub limits_at : Json → Option Limits
-limits_at j = limits_from (number_or (codes "maxPoolSize") 100 j) (number_or (codes "maxConnecting") 2 j) (number_or (codes "maxIdleTimeMS") 0 j)
+limits_at j = limits_from (number_or (codes "maxPoolSize") 100 j) (number_or (codes "maxConnecting") 0 j) (number_or (codes "maxIdleTimeMS") 0 j) (flag_at (codes "loadBalanced") j)
 
--- the reason, as a word; nothing where none is given
-abbrev pub reason_at : Json → List ℕ
-reason_at j = unwrap_or (text_at (codes "reason") j) (codes "")
+-- why a connection was closed, if it says so; nothing where that is no word of the standard
+abbrev pub close_reason_from : Option Json → Option CloseReason
+close_reason_from None = Some closes.Untold
+close_reason_from (Some j) = option_and_then close_reason (as_str j)
+
+abbrev pub close_reason_at : Json → Option CloseReason
+close_reason_at j = close_reason_from (member (codes "reason") j)
+
+-- why a check-out failed, if it says so; nothing where that is no word of the standard
+abbrev pub fail_reason_from : Option Json → Option FailReason
+fail_reason_from None = Some fails.Untold
+fail_reason_from (Some j) = option_and_then fail_reason (as_str j)
+
+abbrev pub fail_reason_at : Json → Option FailReason
+fail_reason_at j = fail_reason_from (member (codes "reason") j)
+
+-- a connection with that id was closed for that reason
+abbrev pub closed_from : Option ℕ → Option CloseReason → Option Told
+closed_from (Some i) (Some reason) = Some (told.ConnectionClosed i reason)
+closed_from _ _ = None
 
 abbrev pub id_at : Json → Option ℕ
 id_at j = number_at (codes "connectionId") j
@@ -69,9 +106,9 @@ told_at names.PoolCleared j = Some (told.PoolCleared (not (has_text (codes "serv
 told_at names.PoolClosed j = Some told.PoolClosed
 told_at names.ConnectionCreated j = option_map (λ i. told.ConnectionCreated i) (id_at j)
 told_at names.ConnectionReady j = option_map (λ i. told.ConnectionReady i) (id_at j)
-told_at names.ConnectionClosed j = option_map (λ i. told.ConnectionClosed i (close_reason (reason_at j))) (id_at j)
+told_at names.ConnectionClosed j = closed_from (id_at j) (close_reason_at j)
 told_at names.CheckOutStarted j = Some told.CheckOutStarted
-told_at names.CheckOutFailed j = Some (told.CheckOutFailed (fail_reason (reason_at j)))
+told_at names.CheckOutFailed j = option_map (λ reason. told.CheckOutFailed reason) (fail_reason_at j)
 told_at names.CheckedOut j = option_map (λ i. told.CheckedOut i) (id_at j)
 told_at names.CheckedIn j = option_map (λ i. told.CheckedIn i) (id_at j)
 
@@ -81,7 +118,7 @@ time_from None = Some None
 time_from (Some j) = option_map (λ at. Some at) (option_and_then micros (as_number j))
 
 abbrev pub time_at : Json → Option (Option ℕ)
-time_at j = time_from (get (codes "t") j)
+time_at j = time_from (member (codes "t") j)
 
 -- the number of the check-out that it concerns, if it says so; nothing where that is no whole number
 abbrev pub caller_from : Option Json → Option (Option ℕ)
@@ -89,7 +126,7 @@ caller_from None = Some None
 caller_from (Some j) = option_map (λ i. Some i) (option_and_then (whole 0) (as_number j))
 
 abbrev pub caller_at : Json → Option (Option ℕ)
-caller_at j = caller_from (get (codes "caller") j)
+caller_at j = caller_from (member (codes "caller") j)
 
 -- an event that tells this at an address, a time and of a check-out, if all are there
 abbrev pub told_from : Option (List ℕ) → Option Told → Option (Option ℕ) → Option (Option ℕ) → Said
@@ -97,7 +134,7 @@ told_from (Some address) (Some t) (Some at) (Some caller) = tells address (recor
 told_from _ _ _ _ = malformed
 
 abbrev pub named_from : Option EventName → Json → Said
-named_from None j = passed
+named_from None j = malformed
 named_from (Some name) j = told_from (text_at (codes "address") j) (told_at name j) (time_at j) (caller_at j)
 
 -- an event of a pool, by its name
@@ -105,14 +142,26 @@ abbrev pub pool_from : Option (List ℕ) → Json → Said
 pool_from None j = malformed
 pool_from (Some name) j = named_from (event_named name) j
 
--- the kind of server that a member names
-abbrev pub kind_at : List ℕ → Json → Option ServerKind
-kind_at key j = option_and_then kind_named (text_at key j)
+-- the kind of server that a member names, if it is there; nothing where it names none
+abbrev pub kind_at_member : Option Json → Option (Option ServerKind)
+kind_at_member None = Some None
+kind_at_member (Some j) = option_map (λ kind. Some kind) (option_and_then kind_named (as_str j))
+
+abbrev pub kind_at : List ℕ → Json → Option (Option ServerKind)
+kind_at key j = kind_at_member (member key j)
+
+-- a server changed between two kinds, as far as they are told
+abbrev pub changed_from : Option (Option ServerKind) → Option (Option ServerKind) → Option ServerTold
+changed_from (Some from) (Some to) = Some (server.Changed from to)
+changed_from _ _ = None
+
+abbrev pub changed_at : Json → Option ServerTold
+changed_at j = changed_from (kind_at (codes "from") j) (kind_at (codes "to") j)
 
 -- what an event of that name tells of a server
 unfoldable pub server_named : List ℕ → Json → Option ServerTold
 server_named name j =
-    if bytes_eq name (codes "ServerDescriptionChanged") then Some (server.Changed (kind_at (codes "from") j) (kind_at (codes "to") j))
+    if bytes_eq name (codes "ServerDescriptionChanged") then changed_at j
     else if bytes_eq name (codes "ServerOpening") then Some server.Opened
     else if bytes_eq name (codes "ServerClosed") then Some server.Closed
     else None
@@ -123,7 +172,7 @@ server_at_address (Some address) t = tells_server address t
 
 -- an event of a server, which needs an address
 abbrev pub server_from : Option ServerTold → Json → Said
-server_from None j = passed
+server_from None j = malformed
 server_from (Some t) j = server_at_address (text_at (codes "address") j) t
 
 abbrev pub topology_or_server : Option ServerEvent → List ℕ → Json → Said

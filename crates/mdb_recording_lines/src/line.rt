@@ -2,11 +2,11 @@
 
 ghost use Rattle.std.specs.Prelude.{◌≡◌, IfOk, codes, option_map};
 ghost use Rattle.json.specs.Value.{value_view};
-ghost use Rattle.mdb_recording_lines.specs.LineForms.{kind_from, limits_at, line_view, named_from, pool_from, reason_at, said, text_at, told_at, told_from};
+ghost use Rattle.mdb_recording_lines.specs.LineForms.{kind_from, limits_at, line_view, named_from, pool_from, said, text_at, told_at, told_from};
 
 use crate::event_name::{EventName, event_named};
-use crate::fields::{caller_at, has_text, number_at, number_or, text_at, time_at};
-use crate::reasons::{close_reason, fail_reason};
+use crate::fields::{caller_at, flag_at, has_text, number_at, number_or, text_at, time_at};
+use crate::reasons::{close_reason_at, fail_reason_at};
 use crate::server_line::{check_from, sdam_from};
 use json::{Error, Scratch, Value};
 use mdb_base::OutOfMemory;
@@ -17,9 +17,9 @@ use std::alloc::Global;
 /// What a line tells.
 #[derive(Clone, Copy, Debug)]
 pub enum Line<'a> {
-    /// It is no JSON object with a `kind`, or lacks what its event needs.
+    /// It is no JSON object with a `kind`, names no event that is known of that kind, or lacks what its event needs.
     Malformed,
-    /// It tells nothing that is judged.
+    /// It is of a kind that is not judged.
     Passed,
     /// An event of the pool at an address.
     Told(&'a str, Event),
@@ -33,24 +33,19 @@ fn limits_at(object: &Value<'_>) -> Option<Limits>
     ensures { result ≡ limits_at (value_view object.now) }
 {
     let size = number_or(object, "maxPoolSize", 100);
-    let connecting = number_or(object, "maxConnecting", 2);
+    let connecting = number_or(object, "maxConnecting", 0);
     let idle = number_or(object, "maxIdleTimeMS", 0);
-    match (size, connecting, idle) {
-        (Some(max_size), Some(max_connecting), Some(max_idle)) => Some(Limits {
-            max_size,
-            max_connecting,
-            max_idle,
-        }),
+    let balanced = flag_at(object, "loadBalanced");
+    match (size, connecting, idle, balanced) {
+        (Some(max_size), Some(max_connecting), Some(max_idle), Some(is_load_balanced)) => {
+            Some(Limits {
+                max_size,
+                max_connecting,
+                max_idle,
+                is_load_balanced,
+            })
+        }
         _ => None,
-    }
-}
-
-fn reason_at<'a>(object: &Value<'a>) -> &'a str
-    ensures { result.now ≡ reason_at (value_view object.now) }
-{
-    match text_at(object, "reason") {
-        Some(word) => word,
-        None => "",
     }
 }
 
@@ -67,7 +62,10 @@ fn told_at(name: EventName, object: &Value<'_>) -> Option<Told>
         EventName::PoolCleared => Some(Told::PoolCleared(!has_text(object, "serviceId"))),
         EventName::PoolClosed => Some(Told::PoolClosed),
         EventName::CheckOutStarted => Some(Told::CheckOutStarted),
-        EventName::CheckOutFailed => Some(Told::CheckOutFailed(fail_reason(reason_at(object)))),
+        EventName::CheckOutFailed => {
+            let reason = fail_reason_at(object)?;
+            Some(Told::CheckOutFailed(reason))
+        }
         EventName::ConnectionCreated => {
             let id = number_at(object, "connectionId")?;
             Some(Told::ConnectionCreated(id))
@@ -78,7 +76,8 @@ fn told_at(name: EventName, object: &Value<'_>) -> Option<Told>
         }
         EventName::ConnectionClosed => {
             let id = number_at(object, "connectionId")?;
-            Some(Told::ConnectionClosed(id, close_reason(reason_at(object))))
+            let reason = close_reason_at(object)?;
+            Some(Told::ConnectionClosed(id, reason))
         }
         EventName::CheckedOut => {
             let id = number_at(object, "connectionId")?;
@@ -113,7 +112,7 @@ fn named_from<'a>(name: Option<EventName>, object: &Value<'a>) -> Line<'a>
     ensures { line_view result ≡ named_from name (value_view object.now) }
 {
     match name {
-        None => Line::Passed,
+        None => Line::Malformed,
         Some(name) => told_from(
             text_at(object, "address"),
             told_at(name, object),

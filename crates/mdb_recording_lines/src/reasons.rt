@@ -1,38 +1,62 @@
 //! Why connections are closed, and why check-outs fail.
 
 ghost use Rattle.std.specs.Prelude.{◌≡◌};
+ghost use Rattle.json.specs.Value.{value_view};
 ghost use Rattle.mdb_recording_lines.specs.EventNames.{close_reason, fail_reason};
+ghost use Rattle.mdb_recording_lines.specs.LineForms.{close_reason_at, fail_reason_at};
 
+use crate::fields::member;
+use json::Value;
 use mdb_recordings::{CloseReason, FailReason};
 
 #[tactic(auto, unfolding(crate::specs::EventNames::close_reason))]
-pub fn close_reason(word: &str) -> CloseReason
+fn close_reason(word: &str) -> Option<CloseReason>
     ensures { result ≡ close_reason word.now }
 {
     if word == "idle" {
-        CloseReason::Idle
+        Some(CloseReason::Idle)
     } else if word == "stale" {
-        CloseReason::Stale
+        Some(CloseReason::Stale)
     } else if word == "error" || word == "connectionError" {
-        CloseReason::Error
+        Some(CloseReason::Error)
     } else if word == "poolClosed" {
-        CloseReason::PoolClosed
+        Some(CloseReason::PoolClosed)
     } else {
-        CloseReason::Other
+        None
     }
 }
 
 #[tactic(auto, unfolding(crate::specs::EventNames::fail_reason))]
-pub fn fail_reason(word: &str) -> FailReason
+fn fail_reason(word: &str) -> Option<FailReason>
     ensures { result ≡ fail_reason word.now }
 {
     if word == "timeout" {
-        FailReason::Timeout
+        Some(FailReason::Timeout)
     } else if word == "connectionError" {
-        FailReason::ConnectionError
+        Some(FailReason::ConnectionError)
     } else if word == "poolClosed" {
-        FailReason::PoolClosed
+        Some(FailReason::PoolClosed)
     } else {
-        FailReason::Other
+        None
+    }
+}
+
+/// Why a connection was closed: nothing where `reason` is no word of the standard.
+pub fn close_reason_at(object: &Value<'_>) -> Option<CloseReason>
+    ensures { result ≡ close_reason_at (value_view object.now) }
+{
+    match member(object, "reason") {
+        None => Some(CloseReason::Untold),
+        Some(reason) => close_reason(reason.as_str()?),
+    }
+}
+
+/// Why a check-out failed: nothing where `reason` is no word of the standard.
+pub fn fail_reason_at(object: &Value<'_>) -> Option<FailReason>
+    ensures { result ≡ fail_reason_at (value_view object.now) }
+{
+    match member(object, "reason") {
+        None => Some(FailReason::Untold),
+        Some(reason) => fail_reason(reason.as_str()?),
     }
 }

@@ -2,18 +2,35 @@
 
 ghost use Rattle.std.specs.Prelude.{◌≡◌, codes};
 ghost use Rattle.json.specs.Value.{value_view};
-ghost use Rattle.mdb_recording_lines.specs.LineForms.{check_from, kind_at, line_view, sdam_from, server_from, server_named, text_at};
+ghost use Rattle.mdb_recording_lines.specs.LineForms.{changed_at, check_from, kind_at, line_view, sdam_from, server_from, server_named, text_at};
 
-use crate::fields::text_at;
+use crate::fields::{member, text_at};
 use crate::line::Line;
 use crate::server_names::{check_named, kind_named, topology_named};
 use json::Value;
 use mdb_recording_servers::{ServerKind, ServerTold};
 
-fn kind_at(object: &Value<'_>, key: &str) -> Option<ServerKind>
+// The kind of server that a member names, if it is there: nothing where it names none.
+fn kind_at(object: &Value<'_>, key: &str) -> Option<Option<ServerKind>>
     ensures { result ≡ kind_at key.now (value_view object.now) }
 {
-    kind_named(text_at(object, key)?)
+    match member(object, key) {
+        None => Some(None),
+        Some(found) => {
+            let kind = kind_named(found.as_str()?)?;
+            Some(Some(kind))
+        }
+    }
+}
+
+// A server changed.
+fn changed_at(object: &Value<'_>) -> Option<ServerTold>
+    ensures { result ≡ changed_at (value_view object.now) }
+{
+    match (kind_at(object, "from"), kind_at(object, "to")) {
+        (Some(from), Some(to)) => Some(ServerTold::Changed(from, to)),
+        _ => None,
+    }
 }
 
 // What an event of that name tells of a server.
@@ -22,7 +39,7 @@ fn server_named(name: &str, object: &Value<'_>) -> Option<ServerTold>
     ensures { result ≡ server_named name.now (value_view object.now) }
 {
     if name == "ServerDescriptionChanged" {
-        Some(ServerTold::Changed(kind_at(object, "from"), kind_at(object, "to")))
+        changed_at(object)
     } else if name == "ServerOpening" {
         Some(ServerTold::Opened)
     } else if name == "ServerClosed" {
@@ -37,7 +54,7 @@ fn server_from<'a>(told: Option<ServerTold>, object: &Value<'a>) -> Line<'a>
     ensures { line_view result ≡ server_from told (value_view object.now) }
 {
     match told {
-        None => Line::Passed,
+        None => Line::Malformed,
         Some(told) => match text_at(object, "address") {
             None => Line::Malformed,
             Some(address) => Line::OfServer(address, told),

@@ -1,17 +1,16 @@
 -- How a run of the tool ends.
-use Rattle.std.proofs.Common.{◌≡◌, ℕ, ◌≤◌, ◌<◌, ◌⊎◌, inl, inr, Bool, true, false, if◌then◌else◌, List, [], ◌++◌, length, Option, Some, None, Result, Ok, Err, sym, ap, ◌∙◌, arith, subst, length-append}
-use Rattle.std.proofs.lemmas.List.{append-nil}
+use Rattle.std.proofs.Common.{◌≡◌, ℕ, ◌≤◌, inl, inr, List, [], ◌++◌, length, Option, Some, None, Result, Ok, Err, sym, ap, ◌∙◌, arith, subst, length-append}
 use Rattle.std.proofs.Math.Seq.{take-length}
 use Rattle.std.specs.Io.KnownBytes.{Consumes}
 use Rattle.mdb_base.specs.Outside.{Rose, Held, Took, IsFlushed}
 use Rattle.mdb_lines.specs.declared.run_error.RunError.{RunError}
 use Rattle.mdb_lines.specs.declared.run_error.RunError.TheVariants as errors
-use Rattle.mdb_lines.specs.Status.{Told, status}
+use Rattle.mdb_lines.specs.Status.{Told}
 use Rattle.mdb_lines.specs.Loops.{TookFront, ReadsAll}
 use Rattle.mdb_lines.proofs.Loops.{took_no_more}
 use Rattle.mdb_recordings.specs.declared.standard.Standard.{Standard}
-use Rattle.mdb_recording_runs.specs.Report.{is_clean, read_of, report}
-use Rattle.mdb_recording_runs.specs.Runs.{max_recording, TextWritten, Seen, Judged, NotWritten, RunFails, Runs, JudgeEnds, ToolEnds, EndsWell, report_status}
+use Rattle.mdb_recording_runs.specs.Report.{read_of, report, verdict_of}
+use Rattle.mdb_recording_runs.specs.Runs.{max_recording, TextWritten, Seen, Runs, JudgeEnds, EndsWell, report_status}
 
 -- the sink took the text, and what was flushed is no more
 pub text-flushed : (a b c : Option Held) (text : List ℕ) (before now later : ℕ) → Took a b text → Took b c [] → IsFlushed c → now ≡ before → later ≡ now → TextWritten text a c before later (Ok tt)
@@ -42,14 +41,10 @@ no-longer None new text found e h = absurd (cc)
 no-longer (Some xs) None text found e h = absurd h
 no-longer (Some xs) (Some ys) text found e h = let same = some-same xs text e in let size : length text ≡ length (found ++ ys) = ap length (sym same ∙ h) in omega (arith, size, length-append found ys)
 
-status-ends : (b : Bool) (answer : ℕ) → answer ≡ (if b then 0 else 7) → EndsWell answer
-status-ends true answer e = inl e
-status-ends false answer e = inr (inl e)
-
 -- a recording that is short enough is judged, where nothing fails
 pub ends-well : (standard : Standard) (old new : Seen) (told new_told : Told) (text : List ℕ) (answer : ℕ) → JudgeEnds standard old new told new_told answer → old.left ≡ Some text → length text ≤ max_recording → (Rose old.reads new.reads → ⊥) → (Rose old.writes new.writes → ⊥) → EndsWell answer
-ends-well standard old new told new_told text answer (inl (judged, same)) left short read write = status-ends (is_clean (read_of standard judged.text)) answer judged.right
-ends-well standard old new told new_told text answer (inr (errors.OutOfMemory, is, fails, tells)) left short read write = inr (inr is)
+ends-well standard old new told new_told text answer (inl (judged, same)) left short read write = inl (verdict_of (read_of standard judged.text), judged.right)
+ends-well standard old new told new_told text answer (inr (errors.OutOfMemory, is, fails, tells)) left short read write = inr is
 ends-well standard old new told new_told text answer (inr (errors.ReadFault, is, fails, tells)) left short read write = absurd (read fails.0)
 ends-well standard old new told new_told text answer (inr (errors.WriteFault, is, fails, tells)) left short read write = absurd (write fails.rose)
 ends-well standard old new told new_told text answer (inr (errors.Malformed n, is, fails, tells)) left short read write = absurd fails

@@ -1,5 +1,5 @@
 -- An event was taken: what is kept stands for it too.
-use Rattle.std.proofs.Common.{◌≡◌, ℕ, ◌+◌, List, ◌∷◌, ◌++◌, Option, Some, None, unwrap_or, sym, ap, ◌∙◌, subst, string_bytes}
+use Rattle.std.proofs.Common.{◌≡◌, ℕ, ◌+◌, List, ◌∷◌, ◌++◌, Option, unwrap_or, sym, ap, ◌∙◌, subst, string_bytes}
 use Rattle.mdb_recordings.specs.Rules.{breaks, glance_of}
 use Rattle.mdb_recordings.specs.Standing.{Stands}
 use Rattle.mdb_recordings.specs.declared.event.Event.{Event}
@@ -13,9 +13,9 @@ use Rattle.mdb_recording_servers.specs.declared.event.ServerEvent.TheVariants.{S
 use Rattle.mdb_recording_servers.specs.declared.event.ServerTold.{ServerTold}
 use Rattle.mdb_recording_servers.specs.declared.known.Known.{Known}
 use Rattle.mdb_recording_lines.specs.declared.names.Names.{Names}
-use Rattle.mdb_recording_lines.specs.Known.{Holds, Named, with_named}
+use Rattle.mdb_recording_lines.specs.Known.{Holds, Named}
 use Rattle.mdb_recording_runs.specs.Keeping.{Keeps, TellsRules}
-use Rattle.mdb_recording_runs.specs.Report.{Read, after_event, after_seen, event_text, finding_line, findings_count, findings_text, naming, recorded_at, server_event_at, server_finding_line, server_findings_count, server_findings_text}
+use Rattle.mdb_recording_runs.specs.Report.{Read, after_event, after_seen, event_text, finding_line, findings_count, findings_text, naming, recorded_at, server_event_at, server_finding_line, server_findings_text}
 use Rattle.mdb_recording_runs.specs.RuleWords.{all_rules, all_server_rules}
 use Rattle.mdb_recording_runs.specs.declared.reader.Reader.{Reader}
 
@@ -29,9 +29,9 @@ pub event-taken : (standard : Standard) (s : Read) (text : List ℕ) (old new : 
     → ((h : List Recorded) → Stands h old.judge → g ≡ glance_of h (numbered pool e))
     → ((h : List Recorded) → g ≡ glance_of h (numbered pool e) → TellsRules (λ rule. breaks old.standard rule h (numbered pool e)) (λ rule. finding_line number a (numbered pool e) rule) all_rules (string_bytes old.out) (string_bytes new.out) found)
     → ((h : List Recorded) → Stands h old.judge → g ≡ glance_of h (numbered pool e) → Stands (numbered pool e ∷ h) new.judge)
-    → new.standard ≡ old.standard → new.servers ≡ old.servers → new.server_judge ≡ old.server_judge → new.events ≡ old.events + 1 → new.findings ≡ old.findings + found → new.malformed ≡ old.malformed
+    → new.standard ≡ old.standard → new.servers ≡ old.servers → new.server_judge ≡ old.server_judge → new.events ≡ old.events + 1 → new.findings ≡ old.findings + found → new.malformed ≡ old.malformed → new.passed_over ≡ old.passed_over
     → Keeps standard (after_event standard s a e) (text ++ event_text standard number s a e) new
-event-taken standard s text old new number pool found a e g keeps named look tell note same servers server_judge events findings malformed = record {
+event-taken standard s text old new number pool found a e g keeps named look tell note same servers server_judge events findings malformed passed_over = record {
   judged_by = same ∙ keeps.judged_by;
   names = named.holds;
   judge = subst (λ r. Stands (r ∷ s.history) new.judge) is (note s.history keeps.judge known);
@@ -47,6 +47,7 @@ event-taken standard s text old new number pool found a e g keeps named look tel
       ∙ ap (λ x. s.findings + findings_count x s.history (numbered pool e)) keeps.judged_by
       ∙ ap (λ r. s.findings + findings_count standard s.history r) is;
   malformed = malformed ∙ keeps.malformed;
+  passed_over = passed_over ∙ keeps.passed_over;
 }
   where
     is : numbered pool e ≡ recorded_at s a e
@@ -64,9 +65,9 @@ pub seen-taken : (standard : Standard) (s : Read) (text : List ℕ) (old new : R
     → ((h : List ServerEvent) → StandsFor h old.server_judge → k ≡ known_of h e)
     → ((h : List ServerEvent) → k ≡ known_of h e → TellsRules (λ rule. server_breaks rule h e) (λ rule. server_finding_line number o rule) all_server_rules (string_bytes old.out) (string_bytes new.out) found)
     → ((h : List ServerEvent) → StandsFor h old.server_judge → k ≡ known_of h e → StandsFor (e ∷ h) new.server_judge)
-    → new.standard ≡ old.standard → new.names ≡ old.names → new.judge ≡ old.judge → new.servers ≡ old.servers → new.events ≡ old.events + 1 → new.findings ≡ old.findings + found → new.malformed ≡ old.malformed
+    → new.standard ≡ old.standard → new.names ≡ old.names → new.judge ≡ old.judge → new.servers ≡ old.servers → new.events ≡ old.events + 1 → new.findings ≡ old.findings + found → new.malformed ≡ old.malformed → new.passed_over ≡ old.passed_over
     → Keeps standard (after_seen s e) (text ++ server_findings_text s.server_history number o e) new
-seen-taken standard s text old new number found o e k keeps look tell note same names judge servers events findings malformed = record {
+seen-taken standard s text old new number found o e k keeps look tell note same names judge servers events findings malformed passed_over = record {
   judged_by = same ∙ keeps.judged_by;
   names = subst (λ x. Holds s.known x) (sym names) keeps.names;
   judge = subst (λ x. Stands s.history x) (sym judge) keeps.judge;
@@ -76,6 +77,7 @@ seen-taken standard s text old new number found o e k keeps look tell note same 
   events = events ∙ ap (λ n. n + 1) keeps.events;
   findings = findings ∙ ap (λ n. n + found) keeps.findings ∙ ap (λ n. s.findings + n) told.count;
   malformed = malformed ∙ keeps.malformed;
+  passed_over = passed_over ∙ keeps.passed_over;
 }
   where
     known : k ≡ known_of s.server_history e
@@ -86,9 +88,9 @@ seen-taken standard s text old new number found o e k keeps look tell note same 
 
 -- the address of a server was named
 pub server-named : (standard : Standard) (s : Read) (text : List ℕ) (old new : Reader) (server : ℕ) (a : List ℕ) → Keeps standard s text old → Named a s.servers server new.servers
-    → new.standard ≡ old.standard → new.names ≡ old.names → new.judge ≡ old.judge → new.server_judge ≡ old.server_judge → new.out ≡ old.out → new.events ≡ old.events → new.findings ≡ old.findings → new.malformed ≡ old.malformed
+    → new.standard ≡ old.standard → new.names ≡ old.names → new.judge ≡ old.judge → new.server_judge ≡ old.server_judge → new.out ≡ old.out → new.events ≡ old.events → new.findings ≡ old.findings → new.malformed ≡ old.malformed → new.passed_over ≡ old.passed_over
     → Keeps standard (naming a s) text new
-server-named standard s text old new server a keeps named same names judge server_judge out events findings malformed = record {
+server-named standard s text old new server a keeps named same names judge server_judge out events findings malformed passed_over = record {
   judged_by = same ∙ keeps.judged_by;
   names = subst (λ x. Holds s.known x) (sym names) keeps.names;
   judge = subst (λ x. Stands s.history x) (sym judge) keeps.judge;
@@ -98,6 +100,7 @@ server-named standard s text old new server a keeps named same names judge serve
   events = events ∙ keeps.events;
   findings = findings ∙ keeps.findings;
   malformed = malformed ∙ keeps.malformed;
+  passed_over = passed_over ∙ keeps.passed_over;
 }
 
 -- the event of the server by its number is that of the one at the address

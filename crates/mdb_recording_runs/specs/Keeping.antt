@@ -18,6 +18,7 @@ pub record Keeps (standard : Standard) (s : Read) (text : List ℕ) (r : Reader)
   pub events : r.events ≡ s.events
   pub findings : r.findings ≡ s.findings
   pub malformed : r.malformed ≡ s.malformed
+  pub passed_over : r.passed_over ≡ s.passed_over
 
 -- these rules were tried: what the text gained, and how many are broken
 pub record TellsRules {R : Type 0} (broken : R → Bool) (line : R → List ℕ) (rules : List R) (old new : List ℕ) (found : ℕ) : Type 0 where
@@ -29,3 +30,4 @@ pub record Ends (s : Read) (text : List ℕ) (r : Reader) : Type 0 where
   pub told : string_bytes r.out ≡ text ++ end_text s
   pub findings : r.findings ≡ s.findings
   pub malformed : r.malformed ≡ s.malformed
+  pub events : r.events ≡ s.events

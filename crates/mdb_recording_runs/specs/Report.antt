@@ -1,12 +1,13 @@
 -- What is told of a recording.
-use Rattle.std.specs.Prelude.{ℕ, ◌+◌, ◌==◌, ◌&&◌, Bool, List, [], ◌∷◌, ◌++◌, codes, decimal, Option, Some, None, unwrap_or, if◌then◌else◌}
+use Rattle.std.specs.Prelude.{ℕ, ◌+◌, ◌==◌, ◌&&◌, Bool, not, List, [], ◌∷◌, ◌++◌, codes, decimal, Option, Some, None, unwrap_or, if◌then◌else◌}
 use Rattle.mdb_lines.specs.Script.{lines_of}
 use Rattle.mdb_recordings.specs.Events.{id_of}
-use Rattle.mdb_recordings.specs.Lives.{life, facts_of}
+use Rattle.mdb_recordings.specs.Lives.{life, facts_of, former_of}
 use Rattle.mdb_recordings.specs.Rules.{breaks}
 use Rattle.mdb_recordings.specs.declared.event.Event.{Event}
 use Rattle.mdb_recordings.specs.declared.event.Recorded.{Recorded}
 use Rattle.mdb_recordings.specs.declared.facts.Facts.{Facts}
+use Rattle.mdb_recordings.specs.declared.former.Former.{Former}
 use Rattle.mdb_recordings.specs.declared.rule.Rule.{Rule}
 use Rattle.mdb_recordings.specs.declared.standard.Standard.{Standard}
 use Rattle.mdb_recording_lines.specs.Known.{place, with_named}
@@ -17,10 +18,13 @@ use Rattle.mdb_recording_servers.specs.declared.event.ServerEvent.TheVariants.{S
 use Rattle.mdb_recording_servers.specs.declared.event.ServerTold.{ServerTold}
 use Rattle.mdb_recording_servers.specs.declared.rule.ServerRule.{ServerRule}
 use Rattle.mdb_recording_runs.specs.Cutting.{without_newline}
+use Rattle.mdb_recording_runs.specs.declared.verdict.Verdict.{Verdict}
+use Rattle.mdb_recording_runs.specs.declared.verdict.Verdict.TheVariants.{Kept, Broken, NothingJudged}
 use Rattle.mdb_recording_runs.specs.RuleWords.{all_rules, rule_word, all_server_rules, server_rule_word}
 
 -- What was read so far: the addresses of pools in the order in which they were first named, and their events, the last of them newest;
--- the same of servers, with the events of the topology; and how many events, findings and malformed lines there were.
+-- the same of servers, with the events of the topology; and how many events, findings and malformed lines there were, and lines that
+-- were passed over.
 pub record Read : Type 0 where
   pub known : List (List ℕ)
   pub history : List Recorded
@@ -29,9 +33,10 @@ pub record Read : Type 0 where
   pub events : ℕ
   pub findings : ℕ
   pub malformed : ℕ
+  pub passed_over : ℕ
 
 abbrev pub nothing : Read
-nothing = record { known = []; history = []; servers = []; server_history = []; events = 0; findings = 0; malformed = 0 }
+nothing = record { known = []; history = []; servers = []; server_history = []; events = 0; findings = 0; malformed = 0; passed_over = 0 }
 
 -- findings
 
@@ -110,7 +115,7 @@ after_seen s e = record s {
 -- what was read with a line that tells this
 abbrev pub after_said : Standard → Read → Said → Read
 after_said standard s malformed = record s { malformed = s.malformed + 1 }
-after_said standard s passed = s
+after_said standard s passed = record s { passed_over = s.passed_over + 1 }
 after_said standard s (tells a e) = after_event standard s a e
 after_said standard s (tells_server a t) = after_seen (naming a s) (server_event_at s a t)
 after_said standard s (tells_topology e) = after_seen s e
@@ -149,35 +154,51 @@ check_outs_text f = codes " started=" ++ (decimal f.started ++ (codes " out=" ++
 abbrev pub ends_text : Facts → List ℕ
 ends_text f = codes " failed=" ++ (decimal f.failed ++ (codes " cleared=" ++ decimal f.clears))
 
--- what the last pool at an address did
-abbrev pub pool_line : List ℕ → Facts → List ℕ
-pool_line a f = codes "pool " ++ (a ++ (connections_text f ++ (check_outs_text f ++ (ends_text f ++ codes "\n"))))
+-- how many connections of the pools before it are not closed
+abbrev pub left_text : Former → List ℕ
+left_text x = codes " left=" ++ decimal x.left
+
+-- what the last pool at an address did, and what those before it left
+abbrev pub pool_line : List ℕ → Facts → Former → List ℕ
+pool_line a f x = codes "pool " ++ (a ++ (connections_text f ++ (check_outs_text f ++ (ends_text f ++ (left_text x ++ codes "\n")))))
 
 -- the pools at these addresses, numbered from this
 abbrev pub pools_text : List Recorded → ℕ → List (List ℕ) → List ℕ
 pools_text h p [] = []
-pools_text h p (a ∷ known) = pool_line a (facts_of (life p h)) ++ pools_text h (p + 1) known
+pools_text h p (a ∷ known) = pool_line a (facts_of (life p h)) (former_of p h) ++ pools_text h (p + 1) known
 
--- there is no finding and no malformed line
-abbrev pub nothing_found : ℕ → ℕ → Bool
-nothing_found found bad = (found == 0) && (bad == 0)
+-- What so many findings, malformed lines and events come to: a rule is broken, or a line can't be read; nothing was judged; or all rules
+-- are kept.
+abbrev pub verdict_by : ℕ → ℕ → ℕ → Verdict
+verdict_by found bad events = if not ((found == 0) && (bad == 0)) then Broken else (if events == 0 then NothingJudged else Kept)
 
-abbrev pub clean_line : ℕ → List ℕ
-clean_line events = codes "clean events=" ++ (decimal events ++ codes "\n")
+abbrev pub passed_text : ℕ → List ℕ
+passed_text passed_over = codes " passed_over=" ++ (decimal passed_over ++ codes "\n")
 
-abbrev pub found_line : ℕ → ℕ → ℕ → List ℕ
-found_line found bad events = codes "findings=" ++ (decimal found ++ (codes " malformed=" ++ (decimal bad ++ (codes " events=" ++ (decimal events ++ codes "\n")))))
+abbrev pub kept_line : ℕ → ℕ → List ℕ
+kept_line events passed_over = codes "clean events=" ++ (decimal events ++ passed_text passed_over)
 
--- the last line, by these counts
-abbrev pub counts_line : ℕ → ℕ → ℕ → List ℕ
-counts_line found bad events = if nothing_found found bad then clean_line events else found_line found bad events
+abbrev pub broken_line : ℕ → ℕ → ℕ → ℕ → List ℕ
+broken_line found bad events passed_over = codes "findings=" ++ (decimal found ++ (codes " malformed=" ++ (decimal bad ++ (codes " events=" ++ (decimal events ++ passed_text passed_over)))))
 
--- nothing was found
-abbrev pub is_clean : Read → Bool
-is_clean s = nothing_found s.findings s.malformed
+abbrev pub nothing_line : ℕ → List ℕ
+nothing_line passed_over = codes "nothing judged" ++ passed_text passed_over
+
+-- the last line, by the verdict and by the counts
+abbrev pub verdict_line : Verdict → ℕ → ℕ → ℕ → ℕ → List ℕ
+verdict_line Kept found bad events passed_over = kept_line events passed_over
+verdict_line Broken found bad events passed_over = broken_line found bad events passed_over
+verdict_line NothingJudged found bad events passed_over = nothing_line passed_over
+
+abbrev pub counts_line : ℕ → ℕ → ℕ → ℕ → List ℕ
+counts_line found bad events passed_over = verdict_line (verdict_by found bad events) found bad events passed_over
+
+-- what is found of a recording that was read
+abbrev pub verdict_of : Read → Verdict
+verdict_of s = verdict_by s.findings s.malformed s.events
 
 abbrev pub end_line : Read → List ℕ
-end_line s = counts_line s.findings s.malformed s.events
+end_line s = counts_line s.findings s.malformed s.events s.passed_over
 
 -- all that is told of a recording that was read
 abbrev pub end_text : Read → List ℕ

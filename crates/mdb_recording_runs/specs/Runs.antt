@@ -9,7 +9,9 @@ use Rattle.mdb_lines.specs.Status.{Told, Tells, status, message}
 use Rattle.mdb_lines.specs.Loops.{TookFront, ReadsAll}
 use Rattle.mdb_recordings.specs.declared.standard.Standard.{Standard}
 use Rattle.mdb_recordings.specs.declared.standard.Standard.TheVariants.{Current, Of2021, Of2020}
-use Rattle.mdb_recording_runs.specs.Report.{is_clean, read_of, report}
+use Rattle.mdb_recording_runs.specs.Report.{read_of, report, verdict_of}
+use Rattle.mdb_recording_runs.specs.declared.verdict.Verdict.{Verdict}
+use Rattle.mdb_recording_runs.specs.declared.verdict.Verdict.TheVariants.{Kept, Broken, NothingJudged}
 
 -- the most bytes that a recording may have
 abbrev pub max_recording : ℕ
@@ -29,9 +31,14 @@ standard_of (flag ∷ []) = None
 standard_of (flag ∷ (year ∷ [])) = if bytes_eq flag (codes "--cmap") then standard_of_year year else None
 standard_of (flag ∷ (year ∷ (word ∷ words))) = None
 
--- 0 where nothing was found
+abbrev pub verdict_status : Verdict → ℕ
+verdict_status Kept = 0
+verdict_status Broken = 7
+verdict_status NothingJudged = 8
+
+-- 0 where rules were asked and nothing was found
 abbrev pub report_status : Standard → List ℕ → ℕ
-report_status standard text = if is_clean (read_of standard text) then 0 else 7
+report_status standard text = verdict_status (verdict_of (read_of standard text))
 
 -- The sink took the text, flushed; or it failed.
 abbrev pub TextWritten : List ℕ → Option Held → Option Held → ℕ → ℕ → Result (Unit {0}) RunError → Type 0
@@ -86,6 +93,6 @@ abbrev pub ToolEnds : Option Standard → Seen → Seen → Told → Told → �
 ToolEnds (Some standard) old new told new_told answer = JudgeEnds standard old new told new_told answer
 ToolEnds None old new told new_told answer = (answer ≡ 2) × (new ≡ old) × Tells told new_told usage
 
--- the recording was judged, or memory ran out
+-- the recording was read to its end, whatever is found of it, or memory ran out
 abbrev pub EndsWell : ℕ → Type 0
-EndsWell answer = (answer ≡ 0) ⊎ ((answer ≡ 7) ⊎ (answer ≡ status errors.OutOfMemory))
+EndsWell answer = ((verdict : Verdict) × (answer ≡ verdict_status verdict)) ⊎ (answer ≡ status errors.OutOfMemory)

@@ -7,7 +7,9 @@ mod rule_words;
 mod server_findings;
 mod text;
 mod tool;
+mod verdict;
 
 pub use rule_words::{all_rules, all_server_rules, rule_word, server_rule_word};
 pub use text::{Report, judge};
 pub use tool::{MAX_RECORDING, run_recorded};
+pub use verdict::Verdict;

@@ -2,7 +2,7 @@
 
 ghost use Rattle.std.specs.Prelude.{◌≡◌, ◌+◌, ◌++◌, List, ℕ, [], OnOk, option_map};
 ghost use Rattle.mdb_recordings.specs.declared.standard.Standard.{Standard as Standard_};
-ghost use Rattle.mdb_recording_lines.specs.LineForms.{line_view, malformed as unreadable, said, tells_server};
+ghost use Rattle.mdb_recording_lines.specs.LineForms.{line_view, malformed as unreadable, passed as not_judged, said, tells_server};
 ghost use Rattle.mdb_recording_runs.specs.Keeping.{Keeps};
 ghost use Rattle.mdb_recording_runs.specs.Report.{Read, after_event, after_said, after_seen, event_text, nothing, said_text, server_findings_text};
 
@@ -28,6 +28,7 @@ pub struct Reader {
     pub events: u64,
     pub findings: u64,
     pub malformed: u64,
+    pub passed_over: u64,
 }
 
 impl Reader {
@@ -46,6 +47,7 @@ impl Reader {
             events: 0,
             findings: 0,
             malformed: 0,
+            passed_over: 0,
         }
     }
 
@@ -122,6 +124,15 @@ impl Reader {
         Ok(())
     }
 
+    // A line of a kind that is not judged.
+    fn pass_over(&mut self, number: u64) -> Result<(), OutOfMemory>
+        ensures { OnOk result ((standard : Standard_) (s : Read) (text : List ℕ) → Keeps standard s text self.old
+            → Keeps standard (after_said standard s not_judged) (text ++ said_text standard number s not_judged) self.new) }
+    {
+        self.passed_over = sum(self.passed_over, 1)?;
+        Ok(())
+    }
+
     // What a line tells.
     fn take_line(&mut self, number: u64, line: Line<'_>) -> Result<(), OutOfMemory>
         ensures { OnOk result ((standard : Standard_) (s : Read) (text : List ℕ) → Keeps standard s text self.old
@@ -129,7 +140,7 @@ impl Reader {
     {
         match line {
             Line::Malformed => self.take_malformed(number),
-            Line::Passed => Ok(()),
+            Line::Passed => self.pass_over(number),
             Line::Told(address, event) => self.take_event(number, address, event),
             Line::OfServer(address, told) => self.take_server(number, address, told),
             Line::OfTopology(event) => self.take_seen(number, None, &event),

@@ -7,20 +7,21 @@ ghost use Rattle.mdb_recordings.specs.Standing.{Stands};
 ghost use Rattle.mdb_recordings.specs.declared.event.Recorded.{Recorded};
 ghost use Rattle.mdb_recordings.specs.declared.standard.Standard.{Standard as Standard_};
 ghost use Rattle.mdb_recording_runs.specs.Keeping.{Ends, Keeps};
-ghost use Rattle.mdb_recording_runs.specs.Report.{Read, check_outs_text, clean_line, connections_text, counts_line, ends_text, found_line, is_clean, lines_text, nothing, nothing_found, pool_line, pools_text, read_of, report};
+ghost use Rattle.mdb_recording_runs.specs.Report.{Read, broken_line, check_outs_text, connections_text, counts_line, ends_text, kept_line, left_text, lines_text, nothing, nothing_line, passed_text, pool_line, pools_text, read_of, report, verdict_of};
 
 use crate::reader::Reader;
+use crate::verdict::Verdict;
 use json::Scratch;
 use mdb_base::OutOfMemory;
 use mdb_lines::cut_line;
-use mdb_recordings::{Facts, Judge, Standard};
+use mdb_recordings::{Facts, Former, Judge, Standard};
 use std::alloc::Global;
 
-/// What is told of a recording, and whether nothing was found.
+/// What is told of a recording, and what is found of it.
 #[derive(Drop)]
 pub struct Report {
     pub text: String,
-    pub is_clean: bool,
+    pub verdict: Verdict,
 }
 
 fn next(read: u64) -> Result<u64, OutOfMemory>
@@ -81,13 +82,26 @@ fn ends_text(alloc: Global, f: &Facts) -> Result<String, OutOfMemory>
     Ok(format!(in alloc; " failed={failed} cleared={cleared}")?)
 }
 
-fn pool_line(alloc: Global, address: &str, f: &Facts) -> Result<String, OutOfMemory>
-    ensures { IfOk result (λ s. string_bytes s ≡ pool_line address.now f.now) }
+fn left_text(alloc: Global, former: &Former) -> Result<String, OutOfMemory>
+    ensures { IfOk result (λ s. string_bytes s ≡ left_text former.now) }
+{
+    let left = former.left;
+    Ok(format!(in alloc; " left={left}")?)
+}
+
+fn pool_line(
+    alloc: Global,
+    address: &str,
+    f: &Facts,
+    former: &Former,
+) -> Result<String, OutOfMemory>
+    ensures { IfOk result (λ s. string_bytes s ≡ pool_line address.now f.now former.now) }
 {
     let connections = connections_text(alloc, f)?;
     let outs = check_outs_text(alloc, f)?;
     let ends = ends_text(alloc, f)?;
-    Ok(format!(in alloc; "pool {address}{connections}{outs}{ends}\n")?)
+    let left = left_text(alloc, former)?;
+    Ok(format!(in alloc; "pool {address}{connections}{outs}{ends}{left}\n")?)
 }
 
 fn next_pool(pool: u32) -> Result<u32, OutOfMemory>
@@ -112,7 +126,8 @@ fn tell_pools(
     let mut rest = names;
     while let Some((name, more)) = rest.split_first() {
         let facts = judge.facts(pool);
-        let line = pool_line(alloc, name.as_str(), &facts)?;
+        let former = judge.former(pool);
+        let line = pool_line(alloc, name.as_str(), &facts, &former)?;
         out.push_str(line.as_str())?;
         pool = next_pool(pool)?;
         rest = more;
@@ -120,41 +135,41 @@ fn tell_pools(
     Ok(())
 }
 
-fn nothing_found(findings: u64, malformed: u64) -> bool
-    ensures { result ≡ nothing_found findings malformed }
+fn passed_text(alloc: Global, passed_over: u64) -> Result<String, OutOfMemory>
+    ensures { IfOk result (λ t. string_bytes t ≡ passed_text passed_over) }
 {
-    findings == 0 && malformed == 0
+    Ok(format!(in alloc; " passed_over={passed_over}\n")?)
 }
 
-fn clean_line(alloc: Global, events: u64) -> Result<String, OutOfMemory>
-    ensures { IfOk result (λ t. string_bytes t ≡ clean_line events) }
+fn kept_line(alloc: Global, events: u64, passed_over: u64) -> Result<String, OutOfMemory>
+    ensures { IfOk result (λ t. string_bytes t ≡ kept_line events passed_over) }
 {
-    Ok(format!(in alloc; "clean events={events}\n")?)
+    let passed = passed_text(alloc, passed_over)?;
+    Ok(format!(in alloc; "clean events={events}{passed}")?)
 }
 
-fn found_line(
-    alloc: Global,
-    findings: u64,
-    malformed: u64,
-    events: u64,
-) -> Result<String, OutOfMemory>
-    ensures { IfOk result (λ t. string_bytes t ≡ found_line findings malformed events) }
+fn broken_line(alloc: Global, reader: &Reader) -> Result<String, OutOfMemory>
+    ensures { IfOk result (λ t. string_bytes t ≡ broken_line reader.now.findings reader.now.malformed reader.now.events reader.now.passed_over) }
 {
-    Ok(format!(in alloc; "findings={findings} malformed={malformed} events={events}\n")?)
+    let (findings, malformed, events) = (reader.findings, reader.malformed, reader.events);
+    let passed = passed_text(alloc, reader.passed_over)?;
+    Ok(format!(in alloc; "findings={findings} malformed={malformed} events={events}{passed}")?)
 }
 
-fn counts_line(
-    alloc: Global,
-    findings: u64,
-    malformed: u64,
-    events: u64,
-) -> Result<String, OutOfMemory>
-    ensures { IfOk result (λ t. string_bytes t ≡ counts_line findings malformed events) }
+fn nothing_line(alloc: Global, passed_over: u64) -> Result<String, OutOfMemory>
+    ensures { IfOk result (λ t. string_bytes t ≡ nothing_line passed_over) }
 {
-    if nothing_found(findings, malformed) {
-        clean_line(alloc, events)
-    } else {
-        found_line(alloc, findings, malformed, events)
+    let passed = passed_text(alloc, passed_over)?;
+    Ok(format!(in alloc; "nothing judged{passed}")?)
+}
+
+fn counts_line(alloc: Global, reader: &Reader) -> Result<String, OutOfMemory>
+    ensures { IfOk result (λ t. string_bytes t ≡ counts_line reader.now.findings reader.now.malformed reader.now.events reader.now.passed_over) }
+{
+    match Verdict::by(reader.findings, reader.malformed, reader.events) {
+        Verdict::Kept => kept_line(alloc, reader.events, reader.passed_over),
+        Verdict::Broken => broken_line(alloc, reader),
+        Verdict::NothingJudged => nothing_line(alloc, reader.passed_over),
     }
 }
 
@@ -168,7 +183,7 @@ fn tell_end(alloc: Global, reader: &mut Reader) -> Result<(), OutOfMemory>
         reader.names.list.as_slice(),
         &reader.judge,
     )?;
-    let line = counts_line(alloc, reader.findings, reader.malformed, reader.events)?;
+    let line = counts_line(alloc, reader)?;
     reader.out.push_str(line.as_str())?;
     Ok(())
 }
@@ -176,15 +191,12 @@ fn tell_end(alloc: Global, reader: &mut Reader) -> Result<(), OutOfMemory>
 /// What is told of a recording, by the standard of that time.
 pub fn judge(alloc: Global, standard: Standard, text: &[u8]) -> Result<Report, OutOfMemory>
     ensures text { IfOk result (λ r. string_bytes r.text ≡ report standard text.now) }
-    ensures clean { IfOk result (λ r. r.is_clean ≡ is_clean (read_of standard text.now)) }
+    ensures verdict { IfOk result (λ r. r.verdict ≡ verdict_of (read_of standard text.now)) }
 {
     let mut reader = Reader::new(alloc, standard);
     take_lines(alloc, &mut reader, text)?;
     tell_end(alloc, &mut reader)?;
-    let is_clean = nothing_found(reader.findings, reader.malformed);
+    let verdict = Verdict::by(reader.findings, reader.malformed, reader.events);
     let Reader { out, .. } = reader;
-    Ok(Report {
-        text: out,
-        is_clean,
-    })
+    Ok(Report { text: out, verdict })
 }

@@ -1,13 +1,14 @@
 //! The tool: it reads a recording to its end and writes what it finds.
 
-ghost use Rattle.std.specs.Prelude.{◌≡◌, ◌≤◌, ◌<◌, if◌then◌else◌, ℕ, List, length, map, Some};
+ghost use Rattle.std.specs.Prelude.{◌≡◌, ◌≤◌, ◌<◌, ℕ, List, length, map, Some};
 ghost use Rattle.mdb_base.specs.Outside.{Rose};
 ghost use Rattle.mdb_lines.specs.Status.{Tells};
 ghost use Rattle.mdb_recordings.specs.declared.standard.Standard.{Standard as Standard_};
 ghost use Rattle.mdb_recording_runs.specs.Report.{report};
-ghost use Rattle.mdb_recording_runs.specs.Runs.{EndsWell, JudgeEnds, Runs, TextWritten, ToolEnds, report_status, standard_of, standard_of_year, usage};
+ghost use Rattle.mdb_recording_runs.specs.Runs.{EndsWell, JudgeEnds, Runs, TextWritten, ToolEnds, standard_of, standard_of_year, usage, verdict_status};
 
 use crate::text::judge;
+use crate::verdict::Verdict;
 use mdb_base::{Sink, Source};
 use mdb_lines::{RunError, Status, end_with_error, read_all, tell_usage, write_all};
 use mdb_recordings::Standard;
@@ -31,10 +32,14 @@ fn put<K: Sink>(sink: &mut K, text: &[u8]) -> Result<(), RunError>
     }
 }
 
-fn report_status(is_clean: bool) -> Status
-    ensures { result ≡ if is_clean then 0 else 7 }
+fn verdict_status(verdict: Verdict) -> Status
+    ensures { result ≡ verdict_status verdict }
 {
-    if is_clean { 0 } else { 7 }
+    match verdict {
+        Verdict::Kept => 0,
+        Verdict::Broken => 7,
+        Verdict::NothingJudged => 8,
+    }
 }
 
 fn run<S: Source, K: Sink>(
@@ -52,7 +57,7 @@ fn run<S: Source, K: Sink>(
         Err(e) => return Err(e),
     };
     let report = judge(alloc, standard, text.as_slice())?;
-    let status = report_status(report.is_clean);
+    let status = verdict_status(report.verdict);
     match put(sink, report.text.as_bytes()) {
         Ok(()) => Ok(status),
         Err(e) => Err(e),
@@ -118,9 +123,9 @@ fn run_by<S: Source, K: Sink, E: Sink>(
     }
 }
 
-/// Reads a recording on `source`, writes what it finds on `sink`, and answers the status: 0 where nothing is found, 7 where
-/// something is, 1 for lack of memory, 3 for a read error, 4 for a write error, 6 for a recording that is too long. The words
-/// are none, or `--cmap` and a year, 2020 or 2021, by whose standard it is judged; others are a usage, status 2, at which
+/// Reads a recording on `source`, writes what it finds on `sink`, and answers the status: 0 where events were judged and nothing
+/// is found, 7 where something is, 8 where no line tells an event that is judged, 1 for lack of memory, 3 for a read error, 4 for
+/// a write error, 6 for a recording that is too long. The words are none, or `--cmap` and a year, 2020 or 2021, by whose standard it is judged; others are a usage, status 2, at which
 /// nothing is read or written. What ended the run goes to `errors`.
 pub fn run_recorded<S: Source, K: Sink, E: Sink>(
     alloc: Global,

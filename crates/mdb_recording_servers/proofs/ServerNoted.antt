@@ -1,7 +1,7 @@
 -- What is kept stands for one event more.
 use Rattle.std.proofs.Common.{ℕ, ◌≡◌, ◌==◌, Bool, true, false, if◌then◌else◌, List, ◌∷◌, Option, Some, None, refl, sym, ap, ◌∙◌, arith}
 use Rattle.mdb_recording_servers.specs.ServerEvents.{server_of_event}
-use Rattle.mdb_recording_servers.specs.ServerLives.{is_on, kind_of, server_of, server_named, topology_of}
+use Rattle.mdb_recording_servers.specs.ServerLives.{server_of, server_named, topology_of}
 use Rattle.mdb_recording_servers.specs.ServerRules.{known_of}
 use Rattle.mdb_recording_servers.specs.ServerStanding.{StandsFor}
 use Rattle.mdb_recording_servers.specs.ServerSteps.{server_after, topology_after}

@@ -36,11 +36,10 @@ uses_one (Server s Closed) = true
 uses_one (Server s (Changed from to)) = true
 uses_one _ = false
 
--- a check of a server begins or ends
-abbrev pub checks_one : ServerEvent → Bool
-checks_one (Server s CheckStarted) = true
-checks_one (Server s CheckEnded) = true
-checks_one _ = false
+-- a check of a server begins
+abbrev pub starts_check_one : ServerEvent → Bool
+starts_check_one (Server s CheckStarted) = true
+starts_check_one _ = false
 
 abbrev pub ends_check_one : ServerEvent → Bool
 ends_check_one (Server s CheckEnded) = true
@@ -95,6 +94,18 @@ causes_change (Server s Opened) = true
 causes_change (Server s Closed) = true
 causes_change (Server s (Changed from to)) = true
 causes_change _ = false
+
+-- a server is opened or closed
+abbrev pub comes_or_goes : ServerEvent → Bool
+comes_or_goes (Server s Opened) = true
+comes_or_goes (Server s Closed) = true
+comes_or_goes _ = false
+
+-- the topology changes once more, or ends
+abbrev pub ends_change : ServerEvent → Bool
+ends_change TopologyChanged = true
+ends_change TopologyClosed = true
+ends_change _ = false
 
 -- it is no event of a check
 abbrev pub tells_state : ServerEvent → Bool

@@ -1,6 +1,6 @@
 -- What the events tell of a server and of the topology, newest first.
 use Rattle.std.specs.Prelude.{ℕ, Bool, true, false, ◌||◌, if◌then◌else◌, List, [], ◌∷◌, Option, Some, None}
-use Rattle.mdb_recording_servers.specs.ServerEvents.{opens, closes, tells_kind, kind_told, starts_check, ends_check, causes_change, changes_topology, tells_state}
+use Rattle.mdb_recording_servers.specs.ServerEvents.{opens, closes, tells_kind, kind_told, starts_check, ends_check, causes_change, changes_topology, comes_or_goes, tells_state}
 use Rattle.mdb_recording_servers.specs.declared.event.ServerEvent.{ServerEvent}
 use Rattle.mdb_recording_servers.specs.declared.event.ServerKind.{ServerKind}
 use Rattle.mdb_recording_servers.specs.declared.server.Server.{Server}
@@ -34,9 +34,17 @@ abbrev pub server_named : Option ℕ → List ServerEvent → Server
 server_named None h = server_of 0 []
 server_named (Some s) h = server_of s h
 
--- what they tell of the topology: whether they tell of servers at all, and whether it has a cause to change that it had not when it changed last
+-- the topology had a cause when it changed last, that it had not when it changed before, or did not change yet
+abbrev pub had_cause : List ServerEvent → Bool
+had_cause [] = true
+had_cause (e ∷ h) = if changes_topology e then is_on causes_change changes_topology h else had_cause h
+
+-- what they tell of the topology: whether they tell of servers at all, whether it has a cause to change that it had not when it changed
+-- last, whether it had one then, and whether a server was opened or closed since
 abbrev pub topology_of : List ServerEvent → Topology
 topology_of h = record {
   is_told = was tells_state h;
   has_cause = is_on causes_change changes_topology h;
+  had_cause = had_cause h;
+  has_move = is_on comes_or_goes changes_topology h;
 }

@@ -1,6 +1,6 @@
 -- The rules: when an event breaks one, by what the events before it tell of its server and of the topology.
 use Rattle.std.specs.Prelude.{Bool, false, not, ◌&&◌, ◌||◌, ◌==◌, List, Option, Some}
-use Rattle.mdb_recording_servers.specs.ServerEvents.{kind_number, server_of_event, opens_one, uses_one, checks_one, ends_check_one, from_told, changes_topology}
+use Rattle.mdb_recording_servers.specs.ServerEvents.{kind_number, server_of_event, opens_one, uses_one, starts_check_one, ends_check_one, from_told, ends_change}
 use Rattle.mdb_recording_servers.specs.ServerLives.{server_named, topology_of}
 use Rattle.mdb_recording_servers.specs.declared.event.ServerEvent.{ServerEvent}
 use Rattle.mdb_recording_servers.specs.declared.event.ServerKind.{ServerKind}
@@ -17,14 +17,14 @@ differs _ _ = false
 abbrev pub is_broken : ServerRule → Known → ServerEvent → Bool
 -- a server is opened, and not while it is open
 is_broken OpenedTwice k e = opens_one e && k.server.is_open
--- a server is opened before other events name it, those of its checks only where the recording tells of servers
-is_broken NotOpen k e = (uses_one e || (checks_one e && k.topology.is_told)) && not k.server.is_open
+-- a server is open when it is closed or changed, and, where the recording tells of servers, when a check of it begins
+is_broken NotOpen k e = (uses_one e || (starts_check_one e && k.topology.is_told)) && not k.server.is_open
 -- a server changes from what it was
 is_broken FromDiffers k e = differs (from_told e) k.server.kind
 -- a check ends that began
 is_broken NotChecked k e = ends_check_one e && not k.server.is_checked
--- the topology changes for a cause that came after its last change
-is_broken HasNoCause k e = changes_topology e && not k.topology.has_cause
+-- the topology changes for a cause that came after the change before, or for a server that is opened or closed right behind it
+is_broken HasNoCause k e = ends_change e && not (k.topology.had_cause || k.topology.has_move)
 
 -- all that is known when an event comes after these
 abbrev pub known_of : List ServerEvent → ServerEvent → Known

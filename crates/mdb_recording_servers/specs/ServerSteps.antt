@@ -20,6 +20,9 @@ server_after told.CheckEnded x = record x { is_checked = false }
 abbrev pub topology_after : ServerEvent → Topology → Topology
 topology_after (events.Server s told.CheckStarted) x = x
 topology_after (events.Server s told.CheckEnded) x = x
-topology_after events.TopologyChanged x = record { is_told = true; has_cause = false }
+topology_after (events.Server s (told.Changed from to)) x = record x { is_told = true; has_cause = true }
+topology_after (events.Server s told.Opened) x = record x { is_told = true; has_cause = true; has_move = true }
+topology_after (events.Server s told.Closed) x = record x { is_told = true; has_cause = true; has_move = true }
+topology_after events.TopologyOpened x = record x { is_told = true; has_cause = true }
+topology_after events.TopologyChanged x = record { is_told = true; has_cause = false; had_cause = x.has_cause; has_move = false }
 topology_after events.TopologyClosed x = record x { is_told = true }
-topology_after _ x = record { is_told = true; has_cause = true }

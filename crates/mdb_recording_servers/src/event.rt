@@ -1,7 +1,7 @@
 //! What a driver's listener is told of its servers and its topology (SDAM, "Events").
 
 ghost use Rattle.std.specs.Prelude.{◌≡◌};
-ghost use Rattle.mdb_recording_servers.specs.ServerEvents.{changes_topology, checks_one, ends_check_one, from_told, kind_number, opens_one, server_of_event, uses_one};
+ghost use Rattle.mdb_recording_servers.specs.ServerEvents.{ends_change, ends_check_one, from_told, kind_number, opens_one, server_of_event, starts_check_one, uses_one};
 
 /// The kind of a server (SDAM, "ServerType").
 #[derive(Clone, Copy, Debug)]
@@ -84,14 +84,11 @@ impl ServerEvent {
         )
     }
 
-    // A check of a server begins or ends.
-    pub(crate) fn checks(&self) -> bool
-        ensures { result ≡ checks_one self.now }
+    // A check of a server begins.
+    pub(crate) fn starts_check(&self) -> bool
+        ensures { result ≡ starts_check_one self.now }
     {
-        matches!(
-            self,
-            ServerEvent::Server(_, ServerTold::CheckStarted | ServerTold::CheckEnded)
-        )
+        matches!(self, ServerEvent::Server(_, ServerTold::CheckStarted))
     }
 
     pub(crate) fn ends_check(&self) -> bool
@@ -100,10 +97,14 @@ impl ServerEvent {
         matches!(self, ServerEvent::Server(_, ServerTold::CheckEnded))
     }
 
-    pub(crate) fn changes_topology(&self) -> bool
-        ensures { result ≡ changes_topology self.now }
+    // The topology changes once more, or ends.
+    pub(crate) fn ends_change(&self) -> bool
+        ensures { result ≡ ends_change self.now }
     {
-        matches!(self, ServerEvent::TopologyChanged)
+        matches!(
+            self,
+            ServerEvent::TopologyChanged | ServerEvent::TopologyClosed
+        )
     }
 
     // The kind from which it says that its server changed.

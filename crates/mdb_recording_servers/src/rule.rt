@@ -33,11 +33,13 @@ fn is_broken(rule: ServerRule, known: &Known, event: &ServerEvent) -> bool
     match rule {
         ServerRule::OpenedTwice => event.opens() && server.is_open,
         ServerRule::NotOpen => {
-            (event.uses() || (event.checks() && known.topology.is_told)) && !server.is_open
+            (event.uses() || (event.starts_check() && known.topology.is_told)) && !server.is_open
         }
         ServerRule::FromDiffers => differs(event.from(), server.kind),
         ServerRule::NotChecked => event.ends_check() && !server.is_checked,
-        ServerRule::HasNoCause => event.changes_topology() && !known.topology.has_cause,
+        ServerRule::HasNoCause => {
+            event.ends_change() && !(known.topology.had_cause || known.topology.has_move)
+        }
     }
 }
 

@@ -12,6 +12,10 @@ pub struct Topology {
     pub is_told: bool,
     /// It was opened, or a server was opened, closed or changed, and it was not changed since.
     pub has_cause: bool,
+    /// When it changed last it had such a cause, or it did not change yet.
+    pub had_cause: bool,
+    /// A server was opened or closed since it changed last.
+    pub has_move: bool,
 }
 
 impl Topology {
@@ -19,6 +23,8 @@ impl Topology {
     pub const UNTOLD: Topology = Topology {
         is_told: false,
         has_cause: false,
+        had_cause: true,
+        has_move: false,
     };
 
     /// After an event.
@@ -27,17 +33,28 @@ impl Topology {
     {
         match event {
             ServerEvent::Server(_, ServerTold::CheckStarted | ServerTold::CheckEnded) => self,
+            ServerEvent::Server(_, ServerTold::Opened | ServerTold::Closed) => Topology {
+                is_told: true,
+                has_cause: true,
+                has_move: true,
+                ..self
+            },
+            ServerEvent::Server(_, ServerTold::Changed(_, _)) | ServerEvent::TopologyOpened => {
+                Topology {
+                    is_told: true,
+                    has_cause: true,
+                    ..self
+                }
+            }
             ServerEvent::TopologyChanged => Topology {
                 is_told: true,
                 has_cause: false,
+                had_cause: self.has_cause,
+                has_move: false,
             },
             ServerEvent::TopologyClosed => Topology {
                 is_told: true,
                 ..self
-            },
-            _ => Topology {
-                is_told: true,
-                has_cause: true,
             },
         }
     }

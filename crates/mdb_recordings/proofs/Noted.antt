@@ -1,11 +1,11 @@
 -- What is kept stands for one event more.
-use Rattle.std.proofs.Common.{ℕ, ◌+◌, ◌<◌, ◌≡◌, ◌==◌, Bool, true, false, ◌&&◌, ◌||◌, if◌then◌else◌, List, [], ◌∷◌, Option, Some, None, refl, sym, ap, subst, ◌∙◌, arith}
-use Rattle.mdb_recordings.specs.Events.{begins, clears, id_of, starts_one, ends_wait}
-use Rattle.mdb_recordings.specs.Lives.{onto, life, lives, count, numbered, waits, place, connection_of, connection_named, caller_of, caller_numbered, facts_of, turns_of}
+use Rattle.std.proofs.Common.{ℕ, ◌+◌, ◌<◌, ◌≡◌, ◌==◌, Bool, true, false, ◌&&◌, ◌||◌, not, if◌then◌else◌, List, [], ◌∷◌, Option, Some, None, refl, sym, ap, subst, ◌∙◌, arith}
+use Rattle.mdb_recordings.specs.Events.{begins, clears, pauses, id_of, starts_one, ends_wait}
+use Rattle.mdb_recordings.specs.Lives.{onto, life, lives, count, numbered, waits, place, connection_of, connection_named, caller_of, caller_numbered, facts_of, former_after, former_of, hands_out, turns_of}
 use Rattle.mdb_recordings.specs.Noting.{SetsNamed, SetsNumbered, GoesOn}
 use Rattle.mdb_recordings.specs.Rules.{glance_of}
 use Rattle.mdb_recordings.specs.Standing.{Stands}
-use Rattle.mdb_recordings.specs.Steps.{caller_after, connection_after, facts_after, turns_after}
+use Rattle.mdb_recordings.specs.Steps.{caller_after, connection_after, facts_after, former_after_event, new_connection, turns_after}
 use Rattle.mdb_recordings.specs.Tables.{pool_at, connection_at, no_connection, caller_at, no_caller, same_key}
 use Rattle.mdb_recordings.specs.declared.caller.Caller.{Caller}
 use Rattle.mdb_recordings.specs.declared.callers.Callers.{Callers}
@@ -16,6 +16,7 @@ use Rattle.mdb_recordings.specs.declared.event.Recorded.{Recorded}
 use Rattle.mdb_recordings.specs.declared.event.Told.{Told}
 use Rattle.mdb_recordings.specs.declared.event.Told.TheVariants.{PoolCreated, PoolReady, PoolCleared, PoolClosed, ConnectionCreated, ConnectionReady, ConnectionClosed, CheckOutStarted, CheckOutFailed, CheckedOut, CheckedIn}
 use Rattle.mdb_recordings.specs.declared.facts.Facts.{Facts}
+use Rattle.mdb_recordings.specs.declared.former.Former.{Former}
 use Rattle.mdb_recordings.specs.declared.glance.Glance.{Glance}
 use Rattle.mdb_recordings.specs.declared.judge.Judge.{Judge}
 use Rattle.mdb_recordings.specs.declared.pools.Pool.{Pool}
@@ -47,8 +48,22 @@ abbrev if_named : {A : Type 0} → Option ℕ → ℕ → A → A → A
 if_named None j new old = old
 if_named (Some i) j new old = if i == j then new else old
 
+-- what one event more tells of the pools before the last
+former-step : (t : Told) (l : List Event) (x : Former) → former_after t l x ≡ former_after_event t (connection_named (id_of t) l) (facts_of l) x
+former-step (PoolCreated limits) l x = refl
+former-step PoolReady l x = refl
+former-step (PoolCleared all) l x = refl
+former-step PoolClosed l x = refl
+former-step (ConnectionCreated i) l x = refl
+former-step (ConnectionReady i) l x = refl
+former-step (ConnectionClosed i reason) l x = refl
+former-step CheckOutStarted l x = refl
+former-step (CheckOutFailed reason) l x = refl
+former-step (CheckedOut i) l x = refl
+former-step (CheckedIn i) l x = refl
+
 -- what one event more tells of a connection
-connection-step : (at o : Option ℕ) (t : Told) (l : List Event) (j : ℕ) → connection_of j (record { at = at; caller = o; told = t } ∷ l) ≡ if_named (id_of t) j (connection_after t at (count clears l) (connection_of j l)) (connection_of j l)
+connection-step : (at o : Option ℕ) (t : Told) (l : List Event) (j : ℕ) → connection_of j (record { at = at; caller = o; told = t } ∷ l) ≡ if_named (id_of t) j (connection_after t at (facts_of l) (connection_of j l)) (connection_of j l)
 connection-step at o (PoolCreated limits) l j = refl
 connection-step at o PoolReady l j = refl
 connection-step at o (PoolCleared all) l j = refl
@@ -57,27 +72,52 @@ connection-step at o CheckOutStarted l j = refl
 connection-step at o (CheckOutFailed reason) l j = refl
 connection-step at o (ConnectionCreated i) l j = go (i == j)
   where
-    go : (b : Bool) → record (connection_of j l) { is_created = b || (connection_of j l).is_created } ≡ (if b then record (connection_of j l) { is_created = true } else connection_of j l)
+    old : Connection
+    old = connection_of j l
+
+    go : (b : Bool) → record {
+      is_created = b || old.is_created;
+      is_wanted = if b then hands_out (facts_of l) else old.is_wanted;
+      is_readied = not b && old.is_readied;
+      is_closed = not b && old.is_closed;
+      is_out = if b then false else old.is_out;
+      was_out = not b && old.was_out;
+      generation = if b then count clears l else old.generation;
+      readied_after = if b then 0 else old.readied_after;
+      rested_at = if b then None else old.rested_at;
+    } ≡ (if b then new_connection (facts_of l) else old)
     go true = refl
     go false = refl
 connection-step at o (ConnectionReady i) l j = go (i == j)
   where
-    go : (b : Bool) → record (connection_of j l) { is_readied = b || (connection_of j l).is_readied; generation = if b then count clears l else (connection_of j l).generation; rested_at = if b then at else (connection_of j l).rested_at } ≡ (if b then record (connection_of j l) { is_readied = true; generation = count clears l; rested_at = at } else connection_of j l)
+    old : Connection
+    old = connection_of j l
+
+    go : (b : Bool) → record old { is_readied = b || old.is_readied; readied_after = if b then count pauses l else old.readied_after; rested_at = if b then at else old.rested_at } ≡ (if b then record old { is_readied = true; readied_after = count pauses l; rested_at = at } else old)
     go true = refl
     go false = refl
 connection-step at o (ConnectionClosed i reason) l j = go (i == j)
   where
-    go : (b : Bool) → record (connection_of j l) { is_closed = b || (connection_of j l).is_closed } ≡ (if b then record (connection_of j l) { is_closed = true } else connection_of j l)
+    old : Connection
+    old = connection_of j l
+
+    go : (b : Bool) → record old { is_closed = b || old.is_closed } ≡ (if b then record old { is_closed = true } else old)
     go true = refl
     go false = refl
 connection-step at o (CheckedOut i) l j = go (i == j)
   where
-    go : (b : Bool) → record (connection_of j l) { is_out = if b then true else (connection_of j l).is_out } ≡ (if b then record (connection_of j l) { is_out = true } else connection_of j l)
+    old : Connection
+    old = connection_of j l
+
+    go : (b : Bool) → record old { is_out = if b then true else old.is_out; was_out = b || old.was_out } ≡ (if b then record old { is_out = true; was_out = true } else old)
     go true = refl
     go false = refl
 connection-step at o (CheckedIn i) l j = go (i == j)
   where
-    go : (b : Bool) → record (connection_of j l) { is_out = if b then false else (connection_of j l).is_out; rested_at = if b then at else (connection_of j l).rested_at } ≡ (if b then record (connection_of j l) { is_out = false; rested_at = at } else connection_of j l)
+    old : Connection
+    old = connection_of j l
+
+    go : (b : Bool) → record old { is_out = if b then false else old.is_out; rested_at = if b then at else old.rested_at } ≡ (if b then record old { is_out = false; rested_at = at } else old)
     go true = refl
     go false = refl
 
@@ -131,8 +171,8 @@ if_key-elsewhere : {A : Type 0} (o : Option ℕ) (p n q m j : ℕ) (new old : A)
 if_key-elsewhere None p n q m j new old u = refl
 if_key-elsewhere (Some i) p n q m j new old u = rw u refl
 
-abbrev pool_made : ℕ → Facts → Turns → Pool
-pool_made n f t = record { lives = n; facts = f; turns = t }
+abbrev pool_made : ℕ → Former → Facts → Turns → Pool
+pool_made n x f t = record { lives = n; former = x; facts = f; turns = t }
 
 apart : (p q n m : ℕ) → (p == q) ≡ false → ((p == q) && (n == m)) ≡ false
 apart p q n m u = rw u refl
@@ -187,28 +227,35 @@ module _ {A : Type 0} (r : Recorded) (h : List Recorded) (n : ℕ) (goes : begin
 
 module _ (r : Recorded) (g : Glance) (h : List Recorded) (old new : Judge) (n : ℕ) (stands : Stands h old) (known : g ≡ glance_of h r) (goes : begins r.event.told ≡ false) (own : n ≡ lives r.pool h) (step : GoesOn r g n old new) where
   -- what is known of each pool after the event
-  noted-pools : (q : ℕ) → pool_at new.pools q ≡ pool_made (lives q (r ∷ h)) (facts_of (life q (r ∷ h))) (turns_of (life q (r ∷ h)))
+  noted-pools : (q : ℕ) → pool_at new.pools q ≡ pool_made (lives q (r ∷ h)) (former_of q (r ∷ h)) (facts_of (life q (r ∷ h))) (turns_of (life q (r ∷ h)))
   noted-pools q = step.pools q ∙ go (r.pool == q) refl
     where
-      told : pool_made n (facts_after r.event.told g.connection g.facts) (turns_after r.event.told r.event.caller g.caller g.turns) ≡ pool_made n (facts_of (r.event ∷ life r.pool h)) (turns_of (r.event ∷ life r.pool h))
+      l : List Event
+      l = life r.pool h
+
+      made : Glance → Pool
+      made x = pool_made n (former_after_event r.event.told x.connection x.facts x.former) (facts_after r.event.told x.connection x.facts) (turns_after r.event.told r.event.caller x.caller x.turns)
+
+      told : made g ≡ pool_made n (former_after r.event.told l (former_of r.pool h)) (facts_of (r.event ∷ l)) (turns_of (r.event ∷ l))
       told =
-          ap (λ x. pool_made n (facts_after r.event.told x.connection x.facts) (turns_after r.event.told r.event.caller x.caller x.turns)) known
-          ∙ ap (λ f. pool_made n f (turns_after r.event.told r.event.caller (caller_numbered r.event.caller (life r.pool h)) (turns_of (life r.pool h)))) (sym (facts-step r.event.at r.event.caller r.event.told (life r.pool h)))
+          ap made known
+          ∙ ap (λ x. pool_made n x (facts_after r.event.told (connection_named (id_of r.event.told) l) (facts_of l)) (turns_of (r.event ∷ l))) (sym (former-step r.event.told l (former_of r.pool h)))
+          ∙ ap (λ f. pool_made n (former_after r.event.told l (former_of r.pool h)) f (turns_of (r.event ∷ l))) (sym (facts-step r.event.at r.event.caller r.event.told l))
 
       after : Bool → ℕ → Pool
-      after b k = pool_made (if b then 1 + lives k h else lives k h) (facts_of (if b then r.event ∷ [] else r.event ∷ life k h)) (turns_of (if b then r.event ∷ [] else r.event ∷ life k h))
+      after b k = pool_made (if b then 1 + lives k h else lives k h) (former_after r.event.told (life k h) (former_of k h)) (facts_of (if b then r.event ∷ [] else r.event ∷ life k h)) (turns_of (if b then r.event ∷ [] else r.event ∷ life k h))
 
-      here : pool_made n (facts_after r.event.told g.connection g.facts) (turns_after r.event.told r.event.caller g.caller g.turns) ≡ after (begins r.event.told) r.pool
-      here = told ∙ ap (λ m. pool_made m (facts_of (r.event ∷ life r.pool h)) (turns_of (r.event ∷ life r.pool h))) own ∙ ap (λ b. after b r.pool) (sym goes)
+      here : made g ≡ after (begins r.event.told) r.pool
+      here = told ∙ ap (λ m. pool_made m (former_after r.event.told l (former_of r.pool h)) (facts_of (r.event ∷ l)) (turns_of (r.event ∷ l))) own ∙ ap (λ b. after b r.pool) (sym goes)
 
-      go : (b : Bool) → (r.pool == q) ≡ b → (if b then pool_made n (facts_after r.event.told g.connection g.facts) (turns_after r.event.told r.event.caller g.caller g.turns) else pool_at old.pools q) ≡ pool_made (if b && begins r.event.told then 1 + lives q h else lives q h) (facts_of (if b then onto r.event (life q h) else life q h)) (turns_of (if b then onto r.event (life q h) else life q h))
+      go : (b : Bool) → (r.pool == q) ≡ b → (if b then made g else pool_at old.pools q) ≡ pool_made (if b && begins r.event.told then 1 + lives q h else lives q h) (if b then former_after r.event.told (life q h) (former_of q h) else former_of q h) (facts_of (if b then onto r.event (life q h) else life q h)) (turns_of (if b then onto r.event (life q h) else life q h))
       go true u = here ∙ ap (λ k. after (begins r.event.told) k) (same r.pool q u)
       go false u = stands.pools q
 
-  named-step : (j : ℕ) → if_named (id_of r.event.told) j (connection_after r.event.told r.event.at g.facts.clears g.connection) (connection_of j (life r.pool h)) ≡ connection_of j (r.event ∷ life r.pool h)
+  named-step : (j : ℕ) → if_named (id_of r.event.told) j (connection_after r.event.told r.event.at g.facts g.connection) (connection_of j (life r.pool h)) ≡ connection_of j (r.event ∷ life r.pool h)
   named-step j =
-      ap (λ x. if_named (id_of r.event.told) j (connection_after r.event.told r.event.at x.facts.clears x.connection) (connection_of j (life r.pool h))) known
-      ∙ named-same (id_of r.event.told) j (λ o. connection_named o (life r.pool h)) (λ i. connection_of i (life r.pool h)) (connection_after r.event.told r.event.at (count clears (life r.pool h))) (connection_of j (life r.pool h)) (λ i. refl)
+      ap (λ x. if_named (id_of r.event.told) j (connection_after r.event.told r.event.at x.facts x.connection) (connection_of j (life r.pool h))) known
+      ∙ named-same (id_of r.event.told) j (λ o. connection_named o (life r.pool h)) (λ i. connection_of i (life r.pool h)) (connection_after r.event.told r.event.at (facts_of (life r.pool h))) (connection_of j (life r.pool h)) (λ i. refl)
       ∙ sym (connection-step r.event.at r.event.caller r.event.told (life r.pool h) j)
 
   numbered-step : (j : ℕ) → if_named r.event.caller j (caller_after r.event.told (1 + g.turns.started) g.caller) (caller_of j (life r.pool h)) ≡ caller_of j (r.event ∷ life r.pool h)

@@ -106,6 +106,12 @@ abbrev pub fails_one : Told → Bool
 fails_one (CheckOutFailed reason) = true
 fails_one _ = false
 
+-- the connection is nobody's from now on: it is put back, or just created
+abbrev pub frees : ℕ → Told → Bool
+frees i (ConnectionCreated j) = j == i
+frees i (CheckedIn j) = j == i
+frees i _ = false
+
 -- the connection lies in the pool from now on
 abbrev pub rests : ℕ → Told → Bool
 rests i (ConnectionReady j) = j == i
@@ -142,6 +148,4 @@ needs_pool PoolReady = true
 needs_pool (PoolCleared all) = true
 needs_pool PoolClosed = true
 needs_pool (ConnectionCreated i) = true
-needs_pool (ConnectionReady i) = true
-needs_pool (CheckedOut i) = true
 needs_pool _ = false

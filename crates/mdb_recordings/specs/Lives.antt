@@ -1,6 +1,6 @@
 -- What the events of one pool tell, newest first, since it was created.
-use Rattle.std.specs.Prelude.{ℕ, ◌+◌, Bool, true, false, not, ◌&&◌, ◌||◌, ◌==◌, nat_lt, is_some, if◌then◌else◌, List, [], ◌∷◌, Option, Some, None}
-use Rattle.mdb_recordings.specs.Events.{begins, turns_ready, clears, pauses, closes_pool, creates_one, creates, readies_one, readies, closes_one, closes, checks_out_one, checks_out, checks_in_one, checks_in, fails_one, breaks_one, rests, starts_one, ends_wait, serves}
+use Rattle.std.specs.Prelude.{ℕ, ◌+◌, ◌-◌, Bool, true, false, not, ◌&&◌, ◌||◌, ◌==◌, nat_lt, is_some, if◌then◌else◌, List, [], ◌∷◌, Option, Some, None}
+use Rattle.mdb_recordings.specs.Events.{begins, turns_ready, clears, pauses, closes_pool, creates_one, creates, readies_one, readies, closes, checks_out_one, checks_out, checks_in_one, frees, fails_one, breaks_one, rests, starts_one, ends_wait, serves}
 use Rattle.mdb_recordings.specs.declared.event.Event.{Event}
 use Rattle.mdb_recordings.specs.declared.event.Recorded.{Recorded}
 use Rattle.mdb_recordings.specs.declared.event.Limits.{Limits}
@@ -8,6 +8,7 @@ use Rattle.mdb_recordings.specs.declared.event.Told.{Told}
 use Rattle.mdb_recordings.specs.declared.event.Told.TheVariants.{PoolCreated, ConnectionClosed}
 use Rattle.mdb_recordings.specs.declared.connection.Connection.{Connection}
 use Rattle.mdb_recordings.specs.declared.facts.Facts.{Facts}
+use Rattle.mdb_recordings.specs.declared.former.Former.{Former}
 use Rattle.mdb_recordings.specs.declared.caller.Caller.{Caller}
 use Rattle.mdb_recordings.specs.declared.turns.Turns.{Turns}
 
@@ -40,34 +41,6 @@ abbrev pub is_on : (Told → Bool) → (Told → Bool) → List Event → Bool
 is_on on off [] = false
 is_on on off (e ∷ l) = if on e.told then true else (if off e.told then false else is_on on off l)
 
--- of a connection
-
--- how often the pool had been cleared when the connection became ready
-abbrev pub generation : ℕ → List Event → ℕ
-generation i [] = 0
-generation i (e ∷ l) = if readies i e.told then count clears l else generation i l
-
--- when the connection was put into the pool last, as far as that was told
-abbrev pub rested_at : ℕ → List Event → Option ℕ
-rested_at i [] = None
-rested_at i (e ∷ l) = if rests i e.told then e.at else rested_at i l
-
--- what the events tell of a connection
-abbrev pub connection_of : ℕ → List Event → Connection
-connection_of i l = record {
-  is_created = was (creates i) l;
-  is_readied = was (readies i) l;
-  is_closed = was (closes i) l;
-  is_out = is_on (checks_out i) (checks_in i) l;
-  generation = generation i l;
-  rested_at = rested_at i l;
-}
-
--- what they tell of the connection that is named, if one is
-abbrev pub connection_named : Option ℕ → List Event → Connection
-connection_named None l = connection_of 0 []
-connection_named (Some i) l = connection_of i l
-
 -- of the pool
 
 -- the options that it tells, or else these
@@ -75,17 +48,32 @@ abbrev pub limits_told : Told → Limits → Limits
 limits_told (PoolCreated limits) old = limits
 limits_told _ old = old
 
--- the options with which the pool was created; none but the standard's where that was not told
+-- the options with which the pool was created; none where that was not told
 abbrev pub limits_of : List Event → Limits
-limits_of [] = record { max_size = 0; max_connecting = 2; max_idle = 0 }
+limits_of [] = record { max_size = 0; max_connecting = 0; max_idle = 0; is_load_balanced = false }
 limits_of (e ∷ l) = limits_told e.told (limits_of l)
 
--- it tells of the end of a connection that was not ready yet
+-- some event of that kind came since the connection was created last
+abbrev pub was_since : ℕ → (Told → Bool) → List Event → Bool
+was_since i kind [] = false
+was_since i kind (e ∷ l) = not (creates i e.told) && (kind e.told || was_since i kind l)
+
+-- it tells of the end of a connection that the pool created
+abbrev pub ends : Told → List Event → Bool
+ends (ConnectionClosed i reason) l = was (creates i) l
+ends _ l = false
+
+-- how many of its connections ended
+abbrev pub ended : List Event → ℕ
+ended [] = 0
+ended (e ∷ l) = if ends e.told l then 1 + ended l else ended l
+
+-- it tells of the end of a connection that the pool created and that was not ready yet
 abbrev pub drops : Told → List Event → Bool
-drops (ConnectionClosed i reason) l = not (was (readies i) l)
+drops (ConnectionClosed i reason) l = was (creates i) l && not (was_since i (readies i) l)
 drops _ l = false
 
--- how many connections ended before they were ready
+-- how many of its connections ended before they were ready
 abbrev pub dropped : List Event → ℕ
 dropped [] = 0
 dropped (e ∷ l) = if drops e.told l then 1 + dropped l else dropped l
@@ -99,15 +87,78 @@ facts_of l = record {
   is_closed = was closes_pool l;
   has_error = was breaks_one l;
   clears = count clears l;
+  pauses = count pauses l;
   created = count creates_one l;
   readied = count readies_one l;
-  closed = count closes_one l;
+  closed = ended l;
   dropped = dropped l;
   started = count starts_one l;
   outs = count checks_out_one l;
   ins = count checks_in_one l;
   failed = count fails_one l;
 }
+
+-- A pool hands out connections while it is ready. Behind a load balancer it is ready from its creation to its end, whether it is told or not.
+abbrev pub hands_out : Facts → Bool
+hands_out f = f.is_ready || (f.limits.is_load_balanced && not f.is_closed)
+
+-- connections that were created and not closed
+abbrev pub live : Facts → ℕ
+live f = f.created - f.closed
+
+-- of a connection
+
+-- the pool handed out connections when this one was created
+abbrev pub was_wanted : ℕ → List Event → Bool
+was_wanted i [] = false
+was_wanted i (e ∷ l) = if creates i e.told then hands_out (facts_of l) else was_wanted i l
+
+-- how often the pool had been cleared when the connection was created
+abbrev pub generation : ℕ → List Event → ℕ
+generation i [] = 0
+generation i (e ∷ l) = if creates i e.told then count clears l else generation i l
+
+-- how often the pool had been paused when the connection became ready
+abbrev pub readied_after : ℕ → List Event → ℕ
+readied_after i [] = 0
+readied_after i (e ∷ l) = if creates i e.told then 0 else (if readies i e.told then count pauses l else readied_after i l)
+
+-- when the connection was put into the pool last, as far as that was told
+abbrev pub rested_at : ℕ → List Event → Option ℕ
+rested_at i [] = None
+rested_at i (e ∷ l) = if creates i e.told then None else (if rests i e.told then e.at else rested_at i l)
+
+-- what the events tell of a connection, since one with its id was created last
+abbrev pub connection_of : ℕ → List Event → Connection
+connection_of i l = record {
+  is_created = was (creates i) l;
+  is_wanted = was_wanted i l;
+  is_readied = was_since i (readies i) l;
+  is_closed = was_since i (closes i) l;
+  is_out = is_on (checks_out i) (frees i) l;
+  was_out = was_since i (checks_out i) l;
+  generation = generation i l;
+  readied_after = readied_after i l;
+  rested_at = rested_at i l;
+}
+
+-- what they tell of the connection that is named, if one is
+abbrev pub connection_named : Option ℕ → List Event → Connection
+connection_named None l = connection_of 0 []
+connection_named (Some i) l = connection_of i l
+
+-- of the pools that were at the address before
+
+-- what is known of former pools after an event, which comes after these of the last pool
+abbrev pub former_after : Told → List Event → Former → Former
+former_after (PoolCreated limits) l x = record { is_closed = was closes_pool l || x.is_closed; left = x.left + live (facts_of l) }
+former_after (ConnectionClosed i reason) l x = if was (creates i) l then x else record x { left = x.left - 1 }
+former_after _ l x = x
+
+-- whether one of them was closed, and how many of their connections are not
+abbrev pub former_of : ℕ → List Recorded → Former
+former_of p [] = record { is_closed = false; left = 0 }
+former_of p (r ∷ h) = if r.pool == p then former_after r.event.told (life p h) (former_of p h) else former_of p h
 
 -- of numbered check-outs
 

@@ -1,30 +1,45 @@
 -- What one event more changes in what is known of a connection and of its pool.
-use Rattle.std.specs.Prelude.{ℕ, ◌+◌, true, false, not, ◌&&◌, ◌||◌, is_some, if◌then◌else◌, Option}
+use Rattle.std.specs.Prelude.{ℕ, ◌+◌, ◌-◌, true, false, not, ◌&&◌, ◌||◌, is_some, if◌then◌else◌, Option, None}
 use Rattle.mdb_recordings.specs.Events.{is_error, starts_one, ends_wait}
-use Rattle.mdb_recordings.specs.Lives.{latest_after}
+use Rattle.mdb_recordings.specs.Lives.{hands_out, latest_after, live}
 use Rattle.mdb_recordings.specs.declared.event.CloseReason.{CloseReason}
 use Rattle.mdb_recordings.specs.declared.event.Told.{Told}
 use Rattle.mdb_recordings.specs.declared.event.Told.TheVariants.{PoolCreated, PoolReady, PoolCleared, PoolClosed, ConnectionCreated, ConnectionReady, ConnectionClosed, CheckOutStarted, CheckOutFailed, CheckedOut, CheckedIn}
 use Rattle.mdb_recordings.specs.declared.connection.Connection.{Connection}
 use Rattle.mdb_recordings.specs.declared.facts.Facts.{Facts}
+use Rattle.mdb_recordings.specs.declared.former.Former.{Former}
 use Rattle.mdb_recordings.specs.declared.caller.Caller.{Caller}
 use Rattle.mdb_recordings.specs.declared.turns.Turns.{Turns}
 
--- a connection after an event of that time that names it, where the pool was cleared so often before
-abbrev pub connection_after : Told → Option ℕ → ℕ → Connection → Connection
-connection_after (ConnectionCreated i) at clears c = record c { is_created = true }
-connection_after (ConnectionReady i) at clears c = record c { is_readied = true; generation = clears; rested_at = at }
-connection_after (ConnectionClosed i reason) at clears c = record c { is_closed = true }
-connection_after (CheckedOut i) at clears c = record c { is_out = true }
-connection_after (CheckedIn i) at clears c = record c { is_out = false; rested_at = at }
-connection_after _ at clears c = c
+-- a connection of the pool that was just created
+abbrev pub new_connection : Facts → Connection
+new_connection f = record {
+  is_created = true;
+  is_wanted = hands_out f;
+  is_readied = false;
+  is_closed = false;
+  is_out = false;
+  was_out = false;
+  generation = f.clears;
+  readied_after = 0;
+  rested_at = None;
+}
+
+-- a connection after an event of that time that names it, where so much was known of its pool before
+abbrev pub connection_after : Told → Option ℕ → Facts → Connection → Connection
+connection_after (ConnectionCreated i) at f c = new_connection f
+connection_after (ConnectionReady i) at f c = record c { is_readied = true; readied_after = f.pauses; rested_at = at }
+connection_after (ConnectionClosed i reason) at f c = record c { is_closed = true }
+connection_after (CheckedOut i) at f c = record c { is_out = true; was_out = true }
+connection_after (CheckedIn i) at f c = record c { is_out = false; rested_at = at }
+connection_after _ at f c = c
 
 -- a pool after the end of the connection
 abbrev pub facts_once_closed : CloseReason → Connection → Facts → Facts
 facts_once_closed reason c f = record f {
   has_error = is_error reason || f.has_error;
-  closed = 1 + f.closed;
-  dropped = if not c.is_readied then 1 + f.dropped else f.dropped;
+  closed = if c.is_created then 1 + f.closed else f.closed;
+  dropped = if c.is_created && not c.is_readied then 1 + f.dropped else f.dropped;
 }
 
 -- a pool after an event of the connection
@@ -42,9 +57,15 @@ facts_after_connection _ c f = f
 abbrev pub facts_after : Told → Connection → Facts → Facts
 facts_after (PoolCreated limits) c f = record f { limits = limits; is_created = true }
 facts_after PoolReady c f = record f { is_ready = true }
-facts_after (PoolCleared all) c f = if all then record f { is_ready = false; clears = 1 + f.clears } else f
-facts_after PoolClosed c f = record f { is_ready = false; is_closed = true }
+facts_after (PoolCleared all) c f = if all then record f { is_ready = false; clears = 1 + f.clears; pauses = 1 + f.pauses } else f
+facts_after PoolClosed c f = record f { is_ready = false; is_closed = true; pauses = 1 + f.pauses }
 facts_after told c f = facts_after_connection told c f
+
+-- what is known of former pools after an event, which may begin a pool or name the connection
+abbrev pub former_after_event : Told → Connection → Facts → Former → Former
+former_after_event (PoolCreated limits) c f x = record { is_closed = f.is_closed || x.is_closed; left = x.left + live f }
+former_after_event (ConnectionClosed i reason) c f x = if c.is_created then x else record x { left = x.left - 1 }
+former_after_event _ c f x = x
 
 -- a check-out after an event that has its number; one that starts has the place n
 abbrev pub caller_after : Told → ℕ → Caller → Caller

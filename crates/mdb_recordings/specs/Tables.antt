@@ -1,7 +1,7 @@
 -- What stands in the tables of pools and connections.
 use Rattle.std.specs.Prelude.{ℕ, Bool, ◌&&◌, ◌==◌, [], unwrap_or}
 use Rattle.std.specs.HashMap.{get}
-use Rattle.mdb_recordings.specs.Lives.{caller_of, connection_of, facts_of, turns_of}
+use Rattle.mdb_recordings.specs.Lives.{caller_of, connection_of, facts_of, former_of, turns_of}
 use Rattle.mdb_recordings.specs.declared.caller.Caller.{Caller}
 use Rattle.mdb_recordings.specs.declared.callers.Callers.{Callers}
 use Rattle.mdb_recordings.specs.declared.connection.Connection.{Connection}
@@ -31,7 +31,7 @@ caller_at t p n i = unwrap_or (get (λ x y. same_key x.0 x.1 x.2 y.0 y.1 y.2) t.
 
 -- an address at which nothing was told
 abbrev pub no_pool : Pool
-no_pool = record { lives = 0; facts = facts_of []; turns = turns_of [] }
+no_pool = record { lives = 0; former = former_of 0 []; facts = facts_of []; turns = turns_of [] }
 
 abbrev pub pool_at : Pools → ℕ → Pool
 pool_at t p = unwrap_or (get (λ x y. x == y) t.map p) no_pool

@@ -8,10 +8,12 @@ ghost use Rattle.mdb_recordings.specs.Events.{begins, creates_one, readies_one, 
 pub struct Limits {
     /// The most connections; 0 for no limit.
     pub max_size: u64,
-    /// The most connections that are pending at once.
+    /// The most connections that are pending at once; 0 where that is not told.
     pub max_connecting: u64,
     /// How long a connection may stay idle, in milliseconds; 0 for no limit.
     pub max_idle: u64,
+    /// The pool is behind a load balancer.
+    pub is_load_balanced: bool,
 }
 
 /// Why a connection was closed.
@@ -21,8 +23,7 @@ pub enum CloseReason {
     Stale,
     Error,
     PoolClosed,
-    /// Any other word, or none.
-    Other,
+    Untold,
 }
 
 /// Why a check-out failed.
@@ -31,8 +32,7 @@ pub enum FailReason {
     Timeout,
     ConnectionError,
     PoolClosed,
-    /// Any other word, or none.
-    Other,
+    Untold,
 }
 
 /// What an event tells of its pool. A connection is named by its id.
@@ -96,12 +96,7 @@ impl Told {
     {
         matches!(
             self,
-            Told::PoolReady
-                | Told::PoolCleared(_)
-                | Told::PoolClosed
-                | Told::ConnectionCreated(_)
-                | Told::ConnectionReady(_)
-                | Told::CheckedOut(_)
+            Told::PoolReady | Told::PoolCleared(_) | Told::PoolClosed | Told::ConnectionCreated(_)
         )
     }
 

@@ -1,6 +1,7 @@
 //! What is known of one pool.
 
-ghost use Rattle.std.specs.Prelude.{◌≡◌, ◌+◌, IfOk};
+ghost use Rattle.std.specs.Prelude.{◌≡◌, ◌+◌, ◌-◌, IfOk, if◌then◌else◌};
+ghost use Rattle.mdb_recordings.specs.Lives.{hands_out, live};
 ghost use Rattle.mdb_recordings.specs.Steps.{facts_after, facts_after_connection, facts_once_closed};
 
 use crate::connection::Connection;
@@ -18,7 +19,9 @@ pub struct Facts {
     pub has_error: bool,
     /// How often all of it was cleared.
     pub clears: u64,
-    /// Connections that were created, became ready, and were closed.
+    /// How often it was cleared or closed.
+    pub pauses: u64,
+    /// Connections that were created, became ready, and were closed after they were created.
     pub created: u64,
     pub readied: u64,
     pub closed: u64,
@@ -41,19 +44,41 @@ pub(crate) fn one_more(count: u64) -> Result<u64, OutOfMemory>
     }
 }
 
+fn one_more_if(is_more: bool, count: u64) -> Result<u64, OutOfMemory>
+    ensures { IfOk result (λ n. n ≡ if is_more then 1 + count else count) }
+{
+    if is_more { one_more(count) } else { Ok(count) }
+}
+
+/// It is ready, or behind a load balancer and not closed.
+pub(crate) fn hands_out(facts: &Facts) -> bool
+    ensures { result ≡ hands_out facts.now }
+{
+    facts.is_ready || (facts.limits.is_load_balanced && !facts.is_closed)
+}
+
+/// Connections that were created and not closed.
+pub(crate) fn live(facts: &Facts) -> u64
+    ensures { result ≡ live facts.now }
+{
+    facts.created.saturating_sub(facts.closed)
+}
+
 impl Facts {
     /// Nothing was told of it.
     pub const UNTOLD: Facts = Facts {
         limits: Limits {
             max_size: 0,
-            max_connecting: 2,
+            max_connecting: 0,
             max_idle: 0,
+            is_load_balanced: false,
         },
         is_created: false,
         is_ready: false,
         is_closed: false,
         has_error: false,
         clears: 0,
+        pauses: 0,
         created: 0,
         readied: 0,
         closed: 0,
@@ -80,17 +105,23 @@ impl Facts {
             }),
             Told::PoolCleared(true) => {
                 let clears = one_more(self.clears)?;
+                let pauses = one_more(self.pauses)?;
                 Ok(Facts {
                     is_ready: false,
                     clears,
+                    pauses,
                     ..self
                 })
             }
-            Told::PoolClosed => Ok(Facts {
-                is_ready: false,
-                is_closed: true,
-                ..self
-            }),
+            Told::PoolClosed => {
+                let pauses = one_more(self.pauses)?;
+                Ok(Facts {
+                    is_ready: false,
+                    is_closed: true,
+                    pauses,
+                    ..self
+                })
+            }
             _ => self.after_connection(told, connection),
         }
     }
@@ -132,12 +163,9 @@ impl Facts {
     fn once_closed(self, reason: CloseReason, connection: &Connection) -> Result<Facts, OutOfMemory>
         ensures { IfOk result (λ x. x ≡ facts_once_closed reason connection.now self) }
     {
-        let closed = one_more(self.closed)?;
-        let dropped = if !connection.is_readied {
-            one_more(self.dropped)?
-        } else {
-            self.dropped
-        };
+        let closed = one_more_if(connection.is_created, self.closed)?;
+        let is_dropped = connection.is_created && !connection.is_readied;
+        let dropped = one_more_if(is_dropped, self.dropped)?;
         let has_error = matches!(reason, CloseReason::Error) || self.has_error;
         Ok(Facts {
             has_error,

@@ -2,7 +2,7 @@
 
 ghost use Rattle.std.specs.Prelude.{◌≡◌, ◌∷◌, [], List, OnOk};
 ghost use Rattle.mdb_recordings.specs.declared.event.Recorded.{Recorded as Event_};
-ghost use Rattle.mdb_recordings.specs.Lives.{facts_of, life};
+ghost use Rattle.mdb_recordings.specs.Lives.{facts_of, former_of, life};
 ghost use Rattle.mdb_recordings.specs.Noting.{Begins, GoesOn, Names};
 ghost use Rattle.mdb_recordings.specs.Rules.{glance_of};
 ghost use Rattle.mdb_recordings.specs.Standing.{Stands};
@@ -13,6 +13,7 @@ use crate::connection::Connection;
 use crate::connections::Connections;
 use crate::event::Recorded;
 use crate::facts::{Facts, one_more};
+use crate::former::Former;
 use crate::glance::Glance;
 use crate::pools::{Pool, Pools};
 use crate::turns::Turns;
@@ -53,6 +54,7 @@ impl Judge {
             None => Caller::UNTOLD,
         };
         Glance {
+            former: pool.former,
             facts: pool.facts,
             connection,
             turns: pool.turns,
@@ -67,15 +69,25 @@ impl Judge {
         self.pools.get(pool).facts
     }
 
-    // A pool begins at an address at which so many began before.
-    fn begin(&mut self, recorded: &Recorded, lives: u64) -> Result<(), OutOfMemory>
-        ensures { OnOk result (Begins recorded.now lives self.old self.new) }
+    /// What is known of the pools at an address before the last.
+    pub fn former(&self, pool: u32) -> Former
+        ensures { (h : List Event_) → Stands h self.now → result ≡ former_of pool h }
     {
+        self.pools.get(pool).former
+    }
+
+    // A pool begins at an address at which so many began before, and of which so much is known.
+    fn begin(&mut self, recorded: &Recorded, known: &Glance, lives: u64) -> Result<(), OutOfMemory>
+        ensures { OnOk result (Begins recorded.now known.now lives self.old self.new) }
+    {
+        let told = &recorded.event.told;
         let lives = one_more(lives)?;
-        let facts = Facts::UNTOLD.after(&recorded.event.told, &Connection::UNTOLD)?;
+        let former = known.former.after(told, &known.connection, &known.facts)?;
+        let facts = Facts::UNTOLD.after(told, &Connection::UNTOLD)?;
         let turns = Turns::UNTOLD;
         let pool = Pool {
             lives,
+            former,
             facts,
             turns,
         };
@@ -88,7 +100,7 @@ impl Judge {
     {
         let event = &recorded.event;
         if let Some(id) = event.told.id() {
-            let connection = known.connection.after(event, known.facts.clears);
+            let connection = known.connection.after(event, &known.facts);
             self.connections
                 .set((recorded.pool, lives, id), connection)?;
         }
@@ -105,11 +117,15 @@ impl Judge {
         ensures { OnOk result (GoesOn recorded.now known.now lives self.old self.new) }
     {
         let event = &recorded.event;
+        let former = known
+            .former
+            .after(&event.told, &known.connection, &known.facts)?;
         let facts = known.facts.after(&event.told, &known.connection)?;
         let turns = known.turns.after(event, &known.caller)?;
         self.name(recorded, known, lives)?;
         let pool = Pool {
             lives,
+            former,
             facts,
             turns,
         };
@@ -122,7 +138,7 @@ impl Judge {
     {
         let lives = self.pools.get(recorded.pool).lives;
         if recorded.event.told.begins() {
-            self.begin(recorded, lives)?;
+            self.begin(recorded, known, lives)?;
         } else {
             self.go_on(recorded, known, lives)?;
         }

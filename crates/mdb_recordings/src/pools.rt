@@ -4,15 +4,17 @@ ghost use Rattle.std.specs.Prelude.{◌≡◌, ◌==◌, ℕ, OnOk, if◌then◌
 ghost use Rattle.mdb_recordings.specs.Tables.{pool_at, no_pool};
 
 use crate::facts::Facts;
+use crate::former::Former;
 use crate::turns::Turns;
 use mdb_base::OutOfMemory;
 use std::alloc::Global;
 use std::collections::HashMap;
 
-/// The pool at an address: how often one was created there, and what is known of the last.
+/// The pool at an address: how often one was created there, and what is known of the last and of those before it.
 #[derive(Clone, Copy, Debug)]
 pub struct Pool {
     pub lives: u64,
+    pub former: Former,
     pub facts: Facts,
     pub turns: Turns,
 }
@@ -40,6 +42,7 @@ impl Pools {
             Some(known) => *known,
             None => Pool {
                 lives: 0,
+                former: Former::UNTOLD,
                 facts: Facts::UNTOLD,
                 turns: Turns::UNTOLD,
             },

@@ -1,13 +1,14 @@
 //! The rules that a driver's pools keep, and when an event breaks one.
 
 ghost use Rattle.std.specs.Prelude.{◌≡◌, ◌-◌, List};
-ghost use Rattle.mdb_recordings.specs.Rules.{breaks, fails_unfounded, glance_of, has_rule, is_broken, is_passed, is_past, is_seen, is_unfounded, live, pending};
+ghost use Rattle.mdb_recordings.specs.Rules.{breaks, fails_unfounded, glance_of, has_rule, is_broken, is_first, is_passed, is_past, is_seen, is_unfounded, may_be_former, pending};
 ghost use Rattle.mdb_recordings.specs.declared.event.Recorded.{Recorded as Event_};
 
 use crate::caller::Caller;
 use crate::connection::Connection;
 use crate::event::{Event, FailReason, Recorded, Told};
-use crate::facts::Facts;
+use crate::facts::{Facts, hands_out, live};
+use crate::former::Former;
 use crate::glance::Glance;
 use crate::standard::Standard;
 use crate::turns::Turns;
@@ -36,12 +37,6 @@ pub enum Rule {
     OutOfTurn,
 }
 
-fn live(facts: &Facts) -> u64
-    ensures { result ≡ live facts.now }
-{
-    facts.created.saturating_sub(facts.closed)
-}
-
 fn pending(facts: &Facts) -> u64
     ensures { result ≡ pending facts.now }
 {
@@ -62,22 +57,31 @@ fn is_past(most: u64, since: Option<u64>, now: Option<u64>) -> bool
     }
 }
 
-fn is_unfounded(reason: FailReason, facts: &Facts) -> bool
-    ensures { result ≡ is_unfounded reason facts.now }
+// The connection was not handed out yet, and its pool was not paused since it became ready.
+fn is_first(facts: &Facts, connection: &Connection) -> bool
+    ensures { result ≡ is_first facts.now connection.now }
+{
+    !connection.was_out && facts.pauses <= connection.readied_after
+}
+
+fn is_unfounded(reason: FailReason, former: &Former, facts: &Facts) -> bool
+    ensures { result ≡ is_unfounded reason former.now facts.now }
 {
     match reason {
         FailReason::Timeout => false,
-        FailReason::PoolClosed => !facts.is_closed,
-        FailReason::ConnectionError => facts.is_ready && (!facts.has_error && !(0 < facts.clears)),
-        FailReason::Other => true,
+        FailReason::PoolClosed => !(former.is_closed || facts.is_closed),
+        FailReason::ConnectionError => {
+            !former.is_closed && (hands_out(facts) && (!facts.has_error && !(0 < facts.clears)))
+        }
+        FailReason::Untold => true,
     }
 }
 
-fn fails_unfounded(told: &Told, facts: &Facts) -> bool
-    ensures { result ≡ fails_unfounded told.now facts.now }
+fn fails_unfounded(told: &Told, former: &Former, facts: &Facts) -> bool
+    ensures { result ≡ fails_unfounded told.now former.now facts.now }
 {
     match told {
-        Told::CheckOutFailed(reason) => is_unfounded(*reason, facts),
+        Told::CheckOutFailed(reason) => is_unfounded(*reason, former, facts),
         _ => false,
     }
 }
@@ -101,8 +105,12 @@ fn is_broken(rule: Rule, f: &Facts, c: &Connection, e: &Event) -> bool
     match rule {
         Rule::PoolCreatedTwice => told.begins() && (f.is_created && !f.is_closed),
         Rule::PoolNotCreated => !told.begins() && !f.is_created,
-        Rule::PoolIsClosed => told.needs_pool() && f.is_closed,
-        Rule::PoolNotReady => told.checks_out() && !f.is_ready,
+        Rule::PoolIsClosed => {
+            f.is_closed && (told.needs_pool() || (told.checks_out() && !is_first(f, c)))
+        }
+        Rule::PoolNotReady => {
+            told.checks_out() && (!hands_out(f) && !(c.is_wanted && is_first(f, c)))
+        }
         Rule::CreatedTwice => told.creates() && c.is_created,
         Rule::NotCreated => told.uses() && !c.is_created,
         Rule::ReadiedTwice => told.readies() && c.is_readied,
@@ -112,14 +120,15 @@ fn is_broken(rule: Rule, f: &Facts, c: &Connection, e: &Event) -> bool
         Rule::ClosedTwice => told.closes() && c.is_closed,
         Rule::IsClosed => told.goes_on() && c.is_closed,
         Rule::ClosedWhileOut => told.closes() && c.is_out,
-        Rule::IsStale => told.checks_out() && c.generation < f.clears,
+        Rule::IsStale => told.checks_out() && (c.generation < f.clears && !is_first(f, c)),
         Rule::IsIdle => told.checks_out() && is_past(f.limits.max_idle, c.rested_at, e.at),
         Rule::TooMany => {
             told.creates() && (0 < f.limits.max_size && f.limits.max_size <= live(f))
         }
-        Rule::TooManyPending => told.creates() && f.limits.max_connecting <= pending(f),
-        Rule::HasNoReason => fails_unfounded(told, f),
-        Rule::OutOfTurn => false,
+        Rule::TooManyPending => {
+            told.creates() && (0 < f.limits.max_connecting && f.limits.max_connecting <= pending(f))
+        }
+        Rule::HasNoReason | Rule::OutOfTurn => false,
     }
 }
 
@@ -130,12 +139,23 @@ fn is_passed(told: &Told, turns: &Turns, caller: &Caller) -> bool
     told.ends_wait() && (caller.is_waiting && caller.place < turns.latest)
 }
 
+// The event may use a connection that a former pool at the address left open.
+fn may_be_former(told: &Told, former: &Former) -> bool
+    ensures { result ≡ may_be_former told.now former.now }
+{
+    told.uses() && 0 < former.left
+}
+
 fn is_seen(rule: Rule, known: &Glance, event: &Event) -> bool
     ensures { result ≡ is_seen rule known.now event.now }
 {
     match rule {
         Rule::OutOfTurn => is_passed(&event.told, &known.turns, &known.caller),
-        _ => is_broken(rule, &known.facts, &known.connection, event),
+        Rule::HasNoReason => fails_unfounded(&event.told, &known.former, &known.facts),
+        _ => {
+            !may_be_former(&event.told, &known.former)
+                && is_broken(rule, &known.facts, &known.connection, event)
+        }
     }
 }
 

@@ -8,6 +8,9 @@ use Rattle.mdb_recording_runs.proofs.reader.Reader.take_line.Goals as goal
 pub returns-in-Malformed : goal.returns-in-Malformed
 returns-in-Malformed c = subst (λ x. OnOk c.take_malformed.result ((standard : Standard) (s : Read) (text : List ℕ) → Keeps standard s text c.args.self.now → Keeps standard (after_said standard s (line_view x)) (text ++ said_text standard c.args.number s (line_view x)) c.take_malformed.new.self)) (sym c.in-Malformed.is) c.take_malformed.ensures
 
+pub returns-in-Passed : goal.returns-in-Passed
+returns-in-Passed c = subst (λ x. OnOk c.pass_over.result ((standard : Standard) (s : Read) (text : List ℕ) → Keeps standard s text c.args.self.now → Keeps standard (after_said standard s (line_view x)) (text ++ said_text standard c.args.number s (line_view x)) c.pass_over.new.self)) (sym c.in-Passed.is) c.pass_over.ensures
+
 pub returns-in-Told : goal.returns-in-Told
 returns-in-Told c = subst (λ x. OnOk c.take_event.result ((standard : Standard) (s : Read) (text : List ℕ) → Keeps standard s text c.args.self.now → Keeps standard (after_said standard s (line_view x)) (text ++ said_text standard c.args.number s (line_view x)) c.take_event.new.self)) (sym c.in-Told.is) c.take_event.ensures
 

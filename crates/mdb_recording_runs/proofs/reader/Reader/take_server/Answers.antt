@@ -10,4 +10,4 @@ returns c = λ standard s text keeps.
     let named = c.in_ok-server.ensures s.servers keeps.servers in
     subst (λ e. Keeps standard (after_seen (naming a s) e) (text ++ server_findings_text s.server_history c.args.number (Some a) e) c.take_seen.new.self)
     (server-is s a c.in_ok-server.server c.args.told _ named)
-    (c.in_ok-take_seen.ensures standard (naming a s) text (server-named standard s text c.args.self.now _ c.in_ok-server.server a keeps named refl refl refl refl refl refl refl refl))
+    (c.in_ok-take_seen.ensures standard (naming a s) text (server-named standard s text c.args.self.now _ c.in_ok-server.server a keeps named refl refl refl refl refl refl refl refl refl))

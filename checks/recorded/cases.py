@@ -1,0 +1,114 @@
+#!/usr/bin/env python3
+"""Small recordings, and what the standards say of each: which events break which rule, and the last line.
+
+usage: checks/recorded/cases.py PROGRAM
+
+PROGRAM is mdb_recorded. What is wanted is worked out from CMAP and SDAM and not from what the program says. checks/recorded/plain.py is asked the same.
+"""
+import collections
+import json
+import subprocess
+import sys
+
+import plain
+
+# A line is `EVENT [CONNECTION] [KEY=VALUE ..]`: events by their short names below, the connection by its number, values as JSON or else as text.
+EVENTS = {
+    'pool': 'ConnectionPoolCreated', 'ready': 'ConnectionPoolReady', 'clear': 'ConnectionPoolCleared', 'close': 'ConnectionPoolClosed', 'start': 'ConnectionCheckOutStarted',
+    'fail': 'ConnectionCheckOutFailed', 'create': 'ConnectionCreated', 'established': 'ConnectionReady', 'out': 'ConnectionCheckedOut', 'in': 'ConnectionCheckedIn', 'end': 'ConnectionClosed',
+    'topology': 'TopologyOpening', 'change': 'TopologyDescriptionChanged', 'last': 'TopologyClosed', 'open': 'ServerOpening', 'server': 'ServerDescriptionChanged', 'gone': 'ServerClosed',
+    'check': 'ServerHeartbeatStarted', 'good': 'ServerHeartbeatSucceeded', 'bad': 'ServerHeartbeatFailed',
+}
+Case = collections.namedtuple('Case', 'name lines findings status last', defaults=('',))
+KEPT, BROKEN, NOTHING = 0, 7, 8
+
+ONE = ['pool', 'ready', 'start', 'create 1', 'established 1', 'out 1']
+SERVED = ['start', 'out 1', 'in 1']
+
+CASES = [
+    Case('one check-out', ONE + ['in 1'], [], KEPT, 'clean events=7 passed_over=0'),
+    # CMAP, "Checking Out a Connection": the state of the pool is tested before a connection is established, and not behind that
+    Case('a connection that was pending at a clear is handed out of a paused pool', ONE[:4] + ['clear', 'established 1', 'out 1'], [], KEPT),
+    Case('it is handed out of the pool that is ready again', ONE[:4] + ['clear', 'ready', 'established 1', 'out 1'], [], KEPT),
+    Case('it is handed out once, and stale behind that', ONE[:4] + ['clear', 'established 1', 'out 1', 'in 1', 'ready', 'start', 'out 1'], ['11 stale'], BROKEN),
+    Case('what was ready at a clear is not handed out', ONE[:5] + ['clear', 'out 1'], ['7 pool-not-ready', '7 stale'], BROKEN),
+    Case('a pool is paused at first', ['pool', 'start', 'create 1', 'established 1', 'out 1'], ['5 pool-not-ready'], BROKEN),
+    Case('what is pending when its pool is closed may be established and handed out', ONE[:4] + ['close', 'established 1', 'out 1', 'in 1', 'end 1 reason=poolClosed'], [], KEPT),
+    Case('what was ready when its pool was closed is not handed out', ONE[:5] + ['close', 'out 1'], ['7 pool-is-closed', '7 pool-not-ready'], BROKEN),
+    # behind a load balancer
+    Case('a pool behind a load balancer is ready from its creation on', ['pool loadBalanced=true', 'start', 'create 1', 'established 1', 'out 1', 'in 1'], [], KEPT),
+    Case('it is so behind a clear too', ['pool loadBalanced=true', 'start', 'create 1', 'established 1', 'clear serviceId=5f', 'out 1', 'in 1'], [], KEPT),
+    Case('and ends as others do', ['pool loadBalanced=true', 'start', 'create 1', 'established 1', 'close', 'out 1'], ['6 pool-is-closed', '6 pool-not-ready'], BROKEN),
+    # a pool that is made anew at its address
+    Case('a connection comes back to a former pool', ONE + ['close', 'pool', 'ready', 'in 1', 'end 1 reason=poolClosed'], [], KEPT),
+    Case('its successor has one with the same id', ONE + ['close'] + ONE + ['in 1', 'end 1 reason=poolClosed', 'in 1'] + SERVED, [], KEPT),
+    Case('once it is closed the new pool is judged', ONE + ['close', 'pool', 'ready', 'in 1', 'end 1 reason=poolClosed', 'in 1'], ['12 not-created', '12 not-checked-out', '12 is-closed'], BROKEN),
+    Case('a new pool starts with no connection of the former one', ONE + ['in 1', 'end 1 reason=poolClosed', 'close', 'pool', 'ready', 'start', 'out 1'], ['13 not-created', '13 not-ready'], BROKEN),
+    Case('what a former pool leaves is not counted against the new one', ['pool maxPoolSize=1'] + ONE[1:] + ['close', 'pool maxPoolSize=1', 'ready', 'in 1', 'end 1', 'start', 'create 1', 'create 2'],
+         ['14 too-many'], BROKEN),
+    Case('a waiter of a former pool is told of its end', ['pool', 'ready', 'start', 'close', 'pool', 'ready', 'fail reason=poolClosed'], [], KEPT),
+    Case('an open pool is no reason', ['pool', 'ready', 'start', 'fail reason=poolClosed'], ['4 no-reason'], BROKEN),
+    # options
+    Case('how many may be pending is not assumed', ['pool', 'ready'] + ['start'] * 3 + ['create 1', 'create 2', 'create 3'], [], KEPT),
+    Case('where it is told it is a limit', ['pool maxConnecting=2', 'ready'] + ['start'] * 3 + ['create 1', 'create 2', 'create 3'], ['8 too-many-pending'], BROKEN),
+    Case('a member that is null is not there', ['pool maxPoolSize=null maxConnecting=null maxIdleTimeMS=null loadBalanced=null', 'ready', 'start caller=null t=null'], [], KEPT),
+    # SDAM
+    Case('a host that is added explains the change that is told before', ['topology', 'change', 'open', 'server from=Unknown to=Mongos', 'change', 'change', 'open address=b:1', 'last'], [], KEPT),
+    Case('a change that nothing explains is told with the next', ['topology', 'change', 'open', 'change', 'change', 'server', 'change'], ['7 no-cause'], BROKEN),
+    Case('or with the end', ['topology', 'change', 'open', 'change', 'change', 'last'], ['6 no-cause'], BROKEN),
+    Case('a check that began may end behind the end of its server', ['topology', 'open', 'check', 'gone', 'bad'], [], KEPT),
+    Case('no check begins behind it', ['topology', 'open', 'gone', 'check'], ['4 server-not-open'], BROKEN),
+    # what is not understood
+    Case('an empty file', [], [], NOTHING, 'nothing judged passed_over=0'),
+    Case('another kind', ['{"kind":"command","event":"CommandStarted"}'] * 2, [], NOTHING, 'nothing judged passed_over=2'),
+    Case('an event by another name', ['{"kind":"pool","event":"connectionCheckedOut","address":"a:1","connectionId":1}'], ['1 malformed'], BROKEN, 'findings=0 malformed=1 events=0 passed_over=0'),
+    Case('a server event by another name', ['{"kind":"sdam","event":"serverOpening","address":"a:1"}'], ['1 malformed'], BROKEN),
+    Case('a reason by another name', ONE + ['in 1', 'end 1 reason=ERROR'], ['8 malformed'], BROKEN),
+    Case('a reason of a failure by another name', ['pool', 'ready', 'start', 'fail reason=TIMEOUT'], ['4 malformed'], BROKEN),
+    Case('a kind of server by another name', ['topology', 'open', 'server from=Unknown to=REPLICA_SET_PRIMARY'], ['3 malformed'], BROKEN),
+    Case('what is passed over is counted', ONE + ['in 1', '{"kind":"note"}'], [], KEPT, 'clean events=7 passed_over=1'),
+]
+
+
+def line(words):
+    if words.startswith('{'):
+        return words
+    name, *rest = words.split(' ')
+    event = EVENTS[name]
+    told = {'kind': 'pool' if event.startswith('Connection') else 'beat' if 'Heartbeat' in event else 'sdam', 'event': event}
+    if not event.startswith('Topology'):
+        told['address'] = 'a:1'
+    for word in rest:
+        key, equals, value = word.partition('=')
+        if not equals:
+            told['connectionId'] = int(key)
+            continue
+        try:
+            told[key] = json.loads(value)
+        except ValueError:
+            told[key] = value
+    return json.dumps(told)
+
+
+def findings(text):
+    """The findings and malformed lines of a report, as `NUMBER RULE`."""
+    return [' '.join(it.replace(':', '').split(' ')[1:3]) for it in text.splitlines() if it.startswith(('event ', 'line '))]
+
+
+def main():
+    program, wrong = sys.argv[1], 0
+    for case in CASES:
+        data = ''.join(line(it) + '\n' for it in case.lines).encode()
+        answer = subprocess.run([program], input=data, capture_output=True, check=False)
+        for who, text, status in ((program, answer.stdout, answer.returncode), ('plain.py',) + plain.report(data, 0)):
+            text = text.decode()
+            if (findings(text), status) != (case.findings, case.status) or case.last not in ('', text.splitlines()[-1]):
+                wrong += 1
+                print('%s: %s says, with status %d:\n%swanted, with status %d: %s %s' % (case.name, who, status, text, case.status, case.findings, case.last))
+    if wrong:
+        sys.exit('%d answers differ' % wrong)
+    print('%d cases, none differs' % len(CASES))
+
+
+if __name__ == '__main__':
+    main()
