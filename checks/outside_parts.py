@@ -64,6 +64,7 @@ def judges(built: Built) -> list[Command]:
         command(built.python, CHECKS / "audit/mutants.py", *auditor, *script, "--mutants", 300),
         command(built.python, CHECKS / "audit/lines.py", *auditor, *script, "--lines", 1000),
         command(built.python, CHECKS / "audit/forged.py", *auditor, "--logs", 300),
+        command(built.python, CHECKS / "recorded/cases.py", built.program("mdb_recorded")),
         command(built.python, CHECKS / "recorded/mutants.py", built.program("mdb_recorded"), 200),
     ]
 
