@@ -341,7 +341,7 @@ def recorded(run: Run) -> Verdict:
         status, text = proved.recorded(path, run.recording, run.standard)
     except (OSError, ValueError) as why:
         return Verdict("recorded", UNJUDGED, f"{path}: {why}")
-    return Verdict("recorded", OK if status == 0 else FAILS, text, {"status": status})
+    return Verdict("recorded", {0: OK, 8: UNJUDGED}.get(status, FAILS), text, {"status": status})
 
 
 def view(run: Run) -> Verdict:
